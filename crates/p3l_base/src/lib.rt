@@ -1,0 +1,14 @@
+//! What every layer speaks of: lists, words, names, outcomes of items, and want of memory.
+#![tactic(auto)]
+
+pub mod list;
+pub mod memory;
+pub mod name;
+pub mod outcome;
+pub mod words;
+
+pub use list::List;
+pub use memory::NoMemory;
+pub use name::Name;
+pub use outcome::{Outcome, Trap, TrapKind};
+pub use words::Words;
