@@ -12,3 +12,6 @@ pub use memory::NoMemory;
 pub use name::Name;
 pub use outcome::{Outcome, Trap, TrapKind};
 pub use words::Words;
+
+#[cfg(test)]
+mod tests;
