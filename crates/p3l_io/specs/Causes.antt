@@ -1,0 +1,39 @@
+-- What the counts of faults say of the answers of calls on the outside.
+use Rattle.std.specs.Prelude.{◌≡◌, ℕ, ◌+◌, ◌-◌, ◌^◌, ◌≤◌, min, Result, Ok, Err, OnOk, OnErr}
+use Rattle.p3l_io.specs.declared.fault.FileFault.{FileFault}
+use Rattle.p3l_io.specs.declared.fault.FileFault.TheVariants as file
+use Rattle.p3l_io.specs.declared.fault.WriteFault.{WriteFault}
+use Rattle.p3l_io.specs.declared.fault.WriteFault.TheVariants as write
+
+-- the count is greater than it was, or stands at its last value
+abbrev pub Rose : ℕ → ℕ → Type 0
+Rose before now = min (before + 1) (2 ^ 64 - 1) ≤ now
+
+-- the count never falls, an answer Ok leaves it, and a fault raises it
+pub record HasCause {T E : Type 0} (before now : ℕ) (result : Result T E) : Type 0 where
+  pub later : before ≤ now
+  pub same : OnOk result (now ≡ before)
+  pub failed : OnErr result (Rose before now)
+
+-- of the reasons not to read a file only a fault raises the count
+abbrev pub ReadCause : {T : Type 0} → ℕ → ℕ → Result T FileFault → Type 0
+ReadCause before now (Ok bytes) = now ≡ before
+ReadCause before now (Err file.Failed) = Rose before now
+ReadCause before now (Err file.TooLong) = now ≡ before
+ReadCause before now (Err file.NoMemory) = now ≡ before
+
+-- the count never falls, and a reading raises it exactly by a fault
+pub record HasReadCause {T : Type 0} (before now : ℕ) (result : Result T FileFault) : Type 0 where
+  pub later : before ≤ now
+  pub by : ReadCause before now result
+
+-- of the reasons not to write a file only a fault raises the count
+abbrev pub WriteCause : {T : Type 0} → ℕ → ℕ → Result T WriteFault → Type 0
+WriteCause before now (Ok done) = now ≡ before
+WriteCause before now (Err write.Failed) = Rose before now
+WriteCause before now (Err write.NoMemory) = now ≡ before
+
+-- the count never falls, and a writing raises it exactly by a fault
+pub record HasWriteCause {T : Type 0} (before now : ℕ) (result : Result T WriteFault) : Type 0 where
+  pub later : before ≤ now
+  pub by : WriteCause before now result

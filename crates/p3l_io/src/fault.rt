@@ -1,0 +1,25 @@
+// How calls on the outside fail.
+
+/// A taking or a putting of bytes failed.
+#[derive(Clone, Copy, Debug, Drop, PartialEq, Eq)]
+pub struct Failed;
+
+/// Why a file was not read.
+#[derive(Clone, Copy, Debug, Drop, PartialEq, Eq)]
+pub enum FileFault {
+    /// The reading failed; a missing file is such a fault.
+    Failed,
+    /// The file is longer than the limit.
+    TooLong,
+    /// Memory for its bytes was wanting.
+    NoMemory,
+}
+
+/// Why a file was not written.
+#[derive(Clone, Copy, Debug, Drop, PartialEq, Eq)]
+pub enum WriteFault {
+    /// The writing failed.
+    Failed,
+    /// Memory was wanting.
+    NoMemory,
+}

@@ -1,0 +1,21 @@
+// Bytes that go out.
+
+ghost use Rattle.std.specs.Prelude.{ℕ, List, Option};
+ghost use Rattle.p3l_io.specs.Causes.{HasCause};
+ghost use Rattle.p3l_io.specs.Told.{Puts};
+
+use crate::fault::Failed;
+
+/// A sink of bytes.
+pub trait Sink {
+    // the bytes that were put so far, where the sink tells them
+    ghost taken: { Self → Option (List ℕ) };
+
+    // how often a call has failed, up to the last value of a `u64`
+    ghost faults: { Self → ℕ };
+
+    /// Puts the whole piece behind what was put before; a fault may put a front of it.
+    fn put(&mut self, piece: &[u8]) -> Result<(), Failed>
+        ensures bytes { Puts (taken self.old) (taken self.new) result piece.now }
+        ensures cause { HasCause (faults self.old) (faults self.new) result };
+}
