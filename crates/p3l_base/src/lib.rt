@@ -1,16 +1,20 @@
 //! What every layer speaks of: lists, words, names, outcomes of items, and want of memory.
 #![tactic(auto)]
 
+pub mod cut;
 pub mod list;
 pub mod memory;
 pub mod name;
 pub mod outcome;
+pub mod slice;
 pub mod words;
 
+pub use cut::Cut;
 pub use list::List;
 pub use memory::NoMemory;
 pub use name::Name;
 pub use outcome::{Outcome, Trap, TrapKind};
+pub use slice::{Dim, Place, Slice};
 pub use words::Words;
 
 #[cfg(test)]
