@@ -1,0 +1,4 @@
+pub mod Mark
+pub mod Piece
+pub mod Position
+pub mod Token

@@ -1,0 +1,73 @@
+-- How keywords and punctuation are written.
+use Rattle.std.specs.Prelude.{ℕ, List, [], ◌∷◌, Option, find, bytes_eq, codes}
+use Rattle.p3l_lexer.specs.declared.mark.Mark.{Mark}
+use Rattle.p3l_lexer.specs.declared.mark.Mark.TheVariants.{Seq, Pipe, Farm, Map, Reduce, Comp, Loop, End, In, Out, Int, Const, Workers, Turns, Tokens, Budget, While, If, Else, For, OpenBody, CloseBody, OpenParen, CloseParen, OpenBracket, CloseBracket, OpenBrace, CloseBrace, Comma, Semicolon, Assign, Equal, NotEqual, Less, AtMost, Greater, AtLeast, ShiftLeft, ShiftRight, Plus, Minus, Star, Slash, Percent, Ampersand, BothHold, Bar, EitherHolds, Caret, Bang, Tilde}
+
+-- the bytes of a mark
+abbrev pub mark_text : Mark → List ℕ
+mark_text Seq = codes "seq"
+mark_text Pipe = codes "pipe"
+mark_text Farm = codes "farm"
+mark_text Map = codes "map"
+mark_text Reduce = codes "reduce"
+mark_text Comp = codes "comp"
+mark_text Loop = codes "loop"
+mark_text End = codes "end"
+mark_text In = codes "in"
+mark_text Out = codes "out"
+mark_text Int = codes "int"
+mark_text Const = codes "const"
+mark_text Workers = codes "workers"
+mark_text Turns = codes "turns"
+mark_text Tokens = codes "tokens"
+mark_text Budget = codes "budget"
+mark_text While = codes "while"
+mark_text If = codes "if"
+mark_text Else = codes "else"
+mark_text For = codes "for"
+mark_text OpenBody = codes "${"
+mark_text CloseBody = codes "}$"
+mark_text OpenParen = codes "("
+mark_text CloseParen = codes ")"
+mark_text OpenBracket = codes "["
+mark_text CloseBracket = codes "]"
+mark_text OpenBrace = codes "{"
+mark_text CloseBrace = codes "}"
+mark_text Comma = codes ","
+mark_text Semicolon = codes ";"
+mark_text Assign = codes "="
+mark_text Equal = codes "=="
+mark_text NotEqual = codes "!="
+mark_text Less = codes "<"
+mark_text AtMost = codes "<="
+mark_text Greater = codes ">"
+mark_text AtLeast = codes ">="
+mark_text ShiftLeft = codes "<<"
+mark_text ShiftRight = codes ">>"
+mark_text Plus = codes "+"
+mark_text Minus = codes "-"
+mark_text Star = codes "*"
+mark_text Slash = codes "/"
+mark_text Percent = codes "%"
+mark_text Ampersand = codes "&"
+mark_text BothHold = codes "&&"
+mark_text Bar = codes "|"
+mark_text EitherHolds = codes "||"
+mark_text Caret = codes "^"
+mark_text Bang = codes "!"
+mark_text Tilde = codes "~"
+
+-- all marks, the keywords first
+abbrev pub keywords : List Mark
+keywords = Seq ∷ Pipe ∷ Farm ∷ Map ∷ Reduce ∷ Comp ∷ Loop ∷ End ∷ In ∷ Out ∷ Int ∷ Const ∷ Workers ∷ Turns ∷ Tokens ∷ Budget ∷ While ∷ If ∷ Else ∷ For ∷ []
+
+abbrev pub punctuation : List Mark
+punctuation = OpenBody ∷ CloseBody ∷ OpenParen ∷ CloseParen ∷ OpenBracket ∷ CloseBracket ∷ OpenBrace ∷ CloseBrace ∷ Comma ∷ Semicolon ∷ Assign ∷ Equal ∷ NotEqual ∷ Less ∷ AtMost ∷ Greater ∷ AtLeast ∷ ShiftLeft ∷ ShiftRight ∷ Plus ∷ Minus ∷ Star ∷ Slash ∷ Percent ∷ Ampersand ∷ BothHold ∷ Bar ∷ EitherHolds ∷ Caret ∷ Bang ∷ Tilde ∷ []
+
+-- the keyword that is written so
+unfoldable pub keyword_of : List ℕ → Option Mark
+keyword_of text = find (λ mark. bytes_eq (mark_text mark) text) keywords
+
+-- the mark of punctuation that is written so
+unfoldable pub punctuation_of : List ℕ → Option Mark
+punctuation_of text = find (λ mark. bytes_eq (mark_text mark) text) punctuation

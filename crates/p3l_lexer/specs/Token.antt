@@ -1,0 +1,57 @@
+-- A text and its tokens, each the longest there is.
+use Rattle.std.specs.Prelude.{◌≡◌, ℕ, List, [], ◌∷◌, ◌++◌, Some, None}
+use Rattle.p3l_lexer.specs.declared.token.Lexeme.{Lexeme}
+use Rattle.p3l_lexer.specs.declared.token.Piece.{Piece}
+use Rattle.p3l_lexer.specs.declared.token.Piece.TheVariants as pieces
+use Rattle.p3l_lexer.specs.declared.token.Token.{Token}
+use Rattle.p3l_lexer.specs.Piece.{piece_of}
+use Rattle.p3l_lexer.specs.Position.{position_after}
+
+-- no piece that goes on with what follows is longer
+abbrev pub IsLongest : List ℕ → List ℕ → Type 0
+IsLongest text rest = (byte : ℕ) (more others : List ℕ) → rest ≡ byte ∷ more ++ others → piece_of (text ++ byte ∷ more) ≡ None
+
+-- the piece at the front, and what follows it
+pub record IsCut (piece : Piece) (text rest : List ℕ) : Type 0 where
+  pub is_piece : piece_of text ≡ Some piece
+  pub longest : IsLongest text rest
+
+-- a piece and its bytes
+pub record Chunk : Type 0 where
+  pub piece : Piece
+  pub text : List ℕ
+
+-- the bytes cut into pieces, each the longest at its place
+abbrev pub IsCutInto : List ℕ → List Chunk → Type 0
+IsCutInto bytes [] = bytes ≡ []
+IsCutInto bytes (chunk ∷ chunks) = (rest : List ℕ) × (bytes ≡ chunk.text ++ rest) × IsCut chunk.piece chunk.text rest × IsCutInto rest chunks
+
+-- the tokens among the pieces behind some bytes, with their positions
+abbrev pub token_at : List ℕ → Piece → List Token
+token_at before pieces.Gap = []
+token_at before (pieces.Token lexeme) = record { lexeme = lexeme; at = position_after before } ∷ []
+
+abbrev pub tokens_after : List ℕ → List Chunk → List Token
+tokens_after before [] = []
+tokens_after before (chunk ∷ chunks) = token_at before chunk.piece ++ tokens_after (before ++ chunk.text) chunks
+
+-- the tokens of the bytes
+pub record IsTokens (bytes : List ℕ) (tokens : List Token) : Type 0 where
+  pub chunks : List Chunk
+  pub cut : IsCutInto bytes chunks
+  pub tokens_are : tokens ≡ tokens_after [] chunks
+
+-- the same without positions
+abbrev pub lexeme_in : Piece → List Lexeme
+lexeme_in pieces.Gap = []
+lexeme_in (pieces.Token lexeme) = lexeme ∷ []
+
+abbrev pub lexemes_in : List Chunk → List Lexeme
+lexemes_in [] = []
+lexemes_in (chunk ∷ chunks) = lexeme_in chunk.piece ++ lexemes_in chunks
+
+-- the bytes are written with these lexemes in order
+pub record HasLexemes (bytes : List ℕ) (lexemes : List Lexeme) : Type 0 where
+  pub chunks : List Chunk
+  pub cut : IsCutInto bytes chunks
+  pub lexemes_are : lexemes ≡ lexemes_in chunks
