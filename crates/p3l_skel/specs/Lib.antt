@@ -1,0 +1,6 @@
+pub mod Tree
+pub mod Fold
+pub mod Item
+pub mod Numbers
+pub mod Counts
+pub mod Lawful

@@ -1,0 +1,99 @@
+-- How many processes a tree has, and how often they fire for one item.
+use Rattle.std.specs.Prelude.{ℕ, zero, suc, ◌+◌, ◌-◌, ◌*◌, ◌^◌, ◌==◌, nat_le, if◌then◌else◌, unwrap_or, List, sum_by, slice_index}
+use Rattle.p3l_base.specs.Cut.{element_count}
+use Rattle.p3l_skel.specs.declared.tree.Form.{Form}
+use Rattle.p3l_skel.specs.declared.tree.Form.TheVariants.{Seq, Comp, Pipe, Farm, Map, Reduce, Loop}
+use Rattle.p3l_skel.specs.declared.tree.Tree.{Tree}
+use Rattle.p3l_skel.specs.Tree.{node_at, by_parts, nesting}
+use Rattle.p3l_skel.specs.Counts.{count_of}
+
+-- the processes of a reduce with so many segments: one, or those of the segments with one that
+-- splits and one that gathers
+abbrev pub flat_procs : ℕ → ℕ
+flat_procs m = if m == 1 then 1 else m + 2
+
+-- the firings of such a reduce for one item
+abbrev pub flat_firings : ℕ → ℕ
+flat_firings m = if m == 1 then 1 else 3 * m + 2
+
+-- the firings for one item where the segments' results are joined two by two
+abbrev pub joined_firings : ℕ → ℕ
+joined_firings m = if m == 1 then 1 else 3 * m
+
+-- the processes of a node of this form with so many workers, where those of its parts are known
+abbrev pub procs_row : Form → ℕ → (ℕ → ℕ) → List ℕ → ℕ
+procs_row Seq n below parts = 1
+procs_row Comp n below parts = 1
+procs_row Pipe n below parts = sum_by below parts
+procs_row (Farm w) n below parts = 2 + n * below (slice_index parts 0)
+procs_row (Map w cut) n below parts = 2 + n * below (slice_index parts 0)
+procs_row (Reduce w len elem) n below parts = flat_procs n
+procs_row (Loop turns tokens) n below parts = 2 + below (slice_index parts 0)
+
+-- the processes of a node, where it is known how many workers each node has
+unfoldable pub procs_by : Tree → (ℕ → ℕ) → ℕ → ℕ
+procs_by tree count =
+    by_parts (λ below k. procs_row (node_at tree k).form (count k) below (node_at tree k).parts) (λ _. 1) nesting
+
+-- the processes of a node
+abbrev pub procs : Tree → List ℕ → ℕ → ℕ
+procs tree counts node = procs_by tree (count_of tree counts) node
+
+-- the firings of a node of this form for one item, where those of its parts are known; `reduce`
+-- gives those of a reduce with so many segments
+abbrev pub firings_row : (ℕ → ℕ) → Form → ℕ → (ℕ → ℕ) → List ℕ → ℕ
+firings_row reduce Seq n below parts = 1
+firings_row reduce Comp n below parts = 1
+firings_row reduce Pipe n below parts = sum_by below parts
+firings_row reduce (Farm w) n below parts = 2 + below (slice_index parts 0)
+firings_row reduce (Map w cut) n below parts = 2 + 2 * element_count cut + element_count cut * below (slice_index parts 0)
+firings_row reduce (Reduce w len elem) n below parts = reduce n
+firings_row reduce (Loop turns tokens) n below parts = turns * below (slice_index parts 0) + 2 * turns + 1
+
+-- the firings of a node for one item, where it is known how many segments each reduce has
+unfoldable pub firings_by : (ℕ → ℕ) → Tree → (ℕ → ℕ) → ℕ → ℕ
+firings_by reduce tree count =
+    by_parts (λ below k. firings_row reduce (node_at tree k).form (count k) below (node_at tree k).parts) (λ _. 1) nesting
+
+-- the firings of the whole network for one item: the root's, the source's and the sink's
+abbrev pub firings : Tree → List ℕ → ℕ
+firings tree counts = firings_by flat_firings tree (count_of tree counts) 0 + 2
+
+-- the most firings of the whole network for so many items
+abbrev pub bound : Tree → List ℕ → ℕ → ℕ
+bound tree counts items = items * firings tree counts
+
+-- how often a node of this form runs bodies for one item, where it is known how often its parts do
+abbrev pub runs_row : Form → (ℕ → ℕ) → List ℕ → ℕ
+runs_row Seq below parts = 1
+runs_row Comp below parts = sum_by below parts
+runs_row Pipe below parts = sum_by below parts
+runs_row (Farm w) below parts = below (slice_index parts 0)
+runs_row (Map w cut) below parts = element_count cut * below (slice_index parts 0)
+runs_row (Reduce w len elem) below parts = (len - 1) * below (slice_index parts 0)
+runs_row (Loop turns tokens) below parts = turns * (below (slice_index parts 0) + below (slice_index parts 1))
+
+-- how often a node runs bodies for one item, at most
+unfoldable pub runs : Tree → ℕ → ℕ
+runs tree =
+    by_parts (λ below k. runs_row (node_at tree k).form below (node_at tree k).parts) (λ _. 1) nesting
+
+-- the greatest power of two, with an exponent up to this one, that is at most n
+unfoldable pub power_up_to : ℕ → ℕ → ℕ
+power_up_to zero n = 1
+power_up_to (suc k) n = if nat_le (2 ^ (suc k)) n then 2 ^ (suc k) else power_up_to k n
+
+-- the most segments that a reduce of this form may have: its clause's number, else the greatest
+-- power of two up to its length and 512
+abbrev pub most_segments : Form → ℕ
+most_segments Seq = 1
+most_segments Comp = 1
+most_segments Pipe = 1
+most_segments (Farm w) = 1
+most_segments (Map w cut) = 1
+most_segments (Reduce w len elem) = unwrap_or w (power_up_to 9 len)
+most_segments (Loop turns tokens) = 1
+
+-- the most firings of a tree's root for one item under any lawful counts
+abbrev pub most_firings : (ℕ → ℕ) → Tree → ℕ
+most_firings reduce tree = firings_by reduce tree (λ k. most_segments (node_at tree k).form) 0

@@ -1,0 +1,75 @@
+-- The nodes of a tree, and what is computed from the root down.
+use Rattle.std.specs.Prelude.{◌≡◌, ℕ, ℤ, zero, suc, ◌*◌, ◌<◌, ◌≤◌, Bool, true, false, IsTrue, List, [], length, slice_index, slice_index_or, ⊤}
+use Rattle.p3l_base.specs.declared.outcome.Outcome.{Outcome}
+use Rattle.p3l_base.specs.declared.outcome.Outcome.TheVariants.{Value, Trapped}
+use Rattle.p3l_skel.specs.declared.tree.Form.{Form}
+use Rattle.p3l_skel.specs.declared.tree.Form.TheVariants.{Seq, Comp, Pipe, Farm, Map, Reduce, Loop}
+use Rattle.p3l_skel.specs.declared.tree.Node.{Node}
+use Rattle.p3l_skel.specs.declared.tree.Tree.{Tree}
+
+-- how deep nodes are nested at most, the root counting as one level
+abbrev pub nesting : ℕ
+nesting = 6
+
+-- what a number past the nodes is read as
+abbrev pub no_node : Node
+no_node = record { form = Seq; «module» = 0; ins = 0; outs = 0; parts = [] }
+
+-- the node of this number
+abbrev pub node_at : Tree → ℕ → Node
+node_at tree node = slice_index_or tree.nodes node no_node
+
+-- the number of a node's part k
+abbrev pub part_at : Tree → ℕ → ℕ → ℕ
+part_at tree node k = slice_index (node_at tree node).parts k
+
+-- what a node comes to, where `row` makes it from what other nodes come to; at depth 0 it is what
+-- the node comes to as a leaf
+unfoldable pub by_parts : {X : Type 0} → ((ℕ → X) → ℕ → X) → (ℕ → X) → ℕ → ℕ → X
+by_parts row leaf zero node = leaf node
+by_parts row leaf (suc d) node = row (by_parts row leaf d) node
+
+-- whether a node of this form is sequential, where it is known which nodes are
+abbrev pub sequential_row : Form → (ℕ → Bool) → List ℕ → Bool
+sequential_row Seq below parts = true
+sequential_row Comp below parts = true
+sequential_row Pipe below parts = false
+sequential_row (Farm w) below parts = false
+sequential_row (Map w cut) below parts = below (slice_index parts 0)
+sequential_row (Reduce w len elem) below parts = below (slice_index parts 0)
+sequential_row (Loop turns tokens) below parts = false
+
+-- whether a node is sequential: a seq, a comp, or a map or reduce of a sequential part
+unfoldable pub is_sequential : Tree → ℕ → Bool
+is_sequential tree node =
+    by_parts (λ below k. sequential_row (node_at tree k).form below (node_at tree k).parts) (λ _. false) nesting node
+
+-- a node that one process can run
+pub record IsUnit (tree : Tree) (node : ℕ) : Type 0 where
+  pub in_tree : node < length tree.nodes
+  pub sequential : IsTrue (is_sequential tree node)
+
+-- so many words are what a node of this form takes: a reduce takes any positive number of elements
+abbrev pub FitsForm : Form → ℕ → ℕ → Type 0
+FitsForm (Reduce w len elem) ins n = (k : ℕ) × (1 ≤ k) × (n ≡ k * elem)
+FitsForm Seq ins n = n ≡ ins
+FitsForm Comp ins n = n ≡ ins
+FitsForm Pipe ins n = n ≡ ins
+FitsForm (Farm w) ins n = n ≡ ins
+FitsForm (Map w cut) ins n = n ≡ ins
+FitsForm (Loop turns tokens) ins n = n ≡ ins
+
+-- a node takes so many words
+abbrev pub HasFittingLength : Tree → ℕ → ℕ → Type 0
+HasFittingLength tree node n = FitsForm (node_at tree node).form (node_at tree node).ins n
+
+-- a value has so many words
+abbrev pub HasLength : ℕ → Outcome → Type 0
+HasLength n (Value words) = length words ≡ n
+HasLength n (Trapped trap) = ⊤
+
+-- what the `seq` modules give has the out words of their nodes
+abbrev pub GivesOuts : Tree → (ℕ → List ℤ → Outcome) → Type 0
+GivesOuts tree leaf =
+    (node : ℕ) (words : List ℤ) → node < length tree.nodes → (node_at tree node).form ≡ Seq →
+    length words ≡ (node_at tree node).ins → HasLength (node_at tree node).outs (leaf (node_at tree node).module words)

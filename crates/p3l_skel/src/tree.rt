@@ -1,0 +1,81 @@
+// The tree of skeletons and the counts of workers.
+
+use p3l_base::{Cut, List, Name};
+
+/// What a node does with an item, and the numbers of its module's clauses.
+#[derive(Debug, Drop)]
+pub enum Form {
+    /// Runs the body of a `seq` module.
+    Seq,
+    /// Runs its parts one behind the other, all in one process.
+    Comp,
+    /// Runs its parts one behind the other, each on its own processes.
+    Pipe,
+    /// Runs its part on one of many workers.
+    Farm {
+        workers: Option<u32>,
+    },
+    /// Runs its part on each element of the item, on several workers.
+    Map {
+        workers: Option<u32>,
+        cut: Cut,
+    },
+    /// Folds `len` elements of `elem` words each with its part, on several workers.
+    Reduce {
+        workers: Option<u32>,
+        len: u32,
+        elem: u32,
+    },
+    /// Runs its body until its condition gives 0, for at most `turns` turns an item, with at most
+    /// `tokens` items at once.
+    Loop {
+        turns: u32,
+        tokens: u32,
+    },
+}
+
+/// One instance of a module: its form, the module's number in the order of the source, the words
+/// that it takes and gives, and the numbers of its parts. A loop's parts are its body and its
+/// condition, in this order.
+#[derive(Debug, Drop)]
+pub struct Node {
+    pub form: Form,
+    pub module: u32,
+    pub ins: u32,
+    pub outs: u32,
+    pub parts: List<u32>,
+}
+
+/// A module of the program.
+#[derive(Debug, Drop)]
+pub struct ModuleInfo {
+    pub name: Name,
+    pub kind: ModuleKind,
+}
+
+/// The skeleton that a module is written with.
+#[derive(Clone, Copy, Debug, Drop, PartialEq, Eq)]
+pub enum ModuleKind {
+    Seq,
+    Comp,
+    Pipe,
+    Farm,
+    Map,
+    Reduce,
+    Loop,
+}
+
+/// The instances of a program's modules, in preorder from the root 0, and the modules in the order
+/// of the source.
+#[derive(Debug, Drop)]
+pub struct Tree {
+    pub nodes: List<Node>,
+    pub modules: List<ModuleInfo>,
+}
+
+/// How many workers, or segments of a reduce, each farm, map and reduce node outside units has, in
+/// preorder.
+#[derive(Debug, Drop)]
+pub struct Counts {
+    pub list: List<u32>,
+}
