@@ -44,9 +44,13 @@ Reads (Some held) new name limit result = (new ≡ Some held) × ReadsFile (held
 abbrev pub KeepsOthers : Held → Held → List ℕ → Type 0
 KeepsOthers old new name = (other : List ℕ) → other ≢ name → new other ≡ old other
 
+-- the bytes stand under the name, and each other name has what it had
+abbrev pub IsPut : Held → Held → List ℕ → List ℕ → Type 0
+IsPut old new name bytes = (new name ≡ Some bytes) × KeepsOthers old new name
+
 -- a writing puts the bytes under the name, and touches no other
 abbrev pub Writes : Option Held → Option Held → List ℕ → List ℕ → Result (Unit {0}) WriteFault → Type 0
 Writes None new name bytes result = new ≡ None
 Writes (Some old) None name bytes result = ⊥
-Writes (Some old) (Some new) name bytes (Ok done) = (new name ≡ Some bytes) × KeepsOthers old new name
+Writes (Some old) (Some new) name bytes (Ok done) = IsPut old new name bytes
 Writes (Some old) (Some new) name bytes (Err e) = KeepsOthers old new name

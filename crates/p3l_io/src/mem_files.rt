@@ -1,0 +1,154 @@
+// Files in memory.
+
+ghost use Rattle.std.specs.Prelude.{◌≡◌, ◌≤◌, [], Some, length, is_err, is_none, ◌||◌, IfOk, OnOk, OnErr};
+ghost use Rattle.std.specs.Option.{option_copied};
+ghost use Rattle.p3l_io.specs.Causes.{HasReadCause, HasWriteCause};
+ghost use Rattle.p3l_io.specs.Told.{IsPut, Reads, Writes};
+ghost use Rattle.p3l_io.specs.MemFiles.{IsAdded, IsCalled, IsCopy, after_call, bytes_under, fails_next, read_failed, texts, write_failed};
+
+use crate::calls::{after_one_more, is_named};
+use crate::fault::{FileFault, WriteFault};
+use crate::files::Files;
+use p3l_base::{List, NoMemory};
+use std::alloc::Global;
+use std::collections::BTreeMap;
+use std::marker::Model;
+
+/// Files by their names, with the calls that fail.
+#[derive(Drop)]
+pub struct MemFiles {
+    alloc: Global,
+    files: BTreeMap<String, List<u8>>,
+    fails: List<u64>,
+    calls: u64,
+    faults: u64,
+}
+
+impl Model for MemFiles {
+    ghost use Rattle.p3l_io.specs.MemFiles.{FilesState, texts};
+
+    ghost Value = { FilesState };
+
+    ghost view = { λ s. record { files = texts s.files.entries; fails = s.fails; calls = s.calls; faults = s.faults } };
+}
+
+/// Puts a copy of the bytes under the name.
+fn put(
+    alloc: Global,
+    files: &mut BTreeMap<String, List<u8>>,
+    name: &str,
+    bytes: &[u8],
+) -> Result<(), NoMemory>
+    ensures ok { OnOk result (IsPut (bytes_under (texts files.old.entries)) (bytes_under (texts files.new.entries)) name.now bytes.now) }
+    ensures err { OnErr result (files.new.entries ≡ files.old.entries) }
+{
+    let bytes = List::from_vec(Vec::from_slice(alloc, bytes)?);
+    let name = String::from_str(alloc, name)?;
+    files.insert(name, bytes)?;
+    Ok(())
+}
+
+impl MemFiles {
+    /// No files yet. `fails` has the numbers of the calls of `read` and `write` that fail, counted together from 1.
+    pub fn new(alloc: Global, fails: List<u64>) -> MemFiles
+        ensures { result ≡ record { files = []; fails = fails; calls = 0; faults = 0 } }
+    {
+        MemFiles {
+            alloc,
+            files: BTreeMap::new(alloc),
+            fails,
+            calls: 0,
+            faults: 0,
+        }
+    }
+
+    /// Puts bytes under a name, in the place of those that it had. This is no call that is counted.
+    pub fn add(&mut self, name: &str, bytes: &[u8]) -> Result<(), NoMemory>
+        ensures ok { OnOk result (IsAdded self.old self.new name.now bytes.now) }
+        ensures err { OnErr result (self.new ≡ self.old) }
+    {
+        put(self.alloc, &mut self.files, name, bytes)
+    }
+
+    /// The bytes under a name, if it has some.
+    pub fn get(&self, name: &str) -> Option<&[u8]>
+        ensures { option_copied result ≡ bytes_under self.now.files name.now }
+    {
+        match self.files.get(name) {
+            Some(bytes) => Some(bytes.as_slice()),
+            None => None,
+        }
+    }
+
+    /// Whether the next call fails by its number.
+    fn fails_next(&self) -> bool
+        ensures { result ≡ fails_next self.now }
+    {
+        is_named(self.fails.as_slice(), after_one_more(self.calls))
+    }
+
+    /// Counts a call, and its fault if it failed.
+    fn count(&mut self, failed: bool)
+        ensures after { self.new ≡ after_call self.old failed }
+        ensures later { self.old.faults ≤ self.new.faults }
+    {
+        self.calls = after_one_more(self.calls);
+        if failed {
+            self.faults = after_one_more(self.faults);
+        }
+    }
+}
+
+/// A copy of the bytes found, if there are at most `limit`.
+fn copy_within(alloc: Global, found: Option<&[u8]>, limit: u64) -> Result<List<u8>, FileFault>
+    ensures { IsCopy (option_copied found.entry) limit result }
+{
+    match found {
+        None => Err(FileFault::Failed),
+        Some(bytes) if bytes.len() as u64 > limit => Err(FileFault::TooLong),
+        Some(bytes) => match Vec::from_slice(alloc, bytes) {
+            Ok(copy) => Ok(List::from_vec(copy)),
+            Err(_) => Err(FileFault::NoMemory),
+        },
+    }
+}
+
+impl Files for MemFiles {
+    ghost held = { λ s. Some (bytes_under s.files) };
+
+    ghost faults = { λ s. s.faults };
+
+    fn read(&mut self, alloc: Global, name: &str, limit: u64) -> Result<List<u8>, FileFault>
+        ensures within { IfOk result (λ bytes. length bytes ≤ limit) }
+        ensures bytes { Reads (Some (bytes_under self.old.files)) (Some (bytes_under self.new.files)) name.now limit result }
+        ensures cause { HasReadCause self.old.faults self.new.faults result }
+        ensures failed { read_failed result ≡ (fails_next self.old || is_none (bytes_under self.old.files name.now)) }
+        ensures after { self.new ≡ after_call self.old (read_failed result) }
+    {
+        if self.fails_next() {
+            self.count(true);
+            return Err(FileFault::Failed);
+        }
+        let answer = copy_within(alloc, self.get(name), limit);
+        self.count(matches!(answer, Err(FileFault::Failed)));
+        answer
+    }
+
+    fn write(&mut self, alloc: Global, name: &str, bytes: &[u8]) -> Result<(), WriteFault>
+        ensures bytes { Writes (Some (bytes_under self.old.files)) (Some (bytes_under self.new.files)) name.now bytes.now result }
+        ensures cause { HasWriteCause self.old.faults self.new.faults result }
+        ensures failed { write_failed result ≡ fails_next self.old }
+        ensures after { IsCalled self.old self.new (write_failed result) }
+        ensures kept { OnErr result (self.new.files ≡ self.old.files) }
+    {
+        if self.fails_next() {
+            self.count(true);
+            return Err(WriteFault::Failed);
+        }
+        self.count(false);
+        match put(alloc, &mut self.files, name, bytes) {
+            Ok(()) => Ok(()),
+            Err(NoMemory) => Err(WriteFault::NoMemory),
+        }
+    }
+}
