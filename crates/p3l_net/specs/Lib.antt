@@ -1,0 +1,9 @@
+pub mod Lists
+pub mod Token
+pub mod Channel
+pub mod State
+pub mod Fire
+pub mod Run
+pub mod RoundRobin
+pub mod Typed
+pub mod Machine

@@ -1,0 +1,87 @@
+// All channels of a machine, by their numbers.
+
+ghost use Rattle.std.specs.Prelude.{◌≡◌, ◌<◌, ◌≤◌, length, map, IfOk, nat_lt, slice_index_or, EachIndex};
+ghost use Rattle.p3l_net.specs.Channel.{queue_at, tokens_at, opened, appended, taken};
+ghost use Rattle.p3l_net.specs.Lists.{has_first, first_or};
+ghost use Rattle.p3l_net.specs.State.{no_chan};
+ghost use Rattle.p3l_net.specs.Token.{credit};
+
+use crate::channel::Channel;
+use crate::net::Chan;
+use crate::token::Token;
+use p3l_base::{List, NoMemory};
+use std::alloc::Global;
+use std::marker::Model;
+
+/// The channels, which contracts see as the queue of each.
+#[derive(Debug, Drop)]
+pub(crate) struct Channels {
+    list: Vec<Channel>,
+}
+
+impl Model for Channels {
+    ghost use Rattle.std.specs.Prelude.{List};
+    ghost use Rattle.p3l_net.specs.Channel.{Queue};
+
+    ghost Value = { List Queue };
+
+    ghost view = { λ it. it.list.items };
+}
+
+impl Channels {
+    /// The channels of a net before anything has fired.
+    pub(crate) fn open(alloc: Global, chans: &List<Chan>) -> Result<Channels, NoMemory>
+        requires { EachIndex chans.now (λ c. (slice_index_or chans.now c no_chan).credits ≤ (slice_index_or chans.now c no_chan).cap) }
+        ensures { IfOk result (λ channels. channels ≡ map opened chans.now) }
+    {
+        let mut list = Vec::new(alloc);
+        for chan in chans.as_slice() {
+            list.push(Channel::open(alloc, chan)?)?;
+        }
+        Ok(Channels { list })
+    }
+
+    /// Whether a channel has a token.
+    pub(crate) fn has_token(&self, c: u32) -> bool
+        requires { c < length self.now }
+        ensures { result ≡ has_first (tokens_at self.now c) }
+    {
+        self.list[c as usize].has_token()
+    }
+
+    /// Whether a channel has room for one token more.
+    pub(crate) fn has_room(&self, c: u32) -> bool
+        requires { c < length self.now }
+        ensures { result ≡ nat_lt (length (tokens_at self.now c)) (queue_at self.now c).room }
+    {
+        self.list[c as usize].has_room()
+    }
+
+    /// The first token of a channel that has one.
+    pub(crate) fn front(&self, c: u32) -> &Token
+        requires there { c < length self.now }
+        requires token { 0 < length (tokens_at self.now c) }
+        ensures { result.now ≡ first_or credit (tokens_at self.now c) }
+    {
+        self.list[c as usize].front()
+    }
+
+    /// Appends a token to a channel that has room for it.
+    pub(crate) fn append(&mut self, c: u32, token: Token)
+        requires there { c < length self.old }
+        requires room { length (tokens_at self.old c) < (queue_at self.old c).room }
+        ensures { self.new ≡ appended self.old c token }
+    {
+        self.list[c as usize].append(token);
+    }
+
+    /// Takes the first token of a channel that has one.
+    pub(crate) fn take(&mut self, c: u32) -> Token
+        requires there { c < length self.old }
+        requires token { 0 < length (tokens_at self.old c) }
+        ensures front { result ≡ first_or credit (tokens_at self.old c) }
+        ensures rest { self.new ≡ taken self.old c }
+    {
+        self.list[c as usize].take()
+    }
+}

@@ -1,0 +1,12 @@
+//! The network machine: nets of processes and channels, their states, and the firings that lead from state to state.
+#![tactic(auto)]
+
+mod channel;
+mod channels;
+pub mod net;
+pub mod process;
+pub mod token;
+
+pub use net::{Chan, Net};
+pub use process::{Proc, ProcKind};
+pub use token::{Fired, Token};
