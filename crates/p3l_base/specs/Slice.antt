@@ -33,10 +33,14 @@ cut_places start [] i j = start ∷ []
 cut_places start (d ∷ ds) i j =
     flat_map (λ k. cut_places (start + k * array_size ds) ds i j) (taken_indices d.place d.size i j)
 
+-- the words of a token at these places
+abbrev pub words_at : List ℤ → List ℕ → List ℤ
+words_at words places = map (λ k. slice_index_or words k (pos 0)) places
+
 -- the words of the slice at the free indices i and j
 abbrev pub cut_words : Slice → List ℤ → ℕ → ℕ → List ℤ
 cut_words slice words i j =
-    map (λ k. slice_index_or words k (pos 0)) (cut_places slice.start slice.dims i j)
+    words_at words (cut_places slice.start slice.dims i j)
 
 -- the slice's whole array lies in a token of so many words
 abbrev pub LiesWithin : Slice → ℕ → Type 0

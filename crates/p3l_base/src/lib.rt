@@ -9,12 +9,12 @@ pub mod outcome;
 pub mod slice;
 pub mod words;
 
-pub use cut::Cut;
+pub use cut::{Cut, join};
 pub use list::List;
 pub use memory::NoMemory;
 pub use name::Name;
 pub use outcome::{Outcome, Trap, TrapKind};
-pub use slice::{Dim, Place, Slice};
+pub use slice::{Dim, Place, Slice, cut_at};
 pub use words::Words;
 
 #[cfg(test)]
