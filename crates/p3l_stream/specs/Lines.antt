@@ -1,0 +1,39 @@
+-- The lines of a text, and what each holds.
+use Rattle.std.specs.Prelude.{ℕ, ℤ, ◌==◌, List, [], ◌∷◌, length, Result, Ok, Err, if◌then◌else◌}
+use Rattle.std.specs.List.{slice_split}
+use Rattle.std.specs.Str.Lines.{strip_carriage_return}
+use Rattle.p3l_stream.specs.declared.taken.Stop.{Stop}
+use Rattle.p3l_stream.specs.declared.taken.Stop.TheVariants as stop
+use Rattle.p3l_stream.specs.declared.line.Line.{Line}
+use Rattle.p3l_stream.specs.declared.line.Line.TheVariants as line
+use Rattle.p3l_stream.specs.declared.word.WordFault.{WordFault}
+use Rattle.p3l_stream.specs.declared.word.WordFault.TheVariants as fault
+use Rattle.p3l_stream.specs.Words.{numbers_of, words_of}
+
+-- the part behind the last line feed is a line where the input is at its end, if there are bytes; else it is dropped
+abbrev pub last_line : Stop → List ℕ → List (List ℕ)
+last_line stop.End [] = []
+last_line stop.End (byte ∷ bytes) = strip_carriage_return (byte ∷ bytes) ∷ []
+last_line _ part = []
+
+-- the lines of the parts between line feeds: a line ends by a line feed, and one carriage return before its end is no part of it
+abbrev pub lines_between : Stop → List (List ℕ) → List (List ℕ)
+lines_between how [] = []
+lines_between how (part ∷ []) = last_line how part
+lines_between how (part ∷ next ∷ parts) = strip_carriage_return part ∷ lines_between how (next ∷ parts)
+
+-- the lines of the bytes taken, by how the taking stopped
+abbrev pub lines_of : Stop → List ℕ → List (List ℕ)
+lines_of how bytes = lines_between how (slice_split (λ byte. byte == 10) bytes)
+
+-- what a line holds whose words write these numbers, where an item has so many words
+abbrev pub line_from : ℕ → Result (List ℤ) WordFault → Line
+line_from width (Err fault.Form) = line.BadWord
+line_from width (Err fault.Range) = line.OutOfRange
+line_from width (Ok []) = line.Blank
+line_from width (Ok (number ∷ numbers)) =
+    if length (number ∷ numbers) == width then line.Item (number ∷ numbers) else line.WrongCount (length (number ∷ numbers))
+
+-- what a line holds
+abbrev pub line_of : ℕ → List ℕ → Line
+line_of width bytes = line_from width (numbers_of (words_of bytes))

@@ -1,0 +1,12 @@
+//! The stream: the items that a text of lines holds, and the text that items are written as.
+#![tactic(auto)]
+
+pub mod items;
+pub mod line;
+pub mod taken;
+pub mod word;
+
+pub use items::{Ending, Items};
+pub use line::Line;
+pub use taken::{Stop, Taken, take_all};
+pub use word::WordFault;
