@@ -1,0 +1,334 @@
+-- A machine that reads symbols one by one. Its state says what may come, and how the reading goes on then.
+use Rattle.std.specs.Prelude.{ℕ, suc, ℤ, List, [], ◌∷◌, ◌++◌, length, Option, Some, None, cond, nat_le}
+use Rattle.std.specs.declared.result.Result.{Result}
+use Rattle.std.specs.declared.result.Result.TheVariants.{Ok, Err}
+use Rattle.p3l_ast.specs.declared.position.Spot.{Spot}
+use Rattle.p3l_ast.specs.declared.port.Num.{Num}
+use Rattle.p3l_ast.specs.declared.port.Num.TheVariants.{Digits, Named}
+use Rattle.p3l_ast.specs.declared.port.Port.{Port}
+use Rattle.p3l_ast.specs.declared.call.Sub.{Sub}
+use Rattle.p3l_ast.specs.declared.call.Sub.TheVariants.{Whole, Free}
+use Rattle.p3l_ast.specs.declared.call.Arg.{Arg}
+use Rattle.p3l_ast.specs.declared.call.OutArg.{OutArg}
+use Rattle.p3l_ast.specs.declared.call.OutArg.TheVariants.{Fresh, Old}
+use Rattle.p3l_ast.specs.declared.call.Call.{Call}
+use Rattle.p3l_ast.specs.declared.expression.UnOp.{UnOp}
+use Rattle.p3l_ast.specs.declared.expression.UnOp.TheVariants.{Neg, Not, Flip}
+use Rattle.p3l_ast.specs.declared.expression.BinOp.{BinOp}
+use Rattle.p3l_ast.specs.declared.expression.BinOp.TheVariants as ops
+use Rattle.p3l_ast.specs.declared.module.Kind.{Kind}
+use Rattle.p3l_ast.specs.declared.module.Kind.TheVariants as kinds
+use Rattle.p3l_ast.specs.Tree.{Phrase, number, read, unary, binary, Phrases, none, snoc, Code, done, assign, branch, branch_else, repeat, count, join, EntryTree, constant}
+use Rattle.p3l_lexer.specs.declared.mark.Mark.{Mark}
+use Rattle.p3l_lexer.specs.declared.mark.Mark.TheVariants as marks
+use Rattle.p3l_grammar.specs.Symbol.{Symbol, word, digits, sign, level, kind_mark}
+use Rattle.p3l_grammar.specs.Written.{Head, bodied_tree, chained_tree, spread_tree, turned_tree}
+use Rattle.p3l_grammar.specs.Marks.{same_mark}
+
+mutual
+  -- What comes next. `another` means: one more of these, or what stands behind them.
+  pub data State : Type 0 where
+    entries : List EntryTree → State
+    await : Mark → State → State
+    any_word : (Spot → State) → State
+    any_digits : (ℤ → State) → State
+    any_num : (Num → State) → State
+    clause : Mark → (Option Num → State) → State
+    another_size : List Num → (List Num → State) → State
+    any_sub : (Sub → State) → State
+    another_sub : List Sub → (List Sub → State) → State
+    another_port : List Port → (List Port → State) → State
+    another_arg : List Arg → (List Arg → State) → State
+    any_out : (OutArg → State) → State
+    another_out : List OutArg → (List OutArg → State) → State
+    another_call : List Call → (List Call → State) → State
+    another_local : List Port → (List Port → State) → State
+    operand : Hole → State
+    another_index : Phrases → (Phrases → State) → State
+    value : Phrase → Hole → State
+    another_stmt : Code → (Code → State) → State
+    maybe_else : Code → Phrase → Code → (Code → State) → State
+
+  -- where an operand stands in its expression
+  pub data Hole : Type 0 where
+    whole : (Phrase → State) → Hole
+    after_unary : UnOp → Hole → Hole
+    after_binary : BinOp → Phrase → Hole → Hole
+
+-- What may come, by the productions.
+
+abbrev pub expression : (Phrase → State) → State
+expression go = operand (whole go)
+
+abbrev pub index_in : (Phrase → State) → State
+index_in go = expression (λ e. await marks.CloseBracket (go e))
+
+abbrev pub size_in : (Num → State) → State
+size_in go = any_num (λ n. await marks.CloseBracket (go n))
+
+abbrev pub port_from : (Port → State) → State
+port_from go = any_word (λ x. another_size [] (λ ns. go (record { at = x; sizes = ns })))
+
+abbrev pub port : (Port → State) → State
+port go = await marks.Int (port_from go)
+
+abbrev pub arg_from : Spot → (Arg → State) → State
+arg_from x go = another_sub [] (λ ss. go (record { at = x; subs = ss }))
+
+abbrev pub arg : (Arg → State) → State
+arg go = any_word (λ x. arg_from x go)
+
+-- a list in parentheses, whose first item is read so, and the others so
+abbrev pub ports : (List Port → State) → State
+ports go = await marks.OpenParen (port (λ p. another_port (p ∷ []) (λ ps. await marks.CloseParen (go ps))))
+
+abbrev pub args : (List Arg → State) → State
+args go = await marks.OpenParen (arg (λ a. another_arg (a ∷ []) (λ xs. await marks.CloseParen (go xs))))
+
+abbrev pub out_args : (List OutArg → State) → State
+out_args go = await marks.OpenParen (any_out (λ a. another_out (a ∷ []) (λ xs. await marks.CloseParen (go xs))))
+
+abbrev pub call_from : Spot → (Call → State) → State
+call_from x go = await marks.In (args (λ is. await marks.Out (out_args (λ os. go (record { at = x; ins = is; outs = os })))))
+
+abbrev pub call : (Call → State) → State
+call go = any_word (λ x. call_from x go)
+
+abbrev pub head : (Head → State) → State
+head go = any_word (λ x. await marks.In (ports (λ is. await marks.Out (ports (λ os. go (record { at = x; ins = is; outs = os }))))))
+
+abbrev pub local_from : (Port → State) → State
+local_from go = port_from (λ p. await marks.Semicolon (go p))
+
+abbrev pub block : (Code → State) → State
+block go = await marks.OpenBrace (another_stmt done (λ b. await marks.CloseBrace (go b)))
+
+abbrev pub setting_from : Spot → (Phrases → Phrase → State) → State
+setting_from x go = another_index none (λ is. await marks.Assign (expression (λ e. go is e)))
+
+abbrev pub setting : (Spot → Phrases → Phrase → State) → State
+setting go = any_word (λ x. setting_from x (go x))
+
+abbrev pub test : (Phrase → State) → State
+test go = await marks.OpenParen (expression (λ e. await marks.CloseParen (go e)))
+
+abbrev pub assignment_from : Spot → (Code → State) → State
+assignment_from x go = setting_from x (λ is e. await marks.Semicolon (go (assign x is e done)))
+
+abbrev pub choice_from : Code → (Code → State) → State
+choice_from c go = test (λ e. block (λ t. maybe_else c e t go))
+
+abbrev pub repeat_from : (Code → State) → State
+repeat_from go = test (λ e. block (λ b. go (repeat e b done)))
+
+abbrev pub count_from : (Code → State) → State
+count_from go =
+    await marks.OpenParen (setting (λ x is e. await marks.Semicolon (expression (λ w. await marks.Semicolon
+    (setting (λ y js f. await marks.CloseParen (block (λ b. go (count x is e w y js f b done)))))))))
+
+abbrev pub end_of : Kind → State → State
+end_of k s = await marks.End (await (kind_mark k) s)
+
+abbrev pub fixed_from : (EntryTree → State) → State
+fixed_from go = any_word (λ x. await marks.Assign (any_digits (λ v. await marks.Semicolon (go (constant x v)))))
+
+abbrev pub bodied_from : (EntryTree → State) → State
+bodied_from go =
+    head (λ h. clause marks.Budget (λ b. await marks.OpenBody (another_local [] (λ ls. another_stmt done
+    (λ c. await marks.CloseBody (end_of kinds.Seq (go (bodied_tree h b ls c))))))))
+
+abbrev pub chained_from : Kind → (EntryTree → State) → State
+chained_from k go = head (λ h. call (λ c. another_call (c ∷ []) (λ cs. end_of k (go (chained_tree k h cs)))))
+
+abbrev pub spread_from : Kind → (EntryTree → State) → State
+spread_from k go = head (λ h. clause marks.Workers (λ w. call (λ c. end_of k (go (spread_tree k h w c)))))
+
+abbrev pub turned_from : (EntryTree → State) → State
+turned_from go =
+    head (λ h. await marks.Turns (any_num (λ t. clause marks.Tokens (λ n. call (λ b. await marks.While
+    (call (λ c. end_of kinds.Loop (go (turned_tree h t n b c)))))))))
+
+-- One symbol.
+
+-- where the symbol is none of these, what comes behind decides
+abbrev pub otherwise : Option State → Option State → Option State
+otherwise None next = next
+otherwise (Some s) next = Some s
+
+abbrev pub entries_step : Symbol → List EntryTree → Option State
+entries_step (sign marks.Const) es = Some (fixed_from (λ e. entries (es ++ e ∷ [])))
+entries_step (sign marks.Seq) es = Some (bodied_from (λ e. entries (es ++ e ∷ [])))
+entries_step (sign marks.Pipe) es = Some (chained_from kinds.Pipe (λ e. entries (es ++ e ∷ [])))
+entries_step (sign marks.Comp) es = Some (chained_from kinds.Comp (λ e. entries (es ++ e ∷ [])))
+entries_step (sign marks.Farm) es = Some (spread_from kinds.Farm (λ e. entries (es ++ e ∷ [])))
+entries_step (sign marks.Map) es = Some (spread_from kinds.Map (λ e. entries (es ++ e ∷ [])))
+entries_step (sign marks.Reduce) es = Some (spread_from kinds.Reduce (λ e. entries (es ++ e ∷ [])))
+entries_step (sign marks.Loop) es = Some (turned_from (λ e. entries (es ++ e ∷ [])))
+entries_step _ es = None
+
+abbrev pub await_step : Symbol → Mark → State → Option State
+await_step (sign m) wanted s = cond (same_mark wanted m) (Some s) None
+await_step _ wanted s = None
+
+abbrev pub word_step : Symbol → (Spot → State) → Option State
+word_step (word x) go = Some (go x)
+word_step _ go = None
+
+abbrev pub digits_step : Symbol → (ℤ → State) → Option State
+digits_step (digits v p) go = Some (go v)
+digits_step _ go = None
+
+abbrev pub num_step : Symbol → (Num → State) → Option State
+num_step (digits v p) go = Some (go (Digits v p))
+num_step (word x) go = Some (go (Named x))
+num_step _ go = None
+
+abbrev pub clause_step : Symbol → Mark → (Option Num → State) → Option State
+clause_step t m go = await_step t m (any_num (λ n. go (Some n)))
+
+abbrev pub size_step : Symbol → List Num → (List Num → State) → Option State
+size_step (sign marks.OpenBracket) ns go = Some (size_in (λ n. another_size (ns ++ n ∷ []) go))
+size_step _ ns go = None
+
+abbrev pub sub_step : Symbol → (Sub → State) → Option State
+sub_step (sign marks.CloseBracket) go = Some (go Whole)
+sub_step (sign marks.Star) go = Some (any_word (λ x. await marks.CloseBracket (go (Free x))))
+sub_step _ go = None
+
+abbrev pub subs_step : Symbol → List Sub → (List Sub → State) → Option State
+subs_step (sign marks.OpenBracket) ss go = Some (any_sub (λ s. another_sub (ss ++ s ∷ []) go))
+subs_step _ ss go = None
+
+abbrev pub port_step : Symbol → List Port → (List Port → State) → Option State
+port_step (sign marks.Comma) ps go = Some (port (λ p. another_port (ps ++ p ∷ []) go))
+port_step _ ps go = None
+
+abbrev pub arg_step : Symbol → List Arg → (List Arg → State) → Option State
+arg_step (sign marks.Comma) xs go = Some (arg (λ a. another_arg (xs ++ a ∷ []) go))
+arg_step _ xs go = None
+
+abbrev pub any_out_step : Symbol → (OutArg → State) → Option State
+any_out_step (sign marks.Int) go = Some (port_from (λ p. go (Fresh p)))
+any_out_step (word x) go = Some (arg_from x (λ a. go (Old a)))
+any_out_step _ go = None
+
+abbrev pub out_step : Symbol → List OutArg → (List OutArg → State) → Option State
+out_step (sign marks.Comma) xs go = Some (any_out (λ a. another_out (xs ++ a ∷ []) go))
+out_step _ xs go = None
+
+abbrev pub call_step : Symbol → List Call → (List Call → State) → Option State
+call_step (word x) cs go = Some (call_from x (λ c. another_call (cs ++ c ∷ []) go))
+call_step _ cs go = None
+
+abbrev pub local_step : Symbol → List Port → (List Port → State) → Option State
+local_step (sign marks.Int) ls go = Some (local_from (λ p. another_local (ls ++ p ∷ []) go))
+local_step _ ls go = None
+
+abbrev pub operand_step : Symbol → Hole → Option State
+operand_step (digits v p) h = Some (value (number v) h)
+operand_step (word x) h = Some (another_index none (λ is. value (read x is) h))
+operand_step (sign marks.Minus) h = Some (operand (after_unary Neg h))
+operand_step (sign marks.Bang) h = Some (operand (after_unary Not h))
+operand_step (sign marks.Tilde) h = Some (operand (after_unary Flip h))
+operand_step (sign marks.OpenParen) h = Some (expression (λ e. await marks.CloseParen (value e h)))
+operand_step _ h = None
+
+abbrev pub index_step : Symbol → Phrases → (Phrases → State) → Option State
+index_step (sign marks.OpenBracket) is go = Some (index_in (λ e. another_index (snoc is e) go))
+index_step _ is go = None
+
+-- the operator that a symbol is behind an operand
+abbrev pub operator_of : Symbol → Option BinOp
+operator_of (sign marks.EitherHolds) = Some ops.Or
+operator_of (sign marks.BothHold) = Some ops.And
+operator_of (sign marks.Bar) = Some ops.BitOr
+operator_of (sign marks.Caret) = Some ops.BitXor
+operator_of (sign marks.Ampersand) = Some ops.BitAnd
+operator_of (sign marks.Equal) = Some ops.Eq
+operator_of (sign marks.NotEqual) = Some ops.Ne
+operator_of (sign marks.Less) = Some ops.Lt
+operator_of (sign marks.AtMost) = Some ops.Le
+operator_of (sign marks.Greater) = Some ops.Gt
+operator_of (sign marks.AtLeast) = Some ops.Ge
+operator_of (sign marks.ShiftLeft) = Some ops.Shl
+operator_of (sign marks.ShiftRight) = Some ops.Shr
+operator_of (sign marks.Plus) = Some ops.Add
+operator_of (sign marks.Minus) = Some ops.Sub
+operator_of (sign marks.Star) = Some ops.Mul
+operator_of (sign marks.Slash) = Some ops.Div
+operator_of (sign marks.Percent) = Some ops.Rem
+operator_of _ = None
+
+-- what stands before the next symbol is put together down to this level
+abbrev pub level_of : Option BinOp → ℕ
+level_of None = 0
+level_of (Some o) = level o
+
+abbrev pub operator_step : Option BinOp → Phrase → Hole → Option State
+operator_step None e h = None
+operator_step (Some o) e h = Some (operand (after_binary o e h))
+
+abbrev pub stmt_step : Symbol → Code → (Code → State) → Option State
+stmt_step (word x) c go = Some (assignment_from x (λ d. another_stmt (join c d) go))
+stmt_step (sign marks.If) c go = Some (choice_from c go)
+stmt_step (sign marks.While) c go = Some (repeat_from (λ d. another_stmt (join c d) go))
+stmt_step (sign marks.For) c go = Some (count_from (λ d. another_stmt (join c d) go))
+stmt_step _ c go = None
+
+abbrev pub else_step : Symbol → Code → Phrase → Code → (Code → State) → Option State
+else_step (sign marks.Else) c e t go = Some (block (λ f. another_stmt (join c (branch_else e t f done)) go))
+else_step _ c e t go = None
+
+abbrev mutual
+  pub step : State → Symbol → Option State
+  step (entries es) t = entries_step t es
+  step (await m s) t = await_step t m s
+  step (any_word go) t = word_step t go
+  step (any_digits go) t = digits_step t go
+  step (any_num go) t = num_step t go
+  step (clause m go) t = otherwise (clause_step t m go) (step (go None) t)
+  step (another_size ns go) t = otherwise (size_step t ns go) (step (go ns) t)
+  step (any_sub go) t = sub_step t go
+  step (another_sub ss go) t = otherwise (subs_step t ss go) (step (go ss) t)
+  step (another_port ps go) t = otherwise (port_step t ps go) (step (go ps) t)
+  step (another_arg xs go) t = otherwise (arg_step t xs go) (step (go xs) t)
+  step (any_out go) t = any_out_step t go
+  step (another_out xs go) t = otherwise (out_step t xs go) (step (go xs) t)
+  step (another_call cs go) t = otherwise (call_step t cs go) (step (go cs) t)
+  step (another_local ls go) t = otherwise (local_step t ls go) (step (go ls) t)
+  step (operand h) t = operand_step t h
+  step (another_index is go) t = otherwise (index_step t is go) (step (go is) t)
+  step (value e h) t = value_step h e t
+  step (another_stmt c go) t = otherwise (stmt_step t c go) (step (go c) t)
+  step (maybe_else c e b go) t =
+      otherwise (else_step t c e b go) (otherwise (stmt_step t (join c (branch e b done)) go) (step (go (join c (branch e b done))) t))
+
+  pub value_step : Hole → Phrase → Symbol → Option State
+  value_step (whole go) e t = otherwise (operator_step (operator_of t) e (whole go)) (step (go e) t)
+  value_step (after_unary o h) e t = value_step h (unary o e) t
+  value_step (after_binary o a h) e t =
+      cond (nat_le (level_of (operator_of t)) (level o)) (value_step h (binary o a e) t) (operator_step (operator_of t) e (after_binary o a h))
+
+-- Symbols one after another.
+
+abbrev pub bind : Option State → (State → Option State) → Option State
+bind None f = None
+bind (Some s) f = f s
+
+abbrev pub run : State → List Symbol → Option State
+run s [] = Some s
+run s (t ∷ ts) = bind (step s t) (λ s'. run s' ts)
+
+-- the program, where the machine is at its end; else nothing is left of the symbols
+abbrev pub finish : State → Result (List EntryTree) ℕ
+finish (entries es) = Ok es
+finish s = Err 0
+
+abbrev pub next : Option State → ℕ → (State → Result (List EntryTree) ℕ) → Result (List EntryTree) ℕ
+next None left f = Err left
+next (Some s) left f = f s
+
+-- the program that the symbols are from a state on, or how many are left at the first that is refused
+abbrev pub all : State → List Symbol → Result (List EntryTree) ℕ
+all s [] = finish s
+all s (t ∷ ts) = next (step s t) (suc (length ts)) (λ s'. all s' ts)

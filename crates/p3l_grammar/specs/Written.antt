@@ -1,0 +1,307 @@
+-- Programs as they are written: with parentheses, and with the position of every number.
+use Rattle.std.specs.Prelude.{ℕ, ℤ, ◌<◌, ◌≤◌, List, [], ◌∷◌, map, Option, Some, None}
+use Rattle.p3l_ast.specs.declared.position.Pos.{Pos}
+use Rattle.p3l_ast.specs.declared.position.Spot.{Spot}
+use Rattle.p3l_ast.specs.declared.port.Num.{Num}
+use Rattle.p3l_ast.specs.declared.port.Num.TheVariants.{Digits, Named}
+use Rattle.p3l_ast.specs.declared.port.Port.{Port}
+use Rattle.p3l_ast.specs.declared.call.Sub.{Sub}
+use Rattle.p3l_ast.specs.declared.call.Sub.TheVariants.{Whole, Free}
+use Rattle.p3l_ast.specs.declared.call.Arg.{Arg}
+use Rattle.p3l_ast.specs.declared.call.OutArg.{OutArg}
+use Rattle.p3l_ast.specs.declared.call.OutArg.TheVariants.{Fresh, Old}
+use Rattle.p3l_ast.specs.declared.call.Call.{Call}
+use Rattle.p3l_ast.specs.declared.expression.UnOp.{UnOp}
+use Rattle.p3l_ast.specs.declared.expression.BinOp.{BinOp}
+use Rattle.p3l_ast.specs.declared.module.Kind.{Kind}
+use Rattle.p3l_ast.specs.declared.module.Kind.TheVariants.{Seq, Comp, Pipe, Farm, Map, Reduce, Loop}
+use Rattle.p3l_ast.specs.Tree.{Phrase, number, read, unary, binary, Phrases, none, more, Code, done, assign, branch, branch_else, repeat, count, body, calls, turning, EntryTree, constant, defined}
+use Rattle.p3l_lexer.specs.declared.mark.Mark.{Mark}
+use Rattle.p3l_lexer.specs.declared.mark.Mark.TheVariants as marks
+use Rattle.p3l_grammar.specs.Symbol.{Symbol, word, digits, sign, unary_mark, binary_mark, level, kind_mark}
+
+mutual
+  -- an expression as it is written
+  pub data Form : Type 0 where
+    numeral : ℤ → Pos → Form
+    place : Spot → Forms → Form
+    prefix : UnOp → Form → Form
+    infix_ : BinOp → Form → Form → Form
+    paren : Form → Form
+
+  -- indices as they are written
+  pub data Forms : Type 0 where
+    no_index : Forms
+    index : Form → Forms → Forms
+
+-- statements as they are written, each with those that follow it
+pub data Script : Type 0 where
+  stop : Script
+  set : Spot → Forms → Form → Script → Script
+  when : Form → Script → Script → Script
+  when_else : Form → Script → Script → Script → Script
+  as_long_as : Form → Script → Script → Script
+  counting : Spot → Forms → Form → Form → Spot → Forms → Form → Script → Script → Script
+
+-- the name and the ports of a module
+pub record Head : Type 0 where
+  pub at : Spot
+  pub ins : List Port
+  pub outs : List Port
+
+-- an entry as it is written: a constant, a `seq` with its budget, locals and statements, a `pipe` or
+-- `comp`, a `farm`, `map` or `reduce` with its workers, or a `loop` with its turns, tokens, body and condition
+pub data Item : Type 0 where
+  fixed : Spot → ℤ → Pos → Item
+  bodied : Head → Option Num → List Port → Script → Item
+  chained : Kind → Head → List Call → Item
+  spread : Kind → Head → Option Num → Call → Item
+  turned : Head → Num → Option Num → Call → Call → Item
+
+-- Which of these are texts of the language.
+
+-- how tight the outermost construct of an expression binds
+abbrev pub tight : Form → ℕ
+tight (numeral v p) = 10
+tight (place x is) = 10
+tight (prefix o e) = 10
+tight (infix_ o a b) = level o
+tight (paren e) = 10
+
+-- the expression is grouped as its tokens are read: by levels, and to the left
+abbrev mutual
+  pub IsGrouped : Form → Type 0
+  IsGrouped (numeral v p) = Unit {0}
+  IsGrouped (place x is) = AreGrouped is
+  IsGrouped (prefix o e) = (10 ≤ tight e) × IsGrouped e
+  IsGrouped (infix_ o a b) = (level o ≤ tight a) × (level o < tight b) × IsGrouped a × IsGrouped b
+  IsGrouped (paren e) = IsGrouped e
+
+  pub AreGrouped : Forms → Type 0
+  AreGrouped no_index = Unit {0}
+  AreGrouped (index e is) = IsGrouped e × AreGrouped is
+
+abbrev pub IsScript : Script → Type 0
+IsScript stop = Unit {0}
+IsScript (set x is e c) = AreGrouped is × IsGrouped e × IsScript c
+IsScript (when e t c) = IsGrouped e × IsScript t × IsScript c
+IsScript (when_else e t f c) = IsGrouped e × IsScript t × IsScript f × IsScript c
+IsScript (as_long_as e b c) = IsGrouped e × IsScript b × IsScript c
+IsScript (counting x is e w y js f b c) =
+    AreGrouped is × IsGrouped e × IsGrouped w × AreGrouped js × IsGrouped f × IsScript b × IsScript c
+
+-- the list has an item
+abbrev pub HasOne : {A : Type 0} → List A → Type 0
+HasOne [] = ⊥
+HasOne (x ∷ xs) = Unit {0}
+
+abbrev pub IsHead : Head → Type 0
+IsHead h = HasOne h.ins × HasOne h.outs
+
+abbrev pub IsCall : Call → Type 0
+IsCall c = HasOne c.ins × HasOne c.outs
+
+abbrev pub AreCalls : List Call → Type 0
+AreCalls [] = Unit {0}
+AreCalls (c ∷ cs) = IsCall c × AreCalls cs
+
+abbrev pub IsChain : Kind → Type 0
+IsChain Pipe = Unit {0}
+IsChain Comp = Unit {0}
+IsChain _ = ⊥
+
+abbrev pub IsSpread : Kind → Type 0
+IsSpread Farm = Unit {0}
+IsSpread Map = Unit {0}
+IsSpread Reduce = Unit {0}
+IsSpread _ = ⊥
+
+abbrev pub IsItem : Item → Type 0
+IsItem (fixed x v p) = Unit {0}
+IsItem (bodied h b ls c) = IsHead h × IsScript c
+IsItem (chained k h cs) = IsChain k × IsHead h × HasOne cs × AreCalls cs
+IsItem (spread k h w c) = IsSpread k × IsHead h × IsCall c
+IsItem (turned h t n b c) = IsHead h × IsCall b × IsCall c
+
+abbrev pub IsText : List Item → Type 0
+IsText [] = Unit {0}
+IsText (i ∷ is) = IsItem i × IsText is
+
+-- The tokens: those of the first argument, and then those of the last.
+
+-- what is written for each item, one behind the other
+abbrev pub each : {A : Type 0} → (A → List Symbol → List Symbol) → List A → List Symbol → List Symbol
+each f [] r = r
+each f (x ∷ xs) r = f x (each f xs r)
+
+abbrev pub behind_comma : {A : Type 0} → (A → List Symbol → List Symbol) → A → List Symbol → List Symbol
+behind_comma f x r = sign marks.Comma ∷ f x r
+
+-- what is written for each item, with commas between them
+abbrev pub parted : {A : Type 0} → (A → List Symbol → List Symbol) → List A → List Symbol → List Symbol
+parted f [] r = r
+parted f (x ∷ xs) r = f x (each (behind_comma f) xs r)
+
+abbrev pub num_symbol : Num → Symbol
+num_symbol (Digits v p) = digits v p
+num_symbol (Named x) = word x
+
+abbrev pub spell_size : Num → List Symbol → List Symbol
+spell_size n r = sign marks.OpenBracket ∷ num_symbol n ∷ sign marks.CloseBracket ∷ r
+
+abbrev pub spell_port : Port → List Symbol → List Symbol
+spell_port p r = sign marks.Int ∷ word p.at ∷ each spell_size p.sizes r
+
+abbrev pub spell_sub : Sub → List Symbol → List Symbol
+spell_sub Whole r = sign marks.OpenBracket ∷ sign marks.CloseBracket ∷ r
+spell_sub (Free x) r = sign marks.OpenBracket ∷ sign marks.Star ∷ word x ∷ sign marks.CloseBracket ∷ r
+
+abbrev pub spell_arg : Arg → List Symbol → List Symbol
+spell_arg a r = word a.at ∷ each spell_sub a.subs r
+
+abbrev pub spell_out : OutArg → List Symbol → List Symbol
+spell_out (Fresh p) r = spell_port p r
+spell_out (Old a) r = spell_arg a r
+
+abbrev pub spell_call : Call → List Symbol → List Symbol
+spell_call c r =
+    word c.at ∷ sign marks.In ∷ sign marks.OpenParen ∷ parted spell_arg c.ins (sign marks.CloseParen
+    ∷ sign marks.Out ∷ sign marks.OpenParen ∷ parted spell_out c.outs (sign marks.CloseParen ∷ r))
+
+abbrev mutual
+  pub spell : Form → List Symbol → List Symbol
+  spell (numeral v p) r = digits v p ∷ r
+  spell (place x is) r = word x ∷ spell_index is r
+  spell (prefix o e) r = sign (unary_mark o) ∷ spell e r
+  spell (infix_ o a b) r = spell a (sign (binary_mark o) ∷ spell b r)
+  spell (paren e) r = sign marks.OpenParen ∷ spell e (sign marks.CloseParen ∷ r)
+
+  pub spell_index : Forms → List Symbol → List Symbol
+  spell_index no_index r = r
+  spell_index (index e is) r = sign marks.OpenBracket ∷ spell e (sign marks.CloseBracket ∷ spell_index is r)
+
+abbrev pub spell_set : Spot → Forms → Form → List Symbol → List Symbol
+spell_set x is e r = word x ∷ spell_index is (sign marks.Assign ∷ spell e r)
+
+abbrev pub spell_script : Script → List Symbol → List Symbol
+spell_script stop r = r
+spell_script (set x is e c) r = spell_set x is e (sign marks.Semicolon ∷ spell_script c r)
+spell_script (when e t c) r =
+    sign marks.If ∷ sign marks.OpenParen ∷ spell e (sign marks.CloseParen
+    ∷ sign marks.OpenBrace ∷ spell_script t (sign marks.CloseBrace ∷ spell_script c r))
+spell_script (when_else e t f c) r =
+    sign marks.If ∷ sign marks.OpenParen ∷ spell e (sign marks.CloseParen
+    ∷ sign marks.OpenBrace ∷ spell_script t (sign marks.CloseBrace
+    ∷ sign marks.Else ∷ sign marks.OpenBrace ∷ spell_script f (sign marks.CloseBrace ∷ spell_script c r)))
+spell_script (as_long_as e b c) r =
+    sign marks.While ∷ sign marks.OpenParen ∷ spell e (sign marks.CloseParen
+    ∷ sign marks.OpenBrace ∷ spell_script b (sign marks.CloseBrace ∷ spell_script c r))
+spell_script (counting x is e w y js f b c) r =
+    sign marks.For ∷ sign marks.OpenParen ∷ spell_set x is e (sign marks.Semicolon
+    ∷ spell w (sign marks.Semicolon ∷ spell_set y js f (sign marks.CloseParen
+    ∷ sign marks.OpenBrace ∷ spell_script b (sign marks.CloseBrace ∷ spell_script c r))))
+
+abbrev pub spell_head : Head → List Symbol → List Symbol
+spell_head h r =
+    word h.at ∷ sign marks.In ∷ sign marks.OpenParen ∷ parted spell_port h.ins (sign marks.CloseParen
+    ∷ sign marks.Out ∷ sign marks.OpenParen ∷ parted spell_port h.outs (sign marks.CloseParen ∷ r))
+
+-- a clause, where it is given
+abbrev pub spell_clause : Mark → Option Num → List Symbol → List Symbol
+spell_clause m None r = r
+spell_clause m (Some n) r = sign m ∷ num_symbol n ∷ r
+
+abbrev pub spell_local : Port → List Symbol → List Symbol
+spell_local p r = spell_port p (sign marks.Semicolon ∷ r)
+
+abbrev pub spell_end : Kind → List Symbol → List Symbol
+spell_end k r = sign marks.End ∷ sign (kind_mark k) ∷ r
+
+abbrev pub spell_item : Item → List Symbol → List Symbol
+spell_item (fixed x v p) r = sign marks.Const ∷ word x ∷ sign marks.Assign ∷ digits v p ∷ sign marks.Semicolon ∷ r
+spell_item (bodied h b ls c) r =
+    sign marks.Seq ∷ spell_head h (spell_clause marks.Budget b (sign marks.OpenBody
+    ∷ each spell_local ls (spell_script c (sign marks.CloseBody ∷ spell_end Seq r))))
+spell_item (chained k h cs) r = sign (kind_mark k) ∷ spell_head h (each spell_call cs (spell_end k r))
+spell_item (spread k h w c) r = sign (kind_mark k) ∷ spell_head h (spell_clause marks.Workers w (spell_call c (spell_end k r)))
+spell_item (turned h t n b c) r =
+    sign marks.Loop ∷ spell_head h (sign marks.Turns ∷ num_symbol t ∷ spell_clause marks.Tokens n (spell_call b (sign marks.While
+    ∷ spell_call c (spell_end Loop r))))
+
+abbrev pub spell_text : List Item → List Symbol → List Symbol
+spell_text is r = each spell_item is r
+
+-- The program: what is written, without parentheses and without the positions that it does not keep.
+
+abbrev mutual
+  pub tree : Form → Phrase
+  tree (numeral v p) = number v
+  tree (place x is) = read x (trees is)
+  tree (prefix o e) = unary o (tree e)
+  tree (infix_ o a b) = binary o (tree a) (tree b)
+  tree (paren e) = tree e
+
+  pub trees : Forms → Phrases
+  trees no_index = none
+  trees (index e is) = more (tree e) (trees is)
+
+abbrev pub script_tree : Script → Code
+script_tree stop = done
+script_tree (set x is e c) = assign x (trees is) (tree e) (script_tree c)
+script_tree (when e t c) = branch (tree e) (script_tree t) (script_tree c)
+script_tree (when_else e t f c) = branch_else (tree e) (script_tree t) (script_tree f) (script_tree c)
+script_tree (as_long_as e b c) = repeat (tree e) (script_tree b) (script_tree c)
+script_tree (counting x is e w y js f b c) =
+    count x (trees is) (tree e) (tree w) y (trees js) (tree f) (script_tree b) (script_tree c)
+
+-- modules of each form
+
+abbrev pub bodied_tree : Head → Option Num → List Port → Code → EntryTree
+bodied_tree h b ls c = defined (record {
+  kind = Seq;
+  at = h.at;
+  ins = h.ins;
+  outs = h.outs;
+  clauses = record { workers = None; turns = None; tokens = None; budget = b };
+  inside = body ls c;
+})
+
+abbrev pub chained_tree : Kind → Head → List Call → EntryTree
+chained_tree k h cs = defined (record {
+  kind = k;
+  at = h.at;
+  ins = h.ins;
+  outs = h.outs;
+  clauses = record { workers = None; turns = None; tokens = None; budget = None };
+  inside = calls cs;
+})
+
+abbrev pub spread_tree : Kind → Head → Option Num → Call → EntryTree
+spread_tree k h w c = defined (record {
+  kind = k;
+  at = h.at;
+  ins = h.ins;
+  outs = h.outs;
+  clauses = record { workers = w; turns = None; tokens = None; budget = None };
+  inside = calls (c ∷ []);
+})
+
+abbrev pub turned_tree : Head → Num → Option Num → Call → Call → EntryTree
+turned_tree h t n b c = defined (record {
+  kind = Loop;
+  at = h.at;
+  ins = h.ins;
+  outs = h.outs;
+  clauses = record { workers = None; turns = Some t; tokens = n; budget = None };
+  inside = turning b c;
+})
+
+abbrev pub item_tree : Item → EntryTree
+item_tree (fixed x v p) = constant x v
+item_tree (bodied h b ls c) = bodied_tree h b ls (script_tree c)
+item_tree (chained k h cs) = chained_tree k h cs
+item_tree (spread k h w c) = spread_tree k h w c
+item_tree (turned h t n b c) = turned_tree h t n b c
+
+abbrev pub text_tree : List Item → List EntryTree
+text_tree is = map item_tree is

@@ -1,0 +1,4 @@
+//! The grammar of source texts: what a text spells, and where it is first no beginning of a program.
+#![tactic(auto)]
+
+pub mod operator;
