@@ -1,53 +1,57 @@
 -- The nodes that have a number of workers, and which numbers are lawful.
-use Rattle.std.specs.Prelude.{◌≡◌, ℕ, ◌^◌, ◌==◌, ◌≤◌, Bool, true, false, if◌then◌else◌, Option, Some, None, List, [], ◌∷◌, filter, slice_index, ⊤}
+use Rattle.std.specs.Prelude.{◌≡◌, ℕ, ◌==◌, ◌≤◌, if◌then◌else◌, Option, Some, None, List, [], ◌∷◌, ◌++◌, take, ⊤}
 use Rattle.std.specs.List.{flat_map}
+use Rattle.std.specs.Int.{IsPowerOfTwo}
 use Rattle.p3l_base.specs.Cut.{element_count}
 use Rattle.p3l_skel.specs.declared.tree.Form.{Form}
 use Rattle.p3l_skel.specs.declared.tree.Form.TheVariants.{Seq, Comp, Pipe, Farm, Map, Reduce, Loop}
 use Rattle.p3l_skel.specs.declared.tree.Tree.{Tree}
 use Rattle.p3l_skel.specs.Tree.{node_at, by_parts, nesting}
 
--- the nodes below a node of this form that are in no unit, where it is known which stand below its
--- parts: what lies below a comp or a reduce, or in a loop's condition, is in a unit
-abbrev pub outside_row : Form → (ℕ → List ℕ) → List ℕ → List ℕ
-outside_row Seq below parts = []
-outside_row Comp below parts = []
-outside_row Pipe below parts = flat_map below parts
-outside_row (Farm w) below parts = below (slice_index parts 0)
-outside_row (Map w cut) below parts = below (slice_index parts 0)
-outside_row (Reduce w len elem) below parts = []
-outside_row (Loop turns tokens) below parts = below (slice_index parts 0)
+-- the parts of a node of this form, itself outside units, that are outside units too: what lies
+-- below a comp or a reduce, or in a loop's condition, is in a unit
+abbrev pub outside_parts : Form → List ℕ → List ℕ
+outside_parts Seq parts = []
+outside_parts Comp parts = []
+outside_parts Pipe parts = parts
+outside_parts (Farm w) parts = take 1 parts
+outside_parts (Map w cut) parts = take 1 parts
+outside_parts (Reduce w len elem) parts = []
+outside_parts (Loop turns tokens) parts = take 1 parts
 
--- a node outside units with those at and below its parts, in preorder
-unfoldable pub outside_from : Tree → ℕ → List ℕ
+-- a node outside units and the nodes below it that are outside units, in preorder, down to a depth
+unfoldable pub outside_from : Tree → ℕ → ℕ → List ℕ
 outside_from tree =
-    by_parts (λ below k. k ∷ outside_row (node_at tree k).form below (node_at tree k).parts) (λ k. k ∷ []) nesting
+    by_parts (λ below k. k ∷ flat_map below (outside_parts (node_at tree k).form (node_at tree k).parts)) (λ k. k ∷ [])
 
 -- the nodes outside units, in preorder
 abbrev pub outside : Tree → List ℕ
-outside tree = outside_from tree 0
+outside tree = outside_from tree nesting 0
 
--- whether a node of this form has a number of workers or segments
-abbrev pub is_counted : Form → Bool
-is_counted Seq = false
-is_counted Comp = false
-is_counted Pipe = false
-is_counted (Farm w) = true
-is_counted (Map w cut) = true
-is_counted (Reduce w len elem) = true
-is_counted (Loop turns tokens) = false
+-- the node itself, if it has a number of workers or segments
+abbrev pub own_counted : Form → ℕ → List ℕ
+own_counted Seq node = []
+own_counted Comp node = []
+own_counted Pipe node = []
+own_counted (Farm w) node = node ∷ []
+own_counted (Map w cut) node = node ∷ []
+own_counted (Reduce w len elem) node = node ∷ []
+own_counted (Loop turns tokens) node = []
 
--- the nodes outside units that have such a number, in preorder
+-- of a node outside units and the nodes below it that are outside units the farms, maps and
+-- reduces, in preorder, down to a depth
+unfoldable pub counted_from : Tree → ℕ → ℕ → List ℕ
+counted_from tree =
+    by_parts (λ below k. own_counted (node_at tree k).form k ++ flat_map below (outside_parts (node_at tree k).form (node_at tree k).parts)) (λ k. [])
+
+-- the nodes that have a number of workers or segments: the farms, maps and reduces outside units,
+-- in preorder
 abbrev pub counted : Tree → List ℕ
-counted tree = filter (λ k. is_counted (node_at tree k).form) (outside tree)
+counted tree = counted_from tree nesting 0
 
 -- the most workers that a node has
 abbrev pub most_workers : ℕ
 most_workers = 512
-
--- a power of two
-abbrev pub IsPowerOfTwo : ℕ → Type 0
-IsPowerOfTwo n = (k : ℕ) × (n ≡ 2 ^ k)
 
 -- a number of workers that a node of this form may have, whatever its clause says
 abbrev pub IsCountInRange : Form → ℕ → Type 0
@@ -78,16 +82,15 @@ MeetsClause (Some m) n = n ≡ m
 abbrev pub IsLawfulCount : Form → ℕ → Type 0
 IsLawfulCount form n = MeetsClause (workers_of form) n × IsCountInRange form n
 
--- each of these nodes has a lawful number, and no number is left over
-abbrev pub AreLawfulCounts : Tree → List ℕ → List ℕ → Type 0
-AreLawfulCounts tree [] [] = ⊤
-AreLawfulCounts tree [] (n ∷ ns) = ⊥
-AreLawfulCounts tree (k ∷ ks) [] = ⊥
-AreLawfulCounts tree (k ∷ ks) (n ∷ ns) = IsLawfulCount (node_at tree k).form n × AreLawfulCounts tree ks ns
+-- the first of the numbers are lawful ones of these nodes, and the rest is left over
+abbrev pub TakesLawful : Tree → List ℕ → List ℕ → List ℕ → Type 0
+TakesLawful tree [] ns rest = ns ≡ rest
+TakesLawful tree (k ∷ ks) [] rest = ⊥
+TakesLawful tree (k ∷ ks) (n ∷ ns) rest = IsLawfulCount (node_at tree k).form n × TakesLawful tree ks ns rest
 
--- lawful counts of a tree
+-- lawful counts of a tree: each node that has a number has a lawful one, and none is left over
 abbrev pub HasLawfulCounts : Tree → List ℕ → Type 0
-HasLawfulCounts tree counts = AreLawfulCounts tree (counted tree) counts
+HasLawfulCounts tree counts = TakesLawful tree (counted tree) counts []
 
 -- the number at the place of a node in these nodes, and 0 where it is none of them
 abbrev pub count_in : List ℕ → List ℕ → ℕ → ℕ

@@ -79,11 +79,16 @@ item_row leaf home (Reduce w len elem) parts part words = reduced elem (part (sl
 item_row leaf home (Loop turns tokens) parts part words =
     turned (part (slice_index parts 0)) (part (slice_index parts 1)) (turns_spent home) turns words
 
--- what a node makes of the words of an item, where it is known what each `seq` module does
-unfoldable pub item : Tree → (ℕ → List ℤ → Outcome) → ℕ → List ℤ → Outcome
-item tree leaf =
+-- what a node makes of the words of an item, where it is known what each `seq` module does, down to
+-- a depth
+unfoldable pub item_to : Tree → (ℕ → List ℤ → Outcome) → ℕ → ℕ → List ℤ → Outcome
+item_to tree leaf =
     by_parts (λ part k. item_row leaf (node_at tree k).module (node_at tree k).form (node_at tree k).parts part)
-    (λ k words. leaf (node_at tree k).module words) nesting
+    (λ k words. leaf (node_at tree k).module words)
+
+-- what a node makes of the words of an item, where it is known what each `seq` module does
+abbrev pub item : Tree → (ℕ → List ℤ → Outcome) → ℕ → List ℤ → Outcome
+item tree leaf node words = item_to tree leaf nesting node words
 
 -- the outcomes of items in order, up to and with the first trap
 abbrev pub up_to_trap : Outcome → List Outcome → List Outcome

@@ -30,14 +30,14 @@ procs_row (Map w cut) n below parts = 2 + n * below (slice_index parts 0)
 procs_row (Reduce w len elem) n below parts = flat_procs n
 procs_row (Loop turns tokens) n below parts = 2 + below (slice_index parts 0)
 
--- the processes of a node, where it is known how many workers each node has
-unfoldable pub procs_by : Tree → (ℕ → ℕ) → ℕ → ℕ
+-- the processes of a node, where it is known how many workers each node has, down to a depth
+unfoldable pub procs_by : Tree → (ℕ → ℕ) → ℕ → ℕ → ℕ
 procs_by tree count =
-    by_parts (λ below k. procs_row (node_at tree k).form (count k) below (node_at tree k).parts) (λ _. 1) nesting
+    by_parts (λ below k. procs_row (node_at tree k).form (count k) below (node_at tree k).parts) (λ _. 1)
 
 -- the processes of a node
 abbrev pub procs : Tree → List ℕ → ℕ → ℕ
-procs tree counts node = procs_by tree (count_of tree counts) node
+procs tree counts node = procs_by tree (count_of tree counts) nesting node
 
 -- the firings of a node of this form for one item, where those of its parts are known; `reduce`
 -- gives those of a reduce with so many segments
@@ -50,14 +50,15 @@ firings_row reduce (Map w cut) n below parts = 2 + 2 * element_count cut + eleme
 firings_row reduce (Reduce w len elem) n below parts = reduce n
 firings_row reduce (Loop turns tokens) n below parts = turns * below (slice_index parts 0) + 2 * turns + 1
 
--- the firings of a node for one item, where it is known how many segments each reduce has
-unfoldable pub firings_by : (ℕ → ℕ) → Tree → (ℕ → ℕ) → ℕ → ℕ
+-- the firings of a node for one item, where it is known how many segments each reduce has, down to
+-- a depth
+unfoldable pub firings_by : (ℕ → ℕ) → Tree → (ℕ → ℕ) → ℕ → ℕ → ℕ
 firings_by reduce tree count =
-    by_parts (λ below k. firings_row reduce (node_at tree k).form (count k) below (node_at tree k).parts) (λ _. 1) nesting
+    by_parts (λ below k. firings_row reduce (node_at tree k).form (count k) below (node_at tree k).parts) (λ _. 1)
 
 -- the firings of the whole network for one item: the root's, the source's and the sink's
 abbrev pub firings : Tree → List ℕ → ℕ
-firings tree counts = firings_by flat_firings tree (count_of tree counts) 0 + 2
+firings tree counts = firings_by flat_firings tree (count_of tree counts) nesting 0 + 2
 
 -- the most firings of the whole network for so many items
 abbrev pub bound : Tree → List ℕ → ℕ → ℕ
@@ -73,10 +74,13 @@ runs_row (Map w cut) below parts = element_count cut * below (slice_index parts 
 runs_row (Reduce w len elem) below parts = (len - 1) * below (slice_index parts 0)
 runs_row (Loop turns tokens) below parts = turns * (below (slice_index parts 0) + below (slice_index parts 1))
 
+-- how often a node runs bodies for one item, at most, down to a depth
+unfoldable pub runs_to : Tree → ℕ → ℕ → ℕ
+runs_to tree = by_parts (λ below k. runs_row (node_at tree k).form below (node_at tree k).parts) (λ _. 1)
+
 -- how often a node runs bodies for one item, at most
-unfoldable pub runs : Tree → ℕ → ℕ
-runs tree =
-    by_parts (λ below k. runs_row (node_at tree k).form below (node_at tree k).parts) (λ _. 1) nesting
+abbrev pub runs : Tree → ℕ → ℕ
+runs tree node = runs_to tree nesting node
 
 -- the greatest power of two, with an exponent up to this one, that is at most n
 unfoldable pub power_up_to : ℕ → ℕ → ℕ
@@ -94,6 +98,10 @@ most_segments (Map w cut) = 1
 most_segments (Reduce w len elem) = unwrap_or w (power_up_to 9 len)
 most_segments (Loop turns tokens) = 1
 
+-- the most segments that a node may have
+abbrev pub segments_at : Tree → ℕ → ℕ
+segments_at tree node = most_segments (node_at tree node).form
+
 -- the most firings of a tree's root for one item under any lawful counts
 abbrev pub most_firings : (ℕ → ℕ) → Tree → ℕ
-most_firings reduce tree = firings_by reduce tree (λ k. most_segments (node_at tree k).form) 0
+most_firings reduce tree = firings_by reduce tree (segments_at tree) nesting 0

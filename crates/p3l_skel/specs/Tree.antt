@@ -39,10 +39,13 @@ sequential_row (Map w cut) below parts = below (slice_index parts 0)
 sequential_row (Reduce w len elem) below parts = below (slice_index parts 0)
 sequential_row (Loop turns tokens) below parts = false
 
+-- whether a node is sequential, down to a depth
+unfoldable pub sequential_to : Tree → ℕ → ℕ → Bool
+sequential_to tree = by_parts (λ below k. sequential_row (node_at tree k).form below (node_at tree k).parts) (λ _. false)
+
 -- whether a node is sequential: a seq, a comp, or a map or reduce of a sequential part
-unfoldable pub is_sequential : Tree → ℕ → Bool
-is_sequential tree node =
-    by_parts (λ below k. sequential_row (node_at tree k).form below (node_at tree k).parts) (λ _. false) nesting node
+abbrev pub is_sequential : Tree → ℕ → Bool
+is_sequential tree node = sequential_to tree nesting node
 
 -- a node that one process can run
 pub record IsUnit (tree : Tree) (node : ℕ) : Type 0 where

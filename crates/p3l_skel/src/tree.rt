@@ -1,6 +1,12 @@
 // The tree of skeletons and the counts of workers.
 
+ghost use Rattle.std.specs.Prelude.{◌≡◌, ◌↔◌, ◌<◌, ◌≤◌, IsSome, IfSome, IfNone, length, slice_index};
+ghost use Rattle.p3l_skel.specs.Tree.{node_at};
+
 use p3l_base::{Cut, List, Name};
+
+/// How deep nodes are nested at most; the root counts as one level.
+pub const NESTING: u32 = 6;
 
 /// What a node does with an item, and the numbers of its module's clauses.
 #[derive(Debug, Drop)]
@@ -78,4 +84,24 @@ pub struct Tree {
 #[derive(Debug, Drop)]
 pub struct Counts {
     pub list: List<u32>,
+}
+
+impl Tree {
+    /// The node of a number, if there are so many.
+    pub fn node(&self, number: u32) -> Option<&Node>
+        ensures there { IsSome result ↔ (number < length self.now.nodes) }
+        ensures found { IfSome result (λ node. node.now ≡ node_at self.now number) }
+        ensures past { IfNone result (length self.now.nodes ≤ number) }
+    {
+        self.nodes.as_slice().get(number as usize)
+    }
+}
+
+impl Node {
+    /// The number of part `k`, and 0 where the node has no such part.
+    pub fn part(&self, k: usize) -> u32
+        ensures { result ≡ slice_index self.now.parts k }
+    {
+        self.parts.as_slice().get(k).copied().unwrap_or(0)
+    }
 }
