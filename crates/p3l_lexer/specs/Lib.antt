@@ -1,3 +1,4 @@
+pub mod Cut
 pub mod Mark
 pub mod Piece
 pub mod Position

@@ -64,10 +64,14 @@ keywords = Seq ∷ Pipe ∷ Farm ∷ Map ∷ Reduce ∷ Comp ∷ Loop ∷ End �
 abbrev pub punctuation : List Mark
 punctuation = OpenBody ∷ CloseBody ∷ OpenParen ∷ CloseParen ∷ OpenBracket ∷ CloseBracket ∷ OpenBrace ∷ CloseBrace ∷ Comma ∷ Semicolon ∷ Assign ∷ Equal ∷ NotEqual ∷ Less ∷ AtMost ∷ Greater ∷ AtLeast ∷ ShiftLeft ∷ ShiftRight ∷ Plus ∷ Minus ∷ Star ∷ Slash ∷ Percent ∷ Ampersand ∷ BothHold ∷ Bar ∷ EitherHolds ∷ Caret ∷ Bang ∷ Tilde ∷ []
 
+-- the mark among these that is written so
+abbrev pub mark_among : List Mark → List ℕ → Option Mark
+mark_among marks text = find (λ mark. bytes_eq (mark_text mark) text) marks
+
 -- the keyword that is written so
 unfoldable pub keyword_of : List ℕ → Option Mark
-keyword_of text = find (λ mark. bytes_eq (mark_text mark) text) keywords
+keyword_of text = mark_among keywords text
 
 -- the mark of punctuation that is written so
 unfoldable pub punctuation_of : List ℕ → Option Mark
-punctuation_of text = find (λ mark. bytes_eq (mark_text mark) text) punctuation
+punctuation_of text = mark_among punctuation text

@@ -1,5 +1,5 @@
 -- What a text is as a whole: one token, one comment, one blank, or none of these.
-use Rattle.std.specs.Prelude.{ℕ, ◌+◌, ◌-◌, ◌*◌, ◌^◌, Bool, false, not, ◌&&◌, ◌||◌, List, [], ◌∷◌, length, Option, Some, None, fold, nat_eq, nat_le, nat_lt, pos, if◌then◌else◌}
+use Rattle.std.specs.Prelude.{ℕ, ◌+◌, ◌-◌, ◌*◌, ◌^◌, Bool, not, ◌&&◌, ◌||◌, List, [], ◌∷◌, length, Option, Some, None, fold, nat_eq, nat_le, nat_lt, pos, slice_index, if◌then◌else◌}
 use Rattle.std.specs.List.{list_all}
 use Rattle.p3l_ast.specs.declared.refusal.Fault.TheVariants.{BadByte, BadToken, NumberTooBig, NameTooLong}
 use Rattle.p3l_lexer.specs.declared.mark.Mark.{Mark}
@@ -8,7 +8,7 @@ use Rattle.p3l_lexer.specs.declared.token.Lexeme.TheVariants.{Word, Digits, Sign
 use Rattle.p3l_lexer.specs.declared.token.Piece.{Piece}
 use Rattle.p3l_lexer.specs.declared.token.Piece.TheVariants.{Gap, Token}
 use Rattle.p3l_lexer.specs.Mark.{keyword_of, punctuation_of}
-use Rattle.p3l_lexer.specs.Position.{is_line_end}
+use Rattle.p3l_lexer.specs.Position.{is_no_line_end}
 
 -- space, tab, carriage return or line feed
 abbrev pub is_blank : ℕ → Bool
@@ -30,8 +30,7 @@ value_of digits = fold (λ value digit. value * 10 + (digit - 48)) 0 digits
 
 -- one digit, or more of which the first is no 0
 abbrev pub is_number : List ℕ → Bool
-is_number [] = false
-is_number (first ∷ rest) = list_all is_digit (first ∷ rest) && (not (nat_eq first 48) || nat_eq (length rest) 0)
+is_number text = list_all is_digit text && (nat_eq (length text) 1 || not (nat_eq (slice_index text 0) 48))
 
 -- a run that begins with a letter
 abbrev pub word_of : List ℕ → Lexeme
@@ -70,7 +69,7 @@ block_of (Some (byte ∷ rest)) = None
 -- a text that begins with `/`
 unfoldable pub slash_of : List ℕ → Option Piece
 slash_of (slash ∷ second ∷ body) =
-    if nat_eq second 47 then (if list_all (λ byte. not (is_line_end byte)) body then Some Gap else None) else
+    if nat_eq second 47 then (if list_all is_no_line_end body then Some Gap else None) else
     (if nat_eq second 42 then block_of (after_close body) else None)
 slash_of text = sign_or_byte (punctuation_of text) text
 

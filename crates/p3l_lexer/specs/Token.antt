@@ -1,5 +1,6 @@
 -- A text and its tokens, each the longest there is.
 use Rattle.std.specs.Prelude.{◌≡◌, ℕ, List, [], ◌∷◌, ◌++◌, Some, None}
+use Rattle.p3l_ast.specs.declared.position.Pos.{Pos}
 use Rattle.p3l_lexer.specs.declared.token.Lexeme.{Lexeme}
 use Rattle.p3l_lexer.specs.declared.token.Piece.{Piece}
 use Rattle.p3l_lexer.specs.declared.token.Piece.TheVariants as pieces
@@ -26,14 +27,15 @@ abbrev pub IsCutInto : List ℕ → List Chunk → Type 0
 IsCutInto bytes [] = bytes ≡ []
 IsCutInto bytes (chunk ∷ chunks) = (rest : List ℕ) × (bytes ≡ chunk.text ++ rest) × IsCut chunk.piece chunk.text rest × IsCutInto rest chunks
 
--- the tokens among the pieces behind some bytes, with their positions
-abbrev pub token_at : List ℕ → Piece → List Token
-token_at before pieces.Gap = []
-token_at before (pieces.Token lexeme) = record { lexeme = lexeme; at = position_after before } ∷ []
+-- the token that a piece is, if it is one
+abbrev pub token_at : Pos → Piece → List Token
+token_at at pieces.Gap = []
+token_at at (pieces.Token lexeme) = record { lexeme = lexeme; at = at } ∷ []
 
+-- the tokens among the pieces behind some bytes, with their positions
 abbrev pub tokens_after : List ℕ → List Chunk → List Token
 tokens_after before [] = []
-tokens_after before (chunk ∷ chunks) = token_at before chunk.piece ++ tokens_after (before ++ chunk.text) chunks
+tokens_after before (chunk ∷ chunks) = token_at (position_after before) chunk.piece ++ tokens_after (before ++ chunk.text) chunks
 
 -- the tokens of the bytes
 pub record IsTokens (bytes : List ℕ) (tokens : List Token) : Type 0 where

@@ -1,0 +1,9 @@
+pub mod Positions
+pub mod Pieces
+pub mod Cutting
+pub mod Closing
+pub mod Values
+pub mod Naming
+pub mod Classifying
+pub mod Lexing
+pub mod Unique

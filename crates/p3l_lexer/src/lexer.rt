@@ -1,0 +1,45 @@
+// The tokens of a text.
+
+ghost use Rattle.std.specs.Prelude.{◌≡◌, ◌-◌, ◌<◌, ◌^◌, ◌++◌, List, length, Some, IfOk, OnOk, IsSome};
+ghost use Rattle.p3l_lexer.specs.declared.token.Piece.{Piece};
+ghost use Rattle.p3l_lexer.specs.declared.token.Token.{Token};
+ghost use Rattle.p3l_lexer.specs.Piece.{piece_of};
+ghost use Rattle.p3l_lexer.specs.Token.{token_at, IsTokens};
+
+use crate::cut::cut;
+use crate::piece::piece;
+use crate::position::{START, advance};
+use crate::token::{Piece, Token};
+use p3l_ast::Pos;
+use p3l_base::{List, NoMemory};
+use std::alloc::Global;
+
+/// Puts the token that a piece is, if it is one, behind the others.
+fn put(alloc: Global, tokens: &mut List<Token>, text: &[u8], at: Pos) -> Result<(), NoMemory>
+    requires some { 0 < length text.now }
+    requires piece { IsSome (piece_of text.now) }
+    ensures { OnOk result ((piece : Piece) → piece_of text.now ≡ Some piece → tokens.new ≡ tokens.old ++ token_at at piece) }
+{
+    match piece(alloc, text)? {
+        Piece::Gap => Ok(()),
+        Piece::Token(lexeme) => tokens.push(Token { lexeme, at }),
+    }
+}
+
+/// The tokens of a text in order, each the longest that stands there.
+pub fn tokens(alloc: Global, text: &[u8]) -> Result<List<Token>, NoMemory>
+    requires { length text.now < 2 ^ 32 - 1 }
+    ensures found { IfOk result (λ tokens. IsTokens text.now tokens) }
+    ensures only { IfOk result (λ tokens. (others : List Token) → IsTokens text.now others → others ≡ tokens) }
+{
+    let mut list = List::new(alloc);
+    let mut rest = text;
+    let mut at = START;
+    while !rest.is_empty() {
+        let (front, after) = cut(rest);
+        put(alloc, &mut list, front, at)?;
+        at = advance(at, front);
+        rest = after;
+    }
+    Ok(list)
+}
