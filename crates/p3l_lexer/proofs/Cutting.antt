@@ -16,7 +16,7 @@ use Rattle.p3l_lexer.specs.Token.{IsLongest, IsCut}
 use Rattle.p3l_lexer.specs.Cut.{Ends, CutsPiece, begins_with_pair}
 use Rattle.p3l_lexer.proofs.Pieces.{run_of, piece_of-run, piece_of-no_run, piece_of-slash, piece_of-other, slash_of-line, slash_of-block, slash_of-none, sign_or_byte-longer, sign_or_byte-two, byte_piece, pair_piece, run_ends, after_close-append}
 
-head_is : (test : ℕ → Bool) (rest others more : List ℕ) (byte : ℕ) → Ends test rest → rest ≡ byte ∷ more ++ others → test byte ≡ false
+pub head_is : (test : ℕ → Bool) (rest others more : List ℕ) (byte : ℕ) → Ends test rest → rest ≡ byte ∷ more ++ others → test byte ≡ false
 head_is test [] others more byte e h = absurd cc
 head_is test (b ∷ rest) others more byte e h = let q : b ≡ byte = cc in rw (← q) e
 
@@ -160,7 +160,7 @@ cuts_open (a ∷ b ∷ body) front rest some p q h f r =
     open_from a b body front rest p q h (f ∙ take_all (length (a ∷ b ∷ body)) (a ∷ b ∷ body) (omega arith)) (r ∙ drop_all (length (a ∷ b ∷ body)) (a ∷ b ∷ body) (omega arith))
 
 -- two bytes that are a mark
-pair_longest : (a b : ℕ) (rest : List ℕ) → is_word_byte a ≡ false → nat_eq a 47 ≡ false → IsLongest (a ∷ b ∷ []) rest
+pub pair_longest : (a b : ℕ) (rest : List ℕ) → is_word_byte a ≡ false → nat_eq a 47 ≡ false → IsLongest (a ∷ b ∷ []) rest
 pair_longest a b rest w s byte more others q = piece_of-other a (b ∷ byte ∷ more) w s ∙ sign_or_byte-longer a b byte more
 
 pub cuts_pair : (text front rest : List ℕ) → 1 < length text → is_word_byte (get_or text 0 0) ≡ false → nat_eq (get_or text 0 0) 47 ≡ false → begins_with_pair text ≡ true → front ≡ take 2 text → rest ≡ drop 2 text → CutsPiece text front rest
@@ -176,7 +176,7 @@ cuts_pair (a ∷ b ∷ text) front rest some w s m f r =
     }
 
 -- a byte alone, that is no `/`
-one_longest : (a : ℕ) (rest : List ℕ) → is_word_byte a ≡ false → nat_eq a 47 ≡ false → begins_with_pair (a ∷ rest) ≡ false → IsLongest (a ∷ []) rest
+pub one_longest : (a : ℕ) (rest : List ℕ) → is_word_byte a ≡ false → nat_eq a 47 ≡ false → begins_with_pair (a ∷ rest) ≡ false → IsLongest (a ∷ []) rest
 unfolding begins_with_pair
 one_longest a [] w s m byte more others q = absurd cc
 one_longest a (b ∷ rest) w s m byte [] others q =
@@ -200,7 +200,7 @@ cuts_one (a ∷ text) front rest some w s m f r =
     }
 
 -- a `/` that begins no comment
-slash_longest : (rest : List ℕ) → Ends (λ b. nat_eq b 47) rest → Ends (λ b. nat_eq b 42) rest → IsLongest (47 ∷ []) rest
+pub slash_longest : (rest : List ℕ) → Ends (λ b. nat_eq b 47) rest → Ends (λ b. nat_eq b 42) rest → IsLongest (47 ∷ []) rest
 slash_longest [] s t byte more others q = absurd cc
 slash_longest (b ∷ rest) s t byte more others q =
     let e : b ≡ byte = cc in

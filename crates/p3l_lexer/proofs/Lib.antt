@@ -7,3 +7,4 @@ pub mod Naming
 pub mod Classifying
 pub mod Lexing
 pub mod Unique
+pub mod Spelling

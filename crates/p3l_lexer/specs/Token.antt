@@ -1,7 +1,6 @@
 -- A text and its tokens, each the longest there is.
 use Rattle.std.specs.Prelude.{◌≡◌, ℕ, List, [], ◌∷◌, ◌++◌, Some, None}
 use Rattle.p3l_ast.specs.declared.position.Pos.{Pos}
-use Rattle.p3l_lexer.specs.declared.token.Lexeme.{Lexeme}
 use Rattle.p3l_lexer.specs.declared.token.Piece.{Piece}
 use Rattle.p3l_lexer.specs.declared.token.Piece.TheVariants as pieces
 use Rattle.p3l_lexer.specs.declared.token.Token.{Token}
@@ -42,18 +41,3 @@ pub record IsTokens (bytes : List ℕ) (tokens : List Token) : Type 0 where
   pub chunks : List Chunk
   pub cut : IsCutInto bytes chunks
   pub tokens_are : tokens ≡ tokens_after [] chunks
-
--- the same without positions
-abbrev pub lexeme_in : Piece → List Lexeme
-lexeme_in pieces.Gap = []
-lexeme_in (pieces.Token lexeme) = lexeme ∷ []
-
-abbrev pub lexemes_in : List Chunk → List Lexeme
-lexemes_in [] = []
-lexemes_in (chunk ∷ chunks) = lexeme_in chunk.piece ++ lexemes_in chunks
-
--- the bytes are written with these lexemes in order
-pub record HasLexemes (bytes : List ℕ) (lexemes : List Lexeme) : Type 0 where
-  pub chunks : List Chunk
-  pub cut : IsCutInto bytes chunks
-  pub lexemes_are : lexemes ≡ lexemes_in chunks
