@@ -1,11 +1,12 @@
 -- What is computed from the root down, level by level.
-use Rattle.std.proofs.Common.{◌≡◌, ℕ, zero, suc, ◌-◌, ◌<◌, ◌≤◌, [], ◌++◌, refl, arith}
+use Rattle.std.proofs.Common.{◌≡◌, ℕ, zero, suc, ◌-◌, ◌<◌, ◌≤◌, false, [], ◌++◌, slice_index, sum_by, refl, arith}
 use Rattle.std.proofs.Math.ListN.{length}
 use Rattle.std.proofs.lemmas.List.{get_or_past}
 use Rattle.std.specs.List.{flat_map}
 use Rattle.p3l_skel.specs.declared.tree.Tree.{Tree}
-use Rattle.p3l_skel.specs.Tree.{node_at, no_node, by_parts}
+use Rattle.p3l_skel.specs.Tree.{node_at, no_node, by_parts, sequential_to, sequential_row}
 use Rattle.p3l_skel.specs.Counts.{counted_from, own_counted, outside_parts}
+use Rattle.p3l_skel.specs.Numbers.{firings_by, firings_row, inner_sum, runs_to, runs_row}
 
 pub by_parts-step : {X : Type 0} (row : (ℕ → X) → ℕ → X) (leaf : ℕ → X) (d k : ℕ) → 0 < d → by_parts row leaf d k ≡ row (by_parts row leaf (d - 1)) k
 unfolding by_parts
@@ -29,3 +30,40 @@ counted_from-past tree zero k past = counted_from-zero tree k
 counted_from-past tree (suc d) k past =
     let some : 0 < suc d = omega arith in
     rw (counted_from-step tree (suc d) k some, node_at-past tree k past) refl
+
+pub sequential_to-zero : (tree : Tree) (k : ℕ) → sequential_to tree 0 k ≡ false
+unfolding sequential_to by_parts
+sequential_to-zero tree k = refl
+
+pub sequential_to-step : (tree : Tree) (d k : ℕ) → 0 < d → sequential_to tree d k ≡ sequential_row (node_at tree k).form (sequential_to tree (d - 1) (slice_index (node_at tree k).parts 0))
+unfolding sequential_to
+sequential_to-step tree d k some = by_parts-step _ _ d k some
+
+pub sequential_to-past : (tree : Tree) (d k : ℕ) → length tree.nodes ≤ k → sequential_to tree d k ≡ false
+sequential_to-past tree zero k past = sequential_to-zero tree k
+sequential_to-past tree (suc d) k past =
+    let some : 0 < suc d = omega arith in
+    rw (sequential_to-step tree (suc d) k some, node_at-past tree k past) refl
+
+pub firings_by-zero : (reduce : ℕ → ℕ) (tree : Tree) (count : ℕ → ℕ) (k : ℕ) → firings_by reduce tree count 0 k ≡ 1
+unfolding firings_by by_parts
+firings_by-zero reduce tree count k = refl
+
+pub firings_by-step : (reduce : ℕ → ℕ) (tree : Tree) (count : ℕ → ℕ) (d k : ℕ) → 0 < d → firings_by reduce tree count d k ≡ firings_row reduce (node_at tree k).form (count k) (inner_sum tree (firings_by reduce tree count (d - 1)) k)
+unfolding firings_by
+firings_by-step reduce tree count d k some = by_parts-step _ _ d k some
+
+pub firings_by-past : (reduce : ℕ → ℕ) (tree : Tree) (count : ℕ → ℕ) (d k : ℕ) → 0 < d → length tree.nodes ≤ k → firings_by reduce tree count d k ≡ 0
+firings_by-past reduce tree count d k some past =
+    rw (firings_by-step reduce tree count d k some, node_at-past tree k past) refl
+
+pub runs_to-zero : (tree : Tree) (k : ℕ) → runs_to tree 0 k ≡ 1
+unfolding runs_to by_parts
+runs_to-zero tree k = refl
+
+pub runs_to-step : (tree : Tree) (d k : ℕ) → 0 < d → runs_to tree d k ≡ runs_row (node_at tree k).form (sum_by (runs_to tree (d - 1)) (node_at tree k).parts)
+unfolding runs_to
+runs_to-step tree d k some = by_parts-step _ _ d k some
+
+pub runs_to-past : (tree : Tree) (d k : ℕ) → 0 < d → length tree.nodes ≤ k → runs_to tree d k ≡ 0
+runs_to-past tree d k some past = rw (runs_to-step tree d k some, node_at-past tree k past) refl

@@ -1,3 +1,5 @@
 pub mod Below
+pub mod Capped
 pub mod Powers
+pub mod Subtrees
 pub mod Taken

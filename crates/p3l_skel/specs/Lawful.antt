@@ -14,7 +14,7 @@ use Rattle.p3l_skel.specs.declared.tree.Node.{Node}
 use Rattle.p3l_skel.specs.declared.tree.Tree.{Tree}
 use Rattle.p3l_skel.specs.Tree.{node_at, is_sequential, nesting}
 use Rattle.p3l_skel.specs.Counts.{IsCountInRange, workers_of}
-use Rattle.p3l_skel.specs.Numbers.{flat_firings, joined_firings, most_firings, runs}
+use Rattle.p3l_skel.specs.Work.{IsLight}
 
 -- the subtrees at these nodes follow one another, the first at `from`, with `next` behind the last
 abbrev pub AreSubtrees : (ℕ → ℕ → Type 0) → List ℕ → ℕ → ℕ → Type 0
@@ -49,14 +49,17 @@ HasTwoParts P (p ∷ []) = ⊥
 HasTwoParts P (p ∷ (q ∷ [])) = P p q
 HasTwoParts P (p ∷ (q ∷ (r ∷ ps))) = ⊥
 
--- a node takes and gives so many words
-abbrev pub HasWords : Tree → ℕ → ℕ → ℕ → Type 0
-HasWords tree node ins outs = ((node_at tree node).ins ≡ ins) × ((node_at tree node).outs ≡ outs)
+-- a node is there, and takes and gives so many words
+pub record HasWords (tree : Tree) (node ins outs : ℕ) : Type 0 where
+  pub in_tree : node < length tree.nodes
+  pub takes : (node_at tree node).ins ≡ ins
+  pub gives : (node_at tree node).outs ≡ outs
 
--- each node gives what the next takes: the first takes `ins` words, and the last gives `outs`
+-- each node is there and gives what the next takes: the first takes `ins` words, and the last gives
+-- `outs`
 abbrev pub IsChain : Tree → ℕ → ℕ → List ℕ → Type 0
 IsChain tree ins outs [] = ins ≡ outs
-IsChain tree ins outs (p ∷ ps) = ((node_at tree p).ins ≡ ins) × IsChain tree (node_at tree p).outs outs ps
+IsChain tree ins outs (p ∷ ps) = (p < length tree.nodes) × ((node_at tree p).ins ≡ ins) × IsChain tree (node_at tree p).outs outs ps
 
 -- a node is sequential
 abbrev pub IsSequential : Tree → ℕ → Type 0
@@ -64,6 +67,7 @@ IsSequential tree node = IsTrue (is_sequential tree node)
 
 -- the numbers and parts of a map are lawful
 pub record IsLawfulMap (tree : Tree) (cut : Cut) (ins outs part : ℕ) : Type 0 where
+  pub in_tree : part < length tree.nodes
   pub in_sizes : All HasSizes cut.ins
   pub out_sizes : All HasSizes cut.outs
   pub cuts : IsLawfulCut cut ins outs (node_at tree part).ins (node_at tree part).outs
@@ -125,10 +129,6 @@ pub record AgreesWith (node other : Node) : Type 0 where
   pub ins : node.ins ≡ other.ins
   pub outs : node.outs ≡ other.outs
 
--- the most firings, and the most runs of bodies, for one item
-abbrev pub most_work : ℕ
-most_work = 134217728
-
 -- a lawful tree
 pub record IsLawfulTree (tree : Tree) : Type 0 where
   pub few_modules : length tree.modules < 2 ^ 32
@@ -136,7 +136,4 @@ pub record IsLawfulTree (tree : Tree) : Type 0 where
   pub preorder : IsSubtree nesting tree 0 (length tree.nodes)
   pub nodes : All (IsLawfulNode tree) tree.nodes
   pub agree : All (λ (node : Node). All (λ (other : Node). node.module ≡ other.module → AgreesWith node other) tree.nodes) tree.nodes
-  -- with either way to fold the segments of a reduce
-  pub flat_work : most_firings flat_firings tree ≤ most_work
-  pub joined_work : most_firings joined_firings tree ≤ most_work
-  pub bodies : runs tree 0 ≤ most_work
+  pub light : IsLight tree

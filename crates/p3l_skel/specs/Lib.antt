@@ -3,4 +3,5 @@ pub mod Fold
 pub mod Item
 pub mod Numbers
 pub mod Counts
+pub mod Work
 pub mod Lawful

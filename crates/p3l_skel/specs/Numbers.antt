@@ -1,11 +1,14 @@
 -- How many processes a tree has, and how often they fire for one item.
-use Rattle.std.specs.Prelude.{ℕ, zero, suc, ◌+◌, ◌-◌, ◌*◌, ◌^◌, ◌==◌, nat_le, if◌then◌else◌, unwrap_or, List, sum_by, slice_index}
+use Rattle.std.specs.Prelude.{ℕ, zero, suc, ◌+◌, ◌-◌, ◌*◌, ◌^◌, ◌==◌, nat_le, if◌then◌else◌, unwrap_or, List, sum_by}
 use Rattle.p3l_base.specs.Cut.{element_count}
 use Rattle.p3l_skel.specs.declared.tree.Form.{Form}
 use Rattle.p3l_skel.specs.declared.tree.Form.TheVariants.{Seq, Comp, Pipe, Farm, Map, Reduce, Loop}
 use Rattle.p3l_skel.specs.declared.tree.Tree.{Tree}
+use Rattle.p3l_skel.specs.declared.work.Joining.{Joining}
+use Rattle.p3l_skel.specs.declared.work.Joining.TheVariants.{Flat}
+use Rattle.p3l_skel.specs.declared.work.Joining.TheVariants as joining
 use Rattle.p3l_skel.specs.Tree.{node_at, by_parts, nesting}
-use Rattle.p3l_skel.specs.Counts.{count_of}
+use Rattle.p3l_skel.specs.Counts.{outside_parts, count_of}
 
 -- the processes of a reduce with so many segments: one, or those of the segments with one that
 -- splits and one that gathers
@@ -20,41 +23,51 @@ flat_firings m = if m == 1 then 1 else 3 * m + 2
 abbrev pub joined_firings : ℕ → ℕ
 joined_firings m = if m == 1 then 1 else 3 * m
 
--- the processes of a node of this form with so many workers, where those of its parts are known
-abbrev pub procs_row : Form → ℕ → (ℕ → ℕ) → List ℕ → ℕ
-procs_row Seq n below parts = 1
-procs_row Comp n below parts = 1
-procs_row Pipe n below parts = sum_by below parts
-procs_row (Farm w) n below parts = 2 + n * below (slice_index parts 0)
-procs_row (Map w cut) n below parts = 2 + n * below (slice_index parts 0)
-procs_row (Reduce w len elem) n below parts = flat_procs n
-procs_row (Loop turns tokens) n below parts = 2 + below (slice_index parts 0)
+-- the firings of a reduce, as its segments' results come together
+abbrev pub reduce_firings : Joining → ℕ → ℕ
+reduce_firings Flat m = flat_firings m
+reduce_firings joining.Tree m = joined_firings m
+
+-- the processes of a node of this form with so many workers, where its parts outside units have
+-- `inner` in all
+abbrev pub procs_row : Form → ℕ → ℕ → ℕ
+procs_row Seq n inner = 1
+procs_row Comp n inner = 1
+procs_row Pipe n inner = inner
+procs_row (Farm w) n inner = 2 + n * inner
+procs_row (Map w cut) n inner = 2 + n * inner
+procs_row (Reduce w len elem) n inner = flat_procs n
+procs_row (Loop turns tokens) n inner = 2 + inner
+
+-- what the parts of a node that are outside units have in all
+abbrev pub inner_sum : Tree → (ℕ → ℕ) → ℕ → ℕ
+inner_sum tree below node = sum_by below (outside_parts (node_at tree node).form (node_at tree node).parts)
 
 -- the processes of a node, where it is known how many workers each node has, down to a depth
 unfoldable pub procs_by : Tree → (ℕ → ℕ) → ℕ → ℕ → ℕ
 procs_by tree count =
-    by_parts (λ below k. procs_row (node_at tree k).form (count k) below (node_at tree k).parts) (λ _. 1)
+    by_parts (λ below k. procs_row (node_at tree k).form (count k) (inner_sum tree below k)) (λ k. 1)
 
 -- the processes of a node
 abbrev pub procs : Tree → List ℕ → ℕ → ℕ
 procs tree counts node = procs_by tree (count_of tree counts) nesting node
 
--- the firings of a node of this form for one item, where those of its parts are known; `reduce`
--- gives those of a reduce with so many segments
-abbrev pub firings_row : (ℕ → ℕ) → Form → ℕ → (ℕ → ℕ) → List ℕ → ℕ
-firings_row reduce Seq n below parts = 1
-firings_row reduce Comp n below parts = 1
-firings_row reduce Pipe n below parts = sum_by below parts
-firings_row reduce (Farm w) n below parts = 2 + below (slice_index parts 0)
-firings_row reduce (Map w cut) n below parts = 2 + 2 * element_count cut + element_count cut * below (slice_index parts 0)
-firings_row reduce (Reduce w len elem) n below parts = reduce n
-firings_row reduce (Loop turns tokens) n below parts = turns * below (slice_index parts 0) + 2 * turns + 1
+-- the firings of a node of this form for one item, where its parts outside units have `inner` in
+-- all; `reduce` gives those of a reduce with so many segments
+abbrev pub firings_row : (ℕ → ℕ) → Form → ℕ → ℕ → ℕ
+firings_row reduce Seq n inner = 1
+firings_row reduce Comp n inner = 1
+firings_row reduce Pipe n inner = inner
+firings_row reduce (Farm w) n inner = 2 + inner
+firings_row reduce (Map w cut) n inner = 2 + 2 * element_count cut + element_count cut * inner
+firings_row reduce (Reduce w len elem) n inner = reduce n
+firings_row reduce (Loop turns tokens) n inner = turns * inner + 2 * turns + 1
 
 -- the firings of a node for one item, where it is known how many segments each reduce has, down to
 -- a depth
 unfoldable pub firings_by : (ℕ → ℕ) → Tree → (ℕ → ℕ) → ℕ → ℕ → ℕ
 firings_by reduce tree count =
-    by_parts (λ below k. firings_row reduce (node_at tree k).form (count k) below (node_at tree k).parts) (λ _. 1)
+    by_parts (λ below k. firings_row reduce (node_at tree k).form (count k) (inner_sum tree below k)) (λ k. 1)
 
 -- the firings of the whole network for one item: the root's, the source's and the sink's
 abbrev pub firings : Tree → List ℕ → ℕ
@@ -64,19 +77,20 @@ firings tree counts = firings_by flat_firings tree (count_of tree counts) nestin
 abbrev pub bound : Tree → List ℕ → ℕ → ℕ
 bound tree counts items = items * firings tree counts
 
--- how often a node of this form runs bodies for one item, where it is known how often its parts do
-abbrev pub runs_row : Form → (ℕ → ℕ) → List ℕ → ℕ
-runs_row Seq below parts = 1
-runs_row Comp below parts = sum_by below parts
-runs_row Pipe below parts = sum_by below parts
-runs_row (Farm w) below parts = below (slice_index parts 0)
-runs_row (Map w cut) below parts = element_count cut * below (slice_index parts 0)
-runs_row (Reduce w len elem) below parts = (len - 1) * below (slice_index parts 0)
-runs_row (Loop turns tokens) below parts = turns * (below (slice_index parts 0) + below (slice_index parts 1))
+-- how often a node of this form runs bodies for one item, at most, where its parts do so `inner`
+-- times in all
+abbrev pub runs_row : Form → ℕ → ℕ
+runs_row Seq inner = 1
+runs_row Comp inner = inner
+runs_row Pipe inner = inner
+runs_row (Farm w) inner = inner
+runs_row (Map w cut) inner = element_count cut * inner
+runs_row (Reduce w len elem) inner = (len - 1) * inner
+runs_row (Loop turns tokens) inner = turns * inner
 
 -- how often a node runs bodies for one item, at most, down to a depth
 unfoldable pub runs_to : Tree → ℕ → ℕ → ℕ
-runs_to tree = by_parts (λ below k. runs_row (node_at tree k).form below (node_at tree k).parts) (λ _. 1)
+runs_to tree = by_parts (λ below k. runs_row (node_at tree k).form (sum_by below (node_at tree k).parts)) (λ k. 1)
 
 -- how often a node runs bodies for one item, at most
 abbrev pub runs : Tree → ℕ → ℕ

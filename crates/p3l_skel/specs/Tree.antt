@@ -11,9 +11,9 @@ use Rattle.p3l_skel.specs.declared.tree.Tree.{Tree}
 abbrev pub nesting : ℕ
 nesting = 6
 
--- what a number past the nodes is read as
+-- what a number past the nodes is read as: a pipe of nothing
 abbrev pub no_node : Node
-no_node = record { form = Seq; «module» = 0; ins = 0; outs = 0; parts = [] }
+no_node = record { form = Pipe; «module» = 0; ins = 0; outs = 0; parts = [] }
 
 -- the node of this number
 abbrev pub node_at : Tree → ℕ → Node
@@ -29,19 +29,20 @@ unfoldable pub by_parts : {X : Type 0} → ((ℕ → X) → ℕ → X) → (ℕ 
 by_parts row leaf zero node = leaf node
 by_parts row leaf (suc d) node = row (by_parts row leaf d) node
 
--- whether a node of this form is sequential, where it is known which nodes are
-abbrev pub sequential_row : Form → (ℕ → Bool) → List ℕ → Bool
-sequential_row Seq below parts = true
-sequential_row Comp below parts = true
-sequential_row Pipe below parts = false
-sequential_row (Farm w) below parts = false
-sequential_row (Map w cut) below parts = below (slice_index parts 0)
-sequential_row (Reduce w len elem) below parts = below (slice_index parts 0)
-sequential_row (Loop turns tokens) below parts = false
+-- whether a node of this form is sequential, where it is known whether its first part is
+abbrev pub sequential_row : Form → Bool → Bool
+sequential_row Seq part = true
+sequential_row Comp part = true
+sequential_row Pipe part = false
+sequential_row (Farm w) part = false
+sequential_row (Map w cut) part = part
+sequential_row (Reduce w len elem) part = part
+sequential_row (Loop turns tokens) part = false
 
 -- whether a node is sequential, down to a depth
 unfoldable pub sequential_to : Tree → ℕ → ℕ → Bool
-sequential_to tree = by_parts (λ below k. sequential_row (node_at tree k).form below (node_at tree k).parts) (λ _. false)
+sequential_to tree =
+    by_parts (λ below k. sequential_row (node_at tree k).form (below (slice_index (node_at tree k).parts 0))) (λ k. false)
 
 -- whether a node is sequential: a seq, a comp, or a map or reduce of a sequential part
 abbrev pub is_sequential : Tree → ℕ → Bool

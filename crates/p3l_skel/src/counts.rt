@@ -59,7 +59,7 @@ impl Form {
 }
 
 /// The parts that are outside units, of a node that is.
-fn outside_parts(node: &Node) -> &[u32]
+pub fn outside_parts(node: &Node) -> &[u32]
     ensures { result.now ≡ outside_parts node.now.form node.now.parts }
 {
     let parts = node.parts.as_slice();

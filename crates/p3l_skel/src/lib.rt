@@ -2,8 +2,10 @@
 #![tactic(auto)]
 
 pub mod counts;
+mod shape;
 pub mod tree;
 pub mod units;
+pub mod work;
 
 pub use counts::lawful_counts;
 pub use tree::{Counts, Form, ModuleInfo, ModuleKind, Node, Tree};

@@ -1,0 +1,25 @@
+use Rattle.std.proofs.Common.{◌≡◌, ◌-◌, ◌<◌, ℕ, sum_by, arith, refl}
+use Rattle.std.proofs.lemmas.List.{take_all}
+use Rattle.p3l_skel.specs.Counts.{outside_parts}
+use Rattle.p3l_skel.specs.Numbers.{firings_by, reduce_firings, segments_at, most_segments}
+use Rattle.p3l_skel.specs.Work.{capped}
+use Rattle.p3l_skel.proofs.Below.{firings_by-zero, firings_by-step, firings_by-past}
+use Rattle.p3l_skel.proofs.Capped.{firings_row-capped}
+use Rattle.p3l_skel.proofs.work.+firings.Goals as goal
+
+pub returns-then-levels-eq0 : goal.returns-then-levels-eq0
+returns-then-levels-eq0 t c = rw (c.if-levels-eq0.true, firings_by-zero) refl
+
+pub returns-in_default : goal.returns-in_default
+returns-in_default t c =
+    let some : 0 < c.args.levels = omega arith in
+    rw (firings_by-past (reduce_firings c.args.joining) c.args.tree.now (segments_at c.args.tree.now) c.args.levels c.args.number some c.in_default.ensures.past) refl
+
+pub returns : goal.returns
+returns t c =
+    let some : 0 < c.args.levels = omega arith in
+    let below : ℕ → ℕ = firings_by (reduce_firings c.args.joining) c.args.tree.now (segments_at c.args.tree.now) (c.args.levels - 1) in
+    let all : c.loop-part.inner ≡ capped (sum_by below (outside_parts c.in-Some.node.now.form c.in-Some.node.now.parts)) =
+    rw (← c.outside_parts-part-items.ensures, ← take_all c.loop-part.part-index c.outside_parts-part-items.result.now c.loop-part-test.false) c.loop-part.invariant in
+    rw (firings_by-step (reduce_firings c.args.joining) c.args.tree.now (segments_at c.args.tree.now) c.args.levels c.args.number some, ← c.in-Some.ensures.found, c.firings_over.ensures, all)
+    (firings_row-capped (reduce_firings c.args.joining) c.in-Some.node.now.form (most_segments c.in-Some.node.now.form) _)
