@@ -8,3 +8,4 @@ pub mod Classifying
 pub mod Lexing
 pub mod Unique
 pub mod Spelling
+pub mod Writing
