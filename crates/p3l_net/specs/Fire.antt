@@ -1,5 +1,5 @@
 -- What can fire, and what a firing does: a row for each kind of process.
-use Rattle.std.specs.Prelude.{◌≡◌, ℕ, ℤ, ◌+◌, ◌++◌, List, [], ◌∷◌, Bool, true, false, not, ◌&&◌, Option, Some, None, slice_get, slice_index}
+use Rattle.std.specs.Prelude.{◌≡◌, ℕ, ℤ, ◌+◌, ◌++◌, List, [], ◌∷◌, Bool, false, not, ◌&&◌, Option, Some, None, slice_get, slice_index}
 use Rattle.p3l_base.specs.declared.outcome.Outcome.{Outcome}
 use Rattle.p3l_base.specs.declared.outcome.Outcome.TheVariants.{Value}
 use Rattle.p3l_skel.specs.declared.tree.Tree.{Tree}

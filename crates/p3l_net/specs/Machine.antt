@@ -1,12 +1,15 @@
 -- What contracts see of a machine, and the state that it is in.
-use Rattle.std.specs.Prelude.{◌≡◌, ℕ, ℤ, List, [], Bool, not, ◌&&◌, Option, length, option_to_list}
+use Rattle.std.specs.Prelude.{◌≡◌, ℕ, ℤ, ◌+◌, ◌≤◌, List, [], ◌++◌, Bool, false, not, ◌&&◌, Option, None, length, map}
+use Rattle.std.specs.Option.{option_to_list}
 use Rattle.p3l_base.specs.declared.outcome.Outcome.{Outcome}
 use Rattle.p3l_skel.specs.declared.tree.Tree.{Tree}
+use Rattle.p3l_net.specs.declared.net.Chan.{Chan}
 use Rattle.p3l_net.specs.declared.net.Net.{Net}
 use Rattle.p3l_net.specs.Token.{has_trap}
-use Rattle.p3l_net.specs.Channel.{Queue, tokens_at}
+use Rattle.p3l_net.specs.Channel.{Queue, opened, tokens_at}
 use Rattle.p3l_net.specs.State.{State, fresh}
 use Rattle.p3l_net.specs.Fire.{is_ready, fire}
+use Rattle.p3l_net.specs.Typed.{IsTyped, IsFitting}
 
 -- what contracts see of a machine: the tree and the net that it was started with, the queue of each channel, the item in the
 -- inbox, the numbers of firings, of items sent and of outcomes emitted, and whether one of these was a trap
@@ -39,3 +42,34 @@ pub record HasEmitted (m : Seen) (emitted : List Outcome) : Type 0 where
 -- process p of a machine can fire
 abbrev pub can_step : Seen → ℕ → Bool
 can_step m p = not m.trapped && is_ready m.tree m.net (state_of m []) p
+
+-- a machine that was just started
+abbrev pub started : Tree → Net → Seen
+started tree net =
+    record {
+      tree = tree;
+      net = net;
+      queues = map opened net.chans;
+      inbox = None;
+      fired = 0;
+      sent = 0;
+      emitted = 0;
+      trapped = false;
+    }
+
+-- what every machine keeps: its net is typed, its queues have the room and the tokens that the net asks for, and no more was
+-- sent or emitted than fired
+pub record IsSound (m : Seen) : Type 0 where
+  pub typed : IsTyped m.tree m.net
+  pub rooms : map (λ (q : Queue). q.room) m.queues ≡ map (λ (c : Chan). c.cap) m.net.chans
+  pub fitting : IsFitting m.tree typed.widths (state_of m [])
+  pub sent : m.sent ≤ m.fired
+  pub emitted : m.emitted ≤ m.fired
+
+-- a firing of process p led from the old machine to the new one, and handed out this outcome
+pub record Fires (leaf : ℕ → List ℤ → Outcome) (old new : Seen) (p : ℕ) (outcome : Option Outcome) : Type 0 where
+  pub tree : new.tree ≡ old.tree
+  pub net : new.net ≡ old.net
+  pub fired : new.fired ≡ old.fired + 1
+  pub state : (emitted : List Outcome) → state_of new (emitted ++ option_to_list outcome) ≡ fire old.tree leaf old.net (state_of old emitted) p
+  pub emitted : (emitted : List Outcome) → HasEmitted old emitted → HasEmitted new (emitted ++ option_to_list outcome)

@@ -1,7 +1,8 @@
 -- Nets that are typed for a tree: each process stands as its kind asks, between channels that carry the words and tags that it
 -- takes and gives.
-use Rattle.std.specs.Prelude.{◌≡◌, ℕ, ◌<◌, ◌≤◌, ◌==◌, List, [], ◌∷◌, Option, Some, length, slice_get, count_by, All, option_map}
-use Rattle.std.specs.List.{flat_map}
+use Rattle.std.specs.Prelude.{◌≡◌, ℕ, ◌<◌, ◌≤◌, ◌==◌, List, [], ◌∷◌, Option, Some, length, slice_get, count_by}
+use Rattle.std.specs.List.{flat_map, AllByRecursion}
+use Rattle.std.specs.Option.{option_map}
 use Rattle.p3l_skel.specs.declared.tree.Form.TheVariants.{Seq}
 use Rattle.p3l_skel.specs.declared.tree.Tree.{Tree}
 use Rattle.p3l_skel.specs.Tree.{node_at, HasLength}
@@ -82,8 +83,8 @@ pub record IsTyped (tree : Tree) (net : Net) : Type 0 where
   pub sink : kind_at net 1 ≡ Some Sink
   pub one_source : (p : ℕ) → kind_at net p ≡ Some Source → p ≡ 0
   pub one_sink : (p : ℕ) → kind_at net p ≡ Some Sink → p ≡ 1
-  pub reads : All (λ c. c < length net.chans) (all_ins net.procs)
-  pub writes : All (λ c. c < length net.chans) (all_outs net.procs)
+  pub reads : AllByRecursion (λ c. c < length net.chans) (all_ins net.procs)
+  pub writes : AllByRecursion (λ c. c < length net.chans) (all_outs net.procs)
   pub widths : Widths
   pub channels : (c : ℕ) → c < length net.chans → FitsChannel net widths c
   pub processes : (p : ℕ) (q : Proc) → slice_get net.procs p ≡ Some q → FitsKind q.kind tree widths q
@@ -95,10 +96,9 @@ pub record FitsToken (widths : Widths) (c : ℕ) (token : Token) : Type 0 where
 
 -- all tokens have the words and tags of channel c
 abbrev pub AllFit : Widths → ℕ → List Token → Type 0
-AllFit widths c [] = Unit {0}
-AllFit widths c (token ∷ tokens) = FitsToken widths c token × AllFit widths c tokens
+AllFit widths c = AllByRecursion (FitsToken widths c)
 
 -- in this state each token has the words and tags of its channel, and each item the root's in words
 pub record IsFitting (tree : Tree) (widths : Widths) (s : State) : Type 0 where
   pub tokens : (c : ℕ) → AllFit widths c (s.tokens c)
-  pub unsent : All (λ words. length words ≡ (node_at tree 0).ins) s.unsent
+  pub unsent : AllByRecursion (λ words. length words ≡ (node_at tree 0).ins) s.unsent

@@ -3,10 +3,13 @@
 
 mod channel;
 mod channels;
+pub mod machine;
 pub mod net;
 pub mod process;
+mod run;
 pub mod token;
 
+pub use machine::Machine;
 pub use net::{Chan, Net};
 pub use process::{Proc, ProcKind};
 pub use token::{Fired, Token};

@@ -1,5 +1,7 @@
 // Processes.
 
+ghost use Rattle.std.specs.Prelude.{◌≡◌, ◌<◌, length};
+
 use p3l_base::List;
 
 /// What a process does.
@@ -43,4 +45,24 @@ pub struct Proc {
     pub arg: u32,
     pub ins: List<u32>,
     pub outs: List<u32>,
+}
+
+impl Proc {
+    ghost use Rattle.p3l_net.specs.Fire.{in_of, out_of};
+
+    /// The first channel that it reads.
+    pub(crate) fn input(&self) -> u32
+        requires { 0 < length self.now.ins }
+        ensures { result ≡ in_of self.now 0 }
+    {
+        self.ins.as_slice()[0]
+    }
+
+    /// The first channel that it writes.
+    pub(crate) fn output(&self) -> u32
+        requires { 0 < length self.now.outs }
+        ensures { result ≡ out_of self.now 0 }
+    {
+        self.outs.as_slice()[0]
+    }
 }

@@ -1,7 +1,7 @@
 // What travels through channels, and what a firing hands out.
 
 ghost use Rattle.std.specs.Prelude.{◌≡◌};
-ghost use Rattle.p3l_net.specs.Token.{plain, credit};
+ghost use Rattle.p3l_net.specs.Token.{plain, credit, is_trap};
 
 use crate::process::ProcKind;
 use p3l_base::{List, Outcome, Words};
@@ -37,5 +37,23 @@ impl Token {
         ensures { result ≡ credit }
     {
         Token::plain(alloc, Outcome::Value(Words::new(alloc)))
+    }
+
+    /// The token with another outcome, and its own tags.
+    pub(crate) fn with_body(self, body: Outcome) -> Token
+        ensures { result ≡ record self { body = body } }
+    {
+        let Token { tags, body: _ } = self;
+        Token { tags, body }
+    }
+}
+
+/// Whether an outcome is a trap.
+pub(crate) fn is_trap(outcome: &Outcome) -> bool
+    ensures { result ≡ is_trap outcome.now }
+{
+    match outcome {
+        Outcome::Value(_) => false,
+        Outcome::Trapped(_) => true,
     }
 }
