@@ -17,3 +17,6 @@ pub use mem_sink::{MemSink, PutFail};
 pub use mem_source::MemSource;
 pub use sink::Sink;
 pub use source::Source;
+
+#[cfg(test)]
+mod tests;
