@@ -1,1 +1,7 @@
+pub mod Gathering
+pub mod LinesApart
+pub mod Numbers
+pub mod Positions
+pub mod Spacing
 pub mod Takings
+pub mod WordsApart

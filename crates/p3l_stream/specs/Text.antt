@@ -1,9 +1,14 @@
 -- The text that outcomes are written as.
-use Rattle.std.specs.Prelude.{ℕ, ℤ, List, [], ◌∷◌, ◌++◌, map}
+use Rattle.std.specs.Prelude.{ℕ, zero, suc, ℤ, List, [], ◌∷◌, ◌++◌, map}
 use Rattle.std.specs.List.{join_with_byte}
 use Rattle.std.specs.Fmt.{signed_decimal}
 use Rattle.p3l_base.specs.declared.outcome.Outcome.{Outcome}
 use Rattle.p3l_base.specs.declared.outcome.Outcome.TheVariants.{Value, Trapped}
+
+-- a word behind so many others: in decimal without leading zeros, and behind a space if it is not the first
+abbrev pub word_text : ℕ → ℤ → List ℕ
+word_text zero word = signed_decimal word
+word_text (suc index) word = 32 ∷ signed_decimal word
 
 -- words in decimal without leading zeros, parted by one space
 abbrev pub words_text : List ℤ → List ℕ

@@ -4,9 +4,11 @@
 pub mod items;
 pub mod line;
 pub mod taken;
+pub mod text;
 pub mod word;
 
-pub use items::{Ending, Items};
+pub use items::{Ending, Items, read_items};
 pub use line::Line;
 pub use taken::{Stop, Taken, take_all};
+pub use text::{item_text, text_of};
 pub use word::WordFault;

@@ -1,5 +1,14 @@
 // The words of a line, and the numbers that they write.
 
+ghost use Rattle.std.specs.Prelude.{◌≡◌, IfOk, position};
+ghost use Rattle.std.specs.Char.{is_ascii_digit};
+ghost use Rattle.std.specs.List.{list_all};
+ghost use Rattle.std.specs.Option.{option_map};
+ghost use Rattle.p3l_stream.specs.Words.{IsFirstWord, digits_of, is_blank, is_numeral, is_of_word, number_of, numbers_of, words_of};
+
+use p3l_base::{NoMemory, Words};
+use std::alloc::Global;
+
 /// Why a word writes no number.
 #[derive(Clone, Copy, Debug, Drop, PartialEq, Eq)]
 pub enum WordFault {
@@ -7,4 +16,91 @@ pub enum WordFault {
     Form,
     /// The number is outside the 64 bits of an `i64`.
     Range,
+}
+
+/// Whether a byte parts words.
+fn parts_words(byte: u8) -> bool
+    ensures { result ≡ is_blank byte }
+{
+    byte == b' ' || byte == b'\t'
+}
+
+/// Where the first byte stands that parts words.
+fn first_blank(bytes: &[u8]) -> Option<usize>
+    ensures { result ≡ position is_blank bytes.now }
+{
+    bytes.iter().position(|byte| parts_words(*byte))
+}
+
+/// Where the first byte of a word stands.
+fn first_of_word(bytes: &[u8]) -> Option<usize>
+    ensures { result ≡ position is_of_word bytes.now }
+{
+    bytes.iter().position(|byte| !parts_words(*byte))
+}
+
+/// The first word of the bytes, and what is behind it.
+fn next_word(bytes: &[u8]) -> Option<(&[u8], &[u8])>
+    ensures { IsFirstWord bytes.now (option_map (λ found. (found.0.now, found.1.now)) result) }
+{
+    let start = first_of_word(bytes)?;
+    let rest = &bytes[start..];
+    Some(rest.split_at(first_blank(rest).unwrap_or(rest.len())))
+}
+
+/// A word behind its minus sign, if it has one.
+fn without_minus(word: &[u8]) -> &[u8]
+    ensures { result.now ≡ digits_of word.now }
+{
+    match word {
+        [b'-', digits @ ..] => digits,
+        _ => word,
+    }
+}
+
+/// Whether each byte is a digit.
+fn are_digits(bytes: &[u8]) -> bool
+    ensures { result ≡ list_all is_ascii_digit bytes.now }
+{
+    bytes.iter().all(|byte| byte.is_ascii_digit())
+}
+
+/// Whether a word is an optional minus sign and one or more digits.
+fn has_form(word: &[u8]) -> bool
+    ensures { result ≡ is_numeral word.now }
+{
+    let digits = without_minus(word);
+    !digits.is_empty() && are_digits(digits)
+}
+
+/// The number that a word writes.
+fn read_number(word: &[u8]) -> Result<i64, WordFault>
+    ensures { result ≡ number_of word.now }
+{
+    if !has_form(word) {
+        return Err(WordFault::Form);
+    }
+    match str::from_utf8(word) {
+        Ok(text) => match text.parse::<i64>() {
+            Ok(number) => Ok(number),
+            Err(_) => Err(WordFault::Range),
+        },
+        Err(_) => Err(WordFault::Form),
+    }
+}
+
+/// The numbers that the words of a line write, or the fault of the first word that writes none.
+pub(crate) fn read_numbers(alloc: Global, line: &[u8]) -> Result<Result<Words, WordFault>, NoMemory>
+    ensures { IfOk result (λ read. read ≡ numbers_of (words_of line.now)) }
+{
+    let mut numbers = Words::new(alloc);
+    let mut rest = line;
+    while let Some((word, after)) = next_word(rest) {
+        match read_number(word) {
+            Ok(number) => numbers.push(number)?,
+            Err(fault) => return Ok(Err(fault)),
+        }
+        rest = after;
+    }
+    Ok(Ok(numbers))
 }

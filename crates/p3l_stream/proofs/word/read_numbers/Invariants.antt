@@ -1,0 +1,10 @@
+use Rattle.std.proofs.Common.{◌≡◌, length}
+use Rattle.p3l_stream.specs.Words.{numbers_of, words_of}
+use Rattle.p3l_stream.proofs.Numbers.{put_numbers}
+use Rattle.p3l_stream.proofs.word.read_numbers.Given as goal
+
+abbrev pub invariant-loop-word : goal.invariant-loop-word
+invariant-loop-word l = put_numbers l.numbers (numbers_of (words_of l.rest)) ≡ numbers_of (words_of l.line)
+
+abbrev pub decreases-loop-word : goal.decreases-loop-word
+decreases-loop-word l = length l.rest

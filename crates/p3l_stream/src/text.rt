@@ -1,0 +1,58 @@
+// The text that outcomes are written as.
+
+ghost use Rattle.std.specs.Prelude.{◌≡◌, ◌++◌, IfOk, OnOk, string_bytes};
+ghost use Rattle.p3l_stream.specs.Text as as_text;
+
+use p3l_base::{List, NoMemory, Outcome, Words};
+use std::alloc::{AllocError, Global};
+
+/// The line of an item: its words in decimal without leading zeros, parted by one space, and a line feed.
+pub fn item_text(alloc: Global, words: &Words) -> Result<List<u8>, NoMemory>
+    ensures { IfOk result (λ text. text ≡ as_text.item_text words.now) }
+{
+    let mut text = String::new(alloc);
+    write_item(alloc, &mut text, words)?;
+    Ok(List::from_vec(text.into_bytes()))
+}
+
+/// One line for each value, in order, and nothing for a trap.
+pub fn text_of(alloc: Global, outcomes: &[Outcome]) -> Result<List<u8>, NoMemory>
+    ensures { IfOk result (λ text. text ≡ as_text.text_of outcomes.now) }
+{
+    let mut text = String::new(alloc);
+    for outcome in outcomes {
+        if let Outcome::Value(words) = outcome {
+            write_item(alloc, &mut text, words)?;
+        }
+    }
+    Ok(List::from_vec(text.into_bytes()))
+}
+
+/// Puts the line of an item behind a text.
+fn write_item(alloc: Global, text: &mut String, words: &Words) -> Result<(), AllocError>
+    ensures { OnOk result (string_bytes text.new ≡ string_bytes text.old ++ as_text.item_text words.now) }
+{
+    write_words(alloc, text, words.as_slice())?;
+    text.push('\n')
+}
+
+/// Puts words in decimal behind a text, parted by one space.
+fn write_words(alloc: Global, text: &mut String, words: &[i64]) -> Result<(), AllocError>
+    ensures { OnOk result (string_bytes text.new ≡ string_bytes text.old ++ as_text.words_text words.now) }
+{
+    for (index, word) in words.iter().enumerate() {
+        write_word(alloc, text, index, *word)?;
+    }
+    Ok(())
+}
+
+/// Puts a word behind a text that has so many of the item's words.
+fn write_word(alloc: Global, text: &mut String, index: usize, word: i64) -> Result<(), AllocError>
+    ensures { OnOk result (string_bytes text.new ≡ string_bytes text.old ++ as_text.word_text index word) }
+{
+    if index > 0 {
+        text.push(' ')?;
+    }
+    let digits = word.to_string(alloc)?;
+    text.push_str(digits.as_str())
+}
