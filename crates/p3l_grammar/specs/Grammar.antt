@@ -1,5 +1,5 @@
 -- What a text spells, and where it is first wrong.
-use Rattle.std.specs.Prelude.{◌≡◌, ℕ, List, [], ◌∷◌, ◌++◌}
+use Rattle.std.specs.Prelude.{◌≡◌, ℕ, length, List, [], ◌∷◌, ◌++◌}
 use Rattle.p3l_ast.specs.declared.position.Pos.{Pos}
 use Rattle.p3l_ast.specs.declared.refusal.Fault.{Fault}
 use Rattle.p3l_ast.specs.declared.refusal.Fault.TheVariants.{Expected, TooNested}
@@ -26,6 +26,20 @@ pub record IsViable (symbols : List Symbol) : Type 0 where
   pub more : List Symbol
   pub is_text : IsText written
   pub begins : symbols ++ more ≡ spell_text written []
+
+-- nothing goes on: at the end no program is whole, and with the next token none begins so
+abbrev pub IsRefused : List Token → List Token → Type 0
+IsRefused before [] = (entries : List EntryTree) → Derives (symbols before) entries → ⊥
+IsRefused before (token ∷ after) = IsViable (symbols (before ++ token ∷ [])) → ⊥
+
+-- the tokens begin a program up to where so many of them are left, and no further
+pub record IsStop (tokens : List Token) (left : ℕ) : Type 0 where
+  pub before : List Token
+  pub after : List Token
+  pub whole : tokens ≡ before ++ after
+  pub left_is : left ≡ length after
+  pub viable : IsViable (symbols before)
+  pub refused : IsRefused before after
 
 -- the text is written for this program, and passes no limit
 pub record Spells (bytes : List ℕ) (program : ProgramTree) : Type 0 where

@@ -21,7 +21,8 @@ use Rattle.p3l_ast.specs.declared.module.Kind.TheVariants as kinds
 use Rattle.p3l_ast.specs.Tree.{Phrase, number, read, unary, binary, Phrases, none, snoc, Code, done, assign, branch, branch_else, repeat, count, join, EntryTree, constant}
 use Rattle.p3l_lexer.specs.declared.mark.Mark.{Mark}
 use Rattle.p3l_lexer.specs.declared.mark.Mark.TheVariants as marks
-use Rattle.p3l_grammar.specs.Symbol.{Symbol, word, digits, sign, level, kind_mark}
+use Rattle.p3l_lexer.specs.declared.token.Token.{Token}
+use Rattle.p3l_grammar.specs.Symbol.{symbol, Symbol, word, digits, sign, level, kind_mark}
 use Rattle.p3l_grammar.specs.Written.{Head, bodied_tree, chained_tree, spread_tree, turned_tree}
 use Rattle.p3l_grammar.specs.Marks.{same_mark}
 
@@ -319,16 +320,34 @@ abbrev pub run : State → List Symbol → Option State
 run s [] = Some s
 run s (t ∷ ts) = bind (step s t) (λ s'. run s' ts)
 
--- the program, where the machine is at its end; else nothing is left of the symbols
-abbrev pub finish : State → Result (List EntryTree) ℕ
-finish (entries es) = Ok es
-finish s = Err 0
+abbrev mutual
+  -- the program, where the text may end here; else nothing is left of the tokens
+  pub finish : State → Result (List EntryTree) ℕ
+  finish (entries es) = Ok es
+  finish (clause m go) = finish (go None)
+  finish (another_size ns go) = finish (go ns)
+  finish (another_sub ss go) = finish (go ss)
+  finish (another_port ps go) = finish (go ps)
+  finish (another_arg xs go) = finish (go xs)
+  finish (another_out xs go) = finish (go xs)
+  finish (another_call cs go) = finish (go cs)
+  finish (another_local ls go) = finish (go ls)
+  finish (another_index is go) = finish (go is)
+  finish (value e h) = value_finish h e
+  finish (another_stmt c go) = finish (go c)
+  finish (maybe_else c e b go) = finish (go (join c (branch e b done)))
+  finish _ = Err 0
+
+  pub value_finish : Hole → Phrase → Result (List EntryTree) ℕ
+  value_finish (whole go) e = finish (go e)
+  value_finish (after_unary o h) e = value_finish h (unary o e)
+  value_finish (after_binary o a h) e = value_finish h (binary o a e)
 
 abbrev pub next : Option State → ℕ → (State → Result (List EntryTree) ℕ) → Result (List EntryTree) ℕ
 next None left f = Err left
 next (Some s) left f = f s
 
--- the program that the symbols are from a state on, or how many are left at the first that is refused
-abbrev pub all : State → List Symbol → Result (List EntryTree) ℕ
+-- the program that the tokens are from a state on, or how many are left at the first that is refused
+abbrev pub all : State → List Token → Result (List EntryTree) ℕ
 all s [] = finish s
-all s (t ∷ ts) = next (step s t) (suc (length ts)) (λ s'. all s' ts)
+all s (t ∷ ts) = next (step s (symbol t)) (suc (length ts)) (λ s'. all s' ts)

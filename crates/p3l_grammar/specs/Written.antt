@@ -152,9 +152,13 @@ spell_size n r = sign marks.OpenBracket ∷ num_symbol n ∷ sign marks.CloseBra
 abbrev pub spell_port : Port → List Symbol → List Symbol
 spell_port p r = sign marks.Int ∷ word p.at ∷ each spell_size p.sizes r
 
+-- what stands behind the bracket that opens
+abbrev pub in_brackets : Sub → List Symbol → List Symbol
+in_brackets Whole r = sign marks.CloseBracket ∷ r
+in_brackets (Free x) r = sign marks.Star ∷ word x ∷ sign marks.CloseBracket ∷ r
+
 abbrev pub spell_sub : Sub → List Symbol → List Symbol
-spell_sub Whole r = sign marks.OpenBracket ∷ sign marks.CloseBracket ∷ r
-spell_sub (Free x) r = sign marks.OpenBracket ∷ sign marks.Star ∷ word x ∷ sign marks.CloseBracket ∷ r
+spell_sub s r = sign marks.OpenBracket ∷ in_brackets s r
 
 abbrev pub spell_arg : Arg → List Symbol → List Symbol
 spell_arg a r = word a.at ∷ each spell_sub a.subs r

@@ -1,0 +1,4 @@
+pub mod Heads
+pub mod Complete
+pub mod Sound
+pub mod Exact
