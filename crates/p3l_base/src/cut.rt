@@ -3,7 +3,7 @@
 ghost use Rattle.std.specs.Prelude.{◌≡◌, ◌≢◌, ℕ, ℤ, ◌+◌, ◌*◌, ◌^◌, ◌<◌, ◌≤◌, List, ◌++◌, length, OnOk, IfOk};
 ghost use Rattle.std.specs.List.{All};
 ghost use Rattle.p3l_base.specs.Slice.{cut_size, taken_size};
-ghost use Rattle.p3l_base.specs.Cut.{element_size, element_count, HasIndexSize, HasLawfulOuts, next_first, next_second, next_place, array_words, result_word, joined_words};
+ghost use Rattle.p3l_base.specs.Cut.{element_size, element_count, HasIndexSize, HasLawfulOuts, next_first, next_second, next_place, array_words, result_word, joined_words, IsJoined};
 
 use crate::list::List;
 use crate::memory::NoMemory;
@@ -28,6 +28,8 @@ pub fn join(alloc: Global, cut: &Cut, results: &List<Words>) -> Result<Words, No
     requires count { length results.now ≡ element_count cut.now }
     requires sizes { All (λ words. length words ≡ element_size cut.now.outs) results.now }
     ensures words { IfOk result (λ token. token ≡ joined_words cut.now results.now) }
+    ensures joined { IfOk result (IsJoined cut.now results.now) }
+    ensures only { (other : List ℤ) → IsJoined cut.now results.now other → IfOk result (λ token. token ≡ other) }
 {
     let results = results.as_slice();
     let element_len = results[0].len();
@@ -153,3 +155,6 @@ fn result_at(cut: &Cut, results: &[Words], corner: Corner) -> i64
     let element = corner.first as usize * cut.second as usize + corner.second as usize;
     results[element].as_slice()[corner.at]
 }
+
+#[cfg(test)]
+mod tests;
