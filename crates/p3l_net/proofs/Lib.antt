@@ -5,3 +5,5 @@ pub mod Standing
 pub mod Emitted
 pub mod Firing
 pub mod Cyclic
+pub mod SingleLaw
+pub mod OfferedLaw

@@ -7,3 +7,5 @@ pub mod Run
 pub mod RoundRobin
 pub mod Typed
 pub mod Machine
+pub mod Single
+pub mod Offered

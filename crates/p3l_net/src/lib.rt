@@ -7,9 +7,11 @@ pub mod machine;
 pub mod net;
 pub mod process;
 mod run;
+pub mod single;
 pub mod token;
 
 pub use machine::Machine;
 pub use net::{Chan, Net};
 pub use process::{Proc, ProcKind};
+pub use single::unit_net;
 pub use token::{Fired, Token};
