@@ -1,3 +1,4 @@
+pub mod Meaning
 pub mod Refusal
 pub mod Tree
 pub mod Unplaced

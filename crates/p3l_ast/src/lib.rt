@@ -3,6 +3,7 @@
 
 pub mod call;
 pub mod expression;
+pub mod meaning;
 pub mod module;
 pub mod port;
 pub mod position;

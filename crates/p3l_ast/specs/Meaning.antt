@@ -1,0 +1,2 @@
+-- What bodies mean.
+pub mod Operator
