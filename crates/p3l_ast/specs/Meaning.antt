@@ -1,2 +1,5 @@
 -- What bodies mean.
 pub mod Operator
+pub mod State
+pub mod Expression
+pub mod Statement

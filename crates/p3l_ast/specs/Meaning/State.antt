@@ -1,0 +1,31 @@
+-- What the names of a body stand for.
+use Rattle.std.specs.Prelude.{ℕ, ℤ, ◌+◌, pos, List, [], Option, find, map, bytes_eq, slice_index_or, slice_set, Result, Ok, Err, nat_lt, if◌then◌else◌}
+use Rattle.std.specs.Option.{option_map_or}
+use Rattle.p3l_base.specs.declared.outcome.TrapKind.{TrapKind}
+use Rattle.p3l_base.specs.declared.outcome.TrapKind.TheVariants.{Budget}
+use Rattle.p3l_ast.specs.declared.meaning.state.Binding.{Binding}
+use Rattle.p3l_ast.specs.declared.meaning.state.State.{State}
+
+-- what a name stands for
+abbrev pub binding_of : State → List ℕ → Option Binding
+binding_of state name = find (λ binding. bytes_eq binding.name name) state.bindings
+
+-- the sizes of a name, none for a scalar
+abbrev pub sizes_of : State → List ℕ → List ℕ
+sizes_of state name = option_map_or (λ binding. binding.sizes) (binding_of state name) []
+
+-- the word of a name at a place, in row-major order
+abbrev pub word_of : State → List ℕ → ℕ → ℤ
+word_of state name place = option_map_or (λ binding. slice_index_or binding.words place (pos 0)) (binding_of state name) (pos 0)
+
+-- a name's word is another
+abbrev pub rebound : List ℕ → ℕ → ℤ → Binding → Binding
+rebound name place word binding =
+    if bytes_eq binding.name name then record binding { words = slice_set binding.words place word } else binding
+
+abbrev pub with_word : State → List ℕ → ℕ → ℤ → State
+with_word state name place word = record state { bindings = map (rebound name place word) state.bindings }
+
+-- one turn more of a loop, which all loops count together
+abbrev pub turned : ℕ → State → Result State TrapKind
+turned budget state = if nat_lt state.turns budget then Ok (record state { turns = state.turns + 1 }) else Err Budget
