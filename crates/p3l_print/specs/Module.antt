@@ -1,0 +1,47 @@
+-- How modules are written.
+use Rattle.std.specs.Prelude.{ℕ, List, [], ◌++◌, flat_map, Option, Some, None, codes}
+use Rattle.p3l_ast.specs.declared.port.Num.{Num}
+use Rattle.p3l_ast.specs.declared.port.Port.{Port}
+use Rattle.p3l_ast.specs.declared.call.Call.{Call}
+use Rattle.p3l_ast.specs.declared.module.Kind.{Kind}
+use Rattle.p3l_ast.specs.declared.module.Clauses.{Clauses}
+use Rattle.p3l_ast.specs.Tree.{ModuleTree, InsideTree, body, calls, turning}
+use Rattle.p3l_lexer.specs.Mark.{mark_text}
+use Rattle.p3l_grammar.specs.Symbol.{kind_mark}
+use Rattle.p3l_print.specs.Printer.{interface_text}
+use Rattle.p3l_print.specs.Port.{num_text, port_text}
+use Rattle.p3l_print.specs.Call.{call_text}
+use Rattle.p3l_print.specs.Statement.{code_text}
+
+-- the keyword of a kind
+abbrev pub kind_text : Kind → List ℕ
+kind_text kind = mark_text (kind_mark kind)
+
+-- a clause that is given, behind a space
+abbrev pub clause_text : List ℕ → Option Num → List ℕ
+clause_text word None = []
+clause_text word (Some num) = codes " " ++ word ++ codes " " ++ num_text num
+
+unfoldable pub clauses_text : Clauses → List ℕ
+clauses_text clauses =
+    clause_text (codes "budget") clauses.budget ++ clause_text (codes "workers") clauses.workers ++ clause_text (codes "turns") clauses.turns
+    ++ clause_text (codes "tokens") clauses.tokens
+
+-- a module's first line
+abbrev pub head_text : ModuleTree → List ℕ
+head_text tree =
+    kind_text tree.kind ++ codes " " ++ tree.at.name ++ interface_text port_text tree.ins port_text tree.outs ++ clauses_text tree.clauses ++ codes "\n"
+
+abbrev pub local_line : Port → List ℕ
+local_line port = codes "  " ++ port_text port ++ codes ";\n"
+
+abbrev pub call_line : Call → List ℕ
+call_line call = codes "  " ++ call_text call ++ codes "\n"
+
+abbrev pub inside_text : InsideTree → List ℕ
+inside_text (body locals statements) = codes "${\n" ++ flat_map local_line locals ++ code_text (codes "  ") statements ++ codes "}$\n"
+inside_text (calls list) = flat_map call_line list
+inside_text (turning turn condition) = call_line turn ++ codes "  while " ++ call_text condition ++ codes "\n"
+
+abbrev pub module_text : ModuleTree → List ℕ
+module_text tree = head_text tree ++ inside_text tree.inside ++ codes "end " ++ kind_text tree.kind ++ codes "\n"

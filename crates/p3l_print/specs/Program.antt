@@ -1,0 +1,14 @@
+-- The canonical text of a program.
+use Rattle.std.specs.Prelude.{ℕ, List, ◌++◌, codes}
+use Rattle.std.specs.Fmt.{signed_decimal}
+use Rattle.std.specs.List.{join_by}
+use Rattle.p3l_ast.specs.Tree.{EntryTree, constant, defined, ProgramTree}
+use Rattle.p3l_print.specs.Module.{module_text}
+
+abbrev pub entry_text : EntryTree → List ℕ
+entry_text (constant spot value) = codes "const " ++ spot.name ++ codes " = " ++ signed_decimal value ++ codes ";\n"
+entry_text (defined tree) = module_text tree
+
+-- the entries, parted by empty lines
+abbrev pub canonical : ProgramTree → List ℕ
+canonical program = join_by entry_text (codes "\n") program.entries

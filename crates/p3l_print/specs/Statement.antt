@@ -1,0 +1,42 @@
+-- How statements are written: on lines behind a margin, which grows by two spaces in each block.
+use Rattle.std.specs.Prelude.{ℕ, List, [], ◌++◌, codes}
+use Rattle.p3l_ast.specs.declared.position.Spot.{Spot}
+use Rattle.p3l_ast.specs.Tree.{Phrase, Phrases, Code, done, assign, branch, branch_else, repeat, count}
+use Rattle.p3l_print.specs.Expression.{expression_text, target_text}
+
+-- an assignment, without what ends it
+unfoldable pub assignment_text : Spot → Phrases → Phrase → List ℕ
+assignment_text spot index value = target_text spot index ++ codes " = " ++ expression_text value
+
+-- the margin of the lines in a block
+abbrev pub deeper : List ℕ → List ℕ
+deeper margin = codes "  " ++ margin
+
+-- a block in braces; the closing one stands on a line of its own
+unfoldable pub block_text : List ℕ → List ℕ → List ℕ
+block_text margin lines = codes "{\n" ++ lines ++ margin ++ codes "}"
+
+-- what stands before the block of an `if` or a `while`
+unfoldable pub opening_text : List ℕ → List ℕ → Phrase → List ℕ
+opening_text margin word condition = margin ++ word ++ codes " (" ++ expression_text condition ++ codes ") "
+
+-- what stands before the block of a `for`
+unfoldable pub for_opening_text : List ℕ → List ℕ → Phrase → List ℕ → List ℕ
+for_opening_text margin start condition step =
+    margin ++ codes "for (" ++ start ++ codes "; " ++ expression_text condition ++ codes "; " ++ step ++ codes ") "
+
+-- the lines of statements
+unfoldable pub code_text : List ℕ → Code → List ℕ
+code_text margin done = []
+code_text margin (assign spot index value rest) =
+    margin ++ assignment_text spot index value ++ codes ";\n" ++ code_text margin rest
+code_text margin (branch condition then rest) =
+    opening_text margin (codes "if") condition ++ block_text margin (code_text (deeper margin) then) ++ codes "\n" ++ code_text margin rest
+code_text margin (branch_else condition then otherwise rest) =
+    opening_text margin (codes "if") condition ++ block_text margin (code_text (deeper margin) then) ++ codes " else " ++ block_text margin (code_text (deeper margin) otherwise)
+    ++ codes "\n" ++ code_text margin rest
+code_text margin (repeat condition body rest) =
+    opening_text margin (codes "while") condition ++ block_text margin (code_text (deeper margin) body) ++ codes "\n" ++ code_text margin rest
+code_text margin (count first firsts start condition next nexts step body rest) =
+    for_opening_text margin (assignment_text first firsts start) condition (assignment_text next nexts step)
+    ++ block_text margin (code_text (deeper margin) body) ++ codes "\n" ++ code_text margin rest

@@ -1,0 +1,128 @@
+// Expressions, with parentheses exactly where the grouping needs them.
+
+ghost use Rattle.std.specs.Prelude.{◌≡◌, ◌++◌, OnOk};
+ghost use Rattle.p3l_ast.specs.Tree.{phrase, phrases};
+ghost use Rattle.p3l_lexer.specs.Mark.{mark_text};
+ghost use Rattle.p3l_grammar.specs.Symbol.{unary_mark, binary_mark};
+ghost use Rattle.p3l_print.specs.Expression.{tightness, infix_text, operand_text, expression_text, index_text, target_text};
+
+use crate::printer::Printer;
+use p3l_ast::{BinOp, Expr, Target, UnOp};
+use p3l_base::NoMemory;
+use p3l_grammar::operator::level_of;
+
+/// How tight an operand binds that no operator between operands has made.
+const TIGHTEST: u8 = 10;
+
+#[tactic(auto, using(crate::proofs::Lines::expressions))]
+fn tightness_of(expr: &Expr) -> u8
+    ensures { result ≡ tightness (phrase expr.now) }
+{
+    match expr {
+        Expr::Number(_) | Expr::Read(_) | Expr::Unary(_, _) => TIGHTEST,
+        Expr::Binary(operator, _, _) => level_of(*operator),
+    }
+}
+
+fn unary_sign(operator: UnOp) -> &'static str
+    ensures { result.now ≡ mark_text (unary_mark operator) }
+{
+    match operator {
+        UnOp::Neg => "-",
+        UnOp::Not => "!",
+        UnOp::Flip => "~",
+    }
+}
+
+fn binary_sign(operator: BinOp) -> &'static str
+    ensures { result.now ≡ mark_text (binary_mark operator) }
+{
+    match operator {
+        BinOp::Or => "||",
+        BinOp::And => "&&",
+        BinOp::BitOr => "|",
+        BinOp::BitXor => "^",
+        BinOp::BitAnd => "&",
+        BinOp::Eq => "==",
+        BinOp::Ne => "!=",
+        BinOp::Lt => "<",
+        BinOp::Le => "<=",
+        BinOp::Gt => ">",
+        BinOp::Ge => ">=",
+        BinOp::Shl => "<<",
+        BinOp::Shr => ">>",
+        BinOp::Add => "+",
+        BinOp::Sub => "-",
+        BinOp::Mul => "*",
+        BinOp::Div => "/",
+        BinOp::Rem => "%",
+    }
+}
+
+impl Printer {
+    #[cycle(expression)]
+    #[tactic(auto, using(crate::proofs::Lines::expressions))]
+    pub fn expression(&mut self, expr: &Expr) -> Result<(), NoMemory>
+        ensures { OnOk result (self.new ≡ self.old ++ expression_text (phrase expr.now)) }
+    {
+        match expr {
+            Expr::Number(value) => self.decimal(*value),
+            Expr::Read(place) => self.target(place),
+            Expr::Unary(operator, operand) => {
+                self.put(unary_sign(*operator).as_bytes())?;
+                self.operand(TIGHTEST, operand)
+            }
+            Expr::Binary(operator, left, right) => {
+                let level = level_of(*operator);
+                self.operand(level, left)?;
+                self.infix(*operator)?;
+                self.operand(level + 1, right)
+            }
+        }
+    }
+
+    /// An operator between its operands, with a space on each side.
+    #[tactic(auto, unfolding(crate::specs::Expression::infix_text))]
+    fn infix(&mut self, operator: BinOp) -> Result<(), NoMemory>
+        ensures { OnOk result (self.new ≡ self.old ++ infix_text operator) }
+    {
+        self.put(b" ")?;
+        self.put(binary_sign(operator).as_bytes())?;
+        self.put(b" ")
+    }
+
+    /// An operand, in parentheses where it binds less tight than is asked.
+    #[cycle(expression)]
+    #[tactic(auto, unfolding(crate::specs::Expression::operand_text))]
+    fn operand(&mut self, asked: u8, operand: &Expr) -> Result<(), NoMemory>
+        ensures { OnOk result (self.new ≡ self.old
+            ++ operand_text asked (tightness (phrase operand.now)) (expression_text (phrase operand.now))) }
+    {
+        if asked <= tightness_of(operand) {
+            return self.expression(operand);
+        }
+        self.put(b"(")?;
+        self.expression(operand)?;
+        self.put(b")")
+    }
+
+    #[cycle(expression)]
+    pub fn target(&mut self, place: &Target) -> Result<(), NoMemory>
+        ensures { OnOk result (self.new ≡ self.old ++ target_text place.now.at (phrases place.now.index.items)) }
+    {
+        self.name(&place.at.name)?;
+        self.index(&place.index)
+    }
+
+    #[cycle(expression)]
+    fn index(&mut self, index: &Vec<Expr>) -> Result<(), NoMemory>
+        ensures { OnOk result (self.new ≡ self.old ++ index_text (phrases index.now.items)) }
+    {
+        for expr in index {
+            self.put(b"[")?;
+            self.expression(expr)?;
+            self.put(b"]")?;
+        }
+        Ok(())
+    }
+}

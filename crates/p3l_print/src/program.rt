@@ -1,0 +1,38 @@
+// Programs.
+
+ghost use Rattle.std.specs.Prelude.{◌≡◌, ◌++◌, IfOk, OnOk};
+ghost use Rattle.p3l_ast.specs.Tree.{entry_tree, program_tree};
+ghost use Rattle.p3l_print.specs.Program.{entry_text, canonical};
+
+use crate::printer::{Print, Printer};
+use p3l_ast::{Entry, Program};
+use p3l_base::{List, NoMemory};
+use std::alloc::Global;
+
+impl Print for Entry {
+    ghost text = { λ entry. entry_text (entry_tree entry) };
+
+    fn print_on(&self, printer: &mut Printer) -> Result<(), NoMemory> {
+        match self {
+            Entry::Constant(spot, value) => {
+                printer.put(b"const ")?;
+                printer.name(&spot.name)?;
+                printer.put(b" = ")?;
+                printer.decimal(*value)?;
+                printer.put(b";\n")
+            }
+            Entry::Module(module) => printer.module(module),
+        }
+    }
+}
+
+/// The canonical text of a program: entries parted by empty lines, parentheses exactly where the
+/// grouping needs them, and one way to part all other tokens.
+#[tactic(auto, using(crate::proofs::Entries::entries_text))]
+pub fn print(alloc: Global, program: &Program) -> Result<List<u8>, NoMemory>
+    ensures canonical { IfOk result (λ text. text ≡ canonical (program_tree program.now)) }
+{
+    let mut printer = Printer::new(alloc);
+    printer.parted(b"\n", program.entries.as_slice())?;
+    Ok(printer.finish())
+}
