@@ -1,3 +1,4 @@
+pub mod Fronts
 pub mod Gathering
 pub mod LinesApart
 pub mod Numbers

@@ -1,7 +1,7 @@
 // The items of a text.
 
 ghost use Rattle.std.specs.Prelude.{◌≡◌, IfOk};
-ghost use Rattle.p3l_stream.specs.Items.{closing, items_taken};
+ghost use Rattle.p3l_stream.specs.Items.{IsReadOf, closing, items_taken};
 
 use crate::line::{Line, next_line, read_line};
 use crate::taken::{Stop, Taken};
@@ -34,6 +34,14 @@ pub struct Items {
 
 /// The items of the bytes taken, where an item has `width` words.
 pub fn read_items(alloc: Global, taken: &Taken, width: u32) -> Result<Items, NoMemory>
+    ensures items { IfOk result (λ read. read ≡ items_taken width taken.now.stop taken.now.bytes) }
+    ensures first { IfOk result (IsReadOf width taken.now.stop taken.now.bytes) }
+{
+    gather(alloc, taken, width)
+}
+
+/// Reads line after line.
+fn gather(alloc: Global, taken: &Taken, width: u32) -> Result<Items, NoMemory>
     ensures { IfOk result (λ read. read ≡ items_taken width taken.now.stop taken.now.bytes) }
 {
     let mut items = List::new(alloc);

@@ -4,6 +4,8 @@
 pub mod items;
 pub mod line;
 pub mod taken;
+#[cfg(test)]
+mod tests;
 pub mod text;
 pub mod word;
 

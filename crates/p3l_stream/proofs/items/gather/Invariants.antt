@@ -2,7 +2,7 @@ use Rattle.std.proofs.Common.{◌≡◌, ◌+◌, ◌≤◌, length}
 use Rattle.p3l_stream.specs.Items.{closing, items_of_lines, items_taken}
 use Rattle.p3l_stream.specs.Lines.{lines_of}
 use Rattle.p3l_stream.proofs.Gathering.{put_items}
-use Rattle.p3l_stream.proofs.items.read_items.Given as goal
+use Rattle.p3l_stream.proofs.items.gather.Given as goal
 
 abbrev pub invariant-loop-line : goal.invariant-loop-line
 invariant-loop-line l = record {
