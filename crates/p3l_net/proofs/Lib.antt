@@ -7,3 +7,5 @@ pub mod Firing
 pub mod Cyclic
 pub mod SingleLaw
 pub mod OfferedLaw
+pub mod FollowLaw
+pub mod SingleTyped

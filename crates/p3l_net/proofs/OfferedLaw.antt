@@ -1,5 +1,5 @@
 -- A machine whose inbox is filled goes as the net goes on all the items.
-use Rattle.std.proofs.Common.{◌≡◌, ℕ, ℤ, ◌+◌, Bool, true, false, not, ◌&&◌, List, [], ◌∷◌, ◌++◌, Option, Some, None, slice_get, refl, sym, ap, ap₂, ◌∙◌, subst, length}
+use Rattle.std.proofs.Common.{◌≡◌, ℕ, ℤ, ◌+◌, true, not, ◌&&◌, List, [], ◌∷◌, ◌++◌, Option, Some, None, slice_get, refl, sym, ap, ap₂, length}
 use Rattle.std.specs.List.{find}
 use Rattle.std.specs.Option.{option_to_list}
 use Rattle.std.proofs.lemmas.Bool.{and_parts}
@@ -19,7 +19,6 @@ use Rattle.p3l_net.specs.Fire.{out_of, row_can, row_fire, ready_of, fire_of, is_
 use Rattle.p3l_net.specs.RoundRobin.{in_turn, next_of}
 use Rattle.p3l_net.specs.Machine.{Seen, state_of}
 use Rattle.p3l_net.specs.Offered.{with_rest, IsFilled}
-use Rattle.p3l_net.proofs.Rows.{front_split}
 use Rattle.p3l_net.proofs.Queues.{same_function}
 
 first_of_more : {A : Type 0} (xs ys : List A) → (xs ≡ [] → ys ≡ []) → has_first (xs ++ ys) ≡ has_first xs

@@ -3,6 +3,7 @@
 
 mod channel;
 mod channels;
+pub mod laws;
 pub mod machine;
 pub mod net;
 pub mod process;
