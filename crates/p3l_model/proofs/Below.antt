@@ -1,0 +1,55 @@
+-- What is computed from the root down, level by level.
+use Rattle.std.proofs.Common.{◌≡◌, ℕ, zero, suc, ◌-◌, ◌<◌, ◌≤◌, List, [], ◌++◌, length, refl, ap, ◌∙◌, arith, append_assoc}
+use Rattle.std.specs.List.{flat_map}
+use Rattle.std.proofs.lemmas.List.{get_or_past}
+use Rattle.p3l_skel.specs.declared.tree.Tree.{Tree}
+use Rattle.p3l_skel.specs.Tree.{node_at, no_node, by_parts}
+use Rattle.p3l_skel.specs.Counts.{counted_from, own_counted, outside_parts}
+use Rattle.p3l_skel.specs.Numbers.{procs_by, procs_row, firings_by, firings_row, inner_sum}
+
+by_parts-step : {X : Type 0} (row : (ℕ → X) → ℕ → X) (leaf : ℕ → X) (d k : ℕ) → 0 < d → by_parts row leaf d k ≡ row (by_parts row leaf (d - 1)) k
+unfolding by_parts
+by_parts-step row leaf zero k some = absurd (omega arith)
+by_parts-step row leaf (suc d) k some = let e : suc d - 1 ≡ d = omega arith in rw e refl
+
+-- a number past the nodes is read as no node
+node_at-past : (tree : Tree) (k : ℕ) → length tree.nodes ≤ k → node_at tree k ≡ no_node
+node_at-past tree k past = get_or_past tree.nodes k no_node past
+
+pub counted_from-zero : (tree : Tree) (k : ℕ) → counted_from tree 0 k ≡ []
+unfolding counted_from by_parts
+counted_from-zero tree k = refl
+
+pub counted_from-step : (tree : Tree) (d k : ℕ) → 0 < d → counted_from tree d k ≡ own_counted (node_at tree k).form k ++ flat_map (counted_from tree (d - 1)) (outside_parts (node_at tree k).form (node_at tree k).parts)
+unfolding counted_from
+counted_from-step tree d k some = by_parts-step _ _ d k some
+
+pub counted_from-past : (tree : Tree) (d k : ℕ) → 0 < d → length tree.nodes ≤ k → counted_from tree d k ≡ []
+counted_from-past tree d k some past = rw (counted_from-step tree d k some, node_at-past tree k past) refl
+
+pub procs_by-zero : (tree : Tree) (count : ℕ → ℕ) (k : ℕ) → procs_by tree count 0 k ≡ 1
+unfolding procs_by by_parts
+procs_by-zero tree count k = refl
+
+pub procs_by-step : (tree : Tree) (count : ℕ → ℕ) (d k : ℕ) → 0 < d → procs_by tree count d k ≡ procs_row (node_at tree k).form (count k) (inner_sum tree (procs_by tree count (d - 1)) k)
+unfolding procs_by
+procs_by-step tree count d k some = by_parts-step _ _ d k some
+
+pub procs_by-past : (tree : Tree) (count : ℕ → ℕ) (d k : ℕ) → 0 < d → length tree.nodes ≤ k → procs_by tree count d k ≡ 0
+procs_by-past tree count d k some past = rw (procs_by-step tree count d k some, node_at-past tree k past) refl
+
+pub firings_by-zero : (reduce : ℕ → ℕ) (tree : Tree) (count : ℕ → ℕ) (k : ℕ) → firings_by reduce tree count 0 k ≡ 1
+unfolding firings_by by_parts
+firings_by-zero reduce tree count k = refl
+
+pub firings_by-step : (reduce : ℕ → ℕ) (tree : Tree) (count : ℕ → ℕ) (d k : ℕ) → 0 < d → firings_by reduce tree count d k ≡ firings_row reduce (node_at tree k).form (count k) (inner_sum tree (firings_by reduce tree count (d - 1)) k)
+unfolding firings_by
+firings_by-step reduce tree count d k some = by_parts-step _ _ d k some
+
+pub firings_by-past : (reduce : ℕ → ℕ) (tree : Tree) (count : ℕ → ℕ) (d k : ℕ) → 0 < d → length tree.nodes ≤ k → firings_by reduce tree count d k ≡ 0
+firings_by-past reduce tree count d k some past = rw (firings_by-step reduce tree count d k some, node_at-past tree k past) refl
+
+-- the node's own count stands first, then those of its parts
+pub counted_from-parts : (tree : Tree) (d k : ℕ) (more : List ℕ) → 0 < d → counted_from tree d k ++ more ≡ own_counted (node_at tree k).form k ++ (flat_map (counted_from tree (d - 1)) (outside_parts (node_at tree k).form (node_at tree k).parts) ++ more)
+counted_from-parts tree d k more some =
+    ap (λ ks. ks ++ more) (counted_from-step tree d k some) ∙ append_assoc (own_counted (node_at tree k).form k) (flat_map (counted_from tree (d - 1)) (outside_parts (node_at tree k).form (node_at tree k).parts)) more

@@ -1,0 +1,6 @@
+pub mod Below
+pub mod Count
+pub mod Fit
+pub mod Members
+pub mod Monotone
+pub mod Nested

@@ -1,0 +1,9 @@
+//! The numbers of a tree with its counts: how many processes it has, and how often they fire.
+#![tactic(auto)]
+
+pub mod firing;
+pub mod process;
+mod workers;
+
+pub use firing::firings;
+pub use process::procs;
