@@ -8,4 +8,5 @@ pub mod Cyclic
 pub mod SingleLaw
 pub mod OfferedLaw
 pub mod FollowLaw
+pub mod RoundRobinLaw
 pub mod SingleTyped
