@@ -1,5 +1,5 @@
 -- What the names of a body stand for.
-use Rattle.std.specs.Prelude.{ℕ, ℤ, ◌+◌, pos, List, [], Option, find, map, bytes_eq, slice_index_or, slice_set, Result, Ok, Err, nat_lt, if◌then◌else◌}
+use Rattle.std.specs.Prelude.{ℕ, ℤ, ◌+◌, ◌≤◌, pos, length, slice_index, List, [], Option, find, map, bytes_eq, slice_index_or, slice_set, Result, Ok, Err, nat_lt, if◌then◌else◌}
 use Rattle.std.specs.Option.{option_map_or}
 use Rattle.p3l_base.specs.declared.outcome.TrapKind.{TrapKind}
 use Rattle.p3l_base.specs.declared.outcome.TrapKind.TheVariants.{Budget}
@@ -29,3 +29,8 @@ with_word state name place word = record state { bindings = map (rebound name pl
 -- one turn more of a loop, which all loops count together
 abbrev pub turned : ℕ → State → Result State TrapKind
 turned budget state = if nat_lt state.turns budget then Ok (record state { turns = state.turns + 1 }) else Err Budget
+
+-- every name has at most three sizes, each at most 65,536
+pub record HasSizes (state : State) : Type 0 where
+  pub few : (name : List ℕ) → length (sizes_of state name) ≤ 3
+  pub small : (name : List ℕ) (k : ℕ) → slice_index (sizes_of state name) k ≤ 65536
