@@ -1,5 +1,5 @@
 -- What is written is read: expressions, statements, and whole texts.
-use Rattle.std.proofs.Common.{◌≡◌, ℕ, suc, ◌<◌, ◌≤◌, List, [], ◌∷◌, ◌++◌, Option, Some, None, true, false, refl, sym, ap, ◌∙◌, arith, append_assoc, append-nil}
+use Rattle.std.proofs.Common.{◌≡◌, ℕ, ◌<◌, ◌≤◌, List, [], ◌∷◌, ◌++◌, Option, Some, None, true, false, refl, sym, ap, ◌∙◌, arith, append_assoc, append-nil}
 use Rattle.std.specs.Prelude.{nat_le}
 use Rattle.std.proofs.lemmas.Bool.Decides.{nat_tests}
 use Rattle.p3l_ast.specs.declared.position.Spot.{Spot}
@@ -17,15 +17,9 @@ use Rattle.p3l_ast.proofs.Trees.{join_done, join_join}
 use Rattle.p3l_lexer.specs.declared.mark.Mark.{Mark}
 use Rattle.p3l_lexer.specs.declared.mark.Mark.TheVariants as marks
 use Rattle.p3l_grammar.specs.Symbol.{Symbol, sign, unary_mark, binary_mark, level, kind_mark}
-use Rattle.p3l_grammar.specs.Written.{Form, numeral, place, prefix, infix_, paren, Forms, no_index, index, Script, stop, set, when, when_else, as_long_as, counting, Head, Item, fixed, bodied, chained, spread, turned, tight, IsGrouped, AreGrouped, IsScript, HasOne, IsHead, IsCall, AreCalls, IsChain, IsItem, IsText, each, num_symbol, spell_call, spell, spell_index, spell_set, spell_script, spell_head, spell_clause, spell_local, spell_end, spell_item, spell_text, tree, trees, script_tree, bodied_tree, chained_tree, spread_tree, turned_tree, item_tree, text_tree}
-use Rattle.p3l_grammar.specs.Machine.{State, entries, await, any_num, clause, another_call, another_local, operand, another_index, value, another_stmt, maybe_else, Hole, whole, after_unary, after_binary, expression, call, block, setting_from, setting, end_of, bodied_from, chained_from, spread_from, turned_from, otherwise, operand_step, operator_of, level_of, operator_step, step, value_step, bind, run}
-use Rattle.p3l_grammar.proofs.Heads.{PassesLocal, locals_run, head_runs, call_from_runs, more_calls_run, num_runs}
-
--- how tight an expression has to bind where it stands
-abbrev pub need : Hole → ℕ
-need (whole go) = 0
-need (after_unary o h) = 10
-need (after_binary o a h) = suc (level o)
+use Rattle.p3l_grammar.specs.Written.{Form, numeral, place, prefix, infix_, paren, Forms, no_index, index, Script, stop, set, when, when_else, as_long_as, counting, Head, Item, fixed, bodied, chained, spread, turned, tight, IsGrouped, AreGrouped, IsScript, HasOne, IsHead, IsCall, AreCalls, IsChain, IsItem, IsText, each, num_symbol, spell_call, spell, spell_index, spell_set, spell_script, spell_head, spell_clause, spell_local, spell_end, spell_item, spell_text, tree, trees, script_tree, item_tree, text_tree}
+use Rattle.p3l_grammar.specs.Machine.{need, State, entries, await, any_num, clause, another_call, another_local, operand, another_index, value, another_stmt, maybe_else, Hole, whole, after_unary, after_binary, expression, call, block, setting_from, setting, end_of, otherwise, operand_step, operator_of, level_of, operator_step, step, value_step, bind, run}
+use Rattle.p3l_grammar.proofs.Heads.{bodied_tree, chained_tree, spread_tree, turned_tree, bodied_from, chained_from, spread_from, turned_from, PassesLocal, locals_run, head_runs, call_from_runs, more_calls_run, num_runs}
 
 pub level_small : (o : BinOp) → level o ≤ 9
 level_small ops.Or = omega arith

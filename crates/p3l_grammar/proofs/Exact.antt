@@ -11,10 +11,10 @@ use Rattle.p3l_lexer.specs.declared.mark.Mark.TheVariants as marks
 use Rattle.p3l_lexer.specs.declared.token.Token.{Token}
 use Rattle.p3l_grammar.specs.Symbol.{Symbol, symbol, symbols, word, digits, sign}
 use Rattle.p3l_grammar.specs.Written.{Form, numeral, prefix, infix_, Item, tight, IsGrouped, IsText, spell, spell_text, tree, text_tree}
-use Rattle.p3l_grammar.specs.Machine.{State, entries, await, any_word, any_digits, any_num, clause, another_size, any_sub, another_sub, another_port, another_arg, any_out, another_out, another_call, another_local, operand, another_index, value, another_stmt, maybe_else, Hole, whole, after_unary, after_binary, step, bind, run, finish, value_finish, next, all}
+use Rattle.p3l_grammar.specs.Machine.{need, State, entries, await, any_word, any_digits, any_num, clause, another_size, any_sub, another_sub, another_port, another_arg, any_out, another_out, another_call, another_local, operand, another_index, value, another_stmt, maybe_else, Hole, whole, after_unary, after_binary, step, bind, run, finish, value_finish, next, all}
 use Rattle.std.specs.Prelude.{pos}
 use Rattle.p3l_grammar.specs.Grammar.{Derives, IsViable, IsRefused, IsStop}
-use Rattle.p3l_grammar.proofs.Complete.{need, text_runs}
+use Rattle.p3l_grammar.proofs.Complete.{text_runs}
 use Rattle.p3l_grammar.proofs.Sound.{IsRead, IsHole, IfRead, num_stop, sub_stop, port_stop, arg_stop, out_stop, call_stop, local_stop, index_stop, stmt_stop, need_small, run_reads, starts_read}
 
 -- some program is written so: the symbols that f puts first, and more

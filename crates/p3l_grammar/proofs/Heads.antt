@@ -9,11 +9,45 @@ use Rattle.p3l_ast.specs.declared.call.Arg.{Arg}
 use Rattle.p3l_ast.specs.declared.call.OutArg.{OutArg}
 use Rattle.p3l_ast.specs.declared.call.OutArg.TheVariants.{Fresh, Old}
 use Rattle.p3l_ast.specs.declared.call.Call.{Call}
+use Rattle.std.specs.Prelude.{Option}
+use Rattle.p3l_ast.specs.declared.module.Kind.{Kind}
+use Rattle.p3l_ast.specs.declared.module.Kind.TheVariants as kinds
+use Rattle.p3l_ast.specs.Tree.{Code, done, body, turning, EntryTree}
 use Rattle.p3l_lexer.specs.declared.mark.Mark.{Mark}
 use Rattle.p3l_lexer.specs.declared.mark.Mark.TheVariants as marks
 use Rattle.p3l_grammar.specs.Symbol.{Symbol, sign}
-use Rattle.p3l_grammar.specs.Written.{Head, HasOne, IsHead, IsCall, AreCalls, each, behind_comma, parted, num_symbol, spell_size, spell_port, spell_sub, spell_arg, spell_out, spell_call, spell_head, spell_local}
-use Rattle.p3l_grammar.specs.Machine.{State, await, any_num, another_size, another_sub, another_port, another_arg, any_out, another_out, another_call, another_local, port, arg, ports, args, out_args, call, head, run}
+use Rattle.p3l_grammar.specs.Written.{Head, HasOne, IsHead, IsCall, AreCalls, each, behind_comma, parted, num_symbol, spell_size, spell_port, spell_sub, spell_arg, spell_out, spell_call, spell_head, spell_local, body_filling, chain_filling, spread_filling, turning_filling, module_of}
+use Rattle.p3l_grammar.specs.Machine.{State, await, any_num, another_size, another_sub, another_port, another_arg, any_out, another_out, another_call, another_local, port, arg, ports, args, out_args, call, head, run, clause, another_stmt, end_of}
+
+-- Modules of each form, and what may come behind their keywords.
+
+abbrev pub bodied_tree : Head → Option Num → List Port → Code → EntryTree
+bodied_tree h b ls c = module_of kinds.Seq h (body_filling b (body ls c))
+
+abbrev pub chained_tree : Kind → Head → List Call → EntryTree
+chained_tree k h cs = module_of k h (chain_filling cs)
+
+abbrev pub spread_tree : Kind → Head → Option Num → Call → EntryTree
+spread_tree k h w c = module_of k h (spread_filling w c)
+
+abbrev pub turned_tree : Head → Num → Option Num → Call → Call → EntryTree
+turned_tree h t n b c = module_of kinds.Loop h (turning_filling t n (turning b c))
+
+abbrev pub bodied_from : (EntryTree → State) → State
+bodied_from go =
+    head (λ h. clause marks.Budget (λ b. await marks.OpenBody (another_local [] (λ ls. another_stmt done
+    (λ c. await marks.CloseBody (end_of kinds.Seq (go (bodied_tree h b ls c))))))))
+
+abbrev pub chained_from : Kind → (EntryTree → State) → State
+chained_from k go = head (λ h. call (λ c. another_call (c ∷ []) (λ cs. end_of k (go (chained_tree k h cs)))))
+
+abbrev pub spread_from : Kind → (EntryTree → State) → State
+spread_from k go = head (λ h. clause marks.Workers (λ w. call (λ c. end_of k (go (spread_tree k h w c)))))
+
+abbrev pub turned_from : (EntryTree → State) → State
+turned_from go =
+    head (λ h. await marks.Turns (any_num (λ t. clause marks.Tokens (λ n. call (λ b. await marks.While
+    (call (λ c. end_of kinds.Loop (go (turned_tree h t n b c)))))))))
 
 -- no size comes first
 abbrev pub PassesSize : List Symbol → Type 0

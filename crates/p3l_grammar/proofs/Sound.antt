@@ -23,13 +23,14 @@ use Rattle.p3l_lexer.specs.declared.mark.Mark.{Mark}
 use Rattle.p3l_lexer.specs.declared.mark.Mark.TheVariants as marks
 use Rattle.p3l_grammar.specs.Symbol.{Symbol, word, digits, sign, faulty, unary_mark, binary_mark, level, kind_mark}
 use Rattle.p3l_grammar.specs.Marks.{mark_number, same_mark}
-use Rattle.p3l_grammar.specs.Written.{Form, numeral, place, prefix, infix_, paren, Forms, no_index, index, Script, stop, set, when, when_else, as_long_as, counting, Head, Item, fixed, bodied, chained, spread, turned, tight, IsGrouped, AreGrouped, IsScript, HasOne, IsHead, IsCall, AreCalls, IsChain, IsSpread, IsItem, IsText, each, behind_comma, parted, num_symbol, spell_size, spell_port, in_brackets, spell_sub, spell_arg, spell_out, spell_call, spell, spell_index, spell_script, spell_head, spell_clause, spell_local, spell_item, spell_text, tree, trees, script_tree, bodied_tree, chained_tree, spread_tree, turned_tree, item_tree, text_tree}
-use Rattle.p3l_grammar.specs.Machine.{State, entries, await, any_word, any_digits, any_num, clause, another_size, any_sub, another_sub, another_port, another_arg, any_out, another_out, another_call, another_local, operand, another_index, value, another_stmt, maybe_else, Hole, whole, after_unary, after_binary, ports, args, out_args, call_from, call, head, end_of, bodied_from, chained_from, spread_from, turned_from, otherwise, entries_step, await_step, clause_step, size_step, sub_step, subs_step, port_step, arg_step, any_out_step, out_step, call_step, local_step, operand_step, index_step, operator_of, level_of, operator_step, stmt_step, else_step, step, value_step, bind, run}
+use Rattle.p3l_grammar.specs.Written.{Form, numeral, place, prefix, infix_, paren, Forms, no_index, index, Script, stop, set, when, when_else, as_long_as, counting, Head, Item, fixed, bodied, chained, spread, turned, tight, IsGrouped, AreGrouped, IsScript, HasOne, IsHead, IsCall, AreCalls, IsChain, IsSpread, IsItem, IsText, each, behind_comma, parted, num_symbol, spell_size, spell_port, in_brackets, spell_sub, spell_arg, spell_out, spell_call, spell, spell_index, spell_script, spell_head, spell_clause, spell_local, spell_item, spell_text, tree, trees, script_tree, item_tree, text_tree}
+use Rattle.p3l_grammar.specs.Machine.{need, State, entries, await, any_word, any_digits, any_num, clause, another_size, any_sub, another_sub, another_port, another_arg, any_out, another_out, another_call, another_local, operand, another_index, value, another_stmt, maybe_else, Hole, whole, after_unary, after_binary, ports, args, out_args, call_from, call, head, end_of, otherwise, entries_step, await_step, clause_step, size_step, sub_step, subs_step, port_step, arg_step, any_out_step, out_step, call_step, local_step, operand_step, index_step, operator_of, level_of, operator_step, stmt_step, else_step, step, value_step, bind, run}
 use Rattle.std.proofs.Common.{get_or}
 use Rattle.std.proofs.lemmas.Map.Views.{exact_unsigned_eq}
 use Rattle.p3l_lexer.specs.Mark.{keywords, punctuation}
 use Rattle.p3l_grammar.specs.Grammar.{Derives}
-use Rattle.p3l_grammar.proofs.Complete.{need, level_small, adds, adds_none, adds_snoc}
+use Rattle.p3l_grammar.proofs.Heads.{bodied_tree, chained_tree, spread_tree, turned_tree, bodied_from, chained_from, spread_from, turned_from}
+use Rattle.p3l_grammar.proofs.Complete.{level_small, adds, adds_none, adds_snoc}
 
 -- Behind the symbols that f puts before its argument the machine is in this state. Whatever may come next,
 -- the state that is reached then stands behind it too.

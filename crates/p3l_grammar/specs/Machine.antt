@@ -18,12 +18,12 @@ use Rattle.p3l_ast.specs.declared.expression.BinOp.{BinOp}
 use Rattle.p3l_ast.specs.declared.expression.BinOp.TheVariants as ops
 use Rattle.p3l_ast.specs.declared.module.Kind.{Kind}
 use Rattle.p3l_ast.specs.declared.module.Kind.TheVariants as kinds
-use Rattle.p3l_ast.specs.Tree.{Phrase, number, read, unary, binary, Phrases, none, snoc, Code, done, assign, branch, branch_else, repeat, count, join, EntryTree, constant}
+use Rattle.p3l_ast.specs.Tree.{Phrase, number, read, unary, binary, Phrases, none, snoc, Code, done, assign, branch, branch_else, repeat, count, join, body, turning, InsideTree, EntryTree, constant}
 use Rattle.p3l_lexer.specs.declared.mark.Mark.{Mark}
 use Rattle.p3l_lexer.specs.declared.mark.Mark.TheVariants as marks
 use Rattle.p3l_lexer.specs.declared.token.Token.{Token}
 use Rattle.p3l_grammar.specs.Symbol.{symbol, Symbol, word, digits, sign, level, kind_mark}
-use Rattle.p3l_grammar.specs.Written.{Head, bodied_tree, chained_tree, spread_tree, turned_tree}
+use Rattle.p3l_grammar.specs.Written.{Head, Filling, body_filling, chain_filling, spread_filling, turning_filling, module_of}
 use Rattle.p3l_grammar.specs.Marks.{same_mark}
 
 mutual
@@ -56,13 +56,20 @@ mutual
     after_unary : UnOp → Hole → Hole
     after_binary : BinOp → Phrase → Hole → Hole
 
+-- how tight an expression has to bind where it stands
+abbrev pub need : Hole → ℕ
+need (whole go) = 0
+need (after_unary o h) = 10
+need (after_binary o a h) = suc (level o)
+
 -- What may come, by the productions.
 
 abbrev pub expression : (Phrase → State) → State
 expression go = operand (whole go)
 
-abbrev pub index_in : (Phrase → State) → State
-index_in go = expression (λ e. await marks.CloseBracket (go e))
+-- an expression up to a mark
+abbrev pub upto : Mark → (Phrase → State) → State
+upto m go = expression (λ e. await m (go e))
 
 abbrev pub size_in : (Num → State) → State
 size_in go = any_num (λ n. await marks.CloseBracket (go n))
@@ -79,24 +86,46 @@ arg_from x go = another_sub [] (λ ss. go (record { at = x; subs = ss }))
 abbrev pub arg : (Arg → State) → State
 arg go = any_word (λ x. arg_from x go)
 
--- a list in parentheses, whose first item is read so, and the others so
+-- lists with commas between their items, and in parentheses
+
+abbrev pub port_list : (List Port → State) → State
+port_list go = port (λ p. another_port (p ∷ []) go)
+
 abbrev pub ports : (List Port → State) → State
-ports go = await marks.OpenParen (port (λ p. another_port (p ∷ []) (λ ps. await marks.CloseParen (go ps))))
+ports go = await marks.OpenParen (port_list (λ ps. await marks.CloseParen (go ps)))
+
+abbrev pub arg_list : (List Arg → State) → State
+arg_list go = arg (λ a. another_arg (a ∷ []) go)
 
 abbrev pub args : (List Arg → State) → State
-args go = await marks.OpenParen (arg (λ a. another_arg (a ∷ []) (λ xs. await marks.CloseParen (go xs))))
+args go = await marks.OpenParen (arg_list (λ xs. await marks.CloseParen (go xs)))
+
+abbrev pub out_list : (List OutArg → State) → State
+out_list go = any_out (λ a. another_out (a ∷ []) go)
 
 abbrev pub out_args : (List OutArg → State) → State
-out_args go = await marks.OpenParen (any_out (λ a. another_out (a ∷ []) (λ xs. await marks.CloseParen (go xs))))
+out_args go = await marks.OpenParen (out_list (λ xs. await marks.CloseParen (go xs)))
+
+abbrev pub call_outs : Spot → List Arg → (Call → State) → State
+call_outs x is go = await marks.Out (out_args (λ os. go (record { at = x; ins = is; outs = os })))
 
 abbrev pub call_from : Spot → (Call → State) → State
-call_from x go = await marks.In (args (λ is. await marks.Out (out_args (λ os. go (record { at = x; ins = is; outs = os })))))
+call_from x go = await marks.In (args (λ is. call_outs x is go))
 
 abbrev pub call : (Call → State) → State
 call go = any_word (λ x. call_from x go)
 
+abbrev pub call_list : (List Call → State) → State
+call_list go = call (λ c. another_call (c ∷ []) go)
+
+abbrev pub head_outs : Spot → List Port → (Head → State) → State
+head_outs x is go = await marks.Out (ports (λ os. go (record { at = x; ins = is; outs = os })))
+
+abbrev pub head_from : Spot → (Head → State) → State
+head_from x go = await marks.In (ports (λ is. head_outs x is go))
+
 abbrev pub head : (Head → State) → State
-head go = any_word (λ x. await marks.In (ports (λ is. await marks.Out (ports (λ os. go (record { at = x; ins = is; outs = os }))))))
+head go = any_word (λ x. head_from x go)
 
 abbrev pub local_from : (Port → State) → State
 local_from go = port_from (λ p. await marks.Semicolon (go p))
@@ -111,7 +140,7 @@ abbrev pub setting : (Spot → Phrases → Phrase → State) → State
 setting go = any_word (λ x. setting_from x (go x))
 
 abbrev pub test : (Phrase → State) → State
-test go = await marks.OpenParen (expression (λ e. await marks.CloseParen (go e)))
+test go = await marks.OpenParen (upto marks.CloseParen go)
 
 abbrev pub assignment_from : Spot → (Code → State) → State
 assignment_from x go = setting_from x (λ is e. await marks.Semicolon (go (assign x is e done)))
@@ -124,7 +153,7 @@ repeat_from go = test (λ e. block (λ b. go (repeat e b done)))
 
 abbrev pub count_from : (Code → State) → State
 count_from go =
-    await marks.OpenParen (setting (λ x is e. await marks.Semicolon (expression (λ w. await marks.Semicolon
+    await marks.OpenParen (setting (λ x is e. await marks.Semicolon (upto marks.Semicolon (λ w.
     (setting (λ y js f. await marks.CloseParen (block (λ b. go (count x is e w y js f b done)))))))))
 
 abbrev pub end_of : Kind → State → State
@@ -133,21 +162,32 @@ end_of k s = await marks.End (await (kind_mark k) s)
 abbrev pub fixed_from : (EntryTree → State) → State
 fixed_from go = any_word (λ x. await marks.Assign (any_digits (λ v. await marks.Semicolon (go (constant x v)))))
 
-abbrev pub bodied_from : (EntryTree → State) → State
-bodied_from go =
-    head (λ h. clause marks.Budget (λ b. await marks.OpenBody (another_local [] (λ ls. another_stmt done
-    (λ c. await marks.CloseBody (end_of kinds.Seq (go (bodied_tree h b ls c))))))))
+abbrev pub body_in : (InsideTree → State) → State
+body_in go = another_local [] (λ ls. another_stmt done (λ c. go (body ls c)))
 
-abbrev pub chained_from : Kind → (EntryTree → State) → State
-chained_from k go = head (λ h. call (λ c. another_call (c ∷ []) (λ cs. end_of k (go (chained_tree k h cs)))))
+-- the body of a `seq`
+abbrev pub body_from : (InsideTree → State) → State
+body_from go = await marks.OpenBody (body_in (λ i. await marks.CloseBody (go i)))
 
-abbrev pub spread_from : Kind → (EntryTree → State) → State
-spread_from k go = head (λ h. clause marks.Workers (λ w. call (λ c. end_of k (go (spread_tree k h w c)))))
+abbrev pub loop_calls : (InsideTree → State) → State
+loop_calls go = call (λ b. await marks.While (call (λ c. go (turning b c))))
 
-abbrev pub turned_from : (EntryTree → State) → State
-turned_from go =
-    head (λ h. await marks.Turns (any_num (λ t. clause marks.Tokens (λ n. call (λ b. await marks.While
-    (call (λ c. end_of kinds.Loop (go (turned_tree h t n b c)))))))))
+abbrev pub loop_tokens : Num → (Filling → State) → State
+loop_tokens t go = clause marks.Tokens (λ n. loop_calls (λ i. go (turning_filling t n i)))
+
+-- what stands between the head of a module and its end
+abbrev pub filling : Kind → (Filling → State) → State
+filling kinds.Seq go = clause marks.Budget (λ b. body_from (λ i. go (body_filling b i)))
+filling kinds.Comp go = call_list (λ cs. go (chain_filling cs))
+filling kinds.Pipe go = call_list (λ cs. go (chain_filling cs))
+filling kinds.Farm go = clause marks.Workers (λ w. call (λ c. go (spread_filling w c)))
+filling kinds.Map go = clause marks.Workers (λ w. call (λ c. go (spread_filling w c)))
+filling kinds.Reduce go = clause marks.Workers (λ w. call (λ c. go (spread_filling w c)))
+filling kinds.Loop go = await marks.Turns (any_num (λ t. loop_tokens t go))
+
+-- what stands behind the keyword of a module
+abbrev pub module_from : Kind → (EntryTree → State) → State
+module_from k go = head (λ h. filling k (λ f. end_of k (go (module_of k h f))))
 
 -- One symbol.
 
@@ -156,15 +196,27 @@ abbrev pub otherwise : Option State → Option State → Option State
 otherwise None next = next
 otherwise (Some s) next = Some s
 
+-- the kind of a module that begins with a mark
+abbrev pub kind_of : Mark → Option Kind
+kind_of marks.Seq = Some kinds.Seq
+kind_of marks.Comp = Some kinds.Comp
+kind_of marks.Pipe = Some kinds.Pipe
+kind_of marks.Farm = Some kinds.Farm
+kind_of marks.Map = Some kinds.Map
+kind_of marks.Reduce = Some kinds.Reduce
+kind_of marks.Loop = Some kinds.Loop
+kind_of _ = None
+
+abbrev pub module_step : Option Kind → (EntryTree → State) → Option State
+module_step None go = None
+module_step (Some k) go = Some (module_from k go)
+
+abbrev pub entry_step : Mark → (EntryTree → State) → Option State
+entry_step marks.Const go = Some (fixed_from go)
+entry_step m go = module_step (kind_of m) go
+
 abbrev pub entries_step : Symbol → List EntryTree → Option State
-entries_step (sign marks.Const) es = Some (fixed_from (λ e. entries (es ++ e ∷ [])))
-entries_step (sign marks.Seq) es = Some (bodied_from (λ e. entries (es ++ e ∷ [])))
-entries_step (sign marks.Pipe) es = Some (chained_from kinds.Pipe (λ e. entries (es ++ e ∷ [])))
-entries_step (sign marks.Comp) es = Some (chained_from kinds.Comp (λ e. entries (es ++ e ∷ [])))
-entries_step (sign marks.Farm) es = Some (spread_from kinds.Farm (λ e. entries (es ++ e ∷ [])))
-entries_step (sign marks.Map) es = Some (spread_from kinds.Map (λ e. entries (es ++ e ∷ [])))
-entries_step (sign marks.Reduce) es = Some (spread_from kinds.Reduce (λ e. entries (es ++ e ∷ [])))
-entries_step (sign marks.Loop) es = Some (turned_from (λ e. entries (es ++ e ∷ [])))
+entries_step (sign m) es = entry_step m (λ e. entries (es ++ e ∷ []))
 entries_step _ es = None
 
 abbrev pub await_step : Symbol → Mark → State → Option State
@@ -231,11 +283,11 @@ operand_step (word x) h = Some (another_index none (λ is. value (read x is) h))
 operand_step (sign marks.Minus) h = Some (operand (after_unary Neg h))
 operand_step (sign marks.Bang) h = Some (operand (after_unary Not h))
 operand_step (sign marks.Tilde) h = Some (operand (after_unary Flip h))
-operand_step (sign marks.OpenParen) h = Some (expression (λ e. await marks.CloseParen (value e h)))
+operand_step (sign marks.OpenParen) h = Some (upto marks.CloseParen (λ e. value e h))
 operand_step _ h = None
 
 abbrev pub index_step : Symbol → Phrases → (Phrases → State) → Option State
-index_step (sign marks.OpenBracket) is go = Some (index_in (λ e. another_index (snoc is e) go))
+index_step (sign marks.OpenBracket) is go = Some (upto marks.CloseBracket (λ e. another_index (snoc is e) go))
 index_step _ is go = None
 
 -- the operator that a symbol is behind an operand

@@ -15,7 +15,8 @@ use Rattle.p3l_ast.specs.declared.expression.UnOp.{UnOp}
 use Rattle.p3l_ast.specs.declared.expression.BinOp.{BinOp}
 use Rattle.p3l_ast.specs.declared.module.Kind.{Kind}
 use Rattle.p3l_ast.specs.declared.module.Kind.TheVariants.{Seq, Comp, Pipe, Farm, Map, Reduce, Loop}
-use Rattle.p3l_ast.specs.Tree.{Phrase, number, read, unary, binary, Phrases, none, more, Code, done, assign, branch, branch_else, repeat, count, body, calls, turning, EntryTree, constant, defined}
+use Rattle.p3l_ast.specs.declared.module.Clauses.{Clauses}
+use Rattle.p3l_ast.specs.Tree.{Phrase, number, read, unary, binary, Phrases, none, more, Code, done, assign, branch, branch_else, repeat, count, body, calls, turning, InsideTree, EntryTree, constant, defined}
 use Rattle.p3l_lexer.specs.declared.mark.Mark.{Mark}
 use Rattle.p3l_lexer.specs.declared.mark.Mark.TheVariants as marks
 use Rattle.p3l_grammar.specs.Symbol.{Symbol, word, digits, sign, unary_mark, binary_mark, level, kind_mark}
@@ -258,54 +259,39 @@ script_tree (as_long_as e b c) = repeat (tree e) (script_tree b) (script_tree c)
 script_tree (counting x is e w y js f b c) =
     count x (trees is) (tree e) (tree w) y (trees js) (tree f) (script_tree b) (script_tree c)
 
--- modules of each form
+-- what stands between the head of a module and its end
+pub record Filling : Type 0 where
+  pub clauses : Clauses
+  pub inside : InsideTree
 
-abbrev pub bodied_tree : Head → Option Num → List Port → Code → EntryTree
-bodied_tree h b ls c = defined (record {
-  kind = Seq;
-  at = h.at;
-  ins = h.ins;
-  outs = h.outs;
-  clauses = record { workers = None; turns = None; tokens = None; budget = b };
-  inside = body ls c;
-})
+abbrev pub body_filling : Option Num → InsideTree → Filling
+body_filling b i = record { clauses = record { workers = None; turns = None; tokens = None; budget = b }; inside = i }
 
-abbrev pub chained_tree : Kind → Head → List Call → EntryTree
-chained_tree k h cs = defined (record {
-  kind = k;
-  at = h.at;
-  ins = h.ins;
-  outs = h.outs;
+abbrev pub chain_filling : List Call → Filling
+chain_filling cs = record {
   clauses = record { workers = None; turns = None; tokens = None; budget = None };
   inside = calls cs;
-})
+}
 
-abbrev pub spread_tree : Kind → Head → Option Num → Call → EntryTree
-spread_tree k h w c = defined (record {
-  kind = k;
-  at = h.at;
-  ins = h.ins;
-  outs = h.outs;
+abbrev pub spread_filling : Option Num → Call → Filling
+spread_filling w c = record {
   clauses = record { workers = w; turns = None; tokens = None; budget = None };
   inside = calls (c ∷ []);
-})
+}
 
-abbrev pub turned_tree : Head → Num → Option Num → Call → Call → EntryTree
-turned_tree h t n b c = defined (record {
-  kind = Loop;
-  at = h.at;
-  ins = h.ins;
-  outs = h.outs;
-  clauses = record { workers = None; turns = Some t; tokens = n; budget = None };
-  inside = turning b c;
-})
+abbrev pub turning_filling : Num → Option Num → InsideTree → Filling
+turning_filling t n i = record { clauses = record { workers = None; turns = Some t; tokens = n; budget = None }; inside = i }
+
+abbrev pub module_of : Kind → Head → Filling → EntryTree
+module_of k h f =
+    defined (record { kind = k; at = h.at; ins = h.ins; outs = h.outs; clauses = f.clauses; inside = f.inside })
 
 abbrev pub item_tree : Item → EntryTree
 item_tree (fixed x v p) = constant x v
-item_tree (bodied h b ls c) = bodied_tree h b ls (script_tree c)
-item_tree (chained k h cs) = chained_tree k h cs
-item_tree (spread k h w c) = spread_tree k h w c
-item_tree (turned h t n b c) = turned_tree h t n b c
+item_tree (bodied h b ls c) = module_of Seq h (body_filling b (body ls (script_tree c)))
+item_tree (chained k h cs) = module_of k h (chain_filling cs)
+item_tree (spread k h w c) = module_of k h (spread_filling w c)
+item_tree (turned h t n b c) = module_of Loop h (turning_filling t n (turning b c))
 
 abbrev pub text_tree : List Item → List EntryTree
 text_tree is = map item_tree is
