@@ -1,5 +1,6 @@
 pub mod Below
 pub mod Capped
 pub mod Powers
+pub mod Sizes
 pub mod Subtrees
 pub mod Taken

@@ -13,11 +13,18 @@ AreSubtrees-unique Is same (p ∷ ps) from a b one two =
     AreSubtrees-unique Is same ps two.1.0 a b (subst (λ m. AreSubtrees Is ps m a) middle one.1.2) two.1.2
 
 pub IsSubtree-unique : (d : ℕ) (tree : Tree) (k a b : ℕ) → IsSubtree d tree k a → IsSubtree d tree k b → a ≡ b
+unfolding IsSubtree
 IsSubtree-unique zero tree k a b one two = absurd one
 IsSubtree-unique (suc d) tree k a b one two =
     AreSubtrees-unique (IsSubtree d tree) (IsSubtree-unique d tree) (node_at tree k).parts (k + 1) a b one.1 two.1
 
+-- nothing is nested at no level
+pub IsSubtree-zero : (tree : Tree) (k next : ℕ) → IsSubtree 0 tree k next → ⊥
+unfolding IsSubtree
+IsSubtree-zero tree k next h = h
+
 pub IsSubtree-step : (d : ℕ) (tree : Tree) (k next : ℕ) → 0 < d → IsSubtree d tree k next ↔ ((k < length tree.nodes) × AreSubtrees (IsSubtree (d - 1) tree) (node_at tree k).parts (k + 1) next)
+unfolding IsSubtree
 IsSubtree-step zero tree k next some = absurd (omega arith)
 IsSubtree-step (suc d) tree k next some = let e : suc d - 1 ≡ d = omega arith in rw e (λ h. h, λ h. h)
 

@@ -4,7 +4,8 @@ use Rattle.std.specs.List.{All}
 use Rattle.p3l_base.specs.declared.slice.Dim.{Dim}
 use Rattle.p3l_base.specs.declared.slice.Slice.{Slice}
 use Rattle.p3l_base.specs.declared.cut.Cut.{Cut}
-use Rattle.p3l_base.specs.Cut.{IsLawfulCut}
+use Rattle.p3l_base.specs.Slice.{LiesWithin}
+use Rattle.p3l_base.specs.Cut.{first_count, second_count, HasFreeSizes, IsLawfulCut}
 use Rattle.p3l_skel.specs.declared.tree.Form.{Form}
 use Rattle.p3l_skel.specs.declared.tree.Form.TheVariants.{Seq, Comp, Pipe, Farm, Map, Reduce, Loop}
 use Rattle.p3l_skel.specs.declared.tree.ModuleKind.{ModuleKind}
@@ -23,7 +24,7 @@ AreSubtrees Is (p ∷ ps) from next = (p ≡ from) × ((middle : ℕ) × Is p mi
 
 -- the subtree at a node is nested at most this deep, and its nodes in preorder are the numbers
 -- from the node up to `next`
-abbrev pub IsSubtree : ℕ → Tree → ℕ → ℕ → Type 0
+unfoldable pub IsSubtree : ℕ → Tree → ℕ → ℕ → Type 0
 IsSubtree zero tree node next = ⊥
 IsSubtree (suc d) tree node next =
     (node < length tree.nodes) × AreSubtrees (IsSubtree d tree) (node_at tree node).parts (node + 1) next
@@ -35,6 +36,15 @@ IsSize n = (1 ≤ n) × (n ≤ 65536)
 -- an array has no more than three sizes, each in its limits
 abbrev pub HasSizes : Slice → Type 0
 HasSizes slice = (length slice.dims ≤ 3) × All (λ (d : Dim). IsSize d.size) slice.dims
+
+-- the slices that a cut's elements take fit a token of so many words
+pub record HasLawfulIns (cut : Cut) (ins : ℕ) : Type 0 where
+  pub some_in : 1 ≤ length cut.ins
+  pub in_sizes : All (HasFreeSizes cut.first cut.second) cut.ins
+  pub in_first : All (λ (s : Slice). first_count s.dims ≤ 1) cut.ins
+  pub in_second : All (λ (s : Slice). second_count s.dims ≤ 1) cut.ins
+  pub in_second_of_outs : All (λ (s : Slice). second_count s.dims ≡ 0) cut.outs → All (λ (s : Slice). second_count s.dims ≡ 0) cut.ins
+  pub in_within : All (λ (s : Slice). LiesWithin s ins) cut.ins
 
 -- the one part of a node is such a node
 abbrev pub HasOnePart : (ℕ → Type 0) → List ℕ → Type 0
@@ -79,16 +89,24 @@ pub record IsLawfulReduce (tree : Tree) (len elem ins outs part : ℕ) : Type 0 
   pub operator : HasWords tree part (2 * elem) elem
   pub sequential : IsSequential tree part
 
--- the numbers and parts of a loop are lawful
-pub record IsLawfulLoop (tree : Tree) (turns tokens ins outs body condition : ℕ) : Type 0 where
+-- the turns and tokens of a loop are in their limits
+pub record HasLoopLimits (turns tokens : ℕ) : Type 0 where
   pub some_turns : 1 ≤ turns
   pub few_turns : turns ≤ 65536
   pub some_tokens : 1 ≤ tokens
   pub few_tokens : tokens ≤ 1024
+
+-- a body and a condition fit a loop
+pub record AreLoopParts (tree : Tree) (ins outs body condition : ℕ) : Type 0 where
   pub same_words : ins ≡ outs
   pub turned : HasWords tree body ins outs
   pub tested : HasWords tree condition ins 1
   pub sequential : IsSequential tree condition
+
+-- the numbers and parts of a loop are lawful
+pub record IsLawfulLoop (tree : Tree) (turns tokens ins outs body condition : ℕ) : Type 0 where
+  pub limits : HasLoopLimits turns tokens
+  pub parts : AreLoopParts tree ins outs body condition
 
 -- what a node of a form owes besides: its parts fit it
 abbrev pub IsLawfulForm : Tree → Form → ℕ → ℕ → List ℕ → Type 0
@@ -129,11 +147,15 @@ pub record AgreesWith (node other : Node) : Type 0 where
   pub ins : node.ins ≡ other.ins
   pub outs : node.outs ≡ other.outs
 
+-- a node agrees with all nodes of its module
+abbrev pub AgreesWithAll : List Node → Node → Type 0
+AgreesWithAll nodes node = All (λ (other : Node). node.module ≡ other.module → AgreesWith node other) nodes
+
 -- a lawful tree
 pub record IsLawfulTree (tree : Tree) : Type 0 where
   pub few_modules : length tree.modules < 2 ^ 32
   pub few_nodes : length tree.nodes ≤ 128
   pub preorder : IsSubtree nesting tree 0 (length tree.nodes)
   pub nodes : All (IsLawfulNode tree) tree.nodes
-  pub agree : All (λ (node : Node). All (λ (other : Node). node.module ≡ other.module → AgreesWith node other) tree.nodes) tree.nodes
+  pub agree : All (AgreesWithAll tree.nodes) tree.nodes
   pub light : IsLight tree

@@ -4,7 +4,7 @@ use Rattle.p3l_skel.specs.declared.tree.Node.{Node}
 use Rattle.p3l_skel.specs.declared.tree.Tree.{Tree}
 use Rattle.p3l_skel.specs.Tree.{node_at}
 use Rattle.p3l_skel.specs.Lawful.{IsSubtree, AreSubtrees}
-use Rattle.p3l_skel.proofs.Subtrees.{IsSubtree-unique, IsSubtree-step, AreSubtrees-at, AreSubtrees-from}
+use Rattle.p3l_skel.proofs.Subtrees.{IsSubtree-unique, IsSubtree-zero, IsSubtree-step, AreSubtrees-at, AreSubtrees-from}
 use Rattle.p3l_skel.proofs.shape.+subtree_end.Goals as goal
 
 -- the parts of a subtree, read through the node
@@ -12,6 +12,10 @@ parts_end : (tree : Tree) (d k : ℕ) (node : Node) (parts : List ℕ) (next : �
 parts_end tree d k node parts next some listed found whole =
     let some : 0 < d = omega arith in
     rw (listed, found) ((IsSubtree-step d tree k next some).0 whole).1
+
+pub returns-then-levels-eq0-clause-none : goal.returns-then-levels-eq0-clause-none
+returns-then-levels-eq0-clause-none t c = λ next whole.
+    IsSubtree-zero c.args.tree.now c.args.number next (rw c.if-levels-eq0.true at whole)
 
 pub returns-in_err-node-clause-none : goal.returns-in_err-node-clause-none
 returns-in_err-node-clause-none t c =
