@@ -14,39 +14,42 @@ fn words_of(alloc: Global, words: &[i64]) -> Result<Words, Fail> {
     Ok(Words::from_vec(Vec::from_slice(alloc, words)?))
 }
 
-fn has_words(items: &List<Words>, words: &[&[i64]]) -> bool {
-    if items.len() != words.len() {
-        return false;
+/// The items as they are written.
+fn written(alloc: Global, read: &Items) -> Result<Vec<u8>, Fail> {
+    let mut text = Vec::new(alloc);
+    for item in read.items.as_slice() {
+        text.extend_from_slice(item_text(alloc, item)?.as_slice())?;
     }
-    items
-        .as_slice()
-        .iter()
-        .zip(words.iter())
-        .all(|(item, words)| item.as_slice() == *words)
+    Ok(text)
 }
 
 #[test]
 fn lines_give_items_up_to_the_first_refused(rt: HostRuntime) -> Result<(), Fail> {
-    let table: [(&[u8], u32, &[&[i64]], Ending); 14] = [
-        (b"1\n2\n-3\n", 1, &[&[1], &[2], &[-3]], Ending::End),
-        (b"", 1, &[], Ending::End),
-        (b"1\n2\n1 x\n4\n", 1, &[&[1], &[2]], Ending::BadWord(3)),
-        (b"+1\n", 1, &[], Ending::BadWord(1)),
-        (b"-\n", 1, &[], Ending::BadWord(1)),
-        (b"\n7\r\n8", 1, &[&[7], &[8]], Ending::End),
-        (b"1 2\n", 1, &[], Ending::WrongCount { line: 1, had: 2 }),
-        (b"\t1  2 \r", 2, &[&[1, 2]], Ending::End),
-        (b"1\r2\n", 1, &[], Ending::BadWord(1)),
+    let table: [(&[u8], u32, &[u8], Ending); 14] = [
+        (b"1\n2\n-3\n", 1, b"1\n2\n-3\n", Ending::End),
+        (b"", 1, b"", Ending::End),
+        (b"1\n2\n1 x\n4\n", 1, b"1\n2\n", Ending::BadWord(3)),
+        (b"+1\n", 1, b"", Ending::BadWord(1)),
+        (b"-\n", 1, b"", Ending::BadWord(1)),
+        (b"\n7\r\n8", 1, b"7\n8\n", Ending::End),
+        (b"1 2\n", 1, b"", Ending::WrongCount { line: 1, had: 2 }),
+        (b"\t1  2 \r", 2, b"1 2\n", Ending::End),
+        (b"1\r2\n", 1, b"", Ending::BadWord(1)),
         (
-            b"9223372036854775807\n-9223372036854775808\n-0009\n",
+            b"9223372036854775807\n-0009\n",
             1,
-            &[&[9223372036854775807], &[-9223372036854775808], &[-9]],
+            b"9223372036854775807\n-9\n",
             Ending::End,
         ),
-        (b" \n9223372036854775808\n", 1, &[], Ending::OutOfRange(2)),
-        (b"-9223372036854775809", 1, &[], Ending::OutOfRange(1)),
-        (b"99999999999999999999 x\n", 1, &[], Ending::OutOfRange(1)),
-        (b"1 9-\n", 1, &[], Ending::BadWord(1)),
+        (
+            b"-9223372036854775808",
+            1,
+            b"-9223372036854775808\n",
+            Ending::End,
+        ),
+        (b" \n9223372036854775808\n", 1, b"", Ending::OutOfRange(2)),
+        (b"-9223372036854775809 x", 1, b"", Ending::OutOfRange(1)),
+        (b"1 9-\n", 1, b"", Ending::BadWord(1)),
     ];
     for (text, width, items, ending) in table {
         let taken = Taken {
@@ -54,7 +57,7 @@ fn lines_give_items_up_to_the_first_refused(rt: HostRuntime) -> Result<(), Fail>
             stop: Stop::End,
         };
         let read = read_items(rt.alloc(), &taken, width)?;
-        assert!(rt; has_words(&read.items, items));
+        assert_eq!(rt; written(rt.alloc(), &read)?.as_slice(), items);
         assert_eq!(rt; read.ending, ending);
     }
     Ok(())
@@ -62,19 +65,12 @@ fn lines_give_items_up_to_the_first_refused(rt: HostRuntime) -> Result<(), Fail>
 
 #[test]
 fn a_fault_or_the_limit_drops_a_line_without_a_line_feed(rt: HostRuntime) -> Result<(), Fail> {
-    let table: [(&[u8], u64, u64, Stop, &[&[i64]], Ending); 5] = [
-        (
-            b"1\n2\n",
-            9,
-            5,
-            Stop::Fault,
-            &[&[1], &[2]],
-            Ending::ReadFault,
-        ),
-        (b"1\n2\n", 9, 4, Stop::Fault, &[&[1]], Ending::ReadFault),
-        (b"1\n22\n3\n", 4, 9, Stop::Limit, &[&[1]], Ending::TooLong),
-        (b"1\n2\n", 4, 9, Stop::Limit, &[&[1], &[2]], Ending::TooLong),
-        (b"x\n2\n", 9, 4, Stop::Fault, &[], Ending::BadWord(1)),
+    let table: [(&[u8], u64, u64, Stop, &[u8], Ending); 5] = [
+        (b"1\n2\n", 9, 5, Stop::Fault, b"1\n2\n", Ending::ReadFault),
+        (b"1\n2\n", 9, 4, Stop::Fault, b"1\n", Ending::ReadFault),
+        (b"1\n22\n3\n", 4, 9, Stop::Limit, b"1\n", Ending::TooLong),
+        (b"1\n2\n", 4, 9, Stop::Limit, b"1\n2\n", Ending::TooLong),
+        (b"x\n2\n", 9, 4, Stop::Fault, b"", Ending::BadWord(1)),
     ];
     for (text, limit, fails, stop, items, ending) in table {
         let fails = List::from_vec(vec![in rt.alloc(); fails]?);
@@ -82,7 +78,7 @@ fn a_fault_or_the_limit_drops_a_line_without_a_line_feed(rt: HostRuntime) -> Res
         let taken = take_all(rt.alloc(), &mut source, limit)?;
         assert_eq!(rt; taken.stop, stop);
         let read = read_items(rt.alloc(), &taken, 1)?;
-        assert!(rt; has_words(&read.items, items));
+        assert_eq!(rt; written(rt.alloc(), &read)?.as_slice(), items);
         assert_eq!(rt; read.ending, ending);
     }
     Ok(())
