@@ -27,6 +27,7 @@ siblings_end Is ends (p ∷ ps) from next h =
 
 -- a subtree ends behind its root
 subtree_end : (d : ℕ) (tree : Tree) (k next : ℕ) → IsSubtree d tree k next → k < next
+unfolding IsSubtree
 subtree_end zero tree k next h = absurd h
 subtree_end (suc d) tree k next h =
     let all = siblings_end (IsSubtree d tree) (subtree_end d tree) (node_at tree k).parts (k + 1) next h.1 in
@@ -65,6 +66,7 @@ row_small (Loop turns tokens) ps n inner most count some few h = omega (arith, o
 
 -- a subtree with at most 512 workers a node has few processes
 pub procs_by-small : (tree : Tree) (count : ℕ → ℕ) → ((k : ℕ) → count k ≤ 512) → (d k next : ℕ) → IsSubtree d tree k next → next ≤ 128 → procs_by tree count d k ≤ 514 ^ d
+unfolding IsSubtree
 procs_by-small tree count small zero k next h few = absurd h
 procs_by-small tree count small (suc d) k next h few =
     let some : 0 < suc d = omega arith in
@@ -86,6 +88,7 @@ siblings_mono Is Js more (p ∷ ps) from next h =
 
 -- a subtree is nested at most deeper too
 subtree_mono : (d deeper : ℕ) (tree : Tree) (k next : ℕ) → d ≤ deeper → IsSubtree d tree k next → IsSubtree deeper tree k next
+unfolding IsSubtree
 subtree_mono zero deeper tree k next more h = absurd h
 subtree_mono (suc d) zero tree k next more h = absurd (omega arith)
 subtree_mono (suc d) (suc deeper) tree k next more h =
@@ -123,6 +126,7 @@ outside_from-zero tree k = refl
 
 -- the nodes outside units are roots of subtrees
 pub outside_roots : (d deeper : ℕ) (tree : Tree) (k next node : ℕ) → d ≤ deeper → IsSubtree d tree k next → next ≤ 128 → Contains (outside_from tree d k) node → RootsSmall deeper tree node
+unfolding IsSubtree
 outside_roots zero deeper tree k next node more h few inside = absurd h
 outside_roots (suc d) deeper tree k next node more h few inside =
     let form = (node_at tree k).form in
