@@ -1,5 +1,5 @@
 -- What statements make of a state, or the first trap.
-use Rattle.std.specs.Prelude.{ℕ, zero, suc, List, Result, Ok, Err, if◌then◌else◌}
+use Rattle.std.specs.Prelude.{◌≡◌, ℕ, zero, suc, List, Result, Ok, Err, if◌then◌else◌}
 use Rattle.p3l_base.specs.declared.outcome.TrapKind.{TrapKind}
 use Rattle.p3l_base.specs.declared.outcome.TrapKind.TheVariants.{Budget}
 use Rattle.p3l_ast.specs.declared.meaning.state.State.{State}
@@ -39,3 +39,9 @@ loop_of budget e body state = loop_by budget budget e body state
 
 unfoldable pub run_of : ℕ → Code → State → Result State TrapKind
 run_of budget code state = run_by (loop_of budget) code state
+
+-- a loop is one turn and the loop again, as long as its condition holds
+abbrev pub LoopsUnroll : Type 0
+LoopsUnroll =
+    (budget : ℕ) (e : Phrase) (body : Code) (state : State) →
+    loop_of budget e body state ≡ chosen e (λ s. given (given (turned budget s) (run_of budget body)) (loop_of budget e body)) Ok state
