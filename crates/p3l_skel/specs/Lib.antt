@@ -5,3 +5,4 @@ pub mod Numbers
 pub mod Counts
 pub mod Work
 pub mod Lawful
+pub mod Laws

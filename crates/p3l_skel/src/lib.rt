@@ -5,6 +5,7 @@ mod agree;
 pub mod counts;
 mod cut;
 pub mod lawful;
+pub mod laws;
 mod shape;
 pub mod tree;
 pub mod units;
