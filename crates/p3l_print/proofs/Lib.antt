@@ -1,2 +1,4 @@
 pub mod Entries
+pub mod Forms
 pub mod Lines
+pub mod Unplacing
