@@ -2,3 +2,4 @@ pub mod Entries
 pub mod Forms
 pub mod Lines
 pub mod Unplacing
+pub mod Placing
