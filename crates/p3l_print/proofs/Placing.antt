@@ -21,6 +21,7 @@ use Rattle.p3l_ast.specs.Unplaced.{nowhere, spot_unplaced, num_unplaced, port_un
 use Rattle.p3l_lexer.specs.declared.mark.Mark.{Mark}
 use Rattle.p3l_lexer.specs.declared.mark.Mark.TheVariants as marks
 use Rattle.p3l_grammar.specs.Symbol.{Symbol, word, digits, sign, faulty, unary_mark, binary_mark, level, kind_mark}
+use Rattle.p3l_grammar.specs.Grammar.{Derives}
 use Rattle.p3l_grammar.specs.Written.{Form, numeral, place, prefix, infix_, paren, Forms, no_index, index, Script, stop, set, when, when_else, as_long_as, counting, Head, Item, fixed, bodied, chained, spread, turned, tight, IsGrouped, AreGrouped, IsScript, HasOne, IsHead, IsCall, AreCalls, IsItem, IsText, each, behind_comma, parted, num_symbol, spell_size, spell_port, spell_sub, spell_arg, spell_out, spell_call, spell, spell_index, spell_set, spell_script, spell_head, spell_clause, spell_local, spell_end, spell_item, spell_text, tree, trees, script_tree, item_tree, text_tree}
 
 -- symbols that are the same but for positions
@@ -485,4 +486,188 @@ find_script (counting x is e w y js u t c) r ts h =
           (g.whole ∙ ap (spell g.it) (i.whole ∙ ap (mark_then marks.Semicolon) (j.whole ∙ ap (spelled_set j.it) (k.whole ∙ ap (mark_then marks.CloseParen)
           (l.whole ∙ ap (mark_then marks.OpenBrace) (m.whole ∙ ap (spell_script m.it) (o.whole ∙ ap (mark_then marks.CloseBrace) p.whole))))))))));
       left = p.left;
+    }
+
+-- entries
+
+record HeadAlike (h g : Head) : Type 0 where
+  at : spot_unplaced g.at ≡ spot_unplaced h.at
+  ins : map port_unplaced g.ins ≡ map port_unplaced h.ins
+  outs : map port_unplaced g.outs ≡ map port_unplaced h.outs
+
+head_alike : (h g : Head) → HeadAlike h g → IsHead h → IsHead g
+head_alike h g a k = (one_alike port_unplaced g.ins h.ins a.ins k.0, one_alike port_unplaced g.outs h.outs a.outs k.1)
+
+find_head : (g : Head) (r ts : List Symbol) → AreSame (spell_head g r) ts → Found (HeadAlike g) spell_head r ts
+find_head g r ts h =
+    let s : Sides Port Port = record { ins = g.ins; outs = g.outs } in
+    let a = find_word g.at (spell_sides spell_port spell_port s r) ts h in
+    let b = find_sides spell_port port_unplaced spell_port port_unplaced find_port find_port s r a.rest a.left in record {
+      it = record { at = a.it; ins = b.it.ins; outs = b.it.outs };
+      alike = record { at = a.alike; ins = b.alike.ins; outs = b.alike.outs };
+      rest = b.rest;
+      whole = a.whole ∙ ap (λ q. word a.it ∷ q) b.whole;
+      left = b.left;
+    }
+
+find_clause : (m : Mark) (c : Option Num) (r ts : List Symbol) → AreSame (spell_clause m c r) ts → Found (λ d. option_map num_unplaced d ≡ option_map num_unplaced c) (spell_clause m) r ts
+find_clause m None r ts h = record { it = None; alike = refl; rest = ts; whole = refl; left = h }
+find_clause m (Some n) r ts h =
+    let a = find_sign m (num_symbol n ∷ r) ts h in
+    let b = find_num n r a.rest a.left in
+    record { it = Some b.it; alike = ap Some b.alike; rest = b.rest; whole = a.whole ∙ ap (mark_then m) b.whole; left = b.left }
+
+find_local : (p : Port) (r ts : List Symbol) → AreSame (spell_local p r) ts → Found (λ q. port_unplaced q ≡ port_unplaced p) spell_local r ts
+find_local p r ts h =
+    let a = find_port p (sign marks.Semicolon ∷ r) ts h in
+    let b = find_sign marks.Semicolon r a.rest a.left in
+    record { it = a.it; alike = a.alike; rest = b.rest; whole = a.whole ∙ ap (spell_port a.it) b.whole; left = b.left }
+
+find_end : (k : Kind) (r ts : List Symbol) → AreSame (spell_end k r) ts → Found {W = Kind} (λ q. q ≡ k) (λ q s. spell_end k s) r ts
+find_end k r ts h =
+    let a = find_sign marks.End (sign (kind_mark k) ∷ r) ts h in
+    let b = find_sign (kind_mark k) r a.rest a.left in
+    record { it = k; alike = refl; rest = b.rest; whole = a.whole ∙ ap (mark_then marks.End) b.whole; left = b.left }
+
+record ItemAlike (i j : Item) : Type 0 where
+  proper : IsItem i → IsItem j
+  same : entry_unplaced (item_tree j) ≡ entry_unplaced (item_tree i)
+
+bodied_alike : (h g : Head) (b d : Option Num) (ls ms : List Port) (c k : Script) → HeadAlike h g → option_map num_unplaced d ≡ option_map num_unplaced b → map port_unplaced ms ≡ map port_unplaced ls → ScriptAlike c k
+    → ItemAlike (bodied h b ls c) (bodied g d ms k)
+bodied_alike h g b d ls ms c k x p q y = record {
+  proper = λ n. (head_alike h g x n.0, y.proper n.1);
+  same = (let a1 = x.at in let a2 = x.ins in let a3 = x.outs in let a4 = y.same in cc);
+}
+
+chained_alike : (k : Kind) (h g : Head) (cs ds : List Call) → HeadAlike h g → map call_unplaced ds ≡ map call_unplaced cs → ItemAlike (chained k h cs) (chained k g ds)
+chained_alike k h g cs ds x p = record {
+  proper = λ n. (n.0, head_alike h g x n.1, one_alike call_unplaced ds cs p n.2, calls_alike cs ds p n.3);
+  same = (let a1 = x.at in let a2 = x.ins in let a3 = x.outs in cc);
+}
+
+spread_alike : (k : Kind) (h g : Head) (w v : Option Num) (c d : Call) → HeadAlike h g → option_map num_unplaced v ≡ option_map num_unplaced w → call_unplaced d ≡ call_unplaced c
+    → ItemAlike (spread k h w c) (spread k g v d)
+spread_alike k h g w v c d x p q = record {
+  proper = λ n. (n.0, head_alike h g x n.1, call_alike c d q n.2);
+  same = (let a1 = x.at in let a2 = x.ins in let a3 = x.outs in cc);
+}
+
+turned_alike : (h g : Head) (t u : Num) (n o : Option Num) (b d c k : Call) → HeadAlike h g → num_unplaced u ≡ num_unplaced t → option_map num_unplaced o ≡ option_map num_unplaced n
+    → call_unplaced d ≡ call_unplaced b → call_unplaced k ≡ call_unplaced c → ItemAlike (turned h t n b c) (turned g u o d k)
+turned_alike h g t u n o b d c k x p q y z = record {
+  proper = λ m. (head_alike h g x m.0, call_alike b d y m.1, call_alike c k z m.2);
+  same = (let a1 = x.at in let a2 = x.ins in let a3 = x.outs in cc);
+}
+
+find_item : (i : Item) (r ts : List Symbol) → AreSame (spell_item i r) ts → Found (ItemAlike i) spell_item r ts
+find_item (fixed x v p) r ts h =
+    let a = find_sign marks.Const (word x ∷ sign marks.Assign ∷ digits v p ∷ sign marks.Semicolon ∷ r) ts h in
+    let b = find_word x (sign marks.Assign ∷ digits v p ∷ sign marks.Semicolon ∷ r) a.rest a.left in
+    let c = find_sign marks.Assign (digits v p ∷ sign marks.Semicolon ∷ r) b.rest b.left in
+    let d = find_digits v p (sign marks.Semicolon ∷ r) c.rest c.left in
+    let e = find_sign marks.Semicolon r d.rest d.left in record {
+      it = fixed b.it v d.it;
+      alike = record { proper = λ k. tt; same = ap (λ y. constant y v) b.alike };
+      rest = e.rest;
+      whole = a.whole ∙ ap (mark_then marks.Const) (b.whole ∙ ap (λ q. word b.it ∷ q) (c.whole ∙ ap (mark_then marks.Assign) (d.whole ∙ ap (λ q. digits v d.it ∷ q) e.whole)));
+      left = e.left;
+    }
+find_item (bodied g b ls c) r ts h =
+    let r1 = spell_end kinds.Seq r in
+    let r2 = spell_script c (sign marks.CloseBody ∷ r1) in
+    let r3 = sign marks.OpenBody ∷ each spell_local ls r2 in
+    let a = find_sign marks.Seq (spell_head g (spell_clause marks.Budget b r3)) ts h in
+    let d = find_head g (spell_clause marks.Budget b r3) a.rest a.left in
+    let e = find_clause marks.Budget b r3 d.rest d.left in
+    let f = find_sign marks.OpenBody (each spell_local ls r2) e.rest e.left in
+    let i = find_each spell_local port_unplaced find_local ls r2 f.rest f.left in
+    let j = find_script c (sign marks.CloseBody ∷ r1) i.rest i.left in
+    let k = find_sign marks.CloseBody r1 j.rest j.left in
+    let l = find_end kinds.Seq r k.rest k.left in record {
+      it = bodied d.it e.it i.it j.it;
+      alike = bodied_alike g d.it b e.it ls i.it c j.it d.alike e.alike i.alike j.alike;
+      rest = l.rest;
+      whole = a.whole ∙ ap (mark_then marks.Seq) (d.whole ∙ ap (spell_head d.it) (e.whole ∙ ap (spell_clause marks.Budget e.it) (f.whole ∙ ap (mark_then marks.OpenBody)
+          (i.whole ∙ ap (each spell_local i.it) (j.whole ∙ ap (spell_script j.it) (k.whole ∙ ap (mark_then marks.CloseBody) l.whole))))));
+      left = l.left;
+    }
+find_item (chained k g cs) r ts h =
+    let r1 = spell_end k r in
+    let a = find_sign (kind_mark k) (spell_head g (each spell_call cs r1)) ts h in
+    let b = find_head g (each spell_call cs r1) a.rest a.left in
+    let c = find_each spell_call call_unplaced find_call cs r1 b.rest b.left in
+    let d = find_end k r c.rest c.left in record {
+      it = chained k b.it c.it;
+      alike = chained_alike k g b.it cs c.it b.alike c.alike;
+      rest = d.rest;
+      whole = a.whole ∙ ap (mark_then (kind_mark k)) (b.whole ∙ ap (spell_head b.it) (c.whole ∙ ap (each spell_call c.it) d.whole));
+      left = d.left;
+    }
+find_item (spread k g w c) r ts h =
+    let r1 = spell_end k r in
+    let r2 = spell_call c r1 in
+    let a = find_sign (kind_mark k) (spell_head g (spell_clause marks.Workers w r2)) ts h in
+    let b = find_head g (spell_clause marks.Workers w r2) a.rest a.left in
+    let d = find_clause marks.Workers w r2 b.rest b.left in
+    let e = find_call c r1 d.rest d.left in
+    let f = find_end k r e.rest e.left in record {
+      it = spread k b.it d.it e.it;
+      alike = spread_alike k g b.it w d.it c e.it b.alike d.alike e.alike;
+      rest = f.rest;
+      whole = a.whole ∙ ap (mark_then (kind_mark k)) (b.whole ∙ ap (spell_head b.it) (d.whole ∙ ap (spell_clause marks.Workers d.it) (e.whole ∙ ap (spell_call e.it) f.whole)));
+      left = f.left;
+    }
+find_item (turned g t n b c) r ts h =
+    let r1 = spell_end kinds.Loop r in
+    let r2 = sign marks.While ∷ spell_call c r1 in
+    let r3 = spell_clause marks.Tokens n (spell_call b r2) in
+    let r4 = sign marks.Turns ∷ num_symbol t ∷ r3 in
+    let a = find_sign marks.Loop (spell_head g r4) ts h in
+    let d = find_head g r4 a.rest a.left in
+    let e = find_sign marks.Turns (num_symbol t ∷ r3) d.rest d.left in
+    let f = find_num t r3 e.rest e.left in
+    let i = find_clause marks.Tokens n (spell_call b r2) f.rest f.left in
+    let j = find_call b r2 i.rest i.left in
+    let k = find_sign marks.While (spell_call c r1) j.rest j.left in
+    let l = find_call c r1 k.rest k.left in
+    let m = find_end kinds.Loop r l.rest l.left in record {
+      it = turned d.it f.it i.it j.it l.it;
+      alike = turned_alike g d.it t f.it n i.it b j.it c l.it d.alike f.alike i.alike j.alike l.alike;
+      rest = m.rest;
+      whole = a.whole ∙ ap (mark_then marks.Loop) (d.whole ∙ ap (spell_head d.it) (e.whole ∙ ap (mark_then marks.Turns) (f.whole ∙ ap (λ q. num_symbol f.it ∷ q)
+          (i.whole ∙ ap (spell_clause marks.Tokens i.it) (j.whole ∙ ap (spell_call j.it) (k.whole ∙ ap (mark_then marks.While) (l.whole ∙ ap (spell_call l.it) m.whole)))))));
+      left = m.left;
+    }
+
+record TextAlike (is js : List Item) : Type 0 where
+  proper : IsText is → IsText js
+  same : map entry_unplaced (text_tree js) ≡ map entry_unplaced (text_tree is)
+
+text_alike : (i j : Item) (is js : List Item) → ItemAlike i j → TextAlike is js → TextAlike (i ∷ is) (j ∷ js)
+text_alike i j is js a b = record { proper = λ h. (a.proper h.0, b.proper h.1); same = (let p = a.same in let q = b.same in cc) }
+
+find_text : (is : List Item) (r ts : List Symbol) → AreSame (spell_text is r) ts → Found (TextAlike is) spell_text r ts
+find_text [] r ts h = record { it = []; alike = record { proper = λ k. tt; same = refl }; rest = ts; whole = refl; left = h }
+find_text (i ∷ is) r ts h =
+    let a = find_item i (spell_text is r) ts h in
+    let b = find_text is r a.rest a.left in
+    record { it = a.it ∷ b.it; alike = text_alike i a.it is b.it a.alike b.alike; rest = b.rest; whole = a.whole ∙ ap (spell_item a.it) b.whole; left = b.left }
+
+-- symbols that are the same but for positions derive programs that are the same but for positions
+pub record DerivesAlike (es : List EntryTree) (ts : List Symbol) : Type 0 where
+  pub entries : List EntryTree
+  pub derives : Derives ts entries
+  pub same : map entry_unplaced entries ≡ map entry_unplaced es
+
+no_more : (ts : List Symbol) → AreSame [] ts → ts ≡ []
+no_more [] h = refl
+no_more (t ∷ ts) h = absurd h
+
+pub derives_alike : (is : List Item) (ts : List Symbol) → IsText is → AreSame (spell_text is []) ts → DerivesAlike (text_tree is) ts
+derives_alike is ts proper h =
+    let a = find_text is [] ts h in record {
+      entries = text_tree a.it;
+      derives = record { written = a.it; is_text = a.alike.proper proper; spelled = a.whole ∙ ap (spell_text a.it) (no_more a.rest a.left); tree_is = refl };
+      same = a.alike.same;
     }
