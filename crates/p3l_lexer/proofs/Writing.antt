@@ -108,6 +108,24 @@ word_is text name h = let r = run_is text (lexemes.Word name) tt h in r.whole �
 pub word_again : (text name : List ℕ) → piece_of text ≡ Some (pieces.Token (lexemes.Word name)) → piece_of name ≡ Some (pieces.Token (lexemes.Word name))
 word_again text name h = subst (λ t. piece_of t ≡ Some (pieces.Token (lexemes.Word name))) (word_is text name h) h
 
+-- it begins with a letter or a digit
+plain_starts : (first : ℕ) (rest : List ℕ) (lexeme : Lexeme) → IsPlain lexeme → piece_of (first ∷ rest) ≡ Some (pieces.Token lexeme) → is_word_byte first ≡ true
+unfolding piece_of
+plain_starts first rest lexeme plain h = go (is_word_byte first) (list_all is_word_byte rest) (nat_eq first 47) h
+  where
+    go : (w all s : Bool) → cond w (cond all (Some (run_of first rest)) None) (cond s (slash_of (first ∷ rest)) (sign_or_byte (punctuation_of (first ∷ rest)) (first ∷ rest))) ≡ Some (pieces.Token lexeme) → w ≡ true
+    go true all s e = refl
+    go false all true e = absurd (slash_lexeme (first ∷ rest) lexeme plain e)
+    go false all false e = absurd (sign_lexeme (punctuation_of (first ∷ rest)) (first ∷ rest) lexeme plain e)
+
+pub word_starts : (first : ℕ) (rest name : List ℕ) → piece_of (first ∷ rest) ≡ Some (pieces.Token (lexemes.Word name)) → is_word_byte first ≡ true
+unfolding IsPlain
+word_starts first rest name h = plain_starts first rest (lexemes.Word name) tt h
+
+pub digits_start : (first : ℕ) (rest : List ℕ) (value : ℤ) → piece_of (first ∷ rest) ≡ Some (pieces.Token (lexemes.Digits value)) → is_word_byte first ≡ true
+unfolding IsPlain
+digits_start first rest value h = plain_starts first rest (lexemes.Digits value) tt h
+
 -- a number is at most 9223372036854775807, and has no sign
 Counts : ℤ → Type 0
 Counts value = (n : ℕ) × (value ≡ pos n) × (n < 2 ^ 63)
