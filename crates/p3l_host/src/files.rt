@@ -1,6 +1,7 @@
 // The file system.
 
 ghost use Rattle.std.specs.Prelude.{◌≡◌, ◌≤◌, None, length, IfOk};
+ghost use Rattle.p3l_host.specs.Reads.{ReadsWithin};
 
 use crate::retry::{after_fault, read_into, write_from};
 use p3l_base::List;
@@ -76,8 +77,8 @@ fn read_file<R: rt::Files>(
 }
 
 /// The bytes that a reader gives to its end, if there are at most `limit`. It asks for one byte more at most.
-fn read_within(alloc: Global, reader: &mut impl Read, limit: u64) -> Result<List<u8>, FileFault>
-    ensures { IfOk result (λ bytes. length bytes ≤ limit) }
+fn read_within<R: Read>(alloc: Global, reader: &mut R, limit: u64) -> Result<List<u8>, FileFault>
+    ensures { ReadsWithin (R.remaining reader.old) (R.remaining reader.new) limit result }
 {
     let mut bytes = Vec::new(alloc);
     let mut buf = [0u8; PIECE];

@@ -48,8 +48,7 @@ impl<W: Write + Drop> Sink for HostOut<W> {
 /// The standard error, which contracts see as its count of faults.
 #[derive(Drop)]
 pub struct HostErr<W: Write + Drop> {
-    writer: W,
-    faults: u64,
+    sink: HostOut<W>,
 }
 
 impl<W: Write + Drop> Model for HostErr<W> {
@@ -57,7 +56,7 @@ impl<W: Write + Drop> Model for HostErr<W> {
 
     ghost Value = { ℕ };
 
-    ghost view = { λ s. s.faults };
+    ghost view = { λ s. s.sink };
 }
 
 impl<W: Write + Drop> HostErr<W> {
@@ -65,7 +64,9 @@ impl<W: Write + Drop> HostErr<W> {
     pub fn new(writer: W) -> HostErr<W>
         ensures { result ≡ 0 }
     {
-        HostErr { writer, faults: 0 }
+        HostErr {
+            sink: HostOut::new(writer),
+        }
     }
 }
 
@@ -75,10 +76,6 @@ impl<W: Write + Drop> Sink for HostErr<W> {
     ghost faults = { λ faults. faults };
 
     fn put(&mut self, piece: &[u8]) -> Result<(), Failed> {
-        let answer = write_from(&mut self.writer, piece);
-        if answer.is_err() {
-            self.faults = after_fault(self.faults);
-        }
-        answer
+        self.sink.put(piece)
     }
 }

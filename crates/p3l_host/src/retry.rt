@@ -1,13 +1,15 @@
 // Reads and writes, again where they were interrupted.
 
-ghost use Rattle.std.specs.Prelude.{◌≡◌, ◌-◌, ◌+◌, ◌^◌, ◌≤◌, length, min, IfOk};
+ghost use Rattle.std.specs.Prelude.{◌≡◌, ◌+◌, ◌-◌, ◌^◌, ◌≤◌, length, min, IfOk, OnOk};
+ghost use Rattle.std.specs.Io.KnownBytes.{Appends, Keeps, ReadConsumes};
 
 use p3l_io::Failed;
 use std::io::{ErrorKind, Read, Write};
 
 /// Reads into `buf` once.
-pub(crate) fn read_into(reader: &mut impl Read, buf: &mut [u8]) -> Result<usize, Failed>
-    ensures { IfOk result (λ count. count ≤ length buf.new) }
+pub(crate) fn read_into<R: Read>(reader: &mut R, buf: &mut [u8]) -> Result<usize, Failed>
+    ensures within { IfOk result (λ count. count ≤ length buf.new) }
+    ensures bytes { ReadConsumes (R.remaining reader.old) (R.remaining reader.new) result buf.new }
 {
     for _ in 0..u64::MAX {
         match reader.read(buf) {
@@ -20,15 +22,31 @@ pub(crate) fn read_into(reader: &mut impl Read, buf: &mut [u8]) -> Result<usize,
 }
 
 /// Writes the bytes, all of them, and flushes. A write of no byte is a fault.
-pub(crate) fn write_from(writer: &mut impl Write, bytes: &[u8]) -> Result<(), Failed> {
+pub(crate) fn write_from<W: Write>(writer: &mut W, bytes: &[u8]) -> Result<(), Failed>
+    ensures { OnOk result (Appends (W.contents writer.old) (W.contents writer.new) bytes.now) }
+{
     let mut rest = bytes;
     for _ in 0..u64::MAX {
         if rest.is_empty() {
-            return writer.flush().map_err(|_| Failed);
+            return flushed(writer);
         }
         match writer.write(rest) {
             Ok(0) => return Err(Failed),
             Ok(count) => rest = &rest[count..],
+            Err(error) if error.kind() == ErrorKind::Interrupted => {}
+            Err(_) => return Err(Failed),
+        }
+    }
+    Err(Failed)
+}
+
+/// Hands on what a writer holds back.
+fn flushed<W: Write>(writer: &mut W) -> Result<(), Failed>
+    ensures { Keeps (W.contents writer.old) (W.contents writer.new) }
+{
+    for _ in 0..u64::MAX {
+        match writer.flush() {
+            Ok(()) => return Ok(()),
             Err(error) if error.kind() == ErrorKind::Interrupted => {}
             Err(_) => return Err(Failed),
         }
