@@ -1,6 +1,8 @@
 -- Elements of lists.
-use Rattle.std.proofs.Common.{◌≡◌, ℕ, zero, suc, ◌⊎◌, List, [], ◌∷◌, take, refl, sym, arith, inl, inr}
+use Rattle.std.proofs.Common.{◌≡◌, ℕ, zero, suc, ◌+◌, ◌<◌, ◌⊎◌, List, [], ◌∷◌, length, get_or, take, refl, sym, arith, inl, inr}
 use Rattle.std.specs.List.{Contains, flat_map}
+use Rattle.std.proofs.lemmas.List.{take_more, append-nil}
+use Rattle.std.proofs.lemmas.List.Concat.{flat_map-append}
 use Rattle.std.proofs.lemmas.List.Elements.{Contains-append_left, Contains-append_right, Contains-append_cases}
 
 pub Contains-cons_cases : (y : ℕ) (ys : List ℕ) (x : ℕ) → Contains (y ∷ ys) x → (x ≡ y) ⊎ Contains ys x
@@ -22,3 +24,19 @@ Contains-flat_map_take f (suc n) (y ∷ ys) x h =
       | inl first ↦ Contains-append_left (f y) (flat_map f ys) x first
       | inr later ↦ Contains-append_right (f y) (flat_map f ys) x (Contains-flat_map_take f n ys x later)
     ]
+
+-- what comes from one of the items comes from all
+pub Contains-flat_map : (f : ℕ → List ℕ) (ys : List ℕ) (i d x : ℕ) → i < length ys → Contains (f (get_or ys i d)) x → Contains (flat_map f ys) x
+Contains-flat_map f [] i d x below h = absurd (omega arith)
+Contains-flat_map f (y ∷ ys) zero d x below h = Contains-append_left (f y) (flat_map f ys) x h
+Contains-flat_map f (y ∷ ys) (suc i) d x below h = Contains-append_right (f y) (flat_map f ys) x (Contains-flat_map f ys i d x (omega arith) h)
+
+-- what comes from one item more comes from it or from those before
+pub Contains-flat_map_more : (f : ℕ → List ℕ) (ys : List ℕ) (i d x : ℕ) → i < length ys → Contains (flat_map f (take (i + 1) ys)) x → Contains (flat_map f (take i ys)) x ⊎ Contains (f (get_or ys i d)) x
+Contains-flat_map_more f ys i d x below h =
+    let last = get_or ys i d in
+    let split = rw (take_more ys i d below, flat_map-append, append-nil) at h in
+    Contains-append_cases (flat_map f (take i ys)) (f last) x split
+
+pub Contains-tail : (y : ℕ) (ys : List ℕ) (x : ℕ) → Contains ys x → Contains (y ∷ ys) x
+Contains-tail y ys x (k, here, is) = (suc k, omega arith, is)

@@ -1,5 +1,5 @@
 -- Subtrees of a lawful tree are small.
-use Rattle.std.proofs.Common.{◌≡◌, ℕ, zero, suc, ◌+◌, ◌-◌, ◌*◌, ◌^◌, ◌<◌, ◌≤◌, List, [], ◌∷◌, length, take, refl, arith, inl, inr}
+use Rattle.std.proofs.Common.{◌≡◌, ℕ, zero, suc, ◌+◌, ◌-◌, ◌*◌, ◌^◌, ◌<◌, ◌≤◌, List, [], ◌∷◌, length, take, arith, inl, inr}
 use Rattle.std.specs.Prelude.{sum_by}
 use Rattle.std.specs.List.{All, Contains, flat_map}
 use Rattle.std.proofs.Math.Nat.{mul-le-mul, mul-le-mul_right, pow-succ', one-le-pow}
@@ -10,11 +10,11 @@ use Rattle.std.proofs.lemmas.List.Sums.{sum_by-le}
 use Rattle.p3l_skel.specs.declared.tree.Form.{Form}
 use Rattle.p3l_skel.specs.declared.tree.Form.TheVariants.{Seq, Comp, Pipe, Farm, Map, Reduce, Loop}
 use Rattle.p3l_skel.specs.declared.tree.Tree.{Tree}
-use Rattle.p3l_skel.specs.Tree.{node_at, by_parts}
+use Rattle.p3l_skel.specs.Tree.{node_at}
 use Rattle.p3l_skel.specs.Counts.{outside_parts, outside_from}
 use Rattle.p3l_skel.specs.Lawful.{AreSubtrees, IsSubtree}
 use Rattle.p3l_skel.specs.Numbers.{procs_by, procs_row}
-use Rattle.p3l_model.proofs.Below.{procs_by-step}
+use Rattle.p3l_model.proofs.Below.{procs_by-step, outside_from-suc}
 use Rattle.p3l_model.proofs.Members.{Contains-cons_cases, Contains-nil, Contains-flat_map_take}
 
 -- subtrees that follow one another have a node each
@@ -115,14 +115,6 @@ from_outside_parts f (Farm w) ps x h = Contains-flat_map_take f 1 ps x h
 from_outside_parts f (Map w cut) ps x h = Contains-flat_map_take f 1 ps x h
 from_outside_parts f (Reduce w len elem) ps x h = absurd (Contains-nil x h)
 from_outside_parts f (Loop turns tokens) ps x h = Contains-flat_map_take f 1 ps x h
-
-outside_from-suc : (tree : Tree) (d k : ℕ) → outside_from tree (suc d) k ≡ k ∷ flat_map (outside_from tree d) (outside_parts (node_at tree k).form (node_at tree k).parts)
-unfolding outside_from by_parts
-outside_from-suc tree d k = refl
-
-outside_from-zero : (tree : Tree) (k : ℕ) → outside_from tree 0 k ≡ k ∷ []
-unfolding outside_from by_parts
-outside_from-zero tree k = refl
 
 -- the nodes outside units are roots of subtrees
 pub outside_roots : (d deeper : ℕ) (tree : Tree) (k next node : ℕ) → d ≤ deeper → IsSubtree d tree k next → next ≤ 128 → Contains (outside_from tree d k) node → RootsSmall deeper tree node

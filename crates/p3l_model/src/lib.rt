@@ -2,8 +2,10 @@
 #![tactic(auto)]
 
 pub mod firing;
+pub mod outside;
 pub mod process;
 mod workers;
 
 pub use firing::firings;
+pub use outside::is_outside;
 pub use process::procs;
