@@ -3,9 +3,10 @@ use Rattle.std.proofs.Common.{◌≡◌, ℕ, suc, ◌<◌, ◌≤◌, Bool, tru
 use Rattle.std.specs.Prelude.{nat_le, map, if◌then◌else◌}
 use Rattle.std.proofs.lemmas.Bool.Decides.{nat_tests}
 use Rattle.p3l_ast.specs.declared.expression.BinOp.{BinOp}
-use Rattle.p3l_ast.specs.Tree.{Phrase, unary, binary, read, more, Code, assign, branch, branch_else, repeat, count}
+use Rattle.p3l_ast.specs.declared.module.Kind.TheVariants.{Seq}
+use Rattle.p3l_ast.specs.Tree.{Phrase, unary, binary, read, more, Code, assign, branch, branch_else, repeat, count, body}
 use Rattle.p3l_grammar.specs.Symbol.{level}
-use Rattle.p3l_grammar.specs.Written.{Form, numeral, place, prefix, infix_, paren, Forms, no_index, index, Script, stop, set, when, when_else, as_long_as, counting, Item, fixed, bodied, chained, spread, turned, tight, IsGrouped, AreGrouped, IsScript, IsItem, IsText, tree, trees, script_tree, bodied_tree, item_tree, text_tree}
+use Rattle.p3l_grammar.specs.Written.{Form, numeral, place, prefix, infix_, paren, Forms, no_index, index, Script, stop, set, when, when_else, as_long_as, counting, Item, fixed, bodied, chained, spread, turned, tight, IsGrouped, AreGrouped, IsScript, IsItem, IsText, tree, trees, script_tree, body_filling, module_of, item_tree, text_tree}
 use Rattle.p3l_grammar.proofs.Complete.{level_small}
 use Rattle.p3l_print.specs.Expression.{tightness}
 
@@ -104,7 +105,7 @@ script_is (counting x is e w y js f b c) =
 
 pub item_is : (i : Item) → IsItem i → IsItem (canonical_item i) × (item_tree (canonical_item i) ≡ item_tree i)
 item_is (fixed x v p) h = (tt, refl)
-item_is (bodied g b ls c) h = let k = script_is c in ((h.0, k.0), ap (bodied_tree g b ls) k.1)
+item_is (bodied g b ls c) h = let k = script_is c in ((h.0, k.0), ap (λ d. module_of Seq g (body_filling b (body ls d))) k.1)
 item_is (chained k g cs) h = (h, refl)
 item_is (spread k g w c) h = (h, refl)
 item_is (turned g t n b c) h = (h, refl)

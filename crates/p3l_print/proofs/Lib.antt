@@ -3,3 +3,4 @@ pub mod Forms
 pub mod Lines
 pub mod Unplacing
 pub mod Placing
+pub mod Writing

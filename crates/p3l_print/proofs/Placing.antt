@@ -390,7 +390,7 @@ counting_alike : (s q : Set) (w v : Form) (n o : Set) (b d c k : Script) → Set
 counting_alike s q w v n o b d c k x y z u t = record {
   proper = λ h. (x.at_index.grouped h.0, x.value.grouped h.1, y.grouped h.2, z.at_index.grouped h.3, z.value.grouped h.4, u.proper h.5, t.proper h.6);
   same = (let a1 = x.at in let a2 = x.at_index.same in let a3 = x.value.same in let a4 = y.same in let a5 = z.at in let a6 = z.at_index.same in let a7 = z.value.same in
-    let a8 = u.same in let a9 = t.same in cc);
+      let a8 = u.same in let a9 = t.same in cc);
 }
 
 -- a block, with the braces
