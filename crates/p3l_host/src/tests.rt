@@ -1,7 +1,8 @@
-// The file system, and the standard streams at their ends.
+// The file system, a reader to its end, and the standard streams.
 
 use super::*;
 use p3l_io::{FileFault, Files, Sink, Source, WriteFault};
+use std::fs;
 use std::test::Fail;
 
 #[test]
@@ -27,13 +28,17 @@ fn files_are_written_and_read_back(rt: HostRuntime) -> Result<(), Fail> {
         files.write(alloc, "p3l_host_no_such_directory/file", b"abc"),
         Err(WriteFault::Failed)
     );
+    fs::remove_file(&rt, name)?;
     Ok(())
 }
 
 #[test]
 fn streams_take_and_put(rt: HostRuntime) -> Result<(), Fail> {
+    let mut input = HostIn::new(b"ab".as_slice());
     let mut buf = [0u8; 8];
-    assert_eq!(rt; HostIn::new(rt.stdin()).take(&mut buf), Ok(0));
+    assert_eq!(rt; input.take(&mut buf), Ok(2));
+    assert_eq!(rt; buf.as_slice(), b"ab\0\0\0\0\0\0".as_slice());
+    assert_eq!(rt; input.take(&mut buf), Ok(0));
     assert_eq!(rt;
         HostOut::new(rt.stdout()).put(b"written to the output\n"),
         Ok(())
