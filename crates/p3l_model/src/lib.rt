@@ -9,3 +9,6 @@ mod workers;
 pub use firing::firings;
 pub use outside::is_outside;
 pub use process::procs;
+
+#[cfg(test)]
+mod tests;
