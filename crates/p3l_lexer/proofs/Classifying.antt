@@ -1,5 +1,5 @@
 -- What the code finds a piece to be.
-use Rattle.std.proofs.Common.{◌≡◌, ◌≢◌, ℕ, ◌<◌, Bool, true, false, cond, ◌||◌, List, [], ◌∷◌, length, drop, get_or, Option, Some, None, refl, ◌∙◌, subst, arith}
+use Rattle.std.proofs.Common.{◌≡◌, ◌≢◌, ℕ, ◌<◌, Bool, true, false, cond, List, [], ◌∷◌, length, drop, get_or, Option, Some, None, refl, ◌∙◌, subst, arith}
 use Rattle.std.specs.Prelude.{nat_eq, IsSome}
 use Rattle.std.specs.List.{list_all}
 use Rattle.std.proofs.lemmas.Bool.Decides.{nat_tests}
@@ -8,9 +8,7 @@ use Rattle.p3l_lexer.specs.Mark.{keyword_of, punctuation_of}
 use Rattle.p3l_lexer.specs.Position.{is_no_line_end}
 use Rattle.p3l_lexer.specs.Piece.{is_letter, is_digit, is_word_byte, word_or_keyword, number_of, sign_or_byte, after_close, block_of, slash_of, piece_of}
 use Rattle.p3l_lexer.proofs.Pieces.{piece_of-run, piece_of-no_run, piece_of-slash, piece_of-other}
-
-false_true : false ≡ true → ⊥
-false_true h = cc
+use Rattle.p3l_lexer.proofs.Truths.{or_left, or_right, false_true}
 
 -- a `/` alone
 pub slash_sign : (text : List ℕ) → length text ≡ 1 → slash_of text ≡ sign_or_byte (punctuation_of text) text
@@ -53,14 +51,6 @@ word_byte_all first rest h some = go (list_all is_word_byte rest) refl
     go : (all : Bool) → list_all is_word_byte rest ≡ all → list_all is_word_byte rest ≡ true
     go true e = e
     go false e = absurd (false_true (subst IsSome (piece_of-no_run first rest h e) some))
-
-or_left : (a b : Bool) → a ≡ true → (a || b) ≡ true
-or_left true b h = refl
-or_left false b h = absurd cc
-
-or_right : (a b : Bool) → b ≡ true → (a || b) ≡ true
-or_right true b h = refl
-or_right false b h = h
 
 pub run_all : (text : List ℕ) → 0 < length text → is_word_byte (get_or text 0 0) ≡ true → IsSome (piece_of text) → list_all is_word_byte text ≡ true
 run_all [] some h piece = absurd (omega arith)

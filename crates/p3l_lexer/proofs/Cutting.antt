@@ -1,9 +1,8 @@
 -- The piece at the front of a text.
-use Rattle.std.proofs.Common.{◌≡◌, ◌≢◌, ℕ, suc, ◌+◌, ◌<◌, ◌≤◌, Bool, true, false, cond, ◌&&◌, List, [], ◌∷◌, ◌++◌, length, take, drop, get_or, Option, Some, None, refl, sym, ap, ◌∙◌, subst, arith, append-nil, length-append}
+use Rattle.std.proofs.Common.{◌≡◌, ℕ, suc, ◌+◌, ◌<◌, ◌≤◌, Bool, true, false, cond, ◌&&◌, List, [], ◌∷◌, ◌++◌, length, take, drop, get_or, Option, Some, None, refl, sym, ap, ◌∙◌, subst, arith, append-nil, length-append}
 use Rattle.std.proofs.lemmas.List.{take-append-drop, take_all, drop_all}
 use Rattle.std.specs.Prelude.{nat_eq, is_some}
 use Rattle.std.specs.List.{list_all}
-use Rattle.std.proofs.lemmas.Bool.Decides.{nat_tests}
 use Rattle.p3l_lexer.specs.declared.token.Piece.{Piece}
 use Rattle.p3l_lexer.specs.declared.token.Piece.TheVariants.{Gap, Token}
 use Rattle.p3l_ast.specs.declared.refusal.Fault.TheVariants.{BadToken}
@@ -15,14 +14,11 @@ use Rattle.p3l_lexer.specs.Piece.{is_word_byte, after_close, block_of, slash_of,
 use Rattle.p3l_lexer.specs.Token.{IsLongest, IsCut}
 use Rattle.p3l_lexer.specs.Cut.{Ends, CutsPiece, begins_with_pair}
 use Rattle.p3l_lexer.proofs.Pieces.{run_of, piece_of-run, piece_of-no_run, piece_of-slash, piece_of-other, slash_of-line, slash_of-block, slash_of-none, sign_or_byte-longer, sign_or_byte-two, byte_piece, pair_piece, run_ends, after_close-append}
+use Rattle.p3l_lexer.proofs.Truths.{and_right}
 
 pub head_is : (test : ℕ → Bool) (rest others more : List ℕ) (byte : ℕ) → Ends test rest → rest ≡ byte ∷ more ++ others → test byte ≡ false
 head_is test [] others more byte e h = absurd cc
 head_is test (b ∷ rest) others more byte e h = let q : b ≡ byte = cc in rw (← q) e
-
-and_right : (a b : Bool) → (a && b) ≡ true → b ≡ true
-and_right true b h = h
-and_right false b h = absurd cc
 
 -- a run
 run_cut : (first : ℕ) (front rest : List ℕ) → is_word_byte first ≡ true → list_all is_word_byte front ≡ true → Ends is_word_byte rest → IsCut (run_of first front) (first ∷ front) rest
@@ -231,6 +227,3 @@ pub ends_other : (test : ℕ → Bool) (text : List ℕ) → 1 < length text →
 ends_other test [] some h = absurd (omega arith)
 ends_other test (a ∷ []) some h = absurd (omega arith)
 ends_other test (a ∷ b ∷ text) some h = h
-
-pub ne_test : (a b : ℕ) → a ≢ b → nat_eq a b ≡ false
-ne_test a b h = grind (arith, nat_tests)

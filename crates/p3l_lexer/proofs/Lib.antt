@@ -1,3 +1,4 @@
+pub mod Truths
 pub mod Positions
 pub mod Pieces
 pub mod Cutting

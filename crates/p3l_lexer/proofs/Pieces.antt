@@ -9,6 +9,7 @@ use Rattle.p3l_lexer.specs.declared.token.Piece.TheVariants.{Gap, Token}
 use Rattle.p3l_lexer.specs.Mark.{mark_text, mark_among, punctuation, keyword_of, punctuation_of}
 use Rattle.p3l_lexer.specs.Position.{is_no_line_end}
 use Rattle.p3l_lexer.specs.Piece.{is_letter, is_word_byte, word_or_keyword, number_of, sign_or_byte, after_close, block_of, slash_of, piece_of}
+use Rattle.p3l_lexer.proofs.Truths.{and_left, and_right, and_false}
 
 -- the piece that a run of letters and digits is
 abbrev pub run_of : ℕ → List ℕ → Piece
@@ -43,23 +44,11 @@ unfolding slash_of
 slash_of-none second body h k = rw (h, k) refl
 
 -- a text of three bytes is no mark of punctuation
-and_false : (a b : Bool) → b ≡ false → (a && b) ≡ false
-and_false true b h = h
-and_false false b h = refl
-
 longer : (x : List ℕ) (a b c : ℕ) (more : List ℕ) → nat_le (length x) 2 ≡ true → bytes_eq x (a ∷ b ∷ c ∷ more) ≡ false
 longer [] a b c more h = refl
 longer (x ∷ []) a b c more h = and_false (nat_eq x a) false refl
 longer (x ∷ y ∷ []) a b c more h = and_false (nat_eq x a) (nat_eq y b && false) (and_false (nat_eq y b) false refl)
 longer (x ∷ y ∷ z ∷ xs) a b c more h = absurd (let e : 3 + length xs ≤ 2 = grind (arith, nat_tests) in omega arith)
-
-and_left : (a b : Bool) → (a && b) ≡ true → a ≡ true
-and_left true b h = refl
-and_left false b h = absurd cc
-
-and_right : (a b : Bool) → (a && b) ≡ true → b ≡ true
-and_right true b h = h
-and_right false b h = absurd cc
 
 none_longer : (marks : List Mark) (a b c : ℕ) (more : List ℕ) → list_all (λ m. nat_le (length (mark_text m)) 2) marks ≡ true → mark_among marks (a ∷ b ∷ c ∷ more) ≡ None
 none_longer [] a b c more h = refl

@@ -1,5 +1,5 @@
 -- A text is written by putting tokens one behind another.
-use Rattle.std.proofs.Common.{◌≡◌, cond, inl, inr, ◌⊎◌, ℕ, Bool, true, false, ◌||◌, List, [], ◌∷◌, ◌++◌, Option, Some, None, refl, sym, ap, ◌∙◌, subst, arith}
+use Rattle.std.proofs.Common.{◌≡◌, cond, inl, inr, ℕ, Bool, true, false, List, [], ◌∷◌, ◌++◌, Option, Some, None, refl, sym, ap, ◌∙◌, subst, arith}
 use Rattle.std.specs.Prelude.{nat_eq, is_some, map}
 use Rattle.std.specs.List.{list_all}
 use Rattle.std.proofs.lemmas.Bool.Decides.{nat_tests}
@@ -20,6 +20,7 @@ use Rattle.p3l_lexer.specs.Spelling.{lexeme_in, lexemes_in, HasLexemes, IsSound,
 use Rattle.p3l_lexer.proofs.Pieces.{piece_of-no_run, piece_of-slash, piece_of-other, run_ends, punctuation_of-longer}
 use Rattle.p3l_lexer.proofs.Cutting.{head_is, pair_longest, one_longest, slash_longest}
 use Rattle.p3l_lexer.proofs.Unique.{chunks_same}
+use Rattle.p3l_lexer.proofs.Truths.{or_cases, or_false_left, or_false_right, nat_true}
 
 -- each mark is written as its text
 pub piece_of-mark : (mark : Mark) → piece_of (mark_text mark) ≡ Some (pieces.Token (lexemes.Sign mark))
@@ -75,14 +76,6 @@ piece_of-mark EitherHolds = refl
 piece_of-mark Caret = refl
 piece_of-mark Bang = refl
 piece_of-mark Tilde = refl
-
-or_false_left : (a b : Bool) → (a || b) ≡ false → a ≡ false
-or_false_left true b h = absurd cc
-or_false_left false b h = refl
-
-or_false_right : (a b : Bool) → (a || b) ≡ false → b ≡ false
-or_false_right true b h = absurd cc
-or_false_right false b h = h
 
 -- the next byte fails a weaker test too
 ends_by : (p q : ℕ → Bool) (rest : List ℕ) → ((b : ℕ) → p b ≡ false → q b ≡ false) → Ends p rest → Ends q rest
@@ -147,13 +140,6 @@ pub no_lexemes : HasLexemes [] []
 no_lexemes = record { chunks = []; cut = refl; lexemes_are = refl }
 
 -- a blank in front changes nothing
-or_cases : (a b : Bool) → (a || b) ≡ true → (a ≡ true) ⊎ (b ≡ true)
-or_cases true b h = inl refl
-or_cases false b h = inr h
-
-nat_true : (a b : ℕ) → nat_eq a b ≡ true → a ≡ b
-nat_true a b h = grind (arith, nat_tests)
-
 by_blank : (P : ℕ → Type 0) (b : ℕ) → is_blank b ≡ true → P 32 → P 9 → P 13 → P 10 → P b
 by_blank P b h space tab return feed =
     elim (or_cases (nat_eq b 32) _ h) [

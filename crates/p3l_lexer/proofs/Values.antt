@@ -1,24 +1,17 @@
 -- The numbers of decimal digits.
-use Rattle.std.proofs.Common.{◌≡◌, ℕ, zero, suc, ◌+◌, ◌-◌, ◌*◌, ◌<◌, ◌≤◌, Bool, true, false, ◌&&◌, List, [], ◌∷◌, ◌++◌, length, take, drop, get_or, fold, refl, ap, arith}
+use Rattle.std.proofs.Common.{◌≡◌, ℕ, zero, suc, ◌+◌, ◌-◌, ◌*◌, ◌<◌, ◌≤◌, Bool, true, List, [], ◌∷◌, ◌++◌, length, take, drop, get_or, fold, ap, arith}
 use Rattle.std.specs.List.{list_all}
 use Rattle.std.proofs.lemmas.Bool.Decides.{nat_tests}
 use Rattle.std.proofs.lemmas.List.{take-append-drop}
 use Rattle.std.proofs.lemmas.List.Sums.{fold-append, fold_more}
 use Rattle.p3l_lexer.specs.Piece.{is_digit, value_of}
+use Rattle.p3l_lexer.proofs.Truths.{and_left, and_right}
 
 -- what all bytes are, each is
 pub all_at : (test : ℕ → Bool) (bytes : List ℕ) (i : ℕ) → list_all test bytes ≡ true → i < length bytes → test (get_or bytes i 0) ≡ true
 all_at test [] i h k = absurd (omega arith)
-all_at test (b ∷ bytes) zero h k = left (test b) _ h
-  where
-    left : (a c : Bool) → (a && c) ≡ true → a ≡ true
-    left true c e = refl
-    left false c e = absurd cc
-all_at test (b ∷ bytes) (suc i) h k = all_at test bytes i (right (test b) _ h) (omega arith)
-  where
-    right : (a c : Bool) → (a && c) ≡ true → c ≡ true
-    right true c e = e
-    right false c e = absurd cc
+all_at test (b ∷ bytes) zero h k = and_left (test b) _ h
+all_at test (b ∷ bytes) (suc i) h k = all_at test bytes i (and_right (test b) _ h) (omega arith)
 
 pub digit_bounds : (b : ℕ) → is_digit b ≡ true → (48 ≤ b) × (b ≤ 57)
 digit_bounds b h = (grind (arith, nat_tests), grind (arith, nat_tests))

@@ -1,5 +1,5 @@
 -- How names and numbers are written.
-use Rattle.std.proofs.Common.{◌≡◌, ℕ, zero, suc, ◌+◌, ◌-◌, ◌*◌, ◌/◌, ◌%◌, ◌<◌, ◌≤◌, ◌^◌, Bool, true, false, cond, not, ◌&&◌, ◌||◌, List, [], ◌∷◌, ◌++◌, length, get_or, ℤ, pos, Option, Some, None, refl, ap, ◌∙◌, subst, arith}
+use Rattle.std.proofs.Common.{◌≡◌, ℕ, zero, suc, ◌+◌, ◌-◌, ◌*◌, ◌/◌, ◌%◌, ◌<◌, ◌≤◌, ◌^◌, Bool, true, false, cond, not, ◌||◌, List, [], ◌∷◌, ◌++◌, length, get_or, ℤ, pos, Option, Some, None, refl, ap, ◌∙◌, subst, arith}
 use Rattle.std.specs.Prelude.{nat_eq, nat_le, nat_lt}
 use Rattle.std.specs.List.{list_all}
 use Rattle.std.specs.Fmt.{decimal}
@@ -17,6 +17,7 @@ use Rattle.p3l_lexer.specs.Mark.{keyword_of, punctuation_of}
 use Rattle.p3l_lexer.specs.Position.{is_no_line_end}
 use Rattle.p3l_lexer.specs.Piece.{is_blank, is_letter, is_digit, is_word_byte, is_number, value_of, word_or_keyword, number_of, sign_or_byte, after_close, block_of, slash_of, piece_of}
 use Rattle.p3l_lexer.proofs.Pieces.{run_of, piece_of-run}
+use Rattle.p3l_lexer.proofs.Truths.{and_left, and_right, and_both, or_right}
 
 -- a name is written as itself
 word_lexeme : (mark : Option Mark) (text name : List ℕ) → word_or_keyword mark text ≡ lexemes.Word name → text ≡ name
@@ -166,22 +167,18 @@ Reads n digits = (list_all is_digit digits ≡ true) × (value_of digits ≡ n)
 digit_test : (d : ℕ) → d < 10 → is_digit (48 + d) ≡ true
 digit_test d h = grind (arith, nat_tests)
 
-both : (a b : Bool) → a ≡ true → b ≡ true → (a && b) ≡ true
-both true b p q = q
-both false b p q = absurd cc
-
 one_digit : (n : ℕ) → n < 10 → Reads n ((48 + n) ∷ [])
 unfolding Reads
-one_digit n h = (both (is_digit (48 + n)) true (digit_test n h) refl, omega arith)
+one_digit n h = (and_both (is_digit (48 + n)) true (digit_test n h) refl, omega arith)
 
 digit_more : (n : ℕ) (digits : List ℕ) → 10 ≤ n → Reads (n / 10) digits → Reads n (digits ++ (48 + n % 10) ∷ [])
 unfolding Reads
 digit_more n digits h r =
     let small : n % 10 < 10 = omega arith in
-    let last : list_all is_digit ((48 + n % 10) ∷ []) ≡ true = both (is_digit (48 + n % 10)) true (digit_test (n % 10) small) refl in
+    let last : list_all is_digit ((48 + n % 10) ∷ []) ≡ true = and_both (is_digit (48 + n % 10)) true (digit_test (n % 10) small) refl in
     let value : value_of (digits ++ (48 + n % 10) ∷ []) ≡ value_of digits * 10 + (48 + n % 10 - 48) = fold-append (λ v digit. v * 10 + (digit - 48)) 0 digits ((48 + n % 10) ∷ []) in
     let here : value_of digits ≡ n / 10 = r.1 in (
-      list_all-append is_digit digits ((48 + n % 10) ∷ []) ∙ both (list_all is_digit digits) _ r.0 last,
+      list_all-append is_digit digits ((48 + n % 10) ∷ []) ∙ and_both (list_all is_digit digits) _ r.0 last,
       value ∙ (omega arith),
     )
 
@@ -193,44 +190,28 @@ no_leading zero h = rw (decimal_digit 0 (omega arith)) refl
 no_leading (suc n) h =
     let first : 48 < get_or (decimal (suc n)) 0 0 = first_decimal (suc n) (omega arith) h in
     let test : nat_eq (get_or (decimal (suc n)) 0 0) 48 ≡ false = grind (arith, nat_tests) in
-    rw test (right (nat_eq (length (decimal (suc n))) 1))
-  where
-    right : (a : Bool) → (a || true) ≡ true
-    right true = refl
-    right false = refl
+    rw test (or_right (nat_eq (length (decimal (suc n))) 1) true refl)
 
 number_of-decimal : (n : ℕ) → n < 2 ^ 63 → number_of (decimal n) ≡ lexemes.Digits (pos n)
 unfolding number_of Reads
 number_of-decimal n h =
     let wide : n < 2 ^ 64 = omega arith in
     let r = decimal_reads n wide in
-    let numeral : is_number (decimal n) ≡ true = both (list_all is_digit (decimal n)) _ r.0 (no_leading n wide) in
+    let numeral : is_number (decimal n) ≡ true = and_both (list_all is_digit (decimal n)) _ r.0 (no_leading n wide) in
     let small : nat_lt n (2 ^ 63) ≡ true = grind (arith, nat_tests) in
     rw (numeral, r.1, small) refl
 
 digits_piece : (text : List ℕ) → 0 < length text → list_all is_digit text ≡ true → piece_of text ≡ Some (pieces.Token (number_of text))
 digits_piece [] some h = absurd (omega arith)
 digits_piece (d ∷ digits) some h =
-    let here : is_digit d ≡ true = left (is_digit d) _ h in
+    let here : is_digit d ≡ true = and_left (is_digit d) _ h in
     let word : is_word_byte d ≡ true = or_right (is_letter d) (is_digit d) here in
     let no_letter : is_letter d ≡ false = grind (arith, nat_tests) in
-    piece_of-run d digits word (all digits (right (is_digit d) _ h)) ∙ rw no_letter refl
+    piece_of-run d digits word (all digits (and_right (is_digit d) _ h)) ∙ rw no_letter refl
   where
-    left : (a b : Bool) → (a && b) ≡ true → a ≡ true
-    left true b e = refl
-    left false b e = absurd cc
-
-    right : (a b : Bool) → (a && b) ≡ true → b ≡ true
-    right true b e = e
-    right false b e = absurd cc
-
-    or_right : (a b : Bool) → b ≡ true → (a || b) ≡ true
-    or_right true b e = refl
-    or_right false b e = e
-
     all : (ds : List ℕ) → list_all is_digit ds ≡ true → list_all is_word_byte ds ≡ true
     all [] e = refl
-    all (b ∷ ds) e = both (is_word_byte b) _ (or_right (is_letter b) (is_digit b) (left (is_digit b) _ e)) (all ds (right (is_digit b) _ e))
+    all (b ∷ ds) e = and_both (is_word_byte b) _ (or_right (is_letter b) (is_digit b) (and_left (is_digit b) _ e)) (all ds (and_right (is_digit b) _ e))
 
 -- a number is written by its decimal digits
 pub piece_of-decimal : (n : ℕ) → n < 2 ^ 63 → piece_of (decimal n) ≡ Some (pieces.Token (lexemes.Digits (pos n)))
