@@ -4,7 +4,7 @@ ghost use Rattle.p3l_base.specs.declared.outcome.Outcome.{Outcome};
 ghost use Rattle.std.specs.Prelude.{ℕ, List};
 ghost use Rattle.p3l_base.specs.declared.outcome.Trap.{Trap};
 ghost use Rattle.p3l_skel.specs.Lawful.{IsLawfulTree};
-ghost use Rattle.p3l_skel.specs.Laws.{FoldsBySegments, CutsIntoSegments, PassesTraps, GoesByParts};
+ghost use Rattle.p3l_skel.specs.Laws.{FoldsBySegments, CutsIntoSegments, PassesTraps, GoesByParts, KeepsWords};
 
 use crate::units::Units;
 
@@ -27,4 +27,10 @@ pub fn passes_traps<U: Units>(_units: &U)
 pub fn goes_by_parts<U: Units>(_units: &U)
     requires { IsLawfulTree (U.tree _units.now) }
     ensures { GoesByParts (U.tree _units.now) (U.leaf _units.now) }
+{}
+
+/// A value that a node of a lawful tree gives has the node's out words.
+pub fn keeps_words<U: Units>(_units: &U)
+    requires { IsLawfulTree (U.tree _units.now) }
+    ensures { KeepsWords (U.tree _units.now) (U.leaf _units.now) }
 {}
