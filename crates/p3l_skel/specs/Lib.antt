@@ -6,3 +6,4 @@ pub mod Counts
 pub mod Work
 pub mod Lawful
 pub mod Laws
+pub mod Examples

@@ -5,6 +5,7 @@ ghost use Rattle.std.specs.Prelude.{ℕ, List};
 ghost use Rattle.p3l_base.specs.declared.outcome.Trap.{Trap};
 ghost use Rattle.p3l_skel.specs.Lawful.{IsLawfulTree};
 ghost use Rattle.p3l_skel.specs.Laws.{FoldsBySegments, CutsIntoSegments, PassesTraps, GoesByParts, KeepsWords};
+ghost use Rattle.p3l_skel.specs.Examples.{HandValues};
 
 use crate::units::Units;
 
@@ -33,4 +34,9 @@ pub fn goes_by_parts<U: Units>(_units: &U)
 pub fn keeps_words<U: Units>(_units: &U)
     requires { IsLawfulTree (U.tree _units.now) }
     ensures { KeepsWords (U.tree _units.now) (U.leaf _units.now) }
+{}
+
+/// The meaning gives the values that were worked out by hand.
+pub fn gives_hand_values()
+    ensures { HandValues }
 {}
