@@ -9,3 +9,4 @@ pub mod Typed
 pub mod Machine
 pub mod Single
 pub mod Offered
+pub mod Echo

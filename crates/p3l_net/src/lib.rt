@@ -16,3 +16,6 @@ pub use net::{Chan, Net};
 pub use process::{Proc, ProcKind};
 pub use single::unit_net;
 pub use token::{Fired, Token};
+
+#[cfg(test)]
+mod tests;
