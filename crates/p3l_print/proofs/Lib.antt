@@ -4,3 +4,4 @@ pub mod Lines
 pub mod Unplacing
 pub mod Placing
 pub mod Writing
+pub mod Bodies
