@@ -5,3 +5,4 @@ pub mod Unplacing
 pub mod Placing
 pub mod Writing
 pub mod Bodies
+pub mod Texts

@@ -218,7 +218,7 @@ list_passes text spelled k (x ∷ xs) r h = each_passes (behind_comma spelled) (
 
 -- ports and calls
 
-num_writes : (n : Num) (r s : List Symbol) (rest : List ℕ) → AreWritable (num_symbol n ∷ r) → EndsWord rest → Writes rest s → Writes (num_text n ++ rest) (num_symbol n ∷ s)
+pub num_writes : (n : Num) (r s : List Symbol) (rest : List ℕ) → AreWritable (num_symbol n ∷ r) → EndsWord rest → Writes rest s → Writes (num_text n ++ rest) (num_symbol n ∷ s)
 num_writes (Digits v p) r s rest h e w = put_digits v rest s h.0.0 h.0.1 h.0.2 e w
 num_writes (Named x) r s rest h e w = put_word x rest s h.0 e w
 
@@ -326,11 +326,11 @@ interface_passes f g k l p q is os r h =
     let r1 = sign marks.CloseParen ∷ r in
     (list_passes k l q os r1 (list_passes f g p is (sign marks.CloseParen ∷ sign marks.Out ∷ sign marks.OpenParen ∷ parted l os r1) h.1.1).1.1.1).1
 
-interface_begins : {I O : Type 0} (f : I → List ℕ) (k : O → List ℕ) (is : List I) (os : List O) (rest : List ℕ) → EndsWord (interface_text f is k os ++ rest)
+pub interface_begins : {I O : Type 0} (f : I → List ℕ) (k : O → List ℕ) (is : List I) (os : List O) (rest : List ℕ) → EndsWord (interface_text f is k os ++ rest)
 unfolding interface_text
 interface_begins f k is os rest = refl
 
-call_writes : (c : Call) (r s : List Symbol) (rest : List ℕ) → AreWritable (spell_call c r) → Writes rest s → Writes (call_text c ++ rest) (spell_call c s)
+pub call_writes : (c : Call) (r s : List Symbol) (rest : List ℕ) → AreWritable (spell_call c r) → Writes rest s → Writes (call_text c ++ rest) (spell_call c s)
 call_writes c r s rest h w =
     rw append_assoc
     (put_word c.at (interface_text arg_text c.ins out_arg_text c.outs ++ rest) (spell_interface spell_arg c.ins spell_out c.outs s) h.0 (interface_begins arg_text out_arg_text c.ins c.outs rest)
