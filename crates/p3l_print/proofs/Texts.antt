@@ -134,14 +134,203 @@ head_passes : (h : Head) (r : List Symbol) → AreWritable (spell_head h r) → 
 head_passes h r p = interface_passes port_text spell_port port_text spell_port port_spelling port_spelling h.ins h.outs r p.1
 
 -- a module, by its clauses and what stands inside
-module_writes : (k : Kind) (h : Head) (clauses : Clauses) (inside : InsideTree) (r s1 s2 s3 s : List Symbol) (rest : List ℕ) → AreWritable (spell_head h r)
-    → ((t : List ℕ) → Writes t s2 → EndsWord (10 ∷ t) → Writes (clauses_text clauses ++ 10 ∷ t) s1) → ((t : List ℕ) → Writes t (spell_end k s) → Writes (inside_text inside ++ t) s2) → Writes rest s
+module_writes : (k : Kind) (h : Head) (clauses : Clauses) (inside : InsideTree) (r s1 s2 s : List Symbol) (rest : List ℕ) → AreWritable (spell_head h r)
+    → ((t : List ℕ) → Writes t s2 → Writes (clauses_text clauses ++ 10 ∷ t) s1) → ((t : List ℕ) → Writes t (spell_end k s) → Writes (inside_text inside ++ t) s2) → Writes rest s
     → Writes (module_text (record { kind = k; at = h.at; ins = h.ins; outs = h.outs; clauses = clauses; inside = inside }) ++ rest) (sign (kind_mark k) ∷ spell_head h s1)
-module_writes k h clauses inside r s1 s2 s3 s rest p c i w =
+module_writes k h clauses inside r s1 s2 s rest p c i w =
     let t3 = codes "end " ++ (kind_text k ++ 10 ∷ rest) in
     let w3 : Writes t3 (spell_end k s) = end_writes k s rest w in
     let t2 = inside_text inside ++ t3 in
     let w2 : Writes t2 s2 = i t3 w3 in
-    let w1 : Writes (clauses_text clauses ++ 10 ∷ t2) s1 = c t2 w2 refl in
+    let w1 : Writes (clauses_text clauses ++ 10 ∷ t2) s1 = c t2 w2 in
     let w0 = head_writes k h (clauses_text clauses) r s1 t2 p w1 in
     simp append_assoc (simp append_assoc at w0)
+
+budget_space : goes_on (mark_text marks.Budget) 32 ≡ false
+unfolding goes_on punctuation_of
+budget_space = refl
+
+workers_space : goes_on (mark_text marks.Workers) 32 ≡ false
+unfolding goes_on punctuation_of
+workers_space = refl
+
+turns_space : goes_on (mark_text marks.Turns) 32 ≡ false
+unfolding goes_on punctuation_of
+turns_space = refl
+
+tokens_space : goes_on (mark_text marks.Tokens) 32 ≡ false
+unfolding goes_on punctuation_of
+tokens_space = refl
+
+-- the clauses that a module can have
+
+abbrev only_budget : Option Num → Clauses
+only_budget b = record { workers = None; turns = None; tokens = None; budget = b }
+
+abbrev only_workers : Option Num → Clauses
+only_workers w = record { workers = w; turns = None; tokens = None; budget = None }
+
+abbrev only_turns : Num → Option Num → Clauses
+only_turns t n = record { workers = None; turns = Some t; tokens = n; budget = None }
+
+budget_text : (b : Option Num) → clauses_text (only_budget b) ≡ clause_text (codes "budget") b
+unfolding clauses_text
+budget_text b = simp append-nil
+
+workers_text : (w : Option Num) → clauses_text (only_workers w) ≡ clause_text (codes "workers") w
+unfolding clauses_text
+workers_text w = simp append-nil
+
+turns_text : (t : Num) (n : Option Num) → clauses_text (only_turns t n) ≡ clause_text (codes "turns") (Some t) ++ clause_text (codes "tokens") n
+unfolding clauses_text
+turns_text t n = refl
+
+budget_writes : (b : Option Num) (r s : List Symbol) (t : List ℕ) → AreWritable (spell_clause marks.Budget b r) → Writes t s → Writes (clauses_text (only_budget b) ++ 10 ∷ t) (spell_clause marks.Budget b s)
+budget_writes b r s t h w = rw (budget_text b) (clause_writes marks.Budget b r s (10 ∷ t) budget_space h refl (put_line t s w))
+
+workers_writes : (v : Option Num) (r s : List Symbol) (t : List ℕ) → AreWritable (spell_clause marks.Workers v r) → Writes t s → Writes (clauses_text (only_workers v) ++ 10 ∷ t) (spell_clause marks.Workers v s)
+workers_writes v r s t h w = rw (workers_text v) (clause_writes marks.Workers v r s (10 ∷ t) workers_space h refl (put_line t s w))
+
+turns_writes : (u : Num) (n : Option Num) (r s : List Symbol) (t : List ℕ) → AreWritable (sign marks.Turns ∷ num_symbol u ∷ spell_clause marks.Tokens n r) → Writes t s
+    → Writes (clauses_text (only_turns u n) ++ 10 ∷ t) (sign marks.Turns ∷ num_symbol u ∷ spell_clause marks.Tokens n s)
+turns_writes u n r s t h w =
+    let t1 = clause_text (codes "tokens") n ++ (10 ∷ t) in
+    let s1 = spell_clause marks.Tokens n s in
+    let w1 : Writes t1 s1 = clause_writes marks.Tokens n r s (10 ∷ t) tokens_space h.1.1 refl (put_line t s w) in
+    let w2 = clause_writes marks.Turns (Some u) (spell_clause marks.Tokens n r) s1 t1 turns_space h (clause_begins marks.Tokens n (10 ∷ t) refl) w1 in
+    rw (turns_text u n, append_assoc (clause_text (codes "turns") (Some u)) (clause_text (codes "tokens") n) (10 ∷ t)) w2
+
+-- what stands inside a module
+
+body_writes : (ls : List Port) (c : Script) (r s : List Symbol) (t : List ℕ) → AreWritable (each spell_local ls (spell_script c r)) → Writes t s
+    → Writes (inside_text (body ls (script_tree c)) ++ t) (sign marks.OpenBody ∷ each spell_local ls (spell_script (canonical_script c) (sign marks.CloseBody ∷ s)))
+unfolding goes_on punctuation_of
+body_writes ls c r s t h w =
+    let s1 = sign marks.CloseBody ∷ s in
+    let t1 = codes "}$\n" ++ t in
+    let w1 : Writes t1 s1 = put_mark marks.CloseBody (10 ∷ t) s refl (put_line t s w) in
+    let t2 = code_text (codes "  ") (script_tree c) ++ t1 in
+    let s2 = spell_script (canonical_script c) s1 in
+    let w2 : Writes t2 s2 = script_writes c (codes "  ") r refl (lines_pass local_line spell_local local_is_line ls (spell_script c r) h) s1 t1 w1 in
+    let t3 = flat_map local_line ls ++ t2 in
+    let s3 = each spell_local ls s2 in
+    let w3 : Writes t3 s3 = lines_write local_line spell_local local_is_line ls (spell_script c r) s2 t2 h w2 in
+    let w4 : Writes (codes "${\n" ++ t3) (sign marks.OpenBody ∷ s3) = put_mark marks.OpenBody (10 ∷ t3) s3 refl (put_line t3 s3 w3) in
+    simp append_assoc w4
+
+calls_write : (cs : List Call) (r s : List Symbol) (t : List ℕ) → AreWritable (each spell_call cs r) → Writes t s → Writes (inside_text (calls cs) ++ t) (each spell_call cs s)
+calls_write cs r s t h w = lines_write call_line spell_call call_is_line cs r s t h w
+
+turning_writes : (b c : Call) (r s : List Symbol) (t : List ℕ) → AreWritable (spell_call b (sign marks.While ∷ spell_call c r)) → Writes t s
+    → Writes (inside_text (turning b c) ++ t) (spell_call b (sign marks.While ∷ spell_call c s))
+unfolding goes_on punctuation_of
+turning_writes b c r s t h w =
+    let t1 = call_text c ++ (10 ∷ t) in
+    let s1 = spell_call c s in
+    let w1 : Writes t1 s1 = call_writes c r s (10 ∷ t) (call_passes b (sign marks.While ∷ spell_call c r) h).1 (put_line t s w) in
+    let t2 = codes "  while " ++ t1 in
+    let s2 = sign marks.While ∷ s1 in
+    let w2 : Writes t2 s2 = put_space (codes " while " ++ t1) s2 (put_space (codes "while " ++ t1) s2 (put_mark marks.While (32 ∷ t1) s1 refl (put_space t1 s1 w1))) in
+    let w3 : Writes (call_line b ++ t2) (spell_call b s2) = call_line_writes b (sign marks.While ∷ spell_call c r) s2 t2 h w2 in
+    rw (append_assoc (call_line b ++ codes "  while " ++ call_text c) (codes "\n") t, append_assoc (call_line b ++ codes "  while ") (call_text c) (10 ∷ t), append_assoc (call_line b) (codes "  while ") (call_text c ++ (10 ∷ t))) w3
+
+-- entries
+
+item_writes : (i : Item) (r s : List Symbol) (rest : List ℕ) → AreWritable (spell_item i r) → Writes rest s → Writes (entry_text (item_tree i) ++ rest) (spell_item (canonical_item i) s)
+unfolding goes_on punctuation_of
+item_writes (fixed x v p) r s rest h w =
+    let n = h.1.1.1.0 in
+    let s1 = sign marks.Semicolon ∷ s in
+    let w1 : Writes (59 ∷ 10 ∷ rest) s1 = put_alone marks.Semicolon (10 ∷ rest) s semicolon_alone (put_line rest s w) in
+    let t2 = signed_decimal v ++ (59 ∷ 10 ∷ rest) in
+    let s2 = digits v p ∷ s1 in
+    let w2 : Writes t2 s2 = put_digits v (59 ∷ 10 ∷ rest) s1 n.0 n.1 n.2 refl w1 in
+    let t3 = codes " = " ++ t2 in
+    let s3 = sign marks.Assign ∷ s2 in
+    let w3 : Writes t3 s3 = put_space (codes "= " ++ t2) s3 (put_mark marks.Assign (32 ∷ t2) s2 refl (put_space t2 s2 w2)) in
+    let t4 = x.name ++ t3 in
+    let s4 = word x ∷ s3 in
+    let w4 : Writes t4 s4 = put_word x t3 s3 h.1.0 refl w3 in
+    let w5 : Writes (codes "const " ++ t4) (sign marks.Const ∷ s4) = put_mark marks.Const (32 ∷ t4) s4 refl (put_space t4 s4 w4) in
+    simp append_assoc w5
+item_writes (bodied g b ls c) r s rest h w =
+    let r3 = spell_end kinds.Seq r in
+    let r2 = each spell_local ls (spell_script c (sign marks.CloseBody ∷ r3)) in
+    let r1 = spell_clause marks.Budget b (sign marks.OpenBody ∷ r2) in
+    let s2 = sign marks.OpenBody ∷ each spell_local ls (spell_script (canonical_script c) (sign marks.CloseBody ∷ spell_end kinds.Seq s)) in
+    let p = head_passes g r1 h.1 in
+    module_writes kinds.Seq g (only_budget b) (body ls (script_tree c)) r1 (spell_clause marks.Budget b s2) s2 s rest h.1
+    (λ t z. budget_writes b (sign marks.OpenBody ∷ r2) s2 t p z)
+    (λ t z. body_writes ls c (sign marks.CloseBody ∷ r3) (spell_end kinds.Seq s) t (clause_passes marks.Budget b (sign marks.OpenBody ∷ r2) p).1 z) w
+item_writes (chained k g cs) r s rest h w =
+    let r1 = each spell_call cs (spell_end k r) in
+    let s1 = each spell_call cs (spell_end k s) in
+    module_writes k g (only_workers None) (calls cs) r1 s1 s1 s rest h.1
+    (λ t z. workers_writes None [] s1 t tt z)
+    (λ t z. calls_write cs (spell_end k r) (spell_end k s) t (head_passes g r1 h.1) z) w
+item_writes (spread k g v c) r s rest h w =
+    let r2 = spell_call c (spell_end k r) in
+    let r1 = spell_clause marks.Workers v r2 in
+    let s2 = spell_call c (spell_end k s) in
+    let p = head_passes g r1 h.1 in
+    module_writes k g (only_workers v) (calls (c ∷ [])) r1 (spell_clause marks.Workers v s2) s2 s rest h.1
+    (λ t z. workers_writes v r2 s2 t p z)
+    (λ t z. calls_write (c ∷ []) (spell_end k r) (spell_end k s) t (clause_passes marks.Workers v r2 p) z) w
+item_writes (turned g u n b c) r s rest h w =
+    let r3 = spell_call b (sign marks.While ∷ spell_call c (spell_end kinds.Loop r)) in
+    let r1 = sign marks.Turns ∷ num_symbol u ∷ spell_clause marks.Tokens n r3 in
+    let s3 = spell_call b (sign marks.While ∷ spell_call c (spell_end kinds.Loop s)) in
+    let p = head_passes g r1 h.1 in
+    module_writes kinds.Loop g (only_turns u n) (turning b c) r1 (sign marks.Turns ∷ num_symbol u ∷ spell_clause marks.Tokens n s3) s3 s rest h.1
+    (λ t z. turns_writes u n r3 s3 t p z)
+    (λ t z. turning_writes b c (spell_end kinds.Loop r) (spell_end kinds.Loop s) t (clause_passes marks.Tokens n r3 p.1.1) z) w
+
+item_passes : (i : Item) (r : List Symbol) → AreWritable (spell_item i r) → AreWritable r
+item_passes (fixed x v p) r h = h.1.1.1.1.1
+item_passes (bodied g b ls c) r h =
+    let r3 = sign marks.CloseBody ∷ spell_end kinds.Seq r in
+    let r2 = sign marks.OpenBody ∷ each spell_local ls (spell_script c r3) in
+    let inner = (clause_passes marks.Budget b r2 (head_passes g (spell_clause marks.Budget b r2) h.1)).1 in
+    (script_passes c r3 (lines_pass local_line spell_local local_is_line ls (spell_script c r3) inner)).1.1.1
+item_passes (chained k g cs) r h = (lines_pass call_line spell_call call_is_line cs (spell_end k r) (head_passes g (each spell_call cs (spell_end k r)) h.1)).1.1
+item_passes (spread k g v c) r h =
+    let r2 = spell_call c (spell_end k r) in
+    (call_passes c (spell_end k r) (clause_passes marks.Workers v r2 (head_passes g (spell_clause marks.Workers v r2) h.1))).1.1
+item_passes (turned g u n b c) r h =
+    let r4 = spell_end kinds.Loop r in
+    let r3 = spell_call b (sign marks.While ∷ spell_call c r4) in
+    let inner = clause_passes marks.Tokens n r3 (head_passes g (sign marks.Turns ∷ num_symbol u ∷ spell_clause marks.Tokens n r3) h.1).1.1 in
+    (call_passes c r4 (call_passes b (sign marks.While ∷ spell_call c r4) inner).1).1.1
+
+more_items : (is : List Item) → AreWritable (spell_text is []) → Writes (flat_map (λ e. codes "\n" ++ entry_text e) (text_tree is)) (spell_text (canonical_items is) [])
+more_items [] h = no_lexemes
+more_items (i ∷ is) h =
+    let more = flat_map (λ e. codes "\n" ++ entry_text e) (text_tree is) in
+    let s = spell_text (canonical_items is) [] in
+    let w1 : Writes (entry_text (item_tree i) ++ more) (spell_text (canonical_items (i ∷ is)) []) = item_writes i (spell_text is []) s more h (more_items is (item_passes i (spell_text is []) h)) in
+    put_line (entry_text (item_tree i) ++ more) (spell_text (canonical_items (i ∷ is)) []) w1
+
+pub text_writes : (is : List Item) → AreWritable (spell_text is []) → Writes (join_by entry_text (codes "\n") (text_tree is)) (spell_text (canonical_items is) [])
+text_writes [] h = no_lexemes
+text_writes (i ∷ is) h =
+    item_writes i (spell_text is []) (spell_text (canonical_items is) []) (flat_map (λ e. codes "\n" ++ entry_text e) (text_tree is)) h (more_items is (item_passes i (spell_text is []) h))
+
+-- the symbols of a text can be written
+
+symbol_writable : (text : List ℕ) (lexeme : Lexeme) (at : Pos) → piece_of text ≡ Some (pieces.Token lexeme) → IsWritable (symbol_at lexeme at)
+symbol_writable text (lexemes.Word name) at h = word_again text name h
+symbol_writable text (lexemes.Digits v) at h = digits_are text v h
+symbol_writable text (lexemes.Sign m) at h = tt
+symbol_writable text (lexemes.Faulty f) at h = tt
+
+chunks_writable : (bytes before : List ℕ) (chunks : List Chunk) → IsCutInto bytes chunks → AreWritable (symbols (tokens_after before chunks))
+chunks_writable bytes before [] h = tt
+chunks_writable bytes before (chunk ∷ chunks) h = go chunk.piece h.2.is_piece (chunks_writable h.0 (before ++ chunk.text) chunks h.3)
+  where
+    go : (piece : Piece) → piece_of chunk.text ≡ Some piece → AreWritable (symbols (tokens_after (before ++ chunk.text) chunks))
+        → AreWritable (symbols (token_at (position_after before) piece ++ tokens_after (before ++ chunk.text) chunks))
+    go pieces.Gap p k = k
+    go (pieces.Token lexeme) p k = (symbol_writable chunk.text lexeme (position_after before) p, k)
+
+pub tokens_writable : (bytes : List ℕ) (tokens : List Token) → IsTokens bytes tokens → AreWritable (symbols tokens)
+tokens_writable bytes tokens h = rw h.tokens_are (chunks_writable bytes [] h.chunks h.cut)
