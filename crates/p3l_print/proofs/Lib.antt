@@ -6,3 +6,4 @@ pub mod Placing
 pub mod Writing
 pub mod Bodies
 pub mod Texts
+pub mod Nesting
