@@ -288,3 +288,275 @@ mutual
       (form_within (deeper p) (suc b) w o e (sign marks.CloseBracket ∷ spell_index is r) a.0 a.1 (omega arith)
       (on (nest (deeper p) (suc b) w (counted o e)) (nest p b w (counted o e)) (sign marks.CloseBracket) (spell_index is r) (behind_close_bracket p b w (counted o e)) (k, omega arith)
       (forms_within p b w (counted o e) is r k a.2 s h)))
+
+-- targets that are assigned: each index is an expression of its own
+
+abbrev target : ℕ → ℕ → ℕ → Nest
+target brackets wanted operators = record {
+  in_body = true;
+  brackets = brackets;
+  wanted = wanted;
+  in_term = false;
+  index = 0;
+  operators = operators;
+}
+
+record KeepsForm (b : ℕ) (e : Form) : Type 0 where
+  allows : Allows b e
+  small : counted 0 e ≤ 256
+
+abbrev KeepsTarget : ℕ → Forms → Type 0
+KeepsTarget b no_index = Unit {0}
+KeepsTarget b (index e is) = (suc b ≤ 64) × KeepsForm (suc b) e × KeepsTarget b is
+
+-- the operators of the last index
+abbrev left_over : ℕ → Forms → ℕ
+left_over o no_index = o
+left_over o (index e is) = left_over (counted 0 e) is
+
+target_keeps : (b w o : ℕ) (is : Forms) (r : List Symbol) → IsWithin (target b w o) (spell_index is r) → KeepsTarget b is × IsWithin (target b w (left_over o is)) r
+target_keeps b w o no_index r h = (tt, h)
+target_keeps b w o (index e is) r h =
+    let k = form_keeps (in_index 0) (suc b) w 0 e (sign marks.CloseBracket ∷ spell_index is r) h.1 in
+    let l = target_keeps b w (counted 0 e) is r k.goes_on.1 in
+    ((h.0.0, record { allows = k.allows; small = k.small }, l.0), l.1)
+
+target_within : (b w o : ℕ) (is : Forms) (r : List Symbol) → b ≤ 64 → KeepsTarget b is → IsWithin (target b w (left_over o is)) r → IsWithin (target b w o) (spell_index is r)
+target_within b w o no_index r k a h = h
+target_within b w o (index e is) r k a h =
+    let l = target_within b w (counted 0 e) is r k a.2 h in
+    ((a.0, omega arith), form_within (in_index 0) (suc b) w 0 e (sign marks.CloseBracket ∷ spell_index is r) a.0 a.1.allows a.1.small ((k, a.1.small), l))
+
+record KeepsSet (b : ℕ) (is : Forms) (e : Form) : Type 0 where
+  at_index : KeepsTarget b is
+  value : KeepsForm b e
+
+set_keeps : (b w o : ℕ) (x : Spot) (is : Forms) (e : Form) (r : List Symbol) → IsWithin (target b w o) (spell_set x is e r) → KeepsSet b is e × IsWithin (nest in_term b w (counted 0 e)) r
+set_keeps b w o x is e r h =
+    let k = target_keeps b w o is (sign marks.Assign ∷ spell e r) h.1 in
+    let l = form_keeps in_term b w 0 e r k.1.1 in
+    (record { at_index = k.0; value = record { allows = l.allows; small = l.small } }, l.goes_on)
+
+set_within : (b w : ℕ) (x : Spot) (is : Forms) (e : Form) (r : List Symbol) → b ≤ 64 → KeepsSet b is e → IsWithin (nest in_term b w (counted 0 e)) r → IsWithin (target b w 0) (spell_set x is e r)
+set_within b w x is e r k a h =
+    let value = form_within in_term b w 0 e r k a.value.allows a.value.small h in
+    ((k, omega arith), target_within b w 0 is (sign marks.Assign ∷ spell e r) k a.at_index ((k, omega arith), value))
+
+-- a condition in parentheses, with a block behind it
+
+abbrev spelled_test : Form → List Symbol → List Symbol
+spelled_test e r = sign marks.OpenParen ∷ spell e (sign marks.CloseParen ∷ sign marks.OpenBrace ∷ r)
+
+record KeepsTest (b : ℕ) (e : Form) : Type 0 where
+  room : suc b ≤ 64
+  condition : KeepsForm (suc b) e
+
+test_keeps : (b : ℕ) (e : Form) (r : List Symbol) → IsWithin (nest in_term b 0 0) (spelled_test e r) → KeepsTest b e × IsWithin (at_statement (suc b)) r
+test_keeps b e r h =
+    let k = form_keeps in_term (suc b) 0 0 e (sign marks.CloseParen ∷ sign marks.OpenBrace ∷ r) h.1 in
+    (record { room = h.0.0; condition = record { allows = k.allows; small = k.small } }, k.goes_on.1.1)
+
+test_within : (b : ℕ) (e : Form) (r : List Symbol) → b ≤ 64 → KeepsTest b e → IsWithin (at_statement (suc b)) r → IsWithin (nest in_term b 0 0) (spelled_test e r)
+test_within b e r k a h =
+    ((a.room, omega arith), form_within in_term (suc b) 0 0 e (sign marks.CloseParen ∷ sign marks.OpenBrace ∷ r) a.room a.condition.allows a.condition.small ((k, a.condition.small), ((a.room, omega arith), h)))
+
+-- statements
+
+abbrev Keeps : ℕ → Script → Type 0
+Keeps b stop = Unit {0}
+Keeps b (set x is e c) = KeepsSet b is e × Keeps b c
+Keeps b (when e t c) = KeepsTest b e × Keeps (suc b) t × Keeps b c
+Keeps b (when_else e t u c) = KeepsTest b e × Keeps (suc b) t × Keeps (suc b) u × Keeps b c
+Keeps b (as_long_as e t c) = KeepsTest b e × Keeps (suc b) t × Keeps b c
+Keeps b (counting x is e w y js f t c) = (suc b ≤ 64) × KeepsSet (suc b) is e × KeepsForm (suc b) w × KeepsSet (suc b) js f × Keeps (suc b) t × Keeps b c
+
+script_keeps : (c : Script) (b : ℕ) (r : List Symbol) → IsWithin (at_statement b) (spell_script c r) → Keeps b c × IsWithin (at_statement b) r
+script_keeps stop b r h = (tt, h)
+script_keeps (set x is e c) b r h =
+    let k = set_keeps b 0 0 x is e (sign marks.Semicolon ∷ spell_script c r) h in
+    let l = script_keeps c b r k.1.1 in
+    ((k.0, l.0), l.1)
+script_keeps (when e t c) b r h =
+    let k = test_keeps b e (spell_script t (sign marks.CloseBrace ∷ spell_script c r)) h.1 in
+    let l = script_keeps t (suc b) (sign marks.CloseBrace ∷ spell_script c r) k.1 in
+    let m = script_keeps c b r l.1.1 in
+    ((k.0, l.0, m.0), m.1)
+script_keeps (when_else e t u c) b r h =
+    let r2 = sign marks.CloseBrace ∷ spell_script c r in
+    let r4 = sign marks.CloseBrace ∷ sign marks.Else ∷ sign marks.OpenBrace ∷ spell_script u r2 in
+    let k = test_keeps b e (spell_script t r4) h.1 in
+    let l = script_keeps t (suc b) r4 k.1 in
+    let m = script_keeps u (suc b) r2 l.1.1.1.1 in
+    let n = script_keeps c b r m.1.1 in
+    ((k.0, l.0, m.0, n.0), n.1)
+script_keeps (as_long_as e t c) b r h =
+    let k = test_keeps b e (spell_script t (sign marks.CloseBrace ∷ spell_script c r)) h.1 in
+    let l = script_keeps t (suc b) (sign marks.CloseBrace ∷ spell_script c r) k.1 in
+    let m = script_keeps c b r l.1.1 in
+    ((k.0, l.0, m.0), m.1)
+script_keeps (counting x is e w y js f t c) b r h =
+    let r1 = sign marks.CloseBrace ∷ spell_script c r in
+    let r2 = sign marks.CloseParen ∷ sign marks.OpenBrace ∷ spell_script t r1 in
+    let r3 = sign marks.Semicolon ∷ spell_set y js f r2 in
+    let k = set_keeps (suc b) 2 0 x is e (sign marks.Semicolon ∷ spell w r3) h.1.1 in
+    let l = form_keeps in_term (suc b) 1 0 w r3 k.1.1 in
+    let m = set_keeps (suc b) 0 0 y js f r2 l.goes_on.1 in
+    let n = script_keeps t (suc b) r1 m.1.1.1 in
+    let o = script_keeps c b r n.1.1 in
+    ((h.1.0.0, k.0, record { allows = l.allows; small = l.small }, m.0, n.0, o.0), o.1)
+
+script_within : (c : Script) (b : ℕ) (r : List Symbol) → b ≤ 64 → Keeps b c → IsWithin (at_statement b) r → IsWithin (at_statement b) (spell_script c r)
+script_within stop b r k a h = h
+script_within (set x is e c) b r k a h =
+    set_within b 0 x is e (sign marks.Semicolon ∷ spell_script c r) k a.0 ((k, omega arith), script_within c b r k a.1 h)
+script_within (when e t c) b r k a h =
+    let after = script_within c b r k a.2 h in
+    ((k, omega arith), test_within b e (spell_script t (sign marks.CloseBrace ∷ spell_script c r)) k a.0 (script_within t (suc b) (sign marks.CloseBrace ∷ spell_script c r) a.0.room a.1 ((k, omega arith), after)))
+script_within (when_else e t u c) b r k a h =
+    let r2 = sign marks.CloseBrace ∷ spell_script c r in
+    let r4 = sign marks.CloseBrace ∷ sign marks.Else ∷ sign marks.OpenBrace ∷ spell_script u r2 in
+    let after = script_within c b r k a.3 h in
+    let other = script_within u (suc b) r2 a.0.room a.2 ((k, omega arith), after) in
+    ((k, omega arith), test_within b e (spell_script t r4) k a.0 (script_within t (suc b) r4 a.0.room a.1 ((k, omega arith), ((k, omega arith), ((a.0.room, omega arith), other)))))
+script_within (as_long_as e t c) b r k a h =
+    let after = script_within c b r k a.2 h in
+    ((k, omega arith), test_within b e (spell_script t (sign marks.CloseBrace ∷ spell_script c r)) k a.0 (script_within t (suc b) (sign marks.CloseBrace ∷ spell_script c r) a.0.room a.1 ((k, omega arith), after)))
+script_within (counting x is e w y js f t c) b r k a h =
+    let r1 = sign marks.CloseBrace ∷ spell_script c r in
+    let r2 = sign marks.CloseParen ∷ sign marks.OpenBrace ∷ spell_script t r1 in
+    let r3 = sign marks.Semicolon ∷ spell_set y js f r2 in
+    let after = script_within c b r k a.5 h in
+    let body = script_within t (suc b) r1 a.0 a.4 ((k, omega arith), after) in
+    let next = set_within (suc b) 0 y js f r2 a.0 a.3 ((k, a.3.value.small), ((a.0, omega arith), body)) in
+    let test = form_within in_term (suc b) 1 0 w r3 a.0 a.2.allows a.2.small ((a.0, omega arith), next) in
+    ((k, omega arith), ((a.0, omega arith), set_within (suc b) 2 x is e (sign marks.Semicolon ∷ spell w r3) a.0 a.1 ((a.0, omega arith), test)))
+
+-- the canonical form keeps what was kept
+
+form_kept : (b : ℕ) (e : Form) → IsGrouped e → KeepsForm b e → KeepsForm b (canonical_form e)
+form_kept b e g k = record { allows = (canonical_allowed b e g k.allows).plain; small = subst (λ n. n ≤ 256) (sym (canonical_counted 0 e)) k.small }
+
+target_kept : (b : ℕ) (is : Forms) → AreGrouped is → KeepsTarget b is → KeepsTarget b (canonical_forms is)
+target_kept b no_index g k = tt
+target_kept b (index e is) g k = (k.0, form_kept (suc b) e g.0 k.1, target_kept b is g.1 k.2)
+
+set_kept : (b : ℕ) (is : Forms) (e : Form) → AreGrouped is → IsGrouped e → KeepsSet b is e → KeepsSet b (canonical_forms is) (canonical_form e)
+set_kept b is e g h k = record { at_index = target_kept b is g k.at_index; value = form_kept b e h k.value }
+
+test_kept : (b : ℕ) (e : Form) → IsGrouped e → KeepsTest b e → KeepsTest b (canonical_form e)
+test_kept b e g k = record { room = k.room; condition = form_kept (suc b) e g k.condition }
+
+script_kept : (c : Script) (b : ℕ) → IsScript c → Keeps b c → Keeps b (canonical_script c)
+script_kept stop b g k = tt
+script_kept (set x is e c) b g k = (set_kept b is e g.0 g.1 k.0, script_kept c b g.2 k.1)
+script_kept (when e t c) b g k = (test_kept b e g.0 k.0, script_kept t (suc b) g.1 k.1, script_kept c b g.2 k.2)
+script_kept (when_else e t u c) b g k = (test_kept b e g.0 k.0, script_kept t (suc b) g.1 k.1, script_kept u (suc b) g.2 k.2, script_kept c b g.3 k.3)
+script_kept (as_long_as e t c) b g k = (test_kept b e g.0 k.0, script_kept t (suc b) g.1 k.1, script_kept c b g.2 k.2)
+script_kept (counting x is e w y js f t c) b g k =
+    (k.0, set_kept (suc b) is e g.0 g.1 k.1, form_kept (suc b) w g.2 k.2, set_kept (suc b) js f g.3 g.4 k.3, script_kept t (suc b) g.5 k.4, script_kept c b g.6 k.5)
+
+-- symbols that change nothing
+
+record IsSteady (n : Nest) (f : List Symbol → List Symbol) : Type 0 where
+  enters : (r : List Symbol) → IsWithin n r → IsWithin n (f r)
+  leaves : (r : List Symbol) → IsWithin n (f r) → IsWithin n r
+
+both_steady : (n : Nest) (f g : List Symbol → List Symbol) → IsSteady n f → IsSteady n g → IsSteady n (λ r. f (g r))
+both_steady n f g a b = record { enters = λ r h. a.enters (g r) (b.enters r h); leaves = λ r h. b.leaves r (a.leaves (g r) h) }
+
+none_steady : (n : Nest) → IsSteady n (λ r. r)
+none_steady n = record { enters = λ r h. h; leaves = λ r h. h }
+
+one_steady : (n : Nest) (t : Symbol) → IsKept n → behind n t ≡ n → IsSteady n (λ r. t ∷ r)
+one_steady n t k e = record { enters = λ r h. on n n t r e k h; leaves = λ r h. (off n n t r e h).1 }
+
+each_steady : {X : Type 0} (n : Nest) (f : X → List Symbol → List Symbol) → ((x : X) → IsSteady n (f x)) → (xs : List X) → IsSteady n (each f xs)
+each_steady n f k [] = none_steady n
+each_steady n f k (x ∷ xs) = both_steady n (f x) (each f xs) (k x) (each_steady n f k xs)
+
+resting : IsKept at_rest
+resting = (omega arith, omega arith)
+
+num_steady : (n : Nest) (m : Num) → IsKept n → behind n (num_symbol m) ≡ n → IsSteady n (λ r. num_symbol m ∷ r)
+num_steady n m k e = one_steady n (num_symbol m) k e
+
+num_behind : (n : Nest) (m : Num) → behind n (num_symbol m) ≡ n
+num_behind n (Digits v p) = refl
+num_behind n (Named x) = refl
+
+at_rest_sign : (m : Mark) → behind at_rest (sign m) ≡ at_rest → IsSteady at_rest (λ r. sign m ∷ r)
+at_rest_sign m e = one_steady at_rest (sign m) resting e
+
+at_rest_word : (x : Spot) → IsSteady at_rest (λ r. word x ∷ r)
+at_rest_word x = one_steady at_rest (word x) resting refl
+
+rest_num : (m : Num) → IsSteady at_rest (λ r. num_symbol m ∷ r)
+rest_num m = one_steady at_rest (num_symbol m) resting (num_behind at_rest m)
+
+rest_size : (m : Num) → IsSteady at_rest (spell_size m)
+rest_size m =
+    both_steady at_rest (λ r. sign marks.OpenBracket ∷ r) (λ r. num_symbol m ∷ sign marks.CloseBracket ∷ r) (at_rest_sign marks.OpenBracket refl)
+    (both_steady at_rest (λ r. num_symbol m ∷ r) (λ r. sign marks.CloseBracket ∷ r) (rest_num m) (at_rest_sign marks.CloseBracket refl))
+
+rest_port : (p : Port) → IsSteady at_rest (spell_port p)
+rest_port p =
+    both_steady at_rest (λ r. sign marks.Int ∷ r) (λ r. word p.at ∷ each spell_size p.sizes r) (at_rest_sign marks.Int refl)
+    (both_steady at_rest (λ r. word p.at ∷ r) (each spell_size p.sizes) (at_rest_word p.at) (each_steady at_rest spell_size rest_size p.sizes))
+
+rest_sub : (s : Sub) → IsSteady at_rest (spell_sub s)
+rest_sub Whole = both_steady at_rest (λ r. sign marks.OpenBracket ∷ r) (λ r. sign marks.CloseBracket ∷ r) (at_rest_sign marks.OpenBracket refl) (at_rest_sign marks.CloseBracket refl)
+rest_sub (Free x) =
+    both_steady at_rest (λ r. sign marks.OpenBracket ∷ r) (λ r. sign marks.Star ∷ word x ∷ sign marks.CloseBracket ∷ r) (at_rest_sign marks.OpenBracket refl)
+    (both_steady at_rest (λ r. sign marks.Star ∷ r) (λ r. word x ∷ sign marks.CloseBracket ∷ r) (at_rest_sign marks.Star refl)
+    (both_steady at_rest (λ r. word x ∷ r) (λ r. sign marks.CloseBracket ∷ r) (at_rest_word x) (at_rest_sign marks.CloseBracket refl)))
+
+rest_arg : (a : Arg) → IsSteady at_rest (spell_arg a)
+rest_arg a = both_steady at_rest (λ r. word a.at ∷ r) (each spell_sub a.subs) (at_rest_word a.at) (each_steady at_rest spell_sub rest_sub a.subs)
+
+rest_out : (a : OutArg) → IsSteady at_rest (spell_out a)
+rest_out (Fresh p) = rest_port p
+rest_out (Old a) = rest_arg a
+
+rest_parted : {X : Type 0} (f : X → List Symbol → List Symbol) → ((x : X) → IsSteady at_rest (f x)) → (xs : List X) → IsSteady at_rest (parted f xs)
+rest_parted f k [] = none_steady at_rest
+rest_parted f k (x ∷ xs) =
+    both_steady at_rest (f x) (each (behind_comma f) xs) (k x)
+    (each_steady at_rest (behind_comma f) (λ y. both_steady at_rest (λ r. sign marks.Comma ∷ r) (f y) (at_rest_sign marks.Comma refl) (k y)) xs)
+
+rest_sides : {I O : Type 0} (f : I → List Symbol → List Symbol) (g : O → List Symbol → List Symbol) → ((x : I) → IsSteady at_rest (f x)) → ((x : O) → IsSteady at_rest (g x)) → (x : Spot) (is : List I) (os : List O)
+    → IsSteady at_rest (λ r. word x ∷ sign marks.In ∷ sign marks.OpenParen ∷ parted f is (sign marks.CloseParen ∷ sign marks.Out ∷ sign marks.OpenParen ∷ parted g os (sign marks.CloseParen ∷ r)))
+rest_sides f g k l x is os =
+    let a = both_steady at_rest (parted g os) (λ r. sign marks.CloseParen ∷ r) (rest_parted g l os) (at_rest_sign marks.CloseParen refl) in
+    let b = both_steady at_rest (λ r. sign marks.OpenParen ∷ r) (λ r. parted g os (sign marks.CloseParen ∷ r)) (at_rest_sign marks.OpenParen refl) a in
+    let c = both_steady at_rest (λ r. sign marks.Out ∷ r) (λ r. sign marks.OpenParen ∷ parted g os (sign marks.CloseParen ∷ r)) (at_rest_sign marks.Out refl) b in
+    let d = both_steady at_rest (λ r. sign marks.CloseParen ∷ r) (λ r. sign marks.Out ∷ sign marks.OpenParen ∷ parted g os (sign marks.CloseParen ∷ r)) (at_rest_sign marks.CloseParen refl) c in
+    let e = both_steady at_rest (parted f is) (λ r. sign marks.CloseParen ∷ sign marks.Out ∷ sign marks.OpenParen ∷ parted g os (sign marks.CloseParen ∷ r)) (rest_parted f k is) d in
+    let m = both_steady at_rest (λ r. sign marks.OpenParen ∷ r) (λ r. parted f is (sign marks.CloseParen ∷ sign marks.Out ∷ sign marks.OpenParen ∷ parted g os (sign marks.CloseParen ∷ r))) (at_rest_sign marks.OpenParen refl) e in
+    let n = both_steady at_rest (λ r. sign marks.In ∷ r) (λ r. sign marks.OpenParen ∷ parted f is (sign marks.CloseParen ∷ sign marks.Out ∷ sign marks.OpenParen ∷ parted g os (sign marks.CloseParen ∷ r))) (at_rest_sign marks.In refl) m in
+    both_steady at_rest (λ r. word x ∷ r) (λ r. sign marks.In ∷ sign marks.OpenParen ∷ parted f is (sign marks.CloseParen ∷ sign marks.Out ∷ sign marks.OpenParen ∷ parted g os (sign marks.CloseParen ∷ r))) (at_rest_word x) n
+
+rest_call : (c : Call) → IsSteady at_rest (spell_call c)
+rest_call c = rest_sides spell_arg spell_out rest_arg rest_out c.at c.ins c.outs
+
+rest_head : (h : Head) → IsSteady at_rest (spell_head h)
+rest_head h = rest_sides spell_port spell_port rest_port rest_port h.at h.ins h.outs
+
+rest_clause : (m : Mark) (n : Option Num) → behind at_rest (sign m) ≡ at_rest → IsSteady at_rest (spell_clause m n)
+rest_clause m None e = none_steady at_rest
+rest_clause m (Some n) e = both_steady at_rest (λ r. sign m ∷ r) (λ r. num_symbol n ∷ r) (at_rest_sign m e) (rest_num n)
+
+-- local variables stand in a body
+
+body_open : IsKept (at_statement 0)
+body_open = (omega arith, omega arith)
+
+local_size : (m : Num) → IsSteady (at_statement 0) (spell_size m)
+local_size (Digits v p) = record { enters = λ r h. ((omega arith, omega arith), ((omega arith, omega arith), (body_open, h))); leaves = λ r h. h.1.1.1 }
+local_size (Named x) = record { enters = λ r h. ((omega arith, omega arith), ((omega arith, omega arith), (body_open, h))); leaves = λ r h. h.1.1.1 }
+
+local_steady : (p : Port) → IsSteady (at_statement 0) (spell_local p)
+local_steady p =
+    let n = at_statement 0 in
+    both_steady n (λ r. sign marks.Int ∷ r) (λ r. word p.at ∷ each spell_size p.sizes (sign marks.Semicolon ∷ r)) (one_steady n (sign marks.Int) body_open refl)
+    (both_steady n (λ r. word p.at ∷ r) (λ r. each spell_size p.sizes (sign marks.Semicolon ∷ r)) (one_steady n (word p.at) body_open refl)
+    (both_steady n (each spell_size p.sizes) (λ r. sign marks.Semicolon ∷ r) (each_steady n spell_size local_size p.sizes) (one_steady n (sign marks.Semicolon) body_open refl)))
