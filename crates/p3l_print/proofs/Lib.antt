@@ -7,3 +7,4 @@ pub mod Writing
 pub mod Bodies
 pub mod Texts
 pub mod Nesting
+pub mod Reading

@@ -560,3 +560,91 @@ local_steady p =
     both_steady n (λ r. sign marks.Int ∷ r) (λ r. word p.at ∷ each spell_size p.sizes (sign marks.Semicolon ∷ r)) (one_steady n (sign marks.Int) body_open refl)
     (both_steady n (λ r. word p.at ∷ r) (λ r. each spell_size p.sizes (sign marks.Semicolon ∷ r)) (one_steady n (word p.at) body_open refl)
     (both_steady n (each spell_size p.sizes) (λ r. sign marks.Semicolon ∷ r) (each_steady n spell_size local_size p.sizes) (one_steady n (sign marks.Semicolon) body_open refl)))
+
+-- entries
+
+kind_rests : (k : Kind) → behind at_rest (sign (kind_mark k)) ≡ at_rest
+kind_rests kinds.Seq = refl
+kind_rests kinds.Comp = refl
+kind_rests kinds.Pipe = refl
+kind_rests kinds.Farm = refl
+kind_rests kinds.Map = refl
+kind_rests kinds.Reduce = refl
+kind_rests kinds.Loop = refl
+
+rest_kind : (k : Kind) → IsSteady at_rest (λ r. sign (kind_mark k) ∷ r)
+rest_kind k = at_rest_sign (kind_mark k) (kind_rests k)
+
+rest_end : (k : Kind) → IsSteady at_rest (spell_end k)
+rest_end k = both_steady at_rest (λ r. sign marks.End ∷ r) (λ r. sign (kind_mark k) ∷ r) (at_rest_sign marks.End refl) (rest_kind k)
+
+-- what stands before the body of a `seq`
+before_body_rests : (h : Head) (b : Option Num) → IsSteady at_rest (λ r. sign marks.Seq ∷ spell_head h (spell_clause marks.Budget b r))
+before_body_rests h b =
+    both_steady at_rest (λ r. sign marks.Seq ∷ r) (λ r. spell_head h (spell_clause marks.Budget b r)) (at_rest_sign marks.Seq refl)
+    (both_steady at_rest (spell_head h) (spell_clause marks.Budget b) (rest_head h) (rest_clause marks.Budget b refl))
+
+rest_fixed : (i : Spot) (t : Symbol) → behind at_rest t ≡ at_rest → IsSteady at_rest (λ r. sign marks.Const ∷ word i ∷ sign marks.Assign ∷ t ∷ sign marks.Semicolon ∷ r)
+rest_fixed x t e =
+    both_steady at_rest (λ r. sign marks.Const ∷ r) (λ r. word x ∷ sign marks.Assign ∷ t ∷ sign marks.Semicolon ∷ r) (at_rest_sign marks.Const refl)
+    (both_steady at_rest (λ r. word x ∷ r) (λ r. sign marks.Assign ∷ t ∷ sign marks.Semicolon ∷ r) (at_rest_word x)
+    (both_steady at_rest (λ r. sign marks.Assign ∷ r) (λ r. t ∷ sign marks.Semicolon ∷ r) (at_rest_sign marks.Assign refl)
+    (both_steady at_rest (λ r. t ∷ r) (λ r. sign marks.Semicolon ∷ r) (one_steady at_rest t resting e) (at_rest_sign marks.Semicolon refl))))
+
+rest_chained : (k : Kind) (h : Head) (cs : List Call) → IsSteady at_rest (λ r. sign (kind_mark k) ∷ spell_head h (each spell_call cs (spell_end k r)))
+rest_chained k h cs =
+    both_steady at_rest (λ r. sign (kind_mark k) ∷ r) (λ r. spell_head h (each spell_call cs (spell_end k r))) (rest_kind k)
+    (both_steady at_rest (spell_head h) (λ r. each spell_call cs (spell_end k r)) (rest_head h)
+    (both_steady at_rest (each spell_call cs) (spell_end k) (each_steady at_rest spell_call rest_call cs) (rest_end k)))
+
+rest_spread : (k : Kind) (h : Head) (w : Option Num) (c : Call) → IsSteady at_rest (λ r. sign (kind_mark k) ∷ spell_head h (spell_clause marks.Workers w (spell_call c (spell_end k r))))
+rest_spread k h w c =
+    both_steady at_rest (λ r. sign (kind_mark k) ∷ r) (λ r. spell_head h (spell_clause marks.Workers w (spell_call c (spell_end k r)))) (rest_kind k)
+    (both_steady at_rest (spell_head h) (λ r. spell_clause marks.Workers w (spell_call c (spell_end k r))) (rest_head h)
+    (both_steady at_rest (spell_clause marks.Workers w) (λ r. spell_call c (spell_end k r)) (rest_clause marks.Workers w refl)
+    (both_steady at_rest (spell_call c) (spell_end k) (rest_call c) (rest_end k))))
+
+rest_turned : (h : Head) (t : Num) (n : Option Num) (b c : Call) → IsSteady at_rest (spell_item (turned h t n b c))
+rest_turned h t n b c =
+    let a1 = both_steady at_rest (spell_call c) (spell_end kinds.Loop) (rest_call c) (rest_end kinds.Loop) in
+    let a2 = both_steady at_rest (λ r. sign marks.While ∷ r) (λ r. spell_call c (spell_end kinds.Loop r)) (at_rest_sign marks.While refl) a1 in
+    let a3 = both_steady at_rest (spell_call b) (λ r. sign marks.While ∷ spell_call c (spell_end kinds.Loop r)) (rest_call b) a2 in
+    let a4 = both_steady at_rest (spell_clause marks.Tokens n) (λ r. spell_call b (sign marks.While ∷ spell_call c (spell_end kinds.Loop r))) (rest_clause marks.Tokens n refl) a3 in
+    let a5 = both_steady at_rest (λ r. num_symbol t ∷ r) (λ r. spell_clause marks.Tokens n (spell_call b (sign marks.While ∷ spell_call c (spell_end kinds.Loop r)))) (rest_num t) a4 in
+    let a6 = both_steady at_rest (λ r. sign marks.Turns ∷ r) (λ r. num_symbol t ∷ spell_clause marks.Tokens n (spell_call b (sign marks.While ∷ spell_call c (spell_end kinds.Loop r)))) (at_rest_sign marks.Turns refl) a5 in
+    let a7 = both_steady at_rest (spell_head h) (λ r. sign marks.Turns ∷ num_symbol t ∷ spell_clause marks.Tokens n (spell_call b (sign marks.While ∷ spell_call c (spell_end kinds.Loop r)))) (rest_head h) a6 in
+    both_steady at_rest (λ r. sign marks.Loop ∷ r) (λ r. spell_head h (sign marks.Turns ∷ num_symbol t ∷ spell_clause marks.Tokens n (spell_call b (sign marks.While ∷ spell_call c (spell_end kinds.Loop r))))) (at_rest_sign marks.Loop refl) a7
+
+-- an entry passes no limit, and in its canonical form neither
+record ItemKeeps (i : Item) (r : List Symbol) : Type 0 where
+  leaves : IsWithin at_rest r
+  enters : (s : List Symbol) → IsWithin at_rest s → IsWithin at_rest (spell_item (canonical_item i) s)
+
+steady_keeps : (i : Item) (r : List Symbol) → IsSteady at_rest (spell_item i) → canonical_item i ≡ i → IsWithin at_rest (spell_item i r) → ItemKeeps i r
+steady_keeps i r k same h = record { leaves = k.leaves r h; enters = λ s l. subst (λ j. IsWithin at_rest (spell_item j s)) (sym same) (k.enters s l) }
+
+bodied_keeps : (g : Head) (b : Option Num) (ls : List Port) (c : Script) (r : List Symbol) → IsScript c → IsWithin at_rest (spell_item (bodied g b ls c) r) → ItemKeeps (bodied g b ls c) r
+bodied_keeps g b ls c r proper h =
+    let inner = (before_body_rests g b).leaves (sign marks.OpenBody ∷ each spell_local ls (spell_script c (sign marks.CloseBody ∷ spell_end kinds.Seq r))) h in
+    let statements = (each_steady (at_statement 0) spell_local local_steady ls).leaves (spell_script c (sign marks.CloseBody ∷ spell_end kinds.Seq r)) inner.1 in
+    let k = script_keeps c 0 (sign marks.CloseBody ∷ spell_end kinds.Seq r) statements in record {
+      leaves = (rest_end kinds.Seq).leaves r k.1.1;
+      enters = λ s l.
+        let last = (rest_end kinds.Seq).enters s l in
+        let code = script_within (canonical_script c) 0 (sign marks.CloseBody ∷ spell_end kinds.Seq s) (omega arith) (script_kept c 0 proper k.0) (resting, last) in
+        (before_body_rests g b).enters (sign marks.OpenBody ∷ each spell_local ls (spell_script (canonical_script c) (sign marks.CloseBody ∷ spell_end kinds.Seq s)))
+        (body_open, (each_steady (at_statement 0) spell_local local_steady ls).enters (spell_script (canonical_script c) (sign marks.CloseBody ∷ spell_end kinds.Seq s)) code);
+    }
+
+item_keeps : (i : Item) (r : List Symbol) → IsItem i → IsWithin at_rest (spell_item i r) → ItemKeeps i r
+item_keeps (fixed x v p) r proper h = steady_keeps (fixed x v p) r (rest_fixed x (digits v p) refl) refl h
+item_keeps (bodied g b ls c) r proper h = bodied_keeps g b ls c r proper.1 h
+item_keeps (chained k g cs) r proper h = steady_keeps (chained k g cs) r (rest_chained k g cs) refl h
+item_keeps (spread k g w c) r proper h = steady_keeps (spread k g w c) r (rest_spread k g w c) refl h
+item_keeps (turned g t n b c) r proper h = steady_keeps (turned g t n b c) r (rest_turned g t n b c) refl h
+
+pub text_within : (is : List Item) → IsText is → IsWithin at_rest (spell_text is []) → IsWithin at_rest (spell_text (canonical_items is) [])
+text_within [] proper h = tt
+text_within (i ∷ is) proper h =
+    let k = item_keeps i (spell_text is []) proper.0 h in
+    k.enters (spell_text (canonical_items is) []) (text_within is proper.1 k.leaves)
