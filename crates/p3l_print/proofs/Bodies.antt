@@ -1,5 +1,5 @@
 -- The canonical text of a body is written with the tokens of its canonical form.
-use Rattle.std.proofs.Common.{◌≡◌, ℕ, suc, ◌<◌, ◌≤◌, ◌^◌, Bool, true, false, List, [], ◌∷◌, ◌++◌, ℤ, pos, Some, refl, sym, subst, arith, append_assoc, codes}
+use Rattle.std.proofs.Common.{◌≡◌, ℕ, suc, ◌<◌, ◌^◌, Bool, true, false, List, [], ◌∷◌, ◌++◌, ℤ, pos, Some, refl, sym, subst, arith, append_assoc, codes}
 use Rattle.std.specs.Prelude.{nat_le, nat_eq, if◌then◌else◌}
 use Rattle.std.specs.Fmt.{signed_decimal}
 use Rattle.std.specs.List.{list_all}
@@ -18,7 +18,7 @@ use Rattle.p3l_lexer.specs.Piece.{is_blank, is_word_byte, piece_of}
 use Rattle.p3l_lexer.specs.Cut.{Ends}
 use Rattle.p3l_lexer.specs.Spelling.{goes_on}
 use Rattle.p3l_lexer.proofs.Writing.{word_starts, digits_start, piece_of-decimal}
-use Rattle.p3l_grammar.specs.Symbol.{Symbol, word, digits, sign, unary_mark, binary_mark, level}
+use Rattle.p3l_grammar.specs.Symbol.{Symbol, word, sign, unary_mark, binary_mark, level}
 use Rattle.p3l_grammar.specs.Written.{Form, numeral, place, prefix, infix_, paren, Forms, no_index, index, Script, stop, set, when, when_else, as_long_as, counting, spell, spell_index, spell_set, spell_script, tight, tree, trees, script_tree}
 use Rattle.p3l_print.specs.Expression.{infix_text, operand_text, tightness, expression_text, index_text, target_text}
 use Rattle.p3l_print.specs.Statement.{assignment_text, deeper, block_text, opening_text, for_opening_text, code_text}

@@ -1,10 +1,9 @@
 -- A program as its canonical text writes it: parentheses exactly where the grouping needs them.
-use Rattle.std.proofs.Common.{◌≡◌, ℕ, suc, ◌<◌, ◌≤◌, Bool, true, false, List, [], ◌∷◌, refl, sym, ap, ◌∙◌, arith}
+use Rattle.std.proofs.Common.{◌≡◌, ℕ, suc, ◌≤◌, Bool, true, false, List, [], ◌∷◌, refl, ap, ◌∙◌, arith}
 use Rattle.std.specs.Prelude.{nat_le, map, if◌then◌else◌}
 use Rattle.std.proofs.lemmas.Bool.Decides.{nat_tests}
-use Rattle.p3l_ast.specs.declared.expression.BinOp.{BinOp}
 use Rattle.p3l_ast.specs.declared.module.Kind.TheVariants.{Seq}
-use Rattle.p3l_ast.specs.Tree.{Phrase, unary, binary, read, more, Code, assign, branch, branch_else, repeat, count, body}
+use Rattle.p3l_ast.specs.Tree.{Phrase, unary, binary, read, body}
 use Rattle.p3l_grammar.specs.Symbol.{level}
 use Rattle.p3l_grammar.specs.Written.{Form, numeral, place, prefix, infix_, paren, Forms, no_index, index, Script, stop, set, when, when_else, as_long_as, counting, Item, fixed, bodied, chained, spread, turned, tight, IsGrouped, AreGrouped, IsScript, IsItem, IsText, tree, trees, script_tree, body_filling, module_of, item_tree, text_tree}
 use Rattle.p3l_grammar.proofs.Complete.{level_small}

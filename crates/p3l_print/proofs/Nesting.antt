@@ -1,5 +1,5 @@
 -- Where a text passes no limit, its canonical form passes none.
-use Rattle.std.proofs.Common.{◌≡◌, ℕ, zero, suc, ◌≤◌, Bool, true, false, List, [], ◌∷◌, Option, Some, None, refl, sym, ap, ◌∙◌, subst, arith}
+use Rattle.std.proofs.Common.{◌≡◌, ℕ, suc, ◌≤◌, Bool, true, false, List, [], ◌∷◌, Option, Some, None, refl, sym, ap, ◌∙◌, subst, arith}
 use Rattle.std.specs.Prelude.{nat_le, nat_eq, if◌then◌else◌}
 use Rattle.std.proofs.lemmas.Bool.Decides.{nat_tests}
 use Rattle.p3l_ast.specs.declared.position.Spot.{Spot}
@@ -630,10 +630,10 @@ bodied_keeps g b ls c r proper h =
     let k = script_keeps c 0 (sign marks.CloseBody ∷ spell_end kinds.Seq r) statements in record {
       leaves = (rest_end kinds.Seq).leaves r k.1.1;
       enters = λ s l.
-        let last = (rest_end kinds.Seq).enters s l in
-        let code = script_within (canonical_script c) 0 (sign marks.CloseBody ∷ spell_end kinds.Seq s) (omega arith) (script_kept c 0 proper k.0) (resting, last) in
-        (before_body_rests g b).enters (sign marks.OpenBody ∷ each spell_local ls (spell_script (canonical_script c) (sign marks.CloseBody ∷ spell_end kinds.Seq s)))
-        (body_open, (each_steady (at_statement 0) spell_local local_steady ls).enters (spell_script (canonical_script c) (sign marks.CloseBody ∷ spell_end kinds.Seq s)) code);
+          let last = (rest_end kinds.Seq).enters s l in
+          let code = script_within (canonical_script c) 0 (sign marks.CloseBody ∷ spell_end kinds.Seq s) (omega arith) (script_kept c 0 proper k.0) (resting, last) in
+          (before_body_rests g b).enters (sign marks.OpenBody ∷ each spell_local ls (spell_script (canonical_script c) (sign marks.CloseBody ∷ spell_end kinds.Seq s)))
+          (body_open, (each_steady (at_statement 0) spell_local local_steady ls).enters (spell_script (canonical_script c) (sign marks.CloseBody ∷ spell_end kinds.Seq s)) code);
     }
 
 item_keeps : (i : Item) (r : List Symbol) → IsItem i → IsWithin at_rest (spell_item i r) → ItemKeeps i r

@@ -1,5 +1,5 @@
 -- What symbols derive does not depend on their positions.
-use Rattle.std.proofs.Common.{◌≡◌, ℕ, ◌≤◌, ◌<◌, ℤ, List, [], ◌∷◌, Option, Some, None, map, refl, sym, ap, ◌∙◌, subst}
+use Rattle.std.proofs.Common.{◌≡◌, ◌≤◌, ◌<◌, ℤ, List, [], ◌∷◌, Option, Some, None, map, refl, sym, ap, ◌∙◌, subst}
 use Rattle.std.specs.Prelude.{option_map}
 use Rattle.p3l_ast.specs.declared.position.Pos.{Pos}
 use Rattle.p3l_ast.specs.declared.position.Spot.{Spot}
@@ -16,7 +16,7 @@ use Rattle.p3l_ast.specs.declared.expression.UnOp.{UnOp}
 use Rattle.p3l_ast.specs.declared.expression.BinOp.{BinOp}
 use Rattle.p3l_ast.specs.declared.module.Kind.{Kind}
 use Rattle.p3l_ast.specs.declared.module.Kind.TheVariants as kinds
-use Rattle.p3l_ast.specs.Tree.{Phrase, number, read, unary, binary, Phrases, none, more, Code, done, assign, branch, branch_else, repeat, count, EntryTree, constant}
+use Rattle.p3l_ast.specs.Tree.{read, unary, binary, more, EntryTree, constant}
 use Rattle.p3l_ast.specs.Unplaced.{nowhere, spot_unplaced, num_unplaced, port_unplaced, sub_unplaced, arg_unplaced, out_unplaced, call_unplaced, phrase_unplaced, phrases_unplaced, code_unplaced, entry_unplaced}
 use Rattle.p3l_lexer.specs.declared.mark.Mark.{Mark}
 use Rattle.p3l_lexer.specs.declared.mark.Mark.TheVariants as marks

@@ -1,16 +1,15 @@
 -- The canonical text of a program is written with the tokens of its canonical form.
-use Rattle.std.proofs.Common.{◌≡◌, ℕ, ◌<◌, ◌^◌, Bool, true, false, List, [], ◌∷◌, ◌++◌, ℤ, pos, Option, Some, None, map, flat_map, refl, sym, append_assoc, append-nil, codes}
+use Rattle.std.proofs.Common.{◌≡◌, ℕ, false, List, [], ◌∷◌, ◌++◌, Option, Some, None, flat_map, refl, append_assoc, append-nil, codes}
 use Rattle.std.specs.Fmt.{signed_decimal}
 use Rattle.std.specs.List.{join_by}
 use Rattle.p3l_ast.specs.declared.position.Pos.{Pos}
-use Rattle.p3l_ast.specs.declared.position.Spot.{Spot}
 use Rattle.p3l_ast.specs.declared.port.Num.{Num}
 use Rattle.p3l_ast.specs.declared.port.Port.{Port}
 use Rattle.p3l_ast.specs.declared.call.Call.{Call}
 use Rattle.p3l_ast.specs.declared.module.Kind.{Kind}
 use Rattle.p3l_ast.specs.declared.module.Kind.TheVariants as kinds
 use Rattle.p3l_ast.specs.declared.module.Clauses.{Clauses}
-use Rattle.p3l_ast.specs.Tree.{Code, done, assign, branch, branch_else, repeat, count, body, calls, turning, InsideTree, ModuleTree}
+use Rattle.p3l_ast.specs.Tree.{body, calls, turning, InsideTree}
 use Rattle.p3l_lexer.specs.declared.mark.Mark.{Mark}
 use Rattle.p3l_lexer.specs.declared.mark.Mark.TheVariants as marks
 use Rattle.p3l_lexer.specs.declared.token.Lexeme.{Lexeme}
@@ -19,7 +18,7 @@ use Rattle.p3l_lexer.specs.declared.token.Piece.{Piece}
 use Rattle.p3l_lexer.specs.declared.token.Piece.TheVariants as pieces
 use Rattle.p3l_lexer.specs.declared.token.Token.{Token}
 use Rattle.p3l_lexer.specs.Mark.{mark_text, punctuation_of}
-use Rattle.p3l_lexer.specs.Piece.{is_word_byte, piece_of}
+use Rattle.p3l_lexer.specs.Piece.{piece_of}
 use Rattle.p3l_lexer.specs.Position.{position_after}
 use Rattle.p3l_lexer.specs.Token.{Chunk, IsCutInto, token_at, tokens_after, IsTokens}
 use Rattle.p3l_lexer.specs.Spelling.{goes_on}
@@ -30,7 +29,7 @@ use Rattle.p3l_grammar.specs.Written.{Script, Head, Item, fixed, bodied, chained
 use Rattle.p3l_print.specs.Printer.{interface_text}
 use Rattle.p3l_print.specs.Port.{num_text, port_text}
 use Rattle.p3l_print.specs.Call.{call_text}
-use Rattle.p3l_print.specs.Statement.{block_text, opening_text, for_opening_text, code_text}
+use Rattle.p3l_print.specs.Statement.{code_text}
 use Rattle.p3l_print.specs.Module.{kind_text, clause_text, clauses_text, local_line, call_line, inside_text, module_text}
 use Rattle.p3l_print.specs.Program.{entry_text}
 use Rattle.p3l_print.proofs.Forms.{canonical_script, canonical_item, canonical_items}

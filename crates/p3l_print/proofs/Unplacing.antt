@@ -19,8 +19,8 @@ use Rattle.p3l_ast.specs.Unplaced.{num_unplaced, port_unplaced, sub_unplaced, ar
 use Rattle.p3l_print.specs.Printer.{interface_text}
 use Rattle.p3l_print.specs.Port.{num_text, size_text, port_text}
 use Rattle.p3l_print.specs.Call.{sub_text, arg_text, out_arg_text, call_text}
-use Rattle.p3l_print.specs.Expression.{operand_text, tightness, expression_text, index_text}
-use Rattle.p3l_print.specs.Statement.{assignment_text, deeper, block_text, opening_text, for_opening_text, code_text}
+use Rattle.p3l_print.specs.Expression.{tightness, expression_text, index_text}
+use Rattle.p3l_print.specs.Statement.{assignment_text, deeper, opening_text, for_opening_text, code_text}
 use Rattle.p3l_print.specs.Module.{clause_text, clauses_text, local_line, call_line, inside_text, module_text}
 use Rattle.p3l_print.specs.Program.{entry_text, canonical}
 

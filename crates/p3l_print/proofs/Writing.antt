@@ -1,10 +1,7 @@
 -- The canonical text is written with the tokens of its canonical form.
-use Rattle.std.proofs.Common.{◌≡◌, ℕ, suc, ◌<◌, ◌≤◌, ◌^◌, Bool, true, false, ◌&&◌, List, [], ◌∷◌, ◌++◌, length, ℤ, pos, Option, Some, None, map, flat_map, refl, sym, ap, ◌∙◌, subst, arith, append_assoc, append-nil, codes}
-use Rattle.std.specs.Prelude.{nat_le, nat_eq, if◌then◌else◌}
-use Rattle.std.specs.Fmt.{decimal, signed_decimal}
+use Rattle.std.proofs.Common.{◌≡◌, ℕ, ◌<◌, ◌^◌, Bool, true, false, ◌&&◌, List, [], ◌∷◌, ◌++◌, ℤ, pos, Some, map, flat_map, refl, sym, subst, append_assoc, codes}
+use Rattle.std.specs.Fmt.{signed_decimal}
 use Rattle.std.specs.List.{join_by, list_all}
-use Rattle.std.proofs.lemmas.Bool.Decides.{nat_tests}
-use Rattle.std.proofs.lemmas.Fmt.{decimal_nonempty}
 use Rattle.p3l_ast.specs.declared.position.Spot.{Spot}
 use Rattle.p3l_ast.specs.declared.refusal.Fault.TheVariants.{BadByte}
 use Rattle.p3l_ast.specs.declared.port.Num.{Num}
@@ -16,28 +13,22 @@ use Rattle.p3l_ast.specs.declared.call.Arg.{Arg}
 use Rattle.p3l_ast.specs.declared.call.OutArg.{OutArg}
 use Rattle.p3l_ast.specs.declared.call.OutArg.TheVariants.{Fresh, Old}
 use Rattle.p3l_ast.specs.declared.call.Call.{Call}
-use Rattle.p3l_ast.specs.declared.expression.UnOp.{UnOp}
-use Rattle.p3l_ast.specs.declared.expression.UnOp.TheVariants.{Neg, Not, Flip}
-use Rattle.p3l_ast.specs.declared.expression.BinOp.{BinOp}
-use Rattle.p3l_ast.specs.declared.expression.BinOp.TheVariants as ops
 use Rattle.p3l_lexer.specs.declared.mark.Mark.{Mark}
 use Rattle.p3l_lexer.specs.declared.mark.Mark.TheVariants as marks
 use Rattle.p3l_lexer.specs.declared.token.Lexeme.{Lexeme}
 use Rattle.p3l_lexer.specs.declared.token.Lexeme.TheVariants as lexemes
 use Rattle.p3l_lexer.specs.declared.token.Piece.TheVariants as pieces
 use Rattle.p3l_lexer.specs.Mark.{mark_text, punctuation_of}
-use Rattle.p3l_lexer.specs.Piece.{is_blank, is_word_byte, is_letter, is_digit, piece_of}
+use Rattle.p3l_lexer.specs.Piece.{is_blank, is_word_byte, piece_of}
 use Rattle.p3l_lexer.specs.Cut.{Ends}
 use Rattle.p3l_lexer.specs.Spelling.{HasLexemes, goes_on}
-use Rattle.p3l_lexer.proofs.Spelling.{piece_of-mark, no_lexemes, blank_first, lexeme_first}
+use Rattle.p3l_lexer.proofs.Spelling.{piece_of-mark, blank_first, lexeme_first}
 use Rattle.p3l_lexer.proofs.Writing.{word_starts, digits_start, piece_of-decimal}
-use Rattle.p3l_grammar.specs.Symbol.{Symbol, word, digits, sign, faulty, unary_mark, binary_mark, level}
-use Rattle.p3l_grammar.specs.Written.{Form, numeral, place, prefix, infix_, paren, Forms, no_index, index, each, behind_comma, parted, num_symbol, spell_size, spell_port, spell_sub, spell_arg, spell_out, spell_call, spell, spell_index, tight, tree, trees}
+use Rattle.p3l_grammar.specs.Symbol.{Symbol, word, digits, sign, faulty}
+use Rattle.p3l_grammar.specs.Written.{each, behind_comma, parted, num_symbol, spell_size, spell_port, spell_sub, spell_arg, spell_out, spell_call}
 use Rattle.p3l_print.specs.Printer.{interface_text}
 use Rattle.p3l_print.specs.Port.{num_text, size_text, port_text}
 use Rattle.p3l_print.specs.Call.{sub_text, arg_text, out_arg_text, call_text}
-use Rattle.p3l_print.specs.Expression.{infix_text, operand_text, tightness, expression_text, index_text}
-use Rattle.p3l_print.proofs.Forms.{around, canonical_form, canonical_forms, tight_is}
 
 -- symbols as a text can be written with them
 

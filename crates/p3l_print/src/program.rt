@@ -1,8 +1,8 @@
 // Programs.
 
-ghost use Rattle.std.specs.Prelude.{◌≡◌, ◌++◌, IfOk, OnOk};
+ghost use Rattle.std.specs.Prelude.{◌≡◌, ℕ, List, ◌++◌, IfOk, OnOk};
 ghost use Rattle.p3l_ast.specs.Tree.{entry_tree, program_tree};
-ghost use Rattle.p3l_print.specs.Program.{entry_text, canonical};
+ghost use Rattle.p3l_print.specs.Program.{entry_text, canonical, IsTextOf};
 
 use crate::printer::{Print, Printer};
 use p3l_ast::{Entry, Program};
@@ -31,6 +31,10 @@ impl Print for Entry {
 #[tactic(auto, using(crate::proofs::Entries::entries_text))]
 pub fn print(alloc: Global, program: &Program) -> Result<List<u8>, NoMemory>
     ensures canonical { IfOk result (λ text. text ≡ canonical (program_tree program.now)) }
+
+    // Where some text spells the program, the canonical text spells it too.
+    ensures spells { IfOk result (λ text. (other : List ℕ)
+        → IsTextOf other (program_tree program.now) → IsTextOf text (program_tree program.now)) }
 {
     let mut printer = Printer::new(alloc);
     printer.parted(b"\n", program.entries.as_slice())?;
