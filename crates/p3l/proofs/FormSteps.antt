@@ -1,0 +1,27 @@
+-- Heads and bodies of programs of the one form.
+use Rattle.std.proofs.Common.{◌≡◌, ℕ, ℤ, List, ◌++◌, Option, Some, None, IfSome, false, refl, sym, subst, ap, ◌∙◌}
+use Rattle.std.specs.Str.{bytes_eq}
+use Rattle.std.proofs.lemmas.Slice.Eq.{bytes_eq-Decides}
+use Rattle.p3l_lexer.specs.declared.token.Lexeme.{Lexeme}
+use Rattle.p3l.specs.declared.affine.Affine.{Affine}
+use Rattle.p3l.specs.Form.{IsAffine, IsRefused, head_of, body_of, lexemes_of}
+use Rattle.p3l_lexer.specs.declared.token.Token.{Token}
+use Rattle.p3l_lexer.specs.Token.{IsTokens}
+use Rattle.p3l_ast.specs.declared.refusal.Fault.TheVariants as faults
+
+-- a head and a body make a program
+pub joined : (o : Option Affine) (x y : List ℕ) (tokens rest : List Lexeme) → false ≡ bytes_eq x y → tokens ≡ head_of x y ++ rest →
+    IfSome o (λ program. rest ≡ body_of x y program.factor program.summand) → IfSome o (λ program. IsAffine tokens program.factor program.summand)
+joined None x y tokens rest d e h = tt
+joined (Some program) x y tokens rest d e h =
+    record { input = x; output = y; different = λ same. (let equal = (bytes_eq-Decides x y).1 same in cc); lexemes_are = e ∙ ap (λ l. head_of x y ++ l) h }
+
+-- a text whose tokens have not the form is refused
+pub no_form : (text : List ℕ) (tokens seen : List Token) → seen ≡ tokens → ((others : List Token) → IsTokens text others → others ≡ tokens) →
+    ((factor summand : ℤ) → IsAffine (lexemes_of seen) factor summand → ⊥) → IsRefused text faults.NotYet (record { line = 1; col = 1 })
+no_form text tokens seen same only none =
+    record {
+      fault_is = refl;
+      pos_is = refl;
+      no_program = λ a b p. none a b (subst (λ l. IsAffine (lexemes_of l) a b) (only p.tokens p.tokens_are ∙ sym same) p.affine);
+    }

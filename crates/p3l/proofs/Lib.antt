@@ -1,0 +1,9 @@
+pub mod Numbers
+pub mod Words
+pub mod AffineSteps
+pub mod FormSteps
+pub mod Puts
+pub mod StreamSteps
+pub mod RunSteps
+pub mod TopSteps
+pub mod ExecutionSteps

@@ -1,0 +1,13 @@
+use Rattle.std.proofs.Common.{◌≡◌, ℕ, ℤ, List, length, get_or, refl, sym, ap, ◌∙◌}
+use Rattle.std.proofs.lemmas.List.Elements.{All-get_or}
+use Rattle.p3l.proofs.ExecutionSteps.{offered_follows, root_takes_one}
+use Rattle.p3l.proofs.execution.fill.Goals as goal
+
+pub offer-requires-clause-fits : goal.offer-requires-clause-fits
+offer-requires-clause-fits c =
+    root_takes_one _ c.in_ok-item.item c.args.items.now c.args.next c.index-items-next.result c.requires.tree c.requires.widths c.if-next-items.true c.index-items-next.is c.in_ok-item.ensures
+
+pub returns-in_ok-offer-clause-follows : goal.returns-in_ok-offer-clause-follows
+returns-in_ok-offer-clause-follows c = λ factor summand outcomes k laws f.
+    offered_follows factor summand c.args.items.now c.args.machine.now _ outcomes k c.args.next c.index-items-next.result c.in_ok-item.item laws c.if-next-items.true c.index-items-next.is c.in_ok-item.ensures
+    (c.if-wants_item.ensures.0 refl) c.in_ok-offer.ensures.ok f

@@ -1,0 +1,6 @@
+use Rattle.p3l.proofs.FormSteps.{no_form}
+use Rattle.p3l.proofs.load.program_of_text.Goals as goal
+
+pub returns-clause-refused : goal.returns-clause-refused
+returns-clause-refused c =
+    no_form c.args.text.now _ _ c.as_slice.ensures c.in_ok-tokens.ensures.only c.in-None.ensures.none

@@ -1,0 +1,49 @@
+-- The form of the programs that can be run.
+use Rattle.std.specs.Prelude.{◌≡◌, ◌≢◌, ℕ, ℤ, List, [], ◌∷◌, ◌++◌, map, codes}
+use Rattle.p3l_lexer.specs.declared.token.Token.{Token}
+use Rattle.p3l_lexer.specs.declared.token.Lexeme.{Lexeme}
+use Rattle.p3l_lexer.specs.declared.token.Lexeme.TheVariants.{Word, Digits, Sign}
+use Rattle.p3l_lexer.specs.declared.mark.Mark.TheVariants as mark
+use Rattle.p3l_lexer.specs.Token.{IsTokens}
+use Rattle.p3l_ast.specs.declared.position.Pos.{Pos}
+use Rattle.p3l_ast.specs.declared.refusal.Fault.{Fault}
+use Rattle.p3l_ast.specs.declared.refusal.Fault.TheVariants as faults
+
+-- what the tokens are, without their positions
+abbrev pub lexemes_of : List Token → List Lexeme
+lexemes_of = map (λ token. token.lexeme)
+
+-- seq main in(int X) out(int Y)
+abbrev pub head_of : List ℕ → List ℕ → List Lexeme
+head_of x y =
+    Sign mark.Seq ∷ Word (codes "main")
+    ∷ Sign mark.In ∷ Sign mark.OpenParen ∷ Sign mark.Int ∷ Word x ∷ Sign mark.CloseParen
+    ∷ Sign mark.Out ∷ Sign mark.OpenParen ∷ Sign mark.Int ∷ Word y ∷ Sign mark.CloseParen ∷ []
+
+-- ; }$ end seq
+abbrev pub end_of_text : List Lexeme
+end_of_text = Sign mark.Semicolon ∷ Sign mark.CloseBody ∷ Sign mark.End ∷ Sign mark.Seq ∷ []
+
+-- ${ Y = X * A + B; }$ end seq
+abbrev pub body_of : List ℕ → List ℕ → ℤ → ℤ → List Lexeme
+body_of x y a b =
+    Sign mark.OpenBody ∷ Word y ∷ Sign mark.Assign ∷ Word x ∷ Sign mark.Star ∷ Digits a ∷ Sign mark.Plus ∷ Digits b ∷ end_of_text
+
+-- these are the tokens of such a program, whose in and out have two different names
+pub record IsAffine (lexemes : List Lexeme) (factor summand : ℤ) : Type 0 where
+  pub input : List ℕ
+  pub output : List ℕ
+  pub different : input ≢ output
+  pub lexemes_are : lexemes ≡ head_of input output ++ body_of input output factor summand
+
+-- the bytes are the text of such a program
+pub record IsProgram (bytes : List ℕ) (factor summand : ℤ) : Type 0 where
+  pub tokens : List Token
+  pub tokens_are : IsTokens bytes tokens
+  pub affine : IsAffine (lexemes_of tokens) factor summand
+
+-- the bytes are the text of no such program: that is a fault at the front, since others can't be run yet
+pub record IsRefused (bytes : List ℕ) (fault : Fault) (pos : Pos) : Type 0 where
+  pub fault_is : fault ≡ faults.NotYet
+  pub pos_is : pos ≡ record { line = 1; col = 1 }
+  pub no_program : (factor summand : ℤ) → IsProgram bytes factor summand → ⊥

@@ -1,0 +1,16 @@
+pub mod Request
+pub mod Command
+pub mod Line
+pub mod LineText
+pub mod Affine
+pub mod AffineLaws
+pub mod Form
+pub mod Verdict
+pub mod Report
+pub mod Execution
+pub mod Answer
+pub mod Load
+pub mod Write
+pub mod Run
+pub mod Laws
+pub mod Steps

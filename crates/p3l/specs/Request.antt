@@ -1,0 +1,27 @@
+-- What a command line can ask for, and how it is spelled.
+use Rattle.std.specs.Prelude.{◌≡◌, ℕ, ◌≤◌, Bool, true, false, List, [], ◌∷◌, codes}
+use Rattle.std.specs.Fmt.{decimal}
+
+-- a command with its values: for `run` the name of the program's file, the number of processors and whether the
+-- numbers of the run are to be reported
+pub data Request : Type 0 where
+  run : List ℕ → ℕ → Bool → Request
+
+-- the words behind the number of processors
+abbrev pub flags_of : Bool → List (List ℕ)
+flags_of true = codes "--stats" ∷ []
+flags_of false = []
+
+-- the words that spell it
+abbrev pub words_of : Request → List (List ℕ)
+words_of (run program processors stats) =
+    codes "run" ∷ program ∷ codes "--processors" ∷ decimal processors ∷ flags_of stats
+
+-- its numbers are in their ranges
+abbrev pub IsLawful : Request → Type 0
+IsLawful (run program processors stats) = (1 ≤ processors) × (processors ≤ 512)
+
+-- the words are those of a lawful command
+pub record Spells (words : List (List ℕ)) (request : Request) : Type 0 where
+  pub words_are : words ≡ words_of request
+  pub lawful : IsLawful request

@@ -1,0 +1,55 @@
+// Loading the program of a file.
+
+ghost use Rattle.std.specs.Prelude.{◌≡◌, ◌-◌, ◌<◌, ◌^◌, ℤ, List, ℕ, Some, length, IfOk, IfErr};
+ghost use Rattle.p3l_io.specs.Told.{Held};
+ghost use Rattle.p3l.specs.Form.{IsProgram};
+ghost use Rattle.p3l.specs.Load.{IsTextRefused, Loads, LoadCause};
+
+use crate::affine::Affine;
+use crate::form::program_of;
+use crate::verdict::Verdict;
+use p3l_ast::{Fault, Pos, SourceRefusal};
+use p3l_io::{FileFault, Files};
+use p3l_lexer::tokens;
+use std::alloc::Global;
+
+/// The most bytes of a file.
+pub const FILE_LIMIT: u64 = 1_048_576;
+
+/// The program of a text.
+fn program_of_text(alloc: Global, text: &[u8]) -> Result<Affine, SourceRefusal>
+    requires { length text.now < 2 ^ 32 - 1 }
+    ensures ok { IfOk result (λ program. IsProgram text.now program.factor program.summand) }
+    ensures refused { IfErr result (λ refusal. IsTextRefused text.now refusal) }
+{
+    let tokens = tokens(alloc, text)?;
+    match program_of(tokens.as_slice()) {
+        Some(program) => Ok(program),
+        None => Err(SourceRefusal::At {
+            fault: Fault::NotYet,
+            pos: Pos { line: 1, col: 1 },
+        }),
+    }
+}
+
+/// The program of the file of this name, or the verdict that there is none.
+pub fn load<'a, F: Files>(
+    alloc: Global,
+    name: &'a str,
+    files: &mut F,
+) -> Result<Affine, Verdict<'a>>
+    ensures held { (held : Held) → F.held files.old ≡ Some held → Loads held name.now result }
+    ensures stays { F.held files.new ≡ F.held files.old }
+    ensures cause { LoadCause name.now (F.faults files.old) (F.faults files.new) result }
+{
+    match files.read(alloc, name, FILE_LIMIT) {
+        Err(FileFault::Failed) => Err(Verdict::FileFault(name)),
+        Err(FileFault::TooLong) => Err(Verdict::FileTooLong(name)),
+        Err(FileFault::NoMemory) => Err(Verdict::NoMemory),
+        Ok(text) => match program_of_text(alloc, text.as_slice()) {
+            Ok(program) => Ok(program),
+            Err(SourceRefusal::At { fault, pos }) => Err(Verdict::Source { fault, pos }),
+            Err(SourceRefusal::NoMemory) => Err(Verdict::NoMemory),
+        },
+    }
+}

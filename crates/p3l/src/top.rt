@@ -1,0 +1,90 @@
+// The top call: from the words of the command line to the status.
+
+ghost use Rattle.std.specs.Prelude.{◌≡◌, ◌<◌, ◌⊎◌, List, ℕ, Some, map};
+ghost use Rattle.p3l_io.specs.Causes.{Rose};
+ghost use Rattle.p3l_io.specs.Told.{Held};
+ghost use Rattle.p3l.specs.Request.{Request, Spells};
+ghost use Rattle.p3l.specs.Answer.{Answers, AsksRun, IsCaused, IsDue};
+
+use crate::command::{Command, command_of};
+use crate::load::load;
+use crate::report::{put_no_memory, put_report, report_of};
+use crate::run::run;
+use crate::verdict::{Status, Verdict};
+use p3l_io::{Files, Sink, Source};
+use std::alloc::Global;
+
+/// Runs a program from its file to the output.
+fn perform_run<'a, F: Files, S: Source, K: Sink>(
+    alloc: Global,
+    program: &'a str,
+    reported: bool,
+    files: &mut F,
+    input: &mut S,
+    out: &mut K,
+) -> Verdict<'a>
+    ensures due { (words : List (List ℕ)) (held : Held) (rest taken : List ℕ) → AsksRun words program.now reported
+        → F.held files.old ≡ Some held → S.rest input.old ≡ Some rest → K.taken out.old ≡ Some taken
+        → IsDue held words rest (S.rest input.new) taken (K.taken out.new) result }
+    ensures caused { (words : List (List ℕ)) → AsksRun words program.now reported
+        → IsCaused words (F.faults files.old) (F.faults files.new) (S.faults input.old) (S.faults input.new) (K.faults out.old) (K.faults out.new) result }
+    ensures stays { F.held files.new ≡ F.held files.old }
+{
+    match load(alloc, program, files) {
+        Ok(affine) => run(alloc, &affine, reported, input, out),
+        Err(verdict) => verdict,
+    }
+}
+
+/// Does what the words ask for, up to the lines on the standard error.
+fn perform<'a, F: Files, S: Source, K: Sink>(
+    alloc: Global,
+    words: &[&'a str],
+    files: &mut F,
+    input: &mut S,
+    out: &mut K,
+) -> Verdict<'a>
+    ensures due { (held : Held) (rest taken : List ℕ) → F.held files.old ≡ Some held → S.rest input.old ≡ Some rest → K.taken out.old ≡ Some taken
+        → IsDue held (map (λ word. word.now) words.now) rest (S.rest input.new) taken (K.taken out.new) result }
+    ensures caused { IsCaused (map (λ word. word.now) words.now) (F.faults files.old) (F.faults files.new) (S.faults input.old) (S.faults input.new) (K.faults out.old) (K.faults out.new) result }
+    ensures stays { F.held files.new ≡ F.held files.old }
+{
+    match command_of(words) {
+        None => Verdict::Usage,
+        Some(Command::Run(asked)) => {
+            perform_run(alloc, asked.program, asked.stats, files, input, out)
+        }
+    }
+}
+
+/// The program: does what the words ask for with the files, the input, the output and the standard error, and gives the
+/// status that it ends with.
+pub fn top<F: Files, S: Source, K: Sink, E: Sink>(
+    alloc: Global,
+    words: &[&str],
+    files: &mut F,
+    input: &mut S,
+    out: &mut K,
+    err: &mut E,
+) -> Status
+    ensures answers { Answers (map (λ word. word.now) words.now)
+        (record { old = F.held files.old; new = F.held files.new; before = F.faults files.old; now = F.faults files.new })
+        (record { old = S.rest input.old; new = S.rest input.new; before = S.faults input.old; now = S.faults input.new })
+        (record { old = K.taken out.old; new = K.taken out.new; before = K.faults out.old; now = K.faults out.new })
+        (record { old = E.taken err.old; new = E.taken err.new; before = E.faults err.old; now = E.faults err.new })
+        result.0 }
+    // No file is changed.
+    ensures files_stay { F.held files.new ≡ F.held files.old }
+{
+    let verdict = perform(alloc, words, files, input, out);
+    match report_of(alloc, &verdict) {
+        Ok(report) => {
+            put_report(err, &report);
+            verdict.status()
+        }
+        Err(_) => {
+            put_no_memory(err);
+            Verdict::NoMemory.status()
+        }
+    }
+}
