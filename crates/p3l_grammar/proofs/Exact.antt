@@ -210,7 +210,7 @@ stops_at (t ∷ ts) s left h = at (step s (symbol t)) refl (stops_at ts) h
           stopped = r.stopped;
         }
 
-symbols_append : (a b : List Token) → symbols (a ++ b) ≡ symbols a ++ symbols b
+pub symbols_append : (a b : List Token) → symbols (a ++ b) ≡ symbols a ++ symbols b
 symbols_append [] b = refl
 symbols_append (t ∷ a) b = ap (λ q. symbol t ∷ q) (symbols_append a b)
 

@@ -2,3 +2,4 @@ pub mod Heads
 pub mod Complete
 pub mod Sound
 pub mod Exact
+pub mod Nesting

@@ -147,7 +147,7 @@ mark_again marks.Caret = refl
 mark_again marks.Bang = refl
 mark_again marks.Tilde = refl
 
-mark_same : (m m' : Mark) → mark_number m ≡ mark_number m' → m ≡ m'
+pub mark_same : (m m' : Mark) → mark_number m ≡ mark_number m' → m ≡ m'
 mark_same m m' p = sym (mark_again m) ∙ ap mark_of p ∙ mark_again m'
 
 -- the next symbol, put behind

@@ -133,6 +133,10 @@ local_from go = port_from (λ p. await marks.Semicolon (go p))
 abbrev pub block : (Code → State) → State
 block go = await marks.OpenBrace (another_stmt done (λ b. await marks.CloseBrace (go b)))
 
+-- what stands behind the name of a place that is read
+abbrev pub place_from : Spot → (Phrase → State) → State
+place_from x go = another_index none (λ is. go (read x is))
+
 abbrev pub setting_from : Spot → (Phrases → Phrase → State) → State
 setting_from x go = another_index none (λ is. await marks.Assign (expression (λ e. go is e)))
 
