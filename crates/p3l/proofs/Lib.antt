@@ -7,3 +7,4 @@ pub mod StreamSteps
 pub mod RunSteps
 pub mod TopSteps
 pub mod ExecutionSteps
+pub mod AnswerSteps

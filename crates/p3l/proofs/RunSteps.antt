@@ -5,7 +5,7 @@ use Rattle.p3l_stream.specs.declared.taken.Stop.TheVariants as stop
 use Rattle.p3l_stream.specs.declared.items.Ending.{Ending}
 use Rattle.p3l_stream.specs.declared.items.Ending.TheVariants as ending
 use Rattle.p3l_stream.specs.declared.items.Items.{Items}
-use Rattle.p3l_stream.specs.Items.{items_taken}
+use Rattle.p3l_stream.specs.Items.{Begins, items_of, items_taken}
 use Rattle.p3l_stream.specs.Taken.{IsDrained, IsLost}
 use Rattle.p3l_stream.specs.Text.{text_of}
 use Rattle.p3l.specs.declared.stats.Stats.{Stats}
@@ -58,8 +58,9 @@ writes_begun factor summand rest bytes taken text new out how stats read done be
 -- all was written
 pub finishes : (factor summand : ℤ) (rest bytes taken text : List ℕ) (new out : Option (List ℕ)) (how : Stop) (read_items : Items) (stats : Stats) → IsRead rest new bytes how →
     read_items ≡ items_taken 1 how bytes → ((how ≡ stop.Limit) ↔ (length bytes ≡ input_limit)) →
-    IsExecuted factor summand read_items.items text stats → out ≡ Some (taken ++ text) → Finishes factor summand rest new taken out read_items.ending stats
-finishes factor summand rest bytes taken text new out how read_items stats read same limit done written =
+    IsExecuted factor summand read_items.items text stats → out ≡ Some (taken ++ text) →
+    ((more : List ℕ) → (how ≡ stop.End → more ≡ []) → Begins read_items.items read_items.ending (items_of 1 (bytes ++ more))) → Finishes factor summand rest new taken out read_items.ending stats
+finishes factor summand rest bytes taken text new out how read_items stats read same limit done written first =
     record {
       bytes = bytes;
       how = how;
@@ -69,4 +70,7 @@ finishes factor summand rest bytes taken text new out how read_items stats read 
       executed = subst (λ i. IsExecuted factor summand i.items text stats) same done;
       close_is = ap (λ i. i.ending) same;
       full = λ z. limit.0 (items_limit 1 how bytes (sym (ap (λ i. i.ending) same) ∙ z));
+      first =
+          subst (λ i. Begins i.items read_items.ending (items_of 1 rest)) same
+          (subst (λ r. Begins read_items.items read_items.ending (items_of 1 r)) (sym read.read_is) (first read.left read.ended));
     }

@@ -93,3 +93,13 @@ lines_wide width number close (bytes ∷ lines) =
 -- each item has so many words
 pub items_wide : (width : ℕ) (how : Stop) (bytes : List ℕ) → All (λ words. length words ≡ width) (items_taken width how bytes).items
 items_wide width how bytes = lines_wide width 1 (closing how) (lines_of how bytes)
+
+closing_end : (how : Stop) → closing how ≡ ending.End → how ≡ stop.End
+closing_end stop.End h = refl
+closing_end stop.Fault h = absurd cc
+closing_end stop.Limit h = absurd cc
+
+-- the items end with the input only where the taking did
+pub items_end : (width : ℕ) (how : Stop) (bytes : List ℕ) → (items_taken width how bytes).ending ≡ ending.End → how ≡ stop.End
+items_end width how bytes =
+    of_lines (λ e. e ≡ ending.End → how ≡ stop.End) (λ n h. absurd cc) (λ n had h. absurd cc) (λ n h. absurd cc) width 1 (closing how) (lines_of how bytes) (closing_end how)

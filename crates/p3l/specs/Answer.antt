@@ -8,7 +8,7 @@ use Rattle.p3l_stream.specs.declared.taken.Stop.{Stop}
 use Rattle.p3l_stream.specs.declared.taken.Stop.TheVariants as stop
 use Rattle.p3l_stream.specs.declared.items.Ending.{Ending}
 use Rattle.p3l_stream.specs.declared.items.Ending.TheVariants as ending
-use Rattle.p3l_stream.specs.Items.{items_taken}
+use Rattle.p3l_stream.specs.Items.{Begins, items_of, items_taken}
 use Rattle.p3l_stream.specs.Text.{text_of}
 use Rattle.p3l.specs.declared.stats.Stats.{Stats}
 use Rattle.p3l.specs.declared.verdict.Verdict.{Verdict}
@@ -76,6 +76,8 @@ pub record Finishes (factor summand : ℤ) (rest : List ℕ) (rest' : Option (Li
   pub executed : IsExecuted factor summand (items_taken 1 how bytes).items written stats
   pub close_is : close ≡ (items_taken 1 how bytes).ending
   pub full : close ≡ ending.TooLong → length bytes ≡ input_limit
+  -- these items are the first of all that the input holds, and this ending is theirs
+  pub first : Begins (items_taken 1 how bytes).items close (items_of 1 rest)
 
 -- nothing was taken, and nothing written
 pub record IsUntouched (rest : List ℕ) (rest' : Option (List ℕ)) (taken : List ℕ) (taken' : Option (List ℕ)) : Type 0 where
@@ -166,3 +168,20 @@ pub record Answers (words : List (List ℕ)) (files : Change Held) (input out er
   pub due : (held : Held) (rest taken : List ℕ) → files.old ≡ Some held → input.old ≡ Some rest → out.old ≡ Some taken →
       IsDue held words rest input.new taken out.new verdict
   pub says : (said : List ℕ) → err.old ≡ Some said → (Rose err.before err.now → ⊥) → err.new ≡ Some (said ++ lines_of verdict)
+
+-- a program that is held was run on the whole input, each line of which is an item or has no words, and all of the text of its
+-- meaning was written
+pub record IsDone (held : Held) (words : List (List ℕ)) (rest : List ℕ) (rest' : Option (List ℕ)) (taken : List ℕ) (taken' : Option (List ℕ)) : Type 0 where
+  pub reported : Bool
+  pub factor : ℤ
+  pub summand : ℤ
+  pub program : HasProgram held words reported factor summand
+  pub input_ended : rest' ≡ Some []
+  pub all_items : (items_of 1 rest).ending ≡ ending.End
+  pub taken_is : taken' ≡ Some (taken ++ text_of (meaning_of factor summand (items_of 1 rest).items))
+
+-- a file that the words ask to run is longer than the limit
+pub record HasTooLong (held : Held) (words : List (List ℕ)) : Type 0 where
+  pub name : List ℕ
+  pub asked : RunsFile words name
+  pub longer : IsTooLong held name

@@ -11,6 +11,8 @@ mod load;
 mod report;
 mod run;
 mod stats;
+#[cfg(test)]
+mod tests;
 pub mod top;
 mod verdict;
 mod write;

@@ -1,10 +1,10 @@
 // The top call: from the words of the command line to the status.
 
-ghost use Rattle.std.specs.Prelude.{◌≡◌, ◌<◌, ◌⊎◌, List, ℕ, Some, map};
+ghost use Rattle.std.specs.Prelude.{◌≡◌, ◌≢◌, ◌<◌, ◌⊎◌, List, ℕ, Some, map};
 ghost use Rattle.p3l_io.specs.Causes.{Rose};
 ghost use Rattle.p3l_io.specs.Told.{Held};
 ghost use Rattle.p3l.specs.Request.{Request, Spells};
-ghost use Rattle.p3l.specs.Answer.{Answers, AsksRun, IsCaused, IsDue};
+ghost use Rattle.p3l.specs.Answer.{Answers, AsksRun, HasTooLong, IsCaused, IsDone, IsDue};
 
 use crate::command::{Command, command_of};
 use crate::load::load;
@@ -57,9 +57,8 @@ fn perform<'a, F: Files, S: Source, K: Sink>(
     }
 }
 
-/// The program: does what the words ask for with the files, the input, the output and the standard error, and gives the
-/// status that it ends with.
-pub fn top<F: Files, S: Source, K: Sink, E: Sink>(
+/// Does what the words ask for, and puts the lines that are due on the standard error.
+fn answer<F: Files, S: Source, K: Sink, E: Sink>(
     alloc: Global,
     words: &[&str],
     files: &mut F,
@@ -73,7 +72,6 @@ pub fn top<F: Files, S: Source, K: Sink, E: Sink>(
         (record { old = K.taken out.old; new = K.taken out.new; before = K.faults out.old; now = K.faults out.new })
         (record { old = E.taken err.old; new = E.taken err.new; before = E.faults err.old; now = E.faults err.new })
         result.0 }
-    // No file is changed.
     ensures files_stay { F.held files.new ≡ F.held files.old }
 {
     let verdict = perform(alloc, words, files, input, out);
@@ -87,4 +85,45 @@ pub fn top<F: Files, S: Source, K: Sink, E: Sink>(
             Verdict::NoMemory.status()
         }
     }
+}
+
+/// The program: does what the words ask for with the files, the input, the output and the standard error, and gives the
+/// status that it ends with.
+pub fn top<F: Files, S: Source, K: Sink, E: Sink>(
+    alloc: Global,
+    words: &[&str],
+    files: &mut F,
+    input: &mut S,
+    out: &mut K,
+    err: &mut E,
+) -> Status
+    // How it ended: with this status, its causes, what was written, and the lines that are due.
+    ensures answers { Answers (map (λ word. word.now) words.now)
+        (record { old = F.held files.old; new = F.held files.new; before = F.faults files.old; now = F.faults files.new })
+        (record { old = S.rest input.old; new = S.rest input.new; before = S.faults input.old; now = S.faults input.new })
+        (record { old = K.taken out.old; new = K.taken out.new; before = K.faults out.old; now = K.faults out.new })
+        (record { old = E.taken err.old; new = E.taken err.new; before = E.faults err.old; now = E.faults err.new })
+        result.0 }
+
+    // With status 0 the input was read to its end and the whole was written.
+    ensures done { (held : Held) (rest taken : List ℕ) → F.held files.old ≡ Some held → S.rest input.old ≡ Some rest → K.taken out.old ≡ Some taken
+        → result.0 ≡ 0 → IsDone held (map (λ word. word.now) words.now) rest (S.rest input.new) taken (K.taken out.new) }
+
+    // Words that are no command: exactly then the status is 2.
+    ensures usage_only { result.0 ≡ 2 → (request : Request) → Spells (map (λ word. word.now) words.now) request → ⊥ }
+    ensures usage_where { ((request : Request) → Spells (map (λ word. word.now) words.now) request → ⊥) → result.0 ≡ 2 }
+
+    // A fault is answered only where the count of the object rose in this call; 9 also where the file is too long.
+    ensures read_fault { result.0 ≡ 8 → Rose (S.faults input.old) (S.faults input.new) }
+    ensures write_fault { result.0 ≡ 10 → Rose (K.faults out.old) (K.faults out.new) }
+    ensures file_fault { (held : Held) (rest taken : List ℕ) → F.held files.old ≡ Some held → S.rest input.old ≡ Some rest → K.taken out.old ≡ Some taken
+        → result.0 ≡ 9 → Rose (F.faults files.old) (F.faults files.new) ⊎ HasTooLong held (map (λ word. word.now) words.now) }
+
+    // No failure is dropped, and no file is changed.
+    ensures out_failed { K.faults out.old < K.faults out.new → (result.0 ≡ 10) ⊎ (result.0 ≡ 11) }
+    ensures files_failed { F.faults files.old < F.faults files.new → (result.0 ≡ 9) ⊎ (result.0 ≡ 11) }
+    ensures input_failed { S.faults input.old < S.faults input.new → (result.0 ≢ 0) × (result.0 ≢ 14) }
+    ensures files_stay { F.held files.new ≡ F.held files.old }
+{
+    answer(alloc, words, files, input, out, err)
 }

@@ -1,13 +1,29 @@
-use Rattle.std.proofs.Common.{refl}
-use Rattle.p3l.specs.declared.verdict.Verdict.TheVariants as verdict
-use Rattle.p3l.proofs.TopSteps.{due_no_memory, caused_no_memory}
+use Rattle.p3l.proofs.AnswerSteps as steps
 use Rattle.p3l.proofs.top.top.Goals as goal
 
-pub returns-in-Err-clause-answers : goal.returns-in-Err-clause-answers
-returns-in-Err-clause-answers g c = record {
-  verdict = verdict.NoMemory;
-  status_is = c.status-in-Err.ensures;
-  caused = caused_no_memory _ _ _ _ _ _ _ c.perform-verdict.result (λ u. (let z = c.in-Err.ensures.usage u in cc)) c.perform-verdict.ensures.caused;
-  due = λ held rest taken told_held told_rest told_taken. due_no_memory held _ rest taken _ _ c.perform-verdict.result (λ u. (let z = c.in-Err.ensures.usage u in cc)) (c.perform-verdict.ensures.due held rest taken told_held told_rest told_taken);
-  says = c.put_no_memory.ensures.told;
-}
+pub returns-clause-done : goal.returns-clause-done
+returns-clause-done g c = steps.done _ _ _ _ _ _ c.answer.ensures.answers
+
+pub returns-clause-usage_only : goal.returns-clause-usage_only
+returns-clause-usage_only g c = steps.usage_only _ _ _ _ _ _ c.answer.ensures.answers
+
+pub returns-clause-usage_where : goal.returns-clause-usage_where
+returns-clause-usage_where g c = steps.usage_where _ _ _ _ _ _ c.answer.ensures.answers
+
+pub returns-clause-read_fault : goal.returns-clause-read_fault
+returns-clause-read_fault g c = steps.read_fault _ _ _ _ _ _ c.answer.ensures.answers
+
+pub returns-clause-write_fault : goal.returns-clause-write_fault
+returns-clause-write_fault g c = steps.write_fault _ _ _ _ _ _ c.answer.ensures.answers
+
+pub returns-clause-file_fault : goal.returns-clause-file_fault
+returns-clause-file_fault g c = steps.file_fault _ _ _ _ _ _ c.answer.ensures.answers
+
+pub returns-clause-out_failed : goal.returns-clause-out_failed
+returns-clause-out_failed g c = steps.out_failed _ _ _ _ _ _ c.answer.ensures.answers
+
+pub returns-clause-files_failed : goal.returns-clause-files_failed
+returns-clause-files_failed g c = steps.files_failed _ _ _ _ _ _ c.answer.ensures.answers
+
+pub returns-clause-input_failed : goal.returns-clause-input_failed
+returns-clause-input_failed g c = steps.input_failed _ _ _ _ _ _ c.answer.ensures.answers

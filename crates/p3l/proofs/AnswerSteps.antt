@@ -1,0 +1,186 @@
+-- What an answer says of its status.
+use Rattle.std.proofs.Common.{◌≡◌, ◌≢◌, ℕ, ℤ, ◌<◌, Bool, List, [], ◌++◌, ◌⊎◌, Option, Some, None, refl, sym, ap, subst, inl, inr, ◌∙◌, arith, append-nil}
+use Rattle.p3l_io.specs.Causes.{Rose}
+use Rattle.p3l_io.specs.Told.{Held}
+use Rattle.p3l_stream.specs.declared.taken.Stop.{Stop}
+use Rattle.p3l_stream.specs.declared.taken.Stop.TheVariants as stop
+use Rattle.p3l_stream.specs.declared.items.Ending.{Ending}
+use Rattle.p3l_stream.specs.declared.items.Ending.TheVariants as ending
+use Rattle.p3l_stream.specs.Items.{items_of, items_taken}
+use Rattle.p3l_stream.specs.Text.{text_of}
+use Rattle.p3l.specs.declared.stats.Stats.{Stats}
+use Rattle.p3l.specs.declared.verdict.Verdict.{Verdict}
+use Rattle.p3l.specs.declared.verdict.Verdict.TheVariants as verdict
+use Rattle.p3l.specs.Request.{Request, run, Spells}
+use Rattle.p3l.specs.Verdict.{status_of, stream_status_of}
+use Rattle.p3l.specs.Execution.{meaning_of}
+use Rattle.p3l.specs.Answer.{Answers, Change, IsCaused, IsDue, IsStreamCause, IsDone, EndsRun, IsRunCommand, RunsFile, HasTooLong}
+use Rattle.p3l.proofs.StreamSteps.{items_end}
+
+-- only these endings of the stream have these statuses
+done_end : (close : Ending) → stream_status_of close ≡ 0 → close ≡ ending.End
+done_end ending.End h = refl
+done_end (ending.BadWord line) h = absurd (omega arith)
+done_end (ending.WrongCount line had) h = absurd (omega arith)
+done_end (ending.OutOfRange line) h = absurd (omega arith)
+done_end ending.ReadFault h = absurd (omega arith)
+done_end ending.TooLong h = absurd (omega arith)
+
+fault_end : (close : Ending) (before now : ℕ) → stream_status_of close ≡ 8 → IsStreamCause close before now → Rose before now
+fault_end ending.End before now h cause = absurd (omega arith)
+fault_end (ending.BadWord line) before now h cause = absurd (omega arith)
+fault_end (ending.WrongCount line had) before now h cause = absurd (omega arith)
+fault_end (ending.OutOfRange line) before now h cause = absurd (omega arith)
+fault_end ending.ReadFault before now h cause = cause
+fault_end ending.TooLong before now h cause = absurd (omega arith)
+
+-- a status of a stream is none of the others
+stream_status : (close : Ending) (n : ℕ) → stream_status_of close ≡ n → (n ≢ 2) × (n ≢ 9) × (n ≢ 10)
+stream_status ending.End n h = (λ z. absurd (omega arith), λ z. absurd (omega arith), λ z. absurd (omega arith))
+stream_status (ending.BadWord line) n h = (λ z. absurd (omega arith), λ z. absurd (omega arith), λ z. absurd (omega arith))
+stream_status (ending.WrongCount line had) n h = (λ z. absurd (omega arith), λ z. absurd (omega arith), λ z. absurd (omega arith))
+stream_status (ending.OutOfRange line) n h = (λ z. absurd (omega arith), λ z. absurd (omega arith), λ z. absurd (omega arith))
+stream_status ending.ReadFault n h = (λ z. absurd (omega arith), λ z. absurd (omega arith), λ z. absurd (omega arith))
+stream_status ending.TooLong n h = (λ z. absurd (omega arith), λ z. absurd (omega arith), λ z. absurd (omega arith))
+
+-- a count that rose is no cause of an end, nor of a limit
+risen_end : (close : Ending) (before now n : ℕ) → stream_status_of close ≡ n → IsStreamCause close before now → before < now → (n ≢ 0) × (n ≢ 14)
+risen_end ending.End before now n h cause up = absurd (omega arith)
+risen_end (ending.BadWord line) before now n h cause up = (λ z. absurd (omega arith), λ z. absurd (omega arith))
+risen_end (ending.WrongCount line had) before now n h cause up = (λ z. absurd (omega arith), λ z. absurd (omega arith))
+risen_end (ending.OutOfRange line) before now n h cause up = (λ z. absurd (omega arith), λ z. absurd (omega arith))
+risen_end ending.ReadFault before now n h cause up = (λ z. absurd (omega arith), λ z. absurd (omega arith))
+risen_end ending.TooLong before now n h cause up = absurd (omega arith)
+
+module _ (words : List (List ℕ)) (files files' input input' out out' : ℕ) where
+  usage_only_by : (v : Verdict) → status_of v ≡ 2 → IsCaused words files files' input input' out out' v → (request : Request) → Spells words request → ⊥
+  usage_only_by verdict.Usage h cause = cause.0
+  usage_only_by (verdict.FileFault name) h cause = absurd (omega arith)
+  usage_only_by (verdict.FileTooLong name) h cause = absurd (omega arith)
+  usage_only_by (verdict.Source fault pos) h cause = absurd (omega arith)
+  usage_only_by (verdict.Ran close stats reported) h cause = absurd ((stream_status close 2 h).0 refl)
+  usage_only_by verdict.WriteFault h cause = absurd (omega arith)
+  usage_only_by verdict.NoMemory h cause = absurd (omega arith)
+
+  spelled_not : IsRunCommand words → ((request : Request) → Spells words request → ⊥) → ⊥
+  spelled_not c none = none (run c.name c.runs.asked.processors c.runs.reported) c.runs.asked.spelled
+
+  usage_where_by : (v : Verdict) → IsCaused words files files' input input' out out' v → ((request : Request) → Spells words request → ⊥) → status_of v ≡ 2
+  usage_where_by verdict.Usage cause none = refl
+  usage_where_by (verdict.FileFault name) cause none = absurd (spelled_not (record { name = name.now; runs = cause.0 }) none)
+  usage_where_by (verdict.FileTooLong name) cause none = absurd (spelled_not (record { name = name.now; runs = cause.0 }) none)
+  usage_where_by (verdict.Source fault pos) cause none = absurd (spelled_not cause.0 none)
+  usage_where_by (verdict.Ran close stats reported) cause none = absurd (spelled_not cause.0 none)
+  usage_where_by verdict.WriteFault cause none = absurd (spelled_not cause.0 none)
+  usage_where_by verdict.NoMemory cause none = absurd (spelled_not cause none)
+
+  read_fault_by : (v : Verdict) → status_of v ≡ 8 → IsCaused words files files' input input' out out' v → Rose input input'
+  read_fault_by verdict.Usage h cause = absurd (omega arith)
+  read_fault_by (verdict.FileFault name) h cause = absurd (omega arith)
+  read_fault_by (verdict.FileTooLong name) h cause = absurd (omega arith)
+  read_fault_by (verdict.Source fault pos) h cause = absurd (omega arith)
+  read_fault_by (verdict.Ran close stats reported) h cause = fault_end close input input' h cause.2
+  read_fault_by verdict.WriteFault h cause = absurd (omega arith)
+  read_fault_by verdict.NoMemory h cause = absurd (omega arith)
+
+  write_fault_by : (v : Verdict) → status_of v ≡ 10 → IsCaused words files files' input input' out out' v → Rose out out'
+  write_fault_by verdict.Usage h cause = absurd (omega arith)
+  write_fault_by (verdict.FileFault name) h cause = absurd (omega arith)
+  write_fault_by (verdict.FileTooLong name) h cause = absurd (omega arith)
+  write_fault_by (verdict.Source fault pos) h cause = absurd (omega arith)
+  write_fault_by (verdict.Ran close stats reported) h cause = absurd ((stream_status close 10 h).2 refl)
+  write_fault_by verdict.WriteFault h cause = cause.2
+  write_fault_by verdict.NoMemory h cause = absurd (omega arith)
+
+  out_failed_by : (v : Verdict) → IsCaused words files files' input input' out out' v → out < out' → (status_of v ≡ 10) ⊎ (status_of v ≡ 11)
+  out_failed_by verdict.Usage cause up = absurd (omega (arith, cause.3))
+  out_failed_by (verdict.FileFault name) cause up = absurd (omega (arith, cause.3))
+  out_failed_by (verdict.FileTooLong name) cause up = absurd (omega (arith, cause.3))
+  out_failed_by (verdict.Source fault pos) cause up = absurd (omega (arith, cause.3))
+  out_failed_by (verdict.Ran close stats reported) cause up = absurd (omega (arith, cause.3))
+  out_failed_by verdict.WriteFault cause up = inl refl
+  out_failed_by verdict.NoMemory cause up = inr refl
+
+  files_failed_by : (v : Verdict) → IsCaused words files files' input input' out out' v → files < files' → (status_of v ≡ 9) ⊎ (status_of v ≡ 11)
+  files_failed_by verdict.Usage cause up = absurd (omega (arith, cause.1))
+  files_failed_by (verdict.FileFault name) cause up = inl refl
+  files_failed_by (verdict.FileTooLong name) cause up = inl refl
+  files_failed_by (verdict.Source fault pos) cause up = absurd (omega (arith, cause.1))
+  files_failed_by (verdict.Ran close stats reported) cause up = absurd (omega (arith, cause.1))
+  files_failed_by verdict.WriteFault cause up = absurd (omega (arith, cause.1))
+  files_failed_by verdict.NoMemory cause up = inr refl
+
+  input_failed_by : (v : Verdict) → IsCaused words files files' input input' out out' v → input < input' → (status_of v ≢ 0) × (status_of v ≢ 14)
+  input_failed_by verdict.Usage cause up = absurd (omega (arith, cause.2))
+  input_failed_by (verdict.FileFault name) cause up = absurd (omega (arith, cause.2))
+  input_failed_by (verdict.FileTooLong name) cause up = absurd (omega (arith, cause.2))
+  input_failed_by (verdict.Source fault pos) cause up = absurd (omega (arith, cause.2))
+  input_failed_by (verdict.Ran close stats reported) cause up = risen_end close input input' (stream_status_of close) refl cause.2 up
+  input_failed_by verdict.WriteFault cause up = (λ z. absurd (omega arith), λ z. absurd (omega arith))
+  input_failed_by verdict.NoMemory cause up = (λ z. absurd (omega arith), λ z. absurd (omega arith))
+
+  file_fault_by : (held : Held) (rest taken : List ℕ) (rest' taken' : Option (List ℕ)) (v : Verdict) → status_of v ≡ 9 → IsCaused words files files' input input' out out' v →
+      IsDue held words rest rest' taken taken' v → Rose files files' ⊎ HasTooLong held words
+  file_fault_by held rest taken rest' taken' verdict.Usage h cause due = absurd (omega arith)
+  file_fault_by held rest taken rest' taken' (verdict.FileFault name) h cause due = inl cause.1
+  file_fault_by held rest taken rest' taken' (verdict.FileTooLong name) h cause due = inr (record { name = name.now; asked = cause.0; longer = due.1 })
+  file_fault_by held rest taken rest' taken' (verdict.Source fault pos) h cause due = absurd (omega arith)
+  file_fault_by held rest taken rest' taken' (verdict.Ran close stats reported) h cause due = absurd ((stream_status close 9 h).1 refl)
+  file_fault_by held rest taken rest' taken' verdict.WriteFault h cause due = absurd (omega arith)
+  file_fault_by held rest taken rest' taken' verdict.NoMemory h cause due = absurd (omega arith)
+
+ended_done : (held : Held) (words : List (List ℕ)) (rest taken : List ℕ) (rest' taken' : Option (List ℕ)) (close : Ending) (stats : Stats) (reported : Bool) → close ≡ ending.End →
+    EndsRun held words rest rest' taken taken' close stats reported → IsDone held words rest rest' taken taken'
+ended_done held words rest taken rest' taken' close stats reported end e =
+    let f = e.finishes in
+    let how : f.how ≡ stop.End = items_end 1 f.how f.bytes (sym f.close_is ∙ end) in
+    let none : f.read.left ≡ [] = f.read.ended how in
+    let bytes : rest ≡ f.bytes = f.read.read_is ∙ ap (λ l. f.bytes ++ l) none ∙ append-nil f.bytes in
+    let items : items_taken 1 f.how f.bytes ≡ items_of 1 rest = ap (λ h. items_taken 1 h f.bytes) how ∙ ap (items_of 1) (sym bytes) in
+    record {
+      reported = reported;
+      factor = e.factor;
+      summand = e.summand;
+      program = e.program;
+      input_ended = f.read.left_is ∙ ap Some none;
+      all_items = sym (ap (λ i. i.ending) items) ∙ sym f.close_is ∙ end;
+      taken_is = f.taken_is ∙ ap (λ t. Some (taken ++ t)) (f.executed.text_is ∙ ap text_of f.executed.emitted_is ∙ ap (λ i. text_of (meaning_of e.factor e.summand i.items)) items);
+    }
+
+done_by : (held : Held) (words : List (List ℕ)) (rest taken : List ℕ) (rest' taken' : Option (List ℕ)) (v : Verdict) → status_of v ≡ 0 → IsDue held words rest rest' taken taken' v → IsDone held words rest rest' taken taken'
+done_by held words rest taken rest' taken' verdict.Usage h due = absurd (omega arith)
+done_by held words rest taken rest' taken' (verdict.FileFault name) h due = absurd (omega arith)
+done_by held words rest taken rest' taken' (verdict.FileTooLong name) h due = absurd (omega arith)
+done_by held words rest taken rest' taken' (verdict.Source fault pos) h due = absurd (omega arith)
+done_by held words rest taken rest' taken' (verdict.Ran close stats reported) h due = ended_done held words rest taken rest' taken' close stats reported (done_end close h) due
+done_by held words rest taken rest' taken' verdict.WriteFault h due = absurd (omega arith)
+done_by held words rest taken rest' taken' verdict.NoMemory h due = absurd (omega arith)
+
+-- what an answer says
+module _ (words : List (List ℕ)) (files : Change Held) (input out err : Change (List ℕ)) (status : ℕ) (a : Answers words files input out err status) where
+  pub done : (held : Held) (rest taken : List ℕ) → files.old ≡ Some held → input.old ≡ Some rest → out.old ≡ Some taken → status ≡ 0 → IsDone held words rest input.new taken out.new
+  done held rest taken f i o h = done_by held words rest taken input.new out.new a.verdict (sym a.status_is ∙ h) (a.due held rest taken f i o)
+
+  pub usage_only : status ≡ 2 → (request : Request) → Spells words request → ⊥
+  usage_only h = usage_only_by words _ _ _ _ _ _ a.verdict (sym a.status_is ∙ h) a.caused
+
+  pub usage_where : ((request : Request) → Spells words request → ⊥) → status ≡ 2
+  usage_where none = a.status_is ∙ usage_where_by words _ _ _ _ _ _ a.verdict a.caused none
+
+  pub read_fault : status ≡ 8 → Rose input.before input.now
+  read_fault h = read_fault_by words _ _ _ _ _ _ a.verdict (sym a.status_is ∙ h) a.caused
+
+  pub write_fault : status ≡ 10 → Rose out.before out.now
+  write_fault h = write_fault_by words _ _ _ _ _ _ a.verdict (sym a.status_is ∙ h) a.caused
+
+  pub file_fault : (held : Held) (rest taken : List ℕ) → files.old ≡ Some held → input.old ≡ Some rest → out.old ≡ Some taken → status ≡ 9 → Rose files.before files.now ⊎ HasTooLong held words
+  file_fault held rest taken f i o h = file_fault_by words _ _ _ _ _ _ held rest taken input.new out.new a.verdict (sym a.status_is ∙ h) a.caused (a.due held rest taken f i o)
+
+  pub out_failed : out.before < out.now → (status ≡ 10) ⊎ (status ≡ 11)
+  out_failed up = subst (λ s. (s ≡ 10) ⊎ (s ≡ 11)) (sym a.status_is) (out_failed_by words _ _ _ _ _ _ a.verdict a.caused up)
+
+  pub files_failed : files.before < files.now → (status ≡ 9) ⊎ (status ≡ 11)
+  files_failed up = subst (λ s. (s ≡ 9) ⊎ (s ≡ 11)) (sym a.status_is) (files_failed_by words _ _ _ _ _ _ a.verdict a.caused up)
+
+  pub input_failed : input.before < input.now → (status ≢ 0) × (status ≢ 14)
+  input_failed up = subst (λ s. (s ≢ 0) × (s ≢ 14)) (sym a.status_is) (input_failed_by words _ _ _ _ _ _ a.verdict a.caused up)

@@ -1,0 +1,252 @@
+// The program over objects in memory: what it writes, says and answers.
+
+use crate::top::top;
+use p3l_base::List;
+use p3l_io::{MemFiles, MemSink, MemSource, PutFail};
+use std::alloc::Global;
+use std::process::Abort;
+use std::test::Fail;
+
+const DOUBLE: &str = "seq main in(int x) out(int y)\n${ y = x * 2 + 1; }$\nend seq\n";
+
+const RUN: [&str; 4] = ["run", "m.p3l", "--processors", "4"];
+
+const REPORTED: [&str; 5] = ["run", "m.p3l", "--processors", "4", "--stats"];
+
+/// A command, a file `m.p3l`, an input in pieces of one byte, and the calls that fail.
+#[derive(Clone, Copy)]
+struct World<'a> {
+    words: &'a [&'a str],
+    program: &'a str,
+    input: &'a str,
+    takes: &'a [u64],
+    reads: &'a [u64],
+    puts: &'a [PutFail],
+    says: &'a [PutFail],
+}
+
+/// The world of a command and an input in which no call fails.
+fn sound<'a>(words: &'a [&'a str], program: &'a str, input: &'a str) -> World<'a> {
+    World {
+        words,
+        program,
+        input,
+        takes: &[],
+        reads: &[],
+        puts: &[],
+        says: &[],
+    }
+}
+
+fn list<T: Copy + Drop>(alloc: Global, items: &[T]) -> Result<List<T>, Fail> {
+    Ok(List::from_vec(Vec::from_slice(alloc, items)?))
+}
+
+/// Runs the program in a world, and compares the status, the output and the lines.
+fn compare(
+    rt: &impl Abort,
+    alloc: Global,
+    world: &World,
+    status: u8,
+    output: &str,
+    lines: &str,
+) -> Result<(), Fail> {
+    let mut files = MemFiles::new(alloc, list(alloc, world.reads)?);
+    files.add("m.p3l", world.program.as_bytes())?;
+    let mut input = MemSource::new(
+        list(alloc, world.input.as_bytes())?,
+        1,
+        list(alloc, world.takes)?,
+    );
+    let mut out = MemSink::new(alloc, 65_536, list(alloc, world.puts)?)?;
+    let mut err = MemSink::new(alloc, 65_536, list(alloc, world.says)?)?;
+    let answer = top(
+        alloc,
+        world.words,
+        &mut files,
+        &mut input,
+        &mut out,
+        &mut err,
+    );
+    assert_eq!(rt; answer.0, status);
+    assert_eq!(rt; out.taken(), output.as_bytes());
+    assert_eq!(rt; err.taken(), lines.as_bytes());
+    Ok(())
+}
+
+#[test]
+fn inputs_are_run_to_their_endings(rt: HostRuntime) -> Result<(), Fail> {
+    let table: [(&str, u8, &str, &str); 9] = [
+        ("1\n2\n-3\n", 0, "3\n5\n-5\n", ""),
+        ("", 0, "", ""),
+        ("9223372036854775807\n", 0, "-1\n", ""),
+        (
+            "9223372036854775808\n",
+            6,
+            "",
+            "stream: line 1: 102 OutOfRange\n",
+        ),
+        (
+            "1\n2\n1 x\n4\n",
+            6,
+            "3\n5\n",
+            "stream: line 3: 100 BadWord\n",
+        ),
+        ("+1\n", 6, "", "stream: line 1: 100 BadWord\n"),
+        ("\n7\r\n8", 0, "15\n17\n", ""),
+        ("1 2\n", 6, "", "stream: line 1: 101 WrongCount 2\n"),
+        (
+            "1\n1\n1\n1\n1\n1\n1\n1\n1\n",
+            0,
+            "3\n3\n3\n3\n3\n3\n3\n3\n3\n",
+            "",
+        ),
+    ];
+    for (input, status, output, lines) in table {
+        compare(
+            &rt,
+            rt.alloc(),
+            &sound(&RUN, DOUBLE, input),
+            status,
+            output,
+            lines,
+        )?;
+    }
+    Ok(())
+}
+
+#[test]
+fn the_numbers_of_a_run_come_before_its_line(rt: HostRuntime) -> Result<(), Fail> {
+    let table: [(&str, u8, &str, &str); 3] = [
+        (
+            "1\n2\n-3\n",
+            0,
+            "3\n5\n-5\n",
+            "stats: items 3, fired 9, idle 0, bound 9\n",
+        ),
+        ("", 0, "", "stats: items 0, fired 0, idle 0, bound 0\n"),
+        (
+            "9223372036854775808\n",
+            6,
+            "",
+            "stats: items 0, fired 0, idle 0, bound 0\nstream: line 1: 102 OutOfRange\n",
+        ),
+    ];
+    for (input, status, output, lines) in table {
+        compare(
+            &rt,
+            rt.alloc(),
+            &sound(&REPORTED, DOUBLE, input),
+            status,
+            output,
+            lines,
+        )?;
+    }
+    Ok(())
+}
+
+#[test]
+fn words_files_and_texts_are_refused(rt: HostRuntime) -> Result<(), Fail> {
+    let usage = "usage: the words are not a command of p3l\n";
+    let not_yet = "source: 1:1: 7 NotYet\n";
+    let table: [(&[&str], &str, u8, &str); 11] = [
+        (&[], DOUBLE, 2, usage),
+        (&["walk"], DOUBLE, 2, usage),
+        (&["run", "m.p3l", "--processors", "0"], DOUBLE, 2, usage),
+        (&["run", "m.p3l", "--processors", "513"], DOUBLE, 2, usage),
+        (&["run", "m.p3l", "--processors", "04"], DOUBLE, 2, usage),
+        (&["run", "m.p3l", "--processors", "+4"], DOUBLE, 2, usage),
+        (
+            &["run", "m.p3l", "--stats", "--processors", "4"],
+            DOUBLE,
+            2,
+            usage,
+        ),
+        (
+            &["run", "none.p3l", "--processors", "4"],
+            DOUBLE,
+            9,
+            "file fault: none.p3l\n",
+        ),
+        (&RUN, "", 3, not_yet),
+        (
+            &RUN,
+            "seq main in(int x) out(int x) ${ x = x * 2 + 1; }$ end seq",
+            3,
+            not_yet,
+        ),
+        (
+            &REPORTED,
+            "seq main in(int x) out(int y) ${ y = x + 1; }$ end seq",
+            3,
+            not_yet,
+        ),
+    ];
+    for (words, program, status, lines) in table {
+        compare(
+            &rt,
+            rt.alloc(),
+            &sound(words, program, "1\n"),
+            status,
+            "",
+            lines,
+        )?;
+    }
+    Ok(())
+}
+
+#[test]
+fn each_take_fails_in_turn(rt: HostRuntime) -> Result<(), Fail> {
+    let table: [(u64, &str); 8] = [
+        (1, ""),
+        (2, ""),
+        (3, "3\n"),
+        (4, "3\n"),
+        (5, "3\n5\n"),
+        (6, "3\n5\n"),
+        (7, "3\n5\n"),
+        (8, "3\n5\n-5\n"),
+    ];
+    for (call, output) in table {
+        let takes = [call];
+        let world = World {
+            takes: &takes,
+            ..sound(&RUN, DOUBLE, "1\n2\n-3\n")
+        };
+        compare(&rt, rt.alloc(), &world, 8, output, "read fault\n")?;
+    }
+    Ok(())
+}
+
+#[test]
+fn puts_and_readings_fail(rt: HostRuntime) -> Result<(), Fail> {
+    let input = "1\n2\n-3\n";
+    let table: [(usize, &str); 3] = [(0, ""), (3, "3\n5"), (7, "3\n5\n-5\n")];
+    for (prefix, output) in table {
+        let puts = [PutFail { call: 1, prefix }];
+        let world = World {
+            puts: &puts,
+            ..sound(&REPORTED, DOUBLE, input)
+        };
+        compare(&rt, rt.alloc(), &world, 10, output, "write fault\n")?;
+    }
+    let says = [PutFail { call: 1, prefix: 0 }];
+    let world = World {
+        says: &says,
+        ..sound(&REPORTED, DOUBLE, "x\n")
+    };
+    compare(
+        &rt,
+        rt.alloc(),
+        &world,
+        6,
+        "",
+        "stream: line 1: 100 BadWord\n",
+    )?;
+    let reads = [1];
+    let world = World {
+        reads: &reads,
+        ..sound(&RUN, DOUBLE, input)
+    };
+    compare(&rt, rt.alloc(), &world, 9, "", "file fault: m.p3l\n")
+}
