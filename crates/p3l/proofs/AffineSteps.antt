@@ -1,5 +1,5 @@
 -- The tree and the body of `Y = X * A + B`, step by step.
-use Rattle.std.proofs.Common.{◌≡◌, ℕ, ℤ, zero, suc, ◌<◌, List, [], ◌∷◌, ◌++◌, length, get_or, FitsSigned, pos, to_z, of_z, w64, refl, ap, sym, ◌∙◌, arith}
+use Rattle.std.proofs.Common.{◌≡◌, ℕ, ℤ, zero, suc, List, [], ◌∷◌, ◌++◌, length, get_or, FitsSigned, pos, to_z, of_z, w64, refl, ap, ◌∙◌, arith}
 use Rattle.p3l_base.specs.declared.outcome.Outcome.TheVariants.{Value}
 use Rattle.p3l_skel.specs.declared.tree.Form.TheVariants.{Seq}
 use Rattle.p3l_skel.specs.declared.tree.ModuleKind.TheVariants as kind

@@ -1,12 +1,16 @@
 -- What an answer says of its status.
-use Rattle.std.proofs.Common.{◌≡◌, ◌≢◌, ℕ, ℤ, ◌<◌, Bool, List, [], ◌++◌, ◌⊎◌, Option, Some, None, refl, sym, ap, subst, inl, inr, ◌∙◌, arith, append-nil}
+use Rattle.std.proofs.Common.{◌≡◌, ◌≢◌, ℕ, ℤ, ◌<◌, Bool, List, [], ◌++◌, ◌⊎◌, Option, Some, refl, sym, ap, subst, inl, inr, ◌∙◌, arith, append-nil, length, get_or, length-append}
 use Rattle.p3l_io.specs.Causes.{Rose}
 use Rattle.p3l_io.specs.Told.{Held}
-use Rattle.p3l_stream.specs.declared.taken.Stop.{Stop}
 use Rattle.p3l_stream.specs.declared.taken.Stop.TheVariants as stop
 use Rattle.p3l_stream.specs.declared.items.Ending.{Ending}
 use Rattle.p3l_stream.specs.declared.items.Ending.TheVariants as ending
-use Rattle.p3l_stream.specs.Items.{items_of, items_taken}
+use Rattle.p3l_stream.specs.Items.{Begins, items_of, items_taken}
+use Rattle.p3l_stream.specs.declared.items.Items.{Items}
+use Rattle.p3l_ast.specs.declared.position.Pos.{Pos}
+use Rattle.p3l_ast.specs.declared.refusal.Fault.{Fault}
+use Rattle.p3l.specs.Form.{IsProgram}
+use Rattle.p3l.proofs.TopSteps.{due_no_memory}
 use Rattle.p3l_stream.specs.Text.{text_of}
 use Rattle.p3l.specs.declared.stats.Stats.{Stats}
 use Rattle.p3l.specs.declared.verdict.Verdict.{Verdict}
@@ -14,7 +18,7 @@ use Rattle.p3l.specs.declared.verdict.Verdict.TheVariants as verdict
 use Rattle.p3l.specs.Request.{Request, run, Spells}
 use Rattle.p3l.specs.Verdict.{status_of, stream_status_of}
 use Rattle.p3l.specs.Execution.{meaning_of}
-use Rattle.p3l.specs.Answer.{Answers, Change, IsCaused, IsDue, IsStreamCause, IsDone, EndsRun, IsRunCommand, RunsFile, HasTooLong}
+use Rattle.p3l.specs.Answer.{Answers, AsksRun, BeginsRun, Change, HasRefused, IsCaused, IsDue, IsSound, IsStreamCause, IsStreamRefused, IsDone, IsUntouched, EndsRun, IsRunCommand, HasTooLong, input_limit}
 use Rattle.p3l.proofs.StreamSteps.{items_end}
 
 -- only these endings of the stream have these statuses
@@ -51,6 +55,19 @@ risen_end (ending.WrongCount line had) before now n h cause up = (λ z. absurd (
 risen_end (ending.OutOfRange line) before now n h cause up = (λ z. absurd (omega arith), λ z. absurd (omega arith))
 risen_end ending.ReadFault before now n h cause up = (λ z. absurd (omega arith), λ z. absurd (omega arith))
 risen_end ending.TooLong before now n h cause up = absurd (omega arith)
+
+three_not : (n : ℕ) → (n ≡ 2) ⊎ ((n ≡ 3) ⊎ (n ≡ 9)) → (n ≢ 2) → (n ≢ 3) → (n ≢ 9) → ⊥
+three_not n (inl h) a b c = a h
+three_not n (inr (inl h)) a b c = b h
+three_not n (inr (inr h)) a b c = c h
+
+stream_not : (close : Ending) → (stream_status_of close ≡ 2) ⊎ ((stream_status_of close ≡ 3) ⊎ (stream_status_of close ≡ 9)) → ⊥
+stream_not ending.End h = three_not 0 h (λ z. absurd (omega arith)) (λ z. absurd (omega arith)) (λ z. absurd (omega arith))
+stream_not (ending.BadWord line) h = three_not 6 h (λ z. absurd (omega arith)) (λ z. absurd (omega arith)) (λ z. absurd (omega arith))
+stream_not (ending.WrongCount line had) h = three_not 6 h (λ z. absurd (omega arith)) (λ z. absurd (omega arith)) (λ z. absurd (omega arith))
+stream_not (ending.OutOfRange line) h = three_not 6 h (λ z. absurd (omega arith)) (λ z. absurd (omega arith)) (λ z. absurd (omega arith))
+stream_not ending.ReadFault h = three_not 8 h (λ z. absurd (omega arith)) (λ z. absurd (omega arith)) (λ z. absurd (omega arith))
+stream_not ending.TooLong h = three_not 14 h (λ z. absurd (omega arith)) (λ z. absurd (omega arith)) (λ z. absurd (omega arith))
 
 module _ (words : List (List ℕ)) (files files' input input' out out' : ℕ) where
   usage_only_by : (v : Verdict) → status_of v ≡ 2 → IsCaused words files files' input input' out out' v → (request : Request) → Spells words request → ⊥
@@ -156,6 +173,100 @@ done_by held words rest taken rest' taken' (verdict.Ran close stats reported) h 
 done_by held words rest taken rest' taken' verdict.WriteFault h due = absurd (omega arith)
 done_by held words rest taken rest' taken' verdict.NoMemory h due = absurd (omega arith)
 
+begins_by : (held : Held) (words : List (List ℕ)) (rest taken : List ℕ) (rest' taken' : Option (List ℕ)) (v : Verdict) → IsDue held words rest rest' taken taken' v →
+    IsUntouched rest rest' taken taken' ⊎ BeginsRun held words rest rest' taken taken'
+begins_by held words rest taken rest' taken' verdict.Usage due = inl due
+begins_by held words rest taken rest' taken' (verdict.FileFault name) due = inl due
+begins_by held words rest taken rest' taken' (verdict.FileTooLong name) due = inl due.0
+begins_by held words rest taken rest' taken' (verdict.Source fault pos) due = inl due.0
+begins_by held words rest taken rest' taken' (verdict.Ran close stats reported) due = due_no_memory held words rest taken rest' taken' (verdict.Ran close stats reported) (λ z. absurd cc) due
+begins_by held words rest taken rest' taken' verdict.WriteFault due = inr due
+begins_by held words rest taken rest' taken' verdict.NoMemory due = due
+
+untouched_by : (held : Held) (words : List (List ℕ)) (rest taken : List ℕ) (rest' taken' : Option (List ℕ)) (v : Verdict) → (status_of v ≡ 2) ⊎ ((status_of v ≡ 3) ⊎ (status_of v ≡ 9)) →
+    IsDue held words rest rest' taken taken' v → IsUntouched rest rest' taken taken'
+untouched_by held words rest taken rest' taken' verdict.Usage h due = due
+untouched_by held words rest taken rest' taken' (verdict.FileFault name) h due = due
+untouched_by held words rest taken rest' taken' (verdict.FileTooLong name) h due = due.0
+untouched_by held words rest taken rest' taken' (verdict.Source fault pos) h due = due.0
+untouched_by held words rest taken rest' taken' (verdict.Ran close stats reported) h due = absurd (stream_not close h)
+untouched_by held words rest taken rest' taken' verdict.WriteFault h due = absurd (three_not 10 h (λ z. absurd (omega arith)) (λ z. absurd (omega arith)) (λ z. absurd (omega arith)))
+untouched_by held words rest taken rest' taken' verdict.NoMemory h due = absurd (three_not 11 h (λ z. absurd (omega arith)) (λ z. absurd (omega arith)) (λ z. absurd (omega arith)))
+
+refused_by : (held : Held) (words : List (List ℕ)) (rest taken : List ℕ) (rest' taken' : Option (List ℕ)) (v : Verdict) → status_of v ≡ 3 → IsDue held words rest rest' taken taken' v →
+    (fault : Fault) × ((pos : Pos) × HasRefused held words fault pos)
+refused_by held words rest taken rest' taken' verdict.Usage h due = absurd (omega arith)
+refused_by held words rest taken rest' taken' (verdict.FileFault name) h due = absurd (omega arith)
+refused_by held words rest taken rest' taken' (verdict.FileTooLong name) h due = absurd (omega arith)
+refused_by held words rest taken rest' taken' (verdict.Source fault pos) h due = (fault, (pos, due.1))
+refused_by held words rest taken rest' taken' (verdict.Ran close stats reported) h due = absurd (stream_not close (inr (inl h)))
+refused_by held words rest taken rest' taken' verdict.WriteFault h due = absurd (omega arith)
+refused_by held words rest taken rest' taken' verdict.NoMemory h due = absurd (omega arith)
+
+-- the items read before a refused line are all before it
+begun_whole : (items : List (List ℤ)) (close : Ending) (whole : Items) → stream_status_of close ≡ 6 → Begins items close whole → whole ≡ record { items = items; ending = close }
+begun_whole items ending.End whole h b = absurd (omega arith)
+begun_whole items (ending.BadWord line) whole h b = b
+begun_whole items (ending.WrongCount line had) whole h b = b
+begun_whole items (ending.OutOfRange line) whole h b = b
+begun_whole items ending.ReadFault whole h b = absurd (omega arith)
+begun_whole items ending.TooLong whole h b = absurd (omega arith)
+
+stream_refused_by : (held : Held) (words : List (List ℕ)) (rest taken : List ℕ) (rest' taken' : Option (List ℕ)) (v : Verdict) → status_of v ≡ 6 → IsDue held words rest rest' taken taken' v →
+    IsStreamRefused held words rest taken taken'
+stream_refused_by held words rest taken rest' taken' verdict.Usage h due = absurd (omega arith)
+stream_refused_by held words rest taken rest' taken' (verdict.FileFault name) h due = absurd (omega arith)
+stream_refused_by held words rest taken rest' taken' (verdict.FileTooLong name) h due = absurd (omega arith)
+stream_refused_by held words rest taken rest' taken' (verdict.Source fault pos) h due = absurd (omega arith)
+stream_refused_by held words rest taken rest' taken' (verdict.Ran close stats reported) h e =
+    let f = e.finishes in
+    let whole : items_of 1 rest ≡ record { items = (items_taken 1 f.how f.bytes).items; ending = close } = begun_whole _ close (items_of 1 rest) h f.first in
+    record {
+      reported = reported;
+      factor = e.factor;
+      summand = e.summand;
+      program = e.program;
+      refused = ap (λ i. stream_status_of i.ending) whole ∙ h;
+      taken_is = f.taken_is ∙ ap (λ t. Some (taken ++ t)) (f.executed.text_is ∙ ap text_of f.executed.emitted_is ∙ ap (λ i. text_of (meaning_of e.factor e.summand i.items)) (sym whole));
+    }
+stream_refused_by held words rest taken rest' taken' verdict.WriteFault h due = absurd (omega arith)
+stream_refused_by held words rest taken rest' taken' verdict.NoMemory h due = absurd (omega arith)
+
+-- words ask for one file
+same_name : (words : List (List ℕ)) (name other : List ℕ) (reported shown : Bool) → AsksRun words name reported → AsksRun words other shown → name ≡ other
+same_name words name other reported shown a b = ap (λ l. get_or l 1 []) (sym a.spelled.words_are ∙ b.spelled.words_are)
+
+same_text : (held : Held) (name other text found : List ℕ) → name ≡ other → held name ≡ Some text → held other ≡ Some found → found ≡ text
+same_text held name other text found same a b = let c : held name ≡ held other = ap held same in cc
+
+completes_by : (held : Held) (words : List (List ℕ)) (rest taken : List ℕ) (rest' taken' : Option (List ℕ)) (files files' input input' out out' : ℕ) → IsSound held words rest →
+    (Rose files files' → ⊥) → (Rose input input' → ⊥) → (Rose out out' → ⊥) → (v : Verdict) → IsCaused words files files' input input' out out' v → IsDue held words rest rest' taken taken' v →
+    (status_of v ≡ 0) ⊎ (status_of v ≡ 11)
+completes_by held words rest taken rest' taken' files files' input input' out out' s f i o = by
+  where
+    by_close : (close : Ending) (items : List (List ℤ)) (bytes left : List ℕ) → IsStreamCause close input input' → Begins items close (items_of 1 rest) → (close ≡ ending.TooLong → length bytes ≡ input_limit) → rest ≡ bytes ++ left →
+        (stream_status_of close ≡ 0) ⊎ (stream_status_of close ≡ 11)
+    by_close ending.End items bytes left cause first full read = inl refl
+    by_close (ending.BadWord line) items bytes left cause first full read = absurd (let z = sym (ap (λ x. x.ending) first) ∙ s.all_items in cc)
+    by_close (ending.WrongCount line had) items bytes left cause first full read = absurd (let z = sym (ap (λ x. x.ending) first) ∙ s.all_items in cc)
+    by_close (ending.OutOfRange line) items bytes left cause first full read = absurd (let z = sym (ap (λ x. x.ending) first) ∙ s.all_items in cc)
+    by_close ending.ReadFault items bytes left cause first full read = absurd (i cause)
+    by_close ending.TooLong items bytes left cause first full read =
+        absurd (let n = full refl in let m = ap length read in let k = length-append bytes left in let w = s.input_within in omega arith)
+
+    by : (v : Verdict) → IsCaused words files files' input input' out out' v → IsDue held words rest rest' taken taken' v → (status_of v ≡ 0) ⊎ (status_of v ≡ 11)
+    by verdict.Usage cause due = absurd (cause.0 (run s.name s.asked.processors s.reported) s.asked.spelled)
+    by (verdict.FileFault name) cause due = absurd (f cause.1)
+    by (verdict.FileTooLong name) cause due =
+        absurd (let same = same_text held s.name name.now s.text due.1.bytes (same_name words s.name name.now s.reported cause.0.reported s.asked cause.0.asked) s.held_is due.1.held_is in
+        let n = ap length same in let w = s.within in let l = due.1.longer in omega arith)
+    by (verdict.Source fault pos) cause due =
+        absurd (let same = same_text held s.name due.1.name s.text due.1.text (same_name words s.name due.1.name s.reported due.1.reported s.asked due.1.asked) s.held_is due.1.held_is in
+        due.1.refused.no_program s.factor s.summand (subst (λ t. IsProgram t s.factor s.summand) (sym same) s.program))
+    by (verdict.Ran close stats reported) cause due = by_close close _ due.finishes.bytes due.finishes.read.left cause.2 due.finishes.first due.finishes.full due.finishes.read.read_is
+    by verdict.WriteFault cause due = absurd (o cause.2)
+    by verdict.NoMemory cause due = inr refl
+
 -- what an answer says
 module _ (words : List (List ℕ)) (files : Change Held) (input out err : Change (List ℕ)) (status : ℕ) (a : Answers words files input out err status) where
   pub done : (held : Held) (rest taken : List ℕ) → files.old ≡ Some held → input.old ≡ Some rest → out.old ≡ Some taken → status ≡ 0 → IsDone held words rest input.new taken out.new
@@ -184,3 +295,21 @@ module _ (words : List (List ℕ)) (files : Change Held) (input out err : Change
 
   pub input_failed : input.before < input.now → (status ≢ 0) × (status ≢ 14)
   input_failed up = subst (λ s. (s ≢ 0) × (s ≢ 14)) (sym a.status_is) (input_failed_by words _ _ _ _ _ _ a.verdict a.caused up)
+
+  pub begins : (held : Held) (rest taken : List ℕ) → files.old ≡ Some held → input.old ≡ Some rest → out.old ≡ Some taken → IsUntouched rest input.new taken out.new ⊎ BeginsRun held words rest input.new taken out.new
+  begins held rest taken f i o = begins_by held words rest taken input.new out.new a.verdict (a.due held rest taken f i o)
+
+  pub untouched : (held : Held) (rest taken : List ℕ) → files.old ≡ Some held → input.old ≡ Some rest → out.old ≡ Some taken → (status ≡ 2) ⊎ ((status ≡ 3) ⊎ (status ≡ 9)) → IsUntouched rest input.new taken out.new
+  untouched held rest taken f i o h =
+      untouched_by held words rest taken input.new out.new a.verdict (subst (λ n. (n ≡ 2) ⊎ ((n ≡ 3) ⊎ (n ≡ 9))) a.status_is h) (a.due held rest taken f i o)
+
+  pub refused : (held : Held) (rest taken : List ℕ) → files.old ≡ Some held → input.old ≡ Some rest → out.old ≡ Some taken → status ≡ 3 → (fault : Fault) × ((pos : Pos) × HasRefused held words fault pos)
+  refused held rest taken f i o h = refused_by held words rest taken input.new out.new a.verdict (sym a.status_is ∙ h) (a.due held rest taken f i o)
+
+  pub stream_refused : (held : Held) (rest taken : List ℕ) → files.old ≡ Some held → input.old ≡ Some rest → out.old ≡ Some taken → status ≡ 6 → IsStreamRefused held words rest taken out.new
+  stream_refused held rest taken f i o h = stream_refused_by held words rest taken input.new out.new a.verdict (sym a.status_is ∙ h) (a.due held rest taken f i o)
+
+  pub completes : (held : Held) (rest taken : List ℕ) → files.old ≡ Some held → input.old ≡ Some rest → out.old ≡ Some taken → IsSound held words rest →
+      (Rose files.before files.now → ⊥) → (Rose input.before input.now → ⊥) → (Rose out.before out.now → ⊥) → (status ≡ 0) ⊎ (status ≡ 11)
+  completes held rest taken f i o s x y z =
+      subst (λ n. (n ≡ 0) ⊎ (n ≡ 11)) (sym a.status_is) (completes_by held words rest taken input.new out.new _ _ _ _ _ _ s x y z a.verdict a.caused (a.due held rest taken f i o))

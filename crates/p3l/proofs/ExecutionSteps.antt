@@ -1,24 +1,20 @@
 -- A machine that runs a program by round robin: its first state, each pick, and its end.
-use Rattle.std.proofs.Common.{◌≡◌, ℕ, ℤ, zero, suc, ◌+◌, ◌-◌, ◌*◌, ◌%◌, ◌<◌, ◌≤◌, Bool, true, false, cond, List, [], ◌∷◌, ◌++◌, length, get_or, drop, Option, Some, None, IsTrue, All, refl, sym, ap, subst, ◌∙◌, arith, append_assoc, append-nil, add-one, drop-cons}
+use Rattle.std.proofs.Common.{◌≡◌, ℕ, ℤ, suc, ◌+◌, ◌-◌, ◌*◌, ◌%◌, ◌<◌, ◌≤◌, true, false, List, [], ◌∷◌, ◌++◌, length, get_or, drop, Option, Some, None, IsTrue, All, refl, sym, ap, subst, ◌∙◌, arith, append_assoc, append-nil, add-one, drop-cons}
 use Rattle.std.specs.Option.{option_to_list}
 use Rattle.p3l_base.specs.declared.outcome.Outcome.{Outcome}
-use Rattle.p3l_base.specs.declared.outcome.Outcome.TheVariants.{Value, Trapped}
 use Rattle.p3l_skel.specs.declared.tree.Tree.{Tree}
 use Rattle.p3l_skel.specs.Tree.{node_at}
 use Rattle.std.proofs.lemmas.List.Elements.{All-get_or}
-use Rattle.p3l_skel.specs.Item.{meaning, item, up_to_trap}
-use Rattle.p3l_net.specs.declared.net.Net.{Net}
+use Rattle.p3l_skel.specs.Item.{up_to_trap}
 use Rattle.p3l_net.specs.Token.{has_trap}
 use Rattle.p3l_net.specs.Fire.{can_fire, fire}
 use Rattle.p3l_net.specs.Machine.{Seen, Fires, can_step, started, state_of}
 use Rattle.p3l_net.specs.Offered.{Follows, HasFilledInbox, with_rest}
 use Rattle.p3l_net.specs.RoundRobin.{after, next_of, round_robin}
 use Rattle.p3l_net.specs.Run.{Course, after_picks, picked}
-use Rattle.p3l_net.specs.State.{State}
 use Rattle.p3l_stream.specs.Text.{text_of}
-use Rattle.p3l.specs.declared.stats.Stats.{Stats}
 use Rattle.p3l.specs.Affine.{affine_tree, affine_leaf}
-use Rattle.p3l.specs.Execution.{affine_net, course_of, picks_of, meaning_of, stats_of, IsExecuted}
+use Rattle.p3l.specs.Execution.{affine_net, course_of, picks_of, meaning_of, IsExecuted}
 use Rattle.p3l.specs.Laws.{Laws, course_under}
 use Rattle.p3l.specs.Steps.{Stands, IsRun}
 use Rattle.p3l.proofs.AffineSteps.{gives_value}

@@ -2,14 +2,12 @@
 use Rattle.std.proofs.Common.{◌≡◌, ℕ, ℤ, ◌↔◌, List, [], ◌++◌, length, Option, Some, None, refl, sym, ap, subst, ◌∙◌, append-nil}
 use Rattle.p3l_stream.specs.declared.taken.Stop.{Stop}
 use Rattle.p3l_stream.specs.declared.taken.Stop.TheVariants as stop
-use Rattle.p3l_stream.specs.declared.items.Ending.{Ending}
-use Rattle.p3l_stream.specs.declared.items.Ending.TheVariants as ending
 use Rattle.p3l_stream.specs.declared.items.Items.{Items}
 use Rattle.p3l_stream.specs.Items.{Begins, items_of, items_taken}
 use Rattle.p3l_stream.specs.Taken.{IsDrained, IsLost}
 use Rattle.p3l_stream.specs.Text.{text_of}
 use Rattle.p3l.specs.declared.stats.Stats.{Stats}
-use Rattle.p3l.specs.Execution.{meaning_of, course_of, IsExecuted}
+use Rattle.p3l.specs.Execution.{meaning_of, IsExecuted}
 use Rattle.p3l.specs.Write.{IsBegun}
 use Rattle.p3l.specs.Answer.{IsRead, Writes, Finishes, input_limit}
 use Rattle.p3l.proofs.StreamSteps.{items_limit}

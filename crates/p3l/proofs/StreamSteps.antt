@@ -6,7 +6,6 @@ use Rattle.std.specs.declared.result.Result.TheVariants.{Ok, Err}
 use Rattle.p3l_stream.specs.declared.word.WordFault.{WordFault}
 use Rattle.p3l_stream.specs.declared.word.WordFault.TheVariants as fault
 use Rattle.p3l_stream.specs.Words.{numbers_of, words_of}
-use Rattle.p3l_io.specs.Causes.{Rose}
 use Rattle.p3l_stream.specs.declared.taken.Stop.{Stop}
 use Rattle.p3l_stream.specs.declared.taken.Stop.TheVariants as stop
 use Rattle.p3l_stream.specs.declared.line.Line.{Line}

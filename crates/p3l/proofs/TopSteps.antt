@@ -1,5 +1,5 @@
 -- From the words and a loaded program to the verdict, and from the verdict to want of memory.
-use Rattle.std.proofs.Common.{◌≡◌, ℕ, ℤ, Bool, List, [], ◌++◌, ◌⊎◌, Option, Some, None, refl, sym, ap, subst, inl, inr, ◌∙◌, append-nil}
+use Rattle.std.proofs.Common.{◌≡◌, ℕ, ℤ, Bool, List, [], Option, refl, sym, ap, subst, inl, inr, ◌∙◌, append-nil}
 use Rattle.p3l_io.specs.Told.{Held}
 use Rattle.p3l_stream.specs.Text.{text_of}
 use Rattle.p3l_stream.specs.declared.items.Ending.{Ending}
@@ -9,7 +9,7 @@ use Rattle.p3l.specs.declared.verdict.Verdict.{Verdict}
 use Rattle.p3l.specs.declared.verdict.Verdict.TheVariants as verdict
 use Rattle.p3l.specs.Load.{LoadsProgram}
 use Rattle.p3l.specs.Run.{IsRunEnd}
-use Rattle.p3l.specs.Answer.{AsksRun, RunsFile, IsRunCommand, HasProgram, BeginsRun, EndsRun, Writes, Finishes, IsUntouched, IsDue, IsCaused}
+use Rattle.p3l.specs.Answer.{AsksRun, IsRunCommand, HasProgram, BeginsRun, Writes, Finishes, IsDue, IsCaused}
 
 -- a loaded program that was run
 pub run_due : (held : Held) (words : List (List ℕ)) (name : List ℕ) (shown : Bool) (program : Affine) (rest taken : List ℕ) (rest' taken' : Option (List ℕ)) (v : Verdict) →

@@ -1,5 +1,5 @@
 -- The words of a command line, one by one.
-use Rattle.std.proofs.Common.{◌≡◌, ℕ, ◌<◌, ◌≤◌, List, [], ◌∷◌, length, get_or, map, Option, Some, None, IfNone, Bor, refl, sym, ◌∙◌, ap, arith}
+use Rattle.std.proofs.Common.{◌≡◌, ℕ, ◌<◌, ◌≤◌, List, [], ◌∷◌, length, get_or, map, Option, Some, None, IfNone, Bor, sym, ◌∙◌, ap, arith}
 use Rattle.p3l.specs.Request.{Request, Spells}
 
 -- five words, of which the last is known

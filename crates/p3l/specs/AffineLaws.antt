@@ -1,6 +1,5 @@
 -- What the body of `Y = X * A + B` gives.
 use Rattle.std.proofs.Common.{◌≡◌, ℕ, ℤ, zero, suc, ◌<◌, List, [], ◌∷◌, length, refl, arith}
-use Rattle.p3l_base.specs.declared.outcome.Outcome.{Outcome}
 use Rattle.p3l_skel.specs.declared.tree.Form.TheVariants.{Seq}
 use Rattle.p3l_skel.specs.Tree.{GivesOuts, HasLength, node_at}
 use Rattle.p3l.specs.Affine.{affine_tree, affine_leaf}

@@ -1,5 +1,5 @@
 -- What the program answers, writes and says, and why.
-use Rattle.std.specs.Prelude.{◌≡◌, ℕ, ℤ, ◌<◌, Bool, List, [], ◌++◌, ◌⊎◌, length, Option, Some}
+use Rattle.std.specs.Prelude.{◌≡◌, ℕ, ℤ, ◌<◌, ◌≤◌, Bool, List, [], ◌++◌, ◌⊎◌, length, Option, Some}
 use Rattle.p3l_ast.specs.declared.refusal.Fault.{Fault}
 use Rattle.p3l_ast.specs.declared.position.Pos.{Pos}
 use Rattle.p3l_io.specs.Causes.{Rose}
@@ -16,7 +16,7 @@ use Rattle.p3l.specs.declared.verdict.Verdict.TheVariants as verdict
 use Rattle.p3l.specs.Request.{Request, run, Spells}
 use Rattle.p3l.specs.Form.{IsProgram, IsRefused}
 use Rattle.p3l.specs.Execution.{meaning_of, IsExecuted}
-use Rattle.p3l.specs.Verdict.{status_of, lines_of}
+use Rattle.p3l.specs.Verdict.{status_of, stream_status_of, lines_of}
 
 -- an object of the outside before and after a call: what it tells, if it does, and its count of faults
 pub record Change (X : Type 0) : Type 0 where
@@ -185,3 +185,27 @@ pub record HasTooLong (held : Held) (words : List (List ℕ)) : Type 0 where
   pub name : List ℕ
   pub asked : RunsFile words name
   pub longer : IsTooLong held name
+
+-- a program that is held was run, the input holds a line that is refused, and the whole text of the items before it was written
+pub record IsStreamRefused (held : Held) (words : List (List ℕ)) (rest taken : List ℕ) (taken' : Option (List ℕ)) : Type 0 where
+  pub reported : Bool
+  pub factor : ℤ
+  pub summand : ℤ
+  pub program : HasProgram held words reported factor summand
+  pub refused : stream_status_of (items_of 1 rest).ending ≡ 6
+  pub taken_is : taken' ≡ Some (taken ++ text_of (meaning_of factor summand (items_of 1 rest).items))
+
+-- nothing stands in the way of a run: the words ask for it, the file holds a program within the limit, the input is within
+-- its limit and each of its lines is an item or has no words
+pub record IsSound (held : Held) (words : List (List ℕ)) (rest : List ℕ) : Type 0 where
+  pub name : List ℕ
+  pub text : List ℕ
+  pub reported : Bool
+  pub factor : ℤ
+  pub summand : ℤ
+  pub asked : AsksRun words name reported
+  pub held_is : held name ≡ Some text
+  pub within : length text ≤ file_limit
+  pub program : IsProgram text factor summand
+  pub input_within : length rest < input_limit
+  pub all_items : (items_of 1 rest).ending ≡ ending.End

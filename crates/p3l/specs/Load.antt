@@ -1,5 +1,5 @@
 -- What comes of a file that a program is to be loaded from.
-use Rattle.std.specs.Prelude.{◌≡◌, ℕ, ◌<◌, List, length, Some, Result, Ok, Err}
+use Rattle.std.specs.Prelude.{◌≡◌, ℕ, List, Some, Result, Ok, Err}
 use Rattle.p3l_ast.specs.declared.refusal.SourceRefusal.{SourceRefusal}
 use Rattle.p3l_ast.specs.declared.refusal.SourceRefusal.TheVariants as refusal
 use Rattle.p3l_ast.specs.declared.refusal.Fault.{Fault}

@@ -1,10 +1,12 @@
 // The top call: from the words of the command line to the status.
 
 ghost use Rattle.std.specs.Prelude.{◌≡◌, ◌≢◌, ◌<◌, ◌⊎◌, List, ℕ, Some, map};
+ghost use Rattle.p3l_ast.specs.declared.position.Pos.{Pos};
+ghost use Rattle.p3l_ast.specs.declared.refusal.Fault.{Fault};
 ghost use Rattle.p3l_io.specs.Causes.{Rose};
 ghost use Rattle.p3l_io.specs.Told.{Held};
 ghost use Rattle.p3l.specs.Request.{Request, Spells};
-ghost use Rattle.p3l.specs.Answer.{Answers, AsksRun, HasTooLong, IsCaused, IsDone, IsDue};
+ghost use Rattle.p3l.specs.Answer.{Answers, AsksRun, BeginsRun, HasRefused, HasTooLong, IsCaused, IsDone, IsDue, IsSound, IsStreamRefused, IsUntouched};
 
 use crate::command::{Command, command_of};
 use crate::load::load;
@@ -105,6 +107,11 @@ pub fn top<F: Files, S: Source, K: Sink, E: Sink>(
         (record { old = E.taken err.old; new = E.taken err.new; before = E.faults err.old; now = E.faults err.new })
         result.0 }
 
+    // What is written begins the text of the program's meaning on the items read.
+    ensures begins { (held : Held) (rest taken : List ℕ) → F.held files.old ≡ Some held → S.rest input.old ≡ Some rest → K.taken out.old ≡ Some taken
+        → IsUntouched rest (S.rest input.new) taken (K.taken out.new)
+        ⊎ BeginsRun held (map (λ word. word.now) words.now) rest (S.rest input.new) taken (K.taken out.new) }
+
     // With status 0 the input was read to its end and the whole was written.
     ensures done { (held : Held) (rest taken : List ℕ) → F.held files.old ≡ Some held → S.rest input.old ≡ Some rest → K.taken out.old ≡ Some taken
         → result.0 ≡ 0 → IsDone held (map (λ word. word.now) words.now) rest (S.rest input.new) taken (K.taken out.new) }
@@ -112,6 +119,22 @@ pub fn top<F: Files, S: Source, K: Sink, E: Sink>(
     // Words that are no command: exactly then the status is 2.
     ensures usage_only { result.0 ≡ 2 → (request : Request) → Spells (map (λ word. word.now) words.now) request → ⊥ }
     ensures usage_where { ((request : Request) → Spells (map (λ word. word.now) words.now) request → ⊥) → result.0 ≡ 2 }
+
+    // With 2, 3 and 9 nothing is taken and nothing written; 3 comes only where the text is no program that can be run.
+    ensures untouched { (held : Held) (rest taken : List ℕ) → F.held files.old ≡ Some held → S.rest input.old ≡ Some rest → K.taken out.old ≡ Some taken
+        → (result.0 ≡ 2) ⊎ ((result.0 ≡ 3) ⊎ (result.0 ≡ 9)) → IsUntouched rest (S.rest input.new) taken (K.taken out.new) }
+    ensures refused { (held : Held) (rest taken : List ℕ) → F.held files.old ≡ Some held → S.rest input.old ≡ Some rest → K.taken out.old ≡ Some taken
+        → result.0 ≡ 3 → (fault : Fault) × ((pos : Pos) × HasRefused held (map (λ word. word.now) words.now) fault pos) }
+
+    // With 6 a line of the input is refused, and the whole text of the items before it was written.
+    ensures stream_refused { (held : Held) (rest taken : List ℕ) → F.held files.old ≡ Some held → S.rest input.old ≡ Some rest → K.taken out.old ≡ Some taken
+        → result.0 ≡ 6 → IsStreamRefused held (map (λ word. word.now) words.now) rest taken (K.taken out.new) }
+
+    // Where nothing stands in the way and no count rises, all is done, unless memory is wanting.
+    ensures completes { (held : Held) (rest taken : List ℕ) → F.held files.old ≡ Some held → S.rest input.old ≡ Some rest → K.taken out.old ≡ Some taken
+        → IsSound held (map (λ word. word.now) words.now) rest
+        → (Rose (F.faults files.old) (F.faults files.new) → ⊥) → (Rose (S.faults input.old) (S.faults input.new) → ⊥) → (Rose (K.faults out.old) (K.faults out.new) → ⊥)
+        → (result.0 ≡ 0) ⊎ (result.0 ≡ 11) }
 
     // A fault is answered only where the count of the object rose in this call; 9 also where the file is too long.
     ensures read_fault { result.0 ≡ 8 → Rose (S.faults input.old) (S.faults input.new) }

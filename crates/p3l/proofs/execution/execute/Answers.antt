@@ -1,6 +1,5 @@
 use Rattle.std.proofs.Common.{◌<◌, ◌*◌, ◌^◌, arith, rules, subst, sym}
 use Rattle.p3l_net.specs.Typed.{IsTyped}
-use Rattle.p3l.specs.Execution.{affine_net}
 use Rattle.p3l.proofs.ExecutionSteps.{executed, sent_within}
 use Rattle.p3l.proofs.execution.execute.Goals as goal
 

@@ -1,5 +1,4 @@
-use Rattle.std.proofs.Common.{◌≡◌, ℕ, ℤ, List, length, get_or, refl, sym, ap, ◌∙◌}
-use Rattle.std.proofs.lemmas.List.Elements.{All-get_or}
+use Rattle.std.proofs.Common.{refl}
 use Rattle.p3l.proofs.ExecutionSteps.{offered_follows, root_takes_one}
 use Rattle.p3l.proofs.execution.fill.Goals as goal
 

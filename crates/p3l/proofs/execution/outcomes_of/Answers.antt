@@ -1,5 +1,4 @@
 use Rattle.std.proofs.Common.{arith, refl}
-use Rattle.p3l.specs.Steps.{Stands}
 use Rattle.p3l.proofs.ExecutionSteps.{stands_first, stands_filled, stands_on, left, run_ended}
 use Rattle.p3l.proofs.execution.outcomes_of.Goals as goal
 

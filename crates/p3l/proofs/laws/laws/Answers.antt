@@ -1,4 +1,4 @@
-use Rattle.std.proofs.Common.{arith, lit<, refl}
+use Rattle.std.proofs.Common.{arith, refl}
 use Rattle.p3l.specs.Affine.{affine_tree, affine_leaf}
 use Rattle.p3l.specs.Execution.{affine_net}
 use Rattle.p3l.proofs.laws.laws.Goals as goal

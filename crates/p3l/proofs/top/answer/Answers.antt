@@ -1,4 +1,3 @@
-use Rattle.std.proofs.Common.{refl}
 use Rattle.p3l.specs.declared.verdict.Verdict.TheVariants as verdict
 use Rattle.p3l.proofs.TopSteps.{due_no_memory, caused_no_memory}
 use Rattle.p3l.proofs.top.answer.Goals as goal

@@ -27,3 +27,18 @@ returns-clause-files_failed g c = steps.files_failed _ _ _ _ _ _ c.answer.ensure
 
 pub returns-clause-input_failed : goal.returns-clause-input_failed
 returns-clause-input_failed g c = steps.input_failed _ _ _ _ _ _ c.answer.ensures.answers
+
+pub returns-clause-begins : goal.returns-clause-begins
+returns-clause-begins g c = steps.begins _ _ _ _ _ _ c.answer.ensures.answers
+
+pub returns-clause-untouched : goal.returns-clause-untouched
+returns-clause-untouched g c = steps.untouched _ _ _ _ _ _ c.answer.ensures.answers
+
+pub returns-clause-refused : goal.returns-clause-refused
+returns-clause-refused g c = steps.refused _ _ _ _ _ _ c.answer.ensures.answers
+
+pub returns-clause-stream_refused : goal.returns-clause-stream_refused
+returns-clause-stream_refused g c = steps.stream_refused _ _ _ _ _ _ c.answer.ensures.answers
+
+pub returns-clause-completes : goal.returns-clause-completes
+returns-clause-completes g c = steps.completes _ _ _ _ _ _ c.answer.ensures.answers
