@@ -1,0 +1,89 @@
+-- How the functions of the reader go with the machine, step by step.
+use Rattle.std.proofs.Common.{◌≡◌, suc, List, [], ◌∷◌, length, Some, None, Bool, true, false, cond, refl, sym, ap, ◌∙◌, subst, eq-eqb, IfOk, IfErr, IsErrAnd}
+use Rattle.std.proofs.lemmas.Map.Views.{exact_unsigned_eq}
+use Rattle.std.specs.declared.result.Result.{Result}
+use Rattle.std.specs.declared.result.Result.TheVariants.{Ok, Err}
+use Rattle.p3l_ast.specs.declared.module.Kind.{Kind}
+use Rattle.p3l_lexer.specs.declared.mark.Mark.{Mark}
+use Rattle.p3l_lexer.specs.declared.mark.Mark.TheVariants as marks
+use Rattle.p3l_lexer.specs.declared.token.Token.{Token}
+use Rattle.p3l_grammar.specs.Symbol.{Symbol, symbol, word, digits, sign, faulty, kind_mark}
+use Rattle.p3l_grammar.specs.Marks.{mark_number, same_mark}
+use Rattle.p3l_grammar.specs.Machine.{State, await, step, next, all, await_step}
+use Rattle.p3l_grammar.proofs.Sound.{mark_same}
+use Rattle.p3l_reader.specs.declared.refusal.Refusal.{Refusal}
+use Rattle.p3l_reader.specs.declared.refusal.Refusal.TheVariants.{NoMemory, Expected}
+use Rattle.p3l_reader.specs.Reading.{Begins, NotNext, NotThere, Reads, Fails, FailsEnd}
+
+-- the machine takes the token that comes first
+pub begins_all : (ts rest : List Token) (t : Symbol) → Begins ts t rest → (s : State) → all s ts ≡ next (step s t) (suc (length rest)) (λ s'. all s' rest)
+begins_all ts rest t b s =
+    ap (all s) b.whole ∙ ap (λ q. next (step s q) (suc (length rest)) (λ s'. all s' rest)) b.seen
+
+mark_itself : (m : Mark) (s : State) → await_step (sign m) m s ≡ Some s
+mark_itself m s = rw (eq-eqb (mark_number m) (mark_number m) refl) refl
+
+pub await_begins : (m : Mark) (ts rest : List Token) → Begins ts (sign m) rest → (s : State) → all (await m s) ts ≡ all s rest
+await_begins m ts rest b s =
+    begins_all ts rest (sign m) b (await m s) ∙ ap (λ o. next o (suc (length rest)) (λ s'. all s' rest)) (mark_itself m s)
+
+not_there : (t : Symbol) (m : Mark) (s : State) → (t ≡ sign m → ⊥) → await_step t m s ≡ None
+not_there (word x) m s h = refl
+not_there (digits v p) m s h = refl
+not_there faulty m s h = refl
+not_there (sign m') m s h = at (same_mark m m') refl
+  where
+    at : (b : Bool) → same_mark m m' ≡ b → cond b (Some s) None ≡ None
+    at true p = absurd (h (ap sign (sym (mark_same m m' (exact_unsigned_eq _ _ p)))))
+    at false p = refl
+
+pub await_fails : (m : Mark) (ts : List Token) → NotNext m ts → (s : State) → all (await m s) ts ≡ Err (length ts)
+await_fails m [] h s = refl
+await_fails m (t ∷ ts) h s = ap (λ o. next o (suc (length ts)) (λ s'. all s' ts)) (not_there (symbol t) m s h)
+
+-- A mark, and what follows it.
+
+pub mark_reads : {A : Type 0} (m : Mark) (from : (A → State) → State) (ts r r' : List Token) (x : A) → Begins ts (sign m) r → Reads from r x r' → Reads (λ go. await m (from go)) ts x r'
+mark_reads m from ts r r' x b f = record { goes = λ go. await_begins m ts r b (from go) ∙ f.goes go }
+
+pub mark_missing : {A : Type 0} (m : Mark) (from : (A → State) → State) (ts : List Token) (e : Refusal) → NotThere m ts e → Fails (λ go. await m (from go)) ts e
+mark_missing m from ts NoMemory h = tt
+mark_missing m from ts (Expected left) h = λ go. await_fails m ts h.0 (from go) ∙ ap Err (sym h.1)
+
+pub mark_fails : {A : Type 0} (m : Mark) (from : (A → State) → State) (ts r : List Token) (e : Refusal) → Begins ts (sign m) r → Fails from r e → Fails (λ go. await m (from go)) ts e
+mark_fails m from ts r NoMemory b h = tt
+mark_fails m from ts r (Expected left) b h = λ go. await_begins m ts r b (from go) ∙ h go
+
+-- One thing behind another.
+
+pub then_fails : {A B : Type 0} (from : (A → State) → State) (k : A → (B → State) → State) (ts r : List Token) (x : A) (e : Refusal) → Reads from ts x r → Fails (k x) r e → Fails (λ go. from (λ a. k a go)) ts e
+then_fails from k ts r x NoMemory f h = tt
+then_fails from k ts r x (Expected left) f h = λ go. f.goes (λ a. k a go) ∙ h go
+
+pub first_fails : {A B : Type 0} (from : (A → State) → State) (k : A → (B → State) → State) (ts : List Token) (e : Refusal) → Fails from ts e → Fails (λ go. from (λ a. k a go)) ts e
+first_fails from k ts NoMemory h = tt
+first_fails from k ts (Expected left) h = λ go. h (λ a. k a go)
+
+pub then_reads : {A B : Type 0} (from : (A → State) → State) (k : A → (B → State) → State) (ts r r' : List Token) (x : A) (y : B) → Reads from ts x r → Reads (k x) r y r' → Reads (λ go. from (λ a. k a go)) ts y r'
+then_reads from k ts r r' x y f g = record { goes = λ go. f.goes (λ a. k a go) ∙ g.goes go }
+
+-- what holds of each error
+pub on_error : {A : Type 0} (r : Result A Refusal) (P Q : Refusal → Type 0) → ((e : Refusal) → P e → Q e) → IfErr r P → IfErr r Q
+on_error (Ok x) P Q f h = tt
+on_error (Err e) P Q f h = f e h
+
+-- what holds of each answer
+pub on_answer : {A : Type 0} (r : Result A Refusal) (P P' Q : A → Type 0) → ((x : A) → P x → P' x → Q x) → IfOk r P → IfOk r P' → IfOk r Q
+on_answer (Ok x) P P' Q f h h' = f x h h'
+on_answer (Err e) P P' Q f h h' = tt
+
+-- what holds of an error that is handed on
+pub on_residual : {A : Type 0} (r : Result A Refusal) (e : Refusal) (Q : Refusal → Type 0) → IsErrAnd r (λ d. d ≡ e) → Q e → IfErr r Q
+on_residual (Ok x) e Q p q = tt
+on_residual (Err d) e Q p q = subst Q (sym p) q
+
+-- The end of a module.
+
+pub end_missing : (k : Kind) (ts r : List Token) (e : Refusal) → Begins ts (sign marks.End) r → NotThere (kind_mark k) r e → FailsEnd k ts e
+end_missing k ts r NoMemory b h = tt
+end_missing k ts r (Expected left) b h = λ s. await_begins marks.End ts r b (await (kind_mark k) s) ∙ await_fails (kind_mark k) r h.0 s ∙ ap Err (sym h.1)

@@ -1,0 +1,226 @@
+-- What the functions of the reader give, by the machine.
+use Rattle.std.specs.Prelude.{◌≡◌, ℕ, ℤ, ◌<◌, ◌≤◌, List, [], ◌∷◌, ◌++◌, length, Option, Some, None}
+use Rattle.std.specs.declared.result.Result.TheVariants.{Err}
+use Rattle.p3l_ast.specs.declared.position.Spot.{Spot}
+use Rattle.p3l_ast.specs.declared.expression.UnOp.{UnOp}
+use Rattle.p3l_ast.specs.declared.expression.BinOp.{BinOp}
+use Rattle.p3l_ast.specs.declared.module.Kind.{Kind}
+use Rattle.p3l_ast.specs.Tree.{Phrase, Phrases, none, snoc, Code, done, join, EntryTree}
+use Rattle.p3l_lexer.specs.declared.mark.Mark.{Mark}
+use Rattle.p3l_lexer.specs.declared.mark.Mark.TheVariants as marks
+use Rattle.p3l_lexer.specs.declared.token.Token.{Token}
+use Rattle.p3l_grammar.specs.Symbol.{Symbol, word, digits, sign, symbol, level}
+use Rattle.p3l_grammar.specs.Machine.{State, entries, await, any_word, operand, another_index, value, another_stmt, Hole, after_unary, need, setting, choice_from, end_of, operator_of, all}
+use Rattle.p3l_reader.specs.declared.refusal.Refusal.{Refusal}
+use Rattle.p3l_reader.specs.declared.refusal.Refusal.TheVariants.{NoMemory, Expected}
+
+-- the tokens are one that is seen so, and then the rest
+pub record Begins (tokens : List Token) (first : Symbol) (rest : List Token) : Type 0 where
+  pub token : Token
+  pub whole : tokens ≡ token ∷ rest
+  pub seen : symbol token ≡ first
+
+-- this mark does not come next
+abbrev pub NotNext : Mark → List Token → Type 0
+NotNext m [] = Unit {0}
+NotNext m (t ∷ ts) = symbol t ≡ sign m → ⊥
+
+-- no name comes next
+abbrev pub IsNoWord : Symbol → Type 0
+IsNoWord (word x) = ⊥
+IsNoWord _ = Unit {0}
+
+abbrev pub NoWord : List Token → Type 0
+NoWord [] = Unit {0}
+NoWord (t ∷ ts) = IsNoWord (symbol t)
+
+-- a name comes next
+abbrev pub IsTheWord : Symbol → Type 0
+IsTheWord (word x) = Unit {0}
+IsTheWord _ = ⊥
+
+abbrev pub IsWord : List Token → Type 0
+IsWord [] = ⊥
+IsWord (t ∷ ts) = IsTheWord (symbol t)
+
+-- no mark comes next
+abbrev pub IsNoSign : Symbol → Type 0
+IsNoSign (sign m) = ⊥
+IsNoSign _ = Unit {0}
+
+abbrev pub NoSign : List Token → Type 0
+NoSign [] = Unit {0}
+NoSign (t ∷ ts) = IsNoSign (symbol t)
+
+-- no digits come next
+abbrev pub IsNoDigits : Symbol → Type 0
+IsNoDigits (digits v p) = ⊥
+IsNoDigits _ = Unit {0}
+
+abbrev pub NoDigits : List Token → Type 0
+NoDigits [] = Unit {0}
+NoDigits (t ∷ ts) = IsNoDigits (symbol t)
+
+-- the tokens are this number, and then the rest
+abbrev pub IsNumeral : Symbol → ℤ → Type 0
+IsNumeral (digits w p) v = v ≡ w
+IsNumeral _ v = ⊥
+
+abbrev pub BeginsDigits : List Token → ℤ → List Token → Type 0
+BeginsDigits [] v rest = ⊥
+BeginsDigits (t ∷ ts) v rest = IsNumeral (symbol t) v × (ts ≡ rest)
+
+-- whatever goes on behind an A, the tokens are this A and then the rest
+pub record Reads {A : Type 0} (from : (A → State) → State) (tokens : List Token) (x : A) (rest : List Token) : Type 0 where
+  pub goes : (go : A → State) → all (from go) tokens ≡ all (go x) rest
+
+-- whatever goes on behind an A, the tokens are refused where so many are left
+abbrev pub Fails : {A : Type 0} → ((A → State) → State) → List Token → Refusal → Type 0
+Fails from tokens NoMemory = Unit {0}
+Fails from tokens (Expected left) = (go : _) → all (from go) tokens ≡ Err left
+
+-- the mark is refused
+abbrev pub NotThere : Mark → List Token → Refusal → Type 0
+NotThere m tokens NoMemory = Unit {0}
+NotThere m tokens (Expected left) = NotNext m tokens × (left ≡ length tokens)
+
+-- Lists: what may come again and again.
+
+-- the tokens are one more A of the list, and then the rest
+pub record Adds {A : Type 0} (list : List A → (List A → State) → State) (tokens : List Token) (x : A) (rest : List Token) : Type 0 where
+  pub goes : (xs : List A) (go : List A → State) → all (list xs go) tokens ≡ all (list (xs ++ x ∷ []) go) rest
+
+-- the list ends here
+pub record Leaves {A : Type 0} (list : List A → (List A → State) → State) (tokens : List Token) : Type 0 where
+  pub goes : (xs : List A) (go : List A → State) → all (list xs go) tokens ≡ all (go xs) tokens
+
+-- one more A is begun, and refused where so many are left
+abbrev pub Misses : {A : Type 0} → (List A → (List A → State) → State) → List Token → Refusal → Type 0
+Misses list tokens NoMemory = Unit {0}
+Misses list tokens (Expected left) = (xs : _) (go : _) → all (list xs go) tokens ≡ Err left
+
+-- from these items on the tokens are those items, and then the rest
+pub record Extends {A : Type 0} (list : List A → (List A → State) → State) (first : List A) (tokens : List Token) (xs : List A) (rest : List Token) : Type 0 where
+  pub goes : (go : List A → State) → all (list first go) tokens ≡ all (list xs go) rest
+  pub shorter : length rest ≤ length tokens
+
+-- Ends of modules.
+
+-- the tokens are the end of a module of this kind, and then the rest
+pub record Closes (kind : Kind) (tokens rest : List Token) : Type 0 where
+  pub goes : (s : State) → all (end_of kind s) tokens ≡ all s rest
+
+abbrev pub FailsEnd : Kind → List Token → Refusal → Type 0
+FailsEnd kind tokens NoMemory = Unit {0}
+FailsEnd kind tokens (Expected left) = (s : State) → all (end_of kind s) tokens ≡ Err left
+
+-- Expressions.
+
+-- no operator before an operand comes next
+abbrev pub IsNoUnary : Symbol → Type 0
+IsNoUnary (sign marks.Minus) = ⊥
+IsNoUnary (sign marks.Bang) = ⊥
+IsNoUnary (sign marks.Tilde) = ⊥
+IsNoUnary _ = Unit {0}
+
+abbrev pub NoUnary : List Token → Type 0
+NoUnary [] = Unit {0}
+NoUnary (t ∷ ts) = IsNoUnary (symbol t)
+
+-- no operator of this level or a tighter one comes next
+abbrev pub StopsAt : ℕ → Option BinOp → Type 0
+StopsAt n None = Unit {0}
+StopsAt n (Some o) = level o < n
+
+abbrev pub Stops : ℕ → List Token → Type 0
+Stops n [] = Unit {0}
+Stops n (t ∷ ts) = StopsAt n (operator_of (symbol t))
+
+-- wherever an operand of this tightness stands, the tokens are this expression and then the rest
+pub record Follows (n : ℕ) (tokens : List Token) (e : Phrase) (rest : List Token) : Type 0 where
+  pub goes : (h : Hole) → need h ≤ n → all (operand h) tokens ≡ all (value e h) rest
+  pub shorter : length rest < length tokens
+
+-- there they are refused where so many are left
+abbrev pub FailsAt : ℕ → List Token → Refusal → Type 0
+FailsAt n tokens NoMemory = Unit {0}
+FailsAt n tokens (Expected left) = (h : Hole) → need h ≤ n → all (operand h) tokens ≡ Err left
+
+-- the same behind an operator before its operand
+pub record FollowsUnary (o : UnOp) (tokens : List Token) (e : Phrase) (rest : List Token) : Type 0 where
+  pub goes : (h : Hole) → all (operand (after_unary o h)) tokens ≡ all (value e h) rest
+  pub shorter : length rest < length tokens
+
+abbrev pub FailsUnary : UnOp → List Token → Refusal → Type 0
+FailsUnary o tokens NoMemory = Unit {0}
+FailsUnary o tokens (Expected left) = (h : Hole) → all (operand (after_unary o h)) tokens ≡ Err left
+
+-- the tokens are one more index, and then the rest
+pub record AddsIndex (tokens : List Token) (e : Phrase) (rest : List Token) : Type 0 where
+  pub goes : (is : Phrases) (go : Phrases → State) → all (another_index is go) tokens ≡ all (another_index (snoc is e) go) rest
+
+pub record LeavesIndex (tokens : List Token) : Type 0 where
+  pub goes : (is : Phrases) (go : Phrases → State) → all (another_index is go) tokens ≡ all (go is) tokens
+
+abbrev pub MissesIndex : List Token → Refusal → Type 0
+MissesIndex tokens NoMemory = Unit {0}
+MissesIndex tokens (Expected left) = (is : Phrases) (go : Phrases → State) → all (another_index is go) tokens ≡ Err left
+
+pub record ExtendsIndex (tokens : List Token) (is : Phrases) (rest : List Token) : Type 0 where
+  pub goes : (go : Phrases → State) → all (another_index none go) tokens ≡ all (another_index is go) rest
+  pub shorter : length rest ≤ length tokens
+
+-- Statements.
+
+-- the tokens are a target, and then the rest
+pub record Targets (tokens : List Token) (x : Spot) (is : Phrases) (rest : List Token) : Type 0 where
+  pub goes : (go : Spot → Phrases → State) → all (any_word (λ y. another_index none (go y))) tokens ≡ all (go x is) rest
+
+abbrev pub FailsTarget : List Token → Refusal → Type 0
+FailsTarget tokens NoMemory = Unit {0}
+FailsTarget tokens (Expected left) = (go : Spot → Phrases → State) → all (any_word (λ y. another_index none (go y))) tokens ≡ Err left
+
+-- the tokens are an assignment up to a mark, and then the rest
+pub record Sets (m : Mark) (tokens : List Token) (x : Spot) (is : Phrases) (e : Phrase) (rest : List Token) : Type 0 where
+  pub goes : (go : Spot → Phrases → Phrase → State) → all (setting (λ y js f. await m (go y js f))) tokens ≡ all (go x is e) rest
+
+abbrev pub FailsSetting : Mark → List Token → Refusal → Type 0
+FailsSetting m tokens NoMemory = Unit {0}
+FailsSetting m tokens (Expected left) = (go : Spot → Phrases → Phrase → State) → all (setting (λ y js f. await m (go y js f))) tokens ≡ Err left
+
+-- the tokens are one more statement, and then the rest
+pub record AddsStmt (tokens : List Token) (d : Code) (rest : List Token) : Type 0 where
+  pub goes : (c : Code) (go : Code → State) → all (another_stmt c go) tokens ≡ all (another_stmt (join c d) go) rest
+
+pub record LeavesStmts (tokens : List Token) : Type 0 where
+  pub goes : (c : Code) (go : Code → State) → all (another_stmt c go) tokens ≡ all (go c) tokens
+
+abbrev pub MissesStmt : List Token → Refusal → Type 0
+MissesStmt tokens NoMemory = Unit {0}
+MissesStmt tokens (Expected left) = (c : Code) (go : Code → State) → all (another_stmt c go) tokens ≡ Err left
+
+pub record ExtendsStmts (tokens : List Token) (c : Code) (rest : List Token) : Type 0 where
+  pub goes : (go : Code → State) → all (another_stmt done go) tokens ≡ all (another_stmt c go) rest
+  pub shorter : length rest ≤ length tokens
+
+-- behind an `if` the tokens are the rest of the choice, and then the rest
+pub record Chooses (tokens : List Token) (d : Code) (rest : List Token) : Type 0 where
+  pub goes : (c : Code) (go : Code → State) → all (choice_from c go) tokens ≡ all (another_stmt (join c d) go) rest
+
+abbrev pub FailsChoice : List Token → Refusal → Type 0
+FailsChoice tokens NoMemory = Unit {0}
+FailsChoice tokens (Expected left) = (c : Code) (go : Code → State) → all (choice_from c go) tokens ≡ Err left
+
+-- Entries.
+
+pub record AddsEntry (tokens : List Token) (e : EntryTree) (rest : List Token) : Type 0 where
+  pub goes : (es : List EntryTree) → all (entries es) tokens ≡ all (entries (es ++ e ∷ [])) rest
+
+abbrev pub MissesEntry : List Token → Refusal → Type 0
+MissesEntry tokens NoMemory = Unit {0}
+MissesEntry tokens (Expected left) = (es : List EntryTree) → all (entries es) tokens ≡ Err left
+
+-- the text is refused where so many tokens are left
+abbrev pub FailsText : List Token → Refusal → Type 0
+FailsText tokens NoMemory = Unit {0}
+FailsText tokens (Expected left) = all (entries []) tokens ≡ Err left

@@ -1,0 +1,268 @@
+// Reading entries: constants and modules.
+
+ghost use Rattle.std.specs.Prelude.{◌≡◌, ◌<◌, ◌≤◌, [], ◌∷◌, length, IfOk, IfErr, IfSome, IfNone};
+ghost use Rattle.p3l_ast.specs.Tree.{inside_tree, entry_tree};
+ghost use Rattle.p3l_grammar.specs.Symbol.{sign};
+ghost use Rattle.p3l_grammar.specs.Machine.{clause, body_in, body_from, loop_calls, loop_tokens, filling, head_outs, head_from, head, fixed_from, module_from, kind_of, entry_step};
+ghost use Rattle.p3l_reader.specs.Reading.{Begins, Reads, Fails, Closes, FailsEnd};
+ghost use Rattle.p3l_reader.specs.Parts.{head_of, filling_of};
+
+use crate::call::{call, call_list};
+use crate::mark::{digits, expect, num, skip, spot};
+use crate::port::{locals, ports};
+use crate::refusal::Refusal;
+use crate::stmt::stmts;
+use p3l_ast::{Block, Clauses, Entry, Inside, Kind, Module, Num, Port, Spot};
+use p3l_base::List;
+use p3l_grammar::operator::mark_of_kind;
+use p3l_lexer::{Mark, Token};
+use std::alloc::Global;
+
+/// The name and the ports of a module.
+#[derive(Drop)]
+pub struct Head {
+    pub at: Spot,
+    pub ins: List<Port>,
+    pub outs: List<Port>,
+}
+
+/// What stands between the head of a module and its end.
+#[derive(Drop)]
+pub struct Filling {
+    pub clauses: Clauses,
+    pub inside: Inside,
+}
+
+/// A clause, where its keyword comes next.
+fn clause(alloc: Global, tokens: &[Token], mark: Mark) -> Result<(Option<Num>, &[Token]), Refusal>
+    ensures ok { IfOk result (λ x. Reads (clause mark) tokens.now x.0 x.1.now) }
+    ensures shorter { IfOk result (λ x. length x.1.now ≤ length tokens.now) }
+    ensures err { IfErr result (λ e. Fails (clause mark) tokens.now e) }
+{
+    match skip(tokens, mark) {
+        Some(rest) => {
+            let (value, rest) = num(alloc, rest)?;
+            Ok((Some(value), rest))
+        }
+        None => Ok((None, tokens)),
+    }
+}
+
+/// What stands behind the in ports of a head.
+fn head_outs(
+    alloc: Global,
+    at: Spot,
+    ins: List<Port>,
+    tokens: &[Token],
+) -> Result<(Head, &[Token]), Refusal>
+    ensures ok { IfOk result (λ x. Reads (head_outs at ins) tokens.now (head_of x.0) x.1.now) }
+    ensures shorter { IfOk result (λ x. length x.1.now < length tokens.now) }
+    ensures err { IfErr result (λ e. Fails (head_outs at ins) tokens.now e) }
+{
+    let rest = expect(tokens, Mark::Out)?;
+    let (outs, rest) = ports(alloc, rest)?;
+    Ok((Head { at, ins, outs }, rest))
+}
+
+/// What stands behind the name of a module.
+fn head_ports(alloc: Global, at: Spot, tokens: &[Token]) -> Result<(Head, &[Token]), Refusal>
+    ensures ok { IfOk result (λ x. Reads (head_from at) tokens.now (head_of x.0) x.1.now) }
+    ensures shorter { IfOk result (λ x. length x.1.now < length tokens.now) }
+    ensures err { IfErr result (λ e. Fails (head_from at) tokens.now e) }
+{
+    let rest = expect(tokens, Mark::In)?;
+    let (ins, rest) = ports(alloc, rest)?;
+    head_outs(alloc, at, ins, rest)
+}
+
+/// The name and the ports of a module.
+fn whole_head(alloc: Global, tokens: &[Token]) -> Result<(Head, &[Token]), Refusal>
+    ensures ok { IfOk result (λ x. Reads head tokens.now (head_of x.0) x.1.now) }
+    ensures shorter { IfOk result (λ x. length x.1.now < length tokens.now) }
+    ensures err { IfErr result (λ e. Fails head tokens.now e) }
+{
+    let (at, rest) = spot(alloc, tokens)?;
+    head_ports(alloc, at, rest)
+}
+
+/// The local variables and the statements of a body.
+fn body_in(alloc: Global, tokens: &[Token]) -> Result<(Inside, &[Token]), Refusal>
+    ensures ok { IfOk result (λ x. Reads body_in tokens.now (inside_tree x.0) x.1.now) }
+    ensures shorter { IfOk result (λ x. length x.1.now ≤ length tokens.now) }
+    ensures err { IfErr result (λ e. Fails body_in tokens.now e) }
+{
+    let (locals, rest) = locals(alloc, tokens)?;
+    let (stmts, rest) = stmts(alloc, rest)?;
+    let stmts = List::from_vec(stmts);
+    Ok((Inside::Body(Block { locals, stmts }), rest))
+}
+
+/// The body of a `seq`.
+fn body(alloc: Global, tokens: &[Token]) -> Result<(Inside, &[Token]), Refusal>
+    ensures ok { IfOk result (λ x. Reads body_from tokens.now (inside_tree x.0) x.1.now) }
+    ensures shorter { IfOk result (λ x. length x.1.now < length tokens.now) }
+    ensures err { IfErr result (λ e. Fails body_from tokens.now e) }
+{
+    let rest = expect(tokens, Mark::OpenBody)?;
+    let (inside, rest) = body_in(alloc, rest)?;
+    let rest = expect(rest, Mark::CloseBody)?;
+    Ok((inside, rest))
+}
+
+/// The body and the condition of a `loop`.
+fn loop_calls(alloc: Global, tokens: &[Token]) -> Result<(Inside, &[Token]), Refusal>
+    ensures ok { IfOk result (λ x. Reads loop_calls tokens.now (inside_tree x.0) x.1.now) }
+    ensures shorter { IfOk result (λ x. length x.1.now < length tokens.now) }
+    ensures err { IfErr result (λ e. Fails loop_calls tokens.now e) }
+{
+    let (body, rest) = call(alloc, tokens)?;
+    let rest = expect(rest, Mark::While)?;
+    let (condition, rest) = call(alloc, rest)?;
+    Ok((Inside::Turning(body, condition), rest))
+}
+
+/// What stands behind the turns of a `loop`.
+fn loop_tokens(alloc: Global, turns: Num, tokens: &[Token]) -> Result<(Filling, &[Token]), Refusal>
+    ensures ok { IfOk result (λ x. Reads (loop_tokens turns) tokens.now (filling_of x.0) x.1.now) }
+    ensures shorter { IfOk result (λ x. length x.1.now < length tokens.now) }
+    ensures err { IfErr result (λ e. Fails (loop_tokens turns) tokens.now e) }
+{
+    let (capacity, rest) = clause(alloc, tokens, Mark::Tokens)?;
+    let (inside, rest) = loop_calls(alloc, rest)?;
+    let clauses = Clauses {
+        workers: None,
+        turns: Some(turns),
+        tokens: capacity,
+        budget: None,
+    };
+    Ok((Filling { clauses, inside }, rest))
+}
+
+/// What stands behind the head of a `seq`.
+fn seq(alloc: Global, tokens: &[Token]) -> Result<(Filling, &[Token]), Refusal>
+    ensures ok { IfOk result (λ x. Reads (filling Kind.Seq) tokens.now (filling_of x.0) x.1.now) }
+    ensures shorter { IfOk result (λ x. length x.1.now < length tokens.now) }
+    ensures err { IfErr result (λ e. Fails (filling Kind.Seq) tokens.now e) }
+{
+    let (budget, rest) = clause(alloc, tokens, Mark::Budget)?;
+    let (inside, rest) = body(alloc, rest)?;
+    let clauses = Clauses {
+        workers: None,
+        turns: None,
+        tokens: None,
+        budget,
+    };
+    Ok((Filling { clauses, inside }, rest))
+}
+
+/// What stands behind the head of a `comp` or a `pipe`.
+fn chain(alloc: Global, tokens: &[Token]) -> Result<(Filling, &[Token]), Refusal>
+    ensures ok { IfOk result (λ x. Reads (filling Kind.Pipe) tokens.now (filling_of x.0) x.1.now) }
+    ensures shorter { IfOk result (λ x. length x.1.now < length tokens.now) }
+    ensures err { IfErr result (λ e. Fails (filling Kind.Pipe) tokens.now e) }
+{
+    let (calls, rest) = call_list(alloc, tokens)?;
+    let clauses = Clauses {
+        workers: None,
+        turns: None,
+        tokens: None,
+        budget: None,
+    };
+    let inside = Inside::Calls(calls);
+    Ok((Filling { clauses, inside }, rest))
+}
+
+/// What stands behind the head of a `farm`, a `map` or a `reduce`.
+fn spread(alloc: Global, tokens: &[Token]) -> Result<(Filling, &[Token]), Refusal>
+    ensures ok { IfOk result (λ x. Reads (filling Kind.Farm) tokens.now (filling_of x.0) x.1.now) }
+    ensures shorter { IfOk result (λ x. length x.1.now < length tokens.now) }
+    ensures err { IfErr result (λ e. Fails (filling Kind.Farm) tokens.now e) }
+{
+    let (workers, rest) = clause(alloc, tokens, Mark::Workers)?;
+    let (call, rest) = call(alloc, rest)?;
+    let mut calls = List::new(alloc);
+    calls.push(call)?;
+    let clauses = Clauses {
+        workers,
+        turns: None,
+        tokens: None,
+        budget: None,
+    };
+    let inside = Inside::Calls(calls);
+    Ok((Filling { clauses, inside }, rest))
+}
+
+/// What stands behind the head of a `loop`.
+fn turning(alloc: Global, tokens: &[Token]) -> Result<(Filling, &[Token]), Refusal>
+    ensures ok { IfOk result (λ x. Reads (filling Kind.Loop) tokens.now (filling_of x.0) x.1.now) }
+    ensures shorter { IfOk result (λ x. length x.1.now < length tokens.now) }
+    ensures err { IfErr result (λ e. Fails (filling Kind.Loop) tokens.now e) }
+{
+    let rest = expect(tokens, Mark::Turns)?;
+    let (turns, rest) = num(alloc, rest)?;
+    loop_tokens(alloc, turns, rest)
+}
+
+/// What stands between the head of a module and its end.
+fn whole_filling(
+    alloc: Global,
+    kind: Kind,
+    tokens: &[Token],
+) -> Result<(Filling, &[Token]), Refusal>
+    ensures ok { IfOk result (λ x. Reads (filling kind) tokens.now (filling_of x.0) x.1.now) }
+    ensures shorter { IfOk result (λ x. length x.1.now < length tokens.now) }
+    ensures err { IfErr result (λ e. Fails (filling kind) tokens.now e) }
+{
+    match kind {
+        Kind::Seq => seq(alloc, tokens),
+        Kind::Comp => chain(alloc, tokens),
+        Kind::Pipe => chain(alloc, tokens),
+        Kind::Farm => spread(alloc, tokens),
+        Kind::Map => spread(alloc, tokens),
+        Kind::Reduce => spread(alloc, tokens),
+        Kind::Loop => turning(alloc, tokens),
+    }
+}
+
+/// What follows the end of a module.
+fn module_end(tokens: &[Token], kind: Kind) -> Result<&[Token], Refusal>
+    ensures ok { IfOk result (λ rest. Closes kind tokens.now rest.now) }
+    ensures shorter { IfOk result (λ rest. length rest.now < length tokens.now) }
+    ensures err { IfErr result (λ e. FailsEnd kind tokens.now e) }
+{
+    let rest = expect(tokens, Mark::End)?;
+    expect(rest, mark_of_kind(kind))
+}
+
+/// What stands behind the keyword of a module.
+pub fn module(alloc: Global, kind: Kind, tokens: &[Token]) -> Result<(Entry, &[Token]), Refusal>
+    ensures ok { IfOk result (λ x. Reads (module_from kind) tokens.now (entry_tree x.0) x.1.now) }
+    ensures shorter { IfOk result (λ x. length x.1.now < length tokens.now) }
+    ensures err { IfErr result (λ e. Fails (module_from kind) tokens.now e) }
+{
+    let (Head { at, ins, outs }, rest) = whole_head(alloc, tokens)?;
+    let (Filling { clauses, inside }, rest) = whole_filling(alloc, kind, rest)?;
+    let rest = module_end(rest, kind)?;
+    let module = Module {
+        kind,
+        at,
+        ins,
+        outs,
+        clauses,
+        inside,
+    };
+    Ok((Entry::Module(module), rest))
+}
+
+/// What stands behind `const`.
+pub fn constant(alloc: Global, tokens: &[Token]) -> Result<(Entry, &[Token]), Refusal>
+    ensures ok { IfOk result (λ x. Reads fixed_from tokens.now (entry_tree x.0) x.1.now) }
+    ensures shorter { IfOk result (λ x. length x.1.now < length tokens.now) }
+    ensures err { IfErr result (λ e. Fails fixed_from tokens.now e) }
+{
+    let (at, rest) = spot(alloc, tokens)?;
+    let rest = expect(rest, Mark::Assign)?;
+    let (value, rest) = digits(rest)?;
+    let rest = expect(rest, Mark::Semicolon)?;
+    Ok((Entry::Constant(at, value), rest))
+}
