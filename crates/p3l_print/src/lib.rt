@@ -8,5 +8,7 @@ mod port;
 mod printer;
 mod program;
 mod statement;
+#[cfg(test)]
+mod tests;
 
 pub use program::print;
