@@ -207,14 +207,6 @@ only_residual program (Ok p) e es a h = absurd a
 only_residual program (Err d) NoMemory es a h = let P : SourceRefusal → Type 0 = λ q. IsOnly program (Err q) in subst P (sym a) tt
 only_residual program (Err d) (At fault at) es a h = absurd h
 
-pub only_memory : (program : ProgramTree) (r : Result Program SourceRefusal) → IsErrAnd r (λ d. d ≡ NoMemory) → IsOnly program r
-only_memory program (Ok p) a = absurd a
-only_memory program (Err d) a = let P : SourceRefusal → Type 0 = λ q. IsOnly program (Err q) in subst P (sym a) tt
-
-pub refusal_residual : (bytes : List ℕ) (r : Result Program SourceRefusal) (e : SourceRefusal) → IsErrAnd r (λ d. d ≡ e) → IsRefusal bytes e → IfErr r (λ d. IsRefusal bytes d)
-refusal_residual bytes (Ok p) e a h = tt
-refusal_residual bytes (Err d) e a h = let P : SourceRefusal → Type 0 = λ q. IsRefusal bytes q in subst P (sym a) h
-
 -- what the text spells is what its tokens derive
 pub spelled_entries : (bytes : List ℕ) (ts : List Token) (program : ProgramTree) → (s : Spells bytes program) → s.tokens ≡ ts → Derives (symbols ts) program.entries × IsWithin at_rest (symbols ts)
 spelled_entries bytes ts program s e =

@@ -43,13 +43,6 @@ await_fails m (t ∷ ts) h s = ap (λ o. next o (suc (length ts)) (λ s'. all s'
 
 -- A mark, and what follows it.
 
-pub mark_reads : {A : Type 0} (m : Mark) (from : (A → State) → State) (ts r r' : List Token) (x : A) → Begins ts (sign m) r → Reads from r x r' → Reads (λ go. await m (from go)) ts x r'
-mark_reads m from ts r r' x b f = record { goes = λ go. await_begins m ts r b (from go) ∙ f.goes go }
-
-pub mark_missing : {A : Type 0} (m : Mark) (from : (A → State) → State) (ts : List Token) (e : Refusal) → NotThere m ts e → Fails (λ go. await m (from go)) ts e
-mark_missing m from ts NoMemory h = tt
-mark_missing m from ts (Expected left) h = λ go. await_fails m ts h.0 (from go) ∙ ap Err (sym h.1)
-
 pub mark_fails : {A : Type 0} (m : Mark) (from : (A → State) → State) (ts r : List Token) (e : Refusal) → Begins ts (sign m) r → Fails from r e → Fails (λ go. await m (from go)) ts e
 mark_fails m from ts r NoMemory b h = tt
 mark_fails m from ts r (Expected left) b h = λ go. await_begins m ts r b (from go) ∙ h go
@@ -59,13 +52,6 @@ mark_fails m from ts r (Expected left) b h = λ go. await_begins m ts r b (from 
 pub then_fails : {A B : Type 0} (from : (A → State) → State) (k : A → (B → State) → State) (ts r : List Token) (x : A) (e : Refusal) → Reads from ts x r → Fails (k x) r e → Fails (λ go. from (λ a. k a go)) ts e
 then_fails from k ts r x NoMemory f h = tt
 then_fails from k ts r x (Expected left) f h = λ go. f.goes (λ a. k a go) ∙ h go
-
-pub first_fails : {A B : Type 0} (from : (A → State) → State) (k : A → (B → State) → State) (ts : List Token) (e : Refusal) → Fails from ts e → Fails (λ go. from (λ a. k a go)) ts e
-first_fails from k ts NoMemory h = tt
-first_fails from k ts (Expected left) h = λ go. h (λ a. k a go)
-
-pub then_reads : {A B : Type 0} (from : (A → State) → State) (k : A → (B → State) → State) (ts r r' : List Token) (x : A) (y : B) → Reads from ts x r → Reads (k x) r y r' → Reads (λ go. from (λ a. k a go)) ts y r'
-then_reads from k ts r r' x y f g = record { goes = λ go. f.goes (λ a. k a go) ∙ g.goes go }
 
 -- what holds of each error
 pub on_error : {A : Type 0} (r : Result A Refusal) (P Q : Refusal → Type 0) → ((e : Refusal) → P e → Q e) → IfErr r P → IfErr r Q

@@ -80,15 +80,6 @@ whole_ends e go [] s = refl
 whole_ends e go (t ∷ rest) s =
     ap (λ q. next (otherwise (operator_step q e (whole go)) (step (go e) (symbol t))) (suc (length rest)) (λ s'. all s' rest)) (stop_none (operator_of (symbol t)) s)
 
-pub upto_unended : (m : Mark) (e : Phrase) (ts rest : List Token) → Follows 0 ts e rest → Stops 0 rest → NotNext m rest → Fails (upto m) ts (Expected (length rest))
-upto_unended m e ts rest f s n =
-    λ go. f.goes (whole (λ d. await m (go d))) (omega arith) ∙ whole_ends e (λ d. await m (go d)) rest s ∙ await_fails m rest n (go e)
-
-pub upto_reads : (m : Mark) (e : Phrase) (ts rest r : List Token) → Follows 0 ts e rest → Stops 0 rest → Begins rest (sign m) r → Reads (upto m) ts e r
-upto_reads m e ts rest r f s b = record {
-  goes = λ go. f.goes (whole (λ d. await m (go d))) (omega arith) ∙ whole_ends e (λ d. await m (go d)) rest s ∙ await_begins m rest r b (go e);
-}
-
 level_below : (q : Option BinOp) (n : ℕ) → StopsAt (suc n) q → level_of q ≤ n
 level_below None n s = omega arith
 level_below (Some o) n s = omega arith

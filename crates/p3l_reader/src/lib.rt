@@ -10,5 +10,7 @@ mod program;
 mod refusal;
 mod source;
 mod stmt;
+#[cfg(test)]
+mod tests;
 
 pub use source::read;

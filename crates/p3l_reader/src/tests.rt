@@ -1,0 +1,215 @@
+// Refusals and their places, and texts that use every production.
+
+use crate::read;
+use p3l_ast::SourceRefusal;
+use std::alloc::{AllocError, Global};
+use std::test::Fail;
+
+/// The number of the first fault with its line and column; (0, 0, 0) for a program.
+fn fault(alloc: Global, text: &[u8]) -> (u8, u32, u32) {
+    match read(alloc, text) {
+        Ok(_) => (0, 0, 0),
+        Err(SourceRefusal::At { fault, pos }) => (fault.number(), pos.line, pos.col),
+        Err(SourceRefusal::NoMemory) => (255, 0, 0),
+    }
+}
+
+/// A text with one byte again and again in its middle.
+fn filled(
+    alloc: Global,
+    head: &str,
+    byte: u8,
+    count: usize,
+    tail: &str,
+) -> Result<Vec<u8>, AllocError> {
+    let mut text = Vec::new(alloc);
+    text.extend_from_slice(head.as_bytes())?;
+    for _ in 0..count {
+        text.push(byte)?;
+    }
+    text.extend_from_slice(tail.as_bytes())?;
+    Ok(text)
+}
+
+#[test]
+fn first_faults(rt: HostRuntime) -> Result<(), Fail> {
+    let table: [(&str, (u8, u32, u32)); 24] = [
+        ("#", (1, 1, 1)),
+        ("const a = 1;\n\u{80}", (1, 2, 1)),
+        ("const b = 1; # const a = 9223372036854775808;", (1, 1, 14)),
+        ("seq main in(int 1x)", (2, 1, 17)),
+        ("const a = 07;", (2, 1, 11)),
+        ("$", (2, 1, 1)),
+        ("const a = 1; /* open", (2, 1, 14)),
+        ("const a 1;", (3, 1, 9)),
+        ("seq m in(int x) out(int y) ${ }", (3, 1, 31)),
+        (
+            "seq m in(int x) out(int y) ${ y = x +; }$ end seq",
+            (3, 1, 38),
+        ),
+        (
+            "seq m in(int x) out(int y) ${ y = 1(; }$ end seq",
+            (3, 1, 36),
+        ),
+        (
+            "seq m in(int x) out(int y) ${ if (x) { } else y = 1; }$ end seq",
+            (3, 1, 47),
+        ),
+        (
+            "seq m in(int x) out(int y) ${ int a; y = 1; int b; }$ end seq",
+            (3, 1, 45),
+        ),
+        ("seq m in(int x) out(int y) ${ }$ end pipe", (3, 1, 38)),
+        ("pipe p in(int x) out(int y) end pipe", (3, 1, 29)),
+        ("farm f in(int x) out(int y) workers w end farm", (3, 1, 39)),
+        (
+            "map m in(int a[2]) out(int b[2]) w in(a[*]) out(b[*i]) end map",
+            (3, 1, 42),
+        ),
+        (
+            "loop l in(int x) out(int y) turns 3 b in(x) out(y) end loop",
+            (3, 1, 52),
+        ),
+        ("const a = 9223372036854775807;", (0, 0, 0)),
+        ("const a = 9223372036854775808;", (4, 1, 11)),
+        ("seq m in(int x[9999999999999999999]", (4, 1, 16)),
+        ("", (0, 0, 0)),
+        (" // a note\r\n\t/*/ ** */", (0, 0, 0)),
+        ("const a = 1; const a = 1;", (0, 0, 0)),
+    ];
+    for (text, place) in table {
+        assert_eq!(rt; fault(rt.alloc(), text.as_bytes()), place, "{text}");
+    }
+    Ok(())
+}
+
+#[test]
+fn early_ends(rt: HostRuntime) -> Result<(), Fail> {
+    let table = [
+        "const",
+        "const a",
+        "const a =",
+        "const a = 1",
+        "seq",
+        "seq m in",
+        "seq m in(",
+        "seq m in(int",
+        "seq m in(int x",
+        "seq m in(int x[",
+        "seq m in(int x[N",
+        "seq m in(int x) out(int y,",
+        "seq main in(int x) out(int y) ${",
+        "seq m in(int x) out(int y) budget",
+        "seq m in(int x) out(int y) ${ int i",
+        "seq m in(int x) out(int y) ${ y",
+        "seq m in(int x) out(int y) ${ y[",
+        "seq m in(int x) out(int y) ${ y = -",
+        "seq m in(int x) out(int y) ${ y = x",
+        "seq m in(int x) out(int y) ${ if (x",
+        "seq m in(int x) out(int y) ${ if (x) {",
+        "seq m in(int x) out(int y) ${ if (x) { } else",
+        "seq m in(int x) out(int y) ${ while",
+        "seq m in(int x) out(int y) ${ for (i = 0; i < 3;",
+        "seq m in(int x) out(int y) ${ }$ end",
+        "pipe p in(int x) out(int y) a in(x) out(int z[2]",
+        "comp c in(int x) out(int y) a in(x) out(y)",
+        "farm f in(int x) out(int y) workers 3 w in(x[*i",
+        "reduce r in(int x[4]) out(int y) o in(x[*i]) out(y) end",
+        "loop l in(int x) out(int y) turns 3 tokens",
+        "loop l in(int x) out(int y) turns 3 b in(x) out(y) while",
+    ];
+    for text in table {
+        let bytes = text.as_bytes();
+        let (number, line, col) = fault(rt.alloc(), bytes);
+        assert_eq!(rt; (number, line), (3, 1), "{text}");
+        assert_eq!(rt; col as usize, bytes.len() + 1, "{text}");
+    }
+    Ok(())
+}
+
+#[test]
+fn limits(rt: HostRuntime) -> Result<(), Fail> {
+    let alloc = rt.alloc();
+    let head = "seq m in(int x) out(int y) ${ y = ";
+    let tail = "x; }$ end seq";
+    assert_eq!(rt;
+        fault(alloc, filled(alloc, head, b'(', 65, tail)?.as_slice()),
+        (8, 1, 99)
+    );
+    assert_eq!(rt;
+        fault(alloc, filled(alloc, head, b'(', 64, tail)?.as_slice()),
+        (3, 1, 100)
+    );
+    assert_eq!(rt;
+        fault(alloc, filled(alloc, head, b'-', 257, tail)?.as_slice()),
+        (8, 1, 291)
+    );
+    assert_eq!(rt;
+        fault(alloc, filled(alloc, head, b'-', 256, tail)?.as_slice()),
+        (0, 0, 0)
+    );
+    assert_eq!(rt;
+        fault(
+            alloc,
+            filled(alloc, "const ", b'a', 65, " = 1;")?.as_slice()
+        ),
+        (5, 1, 7)
+    );
+    assert_eq!(rt;
+        fault(
+            alloc,
+            filled(alloc, "const ", b'a', 64, " = 1;")?.as_slice()
+        ),
+        (0, 0, 0)
+    );
+    assert_eq!(rt;
+        fault(alloc, filled(alloc, "x ", b'a', 65, "")?.as_slice()),
+        (3, 1, 1)
+    );
+    assert_eq!(rt;
+        fault(alloc, filled(alloc, "seq ", b'_', 70, "")?.as_slice()),
+        (5, 1, 5)
+    );
+    assert_eq!(rt;
+        fault(alloc, filled(alloc, "#", b' ', 1_048_576, "")?.as_slice()),
+        (6, 1, 1)
+    );
+    assert_eq!(rt;
+        fault(alloc, filled(alloc, "", b' ', 1_048_577, "")?.as_slice()),
+        (6, 1, 1)
+    );
+    assert_eq!(rt;
+        fault(alloc, filled(alloc, "", b' ', 1_048_576, "")?.as_slice()),
+        (0, 0, 0)
+    );
+    Ok(())
+}
+
+const EVERYTHING: &str = "const N = 4;
+seq s in(int x, int a[N][2]) out(int y) budget 50 ${
+  int i; int b[2][2][2];
+  b[0][x + 1][(y)] = -!~x;
+  y = a[i][0] * 2 / 3 % 4 + 5 - 6 << 1 >> 2 < 3 <= 4 > 5 >= 6 == 7 != 8 & 9 ^ 10 | 11 && 12 || 13;
+  if (x) { y = 1; } else { }
+  if (y) { while (i < N) { i = i + 1; } }
+  for (i = 0; i < N; i = i + 1) { y = y + i; }
+}$ end seq
+comp c in(int x) out(int y) s in(x) out(int z, int w[2]) s in(z, w) out(y) end comp
+pipe p in(int x) out(int y) c in(x) out(y) end pipe
+farm f in(int x) out(int y) workers N c in(x) out(y) end farm
+map m in(int a[N][2]) out(int b[N]) c in(a[*i][]) out(b[*i]) end map
+reduce r in(int a[8]) out(int y) workers 2 c in(a[*i]) out(y) end reduce
+loop main in(int x) out(int y) turns 9 tokens 2 c in(x) out(y) while c in(y) out(int t) end loop
+";
+
+#[test]
+fn every_production(rt: HostRuntime) -> Result<(), Fail> {
+    let alloc = rt.alloc();
+    assert_eq!(rt; fault(alloc, EVERYTHING.as_bytes()), (0, 0, 0));
+    let Ok(program) = read(alloc, EVERYTHING.as_bytes()) else {
+        return Ok(());
+    };
+    assert_eq!(rt; program.entries.len(), 8);
+    assert_eq!(rt; (program.end.line, program.end.col), (16, 1));
+    Ok(())
+}
