@@ -21,27 +21,26 @@ use Rattle.p3l_ast.specs.declared.module.Kind.TheVariants as kinds
 use Rattle.p3l_lexer.specs.declared.mark.Mark.{Mark}
 use Rattle.p3l_lexer.specs.declared.mark.Mark.TheVariants as marks
 use Rattle.p3l_grammar.specs.Symbol.{Symbol, word, digits, sign, unary_mark, binary_mark, level, kind_mark}
-use Rattle.p3l_grammar.specs.Limits.{Nest, at_rest, at_statement, behind, IsKept, IsWithin}
+use Rattle.p3l_grammar.specs.declared.nest.Nest.{Nest}
+use Rattle.p3l_grammar.specs.Limits.{at_rest, at_statement, behind, IsKept, IsWithin}
 use Rattle.p3l_grammar.specs.Written.{Form, numeral, place, prefix, infix_, paren, Forms, no_index, index, Script, stop, set, when, when_else, as_long_as, counting, Head, Item, fixed, bodied, chained, spread, turned, tight, IsGrouped, AreGrouped, IsScript, IsItem, IsText, each, behind_comma, parted, num_symbol, spell_size, spell_port, spell_sub, spell_arg, spell_out, spell_call, spell, spell_index, spell_set, spell_script, spell_head, spell_clause, spell_local, spell_end, spell_item, spell_text}
+use Rattle.p3l_grammar.proofs.Complete.{le_true}
 use Rattle.p3l_print.proofs.Forms.{around, canonical_form, canonical_forms, canonical_script, canonical_item, canonical_items}
 
--- where an expression stands: in a term, or so deep in the index of a target
+-- where an expression stands: in a term, or in the index of a target; with the brackets that were open
+-- where the term or the target began
 
 data Where : Type 0 where
-  in_term : Where
+  in_term : ℕ → Where
   in_index : ℕ → Where
 
-abbrev deeper : Where → Where
-deeper in_term = in_term
-deeper (in_index i) = in_index (suc i)
-
 abbrev is_term : Where → Bool
-is_term in_term = true
-is_term (in_index i) = false
+is_term (in_term base) = true
+is_term (in_index base) = false
 
-abbrev index_of : Where → ℕ
-index_of in_term = 0
-index_of (in_index i) = suc i
+abbrev base_of : Where → ℕ
+base_of (in_term base) = base
+base_of (in_index base) = base
 
 abbrev nest : Where → ℕ → ℕ → ℕ → Nest
 nest at brackets wanted operators = record {
@@ -49,30 +48,35 @@ nest at brackets wanted operators = record {
   brackets = brackets;
   wanted = wanted;
   in_term = is_term at;
-  index = index_of at;
+  base = base_of at;
   operators = operators;
 }
 
+-- an index has more brackets open than its target had
+IsDeep : Where → ℕ → Type 0
+IsDeep (in_term base) b = Unit {0}
+IsDeep (in_index base) b = nat_le b base ≡ false
+
+deep_more : (p : Where) (b : ℕ) → IsDeep p b → IsDeep p (suc b)
+unfolding IsDeep
+deep_more (in_term base) b h = tt
+deep_more (in_index base) b h = grind (arith, nat_tests)
+
 -- how each symbol of an expression changes it
 
-not_zero : (i : ℕ) → nat_eq (suc i) 0 ≡ false
-not_zero i = grind (arith, nat_tests)
+behind_open_bracket : (p : Where) (b w o : ℕ) → IsDeep p b → behind (nest p b w o) (sign marks.OpenBracket) ≡ nest p (suc b) w o
+unfolding IsDeep
+behind_open_bracket (in_term base) b w o d = refl
+behind_open_bracket (in_index base) b w o d = rw d refl
 
-behind_open_bracket : (p : Where) (b w o : ℕ) → behind (nest p b w o) (sign marks.OpenBracket) ≡ nest (deeper p) (suc b) w o
-behind_open_bracket in_term b w o = refl
-behind_open_bracket (in_index i) b w o = let z = not_zero i in rw z refl
+behind_close_bracket : (p : Where) (b w o : ℕ) → behind (nest p (suc b) w o) (sign marks.CloseBracket) ≡ nest p b w o
+behind_close_bracket p b w o = refl
 
-behind_close_bracket : (p : Where) (b w o : ℕ) → behind (nest (deeper p) (suc b) w o) (sign marks.CloseBracket) ≡ nest p b w o
-behind_close_bracket in_term b w o = refl
-behind_close_bracket (in_index i) b w o = refl
+behind_open_paren : (p : Where) (b w o : ℕ) → behind (nest p b w o) (sign marks.OpenParen) ≡ nest p (suc b) w o
+behind_open_paren p b w o = refl
 
-behind_open_paren : (p : Where) (b w o : ℕ) → behind (nest p b w o) (sign marks.OpenParen) ≡ nest (deeper p) (suc b) w o
-behind_open_paren in_term b w o = refl
-behind_open_paren (in_index i) b w o = let z = not_zero i in rw z refl
-
-behind_close_paren : (p : Where) (b w o : ℕ) → behind (nest (deeper p) (suc b) w o) (sign marks.CloseParen) ≡ nest p b w o
-behind_close_paren in_term b w o = refl
-behind_close_paren (in_index i) b w o = refl
+behind_close_paren : (p : Where) (b w o : ℕ) → behind (nest p (suc b) w o) (sign marks.CloseParen) ≡ nest p b w o
+behind_close_paren p b w o = refl
 
 behind_unary : (u : UnOp) (p : Where) (b w o : ℕ) → behind (nest p b w o) (sign (unary_mark u)) ≡ nest p b w (suc o)
 behind_unary Neg p b w o = refl
@@ -185,9 +189,6 @@ record IsAllowed (b : ℕ) (e : Form) : Type 0 where
   plain : Allows b (canonical_form e)
   enclosed : (asked : ℕ) → asked ≤ tight e → Allows b (around asked (canonical_form e))
 
-le_true : (m n : ℕ) → m ≤ n → nat_le m n ≡ true
-le_true m n h = grind (arith, nat_tests)
-
 -- an expression that keeps how tight it binds is not enclosed
 kept_open : (b : ℕ) (e : Form) → tight (canonical_form e) ≡ tight e → Allows b (canonical_form e) → IsAllowed b e
 kept_open b e same h = record { plain = h; enclosed = λ asked k. go (nat_le asked (tight (canonical_form e))) (le_true asked (tight (canonical_form e)) (subst (λ q. asked ≤ q) (sym same) k)) }
@@ -229,65 +230,65 @@ record FormsKeep (p : Where) (b w o : ℕ) (is : Forms) (r : List Symbol) : Type
   goes_on : IsWithin (nest p b w (counted_all o is)) r
 
 mutual
-  form_keeps : (p : Where) (b w o : ℕ) (e : Form) (r : List Symbol) → IsWithin (nest p b w o) (spell e r) → FormKeeps p b w o e r
-  form_keeps p b w o (numeral v q) r h = record { allows = tt; small = h.0.1; goes_on = h.1 }
-  form_keeps p b w o (place x is) r h =
-      let k = forms_keep p b w o is r h.0.1 h.1 in
+  form_keeps : (p : Where) (b w o : ℕ) (d : IsDeep p b) (e : Form) (r : List Symbol) → IsWithin (nest p b w o) (spell e r) → FormKeeps p b w o e r
+  form_keeps p b w o d (numeral v q) r h = record { allows = tt; small = h.0.1; goes_on = h.1 }
+  form_keeps p b w o d (place x is) r h =
+      let k = forms_keep p b w o d is r h.0.1 h.1 in
       record { allows = k.allows; small = k.small; goes_on = k.goes_on }
-  form_keeps p b w o (prefix u e) r h =
+  form_keeps p b w o d (prefix u e) r h =
       let a = off (nest p b w o) (nest p b w (suc o)) (sign (unary_mark u)) (spell e r) (behind_unary u p b w o) h in
-      let k = form_keeps p b w (suc o) e r a.1 in
+      let k = form_keeps p b w (suc o) d e r a.1 in
       record { allows = k.allows; small = k.small; goes_on = k.goes_on }
-  form_keeps p b w o (infix_ u x y) r h =
-      let k = form_keeps p b w o x (sign (binary_mark u) ∷ spell y r) h in
+  form_keeps p b w o d (infix_ u x y) r h =
+      let k = form_keeps p b w o d x (sign (binary_mark u) ∷ spell y r) h in
       let a = off (nest p b w (counted o x)) (nest p b w (suc (counted o x))) (sign (binary_mark u)) (spell y r) (behind_binary u p b w (counted o x)) k.goes_on in
-      let l = form_keeps p b w (suc (counted o x)) y r a.1 in
+      let l = form_keeps p b w (suc (counted o x)) d y r a.1 in
       record { allows = (k.allows, l.allows); small = l.small; goes_on = l.goes_on }
-  form_keeps p b w o (paren e) r h =
-      let a = off (nest p b w o) (nest (deeper p) (suc b) w o) (sign marks.OpenParen) (spell e (sign marks.CloseParen ∷ r)) (behind_open_paren p b w o) h in
-      let k = form_keeps (deeper p) (suc b) w o e (sign marks.CloseParen ∷ r) a.1 in
-      let c = off (nest (deeper p) (suc b) w (counted o e)) (nest p b w (counted o e)) (sign marks.CloseParen) r (behind_close_paren p b w (counted o e)) k.goes_on in
+  form_keeps p b w o d (paren e) r h =
+      let a = off (nest p b w o) (nest p (suc b) w o) (sign marks.OpenParen) (spell e (sign marks.CloseParen ∷ r)) (behind_open_paren p b w o) h in
+      let k = form_keeps p (suc b) w o (deep_more p b d) e (sign marks.CloseParen ∷ r) a.1 in
+      let c = off (nest p (suc b) w (counted o e)) (nest p b w (counted o e)) (sign marks.CloseParen) r (behind_close_paren p b w (counted o e)) k.goes_on in
       record { allows = (a.0.0, k.allows); small = k.small; goes_on = c.1 }
 
-  forms_keep : (p : Where) (b w o : ℕ) (is : Forms) (r : List Symbol) → o ≤ 256 → IsWithin (nest p b w o) (spell_index is r) → FormsKeep p b w o is r
-  forms_keep p b w o no_index r l h = record { allows = tt; small = l; goes_on = h }
-  forms_keep p b w o (index e is) r l h =
-      let a = off (nest p b w o) (nest (deeper p) (suc b) w o) (sign marks.OpenBracket) (spell e (sign marks.CloseBracket ∷ spell_index is r)) (behind_open_bracket p b w o) h in
-      let k = form_keeps (deeper p) (suc b) w o e (sign marks.CloseBracket ∷ spell_index is r) a.1 in
-      let c = off (nest (deeper p) (suc b) w (counted o e)) (nest p b w (counted o e)) (sign marks.CloseBracket) (spell_index is r) (behind_close_bracket p b w (counted o e)) k.goes_on in
-      let m = forms_keep p b w (counted o e) is r k.small c.1 in
+  forms_keep : (p : Where) (b w o : ℕ) (d : IsDeep p b) (is : Forms) (r : List Symbol) → o ≤ 256 → IsWithin (nest p b w o) (spell_index is r) → FormsKeep p b w o is r
+  forms_keep p b w o d no_index r l h = record { allows = tt; small = l; goes_on = h }
+  forms_keep p b w o d (index e is) r l h =
+      let a = off (nest p b w o) (nest p (suc b) w o) (sign marks.OpenBracket) (spell e (sign marks.CloseBracket ∷ spell_index is r)) (behind_open_bracket p b w o d) h in
+      let k = form_keeps p (suc b) w o (deep_more p b d) e (sign marks.CloseBracket ∷ spell_index is r) a.1 in
+      let c = off (nest p (suc b) w (counted o e)) (nest p b w (counted o e)) (sign marks.CloseBracket) (spell_index is r) (behind_close_bracket p b w (counted o e)) k.goes_on in
+      let m = forms_keep p b w (counted o e) d is r k.small c.1 in
       record { allows = (a.0.0, k.allows, m.allows); small = m.small; goes_on = m.goes_on }
 
 -- and what an expression needs
 
 mutual
-  form_within : (p : Where) (b w o : ℕ) (e : Form) (r : List Symbol) → b ≤ 64 → Allows b e → counted o e ≤ 256 → IsWithin (nest p b w (counted o e)) r → IsWithin (nest p b w o) (spell e r)
-  form_within p b w o (numeral v q) r k a s h = ((k, s), h)
-  form_within p b w o (place x is) r k a s h =
+  form_within : (p : Where) (b w o : ℕ) (d : IsDeep p b) (e : Form) (r : List Symbol) → b ≤ 64 → Allows b e → counted o e ≤ 256 → IsWithin (nest p b w (counted o e)) r → IsWithin (nest p b w o) (spell e r)
+  form_within p b w o d (numeral v q) r k a s h = ((k, s), h)
+  form_within p b w o d (place x is) r k a s h =
       let l = counted_all_more o is in
-      ((k, omega arith), forms_within p b w o is r k a s h)
-  form_within p b w o (prefix u e) r k a s h =
+      ((k, omega arith), forms_within p b w o d is r k a s h)
+  form_within p b w o d (prefix u e) r k a s h =
       let l = counted_more (suc o) e in
-      on (nest p b w o) (nest p b w (suc o)) (sign (unary_mark u)) (spell e r) (behind_unary u p b w o) (k, omega arith) (form_within p b w (suc o) e r k a s h)
-  form_within p b w o (infix_ u x y) r k a s h =
+      on (nest p b w o) (nest p b w (suc o)) (sign (unary_mark u)) (spell e r) (behind_unary u p b w o) (k, omega arith) (form_within p b w (suc o) d e r k a s h)
+  form_within p b w o d (infix_ u x y) r k a s h =
       let l = counted_more (suc (counted o x)) y in
-      form_within p b w o x (sign (binary_mark u) ∷ spell y r) k a.0 (omega arith)
-      (on (nest p b w (counted o x)) (nest p b w (suc (counted o x))) (sign (binary_mark u)) (spell y r) (behind_binary u p b w (counted o x)) (k, omega arith) (form_within p b w (suc (counted o x)) y r k a.1 s h))
-  form_within p b w o (paren e) r k a s h =
+      form_within p b w o d x (sign (binary_mark u) ∷ spell y r) k a.0 (omega arith)
+      (on (nest p b w (counted o x)) (nest p b w (suc (counted o x))) (sign (binary_mark u)) (spell y r) (behind_binary u p b w (counted o x)) (k, omega arith) (form_within p b w (suc (counted o x)) d y r k a.1 s h))
+  form_within p b w o d (paren e) r k a s h =
       let l = counted_more o e in
-      on (nest p b w o) (nest (deeper p) (suc b) w o) (sign marks.OpenParen) (spell e (sign marks.CloseParen ∷ r)) (behind_open_paren p b w o) (a.0, omega arith)
-      (form_within (deeper p) (suc b) w o e (sign marks.CloseParen ∷ r) a.0 a.1 s
-      (on (nest (deeper p) (suc b) w (counted o e)) (nest p b w (counted o e)) (sign marks.CloseParen) r (behind_close_paren p b w (counted o e)) (k, s) h))
+      on (nest p b w o) (nest p (suc b) w o) (sign marks.OpenParen) (spell e (sign marks.CloseParen ∷ r)) (behind_open_paren p b w o) (a.0, omega arith)
+      (form_within p (suc b) w o (deep_more p b d) e (sign marks.CloseParen ∷ r) a.0 a.1 s
+      (on (nest p (suc b) w (counted o e)) (nest p b w (counted o e)) (sign marks.CloseParen) r (behind_close_paren p b w (counted o e)) (k, s) h))
 
-  forms_within : (p : Where) (b w o : ℕ) (is : Forms) (r : List Symbol) → b ≤ 64 → AllowsAll b is → counted_all o is ≤ 256 → IsWithin (nest p b w (counted_all o is)) r → IsWithin (nest p b w o) (spell_index is r)
-  forms_within p b w o no_index r k a s h = h
-  forms_within p b w o (index e is) r k a s h =
+  forms_within : (p : Where) (b w o : ℕ) (d : IsDeep p b) (is : Forms) (r : List Symbol) → b ≤ 64 → AllowsAll b is → counted_all o is ≤ 256 → IsWithin (nest p b w (counted_all o is)) r → IsWithin (nest p b w o) (spell_index is r)
+  forms_within p b w o d no_index r k a s h = h
+  forms_within p b w o d (index e is) r k a s h =
       let l = counted_more o e in
       let m = counted_all_more (counted o e) is in
-      on (nest p b w o) (nest (deeper p) (suc b) w o) (sign marks.OpenBracket) (spell e (sign marks.CloseBracket ∷ spell_index is r)) (behind_open_bracket p b w o) (a.0, omega arith)
-      (form_within (deeper p) (suc b) w o e (sign marks.CloseBracket ∷ spell_index is r) a.0 a.1 (omega arith)
-      (on (nest (deeper p) (suc b) w (counted o e)) (nest p b w (counted o e)) (sign marks.CloseBracket) (spell_index is r) (behind_close_bracket p b w (counted o e)) (k, omega arith)
-      (forms_within p b w (counted o e) is r k a.2 s h)))
+      on (nest p b w o) (nest p (suc b) w o) (sign marks.OpenBracket) (spell e (sign marks.CloseBracket ∷ spell_index is r)) (behind_open_bracket p b w o d) (a.0, omega arith)
+      (form_within p (suc b) w o (deep_more p b d) e (sign marks.CloseBracket ∷ spell_index is r) a.0 a.1 (omega arith)
+      (on (nest p (suc b) w (counted o e)) (nest p b w (counted o e)) (sign marks.CloseBracket) (spell_index is r) (behind_close_bracket p b w (counted o e)) (k, omega arith)
+      (forms_within p b w (counted o e) d is r k a.2 s h)))
 
 -- targets that are assigned: each index is an expression of its own
 
@@ -297,9 +298,25 @@ target brackets wanted operators = record {
   brackets = brackets;
   wanted = wanted;
   in_term = false;
-  index = 0;
+  base = brackets;
   operators = operators;
 }
+
+-- where an index of a target begins
+
+le_self : (b : ℕ) → nat_le b b ≡ true
+le_self b = grind (arith, nat_tests)
+
+behind_target : (b w o : ℕ) → behind (target b w o) (sign marks.OpenBracket) ≡ nest (in_index b) (suc b) w 0
+behind_target b w o = let h = le_self b in rw h refl
+
+index_deep : (b : ℕ) → IsDeep (in_index b) (suc b)
+unfolding IsDeep
+index_deep b = grind (arith, nat_tests)
+
+term_deep : (base b : ℕ) → IsDeep (in_term base) b
+unfolding IsDeep
+term_deep base b = tt
 
 record KeepsForm (b : ℕ) (e : Form) : Type 0 where
   allows : Allows b e
@@ -317,29 +334,31 @@ left_over o (index e is) = left_over (counted 0 e) is
 target_keeps : (b w o : ℕ) (is : Forms) (r : List Symbol) → IsWithin (target b w o) (spell_index is r) → KeepsTarget b is × IsWithin (target b w (left_over o is)) r
 target_keeps b w o no_index r h = (tt, h)
 target_keeps b w o (index e is) r h =
-    let k = form_keeps (in_index 0) (suc b) w 0 e (sign marks.CloseBracket ∷ spell_index is r) h.1 in
+    let inner = off (target b w o) (nest (in_index b) (suc b) w 0) (sign marks.OpenBracket) (spell e (sign marks.CloseBracket ∷ spell_index is r)) (behind_target b w o) h in
+    let k = form_keeps (in_index b) (suc b) w 0 (index_deep b) e (sign marks.CloseBracket ∷ spell_index is r) inner.1 in
     let l = target_keeps b w (counted 0 e) is r k.goes_on.1 in
-    ((h.0.0, record { allows = k.allows; small = k.small }, l.0), l.1)
+    ((inner.0.0, record { allows = k.allows; small = k.small }, l.0), l.1)
 
 target_within : (b w o : ℕ) (is : Forms) (r : List Symbol) → b ≤ 64 → KeepsTarget b is → IsWithin (target b w (left_over o is)) r → IsWithin (target b w o) (spell_index is r)
 target_within b w o no_index r k a h = h
 target_within b w o (index e is) r k a h =
     let l = target_within b w (counted 0 e) is r k a.2 h in
-    ((a.0, omega arith), form_within (in_index 0) (suc b) w 0 e (sign marks.CloseBracket ∷ spell_index is r) a.0 a.1.allows a.1.small ((k, a.1.small), l))
+    on (target b w o) (nest (in_index b) (suc b) w 0) (sign marks.OpenBracket) (spell e (sign marks.CloseBracket ∷ spell_index is r)) (behind_target b w o) (a.0, omega arith)
+    (form_within (in_index b) (suc b) w 0 (index_deep b) e (sign marks.CloseBracket ∷ spell_index is r) a.0 a.1.allows a.1.small ((k, a.1.small), l))
 
 record KeepsSet (b : ℕ) (is : Forms) (e : Form) : Type 0 where
   at_index : KeepsTarget b is
   value : KeepsForm b e
 
-set_keeps : (b w o : ℕ) (x : Spot) (is : Forms) (e : Form) (r : List Symbol) → IsWithin (target b w o) (spell_set x is e r) → KeepsSet b is e × IsWithin (nest in_term b w (counted 0 e)) r
+set_keeps : (b w o : ℕ) (x : Spot) (is : Forms) (e : Form) (r : List Symbol) → IsWithin (target b w o) (spell_set x is e r) → KeepsSet b is e × IsWithin (nest (in_term b) b w (counted 0 e)) r
 set_keeps b w o x is e r h =
     let k = target_keeps b w o is (sign marks.Assign ∷ spell e r) h.1 in
-    let l = form_keeps in_term b w 0 e r k.1.1 in
+    let l = form_keeps (in_term b) b w 0 (term_deep b b) e r k.1.1 in
     (record { at_index = k.0; value = record { allows = l.allows; small = l.small } }, l.goes_on)
 
-set_within : (b w : ℕ) (x : Spot) (is : Forms) (e : Form) (r : List Symbol) → b ≤ 64 → KeepsSet b is e → IsWithin (nest in_term b w (counted 0 e)) r → IsWithin (target b w 0) (spell_set x is e r)
+set_within : (b w : ℕ) (x : Spot) (is : Forms) (e : Form) (r : List Symbol) → b ≤ 64 → KeepsSet b is e → IsWithin (nest (in_term b) b w (counted 0 e)) r → IsWithin (target b w 0) (spell_set x is e r)
 set_within b w x is e r k a h =
-    let value = form_within in_term b w 0 e r k a.value.allows a.value.small h in
+    let value = form_within (in_term b) b w 0 (term_deep b b) e r k a.value.allows a.value.small h in
     ((k, omega arith), target_within b w 0 is (sign marks.Assign ∷ spell e r) k a.at_index ((k, omega arith), value))
 
 -- a condition in parentheses, with a block behind it
@@ -351,14 +370,14 @@ record KeepsTest (b : ℕ) (e : Form) : Type 0 where
   room : suc b ≤ 64
   condition : KeepsForm (suc b) e
 
-test_keeps : (b : ℕ) (e : Form) (r : List Symbol) → IsWithin (nest in_term b 0 0) (spelled_test e r) → KeepsTest b e × IsWithin (at_statement (suc b)) r
+test_keeps : (b : ℕ) (e : Form) (r : List Symbol) → IsWithin (nest (in_term b) b 0 0) (spelled_test e r) → KeepsTest b e × IsWithin (at_statement (suc b)) r
 test_keeps b e r h =
-    let k = form_keeps in_term (suc b) 0 0 e (sign marks.CloseParen ∷ sign marks.OpenBrace ∷ r) h.1 in
+    let k = form_keeps (in_term b) (suc b) 0 0 (term_deep b (suc b)) e (sign marks.CloseParen ∷ sign marks.OpenBrace ∷ r) h.1 in
     (record { room = h.0.0; condition = record { allows = k.allows; small = k.small } }, k.goes_on.1.1)
 
-test_within : (b : ℕ) (e : Form) (r : List Symbol) → b ≤ 64 → KeepsTest b e → IsWithin (at_statement (suc b)) r → IsWithin (nest in_term b 0 0) (spelled_test e r)
+test_within : (b : ℕ) (e : Form) (r : List Symbol) → b ≤ 64 → KeepsTest b e → IsWithin (at_statement (suc b)) r → IsWithin (nest (in_term b) b 0 0) (spelled_test e r)
 test_within b e r k a h =
-    ((a.room, omega arith), form_within in_term (suc b) 0 0 e (sign marks.CloseParen ∷ sign marks.OpenBrace ∷ r) a.room a.condition.allows a.condition.small ((k, a.condition.small), ((a.room, omega arith), h)))
+    ((a.room, omega arith), form_within (in_term b) (suc b) 0 0 (term_deep b (suc b)) e (sign marks.CloseParen ∷ sign marks.OpenBrace ∷ r) a.room a.condition.allows a.condition.small ((k, a.condition.small), ((a.room, omega arith), h)))
 
 -- statements
 
@@ -399,7 +418,7 @@ script_keeps (counting x is e w y js f t c) b r h =
     let r2 = sign marks.CloseParen ∷ sign marks.OpenBrace ∷ spell_script t r1 in
     let r3 = sign marks.Semicolon ∷ spell_set y js f r2 in
     let k = set_keeps (suc b) 2 0 x is e (sign marks.Semicolon ∷ spell w r3) h.1.1 in
-    let l = form_keeps in_term (suc b) 1 0 w r3 k.1.1 in
+    let l = form_keeps (in_term (suc b)) (suc b) 1 0 (term_deep (suc b) (suc b)) w r3 k.1.1 in
     let m = set_keeps (suc b) 0 0 y js f r2 l.goes_on.1 in
     let n = script_keeps t (suc b) r1 m.1.1.1 in
     let o = script_keeps c b r n.1.1 in
@@ -428,7 +447,7 @@ script_within (counting x is e w y js f t c) b r k a h =
     let after = script_within c b r k a.5 h in
     let body = script_within t (suc b) r1 a.0 a.4 ((k, omega arith), after) in
     let next = set_within (suc b) 0 y js f r2 a.0 a.3 ((k, a.3.value.small), ((a.0, omega arith), body)) in
-    let test = form_within in_term (suc b) 1 0 w r3 a.0 a.2.allows a.2.small ((a.0, omega arith), next) in
+    let test = form_within (in_term (suc b)) (suc b) 1 0 (term_deep (suc b) (suc b)) w r3 a.0 a.2.allows a.2.small ((a.0, omega arith), next) in
     ((k, omega arith), ((a.0, omega arith), set_within (suc b) 2 x is e (sign marks.Semicolon ∷ spell w r3) a.0 a.1 ((a.0, omega arith), test)))
 
 -- the canonical form keeps what was kept
@@ -476,9 +495,6 @@ each_steady n f k (x ∷ xs) = both_steady n (f x) (each f xs) (k x) (each_stead
 
 resting : IsKept at_rest
 resting = (omega arith, omega arith)
-
-num_steady : (n : Nest) (m : Num) → IsKept n → behind n (num_symbol m) ≡ n → IsSteady n (λ r. num_symbol m ∷ r)
-num_steady n m k e = one_steady n (num_symbol m) k e
 
 num_behind : (n : Nest) (m : Num) → behind n (num_symbol m) ≡ n
 num_behind n (Digits v p) = refl

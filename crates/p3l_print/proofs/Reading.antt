@@ -7,7 +7,8 @@ use Rattle.p3l_lexer.specs.declared.token.Token.{Token}
 use Rattle.p3l_lexer.specs.Position.{position_after}
 use Rattle.p3l_lexer.proofs.Spelling.{tokens_of}
 use Rattle.p3l_grammar.specs.Symbol.{Symbol, word, digits, sign, faulty, symbol, symbol_at, symbols}
-use Rattle.p3l_grammar.specs.Limits.{Nest, at_rest, behind, IsKept, IsWithin}
+use Rattle.p3l_grammar.specs.declared.nest.Nest.{Nest}
+use Rattle.p3l_grammar.specs.Limits.{at_rest, behind, IsKept, IsWithin}
 use Rattle.p3l_grammar.specs.Written.{spell_text, text_tree}
 use Rattle.p3l_print.specs.Program.{canonical, IsTextOf}
 use Rattle.p3l_print.proofs.Forms.{canonical_items, items_are}

@@ -22,6 +22,7 @@ use Rattle.p3l_lexer.specs.Mark.{mark_text, punctuation_of}
 use Rattle.p3l_lexer.specs.Piece.{is_blank, is_word_byte, piece_of}
 use Rattle.p3l_lexer.specs.Cut.{Ends}
 use Rattle.p3l_lexer.specs.Spelling.{HasLexemes, goes_on}
+use Rattle.p3l_lexer.proofs.Truths.{and_left, and_right}
 use Rattle.p3l_lexer.proofs.Spelling.{piece_of-mark, blank_first, lexeme_first}
 use Rattle.p3l_lexer.proofs.Writing.{word_starts, digits_start, piece_of-decimal}
 use Rattle.p3l_grammar.specs.Symbol.{Symbol, word, digits, sign, faulty}
@@ -69,14 +70,6 @@ put_space rest s h = put_blank 32 rest s refl h
 
 pub put_line : (rest : List ℕ) (s : List Symbol) → Writes rest s → Writes (10 ∷ rest) s
 put_line rest s h = put_blank 10 rest s refl h
-
-and_left : (a b : Bool) → (a && b) ≡ true → a ≡ true
-and_left true b h = refl
-and_left false b h = absurd cc
-
-and_right : (a b : Bool) → (a && b) ≡ true → b ≡ true
-and_right true b h = h
-and_right false b h = absurd cc
 
 pub put_margin : (margin rest : List ℕ) (s : List Symbol) → list_all is_blank margin ≡ true → Writes rest s → Writes (margin ++ rest) s
 put_margin [] rest s p h = h
