@@ -1,10 +1,12 @@
 -- The form of the programs that can be run.
-use Rattle.std.specs.Prelude.{◌≡◌, ◌≢◌, ℕ, ℤ, List, [], ◌∷◌, ◌++◌, map, codes}
+use Rattle.std.specs.Prelude.{◌≡◌, ◌≢◌, ℕ, ℤ, List, [], ◌∷◌, ◌++◌, ◌⊎◌, map, codes}
 use Rattle.p3l_lexer.specs.declared.token.Token.{Token}
 use Rattle.p3l_lexer.specs.declared.token.Lexeme.{Lexeme}
 use Rattle.p3l_lexer.specs.declared.token.Lexeme.TheVariants.{Word, Digits, Sign}
 use Rattle.p3l_lexer.specs.declared.mark.Mark.TheVariants as mark
 use Rattle.p3l_lexer.specs.Token.{IsTokens}
+use Rattle.p3l_ast.specs.Tree.{EntryTree, constant, defined, ProgramTree}
+use Rattle.p3l_grammar.specs.Grammar.{Spells, IsFirstFault}
 use Rattle.p3l_ast.specs.declared.position.Pos.{Pos}
 use Rattle.p3l_ast.specs.declared.refusal.Fault.{Fault}
 use Rattle.p3l_ast.specs.declared.refusal.Fault.TheVariants as faults
@@ -42,8 +44,20 @@ pub record IsProgram (bytes : List ℕ) (factor summand : ℤ) : Type 0 where
   pub tokens_are : IsTokens bytes tokens
   pub affine : IsAffine (lexemes_of tokens) factor summand
 
--- the bytes are the text of no such program: that is a fault at the front, since others can't be run yet
-pub record IsRefused (bytes : List ℕ) (fault : Fault) (pos : Pos) : Type 0 where
+-- where the name of the first entry stands, or the front where there is none
+abbrev pub first_place : List EntryTree → Pos
+first_place [] = record { line = 1; col = 1 }
+first_place (constant name value ∷ more) = name.pos
+first_place (defined m ∷ more) = m.at.pos
+
+-- the bytes spell a program that can't be run yet
+pub record IsNotYet (bytes : List ℕ) (fault : Fault) (pos : Pos) : Type 0 where
   pub fault_is : fault ≡ faults.NotYet
-  pub pos_is : pos ≡ record { line = 1; col = 1 }
+  pub program : ProgramTree
+  pub spelled : Spells bytes program
+  pub pos_is : pos ≡ first_place program.entries
+
+-- the bytes are the text of no program that can be run: this is their first fault, or they spell another program
+pub record IsRefused (bytes : List ℕ) (fault : Fault) (pos : Pos) : Type 0 where
+  pub reason : IsFirstFault bytes fault pos ⊎ IsNotYet bytes fault pos
   pub no_program : (factor summand : ℤ) → IsProgram bytes factor summand → ⊥

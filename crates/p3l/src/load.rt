@@ -1,34 +1,58 @@
 // Loading the program of a file.
 
-ghost use Rattle.std.specs.Prelude.{◌≡◌, ◌-◌, ◌<◌, ◌^◌, ℤ, List, ℕ, Some, length, IfOk, IfErr};
+ghost use Rattle.std.specs.Prelude.{map, ◌≤◌, ◌≡◌, ◌-◌, ◌<◌, ◌^◌, ℤ, List, ℕ, Some, length, IfOk, IfErr};
+ghost use Rattle.p3l_ast.specs.Tree.{entry_tree};
 ghost use Rattle.p3l_io.specs.Told.{Held};
-ghost use Rattle.p3l.specs.Form.{IsProgram};
-ghost use Rattle.p3l.specs.Load.{IsTextRefused, Loads, LoadCause};
+ghost use Rattle.p3l.specs.Form.{IsProgram, first_place};
+ghost use Rattle.p3l.specs.Load.{IsReason, IsTextRefused, Loads, LoadCause};
 
 use crate::affine::Affine;
 use crate::form::program_of;
 use crate::verdict::Verdict;
-use p3l_ast::{Fault, Pos, SourceRefusal};
+use p3l_ast::{Entry, Fault, Pos, Program, SourceRefusal};
 use p3l_io::{FileFault, Files};
 use p3l_lexer::tokens;
+use p3l_reader::read;
 use std::alloc::Global;
 
 /// The most bytes of a file.
 pub const FILE_LIMIT: u64 = 1_048_576;
 
+/// Where the name of the first entry stands, or the front of a text without entries.
+fn first_place(program: &Program) -> Pos
+    ensures { result ≡ first_place (map entry_tree program.now.entries) }
+{
+    match program.entries.as_slice() {
+        [] => Pos { line: 1, col: 1 },
+        [Entry::Constant(name, _), ..] => name.pos,
+        [Entry::Module(module), ..] => module.at.pos,
+    }
+}
+
+/// Why a text is refused that has not the form.
+fn refusal_of(alloc: Global, text: &[u8]) -> SourceRefusal
+    requires { length text.now ≤ 1048576 }
+    ensures { IsReason text.now result }
+{
+    match read(alloc, text) {
+        Err(refusal) => refusal,
+        Ok(program) => SourceRefusal::At {
+            fault: Fault::NotYet,
+            pos: first_place(&program),
+        },
+    }
+}
+
 /// The program of a text.
 fn program_of_text(alloc: Global, text: &[u8]) -> Result<Affine, SourceRefusal>
-    requires { length text.now < 2 ^ 32 - 1 }
+    requires { length text.now ≤ 1048576 }
     ensures ok { IfOk result (λ program. IsProgram text.now program.factor program.summand) }
     ensures refused { IfErr result (λ refusal. IsTextRefused text.now refusal) }
 {
     let tokens = tokens(alloc, text)?;
     match program_of(tokens.as_slice()) {
         Some(program) => Ok(program),
-        None => Err(SourceRefusal::At {
-            fault: Fault::NotYet,
-            pos: Pos { line: 1, col: 1 },
-        }),
+        None => Err(refusal_of(alloc, text)),
     }
 }
 

@@ -148,8 +148,8 @@ fn the_numbers_of_a_run_come_before_its_line(rt: HostRuntime) -> Result<(), Fail
 #[test]
 fn words_files_and_texts_are_refused(rt: HostRuntime) -> Result<(), Fail> {
     let usage = "usage: the words are not a command of p3l\n";
-    let not_yet = "source: 1:1: 7 NotYet\n";
-    let table: [(&[&str], &str, u8, &str); 11] = [
+    let not_yet = "source: 1:5: 7 NotYet\n";
+    let table: [(&[&str], &str, u8, &str); 12] = [
         (&[], DOUBLE, 2, usage),
         (&["walk"], DOUBLE, 2, usage),
         (&["run", "m.p3l", "--processors", "0"], DOUBLE, 2, usage),
@@ -168,7 +168,8 @@ fn words_files_and_texts_are_refused(rt: HostRuntime) -> Result<(), Fail> {
             9,
             "file fault: none.p3l\n",
         ),
-        (&RUN, "", 3, not_yet),
+        (&RUN, "", 3, "source: 1:1: 7 NotYet\n"),
+        (&RUN, "seq main in(int 1x)", 3, "source: 1:17: 2 BadToken\n"),
         (
             &RUN,
             "seq main in(int x) out(int x) ${ x = x * 2 + 1; }$ end seq",
