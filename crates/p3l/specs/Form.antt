@@ -1,5 +1,5 @@
 -- The form of the programs that can be run.
-use Rattle.std.specs.Prelude.{◌≡◌, ◌≢◌, ℕ, ℤ, List, [], ◌∷◌, ◌++◌, ◌⊎◌, map, codes}
+use Rattle.std.specs.Prelude.{◌≡◌, ◌≢◌, ◌≤◌, ℕ, ℤ, List, [], ◌∷◌, ◌++◌, ◌⊎◌, length, map, codes}
 use Rattle.p3l_lexer.specs.declared.token.Token.{Token}
 use Rattle.p3l_lexer.specs.declared.token.Lexeme.{Lexeme}
 use Rattle.p3l_lexer.specs.declared.token.Lexeme.TheVariants.{Word, Digits, Sign}
@@ -7,6 +7,7 @@ use Rattle.p3l_lexer.specs.declared.mark.Mark.TheVariants as mark
 use Rattle.p3l_lexer.specs.Token.{IsTokens}
 use Rattle.p3l_ast.specs.Tree.{EntryTree, constant, defined, ProgramTree}
 use Rattle.p3l_grammar.specs.Grammar.{Spells, IsFirstFault}
+use Rattle.p3l_print.specs.Program.{canonical}
 use Rattle.p3l_ast.specs.declared.position.Pos.{Pos}
 use Rattle.p3l_ast.specs.declared.refusal.Fault.{Fault}
 use Rattle.p3l_ast.specs.declared.refusal.Fault.TheVariants as faults
@@ -38,11 +39,18 @@ pub record IsAffine (lexemes : List Lexeme) (factor summand : ℤ) : Type 0 wher
   pub different : input ≢ output
   pub lexemes_are : lexemes ≡ head_of input output ++ body_of input output factor summand
 
--- the bytes are the text of such a program
-pub record IsProgram (bytes : List ℕ) (factor summand : ℤ) : Type 0 where
+-- the program's canonical text is such a text, so that comments, blanks and needless parentheses don't matter
+pub record IsAffineProgram (program : ProgramTree) (factor summand : ℤ) : Type 0 where
+  pub within : length (canonical program) ≤ 1048576
   pub tokens : List Token
-  pub tokens_are : IsTokens bytes tokens
+  pub tokens_are : IsTokens (canonical program) tokens
   pub affine : IsAffine (lexemes_of tokens) factor summand
+
+-- the bytes spell such a program
+pub record IsProgram (bytes : List ℕ) (factor summand : ℤ) : Type 0 where
+  pub program : ProgramTree
+  pub spelled : Spells bytes program
+  pub affine : IsAffineProgram program factor summand
 
 -- where the name of the first entry stands, or the front where there is none
 abbrev pub first_place : List EntryTree → Pos
@@ -57,7 +65,7 @@ pub record IsNotYet (bytes : List ℕ) (fault : Fault) (pos : Pos) : Type 0 wher
   pub spelled : Spells bytes program
   pub pos_is : pos ≡ first_place program.entries
 
--- the bytes are the text of no program that can be run: this is their first fault, or they spell another program
+-- the bytes spell no program that can be run: this is their first fault, or they spell another program
 pub record IsRefused (bytes : List ℕ) (fault : Fault) (pos : Pos) : Type 0 where
   pub reason : IsFirstFault bytes fault pos ⊎ IsNotYet bytes fault pos
   pub no_program : (factor summand : ℤ) → IsProgram bytes factor summand → ⊥

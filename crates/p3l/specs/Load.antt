@@ -1,5 +1,5 @@
 -- What comes of a file that a program is to be loaded from.
-use Rattle.std.specs.Prelude.{◌≡◌, ℕ, List, Some, ◌⊎◌, Result, Ok, Err}
+use Rattle.std.specs.Prelude.{◌≡◌, ℕ, List, Some, Result, Ok, Err}
 use Rattle.p3l_ast.specs.declared.refusal.SourceRefusal.{SourceRefusal}
 use Rattle.p3l_ast.specs.declared.refusal.SourceRefusal.TheVariants as refusal
 use Rattle.p3l_ast.specs.declared.refusal.Fault.{Fault}
@@ -9,14 +9,8 @@ use Rattle.p3l_io.specs.Told.{Held}
 use Rattle.p3l.specs.declared.affine.Affine.{Affine}
 use Rattle.p3l.specs.declared.verdict.Verdict.{Verdict}
 use Rattle.p3l.specs.declared.verdict.Verdict.TheVariants as verdict
-use Rattle.p3l.specs.Form.{IsNotYet, IsProgram, IsRefused}
-use Rattle.p3l_grammar.specs.Grammar.{IsFirstFault}
+use Rattle.p3l.specs.Form.{IsProgram, IsRefused}
 use Rattle.p3l.specs.Answer.{IsTooLong}
-
--- a text is refused at its first fault, or since it can't be run yet, or memory was wanting
-abbrev pub IsReason : List ℕ → SourceRefusal → Type 0
-IsReason text (refusal.At fault pos) = IsFirstFault text fault pos ⊎ IsNotYet text fault pos
-IsReason text refusal.NoMemory = Unit {0}
 
 -- a text is refused for a fault, or memory was wanting
 abbrev pub IsTextRefused : List ℕ → SourceRefusal → Type 0

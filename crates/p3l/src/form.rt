@@ -1,13 +1,20 @@
 // Which texts are programs of the one form that can be run: `Y = X * A + B` in one `seq` module.
 
-ghost use Rattle.std.specs.Prelude.{◌≡◌, ◌++◌, ◌∷◌, ◌↔◌, List, ℤ, ℕ, map, IsTrue, IfSome, IfNone};
+ghost use Rattle.std.specs.Prelude.{◌≡◌, ◌++◌, ◌∷◌, ◌↔◌, List, ℤ, ℕ, map, IsTrue, IfOk, IfSome, IfNone};
+ghost use Rattle.p3l_ast.specs.Tree.{program_tree};
 ghost use Rattle.p3l_lexer.specs.declared.token.Lexeme.{Lexeme};
 ghost use Rattle.p3l_lexer.specs.declared.token.Lexeme.TheVariants as lexeme;
-ghost use Rattle.p3l.specs.Form.{IsAffine, lexemes_of, head_of, body_of, end_of_text};
+ghost use Rattle.p3l.specs.Form.{IsAffine, IsAffineProgram, lexemes_of, head_of, body_of, end_of_text};
 
 use crate::affine::Affine;
-use p3l_base::Name;
-use p3l_lexer::{Lexeme, Mark, Token};
+use p3l_ast::Program;
+use p3l_base::{Name, NoMemory};
+use p3l_lexer::{Lexeme, Mark, Token, tokens};
+use p3l_print::print;
+use std::alloc::Global;
+
+/// The most bytes of a text.
+const TEXT_LIMIT: usize = 1_048_576;
 
 /// What follows the mark at the front, if there is this mark.
 fn after_mark(tokens: &[Token], mark: Mark) -> Option<&[Token]>
@@ -148,7 +155,7 @@ fn body_at(tokens: &[Token], input: &Name, output: &Name) -> Option<Affine>
 }
 
 /// The program of these tokens, if it has the form.
-pub fn program_of(tokens: &[Token]) -> Option<Affine>
+fn program_of(tokens: &[Token]) -> Option<Affine>
     ensures some { IfSome result (λ program. IsAffine (lexemes_of tokens.now) program.factor program.summand) }
     ensures none { IfNone result ((a b : ℤ) → IsAffine (lexemes_of tokens.now) a b → ⊥) }
 {
@@ -159,4 +166,17 @@ pub fn program_of(tokens: &[Token]) -> Option<Affine>
         return None;
     }
     body_at(head.rest, head.input, head.output)
+}
+
+/// The numbers of a program whose canonical text has the form.
+pub fn affine_of(alloc: Global, program: &Program) -> Result<Option<Affine>, NoMemory>
+    ensures some { IfOk result (λ found. IfSome found (λ affine. IsAffineProgram (program_tree program.now) affine.factor affine.summand)) }
+    ensures none { IfOk result (λ found. IfNone found ((a b : ℤ) → IsAffineProgram (program_tree program.now) a b → ⊥)) }
+{
+    let text = print(alloc, program)?;
+    if text.len() > TEXT_LIMIT {
+        return Ok(None);
+    }
+    let tokens = tokens(alloc, text.as_slice())?;
+    Ok(program_of(tokens.as_slice()))
 }

@@ -4,14 +4,13 @@ ghost use Rattle.std.specs.Prelude.{map, ◌≤◌, ◌≡◌, ◌-◌, ◌<◌,
 ghost use Rattle.p3l_ast.specs.Tree.{entry_tree};
 ghost use Rattle.p3l_io.specs.Told.{Held};
 ghost use Rattle.p3l.specs.Form.{IsProgram, first_place};
-ghost use Rattle.p3l.specs.Load.{IsReason, IsTextRefused, Loads, LoadCause};
+ghost use Rattle.p3l.specs.Load.{IsTextRefused, Loads, LoadCause};
 
 use crate::affine::Affine;
-use crate::form::program_of;
+use crate::form::affine_of;
 use crate::verdict::Verdict;
 use p3l_ast::{Entry, Fault, Pos, Program, SourceRefusal};
 use p3l_io::{FileFault, Files};
-use p3l_lexer::tokens;
 use p3l_reader::read;
 use std::alloc::Global;
 
@@ -29,30 +28,19 @@ fn first_place(program: &Program) -> Pos
     }
 }
 
-/// Why a text is refused that has not the form.
-fn refusal_of(alloc: Global, text: &[u8]) -> SourceRefusal
-    requires { length text.now ≤ 1048576 }
-    ensures { IsReason text.now result }
-{
-    match read(alloc, text) {
-        Err(refusal) => refusal,
-        Ok(program) => SourceRefusal::At {
-            fault: Fault::NotYet,
-            pos: first_place(&program),
-        },
-    }
-}
-
-/// The program of a text.
+/// The numbers of the program of a text.
 fn program_of_text(alloc: Global, text: &[u8]) -> Result<Affine, SourceRefusal>
     requires { length text.now ≤ 1048576 }
     ensures ok { IfOk result (λ program. IsProgram text.now program.factor program.summand) }
     ensures refused { IfErr result (λ refusal. IsTextRefused text.now refusal) }
 {
-    let tokens = tokens(alloc, text)?;
-    match program_of(tokens.as_slice()) {
-        Some(program) => Ok(program),
-        None => Err(refusal_of(alloc, text)),
+    let program = read(alloc, text)?;
+    match affine_of(alloc, &program)? {
+        Some(affine) => Ok(affine),
+        None => Err(SourceRefusal::At {
+            fault: Fault::NotYet,
+            pos: first_place(&program),
+        }),
     }
 }
 
