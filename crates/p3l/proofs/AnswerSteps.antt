@@ -10,15 +10,17 @@ use Rattle.p3l_stream.specs.declared.items.Items.{Items}
 use Rattle.p3l_ast.specs.declared.position.Pos.{Pos}
 use Rattle.p3l_ast.specs.declared.refusal.Fault.{Fault}
 use Rattle.p3l.specs.Form.{IsProgram}
-use Rattle.p3l.proofs.TopSteps.{due_no_memory}
+use Rattle.p3l.proofs.TopSteps.{due_no_memory, named_command, written_command}
 use Rattle.p3l_stream.specs.Text.{text_of}
 use Rattle.p3l.specs.declared.stats.Stats.{Stats}
 use Rattle.p3l.specs.declared.verdict.Verdict.{Verdict}
 use Rattle.p3l.specs.declared.verdict.Verdict.TheVariants as verdict
-use Rattle.p3l.specs.Request.{Request, run, Spells}
+use Rattle.p3l.specs.Request.{Request, run, fmt, Spells}
 use Rattle.p3l.specs.Verdict.{status_of, stream_status_of}
 use Rattle.p3l.specs.Execution.{meaning_of}
-use Rattle.p3l.specs.Answer.{Answers, AsksRun, BeginsRun, Change, HasRefused, IsCaused, IsDue, IsSound, IsStreamCause, IsStreamRefused, IsDone, IsUntouched, EndsRun, IsRunCommand, HasTooLong, input_limit}
+use Rattle.p3l_ast.specs.Tree.{ProgramTree}
+use Rattle.p3l_grammar.specs.Grammar as grammar
+use Rattle.p3l.specs.Answer.{Answers, AsksRun, BeginsText, Change, EndsFmt, Formats, HasNone, HasRefused, HasFault, IsFileCommand, IsFmtSound, IsTooLong, NamesFile, RunsFile, IsCaused, IsDue, IsSound, IsStreamCause, IsStreamRefused, IsDone, IsUntouched, EndsRun, IsRunCommand, HasTooLong, input_limit}
 use Rattle.p3l.proofs.StreamSteps.{items_end}
 
 -- only these endings of the stream have these statuses
@@ -76,19 +78,22 @@ module _ (words : List (List ℕ)) (files files' input input' out out' : ℕ) wh
   usage_only_by (verdict.FileTooLong name) h cause = absurd (omega arith)
   usage_only_by (verdict.Source fault pos) h cause = absurd (omega arith)
   usage_only_by (verdict.Ran close stats reported) h cause = absurd ((stream_status close 2 h).0 refl)
+  usage_only_by verdict.Formatted h cause = absurd (omega arith)
   usage_only_by verdict.WriteFault h cause = absurd (omega arith)
   usage_only_by verdict.NoMemory h cause = absurd (omega arith)
 
-  spelled_not : IsRunCommand words → ((request : Request) → Spells words request → ⊥) → ⊥
-  spelled_not c none = none (run c.name c.runs.asked.processors c.runs.reported) c.runs.asked.spelled
+  spelled_not : IsFileCommand words → ((request : Request) → Spells words request → ⊥) → ⊥
+  spelled_not (inl c) none = none (run c.name c.runs.asked.processors c.runs.reported) c.runs.asked.spelled
+  spelled_not (inr c) none = none (fmt c.name) c.asked
 
   usage_where_by : (v : Verdict) → IsCaused words files files' input input' out out' v → ((request : Request) → Spells words request → ⊥) → status_of v ≡ 2
   usage_where_by verdict.Usage cause none = refl
-  usage_where_by (verdict.FileFault name) cause none = absurd (spelled_not (record { name = name.now; runs = cause.0 }) none)
-  usage_where_by (verdict.FileTooLong name) cause none = absurd (spelled_not (record { name = name.now; runs = cause.0 }) none)
+  usage_where_by (verdict.FileFault name) cause none = absurd (spelled_not (named_command words name.now cause.0) none)
+  usage_where_by (verdict.FileTooLong name) cause none = absurd (spelled_not (named_command words name.now cause.0) none)
   usage_where_by (verdict.Source fault pos) cause none = absurd (spelled_not cause.0 none)
-  usage_where_by (verdict.Ran close stats reported) cause none = absurd (spelled_not cause.0 none)
-  usage_where_by verdict.WriteFault cause none = absurd (spelled_not cause.0 none)
+  usage_where_by (verdict.Ran close stats reported) cause none = absurd (spelled_not (inl cause.0) none)
+  usage_where_by verdict.Formatted cause none = absurd (spelled_not (inr cause.0) none)
+  usage_where_by verdict.WriteFault cause none = absurd (spelled_not (written_command words _ _ cause.0) none)
   usage_where_by verdict.NoMemory cause none = absurd (spelled_not cause none)
 
   read_fault_by : (v : Verdict) → status_of v ≡ 8 → IsCaused words files files' input input' out out' v → Rose input input'
@@ -97,6 +102,7 @@ module _ (words : List (List ℕ)) (files files' input input' out out' : ℕ) wh
   read_fault_by (verdict.FileTooLong name) h cause = absurd (omega arith)
   read_fault_by (verdict.Source fault pos) h cause = absurd (omega arith)
   read_fault_by (verdict.Ran close stats reported) h cause = fault_end close input input' h cause.2
+  read_fault_by verdict.Formatted h cause = absurd (omega arith)
   read_fault_by verdict.WriteFault h cause = absurd (omega arith)
   read_fault_by verdict.NoMemory h cause = absurd (omega arith)
 
@@ -106,6 +112,7 @@ module _ (words : List (List ℕ)) (files files' input input' out out' : ℕ) wh
   write_fault_by (verdict.FileTooLong name) h cause = absurd (omega arith)
   write_fault_by (verdict.Source fault pos) h cause = absurd (omega arith)
   write_fault_by (verdict.Ran close stats reported) h cause = absurd ((stream_status close 10 h).2 refl)
+  write_fault_by verdict.Formatted h cause = absurd (omega arith)
   write_fault_by verdict.WriteFault h cause = cause.2
   write_fault_by verdict.NoMemory h cause = absurd (omega arith)
 
@@ -115,6 +122,7 @@ module _ (words : List (List ℕ)) (files files' input input' out out' : ℕ) wh
   out_failed_by (verdict.FileTooLong name) cause up = absurd (omega (arith, cause.3))
   out_failed_by (verdict.Source fault pos) cause up = absurd (omega (arith, cause.3))
   out_failed_by (verdict.Ran close stats reported) cause up = absurd (omega (arith, cause.3))
+  out_failed_by verdict.Formatted cause up = absurd (omega (arith, cause.3))
   out_failed_by verdict.WriteFault cause up = inl refl
   out_failed_by verdict.NoMemory cause up = inr refl
 
@@ -124,6 +132,7 @@ module _ (words : List (List ℕ)) (files files' input input' out out' : ℕ) wh
   files_failed_by (verdict.FileTooLong name) cause up = inl refl
   files_failed_by (verdict.Source fault pos) cause up = absurd (omega (arith, cause.1))
   files_failed_by (verdict.Ran close stats reported) cause up = absurd (omega (arith, cause.1))
+  files_failed_by verdict.Formatted cause up = absurd (omega (arith, cause.1))
   files_failed_by verdict.WriteFault cause up = absurd (omega (arith, cause.1))
   files_failed_by verdict.NoMemory cause up = inr refl
 
@@ -133,6 +142,7 @@ module _ (words : List (List ℕ)) (files files' input input' out out' : ℕ) wh
   input_failed_by (verdict.FileTooLong name) cause up = absurd (omega (arith, cause.2))
   input_failed_by (verdict.Source fault pos) cause up = absurd (omega (arith, cause.2))
   input_failed_by (verdict.Ran close stats reported) cause up = risen_end close input input' (stream_status_of close) refl cause.2 up
+  input_failed_by verdict.Formatted cause up = absurd (omega (arith, cause.2))
   input_failed_by verdict.WriteFault cause up = (λ z. absurd (omega arith), λ z. absurd (omega arith))
   input_failed_by verdict.NoMemory cause up = (λ z. absurd (omega arith), λ z. absurd (omega arith))
 
@@ -143,6 +153,7 @@ module _ (words : List (List ℕ)) (files files' input input' out out' : ℕ) wh
   file_fault_by held rest taken rest' taken' (verdict.FileTooLong name) h cause due = inr (record { name = name.now; asked = cause.0; longer = due.1 })
   file_fault_by held rest taken rest' taken' (verdict.Source fault pos) h cause due = absurd (omega arith)
   file_fault_by held rest taken rest' taken' (verdict.Ran close stats reported) h cause due = absurd ((stream_status close 9 h).1 refl)
+  file_fault_by held rest taken rest' taken' verdict.Formatted h cause due = absurd (omega arith)
   file_fault_by held rest taken rest' taken' verdict.WriteFault h cause due = absurd (omega arith)
   file_fault_by held rest taken rest' taken' verdict.NoMemory h cause due = absurd (omega arith)
 
@@ -164,22 +175,24 @@ ended_done held words rest taken rest' taken' close stats reported end e =
       taken_is = f.taken_is ∙ ap (λ t. Some (taken ++ t)) (f.executed.text_is ∙ ap text_of f.executed.emitted_is ∙ ap (λ i. text_of (meaning_of e.factor e.summand i.items)) items);
     }
 
-done_by : (held : Held) (words : List (List ℕ)) (rest taken : List ℕ) (rest' taken' : Option (List ℕ)) (v : Verdict) → status_of v ≡ 0 → IsDue held words rest rest' taken taken' v → IsDone held words rest rest' taken taken'
+done_by : (held : Held) (words : List (List ℕ)) (rest taken : List ℕ) (rest' taken' : Option (List ℕ)) (v : Verdict) → status_of v ≡ 0 → IsDue held words rest rest' taken taken' v → IsDone held words rest rest' taken taken' ⊎ EndsFmt held words rest rest' taken taken'
 done_by held words rest taken rest' taken' verdict.Usage h due = absurd (omega arith)
 done_by held words rest taken rest' taken' (verdict.FileFault name) h due = absurd (omega arith)
 done_by held words rest taken rest' taken' (verdict.FileTooLong name) h due = absurd (omega arith)
 done_by held words rest taken rest' taken' (verdict.Source fault pos) h due = absurd (omega arith)
-done_by held words rest taken rest' taken' (verdict.Ran close stats reported) h due = ended_done held words rest taken rest' taken' close stats reported (done_end close h) due
+done_by held words rest taken rest' taken' (verdict.Ran close stats reported) h due = inl (ended_done held words rest taken rest' taken' close stats reported (done_end close h) due)
+done_by held words rest taken rest' taken' verdict.Formatted h due = inr due
 done_by held words rest taken rest' taken' verdict.WriteFault h due = absurd (omega arith)
 done_by held words rest taken rest' taken' verdict.NoMemory h due = absurd (omega arith)
 
 begins_by : (held : Held) (words : List (List ℕ)) (rest taken : List ℕ) (rest' taken' : Option (List ℕ)) (v : Verdict) → IsDue held words rest rest' taken taken' v →
-    IsUntouched rest rest' taken taken' ⊎ BeginsRun held words rest rest' taken taken'
+    IsUntouched rest rest' taken taken' ⊎ BeginsText held words rest rest' taken taken'
 begins_by held words rest taken rest' taken' verdict.Usage due = inl due
 begins_by held words rest taken rest' taken' (verdict.FileFault name) due = inl due
 begins_by held words rest taken rest' taken' (verdict.FileTooLong name) due = inl due.0
 begins_by held words rest taken rest' taken' (verdict.Source fault pos) due = inl due.0
 begins_by held words rest taken rest' taken' (verdict.Ran close stats reported) due = due_no_memory held words rest taken rest' taken' (verdict.Ran close stats reported) (λ z. absurd cc) due
+begins_by held words rest taken rest' taken' verdict.Formatted due = due_no_memory held words rest taken rest' taken' verdict.Formatted (λ z. absurd cc) due
 begins_by held words rest taken rest' taken' verdict.WriteFault due = inr due
 begins_by held words rest taken rest' taken' verdict.NoMemory due = due
 
@@ -190,16 +203,18 @@ untouched_by held words rest taken rest' taken' (verdict.FileFault name) h due =
 untouched_by held words rest taken rest' taken' (verdict.FileTooLong name) h due = due.0
 untouched_by held words rest taken rest' taken' (verdict.Source fault pos) h due = due.0
 untouched_by held words rest taken rest' taken' (verdict.Ran close stats reported) h due = absurd (stream_not close h)
+untouched_by held words rest taken rest' taken' verdict.Formatted h due = absurd (three_not 0 h (λ z. absurd (omega arith)) (λ z. absurd (omega arith)) (λ z. absurd (omega arith)))
 untouched_by held words rest taken rest' taken' verdict.WriteFault h due = absurd (three_not 10 h (λ z. absurd (omega arith)) (λ z. absurd (omega arith)) (λ z. absurd (omega arith)))
 untouched_by held words rest taken rest' taken' verdict.NoMemory h due = absurd (three_not 11 h (λ z. absurd (omega arith)) (λ z. absurd (omega arith)) (λ z. absurd (omega arith)))
 
 refused_by : (held : Held) (words : List (List ℕ)) (rest taken : List ℕ) (rest' taken' : Option (List ℕ)) (v : Verdict) → status_of v ≡ 3 → IsDue held words rest rest' taken taken' v →
-    (fault : Fault) × ((pos : Pos) × HasRefused held words fault pos)
+    (fault : Fault) × ((pos : Pos) × HasNone held words fault pos)
 refused_by held words rest taken rest' taken' verdict.Usage h due = absurd (omega arith)
 refused_by held words rest taken rest' taken' (verdict.FileFault name) h due = absurd (omega arith)
 refused_by held words rest taken rest' taken' (verdict.FileTooLong name) h due = absurd (omega arith)
 refused_by held words rest taken rest' taken' (verdict.Source fault pos) h due = (fault, (pos, due.1))
 refused_by held words rest taken rest' taken' (verdict.Ran close stats reported) h due = absurd (stream_not close (inr (inl h)))
+refused_by held words rest taken rest' taken' verdict.Formatted h due = absurd (omega arith)
 refused_by held words rest taken rest' taken' verdict.WriteFault h due = absurd (omega arith)
 refused_by held words rest taken rest' taken' verdict.NoMemory h due = absurd (omega arith)
 
@@ -229,12 +244,20 @@ stream_refused_by held words rest taken rest' taken' (verdict.Ran close stats re
       refused = ap (λ i. stream_status_of i.ending) whole ∙ h;
       taken_is = f.taken_is ∙ ap (λ t. Some (taken ++ t)) (f.executed.text_is ∙ ap text_of f.executed.emitted_is ∙ ap (λ i. text_of (meaning_of e.factor e.summand i.items)) (sym whole));
     }
+stream_refused_by held words rest taken rest' taken' verdict.Formatted h due = absurd (omega arith)
 stream_refused_by held words rest taken rest' taken' verdict.WriteFault h due = absurd (omega arith)
 stream_refused_by held words rest taken rest' taken' verdict.NoMemory h due = absurd (omega arith)
 
 -- words ask for one file
 same_name : (words : List (List ℕ)) (name other : List ℕ) (reported shown : Bool) → AsksRun words name reported → AsksRun words other shown → name ≡ other
 same_name words name other reported shown a b = ap (λ l. get_or l 1 []) (sym a.spelled.words_are ∙ b.spelled.words_are)
+
+-- the words of a run are not those of a canonical text
+other_command : (words : List (List ℕ)) (name other : List ℕ) (reported : Bool) → AsksRun words name reported → Spells words (fmt other) → ⊥
+other_command words name other reported a b = let z = ap (λ l. get_or (get_or l 0 []) 0 0) (sym a.spelled.words_are ∙ b.words_are) in absurd cc
+
+fmt_name : (words : List (List ℕ)) (name other : List ℕ) → Spells words (fmt name) → Spells words (fmt other) → name ≡ other
+fmt_name words name other a b = ap (λ l. get_or l 1 []) (sym a.words_are ∙ b.words_are)
 
 same_text : (held : Held) (name other text found : List ℕ) → name ≡ other → held name ≡ Some text → held other ≡ Some found → found ≡ text
 same_text held name other text found same a b = let c : held name ≡ held other = ap held same in cc
@@ -254,23 +277,76 @@ completes_by held words rest taken rest' taken' files files' input input' out ou
     by_close ending.TooLong items bytes left cause first full read =
         absurd (let n = full refl in let m = ap length read in let k = length-append bytes left in let w = s.input_within in omega arith)
 
+    not_longer : (name : List ℕ) → NamesFile words name → IsTooLong held name → ⊥
+    not_longer name (inr asked) t = other_command words s.name name s.reported s.asked asked
+    not_longer name (inl runs) t =
+        let same = same_text held s.name name s.text t.bytes (same_name words s.name name s.reported runs.reported s.asked runs.asked) s.held_is t.held_is in
+        let n = ap length same in let w = s.within in let l = t.longer in absurd (omega arith)
+
+    not_refused : (fault : Fault) (pos : Pos) → HasNone held words fault pos → ⊥
+    not_refused fault pos (inr r) = other_command words s.name r.name s.reported s.asked r.asked
+    not_refused fault pos (inl r) =
+        let same = same_text held s.name r.name s.text r.text (same_name words s.name r.name s.reported r.reported s.asked r.asked) s.held_is r.held_is in
+        r.refused.no_program s.factor s.summand (subst (λ t. IsProgram t s.factor s.summand) (sym same) s.program)
+
     by : (v : Verdict) → IsCaused words files files' input input' out out' v → IsDue held words rest rest' taken taken' v → (status_of v ≡ 0) ⊎ (status_of v ≡ 11)
     by verdict.Usage cause due = absurd (cause.0 (run s.name s.asked.processors s.reported) s.asked.spelled)
     by (verdict.FileFault name) cause due = absurd (f cause.1)
-    by (verdict.FileTooLong name) cause due =
-        absurd (let same = same_text held s.name name.now s.text due.1.bytes (same_name words s.name name.now s.reported cause.0.reported s.asked cause.0.asked) s.held_is due.1.held_is in
-        let n = ap length same in let w = s.within in let l = due.1.longer in omega arith)
-    by (verdict.Source fault pos) cause due =
-        absurd (let same = same_text held s.name due.1.name s.text due.1.text (same_name words s.name due.1.name s.reported due.1.reported s.asked due.1.asked) s.held_is due.1.held_is in
-        due.1.refused.no_program s.factor s.summand (subst (λ t. IsProgram t s.factor s.summand) (sym same) s.program))
+    by (verdict.FileTooLong name) cause due = absurd (not_longer name.now cause.0 due.1)
+    by (verdict.Source fault pos) cause due = absurd (not_refused fault pos due.1)
+    by verdict.Formatted cause due = inl refl
     by (verdict.Ran close stats reported) cause due = by_close close _ due.finishes.bytes due.finishes.read.left cause.2 due.finishes.first due.finishes.full due.finishes.read.read_is
     by verdict.WriteFault cause due = absurd (o cause.2)
     by verdict.NoMemory cause due = inr refl
 
+fmt_completes_by : (held : Held) (words : List (List ℕ)) (rest taken : List ℕ) (rest' taken' : Option (List ℕ)) (files files' input input' out out' : ℕ) → IsFmtSound held words →
+    (Rose files files' → ⊥) → (Rose out out' → ⊥) → (v : Verdict) → IsCaused words files files' input input' out out' v → IsDue held words rest rest' taken taken' v →
+    (status_of v ≡ 0) ⊎ (status_of v ≡ 11)
+fmt_completes_by held words rest taken rest' taken' files files' input input' out out' s f o = by
+  where
+    not_longer : (name : List ℕ) → NamesFile words name → IsTooLong held name → ⊥
+    not_longer name (inl runs) t = other_command words name s.name runs.reported runs.asked s.asked
+    not_longer name (inr asked) t =
+        let same = same_text held s.name name s.holds.text t.bytes (fmt_name words s.name name s.asked asked) s.holds.held_is t.held_is in
+        let n = ap length same in let w = s.within in let l = t.longer in absurd (omega arith)
+
+    not_refused : (fault : Fault) (pos : Pos) → HasNone held words fault pos → ⊥
+    not_refused fault pos (inl r) = other_command words r.name s.name r.reported r.asked s.asked
+    not_refused fault pos (inr r) =
+        let same = same_text held s.name r.name s.holds.text r.holds.text (fmt_name words s.name r.name s.asked r.asked) s.holds.held_is r.holds.held_is in
+        r.holds.no_program s.program (subst (λ t. grammar.Spells t s.program) (sym same) s.holds.spelled)
+
+    by : (v : Verdict) → IsCaused words files files' input input' out out' v → IsDue held words rest rest' taken taken' v → (status_of v ≡ 0) ⊎ (status_of v ≡ 11)
+    by verdict.Usage cause due = absurd (cause.0 (fmt s.name) s.asked)
+    by (verdict.FileFault name) cause due = absurd (f cause.1)
+    by (verdict.FileTooLong name) cause due = absurd (not_longer name.now cause.0 due.1)
+    by (verdict.Source fault pos) cause due = absurd (not_refused fault pos due.1)
+    by (verdict.Ran close stats reported) cause due = absurd (other_command words cause.0.name s.name cause.0.runs.reported cause.0.runs.asked s.asked)
+    by verdict.Formatted cause due = inl refl
+    by verdict.WriteFault cause due = absurd (o cause.2)
+    by verdict.NoMemory cause due = inr refl
+
+-- with status 0 these words got the canonical text of the program held under their name
+formatted_by : (held : Held) (words : List (List ℕ)) (rest taken name : List ℕ) (rest' taken' : Option (List ℕ)) → Spells words (fmt name) →
+    IsDone held words rest rest' taken taken' ⊎ EndsFmt held words rest rest' taken taken' → Formats held name taken taken' × (rest' ≡ Some rest)
+formatted_by held words rest taken name rest' taken' asked (inl d) = absurd (other_command words d.program.name name d.reported d.program.asked asked)
+formatted_by held words rest taken name rest' taken' asked (inr e) =
+    (subst (λ n. Formats held n taken taken') (fmt_name words e.name name e.asked asked) e.formats, e.rest_stays)
+
+both_complete : (held : Held) (words : List (List ℕ)) (rest taken : List ℕ) (rest' taken' : Option (List ℕ)) (files files' input input' out out' : ℕ) → IsSound held words rest ⊎ IsFmtSound held words →
+    (Rose files files' → ⊥) → (Rose input input' → ⊥) → (Rose out out' → ⊥) → (v : Verdict) → IsCaused words files files' input input' out out' v → IsDue held words rest rest' taken taken' v →
+    (status_of v ≡ 0) ⊎ (status_of v ≡ 11)
+both_complete held words rest taken rest' taken' files files' input input' out out' (inl s) f i o = completes_by held words rest taken rest' taken' files files' input input' out out' s f i o
+both_complete held words rest taken rest' taken' files files' input input' out out' (inr s) f i o = fmt_completes_by held words rest taken rest' taken' files files' input input' out out' s f o
+
 -- what an answer says
 module _ (words : List (List ℕ)) (files : Change Held) (input out err : Change (List ℕ)) (status : ℕ) (a : Answers words files input out err status) where
-  pub done : (held : Held) (rest taken : List ℕ) → files.old ≡ Some held → input.old ≡ Some rest → out.old ≡ Some taken → status ≡ 0 → IsDone held words rest input.new taken out.new
+  pub done : (held : Held) (rest taken : List ℕ) → files.old ≡ Some held → input.old ≡ Some rest → out.old ≡ Some taken → status ≡ 0 → IsDone held words rest input.new taken out.new ⊎ EndsFmt held words rest input.new taken out.new
   done held rest taken f i o h = done_by held words rest taken input.new out.new a.verdict (sym a.status_is ∙ h) (a.due held rest taken f i o)
+
+  pub formatted : (held : Held) (rest taken : List ℕ) → files.old ≡ Some held → input.old ≡ Some rest → out.old ≡ Some taken → (name : List ℕ) → Spells words (fmt name) → status ≡ 0 →
+      Formats held name taken out.new × (input.new ≡ Some rest)
+  formatted held rest taken f i o name asked h = formatted_by held words rest taken name input.new out.new asked (done held rest taken f i o h)
 
   pub usage_only : status ≡ 2 → (request : Request) → Spells words request → ⊥
   usage_only h = usage_only_by words _ _ _ _ _ _ a.verdict (sym a.status_is ∙ h) a.caused
@@ -296,20 +372,20 @@ module _ (words : List (List ℕ)) (files : Change Held) (input out err : Change
   pub input_failed : input.before < input.now → (status ≢ 0) × (status ≢ 14)
   input_failed up = subst (λ s. (s ≢ 0) × (s ≢ 14)) (sym a.status_is) (input_failed_by words _ _ _ _ _ _ a.verdict a.caused up)
 
-  pub begins : (held : Held) (rest taken : List ℕ) → files.old ≡ Some held → input.old ≡ Some rest → out.old ≡ Some taken → IsUntouched rest input.new taken out.new ⊎ BeginsRun held words rest input.new taken out.new
+  pub begins : (held : Held) (rest taken : List ℕ) → files.old ≡ Some held → input.old ≡ Some rest → out.old ≡ Some taken → IsUntouched rest input.new taken out.new ⊎ BeginsText held words rest input.new taken out.new
   begins held rest taken f i o = begins_by held words rest taken input.new out.new a.verdict (a.due held rest taken f i o)
 
   pub untouched : (held : Held) (rest taken : List ℕ) → files.old ≡ Some held → input.old ≡ Some rest → out.old ≡ Some taken → (status ≡ 2) ⊎ ((status ≡ 3) ⊎ (status ≡ 9)) → IsUntouched rest input.new taken out.new
   untouched held rest taken f i o h =
       untouched_by held words rest taken input.new out.new a.verdict (subst (λ n. (n ≡ 2) ⊎ ((n ≡ 3) ⊎ (n ≡ 9))) a.status_is h) (a.due held rest taken f i o)
 
-  pub refused : (held : Held) (rest taken : List ℕ) → files.old ≡ Some held → input.old ≡ Some rest → out.old ≡ Some taken → status ≡ 3 → (fault : Fault) × ((pos : Pos) × HasRefused held words fault pos)
+  pub refused : (held : Held) (rest taken : List ℕ) → files.old ≡ Some held → input.old ≡ Some rest → out.old ≡ Some taken → status ≡ 3 → (fault : Fault) × ((pos : Pos) × HasNone held words fault pos)
   refused held rest taken f i o h = refused_by held words rest taken input.new out.new a.verdict (sym a.status_is ∙ h) (a.due held rest taken f i o)
 
   pub stream_refused : (held : Held) (rest taken : List ℕ) → files.old ≡ Some held → input.old ≡ Some rest → out.old ≡ Some taken → status ≡ 6 → IsStreamRefused held words rest taken out.new
   stream_refused held rest taken f i o h = stream_refused_by held words rest taken input.new out.new a.verdict (sym a.status_is ∙ h) (a.due held rest taken f i o)
 
-  pub completes : (held : Held) (rest taken : List ℕ) → files.old ≡ Some held → input.old ≡ Some rest → out.old ≡ Some taken → IsSound held words rest →
+  pub completes : (held : Held) (rest taken : List ℕ) → files.old ≡ Some held → input.old ≡ Some rest → out.old ≡ Some taken → IsSound held words rest ⊎ IsFmtSound held words →
       (Rose files.before files.now → ⊥) → (Rose input.before input.now → ⊥) → (Rose out.before out.now → ⊥) → (status ≡ 0) ⊎ (status ≡ 11)
   completes held rest taken f i o s x y z =
-      subst (λ n. (n ≡ 0) ⊎ (n ≡ 11)) (sym a.status_is) (completes_by held words rest taken input.new out.new _ _ _ _ _ _ s x y z a.verdict a.caused (a.due held rest taken f i o))
+      subst (λ n. (n ≡ 0) ⊎ (n ≡ 11)) (sym a.status_is) (both_complete held words rest taken input.new out.new _ _ _ _ _ _ s x y z a.verdict a.caused (a.due held rest taken f i o))

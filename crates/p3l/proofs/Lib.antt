@@ -5,6 +5,7 @@ pub mod FormSteps
 pub mod Puts
 pub mod StreamSteps
 pub mod RunSteps
+pub mod FormatSteps
 pub mod TopSteps
 pub mod ExecutionSteps
 pub mod AnswerSteps

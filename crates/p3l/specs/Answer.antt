@@ -13,8 +13,12 @@ use Rattle.p3l_stream.specs.Text.{text_of}
 use Rattle.p3l.specs.declared.stats.Stats.{Stats}
 use Rattle.p3l.specs.declared.verdict.Verdict.{Verdict}
 use Rattle.p3l.specs.declared.verdict.Verdict.TheVariants as verdict
-use Rattle.p3l.specs.Request.{Request, run, Spells}
+use Rattle.p3l.specs.Request.{Request, run, fmt, Spells}
+use Rattle.p3l_ast.specs.Tree.{ProgramTree}
+use Rattle.p3l_grammar.specs.Grammar as grammar
+use Rattle.p3l_print.specs.Program.{canonical}
 use Rattle.p3l.specs.Form.{IsProgram, IsRefused}
+use Rattle.p3l.specs.Write.{IsBegun}
 use Rattle.p3l.specs.Execution.{meaning_of, IsExecuted}
 use Rattle.p3l.specs.Verdict.{status_of, stream_status_of, lines_of}
 
@@ -46,6 +50,19 @@ pub record RunsFile (words : List (List ℕ)) (name : List ℕ) : Type 0 where
 pub record IsRunCommand (words : List (List ℕ)) : Type 0 where
   pub name : List ℕ
   pub runs : RunsFile words name
+
+-- the words ask for the canonical text of the program of a file
+pub record IsFmtCommand (words : List (List ℕ)) : Type 0 where
+  pub name : List ℕ
+  pub asked : Spells words (fmt name)
+
+-- the words ask for a run or for a canonical text
+abbrev pub IsFileCommand : List (List ℕ) → Type 0
+IsFileCommand words = IsRunCommand words ⊎ IsFmtCommand words
+
+-- the words name this file, to run it or to format it
+abbrev pub NamesFile : List (List ℕ) → List ℕ → Type 0
+NamesFile words name = RunsFile words name ⊎ Spells words (fmt name)
 
 -- the bytes taken from a source, and those that it has left
 pub record IsRead (rest : List ℕ) (new : Option (List ℕ)) (bytes : List ℕ) (how : Stop) : Type 0 where
@@ -107,6 +124,51 @@ pub record HasRefused (held : Held) (words : List (List ℕ)) (fault : Fault) (p
   pub held_is : held name ≡ Some text
   pub refused : IsRefused text fault pos
 
+-- the files hold a text under this name that spells this program
+pub record HoldsProgram (held : Held) (name : List ℕ) (program : ProgramTree) : Type 0 where
+  pub text : List ℕ
+  pub held_is : held name ≡ Some text
+  pub spelled : grammar.Spells text program
+
+-- they hold a text under this name that spells no program, and this is its first fault
+pub record HoldsFault (held : Held) (name : List ℕ) (fault : Fault) (pos : Pos) : Type 0 where
+  pub text : List ℕ
+  pub held_is : held name ≡ Some text
+  pub first : grammar.IsFirstFault text fault pos
+  pub no_program : (program : ProgramTree) → grammar.Spells text program → ⊥
+
+-- the canonical text of the program that is held under this name was written
+pub record Formats (held : Held) (name taken : List ℕ) (taken' : Option (List ℕ)) : Type 0 where
+  pub program : ProgramTree
+  pub holds : HoldsProgram held name program
+  pub taken_is : taken' ≡ Some (taken ++ canonical program)
+
+-- a front of it was written
+pub record BeginsFormat (held : Held) (name taken : List ℕ) (taken' : Option (List ℕ)) : Type 0 where
+  pub program : ProgramTree
+  pub holds : HoldsProgram held name program
+  pub begun : IsBegun taken taken' (canonical program)
+
+-- the words ask for the canonical text of a program, it was written, and nothing was taken
+pub record EndsFmt (held : Held) (words : List (List ℕ)) (rest : List ℕ) (rest' : Option (List ℕ)) (taken : List ℕ) (taken' : Option (List ℕ)) : Type 0 where
+  pub name : List ℕ
+  pub asked : Spells words (fmt name)
+  pub rest_stays : rest' ≡ Some rest
+  pub formats : Formats held name taken taken'
+
+-- the same, where a front was written
+pub record BeginsFmt (held : Held) (words : List (List ℕ)) (rest : List ℕ) (rest' : Option (List ℕ)) (taken : List ℕ) (taken' : Option (List ℕ)) : Type 0 where
+  pub name : List ℕ
+  pub asked : Spells words (fmt name)
+  pub rest_stays : rest' ≡ Some rest
+  pub begins : BeginsFormat held name taken taken'
+
+-- the words ask for the canonical text of a text that has this first fault
+pub record HasFault (held : Held) (words : List (List ℕ)) (fault : Fault) (pos : Pos) : Type 0 where
+  pub name : List ℕ
+  pub asked : Spells words (fmt name)
+  pub holds : HoldsFault held name fault pos
+
 -- a program that is held was run, and what was written begins the text of its meaning
 pub record BeginsRun (held : Held) (words : List (List ℕ)) (rest : List ℕ) (rest' : Option (List ℕ)) (taken : List ℕ) (taken' : Option (List ℕ)) : Type 0 where
   pub reported : Bool
@@ -122,17 +184,26 @@ pub record EndsRun (held : Held) (words : List (List ℕ)) (rest : List ℕ) (re
   pub program : HasProgram held words reported factor summand
   pub finishes : Finishes factor summand rest rest' taken taken' close stats
 
+-- what was written begins the text that the words ask for
+abbrev pub BeginsText : Held → List (List ℕ) → List ℕ → Option (List ℕ) → List ℕ → Option (List ℕ) → Type 0
+BeginsText held words rest rest' taken taken' = BeginsRun held words rest rest' taken taken' ⊎ BeginsFmt held words rest rest' taken taken'
+
+-- the text is refused that the words ask to run or to format
+abbrev pub HasNone : Held → List (List ℕ) → Fault → Pos → Type 0
+HasNone held words fault pos = HasRefused held words fault pos ⊎ HasFault held words fault pos
+
 -- why a verdict is due, over files that tell what they hold, an input that tells what is left and an output that tells
 -- what it took
 abbrev pub IsDue : Held → List (List ℕ) → List ℕ → Option (List ℕ) → List ℕ → Option (List ℕ) → Verdict → Type 0
 IsDue held words rest rest' taken taken' verdict.Usage = IsUntouched rest rest' taken taken'
 IsDue held words rest rest' taken taken' (verdict.FileFault name) = IsUntouched rest rest' taken taken'
 IsDue held words rest rest' taken taken' (verdict.FileTooLong name) = IsUntouched rest rest' taken taken' × IsTooLong held name.now
-IsDue held words rest rest' taken taken' (verdict.Source fault pos) = IsUntouched rest rest' taken taken' × HasRefused held words fault pos
+IsDue held words rest rest' taken taken' (verdict.Source fault pos) = IsUntouched rest rest' taken taken' × HasNone held words fault pos
 IsDue held words rest rest' taken taken' (verdict.Ran ending stats reported) = EndsRun held words rest rest' taken taken' ending stats reported
-IsDue held words rest rest' taken taken' verdict.WriteFault = BeginsRun held words rest rest' taken taken'
+IsDue held words rest rest' taken taken' verdict.Formatted = EndsFmt held words rest rest' taken taken'
+IsDue held words rest rest' taken taken' verdict.WriteFault = BeginsText held words rest rest' taken taken'
 IsDue held words rest rest' taken taken' verdict.NoMemory =
-    IsUntouched rest rest' taken taken' ⊎ BeginsRun held words rest rest' taken taken'
+    IsUntouched rest rest' taken taken' ⊎ BeginsText held words rest rest' taken taken'
 
 -- how the count of faults of the input goes where the stream ended so: only a fault of the input ends it as one
 abbrev pub IsStreamCause : Ending → ℕ → ℕ → Type 0
@@ -148,16 +219,18 @@ abbrev pub IsCaused : List (List ℕ) → ℕ → ℕ → ℕ → ℕ → ℕ �
 IsCaused words files files' input input' out out' verdict.Usage =
     ((request : Request) → Spells words request → ⊥) × (files' ≡ files) × (input' ≡ input) × (out' ≡ out)
 IsCaused words files files' input input' out out' (verdict.FileFault name) =
-    RunsFile words name.now × Rose files files' × (input' ≡ input) × (out' ≡ out)
+    NamesFile words name.now × Rose files files' × (input' ≡ input) × (out' ≡ out)
 IsCaused words files files' input input' out out' (verdict.FileTooLong name) =
-    RunsFile words name.now × (files' ≡ files) × (input' ≡ input) × (out' ≡ out)
+    NamesFile words name.now × (files' ≡ files) × (input' ≡ input) × (out' ≡ out)
 IsCaused words files files' input input' out out' (verdict.Source fault pos) =
-    IsRunCommand words × (files' ≡ files) × (input' ≡ input) × (out' ≡ out)
+    IsFileCommand words × (files' ≡ files) × (input' ≡ input) × (out' ≡ out)
 IsCaused words files files' input input' out out' (verdict.Ran close stats reported) =
     IsRunCommand words × (files' ≡ files) × IsStreamCause close input input' × (out' ≡ out)
+IsCaused words files files' input input' out out' verdict.Formatted =
+    IsFmtCommand words × (files' ≡ files) × (input' ≡ input) × (out' ≡ out)
 IsCaused words files files' input input' out out' verdict.WriteFault =
-    IsRunCommand words × (files' ≡ files) × Rose out out'
-IsCaused words files files' input input' out out' verdict.NoMemory = IsRunCommand words
+    (IsRunCommand words ⊎ (IsFmtCommand words × (input' ≡ input))) × (files' ≡ files) × Rose out out'
+IsCaused words files files' input input' out out' verdict.NoMemory = IsFileCommand words
 
 -- the answer of the program: how it ended, with this status, its causes and, where its count of faults doesn't rise, its lines on
 -- the standard error
@@ -180,10 +253,10 @@ pub record IsDone (held : Held) (words : List (List ℕ)) (rest : List ℕ) (res
   pub all_items : (items_of 1 rest).ending ≡ ending.End
   pub taken_is : taken' ≡ Some (taken ++ text_of (meaning_of factor summand (items_of 1 rest).items))
 
--- a file that the words ask to run is longer than the limit
+-- a file that the words ask to run or to format is longer than the limit
 pub record HasTooLong (held : Held) (words : List (List ℕ)) : Type 0 where
   pub name : List ℕ
-  pub asked : RunsFile words name
+  pub asked : NamesFile words name
   pub longer : IsTooLong held name
 
 -- a program that is held was run, the input holds a line that is refused, and the whole text of the items before it was written
@@ -209,3 +282,11 @@ pub record IsSound (held : Held) (words : List (List ℕ)) (rest : List ℕ) : T
   pub program : IsProgram text factor summand
   pub input_within : length rest < input_limit
   pub all_items : (items_of 1 rest).ending ≡ ending.End
+
+-- nothing stands in the way of a canonical text: the words ask for it, and the file holds a program within the limit
+pub record IsFmtSound (held : Held) (words : List (List ℕ)) : Type 0 where
+  pub name : List ℕ
+  pub asked : Spells words (fmt name)
+  pub program : ProgramTree
+  pub holds : HoldsProgram held name program
+  pub within : length holds.text ≤ file_limit

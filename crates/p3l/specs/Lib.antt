@@ -12,5 +12,6 @@ pub mod Answer
 pub mod Load
 pub mod Write
 pub mod Run
+pub mod Format
 pub mod Laws
 pub mod Steps

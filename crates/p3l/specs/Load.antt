@@ -29,6 +29,29 @@ pub record LoadsRefused (held : Held) (name : List ℕ) (fault : Fault) (pos : P
   pub held_is : held name ≡ Some text
   pub refused : IsRefused text fault pos
 
+-- why a file gives no text
+abbrev pub IsUnread : Held → List ℕ → Verdict → Type 0
+IsUnread held name (verdict.FileFault n) = n.now ≡ name
+IsUnread held name (verdict.FileTooLong n) = (n.now ≡ name) × IsTooLong held name
+IsUnread held name verdict.NoMemory = Unit {0}
+IsUnread held name _ = ⊥
+
+-- the text of a file, or why there is none
+abbrev pub FindsText : Held → List ℕ → Result (List ℕ) Verdict → Type 0
+FindsText held name (Ok text) = held name ≡ Some text
+FindsText held name (Err v) = IsUnread held name v
+
+-- how the count of faults of the files goes where a text is found or not
+abbrev pub UnreadCause : List ℕ → ℕ → ℕ → Verdict → Type 0
+UnreadCause name before now (verdict.FileFault n) = (n.now ≡ name) × Rose before now
+UnreadCause name before now (verdict.FileTooLong n) = (n.now ≡ name) × (now ≡ before)
+UnreadCause name before now verdict.NoMemory = now ≡ before
+UnreadCause name before now _ = ⊥
+
+abbrev pub FindCause : List ℕ → ℕ → ℕ → Result (List ℕ) Verdict → Type 0
+FindCause name before now (Ok text) = now ≡ before
+FindCause name before now (Err v) = UnreadCause name before now v
+
 -- why there is no program
 abbrev pub LoadsNone : Held → List ℕ → Verdict → Type 0
 LoadsNone held name (verdict.FileFault n) = n.now ≡ name
@@ -37,6 +60,7 @@ LoadsNone held name (verdict.Source fault pos) = LoadsRefused held name fault po
 LoadsNone held name verdict.NoMemory = Unit {0}
 LoadsNone held name verdict.Usage = ⊥
 LoadsNone held name (verdict.Ran ending stats reported) = ⊥
+LoadsNone held name verdict.Formatted = ⊥
 LoadsNone held name verdict.WriteFault = ⊥
 
 abbrev pub Loads : Held → List ℕ → Result Affine Verdict → Type 0
@@ -51,6 +75,7 @@ NoLoadCause name before now (verdict.Source fault pos) = now ≡ before
 NoLoadCause name before now verdict.NoMemory = now ≡ before
 NoLoadCause name before now verdict.Usage = ⊥
 NoLoadCause name before now (verdict.Ran ending stats reported) = ⊥
+NoLoadCause name before now verdict.Formatted = ⊥
 NoLoadCause name before now verdict.WriteFault = ⊥
 
 abbrev pub LoadCause : List ℕ → ℕ → ℕ → Result Affine Verdict → Type 0

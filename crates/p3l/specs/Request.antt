@@ -3,9 +3,10 @@ use Rattle.std.specs.Prelude.{◌≡◌, ℕ, ◌≤◌, Bool, true, false, List
 use Rattle.std.specs.Fmt.{decimal}
 
 -- a command with its values: for `run` the name of the program's file, the number of processors and whether the
--- numbers of the run are to be reported
+-- numbers of the run are to be reported, for `fmt` the name alone
 pub data Request : Type 0 where
   run : List ℕ → ℕ → Bool → Request
+  fmt : List ℕ → Request
 
 -- the words behind the number of processors
 abbrev pub flags_of : Bool → List (List ℕ)
@@ -16,10 +17,12 @@ flags_of false = []
 abbrev pub words_of : Request → List (List ℕ)
 words_of (run program processors stats) =
     codes "run" ∷ program ∷ codes "--processors" ∷ decimal processors ∷ flags_of stats
+words_of (fmt program) = codes "fmt" ∷ program ∷ []
 
 -- its numbers are in their ranges
 abbrev pub IsLawful : Request → Type 0
 IsLawful (run program processors stats) = (1 ≤ processors) × (processors ≤ 512)
+IsLawful (fmt program) = Unit {0}
 
 -- the words are those of a lawful command
 pub record Spells (words : List (List ℕ)) (request : Request) : Type 0 where

@@ -13,6 +13,7 @@ IsRunEnd factor summand shown rest rest' taken taken' verdict.WriteFault = Write
 IsRunEnd factor summand shown rest rest' taken taken' verdict.NoMemory = Writes factor summand rest rest' taken taken'
 IsRunEnd factor summand shown rest rest' taken taken' verdict.Usage = ⊥
 IsRunEnd factor summand shown rest rest' taken taken' (verdict.FileFault name) = ⊥
+IsRunEnd factor summand shown rest rest' taken taken' verdict.Formatted = ⊥
 IsRunEnd factor summand shown rest rest' taken taken' (verdict.FileTooLong name) = ⊥
 IsRunEnd factor summand shown rest rest' taken taken' (verdict.Source fault pos) = ⊥
 
@@ -23,5 +24,6 @@ IsRunCause input input' out out' verdict.WriteFault = Rose out out'
 IsRunCause input input' out out' verdict.NoMemory = Unit {0}
 IsRunCause input input' out out' verdict.Usage = ⊥
 IsRunCause input input' out out' (verdict.FileFault name) = ⊥
+IsRunCause input input' out out' verdict.Formatted = ⊥
 IsRunCause input input' out out' (verdict.FileTooLong name) = ⊥
 IsRunCause input input' out out' (verdict.Source fault pos) = ⊥

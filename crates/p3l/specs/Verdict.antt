@@ -24,6 +24,7 @@ status_of (verdict.FileFault name) = 9
 status_of (verdict.FileTooLong name) = 9
 status_of (verdict.Source fault pos) = 3
 status_of (verdict.Ran ending stats reported) = stream_status_of ending
+status_of verdict.Formatted = 0
 status_of verdict.WriteFault = 10
 status_of verdict.NoMemory = 11
 
@@ -43,6 +44,7 @@ status_line (verdict.FileFault name) = named_line (codes "file fault") name.now
 status_line (verdict.FileTooLong name) = named_line (codes "file too long") name.now
 status_line (verdict.Source fault pos) = source_line fault pos
 status_line (verdict.Ran ending stats reported) = stream_ending_line ending
+status_line verdict.Formatted = []
 status_line verdict.WriteFault = codes "write fault\n"
 status_line verdict.NoMemory = codes "no memory\n"
 
@@ -57,6 +59,7 @@ numbers_line (verdict.FileFault name) = []
 numbers_line (verdict.FileTooLong name) = []
 numbers_line (verdict.Source fault pos) = []
 numbers_line (verdict.Ran ending stats reported) = reported_line reported stats
+numbers_line verdict.Formatted = []
 numbers_line verdict.WriteFault = []
 numbers_line verdict.NoMemory = []
 

@@ -1,6 +1,6 @@
 // What the words of a command line ask for.
 
-ghost use Rattle.std.specs.Prelude.{◌≡◌, ◌<◌, ◌≤◌, ◌^◌, ◌↔◌, ◌∷◌, List, ℕ, Bool, map, slice_index, IsTrue, IfSome, IfNone};
+ghost use Rattle.std.specs.Prelude.{◌≡◌, ◌<◌, ◌≤◌, ◌^◌, ◌↔◌, [], ◌∷◌, List, ℕ, Bool, map, slice_index, IsTrue, IfSome, IfNone};
 ghost use Rattle.std.specs.Fmt.{decimal};
 ghost use Rattle.p3l.specs.Request.{Request, Spells, flags_of};
 ghost use Rattle.p3l.specs.Command.{request_of};
@@ -10,6 +10,8 @@ ghost use Rattle.p3l.specs.Command.{request_of};
 pub enum Command<'a> {
     /// `run PROGRAM --processors P [--stats]`: runs a program on the input.
     Run(RunCommand<'a>),
+    /// `fmt PROGRAM`: writes the canonical text of the program of this file.
+    Fmt(&'a str),
 }
 
 /// How a program is to be run.
@@ -86,12 +88,25 @@ fn run_of<'a>(
     }
 }
 
+/// The command `fmt` that these words spell.
+fn fmt_of<'a>(verb: &str, program: &'a str) -> Option<Command<'a>>
+    ensures some { IfSome result (λ command. Spells (verb.now ∷ program.now ∷ []) (request_of command)) }
+    ensures none { IfNone result ((request : Request) → Spells (verb.now ∷ program.now ∷ []) request → ⊥) }
+{
+    if is_word(verb, "fmt") {
+        Some(Command::Fmt(program))
+    } else {
+        None
+    }
+}
+
 /// The command that the words spell, if they spell one.
 pub fn command_of<'a>(words: &[&'a str]) -> Option<Command<'a>>
     ensures some { IfSome result (λ command. Spells (map (λ word. word.now) words.now) (request_of command)) }
     ensures none { IfNone result ((request : Request) → Spells (map (λ word. word.now) words.now) request → ⊥) }
 {
     match words {
+        [verb, program] => fmt_of(verb, program),
         [verb, program, option, number] => run_of(verb, program, option, number, false),
         [verb, program, option, number, flag] if is_word(flag, "--stats") => {
             run_of(verb, program, option, number, true)

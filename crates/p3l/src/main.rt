@@ -5,6 +5,7 @@ mod affine;
 mod command;
 mod execution;
 mod form;
+mod format;
 mod laws;
 mod line;
 mod load;

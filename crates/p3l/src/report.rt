@@ -47,6 +47,7 @@ fn line_of_status(alloc: Global, verdict: &Verdict) -> Result<Option<Line>, NoMe
         Verdict::FileTooLong(name) => Ok(Some(file_line(alloc, "file too long", name)?)),
         Verdict::Source { fault, pos } => Ok(Some(fault_line(alloc, *fault, *pos)?)),
         Verdict::Ran { ending, .. } => line_of_ending(alloc, *ending),
+        Verdict::Formatted => Ok(None),
         Verdict::WriteFault => Ok(Some(Line::Fixed("write fault\n"))),
         Verdict::NoMemory => Ok(Some(Line::Fixed("no memory\n"))),
     }

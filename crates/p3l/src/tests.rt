@@ -11,6 +11,19 @@ const DOUBLE: &str = "seq main in(int x) out(int y)\n${ y = x * 2 + 1; }$\nend s
 
 const RUN: [&str; 4] = ["run", "m.p3l", "--processors", "4"];
 
+const FMT: [&str; 2] = ["fmt", "m.p3l"];
+
+/// The canonical text of `DOUBLE`.
+const DOUBLE_TEXT: &str = "seq main in(int x) out(int y)\n${\n  y = x * 2 + 1;\n}$\nend seq\n";
+
+/// A text with a comment, odd spaces and more parentheses than are needed.
+const ODD: &str =
+    "seq  main in(int a,int f) // all\n out(int b,int g)${b=(a-(a-1))+((a*2)+1);\n\tb=-(a+b) ;g = !(f);}$ end   seq";
+
+/// Its canonical text.
+const ODD_TEXT: &str =
+    "seq main in(int a, int f) out(int b, int g)\n${\n  b = a - (a - 1) + (a * 2 + 1);\n  b = -(a + b);\n  g = !f;\n}$\nend seq\n";
+
 const REPORTED: [&str; 5] = ["run", "m.p3l", "--processors", "4", "--stats"];
 
 /// A command, a file `m.p3l`, an input in pieces of one byte, and the calls that fail.
@@ -250,4 +263,37 @@ fn puts_and_readings_fail(rt: HostRuntime) -> Result<(), Fail> {
         ..sound(&RUN, DOUBLE, input)
     };
     compare(&rt, rt.alloc(), &world, 9, "", "file fault: m.p3l\n")
+}
+
+#[test]
+fn programs_are_written_in_their_canonical_text(rt: HostRuntime) -> Result<(), Fail> {
+    let close = "seq main in(int x)out(int y)${y=(x*2)+1;}$end seq";
+    let table: [(&str, u8, &str, &str); 7] = [
+        (close, 0, DOUBLE_TEXT, ""),
+        (DOUBLE, 0, DOUBLE_TEXT, ""),
+        (DOUBLE_TEXT, 0, DOUBLE_TEXT, ""),
+        (ODD, 0, ODD_TEXT, ""),
+        (ODD_TEXT, 0, ODD_TEXT, ""),
+        ("", 0, "", ""),
+        ("seq main in(int 1x)", 3, "", "source: 1:17: 2 BadToken\n"),
+    ];
+    for (program, status, output, lines) in table {
+        compare(
+            &rt,
+            rt.alloc(),
+            &sound(&FMT, program, "1\n"),
+            status,
+            output,
+            lines,
+        )?;
+    }
+    let puts = [PutFail { call: 1, prefix: 8 }];
+    let world = World {
+        puts: &puts,
+        ..sound(&FMT, DOUBLE, "")
+    };
+    compare(&rt, rt.alloc(), &world, 10, "seq main", "write fault\n")?;
+    let long = ["fmt", "m.p3l", "--stats"];
+    let usage = "usage: the words are not a command of p3l\n";
+    compare(&rt, rt.alloc(), &sound(&long, DOUBLE, ""), 2, "", usage)
 }

@@ -5,10 +5,11 @@ ghost use Rattle.p3l_ast.specs.declared.position.Pos.{Pos};
 ghost use Rattle.p3l_ast.specs.declared.refusal.Fault.{Fault};
 ghost use Rattle.p3l_io.specs.Causes.{Rose};
 ghost use Rattle.p3l_io.specs.Told.{Held};
-ghost use Rattle.p3l.specs.Request.{Request, Spells};
-ghost use Rattle.p3l.specs.Answer.{Answers, AsksRun, BeginsRun, HasRefused, HasTooLong, IsCaused, IsDone, IsDue, IsSound, IsStreamRefused, IsUntouched};
+ghost use Rattle.p3l.specs.Request.{Request, fmt, Spells};
+ghost use Rattle.p3l.specs.Answer.{Answers, AsksRun, BeginsText, EndsFmt, Formats, HasNone, HasTooLong, IsCaused, IsDone, IsDue, IsFmtSound, IsSound, IsStreamRefused, IsUntouched};
 
 use crate::command::{Command, command_of};
+use crate::format::format;
 use crate::load::load;
 use crate::report::{put_no_memory, put_report, report_of};
 use crate::run::run;
@@ -56,6 +57,7 @@ fn perform<'a, F: Files, S: Source, K: Sink>(
         Some(Command::Run(asked)) => {
             perform_run(alloc, asked.program, asked.stats, files, input, out)
         }
+        Some(Command::Fmt(program)) => format(alloc, program, files, out),
     }
 }
 
@@ -107,24 +109,28 @@ pub fn top<F: Files, S: Source, K: Sink, E: Sink>(
         (record { old = E.taken err.old; new = E.taken err.new; before = E.faults err.old; now = E.faults err.new })
         result.0 }
 
-    // What is written begins the text of the program's meaning on the items read.
+    // What is written begins the text of the program's meaning on the items read, or the canonical text of the program.
     ensures begins { (held : Held) (rest taken : List ℕ) → F.held files.old ≡ Some held → S.rest input.old ≡ Some rest → K.taken out.old ≡ Some taken
         → IsUntouched rest (S.rest input.new) taken (K.taken out.new)
-        ⊎ BeginsRun held (map (λ word. word.now) words.now) rest (S.rest input.new) taken (K.taken out.new) }
+        ⊎ BeginsText held (map (λ word. word.now) words.now) rest (S.rest input.new) taken (K.taken out.new) }
 
-    // With status 0 the input was read to its end and the whole was written.
+    // With status 0 the input was read to its end and the whole was written, or the whole canonical text and nothing taken.
     ensures done { (held : Held) (rest taken : List ℕ) → F.held files.old ≡ Some held → S.rest input.old ≡ Some rest → K.taken out.old ≡ Some taken
-        → result.0 ≡ 0 → IsDone held (map (λ word. word.now) words.now) rest (S.rest input.new) taken (K.taken out.new) }
+        → result.0 ≡ 0 → IsDone held (map (λ word. word.now) words.now) rest (S.rest input.new) taken (K.taken out.new)
+        ⊎ EndsFmt held (map (λ word. word.now) words.now) rest (S.rest input.new) taken (K.taken out.new) }
+    ensures formatted { (held : Held) (rest taken : List ℕ) → F.held files.old ≡ Some held → S.rest input.old ≡ Some rest → K.taken out.old ≡ Some taken
+        → (name : List ℕ) → Spells (map (λ word. word.now) words.now) (fmt name) → result.0 ≡ 0
+        → Formats held name taken (K.taken out.new) × (S.rest input.new ≡ Some rest) }
 
     // Words that are no command: exactly then the status is 2.
     ensures usage_only { result.0 ≡ 2 → (request : Request) → Spells (map (λ word. word.now) words.now) request → ⊥ }
     ensures usage_where { ((request : Request) → Spells (map (λ word. word.now) words.now) request → ⊥) → result.0 ≡ 2 }
 
-    // With 2, 3 and 9 nothing is taken and nothing written; 3 comes only where the text is no program that can be run.
+    // With 2, 3 and 9 nothing is taken and nothing written; 3 comes only where the text is no program that can be run, or none at all.
     ensures untouched { (held : Held) (rest taken : List ℕ) → F.held files.old ≡ Some held → S.rest input.old ≡ Some rest → K.taken out.old ≡ Some taken
         → (result.0 ≡ 2) ⊎ ((result.0 ≡ 3) ⊎ (result.0 ≡ 9)) → IsUntouched rest (S.rest input.new) taken (K.taken out.new) }
     ensures refused { (held : Held) (rest taken : List ℕ) → F.held files.old ≡ Some held → S.rest input.old ≡ Some rest → K.taken out.old ≡ Some taken
-        → result.0 ≡ 3 → (fault : Fault) × ((pos : Pos) × HasRefused held (map (λ word. word.now) words.now) fault pos) }
+        → result.0 ≡ 3 → (fault : Fault) × ((pos : Pos) × HasNone held (map (λ word. word.now) words.now) fault pos) }
 
     // With 6 a line of the input is refused, and the whole text of the items before it was written.
     ensures stream_refused { (held : Held) (rest taken : List ℕ) → F.held files.old ≡ Some held → S.rest input.old ≡ Some rest → K.taken out.old ≡ Some taken
@@ -132,7 +138,7 @@ pub fn top<F: Files, S: Source, K: Sink, E: Sink>(
 
     // Where nothing stands in the way and no count rises, all is done, unless memory is wanting.
     ensures completes { (held : Held) (rest taken : List ℕ) → F.held files.old ≡ Some held → S.rest input.old ≡ Some rest → K.taken out.old ≡ Some taken
-        → IsSound held (map (λ word. word.now) words.now) rest
+        → IsSound held (map (λ word. word.now) words.now) rest ⊎ IsFmtSound held (map (λ word. word.now) words.now)
         → (Rose (F.faults files.old) (F.faults files.new) → ⊥) → (Rose (S.faults input.old) (S.faults input.new) → ⊥) → (Rose (K.faults out.old) (K.faults out.new) → ⊥)
         → (result.0 ≡ 0) ⊎ (result.0 ≡ 11) }
 

@@ -29,7 +29,9 @@ pub enum Verdict<'a> {
         stats: Stats,
         reported: bool,
     },
-    /// Writing the text of a run failed.
+    /// The canonical text of a program was written.
+    Formatted,
+    /// Writing the text of a run, or of a program, failed.
     WriteFault,
     /// Memory was wanting.
     NoMemory,
@@ -48,6 +50,7 @@ impl Verdict<'_> {
             Verdict::FileFault(_) | Verdict::FileTooLong(_) => Status(9),
             Verdict::Source { .. } => Status(3),
             Verdict::Ran { ending, .. } => stream_status(*ending),
+            Verdict::Formatted => Status(0),
             Verdict::WriteFault => Status(10),
             Verdict::NoMemory => Status(11),
         }

@@ -42,3 +42,6 @@ returns-clause-stream_refused g c = steps.stream_refused _ _ _ _ _ _ c.answer.en
 
 pub returns-clause-completes : goal.returns-clause-completes
 returns-clause-completes g c = steps.completes _ _ _ _ _ _ c.answer.ensures.answers
+
+pub returns-clause-formatted : goal.returns-clause-formatted
+returns-clause-formatted g c = steps.formatted _ _ _ _ _ _ c.answer.ensures.answers
