@@ -118,6 +118,8 @@ pub fn top<F: Files, S: Source, K: Sink, E: Sink>(
     ensures done { (held : Held) (rest taken : List ℕ) → F.held files.old ≡ Some held → S.rest input.old ≡ Some rest → K.taken out.old ≡ Some taken
         → result.0 ≡ 0 → IsDone held (map (λ word. word.now) words.now) rest (S.rest input.new) taken (K.taken out.new)
         ⊎ EndsFmt held (map (λ word. word.now) words.now) rest (S.rest input.new) taken (K.taken out.new) }
+
+    // What `fmt` wrote then is the canonical text of the program that the file spells, and nothing was taken.
     ensures formatted { (held : Held) (rest taken : List ℕ) → F.held files.old ≡ Some held → S.rest input.old ≡ Some rest → K.taken out.old ≡ Some taken
         → (name : List ℕ) → Spells (map (λ word. word.now) words.now) (fmt name) → result.0 ≡ 0
         → Formats held name taken (K.taken out.new) × (S.rest input.new ≡ Some rest) }

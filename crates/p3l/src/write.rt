@@ -1,4 +1,4 @@
-// Writing the text of a run.
+// The writing of a text.
 
 ghost use Rattle.std.specs.Prelude.{◌≡◌, List, ℕ, Some, OnOk, OnErr};
 ghost use Rattle.p3l_io.specs.Causes.{HasCause};
