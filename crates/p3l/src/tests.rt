@@ -312,6 +312,6 @@ fn an_item_comes_to_what_its_network_gives(rt: HostRuntime) -> Result<(), Fail> 
     let mut words = Words::new(rt.alloc());
     words.push(-3)?;
     let outcome = item_outcome(rt.alloc(), &tree, &program, 0, &words)?;
-    assert!(rt; matches!(outcome, Outcome::Value(value) if value.as_slice() == [-5].as_slice()));
+    assert!(rt; matches!(&outcome, Outcome::Value(value) if value.as_slice() == [-5].as_slice()));
     Ok(())
 }
