@@ -1,11 +1,8 @@
 // The program over objects in memory: what it writes, says and answers.
 
-use crate::affine::Affine;
 use crate::top::top;
-use p3l_base::{List, Outcome, Words};
+use p3l_base::List;
 use p3l_io::{MemFiles, MemSink, MemSource, PutFail};
-use p3l_plain::item_outcome;
-use p3l_skel::lawful_tree;
 use std::alloc::Global;
 use std::process::Abort;
 use std::test::Fail;
@@ -299,19 +296,4 @@ fn programs_are_written_in_their_canonical_text(rt: HostRuntime) -> Result<(), F
     let long = ["fmt", "m.p3l", "--stats"];
     let usage = "usage: the words are not a command of p3l\n";
     compare(&rt, rt.alloc(), &sound(&long, DOUBLE, ""), 2, "", usage)
-}
-
-#[test]
-fn an_item_comes_to_what_its_network_gives(rt: HostRuntime) -> Result<(), Fail> {
-    let program = Affine {
-        factor: 2,
-        summand: 1,
-    };
-    let tree = Affine::tree(rt.alloc())?;
-    assert!(rt; lawful_tree(&tree));
-    let mut words = Words::new(rt.alloc());
-    words.push(-3)?;
-    let outcome = item_outcome(rt.alloc(), &tree, &program, 0, &words)?;
-    assert!(rt; matches!(&outcome, Outcome::Value(value) if value.as_slice() == [-5].as_slice()));
-    Ok(())
 }
