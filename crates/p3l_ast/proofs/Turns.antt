@@ -127,7 +127,7 @@ run_same n loop other a g (count x index e w y indices f body next) s h =
     (let q = then_grows (assigned x.name index e s) (loop w all) s m k (λ n l. let q = assigned_turns x.name index e s n l in omega arith) (λ n l. g w all n m l) in omega arith))
 
 -- one turn more
-turned_ok : (budget : ℕ) (s t : State) → turned budget s ≡ Ok t → (s.turns < budget) × (t.turns ≡ s.turns + 1)
+pub turned_ok : (budget : ℕ) (s t : State) → turned budget s ≡ Ok t → (s.turns < budget) × (t.turns ≡ s.turns + 1)
 turned_ok budget s t h = by (nat_lt s.turns budget) refl h
   where
     by : (b : Bool) → nat_lt s.turns budget ≡ b → cond b (Ok (record s { turns = s.turns + 1 })) (Err Budget) ≡ Ok t → (s.turns < budget) × (t.turns ≡ s.turns + 1)

@@ -3,3 +3,4 @@ pub mod Operator
 pub mod State
 pub mod Expression
 pub mod Statement
+pub mod Run

@@ -1,4 +1,5 @@
-//! The program of a source text: what is written, where each name stands, and why a text is refused.
+//! The program of a source text: what is written, where each name stands, and why a text is
+//! refused.
 #![tactic(auto)]
 
 pub mod call;

@@ -8,10 +8,12 @@ use p3l_base::List;
 #[derive(Drop)]
 pub enum Stmt {
     Assign(Target, Expr),
-    /// A condition, what is done where it holds, and what is done where not, if an `else` is written.
+    /// A condition, what is done where it holds, and what is done where not, if an `else` is
+    /// written.
     If(Expr, Vec<Stmt>, Option<Vec<Stmt>>),
     While(Expr, Vec<Stmt>),
-    /// The assignment before the loop, the condition, the assignment behind each turn, and the body.
+    /// The assignment before the loop, the condition, the assignment behind each turn, and the
+    /// body.
     For(Target, Expr, Expr, Target, Expr, Vec<Stmt>),
 }
 

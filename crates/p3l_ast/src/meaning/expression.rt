@@ -1,8 +1,8 @@
 // What expressions give in a state.
 
-ghost use Rattle.std.specs.Prelude.{◌≡◌, ◌+◌, ◌*◌, ◌<◌, ◌≤◌, ◌^◌, ℕ, List, Result, Ok, IfOk, drop, length, slice_index};
+ghost use Rattle.std.specs.Prelude.{◌≡◌, ◌+◌, ◌*◌, ◌<◌, ◌^◌, Result, Ok, IfOk, drop, length, slice_index};
 ghost use Rattle.p3l_ast.specs.Tree.{phrase, phrases};
-ghost use Rattle.p3l_ast.specs.Meaning.State.{sizes_of, word_of, HasSizes};
+ghost use Rattle.p3l_ast.specs.Meaning.State.{sizes_of, HasSizes};
 ghost use Rattle.p3l_ast.specs.Meaning.Expression.{combined, indexed, value_of, place_of};
 
 use crate::expression::{BinOp, Expr, Target};
@@ -51,7 +51,7 @@ fn both(state: &State, op: BinOp, left: i64, right: &Expr) -> Result<i64, TrapKi
 
 /// The place that the indices of a target lead to, in row-major order, or the first trap.
 #[cycle(meaning)]
-fn place(state: &State, target: &Target) -> Result<usize, TrapKind>
+pub fn place(state: &State, target: &Target) -> Result<usize, TrapKind>
     requires { HasSizes state.now }
     ensures { result ≡ place_of state.now (phrases target.now.index.items) (sizes_of state.now target.now.at.name) 0 }
 {

@@ -2,7 +2,7 @@
 
 ghost use Rattle.std.specs.Prelude.{◌≡◌, int_div, int_rem};
 ghost use Rattle.std.specs.Int.{w64, int_shl, int_shr};
-ghost use Rattle.p3l_ast.specs.Meaning.Operator.{truth, holds, unary_of, shifted, divided, binary_of};
+ghost use Rattle.p3l_ast.specs.Meaning.Operator.{truth, unary_of, shifted, divided, binary_of};
 
 use crate::expression::{BinOp, UnOp};
 use p3l_base::TrapKind;

@@ -1,6 +1,11 @@
 // What the names of a body stand for.
 
-use p3l_base::{List, Name, Words};
+ghost use Rattle.std.specs.List.{All};
+ghost use Rattle.std.specs.Prelude.{◌≡◌, ◌↔◌, ◌≤◌, length, IfOk, IsTrue};
+ghost use Rattle.p3l_ast.specs.Meaning.State.{rebound, with_word, turned, HasSizes};
+
+use p3l_base::{List, Name, NoMemory, TrapKind, Words};
+use std::alloc::Global;
 
 /// A variable or a constant: its name, its sizes (the outermost first; a scalar has none), and its
 /// words in row-major order.
@@ -52,4 +57,77 @@ impl State {
             None => 0,
         }
     }
+}
+
+/// A binding of which the word at a place is another, if this is its name.
+fn rebound(
+    alloc: Global,
+    name: &Name,
+    place: usize,
+    word: i64,
+    binding: &Binding,
+) -> Result<Binding, NoMemory>
+    ensures { IfOk result (λ next. next ≡ rebound name.now place word binding.now) }
+{
+    let mut words = binding.words.as_slice().to_vec(alloc)?;
+    if binding.name == *name && place < words.len() {
+        words[place] = word;
+    }
+    Ok(Binding {
+        name: Name::from_text(alloc, binding.name.as_str())?,
+        sizes: List::from_vec(binding.sizes.as_slice().to_vec(alloc)?),
+        words: Words::from_vec(words),
+    })
+}
+
+/// The state in which a name's word at a place is another.
+pub fn with_word(
+    alloc: Global,
+    state: &State,
+    name: &Name,
+    place: usize,
+    word: i64,
+) -> Result<State, NoMemory>
+    ensures { IfOk result (λ next. next ≡ with_word state.now name.now place word) }
+{
+    let mut bindings = List::new(alloc);
+    for binding in state.bindings.as_slice() {
+        bindings.push(rebound(alloc, name, place, word, binding)?)?;
+    }
+    Ok(State {
+        bindings,
+        turns: state.turns,
+    })
+}
+
+/// The state with one turn of a loop more, if the budget has one left.
+pub fn turned(budget: u32, state: State) -> Result<State, TrapKind>
+    ensures { result ≡ turned budget state }
+{
+    if state.turns >= budget {
+        return Err(TrapKind::Budget);
+    }
+    Ok(State {
+        bindings: state.bindings,
+        turns: state.turns + 1,
+    })
+}
+
+/// Whether every name has at most three sizes, each at most 65,536.
+pub fn has_sizes(state: &State) -> bool
+    ensures { IsTrue result ↔ HasSizes state.now }
+{
+    for binding in state.bindings.as_slice() {
+        if !are_sizes(state.sizes(&binding.name)) {
+            return false;
+        }
+    }
+    true
+}
+
+/// Whether these are the sizes of a scalar or an array.
+fn are_sizes(sizes: &[u32]) -> bool
+    ensures { IsTrue result ↔ ((length sizes.now ≤ 3) × All (λ size. size ≤ 65536) sizes.now) }
+{
+    sizes.len() <= 3 && sizes.iter().all(|size| *size <= 65536)
 }

@@ -1,0 +1,7 @@
+use Rattle.std.proofs.Common.{◌≡◌, map, take}
+use Rattle.p3l_ast.specs.Meaning.State.{rebound}
+use Rattle.p3l_ast.proofs.meaning.state.with_word.Given as goal
+
+-- the bindings so far
+abbrev pub invariant-loop-binding : goal.invariant-loop-binding
+invariant-loop-binding l = l.bindings ≡ map (rebound l.name l.place l.word) (take l.binding-index l.binding-items)

@@ -1,0 +1,33 @@
+// Why statements may give no state.
+
+use p3l_base::{NoMemory, TrapKind};
+
+/// Why a run of statements ended with no state: its first trap, or want of memory, which is no part
+/// of what the statements mean.
+#[derive(Clone, Copy, Debug, Drop, PartialEq, Eq)]
+pub enum Stop {
+    Trapped(TrapKind),
+    OutOfMemory,
+}
+
+impl From<TrapKind> for Stop {
+    ghost use Rattle.std.specs.Prelude.{◌≡◌};
+    ghost use Rattle.p3l_ast.specs.declared.meaning.stop.Stop.TheVariants.{Trapped};
+
+    ghost from_gives = { λ trap stop. stop ≡ Trapped trap };
+
+    fn from(trap: TrapKind) -> Stop {
+        Stop::Trapped(trap)
+    }
+}
+
+impl From<NoMemory> for Stop {
+    ghost use Rattle.std.specs.Prelude.{◌≡◌};
+    ghost use Rattle.p3l_ast.specs.declared.meaning.stop.Stop.TheVariants.{OutOfMemory};
+
+    ghost from_gives = { λ _ stop. stop ≡ OutOfMemory };
+
+    fn from(_want: NoMemory) -> Stop {
+        Stop::OutOfMemory
+    }
+}
