@@ -1,6 +1,6 @@
 // Modules.
 
-ghost use Rattle.std.specs.Prelude.{◌≡◌, ◌++◌, OnOk, flat_map, codes};
+ghost use Rattle.std.specs.Prelude.{◌≡◌, ◌++◌, OnOk, flat_map};
 ghost use Rattle.p3l_ast.specs.Tree.{code, inside_tree, module_tree, turning};
 ghost use Rattle.p3l_ast.specs.Tree.{body as body_tree};
 ghost use Rattle.p3l_print.specs.Module.{kind_text, clause_text, clauses_text, head_text, local_line, call_line, inside_text, module_text};

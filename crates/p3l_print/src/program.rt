@@ -1,6 +1,6 @@
 // Programs.
 
-ghost use Rattle.std.specs.Prelude.{◌≡◌, ℕ, List, ◌++◌, IfOk, OnOk};
+ghost use Rattle.std.specs.Prelude.{◌≡◌, ℕ, List, IfOk};
 ghost use Rattle.p3l_ast.specs.Tree.{entry_tree, program_tree};
 ghost use Rattle.p3l_print.specs.Program.{entry_text, canonical, IsTextOf};
 

@@ -1,6 +1,6 @@
 // Reading calls.
 
-ghost use Rattle.std.specs.Prelude.{◌≡◌, ◌<◌, ◌≤◌, [], ◌∷◌, length, IfOk, IfErr, IfSome, IfNone};
+ghost use Rattle.std.specs.Prelude.{◌<◌, ◌≤◌, [], ◌∷◌, length, IfOk, IfErr, IfSome, IfNone};
 ghost use Rattle.p3l_grammar.specs.Machine.{any_sub, another_sub, arg_from, arg, another_arg, arg_list, args, any_out, another_out, out_list, out_args, call_outs, call_from, call, another_call, call_list};
 ghost use Rattle.p3l_reader.specs.Reading.{Reads, Fails, Adds, Leaves, Misses};
 

@@ -10,7 +10,5 @@ mod program;
 mod refusal;
 mod source;
 mod stmt;
-#[cfg(test)]
-mod tests;
 
 pub use source::read;

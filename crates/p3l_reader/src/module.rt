@@ -1,10 +1,9 @@
 // Reading entries: constants and modules.
 
-ghost use Rattle.std.specs.Prelude.{◌≡◌, ◌<◌, ◌≤◌, [], ◌∷◌, length, IfOk, IfErr, IfSome, IfNone};
+ghost use Rattle.std.specs.Prelude.{◌<◌, ◌≤◌, length, IfOk, IfErr};
 ghost use Rattle.p3l_ast.specs.Tree.{inside_tree, entry_tree};
-ghost use Rattle.p3l_grammar.specs.Symbol.{sign};
-ghost use Rattle.p3l_grammar.specs.Machine.{clause, body_in, body_from, loop_calls, loop_tokens, filling, head_outs, head_from, head, fixed_from, module_from, kind_of, entry_step};
-ghost use Rattle.p3l_reader.specs.Reading.{Begins, Reads, Fails, Closes, FailsEnd};
+ghost use Rattle.p3l_grammar.specs.Machine.{clause, body_in, body_from, loop_calls, loop_tokens, filling, head_outs, head_from, head, fixed_from, module_from};
+ghost use Rattle.p3l_reader.specs.Reading.{Reads, Fails, Closes, FailsEnd};
 ghost use Rattle.p3l_reader.specs.Parts.{head_of, filling_of};
 
 use crate::call::{call, call_list};

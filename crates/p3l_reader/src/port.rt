@@ -1,6 +1,6 @@
 // Reading ports.
 
-ghost use Rattle.std.specs.Prelude.{◌≡◌, ◌<◌, ◌≤◌, [], ◌∷◌, length, IfOk, IfErr, IfSome, IfNone};
+ghost use Rattle.std.specs.Prelude.{◌<◌, ◌≤◌, [], ◌∷◌, length, IfOk, IfErr, IfSome, IfNone};
 ghost use Rattle.p3l_grammar.specs.Machine.{another_size, port_from, port, another_port, port_list, ports, another_local};
 ghost use Rattle.p3l_reader.specs.Reading.{Reads, Fails, Adds, Leaves, Misses};
 

@@ -1,6 +1,6 @@
 // Reading a whole text.
 
-ghost use Rattle.std.specs.Prelude.{◌≡◌, ◌<◌, [], length, map, IfOk, IfErr, IfSome, IfNone, Ok};
+ghost use Rattle.std.specs.Prelude.{◌≡◌, ◌<◌, [], length, map, IfOk, IfErr, Ok};
 ghost use Rattle.p3l_ast.specs.Tree.{entry_tree};
 ghost use Rattle.p3l_grammar.specs.Machine.{entries, all, kind_of};
 ghost use Rattle.p3l_reader.specs.Reading.{AddsEntry, MissesEntry, FailsText};

@@ -1,6 +1,6 @@
 // Reading a source text.
 
-ghost use Rattle.std.specs.Prelude.{◌≡◌, ◌+◌, ◌-◌, ◌<◌, ◌≤◌, [], ◌∷◌, ◌++◌, List, length, take, drop, map, IfOk, IfErr, Err};
+ghost use Rattle.std.specs.Prelude.{◌≡◌, ◌+◌, ◌-◌, ◌<◌, ◌≤◌, [], ◌∷◌, ◌++◌, List, length, drop, map, IfOk, IfErr, Err};
 ghost use Rattle.p3l_ast.specs.Tree.{entry_tree, EntryTree, ProgramTree, program_tree};
 ghost use Rattle.p3l_grammar.specs.Symbol.{symbols};
 ghost use Rattle.p3l_grammar.specs.Limits.{at_rest, nest_behind, IsPast, IsWithin};

@@ -1,6 +1,6 @@
 // Reading statements.
 
-ghost use Rattle.std.specs.Prelude.{◌≡◌, ◌<◌, ◌≤◌, length, IfOk, IfErr, IfSome, IfNone};
+ghost use Rattle.std.specs.Prelude.{◌<◌, ◌≤◌, length, IfOk, IfErr, IfSome, IfNone};
 ghost use Rattle.p3l_ast.specs.Tree.{phrase, phrases, done, one, code};
 ghost use Rattle.p3l_grammar.specs.Machine.{test, block, another_stmt, repeat_from, count_from};
 ghost use Rattle.p3l_reader.specs.Reading.{Reads, Fails, Targets, FailsTarget, Sets, FailsSetting, AddsStmt, LeavesStmts, MissesStmt, Chooses, FailsChoice, IsWord};
