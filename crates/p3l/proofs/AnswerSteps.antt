@@ -1,11 +1,13 @@
 -- What an answer says of its status.
-use Rattle.std.proofs.Common.{◌≡◌, ◌≢◌, ℕ, ℤ, ◌<◌, Bool, List, [], ◌++◌, ◌⊎◌, Option, Some, refl, sym, ap, subst, inl, inr, ◌∙◌, arith, append-nil, length, get_or, length-append}
+use Rattle.std.proofs.lemmas.Bool.{leb-true, leb-false}
+use Rattle.std.proofs.Common.{◌≡◌, ◌≢◌, ℕ, ℤ, ◌<◌, ◌≤◌, ◌↔◌, Bool, true, false, leb, List, [], ◌++◌, ◌⊎◌, Option, Some, refl, sym, ap, subst, inl, inr, ◌∙◌, arith, append-nil, length, get_or, length-append}
 use Rattle.p3l_io.specs.Causes.{Rose}
 use Rattle.p3l_io.specs.Told.{Held}
+use Rattle.p3l_stream.specs.declared.taken.Stop.{Stop}
 use Rattle.p3l_stream.specs.declared.taken.Stop.TheVariants as stop
 use Rattle.p3l_stream.specs.declared.items.Ending.{Ending}
 use Rattle.p3l_stream.specs.declared.items.Ending.TheVariants as ending
-use Rattle.p3l_stream.specs.Items.{Begins, items_of, items_taken}
+use Rattle.p3l_stream.specs.Items.{Begins, closing, items_of, items_taken}
 use Rattle.p3l_stream.specs.declared.items.Items.{Items}
 use Rattle.p3l_ast.specs.declared.position.Pos.{Pos}
 use Rattle.p3l_ast.specs.declared.refusal.Fault.{Fault}
@@ -20,8 +22,8 @@ use Rattle.p3l.specs.Verdict.{status_of, stream_status_of}
 use Rattle.p3l.specs.Execution.{meaning_of}
 use Rattle.p3l_ast.specs.Tree.{ProgramTree}
 use Rattle.p3l_grammar.specs.Grammar as grammar
-use Rattle.p3l.specs.Answer.{Answers, AsksRun, BeginsText, Change, EndsFmt, Formats, HasNone, HasRefused, HasFault, IsFileCommand, IsFmtSound, IsTooLong, NamesFile, RunsFile, IsCaused, IsDue, IsSound, IsStreamCause, IsStreamRefused, IsDone, IsUntouched, EndsRun, IsRunCommand, HasTooLong, input_limit}
-use Rattle.p3l.proofs.StreamSteps.{items_end}
+use Rattle.p3l.specs.Answer.{Answers, AsksRun, BeginsText, Change, EndsFmt, Formats, HasNone, HasProgram, HoldsProgram, IsBadInput, IsFileCommand, IsFmtSound, IsInput, IsLongInput, IsRead, IsRunnable, IsStopped, IsTooLong, IsWithin, NamesFile, IsCaused, IsDue, IsStreamCause, IsStreamRefused, IsDone, IsUntouched, EndsRun, HasTooLong, input_limit}
+use Rattle.p3l.proofs.StreamSteps.{items_end, items_fault, items_limit}
 
 -- only these endings of the stream have these statuses
 done_end : (close : Ending) → stream_status_of close ≡ 0 → close ≡ ending.End
@@ -262,21 +264,29 @@ fmt_name words name other a b = ap (λ l. get_or l 1 []) (sym a.words_are ∙ b.
 same_text : (held : Held) (name other text found : List ℕ) → name ≡ other → held name ≡ Some text → held other ≡ Some found → found ≡ text
 same_text held name other text found same a b = let c : held name ≡ held other = ap held same in cc
 
-completes_by : (held : Held) (words : List (List ℕ)) (rest taken : List ℕ) (rest' taken' : Option (List ℕ)) (files files' input input' out out' : ℕ) → IsSound held words rest →
-    (Rose files files' → ⊥) → (Rose input input' → ⊥) → (Rose out out' → ⊥) → (v : Verdict) → IsCaused words files files' input input' out out' v → IsDue held words rest rest' taken taken' v →
-    (status_of v ≡ 0) ⊎ (status_of v ≡ 11)
-completes_by held words rest taken rest' taken' files files' input input' out out' s f i o = by
+-- bytes whose taking stopped at the end of the input are fewer than the limit
+less_or_at : (how : Stop) (bytes : List ℕ) → how ≡ stop.End → ((how ≡ stop.Limit) ↔ (length bytes ≡ input_limit)) → length bytes ≤ input_limit → length bytes < input_limit
+less_or_at how bytes end full within = by (leb input_limit (length bytes)) refl
   where
-    by_close : (close : Ending) (items : List (List ℤ)) (bytes left : List ℕ) → IsStreamCause close input input' → Begins items close (items_of 1 rest) → (close ≡ ending.TooLong → length bytes ≡ input_limit) → rest ≡ bytes ++ left →
-        (stream_status_of close ≡ 0) ⊎ (stream_status_of close ≡ 11)
-    by_close ending.End items bytes left cause first full read = inl refl
-    by_close (ending.BadWord line) items bytes left cause first full read = absurd (let z = sym (ap (λ x. x.ending) first) ∙ s.all_items in cc)
-    by_close (ending.WrongCount line had) items bytes left cause first full read = absurd (let z = sym (ap (λ x. x.ending) first) ∙ s.all_items in cc)
-    by_close (ending.OutOfRange line) items bytes left cause first full read = absurd (let z = sym (ap (λ x. x.ending) first) ∙ s.all_items in cc)
-    by_close ending.ReadFault items bytes left cause first full read = absurd (i cause)
-    by_close ending.TooLong items bytes left cause first full read =
-        absurd (let n = full refl in let m = ap length read in let k = length-append bytes left in let w = s.input_within in omega arith)
+    by : (b : Bool) → leb input_limit (length bytes) ≡ b → length bytes < input_limit
+    by true e = let n = leb-true _ _ e in absurd (let z = sym end ∙ full.1 (omega arith) in cc)
+    by false e = leb-false _ _ e
 
+-- a run that is held was run to this ending of its items, for which the count of the input has gone so
+record Ran (held : Held) (words : List (List ℕ)) (rest : List ℕ) (rest' : Option (List ℕ)) (taken : List ℕ) (taken' : Option (List ℕ)) (input input' status : ℕ) : Type 0 where
+  pub close : Ending
+  pub stats : Stats
+  pub reported : Bool
+  pub cause : IsStreamCause close input input'
+  pub ends : EndsRun held words rest rest' taken taken' close stats reported
+  pub status_is : status ≡ stream_status_of close
+
+-- where nothing stands before a run and no count rises, it is run to some ending of its items, unless memory is wanting
+ran_by : (held : Held) (words : List (List ℕ)) (rest taken : List ℕ) (rest' taken' : Option (List ℕ)) (files files' input input' out out' : ℕ) → IsRunnable held words →
+    (Rose files files' → ⊥) → (Rose out out' → ⊥) → (v : Verdict) → IsCaused words files files' input input' out out' v → IsDue held words rest rest' taken taken' v →
+    Ran held words rest rest' taken taken' input input' (status_of v) ⊎ (status_of v ≡ 11)
+ran_by held words rest taken rest' taken' files files' input input' out out' s f o = by
+  where
     not_longer : (name : List ℕ) → NamesFile words name → IsTooLong held name → ⊥
     not_longer name (inr asked) t = other_command words s.name name s.reported s.asked asked
     not_longer name (inl runs) t =
@@ -289,15 +299,65 @@ completes_by held words rest taken rest' taken' files files' input input' out ou
         let same = same_text held s.name r.name s.text r.text (same_name words s.name r.name s.reported r.reported s.asked r.asked) s.held_is r.held_is in
         r.refused.no_program s.factor s.summand (subst (λ t. IsProgram t s.factor s.summand) (sym same) s.program)
 
-    by : (v : Verdict) → IsCaused words files files' input input' out out' v → IsDue held words rest rest' taken taken' v → (status_of v ≡ 0) ⊎ (status_of v ≡ 11)
+    by : (v : Verdict) → IsCaused words files files' input input' out out' v → IsDue held words rest rest' taken taken' v → Ran held words rest rest' taken taken' input input' (status_of v) ⊎ (status_of v ≡ 11)
     by verdict.Usage cause due = absurd (cause.0 (run s.name s.asked.processors s.reported) s.asked.spelled)
     by (verdict.FileFault name) cause due = absurd (f cause.1)
     by (verdict.FileTooLong name) cause due = absurd (not_longer name.now cause.0 due.1)
     by (verdict.Source fault pos) cause due = absurd (not_refused fault pos due.1)
-    by verdict.Formatted cause due = inl refl
-    by (verdict.Ran close stats reported) cause due = by_close close _ due.finishes.bytes due.finishes.read.left cause.2 due.finishes.first due.finishes.full due.finishes.read.read_is
+    by verdict.Formatted cause due = absurd (other_command words s.name due.name s.reported s.asked due.asked)
+    by (verdict.Ran close stats reported) cause due = inl (record { close = close; stats = stats; reported = reported; cause = cause.2; ends = due; status_is = refl })
     by verdict.WriteFault cause due = absurd (o cause.2)
     by verdict.NoMemory cause due = inr refl
+
+-- the ending of a run whose input's count didn't rise, by what the whole input is
+module _ (held : Held) (words : List (List ℕ)) (rest taken : List ℕ) (rest' taken' : Option (List ℕ)) (input input' : ℕ) (kept : Rose input input' → ⊥) where
+  -- the ending of the whole input where that of the run is a refused line
+  refused_whole : (close : Ending) (stats : Stats) (reported : Bool) → stream_status_of close ≡ 6 → EndsRun held words rest rest' taken taken' close stats reported → (items_of 1 rest).ending ≡ close
+  refused_whole close stats reported h e = ap (λ i. i.ending) (begun_whole _ close (items_of 1 rest) h e.finishes.first)
+
+  full_length : (close : Ending) (stats : Stats) (reported : Bool) → close ≡ ending.TooLong → EndsRun held words rest rest' taken taken' close stats reported → input_limit ≤ length rest
+  full_length close stats reported long e =
+      let f = e.finishes in
+      let n = f.full.0 (items_limit 1 f.how f.bytes (sym f.close_is ∙ long)) in
+      let m = ap length f.read.read_is in let k = length-append f.bytes f.read.left in omega arith
+
+  short_length : (close : Ending) (stats : Stats) (reported : Bool) → close ≡ ending.End → EndsRun held words rest rest' taken taken' close stats reported → length rest < input_limit
+  short_length close stats reported end e =
+      let f = e.finishes in
+      let how : f.how ≡ stop.End = items_end 1 f.how f.bytes (sym f.close_is ∙ end) in
+      let none = ap length (f.read.ended how) in
+      let m = ap length f.read.read_is in let k = length-append f.bytes f.read.left in let w = f.within in
+      let l = less_or_at f.how f.bytes how f.full w in omega arith
+
+  sound_ending : (close : Ending) (stats : Stats) (reported : Bool) → IsInput rest → IsStreamCause close input input' → EndsRun held words rest rest' taken taken' close stats reported → stream_status_of close ≡ 0
+  sound_ending ending.End stats reported s cause e = refl
+  sound_ending (ending.BadWord line) stats reported s cause e = absurd (let z = sym (refused_whole _ stats reported refl e) ∙ s.all_items in cc)
+  sound_ending (ending.WrongCount line had) stats reported s cause e = absurd (let z = sym (refused_whole _ stats reported refl e) ∙ s.all_items in cc)
+  sound_ending (ending.OutOfRange line) stats reported s cause e = absurd (let z = sym (refused_whole _ stats reported refl e) ∙ s.all_items in cc)
+  sound_ending ending.ReadFault stats reported s cause e = absurd (kept cause)
+  sound_ending ending.TooLong stats reported s cause e = absurd (let n = full_length _ stats reported refl e in let w = s.within in omega arith)
+
+  bad_ending : (close : Ending) (stats : Stats) (reported : Bool) → IsBadInput rest → IsStreamCause close input input' → EndsRun held words rest rest' taken taken' close stats reported → stream_status_of close ≡ 6
+  bad_ending ending.End stats reported s cause e = absurd (let z = ap (λ i. stream_status_of i.ending) e.finishes.first in let r = s.refused in omega arith)
+  bad_ending (ending.BadWord line) stats reported s cause e = refl
+  bad_ending (ending.WrongCount line had) stats reported s cause e = refl
+  bad_ending (ending.OutOfRange line) stats reported s cause e = refl
+  bad_ending ending.ReadFault stats reported s cause e = absurd (kept cause)
+  bad_ending ending.TooLong stats reported s cause e = absurd (let n = full_length _ stats reported refl e in let w = s.within in omega arith)
+
+  long_ending : (close : Ending) (stats : Stats) (reported : Bool) → IsLongInput rest → IsStreamCause close input input' → EndsRun held words rest rest' taken taken' close stats reported → stream_status_of close ≡ 14
+  long_ending ending.End stats reported s cause e = absurd (let n = short_length _ stats reported refl e in let w = s.reached in omega arith)
+  long_ending (ending.BadWord line) stats reported s cause e = absurd (let z = sym (refused_whole _ stats reported refl e) ∙ s.all_items in cc)
+  long_ending (ending.WrongCount line had) stats reported s cause e = absurd (let z = sym (refused_whole _ stats reported refl e) ∙ s.all_items in cc)
+  long_ending (ending.OutOfRange line) stats reported s cause e = absurd (let z = sym (refused_whole _ stats reported refl e) ∙ s.all_items in cc)
+  long_ending ending.ReadFault stats reported s cause e = absurd (kept cause)
+  long_ending ending.TooLong stats reported s cause e = refl
+
+  -- a run to some ending has the status n where its ending has, whatever that is
+  ran_status : (n status : ℕ) → ((close : Ending) (stats : Stats) (reported : Bool) → IsStreamCause close input input' → EndsRun held words rest rest' taken taken' close stats reported → stream_status_of close ≡ n) →
+      Ran held words rest rest' taken taken' input input' status ⊎ (status ≡ 11) → (status ≡ n) ⊎ (status ≡ 11)
+  ran_status n status by (inl r) = inl (r.status_is ∙ by r.close r.stats r.reported r.cause r.ends)
+  ran_status n status by (inr m) = inr m
 
 fmt_completes_by : (held : Held) (words : List (List ℕ)) (rest taken : List ℕ) (rest' taken' : Option (List ℕ)) (files files' input input' out out' : ℕ) → IsFmtSound held words →
     (Rose files files' → ⊥) → (Rose out out' → ⊥) → (v : Verdict) → IsCaused words files files' input input' out out' v → IsDue held words rest rest' taken taken' v →
@@ -333,11 +393,110 @@ formatted_by held words rest taken name rest' taken' asked (inl d) = absurd (oth
 formatted_by held words rest taken name rest' taken' asked (inr e) =
     (subst (λ n. Formats held n taken taken') (fmt_name words e.name name e.asked asked) e.formats, e.rest_stays)
 
-both_complete : (held : Held) (words : List (List ℕ)) (rest taken : List ℕ) (rest' taken' : Option (List ℕ)) (files files' input input' out out' : ℕ) → IsSound held words rest ⊎ IsFmtSound held words →
+-- how a run or a canonical text that nothing stands in the way of ends
+both_complete : (held : Held) (words : List (List ℕ)) (rest taken : List ℕ) (rest' taken' : Option (List ℕ)) (files files' input input' out out' : ℕ) → (IsRunnable held words × IsInput rest) ⊎ IsFmtSound held words →
     (Rose files files' → ⊥) → (Rose input input' → ⊥) → (Rose out out' → ⊥) → (v : Verdict) → IsCaused words files files' input input' out out' v → IsDue held words rest rest' taken taken' v →
     (status_of v ≡ 0) ⊎ (status_of v ≡ 11)
-both_complete held words rest taken rest' taken' files files' input input' out out' (inl s) f i o = completes_by held words rest taken rest' taken' files files' input input' out out' s f i o
-both_complete held words rest taken rest' taken' files files' input input' out out' (inr s) f i o = fmt_completes_by held words rest taken rest' taken' files files' input input' out out' s f o
+both_complete held words rest taken rest' taken' files files' input input' out out' (inl s) f i o v cause due =
+    ran_status held words rest taken rest' taken' input input' i 0 (status_of v) (λ close stats reported. sound_ending held words rest taken rest' taken' input input' i close stats reported s.1)
+    (ran_by held words rest taken rest' taken' files files' input input' out out' s.0 f o v cause due)
+both_complete held words rest taken rest' taken' files files' input input' out out' (inr s) f i o v cause due =
+    fmt_completes_by held words rest taken rest' taken' files files' input input' out out' s f o v cause due
+
+-- only these endings of the stream have these statuses
+limit_end : (close : Ending) → stream_status_of close ≡ 14 → close ≡ ending.TooLong
+limit_end ending.End h = absurd (omega arith)
+limit_end (ending.BadWord line) h = absurd (omega arith)
+limit_end (ending.WrongCount line had) h = absurd (omega arith)
+limit_end (ending.OutOfRange line) h = absurd (omega arith)
+limit_end ending.ReadFault h = absurd (omega arith)
+limit_end ending.TooLong h = refl
+
+failed_end : (close : Ending) → stream_status_of close ≡ 8 → close ≡ ending.ReadFault
+failed_end ending.End h = absurd (omega arith)
+failed_end (ending.BadWord line) h = absurd (omega arith)
+failed_end (ending.WrongCount line had) h = absurd (omega arith)
+failed_end (ending.OutOfRange line) h = absurd (omega arith)
+failed_end ending.ReadFault h = refl
+failed_end ending.TooLong h = absurd (omega arith)
+
+-- a run that stopped so, where its items end as that stop does
+stopped_run : (held : Held) (words : List (List ℕ)) (rest taken : List ℕ) (rest' taken' : Option (List ℕ)) (close : Ending) (stats : Stats) (reported : Bool) (how : Stop) →
+    (e : EndsRun held words rest rest' taken taken' close stats reported) → e.finishes.how ≡ how → close ≡ closing how → IsStopped held words rest rest' taken taken' how
+stopped_run held words rest taken rest' taken' close stats reported how e how_is close_is =
+    let f = e.finishes in record {
+      reported = reported;
+      factor = e.factor;
+      summand = e.summand;
+      program = e.program;
+      bytes = f.bytes;
+      read = subst (λ h. IsRead rest rest' f.bytes h) how_is f.read;
+      full = subst (λ h. (h ≡ stop.Limit) ↔ (length f.bytes ≡ input_limit)) how_is f.full;
+      all_items = ap (λ h. (items_taken 1 h f.bytes).ending) (sym how_is) ∙ sym f.close_is ∙ close_is;
+      taken_is = f.taken_is ∙ ap (λ t. Some (taken ++ t)) (f.executed.text_is ∙ ap text_of f.executed.emitted_is ∙ ap (λ h. text_of (meaning_of e.factor e.summand (items_taken 1 h f.bytes).items)) how_is);
+    }
+
+too_long_by : (held : Held) (words : List (List ℕ)) (rest taken : List ℕ) (rest' taken' : Option (List ℕ)) (v : Verdict) → status_of v ≡ 14 → IsDue held words rest rest' taken taken' v →
+    IsStopped held words rest rest' taken taken' stop.Limit
+too_long_by held words rest taken rest' taken' verdict.Usage h due = absurd (omega arith)
+too_long_by held words rest taken rest' taken' (verdict.FileFault name) h due = absurd (omega arith)
+too_long_by held words rest taken rest' taken' (verdict.FileTooLong name) h due = absurd (omega arith)
+too_long_by held words rest taken rest' taken' (verdict.Source fault pos) h due = absurd (omega arith)
+too_long_by held words rest taken rest' taken' (verdict.Ran close stats reported) h e =
+    let f = e.finishes in let long = limit_end close h in
+    stopped_run held words rest taken rest' taken' close stats reported stop.Limit e (items_limit 1 f.how f.bytes (sym f.close_is ∙ long)) long
+too_long_by held words rest taken rest' taken' verdict.Formatted h due = absurd (omega arith)
+too_long_by held words rest taken rest' taken' verdict.WriteFault h due = absurd (omega arith)
+too_long_by held words rest taken rest' taken' verdict.NoMemory h due = absurd (omega arith)
+
+read_stopped_by : (held : Held) (words : List (List ℕ)) (rest taken : List ℕ) (rest' taken' : Option (List ℕ)) (v : Verdict) → status_of v ≡ 8 → IsDue held words rest rest' taken taken' v →
+    IsStopped held words rest rest' taken taken' stop.Fault
+read_stopped_by held words rest taken rest' taken' verdict.Usage h due = absurd (omega arith)
+read_stopped_by held words rest taken rest' taken' (verdict.FileFault name) h due = absurd (omega arith)
+read_stopped_by held words rest taken rest' taken' (verdict.FileTooLong name) h due = absurd (omega arith)
+read_stopped_by held words rest taken rest' taken' (verdict.Source fault pos) h due = absurd (omega arith)
+read_stopped_by held words rest taken rest' taken' (verdict.Ran close stats reported) h e =
+    let f = e.finishes in let failed = failed_end close h in
+    stopped_run held words rest taken rest' taken' close stats reported stop.Fault e (items_fault 1 f.how f.bytes (sym f.close_is ∙ failed)) failed
+read_stopped_by held words rest taken rest' taken' verdict.Formatted h due = absurd (omega arith)
+read_stopped_by held words rest taken rest' taken' verdict.WriteFault h due = absurd (omega arith)
+read_stopped_by held words rest taken rest' taken' verdict.NoMemory h due = absurd (omega arith)
+
+-- a text that is refused is no program that was run or formatted
+module _ (held : Held) (words : List (List ℕ)) where
+  not_run : (fault : Fault) (pos : Pos) → HasNone held words fault pos → (reported : Bool) (factor summand : ℤ) → HasProgram held words reported factor summand → ⊥
+  not_run fault pos (inr r) reported factor summand p = other_command words p.name r.name reported p.asked r.asked
+  not_run fault pos (inl r) reported factor summand p =
+      let same = same_text held p.name r.name p.text r.text (same_name words p.name r.name reported r.reported p.asked r.asked) p.held_is r.held_is in
+      r.refused.no_program factor summand (subst (λ t. IsProgram t factor summand) (sym same) p.program)
+
+  not_formatted : (fault : Fault) (pos : Pos) → HasNone held words fault pos → (name : List ℕ) → Spells words (fmt name) → (program : ProgramTree) → HoldsProgram held name program → ⊥
+  not_formatted fault pos (inl r) name asked program p = other_command words r.name name r.reported r.asked asked
+  not_formatted fault pos (inr r) name asked program p =
+      let same = same_text held name r.name p.text r.holds.text (fmt_name words name r.name asked r.asked) p.held_is r.holds.held_is in
+      r.holds.no_program program (subst (λ t. grammar.Spells t program) (sym same) p.spelled)
+
+  not_begun : (rest taken : List ℕ) (rest' taken' : Option (List ℕ)) (fault : Fault) (pos : Pos) → HasNone held words fault pos → BeginsText held words rest rest' taken taken' → ⊥
+  not_begun rest taken rest' taken' fault pos none (inl b) = not_run fault pos none b.reported b.factor b.summand b.program
+  not_begun rest taken rest' taken' fault pos none (inr b) = not_formatted fault pos none b.name b.asked b.begins.program b.begins.holds
+
+  refused_named : (fault : Fault) (pos : Pos) → HasNone held words fault pos → (request : Request) × Spells words request
+  refused_named fault pos (inl r) = (run r.name r.asked.processors r.reported, r.asked.spelled)
+  refused_named fault pos (inr r) = (fmt r.name, r.asked)
+
+refused_where_by : (held : Held) (words : List (List ℕ)) (rest taken : List ℕ) (rest' taken' : Option (List ℕ)) (files files' input input' out out' : ℕ) (fault : Fault) (pos : Pos) → HasNone held words fault pos →
+    IsWithin held words → (Rose files files' → ⊥) → (v : Verdict) → IsCaused words files files' input input' out out' v → IsDue held words rest rest' taken taken' v → (status_of v ≡ 3) ⊎ (status_of v ≡ 11)
+refused_where_by held words rest taken rest' taken' files files' input input' out out' fault pos none within f = by
+  where
+    by : (v : Verdict) → IsCaused words files files' input input' out out' v → IsDue held words rest rest' taken taken' v → (status_of v ≡ 3) ⊎ (status_of v ≡ 11)
+    by verdict.Usage cause due = let r = refused_named held words fault pos none in absurd (cause.0 r.0 r.1)
+    by (verdict.FileFault name) cause due = absurd (f cause.1)
+    by (verdict.FileTooLong name) cause due = absurd (let w = within name.now due.1.bytes cause.0 due.1.held_is in let l = due.1.longer in omega arith)
+    by (verdict.Source fault pos) cause due = inl refl
+    by verdict.Formatted cause due = absurd (not_formatted held words fault pos none due.name due.asked due.formats.program due.formats.holds)
+    by (verdict.Ran close stats reported) cause due = absurd (not_run held words fault pos none reported due.factor due.summand due.program)
+    by verdict.WriteFault cause due = absurd (not_begun held words rest taken rest' taken' fault pos none due)
+    by verdict.NoMemory cause due = inr refl
 
 -- what an answer says
 module _ (words : List (List ℕ)) (files : Change Held) (input out err : Change (List ℕ)) (status : ℕ) (a : Answers words files input out err status) where
@@ -385,7 +544,32 @@ module _ (words : List (List ℕ)) (files : Change Held) (input out err : Change
   pub stream_refused : (held : Held) (rest taken : List ℕ) → files.old ≡ Some held → input.old ≡ Some rest → out.old ≡ Some taken → status ≡ 6 → IsStreamRefused held words rest taken out.new
   stream_refused held rest taken f i o h = stream_refused_by held words rest taken input.new out.new a.verdict (sym a.status_is ∙ h) (a.due held rest taken f i o)
 
-  pub completes : (held : Held) (rest taken : List ℕ) → files.old ≡ Some held → input.old ≡ Some rest → out.old ≡ Some taken → IsSound held words rest ⊎ IsFmtSound held words →
+  pub completes : (held : Held) (rest taken : List ℕ) → files.old ≡ Some held → input.old ≡ Some rest → out.old ≡ Some taken → (IsRunnable held words × IsInput rest) ⊎ IsFmtSound held words →
       (Rose files.before files.now → ⊥) → (Rose input.before input.now → ⊥) → (Rose out.before out.now → ⊥) → (status ≡ 0) ⊎ (status ≡ 11)
   completes held rest taken f i o s x y z =
       subst (λ n. (n ≡ 0) ⊎ (n ≡ 11)) (sym a.status_is) (both_complete held words rest taken input.new out.new _ _ _ _ _ _ s x y z a.verdict a.caused (a.due held rest taken f i o))
+
+  pub stream_refused_where : (held : Held) (rest taken : List ℕ) → files.old ≡ Some held → input.old ≡ Some rest → out.old ≡ Some taken → IsRunnable held words → IsBadInput rest →
+      (Rose files.before files.now → ⊥) → (Rose input.before input.now → ⊥) → (Rose out.before out.now → ⊥) → (status ≡ 6) ⊎ (status ≡ 11)
+  stream_refused_where held rest taken f i o s bad x y z =
+      subst (λ n. (n ≡ 6) ⊎ (n ≡ 11)) (sym a.status_is)
+      (ran_status held words rest taken input.new out.new _ _ y 6 _ (λ close stats reported. bad_ending held words rest taken input.new out.new _ _ y close stats reported bad)
+      (ran_by held words rest taken input.new out.new _ _ _ _ _ _ s x z a.verdict a.caused (a.due held rest taken f i o)))
+
+  pub too_long_where : (held : Held) (rest taken : List ℕ) → files.old ≡ Some held → input.old ≡ Some rest → out.old ≡ Some taken → IsRunnable held words → IsLongInput rest →
+      (Rose files.before files.now → ⊥) → (Rose input.before input.now → ⊥) → (Rose out.before out.now → ⊥) → (status ≡ 14) ⊎ (status ≡ 11)
+  too_long_where held rest taken f i o s long x y z =
+      subst (λ n. (n ≡ 14) ⊎ (n ≡ 11)) (sym a.status_is)
+      (ran_status held words rest taken input.new out.new _ _ y 14 _ (λ close stats reported. long_ending held words rest taken input.new out.new _ _ y close stats reported long)
+      (ran_by held words rest taken input.new out.new _ _ _ _ _ _ s x z a.verdict a.caused (a.due held rest taken f i o)))
+
+  pub too_long : (held : Held) (rest taken : List ℕ) → files.old ≡ Some held → input.old ≡ Some rest → out.old ≡ Some taken → status ≡ 14 → IsStopped held words rest input.new taken out.new stop.Limit
+  too_long held rest taken f i o h = too_long_by held words rest taken input.new out.new a.verdict (sym a.status_is ∙ h) (a.due held rest taken f i o)
+
+  pub read_stopped : (held : Held) (rest taken : List ℕ) → files.old ≡ Some held → input.old ≡ Some rest → out.old ≡ Some taken → status ≡ 8 → IsStopped held words rest input.new taken out.new stop.Fault
+  read_stopped held rest taken f i o h = read_stopped_by held words rest taken input.new out.new a.verdict (sym a.status_is ∙ h) (a.due held rest taken f i o)
+
+  pub refused_where : (held : Held) (rest taken : List ℕ) → files.old ≡ Some held → input.old ≡ Some rest → out.old ≡ Some taken → (fault : Fault) (pos : Pos) → HasNone held words fault pos → IsWithin held words →
+      (Rose files.before files.now → ⊥) → (status ≡ 3) ⊎ (status ≡ 11)
+  refused_where held rest taken f i o fault pos none within x =
+      subst (λ n. (n ≡ 3) ⊎ (n ≡ 11)) (sym a.status_is) (refused_where_by held words rest taken input.new out.new _ _ _ _ _ _ fault pos none within x a.verdict a.caused (a.due held rest taken f i o))

@@ -1,5 +1,5 @@
 -- Reading, running and writing, one after another.
-use Rattle.std.proofs.Common.{◌≡◌, ℕ, ℤ, ◌↔◌, List, [], ◌++◌, length, Option, Some, None, refl, sym, ap, subst, ◌∙◌, append-nil}
+use Rattle.std.proofs.Common.{◌≡◌, ℕ, ℤ, ◌≤◌, ◌↔◌, List, [], ◌++◌, length, Option, Some, None, refl, sym, ap, subst, ◌∙◌, append-nil}
 use Rattle.p3l_stream.specs.declared.taken.Stop.{Stop}
 use Rattle.p3l_stream.specs.declared.taken.Stop.TheVariants as stop
 use Rattle.p3l_stream.specs.declared.items.Items.{Items}
@@ -10,7 +10,6 @@ use Rattle.p3l.specs.declared.stats.Stats.{Stats}
 use Rattle.p3l.specs.Execution.{meaning_of, IsExecuted}
 use Rattle.p3l.specs.Write.{IsBegun}
 use Rattle.p3l.specs.Answer.{IsRead, Writes, Finishes, input_limit}
-use Rattle.p3l.proofs.StreamSteps.{items_limit}
 
 pub read_of : (old new : Option (List ℕ)) (rest bytes : List ℕ) (how : Stop) → old ≡ Some rest → IsDrained old new bytes how → IsRead rest new bytes how
 read_of None new rest bytes how e h = absurd cc
@@ -55,10 +54,10 @@ writes_begun factor summand rest bytes taken text new out how stats read done be
 
 -- all was written
 pub finishes : (factor summand : ℤ) (rest bytes taken text : List ℕ) (new out : Option (List ℕ)) (how : Stop) (read_items : Items) (stats : Stats) → IsRead rest new bytes how →
-    read_items ≡ items_taken 1 how bytes → ((how ≡ stop.Limit) ↔ (length bytes ≡ input_limit)) →
+    read_items ≡ items_taken 1 how bytes → length bytes ≤ input_limit → ((how ≡ stop.Limit) ↔ (length bytes ≡ input_limit)) →
     IsExecuted factor summand read_items.items text stats → out ≡ Some (taken ++ text) →
     ((more : List ℕ) → (how ≡ stop.End → more ≡ []) → Begins read_items.items read_items.ending (items_of 1 (bytes ++ more))) → Finishes factor summand rest new taken out read_items.ending stats
-finishes factor summand rest bytes taken text new out how read_items stats read same limit done written first =
+finishes factor summand rest bytes taken text new out how read_items stats read same within full done written first =
     record {
       bytes = bytes;
       how = how;
@@ -67,7 +66,8 @@ finishes factor summand rest bytes taken text new out how read_items stats read 
       taken_is = written;
       executed = subst (λ i. IsExecuted factor summand i.items text stats) same done;
       close_is = ap (λ i. i.ending) same;
-      full = λ z. limit.0 (items_limit 1 how bytes (sym (ap (λ i. i.ending) same) ∙ z));
+      within = within;
+      full = full;
       first =
           subst (λ i. Begins i.items read_items.ending (items_of 1 rest)) same
           (subst (λ r. Begins read_items.items read_items.ending (items_of 1 r)) (sym read.read_is) (first read.left read.ended));

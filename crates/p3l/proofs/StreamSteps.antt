@@ -102,3 +102,13 @@ closing_end stop.Limit h = absurd cc
 pub items_end : (width : ℕ) (how : Stop) (bytes : List ℕ) → (items_taken width how bytes).ending ≡ ending.End → how ≡ stop.End
 items_end width how bytes =
     of_lines (λ e. e ≡ ending.End → how ≡ stop.End) (λ n h. absurd cc) (λ n had h. absurd cc) (λ n h. absurd cc) width 1 (closing how) (lines_of how bytes) (closing_end how)
+
+closing_fault : (how : Stop) → closing how ≡ ending.ReadFault → how ≡ stop.Fault
+closing_fault stop.End h = absurd cc
+closing_fault stop.Fault h = refl
+closing_fault stop.Limit h = absurd cc
+
+-- the items end as a fault only where the source failed
+pub items_fault : (width : ℕ) (how : Stop) (bytes : List ℕ) → (items_taken width how bytes).ending ≡ ending.ReadFault → how ≡ stop.Fault
+items_fault width how bytes =
+    of_lines (λ e. e ≡ ending.ReadFault → how ≡ stop.Fault) (λ n h. absurd cc) (λ n had h. absurd cc) (λ n h. absurd cc) width 1 (closing how) (lines_of how bytes) (closing_fault how)

@@ -1,5 +1,5 @@
 -- What the program answers, writes and says, and why.
-use Rattle.std.specs.Prelude.{◌≡◌, ℕ, ℤ, ◌<◌, ◌≤◌, Bool, List, [], ◌++◌, ◌⊎◌, length, Option, Some}
+use Rattle.std.specs.Prelude.{◌≡◌, ℕ, ℤ, ◌<◌, ◌≤◌, ◌↔◌, Bool, List, [], ◌++◌, ◌⊎◌, length, Option, Some}
 use Rattle.p3l_ast.specs.declared.refusal.Fault.{Fault}
 use Rattle.p3l_ast.specs.declared.position.Pos.{Pos}
 use Rattle.p3l_io.specs.Causes.{Rose}
@@ -8,7 +8,7 @@ use Rattle.p3l_stream.specs.declared.taken.Stop.{Stop}
 use Rattle.p3l_stream.specs.declared.taken.Stop.TheVariants as stop
 use Rattle.p3l_stream.specs.declared.items.Ending.{Ending}
 use Rattle.p3l_stream.specs.declared.items.Ending.TheVariants as ending
-use Rattle.p3l_stream.specs.Items.{Begins, items_of, items_taken}
+use Rattle.p3l_stream.specs.Items.{Begins, closing, items_of, items_taken}
 use Rattle.p3l_stream.specs.Text.{text_of}
 use Rattle.p3l.specs.declared.stats.Stats.{Stats}
 use Rattle.p3l.specs.declared.verdict.Verdict.{Verdict}
@@ -92,7 +92,9 @@ pub record Finishes (factor summand : ℤ) (rest : List ℕ) (rest' : Option (Li
   pub taken_is : taken' ≡ Some (taken ++ written)
   pub executed : IsExecuted factor summand (items_taken 1 how bytes).items written stats
   pub close_is : close ≡ (items_taken 1 how bytes).ending
-  pub full : close ≡ ending.TooLong → length bytes ≡ input_limit
+  -- no more bytes were taken than are allowed, and so many exactly where the taking stopped for that
+  pub within : length bytes ≤ input_limit
+  pub full : (how ≡ stop.Limit) ↔ (length bytes ≡ input_limit)
   -- these items are the first of all that the input holds, and this ending is theirs
   pub first : Begins (items_taken 1 how bytes).items close (items_of 1 rest)
 
@@ -268,9 +270,21 @@ pub record IsStreamRefused (held : Held) (words : List (List ℕ)) (rest taken :
   pub refused : stream_status_of (items_of 1 rest).ending ≡ 6
   pub taken_is : taken' ≡ Some (taken ++ text_of (meaning_of factor summand (items_of 1 rest).items))
 
--- nothing stands in the way of a run: the words ask for it, the file holds a program within the limit, the input is within
--- its limit and each of its lines is an item or has no words
-pub record IsSound (held : Held) (words : List (List ℕ)) (rest : List ℕ) : Type 0 where
+-- a program that is held was run, the taking of the input stopped so, no line that ended before that is refused, and the whole
+-- text of the items of these lines was written
+pub record IsStopped (held : Held) (words : List (List ℕ)) (rest : List ℕ) (rest' : Option (List ℕ)) (taken : List ℕ) (taken' : Option (List ℕ)) (how : Stop) : Type 0 where
+  pub reported : Bool
+  pub factor : ℤ
+  pub summand : ℤ
+  pub program : HasProgram held words reported factor summand
+  pub bytes : List ℕ
+  pub read : IsRead rest rest' bytes how
+  pub full : (how ≡ stop.Limit) ↔ (length bytes ≡ input_limit)
+  pub all_items : (items_taken 1 how bytes).ending ≡ closing how
+  pub taken_is : taken' ≡ Some (taken ++ text_of (meaning_of factor summand (items_taken 1 how bytes).items))
+
+-- nothing stands before a run: the words ask for it, and the file holds a program within the limit
+pub record IsRunnable (held : Held) (words : List (List ℕ)) : Type 0 where
   pub name : List ℕ
   pub text : List ℕ
   pub reported : Bool
@@ -280,8 +294,25 @@ pub record IsSound (held : Held) (words : List (List ℕ)) (rest : List ℕ) : T
   pub held_is : held name ≡ Some text
   pub within : length text ≤ file_limit
   pub program : IsProgram text factor summand
-  pub input_within : length rest < input_limit
+
+-- the input is within its limit, and each of its lines is an item or has no words
+pub record IsInput (rest : List ℕ) : Type 0 where
+  pub within : length rest < input_limit
   pub all_items : (items_of 1 rest).ending ≡ ending.End
+
+-- the input is within its limit, and one of its lines is refused
+pub record IsBadInput (rest : List ℕ) : Type 0 where
+  pub within : length rest < input_limit
+  pub refused : stream_status_of (items_of 1 rest).ending ≡ 6
+
+-- the input reaches its limit, and none of its lines is refused
+pub record IsLongInput (rest : List ℕ) : Type 0 where
+  pub reached : input_limit ≤ length rest
+  pub all_items : (items_of 1 rest).ending ≡ ending.End
+
+-- whatever file the words name is within the limit, if it is held
+abbrev pub IsWithin : Held → List (List ℕ) → Type 0
+IsWithin held words = (name text : List ℕ) → NamesFile words name → held name ≡ Some text → length text ≤ file_limit
 
 -- nothing stands in the way of a canonical text: the words ask for it, and the file holds a program within the limit
 pub record IsFmtSound (held : Held) (words : List (List ℕ)) : Type 0 where

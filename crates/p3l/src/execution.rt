@@ -1,6 +1,6 @@
 // Running a program on items: the network of three processes under round robin.
 
-ghost use Rattle.std.specs.Prelude.{◌≡◌, ◌<◌, ◌≤◌, ◌+◌, ◌++◌, ◌*◌, ◌^◌, List, ℕ, ℤ, Bool, IsTrue, IfOk, OnOk, length, drop, All};
+ghost use Rattle.std.specs.Prelude.{◌≡◌, ◌<◌, ◌≤◌, ◌+◌, ◌++◌, ◌*◌, ◌^◌, List, ℤ, IsTrue, IfOk, OnOk, length, drop, All};
 ghost use Rattle.std.specs.Option.{option_to_list};
 ghost use Rattle.p3l_net.specs.Machine.{can_step, started};
 ghost use Rattle.p3l_net.specs.Offered.{Follows, HasFilledInbox};
@@ -40,7 +40,8 @@ fn copy_of(alloc: Global, words: &Words) -> Result<Words, NoMemory>
     Ok(Words::from_vec(items))
 }
 
-/// Offers the item at `next` where the inbox is empty and there is such an item; gives the place of the next one.
+/// Offers the item at `next` where the inbox is empty and there is such an item; gives the place of
+/// the next one.
 fn fill(
     alloc: Global,
     machine: &mut Machine<'_>,
@@ -102,7 +103,8 @@ fn step(
     keep(outcomes, fired.emitted)
 }
 
-/// Runs a machine on the items by round robin until no process can fire; gives the outcomes that it emits.
+/// Runs a machine on the items by round robin until no process can fire; gives the outcomes that it
+/// emits.
 fn outcomes_of(
     alloc: Global,
     machine: &mut Machine<'_>,

@@ -134,7 +134,8 @@ fn is_end(tokens: &[Token]) -> bool
     }
 }
 
-/// The body that assigns to the out a factor times the in and a summand, with the end of the module and of the text.
+/// The body that assigns to the out a factor times the in and a summand, with the end of the module
+/// and of the text.
 fn body_at(tokens: &[Token], input: &Name, output: &Name) -> Option<Affine>
     ensures some { IfSome result (λ program. lexemes_of tokens.now ≡ body_of input.now output.now program.factor program.summand) }
     ensures none { IfNone result ((a b : ℤ) → lexemes_of tokens.now ≡ body_of input.now output.now a b → ⊥) }

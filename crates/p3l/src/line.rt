@@ -1,6 +1,6 @@
 // Lines for the standard error.
 
-ghost use Rattle.std.specs.Prelude.{◌≡◌, ◌++◌, List, ℕ, IfOk, codes};
+ghost use Rattle.std.specs.Prelude.{◌≡◌, ◌++◌, IfOk, codes};
 ghost use Rattle.std.specs.Fmt.{decimal};
 ghost use Rattle.p3l_ast.specs.declared.refusal.Fault.{Fault};
 ghost use Rattle.p3l_ast.specs.declared.position.Pos.{Pos};

@@ -1,6 +1,6 @@
 // Loading the program of a file.
 
-ghost use Rattle.std.specs.Prelude.{map, ◌≤◌, ◌≡◌, ◌-◌, ◌<◌, ◌^◌, ℤ, List, ℕ, Some, length, IfOk, IfErr};
+ghost use Rattle.std.specs.Prelude.{map, ◌≤◌, ◌≡◌, ◌-◌, ◌<◌, List, Some, length, IfOk, IfErr};
 ghost use Rattle.p3l_ast.specs.Tree.{entry_tree};
 ghost use Rattle.p3l_io.specs.Told.{Held};
 ghost use Rattle.p3l.specs.Form.{IsProgram, first_place};

@@ -27,7 +27,8 @@ use std::process::ExitCode;
 use top::top;
 use verdict::{Status, Verdict};
 
-/// The words of the command line, the program's own name first. A word that is not UTF-8 makes it no command.
+/// The words of the command line, the program's own name first. A word that is not UTF-8 makes it
+/// no command.
 fn words_of(rt: &HostRuntime) -> Result<Vec<String>, Verdict<'static>> {
     let args = match env::args(rt) {
         Ok(args) => args,

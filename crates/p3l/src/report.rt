@@ -5,7 +5,6 @@ ghost use Rattle.p3l_io.specs.Causes.{Rose};
 ghost use Rattle.p3l_stream.specs.declared.items.Ending.{Ending};
 ghost use Rattle.p3l.specs.declared.verdict.Verdict.TheVariants as verdicts;
 ghost use Rattle.p3l.specs.Verdict.{lines_of, numbers_line, status_line, stream_ending_line};
-ghost use Rattle.p3l.specs.LineText.{line_text};
 ghost use Rattle.p3l.specs.Report.{optional_text, report_text};
 
 use crate::line::{Line, count_line, fault_line, file_line, refused_line, stats_line_of};

@@ -297,3 +297,25 @@ fn programs_are_written_in_their_canonical_text(rt: HostRuntime) -> Result<(), F
     let usage = "usage: the words are not a command of p3l\n";
     compare(&rt, rt.alloc(), &sound(&long, DOUBLE, ""), 2, "", usage)
 }
+
+#[test]
+fn a_file_is_as_long_as_its_limit_at_most(rt: HostRuntime) -> Result<(), Fail> {
+    let table: [(usize, &[&str], u8, &str); 4] = [
+        (1_048_576, &FMT, 0, ""),
+        (1_048_576, &RUN, 3, "source: 1:1: 7 NotYet\n"),
+        (1_048_577, &FMT, 9, "file too long: m.p3l\n"),
+        (1_048_577, &RUN, 9, "file too long: m.p3l\n"),
+    ];
+    for (blanks, words, status, lines) in table {
+        let program = " ".repeat(rt.alloc(), blanks)?;
+        compare(
+            &rt,
+            rt.alloc(),
+            &sound(words, program.as_str(), "1\n"),
+            status,
+            "",
+            lines,
+        )?;
+    }
+    Ok(())
+}

@@ -1,6 +1,6 @@
 // The writing of a text.
 
-ghost use Rattle.std.specs.Prelude.{◌≡◌, List, ℕ, Some, OnOk, OnErr};
+ghost use Rattle.std.specs.Prelude.{◌≡◌, List, ℕ, Some};
 ghost use Rattle.p3l_io.specs.Causes.{HasCause};
 ghost use Rattle.p3l.specs.Write.{IsWritten};
 

@@ -11,7 +11,7 @@ returns-in_default-clause-told g c = λ rest taken told_rest told_taken. writes_
 pub returns-in-Ok-write-clause-told : goal.returns-in-Ok-write-clause-told
 returns-in-Ok-write-clause-told g c = λ rest taken told_rest told_taken. (
   refl,
-  finishes _ _ rest _ taken _ _ _ _ _ _ (read_of _ _ rest _ _ told_rest c.in-Ok.ensures.told) c.in-Ok-read_items.ensures.items c.in-Ok.ensures.full (subst (λ i. IsExecuted c.args.program.now.factor c.args.program.now.summand i c.in-Ok-execute.done.text c.in-Ok-execute.done.stats) c.as_slice.ensures c.in-Ok-execute.ensures)
+  finishes _ _ rest _ taken _ _ _ _ _ _ (read_of _ _ rest _ _ told_rest c.in-Ok.ensures.told) c.in-Ok-read_items.ensures.items c.in-Ok.ensures.within c.in-Ok.ensures.full (subst (λ i. IsExecuted c.args.program.now.factor c.args.program.now.summand i c.in-Ok-execute.done.text c.in-Ok-execute.done.stats) c.as_slice.ensures c.in-Ok-execute.ensures)
       (c.in-Ok-write.ensures.told taken told_taken ∙ ap (λ t. Some (taken ++ t)) c.as_slice-2.ensures) c.in-Ok-read_items.ensures.first,
 )
 

@@ -45,3 +45,18 @@ returns-clause-completes g c = steps.completes _ _ _ _ _ _ c.answer.ensures.answ
 
 pub returns-clause-formatted : goal.returns-clause-formatted
 returns-clause-formatted g c = steps.formatted _ _ _ _ _ _ c.answer.ensures.answers
+
+pub returns-clause-refused_where : goal.returns-clause-refused_where
+returns-clause-refused_where g c = steps.refused_where _ _ _ _ _ _ c.answer.ensures.answers
+
+pub returns-clause-too_long : goal.returns-clause-too_long
+returns-clause-too_long g c = steps.too_long _ _ _ _ _ _ c.answer.ensures.answers
+
+pub returns-clause-read_stopped : goal.returns-clause-read_stopped
+returns-clause-read_stopped g c = steps.read_stopped _ _ _ _ _ _ c.answer.ensures.answers
+
+pub returns-clause-stream_refused_where : goal.returns-clause-stream_refused_where
+returns-clause-stream_refused_where g c = steps.stream_refused_where _ _ _ _ _ _ c.answer.ensures.answers
+
+pub returns-clause-too_long_where : goal.returns-clause-too_long_where
+returns-clause-too_long_where g c = steps.too_long_where _ _ _ _ _ _ c.answer.ensures.answers
