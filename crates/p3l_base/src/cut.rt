@@ -1,6 +1,6 @@
 // Cuts: how a map takes its token apart and puts the results together.
 
-ghost use Rattle.std.specs.Prelude.{◌≡◌, ◌≢◌, ℕ, ℤ, ◌+◌, ◌*◌, ◌^◌, ◌<◌, ◌≤◌, List, ◌++◌, length, OnOk, IfOk};
+ghost use Rattle.std.specs.Prelude.{◌≡◌, ℤ, ◌+◌, ◌*◌, ◌^◌, ◌<◌, ◌≤◌, List, ◌++◌, length, OnOk, IfOk};
 ghost use Rattle.std.specs.List.{All};
 ghost use Rattle.p3l_base.specs.Slice.{cut_size, taken_size};
 ghost use Rattle.p3l_base.specs.Cut.{element_size, element_count, HasIndexSize, HasLawfulOuts, next_first, next_second, next_place, array_words, result_word, joined_words, IsJoined};

@@ -1,4 +1,5 @@
-//! The grammar of source texts: what a text spells, and where it is first no beginning of a program.
+//! The grammar of source texts: what a text spells, and where it is first no beginning of a
+//! program.
 #![tactic(auto)]
 
 pub mod nest;

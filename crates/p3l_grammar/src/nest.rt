@@ -68,8 +68,8 @@ pub fn role_of(mark: Mark) -> Role
     }
 }
 
-/// How deep the tokens behind us lead; outside bodies nothing is counted. An expression with all its parts
-/// is one, and each index of a target that is assigned is an expression of its own.
+/// How deep the tokens behind us lead; outside bodies nothing is counted. An expression with all
+/// its parts is one, and each index of a target that is assigned is an expression of its own.
 #[derive(Clone, Copy, Debug, Drop, PartialEq, Eq)]
 pub struct Nest {
     /// Whether a body is open.

@@ -76,7 +76,8 @@ fn read_file<R: rt::Files>(
     }
 }
 
-/// The bytes that a reader gives to its end, if there are at most `limit`. It asks for one byte more at most.
+/// The bytes that a reader gives to its end, if there are at most `limit`. It asks for one byte
+/// more at most.
 fn read_within<R: Read>(alloc: Global, reader: &mut R, limit: u64) -> Result<List<u8>, FileFault>
     ensures { ReadsWithin (R.remaining reader.old) (R.remaining reader.new) limit result }
 {

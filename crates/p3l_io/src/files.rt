@@ -22,7 +22,8 @@ pub trait Files {
         ensures bytes { Reads (held self.old) (held self.new) name.now limit result }
         ensures cause { HasReadCause (faults self.old) (faults self.new) result };
 
-    /// Puts the bytes under a name, in the place of those that it had. An error may leave any bytes under this one name.
+    /// Puts the bytes under a name, in the place of those that it had. An error may leave any bytes
+    /// under this one name.
     fn write(&mut self, alloc: Global, name: &str, bytes: &[u8]) -> Result<(), WriteFault>
         ensures bytes { Writes (held self.old) (held self.new) name.now bytes.now result }
         ensures cause { HasWriteCause (faults self.old) (faults self.new) result };

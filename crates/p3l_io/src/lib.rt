@@ -1,4 +1,5 @@
-//! What the program is handed: a source and sinks of bytes, and files, each with a count of its faults.
+//! What the program is handed: a source and sinks of bytes, and files, each with a count of its
+//! faults.
 #![tactic(auto)]
 
 mod calls;

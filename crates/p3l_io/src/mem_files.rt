@@ -1,6 +1,6 @@
 // Files in memory.
 
-ghost use Rattle.std.specs.Prelude.{◌≡◌, ◌≤◌, [], Some, length, is_err, is_none, ◌||◌, IfOk, OnOk, OnErr};
+ghost use Rattle.std.specs.Prelude.{◌≡◌, ◌≤◌, [], Some, length, is_none, ◌||◌, IfOk, OnOk, OnErr};
 ghost use Rattle.std.specs.Option.{option_copied};
 ghost use Rattle.p3l_io.specs.Causes.{HasReadCause, HasWriteCause};
 ghost use Rattle.p3l_io.specs.Told.{IsPut, Reads, Writes};
@@ -49,7 +49,8 @@ fn put(
 }
 
 impl MemFiles {
-    /// No files yet. `fails` has the numbers of the calls of `read` and `write` that fail, counted together from 1.
+    /// No files yet. `fails` has the numbers of the calls of `read` and `write` that fail, counted
+    /// together from 1.
     pub fn new(alloc: Global, fails: List<u64>) -> MemFiles
         ensures { result ≡ record { files = []; fails = fails; calls = 0; faults = 0 } }
     {

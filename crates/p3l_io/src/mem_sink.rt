@@ -3,7 +3,7 @@
 ghost use Rattle.std.specs.Prelude.{◌≡◌, ◌-◌, ◌≤◌, [], ◌++◌, Some, length, is_err, IfOk};
 ghost use Rattle.p3l_io.specs.Causes.{HasCause};
 ghost use Rattle.p3l_io.specs.Told.{Puts};
-ghost use Rattle.p3l_io.specs.MemSink.{after_put, entry_of, fails_at, next_entry, put_count};
+ghost use Rattle.p3l_io.specs.MemSink.{after_put, entry_of, fails_at};
 
 use crate::calls::after_one_more;
 use crate::fault::Failed;
@@ -12,7 +12,8 @@ use p3l_base::{List, NoMemory};
 use std::alloc::Global;
 use std::marker::Model;
 
-/// A call of `put` that fails: its number, counted from 1, and how many bytes of the piece it still puts.
+/// A call of `put` that fails: its number, counted from 1, and how many bytes of the piece it still
+/// puts.
 #[derive(Clone, Copy, Debug, Drop, PartialEq, Eq)]
 pub struct PutFail {
     pub call: u64,
@@ -51,8 +52,8 @@ fn find_entry(fails: &[PutFail], call: u64) -> Option<PutFail>
 }
 
 impl MemSink {
-    /// A sink that takes the memory for `room` bytes now and no more later. `fails` has the calls that fail, of which
-    /// the first entry of a call counts.
+    /// A sink that takes the memory for `room` bytes now and no more later. `fails` has the calls
+    /// that fail, of which the first entry of a call counts.
     pub fn new(alloc: Global, room: usize, fails: List<PutFail>) -> Result<MemSink, NoMemory>
         ensures { IfOk result (λ sink. sink ≡ record { taken = []; left = room; fails = fails; calls = 0; faults = 0 }) }
     {

@@ -1,6 +1,6 @@
 // A source in memory.
 
-ghost use Rattle.std.specs.Prelude.{◌≡◌, ◌<◌, ◌≤◌, [], Some, drop, length, is_err, IfOk};
+ghost use Rattle.std.specs.Prelude.{◌≡◌, ◌<◌, ◌≤◌, Some, drop, length, is_err, IfOk};
 ghost use Rattle.p3l_io.specs.Causes.{HasCause};
 ghost use Rattle.p3l_io.specs.Told.{Takes};
 ghost use Rattle.p3l_io.specs.MemSource.{after_take, fails_next, given};
@@ -34,8 +34,8 @@ impl Model for MemSource {
 }
 
 impl MemSource {
-    /// A source of these bytes, of which a call gives at most `piece`. `fails` has the numbers of the calls that fail,
-    /// counted from 1.
+    /// A source of these bytes, of which a call gives at most `piece`. `fails` has the numbers of
+    /// the calls that fail, counted from 1.
     pub fn new(bytes: List<u8>, piece: usize, fails: List<u64>) -> MemSource
         requires { 0 < piece }
         ensures { result ≡ record { rest = bytes; piece = piece; fails = fails; calls = 0; faults = 0 } }

@@ -1,6 +1,6 @@
 // The piece at the front of a text.
 
-ghost use Rattle.std.specs.Prelude.{◌≡◌, ◌+◌, ◌<◌, ◌≤◌, ◌++◌, [], List, length, drop, true, false, IfSome, IfNone, Some, None, slice_index};
+ghost use Rattle.std.specs.Prelude.{◌≡◌, ◌+◌, ◌<◌, ◌≤◌, ◌++◌, length, drop, true, false, IfSome, IfNone, Some, None, slice_index};
 ghost use Rattle.std.specs.List.{list_all};
 ghost use Rattle.p3l_lexer.specs.Cut.{Ends, CutsPiece, begins_with_pair};
 ghost use Rattle.p3l_lexer.specs.Piece.{is_word_byte, after_close};

@@ -1,4 +1,5 @@
-//! The tokens of a source text: each the longest there is, with its position; a faulty one is a token too.
+//! The tokens of a source text: each the longest there is, with its position; a faulty one is a
+//! token too.
 #![tactic(auto)]
 
 pub mod bytes;

@@ -1,7 +1,6 @@
 // How many workers the counts of a tree give a node.
 
 ghost use Rattle.std.specs.Prelude.{◌≡◌, ℕ, ◌++◌, List, drop};
-ghost use Rattle.p3l_skel.specs.Tree.{node_at};
 ghost use Rattle.p3l_skel.specs.Counts.{own_counted, counted_from, count_in, count_of};
 ghost use Rattle.p3l_model.specs.Search.{count_found};
 

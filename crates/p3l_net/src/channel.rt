@@ -11,7 +11,8 @@ use p3l_base::NoMemory;
 use std::alloc::Global;
 use std::marker::Model;
 
-/// A queue of tokens, which contracts see as the tokens in the order of sending, and how many there may be.
+/// A queue of tokens, which contracts see as the tokens in the order of sending, and how many there
+/// may be.
 #[derive(Debug, Drop)]
 pub(crate) struct Channel {
     tokens: Vec<Token>,

@@ -1,4 +1,5 @@
-//! The network machine: nets of processes and channels, their states, and the firings that lead from state to state.
+//! The network machine: nets of processes and channels, their states, and the firings that lead
+//! from state to state.
 #![tactic(auto)]
 
 mod channel;

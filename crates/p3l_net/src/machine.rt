@@ -1,13 +1,13 @@
 // The machine: a net that fires, one process at a time.
 
-ghost use Rattle.std.specs.Prelude.{◌≡◌, ◌<◌, length, None, IsTrue, ◌↔◌, IfOk, OnOk, OnErr, Some, [], ◌+◌, ◌^◌, ℕ, ℤ, List, true, slice_get, IsSome, IfSome, IfNone, find, false, ◌-◌, ◌≤◌};
+ghost use Rattle.std.specs.Prelude.{◌≡◌, ◌<◌, length, None, IsTrue, ◌↔◌, IfOk, OnOk, OnErr, Some, [], ◌+◌, ◌^◌, ℕ, ℤ, List, slice_get, IsSome, IfSome, IfNone, find, false, ◌-◌, ◌≤◌};
 ghost use Rattle.std.specs.List.{range_with_len};
 ghost use Rattle.p3l_net.specs.Machine.{can_step, started, state_of, HasEmitted, Fires};
 ghost use Rattle.p3l_net.specs.Fire.{is_ready, can_fire, fire};
 ghost use Rattle.p3l_net.specs.State.{first_state};
 ghost use Rattle.p3l_net.specs.RoundRobin.{next_of};
 ghost use Rattle.p3l_net.specs.Typed.{IsTyped, kind_at};
-ghost use Rattle.p3l_skel.specs.Tree.{node_at, HasLength};
+ghost use Rattle.p3l_skel.specs.Tree.{node_at};
 
 use crate::channels::Channels;
 use crate::net::Net;
@@ -146,7 +146,8 @@ impl<'t> Machine<'t> {
         None
     }
 
-    /// The first process at or after `from`, cyclically, that can fire; None exactly where none can.
+    /// The first process at or after `from`, cyclically, that can fire; None exactly where none
+    /// can.
     pub fn next_ready(&self, from: u32) -> Option<u32>
         requires { from < length self.now.net.procs }
         ensures ready { IfSome result (λ p. (p < length self.now.net.procs) × IsTrue (can_step self.now p)) }

@@ -35,9 +35,9 @@ pub enum ProcKind {
 
 /// A process of a net.
 ///
-/// `node` is the node of the tree that places it, 0 for the source and the sink. `arg` is the length of the segment for a
-/// `Run` of a reduce that is cut into segments, else 0. `ins` and `outs` are the channels that it reads and writes, in the
-/// order of its kind.
+/// `node` is the node of the tree that places it, 0 for the source and the sink. `arg` is the
+/// length of the segment for a `Run` of a reduce that is cut into segments, else 0. `ins` and
+/// `outs` are the channels that it reads and writes, in the order of its kind.
 #[derive(Debug, Drop)]
 pub struct Proc {
     pub kind: ProcKind,

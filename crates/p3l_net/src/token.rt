@@ -14,7 +14,8 @@ pub struct Token {
     pub body: Outcome,
 }
 
-/// What a firing did: the kind of the process that fired, and the outcome that it took out of the net, if it is the sink.
+/// What a firing did: the kind of the process that fired, and the outcome that it took out of the
+/// net, if it is the sink.
 #[derive(Debug, Drop)]
 pub struct Fired {
     pub kind: ProcKind,

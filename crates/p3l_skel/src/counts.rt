@@ -1,9 +1,9 @@
 // Lawful numbers of workers.
 
-ghost use Rattle.std.specs.Prelude.{◌≡◌, ◌↔◌, ◌≤◌, ◌<◌, ℕ, ◌+◌, ◌^◌, ◌∷◌, IsTrue, IfSome, IfNone, List, length, drop};
+ghost use Rattle.std.specs.Prelude.{◌≡◌, ◌↔◌, ◌<◌, ℕ, ◌+◌, IsTrue, IfSome, IfNone, List, drop};
 ghost use Rattle.std.specs.Int.{IsPowerOfTwo};
 ghost use Rattle.p3l_skel.specs.Tree.{node_at};
-ghost use Rattle.p3l_skel.specs.Counts.{workers_of, IsCountInRange, IsLawfulCount, TakesLawful, outside_parts, own_counted, counted_from, HasLawfulCounts, most_workers};
+ghost use Rattle.p3l_skel.specs.Counts.{workers_of, IsCountInRange, IsLawfulCount, TakesLawful, outside_parts, own_counted, counted_from, HasLawfulCounts};
 
 use crate::tree::{Counts, Form, NESTING, Node, Tree};
 

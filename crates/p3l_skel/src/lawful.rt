@@ -4,7 +4,7 @@ ghost use Rattle.std.specs.Prelude.{◌≡◌, ◌≢◌, ◌↔◌, ◌≤◌, 
 ghost use Rattle.std.specs.List.{All};
 ghost use Rattle.p3l_skel.specs.Tree.{is_sequential};
 ghost use Rattle.p3l_skel.specs.Counts.{IsCountInRange, workers_of};
-ghost use Rattle.p3l_skel.specs.Lawful.{HasWords, IsChain, IsSequential, HasOnePart, HasTwoParts, IsLawfulMap, IsLawfulReduce, HasLoopLimits, AreLoopParts, IsLawfulLoop, IsLawfulForm, kind_of, HasKind, IsLawfulNode, AgreesWith, IsSubtree, IsLawfulTree};
+ghost use Rattle.p3l_skel.specs.Lawful.{HasWords, IsChain, IsSequential, HasOnePart, HasTwoParts, IsLawfulMap, IsLawfulReduce, HasLoopLimits, AreLoopParts, IsLawfulLoop, IsLawfulForm, kind_of, HasKind, IsLawfulNode, IsSubtree, IsLawfulTree};
 
 use crate::agree::modules_agree;
 use crate::cut::{have_sizes, is_lawful_cut, is_size};

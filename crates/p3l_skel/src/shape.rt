@@ -1,6 +1,6 @@
 // The order of a tree's nodes, and which of them are sequential.
 
-ghost use Rattle.std.specs.Prelude.{◌≡◌, ◌↔◌, ◌≤◌, ℕ, IsTrue, IfSome, IfNone, length};
+ghost use Rattle.std.specs.Prelude.{◌≡◌, ◌≤◌, ℕ, IfSome, IfNone, length};
 ghost use Rattle.p3l_skel.specs.Tree.{sequential_to, sequential_row};
 ghost use Rattle.p3l_skel.specs.Lawful.{IsSubtree};
 

@@ -1,7 +1,7 @@
 // How much work one item makes, counted up to the limit.
 
-ghost use Rattle.std.specs.Prelude.{◌≡◌, ◌↔◌, ◌≤◌, ◌<◌, ◌+◌, IsTrue, min, sum_by};
-ghost use Rattle.p3l_skel.specs.Numbers.{most_segments, power_up_to, reduce_firings, firings_row, firings_by, segments_at, runs_row, runs_to, most_firings, runs};
+ghost use Rattle.std.specs.Prelude.{◌≡◌, ◌↔◌, ◌≤◌, ◌<◌, ◌+◌, IsTrue, min};
+ghost use Rattle.p3l_skel.specs.Numbers.{most_segments, power_up_to, reduce_firings, firings_row, firings_by, segments_at, runs_row, runs_to, runs};
 ghost use Rattle.p3l_base.specs.Cut.{element_count};
 ghost use Rattle.p3l_skel.specs.Work.{capped, IsLight};
 

@@ -6,7 +6,8 @@ ghost use Rattle.p3l_stream.specs.Text as as_text;
 use p3l_base::{List, NoMemory, Outcome, Words};
 use std::alloc::{AllocError, Global};
 
-/// The line of an item: its words in decimal without leading zeros, parted by one space, and a line feed.
+/// The line of an item: its words in decimal without leading zeros, parted by one space, and a line
+/// feed.
 pub fn item_text(alloc: Global, words: &Words) -> Result<List<u8>, NoMemory>
     ensures { IfOk result (λ text. text ≡ as_text.item_text words.now) }
 {

@@ -1,7 +1,6 @@
 // Cuts of matrices and cubes, and the tokens that results fill.
 
-ghost use Rattle.std.specs.Prelude.{◌≡◌, ◌+◌, ◌≤◌, List, length, IfOk};
-ghost use Rattle.std.specs.List.{All};
+ghost use Rattle.std.specs.Prelude.{◌≡◌, ◌+◌, ◌≤◌, List, IfOk};
 ghost use Rattle.p3l_base.specs.Slice.{array_size, AreFreeIndices};
 
 use super::{Cut, join};
