@@ -130,59 +130,25 @@ fn early_ends(rt: HostRuntime) -> Result<(), Fail> {
 
 #[test]
 fn limits(rt: HostRuntime) -> Result<(), Fail> {
-    let alloc = rt.alloc();
     let head = "seq m in(int x) out(int y) ${ y = ";
     let tail = "x; }$ end seq";
-    assert_eq!(rt;
-        fault(alloc, filled(alloc, head, b'(', 65, tail)?.as_slice()),
-        (8, 1, 99)
-    );
-    assert_eq!(rt;
-        fault(alloc, filled(alloc, head, b'(', 64, tail)?.as_slice()),
-        (3, 1, 100)
-    );
-    assert_eq!(rt;
-        fault(alloc, filled(alloc, head, b'-', 257, tail)?.as_slice()),
-        (8, 1, 291)
-    );
-    assert_eq!(rt;
-        fault(alloc, filled(alloc, head, b'-', 256, tail)?.as_slice()),
-        (0, 0, 0)
-    );
-    assert_eq!(rt;
-        fault(
-            alloc,
-            filled(alloc, "const ", b'a', 65, " = 1;")?.as_slice()
-        ),
-        (5, 1, 7)
-    );
-    assert_eq!(rt;
-        fault(
-            alloc,
-            filled(alloc, "const ", b'a', 64, " = 1;")?.as_slice()
-        ),
-        (0, 0, 0)
-    );
-    assert_eq!(rt;
-        fault(alloc, filled(alloc, "x ", b'a', 65, "")?.as_slice()),
-        (3, 1, 1)
-    );
-    assert_eq!(rt;
-        fault(alloc, filled(alloc, "seq ", b'_', 70, "")?.as_slice()),
-        (5, 1, 5)
-    );
-    assert_eq!(rt;
-        fault(alloc, filled(alloc, "#", b' ', 1_048_576, "")?.as_slice()),
-        (6, 1, 1)
-    );
-    assert_eq!(rt;
-        fault(alloc, filled(alloc, "", b' ', 1_048_577, "")?.as_slice()),
-        (6, 1, 1)
-    );
-    assert_eq!(rt;
-        fault(alloc, filled(alloc, "", b' ', 1_048_576, "")?.as_slice()),
-        (0, 0, 0)
-    );
+    let table: [(&str, u8, usize, &str, (u8, u32, u32)); 11] = [
+        (head, b'(', 64, tail, (3, 1, 100)),
+        (head, b'(', 65, tail, (8, 1, 99)),
+        (head, b'-', 256, tail, (0, 0, 0)),
+        (head, b'-', 257, tail, (8, 1, 291)),
+        ("const ", b'a', 64, " = 1;", (0, 0, 0)),
+        ("const ", b'a', 65, " = 1;", (5, 1, 7)),
+        ("x ", b'a', 65, "", (3, 1, 1)),
+        ("seq ", b'_', 70, "", (5, 1, 5)),
+        ("", b' ', 1_048_576, "", (0, 0, 0)),
+        ("", b' ', 1_048_577, "", (6, 1, 1)),
+        ("#", b' ', 1_048_576, "", (6, 1, 1)),
+    ];
+    for (head, byte, count, tail, place) in table {
+        let text = filled(rt.alloc(), head, byte, count, tail)?;
+        assert_eq!(rt; fault(rt.alloc(), text.as_slice()), place, "{head}{count}");
+    }
     Ok(())
 }
 
