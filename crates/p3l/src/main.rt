@@ -18,64 +18,54 @@ pub mod top;
 mod verdict;
 mod write;
 
+use p3l_base::NoMemory;
 use p3l_host::{HostErr, HostFiles, HostIn, HostOut};
-use p3l_io::Sink;
-use report::{put_report, report_of};
+use report::put_no_memory;
 use std::env;
 use std::io::ErrorKind;
 use std::process::ExitCode;
 use top::top;
 use verdict::{Status, Verdict};
 
-/// The words of the command line, the program's own name first. A word that is not UTF-8 makes it
-/// no command.
-fn words_of(rt: &HostRuntime) -> Result<Vec<String>, Verdict<'static>> {
-    let args = match env::args(rt) {
-        Ok(args) => args,
-        Err(error) => {
-            return match error.kind() {
-                ErrorKind::OutOfMemory => Err(Verdict::NoMemory),
-                _ => Err(Verdict::Usage),
-            };
-        }
-    };
-    args.collect(rt.alloc()).map_err(|_| Verdict::NoMemory)
-}
-
-/// Says why there are no words, and gives the status.
-fn refuse<E: Sink>(rt: &HostRuntime, err: &mut E, verdict: &Verdict) -> Status {
-    if let Ok(report) = report_of(rt.alloc(), verdict) {
-        put_report(err, &report);
+/// The words of the command line, the program's own name first. Where one of them is not UTF-8
+/// there are none, and no words are no command.
+fn words_of(rt: &HostRuntime) -> Result<Vec<String>, NoMemory> {
+    match env::args(rt) {
+        Ok(args) => Ok(args.collect(rt.alloc())?),
+        Err(error) if error.kind() == ErrorKind::OutOfMemory => Err(NoMemory),
+        Err(_) => Ok(Vec::new(rt.alloc())),
     }
-    verdict.status()
 }
 
 /// Runs the program with the real files and streams.
-fn start(rt: &HostRuntime) -> Status {
-    let mut err = HostErr::new(rt.stderr());
-    let all = match words_of(rt) {
-        Ok(all) => all,
-        Err(verdict) => return refuse(rt, &mut err, &verdict),
-    };
+fn start(rt: &HostRuntime) -> Result<Status, NoMemory> {
+    let all = words_of(rt)?;
     let mut words: Vec<&str> = Vec::new(rt.alloc());
     for word in all.iter().skip(1) {
-        if words.push(word.as_str()).is_err() {
-            return refuse(rt, &mut err, &Verdict::NoMemory);
-        }
+        words.push(word.as_str())?;
     }
     let mut files = HostFiles::new(rt);
     let mut input = HostIn::new(rt.stdin());
     let mut out = HostOut::new(rt.stdout());
-    top(
+    let mut err = HostErr::new(rt.stderr());
+    Ok(top(
         rt.alloc(),
         words.as_slice(),
         &mut files,
         &mut input,
         &mut out,
         &mut err,
-    )
+    ))
 }
 
+/// The status of the program; where there was no memory for its words, it says so.
 fn main(rt: HostRuntime) -> ExitCode {
-    ExitCode::from(start(&rt).0)
+    let status = match start(&rt) {
+        Ok(status) => status,
+        Err(NoMemory) => {
+            put_no_memory(&mut HostErr::new(rt.stderr()));
+            Verdict::NoMemory.status()
+        }
+    };
+    ExitCode::from(status.0)
 }

@@ -211,23 +211,27 @@ fn words_files_and_texts_are_refused(rt: HostRuntime) -> Result<(), Fail> {
 
 #[test]
 fn each_take_fails_in_turn(rt: HostRuntime) -> Result<(), Fail> {
-    let table: [(u64, &str); 8] = [
-        (1, ""),
-        (2, ""),
-        (3, "3\n"),
-        (4, "3\n"),
-        (5, "3\n5\n"),
-        (6, "3\n5\n"),
-        (7, "3\n5\n"),
-        (8, "3\n5\n-5\n"),
+    let none = "stats: items 0, fired 0, idle 0, bound 0\nread fault\n";
+    let one = "stats: items 1, fired 3, idle 0, bound 3\nread fault\n";
+    let two = "stats: items 2, fired 6, idle 0, bound 6\nread fault\n";
+    let three = "stats: items 3, fired 9, idle 0, bound 9\nread fault\n";
+    let table: [(u64, &str, &str); 8] = [
+        (1, "", none),
+        (2, "", none),
+        (3, "3\n", one),
+        (4, "3\n", one),
+        (5, "3\n5\n", two),
+        (6, "3\n5\n", two),
+        (7, "3\n5\n", two),
+        (8, "3\n5\n-5\n", three),
     ];
-    for (call, output) in table {
+    for (call, output, lines) in table {
         let takes = [call];
         let world = World {
             takes: &takes,
-            ..sound(&RUN, DOUBLE, "1\n2\n-3\n")
+            ..sound(&REPORTED, DOUBLE, "1\n2\n-3\n")
         };
-        compare(&rt, rt.alloc(), &world, 8, output, "read fault\n")?;
+        compare(&rt, rt.alloc(), &world, 8, output, lines)?;
     }
     Ok(())
 }
