@@ -1,6 +1,11 @@
 -- What a command line can ask for, and how it is spelled.
-use Rattle.std.specs.Prelude.{◌≡◌, ℕ, ◌≤◌, Bool, true, false, List, [], ◌∷◌, codes}
+use Rattle.std.specs.Prelude.{◌≡◌, ℕ, ◌≤◌, Bool, true, false, List, [], ◌∷◌, codes, map}
+use Rattle.std.specs.Borrow.{Bor}
 use Rattle.std.specs.Fmt.{decimal}
+
+-- the texts of the words of a command line
+abbrev pub texts_of : List (Bor (List ℕ)) → List (List ℕ)
+texts_of words = map (λ word. word.now) words
 
 -- a command with its values: for `run` the name of the program's file, the number of processors and whether the
 -- numbers of the run are to be reported, for `fmt` the name alone

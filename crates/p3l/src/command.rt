@@ -1,8 +1,8 @@
 // What the words of a command line ask for.
 
-ghost use Rattle.std.specs.Prelude.{◌≡◌, ◌<◌, ◌≤◌, ◌^◌, ◌↔◌, [], ◌∷◌, ℕ, map, slice_index, IsTrue, IfSome, IfNone};
+ghost use Rattle.std.specs.Prelude.{◌≡◌, ◌<◌, ◌≤◌, ◌^◌, ◌↔◌, [], ◌∷◌, ℕ, slice_index, IsTrue, IfSome, IfNone};
 ghost use Rattle.std.specs.Fmt.{decimal};
-ghost use Rattle.p3l.specs.Request.{Request, Spells, flags_of};
+ghost use Rattle.p3l.specs.Request.{Request, Spells, flags_of, texts_of};
 ghost use Rattle.p3l.specs.Command.{request_of};
 
 /// A command of the program, with its values.
@@ -102,8 +102,8 @@ fn fmt_of<'a>(verb: &str, program: &'a str) -> Option<Command<'a>>
 
 /// The command that the words spell, if they spell one.
 pub fn command_of<'a>(words: &[&'a str]) -> Option<Command<'a>>
-    ensures some { IfSome result (λ command. Spells (map (λ word. word.now) words.now) (request_of command)) }
-    ensures none { IfNone result ((request : Request) → Spells (map (λ word. word.now) words.now) request → ⊥) }
+    ensures some { IfSome result (λ command. Spells (texts_of words.now) (request_of command)) }
+    ensures none { IfNone result ((request : Request) → Spells (texts_of words.now) request → ⊥) }
 {
     match words {
         [verb, program] => fmt_of(verb, program),

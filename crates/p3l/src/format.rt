@@ -29,7 +29,8 @@ fn canonical_of(alloc: Global, text: &[u8]) -> Result<List<u8>, SourceRefusal>
 /// Writes the canonical text of the program that a text spells.
 fn format_text<K: Sink>(alloc: Global, text: &[u8], out: &mut K) -> Verdict<'static>
     requires { length text.now ≤ 1048576 }
-    ensures told { (taken : List ℕ) → K.taken out.old ≡ Some taken → IsTextEnd text.now taken (K.taken out.new) result }
+    ensures told { (taken : List ℕ) → K.taken out.old ≡ Some taken
+        → IsTextEnd text.now taken (K.taken out.new) result }
     ensures cause { IsTextCause (K.faults out.old) (K.faults out.new) result }
 {
     match canonical_of(alloc, text) {

@@ -79,7 +79,9 @@ pub fn report_of(alloc: Global, verdict: &Verdict) -> Result<Report, NoMemory>
 
 /// Puts a line, if there is one; a fault of the sink is all that its count tells.
 fn put_line<E: Sink>(err: &mut E, line: &Option<Line>)
-    ensures told { (said : List ℕ) → E.taken err.old ≡ Some said → (Rose (E.faults err.old) (E.faults err.new) → ⊥) → E.taken err.new ≡ Some (said ++ optional_text line.now) }
+    ensures told { (said : List ℕ) → E.taken err.old ≡ Some said
+        → (Rose (E.faults err.old) (E.faults err.new) → ⊥)
+        → E.taken err.new ≡ Some (said ++ optional_text line.now) }
     ensures later { E.faults err.old ≤ E.faults err.new }
 {
     if let Some(line) = line {
@@ -89,7 +91,9 @@ fn put_line<E: Sink>(err: &mut E, line: &Option<Line>)
 
 /// Puts all lines, each by one put; one that fails doesn't stop the next.
 pub fn put_report<E: Sink>(err: &mut E, report: &Report)
-    ensures told { (said : List ℕ) → E.taken err.old ≡ Some said → (Rose (E.faults err.old) (E.faults err.new) → ⊥) → E.taken err.new ≡ Some (said ++ report_text report.now) }
+    ensures told { (said : List ℕ) → E.taken err.old ≡ Some said
+        → (Rose (E.faults err.old) (E.faults err.new) → ⊥)
+        → E.taken err.new ≡ Some (said ++ report_text report.now) }
     ensures later { E.faults err.old ≤ E.faults err.new }
 {
     put_line(err, &report.numbers);
@@ -98,7 +102,9 @@ pub fn put_report<E: Sink>(err: &mut E, report: &Report)
 
 /// Puts the line that says that memory was wanting.
 pub fn put_no_memory<E: Sink>(err: &mut E)
-    ensures told { (said : List ℕ) → E.taken err.old ≡ Some said → (Rose (E.faults err.old) (E.faults err.new) → ⊥) → E.taken err.new ≡ Some (said ++ lines_of verdicts.NoMemory) }
+    ensures told { (said : List ℕ) → E.taken err.old ≡ Some said
+        → (Rose (E.faults err.old) (E.faults err.new) → ⊥)
+        → E.taken err.new ≡ Some (said ++ lines_of verdicts.NoMemory) }
     ensures later { E.faults err.old ≤ E.faults err.new }
 {
     let _ = err.put(b"no memory\n");
