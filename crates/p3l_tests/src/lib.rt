@@ -1,7 +1,8 @@
-//! Tests of the crates that read and print a program's text, over their public calls.
+//! Tests that cross crates, over their public calls: texts that are read and printed, and the
+//! machine against the plain program of the meaning.
 //!
-//! They stand in a crate of their own since a crate with tests is proved twice, and the reader is
-//! the dearest of all.
+//! The reader's own tests stand here too, since a crate with tests is proved twice, and the reader
+//! is the dearest of all.
 #![tactic(auto)]
 
 #[cfg(test)]
@@ -10,3 +11,5 @@ mod everything;
 mod printing;
 #[cfg(test)]
 mod reading;
+#[cfg(test)]
+mod running;
