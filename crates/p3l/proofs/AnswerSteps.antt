@@ -229,26 +229,40 @@ begun_whole items (ending.OutOfRange line) whole h b = b
 begun_whole items ending.ReadFault whole h b = absurd (omega arith)
 begun_whole items ending.TooLong whole h b = absurd (omega arith)
 
-stream_refused_by : (held : Held) (words : List (List ℕ)) (rest taken : List ℕ) (rest' taken' : Option (List ℕ)) (v : Verdict) → status_of v ≡ 6 → IsDue held words rest rest' taken taken' v →
-    IsStreamRefused held words rest taken taken'
-stream_refused_by held words rest taken rest' taken' verdict.Usage h due = absurd (omega arith)
-stream_refused_by held words rest taken rest' taken' (verdict.FileFault name) h due = absurd (omega arith)
-stream_refused_by held words rest taken rest' taken' (verdict.FileTooLong name) h due = absurd (omega arith)
-stream_refused_by held words rest taken rest' taken' (verdict.Source fault pos) h due = absurd (omega arith)
-stream_refused_by held words rest taken rest' taken' (verdict.Ran close stats reported) h e =
-    let f = e.finishes in
-    let whole : items_of 1 rest ≡ record { items = (items_taken 1 f.how f.bytes).items; ending = close } = begun_whole _ close (items_of 1 rest) h f.first in
+-- a run that is held was run to an ending of its items with this status
+record EndedRun (held : Held) (words : List (List ℕ)) (rest : List ℕ) (rest' : Option (List ℕ)) (taken : List ℕ) (taken' : Option (List ℕ)) (status : ℕ) : Type 0 where
+  pub close : Ending
+  pub stats : Stats
+  pub reported : Bool
+  pub ends : EndsRun held words rest rest' taken taken' close stats reported
+  pub status_is : stream_status_of close ≡ status
+
+-- only a run has these statuses
+ended_run : (held : Held) (words : List (List ℕ)) (rest taken : List ℕ) (rest' taken' : Option (List ℕ)) (status : ℕ) → 3 < status → status ≢ 9 → status ≢ 10 → status ≢ 11 →
+    (v : Verdict) → status_of v ≡ status → IsDue held words rest rest' taken taken' v → EndedRun held words rest rest' taken taken' status
+ended_run held words rest taken rest' taken' status above no_file no_write no_memory verdict.Usage h due = absurd (omega arith)
+ended_run held words rest taken rest' taken' status above no_file no_write no_memory (verdict.FileFault name) h due = absurd (no_file (sym h))
+ended_run held words rest taken rest' taken' status above no_file no_write no_memory (verdict.FileTooLong name) h due = absurd (no_file (sym h))
+ended_run held words rest taken rest' taken' status above no_file no_write no_memory (verdict.Source fault pos) h due = absurd (omega arith)
+ended_run held words rest taken rest' taken' status above no_file no_write no_memory (verdict.Ran close stats reported) h due =
+    record { close = close; stats = stats; reported = reported; ends = due; status_is = h }
+ended_run held words rest taken rest' taken' status above no_file no_write no_memory verdict.Formatted h due = absurd (omega arith)
+ended_run held words rest taken rest' taken' status above no_file no_write no_memory verdict.WriteFault h due = absurd (no_write (sym h))
+ended_run held words rest taken rest' taken' status above no_file no_write no_memory verdict.NoMemory h due = absurd (no_memory (sym h))
+
+-- a run that ended at a refused line
+refused_run : (held : Held) (words : List (List ℕ)) (rest taken : List ℕ) (rest' taken' : Option (List ℕ)) → EndedRun held words rest rest' taken taken' 6 → IsStreamRefused held words rest taken taken'
+refused_run held words rest taken rest' taken' r =
+    let e = r.ends in let f = e.finishes in
+    let whole : items_of 1 rest ≡ record { items = (items_taken 1 f.how f.bytes).items; ending = r.close } = begun_whole _ r.close (items_of 1 rest) r.status_is f.first in
     record {
-      reported = reported;
+      reported = r.reported;
       factor = e.factor;
       summand = e.summand;
       program = e.program;
-      refused = ap (λ i. stream_status_of i.ending) whole ∙ h;
+      refused = ap (λ i. stream_status_of i.ending) whole ∙ r.status_is;
       taken_is = f.taken_is ∙ ap (λ t. Some (taken ++ t)) (f.executed.text_is ∙ ap text_of f.executed.emitted_is ∙ ap (λ i. text_of (meaning_of e.factor e.summand i.items)) (sym whole));
     }
-stream_refused_by held words rest taken rest' taken' verdict.Formatted h due = absurd (omega arith)
-stream_refused_by held words rest taken rest' taken' verdict.WriteFault h due = absurd (omega arith)
-stream_refused_by held words rest taken rest' taken' verdict.NoMemory h due = absurd (omega arith)
 
 -- words ask for one file
 same_name : (words : List (List ℕ)) (name other : List ℕ) (reported shown : Bool) → AsksRun words name reported → AsksRun words other shown → name ≡ other
@@ -264,6 +278,28 @@ fmt_name words name other a b = ap (λ l. get_or l 1 []) (sym a.words_are ∙ b.
 same_text : (held : Held) (name other text found : List ℕ) → name ≡ other → held name ≡ Some text → held other ≡ Some found → found ≡ text
 same_text held name other text found same a b = let c : held name ≡ held other = ap held same in cc
 
+-- a text that is refused is no program that was run or formatted
+module _ (held : Held) (words : List (List ℕ)) where
+  not_run : (fault : Fault) (pos : Pos) → HasNone held words fault pos → (reported : Bool) (factor summand : ℤ) → HasProgram held words reported factor summand → ⊥
+  not_run fault pos (inr r) reported factor summand p = other_command words p.name r.name reported p.asked r.asked
+  not_run fault pos (inl r) reported factor summand p =
+      let same = same_text held p.name r.name p.text r.text (same_name words p.name r.name reported r.reported p.asked r.asked) p.held_is r.held_is in
+      r.refused.no_program factor summand (subst (λ t. IsProgram t factor summand) (sym same) p.program)
+
+  not_formatted : (fault : Fault) (pos : Pos) → HasNone held words fault pos → (name : List ℕ) → Spells words (fmt name) → (program : ProgramTree) → HoldsProgram held name program → ⊥
+  not_formatted fault pos (inl r) name asked program p = other_command words r.name name r.reported r.asked asked
+  not_formatted fault pos (inr r) name asked program p =
+      let same = same_text held name r.name p.text r.holds.text (fmt_name words name r.name asked r.asked) p.held_is r.holds.held_is in
+      r.holds.no_program program (subst (λ t. grammar.Spells t program) (sym same) p.spelled)
+
+  not_begun : (rest taken : List ℕ) (rest' taken' : Option (List ℕ)) (fault : Fault) (pos : Pos) → HasNone held words fault pos → BeginsText held words rest rest' taken taken' → ⊥
+  not_begun rest taken rest' taken' fault pos none (inl b) = not_run fault pos none b.reported b.factor b.summand b.program
+  not_begun rest taken rest' taken' fault pos none (inr b) = not_formatted fault pos none b.name b.asked b.begins.program b.begins.holds
+
+  refused_named : (fault : Fault) (pos : Pos) → HasNone held words fault pos → (request : Request) × Spells words request
+  refused_named fault pos (inl r) = (run r.name r.asked.processors r.reported, r.asked.spelled)
+  refused_named fault pos (inr r) = (fmt r.name, r.asked)
+
 -- bytes whose taking stopped at the end of the input are fewer than the limit
 less_or_at : (how : Stop) (bytes : List ℕ) → how ≡ stop.End → ((how ≡ stop.Limit) ↔ (length bytes ≡ input_limit)) → length bytes ≤ input_limit → length bytes < input_limit
 less_or_at how bytes end full within = by (leb input_limit (length bytes)) refl
@@ -274,12 +310,8 @@ less_or_at how bytes end full within = by (leb input_limit (length bytes)) refl
 
 -- a run that is held was run to this ending of its items, for which the count of the input has gone so
 record Ran (held : Held) (words : List (List ℕ)) (rest : List ℕ) (rest' : Option (List ℕ)) (taken : List ℕ) (taken' : Option (List ℕ)) (input input' status : ℕ) : Type 0 where
-  pub close : Ending
-  pub stats : Stats
-  pub reported : Bool
-  pub cause : IsStreamCause close input input'
-  pub ends : EndsRun held words rest rest' taken taken' close stats reported
-  pub status_is : status ≡ stream_status_of close
+  pub run : EndedRun held words rest rest' taken taken' status
+  pub cause : IsStreamCause run.close input input'
 
 -- where nothing stands before a run and no count rises, it is run to some ending of its items, unless memory is wanting
 ran_by : (held : Held) (words : List (List ℕ)) (rest taken : List ℕ) (rest' taken' : Option (List ℕ)) (files files' input input' out out' : ℕ) → IsRunnable held words →
@@ -293,19 +325,14 @@ ran_by held words rest taken rest' taken' files files' input input' out out' s f
         let same = same_text held s.name name s.text t.bytes (same_name words s.name name s.reported runs.reported s.asked runs.asked) s.held_is t.held_is in
         let n = ap length same in let w = s.within in let l = t.longer in absurd (omega arith)
 
-    not_refused : (fault : Fault) (pos : Pos) → HasNone held words fault pos → ⊥
-    not_refused fault pos (inr r) = other_command words s.name r.name s.reported s.asked r.asked
-    not_refused fault pos (inl r) =
-        let same = same_text held s.name r.name s.text r.text (same_name words s.name r.name s.reported r.reported s.asked r.asked) s.held_is r.held_is in
-        r.refused.no_program s.factor s.summand (subst (λ t. IsProgram t s.factor s.summand) (sym same) s.program)
-
     by : (v : Verdict) → IsCaused words files files' input input' out out' v → IsDue held words rest rest' taken taken' v → Ran held words rest rest' taken taken' input input' (status_of v) ⊎ (status_of v ≡ 11)
     by verdict.Usage cause due = absurd (cause.0 (run s.name s.asked.processors s.reported) s.asked.spelled)
     by (verdict.FileFault name) cause due = absurd (f cause.1)
     by (verdict.FileTooLong name) cause due = absurd (not_longer name.now cause.0 due.1)
-    by (verdict.Source fault pos) cause due = absurd (not_refused fault pos due.1)
+    by (verdict.Source fault pos) cause due =
+        absurd (not_run held words fault pos due.1 s.reported s.factor s.summand (record { name = s.name; text = s.text; asked = s.asked; held_is = s.held_is; program = s.program }))
     by verdict.Formatted cause due = absurd (other_command words s.name due.name s.reported s.asked due.asked)
-    by (verdict.Ran close stats reported) cause due = inl (record { close = close; stats = stats; reported = reported; cause = cause.2; ends = due; status_is = refl })
+    by (verdict.Ran close stats reported) cause due = inl (record { run = record { close = close; stats = stats; reported = reported; ends = due; status_is = refl }; cause = cause.2 })
     by verdict.WriteFault cause due = absurd (o cause.2)
     by verdict.NoMemory cause due = inr refl
 
@@ -356,7 +383,7 @@ module _ (held : Held) (words : List (List ℕ)) (rest taken : List ℕ) (rest' 
   -- a run to some ending has the status n where its ending has, whatever that is
   ran_status : (n status : ℕ) → ((close : Ending) (stats : Stats) (reported : Bool) → IsStreamCause close input input' → EndsRun held words rest rest' taken taken' close stats reported → stream_status_of close ≡ n) →
       Ran held words rest rest' taken taken' input input' status ⊎ (status ≡ 11) → (status ≡ n) ⊎ (status ≡ 11)
-  ran_status n status by (inl r) = inl (r.status_is ∙ by r.close r.stats r.reported r.cause r.ends)
+  ran_status n status by (inl r) = inl (sym r.run.status_is ∙ by r.run.close r.run.stats r.run.reported r.cause r.run.ends)
   ran_status n status by (inr m) = inr m
 
 fmt_completes_by : (held : Held) (words : List (List ℕ)) (rest taken : List ℕ) (rest' taken' : Option (List ℕ)) (files files' input input' out out' : ℕ) → IsFmtSound held words →
@@ -370,17 +397,11 @@ fmt_completes_by held words rest taken rest' taken' files files' input input' ou
         let same = same_text held s.name name s.holds.text t.bytes (fmt_name words s.name name s.asked asked) s.holds.held_is t.held_is in
         let n = ap length same in let w = s.within in let l = t.longer in absurd (omega arith)
 
-    not_refused : (fault : Fault) (pos : Pos) → HasNone held words fault pos → ⊥
-    not_refused fault pos (inl r) = other_command words r.name s.name r.reported r.asked s.asked
-    not_refused fault pos (inr r) =
-        let same = same_text held s.name r.name s.holds.text r.holds.text (fmt_name words s.name r.name s.asked r.asked) s.holds.held_is r.holds.held_is in
-        r.holds.no_program s.program (subst (λ t. grammar.Spells t s.program) (sym same) s.holds.spelled)
-
     by : (v : Verdict) → IsCaused words files files' input input' out out' v → IsDue held words rest rest' taken taken' v → (status_of v ≡ 0) ⊎ (status_of v ≡ 11)
     by verdict.Usage cause due = absurd (cause.0 (fmt s.name) s.asked)
     by (verdict.FileFault name) cause due = absurd (f cause.1)
     by (verdict.FileTooLong name) cause due = absurd (not_longer name.now cause.0 due.1)
-    by (verdict.Source fault pos) cause due = absurd (not_refused fault pos due.1)
+    by (verdict.Source fault pos) cause due = absurd (not_formatted held words fault pos due.1 s.name s.asked s.program s.holds)
     by (verdict.Ran close stats reported) cause due = absurd (other_command words cause.0.name s.name cause.0.runs.reported cause.0.runs.asked s.asked)
     by verdict.Formatted cause due = inl refl
     by verdict.WriteFault cause due = absurd (o cause.2)
@@ -436,53 +457,16 @@ stopped_run held words rest taken rest' taken' close stats reported how e how_is
       taken_is = f.taken_is ∙ ap (λ t. Some (taken ++ t)) (f.executed.text_is ∙ ap text_of f.executed.emitted_is ∙ ap (λ h. text_of (meaning_of e.factor e.summand (items_taken 1 h f.bytes).items)) how_is);
     }
 
-too_long_by : (held : Held) (words : List (List ℕ)) (rest taken : List ℕ) (rest' taken' : Option (List ℕ)) (v : Verdict) → status_of v ≡ 14 → IsDue held words rest rest' taken taken' v →
-    IsStopped held words rest rest' taken taken' stop.Limit
-too_long_by held words rest taken rest' taken' verdict.Usage h due = absurd (omega arith)
-too_long_by held words rest taken rest' taken' (verdict.FileFault name) h due = absurd (omega arith)
-too_long_by held words rest taken rest' taken' (verdict.FileTooLong name) h due = absurd (omega arith)
-too_long_by held words rest taken rest' taken' (verdict.Source fault pos) h due = absurd (omega arith)
-too_long_by held words rest taken rest' taken' (verdict.Ran close stats reported) h e =
-    let f = e.finishes in let long = limit_end close h in
-    stopped_run held words rest taken rest' taken' close stats reported stop.Limit e (items_limit 1 f.how f.bytes (sym f.close_is ∙ long)) long
-too_long_by held words rest taken rest' taken' verdict.Formatted h due = absurd (omega arith)
-too_long_by held words rest taken rest' taken' verdict.WriteFault h due = absurd (omega arith)
-too_long_by held words rest taken rest' taken' verdict.NoMemory h due = absurd (omega arith)
+-- a run that ended at the limit, and one that ended at a fault
+limited_run : (held : Held) (words : List (List ℕ)) (rest taken : List ℕ) (rest' taken' : Option (List ℕ)) → EndedRun held words rest rest' taken taken' 14 → IsStopped held words rest rest' taken taken' stop.Limit
+limited_run held words rest taken rest' taken' r =
+    let f = r.ends.finishes in let long = limit_end r.close r.status_is in
+    stopped_run held words rest taken rest' taken' r.close r.stats r.reported stop.Limit r.ends (items_limit 1 f.how f.bytes (sym f.close_is ∙ long)) long
 
-read_stopped_by : (held : Held) (words : List (List ℕ)) (rest taken : List ℕ) (rest' taken' : Option (List ℕ)) (v : Verdict) → status_of v ≡ 8 → IsDue held words rest rest' taken taken' v →
-    IsStopped held words rest rest' taken taken' stop.Fault
-read_stopped_by held words rest taken rest' taken' verdict.Usage h due = absurd (omega arith)
-read_stopped_by held words rest taken rest' taken' (verdict.FileFault name) h due = absurd (omega arith)
-read_stopped_by held words rest taken rest' taken' (verdict.FileTooLong name) h due = absurd (omega arith)
-read_stopped_by held words rest taken rest' taken' (verdict.Source fault pos) h due = absurd (omega arith)
-read_stopped_by held words rest taken rest' taken' (verdict.Ran close stats reported) h e =
-    let f = e.finishes in let failed = failed_end close h in
-    stopped_run held words rest taken rest' taken' close stats reported stop.Fault e (items_fault 1 f.how f.bytes (sym f.close_is ∙ failed)) failed
-read_stopped_by held words rest taken rest' taken' verdict.Formatted h due = absurd (omega arith)
-read_stopped_by held words rest taken rest' taken' verdict.WriteFault h due = absurd (omega arith)
-read_stopped_by held words rest taken rest' taken' verdict.NoMemory h due = absurd (omega arith)
-
--- a text that is refused is no program that was run or formatted
-module _ (held : Held) (words : List (List ℕ)) where
-  not_run : (fault : Fault) (pos : Pos) → HasNone held words fault pos → (reported : Bool) (factor summand : ℤ) → HasProgram held words reported factor summand → ⊥
-  not_run fault pos (inr r) reported factor summand p = other_command words p.name r.name reported p.asked r.asked
-  not_run fault pos (inl r) reported factor summand p =
-      let same = same_text held p.name r.name p.text r.text (same_name words p.name r.name reported r.reported p.asked r.asked) p.held_is r.held_is in
-      r.refused.no_program factor summand (subst (λ t. IsProgram t factor summand) (sym same) p.program)
-
-  not_formatted : (fault : Fault) (pos : Pos) → HasNone held words fault pos → (name : List ℕ) → Spells words (fmt name) → (program : ProgramTree) → HoldsProgram held name program → ⊥
-  not_formatted fault pos (inl r) name asked program p = other_command words r.name name r.reported r.asked asked
-  not_formatted fault pos (inr r) name asked program p =
-      let same = same_text held name r.name p.text r.holds.text (fmt_name words name r.name asked r.asked) p.held_is r.holds.held_is in
-      r.holds.no_program program (subst (λ t. grammar.Spells t program) (sym same) p.spelled)
-
-  not_begun : (rest taken : List ℕ) (rest' taken' : Option (List ℕ)) (fault : Fault) (pos : Pos) → HasNone held words fault pos → BeginsText held words rest rest' taken taken' → ⊥
-  not_begun rest taken rest' taken' fault pos none (inl b) = not_run fault pos none b.reported b.factor b.summand b.program
-  not_begun rest taken rest' taken' fault pos none (inr b) = not_formatted fault pos none b.name b.asked b.begins.program b.begins.holds
-
-  refused_named : (fault : Fault) (pos : Pos) → HasNone held words fault pos → (request : Request) × Spells words request
-  refused_named fault pos (inl r) = (run r.name r.asked.processors r.reported, r.asked.spelled)
-  refused_named fault pos (inr r) = (fmt r.name, r.asked)
+failed_run : (held : Held) (words : List (List ℕ)) (rest taken : List ℕ) (rest' taken' : Option (List ℕ)) → EndedRun held words rest rest' taken taken' 8 → IsStopped held words rest rest' taken taken' stop.Fault
+failed_run held words rest taken rest' taken' r =
+    let f = r.ends.finishes in let failed = failed_end r.close r.status_is in
+    stopped_run held words rest taken rest' taken' r.close r.stats r.reported stop.Fault r.ends (items_fault 1 f.how f.bytes (sym f.close_is ∙ failed)) failed
 
 refused_where_by : (held : Held) (words : List (List ℕ)) (rest taken : List ℕ) (rest' taken' : Option (List ℕ)) (files files' input input' out out' : ℕ) (fault : Fault) (pos : Pos) → HasNone held words fault pos →
     IsWithin held words → (Rose files files' → ⊥) → (v : Verdict) → IsCaused words files files' input input' out out' v → IsDue held words rest rest' taken taken' v → (status_of v ≡ 3) ⊎ (status_of v ≡ 11)
@@ -500,6 +484,11 @@ refused_where_by held words rest taken rest' taken' files files' input input' ou
 
 -- what an answer says
 module _ (words : List (List ℕ)) (files : Change Held) (input out err : Change (List ℕ)) (status : ℕ) (a : Answers words files input out err status) where
+  ended : (held : Held) (rest taken : List ℕ) → files.old ≡ Some held → input.old ≡ Some rest → out.old ≡ Some taken → (n : ℕ) → 3 < n → n ≢ 9 → n ≢ 10 → n ≢ 11 → status ≡ n →
+      EndedRun held words rest input.new taken out.new n
+  ended held rest taken f i o n above no_file no_write no_memory h =
+      ended_run held words rest taken input.new out.new n above no_file no_write no_memory a.verdict (sym a.status_is ∙ h) (a.due held rest taken f i o)
+
   pub done : (held : Held) (rest taken : List ℕ) → files.old ≡ Some held → input.old ≡ Some rest → out.old ≡ Some taken → status ≡ 0 → IsDone held words rest input.new taken out.new ⊎ EndsFmt held words rest input.new taken out.new
   done held rest taken f i o h = done_by held words rest taken input.new out.new a.verdict (sym a.status_is ∙ h) (a.due held rest taken f i o)
 
@@ -542,7 +531,7 @@ module _ (words : List (List ℕ)) (files : Change Held) (input out err : Change
   refused held rest taken f i o h = refused_by held words rest taken input.new out.new a.verdict (sym a.status_is ∙ h) (a.due held rest taken f i o)
 
   pub stream_refused : (held : Held) (rest taken : List ℕ) → files.old ≡ Some held → input.old ≡ Some rest → out.old ≡ Some taken → status ≡ 6 → IsStreamRefused held words rest taken out.new
-  stream_refused held rest taken f i o h = stream_refused_by held words rest taken input.new out.new a.verdict (sym a.status_is ∙ h) (a.due held rest taken f i o)
+  stream_refused held rest taken f i o h = refused_run held words rest taken input.new out.new (ended held rest taken f i o 6 (omega arith) (λ z. absurd (omega arith)) (λ z. absurd (omega arith)) (λ z. absurd (omega arith)) h)
 
   pub completes : (held : Held) (rest taken : List ℕ) → files.old ≡ Some held → input.old ≡ Some rest → out.old ≡ Some taken → (IsRunnable held words × IsInput rest) ⊎ IsFmtSound held words →
       (Rose files.before files.now → ⊥) → (Rose input.before input.now → ⊥) → (Rose out.before out.now → ⊥) → (status ≡ 0) ⊎ (status ≡ 11)
@@ -564,10 +553,10 @@ module _ (words : List (List ℕ)) (files : Change Held) (input out err : Change
       (ran_by held words rest taken input.new out.new _ _ _ _ _ _ s x z a.verdict a.caused (a.due held rest taken f i o)))
 
   pub too_long : (held : Held) (rest taken : List ℕ) → files.old ≡ Some held → input.old ≡ Some rest → out.old ≡ Some taken → status ≡ 14 → IsStopped held words rest input.new taken out.new stop.Limit
-  too_long held rest taken f i o h = too_long_by held words rest taken input.new out.new a.verdict (sym a.status_is ∙ h) (a.due held rest taken f i o)
+  too_long held rest taken f i o h = limited_run held words rest taken input.new out.new (ended held rest taken f i o 14 (omega arith) (λ z. absurd (omega arith)) (λ z. absurd (omega arith)) (λ z. absurd (omega arith)) h)
 
   pub read_stopped : (held : Held) (rest taken : List ℕ) → files.old ≡ Some held → input.old ≡ Some rest → out.old ≡ Some taken → status ≡ 8 → IsStopped held words rest input.new taken out.new stop.Fault
-  read_stopped held rest taken f i o h = read_stopped_by held words rest taken input.new out.new a.verdict (sym a.status_is ∙ h) (a.due held rest taken f i o)
+  read_stopped held rest taken f i o h = failed_run held words rest taken input.new out.new (ended held rest taken f i o 8 (omega arith) (λ z. absurd (omega arith)) (λ z. absurd (omega arith)) (λ z. absurd (omega arith)) h)
 
   pub refused_where : (held : Held) (rest taken : List ℕ) → files.old ≡ Some held → input.old ≡ Some rest → out.old ≡ Some taken → (fault : Fault) (pos : Pos) → HasNone held words fault pos → IsWithin held words →
       (Rose files.before files.now → ⊥) → (status ≡ 3) ⊎ (status ≡ 11)
