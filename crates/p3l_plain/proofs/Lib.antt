@@ -3,4 +3,3 @@ pub mod Mapped
 pub mod Turned
 pub mod Parts
 pub mod Stages
-pub mod ExampleSteps

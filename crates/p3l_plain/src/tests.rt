@@ -1,13 +1,10 @@
-// Elements, halves and answers by hand, and an item through a tree of one node.
+// Elements, halves and answers by hand; `p3l_tests` compares whole items with the machine.
 
 ghost use Rattle.std.specs.Prelude.{◌≡◌, IfOk};
-ghost use Rattle.p3l_plain.specs.Example.{one_node};
 
 use crate::element::elements;
-use crate::item::item_outcome;
-use crate::outcome::{copied, is_done, paired};
-use p3l_base::{List, Name, NoMemory, Outcome, Trap, TrapKind, Words};
-use p3l_skel::{Form, ModuleInfo, ModuleKind, Node, Tree, Units, lawful_tree};
+use crate::outcome::{is_done, paired};
+use p3l_base::{NoMemory, Outcome, Trap, TrapKind, Words};
 use std::alloc::Global;
 use std::test::*;
 
@@ -56,53 +53,5 @@ fn a_loop_is_done_at_0(rt: HostRuntime) -> Result<(), Fail> {
     assert!(rt; is_done(&words(rt.alloc(), &[0])?));
     assert!(rt; !is_done(&words(rt.alloc(), &[1])?));
     assert!(rt; !is_done(&words(rt.alloc(), &[-1])?));
-    Ok(())
-}
-
-/// The body that gives back the word that it is given.
-struct Echo;
-
-impl Units for Echo {
-    ghost use Rattle.p3l_plain.specs.Example.{one_node, given_back};
-    ghost use Rattle.p3l_plain.specs.ExampleLaws.{gives_back};
-
-    ghost tree = { λ _. one_node };
-
-    ghost leaf = { λ _. given_back };
-
-    ghost gives_outs = { λ _. gives_back };
-
-    fn run(&self, alloc: Global, _node: u32, words: &Words) -> Result<Outcome, NoMemory> {
-        Ok(Outcome::Value(copied(alloc, words)?))
-    }
-}
-
-/// The tree of this one body.
-fn one_node(alloc: Global) -> Result<Tree, NoMemory>
-    ensures { IfOk result (λ tree. tree ≡ one_node) }
-{
-    let mut nodes = List::new(alloc);
-    nodes.push(Node {
-        form: Form::Seq,
-        module: 0,
-        ins: 1,
-        outs: 1,
-        parts: List::new(alloc),
-    })?;
-    let mut modules = List::new(alloc);
-    modules.push(ModuleInfo {
-        name: Name::from_text(alloc, "main")?,
-        kind: ModuleKind::Seq,
-    })?;
-    Ok(Tree { nodes, modules })
-}
-
-#[test]
-fn an_item_goes_through_a_tree(rt: HostRuntime) -> Result<(), Fail> {
-    let tree = one_node(rt.alloc())?;
-    assert!(rt; lawful_tree(&tree));
-    let item = words(rt.alloc(), &[-7])?;
-    let outcome = item_outcome(rt.alloc(), &tree, &Echo, 0, &item)?;
-    assert!(rt; is_value(&outcome, &[-7]));
     Ok(())
 }

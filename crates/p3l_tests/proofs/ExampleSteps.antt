@@ -9,7 +9,7 @@ use Rattle.p3l_skel.specs.declared.tree.Tree.{Tree}
 use Rattle.p3l_skel.specs.Tree as Trees
 use Rattle.p3l_skel.specs.Tree.{IsUnit, HasFittingLength}
 use Rattle.p3l_skel.specs.Item.{item, item_to}
-use Rattle.p3l_plain.specs.Example.{one_node, given_back}
+use Rattle.p3l_tests.specs.Example.{one_node, given_back}
 
 -- the tree is its one node and its one module
 pub tree_is : (nodes nodes' : List Node) (parts : List ℕ) (modules modules' : List ModuleInfo) (name : List ℕ) →

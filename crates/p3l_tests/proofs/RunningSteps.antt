@@ -10,7 +10,7 @@ use Rattle.p3l_skel.specs.Item.{item, item_to}
 use Rattle.p3l_net.specs.declared.net.Net.{Net}
 use Rattle.p3l_net.specs.Single.{unit_net}
 use Rattle.p3l_net.specs.Typed.{IsTyped}
-use Rattle.p3l_plain.specs.Example.{one_node}
+use Rattle.p3l_tests.specs.Example.{one_node}
 use Rattle.p3l_tests.specs.Refusing.{refusing}
 
 -- the body traps

@@ -2,7 +2,7 @@
 use Rattle.std.proofs.Common.{◌≡◌, ℕ, ℤ, zero, suc, ◌<◌, List, length, arith}
 use Rattle.p3l_skel.specs.declared.tree.Form.TheVariants.{Seq}
 use Rattle.p3l_skel.specs.Tree.{GivesOuts, HasLength, node_at}
-use Rattle.p3l_plain.specs.Example.{one_node, given_back}
+use Rattle.p3l_tests.specs.Example.{one_node, given_back}
 
 -- one word for one word
 pub gives_back : GivesOuts one_node given_back

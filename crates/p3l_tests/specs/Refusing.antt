@@ -4,7 +4,7 @@ use Rattle.p3l_base.specs.declared.outcome.Outcome.{Outcome}
 use Rattle.p3l_base.specs.declared.outcome.Outcome.TheVariants.{Trapped}
 use Rattle.p3l_base.specs.declared.outcome.TrapKind.TheVariants.{DivZero}
 use Rattle.p3l_skel.specs.Tree.{GivesOuts}
-use Rattle.p3l_plain.specs.Example.{one_node}
+use Rattle.p3l_tests.specs.Example.{one_node}
 
 -- the trap of a division by zero, whatever the words
 abbrev pub refusing : ℕ → List ℤ → Outcome

@@ -1,7 +1,7 @@
 // The machine under round robin, against the plain program of the meaning.
 
 ghost use Rattle.std.specs.Prelude.{◌≡◌, ◌∷◌, [], IfOk};
-ghost use Rattle.p3l_plain.specs.Example.{one_node};
+ghost use Rattle.p3l_tests.specs.Example.{one_node};
 
 use p3l_base::{List, Name, NoMemory, Outcome, Trap, TrapKind, Words};
 use p3l_net::{Machine, laws, unit_net};
@@ -15,8 +15,8 @@ use std::test::Fail;
 struct Echo;
 
 impl Units for Echo {
-    ghost use Rattle.p3l_plain.specs.Example.{one_node, given_back};
-    ghost use Rattle.p3l_plain.specs.ExampleLaws.{gives_back};
+    ghost use Rattle.p3l_tests.specs.Example.{one_node, given_back};
+    ghost use Rattle.p3l_tests.specs.ExampleLaws.{gives_back};
 
     ghost tree = { λ _. one_node };
 
@@ -34,7 +34,7 @@ impl Units for Echo {
 struct Refusing;
 
 impl Units for Refusing {
-    ghost use Rattle.p3l_plain.specs.Example.{one_node};
+    ghost use Rattle.p3l_tests.specs.Example.{one_node};
     ghost use Rattle.p3l_tests.specs.Refusing.{refusing, gives_none};
 
     ghost tree = { λ _. one_node };

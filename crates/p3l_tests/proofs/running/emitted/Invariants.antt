@@ -1,5 +1,5 @@
 use Rattle.std.proofs.Common.{◌≡◌}
-use Rattle.p3l_plain.specs.Example.{one_node}
+use Rattle.p3l_tests.specs.Example.{one_node}
 use Rattle.p3l_tests.proofs.running.emitted.Given as goal
 
 abbrev pub invariant-loop-pick : goal.invariant-loop-pick

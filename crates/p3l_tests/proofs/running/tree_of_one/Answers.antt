@@ -1,4 +1,4 @@
-use Rattle.p3l_plain.proofs.ExampleSteps.{tree_is}
+use Rattle.p3l_tests.proofs.ExampleSteps.{tree_is}
 use Rattle.p3l_tests.proofs.running.tree_of_one.Goals as goal
 
 pub returns : goal.returns

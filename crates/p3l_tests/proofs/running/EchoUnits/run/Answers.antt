@@ -1,5 +1,5 @@
 use Rattle.std.proofs.Common.{◌∙◌}
-use Rattle.p3l_plain.proofs.ExampleSteps.{value_is}
+use Rattle.p3l_tests.proofs.ExampleSteps.{value_is}
 use Rattle.p3l_tests.proofs.running.EchoUnits.run.Goals as goal
 
 pub returns : goal.returns
