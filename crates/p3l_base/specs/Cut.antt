@@ -76,9 +76,8 @@ pub record HasLawfulOuts (cut : Cut) : Type 0 where
       ⊎ ((cut.second ≡ 1) × All (λ (s : Slice). second_count s.dims ≡ 0) cut.outs)
   pub out_tiles : FollowOneAnother 0 cut.outs
 
--- a lawful cut of a map with so many words in and out, for a part with its own
-pub record IsLawfulCut (cut : Cut) (ins outs part_ins part_outs : ℕ) : Type 0 where
-  pub lawful_outs : HasLawfulOuts cut
+-- the slices that a cut's elements take fit a token of so many words
+pub record HasLawfulIns (cut : Cut) (ins : ℕ) : Type 0 where
   pub some_in : 1 ≤ length cut.ins
   pub in_sizes : All (HasFreeSizes cut.first cut.second) cut.ins
   pub in_first : All (λ (s : Slice). first_count s.dims ≤ 1) cut.ins
@@ -86,6 +85,11 @@ pub record IsLawfulCut (cut : Cut) (ins outs part_ins part_outs : ℕ) : Type 0 
   -- Second stands in an in slice only where it stands in the out slices
   pub in_second_of_outs : All (λ (s : Slice). second_count s.dims ≡ 0) cut.outs → All (λ (s : Slice). second_count s.dims ≡ 0) cut.ins
   pub in_within : All (λ (s : Slice). LiesWithin s ins) cut.ins
+
+-- a lawful cut of a map with so many words in and out, for a part with its own
+pub record IsLawfulCut (cut : Cut) (ins outs part_ins part_outs : ℕ) : Type 0 where
+  pub lawful_outs : HasLawfulOuts cut
+  pub lawful_ins : HasLawfulIns cut ins
   pub outs_end : token_size cut.outs ≡ outs
   pub part_ins_fit : element_size cut.ins ≡ part_ins
   pub part_outs_fit : element_size cut.outs ≡ part_outs
@@ -132,3 +136,8 @@ arrays_words results second (s ∷ ss) at = array_words (result_word results sec
 -- the whole token that the elements' results fill, in row-major order
 abbrev pub joined_words : Cut → List (List ℤ) → List ℤ
 joined_words cut results = arrays_words results cut.second cut.outs 0
+
+-- the joined words are the one token whose cuts are the results
+pub record AreOnlyJoined (cut : Cut) (results : List (List ℤ)) : Type 0 where
+  pub joined : IsJoined cut results (joined_words cut results)
+  pub only : (token : List ℤ) → IsJoined cut results token → token ≡ joined_words cut results

@@ -1,9 +1,9 @@
 // Cuts: how a map takes its token apart and puts the results together.
 
-ghost use Rattle.std.specs.Prelude.{◌≡◌, ℤ, ◌+◌, ◌*◌, ◌^◌, ◌<◌, ◌≤◌, List, ◌++◌, length, OnOk, IfOk};
+ghost use Rattle.std.specs.Prelude.{◌≡◌, ◌+◌, ◌*◌, ◌^◌, ◌<◌, ◌≤◌, ◌++◌, length, OnOk, IfOk};
 ghost use Rattle.std.specs.List.{All};
 ghost use Rattle.p3l_base.specs.Slice.{cut_size, taken_size};
-ghost use Rattle.p3l_base.specs.Cut.{element_size, element_count, HasIndexSize, HasLawfulOuts, next_first, next_second, next_place, array_words, result_word, joined_words, IsJoined};
+ghost use Rattle.p3l_base.specs.Cut.{element_size, element_count, HasIndexSize, HasLawfulOuts, next_first, next_second, next_place, array_words, result_word, joined_words};
 
 use crate::list::List;
 use crate::memory::NoMemory;
@@ -27,9 +27,7 @@ pub fn join(alloc: Global, cut: &Cut, results: &List<Words>) -> Result<Words, No
     requires outs { HasLawfulOuts cut.now }
     requires count { length results.now ≡ element_count cut.now }
     requires sizes { All (λ words. length words ≡ element_size cut.now.outs) results.now }
-    ensures words { IfOk result (λ token. token ≡ joined_words cut.now results.now) }
-    ensures joined { IfOk result (IsJoined cut.now results.now) }
-    ensures only { (other : List ℤ) → IsJoined cut.now results.now other → IfOk result (λ token. token ≡ other) }
+    ensures { IfOk result (λ token. token ≡ joined_words cut.now results.now) }
 {
     let results = results.as_slice();
     let element_len = results[0].len();
@@ -86,8 +84,8 @@ impl Corner {
     }
 }
 
-// How many words one cut of an array has.
-fn cut_len(dims: &[Dim]) -> usize
+/// How many words one cut of an array has: the product of the sizes that are not free.
+pub fn cut_len(dims: &[Dim]) -> usize
     requires { cut_size dims.now < 2 ^ 64 }
     ensures { result ≡ cut_size dims.now }
 {
@@ -155,6 +153,3 @@ fn result_at(cut: &Cut, results: &[Words], corner: Corner) -> i64
     let element = corner.first as usize * cut.second as usize + corner.second as usize;
     results[element].as_slice()[corner.at]
 }
-
-#[cfg(test)]
-mod tests;

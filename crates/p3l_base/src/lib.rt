@@ -2,6 +2,7 @@
 #![tactic(auto)]
 
 pub mod cut;
+pub mod laws;
 pub mod list;
 pub mod memory;
 pub mod name;
@@ -9,13 +10,10 @@ pub mod outcome;
 pub mod slice;
 pub mod words;
 
-pub use cut::{Cut, join};
+pub use cut::{Cut, cut_len, join};
 pub use list::List;
 pub use memory::NoMemory;
 pub use name::Name;
 pub use outcome::{Outcome, Trap, TrapKind};
-pub use slice::{Dim, Place, Slice, cut_at};
+pub use slice::{Dim, Place, Slice, array_len, cut_at};
 pub use words::Words;
-
-#[cfg(test)]
-mod tests;

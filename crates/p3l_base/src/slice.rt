@@ -88,8 +88,8 @@ fn taken(dim: Dim, free: FreeIndices) -> (u32, u32)
     }
 }
 
-// How many words an array has.
-fn array_len(dims: &[Dim]) -> usize
+/// How many words an array has: the product of its sizes.
+pub fn array_len(dims: &[Dim]) -> usize
     requires { array_size dims.now < 2 ^ 64 }
     ensures { result ≡ array_size dims.now }
 {
