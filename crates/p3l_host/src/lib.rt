@@ -5,8 +5,6 @@ pub mod files;
 pub mod input;
 pub mod output;
 mod retry;
-#[cfg(test)]
-mod tests;
 
 pub use files::HostFiles;
 pub use input::HostIn;

@@ -18,6 +18,3 @@ pub use mem_sink::{MemSink, PutFail};
 pub use mem_source::MemSource;
 pub use sink::Sink;
 pub use source::Source;
-
-#[cfg(test)]
-mod tests;
