@@ -1,3 +1,4 @@
+pub mod Endings
 pub mod Fronts
 pub mod Gathering
 pub mod LinesApart
@@ -6,3 +7,11 @@ pub mod Positions
 pub mod Spacing
 pub mod Takings
 pub mod WordsApart
+pub mod Feeds
+pub mod Blanks
+pub mod Passed
+pub mod Pieces
+pub mod Reading
+pub mod Asking
+pub mod AtHand
+pub mod Counting

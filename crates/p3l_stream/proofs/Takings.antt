@@ -25,3 +25,8 @@ IsLost-from_taken (Some rest) new bytes was = (bytes, was.0, was.1, was.2)
 pub on_err : {T E P : Type 0} (result : Result T E) → P → OnErr result P
 on_err (Ok x) holds = tt
 on_err (Err e) holds = holds
+
+-- what a call gave was taken
+pub IsTaken-one : (old new : Option (List ℕ)) (buf : List ℕ) (n : ℕ) → Takes old new (Ok n) buf → IsTaken old new (take n buf)
+IsTaken-one None new buf n gave = gave
+IsTaken-one (Some rest) new buf n gave = (drop n rest, gave.left, sym (take-append-drop n rest) ∙ ap (λ front. front ++ drop n rest) (sym gave.given))

@@ -28,6 +28,15 @@ closing stop.End = ending.End
 closing stop.Fault = ending.ReadFault
 closing stop.Limit = ending.TooLong
 
+-- what an ending without a refused line says of how the taking stopped
+abbrev pub IsEndingOf : Stop → Ending → Type 0
+IsEndingOf how ending.End = how ≡ stop.End
+IsEndingOf how ending.ReadFault = how ≡ stop.Fault
+IsEndingOf how ending.TooLong = how ≡ stop.Limit
+IsEndingOf how (ending.BadWord line) = Unit {0}
+IsEndingOf how (ending.WrongCount line had) = Unit {0}
+IsEndingOf how (ending.OutOfRange line) = Unit {0}
+
 -- the items of the bytes taken, and their ending, by how the taking stopped
 abbrev pub items_taken : ℕ → Stop → List ℕ → Items
 items_taken width how bytes = items_of_lines width 1 (closing how) (lines_of how bytes)

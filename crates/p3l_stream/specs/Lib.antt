@@ -3,3 +3,7 @@ pub mod Lines
 pub mod Items
 pub mod Text
 pub mod Taken
+pub mod Ended
+pub mod Seen
+pub mod Answers
+pub mod Passing

@@ -1,7 +1,7 @@
 // The items of a text.
 
-ghost use Rattle.std.specs.Prelude.{◌≡◌, IfOk};
-ghost use Rattle.p3l_stream.specs.Items.{IsReadOf, closing, items_taken};
+ghost use Rattle.std.specs.Prelude.{◌≡◌, ◌+◌, ◌*◌, ◌≤◌, All, IfOk, length};
+ghost use Rattle.p3l_stream.specs.Items.{IsEndingOf, IsReadOf, closing, items_taken};
 
 use crate::line::{Line, next_line, read_line};
 use crate::taken::{Stop, Taken};
@@ -36,6 +36,9 @@ pub struct Items {
 pub fn read_items(alloc: Global, taken: &Taken, width: u32) -> Result<Items, NoMemory>
     ensures items { IfOk result (λ read. read ≡ items_taken width taken.now.stop taken.now.bytes) }
     ensures first { IfOk result (IsReadOf width taken.now.stop taken.now.bytes) }
+    ensures ending { IfOk result (λ read. IsEndingOf taken.now.stop read.ending) }
+    ensures widths { IfOk result (λ read. All (λ words. length words ≡ width) read.items) }
+    ensures few { IfOk result (λ read. 2 * length read.items ≤ length taken.now.bytes + 1) }
 {
     gather(alloc, taken, width)
 }

@@ -1,16 +1,20 @@
-//! The stream: the items that a text of lines holds, and the text that items are written as.
+//! The stream: the items of a source's lines, asked for one by one or all at once, and the text that
+//! items are written as.
 #![tactic(auto)]
 
+mod buffer;
 pub mod items;
 pub mod line;
+pub mod lines;
+pub mod next;
 pub mod taken;
-#[cfg(test)]
-mod tests;
 pub mod text;
 pub mod word;
 
 pub use items::{Ending, Items, read_items};
 pub use line::Line;
+pub use lines::Lines;
+pub use next::Next;
 pub use taken::{Stop, Taken, take_all};
 pub use text::{item_text, text_of};
 pub use word::WordFault;

@@ -37,7 +37,7 @@ pub(crate) fn next_line(bytes: &[u8], stop: Stop) -> Option<(&[u8], &[u8])>
 }
 
 /// Where the first line feed stands.
-fn first_feed(bytes: &[u8]) -> Option<usize>
+pub(crate) fn first_feed(bytes: &[u8]) -> Option<usize>
     ensures { result ≡ position is_feed bytes.now }
 {
     bytes.iter().position(|byte| *byte == b'\n')
@@ -54,7 +54,7 @@ fn last_line(bytes: &[u8], stop: Stop) -> Option<(&[u8], &[u8])>
 }
 
 /// A line without one carriage return at its end, if it has one.
-fn without_return(line: &[u8]) -> &[u8]
+pub(crate) fn without_return(line: &[u8]) -> &[u8]
     ensures { result.now ≡ strip_carriage_return line.now }
 {
     match line {

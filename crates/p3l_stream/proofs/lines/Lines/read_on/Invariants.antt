@@ -1,0 +1,13 @@
+use Rattle.std.proofs.Common.{◌≡◌, ◌+◌, ◌-◌, true, if◌then◌else◌}
+use Rattle.p3l_stream.proofs.Reading.{IsOnWay}
+use Rattle.p3l_stream.proofs.lines.Lines.read_on.Given as goal
+
+abbrev pub invariant-loop-self : goal.invariant-loop-self
+invariant-loop-self g l = record {
+  way : IsOnWay l.fn.self l.self (g.S.Source.rest l.fn.source) (g.S.Source.rest l.source);
+  same : g.S.Source.faults l.source ≡ g.S.Source.faults l.fn.source;
+  still : l.fn.self.at_end ≡ true → l.source ≡ l.fn.source;
+}
+
+abbrev pub decreases-loop-self : goal.decreases-loop-self
+decreases-loop-self g l = (l.self.limit - l.self.taken) + (if l.self.at_end then 0 else 1)

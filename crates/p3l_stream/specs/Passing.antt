@@ -1,0 +1,77 @@
+-- How the bytes at hand are gone through, line by line.
+use Rattle.std.specs.Prelude.{◌≡◌, ◌≢◌, ℕ, ◌+◌, ◌<◌, ◌≤◌, true, List, [], ◌∷◌, ◌++◌, ◌⊎◌, length, Option, Some, None, Result, Ok, Err}
+use Rattle.p3l_base.specs.declared.memory.NoMemory.{NoMemory}
+use Rattle.p3l_io.specs.declared.fault.Failed.{Failed}
+use Rattle.p3l_stream.specs.declared.line.Line.{Line}
+use Rattle.p3l_stream.specs.declared.line.Line.TheVariants as line
+use Rattle.p3l_stream.specs.declared.taken.Stop.TheVariants as stop
+use Rattle.p3l_stream.specs.Answers.{IsAtEnd}
+use Rattle.p3l_stream.specs.Ended.{AreBlank, IsLine, ended, held_by}
+use Rattle.p3l_stream.specs.Lines.{last_line}
+use Rattle.p3l_stream.specs.Seen.{Seen}
+use Rattle.p3l_stream.specs.Taken.{IsTaken}
+
+-- so many lines were passed, and these bytes are still held
+abbrev pub behind : Seen → ℕ → List ℕ → Seen
+behind s count held = record s { held = held; passed = s.passed + count }
+
+-- the first line was passed, which holds this
+pub record PassesLine (old new : Seen) (holds : Line) : Type 0 where
+  pub first : List ℕ
+  pub is_line : IsLine first
+  pub holds_it : held_by old.words first ≡ holds
+  pub bytes_are : old.held ≡ first ++ 10 ∷ new.held
+  pub after : new ≡ behind old 1 new.held
+
+-- the first line was passed if it is ended
+abbrev pub MayPassLine : Seen → Seen → Option Line → Type 0
+MayPassLine old new None = IsLine old.held × (new ≡ old)
+MayPassLine old new (Some holds) = PassesLine old new holds
+
+-- lines without words were passed, and then this one, which has some
+pub record PassesFilled (old new : Seen) (holds : Line) : Type 0 where
+  pub blanks : List (List ℕ)
+  pub first : List ℕ
+  pub are_blank : AreBlank old.words blanks
+  pub is_line : IsLine first
+  pub holds_it : held_by old.words first ≡ holds
+  pub has_words : holds ≢ line.Blank
+  pub bytes_are : old.held ≡ ended blanks ++ (first ++ 10 ∷ new.held)
+  pub after : new ≡ behind old (length blanks + 1) new.held
+
+-- ended lines without words were passed
+pub record PassedBlanks (old new : Seen) : Type 0 where
+  pub blanks : List (List ℕ)
+  pub are_blank : AreBlank old.words blanks
+  pub bytes_are : old.held ≡ ended blanks ++ new.held
+  pub after : new ≡ behind old (length blanks) new.held
+
+-- ended lines were passed up to the first that has words, if there is one
+abbrev pub MayPassFilled : Seen → Seen → Option Line → Type 0
+MayPassFilled old new None = PassedBlanks old new × IsLine new.held
+MayPassFilled old new (Some holds) = PassesFilled old new holds
+
+-- some lines were passed, or none
+abbrev pub OnlyPasses : Seen → Seen → Type 0
+OnlyPasses old new = new ≡ record old { held = new.held; passed = new.passed }
+
+-- the line that the end of the input ends was passed
+pub record PassesLast (old new : Seen) (holds : Line) : Type 0 where
+  pub holds_it : held_by old.words old.held ≡ holds
+  pub after : new ≡ behind old (length (last_line stop.End old.held)) []
+
+-- a piece was taken, or the end was met; by want of memory a piece is lost
+pub record TakesPiece (old new : Seen) (rest left : Option (List ℕ)) (piece held : List ℕ) : Type 0 where
+  pub short : length piece ≤ 4096
+  pub after : new ≡ record old { held = held; taken = old.taken + length piece; at_end = new.at_end }
+  pub within : new.taken ≤ new.limit
+  pub below : new.at_end ≡ true → new.taken < new.limit
+  pub given : IsTaken rest left piece
+  pub all : new.at_end ≡ true → IsAtEnd left
+
+-- what asking the source once comes to
+abbrev pub AsksOnce : Seen → Seen → Option (List ℕ) → Option (List ℕ) → Result (Result (Unit {0}) Failed) NoMemory → Type 0
+AsksOnce old new rest left (Ok (Ok done)) =
+    (piece : List ℕ) × TakesPiece old new rest left piece (old.held ++ piece) × ((0 < length piece) ⊎ (new.at_end ≡ true))
+AsksOnce old new rest left (Ok (Err failed)) = (new ≡ old) × IsTaken rest left []
+AsksOnce old new rest left (Err want) = (piece : List ℕ) × TakesPiece old new rest left piece old.held

@@ -1,0 +1,240 @@
+// The stream, item by item.
+
+ghost use Rattle.std.specs.Prelude.{◌≡◌, ◌+◌, ◌≤◌, ◌<◌, ◌↔◌, ◌⊎◌, None, Some, Result, true, false, length, IfOk, IsTrue, OnErr};
+ghost use Rattle.p3l_stream.specs.Answers.{Answers, NextCause, TakeCause};
+ghost use Rattle.p3l_stream.specs.Ended.{HasLine, IsLine};
+ghost use Rattle.p3l_stream.specs.Passing.{AsksOnce, MayPassFilled, MayPassLine, OnlyPasses, PassesLast};
+ghost use Rattle.p3l_stream.specs.Seen.{Seen, answer_of, closed_by, item_count, most_items, started};
+
+use crate::buffer::Buffer;
+use crate::items::Ending;
+use crate::line::{Line, read_line, without_return};
+use crate::next::{Next, answer_for, ending_of, next_of};
+use p3l_base::NoMemory;
+use p3l_io::{Failed, Source};
+use std::alloc::Global;
+use std::marker::Model;
+
+/// How many bytes are asked for at a time, at most.
+const PIECE: usize = 4096;
+
+/// The items of a source's lines, asked for one by one.
+///
+/// Contracts see how many words an item has and how many bytes are taken at most, the bytes taken
+/// and not yet answered, the number of all bytes taken, the number of lines passed, whether the
+/// source was at its end, and what ended the stream.
+#[derive(Drop)]
+pub struct Lines {
+    alloc: Global,
+    words: u32,
+    limit: u64,
+    held: Buffer,
+    taken: u64,
+    passed: u64,
+    at_end: bool,
+    closed: Option<Result<Ending, NoMemory>>,
+}
+
+impl Model for Lines {
+    ghost use Rattle.std.specs.Prelude.{◌≡◌, ◌+◌, ◌<◌, ◌≤◌, length, true};
+    ghost use Rattle.p3l_stream.specs.Seen.{Seen};
+
+    ghost Value = { Seen };
+
+    ghost view = { λ it. record { words = it.words; limit = it.limit; held = it.held; taken = it.taken; passed = it.passed; at_end = it.at_end; closed = it.closed } };
+
+    ghost invariant = { λ it. (it.taken ≤ it.limit) × (it.passed + length it.held ≤ it.taken) × (it.at_end ≡ true → it.taken < it.limit) };
+}
+
+impl Lines {
+    /// A stream whose items have `words` words, which takes at most `limit` bytes.
+    pub fn new(alloc: Global, words: u32, limit: u64) -> Result<Lines, NoMemory>
+        requires words { 1 ≤ words }
+        requires limit { 1 ≤ limit }
+        ensures { IfOk result (λ lines. lines ≡ started words limit) }
+    {
+        Ok(Lines {
+            alloc,
+            words,
+            limit,
+            held: Buffer::new(alloc, PIECE)?,
+            taken: 0,
+            passed: 0,
+            at_end: false,
+            closed: None,
+        })
+    }
+
+    /// The item of the next line that has words, or how the stream ends. It then ends so at each
+    /// later call too, also by want of memory.
+    pub fn next<S: Source>(&mut self, source: &mut S) -> Result<Next, NoMemory>
+        ensures answers { self.old.closed ≡ None → Answers self.old self.new (S.rest source.old) (S.rest source.new) result }
+        ensures cause { self.old.closed ≡ None → NextCause result (S.faults source.old) (S.faults source.new) }
+        ensures closed { self.old.closed ≡ None → self.new.closed ≡ closed_by result }
+
+        // What was answered once is answered again.
+        ensures again { (close : Result Ending NoMemory) → self.old.closed ≡ Some close → result ≡ answer_of close }
+        ensures same { (close : Result Ending NoMemory) → self.old.closed ≡ Some close → (self.new ≡ self.old) × (source.new ≡ source.old) }
+
+        // The source is asked for nothing where there is a line to answer, and nothing behind its end.
+        ensures ready { HasLine self.old.words self.old.held → source.new ≡ source.old }
+        ensures at_end { self.old.at_end ≡ true → source.new ≡ source.old }
+
+        // What stays to be answered is less than a piece, and the items are at most half the limit and one.
+        ensures few { IfOk result (λ next. item_count next ≡ 1 → (length self.new.held < 4096) ⊎ (source.new ≡ source.old)) }
+        ensures items { IfOk result (λ next. item_count next + most_items self.new ≤ most_items self.old) }
+    {
+        match self.closed {
+            Some(Ok(ending)) => Ok(next_of(ending)),
+            Some(Err(want)) => Err(want),
+            None => {
+                let answer = self.answer(source);
+                self.close(&answer);
+                answer
+            }
+        }
+    }
+
+    /// Notes what ends the stream.
+    fn close(&mut self, answer: &Result<Next, NoMemory>)
+        ensures { self.new ≡ record self.old { closed = closed_by answer.now } }
+    {
+        self.closed = match answer {
+            Ok(next) => match ending_of(next) {
+                Some(ending) => Some(Ok(ending)),
+                None => None,
+            },
+            Err(want) => Some(Err(*want)),
+        };
+    }
+
+    /// Answers by the lines at hand, and else by those that the source gives.
+    fn answer<S: Source>(&mut self, source: &mut S) -> Result<Next, NoMemory>
+        requires within { self.old.taken ≤ self.old.limit }
+        requires below { self.old.at_end ≡ true → self.old.taken < self.old.limit }
+        ensures answers { Answers self.old self.new (S.rest source.old) (S.rest source.new) result }
+        ensures cause { NextCause result (S.faults source.old) (S.faults source.new) }
+        ensures ready { HasLine self.old.words self.old.held → source.new ≡ source.old }
+        ensures at_end { self.old.at_end ≡ true → source.new ≡ source.old }
+        ensures few { IfOk result (λ next. item_count next ≡ 1 → (length self.new.held < 4096) ⊎ (source.new ≡ source.old)) }
+    {
+        match self.pass_blanks()? {
+            Some(line) => Ok(answer_for(line, self.passed)),
+            None => self.read_on(source),
+        }
+    }
+
+    /// Takes pieces up to the next line that has words, where none is ended at hand.
+    fn read_on<S: Source>(&mut self, source: &mut S) -> Result<Next, NoMemory>
+        requires line { IsLine self.old.held }
+        requires within { self.old.taken ≤ self.old.limit }
+        requires below { self.old.at_end ≡ true → self.old.taken < self.old.limit }
+        ensures answers { Answers self.old self.new (S.rest source.old) (S.rest source.new) result }
+        ensures cause { NextCause result (S.faults source.old) (S.faults source.new) }
+        ensures at_end { self.old.at_end ≡ true → source.new ≡ source.old }
+        ensures few { IfOk result (λ next. item_count next ≡ 1 → length self.new.held < 4096) }
+    {
+        while !self.at_end && self.taken < self.limit {
+            if self.take_piece(source)?.is_err() {
+                self.held.clear();
+                return Ok(Next::ReadFault);
+            }
+            if let Some(line) = self.pass_blanks()? {
+                return Ok(answer_for(line, self.passed));
+            }
+        }
+        if self.at_end {
+            let line = self.pass_last()?;
+            return Ok(answer_for(line, self.passed));
+        }
+        self.held.clear();
+        Ok(Next::TooLong)
+    }
+
+    /// Takes the next bytes of the source, or learns that it is at its end.
+    fn take_piece<S: Source>(&mut self, source: &mut S) -> Result<Result<(), Failed>, NoMemory>
+        requires open { self.old.at_end ≡ false }
+        requires room { self.old.taken < self.old.limit }
+        ensures asks { AsksOnce self.old self.new (S.rest source.old) (S.rest source.new) result }
+        ensures cause { TakeCause result (S.faults source.old) (S.faults source.new) }
+    {
+        let mut piece = [0u8; PIECE];
+        let room = (self.limit - self.taken).min(PIECE as u64) as usize;
+        self.take_into(source, &mut piece[..room])
+    }
+
+    /// Takes bytes of the source into a buffer, and holds them.
+    fn take_into<S: Source>(
+        &mut self,
+        source: &mut S,
+        buf: &mut [u8],
+    ) -> Result<Result<(), Failed>, NoMemory>
+        requires open { self.old.at_end ≡ false }
+        requires filled { 0 < length buf.old }
+        requires short { length buf.old ≤ 4096 }
+        requires room { self.old.taken + length buf.old ≤ self.old.limit }
+        ensures asks { AsksOnce self.old self.new (S.rest source.old) (S.rest source.new) result }
+        ensures cause { TakeCause result (S.faults source.old) (S.faults source.new) }
+    {
+        match source.take(buf) {
+            Err(failed) => Ok(Err(failed)),
+            Ok(0) => {
+                self.at_end = true;
+                Ok(Ok(()))
+            }
+            Ok(count) => {
+                self.taken += count as u64;
+                self.held.push(&buf[..count])?;
+                Ok(Ok(()))
+            }
+        }
+    }
+
+    /// Passes the ended lines without words, and the first that has some, if there is one.
+    fn pass_blanks(&mut self) -> Result<Option<Line>, NoMemory>
+        ensures ok { IfOk result (MayPassFilled self.old self.new) }
+        ensures err { OnErr result (OnlyPasses self.old self.new) }
+    {
+        while let Some(line) = self.pass_line()? {
+            if !is_blank(&line) {
+                return Ok(Some(line));
+            }
+        }
+        Ok(None)
+    }
+
+    /// Passes the first line, if it is ended, and says what it holds.
+    fn pass_line(&mut self) -> Result<Option<Line>, NoMemory>
+        ensures ok { IfOk result (MayPassLine self.old self.new) }
+        ensures err { OnErr result (self.new ≡ self.old) }
+    {
+        let Some(end) = self.held.first_feed() else {
+            return Ok(None);
+        };
+        let line = read_line(self.alloc, without_return(self.held.front(end)), self.words)?;
+        self.held.pass(end + 1);
+        self.passed += 1;
+        Ok(Some(line))
+    }
+
+    /// Passes the line that the input's end ends, and says what it holds; no byte is no line.
+    fn pass_last(&mut self) -> Result<Line, NoMemory>
+        ensures ok { IfOk result (PassesLast self.old self.new) }
+        ensures err { OnErr result (self.new ≡ self.old) }
+    {
+        let bytes = self.held.front(self.held.len());
+        let line = read_line(self.alloc, without_return(bytes), self.words)?;
+        if self.held.len() > 0 {
+            self.passed += 1;
+        }
+        self.held.clear();
+        Ok(line)
+    }
+}
+
+/// Whether a line has no words.
+fn is_blank(line: &Line) -> bool
+    ensures { IsTrue result ↔ (line.now ≡ Line.Blank) }
+{
+    matches!(line, Line::Blank)
+}
