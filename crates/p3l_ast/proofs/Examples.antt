@@ -6,7 +6,7 @@ use Rattle.p3l_ast.specs.declared.position.Spot.{Spot}
 use Rattle.p3l_ast.specs.declared.expression.BinOp.TheVariants.{Or, Lt, Add, Div}
 use Rattle.p3l_ast.specs.declared.meaning.state.Binding.{Binding}
 use Rattle.p3l_ast.specs.declared.meaning.state.State.{State}
-use Rattle.p3l_ast.specs.Tree.{Phrase, number, read, binary, none, more, Code, done, assign, repeat, count}
+use Rattle.p3l_ast.specs.Tree.{Phrase, number, read, binary, none, more, Statements, done, assign, while_, for_}
 use Rattle.p3l_ast.specs.Unplaced.{nowhere}
 use Rattle.p3l_ast.specs.Meaning.Expression.{value_of, place_of}
 use Rattle.p3l_ast.specs.Meaning.Statement.{run_by, loop_by, loop_of, run_of}
@@ -31,12 +31,12 @@ abbrev s : Phrase
 s = read (named (codes "s")) none
 
 -- s = s + i;
-abbrev sum : Code
+abbrev sum : Statements
 sum = assign (named (codes "s")) none (binary Add s i) done
 
 -- for (i = 0; i < 3; i = i + 1) { s = s + i; }
-abbrev three : Code
-three = count (named (codes "i")) none (number (pos 0)) (binary Lt i (number (pos 3))) (named (codes "i")) none (binary Add i (number (pos 1))) sum done
+abbrev three : Statements
+three = for_ (named (codes "i")) none (number (pos 0)) (binary Lt i (number (pos 3))) (named (codes "i")) none (binary Add i (number (pos 1))) sum done
 
 three_turns : run_of 3 three (holding (pos 5) (pos 1) 0) ≡ Ok (holding (pos 3) (pos 4) 3)
 unfolding run_of run_by loop_of loop_by value_of place_of int_wrap
@@ -47,10 +47,10 @@ unfolding run_of run_by loop_of loop_by value_of place_of int_wrap
 third_turn_too_many = refl
 
 -- while (s < 2) { s = s + 1; for (i = 0; i < 2; i = i + 1) { } }
-abbrev nested : Code
-nested = repeat (binary Lt s (number (pos 2)))
+abbrev nested : Statements
+nested = while_ (binary Lt s (number (pos 2)))
     (assign (named (codes "s")) none (binary Add s (number (pos 1)))
-    (count (named (codes "i")) none (number (pos 0)) (binary Lt i (number (pos 2))) (named (codes "i")) none (binary Add i (number (pos 1))) done done))
+    (for_ (named (codes "i")) none (number (pos 0)) (binary Lt i (number (pos 2))) (named (codes "i")) none (binary Add i (number (pos 1))) done done))
     done
 
 loops_share_turns : run_of 6 nested (holding (pos 0) (pos 0) 0) ≡ Ok (holding (pos 2) (pos 2) 6)

@@ -11,21 +11,21 @@ use Rattle.p3l_ast.specs.declared.expression.Target.{Target}
 use Rattle.p3l_ast.specs.declared.statement.Stmt.{Stmt}
 use Rattle.p3l_ast.specs.declared.statement.Stmt.TheVariants.{Assign, If, While, For}
 use Rattle.p3l_ast.specs.declared.meaning.state.State.{State}
-use Rattle.p3l_ast.specs.Tree.{Phrase, Code, done, assign, join, phrase, phrases, one, code}
+use Rattle.p3l_ast.specs.Tree.{Phrase, Statements, done, assign, join, phrase, phrases, one, statements}
 use Rattle.p3l_ast.specs.Meaning.Operator.{holds}
 use Rattle.p3l_ast.specs.Meaning.State.{turned, HasSizes}
 use Rattle.p3l_ast.specs.Meaning.Expression.{given, value_of}
 use Rattle.p3l_ast.specs.Meaning.Statement.{assigned, chosen, run_by, loop_of, run_of}
-use Rattle.p3l_ast.proofs.Trees.{one_assign, one_branch, one_branch_else, one_repeat, one_count}
+use Rattle.p3l_ast.proofs.Trees.{one_assign, one_if, one_if_else, one_while, one_for}
 use Rattle.p3l_ast.proofs.Turns.{run_grows, loop_grows, loop_unrolls, run_join, turned_ok}
 use Rattle.p3l_ast.specs.declared.meaning.stop.Stop.{Stop}
-use Rattle.p3l_ast.specs.declared.meaning.stop.Stop.TheVariants.{Trapped, OutOfMemory}
+use Rattle.p3l_ast.specs.declared.meaning.stop.Stop.TheVariants.{Trapped, NoMemory}
 use Rattle.p3l_ast.specs.Meaning.Run.{Gives}
 
 -- a stop at a first step is the stop of the whole
 pub stop_given : {A B : Type 0} (stop : Stop) (r : Result A TrapKind) (go : A → Result B TrapKind) → Gives {A = A} (Err stop) r → Gives {A = B} (Err stop) (given r go)
 stop_given (Trapped trap) r go h = ap (λ x. given x go) h
-stop_given OutOfMemory r go h = tt
+stop_given NoMemory r go h = tt
 
 -- a trap and a stop that are handed on
 pub trap_handed : (answer : Result State Stop) (trap : TrapKind) (meant : Result State TrapKind) → IsErrAnd answer (λ stop. stop ≡ Trapped trap) → Err trap ≡ meant → Gives answer meant
@@ -46,58 +46,58 @@ pub gives_same : {A : Type 0} (answer : Result A Stop) (r q : Result A TrapKind)
 gives_same {A = A} answer r q same h = subst (λ (x : Result A TrapKind). Gives answer x) same h
 
 -- nothing follows
-run_done : (loop : Phrase → Code → State → Result State TrapKind) (r : Result State TrapKind) → given r (run_by loop done) ≡ r
+run_done : (loop : Phrase → Statements → State → Result State TrapKind) (r : Result State TrapKind) → given r (run_by loop done) ≡ r
 unfolding run_by
 run_done loop (Ok s) = refl
 run_done loop (Err trap) = refl
 
-pub run_none : (budget : ℕ) (s : State) → run_of budget (code []) s ≡ Ok s
+pub run_none : (budget : ℕ) (s : State) → run_of budget (statements []) s ≡ Ok s
 unfolding run_of run_by
 run_none budget s = refl
 
-pub run_first : (budget : ℕ) (c d : Code) (s : State) → run_of budget (join c d) s ≡ given (run_of budget c s) (run_of budget d)
+pub run_first : (budget : ℕ) (c d : Statements) (s : State) → run_of budget (join c d) s ≡ given (run_of budget c s) (run_of budget d)
 unfolding run_of
 run_first budget c d s = run_join (loop_of budget) c d s
 
 -- the next statement
-pub run_next : (budget : ℕ) (stmts : List Stmt) (i : ℕ) (stmt : Stmt) (s : State) → i < length stmts → stmt ≡ get_or stmts i stmt → run_of budget (code (drop i stmts)) s ≡ given (run_of budget (one stmt) s) (run_of budget (code (drop (i + 1) stmts)))
+pub run_next : (budget : ℕ) (stmts : List Stmt) (i : ℕ) (stmt : Stmt) (s : State) → i < length stmts → stmt ≡ get_or stmts i stmt → run_of budget (statements (drop i stmts)) s ≡ given (run_of budget (one stmt) s) (run_of budget (statements (drop (i + 1) stmts)))
 run_next budget stmts i stmt s inside is =
     let here : drop i stmts ≡ stmt ∷ drop (i + 1) stmts = drop_more stmts i stmt inside ∙ ap (λ x. x ∷ drop (i + 1) stmts) (sym is) in
-    ap (λ x. run_of budget (code x) s) here ∙ run_first budget (one stmt) (code (drop (i + 1) stmts)) s
+    ap (λ x. run_of budget (statements x) s) here ∙ run_first budget (one stmt) (statements (drop (i + 1) stmts)) s
 
 pub run_assign : (budget : ℕ) (t : Target) (e : Expr) (s : State) → run_of budget (one (Assign t e)) s ≡ assigned t.at.name (phrases t.index.items) (phrase e) s
 unfolding run_of run_by
 run_assign budget t e s =
     ap (λ c. run_of budget c s) (one_assign t e) ∙ run_done (loop_of budget) (assigned t.at.name (phrases t.index.items) (phrase e) s)
 
-pub run_branch : (budget : ℕ) (e : Expr) (v : Vec Stmt Global) (s : State) → run_of budget (one (If e v None)) s ≡ chosen (phrase e) (run_of budget (code v.items)) Ok s
+pub run_if : (budget : ℕ) (e : Expr) (v : Vec Stmt Global) (s : State) → run_of budget (one (If e v None)) s ≡ chosen (phrase e) (run_of budget (statements v.items)) Ok s
 unfolding run_of run_by
-run_branch budget e v s =
-    ap (λ c. run_of budget c s) (one_branch e v) ∙ run_done (loop_of budget) (chosen (phrase e) (run_of budget (code v.items)) Ok s)
+run_if budget e v s =
+    ap (λ c. run_of budget c s) (one_if e v) ∙ run_done (loop_of budget) (chosen (phrase e) (run_of budget (statements v.items)) Ok s)
 
-pub run_branch_else : (budget : ℕ) (e : Expr) (v w : Vec Stmt Global) (s : State) → run_of budget (one (If e v (Some w))) s ≡ chosen (phrase e) (run_of budget (code v.items)) (run_of budget (code w.items)) s
+pub run_if_else : (budget : ℕ) (e : Expr) (v w : Vec Stmt Global) (s : State) → run_of budget (one (If e v (Some w))) s ≡ chosen (phrase e) (run_of budget (statements v.items)) (run_of budget (statements w.items)) s
 unfolding run_of run_by
-run_branch_else budget e v w s =
-    ap (λ c. run_of budget c s) (one_branch_else e v w) ∙ run_done (loop_of budget) (chosen (phrase e) (run_of budget (code v.items)) (run_of budget (code w.items)) s)
+run_if_else budget e v w s =
+    ap (λ c. run_of budget c s) (one_if_else e v w) ∙ run_done (loop_of budget) (chosen (phrase e) (run_of budget (statements v.items)) (run_of budget (statements w.items)) s)
 
-pub run_repeat : (budget : ℕ) (e : Expr) (v : Vec Stmt Global) (s : State) → run_of budget (one (While e v)) s ≡ loop_of budget (phrase e) (code v.items) s
+pub run_while : (budget : ℕ) (e : Expr) (v : Vec Stmt Global) (s : State) → run_of budget (one (While e v)) s ≡ loop_of budget (phrase e) (statements v.items) s
 unfolding run_of run_by
-run_repeat budget e v s =
-    ap (λ c. run_of budget c s) (one_repeat e v) ∙ run_done (loop_of budget) (loop_of budget (phrase e) (code v.items) s)
+run_while budget e v s =
+    ap (λ c. run_of budget c s) (one_while e v) ∙ run_done (loop_of budget) (loop_of budget (phrase e) (statements v.items) s)
 
 -- what a `for` does in each turn
-abbrev pub stepped : List Stmt → Target → Expr → Code
-stepped body u f = join (code body) (assign u.at (phrases u.index.items) (phrase f) done)
+abbrev pub stepped : List Stmt → Target → Expr → Statements
+stepped body u f = join (statements body) (assign u.at (phrases u.index.items) (phrase f) done)
 
-pub run_count : (budget : ℕ) (t u : Target) (e w f : Expr) (v : Vec Stmt Global) (s : State) → run_of budget (one (For t e w u f v)) s ≡ given (assigned t.at.name (phrases t.index.items) (phrase e) s) (loop_of budget (phrase w) (stepped v.items u f))
+pub run_for : (budget : ℕ) (t u : Target) (e w f : Expr) (v : Vec Stmt Global) (s : State) → run_of budget (one (For t e w u f v)) s ≡ given (assigned t.at.name (phrases t.index.items) (phrase e) s) (loop_of budget (phrase w) (stepped v.items u f))
 unfolding run_of run_by
-run_count budget t u e w f v s =
-    ap (λ c. run_of budget c s) (one_count t u e w f v)
+run_for budget t u e w f v s =
+    ap (λ c. run_of budget c s) (one_for t u e w f v)
     ∙ run_done (loop_of budget) (given (assigned t.at.name (phrases t.index.items) (phrase e) s) (loop_of budget (phrase w) (stepped v.items u f)))
 
-pub run_stepped : (budget : ℕ) (body : List Stmt) (u : Target) (f : Expr) (s : State) → run_of budget (stepped body u f) s ≡ given (run_of budget (code body) s) (assigned u.at.name (phrases u.index.items) (phrase f))
+pub run_stepped : (budget : ℕ) (body : List Stmt) (u : Target) (f : Expr) (s : State) → run_of budget (stepped body u f) s ≡ given (run_of budget (statements body) s) (assigned u.at.name (phrases u.index.items) (phrase f))
 unfolding run_of run_by
-run_stepped budget body u f s = run_first budget (code body) (assign u.at (phrases u.index.items) (phrase f) done) s ∙ by (run_of budget (code body) s)
+run_stepped budget body u f s = run_first budget (statements body) (assign u.at (phrases u.index.items) (phrase f) done) s ∙ by (run_of budget (statements body) s)
   where
     by : (r : Result State TrapKind) → given r (run_by (loop_of budget) (assign u.at (phrases u.index.items) (phrase f) done)) ≡ given r (assigned u.at.name (phrases u.index.items) (phrase f))
     by (Ok m) = run_done (loop_of budget) (assigned u.at.name (phrases u.index.items) (phrase f) m)
@@ -133,7 +133,7 @@ turned-sizes budget s t h sized = by (nat_lt s.turns budget) h
         subst (λ (x : State). HasSizes x) (sym q) same
     by false k = absurd cc
 
-module _ (budget : ℕ) (e : Phrase) (body : Code) (s : State) where
+module _ (budget : ℕ) (e : Phrase) (body : Statements) (s : State) where
   turn : State → Result State TrapKind
   turn t = given (given (turned budget t) (run_of budget body)) (loop_of budget e body)
 
@@ -171,40 +171,40 @@ module _ (budget : ℕ) (e : Phrase) (body : Code) (s : State) where
       let g : m.turns ≤ n.turns = run_grows (loop_of budget) (loop_grows budget budget) body m n (sym goes) in
       omega (arith, t.0, t.1)
 
--- a turn of a `for` that stops in its body or in the assignment behind it, or goes through both
+-- a turn of a `for` that stops in its body or in the assignment after it, or goes through both
 module _ (budget : ℕ) (body : List Stmt) (u : Target) (f : Expr) (m : State) where
-  pub body_stops : (stop : Stop) → Gives {A = State} (Err stop) (run_of budget (code body) m) → Gives {A = State} (Err stop) (run_of budget (stepped body u f) m)
+  pub body_stops : (stop : Stop) → Gives {A = State} (Err stop) (run_of budget (statements body) m) → Gives {A = State} (Err stop) (run_of budget (stepped body u f) m)
   body_stops stop h =
       gives_same (Err stop) _ (run_of budget (stepped body u f) m) (sym (run_stepped budget body u f m))
-      (stop_given stop (run_of budget (code body) m) (assigned u.at.name (phrases u.index.items) (phrase f)) h)
+      (stop_given stop (run_of budget (statements body) m) (assigned u.at.name (phrases u.index.items) (phrase f)) h)
 
-  through : (n : State) → Ok n ≡ run_of budget (code body) m → run_of budget (stepped body u f) m ≡ assigned u.at.name (phrases u.index.items) (phrase f) n
+  through : (n : State) → Ok n ≡ run_of budget (statements body) m → run_of budget (stepped body u f) m ≡ assigned u.at.name (phrases u.index.items) (phrase f) n
   through n goes =
-      run_stepped budget body u f m ∙ ok_given n (run_of budget (code body) m) (assigned u.at.name (phrases u.index.items) (phrase f)) goes
+      run_stepped budget body u f m ∙ ok_given n (run_of budget (statements body) m) (assigned u.at.name (phrases u.index.items) (phrase f)) goes
 
-  pub step_stops : (n : State) (stop : Stop) → Ok n ≡ run_of budget (code body) m → Gives {A = State} (Err stop) (assigned u.at.name (phrases u.index.items) (phrase f) n) → Gives {A = State} (Err stop) (run_of budget (stepped body u f) m)
+  pub step_stops : (n : State) (stop : Stop) → Ok n ≡ run_of budget (statements body) m → Gives {A = State} (Err stop) (assigned u.at.name (phrases u.index.items) (phrase f) n) → Gives {A = State} (Err stop) (run_of budget (stepped body u f) m)
   step_stops n stop goes h = gives_same (Err stop) _ (run_of budget (stepped body u f) m) (sym (through n goes)) h
 
-  pub step_goes : (n k : State) → Ok n ≡ run_of budget (code body) m → Ok k ≡ assigned u.at.name (phrases u.index.items) (phrase f) n → Ok k ≡ run_of budget (stepped body u f) m
+  pub step_goes : (n k : State) → Ok n ≡ run_of budget (statements body) m → Ok k ≡ assigned u.at.name (phrases u.index.items) (phrase f) n → Ok k ≡ run_of budget (stepped body u f) m
   step_goes n k goes h = h ∙ sym (through n goes)
 
 -- an `if`, with or without its `else`
 module _ (budget : ℕ) (e : Expr) (v : Vec Stmt Global) (s : State) where
   pub if_trap : (o : Option (Vec Stmt Global)) (trap : TrapKind) → Err trap ≡ holding (phrase e) s → Err trap ≡ run_of budget (one (If e v o)) s
   if_trap None trap is =
-      chosen_trap (phrase e) (run_of budget (code v.items)) Ok s trap is ∙ sym (run_branch budget e v s)
+      chosen_trap (phrase e) (run_of budget (statements v.items)) Ok s trap is ∙ sym (run_if budget e v s)
   if_trap (Some w) trap is =
-      chosen_trap (phrase e) (run_of budget (code v.items)) (run_of budget (code w.items)) s trap is ∙ sym (run_branch_else budget e v w s)
+      chosen_trap (phrase e) (run_of budget (statements v.items)) (run_of budget (statements w.items)) s trap is ∙ sym (run_if_else budget e v w s)
 
-  pub if_so : (o : Option (Vec Stmt Global)) → Ok true ≡ holding (phrase e) s → run_of budget (one (If e v o)) s ≡ run_of budget (code v.items) s
+  pub if_so : (o : Option (Vec Stmt Global)) → Ok true ≡ holding (phrase e) s → run_of budget (one (If e v o)) s ≡ run_of budget (statements v.items) s
   if_so None is =
-      run_branch budget e v s ∙ chosen_by (phrase e) (run_of budget (code v.items)) Ok s true is
+      run_if budget e v s ∙ chosen_by (phrase e) (run_of budget (statements v.items)) Ok s true is
   if_so (Some w) is =
-      run_branch_else budget e v w s ∙ chosen_by (phrase e) (run_of budget (code v.items)) (run_of budget (code w.items)) s true is
+      run_if_else budget e v w s ∙ chosen_by (phrase e) (run_of budget (statements v.items)) (run_of budget (statements w.items)) s true is
 
   pub if_none : Ok false ≡ holding (phrase e) s → run_of budget (one (If e v None)) s ≡ Ok s
-  if_none is = run_branch budget e v s ∙ chosen_by (phrase e) (run_of budget (code v.items)) Ok s false is
+  if_none is = run_if budget e v s ∙ chosen_by (phrase e) (run_of budget (statements v.items)) Ok s false is
 
-  pub if_else : (w : Vec Stmt Global) → Ok false ≡ holding (phrase e) s → run_of budget (one (If e v (Some w))) s ≡ run_of budget (code w.items) s
-  if_else w is =
-      run_branch_else budget e v w s ∙ chosen_by (phrase e) (run_of budget (code v.items)) (run_of budget (code w.items)) s false is
+  pub if_otherwise : (w : Vec Stmt Global) → Ok false ≡ holding (phrase e) s → run_of budget (one (If e v (Some w))) s ≡ run_of budget (statements w.items) s
+  if_otherwise w is =
+      run_if_else budget e v w s ∙ chosen_by (phrase e) (run_of budget (statements v.items)) (run_of budget (statements w.items)) s false is

@@ -14,7 +14,7 @@ use Rattle.p3l_ast.specs.declared.expression.Target.{Target}
 use Rattle.p3l_ast.specs.declared.statement.Stmt.{Stmt, Row_of-Stmt, end_of-Stmt, more_of-Stmt}
 use Rattle.p3l_ast.specs.declared.statement.Stmt.TheBlock as stmts
 use Rattle.p3l_ast.specs.declared.statement.Stmt.TheVariants.{Assign, If, While, For}
-use Rattle.p3l_ast.specs.Tree.{number, read, unary, binary, more, Code, done, assign, branch, branch_else, repeat, count, phrase, row_phrases, phrases, snoc, join, one, row_code, choice, code}
+use Rattle.p3l_ast.specs.Tree.{number, read, unary, binary, more, Statements, done, assign, if_, if_else, while_, for_, phrase, row_phrases, phrases, snoc, join, one, row_statements, choice, statements}
 
 phrases_of_row : (n : Count) (row : Row_of-Expr n) → row_phrases row ≡ phrases (exprs.items-the_row-Expr n row)
 unfolding phrase row_phrases
@@ -44,53 +44,53 @@ pub phrases_push : (es : List Expr) (e : Expr) → phrases (es ++ e ∷ []) ≡ 
 phrases_push [] e = refl
 phrases_push (d ∷ es) e = ap (more (phrase d)) (phrases_push es e)
 
-code_of_row : (n : Count) (row : Row_of-Stmt n) → row_code row ≡ code (stmts.items-the_row-Stmt n row)
-unfolding one row_code choice
-code_of_row n end_of-Stmt = refl
-code_of_row n (more_of-Stmt s rest) = ap (join (one s)) (code_of_row _ rest)
+statements_of_row : (n : Count) (row : Row_of-Stmt n) → row_statements row ≡ statements (stmts.items-the_row-Stmt n row)
+unfolding one row_statements choice
+statements_of_row n end_of-Stmt = refl
+statements_of_row n (more_of-Stmt s rest) = ap (join (one s)) (statements_of_row _ rest)
 
-code_of_vec : (v : Vec Stmt Global) → row_code (stmts.hidden-the_row-Stmt-0 v) ≡ code v.items
-code_of_vec v = code_of_row _ (stmts.hidden-the_row-Stmt-0 v) ∙ ap code (stmts.items_hidden-the_row-Stmt-0 v)
+statements_of_vec : (v : Vec Stmt Global) → row_statements (stmts.hidden-the_row-Stmt-0 v) ≡ statements v.items
+statements_of_vec v = statements_of_row _ (stmts.hidden-the_row-Stmt-0 v) ∙ ap statements (stmts.items_hidden-the_row-Stmt-0 v)
 
 pub one_assign : (t : Target) (e : Expr) → one (Assign t e) ≡ assign t.at (phrases t.index.items) (phrase e) done
 unfolding one
 one_assign t e = refl
 
-pub one_branch : (e : Expr) (v : Vec Stmt Global) → one (If e v None) ≡ branch (phrase e) (code v.items) done
+pub one_if : (e : Expr) (v : Vec Stmt Global) → one (If e v None) ≡ if_ (phrase e) (statements v.items) done
 unfolding one
-one_branch e v = ap (λ c. branch (phrase e) c done) (code_of_vec v)
+one_if e v = ap (λ c. if_ (phrase e) c done) (statements_of_vec v)
 
-pub one_branch_else : (e : Expr) (v w : Vec Stmt Global) → one (If e v (Some w)) ≡ branch_else (phrase e) (code v.items) (code w.items) done
+pub one_if_else : (e : Expr) (v w : Vec Stmt Global) → one (If e v (Some w)) ≡ if_else (phrase e) (statements v.items) (statements w.items) done
 unfolding one
-one_branch_else e v w =
-    ap (λ c. branch_else (phrase e) c (row_code (stmts.hidden-the_row-Stmt-0 w)) done) (code_of_vec v)
-    ∙ ap (λ c. branch_else (phrase e) (code v.items) c done) (code_of_vec w)
+one_if_else e v w =
+    ap (λ c. if_else (phrase e) c (row_statements (stmts.hidden-the_row-Stmt-0 w)) done) (statements_of_vec v)
+    ∙ ap (λ c. if_else (phrase e) (statements v.items) c done) (statements_of_vec w)
 
-pub one_repeat : (e : Expr) (v : Vec Stmt Global) → one (While e v) ≡ repeat (phrase e) (code v.items) done
+pub one_while : (e : Expr) (v : Vec Stmt Global) → one (While e v) ≡ while_ (phrase e) (statements v.items) done
 unfolding one
-one_repeat e v = ap (λ c. repeat (phrase e) c done) (code_of_vec v)
+one_while e v = ap (λ c. while_ (phrase e) c done) (statements_of_vec v)
 
-pub one_count : (t u : Target) (e w f : Expr) (v : Vec Stmt Global) → one (For t e w u f v) ≡ count t.at (phrases t.index.items) (phrase e) (phrase w) u.at (phrases u.index.items) (phrase f) (code v.items) done
+pub one_for : (t u : Target) (e w f : Expr) (v : Vec Stmt Global) → one (For t e w u f v) ≡ for_ t.at (phrases t.index.items) (phrase e) (phrase w) u.at (phrases u.index.items) (phrase f) (statements v.items) done
 unfolding one
-one_count t u e w f v =
-    ap (λ c. count t.at (phrases t.index.items) (phrase e) (phrase w) u.at (phrases u.index.items) (phrase f) c done) (code_of_vec v)
+one_for t u e w f v =
+    ap (λ c. for_ t.at (phrases t.index.items) (phrase e) (phrase w) u.at (phrases u.index.items) (phrase f) c done) (statements_of_vec v)
 
-pub join_done : (c : Code) → join c done ≡ c
+pub join_done : (c : Statements) → join c done ≡ c
 join_done done = refl
 join_done (assign x is e c) = ap (assign x is e) (join_done c)
-join_done (branch e t c) = ap (branch e t) (join_done c)
-join_done (branch_else e t f c) = ap (branch_else e t f) (join_done c)
-join_done (repeat e b c) = ap (repeat e b) (join_done c)
-join_done (count x is e w y js f b c) = ap (count x is e w y js f b) (join_done c)
+join_done (if_ e t c) = ap (if_ e t) (join_done c)
+join_done (if_else e t f c) = ap (if_else e t f) (join_done c)
+join_done (while_ e b c) = ap (while_ e b) (join_done c)
+join_done (for_ x is e w y js f b c) = ap (for_ x is e w y js f b) (join_done c)
 
-pub join_join : (a b c : Code) → join (join a b) c ≡ join a (join b c)
+pub join_join : (a b c : Statements) → join (join a b) c ≡ join a (join b c)
 join_join done b c = refl
 join_join (assign x is e a) b c = ap (assign x is e) (join_join a b c)
-join_join (branch e t a) b c = ap (branch e t) (join_join a b c)
-join_join (branch_else e t f a) b c = ap (branch_else e t f) (join_join a b c)
-join_join (repeat e d a) b c = ap (repeat e d) (join_join a b c)
-join_join (count x is e w y js f d a) b c = ap (count x is e w y js f d) (join_join a b c)
+join_join (if_ e t a) b c = ap (if_ e t) (join_join a b c)
+join_join (if_else e t f a) b c = ap (if_else e t f) (join_join a b c)
+join_join (while_ e d a) b c = ap (while_ e d) (join_join a b c)
+join_join (for_ x is e w y js f d a) b c = ap (for_ x is e w y js f d) (join_join a b c)
 
-pub code_push : (ss : List Stmt) (s : Stmt) → code (ss ++ s ∷ []) ≡ join (code ss) (one s)
-code_push [] s = join_done (one s)
-code_push (x ∷ ss) s = ap (join (one x)) (code_push ss s) ∙ sym (join_join (one x) (code ss) (one s))
+pub statements_push : (ss : List Stmt) (s : Stmt) → statements (ss ++ s ∷ []) ≡ join (statements ss) (one s)
+statements_push [] s = join_done (one s)
+statements_push (x ∷ ss) s = ap (join (one x)) (statements_push ss s) ∙ sym (join_join (one x) (statements ss) (one s))

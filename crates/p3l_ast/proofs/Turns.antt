@@ -5,7 +5,7 @@ use Rattle.std.proofs.lemmas.Bool.Decides.{nat_tests}
 use Rattle.p3l_base.specs.declared.outcome.TrapKind.{TrapKind}
 use Rattle.p3l_base.specs.declared.outcome.TrapKind.TheVariants.{Budget}
 use Rattle.p3l_ast.specs.declared.meaning.state.State.{State}
-use Rattle.p3l_ast.specs.Tree.{Phrase, Phrases, Code, done, assign, branch, branch_else, repeat, count, join}
+use Rattle.p3l_ast.specs.Tree.{Phrase, Phrases, Statements, done, assign, if_, if_else, while_, for_, join}
 use Rattle.p3l_ast.specs.Meaning.Operator.{holds}
 use Rattle.p3l_ast.specs.Meaning.State.{sizes_of, with_word, turned}
 use Rattle.p3l_ast.specs.Meaning.Expression.{given, value_of, place_of}
@@ -56,12 +56,12 @@ chosen_same e one other first second s p q = given_same (value_of s e) (λ x. (c
     by false = q
 
 -- a loop never counts back
-abbrev Grows : (Phrase → Code → State → Result State TrapKind) → Type 0
-Grows loop = (e : Phrase) (body : Code) (s t : State) → loop e body s ≡ Ok t → s.turns ≤ t.turns
+abbrev Grows : (Phrase → Statements → State → Result State TrapKind) → Type 0
+Grows loop = (e : Phrase) (body : Statements) (s t : State) → loop e body s ≡ Ok t → s.turns ≤ t.turns
 
 -- from so many turns on two loops do the same
-abbrev Agree : ℕ → (Phrase → Code → State → Result State TrapKind) → (Phrase → Code → State → Result State TrapKind) → Type 0
-Agree n loop other = (e : Phrase) (body : Code) (s : State) → n ≤ s.turns → loop e body s ≡ other e body s
+abbrev Agree : ℕ → (Phrase → Statements → State → Result State TrapKind) → (Phrase → Statements → State → Result State TrapKind) → Type 0
+Agree n loop other = (e : Phrase) (body : Statements) (s : State) → n ≤ s.turns → loop e body s ≡ other e body s
 
 -- one after another
 then_grows : (r : Result State TrapKind) (go : State → Result State TrapKind) (s t : State) → given r go ≡ Ok t → ((m : State) → r ≡ Ok m → s.turns ≤ m.turns) → ((m : State) → go m ≡ Ok t → m.turns ≤ t.turns) → s.turns ≤ t.turns
@@ -74,24 +74,24 @@ ok_same : (s t : State) → kept s ≡ Ok t → s.turns ≤ t.turns
 unfolding kept
 ok_same s t h = let q : s ≡ t = cc in let e : s.turns ≡ t.turns = ap (λ x. x.turns) q in omega arith
 
-pub run_grows : (loop : Phrase → Code → State → Result State TrapKind) → Grows loop → (code : Code) (s t : State) → run_by loop code s ≡ Ok t → s.turns ≤ t.turns
+pub run_grows : (loop : Phrase → Statements → State → Result State TrapKind) → Grows loop → (statements : Statements) (s t : State) → run_by loop statements s ≡ Ok t → s.turns ≤ t.turns
 unfolding run_by kept
 run_grows loop g done s t h = ok_same s t h
 run_grows loop g (assign x index e next) s t h =
     then_grows (assigned x.name index e s) (run_by loop next) s t h
     (λ m k. let q = assigned_turns x.name index e s m k in omega arith)
     (λ m k. run_grows loop g next m t k)
-run_grows loop g (branch e one next) s t h =
+run_grows loop g (if_ e one next) s t h =
     then_grows (chosen e (run_by loop one) Ok s) (run_by loop next) s t h
     (λ m k. chosen_grows e (run_by loop one) Ok s m k (run_grows loop g one s m) (ok_same s m))
     (λ m k. run_grows loop g next m t k)
-run_grows loop g (branch_else e one other next) s t h =
+run_grows loop g (if_else e one other next) s t h =
     then_grows (chosen e (run_by loop one) (run_by loop other) s) (run_by loop next) s t h
     (λ m k. chosen_grows e (run_by loop one) (run_by loop other) s m k (run_grows loop g one s m) (run_grows loop g other s m))
     (λ m k. run_grows loop g next m t k)
-run_grows loop g (repeat e body next) s t h =
+run_grows loop g (while_ e body next) s t h =
     then_grows (loop e body s) (run_by loop next) s t h (λ m k. g e body s m k) (λ m k. run_grows loop g next m t k)
-run_grows loop g (count x index e w y indices f body next) s t h =
+run_grows loop g (for_ x index e w y indices f body next) s t h =
     then_grows (given (assigned x.name index e s) (loop w (join body (assign y indices f done)))) (run_by loop next) s t h
     (λ m k. then_grows (assigned x.name index e s) (loop w (join body (assign y indices f done))) s m k
     (λ n l. let q = assigned_turns x.name index e s n l in omega arith)
@@ -102,24 +102,24 @@ run_grows loop g (count x index e w y indices f body next) s t h =
 then_same : (r q : Result State TrapKind) (go other : State → Result State TrapKind) → r ≡ q → ((m : State) → r ≡ Ok m → go m ≡ other m) → given r go ≡ given q other
 then_same r q go other p h = given_same r go other h ∙ ap (λ x. given x other) p
 
-pub run_same : (n : ℕ) (loop other : Phrase → Code → State → Result State TrapKind) → Agree n loop other → Grows loop → (code : Code) (s : State) → n ≤ s.turns → run_by loop code s ≡ run_by other code s
+pub run_same : (n : ℕ) (loop other : Phrase → Statements → State → Result State TrapKind) → Agree n loop other → Grows loop → (statements : Statements) (s : State) → n ≤ s.turns → run_by loop statements s ≡ run_by other statements s
 unfolding run_by kept
 run_same n loop other a g done s h = refl
 run_same n loop other a g (assign x index e next) s h =
     then_same (assigned x.name index e s) _ (run_by loop next) (run_by other next) refl
     (λ m k. run_same n loop other a g next m (let q = assigned_turns x.name index e s m k in omega arith))
-run_same n loop other a g (branch e one next) s h =
+run_same n loop other a g (if_ e one next) s h =
     then_same (chosen e (run_by loop one) Ok s) _ (run_by loop next) (run_by other next)
     (chosen_same e (run_by loop one) Ok (run_by other one) Ok s (run_same n loop other a g one s h) refl)
     (λ m k. run_same n loop other a g next m (let q = chosen_grows e (run_by loop one) Ok s m k (run_grows loop g one s m) (ok_same s m) in omega arith))
-run_same n loop other a g (branch_else e one two next) s h =
+run_same n loop other a g (if_else e one two next) s h =
     then_same (chosen e (run_by loop one) (run_by loop two) s) _ (run_by loop next) (run_by other next)
     (chosen_same e (run_by loop one) (run_by loop two) (run_by other one) (run_by other two) s (run_same n loop other a g one s h) (run_same n loop other a g two s h))
     (λ m k. run_same n loop other a g next m (let q = chosen_grows e (run_by loop one) (run_by loop two) s m k (run_grows loop g one s m) (run_grows loop g two s m) in omega arith))
-run_same n loop other a g (repeat e body next) s h =
+run_same n loop other a g (while_ e body next) s h =
     then_same (loop e body s) _ (run_by loop next) (run_by other next) (a e body s h)
     (λ m k. run_same n loop other a g next m (let q = g e body s m k in omega arith))
-run_same n loop other a g (count x index e w y indices f body next) s h =
+run_same n loop other a g (for_ x index e w y indices f body next) s h =
     let all = join body (assign y indices f done) in
     then_same (given (assigned x.name index e s) (loop w all)) _ (run_by loop next) (run_by other next)
     (then_same (assigned x.name index e s) _ (loop w all) (other w all) refl (λ m k. a w all m (let q = assigned_turns x.name index e s m k in omega arith)))
@@ -156,7 +156,7 @@ loop_grows budget (suc f) e body s t h =
     (ok_same s t)
 
 -- the turns that are left suffice
-pub loop_same : (budget f g : ℕ) (e : Phrase) (body : Code) (s : State) → budget ≤ s.turns + f → budget ≤ s.turns + g → loop_by budget f e body s ≡ loop_by budget g e body s
+pub loop_same : (budget f g : ℕ) (e : Phrase) (body : Statements) (s : State) → budget ≤ s.turns + f → budget ≤ s.turns + g → loop_by budget f e body s ≡ loop_by budget g e body s
 unfolding loop_by
 loop_same budget zero zero e body s p q = refl
 loop_same budget zero (suc g) e body s p q =
@@ -177,7 +177,7 @@ loop_same budget (suc f) (suc g) e body s p q =
     refl
 
 -- a loop is a turn and the loop again, as long as the condition holds
-pub loop_unrolls : (budget : ℕ) (e : Phrase) (body : Code) (s : State) → loop_of budget e body s ≡ chosen e (λ t. given (given (turned budget t) (run_of budget body)) (loop_of budget e body)) Ok s
+pub loop_unrolls : (budget : ℕ) (e : Phrase) (body : Statements) (s : State) → loop_of budget e body s ≡ chosen e (λ t. given (given (turned budget t) (run_of budget body)) (loop_of budget e body)) Ok s
 unfolding loop_of run_of loop_by
 loop_unrolls zero e body s =
     chosen_same e (λ t. Err Budget) Ok (turn_by (run_of zero body) (loop_of zero e body) zero) Ok s
@@ -194,17 +194,17 @@ loop_unrolls (suc f) e body s =
     refl
 
 -- statements one after another
-pub run_join : (loop : Phrase → Code → State → Result State TrapKind) (first next : Code) (s : State) → run_by loop (join first next) s ≡ given (run_by loop first s) (run_by loop next)
+pub run_join : (loop : Phrase → Statements → State → Result State TrapKind) (first next : Statements) (s : State) → run_by loop (join first next) s ≡ given (run_by loop first s) (run_by loop next)
 unfolding run_by
 run_join loop done next s = refl
 run_join loop (assign x index e rest) next s =
     given_same (assigned x.name index e s) _ _ (λ m k. run_join loop rest next m) ∙ sym (given_given (assigned x.name index e s) (run_by loop rest) (run_by loop next))
-run_join loop (branch e one rest) next s =
+run_join loop (if_ e one rest) next s =
     given_same (chosen e (run_by loop one) Ok s) _ _ (λ m k. run_join loop rest next m) ∙ sym (given_given (chosen e (run_by loop one) Ok s) (run_by loop rest) (run_by loop next))
-run_join loop (branch_else e one other rest) next s =
+run_join loop (if_else e one other rest) next s =
     given_same (chosen e (run_by loop one) (run_by loop other) s) _ _ (λ m k. run_join loop rest next m) ∙ sym (given_given (chosen e (run_by loop one) (run_by loop other) s) (run_by loop rest) (run_by loop next))
-run_join loop (repeat e body rest) next s =
+run_join loop (while_ e body rest) next s =
     given_same (loop e body s) _ _ (λ m k. run_join loop rest next m) ∙ sym (given_given (loop e body s) (run_by loop rest) (run_by loop next))
-run_join loop (count x index e w y indices f body rest) next s =
+run_join loop (for_ x index e w y indices f body rest) next s =
     let whole = given (assigned x.name index e s) (loop w (join body (assign y indices f done))) in
     given_same whole _ _ (λ m k. run_join loop rest next m) ∙ sym (given_given whole (run_by loop rest) (run_by loop next))

@@ -119,7 +119,7 @@ drop_suc (x ∷ xs) (suc d) = drop_suc xs d
 pub drop_next : (xs : List ℕ) (d : ℕ) → drop 1 (drop d xs) ≡ drop (d + 1) xs
 drop_next xs d = rw add-one (drop_suc xs d)
 
--- behind the last index
+-- after the last index
 pub place_end : (s : State) (items : List Expr) (sizes : List ℕ) (d place : ℕ) → length items ≤ d → place_of s (phrases (drop d items)) sizes place ≡ Ok place
 unfolding place_of
 place_end s items sizes d place h = ap (λ x. place_of s (phrases x) sizes place) (drop_all d items h)

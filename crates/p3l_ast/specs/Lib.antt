@@ -1,4 +1,5 @@
 pub mod Meaning
+pub mod Notation
 pub mod Refusal
 pub mod Tree
 pub mod Unplaced

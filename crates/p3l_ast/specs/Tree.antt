@@ -33,17 +33,17 @@ mutual
     more : Phrase → Phrases → Phrases
 
 -- statements, each with those that follow it
-pub data Code : Type 0 where
-  done : Code
-  assign : Spot → Phrases → Phrase → Code → Code
-  branch : Phrase → Code → Code → Code
-  branch_else : Phrase → Code → Code → Code → Code
-  repeat : Phrase → Code → Code → Code
-  count : Spot → Phrases → Phrase → Phrase → Spot → Phrases → Phrase → Code → Code → Code
+pub data Statements : Type 0 where
+  done : Statements
+  assign : Spot → Phrases → Phrase → Statements → Statements
+  if_ : Phrase → Statements → Statements → Statements
+  if_else : Phrase → Statements → Statements → Statements → Statements
+  while_ : Phrase → Statements → Statements → Statements
+  for_ : Spot → Phrases → Phrase → Phrase → Spot → Phrases → Phrase → Statements → Statements → Statements
 
 -- what stands inside a module
 pub data InsideTree : Type 0 where
-  body : List Port → Code → InsideTree
+  body : List Port → Statements → InsideTree
   calls : List Call → InsideTree
   turning : Call → Call → InsideTree
 
@@ -79,43 +79,43 @@ abbrev pub phrases : List Expr → Phrases
 phrases [] = none
 phrases (e ∷ es) = more (phrase e) (phrases es)
 
--- indices with one more behind them
+-- indices with one more after them
 abbrev pub snoc : Phrases → Phrase → Phrases
 snoc none e = more e none
 snoc (more d is) e = more d (snoc is e)
 
 -- statements one after another
-abbrev pub join : Code → Code → Code
+abbrev pub join : Statements → Statements → Statements
 join done d = d
 join (assign x is e c) d = assign x is e (join c d)
-join (branch e t c) d = branch e t (join c d)
-join (branch_else e t f c) d = branch_else e t f (join c d)
-join (repeat e b c) d = repeat e b (join c d)
-join (count x is e w y js f b c) d = count x is e w y js f b (join c d)
+join (if_ e t c) d = if_ e t (join c d)
+join (if_else e t f c) d = if_else e t f (join c d)
+join (while_ e b c) d = while_ e b (join c d)
+join (for_ x is e w y js f b c) d = for_ x is e w y js f b (join c d)
 
 -- the tree of a statement
 unfoldable mutual
-  pub one : Stmt → Code
+  pub one : Stmt → Statements
   one (Assign t e) = assign t.at (phrases t.index.items) (phrase e) done
-  one (If' e m row other) = choice (phrase e) (row_code row) other
-  one (While' e m row) = repeat (phrase e) (row_code row) done
+  one (If' e m row other) = choice (phrase e) (row_statements row) other
+  one (While' e m row) = while_ (phrase e) (row_statements row) done
   one (For' t e w u f m row) =
-      count t.at (phrases t.index.items) (phrase e) (phrase w) u.at (phrases u.index.items) (phrase f) (row_code row) done
+      for_ t.at (phrases t.index.items) (phrase e) (phrase w) u.at (phrases u.index.items) (phrase f) (row_statements row) done
 
-  pub row_code : {m : _} → Row_of-Stmt m → Code
-  row_code end_of-Stmt = done
-  row_code (more_of-Stmt s rest) = join (one s) (row_code rest)
+  pub row_statements : {m : _} → Row_of-Stmt m → Statements
+  row_statements end_of-Stmt = done
+  row_statements (more_of-Stmt s rest) = join (one s) (row_statements rest)
 
-  pub choice : Phrase → Code → Held-Stmt-If-2 → Code
-  choice e t None' = branch e t done
-  choice e t (Some' m row) = branch_else e t (row_code row) done
+  pub choice : Phrase → Statements → Held-Stmt-If-2 → Statements
+  choice e t None' = if_ e t done
+  choice e t (Some' m row) = if_else e t (row_statements row) done
 
-abbrev pub code : List Stmt → Code
-code [] = done
-code (s ∷ ss) = join (one s) (code ss)
+abbrev pub statements : List Stmt → Statements
+statements [] = done
+statements (s ∷ ss) = join (one s) (statements ss)
 
 abbrev pub inside_tree : Inside → InsideTree
-inside_tree (Body b) = body b.locals (code b.stmts)
+inside_tree (Body b) = body b.locals (statements b.stmts)
 inside_tree (Calls cs) = calls cs
 inside_tree (Turning b c) = turning b c
 

@@ -12,7 +12,7 @@ use Rattle.p3l_ast.specs.declared.call.OutArg.{OutArg}
 use Rattle.p3l_ast.specs.declared.call.OutArg.TheVariants.{Fresh, Old}
 use Rattle.p3l_ast.specs.declared.call.Call.{Call}
 use Rattle.p3l_ast.specs.declared.module.Clauses.{Clauses}
-use Rattle.p3l_ast.specs.Tree.{Phrase, number, read, unary, binary, Phrases, none, more, Code, done, assign, branch, branch_else, repeat, count, InsideTree, body, calls, turning, ModuleTree, EntryTree, constant, defined, ProgramTree}
+use Rattle.p3l_ast.specs.Tree.{Phrase, number, read, unary, binary, Phrases, none, more, Statements, done, assign, if_, if_else, while_, for_, InsideTree, body, calls, turning, ModuleTree, EntryTree, constant, defined, ProgramTree}
 
 -- the position that stands for any other
 abbrev pub nowhere : Pos
@@ -61,18 +61,18 @@ abbrev mutual
   phrases_unplaced none = none
   phrases_unplaced (more e is) = more (phrase_unplaced e) (phrases_unplaced is)
 
-abbrev pub code_unplaced : Code → Code
-code_unplaced done = done
-code_unplaced (assign x is e c) = assign (spot_unplaced x) (phrases_unplaced is) (phrase_unplaced e) (code_unplaced c)
-code_unplaced (branch e t c) = branch (phrase_unplaced e) (code_unplaced t) (code_unplaced c)
-code_unplaced (branch_else e t f c) = branch_else (phrase_unplaced e) (code_unplaced t) (code_unplaced f) (code_unplaced c)
-code_unplaced (repeat e b c) = repeat (phrase_unplaced e) (code_unplaced b) (code_unplaced c)
-code_unplaced (count x is e w y js f b c) =
-    count (spot_unplaced x) (phrases_unplaced is) (phrase_unplaced e) (phrase_unplaced w)
-    (spot_unplaced y) (phrases_unplaced js) (phrase_unplaced f) (code_unplaced b) (code_unplaced c)
+abbrev pub statements_unplaced : Statements → Statements
+statements_unplaced done = done
+statements_unplaced (assign x is e c) = assign (spot_unplaced x) (phrases_unplaced is) (phrase_unplaced e) (statements_unplaced c)
+statements_unplaced (if_ e t c) = if_ (phrase_unplaced e) (statements_unplaced t) (statements_unplaced c)
+statements_unplaced (if_else e t f c) = if_else (phrase_unplaced e) (statements_unplaced t) (statements_unplaced f) (statements_unplaced c)
+statements_unplaced (while_ e b c) = while_ (phrase_unplaced e) (statements_unplaced b) (statements_unplaced c)
+statements_unplaced (for_ x is e w y js f b c) =
+    for_ (spot_unplaced x) (phrases_unplaced is) (phrase_unplaced e) (phrase_unplaced w)
+    (spot_unplaced y) (phrases_unplaced js) (phrase_unplaced f) (statements_unplaced b) (statements_unplaced c)
 
 abbrev pub inside_unplaced : InsideTree → InsideTree
-inside_unplaced (body ls c) = body (map port_unplaced ls) (code_unplaced c)
+inside_unplaced (body ls c) = body (map port_unplaced ls) (statements_unplaced c)
 inside_unplaced (calls cs) = calls (map call_unplaced cs)
 inside_unplaced (turning b c) = turning (call_unplaced b) (call_unplaced c)
 

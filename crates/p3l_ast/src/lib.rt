@@ -6,6 +6,7 @@ pub mod call;
 pub mod expression;
 pub mod meaning;
 pub mod module;
+pub mod notation;
 pub mod port;
 pub mod position;
 pub mod program;

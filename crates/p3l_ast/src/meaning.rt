@@ -11,6 +11,3 @@ pub use operator::{binary, unary};
 pub use state::{Binding, State, has_sizes};
 pub use statement::{loops_unroll, run_statements};
 pub use stop::Stop;
-
-#[cfg(test)]
-mod tests;

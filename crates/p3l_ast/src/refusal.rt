@@ -64,7 +64,7 @@ pub enum Fault {
     Undeclared,
     /// A local variable whose name is taken.
     DeclaredTwice,
-    /// Brackets behind a name that is no array.
+    /// Brackets after a name that is no array.
     NotArray,
     /// An array without a bracket for each size.
     IsArray,

@@ -12,7 +12,7 @@ pub enum Stmt {
     /// written.
     If(Expr, Vec<Stmt>, Option<Vec<Stmt>>),
     While(Expr, Vec<Stmt>),
-    /// The assignment before the loop, the condition, the assignment behind each turn, and the
+    /// The assignment before the loop, the condition, the assignment after each turn, and the
     /// body.
     For(Target, Expr, Expr, Target, Expr, Vec<Stmt>),
 }

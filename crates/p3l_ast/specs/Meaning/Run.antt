@@ -2,10 +2,10 @@
 use Rattle.std.specs.Prelude.{◌≡◌, Result, Ok, Err}
 use Rattle.p3l_base.specs.declared.outcome.TrapKind.{TrapKind}
 use Rattle.p3l_ast.specs.declared.meaning.stop.Stop.{Stop}
-use Rattle.p3l_ast.specs.declared.meaning.stop.Stop.TheVariants.{Trapped, OutOfMemory}
+use Rattle.p3l_ast.specs.declared.meaning.stop.Stop.TheVariants.{Trapped, NoMemory}
 
 -- an answer is what is meant, value or trap, unless memory was wanting
 abbrev pub Gives : {A : Type 0} → Result A Stop → Result A TrapKind → Type 0
 Gives (Ok x) meant = Ok x ≡ meant
 Gives (Err (Trapped trap)) meant = Err trap ≡ meant
-Gives (Err OutOfMemory) meant = Unit {0}
+Gives (Err NoMemory) meant = Unit {0}

@@ -1,7 +1,7 @@
 // What statements make of a state: one function a form, which call one another.
 
 ghost use Rattle.std.specs.Prelude.{◌≡◌, Ok, IfOk};
-ghost use Rattle.p3l_ast.specs.Tree.{phrase, phrases, one, code, join, assign, done};
+ghost use Rattle.p3l_ast.specs.Tree.{phrase, phrases, one, statements, join, assign, done};
 ghost use Rattle.p3l_ast.specs.Meaning.Operator.{holds};
 ghost use Rattle.p3l_ast.specs.Meaning.State.{HasSizes};
 ghost use Rattle.p3l_ast.specs.Meaning.Expression.{given, value_of};
@@ -25,7 +25,7 @@ pub fn run_statements(
     state: State,
 ) -> Result<State, Stop>
     requires { HasSizes state }
-    ensures run { Gives result (run_of budget (code stmts.now) state) }
+    ensures run { Gives result (run_of budget (statements stmts.now) state) }
     ensures sizes { IfOk result HasSizes }
 {
     let mut state = state;
@@ -71,7 +71,7 @@ fn run_while(
     state: State,
 ) -> Result<State, Stop>
     requires { HasSizes state }
-    ensures run { Gives result (loop_of budget (phrase condition.now) (code body.now) state) }
+    ensures run { Gives result (loop_of budget (phrase condition.now) (statements body.now) state) }
     ensures sizes { IfOk result HasSizes }
 {
     let mut state = state;
@@ -82,8 +82,8 @@ fn run_while(
     Ok(state)
 }
 
-/// What a `for` makes of the state behind its first assignment: its turns, each with the assignment
-/// behind the body.
+/// What a `for` makes of the state after its first assignment: its turns, each with the assignment
+/// after the body.
 #[cycle(statement)]
 fn run_for(
     alloc: Global,
@@ -96,7 +96,7 @@ fn run_for(
 ) -> Result<State, Stop>
     requires { HasSizes state }
     ensures run { Gives result (loop_of budget (phrase condition.now)
-        (join (code body.now) (assign next.now.at (phrases next.now.index.items) (phrase step.now) done)) state) }
+        (join (statements body.now) (assign next.now.at (phrases next.now.index.items) (phrase step.now) done)) state) }
     ensures sizes { IfOk result HasSizes }
 {
     let mut state = state;
@@ -133,6 +133,3 @@ fn assigned(alloc: Global, target: &Target, expr: &Expr, state: State) -> Result
 pub fn loops_unroll()
     ensures { LoopsUnroll }
 {}
-
-#[cfg(test)]
-mod tests;

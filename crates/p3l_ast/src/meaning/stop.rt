@@ -1,13 +1,13 @@
 // Why statements may give no state.
 
-use p3l_base::{NoMemory, TrapKind};
+use p3l_base::TrapKind;
 
 /// Why a run of statements ended with no state: its first trap, or want of memory, which is no part
 /// of what the statements mean.
 #[derive(Clone, Copy, Debug, Drop, PartialEq, Eq)]
 pub enum Stop {
     Trapped(TrapKind),
-    OutOfMemory,
+    NoMemory,
 }
 
 impl From<TrapKind> for Stop {
@@ -21,13 +21,13 @@ impl From<TrapKind> for Stop {
     }
 }
 
-impl From<NoMemory> for Stop {
+impl From<p3l_base::NoMemory> for Stop {
     ghost use Rattle.std.specs.Prelude.{◌≡◌};
-    ghost use Rattle.p3l_ast.specs.declared.meaning.stop.Stop.TheVariants.{OutOfMemory};
+    ghost use Rattle.p3l_ast.specs.declared.meaning.stop.Stop.TheVariants.{NoMemory};
 
-    ghost from_gives = { λ _ stop. stop ≡ OutOfMemory };
+    ghost from_gives = { λ _ stop. stop ≡ NoMemory };
 
-    fn from(_want: NoMemory) -> Stop {
-        Stop::OutOfMemory
+    fn from(_want: p3l_base::NoMemory) -> Stop {
+        Stop::NoMemory
     }
 }
