@@ -61,9 +61,9 @@ cuts_line (a ∷ []) front rest some p q w all e = absurd (omega arith)
 cuts_line (a ∷ b ∷ text) front rest some p q w all e = line_front text front rest a b p q w all e
 
 -- a comment that is closed
-none_behind : (x : List ℕ) (byte : ℕ) (more : List ℕ) → block_of (Some ([] ++ byte ∷ more)) ≡ None
+none_after : (x : List ℕ) (byte : ℕ) (more : List ℕ) → block_of (Some ([] ++ byte ∷ more)) ≡ None
 unfolding block_of
-none_behind x byte more = refl
+none_after x byte more = refl
 
 closed_cut : (front rest : List ℕ) → after_close front ≡ Some [] → IsCut Gap (47 ∷ 42 ∷ front) rest
 unfolding block_of
@@ -217,7 +217,7 @@ pub cuts_slash : (text front rest : List ℕ) → 0 < length text → get_or tex
 cuts_slash [] front rest some h s t f r = absurd (omega arith)
 cuts_slash (a ∷ text) front rest some h s t f r = slash_from a text front rest h s t f r
 
--- the byte behind the first is another, or there is none
+-- the byte after the first is another, or there is none
 pub ends_short : (test : ℕ → Bool) (text : List ℕ) → length text ≤ 1 → Ends test (drop 1 text)
 ends_short test [] h = tt
 ends_short test (a ∷ []) h = tt

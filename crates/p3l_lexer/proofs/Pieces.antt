@@ -3,6 +3,8 @@ use Rattle.std.proofs.Common.{◌≡◌, ℕ, ◌+◌, ◌≤◌, Bool, true, fa
 use Rattle.std.specs.Prelude.{nat_eq, nat_le, bytes_eq, is_some}
 use Rattle.std.specs.List.{list_all}
 use Rattle.std.proofs.lemmas.Bool.Decides.{nat_tests}
+use Rattle.p3l_ast.specs.declared.expression.BinOp.{BinOp}
+use Rattle.p3l_ast.specs.Notation.{sign_of, operators, operator_among, operator_of}
 use Rattle.p3l_lexer.specs.declared.mark.Mark.{Mark}
 use Rattle.p3l_lexer.specs.declared.token.Piece.{Piece}
 use Rattle.p3l_lexer.specs.declared.token.Piece.TheVariants.{Gap, Token}
@@ -57,9 +59,17 @@ none_longer (m ∷ marks) a b c more h =
     let rest = none_longer marks a b c more (and_right (nat_le (length (mark_text m)) 2) _ h) in
     rw here rest
 
+no_operator : (ops : List BinOp) (a b c : ℕ) (more : List ℕ) → list_all (λ op. nat_le (length (sign_of op)) 2) ops ≡ true → operator_among ops (a ∷ b ∷ c ∷ more) ≡ None
+no_operator [] a b c more h = refl
+no_operator (op ∷ ops) a b c more h =
+    let here = longer (sign_of op) a b c more (and_left _ _ h) in
+    let rest = no_operator ops a b c more (and_right (nat_le (length (sign_of op)) 2) _ h) in
+    rw here rest
+
 pub punctuation_of-longer : (a b c : ℕ) (more : List ℕ) → punctuation_of (a ∷ b ∷ c ∷ more) ≡ None
-unfolding punctuation_of
-punctuation_of-longer a b c more = none_longer punctuation a b c more refl
+unfolding punctuation_of operator_of
+punctuation_of-longer a b c more =
+    rw (no_operator operators a b c more refl) (none_longer punctuation a b c more refl)
 
 pub sign_or_byte-longer : (a b c : ℕ) (more : List ℕ) → sign_or_byte (punctuation_of (a ∷ b ∷ c ∷ more)) (a ∷ b ∷ c ∷ more) ≡ None
 unfolding sign_or_byte

@@ -8,13 +8,13 @@ use Rattle.std.proofs.Math.Seq.{take-suc}
 use Rattle.p3l_ast.specs.declared.position.Pos.{Pos}
 use Rattle.p3l_lexer.specs.Position.{is_line_end, is_no_line_end, position_after, moved}
 
-by_line : (b : Bool) (count behind : ℕ) →
-    (let P : Pos = record { line = 1 + (count + cond b 1 0); col = 1 + cond (not b) (1 + behind) 0 } in P) ≡
-    cond b (record { line = 1 + count + 1; col = 1 }) (record { line = 1 + count; col = 1 + behind + 1 })
-by_line true count behind = let e : 1 + (count + 1) ≡ 1 + count + 1 = omega arith in λ i. record { line = e i; col = 1 }
-by_line false count behind =
+by_line : (b : Bool) (count after : ℕ) →
+    (let P : Pos = record { line = 1 + (count + cond b 1 0); col = 1 + cond (not b) (1 + after) 0 } in P) ≡
+    cond b (record { line = 1 + count + 1; col = 1 }) (record { line = 1 + count; col = 1 + after + 1 })
+by_line true count after = let e : 1 + (count + 1) ≡ 1 + count + 1 = omega arith in λ i. record { line = e i; col = 1 }
+by_line false count after =
     let e : 1 + (count + 0) ≡ 1 + count = omega arith in
-    let f : 1 + (1 + behind) ≡ 1 + behind + 1 = omega arith in
+    let f : 1 + (1 + after) ≡ 1 + after + 1 = omega arith in
     λ i. record { line = e i; col = f i }
 
 pub position_after-snoc : (before : List ℕ) (byte : ℕ) → position_after (before ++ byte ∷ []) ≡ moved (position_after before) byte

@@ -1,11 +1,14 @@
--- A text is written by putting tokens one behind another.
+-- A text is written by putting tokens one after another.
 use Rattle.std.proofs.Common.{◌≡◌, cond, inl, inr, ℕ, Bool, true, false, List, [], ◌∷◌, ◌++◌, Option, Some, None, refl, sym, ap, ◌∙◌, subst, arith}
 use Rattle.std.specs.Prelude.{nat_eq, is_some, map}
 use Rattle.std.specs.List.{list_all}
 use Rattle.std.proofs.lemmas.Bool.Decides.{nat_tests}
 use Rattle.p3l_ast.specs.declared.refusal.Fault.TheVariants.{BadToken}
+use Rattle.p3l_ast.specs.declared.expression.BinOp.{BinOp}
+use Rattle.p3l_ast.specs.declared.expression.BinOp.TheVariants.{Or}
+use Rattle.p3l_ast.specs.Notation.{sign_of, operator_of}
 use Rattle.p3l_lexer.specs.declared.mark.Mark.{Mark}
-use Rattle.p3l_lexer.specs.declared.mark.Mark.TheVariants.{Seq, Pipe, Farm, Map, Reduce, Comp, Loop, End, In, Out, Int, Const, Workers, Turns, Tokens, Budget, While, If, Else, For, OpenBody, CloseBody, OpenParen, CloseParen, OpenBracket, CloseBracket, OpenBrace, CloseBrace, Comma, Semicolon, Assign, Equal, NotEqual, Less, AtMost, Greater, AtLeast, ShiftLeft, ShiftRight, Plus, Minus, Star, Slash, Percent, Ampersand, BothHold, Bar, EitherHolds, Caret, Bang, Tilde}
+use Rattle.p3l_lexer.specs.declared.mark.Mark.TheVariants.{Seq, Operator}
 use Rattle.p3l_lexer.specs.declared.token.Lexeme.{Lexeme}
 use Rattle.p3l_lexer.specs.declared.token.Lexeme.TheVariants as lexemes
 use Rattle.p3l_lexer.specs.declared.token.Piece.{Piece}
@@ -22,60 +25,18 @@ use Rattle.p3l_lexer.proofs.Cutting.{head_is, pair_longest, one_longest, slash_l
 use Rattle.p3l_lexer.proofs.Unique.{chunks_same}
 use Rattle.p3l_lexer.proofs.Truths.{or_cases, or_false_left, or_false_right, nat_true}
 
+-- each operator is written as its sign
+piece_of-operator : (op : BinOp) → piece_of (sign_of op) ≡ Some (pieces.Token (lexemes.Sign (Operator op)))
+unfolding piece_of sign_or_byte slash_of punctuation_of operator_of
+piece_of-operator Or = refl
+piece_of-operator _ = refl
+
 -- each mark is written as its text
 pub piece_of-mark : (mark : Mark) → piece_of (mark_text mark) ≡ Some (pieces.Token (lexemes.Sign mark))
-unfolding piece_of word_or_keyword sign_or_byte slash_of keyword_of punctuation_of
+unfolding piece_of word_or_keyword sign_or_byte slash_of keyword_of punctuation_of operator_of
+piece_of-mark (Operator op) = piece_of-operator op
 piece_of-mark Seq = refl
-piece_of-mark Pipe = refl
-piece_of-mark Farm = refl
-piece_of-mark Map = refl
-piece_of-mark Reduce = refl
-piece_of-mark Comp = refl
-piece_of-mark Loop = refl
-piece_of-mark End = refl
-piece_of-mark In = refl
-piece_of-mark Out = refl
-piece_of-mark Int = refl
-piece_of-mark Const = refl
-piece_of-mark Workers = refl
-piece_of-mark Turns = refl
-piece_of-mark Tokens = refl
-piece_of-mark Budget = refl
-piece_of-mark While = refl
-piece_of-mark If = refl
-piece_of-mark Else = refl
-piece_of-mark For = refl
-piece_of-mark OpenBody = refl
-piece_of-mark CloseBody = refl
-piece_of-mark OpenParen = refl
-piece_of-mark CloseParen = refl
-piece_of-mark OpenBracket = refl
-piece_of-mark CloseBracket = refl
-piece_of-mark OpenBrace = refl
-piece_of-mark CloseBrace = refl
-piece_of-mark Comma = refl
-piece_of-mark Semicolon = refl
-piece_of-mark Assign = refl
-piece_of-mark Equal = refl
-piece_of-mark NotEqual = refl
-piece_of-mark Less = refl
-piece_of-mark AtMost = refl
-piece_of-mark Greater = refl
-piece_of-mark AtLeast = refl
-piece_of-mark ShiftLeft = refl
-piece_of-mark ShiftRight = refl
-piece_of-mark Plus = refl
-piece_of-mark Minus = refl
-piece_of-mark Star = refl
-piece_of-mark Slash = refl
-piece_of-mark Percent = refl
-piece_of-mark Ampersand = refl
-piece_of-mark BothHold = refl
-piece_of-mark Bar = refl
-piece_of-mark EitherHolds = refl
-piece_of-mark Caret = refl
-piece_of-mark Bang = refl
-piece_of-mark Tilde = refl
+piece_of-mark _ = refl
 
 -- the next byte fails a weaker test too
 ends_by : (p q : ℕ → Bool) (rest : List ℕ) → ((b : ℕ) → p b ≡ false → q b ≡ false) → Ends p rest → Ends q rest
@@ -162,7 +123,7 @@ no_pair b w s none [] byte more others q = absurd cc
 no_pair b w s none (c ∷ rest) byte more others q = one_longest b (c ∷ rest) w s (none c) byte more others q
 
 blank_is : (b : ℕ) → is_blank b ≡ true → Blanks b
-unfolding Blanks piece_of sign_or_byte punctuation_of
+unfolding Blanks piece_of sign_or_byte punctuation_of operator_of
 blank_is b h =
     by_blank Blanks b h
     (refl, no_pair 32 refl refl (λ c. refl))

@@ -1,7 +1,9 @@
 -- How keywords and punctuation are written.
-use Rattle.std.specs.Prelude.{ℕ, List, [], ◌∷◌, Option, find, bytes_eq, codes}
+use Rattle.std.specs.Prelude.{ℕ, List, [], ◌∷◌, Option, Some, None, find, bytes_eq, codes}
+use Rattle.p3l_ast.specs.declared.expression.BinOp.{BinOp}
+use Rattle.p3l_ast.specs.Notation.{sign_of, operator_of}
 use Rattle.p3l_lexer.specs.declared.mark.Mark.{Mark}
-use Rattle.p3l_lexer.specs.declared.mark.Mark.TheVariants.{Seq, Pipe, Farm, Map, Reduce, Comp, Loop, End, In, Out, Int, Const, Workers, Turns, Tokens, Budget, While, If, Else, For, OpenBody, CloseBody, OpenParen, CloseParen, OpenBracket, CloseBracket, OpenBrace, CloseBrace, Comma, Semicolon, Assign, Equal, NotEqual, Less, AtMost, Greater, AtLeast, ShiftLeft, ShiftRight, Plus, Minus, Star, Slash, Percent, Ampersand, BothHold, Bar, EitherHolds, Caret, Bang, Tilde}
+use Rattle.p3l_lexer.specs.declared.mark.Mark.TheVariants.{Seq, Pipe, Farm, Map, Reduce, Comp, Loop, End, In, Out, Int, Const, Workers, Turns, Tokens, Budget, While, If, Else, For, OpenBody, CloseBody, OpenParen, CloseParen, OpenBracket, CloseBracket, OpenBrace, CloseBrace, Comma, Semicolon, Assign, Bang, Tilde, Operator}
 
 -- the bytes of a mark
 abbrev pub mark_text : Mark → List ℕ
@@ -36,33 +38,16 @@ mark_text CloseBrace = codes "}"
 mark_text Comma = codes ","
 mark_text Semicolon = codes ";"
 mark_text Assign = codes "="
-mark_text Equal = codes "=="
-mark_text NotEqual = codes "!="
-mark_text Less = codes "<"
-mark_text AtMost = codes "<="
-mark_text Greater = codes ">"
-mark_text AtLeast = codes ">="
-mark_text ShiftLeft = codes "<<"
-mark_text ShiftRight = codes ">>"
-mark_text Plus = codes "+"
-mark_text Minus = codes "-"
-mark_text Star = codes "*"
-mark_text Slash = codes "/"
-mark_text Percent = codes "%"
-mark_text Ampersand = codes "&"
-mark_text BothHold = codes "&&"
-mark_text Bar = codes "|"
-mark_text EitherHolds = codes "||"
-mark_text Caret = codes "^"
 mark_text Bang = codes "!"
 mark_text Tilde = codes "~"
+mark_text (Operator op) = sign_of op
 
--- all marks, the keywords first
+-- the marks that are no operators between operands, the keywords first
 abbrev pub keywords : List Mark
 keywords = Seq ∷ Pipe ∷ Farm ∷ Map ∷ Reduce ∷ Comp ∷ Loop ∷ End ∷ In ∷ Out ∷ Int ∷ Const ∷ Workers ∷ Turns ∷ Tokens ∷ Budget ∷ While ∷ If ∷ Else ∷ For ∷ []
 
 abbrev pub punctuation : List Mark
-punctuation = OpenBody ∷ CloseBody ∷ OpenParen ∷ CloseParen ∷ OpenBracket ∷ CloseBracket ∷ OpenBrace ∷ CloseBrace ∷ Comma ∷ Semicolon ∷ Assign ∷ Equal ∷ NotEqual ∷ Less ∷ AtMost ∷ Greater ∷ AtLeast ∷ ShiftLeft ∷ ShiftRight ∷ Plus ∷ Minus ∷ Star ∷ Slash ∷ Percent ∷ Ampersand ∷ BothHold ∷ Bar ∷ EitherHolds ∷ Caret ∷ Bang ∷ Tilde ∷ []
+punctuation = OpenBody ∷ CloseBody ∷ OpenParen ∷ CloseParen ∷ OpenBracket ∷ CloseBracket ∷ OpenBrace ∷ CloseBrace ∷ Comma ∷ Semicolon ∷ Assign ∷ Bang ∷ Tilde ∷ []
 
 -- the mark among these that is written so
 abbrev pub mark_among : List Mark → List ℕ → Option Mark
@@ -72,6 +57,11 @@ mark_among marks text = find (λ mark. bytes_eq (mark_text mark) text) marks
 unfoldable pub keyword_of : List ℕ → Option Mark
 keyword_of text = mark_among keywords text
 
+-- an operator, or else one of the other marks
+abbrev pub operator_or : Option BinOp → Option Mark → Option Mark
+operator_or (Some op) other = Some (Operator op)
+operator_or None other = other
+
 -- the mark of punctuation that is written so
 unfoldable pub punctuation_of : List ℕ → Option Mark
-punctuation_of text = mark_among punctuation text
+punctuation_of text = operator_or (operator_of text) (mark_among punctuation text)

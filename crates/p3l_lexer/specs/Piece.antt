@@ -53,7 +53,7 @@ sign_or_byte None (byte ∷ []) =
     Some (if is_blank byte then Gap else (if nat_eq byte 36 then Token (Faulty BadToken) else Token (Faulty BadByte)))
 sign_or_byte None _ = None
 
--- what stands behind the first `*/`
+-- what stands after the first `*/`
 unfoldable pub after_close : List ℕ → Option (List ℕ)
 after_close [] = None
 after_close (first ∷ []) = None

@@ -28,7 +28,7 @@ abbrev pub IsSound : Lexeme → Type 0
 IsSound (lexemes.Faulty fault) = ⊥
 IsSound lexeme = Unit {0}
 
--- with this byte behind it a token would go on
+-- with this byte after it a token would go on
 unfoldable pub goes_on : List ℕ → ℕ → Bool
 goes_on text byte =
     if is_word_byte (slice_index text 0) then is_word_byte byte else

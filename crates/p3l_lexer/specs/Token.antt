@@ -31,7 +31,7 @@ abbrev pub token_at : Pos → Piece → List Token
 token_at at pieces.Gap = []
 token_at at (pieces.Token lexeme) = record { lexeme = lexeme; at = at } ∷ []
 
--- the tokens among the pieces behind some bytes, with their positions
+-- the tokens among the pieces after some bytes, with their positions
 abbrev pub tokens_after : List ℕ → List Chunk → List Token
 tokens_after before [] = []
 tokens_after before (chunk ∷ chunks) = token_at (position_after before) chunk.piece ++ tokens_after (before ++ chunk.text) chunks

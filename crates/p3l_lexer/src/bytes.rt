@@ -3,7 +3,7 @@
 ghost use Rattle.std.specs.Prelude.{◌≡◌};
 ghost use Rattle.p3l_lexer.specs.Piece.{is_blank, is_digit, is_letter, is_word_byte};
 
-/// Whether a byte parts tokens.
+/// Whether a byte separates tokens.
 pub fn blank(byte: u8) -> bool
     ensures { result ≡ is_blank byte }
 {

@@ -14,7 +14,7 @@ use p3l_ast::Pos;
 use p3l_base::{List, NoMemory};
 use std::alloc::Global;
 
-/// Puts the token that a piece is, if it is one, behind the others.
+/// Puts the token that a piece is, if it is one, after the others.
 fn put(alloc: Global, tokens: &mut List<Token>, text: &[u8], at: Pos) -> Result<(), NoMemory>
     requires some { 0 < length text.now }
     requires piece { IsSome (piece_of text.now) }

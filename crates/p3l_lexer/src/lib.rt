@@ -14,6 +14,3 @@ pub use lexer::tokens;
 pub use mark::Mark;
 pub use position::end_of;
 pub use token::{Lexeme, Piece, Token};
-
-#[cfg(test)]
-mod tests;

@@ -3,6 +3,8 @@
 ghost use Rattle.std.specs.Prelude.{◌≡◌};
 ghost use Rattle.p3l_lexer.specs.Mark.{mark_text, mark_among, keyword_of, punctuation_of};
 
+use p3l_ast::BinOp;
+
 /// A keyword or a mark of punctuation.
 #[derive(Clone, Copy, Debug, Drop, PartialEq, Eq)]
 pub enum Mark {
@@ -48,46 +50,13 @@ pub enum Mark {
     Semicolon,
     /// `=`
     Assign,
-    /// `==`
-    Equal,
-    /// `!=`
-    NotEqual,
-    /// `<`
-    Less,
-    /// `<=`
-    AtMost,
-    /// `>`
-    Greater,
-    /// `>=`
-    AtLeast,
-    /// `<<`
-    ShiftLeft,
-    /// `>>`
-    ShiftRight,
-    /// `+`
-    Plus,
-    /// `-`
-    Minus,
-    /// `*`
-    Star,
-    /// `/`
-    Slash,
-    /// `%`
-    Percent,
-    /// `&`
-    Ampersand,
-    /// `&&`
-    BothHold,
-    /// `|`
-    Bar,
-    /// `||`
-    EitherHolds,
-    /// `^`
-    Caret,
     /// `!`
     Bang,
     /// `~`
     Tilde,
+    /// The sign of an operator between operands. `-` stands before an operand too, and `*` before
+    /// the name of a free index.
+    Operator(BinOp),
 }
 
 impl Mark {
@@ -127,26 +96,9 @@ impl Mark {
             Mark::Comma => ",",
             Mark::Semicolon => ";",
             Mark::Assign => "=",
-            Mark::Equal => "==",
-            Mark::NotEqual => "!=",
-            Mark::Less => "<",
-            Mark::AtMost => "<=",
-            Mark::Greater => ">",
-            Mark::AtLeast => ">=",
-            Mark::ShiftLeft => "<<",
-            Mark::ShiftRight => ">>",
-            Mark::Plus => "+",
-            Mark::Minus => "-",
-            Mark::Star => "*",
-            Mark::Slash => "/",
-            Mark::Percent => "%",
-            Mark::Ampersand => "&",
-            Mark::BothHold => "&&",
-            Mark::Bar => "|",
-            Mark::EitherHolds => "||",
-            Mark::Caret => "^",
             Mark::Bang => "!",
             Mark::Tilde => "~",
+            Mark::Operator(op) => op.sign(),
         }
     }
 }
@@ -175,8 +127,8 @@ const KEYWORDS: [Mark; 20] = [
     Mark::For,
 ];
 
-/// The marks of punctuation.
-const PUNCTUATION: [Mark; 31] = [
+/// The marks of punctuation that are no operators between operands.
+const PUNCTUATION: [Mark; 13] = [
     Mark::OpenBody,
     Mark::CloseBody,
     Mark::OpenParen,
@@ -188,24 +140,6 @@ const PUNCTUATION: [Mark; 31] = [
     Mark::Comma,
     Mark::Semicolon,
     Mark::Assign,
-    Mark::Equal,
-    Mark::NotEqual,
-    Mark::Less,
-    Mark::AtMost,
-    Mark::Greater,
-    Mark::AtLeast,
-    Mark::ShiftLeft,
-    Mark::ShiftRight,
-    Mark::Plus,
-    Mark::Minus,
-    Mark::Star,
-    Mark::Slash,
-    Mark::Percent,
-    Mark::Ampersand,
-    Mark::BothHold,
-    Mark::Bar,
-    Mark::EitherHolds,
-    Mark::Caret,
     Mark::Bang,
     Mark::Tilde,
 ];
@@ -233,5 +167,8 @@ pub fn keyword(text: &[u8]) -> Option<Mark>
 pub fn punctuation(text: &[u8]) -> Option<Mark>
     ensures { result ≡ punctuation_of text.now }
 {
-    find_mark(&PUNCTUATION, text)
+    match BinOp::from_sign(text) {
+        Some(op) => Some(Mark::Operator(op)),
+        None => find_mark(&PUNCTUATION, text),
+    }
 }

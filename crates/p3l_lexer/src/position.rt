@@ -8,7 +8,7 @@ use p3l_ast::Pos;
 /// The position of the first byte.
 pub const START: Pos = Pos { line: 1, col: 1 };
 
-/// The position behind one byte more.
+/// The position after one byte more.
 fn next(at: Pos, byte: u8) -> Pos
     requires line { at.line + 1 < 2 ^ 32 }
     requires col { at.col + 1 < 2 ^ 32 }
@@ -29,7 +29,7 @@ fn next(at: Pos, byte: u8) -> Pos
     }
 }
 
-/// The position behind more bytes.
+/// The position after more bytes.
 pub fn advance(at: Pos, more: &[u8]) -> Pos
     requires line { at.line + length more.now < 2 ^ 32 }
     requires col { at.col + length more.now < 2 ^ 32 }
@@ -42,7 +42,7 @@ pub fn advance(at: Pos, more: &[u8]) -> Pos
     at
 }
 
-/// The position behind the last byte of a text.
+/// The position after the last byte of a text.
 pub fn end_of(text: &[u8]) -> Pos
     requires { length text.now < 2 ^ 32 - 1 }
     ensures { result ≡ position_after text.now }

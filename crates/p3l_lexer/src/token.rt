@@ -20,7 +20,7 @@ pub enum Lexeme {
 /// What a piece of a text is.
 #[derive(Debug, Drop)]
 pub enum Piece {
-    /// A blank byte or a comment, which parts tokens and means nothing.
+    /// A blank byte or a comment, which separates tokens and means nothing.
     Gap,
     Token(Lexeme),
 }
