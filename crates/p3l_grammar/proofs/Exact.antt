@@ -1,4 +1,4 @@
--- The machine says what is derived, and where no program goes on.
+-- The parser says what is derived, and where no program goes on.
 use Rattle.std.proofs.Common.{◌≡◌, ℕ, suc, ◌≤◌, List, [], ◌∷◌, ◌++◌, length, Option, Some, None, refl, sym, ap, ◌∙◌, subst, arith, append-nil}
 use Rattle.std.specs.declared.result.Result.TheVariants.{Ok, Err}
 use Rattle.p3l_ast.specs.declared.position.Pos.{Pos}
@@ -6,21 +6,36 @@ use Rattle.p3l_ast.specs.declared.position.Spot.{Spot}
 use Rattle.p3l_ast.specs.declared.port.Num.TheVariants.{Named}
 use Rattle.p3l_ast.specs.declared.call.Sub.TheVariants.{Whole}
 use Rattle.p3l_ast.specs.declared.call.OutArg.TheVariants.{Old}
-use Rattle.p3l_ast.specs.Tree.{Phrase, unary, binary, done, branch, join, EntryTree}
+use Rattle.p3l_ast.specs.Tree.{Phrase, unary, binary, done, if_, join, EntryTree}
 use Rattle.p3l_lexer.specs.declared.mark.Mark.TheVariants as marks
 use Rattle.p3l_lexer.specs.declared.token.Token.{Token}
 use Rattle.p3l_grammar.specs.Symbol.{Symbol, symbol, symbols, word, digits, sign}
-use Rattle.p3l_grammar.specs.Written.{Form, numeral, prefix, infix_, Item, tight, IsGrouped, IsText, spell, spell_text, tree, text_tree}
-use Rattle.p3l_grammar.specs.Machine.{need, State, entries, await, any_word, any_digits, any_num, clause, another_size, any_sub, another_sub, another_port, another_arg, any_out, another_out, another_call, another_local, operand, another_index, value, another_stmt, maybe_else, Hole, whole, after_unary, after_binary, step, bind, run, finish, value_finish, next, all}
+use Rattle.p3l_grammar.specs.Written.{Formula, numeral, prefix, infix_, Passage, tight, IsGrouped, IsText, spell, spell_text, tree, text_tree}
+use Rattle.p3l_grammar.specs.Parser.{need, Parser, entries, await, any_word, any_digits, any_num, clause, another_size, any_sub, another_sub, another_port, another_arg, any_out, another_out, another_call, another_local, operand, another_index, value, another_stmt, maybe_else, Hole, whole, after_unary, after_binary, step, finish, value_finish, next, all}
+use Rattle.p3l_grammar.proofs.Runs.{bind, run}
 use Rattle.std.specs.Prelude.{pos}
-use Rattle.p3l_grammar.specs.Grammar.{Derives, IsViable, IsRefused, IsStop}
+use Rattle.p3l_grammar.specs.Grammar.{Derives, IsViable}
 use Rattle.p3l_grammar.proofs.Complete.{text_runs}
 use Rattle.p3l_grammar.proofs.Sound.{IsRead, IsHole, IfRead, num_stop, sub_stop, port_stop, arg_stop, out_stop, call_stop, local_stop, index_stop, stmt_stop, need_small, run_reads, starts_read}
+
+-- nothing goes on: at the end no program is whole, and with the next token none begins so
+abbrev pub IsRefused : List Token → List Token → Type 0
+IsRefused before [] = (entries : List EntryTree) → Derives (symbols before) entries → ⊥
+IsRefused before (token ∷ after) = IsViable (symbols (before ++ token ∷ [])) → ⊥
+
+-- the tokens begin a program up to where so many of them are left, and no further
+pub record IsStop (tokens : List Token) (left : ℕ) : Type 0 where
+  pub before : List Token
+  pub after : List Token
+  pub whole : tokens ≡ before ++ after
+  pub left_is : left ≡ length after
+  pub viable : IsViable (symbols before)
+  pub refused : IsRefused before after
 
 -- some program is written so: the symbols that f puts first, and more
 pub record Completes (f : List Symbol → List Symbol) : Type 0 where
   pub more : List Symbol
-  pub written : List Item
+  pub written : List Passage
   pub is_text : IsText written
   pub begins : f more ≡ spell_text written []
 
@@ -30,46 +45,46 @@ anywhere = record { line = 1; col = 1 }
 anyone : Spot
 anyone = record { name = []; pos = record { line = 1; col = 1 } }
 
-behind : (f : List Symbol → List Symbol) (v : List Symbol → List Symbol) → Completes (λ r. f (v r)) → Completes f
-behind f v c = record { more = v c.more; written = c.written; is_text = c.is_text; begins = c.begins }
+passes_on : (f : List Symbol → List Symbol) (v : List Symbol → List Symbol) → Completes (λ r. f (v r)) → Completes f
+passes_on f v c = record { more = v c.more; written = c.written; is_text = c.is_text; begins = c.begins }
 
 seen_as : (f g : List Symbol → List Symbol) → f ≡ g → Completes g → Completes f
 seen_as f g p c = let P : (List Symbol → List Symbol) → Type 0 = λ q. Completes q in subst P (sym p) c
 
 mutual
-  -- what the machine has read begins some program
-  pub completes : (s : State) (f : List Symbol → List Symbol) → IsRead s f → Completes f
+  -- what the parser has read begins some program
+  pub completes : (s : Parser) (f : List Symbol → List Symbol) → IsRead s f → Completes f
   completes (entries es) f h = record { more = []; written = h.0; is_text = h.1; begins = ap (λ q. q []) h.2 }
-  completes (await m s) f h = behind f (λ r. sign m ∷ r) (completes s (λ r. f (sign m ∷ r)) h)
-  completes (any_word go) f h = behind f (λ r. word anyone ∷ r) (completes (go anyone) (λ r. f (word anyone ∷ r)) (h anyone))
+  completes (await m s) f h = passes_on f (λ r. sign m ∷ r) (completes s (λ r. f (sign m ∷ r)) h)
+  completes (any_word go) f h = passes_on f (λ r. word anyone ∷ r) (completes (go anyone) (λ r. f (word anyone ∷ r)) (h anyone))
   completes (any_digits go) f h =
-      behind f (λ r. digits (pos 0) anywhere ∷ r) (completes (go (pos 0)) (λ r. f (digits (pos 0) anywhere ∷ r)) (h (pos 0) anywhere))
+      passes_on f (λ r. digits (pos 0) anywhere ∷ r) (completes (go (pos 0)) (λ r. f (digits (pos 0) anywhere ∷ r)) (h (pos 0) anywhere))
   completes (any_num go) f h =
-      behind f (λ r. word anyone ∷ r) (completes (go (Named anyone)) (λ r. f (word anyone ∷ r)) (h (Named anyone)))
+      passes_on f (λ r. word anyone ∷ r) (completes (go (Named anyone)) (λ r. f (word anyone ∷ r)) (h (Named anyone)))
   completes (clause m go) f h = completes (go None) f (h None)
   completes (another_size ns go) f h = completes (go ns) f (num_stop ns go f h)
   completes (any_sub go) f h =
-      behind f (λ r. sign marks.CloseBracket ∷ r) (completes (go Whole) (λ r. f (sign marks.CloseBracket ∷ r)) (h Whole))
+      passes_on f (λ r. sign marks.CloseBracket ∷ r) (completes (go Whole) (λ r. f (sign marks.CloseBracket ∷ r)) (h Whole))
   completes (another_sub ss go) f h = completes (go ss) f (sub_stop ss go f h)
   completes (another_port ps go) f h = completes (go ps) f (port_stop ps go f h)
   completes (another_arg xs go) f h = completes (go xs) f (arg_stop xs go f h)
   completes (any_out go) f h =
       let a = Old (record { at = anyone; subs = [] }) in
-      behind f (λ r. word anyone ∷ r) (completes (go a) (λ r. f (word anyone ∷ r)) (h a))
+      passes_on f (λ r. word anyone ∷ r) (completes (go a) (λ r. f (word anyone ∷ r)) (h a))
   completes (another_out xs go) f h = completes (go xs) f (out_stop xs go f h)
   completes (another_call cs go) f h = completes (go cs) f (call_stop cs go f h)
   completes (another_local ls go) f h = completes (go ls) f (local_stop ls go f h)
   completes (operand h') f h =
-      behind f (λ r. digits (pos 0) anywhere ∷ r) (hole_completes h' (numeral (pos 0) anywhere) f tt (need_small h') h)
+      passes_on f (λ r. digits (pos 0) anywhere ∷ r) (hole_completes h' (numeral (pos 0) anywhere) f tt (need_small h') h)
   completes (another_index is go) f h = completes (go is) f (index_stop is go f h)
   completes (value e h') f h =
       seen_as f (λ r. h.1 (spell h.0 r)) h.2
       (let c = hole_completes h' h.0 h.1 h.3 (omega (arith, need_small h', h.4)) h.6 in c)
   completes (another_stmt c go) f h = completes (go c) f (stmt_stop c go f h)
   completes (maybe_else c e b go) f h =
-      let d = join c (branch e b done) in completes (go d) f (stmt_stop d go f h.0)
+      let d = join c (if_ e b done) in completes (go d) f (stmt_stop d go f h.0)
 
-  pub hole_completes : (h : Hole) (w : Form) (g : List Symbol → List Symbol) → IsGrouped w → need h ≤ tight w → IsHole h g → Completes (λ r. g (spell w r))
+  pub hole_completes : (h : Hole) (w : Formula) (g : List Symbol → List Symbol) → IsGrouped w → need h ≤ tight w → IsHole h g → Completes (λ r. g (spell w r))
   hole_completes (whole go) w g gw n i = completes (go (tree w)) (λ r. g (spell w r)) (i w gw)
   hole_completes (after_unary o h) w g gw n i =
       let P : (List Symbol → List Symbol) → Type 0 = λ q. Completes (λ r. q (spell w r)) in
@@ -78,11 +93,11 @@ mutual
       let P : (List Symbol → List Symbol) → Type 0 = λ q. Completes (λ r. q (spell w r)) in
       subst P (sym i.2) (hole_completes h (infix_ o i.0 w) i.1 (i.4, n, i.5, gw) i.3 i.7)
 
-bind_bind : (o : Option State) (f g : State → Option State) (h : State → Option State) → ((s : State) → h s ≡ bind (f s) g) → bind o h ≡ bind (bind o f) g
+bind_bind : (o : Option Parser) (f g : Parser → Option Parser) (h : Parser → Option Parser) → ((s : Parser) → h s ≡ bind (f s) g) → bind o h ≡ bind (bind o f) g
 bind_bind None f g h p = refl
 bind_bind (Some s) f g h p = p s
 
-run_append : (ts us : List Symbol) (s : State) → run s (ts ++ us) ≡ bind (run s ts) (λ s'. run s' us)
+run_append : (ts us : List Symbol) (s : Parser) → run s (ts ++ us) ≡ bind (run s ts) (λ s'. run s' us)
 run_append [] us s = refl
 run_append (t ∷ ts) us s = bind_bind (step s t) _ _ _ (run_append ts us)
 
@@ -90,14 +105,14 @@ pub derives_run : (ts : List Symbol) (es : List EntryTree) → Derives ts es →
 derives_run ts es d =
     ap (run (entries [])) d.spelled ∙ text_runs d.written [] d.is_text ∙ ap (λ q. Some (entries q)) d.tree_is
 
--- where the machine goes on, some program goes on
-pub runs_viable : (ts : List Symbol) (s : State) → run (entries []) ts ≡ Some s → IsViable ts
+-- where the parser goes on, some program goes on
+pub runs_viable : (ts : List Symbol) (s : Parser) → run (entries []) ts ≡ Some s → IsViable ts
 runs_viable ts s h =
-    let P : Option State → Type 0 = λ o. IfRead o (λ r. ts ++ r) in
+    let P : Option Parser → Type 0 = λ o. IfRead o (λ r. ts ++ r) in
     let c = completes s (λ r. ts ++ r) (subst P h (run_reads ts (entries []) (λ r. r) starts_read)) in
     record { written = c.written; more = c.more; is_text = c.is_text; begins = c.begins }
 
--- where the machine stops, no program goes on
+-- where the parser stops, no program goes on
 pub stops_not_viable : (ts : List Symbol) → run (entries []) ts ≡ None → IsViable ts → ⊥
 stops_not_viable ts h v =
     let all : run (entries []) (ts ++ v.more) ≡ Some (entries (text_tree v.written)) =
@@ -108,7 +123,7 @@ stops_not_viable ts h v =
 
 mutual
   -- at the end nothing is left
-  finish_left : (s : State) (left : ℕ) → finish s ≡ Err left → left ≡ 0
+  finish_left : (s : Parser) (left : ℕ) → finish s ≡ Err left → left ≡ 0
   finish_left (entries es) left h = absurd cc
   finish_left (clause m go) left h = finish_left (go None) left h
   finish_left (another_size ns go) left h = finish_left (go ns) left h
@@ -121,7 +136,7 @@ mutual
   finish_left (another_index is go) left h = finish_left (go is) left h
   finish_left (value e h') left h = hole_left h' e left h
   finish_left (another_stmt c go) left h = finish_left (go c) left h
-  finish_left (maybe_else c e b go) left h = finish_left (go (join c (branch e b done))) left h
+  finish_left (maybe_else c e b go) left h = finish_left (go (join c (if_ e b done))) left h
   finish_left (await m s) left h = cc
   finish_left (any_word go) left h = cc
   finish_left (any_digits go) left h = cc
@@ -135,13 +150,13 @@ mutual
   hole_left (after_unary o h) e left p = hole_left h (unary o e) left p
   hole_left (after_binary o a h) e left p = hole_left h (binary o a e) left p
 
--- what stands behind f is whole
+-- what stands after f is whole
 abbrev IsWhole : (List Symbol → List Symbol) → List EntryTree → Type 0
-IsWhole f es = (ws : List Item) × IsText ws × (f ≡ spell_text ws) × (text_tree ws ≡ es)
+IsWhole f es = (ws : List Passage) × IsText ws × (f ≡ spell_text ws) × (text_tree ws ≡ es)
 
 mutual
   -- where the text may end, what was read is a whole program
-  finish_whole : (s : State) (f : List Symbol → List Symbol) (es : List EntryTree) → IsRead s f → finish s ≡ Ok es → IsWhole f es
+  finish_whole : (s : Parser) (f : List Symbol → List Symbol) (es : List EntryTree) → IsRead s f → finish s ≡ Ok es → IsWhole f es
   finish_whole (entries ds) f es h p = (h.0, h.1, h.2, h.3 ∙ (cc))
   finish_whole (clause m go) f es h p = finish_whole (go None) f es (h None) p
   finish_whole (another_size ns go) f es h p = finish_whole (go ns) f es (num_stop ns go f h) p
@@ -157,7 +172,7 @@ mutual
       subst P (sym h.2) (hole_whole h' e h.0 h.1 es h.3 (omega (arith, need_small h', h.4)) h.5 h.6 p)
   finish_whole (another_stmt c go) f es h p = finish_whole (go c) f es (stmt_stop c go f h) p
   finish_whole (maybe_else c e b go) f es h p =
-      let d = join c (branch e b done) in finish_whole (go d) f es (stmt_stop d go f h.0) p
+      let d = join c (if_ e b done) in finish_whole (go d) f es (stmt_stop d go f h.0) p
   finish_whole (await m s) f es h p = absurd cc
   finish_whole (any_word go) f es h p = absurd cc
   finish_whole (any_digits go) f es h p = absurd cc
@@ -166,7 +181,7 @@ mutual
   finish_whole (any_out go) f es h p = absurd cc
   finish_whole (operand h') f es h p = absurd cc
 
-  hole_whole : (h : Hole) (e : Phrase) (w : Form) (g : List Symbol → List Symbol) (es : List EntryTree) → IsGrouped w → need h ≤ tight w → tree w ≡ e → IsHole h g → value_finish h e ≡ Ok es → IsWhole (λ r. g (spell w r)) es
+  hole_whole : (h : Hole) (e : Phrase) (w : Formula) (g : List Symbol → List Symbol) (es : List EntryTree) → IsGrouped w → need h ≤ tight w → tree w ≡ e → IsHole h g → value_finish h e ≡ Ok es → IsWhole (λ r. g (spell w r)) es
   hole_whole (whole go) e w g es gw n te i p =
       finish_whole (go e) (λ r. g (spell w r)) es (let P : Phrase → Type 0 = λ q. IsRead (go q) (λ r. g (spell w r)) in subst P te (i w gw)) p
   hole_whole (after_unary o h) e w g es gw n te i p =
@@ -176,27 +191,27 @@ mutual
       let P : (List Symbol → List Symbol) → Type 0 = λ q. IsWhole (λ r. q (spell w r)) es in
       subst P (sym i.2) (hole_whole h (binary o a e) (infix_ o i.0 w) i.1 es (i.4, n, i.5, gw) i.3 (ap (λ q. binary o q (tree w)) i.6 ∙ ap (binary o a) te) i.7 p)
 
--- what the machine does at the front of what is left
-abbrev Stopped : State → List Token → Type 0
+-- what the parser does at the front of what is left
+abbrev Stopped : Parser → List Token → Type 0
 Stopped s [] = (es : List EntryTree) → s ≡ entries es → ⊥
 Stopped s (t ∷ ts) = step s (symbol t) ≡ None
 
--- the machine stops here
-record Stop (s : State) (ts : List Token) (left : ℕ) : Type 0 where
+-- the parser stops here
+record Stop (s : Parser) (ts : List Token) (left : ℕ) : Type 0 where
   before : List Token
   after : List Token
-  state : State
+  state : Parser
   whole : ts ≡ before ++ after
   left_is : left ≡ length after
   runs : run s (symbols before) ≡ Some state
   stopped : Stopped state after
 
-stops_at : (ts : List Token) (s : State) (left : ℕ) → all s ts ≡ Err left → Stop s ts left
+stops_at : (ts : List Token) (s : Parser) (left : ℕ) → all s ts ≡ Err left → Stop s ts left
 stops_at [] s left h =
     record { before = []; after = []; state = s; whole = refl; left_is = finish_left s left h; runs = refl; stopped = λ es e. (let p = ap finish e in cc) }
 stops_at (t ∷ ts) s left h = at (step s (symbol t)) refl (stops_at ts) h
   where
-    at : (o : Option State) → step s (symbol t) ≡ o → ((s' : State) (left : ℕ) → all s' ts ≡ Err left → Stop s' ts left) → next o (suc (length ts)) (λ s'. all s' ts) ≡ Err left → Stop s (t ∷ ts) left
+    at : (o : Option Parser) → step s (symbol t) ≡ o → ((s' : Parser) (left : ℕ) → all s' ts ≡ Err left → Stop s' ts left) → next o (suc (length ts)) (λ s'. all s' ts) ≡ Err left → Stop s (t ∷ ts) left
     at None p ih h = record { before = []; after = t ∷ ts; state = s; whole = refl; left_is = cc; runs = refl; stopped = p }
     at (Some s') p ih h =
         let r = ih s' left h in
@@ -214,7 +229,7 @@ pub symbols_append : (a b : List Token) → symbols (a ++ b) ≡ symbols a ++ sy
 symbols_append [] b = refl
 symbols_append (t ∷ a) b = ap (λ q. symbol t ∷ q) (symbols_append a b)
 
-refused : (before after : List Token) (s : State) → run (entries []) (symbols before) ≡ Some s → Stopped s after → IsRefused before after
+refused : (before after : List Token) (s : Parser) → run (entries []) (symbols before) ≡ Some s → Stopped s after → IsRefused before after
 refused before [] s r h = λ es d. h es (let a = derives_run (symbols before) es d in cc)
 refused before (t ∷ after) s r h =
     stops_not_viable (symbols (before ++ t ∷ []))
@@ -235,12 +250,12 @@ stop_of ts left h =
       refused = refused s.before s.after s.state s.runs s.stopped;
     }
 
--- the machine's run, from its answer, and back
-all_run : (ts : List Token) (s : State) → all s ts ≡ elim (run s (symbols ts)) [ None ↦ all s ts | Some s' ↦ finish s' ]
+-- the parser's run, from its answer, and back
+all_run : (ts : List Token) (s : Parser) → all s ts ≡ elim (run s (symbols ts)) [ None ↦ all s ts | Some s' ↦ finish s' ]
 all_run [] s = refl
 all_run (t ∷ ts) s = at (step s (symbol t)) (all_run ts)
   where
-    at : (o : Option State) → ((s' : State) → all s' ts ≡ elim (run s' (symbols ts)) [ None ↦ all s' ts | Some s'' ↦ finish s'' ]) → next o (suc (length ts)) (λ s'. all s' ts) ≡ elim (bind o (λ s'. run s' (symbols ts))) [ None ↦ next o (suc (length ts)) (λ s'. all s' ts) | Some s' ↦ finish s' ]
+    at : (o : Option Parser) → ((s' : Parser) → all s' ts ≡ elim (run s' (symbols ts)) [ None ↦ all s' ts | Some s'' ↦ finish s'' ]) → next o (suc (length ts)) (λ s'. all s' ts) ≡ elim (bind o (λ s'. run s' (symbols ts))) [ None ↦ next o (suc (length ts)) (λ s'. all s' ts) | Some s' ↦ finish s' ]
     at None ih = refl
     at (Some s') ih = ih s'
 
@@ -248,17 +263,17 @@ pub all_of_derives : (ts : List Token) (es : List EntryTree) → Derives (symbol
 all_of_derives ts es d =
     all_run ts (entries []) ∙ ap (λ o. elim o [ None ↦ all (entries []) ts | Some s' ↦ finish s' ]) (derives_run (symbols ts) es d)
 
--- behind all tokens the text may end
-record Ended (s : State) (ts : List Token) (es : List EntryTree) : Type 0 where
-  state : State
+-- after all tokens the text may end
+record Ended (s : Parser) (ts : List Token) (es : List EntryTree) : Type 0 where
+  state : Parser
   runs : run s (symbols ts) ≡ Some state
   finishes : finish state ≡ Ok es
 
-ended_at : (ts : List Token) (s : State) (es : List EntryTree) → all s ts ≡ Ok es → Ended s ts es
+ended_at : (ts : List Token) (s : Parser) (es : List EntryTree) → all s ts ≡ Ok es → Ended s ts es
 ended_at [] s es h = record { state = s; runs = refl; finishes = h }
 ended_at (t ∷ ts) s es h = at (step s (symbol t)) refl (ended_at ts) h
   where
-    at : (o : Option State) → step s (symbol t) ≡ o → ((s' : State) (es : List EntryTree) → all s' ts ≡ Ok es → Ended s' ts es) → next o (suc (length ts)) (λ s'. all s' ts) ≡ Ok es → Ended s (t ∷ ts) es
+    at : (o : Option Parser) → step s (symbol t) ≡ o → ((s' : Parser) (es : List EntryTree) → all s' ts ≡ Ok es → Ended s' ts es) → next o (suc (length ts)) (λ s'. all s' ts) ≡ Ok es → Ended s (t ∷ ts) es
     at None p ih h = absurd cc
     at (Some s') p ih h =
         let r = ih s' es h in
@@ -267,6 +282,6 @@ ended_at (t ∷ ts) s es h = at (step s (symbol t)) refl (ended_at ts) h
 pub derives_of_all : (ts : List Token) (es : List EntryTree) → all (entries []) ts ≡ Ok es → Derives (symbols ts) es
 derives_of_all ts es h =
     let e = ended_at ts (entries []) es h in
-    let P : Option State → Type 0 = λ o. IfRead o (λ r. symbols ts ++ r) in
+    let P : Option Parser → Type 0 = λ o. IfRead o (λ r. symbols ts ++ r) in
     let w = finish_whole e.state (λ r. symbols ts ++ r) es (subst P e.runs (run_reads (symbols ts) (entries []) (λ r. r) starts_read)) e.finishes in
     record { written = w.0; is_text = w.1; spelled = sym (append-nil (symbols ts)) ∙ ap (λ q. q []) w.2; tree_is = w.3 }

@@ -12,16 +12,17 @@ use Rattle.p3l_ast.specs.declared.call.Call.{Call}
 use Rattle.std.specs.Prelude.{Option}
 use Rattle.p3l_ast.specs.declared.module.Kind.{Kind}
 use Rattle.p3l_ast.specs.declared.module.Kind.TheVariants as kinds
-use Rattle.p3l_ast.specs.Tree.{Code, done, body, turning, EntryTree}
+use Rattle.p3l_ast.specs.Tree.{Statements, done, body, turning, EntryTree}
 use Rattle.p3l_lexer.specs.declared.mark.Mark.{Mark}
 use Rattle.p3l_lexer.specs.declared.mark.Mark.TheVariants as marks
 use Rattle.p3l_grammar.specs.Symbol.{Symbol, sign}
-use Rattle.p3l_grammar.specs.Written.{Head, HasOne, IsHead, IsCall, AreCalls, each, behind_comma, parted, num_symbol, spell_size, spell_port, spell_sub, spell_arg, spell_out, spell_call, spell_head, spell_local, body_filling, chain_filling, spread_filling, turning_filling, module_of}
-use Rattle.p3l_grammar.specs.Machine.{State, await, any_num, another_size, another_sub, another_port, another_arg, any_out, another_out, another_call, another_local, port, arg, ports, args, out_args, call, head, run, clause, another_stmt, end_of}
+use Rattle.p3l_grammar.specs.Written.{Head, HasOne, IsHead, IsCall, AreCalls, each, after_comma, separated, num_symbol, spell_size, spell_port, spell_sub, spell_arg, spell_out, spell_call, spell_head, spell_local, body_filling, chain_filling, spread_filling, turning_filling, module_of}
+use Rattle.p3l_grammar.specs.Parser.{Parser, await, any_num, another_size, another_sub, another_port, another_arg, any_out, another_out, another_call, another_local, port, arg, ports, args, out_args, call, head, clause, another_stmt, end_of}
+use Rattle.p3l_grammar.proofs.Runs.{run}
 
--- Modules of each form, and what may come behind their keywords.
+-- Modules of each form, and what may come after their keywords.
 
-abbrev pub bodied_tree : Head → Option Num → List Port → Code → EntryTree
+abbrev pub bodied_tree : Head → Option Num → List Port → Statements → EntryTree
 bodied_tree h b ls c = module_of kinds.Seq h (body_filling b (body ls c))
 
 abbrev pub chained_tree : Kind → Head → List Call → EntryTree
@@ -33,134 +34,134 @@ spread_tree k h w c = module_of k h (spread_filling w c)
 abbrev pub turned_tree : Head → Num → Option Num → Call → Call → EntryTree
 turned_tree h t n b c = module_of kinds.Loop h (turning_filling t n (turning b c))
 
-abbrev pub bodied_from : (EntryTree → State) → State
+abbrev pub bodied_from : (EntryTree → Parser) → Parser
 bodied_from go =
     head (λ h. clause marks.Budget (λ b. await marks.OpenBody (another_local [] (λ ls. another_stmt done
     (λ c. await marks.CloseBody (end_of kinds.Seq (go (bodied_tree h b ls c))))))))
 
-abbrev pub chained_from : Kind → (EntryTree → State) → State
+abbrev pub chained_from : Kind → (EntryTree → Parser) → Parser
 chained_from k go = head (λ h. call (λ c. another_call (c ∷ []) (λ cs. end_of k (go (chained_tree k h cs)))))
 
-abbrev pub spread_from : Kind → (EntryTree → State) → State
+abbrev pub spread_from : Kind → (EntryTree → Parser) → Parser
 spread_from k go = head (λ h. clause marks.Workers (λ w. call (λ c. end_of k (go (spread_tree k h w c)))))
 
-abbrev pub turned_from : (EntryTree → State) → State
+abbrev pub turned_from : (EntryTree → Parser) → Parser
 turned_from go =
     head (λ h. await marks.Turns (any_num (λ t. clause marks.Tokens (λ n. call (λ b. await marks.While
     (call (λ c. end_of kinds.Loop (go (turned_tree h t n b c)))))))))
 
 -- no size comes first
 abbrev pub PassesSize : List Symbol → Type 0
-PassesSize r = (ns : List Num) (go : List Num → State) → run (another_size ns go) r ≡ run (go ns) r
+PassesSize r = (ns : List Num) (go : List Num → Parser) → run (another_size ns go) r ≡ run (go ns) r
 
 -- no bracket comes first
 abbrev pub PassesSub : List Symbol → Type 0
-PassesSub r = (ss : List Sub) (go : List Sub → State) → run (another_sub ss go) r ≡ run (go ss) r
+PassesSub r = (ss : List Sub) (go : List Sub → Parser) → run (another_sub ss go) r ≡ run (go ss) r
 
-pub num_runs : (n : Num) (go : Num → State) (r : List Symbol) → run (any_num go) (num_symbol n ∷ r) ≡ run (go n) r
+pub num_runs : (n : Num) (go : Num → Parser) (r : List Symbol) → run (any_num go) (num_symbol n ∷ r) ≡ run (go n) r
 num_runs (Digits v p) go r = refl
 num_runs (Named x) go r = refl
 
-pub sizes_run : (ms ns : List Num) (go : List Num → State) (r : List Symbol) → PassesSize r → run (another_size ns go) (each spell_size ms r) ≡ run (go (ns ++ ms)) r
+pub sizes_run : (ms ns : List Num) (go : List Num → Parser) (r : List Symbol) → PassesSize r → run (another_size ns go) (each spell_size ms r) ≡ run (go (ns ++ ms)) r
 sizes_run [] ns go r h = h ns go ∙ ap (λ q. run (go q) r) (sym (append-nil ns))
 sizes_run (m ∷ ms) ns go r h =
     num_runs m (λ n. await marks.CloseBracket (another_size (ns ++ n ∷ []) go)) (sign marks.CloseBracket ∷ each spell_size ms r)
     ∙ sizes_run ms (ns ++ m ∷ []) go r h
     ∙ ap (λ q. run (go q) r) (append_assoc ns (m ∷ []) ms)
 
-pub subs_run : (ms ns : List Sub) (go : List Sub → State) (r : List Symbol) → PassesSub r → run (another_sub ns go) (each spell_sub ms r) ≡ run (go (ns ++ ms)) r
+pub subs_run : (ms ns : List Sub) (go : List Sub → Parser) (r : List Symbol) → PassesSub r → run (another_sub ns go) (each spell_sub ms r) ≡ run (go (ns ++ ms)) r
 subs_run [] ns go r h = h ns go ∙ ap (λ q. run (go q) r) (sym (append-nil ns))
 subs_run (Whole ∷ ms) ns go r h =
     subs_run ms (ns ++ Whole ∷ []) go r h ∙ ap (λ q. run (go q) r) (append_assoc ns (Whole ∷ []) ms)
 subs_run (Free x ∷ ms) ns go r h =
     subs_run ms (ns ++ Free x ∷ []) go r h ∙ ap (λ q. run (go q) r) (append_assoc ns (Free x ∷ []) ms)
 
-pub port_runs : (p : Port) (go : Port → State) (r : List Symbol) → PassesSize r → run (port go) (spell_port p r) ≡ run (go p) r
+pub port_runs : (p : Port) (go : Port → Parser) (r : List Symbol) → PassesSize r → run (port go) (spell_port p r) ≡ run (go p) r
 port_runs p go r h = sizes_run p.sizes [] (λ ns. go (record { at = p.at; sizes = ns })) r h
 
-pub arg_runs : (a : Arg) (go : Arg → State) (r : List Symbol) → PassesSub r → run (arg go) (spell_arg a r) ≡ run (go a) r
+pub arg_runs : (a : Arg) (go : Arg → Parser) (r : List Symbol) → PassesSub r → run (arg go) (spell_arg a r) ≡ run (go a) r
 arg_runs a go r h = subs_run a.subs [] (λ ss. go (record { at = a.at; subs = ss })) r h
 
-pub out_runs : (a : OutArg) (go : OutArg → State) (r : List Symbol) → PassesSize r → PassesSub r → run (any_out go) (spell_out a r) ≡ run (go a) r
+pub out_runs : (a : OutArg) (go : OutArg → Parser) (r : List Symbol) → PassesSize r → PassesSub r → run (any_out go) (spell_out a r) ≡ run (go a) r
 out_runs (Fresh p) go r h i = sizes_run p.sizes [] (λ ns. go (Fresh (record { at = p.at; sizes = ns }))) r h
 out_runs (Old a) go r h i = subs_run a.subs [] (λ ss. go (Old (record { at = a.at; subs = ss }))) r i
 
 -- a comma or a closing parenthesis comes first
-comma_no_size : {A : Type 0} (f : A → List Symbol → List Symbol) (xs : List A) (r : List Symbol) → PassesSize (each (behind_comma f) xs (sign marks.CloseParen ∷ r))
+comma_no_size : {A : Type 0} (f : A → List Symbol → List Symbol) (xs : List A) (r : List Symbol) → PassesSize (each (after_comma f) xs (sign marks.CloseParen ∷ r))
 comma_no_size f [] r ns go = refl
 comma_no_size f (x ∷ xs) r ns go = refl
 
-comma_no_sub : {A : Type 0} (f : A → List Symbol → List Symbol) (xs : List A) (r : List Symbol) → PassesSub (each (behind_comma f) xs (sign marks.CloseParen ∷ r))
+comma_no_sub : {A : Type 0} (f : A → List Symbol → List Symbol) (xs : List A) (r : List Symbol) → PassesSub (each (after_comma f) xs (sign marks.CloseParen ∷ r))
 comma_no_sub f [] r ns go = refl
 comma_no_sub f (x ∷ xs) r ns go = refl
 
-more_ports_run : (qs ps : List Port) (go : List Port → State) (r : List Symbol) → run (another_port ps go) (each (behind_comma spell_port) qs (sign marks.CloseParen ∷ r)) ≡ run (go (ps ++ qs)) (sign marks.CloseParen ∷ r)
+more_ports_run : (qs ps : List Port) (go : List Port → Parser) (r : List Symbol) → run (another_port ps go) (each (after_comma spell_port) qs (sign marks.CloseParen ∷ r)) ≡ run (go (ps ++ qs)) (sign marks.CloseParen ∷ r)
 more_ports_run [] ps go r = ap (λ q. run (go q) (sign marks.CloseParen ∷ r)) (sym (append-nil ps))
 more_ports_run (q ∷ qs) ps go r =
-    port_runs q (λ p. another_port (ps ++ p ∷ []) go) (each (behind_comma spell_port) qs (sign marks.CloseParen ∷ r)) (comma_no_size spell_port qs r)
+    port_runs q (λ p. another_port (ps ++ p ∷ []) go) (each (after_comma spell_port) qs (sign marks.CloseParen ∷ r)) (comma_no_size spell_port qs r)
     ∙ more_ports_run qs (ps ++ q ∷ []) go r
     ∙ ap (λ x. run (go x) (sign marks.CloseParen ∷ r)) (append_assoc ps (q ∷ []) qs)
 
-more_args_run : (qs ps : List Arg) (go : List Arg → State) (r : List Symbol) → run (another_arg ps go) (each (behind_comma spell_arg) qs (sign marks.CloseParen ∷ r)) ≡ run (go (ps ++ qs)) (sign marks.CloseParen ∷ r)
+more_args_run : (qs ps : List Arg) (go : List Arg → Parser) (r : List Symbol) → run (another_arg ps go) (each (after_comma spell_arg) qs (sign marks.CloseParen ∷ r)) ≡ run (go (ps ++ qs)) (sign marks.CloseParen ∷ r)
 more_args_run [] ps go r = ap (λ q. run (go q) (sign marks.CloseParen ∷ r)) (sym (append-nil ps))
 more_args_run (q ∷ qs) ps go r =
-    arg_runs q (λ p. another_arg (ps ++ p ∷ []) go) (each (behind_comma spell_arg) qs (sign marks.CloseParen ∷ r)) (comma_no_sub spell_arg qs r)
+    arg_runs q (λ p. another_arg (ps ++ p ∷ []) go) (each (after_comma spell_arg) qs (sign marks.CloseParen ∷ r)) (comma_no_sub spell_arg qs r)
     ∙ more_args_run qs (ps ++ q ∷ []) go r
     ∙ ap (λ x. run (go x) (sign marks.CloseParen ∷ r)) (append_assoc ps (q ∷ []) qs)
 
-more_outs_run : (qs ps : List OutArg) (go : List OutArg → State) (r : List Symbol) → run (another_out ps go) (each (behind_comma spell_out) qs (sign marks.CloseParen ∷ r)) ≡ run (go (ps ++ qs)) (sign marks.CloseParen ∷ r)
+more_outs_run : (qs ps : List OutArg) (go : List OutArg → Parser) (r : List Symbol) → run (another_out ps go) (each (after_comma spell_out) qs (sign marks.CloseParen ∷ r)) ≡ run (go (ps ++ qs)) (sign marks.CloseParen ∷ r)
 more_outs_run [] ps go r = ap (λ q. run (go q) (sign marks.CloseParen ∷ r)) (sym (append-nil ps))
 more_outs_run (q ∷ qs) ps go r =
-    out_runs q (λ p. another_out (ps ++ p ∷ []) go) (each (behind_comma spell_out) qs (sign marks.CloseParen ∷ r)) (comma_no_size spell_out qs r) (comma_no_sub spell_out qs r)
+    out_runs q (λ p. another_out (ps ++ p ∷ []) go) (each (after_comma spell_out) qs (sign marks.CloseParen ∷ r)) (comma_no_size spell_out qs r) (comma_no_sub spell_out qs r)
     ∙ more_outs_run qs (ps ++ q ∷ []) go r
     ∙ ap (λ x. run (go x) (sign marks.CloseParen ∷ r)) (append_assoc ps (q ∷ []) qs)
 
-pub ports_run : (ps : List Port) (go : List Port → State) (r : List Symbol) → HasOne ps → run (ports go) (sign marks.OpenParen ∷ parted spell_port ps (sign marks.CloseParen ∷ r)) ≡ run (go ps) r
+pub ports_run : (ps : List Port) (go : List Port → Parser) (r : List Symbol) → HasOne ps → run (ports go) (sign marks.OpenParen ∷ separated spell_port ps (sign marks.CloseParen ∷ r)) ≡ run (go ps) r
 ports_run [] go r h = absurd h
 ports_run (p ∷ ps) go r h =
-    port_runs p (λ q. another_port (q ∷ []) (λ qs. await marks.CloseParen (go qs))) (each (behind_comma spell_port) ps (sign marks.CloseParen ∷ r)) (comma_no_size spell_port ps r)
+    port_runs p (λ q. another_port (q ∷ []) (λ qs. await marks.CloseParen (go qs))) (each (after_comma spell_port) ps (sign marks.CloseParen ∷ r)) (comma_no_size spell_port ps r)
     ∙ more_ports_run ps (p ∷ []) (λ qs. await marks.CloseParen (go qs)) r
 
-pub args_run : (ps : List Arg) (go : List Arg → State) (r : List Symbol) → HasOne ps → run (args go) (sign marks.OpenParen ∷ parted spell_arg ps (sign marks.CloseParen ∷ r)) ≡ run (go ps) r
+pub args_run : (ps : List Arg) (go : List Arg → Parser) (r : List Symbol) → HasOne ps → run (args go) (sign marks.OpenParen ∷ separated spell_arg ps (sign marks.CloseParen ∷ r)) ≡ run (go ps) r
 args_run [] go r h = absurd h
 args_run (p ∷ ps) go r h =
-    arg_runs p (λ q. another_arg (q ∷ []) (λ qs. await marks.CloseParen (go qs))) (each (behind_comma spell_arg) ps (sign marks.CloseParen ∷ r)) (comma_no_sub spell_arg ps r)
+    arg_runs p (λ q. another_arg (q ∷ []) (λ qs. await marks.CloseParen (go qs))) (each (after_comma spell_arg) ps (sign marks.CloseParen ∷ r)) (comma_no_sub spell_arg ps r)
     ∙ more_args_run ps (p ∷ []) (λ qs. await marks.CloseParen (go qs)) r
 
-pub outs_run : (ps : List OutArg) (go : List OutArg → State) (r : List Symbol) → HasOne ps → run (out_args go) (sign marks.OpenParen ∷ parted spell_out ps (sign marks.CloseParen ∷ r)) ≡ run (go ps) r
+pub outs_run : (ps : List OutArg) (go : List OutArg → Parser) (r : List Symbol) → HasOne ps → run (out_args go) (sign marks.OpenParen ∷ separated spell_out ps (sign marks.CloseParen ∷ r)) ≡ run (go ps) r
 outs_run [] go r h = absurd h
 outs_run (p ∷ ps) go r h =
-    out_runs p (λ q. another_out (q ∷ []) (λ qs. await marks.CloseParen (go qs))) (each (behind_comma spell_out) ps (sign marks.CloseParen ∷ r)) (comma_no_size spell_out ps r) (comma_no_sub spell_out ps r)
+    out_runs p (λ q. another_out (q ∷ []) (λ qs. await marks.CloseParen (go qs))) (each (after_comma spell_out) ps (sign marks.CloseParen ∷ r)) (comma_no_size spell_out ps r) (comma_no_sub spell_out ps r)
     ∙ more_outs_run ps (p ∷ []) (λ qs. await marks.CloseParen (go qs)) r
 
-pub call_from_runs : (c : Call) (go : Call → State) (r : List Symbol) → IsCall c → run (call go) (spell_call c r) ≡ run (go c) r
+pub call_from_runs : (c : Call) (go : Call → Parser) (r : List Symbol) → IsCall c → run (call go) (spell_call c r) ≡ run (go c) r
 call_from_runs c go r h =
     let x = c.at in
     let outs_go = λ (is : List Arg) (os : List OutArg). go (record { at = x; ins = is; outs = os }) in
     args_run c.ins (λ is. await marks.Out (out_args (outs_go is)))
-    (sign marks.Out ∷ sign marks.OpenParen ∷ parted spell_out c.outs (sign marks.CloseParen ∷ r)) h.0
+    (sign marks.Out ∷ sign marks.OpenParen ∷ separated spell_out c.outs (sign marks.CloseParen ∷ r)) h.0
     ∙ outs_run c.outs (outs_go c.ins) r h.1
 
-pub more_calls_run : (ds cs : List Call) (go : List Call → State) (m : Mark) (r : List Symbol) → AreCalls ds → run (another_call cs go) (each spell_call ds (sign m ∷ r)) ≡ run (go (cs ++ ds)) (sign m ∷ r)
+pub more_calls_run : (ds cs : List Call) (go : List Call → Parser) (m : Mark) (r : List Symbol) → AreCalls ds → run (another_call cs go) (each spell_call ds (sign m ∷ r)) ≡ run (go (cs ++ ds)) (sign m ∷ r)
 more_calls_run [] cs go m r h = ap (λ q. run (go q) (sign m ∷ r)) (sym (append-nil cs))
 more_calls_run (d ∷ ds) cs go m r h =
     call_from_runs d (λ c. another_call (cs ++ c ∷ []) go) (each spell_call ds (sign m ∷ r)) h.0
     ∙ more_calls_run ds (cs ++ d ∷ []) go m r h.1
     ∙ ap (λ x. run (go x) (sign m ∷ r)) (append_assoc cs (d ∷ []) ds)
 
-pub head_runs : (h : Head) (go : Head → State) (r : List Symbol) → IsHead h → run (head go) (spell_head h r) ≡ run (go h) r
+pub head_runs : (h : Head) (go : Head → Parser) (r : List Symbol) → IsHead h → run (head go) (spell_head h r) ≡ run (go h) r
 head_runs h go r i =
     let x = h.at in
     let outs_go = λ (is os : List Port). go (record { at = x; ins = is; outs = os }) in
     ports_run h.ins (λ is. await marks.Out (ports (outs_go is)))
-    (sign marks.Out ∷ sign marks.OpenParen ∷ parted spell_port h.outs (sign marks.CloseParen ∷ r)) i.0
+    (sign marks.Out ∷ sign marks.OpenParen ∷ separated spell_port h.outs (sign marks.CloseParen ∷ r)) i.0
     ∙ ports_run h.outs (outs_go h.ins) r i.1
 
 -- no local variable comes first
 abbrev pub PassesLocal : List Symbol → Type 0
-PassesLocal r = (ls : List Port) (go : List Port → State) → run (another_local ls go) r ≡ run (go ls) r
+PassesLocal r = (ls : List Port) (go : List Port → Parser) → run (another_local ls go) r ≡ run (go ls) r
 
-pub locals_run : (ks ls : List Port) (go : List Port → State) (r : List Symbol) → PassesLocal r → run (another_local ls go) (each spell_local ks r) ≡ run (go (ls ++ ks)) r
+pub locals_run : (ks ls : List Port) (go : List Port → Parser) (r : List Symbol) → PassesLocal r → run (another_local ls go) (each spell_local ks r) ≡ run (go (ls ++ ks)) r
 locals_run [] ls go r h = h ls go ∙ ap (λ q. run (go q) r) (sym (append-nil ls))
 locals_run (k ∷ ks) ls go r h =
     port_runs k (λ p. await marks.Semicolon (another_local (ls ++ p ∷ []) go)) (sign marks.Semicolon ∷ each spell_local ks r) (λ ns go'. refl)

@@ -1,3 +1,4 @@
+pub mod Runs
 pub mod Heads
 pub mod Complete
 pub mod Sound

@@ -1,5 +1,5 @@
 -- What a text spells, and where it is first wrong.
-use Rattle.std.specs.Prelude.{◌≡◌, ℕ, length, List, [], ◌∷◌, ◌++◌}
+use Rattle.std.specs.Prelude.{◌≡◌, ℕ, List, [], ◌∷◌, ◌++◌}
 use Rattle.p3l_ast.specs.declared.position.Pos.{Pos}
 use Rattle.p3l_ast.specs.declared.refusal.Fault.{Fault}
 use Rattle.p3l_ast.specs.declared.refusal.Fault.TheVariants.{Expected, TooNested}
@@ -10,36 +10,22 @@ use Rattle.p3l_lexer.specs.declared.token.Token.{Token}
 use Rattle.p3l_lexer.specs.Token.{IsTokens}
 use Rattle.p3l_lexer.specs.Position.{position_after}
 use Rattle.p3l_grammar.specs.Symbol.{Symbol, symbols}
-use Rattle.p3l_grammar.specs.Written.{Item, IsText, spell_text, text_tree}
-use Rattle.p3l_grammar.specs.Limits.{at_rest, nest_behind, IsPast, IsWithin}
+use Rattle.p3l_grammar.specs.Written.{Passage, IsText, spell_text, text_tree}
+use Rattle.p3l_grammar.specs.Limits.{at_rest, nest_after, IsPast, IsWithin}
 
 -- the symbols are written for these entries
 pub record Derives (symbols : List Symbol) (entries : List EntryTree) : Type 0 where
-  pub written : List Item
+  pub written : List Passage
   pub is_text : IsText written
   pub spelled : symbols ≡ spell_text written []
   pub tree_is : text_tree written ≡ entries
 
 -- some program begins with these symbols
 pub record IsViable (symbols : List Symbol) : Type 0 where
-  pub written : List Item
+  pub written : List Passage
   pub more : List Symbol
   pub is_text : IsText written
   pub begins : symbols ++ more ≡ spell_text written []
-
--- nothing goes on: at the end no program is whole, and with the next token none begins so
-abbrev pub IsRefused : List Token → List Token → Type 0
-IsRefused before [] = (entries : List EntryTree) → Derives (symbols before) entries → ⊥
-IsRefused before (token ∷ after) = IsViable (symbols (before ++ token ∷ [])) → ⊥
-
--- the tokens begin a program up to where so many of them are left, and no further
-pub record IsStop (tokens : List Token) (left : ℕ) : Type 0 where
-  pub before : List Token
-  pub after : List Token
-  pub whole : tokens ≡ before ++ after
-  pub left_is : left ≡ length after
-  pub viable : IsViable (symbols before)
-  pub refused : IsRefused before after
 
 -- the text is written for this program, and passes no limit
 pub record Spells (bytes : List ℕ) (program : ProgramTree) : Type 0 where
@@ -54,10 +40,10 @@ pub record Spells (bytes : List ℕ) (program : ProgramTree) : Type 0 where
 abbrev pub IsFaultOf : Lexeme → Fault → List Symbol → Type 0
 IsFaultOf (Faulty f) fault upto = fault ≡ f
 IsFaultOf _ Expected upto = IsViable upto → ⊥
-IsFaultOf _ TooNested upto = IsViable upto × IsPast (nest_behind at_rest upto)
+IsFaultOf _ TooNested upto = IsViable upto × IsPast (nest_after at_rest upto)
 IsFaultOf _ _ upto = ⊥
 
--- what is wrong at the front of what is left: its fault and its position, at the end behind the last byte
+-- what is wrong at the front of what is left: its fault and its position, at the end after the last byte
 abbrev pub IsWrong : List ℕ → List Token → List Token → Fault → Pos → Type 0
 IsWrong bytes before [] fault at =
     (fault ≡ Expected) × (at ≡ position_after bytes) × ((entries : List EntryTree) → Derives (symbols before) entries → ⊥)

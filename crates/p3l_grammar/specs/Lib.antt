@@ -1,6 +1,5 @@
 pub mod Symbol
 pub mod Written
-pub mod Marks
-pub mod Machine
+pub mod Parser
 pub mod Limits
 pub mod Grammar

@@ -22,29 +22,12 @@ role_of marks.OpenBrace = roles.OpenBrace
 role_of marks.CloseBrace = roles.CloseBrace
 role_of marks.Semicolon = roles.Semicolon
 role_of marks.Assign = roles.Assign
-role_of marks.Equal = roles.Operator
-role_of marks.NotEqual = roles.Operator
-role_of marks.Less = roles.Operator
-role_of marks.AtMost = roles.Operator
-role_of marks.Greater = roles.Operator
-role_of marks.AtLeast = roles.Operator
-role_of marks.ShiftLeft = roles.Operator
-role_of marks.ShiftRight = roles.Operator
-role_of marks.Plus = roles.Operator
-role_of marks.Minus = roles.Operator
-role_of marks.Star = roles.Operator
-role_of marks.Slash = roles.Operator
-role_of marks.Percent = roles.Operator
-role_of marks.Ampersand = roles.Operator
-role_of marks.BothHold = roles.Operator
-role_of marks.Bar = roles.Operator
-role_of marks.EitherHolds = roles.Operator
-role_of marks.Caret = roles.Operator
+role_of (marks.Operator op) = roles.Operator
 role_of marks.Bang = roles.Operator
 role_of marks.Tilde = roles.Operator
 role_of _ = roles.Other
 
--- before a body and behind it
+-- before a body and after it
 abbrev pub at_rest : Nest
 at_rest = record { in_body = false; brackets = 0; wanted = 0; in_term = false; base = 0; operators = 0 }
 
@@ -57,62 +40,62 @@ abbrev pub at_part : Nest → ℕ → Bool → ℕ → Nest
 at_part n wanted in_term base =
     record { in_body = true; brackets = n.brackets; wanted = wanted; in_term = in_term; base = base; operators = 0 }
 
--- in the head of a `for` a condition and then a target come behind semicolons, and else a statement
-abbrev pub part_behind : Nest → ℕ → Nest
-part_behind n zero = at_statement n.brackets
-part_behind n (suc zero) = at_part n 0 false n.brackets
-part_behind n (suc (suc zero)) = at_part n 1 true n.brackets
-part_behind n (suc (suc (suc k))) = at_statement n.brackets
+-- in the head of a `for` a condition and then a target come after semicolons, and else a statement
+abbrev pub part_after : Nest → ℕ → Nest
+part_after n zero = at_statement n.brackets
+part_after n (suc zero) = at_part n 0 false n.brackets
+part_after n (suc (suc zero)) = at_part n 1 true n.brackets
+part_after n (suc (suc (suc k))) = at_statement n.brackets
 
-abbrev pub behind_semicolon : Nest → Nest
-behind_semicolon n = part_behind n n.wanted
+abbrev pub after_semicolon : Nest → Nest
+after_semicolon n = part_after n n.wanted
 
 -- a bracket that begins an index of a target begins an expression
-abbrev pub behind_bracket : Nest → Nest
-behind_bracket n = record n {
+abbrev pub after_bracket : Nest → Nest
+after_bracket n = record n {
   brackets = suc n.brackets;
   operators = if not n.in_term && nat_le n.brackets n.base then 0 else n.operators;
 }
 
--- behind a mark in a body
-abbrev pub behind_role : Role → Nest → Nest
-behind_role roles.CloseBody n = at_rest
-behind_role roles.OpenBracket n = behind_bracket n
-behind_role roles.OpenParen n = record n { brackets = suc n.brackets }
-behind_role roles.Close n = record n { brackets = pred n.brackets }
-behind_role roles.OpenBrace n = at_statement (suc n.brackets)
-behind_role roles.CloseBrace n = at_statement (pred n.brackets)
-behind_role roles.Semicolon n = behind_semicolon n
-behind_role roles.Assign n = at_part n n.wanted true n.brackets
-behind_role roles.Test n = at_part n 0 true n.brackets
-behind_role roles.For n = at_part n 2 false (suc n.brackets)
-behind_role roles.Operator n = record n { operators = suc n.operators }
-behind_role roles.OpenBody n = n
-behind_role roles.Other n = n
+-- after a mark in a body
+abbrev pub after_role : Role → Nest → Nest
+after_role roles.CloseBody n = at_rest
+after_role roles.OpenBracket n = after_bracket n
+after_role roles.OpenParen n = record n { brackets = suc n.brackets }
+after_role roles.Close n = record n { brackets = pred n.brackets }
+after_role roles.OpenBrace n = at_statement (suc n.brackets)
+after_role roles.CloseBrace n = at_statement (pred n.brackets)
+after_role roles.Semicolon n = after_semicolon n
+after_role roles.Assign n = at_part n n.wanted true n.brackets
+after_role roles.Test n = at_part n 0 true n.brackets
+after_role roles.For n = at_part n 2 false (suc n.brackets)
+after_role roles.Operator n = record n { operators = suc n.operators }
+after_role roles.OpenBody n = n
+after_role roles.Other n = n
 
--- behind a mark outside bodies
+-- after a mark outside bodies
 abbrev pub before_body : Role → Nest
 before_body roles.OpenBody = at_statement 0
 before_body _ = at_rest
 
--- behind one more symbol
-abbrev pub behind : Nest → Symbol → Nest
-behind n (sign m) = if n.in_body then behind_role (role_of m) n else before_body (role_of m)
-behind n _ = n
+-- after one more symbol
+abbrev pub after_symbol : Nest → Symbol → Nest
+after_symbol n (sign m) = if n.in_body then after_role (role_of m) n else before_body (role_of m)
+after_symbol n _ = n
 
 abbrev pub IsKept : Nest → Type 0
 IsKept n = (n.brackets ≤ 64) × (n.operators ≤ 256)
 
--- behind the 65th bracket, or the 257th operator
+-- after the 65th bracket, or the 257th operator
 abbrev pub IsPast : Nest → Type 0
 IsPast n = IsKept n → ⊥
 
 -- how deep some symbols lead
-abbrev pub nest_behind : Nest → List Symbol → Nest
-nest_behind n [] = n
-nest_behind n (t ∷ ts) = nest_behind (behind n t) ts
+abbrev pub nest_after : Nest → List Symbol → Nest
+nest_after n [] = n
+nest_after n (t ∷ ts) = nest_after (after_symbol n t) ts
 
 -- no symbol passes a limit
 abbrev pub IsWithin : Nest → List Symbol → Type 0
 IsWithin n [] = Unit {0}
-IsWithin n (t ∷ ts) = IsKept (behind n t) × IsWithin (behind n t) ts
+IsWithin n (t ∷ ts) = IsKept (after_symbol n t) × IsWithin (after_symbol n t) ts

@@ -13,36 +13,39 @@ use Rattle.p3l_ast.specs.declared.call.OutArg.TheVariants.{Fresh, Old}
 use Rattle.p3l_ast.specs.declared.call.Call.{Call}
 use Rattle.p3l_ast.specs.declared.expression.UnOp.{UnOp}
 use Rattle.p3l_ast.specs.declared.expression.BinOp.{BinOp}
+use Rattle.p3l_ast.specs.declared.expression.BinOp.TheVariants.{Mul}
 use Rattle.p3l_ast.specs.declared.module.Kind.{Kind}
 use Rattle.p3l_ast.specs.declared.module.Kind.TheVariants.{Seq, Comp, Pipe, Farm, Map, Reduce, Loop}
 use Rattle.p3l_ast.specs.declared.module.Clauses.{Clauses}
-use Rattle.p3l_ast.specs.Tree.{Phrase, number, read, unary, binary, Phrases, none, more, Code, done, assign, branch, branch_else, repeat, count, body, calls, turning, InsideTree, EntryTree, constant, defined}
+use Rattle.p3l_ast.specs.Tree as ast
+use Rattle.p3l_ast.specs.Tree.{Phrase, number, read, unary, binary, Phrases, none, more, Statements, done, assign, body, calls, turning, InsideTree, EntryTree, constant, defined}
 use Rattle.p3l_lexer.specs.declared.mark.Mark.{Mark}
 use Rattle.p3l_lexer.specs.declared.mark.Mark.TheVariants as marks
-use Rattle.p3l_grammar.specs.Symbol.{Symbol, word, digits, sign, unary_mark, binary_mark, level, kind_mark}
+use Rattle.p3l_ast.specs.Notation.{level}
+use Rattle.p3l_grammar.specs.Symbol.{Symbol, word, digits, sign, unary_mark, kind_mark}
 
 mutual
   -- an expression as it is written
-  pub data Form : Type 0 where
-    numeral : ℤ → Pos → Form
-    place : Spot → Forms → Form
-    prefix : UnOp → Form → Form
-    infix_ : BinOp → Form → Form → Form
-    paren : Form → Form
+  pub data Formula : Type 0 where
+    numeral : ℤ → Pos → Formula
+    place : Spot → Formulas → Formula
+    prefix : UnOp → Formula → Formula
+    infix_ : BinOp → Formula → Formula → Formula
+    paren : Formula → Formula
 
   -- indices as they are written
-  pub data Forms : Type 0 where
-    no_index : Forms
-    index : Form → Forms → Forms
+  pub data Formulas : Type 0 where
+    no_index : Formulas
+    index : Formula → Formulas → Formulas
 
 -- statements as they are written, each with those that follow it
 pub data Script : Type 0 where
   stop : Script
-  set : Spot → Forms → Form → Script → Script
-  when : Form → Script → Script → Script
-  when_else : Form → Script → Script → Script → Script
-  as_long_as : Form → Script → Script → Script
-  counting : Spot → Forms → Form → Form → Spot → Forms → Form → Script → Script → Script
+  set : Spot → Formulas → Formula → Script → Script
+  if_ : Formula → Script → Script → Script
+  if_else : Formula → Script → Script → Script → Script
+  while_ : Formula → Script → Script → Script
+  for_ : Spot → Formulas → Formula → Formula → Spot → Formulas → Formula → Script → Script → Script
 
 -- the name and the ports of a module
 pub record Head : Type 0 where
@@ -52,17 +55,17 @@ pub record Head : Type 0 where
 
 -- an entry as it is written: a constant, a `seq` with its budget, locals and statements, a `pipe` or
 -- `comp`, a `farm`, `map` or `reduce` with its workers, or a `loop` with its turns, tokens, body and condition
-pub data Item : Type 0 where
-  fixed : Spot → ℤ → Pos → Item
-  bodied : Head → Option Num → List Port → Script → Item
-  chained : Kind → Head → List Call → Item
-  spread : Kind → Head → Option Num → Call → Item
-  turned : Head → Num → Option Num → Call → Call → Item
+pub data Passage : Type 0 where
+  fixed : Spot → ℤ → Pos → Passage
+  bodied : Head → Option Num → List Port → Script → Passage
+  chained : Kind → Head → List Call → Passage
+  spread : Kind → Head → Option Num → Call → Passage
+  turned : Head → Num → Option Num → Call → Call → Passage
 
 -- Which of these are texts of the language.
 
 -- how tight the outermost construct of an expression binds
-abbrev pub tight : Form → ℕ
+abbrev pub tight : Formula → ℕ
 tight (numeral v p) = 10
 tight (place x is) = 10
 tight (prefix o e) = 10
@@ -71,24 +74,24 @@ tight (paren e) = 10
 
 -- the expression is grouped as its tokens are read: by levels, and to the left
 abbrev mutual
-  pub IsGrouped : Form → Type 0
+  pub IsGrouped : Formula → Type 0
   IsGrouped (numeral v p) = Unit {0}
   IsGrouped (place x is) = AreGrouped is
   IsGrouped (prefix o e) = (10 ≤ tight e) × IsGrouped e
   IsGrouped (infix_ o a b) = (level o ≤ tight a) × (level o < tight b) × IsGrouped a × IsGrouped b
   IsGrouped (paren e) = IsGrouped e
 
-  pub AreGrouped : Forms → Type 0
+  pub AreGrouped : Formulas → Type 0
   AreGrouped no_index = Unit {0}
   AreGrouped (index e is) = IsGrouped e × AreGrouped is
 
 abbrev pub IsScript : Script → Type 0
 IsScript stop = Unit {0}
 IsScript (set x is e c) = AreGrouped is × IsGrouped e × IsScript c
-IsScript (when e t c) = IsGrouped e × IsScript t × IsScript c
-IsScript (when_else e t f c) = IsGrouped e × IsScript t × IsScript f × IsScript c
-IsScript (as_long_as e b c) = IsGrouped e × IsScript b × IsScript c
-IsScript (counting x is e w y js f b c) =
+IsScript (if_ e t c) = IsGrouped e × IsScript t × IsScript c
+IsScript (if_else e t f c) = IsGrouped e × IsScript t × IsScript f × IsScript c
+IsScript (while_ e b c) = IsGrouped e × IsScript b × IsScript c
+IsScript (for_ x is e w y js f b c) =
     AreGrouped is × IsGrouped e × IsGrouped w × AreGrouped js × IsGrouped f × IsScript b × IsScript c
 
 -- the list has an item
@@ -117,31 +120,31 @@ IsSpread Map = Unit {0}
 IsSpread Reduce = Unit {0}
 IsSpread _ = ⊥
 
-abbrev pub IsItem : Item → Type 0
-IsItem (fixed x v p) = Unit {0}
-IsItem (bodied h b ls c) = IsHead h × IsScript c
-IsItem (chained k h cs) = IsChain k × IsHead h × HasOne cs × AreCalls cs
-IsItem (spread k h w c) = IsSpread k × IsHead h × IsCall c
-IsItem (turned h t n b c) = IsHead h × IsCall b × IsCall c
+abbrev pub IsPassage : Passage → Type 0
+IsPassage (fixed x v p) = Unit {0}
+IsPassage (bodied h b ls c) = IsHead h × IsScript c
+IsPassage (chained k h cs) = IsChain k × IsHead h × HasOne cs × AreCalls cs
+IsPassage (spread k h w c) = IsSpread k × IsHead h × IsCall c
+IsPassage (turned h t n b c) = IsHead h × IsCall b × IsCall c
 
-abbrev pub IsText : List Item → Type 0
+abbrev pub IsText : List Passage → Type 0
 IsText [] = Unit {0}
-IsText (i ∷ is) = IsItem i × IsText is
+IsText (i ∷ is) = IsPassage i × IsText is
 
 -- The tokens: those of the first argument, and then those of the last.
 
--- what is written for each item, one behind the other
+-- what is written for each item, one after the other
 abbrev pub each : {A : Type 0} → (A → List Symbol → List Symbol) → List A → List Symbol → List Symbol
 each f [] r = r
 each f (x ∷ xs) r = f x (each f xs r)
 
-abbrev pub behind_comma : {A : Type 0} → (A → List Symbol → List Symbol) → A → List Symbol → List Symbol
-behind_comma f x r = sign marks.Comma ∷ f x r
+abbrev pub after_comma : {A : Type 0} → (A → List Symbol → List Symbol) → A → List Symbol → List Symbol
+after_comma f x r = sign marks.Comma ∷ f x r
 
 -- what is written for each item, with commas between them
-abbrev pub parted : {A : Type 0} → (A → List Symbol → List Symbol) → List A → List Symbol → List Symbol
-parted f [] r = r
-parted f (x ∷ xs) r = f x (each (behind_comma f) xs r)
+abbrev pub separated : {A : Type 0} → (A → List Symbol → List Symbol) → List A → List Symbol → List Symbol
+separated f [] r = r
+separated f (x ∷ xs) r = f x (each (after_comma f) xs r)
 
 abbrev pub num_symbol : Num → Symbol
 num_symbol (Digits v p) = digits v p
@@ -153,10 +156,10 @@ spell_size n r = sign marks.OpenBracket ∷ num_symbol n ∷ sign marks.CloseBra
 abbrev pub spell_port : Port → List Symbol → List Symbol
 spell_port p r = sign marks.Int ∷ word p.at ∷ each spell_size p.sizes r
 
--- what stands behind the bracket that opens
+-- what stands after the bracket that opens
 abbrev pub in_brackets : Sub → List Symbol → List Symbol
 in_brackets Whole r = sign marks.CloseBracket ∷ r
-in_brackets (Free x) r = sign marks.Star ∷ word x ∷ sign marks.CloseBracket ∷ r
+in_brackets (Free x) r = sign (marks.Operator Mul) ∷ word x ∷ sign marks.CloseBracket ∷ r
 
 abbrev pub spell_sub : Sub → List Symbol → List Symbol
 spell_sub s r = sign marks.OpenBracket ∷ in_brackets s r
@@ -170,46 +173,46 @@ spell_out (Old a) r = spell_arg a r
 
 abbrev pub spell_call : Call → List Symbol → List Symbol
 spell_call c r =
-    word c.at ∷ sign marks.In ∷ sign marks.OpenParen ∷ parted spell_arg c.ins (sign marks.CloseParen
-    ∷ sign marks.Out ∷ sign marks.OpenParen ∷ parted spell_out c.outs (sign marks.CloseParen ∷ r))
+    word c.at ∷ sign marks.In ∷ sign marks.OpenParen ∷ separated spell_arg c.ins (sign marks.CloseParen
+    ∷ sign marks.Out ∷ sign marks.OpenParen ∷ separated spell_out c.outs (sign marks.CloseParen ∷ r))
 
 abbrev mutual
-  pub spell : Form → List Symbol → List Symbol
+  pub spell : Formula → List Symbol → List Symbol
   spell (numeral v p) r = digits v p ∷ r
   spell (place x is) r = word x ∷ spell_index is r
   spell (prefix o e) r = sign (unary_mark o) ∷ spell e r
-  spell (infix_ o a b) r = spell a (sign (binary_mark o) ∷ spell b r)
+  spell (infix_ o a b) r = spell a (sign (marks.Operator o) ∷ spell b r)
   spell (paren e) r = sign marks.OpenParen ∷ spell e (sign marks.CloseParen ∷ r)
 
-  pub spell_index : Forms → List Symbol → List Symbol
+  pub spell_index : Formulas → List Symbol → List Symbol
   spell_index no_index r = r
   spell_index (index e is) r = sign marks.OpenBracket ∷ spell e (sign marks.CloseBracket ∷ spell_index is r)
 
-abbrev pub spell_set : Spot → Forms → Form → List Symbol → List Symbol
+abbrev pub spell_set : Spot → Formulas → Formula → List Symbol → List Symbol
 spell_set x is e r = word x ∷ spell_index is (sign marks.Assign ∷ spell e r)
 
 abbrev pub spell_script : Script → List Symbol → List Symbol
 spell_script stop r = r
 spell_script (set x is e c) r = spell_set x is e (sign marks.Semicolon ∷ spell_script c r)
-spell_script (when e t c) r =
+spell_script (if_ e t c) r =
     sign marks.If ∷ sign marks.OpenParen ∷ spell e (sign marks.CloseParen
     ∷ sign marks.OpenBrace ∷ spell_script t (sign marks.CloseBrace ∷ spell_script c r))
-spell_script (when_else e t f c) r =
+spell_script (if_else e t f c) r =
     sign marks.If ∷ sign marks.OpenParen ∷ spell e (sign marks.CloseParen
     ∷ sign marks.OpenBrace ∷ spell_script t (sign marks.CloseBrace
     ∷ sign marks.Else ∷ sign marks.OpenBrace ∷ spell_script f (sign marks.CloseBrace ∷ spell_script c r)))
-spell_script (as_long_as e b c) r =
+spell_script (while_ e b c) r =
     sign marks.While ∷ sign marks.OpenParen ∷ spell e (sign marks.CloseParen
     ∷ sign marks.OpenBrace ∷ spell_script b (sign marks.CloseBrace ∷ spell_script c r))
-spell_script (counting x is e w y js f b c) r =
+spell_script (for_ x is e w y js f b c) r =
     sign marks.For ∷ sign marks.OpenParen ∷ spell_set x is e (sign marks.Semicolon
     ∷ spell w (sign marks.Semicolon ∷ spell_set y js f (sign marks.CloseParen
     ∷ sign marks.OpenBrace ∷ spell_script b (sign marks.CloseBrace ∷ spell_script c r))))
 
 abbrev pub spell_head : Head → List Symbol → List Symbol
 spell_head h r =
-    word h.at ∷ sign marks.In ∷ sign marks.OpenParen ∷ parted spell_port h.ins (sign marks.CloseParen
-    ∷ sign marks.Out ∷ sign marks.OpenParen ∷ parted spell_port h.outs (sign marks.CloseParen ∷ r))
+    word h.at ∷ sign marks.In ∷ sign marks.OpenParen ∷ separated spell_port h.ins (sign marks.CloseParen
+    ∷ sign marks.Out ∷ sign marks.OpenParen ∷ separated spell_port h.outs (sign marks.CloseParen ∷ r))
 
 -- a clause, where it is given
 abbrev pub spell_clause : Mark → Option Num → List Symbol → List Symbol
@@ -222,42 +225,42 @@ spell_local p r = spell_port p (sign marks.Semicolon ∷ r)
 abbrev pub spell_end : Kind → List Symbol → List Symbol
 spell_end k r = sign marks.End ∷ sign (kind_mark k) ∷ r
 
-abbrev pub spell_item : Item → List Symbol → List Symbol
-spell_item (fixed x v p) r = sign marks.Const ∷ word x ∷ sign marks.Assign ∷ digits v p ∷ sign marks.Semicolon ∷ r
-spell_item (bodied h b ls c) r =
+abbrev pub spell_passage : Passage → List Symbol → List Symbol
+spell_passage (fixed x v p) r = sign marks.Const ∷ word x ∷ sign marks.Assign ∷ digits v p ∷ sign marks.Semicolon ∷ r
+spell_passage (bodied h b ls c) r =
     sign marks.Seq ∷ spell_head h (spell_clause marks.Budget b (sign marks.OpenBody
     ∷ each spell_local ls (spell_script c (sign marks.CloseBody ∷ spell_end Seq r))))
-spell_item (chained k h cs) r = sign (kind_mark k) ∷ spell_head h (each spell_call cs (spell_end k r))
-spell_item (spread k h w c) r = sign (kind_mark k) ∷ spell_head h (spell_clause marks.Workers w (spell_call c (spell_end k r)))
-spell_item (turned h t n b c) r =
+spell_passage (chained k h cs) r = sign (kind_mark k) ∷ spell_head h (each spell_call cs (spell_end k r))
+spell_passage (spread k h w c) r = sign (kind_mark k) ∷ spell_head h (spell_clause marks.Workers w (spell_call c (spell_end k r)))
+spell_passage (turned h t n b c) r =
     sign marks.Loop ∷ spell_head h (sign marks.Turns ∷ num_symbol t ∷ spell_clause marks.Tokens n (spell_call b (sign marks.While
     ∷ spell_call c (spell_end Loop r))))
 
-abbrev pub spell_text : List Item → List Symbol → List Symbol
-spell_text is r = each spell_item is r
+abbrev pub spell_text : List Passage → List Symbol → List Symbol
+spell_text is r = each spell_passage is r
 
 -- The program: what is written, without parentheses and without the positions that it does not keep.
 
 abbrev mutual
-  pub tree : Form → Phrase
+  pub tree : Formula → Phrase
   tree (numeral v p) = number v
   tree (place x is) = read x (trees is)
   tree (prefix o e) = unary o (tree e)
   tree (infix_ o a b) = binary o (tree a) (tree b)
   tree (paren e) = tree e
 
-  pub trees : Forms → Phrases
+  pub trees : Formulas → Phrases
   trees no_index = none
   trees (index e is) = more (tree e) (trees is)
 
-abbrev pub script_tree : Script → Code
+abbrev pub script_tree : Script → Statements
 script_tree stop = done
 script_tree (set x is e c) = assign x (trees is) (tree e) (script_tree c)
-script_tree (when e t c) = branch (tree e) (script_tree t) (script_tree c)
-script_tree (when_else e t f c) = branch_else (tree e) (script_tree t) (script_tree f) (script_tree c)
-script_tree (as_long_as e b c) = repeat (tree e) (script_tree b) (script_tree c)
-script_tree (counting x is e w y js f b c) =
-    count x (trees is) (tree e) (tree w) y (trees js) (tree f) (script_tree b) (script_tree c)
+script_tree (if_ e t c) = ast.if_ (tree e) (script_tree t) (script_tree c)
+script_tree (if_else e t f c) = ast.if_else (tree e) (script_tree t) (script_tree f) (script_tree c)
+script_tree (while_ e b c) = ast.while_ (tree e) (script_tree b) (script_tree c)
+script_tree (for_ x is e w y js f b c) =
+    ast.for_ x (trees is) (tree e) (tree w) y (trees js) (tree f) (script_tree b) (script_tree c)
 
 -- what stands between the head of a module and its end
 pub record Filling : Type 0 where
@@ -286,12 +289,12 @@ abbrev pub module_of : Kind → Head → Filling → EntryTree
 module_of k h f =
     defined (record { kind = k; at = h.at; ins = h.ins; outs = h.outs; clauses = f.clauses; inside = f.inside })
 
-abbrev pub item_tree : Item → EntryTree
-item_tree (fixed x v p) = constant x v
-item_tree (bodied h b ls c) = module_of Seq h (body_filling b (body ls (script_tree c)))
-item_tree (chained k h cs) = module_of k h (chain_filling cs)
-item_tree (spread k h w c) = module_of k h (spread_filling w c)
-item_tree (turned h t n b c) = module_of Loop h (turning_filling t n (turning b c))
+abbrev pub passage_tree : Passage → EntryTree
+passage_tree (fixed x v p) = constant x v
+passage_tree (bodied h b ls c) = module_of Seq h (body_filling b (body ls (script_tree c)))
+passage_tree (chained k h cs) = module_of k h (chain_filling cs)
+passage_tree (spread k h w c) = module_of k h (spread_filling w c)
+passage_tree (turned h t n b c) = module_of Loop h (turning_filling t n (turning b c))
 
-abbrev pub text_tree : List Item → List EntryTree
-text_tree is = map item_tree is
+abbrev pub text_tree : List Passage → List EntryTree
+text_tree is = map passage_tree is

@@ -2,5 +2,5 @@
 //! program.
 #![tactic(auto)]
 
+pub mod mark;
 pub mod nest;
-pub mod operator;

@@ -2,7 +2,7 @@
 
 ghost use Rattle.std.specs.Prelude.{◌≡◌, ◌<◌, ◌≤◌, ◌↔◌, suc, length, take, IsTrue, IfSome, IfNone};
 ghost use Rattle.p3l_grammar.specs.Symbol.{symbol, symbols};
-ghost use Rattle.p3l_grammar.specs.Limits.{role_of, at_rest, at_statement, at_part, behind_semicolon, behind_bracket, behind_role, before_body, behind, nest_behind, IsKept, IsPast, IsWithin};
+ghost use Rattle.p3l_grammar.specs.Limits.{role_of, at_rest, at_statement, at_part, after_semicolon, after_bracket, after_role, before_body, after_symbol, nest_after, IsKept, IsPast, IsWithin};
 
 use p3l_lexer::{Lexeme, Mark, Token};
 
@@ -19,7 +19,7 @@ pub enum Role {
     CloseBrace,
     Semicolon,
     Assign,
-    /// An `if` or a `while`, behind which a condition comes.
+    /// An `if` or a `while`, after which a condition comes.
     Test,
     For,
     Operator,
@@ -44,31 +44,14 @@ pub fn role_of(mark: Mark) -> Role
         Mark::If => Role::Test,
         Mark::While => Role::Test,
         Mark::For => Role::For,
-        Mark::Equal => Role::Operator,
-        Mark::NotEqual => Role::Operator,
-        Mark::Less => Role::Operator,
-        Mark::AtMost => Role::Operator,
-        Mark::Greater => Role::Operator,
-        Mark::AtLeast => Role::Operator,
-        Mark::ShiftLeft => Role::Operator,
-        Mark::ShiftRight => Role::Operator,
-        Mark::Plus => Role::Operator,
-        Mark::Minus => Role::Operator,
-        Mark::Star => Role::Operator,
-        Mark::Slash => Role::Operator,
-        Mark::Percent => Role::Operator,
-        Mark::Ampersand => Role::Operator,
-        Mark::BothHold => Role::Operator,
-        Mark::Bar => Role::Operator,
-        Mark::EitherHolds => Role::Operator,
-        Mark::Caret => Role::Operator,
+        Mark::Operator(_) => Role::Operator,
         Mark::Bang => Role::Operator,
         Mark::Tilde => Role::Operator,
         _ => Role::Other,
     }
 }
 
-/// How deep the tokens behind us lead; outside bodies nothing is counted. An expression with all
+/// How deep the tokens after us lead; outside bodies nothing is counted. An expression with all
 /// its parts is one, and each index of a target that is assigned is an expression of its own.
 #[derive(Clone, Copy, Debug, Drop, PartialEq, Eq)]
 pub struct Nest {
@@ -87,7 +70,7 @@ pub struct Nest {
 }
 
 impl Nest {
-    /// Before a body and behind it.
+    /// Before a body and after it.
     pub fn at_rest() -> Nest
         ensures { result ≡ at_rest }
     {
@@ -129,9 +112,9 @@ impl Nest {
         }
     }
 
-    /// Behind a semicolon.
-    fn behind_semicolon(self) -> Nest
-        ensures { result ≡ behind_semicolon self }
+    /// After a semicolon.
+    fn after_semicolon(self) -> Nest
+        ensures { result ≡ after_semicolon self }
     {
         if self.wanted == 2 {
             return self.at_part(1, true, self.brackets);
@@ -142,10 +125,10 @@ impl Nest {
         Nest::at_statement(self.brackets)
     }
 
-    /// Behind an opening bracket, which begins an expression where it begins an index of a target.
-    fn behind_bracket(self) -> Nest
+    /// After an opening bracket, which begins an expression where it begins an index of a target.
+    fn after_bracket(self) -> Nest
         requires { self.brackets ≤ 64 }
-        ensures { result ≡ behind_bracket self }
+        ensures { result ≡ after_bracket self }
     {
         let begins = !self.in_term && self.brackets <= self.base;
         let operators = if begins { 0 } else { self.operators };
@@ -173,19 +156,19 @@ impl Nest {
         }
     }
 
-    /// Behind a mark in a body.
-    fn behind_role(self, role: Role) -> Nest
+    /// After a mark in a body.
+    fn after_role(self, role: Role) -> Nest
         requires { IsKept self }
-        ensures { result ≡ behind_role role self }
+        ensures { result ≡ after_role role self }
     {
         match role {
             Role::CloseBody => Nest::at_rest(),
-            Role::OpenBracket => self.behind_bracket(),
+            Role::OpenBracket => self.after_bracket(),
             Role::OpenParen => self.counted(self.brackets + 1, self.operators),
             Role::Close => self.counted(self.brackets.saturating_sub(1), self.operators),
             Role::OpenBrace => Nest::at_statement(self.brackets + 1),
             Role::CloseBrace => Nest::at_statement(self.brackets.saturating_sub(1)),
-            Role::Semicolon => self.behind_semicolon(),
+            Role::Semicolon => self.after_semicolon(),
             Role::Assign => self.at_part(self.wanted, true, self.brackets),
             Role::Test => self.at_part(0, true, self.brackets),
             Role::For => self.at_part(2, false, self.brackets + 1),
@@ -195,7 +178,7 @@ impl Nest {
         }
     }
 
-    /// Behind a mark outside bodies.
+    /// After a mark outside bodies.
     fn before_body(role: Role) -> Nest
         ensures { result ≡ before_body role }
     {
@@ -205,15 +188,15 @@ impl Nest {
         }
     }
 
-    /// Behind one more token.
-    pub fn behind(self, token: &Token) -> Nest
+    /// After one more token.
+    pub fn after(self, token: &Token) -> Nest
         requires { IsKept self }
-        ensures { result ≡ behind self (symbol token.now) }
+        ensures { result ≡ after_symbol self (symbol token.now) }
     {
         match token.lexeme {
             Lexeme::Sign(mark) => {
                 if self.in_body {
-                    return self.behind_role(role_of(mark));
+                    return self.after_role(role_of(mark));
                 }
                 Nest::before_body(role_of(mark))
             }
@@ -234,11 +217,11 @@ pub fn first_past(tokens: &[Token]) -> Option<usize>
     ensures none { IfNone result (IsWithin at_rest (symbols tokens.now)) }
     ensures inside { IfSome result (λ i. i < length tokens.now) }
     ensures before { IfSome result (λ i. IsWithin at_rest (symbols (take i tokens.now))) }
-    ensures past { IfSome result (λ i. IsPast (nest_behind at_rest (symbols (take (suc i) tokens.now)))) }
+    ensures past { IfSome result (λ i. IsPast (nest_after at_rest (symbols (take (suc i) tokens.now)))) }
 {
     let mut nest = Nest::at_rest();
     for (i, token) in tokens.iter().enumerate() {
-        nest = nest.behind(token);
+        nest = nest.after(token);
         if !nest.is_kept() {
             return Some(i);
         }
