@@ -1,3 +1,4 @@
-pub mod Steps
-pub mod Walk
-pub mod Beyond
+pub mod Lists
+pub mod Tokens
+pub mod Bodies
+pub mod FirstFault

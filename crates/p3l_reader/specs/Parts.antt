@@ -1,11 +1,11 @@
 -- What a module is read in, without where it lies in memory.
 use Rattle.p3l_ast.specs.Tree.{inside_tree}
 use Rattle.p3l_grammar.specs.Written as written
-use Rattle.p3l_reader.specs.declared.module.Head.{Head}
-use Rattle.p3l_reader.specs.declared.module.Filling.{Filling}
+use Rattle.p3l_reader.specs.declared.module.Heading.{Heading}
+use Rattle.p3l_reader.specs.declared.module.Contents.{Contents}
 
-abbrev pub head_of : Head → written.Head
+abbrev pub head_of : Heading → written.Head
 head_of h = record { at = h.at; ins = h.ins; outs = h.outs }
 
-abbrev pub filling_of : Filling → written.Filling
+abbrev pub filling_of : Contents → written.Filling
 filling_of f = record { clauses = f.clauses; inside = inside_tree f.inside }

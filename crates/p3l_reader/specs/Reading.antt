@@ -1,16 +1,18 @@
--- What the functions of the reader give, by the machine.
+-- What the functions of the reader give, by the parser.
 use Rattle.std.specs.Prelude.{◌≡◌, ℕ, ℤ, ◌<◌, ◌≤◌, List, [], ◌∷◌, ◌++◌, length, Option, Some, None}
 use Rattle.std.specs.declared.result.Result.TheVariants.{Err}
 use Rattle.p3l_ast.specs.declared.position.Spot.{Spot}
 use Rattle.p3l_ast.specs.declared.expression.UnOp.{UnOp}
 use Rattle.p3l_ast.specs.declared.expression.BinOp.{BinOp}
+use Rattle.p3l_ast.specs.declared.expression.BinOp.TheVariants as ops
 use Rattle.p3l_ast.specs.declared.module.Kind.{Kind}
-use Rattle.p3l_ast.specs.Tree.{Phrase, Phrases, none, snoc, Code, done, join, EntryTree}
+use Rattle.p3l_ast.specs.Tree.{Phrase, Phrases, none, snoc, Statements, join, EntryTree}
 use Rattle.p3l_lexer.specs.declared.mark.Mark.{Mark}
 use Rattle.p3l_lexer.specs.declared.mark.Mark.TheVariants as marks
 use Rattle.p3l_lexer.specs.declared.token.Token.{Token}
-use Rattle.p3l_grammar.specs.Symbol.{Symbol, word, digits, sign, symbol, level}
-use Rattle.p3l_grammar.specs.Machine.{State, entries, await, any_word, operand, another_index, value, another_stmt, Hole, after_unary, need, setting, choice_from, end_of, operator_of, all}
+use Rattle.p3l_ast.specs.Notation.{level}
+use Rattle.p3l_grammar.specs.Symbol.{Symbol, word, digits, sign, symbol}
+use Rattle.p3l_grammar.specs.Parser.{Parser, entries, await, any_word, operand, another_index, value, another_stmt, Hole, after_unary, need, setting, if_from, end_of, infix_of, all}
 use Rattle.p3l_reader.specs.declared.refusal.Refusal.{Refusal}
 use Rattle.p3l_reader.specs.declared.refusal.Refusal.TheVariants.{NoMemory, Expected}
 
@@ -70,12 +72,12 @@ abbrev pub BeginsDigits : List Token → ℤ → List Token → Type 0
 BeginsDigits [] v rest = ⊥
 BeginsDigits (t ∷ ts) v rest = IsNumeral (symbol t) v × (ts ≡ rest)
 
--- whatever goes on behind an A, the tokens are this A and then the rest
-pub record Reads {A : Type 0} (from : (A → State) → State) (tokens : List Token) (x : A) (rest : List Token) : Type 0 where
-  pub goes : (go : A → State) → all (from go) tokens ≡ all (go x) rest
+-- whatever goes on after an A, the tokens are this A and then the rest
+pub record Reads {A : Type 0} (from : (A → Parser) → Parser) (tokens : List Token) (x : A) (rest : List Token) : Type 0 where
+  pub goes : (go : A → Parser) → all (from go) tokens ≡ all (go x) rest
 
--- whatever goes on behind an A, the tokens are refused where so many are left
-abbrev pub Fails : {A : Type 0} → ((A → State) → State) → List Token → Refusal → Type 0
+-- whatever goes on after an A, the tokens are refused where so many are left
+abbrev pub Fails : {A : Type 0} → ((A → Parser) → Parser) → List Token → Refusal → Type 0
 Fails from tokens NoMemory = Unit {0}
 Fails from tokens (Expected left) = (go : _) → all (from go) tokens ≡ Err left
 
@@ -87,38 +89,40 @@ NotThere m tokens (Expected left) = NotNext m tokens × (left ≡ length tokens)
 -- Lists: what may come again and again.
 
 -- the tokens are one more A of the list, and then the rest
-pub record Adds {A : Type 0} (list : List A → (List A → State) → State) (tokens : List Token) (x : A) (rest : List Token) : Type 0 where
-  pub goes : (xs : List A) (go : List A → State) → all (list xs go) tokens ≡ all (list (xs ++ x ∷ []) go) rest
+pub record Adds {A : Type 0} (list : List A → (List A → Parser) → Parser) (tokens : List Token) (x : A) (rest : List Token) : Type 0 where
+  pub goes : (xs : List A) (go : List A → Parser) → all (list xs go) tokens ≡ all (list (xs ++ x ∷ []) go) rest
 
 -- the list ends here
-pub record Leaves {A : Type 0} (list : List A → (List A → State) → State) (tokens : List Token) : Type 0 where
-  pub goes : (xs : List A) (go : List A → State) → all (list xs go) tokens ≡ all (go xs) tokens
+pub record Leaves {A : Type 0} (list : List A → (List A → Parser) → Parser) (tokens : List Token) : Type 0 where
+  pub goes : (xs : List A) (go : List A → Parser) → all (list xs go) tokens ≡ all (go xs) tokens
 
 -- one more A is begun, and refused where so many are left
-abbrev pub Misses : {A : Type 0} → (List A → (List A → State) → State) → List Token → Refusal → Type 0
+abbrev pub Misses : {A : Type 0} → (List A → (List A → Parser) → Parser) → List Token → Refusal → Type 0
 Misses list tokens NoMemory = Unit {0}
 Misses list tokens (Expected left) = (xs : _) (go : _) → all (list xs go) tokens ≡ Err left
 
--- from these items on the tokens are those items, and then the rest
-pub record Extends {A : Type 0} (list : List A → (List A → State) → State) (first : List A) (tokens : List Token) (xs : List A) (rest : List Token) : Type 0 where
-  pub goes : (go : List A → State) → all (list first go) tokens ≡ all (list xs go) rest
-  pub shorter : length rest ≤ length tokens
+-- things with commas between them, one at least, and the same in parentheses
+abbrev pub separated_list : {A : Type 0} → ((A → Parser) → Parser) → (List A → (List A → Parser) → Parser) → (List A → Parser) → Parser
+separated_list one list go = one (λ x. list (x ∷ []) go)
+
+abbrev pub parenthesized : {A : Type 0} → ((A → Parser) → Parser) → (List A → (List A → Parser) → Parser) → (List A → Parser) → Parser
+parenthesized one list go = await marks.OpenParen (separated_list one list (λ xs. await marks.CloseParen (go xs)))
 
 -- Ends of modules.
 
 -- the tokens are the end of a module of this kind, and then the rest
 pub record Closes (kind : Kind) (tokens rest : List Token) : Type 0 where
-  pub goes : (s : State) → all (end_of kind s) tokens ≡ all s rest
+  pub goes : (s : Parser) → all (end_of kind s) tokens ≡ all s rest
 
 abbrev pub FailsEnd : Kind → List Token → Refusal → Type 0
 FailsEnd kind tokens NoMemory = Unit {0}
-FailsEnd kind tokens (Expected left) = (s : State) → all (end_of kind s) tokens ≡ Err left
+FailsEnd kind tokens (Expected left) = (s : Parser) → all (end_of kind s) tokens ≡ Err left
 
 -- Expressions.
 
 -- no operator before an operand comes next
 abbrev pub IsNoUnary : Symbol → Type 0
-IsNoUnary (sign marks.Minus) = ⊥
+IsNoUnary (sign (marks.Operator ops.Sub)) = ⊥
 IsNoUnary (sign marks.Bang) = ⊥
 IsNoUnary (sign marks.Tilde) = ⊥
 IsNoUnary _ = Unit {0}
@@ -134,7 +138,7 @@ StopsAt n (Some o) = level o < n
 
 abbrev pub Stops : ℕ → List Token → Type 0
 Stops n [] = Unit {0}
-Stops n (t ∷ ts) = StopsAt n (operator_of (symbol t))
+Stops n (t ∷ ts) = StopsAt n (infix_of (symbol t))
 
 -- wherever an operand of this tightness stands, the tokens are this expression and then the rest
 pub record Follows (n : ℕ) (tokens : List Token) (e : Phrase) (rest : List Token) : Type 0 where
@@ -146,7 +150,7 @@ abbrev pub FailsAt : ℕ → List Token → Refusal → Type 0
 FailsAt n tokens NoMemory = Unit {0}
 FailsAt n tokens (Expected left) = (h : Hole) → need h ≤ n → all (operand h) tokens ≡ Err left
 
--- the same behind an operator before its operand
+-- the same after an operator before its operand
 pub record FollowsUnary (o : UnOp) (tokens : List Token) (e : Phrase) (rest : List Token) : Type 0 where
   pub goes : (h : Hole) → all (operand (after_unary o h)) tokens ≡ all (value e h) rest
   pub shorter : length rest < length tokens
@@ -157,59 +161,51 @@ FailsUnary o tokens (Expected left) = (h : Hole) → all (operand (after_unary o
 
 -- the tokens are one more index, and then the rest
 pub record AddsIndex (tokens : List Token) (e : Phrase) (rest : List Token) : Type 0 where
-  pub goes : (is : Phrases) (go : Phrases → State) → all (another_index is go) tokens ≡ all (another_index (snoc is e) go) rest
+  pub goes : (is : Phrases) (go : Phrases → Parser) → all (another_index is go) tokens ≡ all (another_index (snoc is e) go) rest
 
 pub record LeavesIndex (tokens : List Token) : Type 0 where
-  pub goes : (is : Phrases) (go : Phrases → State) → all (another_index is go) tokens ≡ all (go is) tokens
+  pub goes : (is : Phrases) (go : Phrases → Parser) → all (another_index is go) tokens ≡ all (go is) tokens
 
 abbrev pub MissesIndex : List Token → Refusal → Type 0
 MissesIndex tokens NoMemory = Unit {0}
-MissesIndex tokens (Expected left) = (is : Phrases) (go : Phrases → State) → all (another_index is go) tokens ≡ Err left
-
-pub record ExtendsIndex (tokens : List Token) (is : Phrases) (rest : List Token) : Type 0 where
-  pub goes : (go : Phrases → State) → all (another_index none go) tokens ≡ all (another_index is go) rest
-  pub shorter : length rest ≤ length tokens
+MissesIndex tokens (Expected left) = (is : Phrases) (go : Phrases → Parser) → all (another_index is go) tokens ≡ Err left
 
 -- Statements.
 
 -- the tokens are a target, and then the rest
 pub record Targets (tokens : List Token) (x : Spot) (is : Phrases) (rest : List Token) : Type 0 where
-  pub goes : (go : Spot → Phrases → State) → all (any_word (λ y. another_index none (go y))) tokens ≡ all (go x is) rest
+  pub goes : (go : Spot → Phrases → Parser) → all (any_word (λ y. another_index none (go y))) tokens ≡ all (go x is) rest
 
 abbrev pub FailsTarget : List Token → Refusal → Type 0
 FailsTarget tokens NoMemory = Unit {0}
-FailsTarget tokens (Expected left) = (go : Spot → Phrases → State) → all (any_word (λ y. another_index none (go y))) tokens ≡ Err left
+FailsTarget tokens (Expected left) = (go : Spot → Phrases → Parser) → all (any_word (λ y. another_index none (go y))) tokens ≡ Err left
 
 -- the tokens are an assignment up to a mark, and then the rest
 pub record Sets (m : Mark) (tokens : List Token) (x : Spot) (is : Phrases) (e : Phrase) (rest : List Token) : Type 0 where
-  pub goes : (go : Spot → Phrases → Phrase → State) → all (setting (λ y js f. await m (go y js f))) tokens ≡ all (go x is e) rest
+  pub goes : (go : Spot → Phrases → Phrase → Parser) → all (setting (λ y js f. await m (go y js f))) tokens ≡ all (go x is e) rest
 
 abbrev pub FailsSetting : Mark → List Token → Refusal → Type 0
 FailsSetting m tokens NoMemory = Unit {0}
-FailsSetting m tokens (Expected left) = (go : Spot → Phrases → Phrase → State) → all (setting (λ y js f. await m (go y js f))) tokens ≡ Err left
+FailsSetting m tokens (Expected left) = (go : Spot → Phrases → Phrase → Parser) → all (setting (λ y js f. await m (go y js f))) tokens ≡ Err left
 
 -- the tokens are one more statement, and then the rest
-pub record AddsStmt (tokens : List Token) (d : Code) (rest : List Token) : Type 0 where
-  pub goes : (c : Code) (go : Code → State) → all (another_stmt c go) tokens ≡ all (another_stmt (join c d) go) rest
+pub record AddsStmt (tokens : List Token) (d : Statements) (rest : List Token) : Type 0 where
+  pub goes : (c : Statements) (go : Statements → Parser) → all (another_stmt c go) tokens ≡ all (another_stmt (join c d) go) rest
 
 pub record LeavesStmts (tokens : List Token) : Type 0 where
-  pub goes : (c : Code) (go : Code → State) → all (another_stmt c go) tokens ≡ all (go c) tokens
+  pub goes : (c : Statements) (go : Statements → Parser) → all (another_stmt c go) tokens ≡ all (go c) tokens
 
 abbrev pub MissesStmt : List Token → Refusal → Type 0
 MissesStmt tokens NoMemory = Unit {0}
-MissesStmt tokens (Expected left) = (c : Code) (go : Code → State) → all (another_stmt c go) tokens ≡ Err left
+MissesStmt tokens (Expected left) = (c : Statements) (go : Statements → Parser) → all (another_stmt c go) tokens ≡ Err left
 
-pub record ExtendsStmts (tokens : List Token) (c : Code) (rest : List Token) : Type 0 where
-  pub goes : (go : Code → State) → all (another_stmt done go) tokens ≡ all (another_stmt c go) rest
-  pub shorter : length rest ≤ length tokens
+-- after an `if` the tokens are the rest of the choice, and then the rest
+pub record FollowsIf (tokens : List Token) (d : Statements) (rest : List Token) : Type 0 where
+  pub goes : (c : Statements) (go : Statements → Parser) → all (if_from c go) tokens ≡ all (another_stmt (join c d) go) rest
 
--- behind an `if` the tokens are the rest of the choice, and then the rest
-pub record Chooses (tokens : List Token) (d : Code) (rest : List Token) : Type 0 where
-  pub goes : (c : Code) (go : Code → State) → all (choice_from c go) tokens ≡ all (another_stmt (join c d) go) rest
-
-abbrev pub FailsChoice : List Token → Refusal → Type 0
-FailsChoice tokens NoMemory = Unit {0}
-FailsChoice tokens (Expected left) = (c : Code) (go : Code → State) → all (choice_from c go) tokens ≡ Err left
+abbrev pub FailsIf : List Token → Refusal → Type 0
+FailsIf tokens NoMemory = Unit {0}
+FailsIf tokens (Expected left) = (c : Statements) (go : Statements → Parser) → all (if_from c go) tokens ≡ Err left
 
 -- Entries.
 

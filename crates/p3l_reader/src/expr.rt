@@ -2,14 +2,15 @@
 
 ghost use Rattle.std.specs.Prelude.{◌≡◌, ◌<◌, ◌≤◌, length, IfOk, IfErr, IfSome, IfNone};
 ghost use Rattle.p3l_ast.specs.Tree.{phrase, phrases, none};
-ghost use Rattle.p3l_grammar.specs.Symbol.{sign, level, unary_mark, binary_mark};
-ghost use Rattle.p3l_grammar.specs.Machine.{another_index, place_from, upto, operator_of};
+ghost use Rattle.p3l_lexer.specs.declared.mark.Mark.TheVariants.{Operator};
+ghost use Rattle.p3l_ast.specs.Notation.{level};
+ghost use Rattle.p3l_grammar.specs.Symbol.{sign, unary_mark};
+ghost use Rattle.p3l_grammar.specs.Parser.{another_index, place_from, upto, infix_of};
 ghost use Rattle.p3l_reader.specs.Reading.{Begins, NoUnary, Stops, Reads, Fails, Follows, FailsAt, AddsIndex, LeavesIndex, MissesIndex, FollowsUnary, FailsUnary};
 
 use crate::mark::{digits_next, name_next, sign_next, skip};
 use crate::refusal::Refusal;
 use p3l_ast::{BinOp, Expr, Spot, Target, UnOp};
-use p3l_grammar::operator::level_of;
 use p3l_lexer::{Mark, Token};
 use std::alloc::Global;
 
@@ -21,36 +22,19 @@ fn unary_next(tokens: &[Token]) -> Option<(UnOp, &[Token])>
 {
     let (mark, rest) = sign_next(tokens)?;
     match mark {
-        Mark::Minus => Some((UnOp::Neg, rest)),
+        Mark::Operator(BinOp::Sub) => Some((UnOp::Neg, rest)),
         Mark::Bang => Some((UnOp::Not, rest)),
         Mark::Tilde => Some((UnOp::Flip, rest)),
         _ => None,
     }
 }
 
-/// The operator that a mark is behind an operand.
-fn operator_of(mark: Mark) -> Option<BinOp>
-    ensures { result ≡ operator_of (sign mark) }
+/// The operator that a mark is after an operand.
+fn infix_of(mark: Mark) -> Option<BinOp>
+    ensures { result ≡ infix_of (sign mark) }
 {
     match mark {
-        Mark::EitherHolds => Some(BinOp::Or),
-        Mark::BothHold => Some(BinOp::And),
-        Mark::Bar => Some(BinOp::BitOr),
-        Mark::Caret => Some(BinOp::BitXor),
-        Mark::Ampersand => Some(BinOp::BitAnd),
-        Mark::Equal => Some(BinOp::Eq),
-        Mark::NotEqual => Some(BinOp::Ne),
-        Mark::Less => Some(BinOp::Lt),
-        Mark::AtMost => Some(BinOp::Le),
-        Mark::Greater => Some(BinOp::Gt),
-        Mark::AtLeast => Some(BinOp::Ge),
-        Mark::ShiftLeft => Some(BinOp::Shl),
-        Mark::ShiftRight => Some(BinOp::Shr),
-        Mark::Plus => Some(BinOp::Add),
-        Mark::Minus => Some(BinOp::Sub),
-        Mark::Star => Some(BinOp::Mul),
-        Mark::Slash => Some(BinOp::Div),
-        Mark::Percent => Some(BinOp::Rem),
+        Mark::Operator(op) => Some(op),
         _ => None,
     }
 }
@@ -58,12 +42,12 @@ fn operator_of(mark: Mark) -> Option<BinOp>
 /// The operator that comes next, if it binds as tight as this, and what follows it.
 fn operator(tokens: &[Token], least: u8) -> Option<(BinOp, &[Token])>
     ensures tight { IfSome result (λ x. least ≤ level x.0) }
-    ensures some { IfSome result (λ x. Begins tokens.now (sign (binary_mark x.0)) x.1.now) }
+    ensures some { IfSome result (λ x. Begins tokens.now (sign (Operator x.0)) x.1.now) }
     ensures none { IfNone result (Stops least tokens.now) }
 {
     let (mark, rest) = sign_next(tokens)?;
-    let op = operator_of(mark)?;
-    if level_of(op) < least {
+    let op = infix_of(mark)?;
+    if op.level() < least {
         None
     } else {
         Some((op, rest))
@@ -91,7 +75,7 @@ fn operand(alloc: Global, tokens: &[Token]) -> Result<(Expr, &[Token]), Refusal>
     }
 }
 
-/// What stands behind an operator before its operand.
+/// What stands after an operator before its operand.
 #[cycle(expression)]
 fn unary(alloc: Global, op: UnOp, tokens: &[Token]) -> Result<(Expr, &[Token]), Refusal>
     ensures ok { IfOk result (λ x. FollowsUnary op tokens.now (phrase x.0) x.1.now) }
@@ -101,7 +85,7 @@ fn unary(alloc: Global, op: UnOp, tokens: &[Token]) -> Result<(Expr, &[Token]), 
     Ok((Expr::Unary(op, Box::new(alloc, inner)?), rest))
 }
 
-/// What stands behind the name of a place that is read.
+/// What stands after the name of a place that is read.
 #[cycle(expression)]
 fn place(alloc: Global, at: Spot, tokens: &[Token]) -> Result<(Expr, &[Token]), Refusal>
     ensures ok { IfOk result (λ x. Reads (place_from at) tokens.now (phrase x.0) x.1.now) }
@@ -166,7 +150,7 @@ fn expr(alloc: Global, tokens: &[Token], least: u8) -> Result<(Expr, &[Token]), 
 {
     let (mut left, mut rest) = operand(alloc, tokens)?;
     while let Some((op, after)) = operator(rest, least) {
-        let (right, next) = expr(alloc, after, level_of(op) + 1)?;
+        let (right, next) = expr(alloc, after, op.level() + 1)?;
         left = Expr::Binary(op, Box::new(alloc, left)?, Box::new(alloc, right)?);
         rest = next;
     }

@@ -3,6 +3,7 @@
 
 mod call;
 mod expr;
+mod list;
 mod mark;
 mod module;
 mod port;

@@ -2,7 +2,7 @@
 
 ghost use Rattle.std.specs.Prelude.{◌≡◌, ◌<◌, ◌↔◌, length, IsTrue, IfOk, IfErr, IfSome, IfNone, true, false};
 ghost use Rattle.p3l_grammar.specs.Symbol.{sign, symbol, word};
-ghost use Rattle.p3l_grammar.specs.Machine.{any_word, any_digits, any_num};
+ghost use Rattle.p3l_grammar.specs.Parser.{any_word, any_digits, any_num};
 ghost use Rattle.p3l_reader.specs.Reading.{Begins, BeginsDigits, NotNext, IsWord, NoWord, NoSign, NoDigits, NotThere, Reads, Fails};
 
 use crate::refusal::Refusal;
@@ -16,7 +16,7 @@ fn is_mark(token: &Token, mark: Mark) -> bool
     ensures { IsTrue result ↔ (symbol token.now ≡ sign mark) }
 {
     match token.lexeme {
-        Lexeme::Sign(found) => found == mark,
+        Lexeme::Sign(found) => found.text() == mark.text(),
         _ => false,
     }
 }

@@ -2,7 +2,7 @@
 
 ghost use Rattle.std.specs.Prelude.{◌<◌, ◌≤◌, length, IfOk, IfErr};
 ghost use Rattle.p3l_ast.specs.Tree.{inside_tree, entry_tree};
-ghost use Rattle.p3l_grammar.specs.Machine.{clause, body_in, body_from, loop_calls, loop_tokens, filling, head_outs, head_from, head, fixed_from, module_from};
+ghost use Rattle.p3l_grammar.specs.Parser.{clause, body_from, loop_calls, filling, head, fixed_from, module_from};
 ghost use Rattle.p3l_reader.specs.Reading.{Reads, Fails, Closes, FailsEnd};
 ghost use Rattle.p3l_reader.specs.Parts.{head_of, filling_of};
 
@@ -13,13 +13,13 @@ use crate::refusal::Refusal;
 use crate::stmt::stmts;
 use p3l_ast::{Block, Clauses, Entry, Inside, Kind, Module, Num, Port, Spot};
 use p3l_base::List;
-use p3l_grammar::operator::mark_of_kind;
+use p3l_grammar::mark::mark_of_kind;
 use p3l_lexer::{Mark, Token};
 use std::alloc::Global;
 
 /// The name and the ports of a module.
 #[derive(Drop)]
-pub struct Head {
+pub struct Heading {
     pub at: Spot,
     pub ins: List<Port>,
     pub outs: List<Port>,
@@ -27,7 +27,7 @@ pub struct Head {
 
 /// What stands between the head of a module and its end.
 #[derive(Drop)]
-pub struct Filling {
+pub struct Contents {
     pub clauses: Clauses,
     pub inside: Inside,
 }
@@ -47,53 +47,18 @@ fn clause(alloc: Global, tokens: &[Token], mark: Mark) -> Result<(Option<Num>, &
     }
 }
 
-/// What stands behind the in ports of a head.
-fn head_outs(
-    alloc: Global,
-    at: Spot,
-    ins: List<Port>,
-    tokens: &[Token],
-) -> Result<(Head, &[Token]), Refusal>
-    ensures ok { IfOk result (λ x. Reads (head_outs at ins) tokens.now (head_of x.0) x.1.now) }
-    ensures shorter { IfOk result (λ x. length x.1.now < length tokens.now) }
-    ensures err { IfErr result (λ e. Fails (head_outs at ins) tokens.now e) }
-{
-    let rest = expect(tokens, Mark::Out)?;
-    let (outs, rest) = ports(alloc, rest)?;
-    Ok((Head { at, ins, outs }, rest))
-}
-
-/// What stands behind the name of a module.
-fn head_ports(alloc: Global, at: Spot, tokens: &[Token]) -> Result<(Head, &[Token]), Refusal>
-    ensures ok { IfOk result (λ x. Reads (head_from at) tokens.now (head_of x.0) x.1.now) }
-    ensures shorter { IfOk result (λ x. length x.1.now < length tokens.now) }
-    ensures err { IfErr result (λ e. Fails (head_from at) tokens.now e) }
-{
-    let rest = expect(tokens, Mark::In)?;
-    let (ins, rest) = ports(alloc, rest)?;
-    head_outs(alloc, at, ins, rest)
-}
-
 /// The name and the ports of a module.
-fn whole_head(alloc: Global, tokens: &[Token]) -> Result<(Head, &[Token]), Refusal>
+fn whole_head(alloc: Global, tokens: &[Token]) -> Result<(Heading, &[Token]), Refusal>
     ensures ok { IfOk result (λ x. Reads head tokens.now (head_of x.0) x.1.now) }
     ensures shorter { IfOk result (λ x. length x.1.now < length tokens.now) }
     ensures err { IfErr result (λ e. Fails head tokens.now e) }
 {
     let (at, rest) = spot(alloc, tokens)?;
-    head_ports(alloc, at, rest)
-}
-
-/// The local variables and the statements of a body.
-fn body_in(alloc: Global, tokens: &[Token]) -> Result<(Inside, &[Token]), Refusal>
-    ensures ok { IfOk result (λ x. Reads body_in tokens.now (inside_tree x.0) x.1.now) }
-    ensures shorter { IfOk result (λ x. length x.1.now ≤ length tokens.now) }
-    ensures err { IfErr result (λ e. Fails body_in tokens.now e) }
-{
-    let (locals, rest) = locals(alloc, tokens)?;
-    let (stmts, rest) = stmts(alloc, rest)?;
-    let stmts = List::from_vec(stmts);
-    Ok((Inside::Body(Block { locals, stmts }), rest))
+    let rest = expect(rest, Mark::In)?;
+    let (ins, rest) = ports(alloc, rest)?;
+    let rest = expect(rest, Mark::Out)?;
+    let (outs, rest) = ports(alloc, rest)?;
+    Ok((Heading { at, ins, outs }, rest))
 }
 
 /// The body of a `seq`.
@@ -103,9 +68,11 @@ fn body(alloc: Global, tokens: &[Token]) -> Result<(Inside, &[Token]), Refusal>
     ensures err { IfErr result (λ e. Fails body_from tokens.now e) }
 {
     let rest = expect(tokens, Mark::OpenBody)?;
-    let (inside, rest) = body_in(alloc, rest)?;
+    let (locals, rest) = locals(alloc, rest)?;
+    let (stmts, rest) = stmts(alloc, rest)?;
     let rest = expect(rest, Mark::CloseBody)?;
-    Ok((inside, rest))
+    let stmts = List::from_vec(stmts);
+    Ok((Inside::Body(Block { locals, stmts }), rest))
 }
 
 /// The body and the condition of a `loop`.
@@ -120,25 +87,8 @@ fn loop_calls(alloc: Global, tokens: &[Token]) -> Result<(Inside, &[Token]), Ref
     Ok((Inside::Turning(body, condition), rest))
 }
 
-/// What stands behind the turns of a `loop`.
-fn loop_tokens(alloc: Global, turns: Num, tokens: &[Token]) -> Result<(Filling, &[Token]), Refusal>
-    ensures ok { IfOk result (λ x. Reads (loop_tokens turns) tokens.now (filling_of x.0) x.1.now) }
-    ensures shorter { IfOk result (λ x. length x.1.now < length tokens.now) }
-    ensures err { IfErr result (λ e. Fails (loop_tokens turns) tokens.now e) }
-{
-    let (capacity, rest) = clause(alloc, tokens, Mark::Tokens)?;
-    let (inside, rest) = loop_calls(alloc, rest)?;
-    let clauses = Clauses {
-        workers: None,
-        turns: Some(turns),
-        tokens: capacity,
-        budget: None,
-    };
-    Ok((Filling { clauses, inside }, rest))
-}
-
-/// What stands behind the head of a `seq`.
-fn seq(alloc: Global, tokens: &[Token]) -> Result<(Filling, &[Token]), Refusal>
+/// What stands after the head of a `seq`.
+fn seq(alloc: Global, tokens: &[Token]) -> Result<(Contents, &[Token]), Refusal>
     ensures ok { IfOk result (λ x. Reads (filling Kind.Seq) tokens.now (filling_of x.0) x.1.now) }
     ensures shorter { IfOk result (λ x. length x.1.now < length tokens.now) }
     ensures err { IfErr result (λ e. Fails (filling Kind.Seq) tokens.now e) }
@@ -151,11 +101,11 @@ fn seq(alloc: Global, tokens: &[Token]) -> Result<(Filling, &[Token]), Refusal>
         tokens: None,
         budget,
     };
-    Ok((Filling { clauses, inside }, rest))
+    Ok((Contents { clauses, inside }, rest))
 }
 
-/// What stands behind the head of a `comp` or a `pipe`.
-fn chain(alloc: Global, tokens: &[Token]) -> Result<(Filling, &[Token]), Refusal>
+/// What stands after the head of a `comp` or a `pipe`.
+fn chain(alloc: Global, tokens: &[Token]) -> Result<(Contents, &[Token]), Refusal>
     ensures ok { IfOk result (λ x. Reads (filling Kind.Pipe) tokens.now (filling_of x.0) x.1.now) }
     ensures shorter { IfOk result (λ x. length x.1.now < length tokens.now) }
     ensures err { IfErr result (λ e. Fails (filling Kind.Pipe) tokens.now e) }
@@ -168,11 +118,11 @@ fn chain(alloc: Global, tokens: &[Token]) -> Result<(Filling, &[Token]), Refusal
         budget: None,
     };
     let inside = Inside::Calls(calls);
-    Ok((Filling { clauses, inside }, rest))
+    Ok((Contents { clauses, inside }, rest))
 }
 
-/// What stands behind the head of a `farm`, a `map` or a `reduce`.
-fn spread(alloc: Global, tokens: &[Token]) -> Result<(Filling, &[Token]), Refusal>
+/// What stands after the head of a `farm`, a `map` or a `reduce`.
+fn spread(alloc: Global, tokens: &[Token]) -> Result<(Contents, &[Token]), Refusal>
     ensures ok { IfOk result (λ x. Reads (filling Kind.Farm) tokens.now (filling_of x.0) x.1.now) }
     ensures shorter { IfOk result (λ x. length x.1.now < length tokens.now) }
     ensures err { IfErr result (λ e. Fails (filling Kind.Farm) tokens.now e) }
@@ -188,18 +138,26 @@ fn spread(alloc: Global, tokens: &[Token]) -> Result<(Filling, &[Token]), Refusa
         budget: None,
     };
     let inside = Inside::Calls(calls);
-    Ok((Filling { clauses, inside }, rest))
+    Ok((Contents { clauses, inside }, rest))
 }
 
-/// What stands behind the head of a `loop`.
-fn turning(alloc: Global, tokens: &[Token]) -> Result<(Filling, &[Token]), Refusal>
+/// What stands after the head of a `loop`.
+fn turning(alloc: Global, tokens: &[Token]) -> Result<(Contents, &[Token]), Refusal>
     ensures ok { IfOk result (λ x. Reads (filling Kind.Loop) tokens.now (filling_of x.0) x.1.now) }
     ensures shorter { IfOk result (λ x. length x.1.now < length tokens.now) }
     ensures err { IfErr result (λ e. Fails (filling Kind.Loop) tokens.now e) }
 {
     let rest = expect(tokens, Mark::Turns)?;
     let (turns, rest) = num(alloc, rest)?;
-    loop_tokens(alloc, turns, rest)
+    let (capacity, rest) = clause(alloc, rest, Mark::Tokens)?;
+    let (inside, rest) = loop_calls(alloc, rest)?;
+    let clauses = Clauses {
+        workers: None,
+        turns: Some(turns),
+        tokens: capacity,
+        budget: None,
+    };
+    Ok((Contents { clauses, inside }, rest))
 }
 
 /// What stands between the head of a module and its end.
@@ -207,7 +165,7 @@ fn whole_filling(
     alloc: Global,
     kind: Kind,
     tokens: &[Token],
-) -> Result<(Filling, &[Token]), Refusal>
+) -> Result<(Contents, &[Token]), Refusal>
     ensures ok { IfOk result (λ x. Reads (filling kind) tokens.now (filling_of x.0) x.1.now) }
     ensures shorter { IfOk result (λ x. length x.1.now < length tokens.now) }
     ensures err { IfErr result (λ e. Fails (filling kind) tokens.now e) }
@@ -233,14 +191,14 @@ fn module_end(tokens: &[Token], kind: Kind) -> Result<&[Token], Refusal>
     expect(rest, mark_of_kind(kind))
 }
 
-/// What stands behind the keyword of a module.
+/// What stands after the keyword of a module.
 pub fn module(alloc: Global, kind: Kind, tokens: &[Token]) -> Result<(Entry, &[Token]), Refusal>
     ensures ok { IfOk result (λ x. Reads (module_from kind) tokens.now (entry_tree x.0) x.1.now) }
     ensures shorter { IfOk result (λ x. length x.1.now < length tokens.now) }
     ensures err { IfErr result (λ e. Fails (module_from kind) tokens.now e) }
 {
-    let (Head { at, ins, outs }, rest) = whole_head(alloc, tokens)?;
-    let (Filling { clauses, inside }, rest) = whole_filling(alloc, kind, rest)?;
+    let (Heading { at, ins, outs }, rest) = whole_head(alloc, tokens)?;
+    let (Contents { clauses, inside }, rest) = whole_filling(alloc, kind, rest)?;
     let rest = module_end(rest, kind)?;
     let module = Module {
         kind,
@@ -253,7 +211,7 @@ pub fn module(alloc: Global, kind: Kind, tokens: &[Token]) -> Result<(Entry, &[T
     Ok((Entry::Module(module), rest))
 }
 
-/// What stands behind `const`.
+/// What stands after `const`.
 pub fn constant(alloc: Global, tokens: &[Token]) -> Result<(Entry, &[Token]), Refusal>
     ensures ok { IfOk result (λ x. Reads fixed_from tokens.now (entry_tree x.0) x.1.now) }
     ensures shorter { IfOk result (λ x. length x.1.now < length tokens.now) }

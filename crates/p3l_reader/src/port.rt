@@ -1,9 +1,10 @@
 // Reading ports.
 
 ghost use Rattle.std.specs.Prelude.{◌<◌, ◌≤◌, [], ◌∷◌, length, IfOk, IfErr, IfSome, IfNone};
-ghost use Rattle.p3l_grammar.specs.Machine.{another_size, port_from, port, another_port, port_list, ports, another_local};
+ghost use Rattle.p3l_grammar.specs.Parser.{another_size, port_from, port, another_port, port_list, ports, another_local};
 ghost use Rattle.p3l_reader.specs.Reading.{Reads, Fails, Adds, Leaves, Misses};
 
+use crate::list::{Listed, Separated, list_from, parenthesized};
 use crate::mark::{expect, num, skip, spot};
 use crate::refusal::Refusal;
 use p3l_ast::{Num, Port};
@@ -11,46 +12,14 @@ use p3l_base::List;
 use p3l_lexer::{Mark, Token};
 use std::alloc::Global;
 
-/// The next size in brackets, where one comes next.
-fn next_size(alloc: Global, tokens: &[Token]) -> Result<Option<(Num, &[Token])>, Refusal>
-    ensures some { IfOk result (λ o. IfSome o (λ x. Adds another_size tokens.now x.0 x.1.now)) }
-    ensures shorter { IfOk result (λ o. IfSome o (λ x. length x.1.now < length tokens.now)) }
-    ensures none { IfOk result (λ o. IfNone o (Leaves another_size tokens.now)) }
-    ensures err { IfErr result (λ e. Misses another_size tokens.now e) }
-{
-    match skip(tokens, Mark::OpenBracket) {
-        Some(rest) => {
-            let (size, rest) = num(alloc, rest)?;
-            let rest = expect(rest, Mark::CloseBracket)?;
-            Ok(Some((size, rest)))
-        }
-        None => Ok(None),
-    }
-}
-
-/// The sizes in brackets, as many as there are.
-fn sizes(alloc: Global, tokens: &[Token]) -> Result<(List<Num>, &[Token]), Refusal>
-    ensures ok { IfOk result (λ x. Reads (another_size []) tokens.now x.0 x.1.now) }
-    ensures shorter { IfOk result (λ x. length x.1.now ≤ length tokens.now) }
-    ensures err { IfErr result (λ e. Fails (another_size []) tokens.now e) }
-{
-    let mut sizes = List::new(alloc);
-    let mut rest = tokens;
-    while let Some((size, next)) = next_size(alloc, rest)? {
-        sizes.push(size)?;
-        rest = next;
-    }
-    Ok((sizes, rest))
-}
-
-/// What stands behind the `int` of a port.
+/// What stands after the `int` of a port.
 pub fn port_name(alloc: Global, tokens: &[Token]) -> Result<(Port, &[Token]), Refusal>
     ensures ok { IfOk result (λ x. Reads port_from tokens.now x.0 x.1.now) }
     ensures shorter { IfOk result (λ x. length x.1.now < length tokens.now) }
     ensures err { IfErr result (λ e. Fails port_from tokens.now e) }
 {
     let (at, rest) = spot(alloc, tokens)?;
-    let (sizes, rest) = sizes(alloc, rest)?;
+    let (sizes, rest) = list_from(alloc, List::new(alloc), rest)?;
     Ok((Port { at, sizes }, rest))
 }
 
@@ -64,59 +33,13 @@ fn port(alloc: Global, tokens: &[Token]) -> Result<(Port, &[Token]), Refusal>
     port_name(alloc, rest)
 }
 
-/// The next port behind a comma, where a comma comes next.
-fn next_port(alloc: Global, tokens: &[Token]) -> Result<Option<(Port, &[Token])>, Refusal>
-    ensures some { IfOk result (λ o. IfSome o (λ x. Adds another_port tokens.now x.0 x.1.now)) }
-    ensures shorter { IfOk result (λ o. IfSome o (λ x. length x.1.now < length tokens.now)) }
-    ensures none { IfOk result (λ o. IfNone o (Leaves another_port tokens.now)) }
-    ensures err { IfErr result (λ e. Misses another_port tokens.now e) }
-{
-    match skip(tokens, Mark::Comma) {
-        Some(rest) => Ok(Some(port(alloc, rest)?)),
-        None => Ok(None),
-    }
-}
-
-/// A port, and those that follow it behind commas.
-fn more_ports(
-    alloc: Global,
-    first: Port,
-    tokens: &[Token],
-) -> Result<(List<Port>, &[Token]), Refusal>
-    ensures ok { IfOk result (λ x. Reads (another_port (first ∷ [])) tokens.now x.0 x.1.now) }
-    ensures shorter { IfOk result (λ x. length x.1.now ≤ length tokens.now) }
-    ensures err { IfErr result (λ e. Fails (another_port (first ∷ [])) tokens.now e) }
-{
-    let mut ports = List::new(alloc);
-    ports.push(first)?;
-    let mut rest = tokens;
-    while let Some((port, next)) = next_port(alloc, rest)? {
-        ports.push(port)?;
-        rest = next;
-    }
-    Ok((ports, rest))
-}
-
-/// Ports with commas between them, one at least.
-fn port_list(alloc: Global, tokens: &[Token]) -> Result<(List<Port>, &[Token]), Refusal>
-    ensures ok { IfOk result (λ x. Reads port_list tokens.now x.0 x.1.now) }
-    ensures shorter { IfOk result (λ x. length x.1.now < length tokens.now) }
-    ensures err { IfErr result (λ e. Fails port_list tokens.now e) }
-{
-    let (first, rest) = port(alloc, tokens)?;
-    more_ports(alloc, first, rest)
-}
-
 /// Ports in parentheses, one at least.
 pub fn ports(alloc: Global, tokens: &[Token]) -> Result<(List<Port>, &[Token]), Refusal>
     ensures ok { IfOk result (λ x. Reads ports tokens.now x.0 x.1.now) }
     ensures shorter { IfOk result (λ x. length x.1.now < length tokens.now) }
     ensures err { IfErr result (λ e. Fails ports tokens.now e) }
 {
-    let rest = expect(tokens, Mark::OpenParen)?;
-    let (ports, rest) = port_list(alloc, rest)?;
-    let rest = expect(rest, Mark::CloseParen)?;
-    Ok((ports, rest))
+    parenthesized(alloc, tokens)
 }
 
 /// The next local variable, where one comes next.
@@ -149,4 +72,44 @@ pub fn locals(alloc: Global, tokens: &[Token]) -> Result<(List<Port>, &[Token]),
         rest = next;
     }
     Ok((locals, rest))
+}
+
+impl Listed for Num {
+    ghost use Rattle.p3l_grammar.specs.Parser.{another_size};
+
+    ghost list = { another_size };
+
+    fn next(alloc: Global, tokens: &[Token]) -> Result<Option<(Num, &[Token])>, Refusal> {
+        match skip(tokens, Mark::OpenBracket) {
+            Some(rest) => {
+                let (size, rest) = num(alloc, rest)?;
+                let rest = expect(rest, Mark::CloseBracket)?;
+                Ok(Some((size, rest)))
+            }
+            None => Ok(None),
+        }
+    }
+}
+
+impl Listed for Port {
+    ghost use Rattle.p3l_grammar.specs.Parser.{another_port};
+
+    ghost list = { another_port };
+
+    fn next(alloc: Global, tokens: &[Token]) -> Result<Option<(Port, &[Token])>, Refusal> {
+        match skip(tokens, Mark::Comma) {
+            Some(rest) => Ok(Some(port(alloc, rest)?)),
+            None => Ok(None),
+        }
+    }
+}
+
+impl Separated for Port {
+    ghost use Rattle.p3l_grammar.specs.Parser.{port};
+
+    ghost one = { port };
+
+    fn one(alloc: Global, tokens: &[Token]) -> Result<(Port, &[Token]), Refusal> {
+        port(alloc, tokens)
+    }
 }

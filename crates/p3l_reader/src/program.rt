@@ -2,7 +2,7 @@
 
 ghost use Rattle.std.specs.Prelude.{◌≡◌, ◌<◌, [], length, map, IfOk, IfErr, Ok};
 ghost use Rattle.p3l_ast.specs.Tree.{entry_tree};
-ghost use Rattle.p3l_grammar.specs.Machine.{entries, all, kind_of};
+ghost use Rattle.p3l_grammar.specs.Parser.{entries, all, kind_of};
 ghost use Rattle.p3l_reader.specs.Reading.{AddsEntry, MissesEntry, FailsText};
 
 use crate::mark::{sign_next, skip};

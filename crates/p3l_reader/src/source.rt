@@ -3,7 +3,7 @@
 ghost use Rattle.std.specs.Prelude.{◌≡◌, ◌+◌, ◌-◌, ◌<◌, ◌≤◌, [], ◌∷◌, ◌++◌, List, length, drop, map, IfOk, IfErr, Err};
 ghost use Rattle.p3l_ast.specs.Tree.{entry_tree, EntryTree, ProgramTree, program_tree};
 ghost use Rattle.p3l_grammar.specs.Symbol.{symbols};
-ghost use Rattle.p3l_grammar.specs.Limits.{at_rest, nest_behind, IsPast, IsWithin};
+ghost use Rattle.p3l_grammar.specs.Limits.{at_rest, nest_after, IsPast, IsWithin};
 ghost use Rattle.p3l_grammar.specs.Grammar.{Derives, Spells};
 ghost use Rattle.p3l_reader.specs.Reading.{FailsText};
 ghost use Rattle.p3l_reader.specs.Faults.{own_fault, wrong_at, IsFaultIn, IsLastFault, IsOnlyList, IsRefusal, IsOnly, too_long, too_nested};
@@ -87,7 +87,7 @@ fn beyond(
 ) -> SourceRefusal
     requires whole { tokens.now ≡ before.now ++ last.now ∷ [] }
     requires within { IsWithin at_rest (symbols before.now) }
-    requires past { IsPast (nest_behind at_rest (symbols tokens.now)) }
+    requires past { IsPast (nest_after at_rest (symbols tokens.now)) }
     ensures { IsLastFault tokens.now end result }
 {
     let refusal = match text(alloc, tokens) {
@@ -108,7 +108,7 @@ fn first_fault(
     requires fault { FailsText tokens.now refusal }
     requires whole { tokens.now ≡ before.now ++ last.now ∷ [] }
     requires within { IsWithin at_rest (symbols before.now) }
-    requires past { IsPast (nest_behind at_rest (symbols tokens.now)) }
+    requires past { IsPast (nest_after at_rest (symbols tokens.now)) }
     ensures { IsLastFault tokens.now end result }
 {
     match refusal {

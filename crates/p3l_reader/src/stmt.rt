@@ -1,9 +1,9 @@
 // Reading statements.
 
 ghost use Rattle.std.specs.Prelude.{◌<◌, ◌≤◌, length, IfOk, IfErr, IfSome, IfNone};
-ghost use Rattle.p3l_ast.specs.Tree.{phrase, phrases, done, one, code};
-ghost use Rattle.p3l_grammar.specs.Machine.{test, block, another_stmt, repeat_from, count_from};
-ghost use Rattle.p3l_reader.specs.Reading.{Reads, Fails, Targets, FailsTarget, Sets, FailsSetting, AddsStmt, LeavesStmts, MissesStmt, Chooses, FailsChoice, IsWord};
+ghost use Rattle.p3l_ast.specs.Tree.{phrase, phrases, done, one, statements};
+ghost use Rattle.p3l_grammar.specs.Parser.{test, block, another_stmt, while_from, for_from};
+ghost use Rattle.p3l_reader.specs.Reading.{Reads, Fails, Targets, FailsTarget, Sets, FailsSetting, AddsStmt, LeavesStmts, MissesStmt, FollowsIf, FailsIf, IsWord};
 
 use crate::expr::{index, upto};
 use crate::mark::{expect, skip, spot, word_comes};
@@ -56,12 +56,12 @@ fn assignment(alloc: Global, tokens: &[Token]) -> Result<(Stmt, &[Token]), Refus
     Ok((Stmt::Assign(target, value), rest))
 }
 
-/// What stands behind an `if`.
+/// What stands after an `if`.
 #[cycle(statement)]
-fn choice(alloc: Global, tokens: &[Token]) -> Result<(Stmt, &[Token]), Refusal>
-    ensures ok { IfOk result (λ x. Chooses tokens.now (one x.0) x.1.now) }
+fn if_statement(alloc: Global, tokens: &[Token]) -> Result<(Stmt, &[Token]), Refusal>
+    ensures ok { IfOk result (λ x. FollowsIf tokens.now (one x.0) x.1.now) }
     ensures shorter { IfOk result (λ x. length x.1.now < length tokens.now) }
-    ensures err { IfErr result (λ e. FailsChoice tokens.now e) }
+    ensures err { IfErr result (λ e. FailsIf tokens.now e) }
 {
     let (condition, rest) = test(alloc, tokens)?;
     let (then, rest) = block(alloc, rest)?;
@@ -74,24 +74,24 @@ fn choice(alloc: Global, tokens: &[Token]) -> Result<(Stmt, &[Token]), Refusal>
     }
 }
 
-/// What stands behind a `while`.
+/// What stands after a `while`.
 #[cycle(statement)]
-fn repetition(alloc: Global, tokens: &[Token]) -> Result<(Stmt, &[Token]), Refusal>
-    ensures ok { IfOk result (λ x. Reads repeat_from tokens.now (one x.0) x.1.now) }
+fn while_statement(alloc: Global, tokens: &[Token]) -> Result<(Stmt, &[Token]), Refusal>
+    ensures ok { IfOk result (λ x. Reads while_from tokens.now (one x.0) x.1.now) }
     ensures shorter { IfOk result (λ x. length x.1.now < length tokens.now) }
-    ensures err { IfErr result (λ e. Fails repeat_from tokens.now e) }
+    ensures err { IfErr result (λ e. Fails while_from tokens.now e) }
 {
     let (condition, rest) = test(alloc, tokens)?;
     let (body, rest) = block(alloc, rest)?;
     Ok((Stmt::While(condition, body), rest))
 }
 
-/// What stands behind a `for`.
+/// What stands after a `for`.
 #[cycle(statement)]
-fn counting(alloc: Global, tokens: &[Token]) -> Result<(Stmt, &[Token]), Refusal>
-    ensures ok { IfOk result (λ x. Reads count_from tokens.now (one x.0) x.1.now) }
+fn for_statement(alloc: Global, tokens: &[Token]) -> Result<(Stmt, &[Token]), Refusal>
+    ensures ok { IfOk result (λ x. Reads for_from tokens.now (one x.0) x.1.now) }
     ensures shorter { IfOk result (λ x. length x.1.now < length tokens.now) }
-    ensures err { IfErr result (λ e. Fails count_from tokens.now e) }
+    ensures err { IfErr result (λ e. Fails for_from tokens.now e) }
 {
     let rest = expect(tokens, Mark::OpenParen)?;
     let (first, start, rest) = setting(alloc, rest, Mark::Semicolon)?;
@@ -104,7 +104,7 @@ fn counting(alloc: Global, tokens: &[Token]) -> Result<(Stmt, &[Token]), Refusal
 /// Statements in braces.
 #[cycle(statement)]
 fn block(alloc: Global, tokens: &[Token]) -> Result<(Vec<Stmt>, &[Token]), Refusal>
-    ensures ok { IfOk result (λ x. Reads block tokens.now (code x.0.items) x.1.now) }
+    ensures ok { IfOk result (λ x. Reads block tokens.now (statements x.0.items) x.1.now) }
     ensures shorter { IfOk result (λ x. length x.1.now < length tokens.now) }
     ensures err { IfErr result (λ e. Fails block tokens.now e) }
 {
@@ -126,13 +126,13 @@ fn next_stmt(alloc: Global, tokens: &[Token]) -> Result<Option<(Stmt, &[Token])>
         return Ok(Some(assignment(alloc, tokens)?));
     }
     if let Some(rest) = skip(tokens, Mark::If) {
-        return Ok(Some(choice(alloc, rest)?));
+        return Ok(Some(if_statement(alloc, rest)?));
     }
     if let Some(rest) = skip(tokens, Mark::While) {
-        return Ok(Some(repetition(alloc, rest)?));
+        return Ok(Some(while_statement(alloc, rest)?));
     }
     match skip(tokens, Mark::For) {
-        Some(rest) => Ok(Some(counting(alloc, rest)?)),
+        Some(rest) => Ok(Some(for_statement(alloc, rest)?)),
         None => Ok(None),
     }
 }
@@ -140,7 +140,7 @@ fn next_stmt(alloc: Global, tokens: &[Token]) -> Result<Option<(Stmt, &[Token])>
 /// Statements, as many as there are.
 #[cycle(statement)]
 pub fn stmts(alloc: Global, tokens: &[Token]) -> Result<(Vec<Stmt>, &[Token]), Refusal>
-    ensures ok { IfOk result (λ x. Reads (another_stmt done) tokens.now (code x.0.items) x.1.now) }
+    ensures ok { IfOk result (λ x. Reads (another_stmt done) tokens.now (statements x.0.items) x.1.now) }
     ensures shorter { IfOk result (λ x. length x.1.now ≤ length tokens.now) }
     ensures err { IfErr result (λ e. Fails (another_stmt done) tokens.now e) }
 {

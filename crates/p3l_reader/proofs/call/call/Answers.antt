@@ -1,5 +1,5 @@
-use Rattle.p3l_grammar.specs.Machine.{any_word, call_from}
-use Rattle.p3l_reader.proofs.Steps.{on_error, then_fails}
+use Rattle.p3l_grammar.specs.Parser.{any_word, call_from}
+use Rattle.p3l_reader.proofs.Tokens.{on_error, then_fails}
 use Rattle.p3l_reader.proofs.call.call.Goals as goal
 
 pub returns-clause-err : goal.returns-clause-err

@@ -1,8 +1,8 @@
 use Rattle.std.proofs.Common.{rules, ◌+◌, arith}
 use Rattle.p3l_ast.specs.Tree.{phrase, phrases}
 use Rattle.p3l_ast.proofs.Trees.{phrase_number, phrase_unary, phrase_binary, phrase_read, phrases_push}
-use Rattle.p3l_reader.proofs.Steps.{on_answer, on_error}
-use Rattle.p3l_reader.proofs.Walk.{follows_number, follows_place, fails_place, place_reads, follows_unary, follows_binary, index_more}
+use Rattle.p3l_reader.proofs.Tokens.{on_answer, on_error}
+use Rattle.p3l_reader.proofs.Bodies.{follows_number, follows_place, fails_place, place_reads, follows_unary, follows_binary, index_more}
 use Rattle.p3l_reader.proofs.expr.+expression.Goals as goal
 
 pub unary-returns-clause-ok : goal.unary-returns-clause-ok
@@ -40,4 +40,4 @@ index-loop-list-preserved t c =
 pub expr-loop-op-preserved : goal.expr-loop-op-preserved
 expr-loop-op-preserved t c =
     rw (phrase_binary c.in-Some.op c.in_ok-new.field-0 c.in_ok-new-2.field-0, c.in_ok-new.ensures.ok, c.in_ok-new-2.ensures.ok)
-    (follows_binary c.args.least (c.level_of.result + 1) (phrase c.loop-op.left) (phrase c.in_ok-right.right) c.in-Some.op c.args.tokens.now c.loop-op.rest.now c.in-Some.after.now c.in_ok-right.next.now c.in-Some.ensures.tight (omega (arith, c.level_of.ensures)) c.loop-op.invariant c.in-Some.ensures.some c.in_ok-right.ensures.ok c.in_ok-right.ensures.stops)
+    (follows_binary c.args.least (c.level.result + 1) (phrase c.loop-op.left) (phrase c.in_ok-right.right) c.in-Some.op c.args.tokens.now c.loop-op.rest.now c.in-Some.after.now c.in_ok-right.next.now c.in-Some.ensures.tight (omega (arith, c.level.ensures)) c.loop-op.invariant c.in-Some.ensures.some c.in_ok-right.ensures.ok c.in_ok-right.ensures.stops)

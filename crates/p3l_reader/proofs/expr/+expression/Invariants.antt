@@ -1,6 +1,7 @@
 use Rattle.std.proofs.Common.{◌+◌, ◌*◌, length}
 use Rattle.p3l_ast.specs.Tree.{phrase, phrases}
-use Rattle.p3l_reader.specs.Reading.{Follows, ExtendsIndex}
+use Rattle.p3l_reader.specs.Reading.{Follows}
+use Rattle.p3l_reader.proofs.Lists.{ExtendsIndex}
 use Rattle.p3l_reader.proofs.expr.+expression.Given as goal
 
 abbrev pub decreases-operand : goal.decreases-operand

@@ -1,4 +1,4 @@
-use Rattle.p3l_reader.proofs.Steps.{on_error, end_missing}
+use Rattle.p3l_reader.proofs.Tokens.{on_error, end_missing}
 use Rattle.p3l_reader.proofs.module.module_end.Goals as goal
 
 pub returns-clause-err : goal.returns-clause-err

@@ -1,6 +1,6 @@
 use Rattle.std.proofs.Common.{[], length}
-use Rattle.p3l_grammar.specs.Machine.{another_local}
-use Rattle.p3l_reader.specs.Reading.{Extends}
+use Rattle.p3l_grammar.specs.Parser.{another_local}
+use Rattle.p3l_reader.proofs.Lists.{Extends}
 use Rattle.p3l_reader.proofs.port.locals.Given as goal
 
 abbrev pub invariant-loop-locals : goal.invariant-loop-locals

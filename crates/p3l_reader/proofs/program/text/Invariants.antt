@@ -1,6 +1,6 @@
 use Rattle.std.proofs.Common.{◌≡◌, [], length, map}
 use Rattle.p3l_ast.specs.Tree.{entry_tree}
-use Rattle.p3l_grammar.specs.Machine.{entries, all}
+use Rattle.p3l_grammar.specs.Parser.{entries, all}
 use Rattle.p3l_reader.proofs.program.text.Given as goal
 
 abbrev pub invariant-loop-rest : goal.invariant-loop-rest

@@ -1,6 +1,6 @@
 use Rattle.p3l_grammar.specs.Symbol.{symbols}
 use Rattle.p3l_grammar.proofs.Exact.{derives_of_all}
-use Rattle.p3l_reader.proofs.Beyond.{last_is, derives_viable}
+use Rattle.p3l_reader.proofs.FirstFault.{last_is, derives_viable}
 use Rattle.p3l_reader.proofs.source.beyond.Goals as goal
 
 pub returns-in-Ok : goal.returns-in-Ok

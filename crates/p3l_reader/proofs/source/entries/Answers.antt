@@ -1,6 +1,6 @@
 use Rattle.std.proofs.Common.{◌+◌, suc, drop, sym}
 use Rattle.std.proofs.lemmas.List.{take-append-drop}
-use Rattle.p3l_reader.proofs.Beyond.{front_kept, fault_whole, if_ok}
+use Rattle.p3l_reader.proofs.FirstFault.{front_kept, fault_whole, if_ok}
 use Rattle.p3l_reader.proofs.source.entries.Goals as goal
 
 pub returns-in-None-clause-within : goal.returns-in-None-clause-within

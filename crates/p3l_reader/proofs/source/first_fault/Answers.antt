@@ -1,5 +1,5 @@
 use Rattle.std.proofs.Common.{arith}
-use Rattle.p3l_reader.proofs.Beyond.{last_is, early_is, stop_viable, left_small}
+use Rattle.p3l_reader.proofs.FirstFault.{last_is, early_is, stop_viable, left_small}
 use Rattle.p3l_reader.proofs.source.first_fault.Goals as goal
 
 pub returns-then-left-eq0 : goal.returns-then-left-eq0

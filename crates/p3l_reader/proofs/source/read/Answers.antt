@@ -1,5 +1,5 @@
 use Rattle.std.proofs.Common.{◌≡◌, sym, ◌∙◌}
-use Rattle.p3l_reader.proofs.Beyond.{only_residual, spelled_entries, spelled_program}
+use Rattle.p3l_reader.proofs.FirstFault.{only_residual, spelled_entries, spelled_program}
 use Rattle.p3l_reader.proofs.source.read.Goals as goal
 
 pub returns-in_err-entries-clause-only : goal.returns-in_err-entries-clause-only

@@ -1,5 +1,5 @@
 use Rattle.p3l_grammar.proofs.Exact.{all_of_derives, derives_of_all}
-use Rattle.p3l_reader.proofs.Beyond.{stop_fault, left_small}
+use Rattle.p3l_reader.proofs.FirstFault.{stop_fault, left_small}
 use Rattle.p3l_reader.proofs.source.within.Goals as goal
 
 pub returns-in-Ok-clause-found : goal.returns-in-Ok-clause-found

@@ -1,8 +1,8 @@
 use Rattle.p3l_ast.specs.Tree.{phrase, phrases}
 use Rattle.p3l_ast.proofs.Trees.{one_assign}
 use Rattle.p3l_reader.specs.Reading.{MissesStmt}
-use Rattle.p3l_reader.proofs.Steps.{on_residual}
-use Rattle.p3l_reader.proofs.Walk.{assignment_adds, assignment_misses}
+use Rattle.p3l_reader.proofs.Tokens.{on_residual}
+use Rattle.p3l_reader.proofs.Bodies.{assignment_adds, assignment_misses}
 use Rattle.p3l_reader.proofs.stmt.assignment.Goals as goal
 
 pub returns-clause-ok : goal.returns-clause-ok

@@ -1,7 +1,7 @@
 use Rattle.p3l_ast.specs.Tree.{phrase, phrases}
 use Rattle.p3l_reader.specs.Reading.{FailsSetting}
-use Rattle.p3l_reader.proofs.Steps.{on_residual}
-use Rattle.p3l_reader.proofs.Walk.{sets_all, sets_fails_target, sets_fails_mark, sets_fails_value}
+use Rattle.p3l_reader.proofs.Tokens.{on_residual}
+use Rattle.p3l_reader.proofs.Bodies.{sets_all, sets_fails_target, sets_fails_mark, sets_fails_value}
 use Rattle.p3l_reader.proofs.stmt.setting.Goals as goal
 
 pub returns-clause-ok : goal.returns-clause-ok

@@ -1,8 +1,8 @@
-use Rattle.p3l_grammar.specs.Machine.{another_call}
+use Rattle.p3l_grammar.specs.Parser.{another_call}
 use Rattle.p3l_reader.specs.Reading.{Misses}
-use Rattle.p3l_reader.proofs.Steps.{on_residual}
-use Rattle.p3l_reader.proofs.Walk.{call_adds, call_misses}
-use Rattle.p3l_reader.proofs.call.next_call.Goals as goal
+use Rattle.p3l_reader.proofs.Tokens.{on_residual}
+use Rattle.p3l_reader.proofs.Bodies.{call_adds, call_misses}
+use Rattle.p3l_reader.proofs.call.CallListed.next.Goals as goal
 
 pub returns-in_ok-call_of-in-Some-clause-some : goal.returns-in_ok-call_of-in-Some-clause-some
 returns-in_ok-call_of-in-Some-clause-some c =

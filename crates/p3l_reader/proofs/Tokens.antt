@@ -1,55 +1,66 @@
--- How the functions of the reader go with the machine, step by step.
-use Rattle.std.proofs.Common.{◌≡◌, suc, List, [], ◌∷◌, length, Some, None, Bool, true, false, cond, refl, sym, ap, ◌∙◌, subst, eq-eqb, IfOk, IfErr, IsErrAnd}
-use Rattle.std.proofs.lemmas.Map.Views.{exact_unsigned_eq}
+-- How the functions of the reader go with the parser, step by step.
+use Rattle.std.proofs.Common.{◌≡◌, suc, List, [], ◌∷◌, length, Some, None, Bool, true, false, cond, refl, sym, ap, ◌∙◌, subst, IfOk, IfErr, IsErrAnd}
+use Rattle.std.specs.Str.{bytes_eq}
+use Rattle.std.proofs.lemmas.Slice.Eq.{bytes_eq-Decides}
 use Rattle.std.specs.declared.result.Result.{Result}
 use Rattle.std.specs.declared.result.Result.TheVariants.{Ok, Err}
 use Rattle.p3l_ast.specs.declared.module.Kind.{Kind}
 use Rattle.p3l_lexer.specs.declared.mark.Mark.{Mark}
 use Rattle.p3l_lexer.specs.declared.mark.Mark.TheVariants as marks
+use Rattle.p3l_lexer.specs.declared.token.Lexeme.TheVariants as lexemes
 use Rattle.p3l_lexer.specs.declared.token.Token.{Token}
-use Rattle.p3l_grammar.specs.Symbol.{Symbol, symbol, word, digits, sign, faulty, kind_mark}
-use Rattle.p3l_grammar.specs.Marks.{mark_number, same_mark}
-use Rattle.p3l_grammar.specs.Machine.{State, await, step, next, all, await_step}
+use Rattle.p3l_grammar.specs.Symbol.{Symbol, symbol_at, symbol, word, digits, sign, faulty, kind_mark}
+use Rattle.p3l_lexer.specs.Mark.{mark_text}
+use Rattle.p3l_grammar.specs.Parser.{Parser, await, step, next, all, same_mark, await_step}
 use Rattle.p3l_grammar.proofs.Sound.{mark_same}
 use Rattle.p3l_reader.specs.declared.refusal.Refusal.{Refusal}
 use Rattle.p3l_reader.specs.declared.refusal.Refusal.TheVariants.{NoMemory, Expected}
 use Rattle.p3l_reader.specs.Reading.{Begins, NotNext, NotThere, Reads, Fails, FailsEnd}
 
--- the machine takes the token that comes first
-pub begins_all : (ts rest : List Token) (t : Symbol) → Begins ts t rest → (s : State) → all s ts ≡ next (step s t) (suc (length rest)) (λ s'. all s' rest)
+-- the parser takes the token that comes first
+pub begins_all : (ts rest : List Token) (t : Symbol) → Begins ts t rest → (s : Parser) → all s ts ≡ next (step s t) (suc (length rest)) (λ s'. all s' rest)
 begins_all ts rest t b s =
     ap (all s) b.whole ∙ ap (λ q. next (step s q) (suc (length rest)) (λ s'. all s' rest)) b.seen
 
-mark_itself : (m : Mark) (s : State) → await_step (sign m) m s ≡ Some s
-mark_itself m s = rw (eq-eqb (mark_number m) (mark_number m) refl) refl
+mark_itself : (m : Mark) (s : Parser) → await_step (sign m) m s ≡ Some s
+mark_itself m s = rw ((bytes_eq-Decides (mark_text m) (mark_text m)).1 refl) refl
 
-pub await_begins : (m : Mark) (ts rest : List Token) → Begins ts (sign m) rest → (s : State) → all (await m s) ts ≡ all s rest
+pub await_begins : (m : Mark) (ts rest : List Token) → Begins ts (sign m) rest → (s : Parser) → all (await m s) ts ≡ all s rest
 await_begins m ts rest b s =
     begins_all ts rest (sign m) b (await m s) ∙ ap (λ o. next o (suc (length rest)) (λ s'. all s' rest)) (mark_itself m s)
 
-not_there : (t : Symbol) (m : Mark) (s : State) → (t ≡ sign m → ⊥) → await_step t m s ≡ None
+not_there : (t : Symbol) (m : Mark) (s : Parser) → (t ≡ sign m → ⊥) → await_step t m s ≡ None
 not_there (word x) m s h = refl
 not_there (digits v p) m s h = refl
 not_there faulty m s h = refl
 not_there (sign m') m s h = at (same_mark m m') refl
   where
     at : (b : Bool) → same_mark m m' ≡ b → cond b (Some s) None ≡ None
-    at true p = absurd (h (ap sign (sym (mark_same m m' (exact_unsigned_eq _ _ p)))))
+    at true p = absurd (h (ap sign (sym (mark_same m m' p))))
     at false p = refl
 
-pub await_fails : (m : Mark) (ts : List Token) → NotNext m ts → (s : State) → all (await m s) ts ≡ Err (length ts)
+pub await_fails : (m : Mark) (ts : List Token) → NotNext m ts → (s : Parser) → all (await m s) ts ≡ Err (length ts)
 await_fails m [] h s = refl
 await_fails m (t ∷ ts) h s = ap (λ o. next o (suc (length ts)) (λ s'. all s' ts)) (not_there (symbol t) m s h)
 
+-- a token is a mark where it is written like it
+pub is_sign : (t : Token) (found m : Mark) (b : Bool) → t.lexeme ≡ lexemes.Sign found → b ≡ bytes_eq (mark_text found) (mark_text m) → (b ≡ true → symbol t ≡ sign m) × (symbol t ≡ sign m → b ≡ true)
+is_sign t found m b is same =
+    let seen : symbol t ≡ sign found = ap (λ l. symbol_at l t.at) is in
+    let decides = bytes_eq-Decides (mark_text found) (mark_text m) in (
+      λ h. let p : same_mark found m ≡ true = sym same ∙ h in seen ∙ ap sign (mark_same found m p),
+      λ h. let q : sign found ≡ sign m = sym seen ∙ h in let r : found ≡ m = cc in same ∙ decides.1 (ap mark_text r),
+    )
+
 -- A mark, and what follows it.
 
-pub mark_fails : {A : Type 0} (m : Mark) (from : (A → State) → State) (ts r : List Token) (e : Refusal) → Begins ts (sign m) r → Fails from r e → Fails (λ go. await m (from go)) ts e
+pub mark_fails : {A : Type 0} (m : Mark) (from : (A → Parser) → Parser) (ts r : List Token) (e : Refusal) → Begins ts (sign m) r → Fails from r e → Fails (λ go. await m (from go)) ts e
 mark_fails m from ts r NoMemory b h = tt
 mark_fails m from ts r (Expected left) b h = λ go. await_begins m ts r b (from go) ∙ h go
 
--- One thing behind another.
+-- One thing after another.
 
-pub then_fails : {A B : Type 0} (from : (A → State) → State) (k : A → (B → State) → State) (ts r : List Token) (x : A) (e : Refusal) → Reads from ts x r → Fails (k x) r e → Fails (λ go. from (λ a. k a go)) ts e
+pub then_fails : {A B : Type 0} (from : (A → Parser) → Parser) (k : A → (B → Parser) → Parser) (ts r : List Token) (x : A) (e : Refusal) → Reads from ts x r → Fails (k x) r e → Fails (λ go. from (λ a. k a go)) ts e
 then_fails from k ts r x NoMemory f h = tt
 then_fails from k ts r x (Expected left) f h = λ go. f.goes (λ a. k a go) ∙ h go
 

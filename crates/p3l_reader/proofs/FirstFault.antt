@@ -1,5 +1,5 @@
--- The first fault of tokens, by where the machine stops and by the limits.
-use Rattle.std.proofs.Common.{◌≡◌, ℕ, ◌-◌, ◌<◌, ◌≤◌, List, [], ◌∷◌, ◌++◌, length, take, drop, refl, ap, ◌∙◌, sym, subst, arith, append_assoc, append-nil, length-append, IfOk, IfErr, IsErrAnd}
+-- The first fault of tokens, by where the parser stops and by the limits.
+use Rattle.std.proofs.Common.{◌≡◌, ℕ, ◌-◌, ◌<◌, ◌≤◌, List, [], ◌∷◌, ◌++◌, length, take, drop, refl, ap, ◌∙◌, sym, subst, arith, append_assoc, append-nil, length-append, IfOk, IsErrAnd}
 use Rattle.std.proofs.Math.Seq.{drop-append_seam}
 use Rattle.std.proofs.lemmas.List.{take-append-drop}
 use Rattle.std.specs.declared.result.Result.{Result}
@@ -16,23 +16,23 @@ use Rattle.p3l_lexer.specs.declared.token.Lexeme.TheVariants.{Word, Digits, Sign
 use Rattle.p3l_lexer.specs.declared.token.Token.{Token}
 use Rattle.p3l_grammar.specs.declared.nest.Nest.{Nest}
 use Rattle.p3l_grammar.specs.Symbol.{Symbol, symbol, symbol_at, symbols}
-use Rattle.p3l_grammar.specs.Machine.{entries, all}
-use Rattle.p3l_grammar.specs.Limits.{at_rest, behind, nest_behind, IsKept, IsPast, IsWithin}
-use Rattle.p3l_grammar.specs.Grammar.{Derives, IsViable, IsRefused, IsStop, IsFaultOf, IsWrong, Spells}
+use Rattle.p3l_grammar.specs.Parser.{entries, all}
+use Rattle.p3l_grammar.specs.Limits.{at_rest, after_symbol, nest_after, IsKept, IsPast, IsWithin}
+use Rattle.p3l_grammar.specs.Grammar.{Derives, IsViable, IsFaultOf, IsWrong, Spells}
 use Rattle.p3l_lexer.specs.Token.{IsTokens}
 use Rattle.p3l_lexer.specs.Position.{position_after}
-use Rattle.p3l_grammar.proofs.Exact.{stop_of, symbols_append}
+use Rattle.p3l_grammar.proofs.Exact.{IsRefused, IsStop, stop_of, symbols_append}
 use Rattle.p3l_grammar.proofs.Nesting.{nest_snoc}
 use Rattle.p3l_reader.specs.Faults.{own_fault, wrong_at, IsWrongBefore, IsFaultIn, IsLastFault, IsOnlyList, IsOnly, IsRefusal}
 
 within_front : (a b : List Symbol) (n : Nest) → IsWithin n (a ++ b) → IsWithin n a
 within_front [] b n h = tt
-within_front (t ∷ a) b n h = (h.0, within_front a b (behind n t) h.1)
+within_front (t ∷ a) b n h = (h.0, within_front a b (after_symbol n t) h.1)
 
 -- what stays within the limits ends within them
-within_kept : (a : List Symbol) (n : Nest) → IsKept n → IsWithin n a → IsKept (nest_behind n a)
+within_kept : (a : List Symbol) (n : Nest) → IsKept n → IsWithin n a → IsKept (nest_after n a)
 within_kept [] n k h = k
-within_kept (t ∷ a) n k h = within_kept a (behind n t) h.0 h.1
+within_kept (t ∷ a) n k h = within_kept a (after_symbol n t) h.0 h.1
 
 rest_kept : IsKept at_rest
 rest_kept = (omega arith, omega arith)
@@ -55,7 +55,7 @@ left_is_after ts left s =
     let at : length ts - left ≡ length s.before = omega (arith, ap length s.whole, length-append s.before s.after, s.left_is) in
     ap (λ n. drop n ts) at ∙ ap (drop (length s.before)) s.whole ∙ drop-append_seam s.before s.after
 
--- the machine stops within the limits
+-- the parser stops within the limits
 pub stop_fault : (ts : List Token) (left : ℕ) (end : Pos) → all (entries []) ts ≡ Err left → IsWithin at_rest (symbols ts) → IsFaultIn ts end (wrong_at (drop (length ts - left) ts) end)
 stop_fault ts left end h i =
     let s = stop_of ts left h in
@@ -78,7 +78,7 @@ viable_front a b v = record { written = v.written; more = b ++ v.more; is_text =
 pub derives_viable : (ts : List Symbol) (es : List EntryTree) → Derives ts es → IsViable ts
 derives_viable ts es d = record { written = d.written; more = []; is_text = d.is_text; begins = append-nil ts ∙ d.spelled }
 
--- where the machine stops behind all tokens, they begin a program
+-- where the parser stops after all tokens, they begin a program
 pub stop_viable : (ts : List Token) (left : ℕ) → all (entries []) ts ≡ Err left → left ≡ 0 → IsViable (symbols ts)
 stop_viable ts left h z = at s.after s.whole (sym s.left_is ∙ z)
   where
@@ -90,16 +90,16 @@ stop_viable ts left h z = at s.after s.whole (sym s.left_is ∙ z)
     at (t ∷ after) w l = absurd (omega arith)
 
 -- a token that passes a limit is no faulty one
-past_is : (before : List Token) (t : Token) → IsWithin at_rest (symbols before) → IsViable (symbols (before ++ t ∷ [])) → IsPast (nest_behind at_rest (symbols (before ++ t ∷ []))) → IsFaultOf t.lexeme TooNested (symbols (before ++ t ∷ []))
+past_is : (before : List Token) (t : Token) → IsWithin at_rest (symbols before) → IsViable (symbols (before ++ t ∷ [])) → IsPast (nest_after at_rest (symbols (before ++ t ∷ []))) → IsFaultOf t.lexeme TooNested (symbols (before ++ t ∷ []))
 past_is before t i v p = of_token t.lexeme refl
   where
-    behind_before : nest_behind at_rest (symbols (before ++ t ∷ [])) ≡ behind (nest_behind at_rest (symbols before)) (symbol t)
-    behind_before = ap (nest_behind at_rest) (symbols_append before (t ∷ [])) ∙ nest_snoc (symbols before) (symbol t) at_rest
+    after_before : nest_after at_rest (symbols (before ++ t ∷ [])) ≡ after_symbol (nest_after at_rest (symbols before)) (symbol t)
+    after_before = ap (nest_after at_rest) (symbols_append before (t ∷ [])) ∙ nest_snoc (symbols before) (symbol t) at_rest
 
-    kept : (f : Fault) → t.lexeme ≡ Faulty f → IsKept (nest_behind at_rest (symbols (before ++ t ∷ [])))
+    kept : (f : Fault) → t.lexeme ≡ Faulty f → IsKept (nest_after at_rest (symbols (before ++ t ∷ [])))
     kept f e =
-        let same : nest_behind at_rest (symbols (before ++ t ∷ [])) ≡ nest_behind at_rest (symbols before) =
-        behind_before ∙ ap (λ l. behind (nest_behind at_rest (symbols before)) (symbol_at l t.at)) e in
+        let same : nest_after at_rest (symbols (before ++ t ∷ [])) ≡ nest_after at_rest (symbols before) =
+        after_before ∙ ap (λ l. after_symbol (nest_after at_rest (symbols before)) (symbol_at l t.at)) e in
         let P : Nest → Type 0 = λ n. IsKept n in
         subst P (sym same) (within_kept (symbols before) at_rest rest_kept i)
 
@@ -116,10 +116,10 @@ prefix_of (y ∷ a) (z ∷ b) x t xs e =
     let r = prefix_of a b x t xs (cc) in (r.0, (let q = r.1 in cc))
 
 -- the last token passes a limit
-pub last_is : (ts before : List Token) (t : Token) (end : Pos) → ts ≡ before ++ t ∷ [] → IsWithin at_rest (symbols before) → IsPast (nest_behind at_rest (symbols ts)) → IsViable (symbols ts) → IsLastFault ts end (At TooNested t.at)
+pub last_is : (ts before : List Token) (t : Token) (end : Pos) → ts ≡ before ++ t ∷ [] → IsWithin at_rest (symbols before) → IsPast (nest_after at_rest (symbols ts)) → IsViable (symbols ts) → IsLastFault ts end (At TooNested t.at)
 last_is ts before t end w i p v =
     let V : List Token → Type 0 = λ q. IsViable (symbols q) in
-    let N : List Token → Type 0 = λ q. IsPast (nest_behind at_rest (symbols q)) in
+    let N : List Token → Type 0 = λ q. IsPast (nest_after at_rest (symbols q)) in
     let v' = subst V w v in (
       record {
         before = before;
@@ -152,7 +152,7 @@ early_is ts before t left end w i h l =
         let i' = within_front (symbols b0) (symbols c.0) at_rest (subst S (symbols_append b0 c.0) (subst W c.1 i)) in
         (wrong_is ts b0 (x ∷ xs) end e v i' r, z)
 
--- more tokens behind change nothing
+-- more tokens after change nothing
 pub fault_whole : (ts front more : List Token) (end : Pos) (e : SourceRefusal) → ts ≡ front ++ more → IsLastFault front end e → IsFaultIn ts end e
 fault_whole ts front more end NoMemory w h = tt
 fault_whole ts front more end (At fault at) w h =
@@ -181,15 +181,15 @@ text_fault bytes ts end (At fault at) t p h = λ l. record {
   whole = h.whole;
   viable = h.viable;
   within = h.within;
-  wrong = behind_last h.before h.after h.wrong;
+  wrong = after_last h.before h.after h.wrong;
 }
   where
-    behind_last : (before after : List Token) → IsWrongBefore before after end fault at → IsWrong bytes before after fault at
-    behind_last before [] w = (w.0, w.1 ∙ p, w.2)
-    behind_last before (x ∷ xs) w = w
+    after_last : (before after : List Token) → IsWrongBefore before after end fault at → IsWrong bytes before after fault at
+    after_last before [] w = (w.0, w.1 ∙ p, w.2)
+    after_last before (x ∷ xs) w = w
 
 -- what begins tokens that pass no limit passes none
-pub front_kept : (ts : List Token) (i : ℕ) → IsWithin at_rest (symbols ts) → IsKept (nest_behind at_rest (symbols (take i ts)))
+pub front_kept : (ts : List Token) (i : ℕ) → IsWithin at_rest (symbols ts) → IsKept (nest_after at_rest (symbols (take i ts)))
 front_kept ts i h =
     let W : List Token → Type 0 = λ q. IsWithin at_rest (symbols q) in
     let S : List Symbol → Type 0 = λ q. IsWithin at_rest q in
