@@ -1,5 +1,5 @@
 pub mod Entries
-pub mod Forms
+pub mod Canonical
 pub mod Lines
 pub mod Unplacing
 pub mod Placing

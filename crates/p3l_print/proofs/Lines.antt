@@ -11,12 +11,13 @@ use Rattle.p3l_ast.specs.declared.expression.Expr.TheVariants.{Number, Read, Una
 use Rattle.p3l_ast.specs.declared.expression.Target.{Target}
 use Rattle.p3l_ast.specs.declared.statement.Stmt.{Stmt}
 use Rattle.p3l_ast.specs.declared.statement.Stmt.TheVariants.{Assign, If, While, For}
-use Rattle.p3l_ast.specs.Tree.{Code, done, assign, branch, branch_else, repeat, count, phrase, phrases, one, code, join}
-use Rattle.p3l_ast.proofs.Trees.{phrase_number, phrase_unary, phrase_binary, phrase_read, one_assign, one_branch, one_branch_else, one_repeat, one_count}
+use Rattle.p3l_ast.specs.Tree.{Statements, done, assign, if_, if_else, while_, for_, phrase, phrases, one, statements, join}
+use Rattle.p3l_ast.proofs.Trees.{phrase_number, phrase_unary, phrase_binary, phrase_read, one_assign, one_if, one_if_else, one_while, one_for}
 use Rattle.p3l_lexer.specs.Mark.{mark_text}
-use Rattle.p3l_grammar.specs.Symbol.{unary_mark, level}
+use Rattle.p3l_ast.specs.Notation.{level}
+use Rattle.p3l_grammar.specs.Symbol.{unary_mark}
 use Rattle.p3l_print.specs.Expression.{tightness, infix_text, operand_text, expression_text, target_text}
-use Rattle.p3l_print.specs.Statement.{assignment_text, deeper, block_text, opening_text, for_opening_text, code_text}
+use Rattle.p3l_print.specs.Statement.{assignment_text, deeper, block_text, opening_text, for_opening_text, statements_text}
 
 -- an operand as it stands in an expression
 abbrev pub operand : ℕ → Expr → List ℕ
@@ -51,60 +52,60 @@ pub ruleset expressions = (tightness_number, tightness_read, tightness_unary, ti
 
 -- the lines of statements in a block
 abbrev pub block : List ℕ → Vec Stmt Global → List ℕ
-block margin v = block_text margin (code_text (deeper margin) (code v.items))
+block margin v = block_text margin (statements_text (deeper margin) (statements v.items))
 
 abbrev pub assignment : Target → Expr → List ℕ
 assignment t e = assignment_text t.at (phrases t.index.items) (phrase e)
 
-pub assign_lines : (margin : List ℕ) (t : Target) (e : Expr) → code_text margin (one (Assign t e)) ≡ margin ++ assignment t e ++ codes ";\n"
-unfolding code_text
-assign_lines margin t e = ap (code_text margin) (one_assign t e) ∙ append-nil _
+pub assign_lines : (margin : List ℕ) (t : Target) (e : Expr) → statements_text margin (one (Assign t e)) ≡ margin ++ assignment t e ++ codes ";\n"
+unfolding statements_text
+assign_lines margin t e = ap (statements_text margin) (one_assign t e) ∙ append-nil _
 
-pub branch_lines : (margin : List ℕ) (e : Expr) (v : Vec Stmt Global) → code_text margin (one (If e v None))
+pub if_lines : (margin : List ℕ) (e : Expr) (v : Vec Stmt Global) → statements_text margin (one (If e v None))
     ≡ opening_text margin (codes "if") (phrase e) ++ block margin v ++ codes "\n"
-unfolding code_text
-branch_lines margin e v = ap (code_text margin) (one_branch e v) ∙ append-nil _
+unfolding statements_text
+if_lines margin e v = ap (statements_text margin) (one_if e v) ∙ append-nil _
 
-pub branch_else_lines : (margin : List ℕ) (e : Expr) (v w : Vec Stmt Global) → code_text margin (one (If e v (Some w)))
+pub if_else_lines : (margin : List ℕ) (e : Expr) (v w : Vec Stmt Global) → statements_text margin (one (If e v (Some w)))
     ≡ opening_text margin (codes "if") (phrase e) ++ block margin v ++ codes " else " ++ (block margin w ++ codes "\n")
-unfolding code_text
-branch_else_lines margin e v w =
-    ap (code_text margin) (one_branch_else e v w) ∙ append-nil _ ∙ append_assoc _ (block margin w) (codes "\n")
+unfolding statements_text
+if_else_lines margin e v w =
+    ap (statements_text margin) (one_if_else e v w) ∙ append-nil _ ∙ append_assoc _ (block margin w) (codes "\n")
 
-pub repeat_lines : (margin : List ℕ) (e : Expr) (v : Vec Stmt Global) → code_text margin (one (While e v))
+pub while_lines : (margin : List ℕ) (e : Expr) (v : Vec Stmt Global) → statements_text margin (one (While e v))
     ≡ opening_text margin (codes "while") (phrase e) ++ (block margin v ++ codes "\n")
-unfolding code_text
-repeat_lines margin e v = ap (code_text margin) (one_repeat e v) ∙ append-nil _ ∙ append_assoc _ (block margin v) (codes "\n")
+unfolding statements_text
+while_lines margin e v = ap (statements_text margin) (one_while e v) ∙ append-nil _ ∙ append_assoc _ (block margin v) (codes "\n")
 
-pub count_lines : (margin : List ℕ) (t u : Target) (e w f : Expr) (v : Vec Stmt Global) → code_text margin (one (For t e w u f v))
+pub for_lines : (margin : List ℕ) (t u : Target) (e w f : Expr) (v : Vec Stmt Global) → statements_text margin (one (For t e w u f v))
     ≡ for_opening_text margin (assignment t e) (phrase w) (assignment u f) ++ (block margin v ++ codes "\n")
-unfolding code_text
-count_lines margin t u e w f v = ap (code_text margin) (one_count t u e w f v) ∙ append-nil _ ∙ append_assoc _ (block margin v) (codes "\n")
+unfolding statements_text
+for_lines margin t u e w f v = ap (statements_text margin) (one_for t u e w f v) ∙ append-nil _ ∙ append_assoc _ (block margin v) (codes "\n")
 
-pub ruleset statements = (assign_lines, branch_lines, branch_else_lines, repeat_lines, count_lines)
+pub ruleset statement_lines = (assign_lines, if_lines, if_else_lines, while_lines, for_lines)
 
-pub code_text-join : (margin : List ℕ) (c d : Code) → code_text margin (join c d) ≡ code_text margin c ++ code_text margin d
-unfolding code_text
-code_text-join margin done d = refl
-code_text-join margin (assign x is e c) d = let h = code_text-join margin c d in rw h (simp append_assoc)
-code_text-join margin (branch e t c) d = let h = code_text-join margin c d in rw h (simp append_assoc)
-code_text-join margin (branch_else e t f c) d = let h = code_text-join margin c d in rw h (simp append_assoc)
-code_text-join margin (repeat e b c) d = let h = code_text-join margin c d in rw h (simp append_assoc)
-code_text-join margin (count x is e w y js f b c) d = let h = code_text-join margin c d in rw h (simp append_assoc)
+pub statements_text-join : (margin : List ℕ) (c d : Statements) → statements_text margin (join c d) ≡ statements_text margin c ++ statements_text margin d
+unfolding statements_text
+statements_text-join margin done d = refl
+statements_text-join margin (assign x is e c) d = let h = statements_text-join margin c d in rw h (simp append_assoc)
+statements_text-join margin (if_ e t c) d = let h = statements_text-join margin c d in rw h (simp append_assoc)
+statements_text-join margin (if_else e t f c) d = let h = statements_text-join margin c d in rw h (simp append_assoc)
+statements_text-join margin (while_ e b c) d = let h = statements_text-join margin c d in rw h (simp append_assoc)
+statements_text-join margin (for_ x is e w y js f b c) d = let h = statements_text-join margin c d in rw h (simp append_assoc)
 
--- one piece behind another
-pub behind : {E : Type 0} (r : Result (Unit {0}) E) (old middle new first second text : List ℕ) → middle ≡ old ++ first → OnOk r (new ≡ middle ++ second)
+-- one piece after another
+pub followed : {E : Type 0} (r : Result (Unit {0}) E) (old middle new first second text : List ℕ) → middle ≡ old ++ first → OnOk r (new ≡ middle ++ second)
     → text ≡ first ++ second → OnOk r (new ≡ old ++ text)
-behind (Ok x) old middle new first second text p h q =
+followed (Ok x) old middle new first second text p h q =
     h ∙ ap (λ t. t ++ second) p ∙ append_assoc old first second ∙ ap (λ t. old ++ t) (sym q)
-behind (Err e) old middle new first second text p h q = tt
+followed (Err e) old middle new first second text p h q = tt
 
 pub then : (old middle new first second : List ℕ) → middle ≡ old ++ first → new ≡ middle ++ second → new ≡ old ++ (first ++ second)
 then old middle new first second p q = q ∙ ap (λ t. t ++ second) p ∙ append_assoc old first second
 
 -- no statements have no lines
-pub done_lines : (margin : List ℕ) → code_text margin done ≡ []
-unfolding code_text
+pub done_lines : (margin : List ℕ) → statements_text margin done ≡ []
+unfolding statements_text
 done_lines margin = refl
 
-pub ruleset lines = (code_text-join, done_lines)
+pub ruleset lines = (statements_text-join, done_lines)

@@ -17,12 +17,14 @@ use Rattle.p3l_ast.specs.declared.expression.BinOp.{BinOp}
 use Rattle.p3l_ast.specs.declared.module.Kind.{Kind}
 use Rattle.p3l_ast.specs.declared.module.Kind.TheVariants as kinds
 use Rattle.p3l_ast.specs.Tree.{read, unary, binary, more, EntryTree, constant}
-use Rattle.p3l_ast.specs.Unplaced.{nowhere, spot_unplaced, num_unplaced, port_unplaced, sub_unplaced, arg_unplaced, out_unplaced, call_unplaced, phrase_unplaced, phrases_unplaced, code_unplaced, entry_unplaced}
+use Rattle.p3l_ast.specs.Unplaced.{nowhere, spot_unplaced, num_unplaced, port_unplaced, sub_unplaced, arg_unplaced, out_unplaced, call_unplaced, phrase_unplaced, phrases_unplaced, statements_unplaced, entry_unplaced}
 use Rattle.p3l_lexer.specs.declared.mark.Mark.{Mark}
+use Rattle.p3l_ast.specs.declared.expression.BinOp.TheVariants as ops
 use Rattle.p3l_lexer.specs.declared.mark.Mark.TheVariants as marks
-use Rattle.p3l_grammar.specs.Symbol.{Symbol, word, digits, sign, faulty, unary_mark, binary_mark, level, kind_mark}
+use Rattle.p3l_ast.specs.Notation.{level}
+use Rattle.p3l_grammar.specs.Symbol.{Symbol, word, digits, sign, faulty, unary_mark, kind_mark}
 use Rattle.p3l_grammar.specs.Grammar.{Derives}
-use Rattle.p3l_grammar.specs.Written.{Form, numeral, place, prefix, infix_, paren, Forms, no_index, index, Script, stop, set, when, when_else, as_long_as, counting, Head, Item, fixed, bodied, chained, spread, turned, tight, IsGrouped, AreGrouped, IsScript, HasOne, IsHead, IsCall, AreCalls, IsItem, IsText, each, behind_comma, parted, num_symbol, spell_size, spell_port, spell_sub, spell_arg, spell_out, spell_call, spell, spell_index, spell_set, spell_script, spell_head, spell_clause, spell_local, spell_end, spell_item, spell_text, tree, trees, script_tree, item_tree, text_tree}
+use Rattle.p3l_grammar.specs.Written.{Formula, numeral, place, prefix, infix_, paren, Formulas, no_index, index, Script, stop, set, if_, if_else, while_, for_, Head, Passage, fixed, bodied, chained, spread, turned, tight, IsGrouped, AreGrouped, IsScript, HasOne, IsHead, IsCall, AreCalls, IsPassage, IsText, each, after_comma, separated, num_symbol, spell_size, spell_port, spell_sub, spell_arg, spell_out, spell_call, spell, spell_index, spell_set, spell_script, spell_head, spell_clause, spell_local, spell_end, spell_passage, spell_text, tree, trees, script_tree, passage_tree, text_tree}
 
 -- symbols that are the same but for positions
 abbrev pub Same : Symbol → Symbol → Type 0
@@ -79,19 +81,19 @@ find_each f g find (x ∷ xs) r ts h =
     let b = find_each f g find xs r a.rest a.left in
     record { it = a.it ∷ b.it; alike = (let p = a.alike in let q = b.alike in cc); rest = b.rest; whole = a.whole ∙ ap (f a.it) b.whole; left = b.left }
 
-find_behind : {X : Type 0} (f : X → List Symbol → List Symbol) (g : X → X) → ((x : X) (r ts : List Symbol) → AreSame (f x r) ts → Found (λ y. g y ≡ g x) f r ts)
-    → (x : X) (r ts : List Symbol) → AreSame (behind_comma f x r) ts → Found (λ y. g y ≡ g x) (behind_comma f) r ts
-find_behind f g find x r ts h =
+find_after : {X : Type 0} (f : X → List Symbol → List Symbol) (g : X → X) → ((x : X) (r ts : List Symbol) → AreSame (f x r) ts → Found (λ y. g y ≡ g x) f r ts)
+    → (x : X) (r ts : List Symbol) → AreSame (after_comma f x r) ts → Found (λ y. g y ≡ g x) (after_comma f) r ts
+find_after f g find x r ts h =
     let a = find_sign marks.Comma (f x r) ts h in
     let b = find x r a.rest a.left in
     record { it = b.it; alike = b.alike; rest = b.rest; whole = a.whole ∙ ap (mark_then marks.Comma) b.whole; left = b.left }
 
-find_parted : {X : Type 0} (f : X → List Symbol → List Symbol) (g : X → X) → ((x : X) (r ts : List Symbol) → AreSame (f x r) ts → Found (λ y. g y ≡ g x) f r ts)
-    → (xs : List X) (r ts : List Symbol) → AreSame (parted f xs r) ts → Found (λ ys. map g ys ≡ map g xs) (parted f) r ts
-find_parted f g find [] r ts h = record { it = []; alike = refl; rest = ts; whole = refl; left = h }
-find_parted f g find (x ∷ xs) r ts h =
-    let a = find x (each (behind_comma f) xs r) ts h in
-    let b = find_each (behind_comma f) g (find_behind f g find) xs r a.rest a.left in
+find_separated : {X : Type 0} (f : X → List Symbol → List Symbol) (g : X → X) → ((x : X) (r ts : List Symbol) → AreSame (f x r) ts → Found (λ y. g y ≡ g x) f r ts)
+    → (xs : List X) (r ts : List Symbol) → AreSame (separated f xs r) ts → Found (λ ys. map g ys ≡ map g xs) (separated f) r ts
+find_separated f g find [] r ts h = record { it = []; alike = refl; rest = ts; whole = refl; left = h }
+find_separated f g find (x ∷ xs) r ts h =
+    let a = find x (each (after_comma f) xs r) ts h in
+    let b = find_each (after_comma f) g (find_after f g find) xs r a.rest a.left in
     record { it = a.it ∷ b.it; alike = (let p = a.alike in let q = b.alike in cc); rest = b.rest; whole = a.whole ∙ ap (f a.it) b.whole; left = b.left }
 
 -- lists that look alike have an item both or neither
@@ -136,14 +138,14 @@ find_sub Whole r ts h =
     let b = find_sign marks.CloseBracket r a.rest a.left in
     record { it = Whole; alike = refl; rest = b.rest; whole = a.whole ∙ ap (mark_then marks.OpenBracket) b.whole; left = b.left }
 find_sub (Free x) r ts h =
-    let a = find_sign marks.OpenBracket (sign marks.Star ∷ word x ∷ sign marks.CloseBracket ∷ r) ts h in
-    let b = find_sign marks.Star (word x ∷ sign marks.CloseBracket ∷ r) a.rest a.left in
+    let a = find_sign marks.OpenBracket (sign (marks.Operator ops.Mul) ∷ word x ∷ sign marks.CloseBracket ∷ r) ts h in
+    let b = find_sign (marks.Operator ops.Mul) (word x ∷ sign marks.CloseBracket ∷ r) a.rest a.left in
     let c = find_word x (sign marks.CloseBracket ∷ r) b.rest b.left in
     let d = find_sign marks.CloseBracket r c.rest c.left in record {
       it = Free c.it;
       alike = ap Free c.alike;
       rest = d.rest;
-      whole = a.whole ∙ ap (mark_then marks.OpenBracket) (b.whole ∙ ap (mark_then marks.Star) (c.whole ∙ ap (λ q. word c.it ∷ q) d.whole));
+      whole = a.whole ∙ ap (mark_then marks.OpenBracket) (b.whole ∙ ap (mark_then (marks.Operator ops.Mul)) (c.whole ∙ ap (λ q. word c.it ∷ q) d.whole));
       left = d.left;
     }
 
@@ -169,7 +171,7 @@ pub record Sides (I O : Type 0) : Type 0 where
 
 abbrev spell_sides : {I O : Type 0} → (I → List Symbol → List Symbol) → (O → List Symbol → List Symbol) → Sides I O → List Symbol → List Symbol
 spell_sides f k s r =
-    sign marks.In ∷ sign marks.OpenParen ∷ parted f s.ins (sign marks.CloseParen ∷ sign marks.Out ∷ sign marks.OpenParen ∷ parted k s.outs (sign marks.CloseParen ∷ r))
+    sign marks.In ∷ sign marks.OpenParen ∷ separated f s.ins (sign marks.CloseParen ∷ sign marks.Out ∷ sign marks.OpenParen ∷ separated k s.outs (sign marks.CloseParen ∷ r))
 
 record SidesAlike {I O : Type 0} (g : I → I) (l : O → O) (s q : Sides I O) : Type 0 where
   ins : map g q.ins ≡ map g s.ins
@@ -181,21 +183,21 @@ find_sides : {I O : Type 0} (f : I → List Symbol → List Symbol) (g : I → I
     → (s : Sides I O) (r ts : List Symbol) → AreSame (spell_sides f k s r) ts → Found (SidesAlike g l s) (spell_sides f k) r ts
 find_sides f g k l find find' s r ts h =
     let r1 = sign marks.CloseParen ∷ r in
-    let r2 = parted k s.outs r1 in
+    let r2 = separated k s.outs r1 in
     let r3 = sign marks.CloseParen ∷ sign marks.Out ∷ sign marks.OpenParen ∷ r2 in
-    let a = find_sign marks.In (sign marks.OpenParen ∷ parted f s.ins r3) ts h in
-    let b = find_sign marks.OpenParen (parted f s.ins r3) a.rest a.left in
-    let c = find_parted f g find s.ins r3 b.rest b.left in
+    let a = find_sign marks.In (sign marks.OpenParen ∷ separated f s.ins r3) ts h in
+    let b = find_sign marks.OpenParen (separated f s.ins r3) a.rest a.left in
+    let c = find_separated f g find s.ins r3 b.rest b.left in
     let d = find_sign marks.CloseParen (sign marks.Out ∷ sign marks.OpenParen ∷ r2) c.rest c.left in
     let e = find_sign marks.Out (sign marks.OpenParen ∷ r2) d.rest d.left in
     let m = find_sign marks.OpenParen r2 e.rest e.left in
-    let n = find_parted k l find' s.outs r1 m.rest m.left in
+    let n = find_separated k l find' s.outs r1 m.rest m.left in
     let o = find_sign marks.CloseParen r n.rest n.left in record {
       it = record { ins = c.it; outs = n.it };
       alike = record { ins = c.alike; outs = n.alike };
       rest = o.rest;
-      whole = a.whole ∙ ap (mark_then marks.In) (b.whole ∙ ap (mark_then marks.OpenParen) (c.whole ∙ ap (parted f c.it)
-          (d.whole ∙ ap (mark_then marks.CloseParen) (e.whole ∙ ap (mark_then marks.Out) (m.whole ∙ ap (mark_then marks.OpenParen) (n.whole ∙ ap (parted k n.it) o.whole))))));
+      whole = a.whole ∙ ap (mark_then marks.In) (b.whole ∙ ap (mark_then marks.OpenParen) (c.whole ∙ ap (separated f c.it)
+          (d.whole ∙ ap (mark_then marks.CloseParen) (e.whole ∙ ap (mark_then marks.Out) (m.whole ∙ ap (mark_then marks.OpenParen) (n.whole ∙ ap (separated k n.it) o.whole))))));
       left = o.left;
     }
 
@@ -225,71 +227,71 @@ calls_alike (c ∷ cs) (d ∷ ds) h k =
 
 -- expressions
 
-record FormAlike (e d : Form) : Type 0 where
+record FormAlike (e d : Formula) : Type 0 where
   binds : tight d ≡ tight e
   grouped : IsGrouped e → IsGrouped d
   same : phrase_unplaced (tree d) ≡ phrase_unplaced (tree e)
 
-record FormsAlike (is js : Forms) : Type 0 where
+record FormsAlike (is js : Formulas) : Type 0 where
   grouped : AreGrouped is → AreGrouped js
   same : phrases_unplaced (trees js) ≡ phrases_unplaced (trees is)
 
-prefix_alike : (o : UnOp) (e d : Form) → FormAlike e d → FormAlike (prefix o e) (prefix o d)
+prefix_alike : (o : UnOp) (e d : Formula) → FormAlike e d → FormAlike (prefix o e) (prefix o d)
 prefix_alike o e d a = record {
   binds = refl;
   grouped = λ h. (subst (λ n. 10 ≤ n) (sym a.binds) h.0, a.grouped h.1);
   same = ap (unary o) a.same;
 }
 
-infix_alike : (o : BinOp) (x y c d : Form) → FormAlike x c → FormAlike y d → FormAlike (infix_ o x y) (infix_ o c d)
+infix_alike : (o : BinOp) (x y c d : Formula) → FormAlike x c → FormAlike y d → FormAlike (infix_ o x y) (infix_ o c d)
 infix_alike o x y c d a b = record {
   binds = refl;
   grouped = λ h. (subst (λ n. level o ≤ n) (sym a.binds) h.0, subst (λ n. level o < n) (sym b.binds) h.1, a.grouped h.2, b.grouped h.3);
   same = ap (λ q. binary o q (phrase_unplaced (tree d))) a.same ∙ ap (binary o (phrase_unplaced (tree x))) b.same;
 }
 
-index_alike : (e d : Form) (is js : Forms) → FormAlike e d → FormsAlike is js → FormsAlike (index e is) (index d js)
+index_alike : (e d : Formula) (is js : Formulas) → FormAlike e d → FormsAlike is js → FormsAlike (index e is) (index d js)
 index_alike e d is js a b = record {
   grouped = λ h. (a.grouped h.0, b.grouped h.1);
   same = ap (λ q. more q (phrases_unplaced (trees js))) a.same ∙ ap (more (phrase_unplaced (tree e))) b.same;
 }
 
-place_alike : (x y : Spot) (is js : Forms) → spot_unplaced y ≡ spot_unplaced x → FormsAlike is js → FormAlike (place x is) (place y js)
+place_alike : (x y : Spot) (is js : Formulas) → spot_unplaced y ≡ spot_unplaced x → FormsAlike is js → FormAlike (place x is) (place y js)
 place_alike x y is js h a = record {
   binds = refl;
   grouped = a.grouped;
   same = ap (λ q. read q (phrases_unplaced (trees js))) h ∙ ap (read (spot_unplaced x)) a.same;
 }
 
-paren_alike : (e d : Form) → FormAlike e d → FormAlike (paren e) (paren d)
+paren_alike : (e d : Formula) → FormAlike e d → FormAlike (paren e) (paren d)
 paren_alike e d a = record { binds = refl; grouped = a.grouped; same = a.same }
 
 mutual
-  find_form : (e : Form) (r ts : List Symbol) → AreSame (spell e r) ts → Found (FormAlike e) spell r ts
-  find_form (numeral v p) r ts h =
+  find_formula : (e : Formula) (r ts : List Symbol) → AreSame (spell e r) ts → Found (FormAlike e) spell r ts
+  find_formula (numeral v p) r ts h =
       let a = find_digits v p r ts h in
       record { it = numeral v a.it; alike = record { binds = refl; grouped = λ k. tt; same = refl }; rest = a.rest; whole = a.whole; left = a.left }
-  find_form (place x is) r ts h =
+  find_formula (place x is) r ts h =
       let a = find_word x (spell_index is r) ts h in
-      let b = find_forms is r a.rest a.left in
+      let b = find_formulas is r a.rest a.left in
       record { it = place a.it b.it; alike = place_alike x a.it is b.it a.alike b.alike; rest = b.rest; whole = a.whole ∙ ap (λ q. word a.it ∷ q) b.whole; left = b.left }
-  find_form (prefix o e) r ts h =
+  find_formula (prefix o e) r ts h =
       let a = find_sign (unary_mark o) (spell e r) ts h in
-      let b = find_form e r a.rest a.left in
+      let b = find_formula e r a.rest a.left in
       record { it = prefix o b.it; alike = prefix_alike o e b.it b.alike; rest = b.rest; whole = a.whole ∙ ap (mark_then (unary_mark o)) b.whole; left = b.left }
-  find_form (infix_ o x y) r ts h =
-      let a = find_form x (sign (binary_mark o) ∷ spell y r) ts h in
-      let b = find_sign (binary_mark o) (spell y r) a.rest a.left in
-      let c = find_form y r b.rest b.left in record {
+  find_formula (infix_ o x y) r ts h =
+      let a = find_formula x (sign (marks.Operator o) ∷ spell y r) ts h in
+      let b = find_sign (marks.Operator o) (spell y r) a.rest a.left in
+      let c = find_formula y r b.rest b.left in record {
         it = infix_ o a.it c.it;
         alike = infix_alike o x y a.it c.it a.alike c.alike;
         rest = c.rest;
-        whole = a.whole ∙ ap (spell a.it) (b.whole ∙ ap (mark_then (binary_mark o)) c.whole);
+        whole = a.whole ∙ ap (spell a.it) (b.whole ∙ ap (mark_then (marks.Operator o)) c.whole);
         left = c.left;
       }
-  find_form (paren e) r ts h =
+  find_formula (paren e) r ts h =
       let a = find_sign marks.OpenParen (spell e (sign marks.CloseParen ∷ r)) ts h in
-      let b = find_form e (sign marks.CloseParen ∷ r) a.rest a.left in
+      let b = find_formula e (sign marks.CloseParen ∷ r) a.rest a.left in
       let c = find_sign marks.CloseParen r b.rest b.left in record {
         it = paren b.it;
         alike = paren_alike e b.it b.alike;
@@ -298,13 +300,13 @@ mutual
         left = c.left;
       }
 
-  find_forms : (is : Forms) (r ts : List Symbol) → AreSame (spell_index is r) ts → Found (FormsAlike is) spell_index r ts
-  find_forms no_index r ts h = record { it = no_index; alike = record { grouped = λ k. tt; same = refl }; rest = ts; whole = refl; left = h }
-  find_forms (index e is) r ts h =
+  find_formulas : (is : Formulas) (r ts : List Symbol) → AreSame (spell_index is r) ts → Found (FormsAlike is) spell_index r ts
+  find_formulas no_index r ts h = record { it = no_index; alike = record { grouped = λ k. tt; same = refl }; rest = ts; whole = refl; left = h }
+  find_formulas (index e is) r ts h =
       let a = find_sign marks.OpenBracket (spell e (sign marks.CloseBracket ∷ spell_index is r)) ts h in
-      let b = find_form e (sign marks.CloseBracket ∷ spell_index is r) a.rest a.left in
+      let b = find_formula e (sign marks.CloseBracket ∷ spell_index is r) a.rest a.left in
       let c = find_sign marks.CloseBracket (spell_index is r) b.rest b.left in
-      let d = find_forms is r c.rest c.left in record {
+      let d = find_formulas is r c.rest c.left in record {
         it = index b.it d.it;
         alike = index_alike e b.it is d.it b.alike d.alike;
         rest = d.rest;
@@ -316,8 +318,8 @@ mutual
 
 record Set : Type 0 where
   at : Spot
-  at_index : Forms
-  value : Form
+  at_index : Formulas
+  value : Formula
 
 record SetAlike (s q : Set) : Type 0 where
   at : spot_unplaced q.at ≡ spot_unplaced s.at
@@ -330,9 +332,9 @@ spelled_set s r = spell_set s.at s.at_index s.value r
 find_set : (s : Set) (r ts : List Symbol) → AreSame (spelled_set s r) ts → Found (SetAlike s) spelled_set r ts
 find_set s r ts h =
     let a = find_word s.at (spell_index s.at_index (sign marks.Assign ∷ spell s.value r)) ts h in
-    let b = find_forms s.at_index (sign marks.Assign ∷ spell s.value r) a.rest a.left in
+    let b = find_formulas s.at_index (sign marks.Assign ∷ spell s.value r) a.rest a.left in
     let c = find_sign marks.Assign (spell s.value r) b.rest b.left in
-    let d = find_form s.value r c.rest c.left in record {
+    let d = find_formula s.value r c.rest c.left in record {
       it = record { at = a.it; at_index = b.it; value = d.it };
       alike = record { at = a.alike; at_index = b.alike; value = d.alike };
       rest = d.rest;
@@ -340,15 +342,15 @@ find_set s r ts h =
       left = d.left;
     }
 
--- an expression in parentheses behind a keyword
-abbrev spelled_test : Mark → Form → List Symbol → List Symbol
+-- an expression in parentheses after a keyword
+abbrev spelled_test : Mark → Formula → List Symbol → List Symbol
 spelled_test m e r = sign m ∷ sign marks.OpenParen ∷ spell e (sign marks.CloseParen ∷ r)
 
-find_test : (m : Mark) (e : Form) (r ts : List Symbol) → AreSame (spelled_test m e r) ts → Found (FormAlike e) (spelled_test m) r ts
+find_test : (m : Mark) (e : Formula) (r ts : List Symbol) → AreSame (spelled_test m e r) ts → Found (FormAlike e) (spelled_test m) r ts
 find_test m e r ts h =
     let a = find_sign m (sign marks.OpenParen ∷ spell e (sign marks.CloseParen ∷ r)) ts h in
     let b = find_sign marks.OpenParen (spell e (sign marks.CloseParen ∷ r)) a.rest a.left in
-    let c = find_form e (sign marks.CloseParen ∷ r) b.rest b.left in
+    let c = find_formula e (sign marks.CloseParen ∷ r) b.rest b.left in
     let d = find_sign marks.CloseParen r c.rest c.left in record {
       it = c.it;
       alike = c.alike;
@@ -359,7 +361,7 @@ find_test m e r ts h =
 
 record ScriptAlike (c d : Script) : Type 0 where
   proper : IsScript c → IsScript d
-  same : code_unplaced (script_tree d) ≡ code_unplaced (script_tree c)
+  same : statements_unplaced (script_tree d) ≡ statements_unplaced (script_tree c)
 
 set_alike : (s q : Set) (c d : Script) → SetAlike s q → ScriptAlike c d → ScriptAlike (set s.at s.at_index s.value c) (set q.at q.at_index q.value d)
 set_alike s q c d a b = record {
@@ -367,27 +369,27 @@ set_alike s q c d a b = record {
   same = (let i = a.at in let j = a.at_index.same in let k = a.value.same in let l = b.same in cc);
 }
 
-when_alike : (e d : Form) (t u c k : Script) → FormAlike e d → ScriptAlike t u → ScriptAlike c k → ScriptAlike (when e t c) (when d u k)
-when_alike e d t u c k a b l = record {
+if_alike : (e d : Formula) (t u c k : Script) → FormAlike e d → ScriptAlike t u → ScriptAlike c k → ScriptAlike (if_ e t c) (if_ d u k)
+if_alike e d t u c k a b l = record {
   proper = λ h. (a.grouped h.0, b.proper h.1, l.proper h.2);
   same = (let p = a.same in let q = b.same in let r = l.same in cc);
 }
 
-when_else_alike : (e d : Form) (t u f g c k : Script) → FormAlike e d → ScriptAlike t u → ScriptAlike f g → ScriptAlike c k → ScriptAlike (when_else e t f c) (when_else d u g k)
-when_else_alike e d t u f g c k a b m l = record {
+if_else_alike : (e d : Formula) (t u f g c k : Script) → FormAlike e d → ScriptAlike t u → ScriptAlike f g → ScriptAlike c k → ScriptAlike (if_else e t f c) (if_else d u g k)
+if_else_alike e d t u f g c k a b m l = record {
   proper = λ h. (a.grouped h.0, b.proper h.1, m.proper h.2, l.proper h.3);
   same = (let p = a.same in let q = b.same in let n = m.same in let r = l.same in cc);
 }
 
-as_long_as_alike : (e d : Form) (t u c k : Script) → FormAlike e d → ScriptAlike t u → ScriptAlike c k → ScriptAlike (as_long_as e t c) (as_long_as d u k)
-as_long_as_alike e d t u c k a b l = record {
+while_alike : (e d : Formula) (t u c k : Script) → FormAlike e d → ScriptAlike t u → ScriptAlike c k → ScriptAlike (while_ e t c) (while_ d u k)
+while_alike e d t u c k a b l = record {
   proper = λ h. (a.grouped h.0, b.proper h.1, l.proper h.2);
   same = (let p = a.same in let q = b.same in let r = l.same in cc);
 }
 
-counting_alike : (s q : Set) (w v : Form) (n o : Set) (b d c k : Script) → SetAlike s q → FormAlike w v → SetAlike n o → ScriptAlike b d → ScriptAlike c k
-    → ScriptAlike (counting s.at s.at_index s.value w n.at n.at_index n.value b c) (counting q.at q.at_index q.value v o.at o.at_index o.value d k)
-counting_alike s q w v n o b d c k x y z u t = record {
+for_alike : (s q : Set) (w v : Formula) (n o : Set) (b d c k : Script) → SetAlike s q → FormAlike w v → SetAlike n o → ScriptAlike b d → ScriptAlike c k
+    → ScriptAlike (for_ s.at s.at_index s.value w n.at n.at_index n.value b c) (for_ q.at q.at_index q.value v o.at o.at_index o.value d k)
+for_alike s q w v n o b d c k x y z u t = record {
   proper = λ h. (x.at_index.grouped h.0, x.value.grouped h.1, y.grouped h.2, z.at_index.grouped h.3, z.value.grouped h.4, u.proper h.5, t.proper h.6);
   same = (let a1 = x.at in let a2 = x.at_index.same in let a3 = x.value.same in let a4 = y.same in let a5 = z.at in let a6 = z.at_index.same in let a7 = z.value.same in
       let a8 = u.same in let a9 = t.same in cc);
@@ -410,7 +412,7 @@ find_script (set x is e c) r ts h =
       whole = a.whole ∙ ap (spelled_set a.it) (b.whole ∙ ap (mark_then marks.Semicolon) d.whole);
       left = d.left;
     }
-find_script (when e t c) r ts h =
+find_script (if_ e t c) r ts h =
     let r1 = spell_script c r in
     let r2 = sign marks.CloseBrace ∷ r1 in
     let a = find_test marks.If e (spelled_block t r1) ts h in
@@ -418,13 +420,13 @@ find_script (when e t c) r ts h =
     let d = find_script t r2 b.rest b.left in
     let f = find_sign marks.CloseBrace r1 d.rest d.left in
     let g = find_script c r f.rest f.left in record {
-      it = when a.it d.it g.it;
-      alike = when_alike e a.it t d.it c g.it a.alike d.alike g.alike;
+      it = if_ a.it d.it g.it;
+      alike = if_alike e a.it t d.it c g.it a.alike d.alike g.alike;
       rest = g.rest;
       whole = a.whole ∙ ap (spelled_test marks.If a.it) (b.whole ∙ ap (mark_then marks.OpenBrace) (d.whole ∙ ap (spell_script d.it) (f.whole ∙ ap (mark_then marks.CloseBrace) g.whole)));
       left = g.left;
     }
-find_script (when_else e t u c) r ts h =
+find_script (if_else e t u c) r ts h =
     let r1 = spell_script c r in
     let r2 = sign marks.CloseBrace ∷ r1 in
     let r3 = sign marks.Else ∷ spelled_block u r1 in
@@ -438,14 +440,14 @@ find_script (when_else e t u c) r ts h =
     let j = find_script u r2 i.rest i.left in
     let k = find_sign marks.CloseBrace r1 j.rest j.left in
     let l = find_script c r k.rest k.left in record {
-      it = when_else a.it d.it j.it l.it;
-      alike = when_else_alike e a.it t d.it u j.it c l.it a.alike d.alike j.alike l.alike;
+      it = if_else a.it d.it j.it l.it;
+      alike = if_else_alike e a.it t d.it u j.it c l.it a.alike d.alike j.alike l.alike;
       rest = l.rest;
       whole = a.whole ∙ ap (spelled_test marks.If a.it) (b.whole ∙ ap (mark_then marks.OpenBrace) (d.whole ∙ ap (spell_script d.it) (f.whole ∙ ap (mark_then marks.CloseBrace)
           (g.whole ∙ ap (mark_then marks.Else) (i.whole ∙ ap (mark_then marks.OpenBrace) (j.whole ∙ ap (spell_script j.it) (k.whole ∙ ap (mark_then marks.CloseBrace) l.whole)))))));
       left = l.left;
     }
-find_script (as_long_as e t c) r ts h =
+find_script (while_ e t c) r ts h =
     let r1 = spell_script c r in
     let r2 = sign marks.CloseBrace ∷ r1 in
     let a = find_test marks.While e (spelled_block t r1) ts h in
@@ -453,13 +455,13 @@ find_script (as_long_as e t c) r ts h =
     let d = find_script t r2 b.rest b.left in
     let f = find_sign marks.CloseBrace r1 d.rest d.left in
     let g = find_script c r f.rest f.left in record {
-      it = as_long_as a.it d.it g.it;
-      alike = as_long_as_alike e a.it t d.it c g.it a.alike d.alike g.alike;
+      it = while_ a.it d.it g.it;
+      alike = while_alike e a.it t d.it c g.it a.alike d.alike g.alike;
       rest = g.rest;
       whole = a.whole ∙ ap (spelled_test marks.While a.it) (b.whole ∙ ap (mark_then marks.OpenBrace) (d.whole ∙ ap (spell_script d.it) (f.whole ∙ ap (mark_then marks.CloseBrace) g.whole)));
       left = g.left;
     }
-find_script (counting x is e w y js u t c) r ts h =
+find_script (for_ x is e w y js u t c) r ts h =
     let s : Set = record { at = x; at_index = is; value = e } in
     let n : Set = record { at = y; at_index = js; value = u } in
     let r1 = spell_script c r in
@@ -471,7 +473,7 @@ find_script (counting x is e w y js u t c) r ts h =
     let b = find_sign marks.OpenParen (spelled_set s r5) a.rest a.left in
     let d = find_set s r5 b.rest b.left in
     let f = find_sign marks.Semicolon (spell w r4) d.rest d.left in
-    let g = find_form w r4 f.rest f.left in
+    let g = find_formula w r4 f.rest f.left in
     let i = find_sign marks.Semicolon (spelled_set n r3) g.rest g.left in
     let j = find_set n r3 i.rest i.left in
     let k = find_sign marks.CloseParen (spelled_block t r1) j.rest j.left in
@@ -479,8 +481,8 @@ find_script (counting x is e w y js u t c) r ts h =
     let m = find_script t r2 l.rest l.left in
     let o = find_sign marks.CloseBrace r1 m.rest m.left in
     let p = find_script c r o.rest o.left in record {
-      it = counting d.it.at d.it.at_index d.it.value g.it j.it.at j.it.at_index j.it.value m.it p.it;
-      alike = counting_alike s d.it w g.it n j.it t m.it c p.it d.alike g.alike j.alike m.alike p.alike;
+      it = for_ d.it.at d.it.at_index d.it.value g.it j.it.at j.it.at_index j.it.value m.it p.it;
+      alike = for_alike s d.it w g.it n j.it t m.it c p.it d.alike g.alike j.alike m.alike p.alike;
       rest = p.rest;
       whole = a.whole ∙ ap (mark_then marks.For) (b.whole ∙ ap (mark_then marks.OpenParen) (d.whole ∙ ap (spelled_set d.it) (f.whole ∙ ap (mark_then marks.Semicolon)
           (g.whole ∙ ap (spell g.it) (i.whole ∙ ap (mark_then marks.Semicolon) (j.whole ∙ ap (spelled_set j.it) (k.whole ∙ ap (mark_then marks.CloseParen)
@@ -529,39 +531,39 @@ find_end k r ts h =
     let b = find_sign (kind_mark k) r a.rest a.left in
     record { it = k; alike = refl; rest = b.rest; whole = a.whole ∙ ap (mark_then marks.End) b.whole; left = b.left }
 
-record ItemAlike (i j : Item) : Type 0 where
-  proper : IsItem i → IsItem j
-  same : entry_unplaced (item_tree j) ≡ entry_unplaced (item_tree i)
+record PassageAlike (i j : Passage) : Type 0 where
+  proper : IsPassage i → IsPassage j
+  same : entry_unplaced (passage_tree j) ≡ entry_unplaced (passage_tree i)
 
 bodied_alike : (h g : Head) (b d : Option Num) (ls ms : List Port) (c k : Script) → HeadAlike h g → option_map num_unplaced d ≡ option_map num_unplaced b → map port_unplaced ms ≡ map port_unplaced ls → ScriptAlike c k
-    → ItemAlike (bodied h b ls c) (bodied g d ms k)
+    → PassageAlike (bodied h b ls c) (bodied g d ms k)
 bodied_alike h g b d ls ms c k x p q y = record {
   proper = λ n. (head_alike h g x n.0, y.proper n.1);
   same = (let a1 = x.at in let a2 = x.ins in let a3 = x.outs in let a4 = y.same in cc);
 }
 
-chained_alike : (k : Kind) (h g : Head) (cs ds : List Call) → HeadAlike h g → map call_unplaced ds ≡ map call_unplaced cs → ItemAlike (chained k h cs) (chained k g ds)
+chained_alike : (k : Kind) (h g : Head) (cs ds : List Call) → HeadAlike h g → map call_unplaced ds ≡ map call_unplaced cs → PassageAlike (chained k h cs) (chained k g ds)
 chained_alike k h g cs ds x p = record {
   proper = λ n. (n.0, head_alike h g x n.1, one_alike call_unplaced ds cs p n.2, calls_alike cs ds p n.3);
   same = (let a1 = x.at in let a2 = x.ins in let a3 = x.outs in cc);
 }
 
 spread_alike : (k : Kind) (h g : Head) (w v : Option Num) (c d : Call) → HeadAlike h g → option_map num_unplaced v ≡ option_map num_unplaced w → call_unplaced d ≡ call_unplaced c
-    → ItemAlike (spread k h w c) (spread k g v d)
+    → PassageAlike (spread k h w c) (spread k g v d)
 spread_alike k h g w v c d x p q = record {
   proper = λ n. (n.0, head_alike h g x n.1, call_alike c d q n.2);
   same = (let a1 = x.at in let a2 = x.ins in let a3 = x.outs in cc);
 }
 
 turned_alike : (h g : Head) (t u : Num) (n o : Option Num) (b d c k : Call) → HeadAlike h g → num_unplaced u ≡ num_unplaced t → option_map num_unplaced o ≡ option_map num_unplaced n
-    → call_unplaced d ≡ call_unplaced b → call_unplaced k ≡ call_unplaced c → ItemAlike (turned h t n b c) (turned g u o d k)
+    → call_unplaced d ≡ call_unplaced b → call_unplaced k ≡ call_unplaced c → PassageAlike (turned h t n b c) (turned g u o d k)
 turned_alike h g t u n o b d c k x p q y z = record {
   proper = λ m. (head_alike h g x m.0, call_alike b d y m.1, call_alike c k z m.2);
   same = (let a1 = x.at in let a2 = x.ins in let a3 = x.outs in cc);
 }
 
-find_item : (i : Item) (r ts : List Symbol) → AreSame (spell_item i r) ts → Found (ItemAlike i) spell_item r ts
-find_item (fixed x v p) r ts h =
+find_passage : (i : Passage) (r ts : List Symbol) → AreSame (spell_passage i r) ts → Found (PassageAlike i) spell_passage r ts
+find_passage (fixed x v p) r ts h =
     let a = find_sign marks.Const (word x ∷ sign marks.Assign ∷ digits v p ∷ sign marks.Semicolon ∷ r) ts h in
     let b = find_word x (sign marks.Assign ∷ digits v p ∷ sign marks.Semicolon ∷ r) a.rest a.left in
     let c = find_sign marks.Assign (digits v p ∷ sign marks.Semicolon ∷ r) b.rest b.left in
@@ -573,7 +575,7 @@ find_item (fixed x v p) r ts h =
       whole = a.whole ∙ ap (mark_then marks.Const) (b.whole ∙ ap (λ q. word b.it ∷ q) (c.whole ∙ ap (mark_then marks.Assign) (d.whole ∙ ap (λ q. digits v d.it ∷ q) e.whole)));
       left = e.left;
     }
-find_item (bodied g b ls c) r ts h =
+find_passage (bodied g b ls c) r ts h =
     let r1 = spell_end kinds.Seq r in
     let r2 = spell_script c (sign marks.CloseBody ∷ r1) in
     let r3 = sign marks.OpenBody ∷ each spell_local ls r2 in
@@ -592,7 +594,7 @@ find_item (bodied g b ls c) r ts h =
           (i.whole ∙ ap (each spell_local i.it) (j.whole ∙ ap (spell_script j.it) (k.whole ∙ ap (mark_then marks.CloseBody) l.whole))))));
       left = l.left;
     }
-find_item (chained k g cs) r ts h =
+find_passage (chained k g cs) r ts h =
     let r1 = spell_end k r in
     let a = find_sign (kind_mark k) (spell_head g (each spell_call cs r1)) ts h in
     let b = find_head g (each spell_call cs r1) a.rest a.left in
@@ -604,7 +606,7 @@ find_item (chained k g cs) r ts h =
       whole = a.whole ∙ ap (mark_then (kind_mark k)) (b.whole ∙ ap (spell_head b.it) (c.whole ∙ ap (each spell_call c.it) d.whole));
       left = d.left;
     }
-find_item (spread k g w c) r ts h =
+find_passage (spread k g w c) r ts h =
     let r1 = spell_end k r in
     let r2 = spell_call c r1 in
     let a = find_sign (kind_mark k) (spell_head g (spell_clause marks.Workers w r2)) ts h in
@@ -618,7 +620,7 @@ find_item (spread k g w c) r ts h =
       whole = a.whole ∙ ap (mark_then (kind_mark k)) (b.whole ∙ ap (spell_head b.it) (d.whole ∙ ap (spell_clause marks.Workers d.it) (e.whole ∙ ap (spell_call e.it) f.whole)));
       left = f.left;
     }
-find_item (turned g t n b c) r ts h =
+find_passage (turned g t n b c) r ts h =
     let r1 = spell_end kinds.Loop r in
     let r2 = sign marks.While ∷ spell_call c r1 in
     let r3 = spell_clause marks.Tokens n (spell_call b r2) in
@@ -640,19 +642,19 @@ find_item (turned g t n b c) r ts h =
       left = m.left;
     }
 
-record TextAlike (is js : List Item) : Type 0 where
+record TextAlike (is js : List Passage) : Type 0 where
   proper : IsText is → IsText js
   same : map entry_unplaced (text_tree js) ≡ map entry_unplaced (text_tree is)
 
-text_alike : (i j : Item) (is js : List Item) → ItemAlike i j → TextAlike is js → TextAlike (i ∷ is) (j ∷ js)
+text_alike : (i j : Passage) (is js : List Passage) → PassageAlike i j → TextAlike is js → TextAlike (i ∷ is) (j ∷ js)
 text_alike i j is js a b = record { proper = λ h. (a.proper h.0, b.proper h.1); same = (let p = a.same in let q = b.same in cc) }
 
-find_text : (is : List Item) (r ts : List Symbol) → AreSame (spell_text is r) ts → Found (TextAlike is) spell_text r ts
+find_text : (is : List Passage) (r ts : List Symbol) → AreSame (spell_text is r) ts → Found (TextAlike is) spell_text r ts
 find_text [] r ts h = record { it = []; alike = record { proper = λ k. tt; same = refl }; rest = ts; whole = refl; left = h }
 find_text (i ∷ is) r ts h =
-    let a = find_item i (spell_text is r) ts h in
+    let a = find_passage i (spell_text is r) ts h in
     let b = find_text is r a.rest a.left in
-    record { it = a.it ∷ b.it; alike = text_alike i a.it is b.it a.alike b.alike; rest = b.rest; whole = a.whole ∙ ap (spell_item a.it) b.whole; left = b.left }
+    record { it = a.it ∷ b.it; alike = text_alike i a.it is b.it a.alike b.alike; rest = b.rest; whole = a.whole ∙ ap (spell_passage a.it) b.whole; left = b.left }
 
 -- symbols that are the same but for positions derive programs that are the same but for positions
 pub record DerivesAlike (es : List EntryTree) (ts : List Symbol) : Type 0 where
@@ -664,7 +666,7 @@ no_more : (ts : List Symbol) → AreSame [] ts → ts ≡ []
 no_more [] h = refl
 no_more (t ∷ ts) h = absurd h
 
-pub derives_alike : (is : List Item) (ts : List Symbol) → IsText is → AreSame (spell_text is []) ts → DerivesAlike (text_tree is) ts
+pub derives_alike : (is : List Passage) (ts : List Symbol) → IsText is → AreSame (spell_text is []) ts → DerivesAlike (text_tree is) ts
 derives_alike is ts proper h =
     let a = find_text is [] ts h in record {
       entries = text_tree a.it;

@@ -8,10 +8,10 @@ use Rattle.p3l_lexer.specs.Position.{position_after}
 use Rattle.p3l_lexer.proofs.Spelling.{tokens_of}
 use Rattle.p3l_grammar.specs.Symbol.{Symbol, word, digits, sign, faulty, symbol, symbol_at, symbols}
 use Rattle.p3l_grammar.specs.declared.nest.Nest.{Nest}
-use Rattle.p3l_grammar.specs.Limits.{at_rest, behind, IsKept, IsWithin}
+use Rattle.p3l_grammar.specs.Limits.{at_rest, after_symbol, IsKept, IsWithin}
 use Rattle.p3l_grammar.specs.Written.{spell_text, text_tree}
 use Rattle.p3l_print.specs.Program.{canonical, IsTextOf}
-use Rattle.p3l_print.proofs.Forms.{canonical_items, items_are}
+use Rattle.p3l_print.proofs.Canonical.{canonical_passages, passages_are}
 use Rattle.p3l_print.proofs.Unplacing.{canonical_same}
 use Rattle.p3l_print.proofs.Placing.{Same, AreSame, derives_alike}
 use Rattle.p3l_print.proofs.Writing.{lexeme_of, lexemes_of, AreWritable, Writes}
@@ -35,28 +35,28 @@ same_symbols (s ∷ ss) (t ∷ tokens) h =
 
 -- positions do not matter for the limits
 
-same_behind : (n : Nest) (s t : Symbol) → Same s t → behind n s ≡ behind n t
-same_behind n (word x) (word y) h = refl
-same_behind n (digits v p) (digits w q) h = refl
-same_behind n (sign m) (sign k) h = ap (λ l. behind n (sign l)) (sym h)
-same_behind n faulty faulty h = refl
-same_behind n _ _ h = absurd h
+same_after : (n : Nest) (s t : Symbol) → Same s t → after_symbol n s ≡ after_symbol n t
+same_after n (word x) (word y) h = refl
+same_after n (digits v p) (digits w q) h = refl
+same_after n (sign m) (sign k) h = ap (λ l. after_symbol n (sign l)) (sym h)
+same_after n faulty faulty h = refl
+same_after n _ _ h = absurd h
 
 same_within : (n : Nest) (ss ts : List Symbol) → AreSame ss ts → IsWithin n ss → IsWithin n ts
 same_within n [] [] h w = tt
 same_within n [] (t ∷ ts) h w = absurd h
 same_within n (s ∷ ss) [] h w = absurd h
 same_within n (s ∷ ss) (t ∷ ts) h w =
-    let e = same_behind n s t h.0 in
-    (subst IsKept e w.0, same_within (behind n t) ss ts h.1 (subst (λ m. IsWithin m ss) e w.1))
+    let e = same_after n s t h.0 in
+    (subst IsKept e w.0, same_within (after_symbol n t) ss ts h.1 (subst (λ m. IsWithin m ss) e w.1))
 
 pub canonical_is_text : (program : ProgramTree) (bytes : List ℕ) → IsTextOf bytes program → IsTextOf (canonical program) program
 canonical_is_text program bytes h =
     let given = h.spells in
     let written = given.derives.written in
     let spelled = given.derives.spelled in
-    let forms = canonical_items written in
-    let proper = items_are written given.derives.is_text in
+    let forms = canonical_passages written in
+    let proper = passages_are written given.derives.is_text in
     let writable : AreWritable (spell_text written []) = subst AreWritable spelled (tokens_writable bytes given.tokens given.are_tokens) in
     let tree : ProgramTree = record { entries = text_tree written; end = h.placed.end } in
     let placed : tree ≡ h.placed = λ i. record { entries = given.derives.tree_is i; end = h.placed.end } in

@@ -17,6 +17,7 @@ use Rattle.p3l_lexer.specs.declared.token.Lexeme.TheVariants as lexemes
 use Rattle.p3l_lexer.specs.declared.token.Piece.{Piece}
 use Rattle.p3l_lexer.specs.declared.token.Piece.TheVariants as pieces
 use Rattle.p3l_lexer.specs.declared.token.Token.{Token}
+use Rattle.p3l_ast.specs.Notation.{operator_of}
 use Rattle.p3l_lexer.specs.Mark.{mark_text, punctuation_of}
 use Rattle.p3l_lexer.specs.Piece.{piece_of}
 use Rattle.p3l_lexer.specs.Position.{position_after}
@@ -25,14 +26,14 @@ use Rattle.p3l_lexer.specs.Spelling.{goes_on}
 use Rattle.p3l_lexer.proofs.Spelling.{no_lexemes}
 use Rattle.p3l_lexer.proofs.Writing.{word_again, digits_are}
 use Rattle.p3l_grammar.specs.Symbol.{Symbol, word, digits, sign, symbol_at, symbols, kind_mark}
-use Rattle.p3l_grammar.specs.Written.{Script, Head, Item, fixed, bodied, chained, spread, turned, each, num_symbol, spell_port, spell_call, spell_script, spell_head, spell_clause, spell_local, spell_end, spell_item, spell_text, script_tree, item_tree, text_tree}
+use Rattle.p3l_grammar.specs.Written.{Script, Head, Passage, fixed, bodied, chained, spread, turned, each, num_symbol, spell_port, spell_call, spell_script, spell_head, spell_clause, spell_local, spell_end, spell_passage, spell_text, script_tree, passage_tree, text_tree}
 use Rattle.p3l_print.specs.Printer.{interface_text}
 use Rattle.p3l_print.specs.Port.{num_text, port_text}
 use Rattle.p3l_print.specs.Call.{call_text}
-use Rattle.p3l_print.specs.Statement.{code_text}
+use Rattle.p3l_print.specs.Statement.{statements_text}
 use Rattle.p3l_print.specs.Module.{kind_text, clause_text, clauses_text, local_line, call_line, inside_text, module_text}
 use Rattle.p3l_print.specs.Program.{entry_text}
-use Rattle.p3l_print.proofs.Forms.{canonical_script, canonical_item, canonical_items}
+use Rattle.p3l_print.proofs.Canonical.{canonical_script, canonical_passage, canonical_passages}
 use Rattle.p3l_print.proofs.Writing.{IsWritable, AreWritable, Writes, EndsWord, put_space, put_line, put_mark, put_alone, semicolon_alone, put_word, put_digits, num_writes, port_spelling, spell_interface, interface_writes, interface_passes, interface_begins, call_writes, call_passes}
 use Rattle.p3l_print.proofs.Bodies.{script_passes, script_writes}
 
@@ -74,7 +75,7 @@ call_is_line = record { writes = call_line_writes; passes = call_passes }
 -- a module
 
 kind_space : (k : Kind) → goes_on (mark_text (kind_mark k)) 32 ≡ false
-unfolding goes_on punctuation_of
+unfolding goes_on punctuation_of operator_of
 kind_space kinds.Seq = refl
 kind_space kinds.Comp = refl
 kind_space kinds.Pipe = refl
@@ -84,7 +85,7 @@ kind_space kinds.Reduce = refl
 kind_space kinds.Loop = refl
 
 kind_line : (k : Kind) → goes_on (mark_text (kind_mark k)) 10 ≡ false
-unfolding goes_on punctuation_of
+unfolding goes_on punctuation_of operator_of
 kind_line kinds.Seq = refl
 kind_line kinds.Comp = refl
 kind_line kinds.Pipe = refl
@@ -94,7 +95,7 @@ kind_line kinds.Reduce = refl
 kind_line kinds.Loop = refl
 
 end_writes : (k : Kind) (s : List Symbol) (rest : List ℕ) → Writes rest s → Writes (codes "end " ++ (kind_text k ++ (10 ∷ rest))) (spell_end k s)
-unfolding goes_on punctuation_of
+unfolding goes_on punctuation_of operator_of
 end_writes k s rest w =
     let w1 : Writes (kind_text k ++ 10 ∷ rest) (sign (kind_mark k) ∷ s) = put_mark (kind_mark k) (10 ∷ rest) s (kind_line k) (put_line rest s w) in
     put_mark marks.End (32 ∷ (kind_text k ++ (10 ∷ rest))) (sign (kind_mark k) ∷ s) refl (put_space (kind_text k ++ 10 ∷ rest) (sign (kind_mark k) ∷ s) w1)
@@ -146,19 +147,19 @@ module_writes k h clauses inside r s1 s2 s rest p c i w =
     simp append_assoc (simp append_assoc at w0)
 
 budget_space : goes_on (mark_text marks.Budget) 32 ≡ false
-unfolding goes_on punctuation_of
+unfolding goes_on punctuation_of operator_of
 budget_space = refl
 
 workers_space : goes_on (mark_text marks.Workers) 32 ≡ false
-unfolding goes_on punctuation_of
+unfolding goes_on punctuation_of operator_of
 workers_space = refl
 
 turns_space : goes_on (mark_text marks.Turns) 32 ≡ false
-unfolding goes_on punctuation_of
+unfolding goes_on punctuation_of operator_of
 turns_space = refl
 
 tokens_space : goes_on (mark_text marks.Tokens) 32 ≡ false
-unfolding goes_on punctuation_of
+unfolding goes_on punctuation_of operator_of
 tokens_space = refl
 
 -- the clauses that a module can have
@@ -203,12 +204,12 @@ turns_writes u n r s t h w =
 
 body_writes : (ls : List Port) (c : Script) (r s : List Symbol) (t : List ℕ) → AreWritable (each spell_local ls (spell_script c r)) → Writes t s
     → Writes (inside_text (body ls (script_tree c)) ++ t) (sign marks.OpenBody ∷ each spell_local ls (spell_script (canonical_script c) (sign marks.CloseBody ∷ s)))
-unfolding goes_on punctuation_of
+unfolding goes_on punctuation_of operator_of
 body_writes ls c r s t h w =
     let s1 = sign marks.CloseBody ∷ s in
     let t1 = codes "}$\n" ++ t in
     let w1 : Writes t1 s1 = put_mark marks.CloseBody (10 ∷ t) s refl (put_line t s w) in
-    let t2 = code_text (codes "  ") (script_tree c) ++ t1 in
+    let t2 = statements_text (codes "  ") (script_tree c) ++ t1 in
     let s2 = spell_script (canonical_script c) s1 in
     let w2 : Writes t2 s2 = script_writes c (codes "  ") r refl (lines_pass local_line spell_local local_is_line ls (spell_script c r) h) s1 t1 w1 in
     let t3 = flat_map local_line ls ++ t2 in
@@ -222,7 +223,7 @@ calls_write cs r s t h w = lines_write call_line spell_call call_is_line cs r s 
 
 turning_writes : (b c : Call) (r s : List Symbol) (t : List ℕ) → AreWritable (spell_call b (sign marks.While ∷ spell_call c r)) → Writes t s
     → Writes (inside_text (turning b c) ++ t) (spell_call b (sign marks.While ∷ spell_call c s))
-unfolding goes_on punctuation_of
+unfolding goes_on punctuation_of operator_of
 turning_writes b c r s t h w =
     let t1 = call_text c ++ (10 ∷ t) in
     let s1 = spell_call c s in
@@ -235,9 +236,9 @@ turning_writes b c r s t h w =
 
 -- entries
 
-item_writes : (i : Item) (r s : List Symbol) (rest : List ℕ) → AreWritable (spell_item i r) → Writes rest s → Writes (entry_text (item_tree i) ++ rest) (spell_item (canonical_item i) s)
-unfolding goes_on punctuation_of
-item_writes (fixed x v p) r s rest h w =
+passage_writes : (i : Passage) (r s : List Symbol) (rest : List ℕ) → AreWritable (spell_passage i r) → Writes rest s → Writes (entry_text (passage_tree i) ++ rest) (spell_passage (canonical_passage i) s)
+unfolding goes_on punctuation_of operator_of
+passage_writes (fixed x v p) r s rest h w =
     let n = h.1.1.1.0 in
     let s1 = sign marks.Semicolon ∷ s in
     let w1 : Writes (59 ∷ 10 ∷ rest) s1 = put_alone marks.Semicolon (10 ∷ rest) s semicolon_alone (put_line rest s w) in
@@ -252,7 +253,7 @@ item_writes (fixed x v p) r s rest h w =
     let w4 : Writes t4 s4 = put_word x t3 s3 h.1.0 refl w3 in
     let w5 : Writes (codes "const " ++ t4) (sign marks.Const ∷ s4) = put_mark marks.Const (32 ∷ t4) s4 refl (put_space t4 s4 w4) in
     simp append_assoc w5
-item_writes (bodied g b ls c) r s rest h w =
+passage_writes (bodied g b ls c) r s rest h w =
     let r3 = spell_end kinds.Seq r in
     let r2 = each spell_local ls (spell_script c (sign marks.CloseBody ∷ r3)) in
     let r1 = spell_clause marks.Budget b (sign marks.OpenBody ∷ r2) in
@@ -261,13 +262,13 @@ item_writes (bodied g b ls c) r s rest h w =
     module_writes kinds.Seq g (only_budget b) (body ls (script_tree c)) r1 (spell_clause marks.Budget b s2) s2 s rest h.1
     (λ t z. budget_writes b (sign marks.OpenBody ∷ r2) s2 t p z)
     (λ t z. body_writes ls c (sign marks.CloseBody ∷ r3) (spell_end kinds.Seq s) t (clause_passes marks.Budget b (sign marks.OpenBody ∷ r2) p).1 z) w
-item_writes (chained k g cs) r s rest h w =
+passage_writes (chained k g cs) r s rest h w =
     let r1 = each spell_call cs (spell_end k r) in
     let s1 = each spell_call cs (spell_end k s) in
     module_writes k g (only_workers None) (calls cs) r1 s1 s1 s rest h.1
     (λ t z. workers_writes None [] s1 t tt z)
     (λ t z. calls_write cs (spell_end k r) (spell_end k s) t (head_passes g r1 h.1) z) w
-item_writes (spread k g v c) r s rest h w =
+passage_writes (spread k g v c) r s rest h w =
     let r2 = spell_call c (spell_end k r) in
     let r1 = spell_clause marks.Workers v r2 in
     let s2 = spell_call c (spell_end k s) in
@@ -275,7 +276,7 @@ item_writes (spread k g v c) r s rest h w =
     module_writes k g (only_workers v) (calls (c ∷ [])) r1 (spell_clause marks.Workers v s2) s2 s rest h.1
     (λ t z. workers_writes v r2 s2 t p z)
     (λ t z. calls_write (c ∷ []) (spell_end k r) (spell_end k s) t (clause_passes marks.Workers v r2 p) z) w
-item_writes (turned g u n b c) r s rest h w =
+passage_writes (turned g u n b c) r s rest h w =
     let r3 = spell_call b (sign marks.While ∷ spell_call c (spell_end kinds.Loop r)) in
     let r1 = sign marks.Turns ∷ num_symbol u ∷ spell_clause marks.Tokens n r3 in
     let s3 = spell_call b (sign marks.While ∷ spell_call c (spell_end kinds.Loop s)) in
@@ -284,35 +285,35 @@ item_writes (turned g u n b c) r s rest h w =
     (λ t z. turns_writes u n r3 s3 t p z)
     (λ t z. turning_writes b c (spell_end kinds.Loop r) (spell_end kinds.Loop s) t (clause_passes marks.Tokens n r3 p.1.1) z) w
 
-item_passes : (i : Item) (r : List Symbol) → AreWritable (spell_item i r) → AreWritable r
-item_passes (fixed x v p) r h = h.1.1.1.1.1
-item_passes (bodied g b ls c) r h =
+passage_passes : (i : Passage) (r : List Symbol) → AreWritable (spell_passage i r) → AreWritable r
+passage_passes (fixed x v p) r h = h.1.1.1.1.1
+passage_passes (bodied g b ls c) r h =
     let r3 = sign marks.CloseBody ∷ spell_end kinds.Seq r in
     let r2 = sign marks.OpenBody ∷ each spell_local ls (spell_script c r3) in
     let inner = (clause_passes marks.Budget b r2 (head_passes g (spell_clause marks.Budget b r2) h.1)).1 in
     (script_passes c r3 (lines_pass local_line spell_local local_is_line ls (spell_script c r3) inner)).1.1.1
-item_passes (chained k g cs) r h = (lines_pass call_line spell_call call_is_line cs (spell_end k r) (head_passes g (each spell_call cs (spell_end k r)) h.1)).1.1
-item_passes (spread k g v c) r h =
+passage_passes (chained k g cs) r h = (lines_pass call_line spell_call call_is_line cs (spell_end k r) (head_passes g (each spell_call cs (spell_end k r)) h.1)).1.1
+passage_passes (spread k g v c) r h =
     let r2 = spell_call c (spell_end k r) in
     (call_passes c (spell_end k r) (clause_passes marks.Workers v r2 (head_passes g (spell_clause marks.Workers v r2) h.1))).1.1
-item_passes (turned g u n b c) r h =
+passage_passes (turned g u n b c) r h =
     let r4 = spell_end kinds.Loop r in
     let r3 = spell_call b (sign marks.While ∷ spell_call c r4) in
     let inner = clause_passes marks.Tokens n r3 (head_passes g (sign marks.Turns ∷ num_symbol u ∷ spell_clause marks.Tokens n r3) h.1).1.1 in
     (call_passes c r4 (call_passes b (sign marks.While ∷ spell_call c r4) inner).1).1.1
 
-more_items : (is : List Item) → AreWritable (spell_text is []) → Writes (flat_map (λ e. codes "\n" ++ entry_text e) (text_tree is)) (spell_text (canonical_items is) [])
+more_items : (is : List Passage) → AreWritable (spell_text is []) → Writes (flat_map (λ e. codes "\n" ++ entry_text e) (text_tree is)) (spell_text (canonical_passages is) [])
 more_items [] h = no_lexemes
 more_items (i ∷ is) h =
     let more = flat_map (λ e. codes "\n" ++ entry_text e) (text_tree is) in
-    let s = spell_text (canonical_items is) [] in
-    let w1 : Writes (entry_text (item_tree i) ++ more) (spell_text (canonical_items (i ∷ is)) []) = item_writes i (spell_text is []) s more h (more_items is (item_passes i (spell_text is []) h)) in
-    put_line (entry_text (item_tree i) ++ more) (spell_text (canonical_items (i ∷ is)) []) w1
+    let s = spell_text (canonical_passages is) [] in
+    let w1 : Writes (entry_text (passage_tree i) ++ more) (spell_text (canonical_passages (i ∷ is)) []) = passage_writes i (spell_text is []) s more h (more_items is (passage_passes i (spell_text is []) h)) in
+    put_line (entry_text (passage_tree i) ++ more) (spell_text (canonical_passages (i ∷ is)) []) w1
 
-pub text_writes : (is : List Item) → AreWritable (spell_text is []) → Writes (join_by entry_text (codes "\n") (text_tree is)) (spell_text (canonical_items is) [])
+pub text_writes : (is : List Passage) → AreWritable (spell_text is []) → Writes (join_by entry_text (codes "\n") (text_tree is)) (spell_text (canonical_passages is) [])
 text_writes [] h = no_lexemes
 text_writes (i ∷ is) h =
-    item_writes i (spell_text is []) (spell_text (canonical_items is) []) (flat_map (λ e. codes "\n" ++ entry_text e) (text_tree is)) h (more_items is (item_passes i (spell_text is []) h))
+    passage_writes i (spell_text is []) (spell_text (canonical_passages is) []) (flat_map (λ e. codes "\n" ++ entry_text e) (text_tree is)) h (more_items is (passage_passes i (spell_text is []) h))
 
 -- the symbols of a text can be written
 

@@ -14,13 +14,13 @@ use Rattle.p3l_ast.specs.declared.call.Call.{Call}
 use Rattle.p3l_ast.specs.declared.expression.UnOp.{UnOp}
 use Rattle.p3l_ast.specs.declared.expression.BinOp.{BinOp}
 use Rattle.p3l_ast.specs.declared.module.Clauses.{Clauses}
-use Rattle.p3l_ast.specs.Tree.{Phrase, number, read, unary, binary, Phrases, none, more, Code, done, assign, branch, branch_else, repeat, count, InsideTree, body, calls, turning, ModuleTree, EntryTree, constant, defined, ProgramTree}
-use Rattle.p3l_ast.specs.Unplaced.{num_unplaced, port_unplaced, sub_unplaced, arg_unplaced, out_unplaced, call_unplaced, clauses_unplaced, phrase_unplaced, phrases_unplaced, code_unplaced, inside_unplaced, module_unplaced, entry_unplaced, program_unplaced}
+use Rattle.p3l_ast.specs.Tree.{Phrase, number, read, unary, binary, Phrases, none, more, Statements, done, assign, if_, if_else, while_, for_, InsideTree, body, calls, turning, ModuleTree, EntryTree, constant, defined, ProgramTree}
+use Rattle.p3l_ast.specs.Unplaced.{num_unplaced, port_unplaced, sub_unplaced, arg_unplaced, out_unplaced, call_unplaced, clauses_unplaced, phrase_unplaced, phrases_unplaced, statements_unplaced, inside_unplaced, module_unplaced, entry_unplaced, program_unplaced}
 use Rattle.p3l_print.specs.Printer.{interface_text}
 use Rattle.p3l_print.specs.Port.{num_text, size_text, port_text}
 use Rattle.p3l_print.specs.Call.{sub_text, arg_text, out_arg_text, call_text}
 use Rattle.p3l_print.specs.Expression.{tightness, expression_text, index_text}
-use Rattle.p3l_print.specs.Statement.{assignment_text, deeper, opening_text, for_opening_text, code_text}
+use Rattle.p3l_print.specs.Statement.{assignment_text, deeper, opening_text, for_opening_text, statements_text}
 use Rattle.p3l_print.specs.Module.{clause_text, clauses_text, local_line, call_line, inside_text, module_text}
 use Rattle.p3l_print.specs.Program.{entry_text, canonical}
 
@@ -94,26 +94,26 @@ mutual
   index_same none = refl
   index_same (more e is) = more_same (phrase_unplaced e) e (phrases_unplaced is) is (phrase_same e) (index_same is)
 
-code_same : (m : List ℕ) (c : Code) → code_text m (code_unplaced c) ≡ code_text m c
-unfolding code_text assignment_text opening_text for_opening_text
-code_same m done = refl
-code_same m (assign x is e c) = let p = index_same is in let q = phrase_same e in let r = code_same m c in cc
-code_same m (branch e t c) = let p = phrase_same e in let q = code_same (deeper m) t in let r = code_same m c in cc
-code_same m (branch_else e t f c) =
+statements_same : (m : List ℕ) (c : Statements) → statements_text m (statements_unplaced c) ≡ statements_text m c
+unfolding statements_text assignment_text opening_text for_opening_text
+statements_same m done = refl
+statements_same m (assign x is e c) = let p = index_same is in let q = phrase_same e in let r = statements_same m c in cc
+statements_same m (if_ e t c) = let p = phrase_same e in let q = statements_same (deeper m) t in let r = statements_same m c in cc
+statements_same m (if_else e t f c) =
     let p = phrase_same e in
-    let q = code_same (deeper m) t in
-    let r = code_same (deeper m) f in
-    let s = code_same m c in
+    let q = statements_same (deeper m) t in
+    let r = statements_same (deeper m) f in
+    let s = statements_same m c in
     cc
-code_same m (repeat e b c) = let p = phrase_same e in let q = code_same (deeper m) b in let r = code_same m c in cc
-code_same m (count x is e w y js f b c) =
+statements_same m (while_ e b c) = let p = phrase_same e in let q = statements_same (deeper m) b in let r = statements_same m c in cc
+statements_same m (for_ x is e w y js f b c) =
     let p = index_same is in
     let q = phrase_same e in
     let r = phrase_same w in
     let s = index_same js in
     let t = phrase_same f in
-    let u = code_same (deeper m) b in
-    let v = code_same m c in
+    let u = statements_same (deeper m) b in
+    let v = statements_same m c in
     cc
 
 clause_same : (word : List ℕ) (n : Option Num) → clause_text word (option_map num_unplaced n) ≡ clause_text word n
@@ -138,7 +138,7 @@ line_same c = let p = call_same c in cc
 inside_same : (i : InsideTree) → inside_text (inside_unplaced i) ≡ inside_text i
 inside_same (body ls c) =
     let p = each_same local_line port_unplaced local_same ls in
-    let q = code_same (codes "  ") c in
+    let q = statements_same (codes "  ") c in
     cc
 inside_same (calls cs) = each_same call_line call_unplaced line_same cs
 inside_same (turning b c) = let p = call_same b in let q = call_same c in cc

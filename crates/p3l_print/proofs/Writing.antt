@@ -1,5 +1,5 @@
 -- The canonical text is written with the tokens of its canonical form.
-use Rattle.std.proofs.Common.{◌≡◌, ℕ, ◌<◌, ◌^◌, Bool, true, false, ◌&&◌, List, [], ◌∷◌, ◌++◌, ℤ, pos, Some, map, flat_map, refl, sym, subst, append_assoc, codes}
+use Rattle.std.proofs.Common.{◌≡◌, ℕ, ◌<◌, ◌^◌, true, false, ◌&&◌, List, [], ◌∷◌, ◌++◌, ℤ, pos, Some, map, flat_map, refl, sym, subst, append_assoc, codes}
 use Rattle.std.specs.Fmt.{signed_decimal}
 use Rattle.std.specs.List.{join_by, list_all}
 use Rattle.p3l_ast.specs.declared.position.Spot.{Spot}
@@ -14,10 +14,12 @@ use Rattle.p3l_ast.specs.declared.call.OutArg.{OutArg}
 use Rattle.p3l_ast.specs.declared.call.OutArg.TheVariants.{Fresh, Old}
 use Rattle.p3l_ast.specs.declared.call.Call.{Call}
 use Rattle.p3l_lexer.specs.declared.mark.Mark.{Mark}
+use Rattle.p3l_ast.specs.declared.expression.BinOp.TheVariants as ops
 use Rattle.p3l_lexer.specs.declared.mark.Mark.TheVariants as marks
 use Rattle.p3l_lexer.specs.declared.token.Lexeme.{Lexeme}
 use Rattle.p3l_lexer.specs.declared.token.Lexeme.TheVariants as lexemes
 use Rattle.p3l_lexer.specs.declared.token.Piece.TheVariants as pieces
+use Rattle.p3l_ast.specs.Notation.{operator_of}
 use Rattle.p3l_lexer.specs.Mark.{mark_text, punctuation_of}
 use Rattle.p3l_lexer.specs.Piece.{is_blank, is_word_byte, piece_of}
 use Rattle.p3l_lexer.specs.Cut.{Ends}
@@ -26,7 +28,7 @@ use Rattle.p3l_lexer.proofs.Truths.{and_left, and_right}
 use Rattle.p3l_lexer.proofs.Spelling.{piece_of-mark, blank_first, lexeme_first}
 use Rattle.p3l_lexer.proofs.Writing.{word_starts, digits_start, piece_of-decimal}
 use Rattle.p3l_grammar.specs.Symbol.{Symbol, word, digits, sign, faulty}
-use Rattle.p3l_grammar.specs.Written.{each, behind_comma, parted, num_symbol, spell_size, spell_port, spell_sub, spell_arg, spell_out, spell_call}
+use Rattle.p3l_grammar.specs.Written.{each, after_comma, separated, num_symbol, spell_size, spell_port, spell_sub, spell_arg, spell_out, spell_call}
 use Rattle.p3l_print.specs.Printer.{interface_text}
 use Rattle.p3l_print.specs.Port.{num_text, size_text, port_text}
 use Rattle.p3l_print.specs.Call.{sub_text, arg_text, out_arg_text, call_text}
@@ -91,38 +93,38 @@ pub put_alone : (m : Mark) (rest : List ℕ) (s : List Symbol) → IsAlone m →
 put_alone m rest s a h = put_mark m rest s (alone_ends m rest a) h
 
 pub open_bracket_alone : IsAlone marks.OpenBracket
-unfolding goes_on punctuation_of
+unfolding goes_on punctuation_of operator_of
 open_bracket_alone b = refl
 
 pub close_bracket_alone : IsAlone marks.CloseBracket
-unfolding goes_on punctuation_of
+unfolding goes_on punctuation_of operator_of
 close_bracket_alone b = refl
 
 pub open_paren_alone : IsAlone marks.OpenParen
-unfolding goes_on punctuation_of
+unfolding goes_on punctuation_of operator_of
 open_paren_alone b = refl
 
 pub close_paren_alone : IsAlone marks.CloseParen
-unfolding goes_on punctuation_of
+unfolding goes_on punctuation_of operator_of
 close_paren_alone b = refl
 
 pub comma_alone : IsAlone marks.Comma
-unfolding goes_on punctuation_of
+unfolding goes_on punctuation_of operator_of
 comma_alone b = refl
 
 pub semicolon_alone : IsAlone marks.Semicolon
-unfolding goes_on punctuation_of
+unfolding goes_on punctuation_of operator_of
 semicolon_alone b = refl
 
-pub star_alone : IsAlone marks.Star
-unfolding goes_on punctuation_of
+pub star_alone : IsAlone (marks.Operator ops.Mul)
+unfolding goes_on punctuation_of operator_of
 star_alone b = refl
 
 pub open_brace_alone : IsAlone marks.OpenBrace
-unfolding goes_on punctuation_of
+unfolding goes_on punctuation_of operator_of
 open_brace_alone b = refl
 
--- a name or a number, with no letter and no digit behind it
+-- a name or a number, with no letter and no digit after it
 
 run_ends : (first : ℕ) (tail rest : List ℕ) → is_word_byte first ≡ true → EndsWord rest → Ends (goes_on (first ∷ tail)) rest
 unfolding goes_on
@@ -150,16 +152,16 @@ put_digits v rest s n p q e h =
     ends [] q = absurd cc
     ends (b ∷ text) q = run_ends b text rest (digits_start b text v q) e
 
--- how something is written, and that what stands behind it is writable too
+-- how something is written, and that what stands after it is writable too
 pub record IsSpelling {X : Type 0} (text : X → List ℕ) (spelled : X → List Symbol → List Symbol) : Type 0 where
   pub writes : (x : X) (r s : List Symbol) (rest : List ℕ) → AreWritable (spelled x r) → EndsWord rest → Writes rest s → Writes (text x ++ rest) (spelled x s)
   pub passes : (x : X) (r : List Symbol) → AreWritable (spelled x r) → AreWritable r
 
 -- its text never begins with a letter or a digit
-pub record IsParted {X : Type 0} (text : X → List ℕ) : Type 0 where
+pub record IsSeparated {X : Type 0} (text : X → List ℕ) : Type 0 where
   pub begins : (x : X) (rest : List ℕ) → EndsWord (text x ++ rest)
 
-each_begins : {X : Type 0} (text : X → List ℕ) → IsParted text → (xs : List X) (rest : List ℕ) → EndsWord rest → EndsWord (flat_map text xs ++ rest)
+each_begins : {X : Type 0} (text : X → List ℕ) → IsSeparated text → (xs : List X) (rest : List ℕ) → EndsWord rest → EndsWord (flat_map text xs ++ rest)
 each_begins text b [] rest e = e
 each_begins text b (x ∷ xs) rest e = rw append_assoc (b.begins x (flat_map text xs ++ rest))
 
@@ -167,38 +169,38 @@ each_passes : {X : Type 0} (spelled : X → List Symbol → List Symbol) → ((x
 each_passes spelled p [] r h = h
 each_passes spelled p (x ∷ xs) r h = each_passes spelled p xs r (p x (each spelled xs r) h)
 
-each_writes : {X : Type 0} (text : X → List ℕ) (spelled : X → List Symbol → List Symbol) → IsSpelling text spelled → IsParted text
+each_writes : {X : Type 0} (text : X → List ℕ) (spelled : X → List Symbol → List Symbol) → IsSpelling text spelled → IsSeparated text
     → (xs : List X) (r s : List Symbol) (rest : List ℕ) → AreWritable (each spelled xs r) → EndsWord rest → Writes rest s → Writes (flat_map text xs ++ rest) (each spelled xs s)
 each_writes text spelled k b [] r s rest h e w = w
 each_writes text spelled k b (x ∷ xs) r s rest h e w =
     rw append_assoc (k.writes x (each spelled xs r) (each spelled xs s) (flat_map text xs ++ rest) h (each_begins text b xs rest e)
     (each_writes text spelled k b xs r s rest (k.passes x (each spelled xs r) h) e w))
 
-pub each_spelling : {X : Type 0} (text : X → List ℕ) (spelled : X → List Symbol → List Symbol) → IsSpelling text spelled → IsParted text → IsSpelling (flat_map text) (each spelled)
+pub each_spelling : {X : Type 0} (text : X → List ℕ) (spelled : X → List Symbol → List Symbol) → IsSpelling text spelled → IsSeparated text → IsSpelling (flat_map text) (each spelled)
 each_spelling text spelled k b = record { writes = each_writes text spelled k b; passes = each_passes spelled k.passes }
 
-behind_spelling : {X : Type 0} (text : X → List ℕ) (spelled : X → List Symbol → List Symbol) → IsSpelling text spelled → IsSpelling (λ x. codes ", " ++ text x) (behind_comma spelled)
-behind_spelling text spelled k = record {
+after_spelling : {X : Type 0} (text : X → List ℕ) (spelled : X → List Symbol → List Symbol) → IsSpelling text spelled → IsSpelling (λ x. codes ", " ++ text x) (after_comma spelled)
+after_spelling text spelled k = record {
   writes = λ x r s rest h e w. put_alone marks.Comma (32 ∷ text x ++ rest) (spelled x s) comma_alone (put_space (text x ++ rest) (spelled x s) (k.writes x r s rest h.1 e w));
   passes = λ x r h. k.passes x r h.1;
 }
 
-behind_parted : {X : Type 0} (text : X → List ℕ) → IsParted (λ x. codes ", " ++ text x)
-behind_parted text = record { begins = λ x rest. refl }
+after_separated : {X : Type 0} (text : X → List ℕ) → IsSeparated (λ x. codes ", " ++ text x)
+after_separated text = record { begins = λ x rest. refl }
 
 list_writes : {X : Type 0} (text : X → List ℕ) (spelled : X → List Symbol → List Symbol) → IsSpelling text spelled
-    → (xs : List X) (r s : List Symbol) (rest : List ℕ) → AreWritable (parted spelled xs r) → EndsWord rest → Writes rest s → Writes (join_by text (codes ", ") xs ++ rest) (parted spelled xs s)
+    → (xs : List X) (r s : List Symbol) (rest : List ℕ) → AreWritable (separated spelled xs r) → EndsWord rest → Writes rest s → Writes (join_by text (codes ", ") xs ++ rest) (separated spelled xs s)
 list_writes text spelled k [] r s rest h e w = w
 list_writes text spelled k (x ∷ xs) r s rest h e w =
     let more = flat_map (λ y. codes ", " ++ text y) xs in
-    let c = behind_spelling text spelled k in
-    let b = behind_parted text in
-    rw append_assoc (k.writes x (each (behind_comma spelled) xs r) (each (behind_comma spelled) xs s) (more ++ rest) h (each_begins (λ y. codes ", " ++ text y) b xs rest e)
-    (each_writes (λ y. codes ", " ++ text y) (behind_comma spelled) c b xs r s rest (k.passes x (each (behind_comma spelled) xs r) h) e w))
+    let c = after_spelling text spelled k in
+    let b = after_separated text in
+    rw append_assoc (k.writes x (each (after_comma spelled) xs r) (each (after_comma spelled) xs s) (more ++ rest) h (each_begins (λ y. codes ", " ++ text y) b xs rest e)
+    (each_writes (λ y. codes ", " ++ text y) (after_comma spelled) c b xs r s rest (k.passes x (each (after_comma spelled) xs r) h) e w))
 
-list_passes : {X : Type 0} (text : X → List ℕ) (spelled : X → List Symbol → List Symbol) → IsSpelling text spelled → (xs : List X) (r : List Symbol) → AreWritable (parted spelled xs r) → AreWritable r
+list_passes : {X : Type 0} (text : X → List ℕ) (spelled : X → List Symbol → List Symbol) → IsSpelling text spelled → (xs : List X) (r : List Symbol) → AreWritable (separated spelled xs r) → AreWritable r
 list_passes text spelled k [] r h = h
-list_passes text spelled k (x ∷ xs) r h = each_passes (behind_comma spelled) (λ y q g. k.passes y q g.1) xs r (k.passes x (each (behind_comma spelled) xs r) h)
+list_passes text spelled k (x ∷ xs) r h = each_passes (after_comma spelled) (λ y q g. k.passes y q g.1) xs r (k.passes x (each (after_comma spelled) xs r) h)
 
 -- ports and calls
 
@@ -215,18 +217,18 @@ size_writes n r s rest h e w =
 size_spelling : IsSpelling size_text spell_size
 size_spelling = record { writes = size_writes; passes = λ n r h. h.1.1.1 }
 
-size_parted : IsParted size_text
-size_parted = record { begins = λ n rest. refl }
+size_separated : IsSeparated size_text
+size_separated = record { begins = λ n rest. refl }
 
 port_writes : (p : Port) (r s : List Symbol) (rest : List ℕ) → AreWritable (spell_port p r) → EndsWord rest → Writes rest s → Writes (port_text p ++ rest) (spell_port p s)
-unfolding goes_on punctuation_of
+unfolding goes_on punctuation_of operator_of
 port_writes p r s rest h e w =
     let sizes = flat_map size_text p.sizes ++ rest in
     let spelled = each spell_size p.sizes s in
     rw append_assoc
     (put_mark marks.Int (32 ∷ p.at.name ++ sizes) (word p.at ∷ spelled) refl
     (put_space (p.at.name ++ sizes) (word p.at ∷ spelled)
-    (put_word p.at sizes spelled h.1.0 (each_begins size_text size_parted p.sizes rest e) (each_writes size_text spell_size size_spelling size_parted p.sizes r s rest h.1.1 e w))))
+    (put_word p.at sizes spelled h.1.0 (each_begins size_text size_separated p.sizes rest e) (each_writes size_text spell_size size_spelling size_separated p.sizes r s rest h.1.1 e w))))
 
 pub port_spelling : IsSpelling port_text spell_port
 port_spelling = record { writes = port_writes; passes = λ p r h. each_passes spell_size (λ n q g. g.1.1.1) p.sizes r h.1.1 }
@@ -237,8 +239,8 @@ sub_writes Whole r s rest h e w =
 sub_writes (Free x) r s rest h e w =
     let last = sign marks.CloseBracket ∷ s in
     rw append_assoc
-    (put_alone marks.OpenBracket (42 ∷ x.name ++ 93 ∷ rest) (sign marks.Star ∷ word x ∷ last) open_bracket_alone
-    (put_alone marks.Star (x.name ++ 93 ∷ rest) (word x ∷ last) star_alone (put_word x (93 ∷ rest) last h.1.1.0 refl (put_alone marks.CloseBracket rest s close_bracket_alone w))))
+    (put_alone marks.OpenBracket (42 ∷ x.name ++ 93 ∷ rest) (sign (marks.Operator ops.Mul) ∷ word x ∷ last) open_bracket_alone
+    (put_alone (marks.Operator ops.Mul) (x.name ++ 93 ∷ rest) (word x ∷ last) star_alone (put_word x (93 ∷ rest) last h.1.1.0 refl (put_alone marks.CloseBracket rest s close_bracket_alone w))))
 
 sub_passes : (b : Sub) (r : List Symbol) → AreWritable (spell_sub b r) → AreWritable r
 sub_passes Whole r h = h.1.1
@@ -251,14 +253,14 @@ sub_begins : (b : Sub) (rest : List ℕ) → EndsWord (sub_text b ++ rest)
 sub_begins Whole rest = refl
 sub_begins (Free x) rest = refl
 
-sub_parted : IsParted sub_text
-sub_parted = record { begins = sub_begins }
+sub_separated : IsSeparated sub_text
+sub_separated = record { begins = sub_begins }
 
 arg_writes : (a : Arg) (r s : List Symbol) (rest : List ℕ) → AreWritable (spell_arg a r) → EndsWord rest → Writes rest s → Writes (arg_text a ++ rest) (spell_arg a s)
 arg_writes a r s rest h e w =
     rw append_assoc
-    (put_word a.at (flat_map sub_text a.subs ++ rest) (each spell_sub a.subs s) h.0 (each_begins sub_text sub_parted a.subs rest e)
-    (each_writes sub_text spell_sub sub_spelling sub_parted a.subs r s rest h.1 e w))
+    (put_word a.at (flat_map sub_text a.subs ++ rest) (each spell_sub a.subs s) h.0 (each_begins sub_text sub_separated a.subs rest e)
+    (each_writes sub_text spell_sub sub_spelling sub_separated a.subs r s rest h.1 e w))
 
 pub arg_spelling : IsSpelling arg_text spell_arg
 arg_spelling = record { writes = arg_writes; passes = λ a r h. each_passes spell_sub sub_passes a.subs r h.1 }
@@ -277,17 +279,17 @@ out_spelling = record { writes = out_writes; passes = out_passes }
 -- what goes in and what comes out
 abbrev pub spell_interface : {I O : Type 0} → (I → List Symbol → List Symbol) → List I → (O → List Symbol → List Symbol) → List O → List Symbol → List Symbol
 spell_interface f is k os r =
-    sign marks.In ∷ sign marks.OpenParen ∷ parted f is (sign marks.CloseParen ∷ sign marks.Out ∷ sign marks.OpenParen ∷ parted k os (sign marks.CloseParen ∷ r))
+    sign marks.In ∷ sign marks.OpenParen ∷ separated f is (sign marks.CloseParen ∷ sign marks.Out ∷ sign marks.OpenParen ∷ separated k os (sign marks.CloseParen ∷ r))
 
 pub interface_writes : {I O : Type 0} (f : I → List ℕ) (g : I → List Symbol → List Symbol) (k : O → List ℕ) (l : O → List Symbol → List Symbol) → IsSpelling f g → IsSpelling k l
     → (is : List I) (os : List O) (r s : List Symbol) (rest : List ℕ) → AreWritable (spell_interface g is l os r) → Writes rest s → Writes (interface_text f is k os ++ rest) (spell_interface g is l os s)
-unfolding interface_text goes_on punctuation_of
+unfolding interface_text goes_on punctuation_of operator_of
 interface_writes f g k l p q is os r s rest h w =
     let s1 = sign marks.CloseParen ∷ s in
-    let s2 = parted l os s1 in
+    let s2 = separated l os s1 in
     let s3 = sign marks.CloseParen ∷ sign marks.Out ∷ sign marks.OpenParen ∷ s2 in
     let r1 = sign marks.CloseParen ∷ r in
-    let r3 = sign marks.CloseParen ∷ sign marks.Out ∷ sign marks.OpenParen ∷ parted l os r1 in
+    let r3 = sign marks.CloseParen ∷ sign marks.Out ∷ sign marks.OpenParen ∷ separated l os r1 in
     let t1 = codes ")" ++ rest in
     let t2 = join_by k (codes ", ") os ++ t1 in
     let t3 = codes ") out(" ++ t2 in
@@ -299,16 +301,16 @@ interface_writes f g k l p q is os r s rest h w =
     put_alone marks.CloseParen (32 ∷ codes "out(" ++ t2) (sign marks.Out ∷ sign marks.OpenParen ∷ s2) close_paren_alone
     (put_space (codes "out(" ++ t2) (sign marks.Out ∷ sign marks.OpenParen ∷ s2)
     (put_mark marks.Out (40 ∷ t2) (sign marks.OpenParen ∷ s2) refl (put_alone marks.OpenParen t2 s2 open_paren_alone w2))) in
-    let w4 : Writes t4 (parted g is s3) = list_writes f g p is r3 s3 t3 h.1.1 refl w3 in
+    let w4 : Writes t4 (separated g is s3) = list_writes f g p is r3 s3 t3 h.1.1 refl w3 in
     let w5 : Writes (codes " in(" ++ t4) (spell_interface g is l os s) =
-    put_space (codes "in(" ++ t4) (spell_interface g is l os s) (put_mark marks.In (40 ∷ t4) (sign marks.OpenParen ∷ parted g is s3) refl (put_alone marks.OpenParen t4 (parted g is s3) open_paren_alone w4)) in
+    put_space (codes "in(" ++ t4) (spell_interface g is l os s) (put_mark marks.In (40 ∷ t4) (sign marks.OpenParen ∷ separated g is s3) refl (put_alone marks.OpenParen t4 (separated g is s3) open_paren_alone w4)) in
     simp append_assoc w5
 
 pub interface_passes : {I O : Type 0} (f : I → List ℕ) (g : I → List Symbol → List Symbol) (k : O → List ℕ) (l : O → List Symbol → List Symbol) → IsSpelling f g → IsSpelling k l
     → (is : List I) (os : List O) (r : List Symbol) → AreWritable (spell_interface g is l os r) → AreWritable r
 interface_passes f g k l p q is os r h =
     let r1 = sign marks.CloseParen ∷ r in
-    (list_passes k l q os r1 (list_passes f g p is (sign marks.CloseParen ∷ sign marks.Out ∷ sign marks.OpenParen ∷ parted l os r1) h.1.1).1.1.1).1
+    (list_passes k l q os r1 (list_passes f g p is (sign marks.CloseParen ∷ sign marks.Out ∷ sign marks.OpenParen ∷ separated l os r1) h.1.1).1.1.1).1
 
 pub interface_begins : {I O : Type 0} (f : I → List ℕ) (k : O → List ℕ) (is : List I) (os : List O) (rest : List ℕ) → EndsWord (interface_text f is k os ++ rest)
 unfolding interface_text

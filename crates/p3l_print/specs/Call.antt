@@ -9,7 +9,7 @@ use Rattle.p3l_ast.specs.declared.call.Call.{Call}
 use Rattle.p3l_print.specs.Printer.{interface_text}
 use Rattle.p3l_print.specs.Port.{port_text}
 
--- a whole dimension has empty brackets, a free index its name behind `*`
+-- a whole dimension has empty brackets, a free index its name after `*`
 abbrev pub sub_text : Sub → List ℕ
 sub_text Whole = codes "[]"
 sub_text (Free spot) = codes "[*" ++ spot.name ++ codes "]"

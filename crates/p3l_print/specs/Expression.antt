@@ -5,7 +5,8 @@ use Rattle.p3l_ast.specs.declared.position.Spot.{Spot}
 use Rattle.p3l_ast.specs.declared.expression.BinOp.{BinOp}
 use Rattle.p3l_ast.specs.Tree.{Phrase, number, read, unary, binary, Phrases, none, more}
 use Rattle.p3l_lexer.specs.Mark.{mark_text}
-use Rattle.p3l_grammar.specs.Symbol.{unary_mark, binary_mark, level}
+use Rattle.p3l_ast.specs.Notation.{sign_of, level}
+use Rattle.p3l_grammar.specs.Symbol.{unary_mark}
 
 -- how tight the outermost operator of an expression binds; 10 where none stands between operands
 abbrev pub tightness : Phrase → ℕ
@@ -16,7 +17,7 @@ tightness (unary operator operand) = 10
 
 -- an operator between its operands, with a space on each side
 unfoldable pub infix_text : BinOp → List ℕ
-infix_text operator = codes " " ++ mark_text (binary_mark operator) ++ codes " "
+infix_text operator = codes " " ++ sign_of operator ++ codes " "
 
 -- in parentheses where it binds less tight than is asked
 unfoldable pub operand_text : ℕ → ℕ → List ℕ → List ℕ

@@ -11,13 +11,13 @@ use Rattle.p3l_grammar.specs.Symbol.{kind_mark}
 use Rattle.p3l_print.specs.Printer.{interface_text}
 use Rattle.p3l_print.specs.Port.{num_text, port_text}
 use Rattle.p3l_print.specs.Call.{call_text}
-use Rattle.p3l_print.specs.Statement.{code_text}
+use Rattle.p3l_print.specs.Statement.{statements_text}
 
 -- the keyword of a kind
 abbrev pub kind_text : Kind → List ℕ
 kind_text kind = mark_text (kind_mark kind)
 
--- a clause that is given, behind a space
+-- a clause that is given, after a space
 abbrev pub clause_text : List ℕ → Option Num → List ℕ
 clause_text word None = []
 clause_text word (Some num) = codes " " ++ word ++ codes " " ++ num_text num
@@ -39,7 +39,7 @@ abbrev pub call_line : Call → List ℕ
 call_line call = codes "  " ++ call_text call ++ codes "\n"
 
 abbrev pub inside_text : InsideTree → List ℕ
-inside_text (body locals statements) = codes "${\n" ++ flat_map local_line locals ++ code_text (codes "  ") statements ++ codes "}$\n"
+inside_text (body locals statements) = codes "${\n" ++ flat_map local_line locals ++ statements_text (codes "  ") statements ++ codes "}$\n"
 inside_text (calls list) = flat_map call_line list
 inside_text (turning turn condition) = call_line turn ++ codes "  while " ++ call_text condition ++ codes "\n"
 

@@ -11,7 +11,7 @@ abbrev pub entry_text : EntryTree → List ℕ
 entry_text (constant spot value) = codes "const " ++ spot.name ++ codes " = " ++ signed_decimal value ++ codes ";\n"
 entry_text (defined tree) = module_text tree
 
--- the entries, parted by empty lines
+-- the entries, separated by empty lines
 abbrev pub canonical : ProgramTree → List ℕ
 canonical program = join_by entry_text (codes "\n") program.entries
 

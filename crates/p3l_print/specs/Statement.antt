@@ -1,7 +1,7 @@
--- How statements are written: on lines behind a margin, which grows by two spaces in each block.
+-- How statements are written: on lines after a margin, which grows by two spaces in each block.
 use Rattle.std.specs.Prelude.{ℕ, List, [], ◌++◌, codes}
 use Rattle.p3l_ast.specs.declared.position.Spot.{Spot}
-use Rattle.p3l_ast.specs.Tree.{Phrase, Phrases, Code, done, assign, branch, branch_else, repeat, count}
+use Rattle.p3l_ast.specs.Tree.{Phrase, Phrases, Statements, done, assign, if_, if_else, while_, for_}
 use Rattle.p3l_print.specs.Expression.{expression_text, target_text}
 
 -- an assignment, without what ends it
@@ -26,17 +26,17 @@ for_opening_text margin start condition step =
     margin ++ codes "for (" ++ start ++ codes "; " ++ expression_text condition ++ codes "; " ++ step ++ codes ") "
 
 -- the lines of statements
-unfoldable pub code_text : List ℕ → Code → List ℕ
-code_text margin done = []
-code_text margin (assign spot index value rest) =
-    margin ++ assignment_text spot index value ++ codes ";\n" ++ code_text margin rest
-code_text margin (branch condition then rest) =
-    opening_text margin (codes "if") condition ++ block_text margin (code_text (deeper margin) then) ++ codes "\n" ++ code_text margin rest
-code_text margin (branch_else condition then otherwise rest) =
-    opening_text margin (codes "if") condition ++ block_text margin (code_text (deeper margin) then) ++ codes " else " ++ block_text margin (code_text (deeper margin) otherwise)
-    ++ codes "\n" ++ code_text margin rest
-code_text margin (repeat condition body rest) =
-    opening_text margin (codes "while") condition ++ block_text margin (code_text (deeper margin) body) ++ codes "\n" ++ code_text margin rest
-code_text margin (count first firsts start condition next nexts step body rest) =
+unfoldable pub statements_text : List ℕ → Statements → List ℕ
+statements_text margin done = []
+statements_text margin (assign spot index value rest) =
+    margin ++ assignment_text spot index value ++ codes ";\n" ++ statements_text margin rest
+statements_text margin (if_ condition then rest) =
+    opening_text margin (codes "if") condition ++ block_text margin (statements_text (deeper margin) then) ++ codes "\n" ++ statements_text margin rest
+statements_text margin (if_else condition then otherwise rest) =
+    opening_text margin (codes "if") condition ++ block_text margin (statements_text (deeper margin) then) ++ codes " else " ++ block_text margin (statements_text (deeper margin) otherwise)
+    ++ codes "\n" ++ statements_text margin rest
+statements_text margin (while_ condition body rest) =
+    opening_text margin (codes "while") condition ++ block_text margin (statements_text (deeper margin) body) ++ codes "\n" ++ statements_text margin rest
+statements_text margin (for_ first firsts start condition next nexts step body rest) =
     for_opening_text margin (assignment_text first firsts start) condition (assignment_text next nexts step)
-    ++ block_text margin (code_text (deeper margin) body) ++ codes "\n" ++ code_text margin rest
+    ++ block_text margin (statements_text (deeper margin) body) ++ codes "\n" ++ statements_text margin rest

@@ -2,14 +2,12 @@
 
 ghost use Rattle.std.specs.Prelude.{◌≡◌, ◌++◌, OnOk};
 ghost use Rattle.p3l_ast.specs.Tree.{phrase, phrases};
-ghost use Rattle.p3l_lexer.specs.Mark.{mark_text};
-ghost use Rattle.p3l_grammar.specs.Symbol.{unary_mark, binary_mark};
 ghost use Rattle.p3l_print.specs.Expression.{tightness, infix_text, operand_text, expression_text, index_text, target_text};
 
 use crate::printer::Printer;
-use p3l_ast::{BinOp, Expr, Target, UnOp};
+use p3l_ast::{BinOp, Expr, Target};
 use p3l_base::NoMemory;
-use p3l_grammar::operator::level_of;
+use p3l_grammar::mark::mark_of_unary;
 
 /// How tight an operand binds that no operator between operands has made.
 const TIGHTEST: u8 = 10;
@@ -20,42 +18,7 @@ fn tightness_of(expr: &Expr) -> u8
 {
     match expr {
         Expr::Number(_) | Expr::Read(_) | Expr::Unary(_, _) => TIGHTEST,
-        Expr::Binary(operator, _, _) => level_of(*operator),
-    }
-}
-
-fn unary_sign(operator: UnOp) -> &'static str
-    ensures { result.now ≡ mark_text (unary_mark operator) }
-{
-    match operator {
-        UnOp::Neg => "-",
-        UnOp::Not => "!",
-        UnOp::Flip => "~",
-    }
-}
-
-fn binary_sign(operator: BinOp) -> &'static str
-    ensures { result.now ≡ mark_text (binary_mark operator) }
-{
-    match operator {
-        BinOp::Or => "||",
-        BinOp::And => "&&",
-        BinOp::BitOr => "|",
-        BinOp::BitXor => "^",
-        BinOp::BitAnd => "&",
-        BinOp::Eq => "==",
-        BinOp::Ne => "!=",
-        BinOp::Lt => "<",
-        BinOp::Le => "<=",
-        BinOp::Gt => ">",
-        BinOp::Ge => ">=",
-        BinOp::Shl => "<<",
-        BinOp::Shr => ">>",
-        BinOp::Add => "+",
-        BinOp::Sub => "-",
-        BinOp::Mul => "*",
-        BinOp::Div => "/",
-        BinOp::Rem => "%",
+        Expr::Binary(operator, _, _) => operator.level(),
     }
 }
 
@@ -69,11 +32,11 @@ impl Printer {
             Expr::Number(value) => self.decimal(*value),
             Expr::Read(place) => self.target(place),
             Expr::Unary(operator, operand) => {
-                self.put(unary_sign(*operator).as_bytes())?;
+                self.put(mark_of_unary(*operator).text().as_bytes())?;
                 self.operand(TIGHTEST, operand)
             }
             Expr::Binary(operator, left, right) => {
-                let level = level_of(*operator);
+                let level = operator.level();
                 self.operand(level, left)?;
                 self.infix(*operator)?;
                 self.operand(level + 1, right)
@@ -87,7 +50,7 @@ impl Printer {
         ensures { OnOk result (self.new ≡ self.old ++ infix_text operator) }
     {
         self.put(b" ")?;
-        self.put(binary_sign(operator).as_bytes())?;
+        self.put(operator.sign().as_bytes())?;
         self.put(b" ")
     }
 

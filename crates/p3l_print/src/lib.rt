@@ -8,7 +8,5 @@ mod port;
 mod printer;
 mod program;
 mod statement;
-#[cfg(test)]
-mod tests;
 
 pub use program::print;

@@ -1,27 +1,14 @@
 // Modules.
 
 ghost use Rattle.std.specs.Prelude.{◌≡◌, ◌++◌, OnOk, flat_map};
-ghost use Rattle.p3l_ast.specs.Tree.{code, inside_tree, module_tree, turning};
+ghost use Rattle.p3l_ast.specs.Tree.{statements, inside_tree, module_tree, turning};
 ghost use Rattle.p3l_ast.specs.Tree.{body as body_tree};
-ghost use Rattle.p3l_print.specs.Module.{kind_text, clause_text, clauses_text, head_text, local_line, call_line, inside_text, module_text};
+ghost use Rattle.p3l_print.specs.Module.{clause_text, clauses_text, head_text, local_line, call_line, inside_text, module_text};
 
 use crate::printer::Printer;
-use p3l_ast::{Block, Call, Clauses, Inside, Kind, Module, Num, Port};
+use p3l_ast::{Block, Call, Clauses, Inside, Module, Num, Port};
 use p3l_base::NoMemory;
-
-fn kind_word(kind: Kind) -> &'static str
-    ensures { result.now ≡ kind_text kind }
-{
-    match kind {
-        Kind::Seq => "seq",
-        Kind::Comp => "comp",
-        Kind::Pipe => "pipe",
-        Kind::Farm => "farm",
-        Kind::Map => "map",
-        Kind::Reduce => "reduce",
-        Kind::Loop => "loop",
-    }
-}
+use p3l_grammar::mark::mark_of_kind;
 
 impl Printer {
     pub fn module(&mut self, tree: &Module) -> Result<(), NoMemory>
@@ -30,7 +17,7 @@ impl Printer {
         self.head(tree)?;
         self.inside(&tree.inside)?;
         self.put(b"end ")?;
-        self.put(kind_word(tree.kind).as_bytes())?;
+        self.put(mark_of_kind(tree.kind).text().as_bytes())?;
         self.put(b"\n")
     }
 
@@ -38,7 +25,7 @@ impl Printer {
     fn head(&mut self, tree: &Module) -> Result<(), NoMemory>
         ensures { OnOk result (self.new ≡ self.old ++ head_text (module_tree tree.now)) }
     {
-        self.put(kind_word(tree.kind).as_bytes())?;
+        self.put(mark_of_kind(tree.kind).text().as_bytes())?;
         self.put(b" ")?;
         self.name(&tree.at.name)?;
         self.interface(tree.ins.as_slice(), tree.outs.as_slice())?;
@@ -56,7 +43,7 @@ impl Printer {
         self.clause(b"tokens", &clauses.tokens)
     }
 
-    /// A clause behind a space, if it is given.
+    /// A clause after a space, if it is given.
     fn clause(&mut self, word: &[u8], clause: &Option<Num>) -> Result<(), NoMemory>
         ensures { OnOk result (self.new ≡ self.old ++ clause_text word.now clause.now) }
     {
@@ -81,7 +68,7 @@ impl Printer {
 
     fn body(&mut self, body: &Block) -> Result<(), NoMemory>
         ensures { OnOk result (self.new
-            ≡ self.old ++ inside_text (body_tree body.now.locals (code body.now.stmts))) }
+            ≡ self.old ++ inside_text (body_tree body.now.locals (statements body.now.stmts))) }
     {
         self.put(b"${\n")?;
         self.locals(body.locals.as_slice())?;

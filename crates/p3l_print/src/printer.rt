@@ -30,7 +30,7 @@ pub trait Print {
 
     ghost text: { Self → List ℕ };
 
-    /// Puts the value's text behind the printer's.
+    /// Puts the value's text after the printer's.
     fn print_on(&self, printer: &mut Printer) -> Result<(), NoMemory>
         ensures { OnOk result (printer.new ≡ printer.old ++ text self.now) };
 }
@@ -54,7 +54,7 @@ impl Printer {
         List::from_vec(text)
     }
 
-    /// Puts bytes behind the text.
+    /// Puts bytes after the text.
     pub fn put(&mut self, bytes: &[u8]) -> Result<(), NoMemory>
         ensures { OnOk result (self.new ≡ self.old ++ bytes.now) }
     {
@@ -62,7 +62,7 @@ impl Printer {
         Ok(())
     }
 
-    /// Puts a number in decimal behind the text.
+    /// Puts a number in decimal after the text.
     pub fn decimal(&mut self, number: i64) -> Result<(), NoMemory>
         ensures { OnOk result (self.new ≡ self.old ++ signed_decimal number) }
     {
@@ -70,8 +70,8 @@ impl Printer {
         self.put(buffer.format(number).as_bytes())
     }
 
-    /// Puts the texts of items behind the text, with a separator between each two.
-    pub fn parted<T: Print>(&mut self, separator: &[u8], items: &[T]) -> Result<(), NoMemory>
+    /// Puts the texts of items after the text, with a separator between each two.
+    pub fn separated<T: Print>(&mut self, separator: &[u8], items: &[T]) -> Result<(), NoMemory>
         ensures { OnOk result (self.new ≡ self.old ++ join_by T.text separator.now items.now) }
     {
         let Some((first, rest)) = items.split_first() else {
@@ -85,16 +85,16 @@ impl Printer {
         Ok(())
     }
 
-    /// Puts what goes in and what comes out behind the text.
+    /// Puts what goes in and what comes out after the text.
     #[tactic(auto, unfolding(crate::specs::Printer::interface_text))]
     pub fn interface<I: Print, O: Print>(&mut self, ins: &[I], outs: &[O]) -> Result<(), NoMemory>
         ensures { OnOk result (self.new
             ≡ self.old ++ interface_text I.text ins.now O.text outs.now) }
     {
         self.put(b" in(")?;
-        self.parted(b", ", ins)?;
+        self.separated(b", ", ins)?;
         self.put(b") out(")?;
-        self.parted(b", ", outs)?;
+        self.separated(b", ", outs)?;
         self.put(b")")
     }
 }

@@ -26,8 +26,8 @@ impl Print for Entry {
     }
 }
 
-/// The canonical text of a program: entries parted by empty lines, parentheses exactly where the
-/// grouping needs them, and one way to part all other tokens.
+/// The canonical text of a program: entries separated by empty lines, parentheses exactly where the
+/// grouping needs them, and one way to separate all other tokens.
 #[tactic(auto, using(crate::proofs::Entries::entries_text))]
 pub fn print(alloc: Global, program: &Program) -> Result<List<u8>, NoMemory>
     ensures canonical { IfOk result (λ text. text ≡ canonical (program_tree program.now)) }
@@ -37,6 +37,6 @@ pub fn print(alloc: Global, program: &Program) -> Result<List<u8>, NoMemory>
         → IsTextOf other (program_tree program.now) → IsTextOf text (program_tree program.now)) }
 {
     let mut printer = Printer::new(alloc);
-    printer.parted(b"\n", program.entries.as_slice())?;
+    printer.separated(b"\n", program.entries.as_slice())?;
     Ok(printer.finish())
 }

@@ -1,8 +1,8 @@
-// Statements, each on lines of its own behind a margin.
+// Statements, each on lines of its own after a margin.
 
 ghost use Rattle.std.specs.Prelude.{◌≡◌, ◌++◌, OnOk, IfOk, codes};
-ghost use Rattle.p3l_ast.specs.Tree.{phrase, phrases, one, code};
-ghost use Rattle.p3l_print.specs.Statement.{assignment_text, deeper, block_text, opening_text, for_opening_text, code_text};
+ghost use Rattle.p3l_ast.specs.Tree.{phrase, phrases, one, statements};
+ghost use Rattle.p3l_print.specs.Statement.{assignment_text, deeper, block_text, opening_text, for_opening_text, statements_text};
 
 use crate::printer::Printer;
 use p3l_ast::{Expr, Stmt, Target};
@@ -13,7 +13,7 @@ impl Printer {
     #[cycle(statement)]
     #[tactic(auto, using(crate::proofs::Lines::lines))]
     pub fn statements(&mut self, margin: &[u8], stmts: &[Stmt]) -> Result<(), NoMemory>
-        ensures { OnOk result (self.new ≡ self.old ++ code_text margin.now (code stmts.now)) }
+        ensures { OnOk result (self.new ≡ self.old ++ statements_text margin.now (statements stmts.now)) }
     {
         for stmt in stmts {
             self.statement(margin, stmt)?;
@@ -22,9 +22,9 @@ impl Printer {
     }
 
     #[cycle(statement)]
-    #[tactic(auto, using(crate::proofs::Lines::statements))]
+    #[tactic(auto, using(crate::proofs::Lines::statement_lines))]
     fn statement(&mut self, margin: &[u8], stmt: &Stmt) -> Result<(), NoMemory>
-        ensures { OnOk result (self.new ≡ self.old ++ code_text margin.now (one stmt.now)) }
+        ensures { OnOk result (self.new ≡ self.old ++ statements_text margin.now (one stmt.now)) }
     {
         match stmt {
             Stmt::Assign(place, value) => self.assignment_line(margin, place, value),
@@ -119,7 +119,7 @@ impl Printer {
     #[tactic(auto, unfolding(crate::specs::Statement::block_text))]
     fn block(&mut self, margin: &[u8], stmts: &[Stmt]) -> Result<(), NoMemory>
         ensures { OnOk result (self.new
-            ≡ self.old ++ block_text margin.now (code_text (deeper margin.now) (code stmts.now))) }
+            ≡ self.old ++ block_text margin.now (statements_text (deeper margin.now) (statements stmts.now))) }
     {
         self.put(b"{\n")?;
         let inner = self.deeper(margin)?;
@@ -132,7 +132,7 @@ impl Printer {
     #[cycle(statement)]
     fn last_block(&mut self, margin: &[u8], stmts: &[Stmt]) -> Result<(), NoMemory>
         ensures { OnOk result (self.new ≡ self.old
-            ++ (block_text margin.now (code_text (deeper margin.now) (code stmts.now)) ++ codes "\n")) }
+            ++ (block_text margin.now (statements_text (deeper margin.now) (statements stmts.now)) ++ codes "\n")) }
     {
         self.block(margin, stmts)?;
         self.put(b"\n")

@@ -1,5 +1,5 @@
 use Rattle.std.proofs.Common.{◌≡◌, ◌++◌, drop, flat_map}
-use Rattle.p3l_print.proofs.printer.Printer.parted.Given as goal
+use Rattle.p3l_print.proofs.printer.Printer.separated.Given as goal
 
 abbrev pub invariant-loop-item : goal.invariant-loop-item
 invariant-loop-item g l =
