@@ -1,0 +1,33 @@
+-- What rules say of a source text: that they are kept, or a fault and its place.
+use Rattle.std.specs.Prelude.{◌≡◌, Bool, List, [], ◌∷◌, Result, Ok, Err, if◌then◌else◌, ⊤}
+use Rattle.p3l_ast.specs.declared.position.Pos.{Pos}
+use Rattle.p3l_ast.specs.declared.refusal.Fault.{Fault}
+use Rattle.p3l_ast.specs.declared.refusal.SourceRefusal.{SourceRefusal}
+use Rattle.p3l_ast.specs.declared.refusal.SourceRefusal.TheVariants.{At, NoMemory}
+
+-- what a rule says
+abbrev pub Verdict : Type 0
+Verdict = Result (Unit {0}) SourceRefusal
+
+abbrev pub kept : Verdict
+kept = Ok tt
+
+abbrev pub broken_if : Bool → Fault → Pos → Verdict
+broken_if bad fault pos = if bad then Err (At fault pos) else kept
+
+-- the first of rules, in their order, that is broken
+abbrev pub first_of : List Verdict → Verdict
+first_of [] = kept
+first_of (Ok x ∷ rules) = first_of rules
+first_of (Err refusal ∷ rules) = Err refusal
+
+-- what comes of a value, if the rules that it stands under are kept
+abbrev pub given : {A B : Type 0} → Result A SourceRefusal → (A → Result B SourceRefusal) → Result B SourceRefusal
+given (Ok x) go = go x
+given (Err refusal) go = Err refusal
+
+-- an answer is what is meant, value or refusal, unless memory was wanting
+abbrev pub Gives : {A : Type 0} → Result A SourceRefusal → Result A SourceRefusal → Type 0
+Gives (Ok x) meant = meant ≡ Ok x
+Gives (Err NoMemory) meant = ⊤
+Gives (Err (At fault pos)) meant = meant ≡ Err (At fault pos)
