@@ -1,0 +1,55 @@
+-- What a checked body makes of the words of an item.
+use Rattle.std.specs.Prelude.{ℕ, ℤ, pos, List, [], ◌∷◌, ◌++◌, map, take, drop, replicate, Result, Ok, Err}
+use Rattle.std.specs.List.{flat_map}
+use Rattle.std.specs.Option.{option_map_or}
+use Rattle.p3l_base.specs.declared.outcome.Outcome.{Outcome}
+use Rattle.p3l_base.specs.declared.outcome.Outcome.TheVariants.{Value, Trapped}
+use Rattle.p3l_base.specs.declared.outcome.TrapKind.{TrapKind}
+use Rattle.p3l_ast.specs.declared.meaning.state.Binding.{Binding}
+use Rattle.p3l_ast.specs.declared.meaning.state.State.{State}
+use Rattle.p3l_ast.specs.Meaning.State.{binding_of}
+use Rattle.p3l_ast.specs.Meaning.Statement.{run_of}
+use Rattle.p3l_types.specs.Shape.{product}
+use Rattle.p3l_body.specs.declared.var.Var.{Var}
+use Rattle.p3l_body.specs.Seq.{SeqTree}
+
+-- how many words a variable has
+abbrev pub width : Var → ℕ
+width var = product var.shape.sizes
+
+-- a variable with its words
+abbrev pub bound : Var → List ℤ → Binding
+bound var words = record { name = var.name; sizes = var.shape.sizes; words = words }
+
+-- the ins hold the words of the item, one behind the other
+abbrev pub holding : List Var → List ℤ → List Binding
+holding [] words = []
+holding (var ∷ vars) words = bound var (take (width var) words) ∷ holding vars (drop (width var) words)
+
+-- outs and local variables start at 0
+abbrev pub zeroed : Var → Binding
+zeroed var = bound var (replicate (width var) (pos 0))
+
+-- a constant stands for its number
+abbrev pub constant : List ℕ × ℤ → Binding
+constant c = record { name = c.0; sizes = []; words = c.1 ∷ [] }
+
+-- the state in which a body starts
+abbrev pub start_of : SeqTree → List ℤ → State
+start_of seq words = record {
+  bindings = ((holding seq.ins words ++ map zeroed seq.outs) ++ map zeroed seq.locals) ++ map constant seq.constants;
+  turns = 0;
+}
+
+-- the words of a variable
+abbrev pub words_in : State → Var → List ℤ
+words_in state var = option_map_or (λ (binding : Binding). binding.words) (binding_of state var.name) []
+
+-- what a module's run comes to: the words of the outs in order, or its trap
+abbrev pub outcome_of : ℕ → List Var → Result State TrapKind → Outcome
+outcome_of home outs (Ok state) = Value (flat_map (words_in state) outs)
+outcome_of home outs (Err trap) = Trapped (record { kind = trap; «module» = home })
+
+-- the outcome of a module on the words of an item
+abbrev pub eval : SeqTree → List ℤ → Outcome
+eval seq words = outcome_of seq.home seq.outs (run_of seq.budget seq.body (start_of seq words))

@@ -1,0 +1,4 @@
+pub mod Scope
+pub mod Mention
+pub mod Seq
+pub mod Eval

@@ -1,0 +1,13 @@
+//! The rules of `seq` modules, and their checked form.
+#![tactic(auto)]
+
+pub mod checked;
+pub mod mention;
+pub mod ports;
+pub mod scope;
+pub mod var;
+
+pub use checked::{CheckedSeq, check_body};
+pub use ports::{Ports, limited, ports_of};
+pub use scope::{Known, Scope, declare, declare_one, enter};
+pub use var::Var;
