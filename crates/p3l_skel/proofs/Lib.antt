@@ -2,6 +2,7 @@ pub mod Below
 pub mod Capped
 pub mod Depth
 pub mod Folds
+pub mod Greatest
 pub mod Kept
 pub mod Powers
 pub mod Sizes

@@ -4,8 +4,7 @@ use Rattle.std.specs.List.{All}
 use Rattle.p3l_base.specs.declared.slice.Dim.{Dim}
 use Rattle.p3l_base.specs.declared.slice.Slice.{Slice}
 use Rattle.p3l_base.specs.declared.cut.Cut.{Cut}
-use Rattle.p3l_base.specs.Slice.{LiesWithin}
-use Rattle.p3l_base.specs.Cut.{first_count, second_count, HasFreeSizes, IsLawfulCut}
+use Rattle.p3l_base.specs.Cut.{IsLawfulCut}
 use Rattle.p3l_skel.specs.declared.tree.Form.{Form}
 use Rattle.p3l_skel.specs.declared.tree.Form.TheVariants.{Seq, Comp, Pipe, Farm, Map, Reduce, Loop}
 use Rattle.p3l_skel.specs.declared.tree.ModuleKind.{ModuleKind}
@@ -36,15 +35,6 @@ IsSize n = (1 ≤ n) × (n ≤ 65536)
 -- an array has no more than three sizes, each in its limits
 abbrev pub HasSizes : Slice → Type 0
 HasSizes slice = (length slice.dims ≤ 3) × All (λ (d : Dim). IsSize d.size) slice.dims
-
--- the slices that a cut's elements take fit a token of so many words
-pub record HasLawfulIns (cut : Cut) (ins : ℕ) : Type 0 where
-  pub some_in : 1 ≤ length cut.ins
-  pub in_sizes : All (HasFreeSizes cut.first cut.second) cut.ins
-  pub in_first : All (λ (s : Slice). first_count s.dims ≤ 1) cut.ins
-  pub in_second : All (λ (s : Slice). second_count s.dims ≤ 1) cut.ins
-  pub in_second_of_outs : All (λ (s : Slice). second_count s.dims ≡ 0) cut.outs → All (λ (s : Slice). second_count s.dims ≡ 0) cut.ins
-  pub in_within : All (λ (s : Slice). LiesWithin s ins) cut.ins
 
 -- the one part of a node is such a node
 abbrev pub HasOnePart : (ℕ → Type 0) → List ℕ → Type 0

@@ -1,11 +1,14 @@
--- Laws of the meaning.
-use Rattle.std.specs.Prelude.{◌≡◌, ℕ, ℤ, ◌^◌, ◌≤◌, ◌<◌, List, ◌∷◌, length, map}
+-- Laws of the meaning and of counts.
+use Rattle.std.specs.Prelude.{◌≡◌, ℕ, ℤ, ◌^◌, ◌≤◌, ◌<◌, Option, List, ◌∷◌, length, map}
 use Rattle.std.specs.List.{flat_map}
 use Rattle.p3l_base.specs.declared.outcome.Outcome.{Outcome}
 use Rattle.p3l_base.specs.declared.outcome.Outcome.TheVariants.{Trapped}
 use Rattle.p3l_base.specs.declared.outcome.Trap.{Trap}
+use Rattle.p3l_skel.specs.declared.tree.Form.TheVariants.{Reduce}
 use Rattle.p3l_skel.specs.declared.tree.Tree.{Tree}
 use Rattle.p3l_skel.specs.Tree.{node_at, HasFittingLength, HasLength}
+use Rattle.p3l_skel.specs.Counts.{IsLawfulCount}
+use Rattle.p3l_skel.specs.Numbers.{most_segments}
 use Rattle.p3l_skel.specs.Fold.{tree_fold, segments}
 use Rattle.p3l_skel.specs.Item.{on_value, in_order, gathered, item, item_row}
 
@@ -38,3 +41,14 @@ abbrev pub KeepsWords : Tree → (ℕ → List ℤ → Outcome) → Type 0
 KeepsWords tree leaf =
     (node : ℕ) (words : List ℤ) → node < length tree.nodes → HasFittingLength tree node (length words) →
     HasLength (node_at tree node).outs (item tree leaf node words)
+
+-- a number with a property that no greater one has
+pub record IsGreatest (P : ℕ → Type 0) (n : ℕ) : Type 0 where
+  pub has : P n
+  pub greatest : (m : ℕ) → P m → m ≤ n
+
+-- the most segments of a reduce in a tree are the greatest lawful number of them
+abbrev pub HasGreatestSegments : Tree → Type 0
+HasGreatestSegments tree =
+    (node : ℕ) (w : Option ℕ) (len elem : ℕ) → node < length tree.nodes → (node_at tree node).form ≡ Reduce w len elem →
+    IsGreatest (IsLawfulCount (Reduce w len elem)) (most_segments (Reduce w len elem))

@@ -1,5 +1,5 @@
 -- How many processes a tree has, and how often they fire for one item.
-use Rattle.std.specs.Prelude.{ℕ, zero, suc, ◌+◌, ◌-◌, ◌*◌, ◌^◌, ◌==◌, nat_le, if◌then◌else◌, unwrap_or, List, sum_by}
+use Rattle.std.specs.Prelude.{ℕ, zero, suc, ◌+◌, ◌-◌, ◌*◌, ◌^◌, ◌≤◌, ◌==◌, nat_le, if◌then◌else◌, unwrap_or, List, sum_by}
 use Rattle.p3l_base.specs.Cut.{element_count}
 use Rattle.p3l_skel.specs.declared.tree.Form.{Form}
 use Rattle.p3l_skel.specs.declared.tree.Form.TheVariants.{Seq, Comp, Pipe, Farm, Map, Reduce, Loop}
@@ -8,20 +8,20 @@ use Rattle.p3l_skel.specs.declared.work.Joining.{Joining}
 use Rattle.p3l_skel.specs.declared.work.Joining.TheVariants.{Flat}
 use Rattle.p3l_skel.specs.declared.work.Joining.TheVariants as joining
 use Rattle.p3l_skel.specs.Tree.{node_at, by_parts, nesting}
-use Rattle.p3l_skel.specs.Counts.{outside_parts, count_of}
+use Rattle.p3l_skel.specs.Counts.{outside_parts, count_of, HasLawfulCounts}
 
--- the processes of a reduce with so many segments: one, or those of the segments with one that
--- splits and one that gathers
-abbrev pub flat_procs : ℕ → ℕ
-flat_procs m = if m == 1 then 1 else m + 2
+-- the processes of a reduce with so many segments: one that folds the whole, or one for each segment,
+-- one that splits, and the others that join the segments' results two by two
+abbrev pub joined_procs : ℕ → ℕ
+joined_procs m = if m == 1 then 1 else 2 * m
 
 -- the firings of such a reduce for one item
-abbrev pub flat_firings : ℕ → ℕ
-flat_firings m = if m == 1 then 1 else 3 * m + 2
-
--- the firings for one item where the segments' results are joined two by two
 abbrev pub joined_firings : ℕ → ℕ
 joined_firings m = if m == 1 then 1 else 3 * m
+
+-- the firings of a reduce for one item where one process gathers the results of all segments
+abbrev pub flat_firings : ℕ → ℕ
+flat_firings m = if m == 1 then 1 else 3 * m + 2
 
 -- the firings of a reduce, as its segments' results come together
 abbrev pub reduce_firings : Joining → ℕ → ℕ
@@ -36,7 +36,7 @@ procs_row Comp n inner = 1
 procs_row Pipe n inner = inner
 procs_row (Farm w) n inner = 2 + n * inner
 procs_row (Map w cut) n inner = 2 + n * inner
-procs_row (Reduce w len elem) n inner = flat_procs n
+procs_row (Reduce w len elem) n inner = joined_procs n
 procs_row (Loop turns tokens) n inner = 2 + inner
 
 -- what the parts of a node that are outside units have in all
@@ -51,6 +51,11 @@ procs_by tree count =
 -- the processes of a node
 abbrev pub procs : Tree → List ℕ → ℕ → ℕ
 procs tree counts node = procs_by tree (count_of tree counts) nesting node
+
+-- lawful counts with which the tree has no more processes than there are processors
+pub record Fits (tree : Tree) (processors : ℕ) (counts : List ℕ) : Type 0 where
+  pub lawful : HasLawfulCounts tree counts
+  pub few : procs tree counts 0 ≤ processors
 
 -- the firings of a node of this form for one item, where its parts outside units have `inner` in
 -- all; `reduce` gives those of a reduce with so many segments
@@ -71,7 +76,7 @@ firings_by reduce tree count =
 
 -- the firings of the whole network for one item: the root's, the source's and the sink's
 abbrev pub firings : Tree → List ℕ → ℕ
-firings tree counts = firings_by flat_firings tree (count_of tree counts) nesting 0 + 2
+firings tree counts = firings_by joined_firings tree (count_of tree counts) nesting 0 + 2
 
 -- the most firings of the whole network for so many items
 abbrev pub bound : Tree → List ℕ → ℕ → ℕ

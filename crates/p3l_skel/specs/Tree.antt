@@ -1,9 +1,10 @@
 -- The nodes of a tree, and what is computed from the root down.
-use Rattle.std.specs.Prelude.{◌≡◌, ℕ, ℤ, zero, suc, ◌*◌, ◌<◌, ◌≤◌, Bool, true, false, IsTrue, List, [], length, slice_index, slice_index_or, ⊤}
+use Rattle.std.specs.Prelude.{◌≡◌, ℕ, ℤ, zero, suc, ◌*◌, ◌<◌, ◌≤◌, Bool, true, false, IsTrue, List, [], ◌∷◌, length, slice_index, slice_index_or, ⊤}
 use Rattle.p3l_base.specs.declared.outcome.Outcome.{Outcome}
 use Rattle.p3l_base.specs.declared.outcome.Outcome.TheVariants.{Value, Trapped}
 use Rattle.p3l_skel.specs.declared.tree.Form.{Form}
 use Rattle.p3l_skel.specs.declared.tree.Form.TheVariants.{Seq, Comp, Pipe, Farm, Map, Reduce, Loop}
+use Rattle.p3l_skel.specs.declared.tree.ModuleKind.TheVariants as kind
 use Rattle.p3l_skel.specs.declared.tree.Node.{Node}
 use Rattle.p3l_skel.specs.declared.tree.Tree.{Tree}
 
@@ -14,6 +15,13 @@ nesting = 6
 -- what a number past the nodes is read as: a pipe of nothing
 abbrev pub no_node : Node
 no_node = record { form = Pipe; «module» = 0; ins = 0; outs = 0; parts = [] }
+
+-- the tree of a program of one `seq` module, with the module's name and words
+unfoldable pub seq_tree : List ℕ → ℕ → ℕ → Tree
+seq_tree name ins outs = record {
+  nodes = record { form = Seq; «module» = 0; ins = ins; outs = outs; parts = [] } ∷ [];
+  modules = record { name = name; kind = kind.Seq } ∷ [];
+}
 
 -- the node of this number
 abbrev pub node_at : Tree → ℕ → Node

@@ -1,12 +1,12 @@
 // Lawful cuts of a map.
 
-ghost use Rattle.std.specs.Prelude.{◌≡◌, ◌↔◌, ◌≤◌, ◌<◌, ◌+◌, ◌^◌, ◌⊎◌, IsTrue, IfSome, IfNone, length, min};
+ghost use Rattle.std.specs.Prelude.{◌≡◌, ◌↔◌, ◌≤◌, ◌<◌, ◌+◌, ◌^◌, ◌⊎◌, IsTrue, IfSome, IfNone, min};
 ghost use Rattle.std.specs.List.{All};
-ghost use Rattle.p3l_base.specs.Slice.{array_size, cut_size, taken_size, LiesWithin};
-ghost use Rattle.p3l_base.specs.Cut.{token_size, element_size, one_at_first, one_at_second, first_count, second_count, HasIndexSize, HasFreeSizes, FollowOneAnother, HasLawfulOuts, IsLawfulCut};
-ghost use Rattle.p3l_skel.specs.Lawful.{IsSize, HasSizes, HasLawfulIns};
+ghost use Rattle.p3l_base.specs.Slice.{array_size, cut_size, LiesWithin};
+ghost use Rattle.p3l_base.specs.Cut.{token_size, element_size, one_at_first, one_at_second, first_count, second_count, HasIndexSize, HasFreeSizes, FollowOneAnother, HasLawfulOuts, HasLawfulIns, IsLawfulCut};
+ghost use Rattle.p3l_skel.specs.Lawful.{IsSize, HasSizes};
 
-use p3l_base::{Cut, Dim, Place, Slice};
+use p3l_base::{Cut, Dim, Place, Slice, array_len, cut_len};
 
 /// The greatest size of an array, and the most words of a token.
 pub const GREATEST_SIZE: u32 = 65_536;
@@ -35,42 +35,22 @@ pub fn have_sizes(slices: &[Slice]) -> bool
     slices.iter().all(|slice| has_sizes(slice))
 }
 
-/// How many words an array has.
-fn array_len(dims: &[Dim]) -> u64
-    requires few { length dims.now ≤ 3 }
-    requires sizes { All (λ dim. IsSize dim.size) dims.now }
-    ensures size { result ≡ array_size dims.now }
+/// How many words the array of a slice has.
+fn slice_len(slice: &Slice) -> u64
+    requires { HasSizes slice.now }
+    ensures size { result ≡ array_size slice.now.dims }
     ensures bound { result ≤ 2 ^ 48 }
 {
-    let mut len: u64 = 1;
-    for dim in dims {
-        len *= dim.size as u64;
-    }
-    len
+    array_len(slice.dims.as_slice()) as u64
 }
 
-/// How many indices of a dimension one cut takes.
-fn taken_len(dim: Dim) -> u32
-    ensures { result ≡ taken_size dim.place dim.size }
-{
-    match dim.place {
-        Place::Rest => dim.size,
-        Place::First | Place::Second => 1,
-    }
-}
-
-/// How many words one cut of an array has.
-fn cut_len(dims: &[Dim]) -> u64
-    requires few { length dims.now ≤ 3 }
-    requires sizes { All (λ dim. IsSize dim.size) dims.now }
-    ensures size { result ≡ cut_size dims.now }
+/// How many words one cut of a slice has.
+fn slice_cut_len(slice: &Slice) -> u64
+    requires { HasSizes slice.now }
+    ensures size { result ≡ cut_size slice.now.dims }
     ensures bound { result ≤ 2 ^ 48 }
 {
-    let mut len: u64 = 1;
-    for dim in dims {
-        len *= taken_len(*dim) as u64;
-    }
-    len
+    cut_len(slice.dims.as_slice()) as u64
 }
 
 /// Whether a free dimension has the size of its index.
@@ -157,7 +137,7 @@ fn arrays_end(slices: &[Slice]) -> Option<u64>
         if slice.start as u64 != end {
             return None;
         }
-        end += array_len(slice.dims.as_slice());
+        end += slice_len(slice);
     }
     Some(end)
 }
@@ -169,7 +149,7 @@ fn element_len(slices: &[Slice]) -> u64
 {
     let mut len: u64 = 0;
     for slice in slices {
-        len = (len + cut_len(slice.dims.as_slice())).min(1 << 32);
+        len = (len + slice_cut_len(slice)).min(1 << 32);
     }
     len
 }
@@ -187,7 +167,7 @@ fn lies_within(slice: &Slice, words: u32) -> bool
     requires { HasSizes slice.now }
     ensures { IsTrue result ↔ LiesWithin slice.now words }
 {
-    slice.start as u64 + array_len(slice.dims.as_slice()) <= words as u64
+    slice.start as u64 + slice_len(slice) <= words as u64
 }
 
 /// Whether all slices lie in a token of so many words.

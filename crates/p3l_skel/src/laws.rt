@@ -1,12 +1,13 @@
-// Laws of the meaning, each on a call that does nothing.
+// Laws of the meaning and of counts, each on a call that does nothing.
 
 ghost use Rattle.p3l_base.specs.declared.outcome.Outcome.{Outcome};
 ghost use Rattle.std.specs.Prelude.{ℕ, List};
 ghost use Rattle.p3l_base.specs.declared.outcome.Trap.{Trap};
 ghost use Rattle.p3l_skel.specs.Lawful.{IsLawfulTree};
-ghost use Rattle.p3l_skel.specs.Laws.{FoldsBySegments, CutsIntoSegments, PassesTraps, GoesByParts, KeepsWords};
+ghost use Rattle.p3l_skel.specs.Laws.{FoldsBySegments, CutsIntoSegments, PassesTraps, GoesByParts, KeepsWords, HasGreatestSegments};
 ghost use Rattle.p3l_skel.specs.Examples.{HandValues};
 
+use crate::tree::Tree;
 use crate::units::Units;
 
 /// The fold of the segments' folds is the fold of the whole, for every power of two of segments.
@@ -34,6 +35,12 @@ pub fn goes_by_parts<U: Units>(_units: &U)
 pub fn keeps_words<U: Units>(_units: &U)
     requires { IsLawfulTree (U.tree _units.now) }
     ensures { KeepsWords (U.tree _units.now) (U.leaf _units.now) }
+{}
+
+/// A reduce of a lawful tree may have as many segments as its most segments are, and no more.
+pub fn has_greatest_segments(_tree: &Tree)
+    requires { IsLawfulTree _tree.now }
+    ensures { HasGreatestSegments _tree.now }
 {}
 
 /// The meaning gives the values that were worked out by hand.

@@ -15,6 +15,3 @@ pub use counts::lawful_counts;
 pub use lawful::lawful_tree;
 pub use tree::{Counts, Form, ModuleInfo, ModuleKind, Node, Tree};
 pub use units::Units;
-
-#[cfg(test)]
-mod tests;

@@ -1,9 +1,10 @@
 // The tree of skeletons and the counts of workers.
 
-ghost use Rattle.std.specs.Prelude.{◌≡◌, ◌↔◌, ◌<◌, ◌≤◌, IsSome, IfSome, IfNone, length, slice_index};
-ghost use Rattle.p3l_skel.specs.Tree.{node_at};
+ghost use Rattle.std.specs.Prelude.{◌≡◌, ◌↔◌, ◌<◌, ◌≤◌, IsSome, IfOk, IfSome, IfNone, length, slice_index};
+ghost use Rattle.p3l_skel.specs.Tree.{node_at, seq_tree};
 
-use p3l_base::{Cut, List, Name};
+use p3l_base::{Cut, List, Name, NoMemory};
+use std::alloc::Global;
 
 /// How deep nodes are nested at most; the root counts as one level.
 pub const NESTING: u32 = 6;
@@ -87,6 +88,27 @@ pub struct Counts {
 }
 
 impl Tree {
+    /// The tree of a program of one `seq` module with this name, which takes and gives so many
+    /// words.
+    pub fn of_seq(alloc: Global, name: Name, ins: u32, outs: u32) -> Result<Tree, NoMemory>
+        ensures { IfOk result (λ tree. tree ≡ seq_tree name ins outs) }
+    {
+        let mut nodes = List::new(alloc);
+        nodes.push(Node {
+            form: Form::Seq,
+            module: 0,
+            ins,
+            outs,
+            parts: List::new(alloc),
+        })?;
+        let mut modules = List::new(alloc);
+        modules.push(ModuleInfo {
+            name,
+            kind: ModuleKind::Seq,
+        })?;
+        Ok(Tree { nodes, modules })
+    }
+
     /// The node of a number, if there are so many.
     pub fn node(&self, number: u32) -> Option<&Node>
         ensures there { IsSome result ↔ (number < length self.now.nodes) }

@@ -22,7 +22,7 @@ pub enum Joining {
 }
 
 /// A number, as far as it counts: past the limit all are alike.
-fn capped(n: u64) -> u64
+pub fn capped(n: u64) -> u64
     ensures { result ≡ capped n }
 {
     n.min(MOST_WORK + 1)
@@ -72,10 +72,11 @@ fn element_count(cut: &Cut) -> u64
     capped(cut.first as u64 * cut.second as u64)
 }
 
-/// The firings of a node of this form, where its parts outside units have `inner` in all.
-fn firings_over(form: &Form, joining: Joining, inner: u64) -> u64
+/// The firings for one item of a node of this form, with so many segments where it is a reduce, as
+/// far as they count, where its parts outside units have `inner` in all.
+pub fn firings_over(form: &Form, joining: Joining, segments: u32, inner: u64) -> u64
     requires { inner ≤ 134217729 }
-    ensures { result ≡ capped (firings_row (reduce_firings joining) form.now (most_segments form.now) inner) }
+    ensures { result ≡ capped (firings_row (reduce_firings joining) form.now segments inner) }
 {
     match form {
         Form::Seq | Form::Comp => 1,
@@ -85,7 +86,7 @@ fn firings_over(form: &Form, joining: Joining, inner: u64) -> u64
             let count = element_count(cut);
             capped(2 + 2 * count + count * inner)
         }
-        Form::Reduce { .. } => capped(reduce_firings(joining, most_segments(form))),
+        Form::Reduce { .. } => capped(reduce_firings(joining, segments)),
         Form::Loop { turns, .. } => {
             let turns = *turns as u64;
             capped(turns * inner + 2 * turns + 1)
@@ -121,7 +122,7 @@ fn firings(tree: &Tree, joining: Joining, levels: u32, number: u32) -> u64
     for part in outside_parts(node) {
         inner = capped(inner + firings(tree, joining, levels - 1, *part));
     }
-    firings_over(&node.form, joining, inner)
+    firings_over(&node.form, joining, most_segments(&node.form), inner)
 }
 
 /// How often a node runs bodies for one item, as far as it counts.

@@ -1,4 +1,4 @@
-use Rattle.std.proofs.Common.{◌≡◌, refl, arith, add-one, ap, ◌∙◌}
+use Rattle.std.proofs.Common.{◌≡◌, refl, arith, add-one}
 use Rattle.p3l_base.specs.declared.slice.Slice.{Slice}
 use Rattle.p3l_base.specs.Slice.{cut_size}
 use Rattle.p3l_base.specs.Cut.{element_size}
@@ -8,5 +8,5 @@ use Rattle.p3l_skel.proofs.cut.element_len.Goals as goal
 pub loop-slice-preserved : goal.loop-slice-preserved
 loop-slice-preserved c =
     let sum = sum_more element_size (λ (s : Slice). cut_size s.dims) refl (λ _ _. refl) c.args.slices.now c.loop-slice.slice-index c.slice-item.result c.loop-slice-test.true in
-    let size : c.cut_len.result ≡ cut_size c.slice-item.result.dims = c.cut_len.ensures.size ∙ ap cut_size c.as_slice.ensures in
+    let size : c.slice_cut_len.result ≡ cut_size c.slice-item.result.dims = c.slice_cut_len.ensures.size in
     rw (add-one, sum, ← c.slice-item.is, c.min-len.ensures, size, c.loop-slice.invariant) (omega arith)

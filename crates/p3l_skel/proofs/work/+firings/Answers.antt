@@ -21,5 +21,5 @@ returns t c =
     let below : ℕ → ℕ = firings_by (reduce_firings c.args.joining) c.args.tree.now (segments_at c.args.tree.now) (c.args.levels - 1) in
     let all : c.loop-part.inner ≡ capped (sum_by below (outside_parts c.in-Some.node.now.form c.in-Some.node.now.parts)) =
     rw (← c.outside_parts-part-items.ensures, ← take_all c.loop-part.part-index c.outside_parts-part-items.result.now c.loop-part-test.false) c.loop-part.invariant in
-    rw (firings_by-step (reduce_firings c.args.joining) c.args.tree.now (segments_at c.args.tree.now) c.args.levels c.args.number some, ← c.in-Some.ensures.found, c.firings_over.ensures, all)
+    rw (firings_by-step (reduce_firings c.args.joining) c.args.tree.now (segments_at c.args.tree.now) c.args.levels c.args.number some, ← c.in-Some.ensures.found, c.firings_over.ensures, c.most_segments.ensures, all)
     (firings_row-capped (reduce_firings c.args.joining) c.in-Some.node.now.form (most_segments c.in-Some.node.now.form) _)
