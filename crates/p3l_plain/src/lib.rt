@@ -6,6 +6,3 @@ pub mod item;
 pub mod outcome;
 
 pub use item::item_outcome;
-
-#[cfg(test)]
-mod tests;

@@ -248,7 +248,7 @@ pub map_outcome-returns : goal.map_outcome-returns
 map_outcome-returns g t c =
     let part = item c.args.tree.now (g.U.Units.leaf c.args.units.now) c.args.part in
     let cut = c.args.cut.now in
-    mapped-all (λ e. part (element_words cut.ins cut.second c.args.words.now e)) (joined_words cut) c.loop-e.results _ c.loop-e.e (element_count cut) (omega arith) c.loop-e.invariant.so_far c.in_ok-join.ensures.words
+    mapped-all (λ e. part (element_words cut.ins cut.second c.args.words.now e)) (joined_words cut) c.loop-e.results _ c.loop-e.e (element_count cut) (omega arith) c.loop-e.invariant.so_far c.in_ok-join.ensures
 
 pub stages_outcome-next_outcome-requires : goal.stages_outcome-next_outcome-requires
 stages_outcome-next_outcome-requires g t c κs within =
