@@ -1,0 +1,4 @@
+pub mod Instances
+pub mod Nested
+pub mod Placed
+pub mod Lawful

@@ -1,0 +1,4 @@
+pub mod Wiring
+pub mod Unfolding
+pub mod Refusing
+pub mod Levels
