@@ -1,0 +1,3 @@
+pub mod Unroll
+pub mod Fine
+pub mod Outs
