@@ -1,0 +1,8 @@
+//! The nodes of a tree that run in one process, on the codes of its `seq` modules.
+#![tactic(auto)]
+
+pub mod node;
+pub mod table;
+pub mod units;
+
+pub use table::UnitTable;

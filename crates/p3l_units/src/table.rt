@@ -1,0 +1,104 @@
+// Tables of units.
+
+ghost use Rattle.std.specs.Prelude.{◌≡◌, ◌<◌, length, IfOk};
+ghost use Rattle.std.specs.List.{All};
+ghost use Rattle.p3l_skel.specs.declared.tree.Form.TheVariants as forms;
+ghost use Rattle.p3l_skel.specs.Tree.{node_at};
+ghost use Rattle.p3l_skel.specs.Lawful.{IsLawfulTree};
+ghost use Rattle.p3l_units.specs.Table.{HasCode, HasPlaces, leaf, LeavesAreRuns, one_if_seq};
+
+use p3l_base::{List, NoMemory, Outcome, Words};
+use p3l_code::{SafeCode, run_code};
+use p3l_skel::{ModuleKind, Tree};
+use std::alloc::Global;
+use std::marker::Model;
+
+/// The sequential nodes of a lawful tree, which run on a code for each `seq` module. Contracts see
+/// the tree, and the codes in the order of the modules.
+#[derive(Drop)]
+pub struct UnitTable<'t> {
+    tree: &'t Tree,
+    codes: List<SafeCode>,
+    // For each module, how many `seq` modules are before it.
+    places: List<u32>,
+}
+
+impl<'t> Model for UnitTable<'t> {
+    ghost use Rattle.p3l_units.specs.Table.{Served, IsTable};
+
+    ghost Value = { Served };
+
+    ghost view = { λ it. record { tree = it.tree.now; codes = it.codes } };
+
+    ghost invariant = { λ it. IsTable it.tree.now it.codes it.places };
+}
+
+impl<'t> UnitTable<'t> {
+    /// The table of a tree and the codes of its `seq` modules, one for each in their order.
+    pub fn new(
+        alloc: Global,
+        tree: &'t Tree,
+        codes: List<SafeCode>,
+    ) -> Result<UnitTable<'t>, NoMemory>
+        requires lawful { IsLawfulTree tree.now }
+        requires codes { All (HasCode (record { tree = tree.now; codes = codes })) tree.now.nodes }
+        ensures { IfOk result (λ table. table ≡ record { tree = tree.now; codes = codes }) }
+    {
+        let places = code_places(alloc, tree)?;
+        Ok(UnitTable {
+            tree,
+            codes,
+            places,
+        })
+    }
+
+    /// The tree that the table serves.
+    pub fn tree(&self) -> &Tree
+        ensures tree { result.now ≡ self.now.tree }
+        ensures lawful { IsLawfulTree result.now }
+    {
+        self.tree
+    }
+
+    /// Runs the code of a `seq` node.
+    pub fn run_body(&self, alloc: Global, node: u32, words: &Words) -> Result<Outcome, NoMemory>
+        requires there { node < length self.now.tree.nodes }
+        requires form { (node_at self.now.tree node).form ≡ forms.Seq }
+        requires fits { length words.now ≡ (node_at self.now.tree node).ins }
+        ensures { IfOk result (λ outcome. outcome ≡ leaf self.now (node_at self.now.tree node).«module» words.now) }
+    {
+        let module = self.tree.nodes.as_slice()[node as usize].module;
+        let place = self.places.as_slice()[module as usize];
+        run_code(alloc, &self.codes.as_slice()[place as usize], module, words)
+    }
+}
+
+// For each module, how many `seq` modules are before it.
+fn code_places(alloc: Global, tree: &Tree) -> Result<List<u32>, NoMemory>
+    requires { IsLawfulTree tree.now }
+    ensures { IfOk result (HasPlaces tree.now.modules) }
+{
+    let mut places = List::new(alloc);
+    let mut before = 0;
+    for info in tree.modules.as_slice() {
+        places.push(before)?;
+        before += one_if_seq(info.kind);
+    }
+    Ok(places)
+}
+
+// 1 for a `seq` module, else 0.
+fn one_if_seq(kind: ModuleKind) -> u32
+    ensures { result ≡ one_if_seq kind }
+{
+    match kind {
+        ModuleKind::Seq => 1,
+        _ => 0,
+    }
+}
+
+/// A law of the codes of a tree: on the words that it takes, the code of a `seq` node makes of them
+/// what the machine makes of them.
+pub fn leaves_are_runs()
+    ensures { LeavesAreRuns }
+{}

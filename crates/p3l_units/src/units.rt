@@ -1,0 +1,22 @@
+// A table of units is what runs a tree's sequential nodes.
+
+use crate::node::node_outcome;
+use crate::table::UnitTable;
+use p3l_base::{NoMemory, Outcome, Words};
+use p3l_skel::Units;
+use std::alloc::Global;
+
+impl<'t> Units for UnitTable<'t> {
+    ghost use Rattle.p3l_units.specs.Table.{leaf};
+    ghost use Rattle.p3l_units.specs.laws.Leaf.{gives_outs};
+
+    ghost tree = { λ table. table.tree };
+
+    ghost leaf = { leaf };
+
+    ghost gives_outs = { gives_outs };
+
+    fn run(&self, alloc: Global, node: u32, words: &Words) -> Result<Outcome, NoMemory> {
+        node_outcome(alloc, self.tree(), self, node, words)
+    }
+}
