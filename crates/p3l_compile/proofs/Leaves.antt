@@ -1,0 +1,106 @@
+-- The codes of bodies do what the bodies mean, module by module.
+use Rattle.std.proofs.Common.{◌≡◌, ℕ, ℤ, zero, suc, ◌+◌, ◌<◌, ◌≤◌, Bool, true, false, cond, ◌&&◌, List, [], ◌∷◌, ◌++◌, length, map, take, drop, get_or, Option, Some, None, Result, Ok, Err, IfOk, refl, sym, ap, ◌∙◌, subst, arith}
+use Rattle.std.specs.Prelude.{nat_eq, slice_get, IfSome, IsSomeAnd}
+use Rattle.std.specs.List.{All, AllByRecursion}
+use Rattle.std.proofs.lemmas.Bool.Decides.{nat_tests}
+use Rattle.p3l_base.specs.declared.outcome.Outcome.{Outcome}
+use Rattle.p3l_skel.specs.declared.tree.Form.TheVariants as forms
+use Rattle.p3l_skel.specs.declared.tree.ModuleInfo.{ModuleInfo}
+use Rattle.p3l_skel.specs.declared.tree.Node.{Node}
+use Rattle.p3l_skel.specs.declared.tree.Tree.{Tree}
+use Rattle.p3l_code.specs.declared.instr.Code.{Code}
+use Rattle.p3l_code.specs.Machine.{exec}
+use Rattle.p3l_units.specs.Table.{Served, is_seq_kind, if_seq, seqs_before, HasWordsOf, HasCode, agrees, unfit, if_fits, run_of, leaf}
+use Rattle.p3l_body.specs.Eval.{eval}
+use Rattle.p3l_body.specs.Seq.{SeqTree}
+use Rattle.p3l_compile.specs.Condition.{total, IsCompilable, Compiles}
+use Rattle.p3l_compile.specs.Leaves.{body_of, meaning, body_leaf, FitsNode, AreBodies, AreCodes}
+
+-- a body and its code, or neither
+Paired : Option SeqTree → Option Code → Type 0
+Paired None None = Unit {0}
+Paired None (Some code) = ⊥
+Paired (Some seq) None = ⊥
+Paired (Some seq) (Some code) = Compiles seq code
+
+paired_at : (seqs : List SeqTree) (codes : List Code) (k : ℕ) → AreCodes seqs codes → Paired (slice_get seqs k) (slice_get codes k)
+unfolding Paired
+paired_at [] [] k are = tt
+paired_at [] (code ∷ codes) k are = absurd are
+paired_at (seq ∷ seqs) [] k are = absurd are
+paired_at (seq ∷ seqs) (code ∷ codes) zero are = are.0
+paired_at (seq ∷ seqs) (code ∷ codes) (suc k) are = paired_at seqs codes k are.1
+
+paired_if : (info : Option ModuleInfo) (s : Option SeqTree) (c : Option Code) → Paired s c → Paired (if_seq info s) (if_seq info c)
+unfolding Paired
+paired_if None s c p = tt
+paired_if (Some info) s c p = by (is_seq_kind info.kind)
+  where
+    by : (b : Bool) → Paired (cond b s None) (cond b c None)
+    by true = p
+    by false = tt
+
+eq_holds : (m n : ℕ) → nat_eq m n ≡ true → m ≡ n
+eq_holds m n h = grind (arith, nat_tests)
+
+module _ (tree : Tree) (seqs : List SeqTree) (codes : List Code) (bodies : AreBodies tree seqs) (are : AreCodes seqs codes) where
+  served : Served
+  served = record { tree = tree; codes = codes }
+
+  paired : (m : ℕ) → Paired (body_of tree seqs m) (if_seq (slice_get tree.modules m) (slice_get codes (seqs_before tree.modules m)))
+  paired m = paired_if (slice_get tree.modules m) _ _ (paired_at seqs codes (seqs_before tree.modules m) are)
+
+  same_run : (m : ℕ) (words : List ℤ) (s : Option SeqTree) (c : Option Code) → Paired s c → IfSome s (λ seq. seq.home ≡ m) → run_of served m words c ≡ meaning tree m words s
+  unfolding Paired served
+  same_run m words None None p home = refl
+  same_run m words None (Some code) p home = absurd p
+  same_run m words (Some seq) None p home = absurd p
+  same_run m words (Some seq) (Some code) p home =
+      ap (λ n. if_fits tree m n code.outs words (exec code m words)) p.takes
+      ∙ ap (λ n. if_fits tree m (total seq.ins) n words (exec code m words)) p.gives
+      ∙ by (nat_eq (length words) (total seq.ins)) refl
+    where
+      by : (b : Bool) → nat_eq (length words) (total seq.ins) ≡ b → cond (b && agrees m (total seq.ins) (total seq.outs) tree.nodes) (exec code m words) (unfit m) ≡ cond (b && agrees m (total seq.ins) (total seq.outs) tree.nodes) (eval seq words) (unfit m)
+      by true e =
+          let own = ap (λ n. exec code n words) (sym home) ∙ p.means words (eq_holds (length words) (total seq.ins) e) in
+          ap (λ o. cond (agrees m (total seq.ins) (total seq.outs) tree.nodes) o (unfit m)) own
+      by false e = refl
+
+  pub same_leaf : leaf (record { tree = tree; codes = codes }) ≡ body_leaf tree seqs
+  unfolding leaf body_leaf served
+  same_leaf = λ i m words. same_run m words (body_of tree seqs m) _ (paired m) (bodies.numbered m) i
+
+  code_there : (node : Node) (s : Option SeqTree) (c : Option Code) → Paired s c → IsSomeAnd s (FitsNode node) → IsSomeAnd c (HasWordsOf node)
+  unfolding Paired
+  code_there node None c p fits = absurd fits
+  code_there node (Some seq) None p fits = absurd p
+  code_there node (Some seq) (Some code) p fits = record { takes = p.takes ∙ fits.takes; gives = p.gives ∙ fits.gives }
+
+  pub have_codes : All (HasCode (record { tree = tree; codes = codes })) tree.nodes
+  unfolding paired
+  have_codes i d inside form =
+      code_there (get_or tree.nodes i d) (body_of tree seqs (get_or tree.nodes i d).module) _ (paired (get_or tree.nodes i d).module) (bodies.words i d inside form)
+
+-- one code more
+pub codes_more : (seqs : List SeqTree) (codes : List Code) (seq : SeqTree) (code : Code) → AreCodes seqs codes → Compiles seq code → AreCodes (seqs ++ seq ∷ []) (codes ++ code ∷ [])
+codes_more [] [] seq code are more = (more, tt)
+codes_more [] (c ∷ codes) seq code are more = absurd are
+codes_more (s ∷ seqs) [] seq code are more = absurd are
+codes_more (s ∷ seqs) (c ∷ codes) seq code are more = (are.0, codes_more seqs codes seq code are.1 more)
+
+pub compilable_at : {A : Type 0} (f : A → SeqTree) (xs : List A) (i : ℕ) (x : A) → i < length xs → x ≡ get_or xs i x → AllByRecursion IsCompilable (map f xs) → IsCompilable (f x)
+compilable_at f [] i x inside is all = absurd (omega arith)
+compilable_at f (y ∷ xs) zero x inside is all = subst (λ z. IsCompilable (f z)) (sym is) all.0
+compilable_at f (y ∷ xs) (suc i) x inside is all = compilable_at f xs i x (omega arith) is all.1
+
+pub take_next : {A : Type 0} (xs : List A) (i : ℕ) (x : A) → i < length xs → x ≡ get_or xs i x → take (i + 1) xs ≡ take i xs ++ x ∷ []
+take_next [] i x inside is = absurd (omega arith)
+take_next (y ∷ xs) zero x inside is =
+    let e : 0 + 1 ≡ suc 0 = omega arith in ap (λ n. take n (y ∷ xs)) e ∙ ap (λ z. z ∷ []) (sym is)
+take_next (y ∷ xs) (suc i) x inside is =
+    let e : suc i + 1 ≡ suc (i + 1) = omega arith in
+    ap (λ n. take n (y ∷ xs)) e ∙ ap (λ l. y ∷ l) (take_next xs i x (omega arith) is)
+
+pub if_ok_then : {A E : Type 0} (r : Result A E) (P Q : A → Type 0) → ((x : A) → P x → Q x) → IfOk r P → IfOk r Q
+if_ok_then (Ok x) P Q go h = go x h
+if_ok_then (Err e) P Q go h = tt

@@ -1,0 +1,43 @@
+-- What the bodies of a tree's `seq` modules make of words.
+use Rattle.std.specs.Prelude.{◌≡◌, ℕ, ℤ, List, [], ◌∷◌, Option, Some, None, IfSome, IsSomeAnd}
+use Rattle.std.specs.List.{All, AllByRecursion}
+use Rattle.p3l_base.specs.declared.outcome.Outcome.{Outcome}
+use Rattle.p3l_skel.specs.declared.tree.Form.TheVariants as forms
+use Rattle.p3l_skel.specs.declared.tree.Node.{Node}
+use Rattle.p3l_skel.specs.declared.tree.Tree.{Tree}
+use Rattle.p3l_code.specs.declared.instr.Code.{Code}
+use Rattle.p3l_units.specs.Table.{item_of, unfit, if_fits}
+use Rattle.p3l_body.specs.Eval.{eval}
+use Rattle.p3l_body.specs.Seq.{SeqTree}
+use Rattle.p3l_compile.specs.Condition.{total, IsCompilable, Compiles}
+
+-- the body of a module
+abbrev pub body_of : Tree → List SeqTree → ℕ → Option SeqTree
+body_of tree seqs m = item_of tree.modules seqs m
+
+abbrev pub meaning : Tree → ℕ → List ℤ → Option SeqTree → Outcome
+meaning tree m words None = unfit m
+meaning tree m words (Some seq) = if_fits tree m (total seq.ins) (total seq.outs) words (eval seq words)
+
+-- what the body of a module makes of the words that it takes
+unfoldable pub body_leaf : Tree → List SeqTree → ℕ → List ℤ → Outcome
+body_leaf tree seqs m words = meaning tree m words (body_of tree seqs m)
+
+-- a body takes and gives the words of a node
+pub record FitsNode (node : Node) (seq : SeqTree) : Type 0 where
+  pub takes : total seq.ins ≡ node.ins
+  pub gives : total seq.outs ≡ node.outs
+
+-- the bodies of a tree's `seq` modules, one for each in their order: each can be compiled, has its
+-- module's number, and takes and gives the words of the module's nodes
+pub record AreBodies (tree : Tree) (seqs : List SeqTree) : Type 0 where
+  pub compilable : AllByRecursion IsCompilable seqs
+  pub numbered : (m : ℕ) → IfSome (body_of tree seqs m) (λ seq. seq.home ≡ m)
+  pub words : All (λ (node : Node). node.form ≡ forms.Seq → IsSomeAnd (body_of tree seqs node.«module») (FitsNode node)) tree.nodes
+
+-- codes that bodies were compiled to
+abbrev pub AreCodes : List SeqTree → List Code → Type 0
+AreCodes [] [] = Unit {0}
+AreCodes [] (code ∷ codes) = ⊥
+AreCodes (seq ∷ seqs) [] = ⊥
+AreCodes (seq ∷ seqs) (code ∷ codes) = Compiles seq code × AreCodes seqs codes

@@ -1,0 +1,202 @@
+// The code of expressions and statements, put behind the code so far.
+
+ghost use Rattle.std.specs.Prelude.{◌≡◌, ℕ, pos, ◌+◌, ◌<◌, ◌≤◌, [], ◌∷◌, ◌++◌, length, slice_index, OnOk};
+ghost use Rattle.p3l_ast.specs.Tree.{phrase, phrases, read, unary, binary};
+ghost use Rattle.p3l_compile.specs.Scope.{found, constant_of};
+ghost use Rattle.p3l_compile.specs.Phrase.{phrase_size, index_size, scalar_code, element_code, sizes_in, phrase_code, index_code};
+
+use crate::scope::Scope;
+use p3l_ast::{BinOp, Expr, Target, UnOp};
+use p3l_base::{Name, NoMemory};
+use p3l_code::Instr;
+
+/// Puts the code of an expression behind the code so far.
+#[cycle(expression)]
+pub fn emit_expr(scope: &Scope<'_>, code: &mut Vec<Instr>, expr: &Expr) -> Result<(), NoMemory>
+    requires { length code.old.items + phrase_size (phrase expr.now) ≤ 4194304 }
+    ensures code { OnOk result (code.new.items ≡ code.old.items ++ phrase_code scope.now (length code.old.items) (phrase expr.now)) }
+    ensures size { OnOk result (length code.new.items ≡ length code.old.items + phrase_size (phrase expr.now)) }
+{
+    match expr {
+        Expr::Number(number) => put(code, Instr::Push(*number)),
+        Expr::Read(target) => emit_read(scope, code, target),
+        Expr::Unary(op, operand) => emit_unary(scope, code, *op, operand),
+        Expr::Binary(op, left, right) => emit_binary(scope, code, *op, left, right),
+    }
+}
+
+// Puts the code of an operator before its operand behind the code so far.
+#[cycle(expression)]
+fn emit_unary(
+    scope: &Scope<'_>,
+    code: &mut Vec<Instr>,
+    op: UnOp,
+    operand: &Expr,
+) -> Result<(), NoMemory>
+    requires { length code.old.items + phrase_size (unary op (phrase operand.now)) ≤ 4194304 }
+    ensures code { OnOk result (code.new.items ≡ code.old.items ++ phrase_code scope.now (length code.old.items) (unary op (phrase operand.now))) }
+    ensures size { OnOk result (length code.new.items ≡ length code.old.items + phrase_size (unary op (phrase operand.now))) }
+{
+    emit_expr(scope, code, operand)?;
+    put(code, Instr::Unary(op))
+}
+
+// Puts the code of an operator between its operands behind the code so far.
+#[cycle(expression)]
+fn emit_binary(
+    scope: &Scope<'_>,
+    code: &mut Vec<Instr>,
+    op: BinOp,
+    left: &Expr,
+    right: &Expr,
+) -> Result<(), NoMemory>
+    requires { length code.old.items + phrase_size (binary op (phrase left.now) (phrase right.now)) ≤ 4194304 }
+    ensures code { OnOk result (code.new.items
+        ≡ code.old.items ++ phrase_code scope.now (length code.old.items) (binary op (phrase left.now) (phrase right.now))) }
+    ensures size { OnOk result (length code.new.items ≡ length code.old.items + phrase_size (binary op (phrase left.now) (phrase right.now))) }
+{
+    if op == BinOp::Or {
+        return emit_or(scope, code, left, right);
+    }
+    if op == BinOp::And {
+        return emit_and(scope, code, left, right);
+    }
+    emit_expr(scope, code, left)?;
+    emit_expr(scope, code, right)?;
+    put(code, Instr::Binary(op))
+}
+
+// Puts the code of `left || right` behind the code so far.
+#[cycle(expression)]
+fn emit_or(
+    scope: &Scope<'_>,
+    code: &mut Vec<Instr>,
+    left: &Expr,
+    right: &Expr,
+) -> Result<(), NoMemory>
+    requires { length code.old.items + phrase_size (binary BinOp.Or (phrase left.now) (phrase right.now)) ≤ 4194304 }
+    ensures code { OnOk result (code.new.items
+        ≡ code.old.items ++ phrase_code scope.now (length code.old.items) (binary BinOp.Or (phrase left.now) (phrase right.now))) }
+    ensures size { OnOk result (length code.new.items ≡ length code.old.items + phrase_size (binary BinOp.Or (phrase left.now) (phrase right.now))) }
+{
+    emit_expr(scope, code, left)?;
+    let jump = code.len();
+    put(code, Instr::JumpNonZero(0))?;
+    emit_expr(scope, code, right)?;
+    put_truth(code, 1)?;
+    code[jump] = Instr::JumpNonZero(place(code) - 1);
+    Ok(())
+}
+
+// Puts the code of `left && right` behind the code so far.
+#[cycle(expression)]
+fn emit_and(
+    scope: &Scope<'_>,
+    code: &mut Vec<Instr>,
+    left: &Expr,
+    right: &Expr,
+) -> Result<(), NoMemory>
+    requires { length code.old.items + phrase_size (binary BinOp.And (phrase left.now) (phrase right.now)) ≤ 4194304 }
+    ensures code { OnOk result (code.new.items
+        ≡ code.old.items ++ phrase_code scope.now (length code.old.items) (binary BinOp.And (phrase left.now) (phrase right.now))) }
+    ensures size { OnOk result (length code.new.items ≡ length code.old.items + phrase_size (binary BinOp.And (phrase left.now) (phrase right.now))) }
+{
+    emit_expr(scope, code, left)?;
+    let jump = code.len();
+    put(code, Instr::JumpZero(0))?;
+    emit_expr(scope, code, right)?;
+    put_truth(code, 0)?;
+    code[jump] = Instr::JumpZero(place(code) - 1);
+    Ok(())
+}
+
+// Puts the code that reads a variable, an element or a constant behind the code so far.
+#[cycle(expression)]
+fn emit_read(scope: &Scope<'_>, code: &mut Vec<Instr>, target: &Target) -> Result<(), NoMemory>
+    requires { length code.old.items + phrase_size (read target.now.at (phrases target.now.index.items)) ≤ 4194304 }
+    ensures code { OnOk result (code.new.items
+        ≡ code.old.items ++ phrase_code scope.now (length code.old.items) (read target.now.at (phrases target.now.index.items))) }
+    ensures size { OnOk result (length code.new.items
+        ≡ length code.old.items + phrase_size (read target.now.at (phrases target.now.index.items))) }
+{
+    if target.index.is_empty() {
+        return put(code, scalar(scope, &target.at.name));
+    }
+    put(code, Instr::Push(0))?;
+    emit_index(scope, code, target)?;
+    put(code, element(scope, &target.at.name))
+}
+
+// Puts the code of a target's indices behind the code so far, each with the test against its size.
+#[cycle(expression)]
+pub fn emit_index(scope: &Scope<'_>, code: &mut Vec<Instr>, target: &Target) -> Result<(), NoMemory>
+    requires { length code.old.items + index_size (phrases target.now.index.items) ≤ 4194304 }
+    ensures code { OnOk result (code.new.items
+        ≡ code.old.items ++ index_code scope.now (length code.old.items) (sizes_in (found scope.now target.now.at.name)) (phrases target.now.index.items)) }
+    ensures size { OnOk result (length code.new.items ≡ length code.old.items + index_size (phrases target.now.index.items)) }
+{
+    let sizes = scope.sizes(&target.at.name);
+    for (dimension, index) in target.index.iter().enumerate() {
+        emit_expr(scope, code, index)?;
+        put(code, Instr::Step(size_at(sizes, dimension)))?;
+    }
+    Ok(())
+}
+
+// The size of a dimension, and 0 where there is none.
+fn size_at(sizes: &[u32], dimension: usize) -> u32
+    ensures { result ≡ slice_index sizes.now dimension }
+{
+    sizes.get(dimension).copied().unwrap_or(0)
+}
+
+// What reads a scalar or a constant.
+fn scalar(scope: &Scope<'_>, name: &Name) -> Instr
+    ensures { result ≡ scalar_code (found scope.now name.now) (constant_of scope.now name.now) }
+{
+    match scope.slot(name) {
+        Some(slot) => Instr::Load(slot.base),
+        None => Instr::Push(scope.constant(name)),
+    }
+}
+
+// What reads the element whose place is on the stack.
+fn element(scope: &Scope<'_>, name: &Name) -> Instr
+    ensures { result ≡ element_code (found scope.now name.now) }
+{
+    match scope.slot(name) {
+        Some(slot) => Instr::LoadAt(slot.base, slot.words),
+        None => Instr::LoadAt(0, 1),
+    }
+}
+
+// Puts the code behind a right operand of `||` or `&&`: its truth, and a jump past the other way,
+// which gives a number.
+fn put_truth(code: &mut Vec<Instr>, other: i64) -> Result<(), NoMemory>
+    requires { length code.old.items + 4 ≤ 4194304 }
+    ensures code { OnOk result (code.new.items ≡ code.old.items
+        ++ (Instr.Push (pos 0) ∷ Instr.Binary BinOp.Ne ∷ Instr.Jump (length code.old.items + 4) ∷ Instr.Push other ∷ [])) }
+    ensures size { OnOk result (length code.new.items ≡ length code.old.items + 4) }
+{
+    put(code, Instr::Push(0))?;
+    put(code, Instr::Binary(BinOp::Ne))?;
+    put(code, Instr::Jump(place(code) + 2))?;
+    put(code, Instr::Push(other))
+}
+
+// The place behind the code so far.
+pub fn place(code: &Vec<Instr>) -> u32
+    requires { length code.now.items ≤ 4194304 }
+    ensures { result ≡ length code.now.items }
+{
+    code.len() as u32
+}
+
+// Puts one more instruction behind the code so far.
+pub fn put(code: &mut Vec<Instr>, instr: Instr) -> Result<(), NoMemory>
+    ensures code { OnOk result (code.new.items ≡ code.old.items ++ instr ∷ []) }
+    ensures size { OnOk result (length code.new.items ≡ length code.old.items + 1) }
+{
+    code.push(instr)?;
+    Ok(())
+}
