@@ -1,16 +1,16 @@
 -- Lawful counts are lawful at each node, and small.
 use Rattle.std.proofs.Common.{◌≡◌, ℕ, zero, suc, ◌^◌, ◌≤◌, ◌==◌, true, false, List, [], ◌∷◌, sym, subst, arith, inl, inr, Some, None, Option}
 use Rattle.std.specs.List.{Contains}
-use Rattle.std.proofs.Math.Pow.{pow_mono}
-use Rattle.std.proofs.lemmas.Bool.{cases_lt, cases_eq}
+use Rattle.std.proofs.lemmas.Bool.{cases_eq}
 use Rattle.std.proofs.lemmas.Nat.{pow_pos}
-use Rattle.std.proofs.lemmas.Bool.Decides.{nat_tests, leb_tells}
+use Rattle.std.proofs.lemmas.Bool.Decides.{nat_tests}
 use Rattle.p3l_skel.specs.declared.tree.Form.{Form}
 use Rattle.p3l_skel.specs.declared.tree.Form.TheVariants.{Seq, Comp, Pipe, Farm, Map, Reduce, Loop}
 use Rattle.p3l_skel.specs.declared.tree.Tree.{Tree}
 use Rattle.p3l_skel.specs.Tree.{node_at}
 use Rattle.p3l_skel.specs.Counts.{IsLawfulCount, TakesLawful, count_in}
-use Rattle.p3l_skel.specs.Numbers.{flat_firings, power_up_to, most_segments}
+use Rattle.p3l_skel.specs.Numbers.{joined_firings, power_up_to, most_segments}
+use Rattle.p3l_skel.proofs.Powers.{power_up_to-most, small_exponent}
 use Rattle.p3l_model.proofs.Members.{Contains-cons_cases, Contains-nil}
 
 lawful_small : (form : Form) (n : ℕ) → IsLawfulCount form n → n ≤ 512
@@ -47,38 +47,15 @@ count_lawful tree (k ∷ ks) (n ∷ ns) rest node h inside =
           rw test (count_lawful tree ks ns rest node h.1 later)
     ]
 
--- a power of two up to n is no greater than the greatest
-power_up_to-most : (k e n : ℕ) → e ≤ k → 2 ^ e ≤ n → 2 ^ e ≤ power_up_to k n
-unfolding power_up_to
-power_up_to-most zero e n small fits = let z : e ≡ 0 = omega arith in rw z (omega arith)
-power_up_to-most (suc k) e n small fits =
-    elim (leb_tells (2 ^ suc k) n) [
-      | inl within ↦ rw within.0 (pow_mono small)
-      | inr past ↦
-          let less : e ≤ k = elim (cases_lt e (suc k)) [
-            | inl below ↦ omega arith
-            | inr same ↦ let e' : e ≡ suc k = omega arith in
-                let f : 2 ^ suc k ≤ n = rw e' at fits in absurd (omega (arith, past.1))
-          ] in
-          rw past.0 (power_up_to-most k e n less fits)
-    ]
-
-flat_firings-mono : (n m : ℕ) → 1 ≤ n → n ≤ m → flat_firings n ≤ flat_firings m
-flat_firings-mono n m some more = grind (arith, nat_tests)
-
-small_exponent : (e : ℕ) → 2 ^ e ≤ 512 → e ≤ 9
-small_exponent e h =
-    elim (cases_lt 9 e) [
-      | inl past ↦ let more : 2 ^ 10 ≤ 2 ^ e = pow_mono past in absurd (omega arith)
-      | inr small ↦ small
-    ]
+joined_firings-mono : (n m : ℕ) → 1 ≤ n → n ≤ m → joined_firings n ≤ joined_firings m
+joined_firings-mono n m some more = grind (arith, nat_tests)
 
 -- a reduce fires no more often than with the most segments that it may have
-pub reduce_bounded : (w : Option ℕ) (len elem n : ℕ) → IsLawfulCount (Reduce w len elem) n → flat_firings n ≤ flat_firings (most_segments (Reduce w len elem))
+pub reduce_bounded : (w : Option ℕ) (len elem n : ℕ) → IsLawfulCount (Reduce w len elem) n → joined_firings n ≤ joined_firings (most_segments (Reduce w len elem))
 reduce_bounded (Some m) len elem n h = rw h.0 (omega arith)
 reduce_bounded None len elem n (meets, ((e, is), fits, small)) =
     let power : 2 ^ e ≤ len = rw is at fits in
     let exponent : e ≤ 9 = small_exponent e (rw is at small) in
     let most = power_up_to-most 9 e len exponent power in
     let some : 1 ≤ 2 ^ e = pow_pos e in
-    rw is (flat_firings-mono (2 ^ e) (power_up_to 9 len) some most)
+    rw is (joined_firings-mono (2 ^ e) (power_up_to 9 len) some most)

@@ -2,14 +2,13 @@
 use Rattle.std.proofs.Common.{◌≡◌, ℕ, zero, suc, ◌+◌, ◌*◌, ◌≤◌, refl, arith, inl, inr}
 use Rattle.std.proofs.Math.Nat.{mul-le-mul_left}
 use Rattle.std.proofs.lemmas.Bool.{cases_lt}
-use Rattle.p3l_base.specs.Cut.{element_count}
 use Rattle.p3l_skel.specs.declared.tree.Form.{Form}
 use Rattle.p3l_skel.specs.declared.tree.Form.TheVariants.{Seq, Comp, Pipe, Farm, Map, Reduce, Loop}
-use Rattle.p3l_skel.specs.Numbers.{procs_row, firings_row}
+use Rattle.p3l_skel.specs.Numbers.{procs_row}
 use Rattle.p3l_model.specs.Fitted.{fitted}
 
 -- a product with a number that may not fit
-pub fitted-mul : (n s more : ℕ) → fitted (n * fitted s + more) ≡ fitted (n * s + more)
+fitted-mul : (n s more : ℕ) → fitted (n * fitted s + more) ≡ fitted (n * s + more)
 fitted-mul zero s more = omega arith
 fitted-mul (suc n) s more =
     elim (cases_lt s 18446744073709551615) [
@@ -28,19 +27,3 @@ procs_row-fitted (Farm w) n s = let e = fitted-mul n s 2 in omega arith
 procs_row-fitted (Map w cut) n s = let e = fitted-mul n s 2 in omega arith
 procs_row-fitted (Reduce w len elem) n s = refl
 procs_row-fitted (Loop turns tokens) n s = omega arith
-
-pub firings_row-fitted : (reduce : ℕ → ℕ) (form : Form) (n s : ℕ) → fitted (firings_row reduce form n (fitted s)) ≡ fitted (firings_row reduce form n s)
-firings_row-fitted reduce Seq n s = refl
-firings_row-fitted reduce Comp n s = refl
-firings_row-fitted reduce Pipe n s = omega arith
-firings_row-fitted reduce (Farm w) n s = omega arith
-firings_row-fitted reduce (Map w cut) n s =
-    let e = fitted-mul (element_count cut) s (2 + 2 * element_count cut) in omega arith
-firings_row-fitted reduce (Reduce w len elem) n s = refl
-firings_row-fitted reduce (Loop turns tokens) n s = let e = fitted-mul turns s (2 * turns + 1) in omega arith
-
--- the firings of a map, of which each step may not fit
-pub map_fitted : (n inner part all result : ℕ) → part ≡ fitted (inner + 2) → all ≡ fitted (n * part) → result ≡ fitted (all + 2) → result ≡ fitted (2 + 2 * n + n * inner)
-map_fitted n inner part all result one many whole =
-    let e : fitted (n * part + 2) ≡ fitted (n * (inner + 2) + 2) = rw one (fitted-mul n (inner + 2) 2) in
-    omega (arith, e)

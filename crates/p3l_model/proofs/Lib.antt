@@ -1,6 +1,14 @@
-pub mod Below
+pub mod Bounds
+pub mod Connect
 pub mod Count
+pub mod Deep
 pub mod Fit
+pub mod Matches
 pub mod Members
 pub mod Monotone
 pub mod Nested
+pub mod Rules
+pub mod Runs
+pub mod Ticks
+pub mod Timed
+pub mod Whole

@@ -11,8 +11,8 @@ use Rattle.p3l_skel.specs.declared.tree.Form.TheVariants.{Seq, Comp, Pipe, Farm,
 use Rattle.p3l_skel.specs.declared.tree.Tree.{Tree}
 use Rattle.p3l_skel.specs.Tree.{node_at}
 use Rattle.p3l_skel.specs.Counts.{own_counted, counted_from, outside_parts, IsLawfulCount}
-use Rattle.p3l_skel.specs.Numbers.{flat_firings, firings_by, firings_row, most_segments}
-use Rattle.p3l_model.proofs.Below.{counted_from-step, firings_by-zero, firings_by-step}
+use Rattle.p3l_skel.specs.Numbers.{joined_firings, firings_by, firings_row, most_segments}
+use Rattle.p3l_skel.proofs.Below.{counted_from-step, firings_by-zero, firings_by-step}
 use Rattle.p3l_model.proofs.Count.{reduce_bounded}
 use Rattle.p3l_model.proofs.Members.{Contains-head}
 
@@ -23,10 +23,10 @@ FiresNoMore Comp n m = ⊤
 FiresNoMore Pipe n m = ⊤
 FiresNoMore (Farm w) n m = ⊤
 FiresNoMore (Map w cut) n m = ⊤
-FiresNoMore (Reduce w len elem) n m = flat_firings n ≤ flat_firings m
+FiresNoMore (Reduce w len elem) n m = joined_firings n ≤ joined_firings m
 FiresNoMore (Loop turns tokens) n m = ⊤
 
-row_mono : (form : Form) (k n m s t : ℕ) → (Contains (own_counted form k) k → FiresNoMore form n m) → s ≤ t → firings_row flat_firings form n s ≤ firings_row flat_firings form m t
+row_mono : (form : Form) (k n m s t : ℕ) → (Contains (own_counted form k) k → FiresNoMore form n m) → s ≤ t → firings_row joined_firings form n s ≤ firings_row joined_firings form m t
 row_mono Seq k n m s t own h = omega arith
 row_mono Comp k n m s t own h = omega arith
 row_mono Pipe k n m s t own h = h
@@ -35,7 +35,7 @@ row_mono (Map w cut) k n m s t own h = omega (arith, mul-le-mul_left (element_co
 row_mono (Reduce w len elem) k n m s t own h = own (Contains-head k [])
 row_mono (Loop turns tokens) k n m s t own h = omega (arith, mul-le-mul_left turns h)
 
-sum_mono : (f g : ℕ → ℕ) (below : ℕ → List ℕ) (P : ℕ → Type 0) → ((p : ℕ) → ((x : ℕ) → Contains (below p) x → P x) → f p ≤ g p) → (ps : List ℕ) → ((x : ℕ) → Contains (flat_map below ps) x → P x) → sum_by f ps ≤ sum_by g ps
+pub sum_mono : (f g : ℕ → ℕ) (below : ℕ → List ℕ) (P : ℕ → Type 0) → ((p : ℕ) → ((x : ℕ) → Contains (below p) x → P x) → f p ≤ g p) → (ps : List ℕ) → ((x : ℕ) → Contains (flat_map below ps) x → P x) → sum_by f ps ≤ sum_by g ps
 sum_mono f g below P each [] all = omega arith
 sum_mono f g below P each (p ∷ ps) all =
     let here = each p (λ x h. all x (Contains-append_left (below p) (flat_map below ps) x h)) in
@@ -43,8 +43,8 @@ sum_mono f g below P each (p ∷ ps) all =
     omega (arith, sum_by-cons f p ps, sum_by-cons g p ps)
 
 -- where each reduce fires no more often, so does the whole
-pub firings_by-mono : (tree : Tree) (a b : ℕ → ℕ) (d k : ℕ) → ((x : ℕ) → Contains (counted_from tree d k) x → FiresNoMore (node_at tree x).form (a x) (b x)) → firings_by flat_firings tree a d k ≤ firings_by flat_firings tree b d k
-firings_by-mono tree a b zero k more = rw (firings_by-zero flat_firings tree a k, firings_by-zero flat_firings tree b k) (omega arith)
+pub firings_by-mono : (tree : Tree) (a b : ℕ → ℕ) (d k : ℕ) → ((x : ℕ) → Contains (counted_from tree d k) x → FiresNoMore (node_at tree x).form (a x) (b x)) → firings_by joined_firings tree a d k ≤ firings_by joined_firings tree b d k
+firings_by-mono tree a b zero k more = rw (firings_by-zero joined_firings tree a k, firings_by-zero joined_firings tree b k) (omega arith)
 firings_by-mono tree a b (suc d) k more =
     let some : 0 < suc d = omega arith in
     let e : suc d - 1 ≡ d = omega arith in
@@ -53,9 +53,9 @@ firings_by-mono tree a b (suc d) k more =
     let split = rw e at (counted_from-step tree (suc d) k some) in
     let P : ℕ → Type 0 = λ x. FiresNoMore (node_at tree x).form (a x) (b x) in
     let all : (x : ℕ) → Contains (own_counted form k ++ flat_map (counted_from tree d) parts) x → P x = rw split at more in
-    let inner = sum_mono (firings_by flat_firings tree a d) (firings_by flat_firings tree b d) (counted_from tree d) P (λ p h. firings_by-mono tree a b d p h) parts
+    let inner = sum_mono (firings_by joined_firings tree a d) (firings_by joined_firings tree b d) (counted_from tree d) P (λ p h. firings_by-mono tree a b d p h) parts
     (λ x h. all x (Contains-append_right (own_counted form k) (flat_map (counted_from tree d) parts) x h)) in
-    rw (firings_by-step flat_firings tree a (suc d) k some, firings_by-step flat_firings tree b (suc d) k some, e)
+    rw (firings_by-step joined_firings tree a (suc d) k some, firings_by-step joined_firings tree b (suc d) k some, e)
     (row_mono form k (a k) (b k) _ _ (λ h. all k (Contains-append_left (own_counted form k) (flat_map (counted_from tree d) parts) k h)) inner)
 
 -- a lawful count fires no more often than the most that is lawful

@@ -14,11 +14,11 @@ use Rattle.p3l_skel.specs.Tree.{node_at}
 use Rattle.p3l_skel.specs.Counts.{outside_parts, outside_from}
 use Rattle.p3l_skel.specs.Lawful.{AreSubtrees, IsSubtree}
 use Rattle.p3l_skel.specs.Numbers.{procs_by, procs_row}
-use Rattle.p3l_model.proofs.Below.{procs_by-step, outside_from-suc}
+use Rattle.p3l_skel.proofs.Below.{procs_by-step, outside_from-suc}
 use Rattle.p3l_model.proofs.Members.{Contains-cons_cases, Contains-nil, Contains-flat_map_take}
 
 -- subtrees that follow one another have a node each
-siblings_end : (Is : ℕ → ℕ → Type 0) → ((k n : ℕ) → Is k n → k < n) → (ps : List ℕ) (from next : ℕ) → AreSubtrees Is ps from next → from + length ps ≤ next
+pub siblings_end : (Is : ℕ → ℕ → Type 0) → ((k n : ℕ) → Is k n → k < n) → (ps : List ℕ) (from next : ℕ) → AreSubtrees Is ps from next → from + length ps ≤ next
 siblings_end Is ends [] from next h = omega arith
 siblings_end Is ends (p ∷ ps) from next h =
     let first = ends p h.1.0 h.1.1 in
@@ -26,7 +26,7 @@ siblings_end Is ends (p ∷ ps) from next h =
     omega (arith, h.0)
 
 -- a subtree ends behind its root
-subtree_end : (d : ℕ) (tree : Tree) (k next : ℕ) → IsSubtree d tree k next → k < next
+pub subtree_end : (d : ℕ) (tree : Tree) (k next : ℕ) → IsSubtree d tree k next → k < next
 unfolding IsSubtree
 subtree_end zero tree k next h = absurd h
 subtree_end (suc d) tree k next h =
@@ -55,7 +55,7 @@ one_part ps inner most h =
     let one : length (take 1 ps) ≤ 1 = omega (arith, length-take 1 ps) in
     omega (arith, mul-le-mul_right most one)
 
-row_small : (form : Form) (ps : List ℕ) (n inner most : ℕ) → n ≤ 512 → 1 ≤ most → length ps ≤ 128 → inner ≤ length (outside_parts form ps) * most → procs_row form n inner ≤ 514 * most
+row_small : (form : Form) (ps : List ℕ) (n inner most : ℕ) → n ≤ 512 → 1 ≤ most → length ps ≤ 128 → inner ≤ length (outside_parts form ps) * most → procs_row form n inner ≤ 1024 * most
 row_small Seq ps n inner most count some few h = omega arith
 row_small Comp ps n inner most count some few h = omega arith
 row_small Pipe ps n inner most count some few h = omega (arith, mul-le-mul_right most few)
@@ -65,7 +65,7 @@ row_small (Reduce w len elem) ps n inner most count some few h = grind (arith, n
 row_small (Loop turns tokens) ps n inner most count some few h = omega (arith, one_part ps inner most h)
 
 -- a subtree with at most 512 workers a node has few processes
-pub procs_by-small : (tree : Tree) (count : ℕ → ℕ) → ((k : ℕ) → count k ≤ 512) → (d k next : ℕ) → IsSubtree d tree k next → next ≤ 128 → procs_by tree count d k ≤ 514 ^ d
+pub procs_by-small : (tree : Tree) (count : ℕ → ℕ) → ((k : ℕ) → count k ≤ 512) → (d k next : ℕ) → IsSubtree d tree k next → next ≤ 128 → procs_by tree count d k ≤ 1024 ^ d
 unfolding IsSubtree
 procs_by-small tree count small zero k next h few = absurd h
 procs_by-small tree count small (suc d) k next h few =
@@ -75,11 +75,11 @@ procs_by-small tree count small (suc d) k next h few =
     let parts = (node_at tree k).parts in
     let below : ℕ → ℕ = procs_by tree count d in
     let ends = siblings_end (IsSubtree d tree) (subtree_end d tree) parts (k + 1) next h.1 in
-    let each = siblings_small d tree below (514 ^ d) (procs_by-small tree count small d) parts (k + 1) next h.1 few in
-    let inner = sum_by-le below (514 ^ d) (outside_parts form parts) (All-outside_parts (λ p. below p ≤ 514 ^ d) form parts each) in
-    let one : 1 ≤ 514 ^ d = one-le-pow d 514 (omega arith) in
-    rw (procs_by-step tree count (suc d) k some, e, pow-succ' 514 d)
-    (row_small form parts (count k) (sum_by below (outside_parts form parts)) (514 ^ d) (small k) one (omega arith) inner)
+    let each = siblings_small d tree below (1024 ^ d) (procs_by-small tree count small d) parts (k + 1) next h.1 few in
+    let inner = sum_by-le below (1024 ^ d) (outside_parts form parts) (All-outside_parts (λ p. below p ≤ 1024 ^ d) form parts each) in
+    let one : 1 ≤ 1024 ^ d = one-le-pow d 1024 (omega arith) in
+    rw (procs_by-step tree count (suc d) k some, e, pow-succ' 1024 d)
+    (row_small form parts (count k) (sum_by below (outside_parts form parts)) (1024 ^ d) (small k) one (omega arith) inner)
 
 siblings_mono : (Is Js : ℕ → ℕ → Type 0) → ((k n : ℕ) → Is k n → Js k n) → (ps : List ℕ) (from next : ℕ) → AreSubtrees Is ps from next → AreSubtrees Js ps from next
 siblings_mono Is Js more [] from next h = h
@@ -107,7 +107,7 @@ in_siblings d deeper tree node from_root each (p ∷ ps) from next h few inside 
       | inr later ↦ in_siblings d deeper tree node from_root each ps h.1.0 next h.1.2 few later
     ]
 
-from_outside_parts : (f : ℕ → List ℕ) (form : Form) (ps : List ℕ) (x : ℕ) → Contains (flat_map f (outside_parts form ps)) x → Contains (flat_map f ps) x
+pub from_outside_parts : (f : ℕ → List ℕ) (form : Form) (ps : List ℕ) (x : ℕ) → Contains (flat_map f (outside_parts form ps)) x → Contains (flat_map f ps) x
 from_outside_parts f Seq ps x h = absurd (Contains-nil x h)
 from_outside_parts f Comp ps x h = absurd (Contains-nil x h)
 from_outside_parts f Pipe ps x h = h

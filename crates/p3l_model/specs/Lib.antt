@@ -1,3 +1,9 @@
 pub mod Fitted
 pub mod Search
+pub mod Service
+pub mod Timed
+pub mod NodeCost
+pub mod Costed
+pub mod Least
+pub mod Optimal
 pub mod laws

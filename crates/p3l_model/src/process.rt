@@ -1,10 +1,10 @@
 // How many processes a tree has.
 
-ghost use Rattle.std.specs.Prelude.{◌≡◌, ◌<◌, ◌^◌};
+ghost use Rattle.std.specs.Prelude.{◌≡◌, ◌≤◌, ◌^◌};
 ghost use Rattle.std.specs.List.{Contains};
 ghost use Rattle.p3l_skel.specs.Counts.{HasLawfulCounts, outside, count_of};
 ghost use Rattle.p3l_skel.specs.Lawful.{IsLawfulTree};
-ghost use Rattle.p3l_skel.specs.Numbers.{flat_procs, procs, procs_by, procs_row};
+ghost use Rattle.p3l_skel.specs.Numbers.{joined_procs, procs, procs_by, procs_row};
 ghost use Rattle.p3l_model.specs.Fitted.{fitted};
 
 use crate::workers::workers;
@@ -19,7 +19,7 @@ pub fn procs(tree: &Tree, counts: &Counts, node: u32) -> u64
     requires counts { HasLawfulCounts tree.now counts.now.list }
     requires outside { Contains (outside tree.now) node }
     ensures number { result ≡ procs tree.now counts.now.list node }
-    ensures small { result < 2 ^ 55 }
+    ensures small { result ≤ 2 ^ 60 }
 {
     procs_from(tree, counts, NESTING, node)
 }
@@ -41,8 +41,9 @@ fn procs_from(tree: &Tree, counts: &Counts, levels: u32, number: u32) -> u64
     procs_over(&node.form, workers(tree, counts, number), inner)
 }
 
-// The processes of a node of this form, where its parts have `inner` in all.
-fn procs_over(form: &Form, workers: u32, inner: u64) -> u64
+/// The processes of a node of this form with so many workers, where its parts outside units have
+/// `inner` in all, as far as they fit.
+pub fn procs_over(form: &Form, workers: u32, inner: u64) -> u64
     ensures { result ≡ fitted (procs_row form.now workers inner) }
 {
     match form {
@@ -56,14 +57,14 @@ fn procs_over(form: &Form, workers: u32, inner: u64) -> u64
     }
 }
 
-// The processes of a reduce: one that folds the whole, or one for each segment and two that split
-// and gather.
+// The processes of a reduce: one that folds the whole, or one for each segment, one that splits, and
+// the others that join the segments' results two by two.
 fn reduce_procs(segments: u32) -> u64
-    ensures { result ≡ flat_procs segments }
+    ensures { result ≡ joined_procs segments }
 {
     if segments == 1 {
         1
     } else {
-        segments as u64 + 2
+        2 * segments as u64
     }
 }

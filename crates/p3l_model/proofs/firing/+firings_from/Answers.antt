@@ -1,10 +1,10 @@
 use Rattle.std.proofs.Common.{◌≡◌, ◌-◌, ◌<◌, ℕ, sum_by, arith, refl}
 use Rattle.std.proofs.lemmas.List.{take_all}
 use Rattle.p3l_skel.specs.Counts.{outside_parts, count_of}
-use Rattle.p3l_skel.specs.Numbers.{firings_by, flat_firings}
-use Rattle.p3l_model.specs.Fitted.{fitted}
-use Rattle.p3l_model.proofs.Below.{firings_by-zero, firings_by-step, firings_by-past}
-use Rattle.p3l_model.proofs.Fit.{firings_row-fitted}
+use Rattle.p3l_skel.specs.Numbers.{firings_by, joined_firings}
+use Rattle.p3l_skel.specs.Work.{capped}
+use Rattle.p3l_skel.proofs.Below.{firings_by-zero, firings_by-step, firings_by-past}
+use Rattle.p3l_skel.proofs.Capped.{firings_row-capped}
 use Rattle.p3l_model.proofs.firing.+firings_from.Goals as goal
 
 pub returns-then-levels-eq0 : goal.returns-then-levels-eq0
@@ -13,14 +13,14 @@ returns-then-levels-eq0 t c = rw (c.if-levels-eq0.true, firings_by-zero) refl
 pub returns-in_default : goal.returns-in_default
 returns-in_default t c =
     let some : 0 < c.args.levels = omega arith in
-    rw (firings_by-past flat_firings c.args.tree.now (count_of c.args.tree.now c.args.counts.now.list) c.args.levels c.args.number some c.in_default.ensures.past) refl
+    rw (firings_by-past joined_firings c.args.tree.now (count_of c.args.tree.now c.args.counts.now.list) c.args.levels c.args.number some c.in_default.ensures.past) refl
 
 pub returns : goal.returns
 returns t c =
     let some : 0 < c.args.levels = omega arith in
     let count : ℕ → ℕ = count_of c.args.tree.now c.args.counts.now.list in
-    let below : ℕ → ℕ = firings_by flat_firings c.args.tree.now count (c.args.levels - 1) in
-    let all : c.loop-part.inner ≡ fitted (sum_by below (outside_parts c.in-Some.node.now.form c.in-Some.node.now.parts)) =
+    let below : ℕ → ℕ = firings_by joined_firings c.args.tree.now count (c.args.levels - 1) in
+    let all : c.loop-part.inner ≡ capped (sum_by below (outside_parts c.in-Some.node.now.form c.in-Some.node.now.parts)) =
     rw (← c.outside_parts-part-items.ensures, ← take_all c.loop-part.part-index c.outside_parts-part-items.result.now c.loop-part-test.false) c.loop-part.invariant in
-    rw (firings_by-step flat_firings c.args.tree.now count c.args.levels c.args.number some, ← c.in-Some.ensures.found, c.firings_over.ensures, all, c.workers.ensures)
-    (firings_row-fitted flat_firings c.in-Some.node.now.form (count c.args.number) _)
+    rw (firings_by-step joined_firings c.args.tree.now count c.args.levels c.args.number some, ← c.in-Some.ensures.found, c.firings_over.ensures, all, c.workers-segments.ensures)
+    (firings_row-capped joined_firings c.in-Some.node.now.form (count c.args.number) _)

@@ -3,7 +3,7 @@ use Rattle.std.specs.List.{Contains, flat_map}
 use Rattle.std.proofs.lemmas.List.{take_all}
 use Rattle.p3l_skel.specs.declared.tree.Tree.{Tree}
 use Rattle.p3l_skel.specs.Counts.{outside_from}
-use Rattle.p3l_model.proofs.Below.{outside_from-zero, outside_from-step, outside_from-past}
+use Rattle.p3l_skel.proofs.Below.{outside_from-zero, outside_from-step, outside_from-past}
 use Rattle.p3l_model.proofs.Members.{Contains-cons_cases, Contains-nil, Contains-head, Contains-tail, Contains-flat_map, Contains-flat_map_more}
 use Rattle.p3l_model.proofs.outside.+is_outside_from.Goals as goal
 

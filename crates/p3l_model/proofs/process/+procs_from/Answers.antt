@@ -3,7 +3,7 @@ use Rattle.std.proofs.lemmas.List.{take_all}
 use Rattle.p3l_skel.specs.Counts.{outside_parts, count_of}
 use Rattle.p3l_skel.specs.Numbers.{procs_by}
 use Rattle.p3l_model.specs.Fitted.{fitted}
-use Rattle.p3l_model.proofs.Below.{procs_by-zero, procs_by-step, procs_by-past}
+use Rattle.p3l_skel.proofs.Below.{procs_by-zero, procs_by-step, procs_by-past}
 use Rattle.p3l_model.proofs.Fit.{procs_row-fitted}
 use Rattle.p3l_model.proofs.process.+procs_from.Goals as goal
 

@@ -6,7 +6,7 @@ use Rattle.p3l_model.proofs.Nested.{outside_roots, procs_by-small}
 use Rattle.p3l_model.proofs.process.procs.Goals as goal
 
 -- the node's processes are few
-few : (c : goal.After-procs_from) → procs_by c.args.tree.now (count_of c.args.tree.now c.args.counts.now.list) 6 c.args.node ≤ 514 ^ 6
+few : (c : goal.After-procs_from) → procs_by c.args.tree.now (count_of c.args.tree.now c.args.counts.now.list) 6 c.args.node ≤ 1024 ^ 6
 few c =
     let tree = c.args.tree.now in
     let counts = c.args.counts.now.list in
