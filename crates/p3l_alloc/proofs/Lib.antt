@@ -1,0 +1,6 @@
+pub mod Added
+pub mod Chosen
+pub mod Fewest
+pub mod First
+pub mod Rows
+pub mod Soonest

@@ -1,0 +1,5 @@
+pub mod Chosen
+pub mod Need
+pub mod Soonest
+pub mod Table
+pub mod Walk

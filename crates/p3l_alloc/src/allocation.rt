@@ -1,0 +1,85 @@
+// The best numbers of workers.
+
+ghost use Rattle.std.specs.Prelude.{◌≡◌, ◌≤◌, IfOk, IfErr};
+ghost use Rattle.p3l_skel.specs.Lawful.{IsLawfulTree};
+ghost use Rattle.p3l_skel.specs.Numbers.{procs};
+ghost use Rattle.p3l_cost.specs.Costs.{AreCostsOf};
+ghost use Rattle.p3l_model.specs.Optimal.{IsChosen};
+ghost use Rattle.p3l_model.specs.Service.{service};
+ghost use Rattle.p3l_alloc.specs.Chosen.{IsRefused};
+
+use crate::entry::soonest;
+use crate::need::least_procs;
+use crate::table::{row_in, table};
+use crate::walk::{first_counts, first_within};
+use p3l_base::{List, NoMemory};
+use p3l_cost::Costs;
+use p3l_model::NEVER;
+use p3l_skel::tree::NESTING;
+use p3l_skel::{Counts, Tree};
+use std::alloc::Global;
+
+/// Numbers of workers, with their service time and their processes.
+#[derive(Debug, Drop)]
+pub struct Choice {
+    pub counts: Counts,
+    pub service: u128,
+    pub used: u32,
+}
+
+/// Why there is no choice.
+#[derive(Clone, Copy, Debug, Drop, PartialEq, Eq)]
+pub enum AllocRefusal {
+    /// No lawful numbers fit the processors; the least number of processes of any is `need`.
+    TooFew { need: u64 },
+    NoMemory,
+}
+
+impl From<NoMemory> for AllocRefusal {
+    ghost use Rattle.std.specs.Prelude.{◌≡◌};
+    ghost use Rattle.p3l_alloc.specs.declared.allocation.AllocRefusal.TheVariants as refusal;
+
+    ghost from_gives = { λ _ refused. refused ≡ refusal.NoMemory };
+
+    fn from(_no_memory: NoMemory) -> AllocRefusal {
+        AllocRefusal::NoMemory
+    }
+}
+
+/// The best numbers of workers for so many processors: those with the least service time, of these
+/// those with the fewest processes, and of these the first in preorder.
+pub fn choose(
+    alloc: Global,
+    tree: &Tree,
+    costs: &Costs,
+    processors: u32,
+) -> Result<Choice, AllocRefusal>
+    requires tree { IsLawfulTree tree.now }
+    requires costs { AreCostsOf tree.now costs.now }
+    requires some { 1 ≤ processors }
+    requires few { processors ≤ 512 }
+    ensures chosen { IfOk result (λ choice. IsChosen tree.now costs.now processors choice.counts.list) }
+    ensures service { IfOk result (λ choice. choice.service ≡ service tree.now costs.now choice.counts.list 0) }
+    ensures used { IfOk result (λ choice. choice.used ≡ procs tree.now choice.counts.list 0) }
+    ensures refused { IfErr result (IsRefused tree.now processors) }
+{
+    let rows = table(alloc, tree, costs, processors)?;
+    let rows = rows.as_slice();
+    let row = row_in(tree, rows, 0);
+    let service = soonest(row, processors);
+    if service >= NEVER {
+        return Err(AllocRefusal::TooFew {
+            need: least_procs(tree),
+        });
+    }
+    let fewest = first_within(row, service) as u32;
+    let mut list = List::new(alloc);
+    let used = first_counts(
+        tree, costs, rows, processors, NESTING, 0, service, fewest, &mut list,
+    )?;
+    Ok(Choice {
+        counts: Counts { list },
+        service,
+        used,
+    })
+}

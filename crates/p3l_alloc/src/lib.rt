@@ -1,0 +1,14 @@
+//! The best numbers of workers for so many processors, by the cost model.
+//!
+//! A table holds, for each node of the tree and each number of processes, the soonest service time
+//! that the node can have within them. It is made from the last node to the first, so that a node's
+//! parts come before it. A walk down the tree then takes the first counts that reach the root's.
+#![tactic(auto)]
+
+pub mod allocation;
+mod entry;
+mod need;
+mod table;
+mod walk;
+
+pub use allocation::{AllocRefusal, Choice, choose};
