@@ -1,0 +1,8 @@
+use Rattle.p3l_firing.proofs.RowLaws.{fitting_first, fitting_fired}
+use Rattle.p3l_firing.proofs.laws.every_firing_keeps_words_and_tags.Goals as goal
+
+pub returns-clause-first : goal.returns-clause-first
+returns-clause-first c = fitting_first
+
+pub returns-clause-fired : goal.returns-clause-fired
+returns-clause-fired c = λ tree leaf net typed s p gives fit can. fitting_fired tree leaf gives net typed s fit p can

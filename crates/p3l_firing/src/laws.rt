@@ -1,0 +1,98 @@
+// Laws of all runs: each is the contract of a function that does nothing.
+
+ghost use Rattle.std.specs.Prelude.{◌≡◌, ℕ, ℤ, suc, ◌+◌, ◌*◌, ◌<◌, ◌≤◌, List, [], ◌∷◌, ◌++◌, ◌⊎◌, Some, None, true, length};
+ghost use Rattle.std.specs.List.{AllByRecursion};
+ghost use Rattle.p3l_skel.specs.declared.tree.Tree.{Tree};
+ghost use Rattle.p3l_skel.specs.declared.tree.Form.TheVariants.{Seq};
+ghost use Rattle.p3l_skel.specs.Item.{meaning};
+ghost use Rattle.p3l_skel.specs.Lawful.{IsLawfulTree};
+ghost use Rattle.p3l_skel.specs.Numbers.{firings};
+ghost use Rattle.p3l_skel.specs.Tree.{node_at, GivesOuts};
+ghost use Rattle.p3l_firing.specs.declared.net.Net.{Net};
+ghost use Rattle.p3l_firing.specs.Carried.{Carry, HaveInWords, IsCarried};
+ghost use Rattle.p3l_firing.specs.Choice.{Emptiest, Full, FirstDue, NoneDue};
+ghost use Rattle.p3l_firing.specs.Examples.{HandValues};
+ghost use Rattle.p3l_firing.specs.Fire.{IsStuck, can_fire, fire};
+ghost use Rattle.p3l_firing.specs.Nodes.{Leaf};
+ghost use Rattle.p3l_firing.specs.Outcomes.{IsPrefixOf};
+ghost use Rattle.p3l_firing.specs.RoundRobin.{after, next_of, round_robin};
+ghost use Rattle.p3l_firing.specs.Run.{Course, after_picks, picked, run};
+ghost use Rattle.p3l_firing.specs.Single.{unit_net};
+ghost use Rattle.p3l_firing.specs.State.{State, first_state};
+ghost use Rattle.p3l_firing.specs.Typed.{IsTyped, IsFitting};
+ghost use Rattle.p3l_firing.specs.kinds.Collect.{due_in};
+ghost use Rattle.p3l_firing.specs.kinds.Emit.{emptiest};
+
+/// An emit chooses the first of the channels with room that have the fewest tokens, and a collect
+/// the first whose first token has the number that is due.
+pub fn channels_are_chosen()
+    ensures emit { (net : Net) (s : State) (cs : List ℕ)
+        → Emptiest net s cs (emptiest net s cs) ⊎ Full net s cs (emptiest net s cs) }
+    ensures collect { (s : State) (n : ℕ) (cs : List ℕ)
+        → FirstDue s n cs (due_in s n cs) ⊎ NoneDue s n cs (due_in s n cs) }
+{}
+
+/// In a net that is carried, whatever the items, of the root's in words, and the picks: what was emitted begins the meaning
+/// of the items, and is all of it where nothing can fire; no more items are sent than there are, and
+/// the net fires at most so many times for each item sent. The round robin ends where nothing can
+/// fire.
+pub fn a_carried_net_means_its_items()
+    ensures begins { (tree : Tree) (leaf : Leaf) (net : Net) (firings : ℕ) (carry : Carry) (items : List (List ℤ)) (picks : List ℕ)
+        → IsCarried tree leaf net firings carry → HaveInWords tree items
+        → IsPrefixOf (run tree leaf net items picks).state.emitted (meaning tree leaf items) }
+    ensures finished { (tree : Tree) (leaf : Leaf) (net : Net) (firings : ℕ) (carry : Carry) (items : List (List ℤ)) (picks : List ℕ)
+        → IsCarried tree leaf net firings carry → HaveInWords tree items → IsStuck tree net (run tree leaf net items picks).state
+        → (run tree leaf net items picks).state.emitted ≡ meaning tree leaf items }
+    ensures bounded { (tree : Tree) (leaf : Leaf) (net : Net) (firings : ℕ) (carry : Carry) (items : List (List ℤ)) (picks : List ℕ)
+        → IsCarried tree leaf net firings carry → HaveInWords tree items
+        → (run tree leaf net items picks).fired ≤ firings * (run tree leaf net items picks).state.sent }
+    ensures sent { (tree : Tree) (leaf : Leaf) (net : Net) (firings : ℕ) (carry : Carry) (items : List (List ℤ)) (picks : List ℕ)
+        → IsCarried tree leaf net firings carry → HaveInWords tree items
+        → (run tree leaf net items picks).state.sent ≤ length items }
+    ensures ends { (tree : Tree) (leaf : Leaf) (net : Net) (firings : ℕ) (carry : Carry) (items : List (List ℤ))
+        → IsCarried tree leaf net firings carry → HaveInWords tree items → 0 < length net.procs
+        → IsStuck tree net (run tree leaf net items
+        (round_robin tree leaf net (firings * length items) (first_state net items) 0)).state }
+{}
+
+/// In a typed net every firing keeps the words, the tags and the room of all tokens: those in channels
+/// are of their channel's width and no more than it holds, and those that a process keeps fit it.
+pub fn every_firing_keeps_words_and_tags()
+    ensures first { (tree : Tree) (net : Net) (typed : IsTyped tree net) (items : List (List ℤ))
+        → AllByRecursion (λ words. length words ≡ (node_at tree 0).ins) items
+        → IsFitting tree net typed.widths (first_state net items) }
+    ensures fired { (tree : Tree) (leaf : Leaf) (net : Net) (typed : IsTyped tree net) (s : State) (p : ℕ)
+        → GivesOuts tree leaf → IsFitting tree net typed.widths s → can_fire tree net s p ≡ true
+        → IsFitting tree net typed.widths (fire tree leaf net s p) }
+{}
+
+/// A run goes pick by pick, and so does the round robin, of which no pick is idle.
+pub fn runs_go_pick_by_pick()
+    ensures more { (tree : Tree) (leaf : Leaf) (net : Net) (c : Course) (picks : List ℕ) (p : ℕ)
+        → after_picks tree leaf net c (picks ++ p ∷ []) ≡ picked tree leaf net (after_picks tree leaf net c picks) p }
+    ensures next { (tree : Tree) (leaf : Leaf) (net : Net) (most : ℕ) (s : State) (from p : ℕ)
+        → next_of tree net s from ≡ Some p
+        → round_robin tree leaf net (suc most) s from ≡ p ∷ round_robin tree leaf net most (fire tree leaf net s p) (after net p) }
+    ensures end { (tree : Tree) (leaf : Leaf) (net : Net) (most : ℕ) (s : State) (from : ℕ)
+        → next_of tree net s from ≡ None → round_robin tree leaf net most s from ≡ [] }
+    ensures busy { (tree : Tree) (leaf : Leaf) (net : Net) (items : List (List ℤ)) (most : ℕ)
+        → (run tree leaf net items (round_robin tree leaf net most (first_state net items) 0)).idle ≡ 0 }
+{}
+
+/// The net of one unit is typed for each lawful tree whose root is a `seq` node.
+pub fn the_net_of_one_unit_is_typed()
+    ensures { (tree : Tree) (cap : ℕ) → 0 < cap → IsLawfulTree tree → 0 < length tree.nodes → (node_at tree 0).form ≡ Seq
+        → IsTyped tree (unit_net cap) }
+{}
+
+/// The net of one unit is carried: so all its runs mean their items, with as many firings for an item
+/// as its tree has.
+pub fn the_net_of_one_unit_is_carried()
+    ensures { (tree : Tree) (leaf : Leaf) (cap : ℕ) (counts : List ℕ) → 0 < cap → (node_at tree 0).form ≡ Seq
+        → (carry : Carry) × IsCarried tree leaf (unit_net cap) (firings tree counts) carry }
+{}
+
+/// The nets that were set up by hand run as was worked out by hand.
+pub fn gives_hand_values()
+    ensures { HandValues }
+{}

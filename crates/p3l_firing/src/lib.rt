@@ -1,0 +1,16 @@
+//! Nets of processes and channels, their states, and the firings that lead from state to state: the definitions, and the laws
+//! of all runs.
+#![tactic(auto)]
+
+pub mod laws;
+pub mod net;
+pub mod process;
+pub mod single;
+mod tags;
+pub mod token;
+
+pub use net::{Chan, Net};
+pub use process::{Proc, ProcKind};
+pub use single::unit_net;
+pub use tags::{MOST_TAGS, Tags};
+pub use token::{Fired, Token};

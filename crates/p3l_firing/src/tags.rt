@@ -1,0 +1,74 @@
+// Tags of tokens.
+
+ghost use Rattle.std.specs.Prelude.{◌≡◌, ◌<◌, ◌≤◌, [], ◌∷◌, length};
+ghost use Rattle.p3l_firing.specs.Token.{most_tags, first_tag, later_tags};
+
+use arrayvec::ArrayVec;
+use std::marker::Model;
+
+/// The most tags of a token: two for each level of nodes that may stand one in another.
+pub const MOST_TAGS: usize = 12;
+
+/// The tags of a token, which contracts see as a list from the newest to the oldest. They lie in the
+/// token itself, so that a tag more takes no memory.
+#[derive(Debug, Drop)]
+pub struct Tags {
+    items: ArrayVec<u64, 12>,
+}
+
+impl Model for Tags {
+    ghost use Rattle.std.specs.Prelude.{List, ℕ, reverse};
+
+    ghost Value = { List ℕ };
+
+    ghost view = { λ it. reverse it.items.items };
+}
+
+impl Tags {
+    /// No tags.
+    pub fn new() -> Tags
+        ensures { result ≡ [] }
+    {
+        Tags {
+            items: ArrayVec::new(),
+        }
+    }
+
+    /// Adds a tag.
+    pub fn add(&mut self, tag: u64)
+        requires { length self.old < 12 }
+        ensures { self.new ≡ tag ∷ self.old }
+    {
+        self.items.push(tag);
+    }
+
+    /// The same tags.
+    pub fn copy(&self) -> Tags
+        ensures { result ≡ self.now }
+    {
+        let mut items = ArrayVec::new();
+        for tag in self.items.as_slice() {
+            items.push(*tag);
+        }
+        Tags { items }
+    }
+
+    /// The newest tag, 0 if there is none.
+    pub fn newest(&self) -> u64
+        ensures { result ≡ first_tag self.now }
+    {
+        let items = self.items.as_slice();
+        if items.len() == 0 {
+            0
+        } else {
+            items[items.len() - 1]
+        }
+    }
+
+    /// Drops the newest tag, if there is one.
+    pub fn drop_newest(&mut self)
+        ensures { self.new ≡ later_tags self.old }
+    {
+        let _newest = self.items.pop();
+    }
+}
