@@ -1,27 +1,37 @@
 -- A machine whose empty inbox is filled before each pick goes as the run on all the items.
-use Rattle.std.proofs.Common.{◌≡◌, ℕ, ℤ, ◌+◌, zero, suc, true, false, List, [], ◌∷◌, ◌++◌, Option, Some, None, refl, sym, ap, ◌∙◌, subst}
-use Rattle.std.specs.Option.{option_to_list, option_map_or}
+use Rattle.std.proofs.Common.{◌≡◌, ℕ, ℤ, ◌+◌, true, false, List, [], ◌∷◌, ◌++◌, Option, Some, None, refl, sym, length, ap, ap₂, ◌∙◌, subst}
+use Rattle.std.specs.Option.{option_to_list}
 use Rattle.std.proofs.lemmas.Bool.{cond-true, cond-false}
 use Rattle.p3l_base.specs.declared.outcome.Outcome.{Outcome}
 use Rattle.p3l_skel.specs.declared.tree.Tree.{Tree}
-use Rattle.p3l_net.specs.declared.net.Net.{Net}
-use Rattle.p3l_net.specs.Token.{has_trap}
-use Rattle.p3l_net.specs.State.{State, first_state, fresh}
-use Rattle.p3l_net.specs.Fire.{can_fire, fire}
-use Rattle.p3l_net.specs.Run.{Course, course_from, picked, after_picks}
-use Rattle.p3l_net.specs.RoundRobin.{after, next_of, round_robin}
+use Rattle.p3l_firing.specs.declared.net.Net.{Net}
+use Rattle.p3l_firing.specs.Token.{has_trap}
+use Rattle.p3l_firing.specs.State.{State, first_state, own_at}
+use Rattle.p3l_net.specs.Channel.{tokens_at}
+use Rattle.p3l_firing.specs.Fire.{can_fire, fire}
+use Rattle.p3l_firing.specs.Run.{Course, course_from, picked}
+use Rattle.p3l_firing.specs.RoundRobin.{next_of}
 use Rattle.p3l_net.specs.Machine.{Seen, started, Fires, can_step, state_of}
-use Rattle.p3l_net.specs.Offered.{with_rest, IsFilled, Follows, HasFilledInbox}
-use Rattle.p3l_net.proofs.Queues.{tokens-opened}
+use Rattle.p3l_firing.specs.State.{with_rest, IsFilled}
+use Rattle.p3l_net.specs.Offered.{Follows, HasFilledInbox}
+use Rattle.p3l_net.proofs.Queues.{tokens-opened, owns-first}
+use Rattle.p3l_firing.specs.Nodes.{Leaf}
 use Rattle.p3l_net.proofs.Emitted.{can_step-state}
-use Rattle.p3l_net.proofs.OfferedLaw.{can_fire-rest, next_of-rest, fire-rest, offered}
+use Rattle.p3l_firing.proofs.RowLaws.{can_fire-rest, next_of-rest, fire-rest}
+
+-- an item that is offered to an empty inbox was the next of the rest
+offered : (m : Seen) (emitted : List Outcome) (item : List ℤ) (rest : List (List ℤ)) → m.inbox ≡ None → with_rest (state_of (record m { inbox = Some item }) emitted) rest ≡ with_rest (state_of m emitted) (item ∷ rest)
+unfolding with_rest state_of
+offered m emitted item rest none =
+    let waits : Option (List ℤ) → State = λ o. record { tokens = tokens_at m.queues; own = own_at m.owns; unsent = option_to_list o ++ item ∷ rest; sent = m.sent; emitted = emitted } in
+    ap waits (sym none)
 
 -- nothing has fired, and nothing was offered
 pub follows_started : (tree : Tree) (net : Net) (items : List (List ℤ)) → Follows (started tree net) [] items (course_from (first_state net items))
 unfolding with_rest state_of first_state has_trap
 follows_started tree net items =
-    let with : _ → State = λ f. record { tokens = f; own = λ _. fresh; unsent = items; sent = 0; emitted = [] } in
-    record { state = ap with (tokens-opened net); fired = refl; emitted = record { count = refl; trap = refl } }
+    let with : _ → _ → State = λ f g. record { tokens = f; own = g; unsent = items; sent = 0; emitted = [] } in
+    record { state = ap₂ with (tokens-opened net) (owns-first (length net.procs)); fired = refl; emitted = record { count = refl; trap = refl } }
 
 module _ {m : Seen} {emitted : List Outcome} {c : Course} where
   -- the next item is offered
@@ -46,7 +56,7 @@ module _ {m : Seen} {emitted : List Outcome} {c : Course} where
     next_follows from = ap (λ s. next_of m.tree m.net s from) (sym f.state) ∙ next_of-rest m.tree m.net (state_of m emitted) rest filled_state from
 
     -- a firing follows
-    pub follows_fired : {leaf : ℕ → List ℤ → Outcome} {new : Seen} {p : ℕ} {outcome : Option Outcome} → can_step m p ≡ true → Fires leaf m new p outcome → Follows new (emitted ++ option_to_list outcome) rest (picked m.tree leaf m.net c p)
+    pub follows_fired : {leaf : Leaf} {new : Seen} {p : ℕ} {outcome : Option Outcome} → can_step m p ≡ true → Fires leaf m new p outcome → Follows new (emitted ++ option_to_list outcome) rest (picked m.tree leaf m.net c p)
     unfolding picked
     follows_fired {leaf = leaf} {new = new} {p = p} {outcome = outcome} can fires =
         let here : can_fire m.tree m.net c.state p ≡ true = can_fire_follows p ∙ can in
@@ -60,25 +70,9 @@ module _ {m : Seen} {emitted : List Outcome} {c : Course} where
         subst (Follows new (emitted ++ option_to_list outcome) rest) (sym (cond-true _ _ _ here)) followed
 
     -- an idle pick too
-    pub follows_idle : (leaf : ℕ → List ℤ → Outcome) (p : ℕ) → can_step m p ≡ false → Follows m emitted rest (picked m.tree leaf m.net c p)
+    pub follows_idle : (leaf : Leaf) (p : ℕ) → can_step m p ≡ false → Follows m emitted rest (picked m.tree leaf m.net c p)
     unfolding picked
     follows_idle leaf p cannot =
         let here : can_fire m.tree m.net c.state p ≡ false = can_fire_follows p ∙ cannot in
         let waited : Follows m emitted rest (record c { idle = c.idle + 1 }) = record { state = f.state; fired = f.fired; emitted = f.emitted } in
         subst (Follows m emitted rest) (sym (cond-false _ _ _ here)) waited
-
--- RUNS PICK BY PICK
-module _ (tree : Tree) (leaf : ℕ → List ℤ → Outcome) (net : Net) where
-  pub after_picks-more : (c : Course) (picks : List ℕ) (p : ℕ) → after_picks tree leaf net c (picks ++ p ∷ []) ≡ picked tree leaf net (after_picks tree leaf net c picks) p
-  unfolding after_picks
-  after_picks-more c [] p = refl
-  after_picks-more c (q ∷ picks) p = after_picks-more (picked tree leaf net c q) picks p
-
-  pub round_robin-some : (most : ℕ) (s : State) (from p : ℕ) → next_of tree net s from ≡ Some p → round_robin tree leaf net (suc most) s from ≡ p ∷ round_robin tree leaf net most (fire tree leaf net s p) (after net p)
-  unfolding round_robin
-  round_robin-some most s from p h = ap (λ o. option_map_or (λ q. q ∷ round_robin tree leaf net most (fire tree leaf net s q) (after net q)) o []) h
-
-  pub round_robin-none : (most : ℕ) (s : State) (from : ℕ) → next_of tree net s from ≡ None → round_robin tree leaf net most s from ≡ []
-  unfolding round_robin
-  round_robin-none zero s from h = refl
-  round_robin-none (suc most) s from h = ap (λ o. option_map_or (λ q. q ∷ round_robin tree leaf net most (fire tree leaf net s q) (after net q)) o []) h

@@ -1,142 +1,132 @@
--- What a machine knows of the process that stands at a number: its channels, and whether it is ready.
-use Rattle.std.proofs.Common.{◌≡◌, ℕ, ℤ, ◌<◌, Bool, true, false, ◌&&◌, List, [], ◌∷◌, length, Option, Some, None, slice_get, nat_lt, refl, sym, ap, ◌∙◌, subst, arith}
-use Rattle.std.specs.Option.{is_some, option_map, option_to_list}
+-- What is known of the process that stands at a number of a sound machine.
+use Rattle.std.proofs.Common.{◌≡◌, ◌≢◌, ℕ, ◌+◌, ◌^◌, ◌<◌, ◌≤◌, true, List, [], ◌∷◌, length, Some, zero, suc, slice_get, nat_lt, sym, ap, ◌∙◌, subst, arith, length-set}
+use Rattle.std.specs.Option.{option_map}
+use Rattle.std.specs.Result.{OnErr}
+use Rattle.std.proofs.Common.{Result, Ok, Err}
 use Rattle.std.specs.List.{AllByRecursion}
-use Rattle.p3l_net.specs.declared.process.Proc.{Proc}
-use Rattle.p3l_net.specs.declared.process.ProcKind.{ProcKind}
-use Rattle.p3l_net.specs.declared.process.ProcKind.TheVariants.{Source, Sink, Run}
-use Rattle.p3l_net.specs.declared.net.Net.{Net}
-use Rattle.p3l_skel.specs.declared.tree.Tree.{Tree}
-use Rattle.p3l_net.specs.Lists.{has_first}
-use Rattle.p3l_net.specs.Channel.{queue_at, tokens_at}
-use Rattle.p3l_net.specs.State.{Own, State, fresh, has_room}
-use Rattle.p3l_net.specs.Fire.{in_of, out_of, row_can, is_ready}
-use Rattle.p3l_net.specs.Typed.{FitsSource, FitsSink, FitsRun, FitsKind, kind_at}
-use Rattle.p3l_net.specs.Machine.{Seen, IsSound, state_of}
-use Rattle.p3l_net.proofs.Rows.{ready_at}
-use Rattle.p3l_net.proofs.Queues.{queue_count, room_is_cap}
-use Rattle.p3l_net.proofs.Fitting.{all_of_one}
+use Rattle.std.proofs.lemmas.Bool.{ltb-true}
+use Rattle.p3l_firing.specs.declared.process.Proc.{Proc}
+use Rattle.p3l_firing.specs.declared.process.ProcKind.{ProcKind}
+use Rattle.p3l_firing.specs.Lists.{has_first, first_or}
+use Rattle.p3l_firing.specs.Token.{credit}
+use Rattle.p3l_firing.specs.State.{has_room, own_at}
+use Rattle.p3l_firing.specs.Process.{Has, kind_at}
+use Rattle.p3l_firing.specs.Widths.{FitsToken}
+use Rattle.p3l_firing.specs.Fire.{row_can, row_wants_memory, wants_memory, wants_memory_of}
+use Rattle.p3l_firing.specs.Typed.{FitsKind, FitsOwn}
+use Rattle.p3l_firing.proofs.Rows.{ready_at as row_ready, length_when_first}
+use Rattle.p3l_firing.proofs.Places.{all-has, has-each}
+use Rattle.p3l_firing.proofs.Fitting.{all_of_one, all_first}
+use Rattle.p3l_net.specs.Channel.{tokens_at}
+use Rattle.p3l_net.specs.Machine.{Seen, IsSound, Stands, may_want_memory, state_of}
+use Rattle.p3l_net.specs.Steps.{CanTake, CanPut, MayFire, ready_at, room_at, without_first}
+use Rattle.p3l_net.proofs.Queues.{queue_count, room_is_cap, room_after_take, tokens-other-take}
 
--- process p of a machine, opened as m and seen as v, is q
-pub record Stands (m v : Seen) (p : ℕ) (q : Proc) : Type 0 where
-  pub view : m ≡ v
-  pub sound : IsSound m
-  pub stands : slice_get m.net.procs p ≡ Some q
+-- the room of a queue is that of the net's channel
+pub room-seen : (m : Seen) → IsSound m → (c : ℕ) → room_at m c ≡ has_room m.net (state_of m []) c
+unfolding has_room state_of
+room-seen m sound c = ap (λ n. nat_lt (length (tokens_at m.queues c)) n) (room_is_cap m.queues m.net.chans sound.shaped.rooms c)
 
-pub standing : {m v : Seen} {p : ℕ} {q : Proc} → m ≡ v → IsSound m → slice_get v.net.procs p ≡ Some q → Stands m v p q
-standing {p = p} {q = q} view sound h = record { view = view; sound = sound; stands = subst (λ (x : Seen). slice_get x.net.procs p ≡ Some q) (sym view) h }
-
--- a queue has room
-abbrev pub queue_has_room : Seen → ℕ → Bool
-queue_has_room m c = nat_lt (length (tokens_at m.queues c)) (queue_at m.queues c).room
-
-one_long : (xs : List ℕ) (x : ℕ) → xs ≡ x ∷ [] → 0 < length xs
+pub one_long : (xs : List ℕ) (x : ℕ) → xs ≡ x ∷ [] → 0 < length xs
 one_long xs x e = subst (λ ys. 0 < length ys) (sym e) (omega arith)
 
-first_is_some : (o : Option (List ℤ)) → has_first (option_to_list o) ≡ is_some o
-first_is_some None = refl
-first_is_some (Some x) = refl
+pub get_inside : (xs : List Proc) (i : ℕ) (x : Proc) → slice_get xs i ≡ Some x → i < length xs
+get_inside [] i x e = cc
+get_inside (y ∷ ys) zero x e = omega arith
+get_inside (y ∷ ys) (suc i) x e = let r = get_inside ys i x e in omega (arith, r)
 
-pub no_row : (tree : Tree) (net : Net) (s : State) (o : Own) (q : Proc) (k : ProcKind) → (k ≡ Source → ⊥) → (k ≡ Sink → ⊥) → (k ≡ Run → ⊥) → row_can k tree net s o q ≡ false
-unfolding row_can
-no_row tree net s o q Source source sink run = absurd (source refl)
-no_row tree net s o q Sink source sink run = absurd (sink refl)
-no_row tree net s o q Run source sink run = absurd (run refl)
-no_row tree net s o q _ source sink run = refl
+pub standing : {m : Seen} {p : ℕ} {q : Proc} → IsSound m → slice_get m.net.procs p ≡ Some q → Stands m p q
+standing sound stands = record { sound = sound; stands = stands }
 
-module _ {m v : Seen} {p : ℕ} {q : Proc} (h : Stands m v p q) where
-  room_seen : (c : ℕ) → queue_has_room m c ≡ has_room m.net (state_of m []) c
-  unfolding has_room state_of
-  room_seen c = ap (λ n. nat_lt (length (tokens_at m.queues c)) n) (room_is_cap m.queues m.net.chans h.sound.rooms c)
-
-  writes_there : q.outs ≡ out_of q 0 ∷ [] → out_of q 0 < length m.queues
-  writes_there e =
-      let all : AllByRecursion (λ c. c < length m.net.chans) q.outs = all_of_one (λ c. c < length m.net.chans) (λ (x : Proc). x.outs) m.net.procs p q h.stands h.sound.typed.writes in
-      let one : AllByRecursion (λ c. c < length m.net.chans) (out_of q 0 ∷ []) = subst (AllByRecursion (λ c. c < length m.net.chans)) e all in
-      subst (λ n. out_of q 0 < n) (sym (queue_count m.queues m.net.chans h.sound.rooms)) one.0
-
-  reads_there : q.ins ≡ in_of q 0 ∷ [] → in_of q 0 < length m.queues
-  reads_there e =
-      let all : AllByRecursion (λ c. c < length m.net.chans) q.ins = all_of_one (λ c. c < length m.net.chans) (λ (x : Proc). x.ins) m.net.procs p q h.stands h.sound.typed.reads in
-      let one : AllByRecursion (λ c. c < length m.net.chans) (in_of q 0 ∷ []) = subst (AllByRecursion (λ c. c < length m.net.chans)) e all in
-      subst (λ n. in_of q 0 < n) (sym (queue_count m.queues m.net.chans h.sound.rooms)) one.0
-
-  ready_row : is_ready v.tree v.net (state_of v []) p ≡ row_can q.kind m.tree m.net (state_of m []) fresh q
-  unfolding state_of
-  ready_row = subst (λ (x : Seen). is_ready x.tree x.net (state_of x []) p ≡ row_can q.kind m.tree m.net (state_of m []) fresh q) h.view (ready_at m.tree m.net (state_of m []) p q h.stands)
-
-  -- it is of the kind that stands at p
-  pub kind_of : {k : ProcKind} → kind_at v.net p ≡ Some k → q.kind ≡ k
+module _ {m : Seen} {p : ℕ} {q : Proc} (h : Stands m p q) where
+  -- it is of the kind that stands there
+  pub kind_of : {k : ProcKind} → kind_at m.net p ≡ Some k → q.kind ≡ k
   kind_of {k = k} kind =
-      let there : option_map (λ (x : Proc). x.kind) (slice_get m.net.procs p) ≡ Some k = ap (λ (x : Seen). kind_at x.net p) h.view ∙ kind in
-      let same : option_map (λ (x : Proc). x.kind) (Some q) ≡ Some k = ap (option_map (λ (x : Proc). x.kind)) (sym h.stands) ∙ there in
+      let same : option_map (λ (x : Proc). x.kind) (Some q) ≡ Some k = ap (option_map (λ (x : Proc). x.kind)) (sym h.stands) ∙ kind in
       cc
 
-  pub source_fits : q.kind ≡ Source → FitsSource m.tree h.sound.typed.widths q
-  source_fits e = subst (λ k. FitsKind k m.tree h.sound.typed.widths q) e (h.sound.typed.processes p q h.stands)
+  pub fits_as : (k : ProcKind) → q.kind ≡ k → FitsKind k m.tree h.sound.typed.widths q
+  fits_as k e = subst (λ x. FitsKind x m.tree h.sound.typed.widths q) e (h.sound.typed.processes p q h.stands)
 
-  pub sink_fits : q.kind ≡ Sink → FitsSink m.tree h.sound.typed.widths q
-  sink_fits e = subst (λ k. FitsKind k m.tree h.sound.typed.widths q) e (h.sound.typed.processes p q h.stands)
+  pub keeps_as : (k : ProcKind) → q.kind ≡ k → FitsOwn k m.tree h.sound.typed.widths q (own_at m.owns p)
+  unfolding state_of
+  keeps_as k e = subst (λ x. FitsOwn x m.tree h.sound.typed.widths q (own_at m.owns p)) e (h.sound.fitting.owns p q h.stands)
 
-  pub run_fits : q.kind ≡ Run → FitsRun m.tree h.sound.typed.widths q
-  run_fits e = subst (λ k. FitsKind k m.tree h.sound.typed.widths q) e (h.sound.typed.processes p q h.stands)
+  -- its channels are there
+  pub reads_chan : (c : ℕ) → Has q.ins c → c < length m.net.chans
+  reads_chan c has = all-has (λ x. x < length m.net.chans) q.ins (all_of_one (λ x. x < length m.net.chans) (λ (x : Proc). x.ins) m.net.procs p q h.stands h.sound.typed.reads) c has
 
-  -- a source has an out channel, a sink an in channel, and a run both
-  pub source_out : q.kind ≡ Source → 0 < length q.outs
-  source_out e = one_long q.outs _ (source_fits e).outs
+  pub writes_chan : (c : ℕ) → Has q.outs c → c < length m.net.chans
+  writes_chan c has = all-has (λ x. x < length m.net.chans) q.outs (all_of_one (λ x. x < length m.net.chans) (λ (x : Proc). x.outs) m.net.procs p q h.stands h.sound.typed.writes) c has
 
-  pub sink_in : q.kind ≡ Sink → 0 < length q.ins
-  sink_in e = one_long q.ins _ (sink_fits e).ins
+  pub reads_there : (c : ℕ) → Has q.ins c → c < length m.queues
+  reads_there c has = subst (λ n. c < n) (sym (queue_count m.queues m.net.chans h.sound.shaped.rooms)) (reads_chan c has)
 
-  pub run_in : q.kind ≡ Run → 0 < length q.ins
-  run_in e = one_long q.ins _ (run_fits e).ins
+  pub writes_there : (c : ℕ) → Has q.outs c → c < length m.queues
+  writes_there c has = subst (λ n. c < n) (sym (queue_count m.queues m.net.chans h.sound.shaped.rooms)) (writes_chan c has)
 
-  pub run_out : q.kind ≡ Run → 0 < length q.outs
-  run_out e = one_long q.outs _ (run_fits e).outs
+  pub all_reads_there : AllByRecursion (λ c. c < length m.queues) q.ins
+  all_reads_there = has-each q.ins q.ins (λ c has. has) (λ c. c < length m.queues) reads_there
 
-  ready_as : (k : ProcKind) → q.kind ≡ k → is_ready v.tree v.net (state_of v []) p ≡ row_can k m.tree m.net (state_of m []) fresh q
-  ready_as k e = ready_row ∙ ap (λ x. row_can x m.tree m.net (state_of m []) fresh q) e
+  pub all_writes_there : AllByRecursion (λ c. c < length m.queues) q.outs
+  all_writes_there = has-each q.outs q.outs (λ c has. has) (λ c. c < length m.queues) writes_there
 
-  -- a kind without a row is never ready
-  pub never_ready : (q.kind ≡ Source → ⊥) → (q.kind ≡ Sink → ⊥) → (q.kind ≡ Run → ⊥) → is_ready v.tree v.net (state_of v []) p ≡ false
-  never_ready source sink run = ready_row ∙ no_row m.tree m.net (state_of m []) fresh q q.kind source sink run
+  pub own_there : p < length m.owns
+  own_there = subst (λ n. p < n) (sym h.sound.shaped.keeps) (get_inside m.net.procs p q h.stands)
 
-  module _ (o : ℕ) (out : o ≡ out_of q 0) where
-    pub source_out_there : q.kind ≡ Source → o < length m.queues
-    source_out_there e = subst (λ c. c < length m.queues) (sym out) (writes_there (source_fits e).outs)
+  -- whether it is ready is what its row says
+  pub ready_as : (k : ProcKind) → q.kind ≡ k → ready_at m p ≡ row_can k m.tree m.net (state_of m []) (own_at m.owns p) q
+  unfolding state_of
+  ready_as k e = row_ready m.tree m.net (state_of m []) p q h.stands ∙ ap (λ x. row_can x m.tree m.net (state_of m []) (own_at m.owns p) q) e
 
-    pub run_out_there : q.kind ≡ Run → o < length m.queues
-    run_out_there e = subst (λ c. c < length m.queues) (sym out) (writes_there (run_fits e).outs)
+  -- a token can be taken from a channel that it reads, and put into one that it writes
+  pub can_take : (c : ℕ) → Has q.ins c → has_first (tokens_at m.queues c) ≡ true → CanTake m c
+  can_take c has full = record { there = reads_there c has; token = length_when_first (tokens_at m.queues c) full }
 
-    room_there : queue_has_room m o ≡ has_room m.net (state_of m []) (out_of q 0)
-    room_there = ap (queue_has_room m) out ∙ room_seen (out_of q 0)
+  pub can_put : (c : ℕ) → Has q.outs c → has_room m.net (state_of m []) c ≡ true → CanPut m c
+  can_put c has room = record { there = writes_there c has; room = ltb-true _ _ (room-seen m h.sound c ∙ room) }
 
-    pub source_ready : q.kind ≡ Source → is_ready v.tree v.net (state_of v []) p ≡ (is_some m.inbox && queue_has_room m o)
-    unfolding row_can state_of
-    source_ready e = ready_as Source e ∙ ap (λ b. has_first (option_to_list m.inbox) && b) (sym room_there) ∙ ap (λ b. b && queue_has_room m o) (first_is_some m.inbox)
+  -- a first token of a channel fits
+  pub first_fits : (c : ℕ) → has_first (tokens_at m.queues c) ≡ true → FitsToken h.sound.typed.widths c (first_or credit (tokens_at m.queues c))
+  unfolding state_of
+  first_fits c full = all_first (FitsToken h.sound.typed.widths c) credit (tokens_at m.queues c) full (h.sound.fitting.tokens c)
 
-  module _ (i : ℕ) (in_is : i ≡ in_of q 0) where
-    pub sink_in_there : q.kind ≡ Sink → i < length m.queues
-    sink_in_there e = subst (λ c. c < length m.queues) (sym in_is) (reads_there (sink_fits e).ins)
+  -- its number is small enough to be counted
+  pub own_few : m.fired < 2 ^ 63 → (own_at m.owns p).number < 2 ^ 63
+  own_few count = let few = h.sound.shaped.numbers p in omega (arith, few, count)
 
-    pub run_in_there : q.kind ≡ Run → i < length m.queues
-    run_in_there e = subst (λ c. c < length m.queues) (sym in_is) (reads_there (run_fits e).ins)
+  pub own_less : (own_at m.owns p).number + 1 ≤ m.fired + 1
+  own_less = let few = h.sound.shaped.numbers p in omega (arith, few)
 
-    pub sink_ready : q.kind ≡ Sink → is_ready v.tree v.net (state_of v []) p ≡ has_first (tokens_at m.queues i)
-    unfolding row_can state_of
-    sink_ready e = ready_as Sink e ∙ ap (λ c. has_first (tokens_at m.queues c)) (sym in_is)
+-- after a token was taken there is as much room elsewhere, and another channel has its token still
+pub put_after_take : {m : Seen} {c : ℕ} (i : ℕ) → i < length m.queues → CanPut m c → CanPut (without_first m i) c
+put_after_take {m = m} {c = c} i there can = record { there = subst (λ n. c < n) (sym (length-set m.queues i _)) can.there; room = room_after_take m.queues i c there can.room }
 
-    pub run_ready : (o : ℕ) → o ≡ out_of q 0 → q.kind ≡ Run → is_ready v.tree v.net (state_of v []) p ≡ (has_first (tokens_at m.queues i) && queue_has_room m o)
-    unfolding row_can state_of
-    run_ready o out e =
-        ready_as Run e
-        ∙ ap (λ b. has_first (tokens_at m.queues (in_of q 0)) && b) (sym (room_there o out))
-        ∙ ap (λ c. has_first (tokens_at m.queues c) && queue_has_room m o) (sym in_is)
+pub take_after_take : {m : Seen} {c : ℕ} (i : ℕ) → c ≢ i → CanTake m c → CanTake (without_first m i) c
+take_after_take {m = m} {c = c} i apart can = record {
+  there = subst (λ n. c < n) (sym (length-set m.queues i _)) can.there;
+  token = subst (λ ts. 0 < length ts) (sym (tokens-other-take m.queues i c apart)) can.token;
+}
 
--- a test of two parts, by its first part
-module _ (a b : Bool) {ready r : Bool} (e : ready ≡ (a && b)) where
-  pub when_true : a ≡ true → r ≡ b → r ≡ ready
-  when_true h k = k ∙ sym (e ∙ ap (λ x. x && b) h)
+-- of a process that may fire
+module _ {m : Seen} {p : ℕ} {q : Proc} {k : ProcKind} (may : MayFire m p k) (stands : slice_get m.net.procs p ≡ Some q) where
+  pub here : Stands m p q
+  here = standing may.sound stands
 
-  pub when_false : a ≡ false → r ≡ a → r ≡ ready
-  when_false h k = k ∙ h ∙ sym (e ∙ ap (λ x. x && b) h)
+  pub is_kind : q.kind ≡ k
+  is_kind = kind_of here may.is
+
+  pub row_holds : row_can k m.tree m.net (state_of m []) (own_at m.owns p) q ≡ true
+  row_holds = sym (ready_as here k is_kind) ∙ may.ready
+
+-- whether a firing may want memory is what its row says
+pub wants_as : (m : Seen) (p : ℕ) {q : Proc} {k : ProcKind} → slice_get m.net.procs p ≡ Some q → q.kind ≡ k → row_wants_memory k m.net (state_of m []) (own_at m.owns p) q ≡ true → may_want_memory m p ≡ true
+unfolding wants_memory wants_memory_of state_of
+wants_as m p {q = q} {k = k} stands kind wants =
+    ap (λ o. wants_memory_of o m.net (state_of m []) (own_at m.owns p)) stands
+    ∙ ap (λ x. row_wants_memory x m.net (state_of m []) (own_at m.owns p) q) kind ∙ wants
+
+-- what holds anyway holds where a call was refused
+pub on_err : {A E : Type 0} {P : Type 0} (r : Result A E) → P → OnErr r P
+on_err (Ok x) p = tt
+on_err (Err e) p = p

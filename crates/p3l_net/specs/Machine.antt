@@ -1,22 +1,28 @@
 -- What contracts see of a machine, and the state that it is in.
-use Rattle.std.specs.Prelude.{◌≡◌, ℕ, ℤ, ◌+◌, ◌≤◌, List, [], ◌++◌, Bool, false, not, ◌&&◌, Option, None, length, map}
+use Rattle.std.specs.Prelude.{◌≡◌, ℕ, ℤ, ⊤, ◌+◌, ◌≤◌, List, [], ◌++◌, Bool, false, not, ◌&&◌, Option, None, Some, slice_get, length, map, replicate, filter}
+use Rattle.std.specs.List.{range_with_len}
 use Rattle.std.specs.Option.{option_to_list}
 use Rattle.p3l_base.specs.declared.outcome.Outcome.{Outcome}
 use Rattle.p3l_skel.specs.declared.tree.Tree.{Tree}
-use Rattle.p3l_net.specs.declared.net.Chan.{Chan}
-use Rattle.p3l_net.specs.declared.net.Net.{Net}
-use Rattle.p3l_net.specs.Token.{has_trap}
+use Rattle.p3l_firing.specs.declared.net.Chan.{Chan}
+use Rattle.p3l_firing.specs.declared.net.Net.{Net}
+use Rattle.p3l_firing.specs.Token.{has_trap}
 use Rattle.p3l_net.specs.Channel.{Queue, opened, tokens_at}
-use Rattle.p3l_net.specs.State.{State, fresh}
-use Rattle.p3l_net.specs.Fire.{is_ready, fire}
-use Rattle.p3l_net.specs.Typed.{IsTyped, IsFitting}
+use Rattle.p3l_firing.specs.State.{Own, State, fresh, own_at}
+use Rattle.p3l_firing.specs.Nodes.{Leaf}
+use Rattle.p3l_firing.specs.Fire.{is_ready, fire, wants_memory}
+use Rattle.p3l_firing.specs.Typed.{IsTyped, IsFitting}
+use Rattle.p3l_firing.specs.declared.process.Proc.{Proc}
+use Rattle.p3l_firing.specs.declared.process.ProcKind.{ProcKind}
+use Rattle.p3l_firing.specs.declared.process.ProcKind.TheVariants.{Source, Sink, Run, Emit, Collect, Head}
 
--- what contracts see of a machine: the tree and the net that it was started with, the queue of each channel, the item in the
--- inbox, the numbers of firings, of items sent and of outcomes emitted, and whether one of these was a trap
+-- what contracts see of a machine: the tree and the net that it was started with, the queue of each channel, what each
+-- process keeps, the item in the inbox, the numbers of firings, of items sent and of outcomes emitted, and whether one of these was a trap
 pub record Seen : Type 0 where
   pub tree : Tree
   pub net : Net
   pub queues : List Queue
+  pub owns : List Own
   pub inbox : Option (List ℤ)
   pub fired : ℕ
   pub sent : ℕ
@@ -28,7 +34,7 @@ unfoldable pub state_of : Seen → List Outcome → State
 state_of m emitted =
     record {
       tokens = tokens_at m.queues;
-      own = λ _. fresh;
+      own = own_at m.owns;
       unsent = option_to_list m.inbox;
       sent = m.sent;
       emitted = emitted;
@@ -43,6 +49,14 @@ pub record HasEmitted (m : Seen) (emitted : List Outcome) : Type 0 where
 abbrev pub can_step : Seen → ℕ → Bool
 can_step m p = not m.trapped && is_ready m.tree m.net (state_of m []) p
 
+-- a firing of process p of a machine may want memory
+abbrev pub may_want_memory : Seen → ℕ → Bool
+may_want_memory m p = wants_memory m.net (state_of m []) p
+
+-- the processes that can fire, in ascending order
+abbrev pub ready_list : Seen → List ℕ
+ready_list m = filter (can_step m) (range_with_len 0 (length m.net.procs))
+
 -- a machine that was just started
 abbrev pub started : Tree → Net → Seen
 started tree net =
@@ -50,6 +64,7 @@ started tree net =
       tree = tree;
       net = net;
       queues = map opened net.chans;
+      owns = replicate (length net.procs) fresh;
       inbox = None;
       fired = 0;
       sent = 0;
@@ -57,17 +72,42 @@ started tree net =
       trapped = false;
     }
 
--- what every machine keeps: its net is typed, its queues have the room and the tokens that the net asks for, and no more was
--- sent or emitted than fired
-pub record IsSound (m : Seen) : Type 0 where
-  pub typed : IsTyped m.tree m.net
+-- the parts of a machine are as large as its net asks, and no more was sent or emitted than fired, nor counted by a process
+pub record IsShaped (m : Seen) : Type 0 where
   pub rooms : map (λ (q : Queue). q.room) m.queues ≡ map (λ (c : Chan). c.cap) m.net.chans
-  pub fitting : IsFitting m.tree typed.widths (state_of m [])
+  pub keeps : length m.owns ≡ length m.net.procs
+  pub numbers : (p : ℕ) → (own_at m.owns p).number ≤ m.fired
   pub sent : m.sent ≤ m.fired
   pub emitted : m.emitted ≤ m.fired
 
+-- the kinds of processes that a machine fires
+abbrev pub HasRow : ProcKind → Type 0
+HasRow Source = ⊤
+HasRow Sink = ⊤
+HasRow Run = ⊤
+HasRow Emit = ⊤
+HasRow Collect = ⊤
+HasRow Head = ⊤
+HasRow _ = ⊥
+
+-- each process of a net is of such a kind
+abbrev pub HasRows : Net → Type 0
+HasRows net = (p : ℕ) (q : Proc) → slice_get net.procs p ≡ Some q → HasRow q.kind
+
+-- what every machine keeps: its net is typed, and its state fits the net
+pub record IsSound (m : Seen) : Type 0 where
+  pub typed : IsTyped m.tree m.net
+  pub rows : HasRows m.net
+  pub shaped : IsShaped m
+  pub fitting : IsFitting m.tree m.net typed.widths (state_of m [])
+
+-- process p of a sound machine is q
+pub record Stands (m : Seen) (p : ℕ) (q : Proc) : Type 0 where
+  pub sound : IsSound m
+  pub stands : slice_get m.net.procs p ≡ Some q
+
 -- a firing of process p led from the old machine to the new one, and handed out this outcome
-pub record Fires (leaf : ℕ → List ℤ → Outcome) (old new : Seen) (p : ℕ) (outcome : Option Outcome) : Type 0 where
+pub record Fires (leaf : Leaf) (old new : Seen) (p : ℕ) (outcome : Option Outcome) : Type 0 where
   pub tree : new.tree ≡ old.tree
   pub net : new.net ≡ old.net
   pub fired : new.fired ≡ old.fired + 1

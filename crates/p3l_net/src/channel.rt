@@ -1,13 +1,13 @@
-// Channels of the machine: queues of tokens, whose room is taken when they are made.
+// Channels of the machine: rings of tokens, whose room is taken when they are made.
 
 ghost use Rattle.std.specs.Prelude.{◌≡◌, ◌<◌, ◌≤◌, [], ◌∷◌, ◌++◌, length, IfOk, nat_lt};
 ghost use Rattle.p3l_net.specs.Channel.{opened};
-ghost use Rattle.p3l_net.specs.Token.{credit};
-ghost use Rattle.p3l_net.specs.Lists.{has_first, first_or};
+ghost use Rattle.p3l_firing.specs.Token.{credit};
+ghost use Rattle.p3l_firing.specs.Lists.{has_first, first_or};
 
-use crate::net::Chan;
-use crate::token::Token;
+use circular_buffer::HeapCircularBuffer;
 use p3l_base::NoMemory;
+use p3l_firing::{Chan, Token};
 use std::alloc::Global;
 use std::marker::Model;
 
@@ -15,19 +15,15 @@ use std::marker::Model;
 /// may be.
 #[derive(Debug, Drop)]
 pub(crate) struct Channel {
-    tokens: Vec<Token>,
-    cap: u32,
+    ring: HeapCircularBuffer<Token>,
 }
 
 impl Model for Channel {
-    ghost use Rattle.std.specs.Prelude.{◌≤◌, vec_capacity};
     ghost use Rattle.p3l_net.specs.Channel.{Queue};
 
     ghost Value = { Queue };
 
-    ghost view = { λ it. record { tokens = it.tokens.items; room = it.cap } };
-
-    ghost invariant = { λ it. it.cap ≤ vec_capacity it.tokens };
+    ghost view = { λ it. record { tokens = it.ring.items; room = it.ring.capacity } };
 }
 
 impl Channel {
@@ -36,28 +32,32 @@ impl Channel {
         requires { chan.now.credits ≤ chan.now.cap }
         ensures { IfOk result (λ channel. channel ≡ opened chan.now) }
     {
-        let mut tokens = Vec::with_capacity(alloc, chan.cap as usize)?;
+        let mut ring = HeapCircularBuffer::with_capacity(alloc, chan.cap as usize)?;
         for _ in 0..chan.credits {
-            tokens.push(Token::credit(alloc))?;
+            ring.push_back(Token::credit(alloc));
         }
-        Ok(Channel {
-            tokens,
-            cap: chan.cap,
-        })
+        Ok(Channel { ring })
     }
 
     /// Whether there is a token.
     pub(crate) fn has_token(&self) -> bool
         ensures { result ≡ has_first self.now.tokens }
     {
-        !self.tokens.is_empty()
+        !self.ring.is_empty()
+    }
+
+    /// How many tokens there are.
+    pub(crate) fn len(&self) -> usize
+        ensures { result ≡ length self.now.tokens }
+    {
+        self.ring.len()
     }
 
     /// Whether one more token may be appended.
     pub(crate) fn has_room(&self) -> bool
         ensures { result ≡ nat_lt (length self.now.tokens) self.now.room }
     {
-        self.tokens.len() < self.cap as usize
+        self.ring.len() < self.ring.capacity()
     }
 
     /// The first token.
@@ -65,7 +65,7 @@ impl Channel {
         requires { 0 < length self.now.tokens }
         ensures { result.now ≡ first_or credit self.now.tokens }
     {
-        &self.tokens[0]
+        self.ring.front().unwrap()
     }
 
     /// Appends a token, for which there is room.
@@ -73,7 +73,7 @@ impl Channel {
         requires { length self.old.tokens < self.old.room }
         ensures { self.new ≡ record self.old { tokens = self.old.tokens ++ token ∷ [] } }
     {
-        self.tokens.push(token).unwrap();
+        self.ring.push_back(token);
     }
 
     /// Takes the first token.
@@ -82,6 +82,14 @@ impl Channel {
         ensures taken { self.old.tokens ≡ result ∷ self.new.tokens }
         ensures room { self.new.room ≡ self.old.room }
     {
-        self.tokens.remove(0)
+        self.ring.pop_front().unwrap()
+    }
+
+    /// Puts a token before the others, for which there is room.
+    pub(crate) fn put_back(&mut self, token: Token)
+        requires { length self.old.tokens < self.old.room }
+        ensures { self.new ≡ record self.old { tokens = token ∷ self.old.tokens } }
+    {
+        self.ring.push_front(token);
     }
 }

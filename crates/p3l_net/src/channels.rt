@@ -1,15 +1,14 @@
 // All channels of a machine, by their numbers.
 
 ghost use Rattle.std.specs.Prelude.{◌≡◌, ◌<◌, ◌≤◌, length, map, IfOk, nat_lt, slice_index_or, EachIndex};
-ghost use Rattle.p3l_net.specs.Channel.{queue_at, tokens_at, opened, appended, taken};
-ghost use Rattle.p3l_net.specs.Lists.{has_first, first_or};
-ghost use Rattle.p3l_net.specs.State.{no_chan};
-ghost use Rattle.p3l_net.specs.Token.{credit};
+ghost use Rattle.p3l_net.specs.Channel.{queue_at, tokens_at, opened, appended, prepended, taken};
+ghost use Rattle.p3l_firing.specs.Lists.{has_first, first_or};
+ghost use Rattle.p3l_firing.specs.State.{no_chan};
+ghost use Rattle.p3l_firing.specs.Token.{credit};
 
 use crate::channel::Channel;
-use crate::net::Chan;
-use crate::token::Token;
 use p3l_base::{List, NoMemory};
+use p3l_firing::{Chan, Token};
 use std::alloc::Global;
 use std::marker::Model;
 
@@ -57,6 +56,14 @@ impl Channels {
         self.list[c as usize].has_room()
     }
 
+    /// How many tokens a channel has.
+    pub(crate) fn load(&self, c: u32) -> usize
+        requires { c < length self.now }
+        ensures { result ≡ length (tokens_at self.now c) }
+    {
+        self.list[c as usize].len()
+    }
+
     /// The first token of a channel that has one.
     pub(crate) fn front(&self, c: u32) -> &Token
         requires there { c < length self.now }
@@ -83,5 +90,14 @@ impl Channels {
         ensures rest { self.new ≡ taken self.old c }
     {
         self.list[c as usize].take()
+    }
+
+    /// Puts a token before the others of a channel that has room for it.
+    pub(crate) fn put_back(&mut self, c: u32, token: Token)
+        requires there { c < length self.old }
+        requires room { length (tokens_at self.old c) < (queue_at self.old c).room }
+        ensures { self.new ≡ prepended self.old c token }
+    {
+        self.list[c as usize].put_back(token);
     }
 }

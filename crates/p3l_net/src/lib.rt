@@ -1,22 +1,18 @@
-//! The network machine: nets of processes and channels, their states, and the firings that lead
-//! from state to state.
+//! The network machine: a net whose processes fire one at a time, with the set of those that are ready.
 #![tactic(auto)]
 
 mod channel;
 mod channels;
+mod ends;
+mod kinds;
 pub mod laws;
 pub mod machine;
-pub mod net;
-pub mod process;
-mod run;
-pub mod single;
-pub mod token;
+mod own;
+mod refresh;
+mod store;
+mod touched;
 
 pub use machine::Machine;
-pub use net::{Chan, Net};
-pub use process::{Proc, ProcKind};
-pub use single::unit_net;
-pub use token::{Fired, Token};
-
-#[cfg(test)]
-mod tests;
+pub use p3l_firing::{
+    Chan, Fired, MOST_TAGS, Net, Proc, ProcKind, Tags, Token, net, process, single, token, unit_net,
+};

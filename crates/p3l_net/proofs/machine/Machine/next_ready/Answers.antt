@@ -1,39 +1,39 @@
-use Rattle.std.proofs.Common.{◌≡◌, ◌-◌, sym, ap, ◌∙◌, arith, length}
-use Rattle.std.specs.List.{find, range_with_len}
-use Rattle.std.specs.Option.{option_or}
-use Rattle.p3l_net.specs.Machine.{can_step}
-use Rattle.p3l_net.proofs.Cyclic.{next_passes, next_none, next_is}
+use Rattle.std.proofs.Common.{◌≡◌, ◌<◌, ℕ, true, false, List, length, subst, sym, ◌∙◌, None}
+use Rattle.std.specs.Option.{IfSome, IfNone}
+use Rattle.std.specs.List.{find}
+use Rattle.p3l_ready.specs.Flags.{in_turn}
+use Rattle.p3l_base.specs.declared.outcome.Outcome.{Outcome}
+use Rattle.p3l_firing.specs.RoundRobin.{next_of}
+use Rattle.p3l_net.specs.Machine.{Seen, HasEmitted, can_step, state_of}
+use Rattle.p3l_net.proofs.Frame.{next_flags, trapped_next, turn_state, turn_found, turn_none}
 use Rattle.p3l_net.proofs.machine.Machine.next_ready.Goals as goal
 
-pub returns-in-Some-clause-ready : goal.returns-in-Some-clause-ready
-returns-in-Some-clause-ready c =
-    next_passes c.args.self.now c.args.from c.requires c.args.from (length c.args.self.now.net.procs - c.args.from) (omega (arith, c.requires)) _
-    (c.in-Some.ensures ∙ ap (λ n. find (can_step c.args.self.now) (range_with_len c.args.from (n - c.args.from))) c.size.ensures)
+pub returns-then-trapped-clause-state : goal.returns-then-trapped-clause-state
+returns-then-trapped-clause-state c =
+    subst (λ (x : Seen). (emitted : List Outcome) → HasEmitted x emitted → None ≡ next_of x.tree x.net (state_of x emitted) c.args.from) c.self.view_is
+    (turn_state c.self.inside.store c.args.from (subst (λ (x : Seen). c.args.from < length x.net.procs) (sym c.self.view_is) c.requires) None (trapped_next c.self.inside.store (sym c.trapped.ensures ∙ c.if-trapped.true) _))
 
-pub returns-in-Some-clause-state : goal.returns-in-Some-clause-state
-returns-in-Some-clause-state c = λ emitted has.
-    let first = c.in-Some.ensures ∙ ap (λ n. find (can_step c.args.self.now) (range_with_len c.args.from (n - c.args.from))) c.size.ensures in
-    ap (λ o. option_or o (find (can_step c.args.self.now) (range_with_len 0 c.args.from))) first
-    ∙ sym (next_is c.args.self.now c.args.from c.requires emitted has)
+pub returns-else-trapped-clause-ready : goal.returns-else-trapped-clause-ready
+returns-else-trapped-clause-ready c =
+    let next = next_flags c.self.inside.store c.self.inside.ready c.self.invariant.agrees (sym c.trapped.ensures ∙ c.if-trapped.false) c.args.from c.next.result c.next.ensures in
+    subst (λ (x : Seen). IfSome c.next.result (λ p. (p < length x.net.procs) × (can_step x p ≡ true))) c.self.view_is (turn_found c.self.inside.store c.args.from (subst (λ (x : Seen). c.args.from < length x.net.procs) (sym c.self.view_is) c.requires) c.next.result next)
 
-pub returns-in-None-clause-ready : goal.returns-in-None-clause-ready
-returns-in-None-clause-ready c =
-    let whole : c.args.from - 0 ≡ c.args.from = omega arith in
-    let second = c.first_ready-in-None.ensures ∙ ap (λ n. find (can_step c.args.self.now) (range_with_len 0 n)) whole in
-    next_passes c.args.self.now c.args.from c.requires 0 c.args.from (omega (arith, c.requires)) _ second
+pub returns-else-trapped-clause-none : goal.returns-else-trapped-clause-none
+returns-else-trapped-clause-none c =
+    let next = next_flags c.self.inside.store c.self.inside.ready c.self.invariant.agrees (sym c.trapped.ensures ∙ c.if-trapped.false) c.args.from c.next.result c.next.ensures in
+    subst (λ (x : Seen). IfNone c.next.result ((p : ℕ) → can_step x p ≡ false)) c.self.view_is (turn_none c.self.inside.store c.args.from (subst (λ (x : Seen). c.args.from < length x.net.procs) (sym c.self.view_is) c.requires) c.next.result next)
 
-pub returns-in-None-clause-none : goal.returns-in-None-clause-none
-returns-in-None-clause-none c =
-    let whole : c.args.from - 0 ≡ c.args.from = omega arith in
-    let second = c.first_ready-in-None.ensures ∙ ap (λ n. find (can_step c.args.self.now) (range_with_len 0 n)) whole in
-    let first = c.in-None.ensures ∙ ap (λ n. find (can_step c.args.self.now) (range_with_len c.args.from (n - c.args.from))) c.size.ensures in
-    next_none c.args.self.now c.args.from c.requires (sym first) _ second
+pub returns-else-trapped-clause-state : goal.returns-else-trapped-clause-state
+returns-else-trapped-clause-state c =
+    let next = next_flags c.self.inside.store c.self.inside.ready c.self.invariant.agrees (sym c.trapped.ensures ∙ c.if-trapped.false) c.args.from c.next.result c.next.ensures in
+    subst (λ (x : Seen). (emitted : List Outcome) → HasEmitted x emitted → c.next.result ≡ next_of x.tree x.net (state_of x emitted) c.args.from) c.self.view_is
+    (turn_state c.self.inside.store c.args.from (subst (λ (x : Seen). c.args.from < length x.net.procs) (sym c.self.view_is) c.requires) c.next.result next)
 
-pub returns-in-None-clause-state : goal.returns-in-None-clause-state
-returns-in-None-clause-state c = λ emitted has.
-    let whole : c.args.from - 0 ≡ c.args.from = omega arith in
-    let second = c.first_ready-in-None.ensures ∙ ap (λ n. find (can_step c.args.self.now) (range_with_len 0 n)) whole in
-    let first = c.in-None.ensures ∙ ap (λ n. find (can_step c.args.self.now) (range_with_len c.args.from (n - c.args.from))) c.size.ensures in
-    second
-    ∙ ap (λ o. option_or o (find (can_step c.args.self.now) (range_with_len 0 c.args.from))) first
-    ∙ sym (next_is c.args.self.now c.args.from c.requires emitted has)
+pub returns-then-trapped-clause-first : goal.returns-then-trapped-clause-first
+returns-then-trapped-clause-first c =
+    subst (λ (x : Seen). None ≡ find (can_step x) (in_turn (length x.net.procs) c.args.from)) c.self.view_is (trapped_next c.self.inside.store (sym c.trapped.ensures ∙ c.if-trapped.true) _)
+
+pub returns-else-trapped-clause-first : goal.returns-else-trapped-clause-first
+returns-else-trapped-clause-first c =
+    subst (λ (x : Seen). c.next.result ≡ find (can_step x) (in_turn (length x.net.procs) c.args.from)) c.self.view_is
+    (next_flags c.self.inside.store c.self.inside.ready c.self.invariant.agrees (sym c.trapped.ensures ∙ c.if-trapped.false) c.args.from c.next.result c.next.ensures)

@@ -1,31 +1,19 @@
-use Rattle.std.proofs.Common.{[], sym, ap, ◌∙◌, subst, le_refl, ℕ, List}
-use Rattle.p3l_net.specs.declared.token.Token.{Token}
-use Rattle.p3l_net.specs.Channel.{tokens_at}
-use Rattle.p3l_net.specs.Machine.{state_of}
-use Rattle.p3l_net.specs.State.{State, fresh, first_state}
-use Rattle.p3l_net.specs.Typed.{AllFit}
-use Rattle.p3l_net.proofs.Queues.{rooms, rooms-opened, tokens-opened}
-use Rattle.p3l_net.proofs.Fitting.{fitting_at_first}
+use Rattle.std.proofs.Common.{sym, ap, ◌∙◌, [], subst}
+use Rattle.p3l_net.specs.Machine.{Seen, IsSound, state_of}
+use Rattle.p3l_net.specs.Steps.{HasEnds}
+use Rattle.p3l_net.proofs.SoundLaw.{started_state, started_sound}
 use Rattle.p3l_net.proofs.machine.Machine.start.Goals as goal
 
+pub look_at_all-requires-clause-sound : goal.look_at_all-requires-clause-sound
+look_at_all-requires-clause-sound c = subst IsSound (sym c.in_ok-store.ensures) (started_sound c.args.tree.now c.args.net c.requires.typed c.requires.rows)
+
 pub invariant_of-result : goal.invariant_of-result
-unfolding state_of
-invariant_of-result c =
-    let opened_tokens = ap tokens_at c.in_ok-channels.ensures ∙ tokens-opened c.args.net in
-    record {
-      typed = c.requires;
-      rooms = ap rooms c.in_ok-channels.ensures ∙ rooms-opened c.args.net.chans;
-      fitting = record {
-        tokens = λ j. subst (λ (f : ℕ → List Token). AllFit c.requires.widths j (f j)) (sym opened_tokens) (fitting_at_first c.args.tree.now c.args.net c.requires j);
-        unsent = tt;
-      };
-      sent = le_refl 0;
-      emitted = le_refl 0;
-    }
+invariant_of-result c = record {
+  sound = subst IsSound (sym c.in_ok-store.ensures) (started_sound c.args.tree.now c.args.net c.requires.typed c.requires.rows);
+  agrees = c.look_at_all.ensures;
+  sides = subst (λ (x : Seen). HasEnds x.net c.in_ok-sides.sides) (sym c.in_ok-store.ensures) c.in_ok-sides.ensures;
+}
 
 pub returns-clause-state : goal.returns-clause-state
-unfolding state_of first_state
 returns-clause-state c =
-    let opened_tokens = ap tokens_at c.in_ok-channels.ensures ∙ tokens-opened c.args.net in
-    let with : (ℕ → List Token) → State = λ f. record { tokens = f; own = λ _. fresh; unsent = []; sent = 0; emitted = [] } in
-    ap with opened_tokens
+    ap (λ (x : Seen). state_of x []) c.in_ok-store.ensures ∙ started_state c.args.tree.now c.args.net

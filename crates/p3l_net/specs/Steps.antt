@@ -1,0 +1,123 @@
+-- The steps that a firing is made of, on what contracts see of a machine; and what a firing leaves alone.
+use Rattle.std.specs.Prelude.{◌≡◌, ◌≢◌, ℕ, ℤ, ⊤, ◌+◌, ◌^◌, ◌<◌, ◌⊎◌, List, [], Bool, true, Option, None, Some, length, slice_get, slice_set, slice_index, nat_lt, fold}
+use Rattle.std.specs.List.{AllByRecursion}
+use Rattle.p3l_base.specs.declared.outcome.Outcome.{Outcome}
+use Rattle.p3l_base.specs.declared.outcome.Outcome.TheVariants.{Value, Trapped}
+use Rattle.p3l_firing.specs.declared.process.Proc.{Proc}
+use Rattle.p3l_firing.specs.declared.process.ProcKind.{ProcKind}
+use Rattle.p3l_firing.specs.declared.process.ProcKind.TheVariants.{Source}
+use Rattle.p3l_firing.specs.declared.net.Net.{Net}
+use Rattle.p3l_firing.specs.declared.token.Token.{Token}
+use Rattle.p3l_firing.specs.Token.{is_trap}
+use Rattle.p3l_net.specs.Channel.{queue_at, tokens_at, appended, taken}
+use Rattle.p3l_firing.specs.State.{Own, own_at}
+use Rattle.p3l_firing.specs.Fire.{is_ready}
+use Rattle.p3l_ready.specs.Flags.{flag_at}
+use Rattle.p3l_firing.specs.Nodes.{Leaf}
+use Rattle.p3l_firing.specs.Process.{IsAt, Has, kind_at}
+use Rattle.p3l_firing.specs.Typed.{IsTyped}
+use Rattle.p3l_net.specs.Machine.{Seen, Fires, IsShaped, IsSound, state_of}
+
+-- one firing more is counted
+abbrev pub ticked : Seen → Seen
+ticked m = record m { fired = m.fired + 1 }
+
+-- the first token of channel c is taken
+abbrev pub without_first : Seen → ℕ → Seen
+without_first m c = record m { queues = taken m.queues c }
+
+-- a token is appended to channel c
+abbrev pub with_last : Seen → ℕ → Token → Seen
+with_last m c token = record m { queues = appended m.queues c token }
+
+-- process p keeps something else
+abbrev pub with_own : Seen → ℕ → Own → Seen
+with_own m p o = record m { owns = slice_set m.owns p o }
+
+-- the item in the inbox is sent
+abbrev pub item_sent : Seen → Seen
+item_sent m = record m { inbox = None; sent = m.sent + 1 }
+
+-- an outcome is emitted
+abbrev pub one_emitted : Seen → Outcome → Seen
+one_emitted m outcome = record m { emitted = m.emitted + 1; trapped = is_trap outcome }
+
+-- channel c has room for one token more
+abbrev pub room_at : Seen → ℕ → Bool
+room_at m c = nat_lt (length (tokens_at m.queues c)) (queue_at m.queues c).room
+
+-- channel c has a token to be taken
+pub record CanTake (m : Seen) (c : ℕ) : Type 0 where
+  pub there : c < length m.queues
+  pub token : 0 < length (tokens_at m.queues c)
+
+-- channel c has room for one token more
+pub record CanPut (m : Seen) (c : ℕ) : Type 0 where
+  pub there : c < length m.queues
+  pub room : length (tokens_at m.queues c) < (queue_at m.queues c).room
+
+-- process r reads and writes none of these channels
+abbrev pub IsApart : Net → ℕ → List ℕ → Type 0
+IsApart net r = AllByRecursion (λ c. IsAt (slice_get net.procs r) c → ⊥)
+
+-- from m to n only these channels, what process p keeps, and the inbox, if p is a source, have changed
+pub record Moves (m n : Seen) (p : ℕ) (touched : List ℕ) : Type 0 where
+  pub typed : IsTyped m.tree m.net
+  pub tree : n.tree ≡ m.tree
+  pub net : n.net ≡ m.net
+  pub inside : AllByRecursion (λ c. c < length m.net.chans) touched
+  pub queues : (c : ℕ) → AllByRecursion (λ d. c ≢ d) touched → tokens_at n.queues c ≡ tokens_at m.queues c
+  pub owns : (r : ℕ) → r ≢ p → own_at n.owns r ≡ own_at m.owns r
+  pub inbox : (kind_at m.net p ≡ Some Source) ⊎ (n.inbox ≡ m.inbox)
+
+-- a table with p entered at each of these numbers
+abbrev pub marked : List ℕ → List ℕ → ℕ → List ℕ
+marked table cs p = fold (λ t c. slice_set t c p) table cs
+
+-- the process that writes each channel, and the one that reads it
+pub record Ends : Type 0 where
+  pub writers : List ℕ
+  pub readers : List ℕ
+
+-- these are the ends of the channels of a net
+pub record HasEnds (net : Net) (ends : Ends) : Type 0 where
+  pub as_many_writers : length ends.writers ≡ length net.chans
+  pub as_many_readers : length ends.readers ≡ length net.chans
+  pub written : (r c : ℕ) (q : Proc) → slice_get net.procs r ≡ Some q → Has q.outs c → slice_index ends.writers c ≡ r
+  pub read : (r c : ℕ) (q : Proc) → slice_get net.procs r ≡ Some q → Has q.ins c → slice_index ends.readers c ≡ r
+  pub writers_inside : (c : ℕ) → c < length net.chans → slice_index ends.writers c < length net.procs
+  pub readers_inside : (c : ℕ) → c < length net.chans → slice_index ends.readers c < length net.procs
+
+-- the channels and what process r keeps allow it to fire
+abbrev pub ready_at : Seen → ℕ → Bool
+ready_at m r = is_ready m.tree m.net (state_of m []) r
+
+-- the flags tell which processes are ready, but maybe for those that read or write these channels
+pub record AgreesBut (m : Seen) (flags : List Bool) (touched : List ℕ) : Type 0 where
+  pub size : length flags ≡ length m.net.procs
+  pub right : (r : ℕ) → r < length m.net.procs → IsApart m.net r touched → flag_at flags r ≡ ready_at m r
+
+-- what every machine keeps: it is sound, the flags tell which processes are ready, and the ends are those of its net
+pub record IsKept (m : Seen) (flags : List Bool) (ends : Ends) : Type 0 where
+  pub sound : IsSound m
+  pub agrees : AgreesBut m flags []
+  pub sides : HasEnds m.net ends
+
+-- a firing of process p led from the old machine to the new one, and touched only these channels
+pub record Done (leaf : Leaf) (old new : Seen) (p : ℕ) (touched : List ℕ) (outcome : Option Outcome) : Type 0 where
+  pub fires : Fires leaf old new p outcome
+  pub moves : Moves old new p touched
+  pub shaped : IsShaped new
+
+-- process p is of this kind, and may fire
+pub record MayFire (m : Seen) (p : ℕ) (kind : ProcKind) : Type 0 where
+  pub sound : IsSound m
+  pub there : p < length m.net.procs
+  pub is : kind_at m.net p ≡ Some kind
+  pub ready : ready_at m p ≡ true
+  pub count : m.fired < 2 ^ 63
+
+-- a fact on the words of an outcome, if it is a value
+abbrev pub IfValue : Outcome → (List ℤ → Type 0) → Type 0
+IfValue (Value words) P = P words
+IfValue (Trapped trap) P = ⊤

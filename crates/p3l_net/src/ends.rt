@@ -1,0 +1,73 @@
+// The two ends of each channel.
+
+ghost use Rattle.std.specs.Prelude.{◌≡◌, ◌<◌, ◌≤◌, ℕ, length, replicate, slice_index, slice_get, Some, IfOk};
+ghost use Rattle.std.specs.List.{AllByRecursion};
+ghost use Rattle.p3l_skel.specs.declared.tree.Tree.{Tree};
+ghost use Rattle.p3l_firing.specs.declared.process.Proc.{Proc};
+ghost use Rattle.p3l_net.specs.Steps.{HasEnds, marked};
+ghost use Rattle.p3l_firing.specs.Typed.{IsTyped};
+
+use p3l_base::NoMemory;
+use p3l_firing::Net;
+use std::alloc::Global;
+use std::marker::Model;
+
+/// The process that writes each channel, and the one that reads it.
+#[derive(Debug, Drop)]
+pub(crate) struct Sides {
+    writers: Vec<u32>,
+    readers: Vec<u32>,
+}
+
+impl Model for Sides {
+    ghost use Rattle.p3l_net.specs.Steps.{Ends};
+
+    ghost Value = { Ends };
+
+    ghost view = { λ it. record { writers = it.writers.items; readers = it.readers.items } };
+}
+
+// Enters process `p` for these channels.
+fn mark(table: &mut Vec<u32>, channels: &[u32], p: u32)
+    requires { AllByRecursion (λ c. c < length table.old.items) channels.now }
+    ensures { table.new.items ≡ marked table.old.items channels.now p }
+{
+    for channel in channels {
+        table[*channel as usize] = p;
+    }
+}
+
+impl Sides {
+    /// The ends of the channels of a net.
+    pub(crate) fn of(alloc: Global, net: &Net) -> Result<Sides, NoMemory>
+        requires { (tree : Tree) × IsTyped tree net.now }
+        ensures { IfOk result (λ sides. HasEnds net.now sides) }
+    {
+        let count = net.chans.len();
+        let mut writers = vec![in alloc; 0u32; count]?;
+        let mut readers = vec![in alloc; 0u32; count]?;
+        let procs = net.procs.as_slice();
+        for p in 0..procs.len() {
+            let process = &procs[p];
+            mark(&mut writers, process.outs.as_slice(), p as u32);
+            mark(&mut readers, process.ins.as_slice(), p as u32);
+        }
+        Ok(Sides { writers, readers })
+    }
+
+    /// The process that writes a channel.
+    pub(crate) fn writer(&self, c: u32) -> u32
+        requires { c < length self.now.writers }
+        ensures { result ≡ slice_index self.now.writers c }
+    {
+        self.writers[c as usize]
+    }
+
+    /// The process that reads a channel.
+    pub(crate) fn reader(&self, c: u32) -> u32
+        requires { c < length self.now.readers }
+        ensures { result ≡ slice_index self.now.readers c }
+    {
+        self.readers[c as usize]
+    }
+}

@@ -1,0 +1,173 @@
+// What the processes of a machine keep.
+
+ghost use Rattle.std.specs.Prelude.{◌≡◌, ℕ, ◌+◌, ◌<◌, ◌^◌, [], ◌∷◌, ◌++◌, length, replicate, slice_set, true, IfOk, IfErr, OnOk, OnErr};
+ghost use Rattle.p3l_firing.specs.State.{fresh, own_at, counted, holding, gathering, released};
+
+use p3l_base::NoMemory;
+use p3l_firing::Token;
+use std::alloc::{AllocFailed, Global};
+use std::marker::Model;
+
+/// What a process keeps: a number, and the tokens that it holds, with room for one from the start.
+#[derive(Debug, Drop)]
+pub(crate) struct Keep {
+    number: u64,
+    held: Vec<Token>,
+}
+
+impl Model for Keep {
+    ghost use Rattle.std.specs.Prelude.{◌≤◌, vec_capacity};
+    ghost use Rattle.p3l_firing.specs.State.{Own};
+
+    ghost Value = { Own };
+
+    ghost view = { λ it. record { number = it.number; held = it.held.items } };
+
+    ghost invariant = { λ it. 1 ≤ vec_capacity it.held };
+}
+
+impl Keep {
+    fn new(alloc: Global) -> Result<Keep, NoMemory>
+        ensures { IfOk result (λ keep. keep ≡ fresh) }
+    {
+        Ok(Keep {
+            number: 0,
+            held: Vec::with_capacity(alloc, 1)?,
+        })
+    }
+
+    fn number(&self) -> u64
+        ensures { result ≡ self.now.number }
+    {
+        self.number
+    }
+
+    fn held(&self) -> &[Token]
+        ensures { result.now ≡ self.now.held }
+    {
+        self.held.as_slice()
+    }
+
+    fn count(&mut self)
+        requires { self.old.number < 2 ^ 63 }
+        ensures { self.new ≡ counted self.old }
+    {
+        self.number += 1;
+    }
+
+    fn hold(&mut self, token: Token)
+        ensures { self.new ≡ holding token }
+    {
+        self.number = 0;
+        self.held.clear();
+        self.held.push(token).unwrap();
+    }
+
+    fn gather(&mut self, token: Token) -> Result<(), AllocFailed<Token>>
+        ensures ok { OnOk result (self.new ≡ gathering self.old token) }
+        ensures err { OnErr result (self.new ≡ self.old) }
+        ensures back { IfErr result (λ failed. failed.value ≡ token) }
+    {
+        self.held.push(token)
+    }
+
+    fn let_go(&mut self)
+        ensures { self.new ≡ fresh }
+    {
+        self.number = 0;
+        self.held.clear();
+    }
+
+    fn release(&mut self)
+        ensures { self.new ≡ released self.old }
+    {
+        self.held.clear();
+    }
+}
+
+/// What each process keeps.
+#[derive(Debug, Drop)]
+pub(crate) struct Keeps {
+    list: Vec<Keep>,
+}
+
+impl Model for Keeps {
+    ghost use Rattle.std.specs.Prelude.{List};
+    ghost use Rattle.p3l_firing.specs.State.{Own};
+
+    ghost Value = { List Own };
+
+    ghost view = { λ it. it.list.items };
+}
+
+impl Keeps {
+    /// What so many processes keep before anything has fired.
+    pub(crate) fn new(alloc: Global, size: usize) -> Result<Keeps, NoMemory>
+        ensures { IfOk result (λ keeps. keeps ≡ replicate size fresh) }
+    {
+        let mut list = Vec::with_capacity(alloc, size)?;
+        for _ in 0..size {
+            list.push(Keep::new(alloc)?)?;
+        }
+        Ok(Keeps { list })
+    }
+
+    /// The number that a process keeps.
+    pub(crate) fn number(&self, p: u32) -> u64
+        requires { p < length self.now }
+        ensures { result ≡ (own_at self.now p).number }
+    {
+        self.list[p as usize].number()
+    }
+
+    /// The tokens that a process holds.
+    pub(crate) fn held(&self, p: u32) -> &[Token]
+        requires { p < length self.now }
+        ensures { result.now ≡ (own_at self.now p).held }
+    {
+        self.list[p as usize].held()
+    }
+
+    /// A process counts one more.
+    pub(crate) fn count(&mut self, p: u32)
+        requires there { p < length self.old }
+        requires few { (own_at self.old p).number < 2 ^ 63 }
+        ensures { self.new ≡ slice_set self.old p (counted (own_at self.old p)) }
+    {
+        self.list[p as usize].count();
+    }
+
+    /// A process takes a token, to hand it out in pieces.
+    pub(crate) fn hold(&mut self, p: u32, token: Token)
+        requires { p < length self.old }
+        ensures { self.new ≡ slice_set self.old p (holding token) }
+    {
+        self.list[p as usize].hold(token);
+    }
+
+    /// A process takes a token to those that it holds; refused, the token comes back.
+    pub(crate) fn gather(&mut self, p: u32, token: Token) -> Result<(), AllocFailed<Token>>
+        requires { p < length self.old }
+        ensures ok { OnOk result (self.new ≡ slice_set self.old p (gathering (own_at self.old p) token)) }
+        ensures err { OnErr result (self.new ≡ self.old) }
+        ensures back { IfErr result (λ failed. failed.value ≡ token) }
+    {
+        self.list[p as usize].gather(token)
+    }
+
+    /// A process lets go of what it keeps.
+    pub(crate) fn let_go(&mut self, p: u32)
+        requires { p < length self.old }
+        ensures { self.new ≡ slice_set self.old p fresh }
+    {
+        self.list[p as usize].let_go();
+    }
+
+    /// A process lets go of all tokens that it holds.
+    pub(crate) fn release(&mut self, p: u32)
+        requires { p < length self.old }
+        ensures { self.new ≡ slice_set self.old p (released (own_at self.old p)) }
+    {
+        self.list[p as usize].release();
+    }
+}

@@ -1,0 +1,269 @@
+// What a machine holds: the tokens of a net, and the steps that its firings are made of.
+
+ghost use Rattle.std.specs.Prelude.{◌≡◌, ◌<◌, ◌≤◌, ◌+◌, ◌^◌, ◌↔◌, length, None, Some, IsTrue, IfOk, OnOk, OnErr, slice_get, is_some};
+ghost use Rattle.p3l_firing.specs.Lists.{has_first, first_or};
+ghost use Rattle.p3l_firing.specs.State.{own_at, counted, fresh, holding, released};
+ghost use Rattle.p3l_firing.specs.Token.{credit};
+ghost use Rattle.p3l_firing.specs.Typed.{IsTyped};
+ghost use Rattle.p3l_net.specs.Channel.{queue_at, tokens_at};
+ghost use Rattle.p3l_net.specs.Machine.{started};
+ghost use Rattle.p3l_net.specs.Steps.{CanTake, CanPut, ticked, without_first, with_last, with_own, item_sent, one_emitted, room_at};
+
+use crate::channels::Channels;
+use crate::own::Keeps;
+use p3l_base::{NoMemory, Outcome, Words};
+use p3l_firing::token::is_trap;
+use p3l_firing::{Net, Proc, Token};
+use p3l_skel::Tree;
+use std::alloc::Global;
+use std::marker::Model;
+
+/// A net with its tokens. Contracts see all of it.
+#[derive(Drop)]
+pub(crate) struct Store<'t> {
+    tree: &'t Tree,
+    net: Net,
+    channels: Channels,
+    keeps: Keeps,
+    inbox: Option<Words>,
+    fired: u64,
+    sent: u64,
+    emitted: u64,
+    trapped: bool,
+}
+
+impl<'t> Model for Store<'t> {
+    ghost use Rattle.p3l_net.specs.Machine.{Seen};
+
+    ghost Value = { Seen };
+
+    ghost view = { λ it. record { tree = it.tree.now; net = it.net; queues = it.channels; owns = it.keeps; inbox = it.inbox; fired = it.fired; sent = it.sent; emitted = it.emitted; trapped = it.trapped } };
+}
+
+impl<'t> Store<'t> {
+    /// A net in which nothing has fired. All channels are empty but for their credits.
+    pub(crate) fn start(alloc: Global, tree: &'t Tree, net: Net) -> Result<Store<'t>, NoMemory>
+        requires { IsTyped tree.now net }
+        ensures { IfOk result (λ store. store ≡ started tree.now net) }
+    {
+        let channels = Channels::open(alloc, &net.chans)?;
+        let keeps = Keeps::new(alloc, net.procs.len())?;
+        Ok(Store {
+            tree,
+            net,
+            channels,
+            keeps,
+            inbox: None,
+            fired: 0,
+            sent: 0,
+            emitted: 0,
+            trapped: false,
+        })
+    }
+
+    /// How many processes there are.
+    pub(crate) fn size(&self) -> u32
+        requires { length self.now.net.procs ≤ 1048576 }
+        ensures { result ≡ length self.now.net.procs }
+    {
+        self.net.procs.len() as u32
+    }
+
+    /// The tree.
+    pub(crate) fn tree(&self) -> &'t Tree
+        ensures { result.now ≡ self.now.tree }
+    {
+        self.tree
+    }
+
+    /// The net.
+    pub(crate) fn net(&self) -> &Net
+        ensures { result.now ≡ self.now.net }
+    {
+        &self.net
+    }
+
+    /// Whether the inbox is empty.
+    pub(crate) fn wants_item(&self) -> bool
+        ensures { IsTrue result ↔ (self.now.inbox ≡ None) }
+    {
+        self.inbox.is_none()
+    }
+
+    /// Puts an item into the empty inbox, for the source to send.
+    pub(crate) fn offer(&mut self, item: Words)
+        ensures { self.new ≡ record self.old { inbox = Some item } }
+    {
+        self.inbox = Some(item);
+    }
+
+    /// The process of this number.
+    pub(crate) fn process(&self, p: u32) -> &Proc
+        requires { p < length self.now.net.procs }
+        ensures { slice_get self.now.net.procs p ≡ Some result.now }
+    {
+        &self.net.procs.as_slice()[p as usize]
+    }
+
+    /// The first token of a channel that has one.
+    pub(crate) fn front(&self, c: u32) -> &Token
+        requires { CanTake self.now c }
+        ensures { result.now ≡ first_or credit (tokens_at self.now.queues c) }
+    {
+        self.channels.front(c)
+    }
+
+    /// Counts one firing more.
+    pub(crate) fn tick(&mut self)
+        requires { self.old.fired < 2 ^ 63 }
+        ensures { self.new ≡ ticked self.old }
+    {
+        self.fired += 1;
+    }
+
+    /// Takes the first token of a channel that has one.
+    pub(crate) fn take(&mut self, c: u32) -> Token
+        requires { CanTake self.old c }
+        ensures front { result ≡ first_or credit (tokens_at self.old.queues c) }
+        ensures after { self.new ≡ without_first self.old c }
+    {
+        self.channels.take(c)
+    }
+
+    /// Appends a token to a channel that has room for it.
+    pub(crate) fn put(&mut self, c: u32, token: Token)
+        requires { CanPut self.old c }
+        ensures { self.new ≡ with_last self.old c token }
+    {
+        self.channels.append(c, token);
+    }
+
+    /// Process `p` counts one more.
+    pub(crate) fn count(&mut self, p: u32)
+        requires there { p < length self.old.owns }
+        requires few { (own_at self.old.owns p).number < 2 ^ 63 }
+        ensures { self.new ≡ with_own self.old p (counted (own_at self.old.owns p)) }
+    {
+        self.keeps.count(p);
+    }
+
+    /// Process `p` takes the first token of a channel, to hand it out in pieces.
+    pub(crate) fn hold(&mut self, p: u32, token: Token)
+        requires { p < length self.old.owns }
+        ensures { self.new ≡ with_own self.old p (holding token) }
+    {
+        self.keeps.hold(p, token);
+    }
+
+    /// Process `p` lets go of what it keeps.
+    pub(crate) fn let_go(&mut self, p: u32)
+        requires { p < length self.old.owns }
+        ensures { self.new ≡ with_own self.old p fresh }
+    {
+        self.keeps.let_go(p);
+    }
+
+    /// Process `p` lets go of all tokens that it holds.
+    pub(crate) fn release(&mut self, p: u32)
+        requires { p < length self.old.owns }
+        ensures { self.new ≡ with_own self.old p (released (own_at self.old.owns p)) }
+    {
+        self.keeps.release(p);
+    }
+
+    /// The number that process `p` keeps.
+    pub(crate) fn number(&self, p: u32) -> u64
+        requires { p < length self.now.owns }
+        ensures { result ≡ (own_at self.now.owns p).number }
+    {
+        self.keeps.number(p)
+    }
+
+    /// The tokens that process `p` holds.
+    pub(crate) fn held(&self, p: u32) -> &[Token]
+        requires { p < length self.now.owns }
+        ensures { result.now ≡ (own_at self.now.owns p).held }
+    {
+        self.keeps.held(p)
+    }
+
+    /// Whether there is an item in the inbox.
+    pub(crate) fn has_item(&self) -> bool
+        ensures { result ≡ is_some self.now.inbox }
+    {
+        self.inbox.is_some()
+    }
+
+    /// Takes the item out of the inbox, and counts it as sent.
+    pub(crate) fn next_item(&mut self) -> Words
+        requires some { IsTrue (is_some self.old.inbox) }
+        requires few { self.old.sent < 2 ^ 63 }
+        ensures item { self.old.inbox ≡ Some result }
+        ensures after { self.new ≡ item_sent self.old }
+    {
+        let item = self.inbox.take().unwrap();
+        self.sent += 1;
+        item
+    }
+
+    /// Counts an outcome as emitted.
+    pub(crate) fn emit(&mut self, outcome: &Outcome)
+        requires { self.old.emitted < 2 ^ 63 }
+        ensures { self.new ≡ one_emitted self.old outcome.now }
+    {
+        self.emitted += 1;
+        self.trapped = is_trap(outcome);
+    }
+
+    /// Whether a channel has a token.
+    pub(crate) fn has_token(&self, c: u32) -> bool
+        requires { c < length self.now.queues }
+        ensures { result ≡ has_first (tokens_at self.now.queues c) }
+    {
+        self.channels.has_token(c)
+    }
+
+    /// Whether a channel has room for one token more.
+    pub(crate) fn has_room(&self, c: u32) -> bool
+        requires { c < length self.now.queues }
+        ensures { result ≡ room_at self.now c }
+    {
+        self.channels.has_room(c)
+    }
+
+    /// How many tokens a channel has.
+    pub(crate) fn load(&self, c: u32) -> usize
+        requires { c < length self.now.queues }
+        ensures { result ≡ length (tokens_at self.now.queues c) }
+    {
+        self.channels.load(c)
+    }
+
+    /// How many firings there were.
+    pub(crate) fn fired(&self) -> u64
+        ensures { result ≡ self.now.fired }
+    {
+        self.fired
+    }
+
+    /// How many items the source has sent.
+    pub(crate) fn sent(&self) -> u64
+        ensures { result ≡ self.now.sent }
+    {
+        self.sent
+    }
+
+    /// How many outcomes the sink has emitted.
+    pub(crate) fn emitted(&self) -> u64
+        ensures { result ≡ self.now.emitted }
+    {
+        self.emitted
+    }
+
+    /// Whether a trap was emitted.
+    pub(crate) fn trapped(&self) -> bool
+        ensures { result ≡ self.now.trapped }
+    {
+        self.trapped
+    }
+}
