@@ -1,0 +1,11 @@
+pub mod Units
+pub mod Part
+pub mod Shape
+pub mod Placed
+pub mod Run
+pub mod Pipe
+pub mod Bag
+pub mod Sum
+pub mod Built
+pub mod Typing
+pub mod laws

@@ -1,0 +1,79 @@
+-- What a template places, over any inner parts.
+use Rattle.std.specs.Prelude.{ℕ, zero, suc, ◌+◌, ◌≤◌, List, [], ◌∷◌, ◌++◌, length}
+use Rattle.p3l_base.specs.declared.outcome.Outcome.{Outcome}
+use Rattle.p3l_firing.specs.declared.net.Chan.{Chan}
+use Rattle.p3l_firing.specs.declared.net.Net.{Net}
+use Rattle.p3l_firing.specs.declared.process.Proc.{Proc}
+use Rattle.p3l_template.specs.declared.template.Ports.{Ports}
+use Rattle.p3l_template.specs.Part.{Part}
+use Rattle.p3l_template.specs.Units.{Units}
+
+-- what a node makes of an outcome, and how often it fires for one token
+pub record Role : Type 0 where
+  pub meaning : Outcome → Outcome
+  pub firings : ℕ
+
+-- where a template is placed: the two channels that it stands between, and its first process and channel
+pub record Base : Type 0 where
+  pub input : ℕ
+  pub output : ℕ
+  pub proc : ℕ
+  pub chan : ℕ
+
+-- where an inner part is placed: the two channels that it stands between, and which part of the node it is
+pub record Seat : Type 0 where
+  pub input : ℕ
+  pub output : ℕ
+  pub part : ℕ
+
+-- what a number without a seat is read as
+unfoldable pub no_seat : Seat
+no_seat = record { input = 0; output = 0; part = 0 }
+
+-- the channels of a seat
+abbrev pub ports_of : Seat → Ports
+ports_of seat = record { input = seat.input; output = seat.output }
+
+pub record Shape : Type 0 where
+  -- its own processes, in order
+  pub procs : Base → List Proc
+  -- how many channels it adds
+  pub chans : Base → ℕ
+  -- these channels in order, in a net whose channels have this capacity
+  pub laid : ℕ → Base → List Chan
+  -- how many inner parts it has
+  pub inner : ℕ
+  -- where its inner parts are placed, in order
+  pub seats : Base → List Seat
+  -- what its node makes of an outcome, where it is known what the node's parts do
+  pub meaning : Units → (ℕ → Role) → Outcome → Outcome
+  -- how often it fires for one token
+  pub firings : Units → (ℕ → Role) → ℕ
+  -- the whole part, over its inner parts
+  pub part : Units → (ℕ → Role) → Base → List Part → Part
+
+-- the place at these ports, behind what is built so far
+abbrev pub base_of : Ports → Net → Base
+base_of at built = record { input = at.input; output = at.output; proc = length built.procs; chan = length built.chans }
+
+-- what is built, with these processes and channels behind it
+abbrev pub added : Net → List Proc → List Chan → Net
+added built procs chans = record { procs = built.procs ++ procs; chans = built.chans ++ chans }
+
+-- so many more processes and channels keep within the limits of a net
+abbrev pub HasRoomFor : Net → ℕ → ℕ → Type 0
+HasRoomFor built procs chans = (length built.procs + procs ≤ 1048576) × (length built.chans + chans ≤ 1048576)
+
+-- a channel that begins empty
+abbrev pub empty_chan : ℕ → Chan
+empty_chan cap = record { cap = cap; credits = 0 }
+
+-- n numbers from c on
+unfoldable pub numbers_from : ℕ → ℕ → List ℕ
+numbers_from c zero = []
+numbers_from c (suc n) = c ∷ numbers_from (suc c) n
+
+-- the seats of n workers, whose in channels are those from i on and whose out channels those from o on
+unfoldable pub fan_seats : ℕ → ℕ → ℕ → List Seat
+fan_seats i o zero = []
+fan_seats i o (suc n) = record { input = i; output = o; part = 0 } ∷ fan_seats (suc i) (suc o) n

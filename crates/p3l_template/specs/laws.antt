@@ -1,0 +1,15 @@
+pub mod Rows
+pub mod Plain
+pub mod Row
+pub mod SumLaw
+pub mod TimesLaw
+pub mod Chain
+pub mod Touch
+pub mod BagLaw
+pub mod Inside
+pub mod Fan
+pub mod RunLaw
+pub mod RunTyping
+pub mod PipeTyping
+pub mod FanTyping
+pub mod PipeLaw

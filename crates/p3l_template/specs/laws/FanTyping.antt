@@ -1,0 +1,97 @@
+-- The typing of workers between two rows of channels: the rows carry what is said of them (`row_in`, `row_out`), and together
+-- with the two processes before the workers they are read and written once (`fan_reads`, `fan_writes`).
+use Rattle.std.proofs.Common.{◌≡◌, ℕ, zero, suc, ◌+◌, ◌<◌, ◌≤◌, List, [], ◌∷◌, ◌++◌, length, length-append, get_or, replicate, refl, ap, ◌∙◌, subst, arith, append-nil}
+use Rattle.std.proofs.lemmas.List.{length-replicate}
+use Rattle.p3l_firing.specs.Process.{times}
+use Rattle.p3l_firing.specs.Widths.{Widths, Carries, AllCarry}
+use Rattle.p3l_template.specs.Shape.{numbers_from, fan_seats}
+use Rattle.p3l_template.specs.Typing.{Width, no_width, Carry, seat_ins, seat_outs}
+use Rattle.p3l_template.specs.laws.TimesLaw.{times_append, times_cons, numbers_append, fan_ins, fan_outs, all_numbers}
+
+-- n channels of width a, then n of width b
+unfoldable pub rows : ℕ → Width → Width → List Width
+rows n a b = replicate n a ++ replicate n b
+
+pub rows_count : (n : ℕ) (a b : Width) → length (rows n a b) ≡ n + n
+unfolding rows
+rows_count n a b =
+    length-append (replicate n a) (replicate n b) ∙ omega (arith, length-replicate n a, length-replicate n b)
+
+replicate_at : (n : ℕ) (a d : Width) (k : ℕ) → k < n → get_or (replicate n a) k d ≡ a
+replicate_at zero a d k l = absurd (omega arith)
+replicate_at (suc n) a d zero l = refl
+replicate_at (suc n) a d (suc k) l = replicate_at n a d k (omega arith)
+
+append_left : (n : ℕ) (a : Width) (xs : List Width) (k : ℕ) → k < n → get_or (replicate n a ++ xs) k no_width ≡ a
+append_left zero a xs k l = absurd (omega arith)
+append_left (suc n) a xs zero l = refl
+append_left (suc n) a xs (suc k) l = append_left n a xs k (omega arith)
+
+append_right : (n : ℕ) (a : Width) (xs : List Width) (k : ℕ) →
+    get_or (replicate n a ++ xs) (n + k) no_width ≡ get_or xs k no_width
+append_right zero a xs k = ap (λ z. get_or xs z no_width) (omega arith)
+append_right (suc n) a xs k =
+    let e : suc n + k ≡ suc (n + k) = omega arith in
+    ap (λ z. get_or (replicate (suc n) a ++ xs) z no_width) e ∙ append_right n a xs k
+
+-- the width of any of them has few tags
+replicate_few : (n : ℕ) (a : Width) (most k : ℕ) → a.tags ≤ most → (get_or (replicate n a) k no_width).tags ≤ most
+replicate_few zero a most k h = omega arith
+replicate_few (suc n) a most zero h = h
+replicate_few (suc n) a most (suc k) h = replicate_few n a most k h
+
+append_few : (n : ℕ) (a : Width) (xs : List Width) (most k : ℕ) → a.tags ≤ most →
+    ((j : ℕ) → (get_or xs j no_width).tags ≤ most) → (get_or (replicate n a ++ xs) k no_width).tags ≤ most
+append_few zero a xs most k h g = g k
+append_few (suc n) a xs most zero h g = h
+append_few (suc n) a xs most (suc k) h g = append_few n a xs most k h g
+
+pub rows_few : (n : ℕ) (a b : Width) (most k : ℕ) → a.tags ≤ most → b.tags ≤ most →
+    (get_or (rows n a b) k no_width).tags ≤ most
+unfolding rows
+rows_few n a b most k h g = append_few n a (replicate n b) most k h (λ j. replicate_few n b most j g)
+
+module _ (w : Widths) (c n : ℕ) (a b : Width) (own : Carry w c (rows n a b)) where
+  pub in_at : (k : ℕ) → k < n → Carries w (c + k) a.words a.tags
+  unfolding Carry rows
+  in_at k l =
+      subst (λ z. Carries w (c + k) z.words z.tags) (append_left n a (replicate n b) k l)
+      (own k (omega (arith, l, rows_count n a b)))
+
+  pub out_at : (k : ℕ) → k < n → Carries w (c + n + k) b.words b.tags
+  unfolding Carry rows
+  out_at k l =
+      let e : c + (n + k) ≡ c + n + k = omega arith in
+      subst (λ z. Carries w z b.words b.tags) e
+      (subst (λ z. Carries w (c + (n + k)) z.words z.tags)
+      (append_right n a (replicate n b) k ∙ replicate_at n b no_width k l)
+      (own (n + k) (omega (arith, l, rows_count n a b))))
+
+  pub row_in : AllCarry w (numbers_from c n) a.words a.tags
+  row_in = all_numbers (λ d. Carries w d a.words a.tags) c n in_at
+
+  pub row_out : AllCarry w (numbers_from (c + n) n) b.words b.tags
+  row_out = all_numbers (λ d. Carries w d b.words b.tags) (c + n) n out_at
+
+pub fan_reads : (c input i n : ℕ) →
+    times c ((input ∷ (numbers_from (i + n) n ++ [])) ++ seat_ins (fan_seats i (i + n) n))
+    ≡ times c (input ∷ numbers_from i (n + n))
+fan_reads c input i n =
+    let a = times_append c (input ∷ (numbers_from (i + n) n ++ [])) (seat_ins (fan_seats i (i + n) n)) in
+    let b = times_cons c input (numbers_from (i + n) n ++ []) in
+    let d = ap (times c) (append-nil (numbers_from (i + n) n)) in
+    let e = ap (times c) (fan_ins i (i + n) n) in
+    let f = times_cons c input (numbers_from i (n + n)) in
+    let g = ap (times c) (numbers_append i n n) ∙ times_append c (numbers_from i n) (numbers_from (i + n) n) in
+    omega (arith, a, b, d, e, f, g)
+
+pub fan_writes : (c output i n : ℕ) →
+    times c ((numbers_from i n ++ (output ∷ [])) ++ seat_outs (fan_seats i (i + n) n))
+    ≡ times c (output ∷ numbers_from i (n + n))
+fan_writes c output i n =
+    let a = times_append c (numbers_from i n ++ (output ∷ [])) (seat_outs (fan_seats i (i + n) n)) in
+    let b = times_append c (numbers_from i n) (output ∷ []) in
+    let e = ap (times c) (fan_outs i (i + n) n) in
+    let f = times_cons c output (numbers_from i (n + n)) in
+    let g = ap (times c) (numbers_append i n n) ∙ times_append c (numbers_from i n) (numbers_from (i + n) n) in
+    omega (arith, a, b, e, f, g)

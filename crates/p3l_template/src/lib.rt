@@ -1,0 +1,14 @@
+//! Templates: what a node of the tree places in a net, over any inner parts, and the law that each
+//! of them owes the linker.
+#![tactic(auto)]
+
+pub mod builder;
+pub mod pipe;
+pub mod run;
+pub mod template;
+pub mod workers;
+
+pub use builder::Builder;
+pub use pipe::PipeTemplate;
+pub use run::RunTemplate;
+pub use template::{Ports, Template};

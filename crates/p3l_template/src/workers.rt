@@ -1,0 +1,25 @@
+// The ports of workers that stand side by side.
+
+ghost use Rattle.std.specs.Prelude.{◌≡◌, ◌+◌, ◌≤◌, IfOk};
+ghost use Rattle.p3l_template.specs.Built.{all_ports};
+ghost use Rattle.p3l_template.specs.Shape.{fan_seats};
+
+use crate::template::Ports;
+use p3l_base::{List, NoMemory};
+use std::alloc::Global;
+
+/// The ports of so many workers: their in channels are those from `first` on, and their out channels
+/// stand behind them.
+pub fn worker_ports(alloc: Global, first: u32, workers: u32) -> Result<List<Ports>, NoMemory>
+    requires { (first + workers) + workers ≤ 1048576 }
+    ensures { IfOk result (λ ports. ports ≡ all_ports (fan_seats first (first + workers) workers)) }
+{
+    let mut ports = List::new(alloc);
+    for worker in 0..workers {
+        ports.push(Ports {
+            input: first + worker,
+            output: first + workers + worker,
+        })?;
+    }
+    Ok(ports)
+}
