@@ -1,0 +1,3 @@
+pub mod ViewLaw
+pub mod FarmLaw
+pub mod FarmTyping
