@@ -1,0 +1,6 @@
+pub mod Turns
+pub mod GroupLaw
+pub mod MapView
+pub mod SizeLaw
+pub mod MapLaw
+pub mod MapTyping
