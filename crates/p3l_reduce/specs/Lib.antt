@@ -1,0 +1,4 @@
+pub mod JoinTree
+pub mod Reduce
+pub mod Meaning
+pub mod laws

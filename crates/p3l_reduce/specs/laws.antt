@@ -1,0 +1,5 @@
+pub mod Heap
+pub mod JoinView
+pub mod SizeLaw
+pub mod ReduceLaw
+pub mod ReduceTyping
