@@ -1,0 +1,4 @@
+pub mod HeldLaw
+pub mod ViewLaw
+pub mod LoopLaw
+pub mod LoopTyping
