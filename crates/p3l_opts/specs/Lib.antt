@@ -1,0 +1,4 @@
+pub mod Table
+pub mod Verb
+pub mod Command
+pub mod Laws

@@ -1,0 +1,35 @@
+-- The first words of commands, and how `clap` reads the words behind them.
+use Rattle.std.specs.Prelude.{List, [], ◌∷◌, codes, fold}
+use Rattle.clap.specs.Words.{App, Kinds, Row, Rule, Text, fault_of, matches_of, new_app, with_rule}
+use Rattle.p3l_opts.specs.Table.{rule_for}
+use Rattle.p3l_opts.specs.declared.table.Form.TheVariants.{Positional, Mandatory, Flag}
+use Rattle.p3l_opts.specs.declared.verb.Verb.{Verb}
+use Rattle.p3l_opts.specs.declared.verb.Verb.TheVariants as verb
+
+-- the first word of a command
+abbrev pub name_of : Verb → Text
+name_of verb.Check = codes "check"
+name_of verb.Fmt = codes "fmt"
+name_of verb.Run = codes "run"
+
+-- the words that may stand behind it
+abbrev pub rules_of : Verb → List Rule
+rules_of verb.Check = rule_for (codes "program") Positional ∷ []
+rules_of verb.Fmt = rule_for (codes "program") Positional ∷ []
+rules_of verb.Run =
+    rule_for (codes "program") Positional
+    ∷ rule_for (codes "processors") Mandatory
+    ∷ rule_for (codes "stats") Flag
+    ∷ []
+
+-- the command as `clap` is told of it
+unfoldable pub app_for : Verb → App
+app_for verb = fold with_rule (new_app (name_of verb)) (rules_of verb)
+
+-- why `clap` doesn't take the words, nothing where it takes them
+unfoldable pub faults : Verb → List Text → Kinds
+faults verb words = fault_of (app_for verb) words
+
+-- what `clap` finds in the words that it takes
+unfoldable pub rows : Verb → List Text → List Row
+rows verb words = matches_of (app_for verb) words

@@ -1,0 +1,60 @@
+// Commands with their values.
+
+ghost use Rattle.std.specs.Prelude.{◌≡◌};
+ghost use Rattle.p3l_opts.specs.declared.command.OptsRefusal.TheVariants.{NoMemory};
+
+use p3l_base::Name;
+
+/// A command, with the values that its words spell.
+#[derive(Debug, Drop)]
+pub enum Command {
+    /// `check PROGRAM`: says whether a program keeps all rules.
+    Check(Name),
+    /// `fmt PROGRAM`: writes the canonical text of a program.
+    Fmt(Name),
+    /// `run PROGRAM --processors P [--stats]`: runs a program on the input. It has how the network
+    /// is built, how picks are made, the name of the file for the trace, and whether the numbers of
+    /// the run are reported.
+    Run(Build, Sched, Option<Name>, bool),
+}
+
+/// How a program's network is built.
+#[derive(Debug, Drop)]
+pub struct Build {
+    /// The name of the program's file.
+    pub program: Name,
+    /// How many processors there are, 1 to 512.
+    pub processors: u32,
+    /// The name of the file of costs; without one, the standard costs hold.
+    pub costs: Option<Name>,
+    /// How many tokens a channel holds at most, 1 to 1,024.
+    pub capacity: u32,
+}
+
+/// How picks are made.
+#[derive(Debug, Drop)]
+pub enum Sched {
+    /// The processes take turns.
+    RoundRobin,
+    /// A generator of this seed picks among those that can fire.
+    Seeded(u64),
+    /// The picks stand in the file of this name.
+    File(Name),
+}
+
+/// Why there is no command.
+#[derive(Clone, Copy, Debug, Drop, PartialEq, Eq)]
+pub enum OptsRefusal {
+    /// The words spell none.
+    Usage,
+    /// Memory for the values was wanting.
+    NoMemory,
+}
+
+impl From<p3l_base::NoMemory> for OptsRefusal {
+    ghost from_gives = { λ _ refusal. refusal ≡ NoMemory };
+
+    fn from(_want: p3l_base::NoMemory) -> OptsRefusal {
+        OptsRefusal::NoMemory
+    }
+}

@@ -1,0 +1,15 @@
+//! The words of a command line, read by `clap`, and the command that they spell.
+#![tactic(auto)]
+
+pub mod command;
+pub mod laws;
+mod matches;
+mod table;
+mod value;
+pub mod verb;
+mod words;
+
+pub use command::{Build, Command, OptsRefusal, Sched};
+pub use laws::one_command_at_most;
+pub use verb::Verb;
+pub use words::parse;

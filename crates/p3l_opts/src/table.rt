@@ -1,0 +1,48 @@
+// Commands of `clap`, each made from a table of its words.
+
+ghost use Rattle.std.specs.Prelude.{◌≡◌, IfOk, false};
+ghost use Rattle.clap.specs.Words.{app_of, new_app, rule_of};
+ghost use Rattle.p3l_opts.specs.Table.{app_with, rule_for};
+
+use clap::{Arg, ArgAction, Command};
+use std::alloc::{AllocError, Global};
+
+/// How a word of a command is spelled, and whether it has to be there.
+#[derive(Clone, Copy)]
+pub(crate) enum Form {
+    /// `VALUE`, which has to be there.
+    Positional,
+    /// `--name VALUE`, which has to be there.
+    Mandatory,
+    /// `--name`.
+    Flag,
+}
+
+/// The argument of this name and form.
+fn arg_for<'a>(alloc: Global, name: &'a str, form: Form) -> Arg<'a>
+    ensures rule { rule_of result ≡ rule_for name.entry.now form }
+    ensures local { result.global ≡ false }
+{
+    let arg = Arg::new(alloc, name);
+    match form {
+        Form::Positional => arg.required(true),
+        Form::Mandatory => arg.long(name).required(true),
+        Form::Flag => arg.long(name).action(ArgAction::SetTrue),
+    }
+}
+
+/// The command with these words, in this order.
+pub(crate) fn command_with<'a>(
+    alloc: Global,
+    name: &'a str,
+    words: &[(&'a str, Form)],
+) -> Result<Command<'a>, AllocError>
+    ensures { IfOk result (λ c. app_of c ≡ app_with (new_app name.entry.now) words.now) }
+{
+    let mut command = Command::new(alloc, name);
+    'words: for word in words {
+        let (id, form) = *word;
+        command = command.arg(arg_for(alloc, id, form))?;
+    }
+    Ok(command)
+}
