@@ -1,0 +1,119 @@
+-- Which verdicts have a status.
+use Rattle.std.proofs.Common.{◌≡◌, ℕ, Bool, true, false, Option, refl, sym, ap, ◌∙◌, arith}
+use Rattle.p3l_ast.specs.declared.position.Pos.{Pos}
+use Rattle.p3l_ast.specs.declared.refusal.Fault.{Fault}
+use Rattle.p3l_stream.specs.declared.items.Ending.{Ending}
+use Rattle.p3l_stream.specs.declared.items.Ending.TheVariants as ending
+use Rattle.p3l_report.specs.declared.stats.Stats.{Stats}
+use Rattle.p3l_report.specs.declared.verdict.Refusal.{Refusal}
+use Rattle.p3l_report.specs.declared.verdict.Refusal.TheVariants as refusal
+use Rattle.p3l_report.specs.declared.verdict.Finish.{Finish}
+use Rattle.p3l_report.specs.declared.verdict.Finish.TheVariants as finish
+use Rattle.p3l_report.specs.declared.verdict.Verdict.{Verdict}
+use Rattle.p3l_report.specs.declared.verdict.Verdict.TheVariants as verdict
+use Rattle.p3l_report.specs.Status as status
+use Rattle.p3l_report.specs.Verdict.{ending_status, finish_status, refusal_status, status_of}
+
+-- the two kinds of statuses are apart
+pub refusal_kind : (r : Refusal) → status.is_refusal (refusal_status r) ≡ true
+refusal_kind refusal.Usage = refl
+refusal_kind (refusal.FileFault name) = refl
+refusal_kind (refusal.FileTooLong name) = refl
+refusal_kind (refusal.Source fault pos) = refl
+refusal_kind (refusal.TooFew need) = refl
+refusal_kind (refusal.BadPick line) = refl
+refusal_kind (refusal.NoSuchProcess line pick count) = refl
+
+ending_kind : (e : Ending) → status.is_end (ending_status e) ≡ true
+ending_kind ending.End = refl
+ending_kind (ending.BadWord line) = refl
+ending_kind (ending.WrongCount line had) = refl
+ending_kind (ending.OutOfRange line) = refl
+ending_kind ending.ReadFault = refl
+ending_kind ending.TooLong = refl
+
+ending_other : (e : Ending) → status.is_refusal (ending_status e) ≡ false
+ending_other ending.End = refl
+ending_other (ending.BadWord line) = refl
+ending_other (ending.WrongCount line had) = refl
+ending_other (ending.OutOfRange line) = refl
+ending_other ending.ReadFault = refl
+ending_other ending.TooLong = refl
+
+pub finish_kind : (f : Finish) → status.is_end (finish_status f) ≡ true
+finish_kind finish.Done = refl
+finish_kind (finish.Stopped fired idle) = refl
+finish_kind (finish.Trapped item kind home) = refl
+finish_kind (finish.Stream e) = ending_kind e
+
+pub finish_other : (f : Finish) → status.is_refusal (finish_status f) ≡ false
+finish_other finish.Done = refl
+finish_other (finish.Stopped fired idle) = refl
+finish_other (finish.Trapped item kind home) = refl
+finish_other (finish.Stream e) = ending_other e
+
+pub refusal_other : (r : Refusal) → status.is_end (refusal_status r) ≡ false
+refusal_other refusal.Usage = refl
+refusal_other (refusal.FileFault name) = refl
+refusal_other (refusal.FileTooLong name) = refl
+refusal_other (refusal.Source fault pos) = refl
+refusal_other (refusal.TooFew need) = refl
+refusal_other (refusal.BadPick line) = refl
+refusal_other (refusal.NoSuchProcess line pick count) = refl
+
+-- a verdict that is a refusal of this status
+pub record IsRefusedWith (v : Verdict) (n : ℕ) : Type 0 where
+  pub refusal : Refusal
+  pub verdict_is : v ≡ verdict.Refused refusal
+  pub status_is : refusal_status refusal ≡ n
+
+-- a verdict that is an end of this status
+pub record IsEndedWith (v : Verdict) (n : ℕ) : Type 0 where
+  pub finish : Finish
+  pub stats : Option Stats
+  pub verdict_is : v ≡ verdict.Ended finish stats
+  pub status_is : finish_status finish ≡ n
+
+-- a status of a refusal is that of a verdict that is one
+pub refused_with : (v : Verdict) (n : ℕ) → status_of v ≡ n → status.is_refusal n ≡ true → IsRefusedWith v n
+refused_with (verdict.Refused r) n h kind = record { refusal = r; verdict_is = refl; status_is = h }
+refused_with (verdict.Ended f s) n h kind = absurd (let z = sym (finish_other f) ∙ ap status.is_refusal h ∙ kind in cc)
+refused_with verdict.WriteFault n h kind = absurd (let z = ap status.is_refusal h ∙ kind in cc)
+refused_with verdict.NoMemory n h kind = absurd (let z = ap status.is_refusal h ∙ kind in cc)
+
+-- a status of an end is that of a verdict that is one
+pub ended_with : (v : Verdict) (n : ℕ) → status_of v ≡ n → status.is_end n ≡ true → IsEndedWith v n
+ended_with (verdict.Refused r) n h kind = absurd (let z = sym (refusal_other r) ∙ ap status.is_end h ∙ kind in cc)
+ended_with (verdict.Ended f s) n h kind = record { finish = f; stats = s; verdict_is = refl; status_is = h }
+ended_with verdict.WriteFault n h kind = absurd (let z = ap status.is_end h ∙ kind in cc)
+ended_with verdict.NoMemory n h kind = absurd (let z = ap status.is_end h ∙ kind in cc)
+
+-- 10 is a failed writing alone
+pub write_is : (v : Verdict) → status_of v ≡ status.write → v ≡ verdict.WriteFault
+write_is (verdict.Refused r) h = absurd (let z = sym (refusal_kind r) ∙ ap status.is_refusal h in cc)
+write_is (verdict.Ended f s) h = absurd (let z = sym (finish_kind f) ∙ ap status.is_end h in cc)
+write_is verdict.WriteFault h = refl
+write_is verdict.NoMemory h = absurd (omega arith)
+
+-- 2 is a faulty command line alone
+pub usage_is : (r : Refusal) → refusal_status r ≡ status.usage → r ≡ refusal.Usage
+usage_is refusal.Usage h = refl
+usage_is _ h = absurd (omega arith)
+
+-- 3 is a refused text alone
+pub source_is : (r : Refusal) → refusal_status r ≡ status.source → (fault : Fault) × ((pos : Pos) × (r ≡ refusal.Source fault pos))
+source_is (refusal.Source fault pos) h = (fault, (pos, refl))
+source_is _ h = absurd (omega arith)
+
+-- each other status of an end is that of its stream's ending
+pub done_is : (e : Ending) → ending_status e ≡ status.done → e ≡ ending.End
+done_is ending.End h = refl
+done_is _ h = absurd (omega arith)
+
+pub read_is : (e : Ending) → ending_status e ≡ status.read → e ≡ ending.ReadFault
+read_is ending.ReadFault h = refl
+read_is _ h = absurd (omega arith)
+
+pub too_long_is : (e : Ending) → ending_status e ≡ status.too_long → e ≡ ending.TooLong
+too_long_is ending.TooLong h = refl
+too_long_is _ h = absurd (omega arith)

@@ -1,0 +1,14 @@
+//! What the program answers: how a command ended, with which status, and the lines that say so.
+#![tactic(auto)]
+
+pub mod line;
+pub mod line_fault;
+pub mod report;
+pub mod stats;
+pub mod trap;
+pub mod verdict;
+
+pub use line_fault::LineFault;
+pub use report::{put_no_memory, put_report, report_of};
+pub use stats::Stats;
+pub use verdict::{Finish, Refusal, Status, Verdict};

@@ -1,0 +1,139 @@
+// Lines for the standard error.
+
+ghost use Rattle.std.specs.Prelude.{◌≡◌, ◌++◌, IfOk, codes};
+ghost use Rattle.std.specs.Fmt.{decimal};
+ghost use Rattle.p3l_report.specs.Line.{counted_line, named_line, need_line, pick_line, source_line, stats_line, stopped_line, told_line, trap_line};
+ghost use Rattle.p3l_report.specs.LineText.{line_text};
+
+use crate::line_fault::LineFault;
+use crate::stats::Stats;
+use crate::trap::kind_text;
+use p3l_ast::{Fault, Pos};
+use p3l_base::{Name, NoMemory, TrapKind};
+use std::alloc::Global;
+
+/// A line: one that is always the same, or one that was made.
+#[derive(Debug, Drop)]
+pub enum Line {
+    Fixed(&'static str),
+    Made(String),
+}
+
+impl Line {
+    /// The bytes of the line.
+    pub fn as_bytes(&self) -> &[u8]
+        ensures { result.now ≡ line_text self.now }
+    {
+        match self {
+            Line::Fixed(text) => text.as_bytes(),
+            Line::Made(text) => text.as_str().as_bytes(),
+        }
+    }
+}
+
+/// A line that says what became of a file.
+pub fn file_line(alloc: Global, what: &'static str, name: &Name) -> Result<Line, NoMemory>
+    ensures { IfOk result (λ line. line_text line ≡ named_line what.now name.now) }
+{
+    let name = name.as_str();
+    let text = format!(in alloc; "{what}: {name}\n")?;
+    Ok(Line::Made(text))
+}
+
+/// The line of a fault of the source text.
+pub fn fault_line(alloc: Global, fault: Fault, pos: Pos) -> Result<Line, NoMemory>
+    ensures { IfOk result (λ line. line_text line ≡ source_line fault pos) }
+{
+    let line = pos.line;
+    let col = pos.col;
+    let number = fault.number();
+    let name = fault.name();
+    let text = format!(in alloc; "source: {line}:{col}: {number} {name}\n")?;
+    Ok(Line::Made(text))
+}
+
+/// The line of a line of a text, as the stream or the file of picks, that is refused.
+pub fn refused_line(
+    alloc: Global,
+    what: &'static str,
+    number: u64,
+    fault: LineFault,
+) -> Result<Line, NoMemory>
+    ensures { IfOk result (λ line. line_text line ≡ told_line what.now number fault) }
+{
+    let code = fault.number();
+    let name = fault.name();
+    let text = format!(in alloc; "{what}: line {number}: {code} {name}\n")?;
+    Ok(Line::Made(text))
+}
+
+/// The line of a line of the stream that has another count of words than an item.
+pub fn count_line(alloc: Global, number: u64, fault: LineFault, had: u64) -> Result<Line, NoMemory>
+    ensures { IfOk result (λ line. line_text line ≡ counted_line number fault had) }
+{
+    let code = fault.number();
+    let name = fault.name();
+    let text = format!(in alloc; "stream: line {number}: {code} {name} {had}\n")?;
+    Ok(Line::Made(text))
+}
+
+/// The line of a pick that is the number of no process.
+pub fn process_line(
+    alloc: Global,
+    number: u64,
+    fault: LineFault,
+    pick: u64,
+    count: u32,
+) -> Result<Line, NoMemory>
+    ensures { IfOk result (λ line. line_text line ≡ pick_line number fault pick count) }
+{
+    let code = fault.number();
+    let name = fault.name();
+    let text = format!(in alloc; "schedule: line {number}: {code} {name} {pick} of {count}\n")?;
+    Ok(Line::Made(text))
+}
+
+/// The line of too few processors.
+pub fn few_line(alloc: Global, need: u64) -> Result<Line, NoMemory>
+    ensures { IfOk result (λ line. line_text line ≡ need_line need) }
+{
+    let text = format!(in alloc; "too few processors: need {need}\n")?;
+    Ok(Line::Made(text))
+}
+
+/// The line of picks that ended early.
+pub fn picks_line(alloc: Global, fired: u64, idle: u64) -> Result<Line, NoMemory>
+    ensures { IfOk result (λ line. line_text line ≡ stopped_line fired idle) }
+{
+    let text = format!(in alloc; "stopped: {fired} fired, {idle} idle\n")?;
+    Ok(Line::Made(text))
+}
+
+/// The line of an item that came to a trap.
+pub fn trapped_line(
+    alloc: Global,
+    item: u64,
+    kind: TrapKind,
+    module: &Name,
+) -> Result<Line, NoMemory>
+    ensures { IfOk result (λ line. line_text line ≡ trap_line item kind module.now) }
+{
+    let what = kind_text(kind);
+    let name = module.as_str();
+    let text = format!(in alloc; "trap: item {item}: {what} in {name}\n")?;
+    Ok(Line::Made(text))
+}
+
+/// The line of the numbers of a run.
+pub fn numbers_line(alloc: Global, stats: &Stats) -> Result<Line, NoMemory>
+    ensures { IfOk result (λ line. line_text line ≡ stats_line stats.now) }
+{
+    let items = stats.items;
+    let fired = stats.fired;
+    let idle = stats.idle;
+    let bound = stats.bound;
+    let text = format!(in alloc;
+        "stats: items {items}, fired {fired}, idle {idle}, bound {bound}\n"
+    )?;
+    Ok(Line::Made(text))
+}

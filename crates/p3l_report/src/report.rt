@@ -1,0 +1,147 @@
+// The lines that a verdict puts on the standard error.
+
+ghost use Rattle.std.specs.Prelude.{◌≡◌, ◌++◌, ◌≤◌, List, ℕ, Some, IfOk};
+ghost use Rattle.p3l_io.specs.Causes.{Rose};
+ghost use Rattle.p3l_report.specs.declared.verdict.Verdict.TheVariants as verdicts;
+ghost use Rattle.p3l_report.specs.Verdict.{ending_line, finish_line, lines_of, refusal_line, reported_line, status_line};
+ghost use Rattle.p3l_report.specs.Report.{optional_text, report_text};
+
+use crate::line::{
+    Line, count_line, fault_line, few_line, file_line, numbers_line, picks_line, process_line,
+    refused_line, trapped_line,
+};
+use crate::line_fault::LineFault;
+use crate::verdict::{Finish, Refusal, Verdict};
+use p3l_base::NoMemory;
+use p3l_io::Sink;
+use p3l_stream::Ending;
+use std::alloc::Global;
+
+/// The lines of a verdict: that of a run's numbers, and that of the status.
+#[derive(Debug, Drop)]
+pub struct Report {
+    numbers: Option<Line>,
+    status: Option<Line>,
+}
+
+/// The line of a refusal.
+fn line_of_refusal(alloc: Global, refusal: &Refusal) -> Result<Line, NoMemory>
+    ensures { IfOk result (λ line. optional_text (Some line) ≡ refusal_line refusal.now) }
+{
+    match refusal {
+        Refusal::Usage => Ok(Line::Fixed("usage: the words are not a command of p3l\n")),
+        Refusal::FileFault(name) => file_line(alloc, "file fault", name),
+        Refusal::FileTooLong(name) => file_line(alloc, "file too long", name),
+        Refusal::Source { fault, pos } => fault_line(alloc, *fault, *pos),
+        Refusal::TooFew { need } => few_line(alloc, *need),
+        Refusal::BadPick { line } => refused_line(alloc, "schedule", *line, LineFault::BadPick),
+        Refusal::NoSuchProcess { line, pick, count } => process_line(
+            alloc,
+            *line,
+            LineFault::NoSuchProcess,
+            *pick,
+            *count,
+        ),
+    }
+}
+
+/// The line of a run whose stream ended so, if one is due.
+fn line_of_ending(alloc: Global, ending: Ending) -> Result<Option<Line>, NoMemory>
+    ensures { IfOk result (λ line. optional_text line ≡ ending_line ending) }
+{
+    match ending {
+        Ending::End => Ok(None),
+        Ending::BadWord(line) => {
+            Ok(Some(refused_line(alloc, "stream", line, LineFault::BadWord)?))
+        }
+        Ending::WrongCount { line, had } => Ok(Some(count_line(
+            alloc,
+            line,
+            LineFault::WrongCount,
+            had,
+        )?)),
+        Ending::OutOfRange(line) => {
+            Ok(Some(refused_line(alloc, "stream", line, LineFault::OutOfRange)?))
+        }
+        Ending::ReadFault => Ok(Some(Line::Fixed("read fault\n"))),
+        Ending::TooLong => Ok(Some(Line::Fixed("input too long\n"))),
+    }
+}
+
+/// The line of an end, if one is due.
+fn line_of_finish(alloc: Global, finish: &Finish) -> Result<Option<Line>, NoMemory>
+    ensures { IfOk result (λ line. optional_text line ≡ finish_line finish.now) }
+{
+    match finish {
+        Finish::Done => Ok(None),
+        Finish::Stopped { fired, idle } => Ok(Some(picks_line(alloc, *fired, *idle)?)),
+        Finish::Trapped { item, kind, module } => {
+            Ok(Some(trapped_line(alloc, *item, *kind, module)?))
+        }
+        Finish::Stream(ending) => line_of_ending(alloc, *ending),
+    }
+}
+
+/// The line of a verdict's status, if one is due.
+fn line_of_status(alloc: Global, verdict: &Verdict) -> Result<Option<Line>, NoMemory>
+    ensures { IfOk result (λ line. optional_text line ≡ status_line verdict.now) }
+{
+    match verdict {
+        Verdict::Refused(refusal) => Ok(Some(line_of_refusal(alloc, refusal)?)),
+        Verdict::Ended(finish, _) => line_of_finish(alloc, finish),
+        Verdict::WriteFault => Ok(Some(Line::Fixed("write fault\n"))),
+        Verdict::NoMemory => Ok(Some(Line::Fixed("no memory\n"))),
+    }
+}
+
+/// The line of the numbers of a run, if it is due.
+fn line_of_numbers(alloc: Global, verdict: &Verdict) -> Result<Option<Line>, NoMemory>
+    ensures { IfOk result (λ line. optional_text line ≡ reported_line verdict.now) }
+{
+    match verdict {
+        Verdict::Ended(_, Some(stats)) => Ok(Some(numbers_line(alloc, stats)?)),
+        _ => Ok(None),
+    }
+}
+
+/// The lines of a verdict.
+pub fn report_of(alloc: Global, verdict: &Verdict) -> Result<Report, NoMemory>
+    ensures { IfOk result (λ report. report_text report ≡ lines_of verdict.now) }
+{
+    let numbers = line_of_numbers(alloc, verdict)?;
+    let status = line_of_status(alloc, verdict)?;
+    Ok(Report { numbers, status })
+}
+
+/// Puts a line, if there is one; a fault of the sink is all that its count tells.
+fn put_line<E: Sink>(err: &mut E, line: &Option<Line>)
+    ensures told { (said : List ℕ) → E.taken err.old ≡ Some said
+        → (Rose (E.faults err.old) (E.faults err.new) → ⊥)
+        → E.taken err.new ≡ Some (said ++ optional_text line.now) }
+    ensures later { E.faults err.old ≤ E.faults err.new }
+{
+    if let Some(line) = line {
+        let _ = err.put(line.as_bytes());
+    }
+}
+
+/// Puts all lines, each by one put; one that fails doesn't stop the next.
+pub fn put_report<E: Sink>(err: &mut E, report: &Report)
+    ensures told { (said : List ℕ) → E.taken err.old ≡ Some said
+        → (Rose (E.faults err.old) (E.faults err.new) → ⊥)
+        → E.taken err.new ≡ Some (said ++ report_text report.now) }
+    ensures later { E.faults err.old ≤ E.faults err.new }
+{
+    put_line(err, &report.numbers);
+    put_line(err, &report.status);
+}
+
+/// Puts the line that says that memory was wanting.
+pub fn put_no_memory<E: Sink>(err: &mut E)
+    ensures told { (said : List ℕ) → E.taken err.old ≡ Some said
+        → (Rose (E.faults err.old) (E.faults err.new) → ⊥)
+        → E.taken err.new ≡ Some (said ++ lines_of verdicts.NoMemory) }
+    ensures later { E.faults err.old ≤ E.faults err.new }
+{
+    let _ = err.put(b"no memory\n");
+}
