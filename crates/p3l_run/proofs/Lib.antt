@@ -1,0 +1,4 @@
+pub mod WriteSteps
+pub mod DriveSteps
+pub mod ExecuteSteps
+pub mod RunSteps

@@ -1,0 +1,44 @@
+// Why a run ends early.
+
+ghost use Rattle.std.specs.Prelude.{◌≡◌};
+ghost use Rattle.p3l_run.specs.declared.fault.RunFault.TheVariants as faults;
+ghost use Rattle.p3l_run.specs.Fault.{verdict_of};
+
+use p3l_io::Failed;
+use p3l_report::Verdict;
+
+/// Why a run ends early.
+#[derive(Clone, Copy, Debug, Drop, PartialEq, Eq)]
+pub enum RunFault {
+    /// Writing failed.
+    Write,
+    /// Memory was wanting.
+    NoMemory,
+}
+
+impl From<p3l_base::NoMemory> for RunFault {
+    ghost from_gives = { λ _ e. e ≡ faults.NoMemory };
+
+    fn from(_want: p3l_base::NoMemory) -> RunFault {
+        RunFault::NoMemory
+    }
+}
+
+impl From<Failed> for RunFault {
+    ghost from_gives = { λ _ e. e ≡ faults.Write };
+
+    fn from(_failed: Failed) -> RunFault {
+        RunFault::Write
+    }
+}
+
+impl From<RunFault> for Verdict {
+    ghost from_gives = { λ fault v. v ≡ verdict_of fault };
+
+    fn from(fault: RunFault) -> Verdict {
+        match fault {
+            RunFault::Write => Verdict::WriteFault,
+            RunFault::NoMemory => Verdict::NoMemory,
+        }
+    }
+}

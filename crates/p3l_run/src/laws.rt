@@ -1,0 +1,15 @@
+// What is known of every run of a network.
+
+ghost use Rattle.p3l_run.specs.Laws.{Laws};
+ghost use Rattle.p3l_run.specs.Network.{IsSound, Network};
+
+use p3l_net::laws as net;
+
+/// The laws of all runs, at one network.
+pub fn laws()
+    ensures { (n : Network) → IsSound n → Laws n }
+{
+    net::a_carried_net_means_its_items();
+    net::a_filled_machine_follows_the_run();
+    net::runs_go_pick_by_pick();
+}

@@ -1,0 +1,16 @@
+// What a run is made by.
+
+use p3l_net::Net;
+use p3l_skel::{Tree, Units};
+
+/// What a run is made by: the tree, the bodies of its modules, and the net that runs it.
+#[derive(Drop)]
+pub struct Plan<'a, U: Units> {
+    pub tree: &'a Tree,
+    pub units: &'a U,
+    pub net: Net,
+    /// How often the net can fire for one item.
+    pub firings: u64,
+    /// How many words an item has.
+    pub width: u32,
+}

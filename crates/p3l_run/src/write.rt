@@ -1,0 +1,55 @@
+// The writing of texts and of what a network emits.
+
+ghost use Rattle.std.specs.Prelude.{◌≡◌, IfOk, OnOk, OnErr, fold};
+ghost use Rattle.std.specs.Option.{option_to_list};
+ghost use Rattle.p3l_run.specs.Steps.{trap_after};
+ghost use Rattle.p3l_run.specs.Write.{HasBegun, HasPut, WriteCause};
+ghost use Rattle.p3l_stream.specs.Text.{text_of};
+
+use crate::fault::RunFault;
+use p3l_base::{Outcome, Trap};
+use p3l_io::Sink;
+use p3l_stream::item_text;
+use std::alloc::Global;
+
+/// Writes a text by one put, or by none where there is no text.
+pub fn write<K: Sink>(out: &mut K, text: &[u8]) -> Result<(), RunFault>
+    ensures put { OnOk result (HasPut (K.taken out.old) (K.taken out.new) text.now) }
+    ensures begun { OnErr result (HasBegun (K.taken out.old) (K.taken out.new) text.now) }
+    ensures cause { WriteCause (K.faults out.old) (K.faults out.new) result }
+{
+    if text.is_empty() {
+        return Ok(());
+    }
+    match out.put(text) {
+        Ok(()) => Ok(()),
+        Err(_) => Err(RunFault::Write),
+    }
+}
+
+/// Writes the line of what was emitted, if that is a value; gives the last trap so far.
+pub(crate) fn write_emitted<K: Sink>(
+    alloc: Global,
+    emitted: Option<Outcome>,
+    trap: Option<Trap>,
+    out: &mut K,
+) -> Result<Option<Trap>, RunFault>
+    ensures trap { IfOk result (λ last. last ≡ fold trap_after trap (option_to_list emitted)) }
+    ensures put { OnOk result (HasPut (K.taken out.old) (K.taken out.new) (text_of (option_to_list emitted))) }
+    ensures begun { OnErr result (HasBegun (K.taken out.old) (K.taken out.new) (text_of (option_to_list emitted))) }
+    ensures cause { WriteCause (K.faults out.old) (K.faults out.new) result }
+{
+    match emitted {
+        None => Ok(trap),
+        Some(Outcome::Trapped(other)) => Ok(Some(other)),
+        Some(Outcome::Value(words)) => {
+            let Ok(text) = item_text(alloc, &words) else {
+                return Err(RunFault::NoMemory);
+            };
+            match write(out, text.as_slice()) {
+                Ok(()) => Ok(trap),
+                Err(fault) => Err(fault),
+            }
+        }
+    }
+}
