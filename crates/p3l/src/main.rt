@@ -1,31 +1,20 @@
 //! Compiles P3L programs to networks of processes, and runs them on streams.
 #![tactic(auto)]
 
-mod affine;
-mod command;
-mod execution;
-mod form;
-mod format;
-mod laws;
-mod line;
-mod load;
-mod report;
-mod run;
-mod stats;
-#[cfg(test)]
-mod tests;
-pub mod top;
-mod verdict;
-mod write;
+mod help;
 
+ghost use Rattle.std.specs.Prelude.{◌≡◌};
+ghost use Rattle.std.specs.Process.{exit_status};
+
+use help::help_for;
 use p3l_base::NoMemory;
 use p3l_host::{HostErr, HostFiles, HostIn, HostOut};
-use report::put_no_memory;
+use p3l_io::Sink;
+use p3l_program::top::top;
+use p3l_report::{Status, Verdict, put_no_memory, put_report, report_of};
 use std::env;
 use std::io::ErrorKind;
 use std::process::ExitCode;
-use top::top;
-use verdict::{Status, Verdict};
 
 /// The words of the command line, the program's own name first. Where one of them is not UTF-8
 /// there are none, and no words are no command.
@@ -37,12 +26,39 @@ fn words_of(rt: &HostRuntime) -> Result<Vec<String>, NoMemory> {
     }
 }
 
-/// Runs the program with the real files and streams.
+/// Writes a text on the standard output; a failed write is a write fault.
+fn show(rt: &HostRuntime, text: &str) -> Status {
+    match HostOut::new(rt.stdout()).put(text.as_bytes()) {
+        Ok(()) => Status(0),
+        Err(_) => tell(rt, &Verdict::WriteFault),
+    }
+}
+
+/// Puts the lines of a verdict on the standard error.
+fn tell(rt: &HostRuntime, verdict: &Verdict) -> Status {
+    let mut err = HostErr::new(rt.stderr());
+    match report_of(rt.alloc(), verdict) {
+        Ok(report) => {
+            put_report(&mut err, &report);
+            verdict.status()
+        }
+        Err(NoMemory) => {
+            put_no_memory(&mut err);
+            Verdict::NoMemory.status()
+        }
+    }
+}
+
+/// Answers words that ask for help or the version, or runs the program with the real files and
+/// streams.
 fn start(rt: &HostRuntime) -> Result<Status, NoMemory> {
     let all = words_of(rt)?;
     let mut words: Vec<&str> = Vec::new(rt.alloc());
     for word in all.iter().skip(1) {
         words.push(word.as_str())?;
+    }
+    if let Some(text) = help_for(words.as_slice()) {
+        return Ok(show(rt, text));
     }
     let mut files = HostFiles::new(rt);
     let mut input = HostIn::new(rt.stdin());
@@ -58,14 +74,17 @@ fn start(rt: &HostRuntime) -> Result<Status, NoMemory> {
     ))
 }
 
+/// The exit code of a status.
+fn exit_of(status: Status) -> ExitCode
+    ensures { exit_status result ≡ status.0 }
+{
+    ExitCode::from(status.0)
+}
+
 /// The status of the program; where there was no memory for its words, it says so.
 fn main(rt: HostRuntime) -> ExitCode {
-    let status = match start(&rt) {
-        Ok(status) => status,
-        Err(NoMemory) => {
-            put_no_memory(&mut HostErr::new(rt.stderr()));
-            Verdict::NoMemory.status()
-        }
-    };
-    ExitCode::from(status.0)
+    match start(&rt) {
+        Ok(status) => exit_of(status),
+        Err(NoMemory) => exit_of(tell(&rt, &Verdict::NoMemory)),
+    }
 }

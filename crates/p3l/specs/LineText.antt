@@ -1,8 +1,0 @@
--- The bytes of a line.
-use Rattle.std.specs.Prelude.{ℕ, List, string_bytes}
-use Rattle.p3l.specs.declared.line.Line.{Line}
-use Rattle.p3l.specs.declared.line.Line.TheVariants as line
-
-abbrev pub line_text : Line → List ℕ
-line_text (line.Fixed text) = text.now
-line_text (line.Made text) = string_bytes text

@@ -1,0 +1,68 @@
+// The texts of `--help` and `--version`.
+
+/// What the program is and which commands it has.
+const PROGRAM: &str = "p3l compiles P3L programs to networks of processes, and runs them on streams.
+
+usage: p3l COMMAND ..
+
+commands:
+  run PROGRAM --processors P [--stats]   run a program on the standard input
+  fmt PROGRAM                            write a program in its canonical text
+
+p3l COMMAND --help says more. --version gives the version.
+";
+
+/// What `run` does.
+const RUN: &str = "usage: p3l run PROGRAM --processors P [--stats]
+
+Reads items from the standard input, one a line, and writes one line for each result.
+
+  PROGRAM          the file of the program
+  --processors P   how many processors there are, 1 to 512
+  --stats          put a line on the run's numbers on the standard error
+
+example: p3l run m.p3l --processors 4 < items
+";
+
+/// What `fmt` does.
+const FMT: &str = "usage: p3l fmt PROGRAM
+
+Writes the canonical text of a program to the standard output.
+
+  PROGRAM          the file of the program
+
+example: p3l fmt m.p3l
+";
+
+/// The version.
+const VERSION: &str = "p3l 0.1.0\n";
+
+/// Whether a word asks for help.
+fn is_help(word: &str) -> bool {
+    word == "--help" || word == "-h"
+}
+
+/// Whether a word asks for the version.
+fn is_version(word: &str) -> bool {
+    word == "--version" || word == "-V"
+}
+
+/// The help of the command of this name, if there is one.
+fn help_of(command: &str) -> Option<&'static str> {
+    match command {
+        "run" => Some(RUN),
+        "fmt" => Some(FMT),
+        _ => None,
+    }
+}
+
+/// The text that the words ask for: of the program by the first word, of a command right behind it.
+pub fn help_for(words: &[&str]) -> Option<&'static str> {
+    match words {
+        [first, ..] if is_help(first) => Some(PROGRAM),
+        [first, ..] if is_version(first) => Some(VERSION),
+        [command, second, ..] if is_help(second) => help_of(command),
+        [command, second, ..] if is_version(second) && help_of(command).is_some() => Some(VERSION),
+        _ => None,
+    }
+}

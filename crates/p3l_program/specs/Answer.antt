@@ -1,0 +1,103 @@
+-- What the program answers, writes and says, and why.
+use Rattle.std.specs.Prelude.{◌≡◌, ℕ, List, ◌++◌, ◌⊎◌, Option, Some}
+use Rattle.clap.specs.Words.{Text}
+use Rattle.p3l_io.specs.Told.{Held}
+use Rattle.p3l_opts.specs.declared.command.Command.{Command}
+use Rattle.p3l_opts.specs.Command.{Spells}
+use Rattle.p3l_report.specs.declared.stats.Stats.{Stats}
+use Rattle.p3l_report.specs.declared.verdict.Finish.{Finish}
+use Rattle.p3l_report.specs.declared.verdict.Refusal.{Refusal}
+use Rattle.p3l_report.specs.declared.verdict.Refusal.TheVariants as refusal
+use Rattle.p3l_report.specs.declared.verdict.Verdict.{Verdict}
+use Rattle.p3l_report.specs.declared.verdict.Verdict.TheVariants as verdict
+use Rattle.p3l_report.specs.Line.{stats_line}
+use Rattle.p3l_report.specs.Verdict.{finish_status, lines_of, refusal_status, status_of}
+use Rattle.p3l_program.specs.Command.{Begins, Ends, IsDueOf, IsWhole, file_of, stages_of}
+use Rattle.p3l_program.specs.Due.{IsBegun, IsEnd, IsRefusal}
+use Rattle.p3l_program.specs.Run.{Emits}
+use Rattle.p3l_program.specs.Stage.{IsRefusedBy}
+use Rattle.p3l_program.specs.File.{IsTooLong}
+use Rattle.p3l_program.specs.World.{Change, HasRisen, IsCalm, IsUntouched, World}
+
+-- the words spell no command
+abbrev pub SpellsNone : List Text → Type 0
+SpellsNone words = (command : Command) → Spells words command → ⊥
+
+-- the words spell a command of which the verdict is due
+pub record IsAsked (words : List Text) (w : World) (v : Verdict) : Type 0 where
+  pub command : Command
+  pub spelled : Spells words command
+  pub due : IsDueOf w command v
+
+-- they spell none, and the verdict says so
+pub record IsUsage (words : List Text) (w : World) (v : Verdict) : Type 0 where
+  pub verdict_is : v ≡ verdict.Refused refusal.Usage
+  pub none : SpellsNone words
+  pub untouched : IsUntouched w
+  pub files : IsCalm w.files
+
+-- memory for reading them was wanting
+pub record IsUnread (w : World) (v : Verdict) : Type 0 where
+  pub verdict_is : v ≡ verdict.NoMemory
+  pub untouched : IsUntouched w
+
+-- why a verdict is due
+abbrev pub IsDue : List Text → World → Verdict → Type 0
+IsDue words w v = IsAsked words w v ⊎ (IsUsage words w v ⊎ IsUnread w v)
+
+-- the answer of the program: how it ended, with this status, why, and, where its count of faults doesn't rise, its lines on the
+-- standard error
+pub record Answers (words : List Text) (w : World) (err : Change (List ℕ)) (status : ℕ) : Type 0 where
+  pub verdict : Verdict
+  pub status_is : status ≡ status_of verdict
+  pub due : IsDue words w verdict
+  pub says : (said : List ℕ) → err.old ≡ Some said → (HasRisen err → ⊥) → err.new ≡ Some (said ++ lines_of verdict)
+
+-- what was written begins what the command that the words spell writes
+pub record BeginsWork (words : List Text) (w : World) : Type 0 where
+  pub command : Command
+  pub spelled : Spells words command
+  pub begun : IsBegun w (stages_of command) (Begins w command)
+
+-- all that the command writes was written
+pub record IsDone (words : List Text) (w : World) (rest taken : List ℕ) : Type 0 where
+  pub command : Command
+  pub spelled : Spells words command
+  pub whole : IsWhole w rest taken command
+
+-- a stage of the command that the words spell refuses so, after all before it passed
+pub record IsRefusedAt (words : List Text) (files : Change Held) (refused : Refusal) : Type 0 where
+  pub command : Command
+  pub spelled : Spells words command
+  pub by : IsRefusedBy files (stages_of command) refused
+
+-- the words spell no command, or a stage of the one that they spell refuses; nothing was touched
+pub record IsRefusedWith (words : List Text) (w : World) (status : ℕ) : Type 0 where
+  pub refused : Refusal
+  pub status_is : refusal_status refused ≡ status
+  pub by : ((refused ≡ refusal.Usage) × SpellsNone words) ⊎ IsRefusedAt words w.files refused
+  pub untouched : IsUntouched w
+
+-- the command that the words spell came to an end of this status
+pub record IsEndedWith (words : List Text) (w : World) (status : ℕ) : Type 0 where
+  pub command : Command
+  pub spelled : Spells words command
+  pub finish : Finish
+  pub stats : Option Stats
+  pub status_is : finish_status finish ≡ status
+  pub end : IsEnd w (stages_of command) (Ends w command finish stats)
+
+-- the file that the words name is longer than the limit
+pub record HasTooLong (words : List Text) (files : Option Held) : Type 0 where
+  pub command : Command
+  pub spelled : Spells words command
+  pub name : List ℕ
+  pub name_is : file_of command ≡ Some name
+  pub longer : IsTooLong files name
+
+-- the line of the numbers comes first on the standard error, and they are those of the run
+pub record Reports (w : World) (name said : List ℕ) (err : Option (List ℕ)) : Type 0 where
+  pub numbers : Stats
+  pub more : List ℕ
+  pub line : err ≡ Some (said ++ (stats_line numbers ++ more))
+  pub emits : Emits w name numbers

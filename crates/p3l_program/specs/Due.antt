@@ -1,0 +1,40 @@
+-- When a verdict is due: what was written by then, and how the counts of faults went.
+use Rattle.std.specs.Prelude.{List, Option, ◌⊎◌}
+use Rattle.p3l_report.specs.declared.stats.Stats.{Stats}
+use Rattle.p3l_report.specs.declared.verdict.Finish.{Finish}
+use Rattle.p3l_report.specs.declared.verdict.Refusal.{Refusal}
+use Rattle.p3l_report.specs.declared.verdict.Verdict.{Verdict}
+use Rattle.p3l_report.specs.declared.verdict.Verdict.TheVariants as verdict
+use Rattle.p3l_program.specs.Stage.{AllPass, FilesCause, IsRefusedBy, Stage}
+use Rattle.p3l_program.specs.World.{HasRisen, IsCalm, IsUntouched, World}
+
+-- a stage refused, and nothing was touched
+pub record IsRefusal (w : World) (stages : List Stage) (refused : Refusal) : Type 0 where
+  pub by : IsRefusedBy w.files stages refused
+  pub untouched : IsUntouched w
+  pub files : FilesCause refused w.files
+
+-- all stages passed, and the command came to its end
+pub record IsEnd (w : World) (stages : List Stage) (Ends : Type 0) : Type 0 where
+  pub passed : AllPass w.files stages
+  pub ends : Ends
+  pub files : IsCalm w.files
+  pub out : IsCalm w.out
+
+-- all stages passed, and a front was written
+pub record IsBegun (w : World) (stages : List Stage) (Begins : Type 0) : Type 0 where
+  pub passed : AllPass w.files stages
+  pub begins : Begins
+
+-- writing failed then
+pub record IsWriteFault (w : World) (stages : List Stage) (Begins : Type 0) : Type 0 where
+  pub begun : IsBegun w stages Begins
+  pub files : IsCalm w.files
+  pub out : HasRisen w.out
+
+-- a verdict is due of a command with these stages, by what its end and its beginning mean
+abbrev pub IsDueWith : World → List Stage → (Finish → Option Stats → Type 0) → Type 0 → Verdict → Type 0
+IsDueWith w stages Ends Begins (verdict.Refused refused) = IsRefusal w stages refused
+IsDueWith w stages Ends Begins (verdict.Ended finish stats) = IsEnd w stages (Ends finish stats)
+IsDueWith w stages Ends Begins verdict.WriteFault = IsWriteFault w stages Begins
+IsDueWith w stages Ends Begins verdict.NoMemory = IsUntouched w ⊎ IsBegun w stages Begins

@@ -1,0 +1,13 @@
+pub mod Affine
+pub mod AffineLaws
+pub mod Form
+pub mod Network
+pub mod World
+pub mod File
+pub mod Stage
+pub mod Load
+pub mod Due
+pub mod Fmt
+pub mod Run
+pub mod Command
+pub mod Answer

@@ -1,0 +1,52 @@
+-- What a command works on, before and after it.
+use Rattle.std.specs.Prelude.{◌≡◌, ℕ, List, Option, Some}
+use Rattle.p3l_io.specs.Causes.{Rose}
+use Rattle.p3l_io.specs.Told.{Held}
+
+-- an object of the outside before and after a call: what it tells, if it does, and its count of faults
+pub record Change (X : Type 0) : Type 0 where
+  pub old : Option X
+  pub new : Option X
+  pub before : ℕ
+  pub now : ℕ
+
+-- an object of some type before and after a call, by what such objects tell and count
+abbrev pub change : {T X : Type 0} → (T → Option X) → (T → ℕ) → T → T → Change X
+change told faults old new = record { old = told old; new = told new; before = faults old; now = faults new }
+
+-- the files, the input and the output
+pub record World : Type 0 where
+  pub files : Change Held
+  pub input : Change (List ℕ)
+  pub out : Change (List ℕ)
+
+abbrev pub world : Change Held → Change (List ℕ) → Change (List ℕ) → World
+world files input out = record { files = files; input = input; out = out }
+
+-- the count of faults rose
+abbrev pub HasRisen : {X : Type 0} → Change X → Type 0
+HasRisen change = Rose change.before change.now
+
+-- it is what it was
+abbrev pub IsCalm : {X : Type 0} → Change X → Type 0
+IsCalm change = change.now ≡ change.before
+
+-- nothing was taken or put, and no call failed
+pub record IsStill {X : Type 0} (change : Change X) : Type 0 where
+  pub told : change.new ≡ change.old
+  pub calm : IsCalm change
+
+-- nothing was taken and nothing written
+pub record IsUntouched (w : World) : Type 0 where
+  pub input : IsStill w.input
+  pub out : IsStill w.out
+
+-- where the files, the input and the output tell what they hold, what is left and what they took
+abbrev pub WhenTold : World → (Held → List ℕ → List ℕ → Type 0) → Type 0
+WhenTold w P = (held : Held) (rest taken : List ℕ) → w.files.old ≡ Some held → w.input.old ≡ Some rest → w.out.old ≡ Some taken → P held rest taken
+
+-- no count of faults rose
+pub record HasNoFault (w : World) : Type 0 where
+  pub files : HasRisen w.files → ⊥
+  pub input : HasRisen w.input → ⊥
+  pub out : HasRisen w.out → ⊥
