@@ -1,0 +1,220 @@
+// The machine under round robin, against the plain program of the meaning.
+
+ghost use Rattle.std.specs.Prelude.{◌≡◌, ◌∷◌, [], IfOk};
+ghost use Rattle.p3l_network_tests.specs.OneNode.{one_node};
+
+use p3l_base::{List, Name, NoMemory, Outcome, Trap, TrapKind, Words};
+use p3l_net::{Machine, laws, unit_net};
+use p3l_plain::item_outcome;
+use p3l_skel::{Form, ModuleInfo, ModuleKind, Node, Tree, Units, lawful_tree};
+use std::alloc::Global;
+use std::process::Abort;
+use std::test::Fail;
+
+/// The body that gives back the word that it is given.
+struct Echo;
+
+impl Units for Echo {
+    ghost use Rattle.p3l_network_tests.specs.OneNode.{one_node, given_back};
+    ghost use Rattle.p3l_network_tests.specs.OneNodeLaws.{gives_back};
+
+    ghost tree = { λ _. one_node };
+
+    ghost leaf = { λ _. given_back };
+
+    ghost gives_outs = { λ _. gives_back };
+
+    fn run(&self, alloc: Global, _node: u32, words: &Words) -> Result<Outcome, NoMemory> {
+        let copy = words.as_slice().to_vec(alloc)?;
+        Ok(Outcome::Value(Words::from_vec(copy)))
+    }
+}
+
+/// The body that traps on each word.
+struct Refusing;
+
+impl Units for Refusing {
+    ghost use Rattle.p3l_network_tests.specs.OneNode.{one_node};
+    ghost use Rattle.p3l_network_tests.specs.Refusing.{refusing, gives_none};
+
+    ghost tree = { λ _. one_node };
+
+    ghost leaf = { λ _. refusing };
+
+    ghost gives_outs = { λ _. gives_none };
+
+    fn run(&self, _alloc: Global, _node: u32, _words: &Words) -> Result<Outcome, NoMemory> {
+        Ok(Outcome::Trapped(Trap {
+            kind: TrapKind::DivZero,
+            module: 0,
+        }))
+    }
+}
+
+/// The tree of one such body.
+fn tree_of_one(alloc: Global) -> Result<Tree, NoMemory>
+    ensures { IfOk result (λ tree. tree ≡ one_node) }
+{
+    let mut nodes = List::new(alloc);
+    nodes.push(Node {
+        form: Form::Seq,
+        module: 0,
+        ins: 1,
+        outs: 1,
+        parts: List::new(alloc),
+    })?;
+    let mut modules = List::new(alloc);
+    modules.push(ModuleInfo {
+        name: Name::from_text(alloc, "main")?,
+        kind: ModuleKind::Seq,
+    })?;
+    Ok(Tree { nodes, modules })
+}
+
+/// The words of an item of one word.
+fn item_of(alloc: Global, word: i64) -> Result<Words, NoMemory>
+    ensures { IfOk result (λ words. words ≡ word ∷ []) }
+{
+    let mut words = Words::new(alloc);
+    words.push(word)?;
+    Ok(words)
+}
+
+/// Offers the item at `next`, if the machine wants one and there is one; gives the place of the
+/// next one.
+fn fill(
+    alloc: Global,
+    machine: &mut Machine<'_>,
+    items: &[i64],
+    next: usize,
+) -> Result<usize, NoMemory>
+    requires { machine.old.tree ≡ one_node }
+    ensures { machine.new.tree ≡ machine.old.tree }
+{
+    if next < items.len() && machine.wants_item() {
+        machine.offer(alloc, item_of(alloc, items[next])?)?;
+        return Ok(next + 1);
+    }
+    Ok(next)
+}
+
+/// Fires a process, and keeps the outcome that it hands out.
+fn step<U: Units>(
+    rt: &impl Abort,
+    alloc: Global,
+    machine: &mut Machine<'_>,
+    tree: &Tree,
+    units: &U,
+    process: u32,
+    outcomes: &mut List<Outcome>,
+) -> Result<(), NoMemory>
+    requires machine { machine.old.tree ≡ one_node }
+    requires tree { tree.now ≡ one_node }
+    requires units { U.tree units.now ≡ one_node }
+    ensures { machine.new.tree ≡ machine.old.tree }
+{
+    assert!(rt; process < machine.size());
+    assert!(rt; machine.can_step(process));
+    assert!(rt; machine.fired() < 100);
+    let fired = machine.fire(alloc, tree, units, process)?;
+    if let Some(outcome) = fired.emitted {
+        outcomes.push(outcome)?;
+    }
+    Ok(())
+}
+
+/// What the network of one body emits of items under round robin.
+fn emitted<U: Units>(
+    rt: &impl Abort,
+    alloc: Global,
+    tree: &Tree,
+    units: &U,
+    items: &[i64],
+) -> Result<List<Outcome>, NoMemory>
+    requires tree { tree.now ≡ one_node }
+    requires units { U.tree units.now ≡ one_node }
+{
+    let net = unit_net(alloc, 4)?;
+    laws::the_net_of_one_unit_is_typed();
+    assert!(rt; lawful_tree(tree));
+    let mut machine = Machine::start(alloc, tree, net)?;
+    let mut outcomes = List::new(alloc);
+    let mut next = 0;
+    let mut cursor = 0;
+    for _pick in 0..100 {
+        next = fill(alloc, &mut machine, items, next)?;
+        assert!(rt; cursor < machine.size());
+        let Some(process) = machine.next_ready(cursor) else {
+            return Ok(outcomes);
+        };
+        step(rt, alloc, &mut machine, tree, units, process, &mut outcomes)?;
+        assert!(rt; process < 3);
+        cursor = (process + 1) % 3;
+    }
+    Ok(outcomes)
+}
+
+/// What the plain program gives for items, up to and with the first trap.
+fn plain<U: Units>(
+    rt: &impl Abort,
+    alloc: Global,
+    tree: &Tree,
+    units: &U,
+    items: &[i64],
+) -> Result<List<Outcome>, NoMemory>
+    requires tree { tree.now ≡ one_node }
+    requires units { U.tree units.now ≡ one_node }
+{
+    let mut outcomes = List::new(alloc);
+    for word in items {
+        assert!(rt; lawful_tree(tree));
+        let item = item_of(alloc, *word)?;
+        let outcome = item_outcome(alloc, tree, units, 0, &item)?;
+        let ends = matches!(outcome, Outcome::Trapped(_));
+        outcomes.push(outcome)?;
+        if ends {
+            break;
+        }
+    }
+    Ok(outcomes)
+}
+
+/// Whether two outcomes are the same.
+fn is_same(one: &Outcome, other: &Outcome) -> bool {
+    match (one, other) {
+        (Outcome::Value(words), Outcome::Value(others)) => words.as_slice() == others.as_slice(),
+        (Outcome::Trapped(trap), Outcome::Trapped(another)) => trap == another,
+        _ => false,
+    }
+}
+
+/// Compares the machine with the plain program; gives how many outcomes there are.
+fn compare<U: Units>(
+    rt: &impl Abort,
+    alloc: Global,
+    tree: &Tree,
+    units: &U,
+    items: &[i64],
+) -> Result<usize, NoMemory>
+    requires tree { tree.now ≡ one_node }
+    requires units { U.tree units.now ≡ one_node }
+{
+    let emitted = emitted(rt, alloc, tree, units, items)?;
+    let plain = plain(rt, alloc, tree, units, items)?;
+    assert_eq!(rt; emitted.len(), plain.len());
+    for (one, other) in emitted.as_slice().iter().zip(plain.as_slice()) {
+        assert!(rt; is_same(one, other));
+    }
+    Ok(emitted.len())
+}
+
+#[test]
+fn the_machine_emits_what_the_plain_program_gives(rt: HostRuntime) -> Result<(), Fail> {
+    let items = [7, -3, 0, 5, i64::MIN, i64::MAX, 1, 2, 3, 4];
+    let tree = tree_of_one(rt.alloc())?;
+    let echoed = compare(&rt, rt.alloc(), &tree, &Echo, &items)?;
+    assert_eq!(rt; echoed, items.len());
+    let refused = compare(&rt, rt.alloc(), &tree, &Refusing, &items)?;
+    assert_eq!(rt; refused, 1);
+    Ok(())
+}

@@ -1,0 +1,7 @@
+//! Tests of the rules of programs, over public calls and texts.
+#![tactic(auto)]
+
+#[cfg(test)]
+mod bodies;
+#[cfg(test)]
+mod shapes;

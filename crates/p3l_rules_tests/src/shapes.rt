@@ -1,0 +1,90 @@
+// Shapes, what brackets leave of them, and constants.
+
+use p3l_ast::{Arg, Num, Port, Pos, Spot, Sub};
+use p3l_base::{List, Name, NoMemory};
+use p3l_types::{Consts, Shape, product, shape_of, sliced, words_of};
+use std::alloc::Global;
+use std::test::Fail;
+
+fn spot(alloc: Global, name: &str) -> Result<Spot, NoMemory> {
+    Ok(Spot {
+        name: Name::from_text(alloc, name)?,
+        pos: Pos { line: 1, col: 1 },
+    })
+}
+
+#[test]
+fn constants(rt: HostRuntime) -> Result<(), Fail> {
+    let alloc = rt.alloc();
+    let mut consts = Consts::new(alloc);
+    let name = Name::from_text(alloc, "N")?;
+    assert!(rt; consts.get(&name).is_none());
+    consts.add(alloc, &name, 3)?;
+    assert_eq!(rt; consts.get(&name), Some(3));
+    let copy = consts.copy(alloc)?;
+    assert_eq!(rt; copy.get(&name), Some(3));
+    Ok(())
+}
+
+/// The port `a[2][N]`.
+fn port(alloc: Global) -> Result<Port, NoMemory> {
+    let mut sizes = List::new(alloc);
+    sizes.push(Num::Digits(2, Pos { line: 1, col: 1 }))?;
+    sizes.push(Num::Named(spot(alloc, "N")?))?;
+    Ok(Port {
+        at: spot(alloc, "a")?,
+        sizes,
+    })
+}
+
+#[test]
+fn shapes(rt: HostRuntime) -> Result<(), Fail> {
+    let alloc = rt.alloc();
+    let mut consts = Consts::new(alloc);
+    if consts.get(&Name::from_text(alloc, "N")?).is_none() {
+        consts.add(alloc, &Name::from_text(alloc, "N")?, 3)?;
+    }
+    let shape = shape_of(alloc, &port(alloc)?, &consts)?;
+    assert_eq!(rt; shape.sizes.as_slice(), [2, 3].as_slice());
+    Ok(())
+}
+
+/// The shape of two sizes.
+fn shape(alloc: Global, first: u32, second: u32) -> Result<Shape, NoMemory> {
+    let mut sizes = List::new(alloc);
+    sizes.push(first)?;
+    sizes.push(second)?;
+    Ok(Shape { sizes })
+}
+
+/// An argument with these brackets.
+fn arg(alloc: Global, subs: List<Sub>) -> Result<Arg, NoMemory> {
+    Ok(Arg {
+        at: spot(alloc, "a")?,
+        subs,
+    })
+}
+
+#[test]
+fn slices(rt: HostRuntime) -> Result<(), Fail> {
+    let alloc = rt.alloc();
+    let shape = shape(alloc, 2, 3)?;
+    let mut subs = List::new(alloc);
+    let plain = arg(alloc, List::new(alloc))?;
+    let whole = sliced(alloc, &plain, &shape)?.ok_or("none")?;
+    assert_eq!(rt; whole.sizes.as_slice(), [2, 3].as_slice());
+    subs.push(Sub::Free(spot(alloc, "i")?))?;
+    subs.push(Sub::Whole)?;
+    let rows = sliced(alloc, &arg(alloc, subs)?, &shape)?.ok_or("none")?;
+    assert_eq!(rt; rows.sizes.as_slice(), [3].as_slice());
+    Ok(())
+}
+
+#[test]
+fn words(rt: HostRuntime) -> Result<(), Fail> {
+    let shape = shape(rt.alloc(), 256, 256)?;
+    if product(shape.sizes.as_slice()) == 65536 {
+        assert_eq!(rt; words_of(&shape), 65536);
+    }
+    Ok(())
+}

@@ -1,2 +1,0 @@
-pub mod ExampleSteps
-pub mod RunningSteps

@@ -1,6 +1,0 @@
-use Rattle.std.proofs.Common.{◌≡◌}
-use Rattle.p3l_tests.specs.Example.{one_node}
-use Rattle.p3l_tests.proofs.running.emitted.Given as goal
-
-abbrev pub invariant-loop-pick : goal.invariant-loop-pick
-invariant-loop-pick g l = l.machine.tree ≡ one_node
