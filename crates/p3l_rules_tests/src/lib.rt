@@ -4,4 +4,8 @@
 #[cfg(test)]
 mod bodies;
 #[cfg(test)]
+mod calls;
+#[cfg(test)]
+mod programs;
+#[cfg(test)]
 mod shapes;

@@ -1,0 +1,11 @@
+pub mod Chains
+pub mod Cuts
+pub mod Declares
+pub mod Dims
+pub mod Fresh
+pub mod Indices
+pub mod Kept
+pub mod Operators
+pub mod Orders
+pub mod Slices
+pub mod Tables

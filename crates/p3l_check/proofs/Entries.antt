@@ -1,0 +1,32 @@
+-- Entries that are checked one after another.
+use Rattle.std.proofs.Common.{◌≡◌, ℕ, ◌+◌, ◌<◌, List, ◌∷◌, length, map, drop, get_or, Ok, Err, sym, ap, ◌∙◌}
+use Rattle.std.proofs.lemmas.List.{drop_more, drop-map}
+use Rattle.p3l_ast.specs.declared.refusal.SourceRefusal.{SourceRefusal}
+use Rattle.p3l_ast.specs.declared.program.Entry.{Entry}
+use Rattle.p3l_ast.specs.Tree.{entry_tree}
+use Rattle.p3l_types.specs.Verdict.{given}
+use Rattle.p3l_check.specs.Places.{defines, defined_from, ArePlaces}
+use Rattle.p3l_check.specs.Entry.{Checked, checked_entry, checked_entries}
+
+module _ (checked : Checked) (entries : List Entry) (places : List (List ℕ × ℕ)) (are : ArePlaces (map entry_tree entries) places) (k : ℕ) where
+  -- what is ahead, by the table
+  ahead : defined_from places k ≡ defines (map entry_tree (drop k entries))
+  ahead = λ j name. (are k name ∙ ap (λ es. defines es name) (drop-map entry_tree k entries)) j
+
+  entries-step : (e : Entry) → k < length entries → e ≡ get_or entries k e → checked_entries checked (map entry_tree (drop k entries))
+      ≡ given (checked_entry checked (defined_from places k) (entry_tree e)) (λ next. checked_entries next (map entry_tree (drop (k + 1) entries)))
+  entries-step e inside is =
+      let cons : drop k entries ≡ e ∷ drop (k + 1) entries = drop_more entries k e inside ∙ ap (λ d. d ∷ drop (k + 1) entries) (sym is) in
+      ap (λ es. checked_entries checked (map entry_tree es)) cons
+      ∙ ap (λ is_ahead. given (checked_entry checked is_ahead (entry_tree e)) (λ next. checked_entries next (map entry_tree (drop (k + 1) entries))))
+      (ap (λ es. defines (map entry_tree es)) (sym cons) ∙ sym ahead)
+
+  pub entries-kept : (e : Entry) (next : Checked) → k < length entries → e ≡ get_or entries k e → checked_entry checked (defined_from places k) (entry_tree e) ≡ Ok next →
+      checked_entries checked (map entry_tree (drop k entries)) ≡ checked_entries next (map entry_tree (drop (k + 1) entries))
+  entries-kept e next inside is kept =
+      entries-step e inside is ∙ ap (λ r. given r (λ next. checked_entries next (map entry_tree (drop (k + 1) entries)))) kept
+
+  pub entries-refused : (e : Entry) (refusal : SourceRefusal) → k < length entries → e ≡ get_or entries k e →
+      checked_entry checked (defined_from places k) (entry_tree e) ≡ Err refusal → checked_entries checked (map entry_tree (drop k entries)) ≡ Err refusal
+  entries-refused e refusal inside is refused =
+      entries-step e inside is ∙ ap (λ r. given r (λ next. checked_entries next (map entry_tree (drop (k + 1) entries)))) refused

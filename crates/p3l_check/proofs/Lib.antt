@@ -1,0 +1,13 @@
+pub mod Numbers
+pub mod Ahead
+pub mod Kept
+pub mod Stages
+pub mod Totals
+pub mod MainPlace
+pub mod Measured
+pub mod Ranges
+pub mod Called
+pub mod Staged
+pub mod Skeletons
+pub mod Sound
+pub mod Entries

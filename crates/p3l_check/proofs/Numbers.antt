@@ -1,0 +1,35 @@
+-- Numbers of modules by their names.
+use Rattle.std.proofs.Common.{◌≡◌, ℕ, ◌+◌, ◌<◌, Bool, true, false, cond, List, [], ◌∷◌, ◌++◌, length, Option, Some, IfSome, refl, ap, sym, ◌∙◌, subst, arith}
+use Rattle.std.specs.Prelude.{bytes_eq}
+use Rattle.std.specs.Map.{lookup}
+use Rattle.p3l_skel.specs.declared.tree.ModuleInfo.{ModuleInfo}
+use Rattle.p3l_check.specs.Modules.{numbered}
+
+pub numbered-more : (k : ℕ) (infos : List ModuleInfo) (info : ModuleInfo) → numbered k (infos ++ info ∷ []) ≡ numbered k infos ++ (info.name, k + length infos) ∷ []
+numbered-more k [] info = let e : k + 0 ≡ k = omega arith in rw e refl
+numbered-more k (i ∷ infos) info =
+    let e : (k + 1) + length infos ≡ k + length (i ∷ infos) = omega arith in
+    ap (λ r. (i.name, k) ∷ r) (numbered-more (k + 1) infos info ∙ ap (λ n. numbered (k + 1) infos ++ (info.name, n) ∷ []) e)
+
+-- one module more behind those before it
+pub numbered-behind : (infos : List ModuleInfo) (info : ModuleInfo) (n : ℕ) → n ≡ length infos → numbered 0 infos ++ (info.name, n) ∷ [] ≡ numbered 0 (infos ++ info ∷ [])
+numbered-behind infos info n e =
+    let zero_more : n ≡ 0 + length infos = omega arith in
+    ap (λ m. numbered 0 infos ++ (info.name, m) ∷ []) zero_more ∙ sym (numbered-more 0 infos info)
+
+found_first : (P : ℕ → Type 0) (b : Bool) (k : ℕ) (r : Option ℕ) → P k → IfSome r P → IfSome (cond b (Some k) r) P
+found_first P true k r here later = here
+found_first P false k r here later = later
+
+-- a number that a name has is one of theirs
+pub number-within : (name : List ℕ) (k : ℕ) (infos : List ModuleInfo) → IfSome (lookup (bytes_eq name) (numbered k infos)) (λ n. n < k + length infos)
+number-within name k [] = tt
+number-within name k (i ∷ infos) =
+    let e : (k + 1) + length infos ≡ k + length (i ∷ infos) = omega arith in
+    found_first (λ n. n < k + length (i ∷ infos)) (bytes_eq name i.name) k (lookup (bytes_eq name) (numbered (k + 1) infos)) (omega arith)
+    (subst (λ m. IfSome (lookup (bytes_eq name) (numbered (k + 1) infos)) (λ n. n < m)) e (number-within name (k + 1) infos))
+
+pub number-below : (name : List ℕ) (infos : List ModuleInfo) (n : ℕ) → n ≡ length infos → IfSome (lookup (bytes_eq name) (numbered 0 infos)) (λ k. k < n)
+number-below name infos n e =
+    let all : 0 + length infos ≡ n = omega arith in
+    subst (λ m. IfSome (lookup (bytes_eq name) (numbered 0 infos)) (λ k. k < m)) all (number-within name 0 infos)

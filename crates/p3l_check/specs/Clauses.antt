@@ -1,0 +1,50 @@
+-- The numbers of a module's clauses.
+use Rattle.std.specs.Prelude.{ℕ, ◌==◌, Bool, List, [], ◌∷◌, Result, Ok, Err, Option, Some, None, min, if◌then◌else◌}
+use Rattle.std.specs.List.{list_any}
+use Rattle.p3l_ast.specs.declared.position.Pos.{Pos}
+use Rattle.p3l_ast.specs.declared.refusal.Fault.TheVariants.{Expected, BadWorkers}
+use Rattle.p3l_ast.specs.declared.refusal.SourceRefusal.{SourceRefusal}
+use Rattle.p3l_ast.specs.declared.refusal.SourceRefusal.TheVariants.{At}
+use Rattle.p3l_ast.specs.declared.port.Num.{Num}
+use Rattle.p3l_types.specs.Verdict.{given}
+use Rattle.p3l_types.specs.Constants.{Constants, place_of}
+use Rattle.p3l_body.specs.Seq.{limited}
+
+-- the workers of a farm or a map: 1 to so many; none without a clause
+abbrev pub workers_upto : ℕ → Constants → Option Num → Result (Option ℕ) SourceRefusal
+workers_upto most constants None = Ok None
+workers_upto most constants (Some num) = given (limited 1 most constants num) (λ n. Ok (Some n))
+
+-- the workers of a farm: 1 to 512
+abbrev pub farm_workers : Constants → Option Num → Result (Option ℕ) SourceRefusal
+farm_workers = workers_upto 512
+
+-- the workers of a map: no more than it has elements
+abbrev pub map_workers : ℕ → Constants → Option Num → Result (Option ℕ) SourceRefusal
+map_workers elements = workers_upto (min elements 512)
+
+-- the powers of two that a number of workers may be
+abbrev pub powers : List ℕ
+powers = 1 ∷ 2 ∷ 4 ∷ 8 ∷ 16 ∷ 32 ∷ 64 ∷ 128 ∷ 256 ∷ 512 ∷ []
+
+abbrev pub is_power : ℕ → Bool
+is_power n = list_any (λ power. power == n) powers
+
+-- a number of workers of a reduce is a power of two
+abbrev pub as_power : Num → ℕ → Result (Option ℕ) SourceRefusal
+as_power num n = if is_power n then Ok (Some n) else Err (At BadWorkers (place_of num))
+
+-- the workers of a reduce: a power of two, no more than it has elements
+abbrev pub reduce_workers : ℕ → Constants → Option Num → Result (Option ℕ) SourceRefusal
+reduce_workers len constants None = Ok None
+reduce_workers len constants (Some num) = given (limited 1 (min len 512) constants num) (λ n. as_power num n)
+
+-- the turns of a loop, whose clause every text gives: 1 to 65,536
+abbrev pub turns_of : Pos → Constants → Option Num → Result ℕ SourceRefusal
+turns_of pos constants None = Err (At Expected pos)
+turns_of pos constants (Some num) = limited 1 65536 constants num
+
+-- the tokens of a loop: 1 to 1,024, and 4 without a clause
+abbrev pub tokens_of : Constants → Option Num → Result ℕ SourceRefusal
+tokens_of constants None = Ok 4
+tokens_of constants (Some num) = limited 1 1024 constants num

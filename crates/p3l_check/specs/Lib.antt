@@ -1,0 +1,11 @@
+pub mod Modules
+pub mod Numbered
+pub mod Wired
+pub mod Places
+pub mod Environment
+pub mod Clauses
+pub mod Callee
+pub mod Inside
+pub mod Skeleton
+pub mod Entry
+pub mod Resolving

@@ -1,0 +1,113 @@
+// The numbers of a module's clauses.
+
+ghost use Rattle.std.specs.Prelude.{◌≡◌};
+ghost use Rattle.p3l_check.specs.Clauses.{workers_upto, farm_workers, map_workers, is_power, as_power, reduce_workers, turns_of, tokens_of};
+
+use p3l_ast::{Fault, Num, Pos, SourceRefusal};
+use p3l_body::limited;
+use p3l_types::{Consts, place_of};
+
+/// The most workers of a farm or a map, and segments of a reduce.
+const MOST_WORKERS: u32 = 512;
+
+/// The most turns of a loop.
+const MOST_TURNS: u32 = 65_536;
+
+/// The most items that are in a loop at once.
+const MOST_TOKENS: u32 = 1024;
+
+/// The items that are in a loop at once, where no clause says it.
+const USUAL_TOKENS: u32 = 4;
+
+/// The numbers of workers that a reduce may have.
+const POWERS: [u32; 10] = [1, 2, 4, 8, 16, 32, 64, 128, 256, 512];
+
+/// The workers of a clause, 1 to so many.
+fn workers_upto(
+    most: u32,
+    consts: &Consts,
+    clause: &Option<Num>,
+) -> Result<Option<u32>, SourceRefusal>
+    ensures { result ≡ workers_upto most consts.now clause.now }
+{
+    match clause {
+        Some(num) => Ok(Some(limited(1, most, consts, num)?)),
+        None => Ok(None),
+    }
+}
+
+/// The workers of a farm.
+pub fn farm_workers(consts: &Consts, clause: &Option<Num>) -> Result<Option<u32>, SourceRefusal>
+    ensures { result ≡ farm_workers consts.now clause.now }
+{
+    workers_upto(MOST_WORKERS, consts, clause)
+}
+
+/// The workers of a map with so many elements.
+pub fn map_workers(
+    elements: u64,
+    consts: &Consts,
+    clause: &Option<Num>,
+) -> Result<Option<u32>, SourceRefusal>
+    ensures { result ≡ map_workers elements consts.now clause.now }
+{
+    workers_upto(elements.min(MOST_WORKERS as u64) as u32, consts, clause)
+}
+
+/// Whether a reduce may have so many workers, whatever its length.
+fn is_power(workers: u32) -> bool
+    ensures { result ≡ is_power workers }
+{
+    POWERS.iter().any(|power| *power == workers)
+}
+
+/// A number of workers that must be a power of two.
+fn as_power(num: &Num, workers: u32) -> Result<Option<u32>, SourceRefusal>
+    ensures { result ≡ as_power num.now workers }
+{
+    if is_power(workers) {
+        Ok(Some(workers))
+    } else {
+        Err(SourceRefusal::At {
+            fault: Fault::BadWorkers,
+            pos: place_of(num),
+        })
+    }
+}
+
+/// The workers of a reduce with so many elements.
+pub fn reduce_workers(
+    len: u32,
+    consts: &Consts,
+    clause: &Option<Num>,
+) -> Result<Option<u32>, SourceRefusal>
+    ensures { result ≡ reduce_workers len consts.now clause.now }
+{
+    match clause {
+        Some(num) => as_power(num, limited(1, len.min(MOST_WORKERS), consts, num)?),
+        None => Ok(None),
+    }
+}
+
+/// The turns of a loop that stands at this place.
+pub fn turns_of(pos: Pos, consts: &Consts, clause: &Option<Num>) -> Result<u32, SourceRefusal>
+    ensures { result ≡ turns_of pos consts.now clause.now }
+{
+    match clause {
+        Some(num) => limited(1, MOST_TURNS, consts, num),
+        None => Err(SourceRefusal::At {
+            fault: Fault::Expected,
+            pos,
+        }),
+    }
+}
+
+/// The items that are in a loop at once.
+pub fn tokens_of(consts: &Consts, clause: &Option<Num>) -> Result<u32, SourceRefusal>
+    ensures { result ≡ tokens_of consts.now clause.now }
+{
+    match clause {
+        Some(num) => limited(1, MOST_TOKENS, consts, num),
+        None => Ok(USUAL_TOKENS),
+    }
+}

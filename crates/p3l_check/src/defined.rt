@@ -1,0 +1,13 @@
+// Modules as the entries behind them see them.
+
+use p3l_body::Ports;
+use p3l_skel::ModuleInfo;
+use p3l_unfold::Wired;
+
+/// A module: its name and kind, its ports, and its calls with what its instances are.
+#[derive(Debug, Drop)]
+pub struct Defined {
+    pub info: ModuleInfo,
+    pub ports: Ports,
+    pub wired: Wired,
+}

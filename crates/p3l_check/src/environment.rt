@@ -1,0 +1,15 @@
+// What a module may speak of.
+
+use crate::modules::Modules;
+use crate::places::Places;
+use p3l_types::Consts;
+
+/// The constants and modules before a module, the places of all names, and the module's own place
+/// among the entries.
+#[derive(Clone, Copy)]
+pub struct Environment<'a> {
+    pub consts: &'a Consts,
+    pub modules: &'a Modules,
+    pub places: &'a Places,
+    pub from: usize,
+}

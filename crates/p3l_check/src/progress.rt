@@ -1,0 +1,283 @@
+// The entries of a program, checked one after another.
+
+ghost use Rattle.std.specs.Prelude.{◌≡◌, ◌<◌, ◌≤◌, ◌^◌, ◌+◌, [], None, IfOk, map, length};
+ghost use Rattle.std.specs.Option.{option_map};
+ghost use Rattle.p3l_ast.specs.Tree.{entry_tree, module_tree};
+ghost use Rattle.p3l_types.specs.Verdict.{Gives};
+ghost use Rattle.p3l_types.specs.Constants.{constant_of};
+ghost use Rattle.p3l_body.specs.Seq.{port_names, seq_tree};
+ghost use Rattle.p3l_calls.specs.Port.{total, AreSized};
+ghost use Rattle.p3l_check.specs.Modules.{number_of};
+ghost use Rattle.p3l_check.specs.Environment.{before_of};
+ghost use Rattle.p3l_check.specs.Places.{defined_from};
+ghost use Rattle.p3l_check.specs.Entry.{none_checked, checked_of, checked_result, new_name, ports_in, body_in, body_tree, kind_in, info_of, defined_as, defined_in, with_body, with_constant, with_checked, checked_module, checked_entry, checked_entries};
+
+use crate::defined::Defined;
+use crate::environment::Environment;
+use crate::modules::Modules;
+use crate::places::{Places, spot_of};
+use crate::skeleton::{Skeleton, skeleton_of};
+use p3l_ast::{Entry, Fault, Kind, Module, SourceRefusal, Spot};
+use p3l_base::{List, Name, NoMemory};
+use p3l_body::{CheckedSeq, Ports, Scope, Var, check_body, ports_of};
+use p3l_skel::{ModuleInfo, ModuleKind};
+use p3l_types::{Consts, words_of};
+use p3l_unfold::Wired;
+use std::alloc::Global;
+
+/// The most modules, so that 32 bits number them: memory is wanting for more.
+const MOST_MODULES: u32 = u32::MAX;
+
+/// What the entries so far come to: constants, modules, and the bodies of `seq` modules.
+#[derive(Drop)]
+pub struct Progress<'a> {
+    pub consts: Consts,
+    pub modules: Modules,
+    pub seqs: List<CheckedSeq<'a>>,
+}
+
+/// The skeleton that a kind of module is an instance of.
+fn kind_in(kind: Kind) -> ModuleKind
+    ensures { result ≡ kind_in kind }
+{
+    match kind {
+        Kind::Seq => ModuleKind::Seq,
+        Kind::Comp => ModuleKind::Comp,
+        Kind::Pipe => ModuleKind::Pipe,
+        Kind::Farm => ModuleKind::Farm,
+        Kind::Map => ModuleKind::Map,
+        Kind::Reduce => ModuleKind::Reduce,
+        Kind::Loop => ModuleKind::Loop,
+    }
+}
+
+/// A module with its name.
+fn info_of(alloc: Global, module: &Module) -> Result<ModuleInfo, NoMemory>
+    ensures { IfOk result (λ info. info ≡ info_of (module_tree «module».now)) }
+{
+    Ok(ModuleInfo {
+        name: Name::from_text(alloc, module.at.name.as_str())?,
+        kind: kind_in(module.kind),
+    })
+}
+
+/// The ports of a module, of which every text spells at least one in and one out.
+fn ports_in(
+    alloc: Global,
+    consts: &Consts,
+    scope: &mut Scope,
+    module: &Module,
+) -> Result<Ports, SourceRefusal>
+    requires { scope.old ≡ [] }
+    ensures ports { Gives result (ports_in consts.now (module_tree «module».now)) }
+    ensures ins { IfOk result (λ ports. AreSized ports.ins) }
+    ensures outs { IfOk result (λ ports. AreSized ports.outs) }
+    ensures names { IfOk result (λ ports. scope.new ≡ port_names ports) }
+{
+    let ins = module.ins.as_slice();
+    let outs = module.outs.as_slice();
+    if ins.len() == 0 || outs.len() == 0 {
+        return Err(SourceRefusal::At {
+            fault: Fault::Expected,
+            pos: module.at.pos,
+        });
+    }
+    ports_of(alloc, consts, scope, ins, outs)
+}
+
+/// The checked body of a `seq` module; other modules have none.
+fn body_in<'a>(
+    alloc: Global,
+    consts: &Consts,
+    home: u32,
+    module: &'a Module,
+) -> Result<Option<CheckedSeq<'a>>, SourceRefusal>
+    ensures { Gives (body_tree result) (body_in «module».now.kind consts.now home (module_tree «module».now)) }
+{
+    match module.kind {
+        Kind::Seq => match check_body(alloc, module, home, consts) {
+            Ok(seq) => Ok(Some(seq)),
+            Err(refusal) => Err(refusal),
+        },
+        Kind::Comp | Kind::Pipe | Kind::Farm | Kind::Map | Kind::Reduce | Kind::Loop => Ok(None),
+    }
+}
+
+/// How many words variables have.
+#[tactic(auto, using(crate::proofs::Totals::totals))]
+fn total(vars: &[Var]) -> u32
+    requires { total vars.now ≤ 65536 }
+    ensures { result ≡ total vars.now }
+{
+    let mut words = 0;
+    for var in vars {
+        words += words_of(&var.shape);
+    }
+    words
+}
+
+/// A module of these ports and this skeleton.
+fn defined_as(info: ModuleInfo, ports: Ports, skeleton: Skeleton) -> Defined
+    requires ins { total ports.ins ≤ 65536 }
+    requires outs { total ports.outs ≤ 65536 }
+    ensures { result ≡ defined_as info ports skeleton }
+{
+    let wired = Wired {
+        form: skeleton.form,
+        ins: total(ports.ins.as_slice()),
+        outs: total(ports.outs.as_slice()),
+        calls: skeleton.calls,
+        sequential: skeleton.sequential,
+    };
+    Defined { info, ports, wired }
+}
+
+/// A module as the entries behind it see it: its ports, and then its clauses and calls.
+fn defined_in(
+    alloc: Global,
+    env: Environment<'_>,
+    module: &Module,
+) -> Result<Defined, SourceRefusal>
+    ensures { Gives result (defined_in (before_of env.entry) (module_tree «module».now)) }
+{
+    let mut scope = Scope::new(alloc);
+    let ports = ports_in(alloc, env.consts, &mut scope, module)?;
+    let skeleton = skeleton_of(alloc, env, module, &mut scope, &ports)?;
+    let info = info_of(alloc, module)?;
+    Ok(defined_as(info, ports, skeleton))
+}
+
+/// Bodies and one more, if there is one.
+fn with_body<'a>(
+    seqs: List<CheckedSeq<'a>>,
+    seq: Option<CheckedSeq<'a>>,
+) -> Result<List<CheckedSeq<'a>>, NoMemory>
+    ensures { IfOk result (λ list. map seq_tree list ≡ with_body (map seq_tree seqs.entry) (option_map seq_tree seq.entry)) }
+{
+    let Some(seq) = seq else {
+        return Ok(seqs);
+    };
+    let mut seqs = seqs;
+    seqs.push(seq)?;
+    Ok(seqs)
+}
+
+impl<'a> Progress<'a> {
+    /// No entries.
+    fn new(alloc: Global) -> Progress<'a>
+        ensures { checked_of result ≡ none_checked }
+    {
+        Progress {
+            consts: Consts::new(alloc),
+            modules: Modules::new(alloc),
+            seqs: List::new(alloc),
+        }
+    }
+
+    /// An entry's name is no earlier entry's.
+    fn check_name(&self, spot: &Spot) -> Result<(), SourceRefusal>
+        ensures rule { result ≡ new_name (checked_of self.now) spot.now }
+        ensures no_constant { IfOk result (λ x. constant_of self.now.consts spot.now.name ≡ None) }
+        ensures no_module { IfOk result (λ x. number_of self.now.modules spot.now.name ≡ None) }
+    {
+        if self.consts.get(&spot.name).is_none() && self.modules.number(&spot.name).is_none() {
+            return Ok(());
+        }
+        Err(SourceRefusal::At {
+            fault: Fault::Twice,
+            pos: spot.pos,
+        })
+    }
+
+    /// These entries and a constant whose name is new.
+    fn with_constant(self, alloc: Global, name: &Name, value: i64) -> Result<Progress<'a>, NoMemory>
+        requires { constant_of self.consts name.now ≡ None }
+        ensures { IfOk result (λ progress. checked_of progress ≡ with_constant (checked_of self.entry) name.now value) }
+    {
+        let mut progress = self;
+        progress.consts.add(alloc, name, value)?;
+        Ok(progress)
+    }
+
+    /// These entries and a module whose name is new, with its body if it is a `seq` module.
+    fn with_module(
+        self,
+        alloc: Global,
+        defined: Defined,
+        seq: Option<CheckedSeq<'a>>,
+    ) -> Result<Progress<'a>, NoMemory>
+        requires fresh { number_of self.modules defined.info.name ≡ None }
+        requires room { length self.modules.infos + 1 < 2 ^ 32 }
+        ensures { IfOk result (λ progress. checked_of progress ≡ with_checked (checked_of self.entry) defined (option_map seq_tree seq.entry)) }
+    {
+        let Progress {
+            consts,
+            modules,
+            seqs,
+        } = self;
+        let modules = modules.with(alloc, defined)?;
+        let seqs = with_body(seqs, seq)?;
+        Ok(Progress {
+            consts,
+            modules,
+            seqs,
+        })
+    }
+
+    /// These entries and a module whose name is new, the entry at this place.
+    fn check_module(
+        self,
+        alloc: Global,
+        places: &Places,
+        from: usize,
+        module: &'a Module,
+    ) -> Result<Progress<'a>, SourceRefusal>
+        requires { number_of self.modules «module».now.at.name ≡ None }
+        ensures { Gives (checked_result result) (checked_module (checked_of self.entry) (defined_from places.now from) (module_tree «module».now)) }
+    {
+        let home = self.modules.len();
+        if home == MOST_MODULES {
+            return Err(SourceRefusal::NoMemory);
+        }
+        let env = Environment {
+            consts: &self.consts,
+            modules: &self.modules,
+            places,
+            from,
+        };
+        let defined = defined_in(alloc, env, module)?;
+        match body_in(alloc, &self.consts, home, module) {
+            Ok(seq) => Ok(self.with_module(alloc, defined, seq)?),
+            Err(refusal) => Err(refusal),
+        }
+    }
+
+    /// These entries and the one at this place.
+    fn check_entry(
+        self,
+        alloc: Global,
+        places: &Places,
+        from: usize,
+        entry: &'a Entry,
+    ) -> Result<Progress<'a>, SourceRefusal>
+        ensures { Gives (checked_result result) (checked_entry (checked_of self.entry) (defined_from places.now from) (entry_tree entry.now)) }
+    {
+        self.check_name(spot_of(entry))?;
+        match entry {
+            Entry::Constant(spot, value) => Ok(self.with_constant(alloc, &spot.name, *value)?),
+            Entry::Module(module) => self.check_module(alloc, places, from, module),
+        }
+    }
+
+    /// The entries of a program, one after another.
+    pub fn of(alloc: Global, entries: &'a [Entry]) -> Result<Progress<'a>, SourceRefusal>
+        ensures { Gives (checked_result result) (checked_entries none_checked (map entry_tree entries.now)) }
+    {
+        let places = Places::of(alloc, entries)?;
+        let mut progress = Progress::new(alloc);
+        for (place, entry) in entries.iter().enumerate() {
+            progress = progress.check_entry(alloc, &places, place, entry)?;
+        }
+        Ok(progress)
+    }
+}
