@@ -1,3 +1,4 @@
 pub mod Unroll
 pub mod Fine
 pub mod Outs
+pub mod Room

@@ -6,7 +6,7 @@ use p3l_verify::verify;
 use std::alloc::Global;
 
 /// The number of the module that the codes belong to.
-const HOME: u32 = 7;
+pub const HOME: u32 = 7;
 
 /// A code of these instructions, which takes and gives so many words and has so many words of
 /// memory.

@@ -1,11 +1,10 @@
 -- What the limits of bodies bound: the depth of the stack, and the number of instructions.
-use Rattle.std.proofs.Common.{◌≡◌, ℕ, zero, suc, ◌+◌, ◌*◌, ◌<◌, ◌≤◌, arith}
-use Rattle.std.specs.Prelude.{max}
+use Rattle.std.proofs.Common.{ℕ, ◌+◌, ◌*◌, ◌≤◌, arith}
 use Rattle.p3l_ast.specs.declared.expression.BinOp.{BinOp}
 use Rattle.p3l_ast.specs.declared.expression.BinOp.TheVariants as operators_of
 use Rattle.p3l_ast.specs.Tree.{Phrase, number, read, unary, binary, Phrases, none, more, Statements, done, assign, if_, if_else, while_, for_}
 use Rattle.p3l_compile.specs.Phrase.{operator_size, read_size, phrase_size, index_size}
-use Rattle.p3l_compile.specs.Statement.{assign_size, loop_size, statement_size}
+use Rattle.p3l_compile.specs.Statement.{assign_size, statement_size}
 use Rattle.p3l_compile.specs.Limits.{operators, index_operators, nesting, index_nesting, items, index_items, code_items, IsLimited, AreLimited}
 use Rattle.p3l_compile.specs.Depth.{phrase_depth, index_depth}
 
@@ -36,7 +35,8 @@ operator_bound op = omega arith
 
 read_bound : (is : Phrases) (n m : ℕ) → n ≤ 4 * m → read_size is n + 1 ≤ 4 * (m + 1)
 read_bound none n m h = omega arith
-read_bound (more e is) n m h = omega arith
+read_bound (more e none) n m h = omega arith
+read_bound (more e (more f is)) n m h = omega arith
 
 mutual
   size_bound : (e : Phrase) → phrase_size e + 1 ≤ 4 * items e

@@ -1,5 +1,5 @@
 -- The code of a statement, by what it is made of.
-use Rattle.std.proofs.Common.{◌≡◌, ℕ, zero, suc, ◌+◌, List, [], ◌∷◌, ◌++◌, length, Option, Some, None, refl, sym, ap, ◌∙◌, arith, append_assoc}
+use Rattle.std.proofs.Common.{◌≡◌, ℕ, ◌+◌, List, [], ◌∷◌, ◌++◌, Option, Some, None, sym, ap, ◌∙◌, arith}
 use Rattle.std.specs.declared.vec.Vec.{Vec}
 use Rattle.std.specs.declared.alloc.Global.{Global}
 use Rattle.std.proofs.lemmas.List.{append-nil}
@@ -7,12 +7,12 @@ use Rattle.p3l_ast.specs.declared.expression.Expr.{Expr}
 use Rattle.p3l_ast.specs.declared.expression.Target.{Target}
 use Rattle.p3l_ast.specs.declared.statement.Stmt.{Stmt}
 use Rattle.p3l_ast.specs.declared.statement.Stmt.TheVariants.{Assign, If, While, For}
-use Rattle.p3l_ast.specs.Tree.{Phrase, Phrases, Statements, done, assign, if_, if_else, while_, for_, join, one, statements, phrase, phrases}
+use Rattle.p3l_ast.specs.Tree.{done, assign, if_, if_else, while_, for_, join, one, statements, phrase, phrases}
 use Rattle.p3l_ast.proofs.Trees.{one_assign, one_if, one_if_else, one_while, one_for}
 use Rattle.p3l_code.specs.declared.instr.Instr.{Instr}
 use Rattle.p3l_code.specs.declared.instr.Instr.TheVariants.{Jump, JumpNonZero, Turn}
-use Rattle.p3l_compile.specs.Phrase.{phrase_size, phrase_code}
-use Rattle.p3l_compile.specs.Statement.{assign_size, loop_size, statement_size, assign_code, loop_code, statement_code}
+use Rattle.p3l_compile.specs.Phrase.{phrase_code}
+use Rattle.p3l_compile.specs.Statement.{assign_size, statement_size, assign_code, statement_code}
 use Rattle.p3l_compile.proofs.Joined.{size_join, code_join}
 use Rattle.p3l_compile.specs.Scope.{Names}
 

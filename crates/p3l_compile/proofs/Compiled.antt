@@ -1,5 +1,5 @@
 -- The code of a compilable body is safe, and does what the body means.
-use Rattle.std.proofs.Common.{◌≡◌, ℕ, ℤ, pos, ◌+◌, ◌-◌, ◌≤◌, List, [], ◌∷◌, ◌++◌, length, replicate, Option, Some, None, Result, Ok, Err, refl, sym, ap, ◌∙◌, subst, arith, length-append}
+use Rattle.std.proofs.Common.{◌≡◌, ℕ, ℤ, pos, ◌+◌, ◌-◌, ◌≤◌, List, ◌++◌, length, replicate, Some, Result, Ok, Err, refl, ap, ◌∙◌, arith, length-append}
 use Rattle.std.specs.List.{flat_map}
 use Rattle.std.proofs.lemmas.List.{length-replicate}
 use Rattle.p3l_base.specs.declared.outcome.TrapKind.{TrapKind}
@@ -10,10 +10,10 @@ use Rattle.p3l_body.specs.Eval.{words_in, start_of, outcome_of as outcome_in, ev
 use Rattle.p3l_body.specs.Seq.{SeqTree}
 use Rattle.p3l_code.specs.declared.instr.Code.{Code}
 use Rattle.p3l_code.specs.Safe.{IsSafe}
-use Rattle.p3l_code.specs.Machine.{after, started, ending, outcome_of, exec}
+use Rattle.p3l_code.specs.Machine.{after, started, outcome_of, exec}
 use Rattle.p3l_code.proofs.Unroll.{unrolls}
 use Rattle.p3l_code.proofs.Fine.{leads_all}
-use Rattle.p3l_compile.specs.Scope.{names_of, state_of}
+use Rattle.p3l_compile.specs.Scope.{names_of}
 use Rattle.p3l_compile.specs.Condition.{total, IsCompilable, Compiles, body_code}
 use Rattle.p3l_compile.proofs.Correct.{compiled_means}
 use Rattle.p3l_compile.proofs.Safety.{compiled_safe}

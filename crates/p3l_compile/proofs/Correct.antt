@@ -1,15 +1,12 @@
 -- A compiled body does what it means.
-use Rattle.std.proofs.Common.{◌≡◌, ℕ, ℤ, zero, suc, pos, ◌+◌, ◌<◌, List, [], ◌∷◌, ◌++◌, length, take, drop, Option, Some, None, Result, Ok, Err, refl, sym, ap, ◌∙◌, subst, arith, append_assoc, length-append}
+use Rattle.std.proofs.Common.{◌≡◌, ◌+◌, ◌<◌, List, [], ◌∷◌, ◌++◌, length, Some, Ok, sym, ap, ◌∙◌, subst, arith, append_assoc, length-append}
 use Rattle.std.specs.Prelude.{slice_get}
 use Rattle.std.proofs.Math.Seq.{get_or-append_seam}
 use Rattle.std.proofs.lemmas.Option.{slice_get-get_or}
-use Rattle.p3l_ast.specs.declared.meaning.state.State.{State}
-use Rattle.p3l_ast.specs.Meaning.Statement.{run_of}
 use Rattle.p3l_code.specs.declared.instr.Instr.{Instr}
 use Rattle.p3l_code.specs.declared.instr.Instr.TheVariants.{End}
 use Rattle.p3l_code.specs.declared.instr.Code.{Code}
-use Rattle.p3l_code.specs.Machine.{machine, started}
-use Rattle.p3l_compile.specs.Scope.{state_of}
+use Rattle.p3l_code.specs.Machine.{started}
 use Rattle.p3l_compile.specs.Statement.{statement_size, statement_code}
 use Rattle.p3l_compile.specs.Correct.{CompiledMeans}
 use Rattle.p3l_compile.proofs.Steps.{HasAt, has_front, has_back, step}

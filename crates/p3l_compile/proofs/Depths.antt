@@ -1,6 +1,6 @@
 -- The code of an expression keeps the rules.
-use Rattle.std.proofs.Common.{◌≡◌, ℕ, ℤ, zero, suc, pos, ◌+◌, ◌-◌, ◌<◌, ◌≤◌, Bool, true, false, List, [], ◌∷◌, ◌++◌, length, drop, Option, Some, None, refl, sym, ap, ◌∙◌, subst, arith, length-append}
-use Rattle.std.specs.Prelude.{slice_get, slice_index}
+use Rattle.std.proofs.Common.{◌≡◌, ℕ, ℤ, pos, ◌+◌, ◌-◌, ◌<◌, ◌≤◌, true, List, [], ◌∷◌, ◌++◌, length, Option, Some, None, refl, sym, ap, ◌∙◌, subst, arith, length-append}
+use Rattle.std.specs.Prelude.{slice_get}
 use Rattle.std.specs.List.{AllByRecursion}
 use Rattle.std.proofs.lemmas.Option.{same_Some}
 use Rattle.p3l_ast.specs.declared.expression.BinOp.{BinOp}
@@ -13,11 +13,10 @@ use Rattle.p3l_code.specs.declared.instr.Code.{Code}
 use Rattle.p3l_code.specs.Safe.{pops, target_of, goes_on, IsWithin, Leads, depth_behind, next_of, Agrees, EndsAt, IsFine}
 use Rattle.p3l_compile.specs.declared.scope.Slot.{Slot}
 use Rattle.p3l_compile.specs.Scope.{Names, found, constant_of, IsLaid}
-use Rattle.p3l_compile.specs.Phrase.{operator_size, read_size, phrase_size, index_size, scalar_code, sizes_in, element_code, read_code, operator_code, phrase_code, index_code, count_of, IsAccess, Fits, FitsAll}
-use Rattle.p3l_compile.proofs.Scopes.{Lies, lies_within}
-use Rattle.p3l_compile.specs.Depth.{phrase_depth, index_depth, read_depths, operator_depths, phrase_depths, index_depths}
-use Rattle.p3l_compile.proofs.Phrases.{phrase_length, index_length, some_words}
-use Rattle.p3l_types.specs.Shape.{product}
+use Rattle.p3l_compile.specs.Phrase.{operator_size, read_size, phrase_size, index_size, scalar_code, sizes_in, read_code, operator_code, phrase_code, first_code, index_code, count_of, IsAccess, Fits, FitsAll}
+use Rattle.p3l_compile.proofs.Scopes.{lies_within}
+use Rattle.p3l_compile.specs.Depth.{phrase_depth, index_depth, read_depths, operator_depths, phrase_depths, first_depths, index_depths}
+use Rattle.p3l_compile.proofs.Phrases.{IsSingle, phrase_length, index_length, some_words}
 
 -- the depths stand in the table from this place on
 abbrev pub DepthsAt : List ℕ → ℕ → List ℕ → Type 0
@@ -159,16 +158,22 @@ operator_depths_length op d m n ls rs h k =
     let r = k (d + 1) in
     omega (arith, length-append ls (rs (d + 1) ++ (d + 2) ∷ []), length-append (rs (d + 1)) ((d + 2) ∷ []))
 
-read_depths_length : (d n : ℕ) (is : Phrases) (index : List ℕ) → length index ≡ n → length (read_depths d is index) ≡ read_size is n
-read_depths_length d n none index h = refl
-read_depths_length d n (more e is) index h = omega (arith, length-append index ((d + 1) ∷ []))
+read_depths_length : (d n : ℕ) (is : Phrases) (first index : List ℕ) → length index ≡ n → (IsSingle is → length first + 1 ≡ n) → length (read_depths d is first index) ≡ read_size is n
+read_depths_length d n none first index h one = refl
+read_depths_length d n (more e none) first index h one = omega (arith, length-append first ((d + 1) ∷ []), one tt)
+read_depths_length d n (more e (more f is)) first index h one = omega (arith, length-append index ((d + 1) ∷ []))
 
 mutual
   pub depths_length : (d : ℕ) (e : Phrase) → length (phrase_depths d e) ≡ phrase_size e
   depths_length d (number v) = refl
-  depths_length d (read x is) = read_depths_length d (index_size is) is (index_depths (d + 1) is) (indices_length (d + 1) is)
+  depths_length d (read x is) = read_depths_length d (index_size is) is (first_depths d is) (index_depths (d + 1) is) (indices_length (d + 1) is) (first_depths_length d is)
   depths_length d (unary op e) = let h = depths_length d e in omega (arith, length-append (phrase_depths d e) ((d + 1) ∷ []))
   depths_length d (binary op a b) = operator_depths_length op d (phrase_size a) (phrase_size b) (phrase_depths d a) (λ n. phrase_depths n b) (depths_length d a) (λ n. depths_length n b)
+
+  first_depths_length : (d : ℕ) (is : Phrases) → IsSingle is → length (first_depths d is) + 1 ≡ index_size is
+  first_depths_length d none one = absurd one
+  first_depths_length d (more e none) one = let h = depths_length d e in omega arith
+  first_depths_length d (more e (more f is)) one = absurd one
 
   pub indices_length : (d : ℕ) (is : Phrases) → length (index_depths d is) ≡ index_size is
   indices_length d none = refl
@@ -183,13 +188,11 @@ operator_first operators.Or table pc d ls rs h = depths_front table pc ls ((d + 
 operator_first operators.And table pc d ls rs h = depths_front table pc ls ((d + 1) ∷ (rs d ++ ((d + 1) ∷ (d + 2) ∷ (d + 1) ∷ d ∷ []))) h
 operator_first op table pc d ls rs h = depths_front table pc ls (rs (d + 1) ++ (d + 2) ∷ []) h
 
-read_first : (table : List ℕ) (pc d : ℕ) (is : Phrases) (index : List ℕ) → DepthsAt table pc (read_depths d is index) → slice_get table pc ≡ Some d
-read_first table pc d none index h = h.0
-read_first table pc d (more e is) index h = h.0
-
 pub phrase_first : (table : List ℕ) (e : Phrase) (pc d : ℕ) → DepthsAt table pc (phrase_depths d e) → slice_get table pc ≡ Some d
 phrase_first table (number v) pc d h = h.0
-phrase_first table (read x is) pc d h = read_first table pc d is (index_depths (d + 1) is) h
+phrase_first table (read x none) pc d h = h.0
+phrase_first table (read x (more e none)) pc d h = phrase_first table e pc d (depths_front table pc (phrase_depths d e) ((d + 1) ∷ []) h)
+phrase_first table (read x (more e (more f is))) pc d h = h.0
 phrase_first table (unary op e) pc d h = phrase_first table e pc d (depths_front table pc (phrase_depths d e) ((d + 1) ∷ []) h)
 phrase_first table (binary op a b) pc d h =
     phrase_first table a pc d (operator_first op table pc d (phrase_depths d a) (λ n. phrase_depths n b) h)
@@ -224,22 +227,37 @@ module _ (code : Code) (table : List ℕ) (scope : Names) (laid : IsLaid scope c
   IndexFine is =
       (pc d : ℕ) (sizes : List ℕ) → FitsAll scope is → count_of is ≡ length sizes → AllByRecursion (λ n. 1 ≤ n) sizes → 1 ≤ d → d + index_depth is + 1 ≤ 1024 → pc + index_size is < length code.instrs → DepthsAt table pc (index_depths d is) → slice_get table (pc + index_size is) ≡ Some d → FineAt code table pc (index_code scope pc sizes is)
 
-  read_fine : (x : Spot) (is : Phrases) → IndexFine is → (pc d : ℕ) (o : Option Slot) → found scope x.name ≡ o → IsAccess o (count_of is) → FitsAll scope is → d + (1 + index_depth is) + 1 ≤ 1024 → pc + read_size is (index_size is) < length code.instrs → DepthsAt table pc (read_depths d is (index_depths (d + 1) is)) → slice_get table (pc + read_size is (index_size is)) ≡ Some (d + 1) → FineAt code table pc (read_code o (constant_of scope x.name) is (index_code scope (pc + 1) (sizes_in o) is))
-  read_fine x none index pc d o f access fits small inside has end =
+  abbrev FirstFine : Phrases → Type 0
+  FirstFine none = Unit {0}
+  FirstFine (more e is) =
+      (pc d : ℕ) → Fits scope e → d + phrase_depth e + 1 ≤ 1024 → pc + phrase_size e < length code.instrs → DepthsAt table pc (phrase_depths d e) → slice_get table (pc + phrase_size e) ≡ Some (d + 1) → FineAt code table pc (phrase_code scope pc e)
+
+  read_fine : (x : Spot) (is : Phrases) → FirstFine is → IndexFine is → (pc d : ℕ) (o : Option Slot) → found scope x.name ≡ o → IsAccess o (count_of is) → FitsAll scope is → d + (1 + index_depth is) + 1 ≤ 1024 → pc + read_size is (index_size is) < length code.instrs → DepthsAt table pc (read_depths d is (first_depths d is) (index_depths (d + 1) is)) → slice_get table (pc + read_size is (index_size is)) ≡ Some (d + 1) → FineAt code table pc (read_code o (constant_of scope x.name) is (first_code scope pc is) (index_code scope (pc + 1) (sizes_in o) is))
+  read_fine x none first index pc d o f access fits small inside has end =
       scalar_fine x.name o f (constant_of scope x.name) pc d has.0 (omega arith) end
-  read_fine x (more e is) index pc d None f access fits small inside has end = absurd (let q : count_of is + 1 ≡ 0 = access in omega arith)
-  read_fine x (more e is) index pc d (Some slot) f access fits small inside has end =
-      let n = index_size (more e is) in
+  read_fine x (more e none) first index pc d None f access fits small inside has end = absurd (let q : 0 + 1 ≡ 0 = access in omega arith)
+  read_fine x (more e none) first index pc d (Some slot) f access fits small inside has end =
+      let m = phrase_size e in
+      let ds = phrase_depths d e in
+      let own = depths_front table pc ds ((d + 1) ∷ []) has in
+      let last = (depths_back table pc m ds ((d + 1) ∷ []) (depths_length d e) has).0 in
+      let place : pc + (m + 1 + 0) ≡ pc + m + 1 = omega arith in
+      let b : d + 1 - 1 + 1 ≡ d + 1 = omega arith in
+      fine_join code table pc m (phrase_code scope pc e) (LoadAt slot.base slot.words ∷ []) (phrase_length scope pc e) (first pc d fits.0 (omega arith) (omega arith) own last)
+      (one_fine code table (pc + m) (d + 1) (d + 1) (LoadAt slot.base slot.words) last (element_within x.name slot f) refl refl (λ n. tt) (omega arith) b (omega arith) (subst (λ k. slice_get table k ≡ Some (d + 1)) place end), tt)
+  read_fine x (more e (more g is)) first index pc d None f access fits small inside has end = absurd (let q : count_of is + 1 + 1 ≡ 0 = access in omega arith)
+  read_fine x (more e (more g is)) first index pc d (Some slot) f access fits small inside has end =
+      let n = index_size (more e (more g is)) in
       let l = lies_within scope code.memory x.name slot laid f in
-      let ds = index_depths (d + 1) (more e is) in
+      let ds = index_depths (d + 1) (more e (more g is)) in
       let own = depths_front table (pc + 1) ds ((d + 1) ∷ []) has.1 in
-      let last = (depths_back table (pc + 1) n ds ((d + 1) ∷ []) (indices_length (d + 1) (more e is)) has.1).0 in
+      let last = (depths_back table (pc + 1) n ds ((d + 1) ∷ []) (indices_length (d + 1) (more e (more g is))) has.1).0 in
       let place : pc + (n + 2) ≡ pc + 1 + n + 1 = omega arith in
       let b : d - 0 + 1 ≡ d + 1 = omega arith in
       let b2 : d + 1 - 1 + 1 ≡ d + 1 = omega arith in
-      let code_of = index_code scope (pc + 1) slot.sizes (more e is) in (
-        one_fine code table pc d (d + 1) (Push (pos 0)) has.0 tt refl refl (λ n. tt) (omega arith) b (omega arith) (index_first table (more e is) (pc + 1) (d + 1) own last),
-        fine_join code table (pc + 1) n code_of (LoadAt slot.base slot.words ∷ []) (index_length scope (pc + 1) slot.sizes (more e is))
+      let code_of = index_code scope (pc + 1) slot.sizes (more e (more g is)) in (
+        one_fine code table pc d (d + 1) (Push (pos 0)) has.0 tt refl refl (λ n. tt) (omega arith) b (omega arith) (index_first table (more e (more g is)) (pc + 1) (d + 1) own last),
+        fine_join code table (pc + 1) n code_of (LoadAt slot.base slot.words ∷ []) (index_length scope (pc + 1) slot.sizes (more e (more g is)))
             (index (pc + 1) (d + 1) slot.sizes fits access l.sizes (omega arith) (omega arith) (omega arith) own last)
             (one_fine code table (pc + 1 + n) (d + 1) (d + 1) (LoadAt slot.base slot.words) last (element_within x.name slot f) refl refl (λ n. tt) (omega arith) b2 (omega arith) (subst (λ k. slice_get table k ≡ Some (d + 1)) place end), tt),
       )
@@ -250,7 +268,7 @@ module _ (code : Code) (table : List ℕ) (scope : Names) (laid : IsLaid scope c
         let b : d - 0 + 1 ≡ d + 1 = omega arith in
         (one_fine code table pc d (d + 1) (Push v) has.0 tt refl refl (λ n. tt) (omega arith) b (omega arith) end, tt)
     phrase_fine (read x is) pc d fits small inside has end =
-        read_fine x is (index_fine is) pc d (found scope x.name) refl fits.0 fits.1 small inside has end
+        read_fine x is (first_fine is) (index_fine is) pc d (found scope x.name) refl fits.0 fits.1 small inside has end
     phrase_fine (unary op e) pc d fits small inside has end =
         let n = phrase_size e in
         let ds = phrase_depths d e in
@@ -266,6 +284,10 @@ module _ (code : Code) (table : List ℕ) (scope : Names) (laid : IsLaid scope c
         (λ h e. phrase_fine a pc d fits.0 (omega arith) (omega arith) h e)
         (λ p k le within h e. phrase_fine b p k fits.1 (omega arith) within h e)
         (λ p k h. phrase_first table b p k h)
+
+    first_fine : (is : Phrases) → FirstFine is
+    first_fine none = tt
+    first_fine (more e is) = phrase_fine e
 
     pub index_fine : (is : Phrases) → IndexFine is
     index_fine none pc d sizes fits count some one small inside has end = tt

@@ -1,13 +1,13 @@
 -- What is put behind a code, step by step.
-use Rattle.std.proofs.Common.{◌≡◌, ℕ, ℤ, zero, suc, pos, ◌+◌, ◌-◌, ◌*◌, ◌<◌, ◌≤◌, List, [], ◌∷◌, ◌++◌, length, drop, get_or, refl, sym, ap, ◌∙◌, subst, arith, append_assoc, length-append, add-one}
-use Rattle.std.specs.Prelude.{slice_set, slice_index, Bool, true, false, ◌==◌}
+use Rattle.std.proofs.Common.{◌≢◌, ◌≡◌, ℕ, ℤ, zero, suc, pos, ◌+◌, ◌-◌, ◌<◌, ◌≤◌, List, [], ◌∷◌, ◌++◌, length, drop, get_or, refl, sym, ap, ◌∙◌, arith, append_assoc, add-one}
+use Rattle.std.specs.Prelude.{slice_set, slice_index, Bool, false, ◌==◌}
 use Rattle.std.proofs.lemmas.Bool.Decides.{nat_tests}
 use Rattle.std.proofs.Math.Seq.{set-append_seam, drop-cons}
 use Rattle.std.proofs.lemmas.List.{append-nil, drop_all, drop-drop}
 use Rattle.p3l_ast.specs.declared.expression.BinOp.{BinOp}
 use Rattle.p3l_ast.specs.declared.expression.BinOp.TheVariants as operators
 use Rattle.p3l_ast.specs.declared.expression.Expr.{Expr}
-use Rattle.p3l_ast.specs.Tree.{Phrase, Phrases, none, more, phrase, phrases}
+use Rattle.p3l_ast.specs.Tree.{Phrases, none, more, phrase, phrases}
 use Rattle.p3l_code.specs.declared.instr.Instr.{Instr}
 use Rattle.p3l_code.specs.declared.instr.Instr.TheVariants.{Push, Step, Binary, Jump}
 use Rattle.p3l_compile.specs.Scope.{Names, found}
@@ -37,9 +37,16 @@ short_emitted jump other base left right m n c1 c2 c3 c4 x p k e1 l1 ep e2 l2 e3
     ∙ ap (λ d. base ++ (left ++ (jump (length base + m + n + 4) ∷ (right (length base + m + 1) ++ tail d)))) q3
 
 -- a read has more instructions than its indices
-pub read_falls : (is : Phrases) → 4 * index_size is + 2 < 4 * read_size is (index_size is)
+pub read_falls : (is : Phrases) → 1 ≤ read_size is (index_size is)
 read_falls none = omega arith
-read_falls (more e is) = omega arith
+read_falls (more e none) = omega arith
+read_falls (more e (more f is)) = omega arith
+
+-- one index
+pub one_index : (items : List Expr) (e : Expr) → length items ≡ 1 → e ≡ get_or items 0 e → phrases items ≡ more (phrase e) none
+one_index [] e h k = absurd (omega (arith, h))
+one_index (x ∷ []) e h k = ap (λ d. more (phrase d) none) (sym k)
+one_index (x ∷ (y ∷ items)) e h k = absurd (omega (arith, h))
 
 -- one index of those that are left
 pub next_index : (items : List Expr) (d : ℕ) (e : Expr) → d < length items → e ≡ get_or items d e → phrases (drop d items) ≡ more (phrase e) (phrases (drop (d + 1) items))
@@ -86,11 +93,12 @@ index_end scope items sizes d base h =
 pub size_end : (items : List Expr) (d : ℕ) → length items ≤ d → index_size (phrases (drop d items)) ≡ 0
 size_end items d h = ap (λ x. index_size (phrases x)) (drop_all d items h)
 
--- what reads an element has an index
-pub read_emitted : (scope : Names) (name : List ℕ) (v : ℤ) (items : List Expr) (base c1 c2 c3 : List Instr) (element : Instr) → ¬ (items ≡ []) → c1 ≡ base ++ Push (pos 0) ∷ [] → length c1 ≡ length base + 1 → c2 ≡ c1 ++ index_code scope (length c1) (sizes_in (found scope name)) (phrases items) → element ≡ element_code (found scope name) → c3 ≡ c2 ++ element ∷ [] → c3 ≡ base ++ read_code (found scope name) v (phrases items) (index_code scope (length base + 1) (sizes_in (found scope name)) (phrases items))
-read_emitted scope name v [] base c1 c2 c3 element some e1 l1 e2 el e3 = absurd (some refl)
-read_emitted scope name v (e ∷ items) base c1 c2 c3 element some e1 l1 e2 el e3 =
-    let is = phrases (e ∷ items) in
+-- what reads an element by more than one index
+pub read_emitted : (scope : Names) (name : List ℕ) (v : ℤ) (items : List Expr) (first base c1 c2 c3 : List Instr) (element : Instr) → ¬ (items ≡ []) → length items ≢ 1 → c1 ≡ base ++ Push (pos 0) ∷ [] → length c1 ≡ length base + 1 → c2 ≡ c1 ++ index_code scope (length c1) (sizes_in (found scope name)) (phrases items) → element ≡ element_code (found scope name) → c3 ≡ c2 ++ element ∷ [] → c3 ≡ base ++ read_code (found scope name) v (phrases items) first (index_code scope (length base + 1) (sizes_in (found scope name)) (phrases items))
+read_emitted scope name v [] first base c1 c2 c3 element some many e1 l1 e2 el e3 = absurd (some refl)
+read_emitted scope name v (e ∷ []) first base c1 c2 c3 element some many e1 l1 e2 el e3 = absurd (many (omega arith))
+read_emitted scope name v (e ∷ (d ∷ items)) first base c1 c2 c3 element some many e1 l1 e2 el e3 =
+    let is = phrases (e ∷ (d ∷ items)) in
     let index = λ (p : ℕ). index_code scope p (sizes_in (found scope name)) is in
     let flat : ((base ++ Push (pos 0) ∷ []) ++ index (length base + 1)) ++ element_code (found scope name) ∷ [] ≡ base ++ Push (pos 0) ∷ (index (length base + 1) ++ element_code (found scope name) ∷ []) = simp append_assoc in
     e3 ∙ ap (λ l. l ++ element ∷ []) (e2 ∙ ap (λ p. c1 ++ index p) l1)
@@ -98,9 +106,18 @@ read_emitted scope name v (e ∷ items) base c1 c2 c3 element some e1 l1 e2 el e
     ∙ ap (λ l. (l ++ index (length base + 1)) ++ element_code (found scope name) ∷ []) e1
     ∙ flat
 
-pub read_sized : (items : List Expr) (base c1 c2 c3 : ℕ) → ¬ (items ≡ []) → c1 ≡ base + 1 → c2 ≡ c1 + index_size (phrases items) → c3 ≡ c2 + 1 → c3 ≡ base + read_size (phrases items) (index_size (phrases items))
-read_sized [] base c1 c2 c3 some e1 e2 e3 = absurd (some refl)
-read_sized (e ∷ items) base c1 c2 c3 some e1 e2 e3 = omega arith
+pub read_sized : (items : List Expr) (base c1 c2 c3 : ℕ) → ¬ (items ≡ []) → length items ≢ 1 → c1 ≡ base + 1 → c2 ≡ c1 + index_size (phrases items) → c3 ≡ c2 + 1 → c3 ≡ base + read_size (phrases items) (index_size (phrases items))
+read_sized [] base c1 c2 c3 some many e1 e2 e3 = absurd (some refl)
+read_sized (e ∷ []) base c1 c2 c3 some many e1 e2 e3 = absurd (many (omega arith))
+read_sized (e ∷ (d ∷ items)) base c1 c2 c3 some many e1 e2 e3 = omega arith
+
+pub not_one : {A : Type 0} (r n : ℕ) (items : List A) → r ≡ n → r ≢ 1 → n ≡ length items → length items ≢ 1
+not_one r n items h f l e = f (h ∙ l ∙ e)
+
+pub many_falls : (items : List Expr) → ¬ (items ≡ []) → length items ≢ 1 → read_size (phrases items) (index_size (phrases items)) ≡ index_size (phrases items) + 2
+many_falls [] some many = absurd (some refl)
+many_falls (e ∷ []) some many = absurd (many (omega arith))
+many_falls (e ∷ (d ∷ items)) some many = refl
 
 pub operator_some : (op : BinOp) → 1 ≤ operator_size op
 operator_some operators.Or = omega arith

@@ -1,17 +1,17 @@
 -- Statements that are put behind a code, step by step.
-use Rattle.std.proofs.Common.{◌≡◌, ℕ, ℤ, zero, suc, pos, ◌+◌, ◌-◌, ◌*◌, ◌<◌, ◌≤◌, List, [], ◌∷◌, ◌++◌, length, drop, get_or, Option, Some, None, refl, sym, ap, ◌∙◌, subst, arith, append_assoc, length-append, add-one}
+use Rattle.std.proofs.Common.{◌≡◌, ℕ, zero, suc, pos, ◌+◌, ◌<◌, ◌≤◌, List, [], ◌∷◌, ◌++◌, length, drop, get_or, refl, sym, ap, ◌∙◌, arith, append_assoc, add-one}
 use Rattle.std.specs.Prelude.{slice_set}
 use Rattle.std.proofs.Math.Seq.{set-append_seam, drop-cons}
-use Rattle.std.proofs.lemmas.List.{append-nil, drop_all}
+use Rattle.std.proofs.lemmas.List.{append-nil}
 use Rattle.p3l_ast.specs.declared.statement.Stmt.{Stmt}
-use Rattle.p3l_ast.specs.Tree.{Phrase, Phrases, none, more, Statements, done, assign, if_, if_else, while_, for_, join, one, statements, phrase, phrases}
+use Rattle.p3l_ast.specs.Tree.{Phrase, Statements, done, assign, if_, if_else, while_, for_, join, one, statements, phrases}
 use Rattle.p3l_ast.specs.declared.expression.Expr.{Expr}
 use Rattle.p3l_ast.specs.declared.expression.Target.{Target}
 use Rattle.p3l_code.specs.declared.instr.Instr.{Instr}
-use Rattle.p3l_code.specs.declared.instr.Instr.TheVariants.{Push, Store, StoreAt, Jump, JumpZero, JumpNonZero, Turn}
+use Rattle.p3l_code.specs.declared.instr.Instr.TheVariants.{Push, Jump, JumpZero, JumpNonZero, Turn}
 use Rattle.p3l_compile.specs.Scope.{Names, found}
 use Rattle.p3l_compile.specs.Phrase.{phrase_size, index_size, phrase_code, index_code, sizes_in}
-use Rattle.p3l_compile.specs.Statement.{assign_size, loop_size, statement_size, store_code, store_at_code, assign_code, loop_code, statement_code}
+use Rattle.p3l_compile.specs.Statement.{assign_size, loop_size, statement_size, store_at_code, assign_code, loop_code, statement_code}
 use Rattle.p3l_compile.proofs.Emitted.{patched}
 
 pub size_join : (c d : Statements) → statement_size (join c d) ≡ statement_size c + statement_size d

@@ -1,5 +1,5 @@
 -- The machine on the code of an expression: it goes on behind the code with the number on the stack, or traps.
-use Rattle.std.proofs.Common.{add-mul, mul-le-mul, mul_assoc, ltb-true, ◌≡◌, ℕ, ℤ, zero, suc, pos, negsuc, ◌+◌, ◌*◌, ◌≤◌, ◌<◌, ◌^◌, ◌*ℤ◌, ◌+ℤ◌, Bool, true, false, cond, List, [], ◌∷◌, ◌++◌, length, drop, Option, Some, None, Result, Ok, Err, refl, sym, ap, ◌∙◌, subst, arith, length-append}
+use Rattle.std.proofs.Common.{add-mul, mul-le-mul, mul_assoc, ltb-true, ◌≡◌, ℕ, ℤ, pos, negsuc, ◌+◌, ◌*◌, ◌≤◌, ◌<◌, ◌^◌, ◌*ℤ◌, ◌+ℤ◌, Bool, true, false, cond, List, [], ◌∷◌, ◌++◌, length, drop, Option, Some, None, Result, Ok, Err, refl, sym, ap, ◌∙◌, subst, arith, length-append}
 use Rattle.std.specs.Prelude.{slice_get, slice_index, nat_lt}
 use Rattle.std.specs.List.{AllByRecursion}
 use Rattle.std.specs.Int.{w64, int_wrap}
@@ -7,11 +7,9 @@ use Rattle.std.proofs.lemmas.Int.{int_wrap_fits, ints}
 use Rattle.std.proofs.lemmas.Bool.Decides.{nat_tests}
 use Rattle.p3l_base.specs.declared.outcome.TrapKind.{TrapKind}
 use Rattle.p3l_base.specs.declared.outcome.TrapKind.TheVariants.{Index}
-use Rattle.p3l_ast.specs.declared.expression.UnOp.{UnOp}
 use Rattle.p3l_ast.specs.declared.expression.BinOp.{BinOp}
 use Rattle.p3l_ast.specs.declared.expression.BinOp.TheVariants as operators
 use Rattle.p3l_ast.specs.declared.position.Spot.{Spot}
-use Rattle.p3l_ast.specs.declared.meaning.state.State.{State}
 use Rattle.p3l_ast.specs.Tree.{Phrase, number, read, unary, binary, Phrases, none, more}
 use Rattle.p3l_ast.specs.Meaning.Operator.{truth, holds, unary_of, binary_of}
 use Rattle.p3l_ast.specs.Meaning.State.{sizes_of, word_of}
@@ -19,13 +17,19 @@ use Rattle.p3l_ast.specs.Meaning.Expression.{given, tested, combined, indexed, v
 use Rattle.p3l_code.specs.declared.instr.Instr.{Instr}
 use Rattle.p3l_code.specs.declared.instr.Instr.TheVariants.{Push, Load, Step, LoadAt, Unary, Binary, Jump, JumpZero, JumpNonZero}
 use Rattle.p3l_code.specs.declared.instr.Code.{Code}
-use Rattle.p3l_code.specs.Machine.{Ending, present, after, popped, index_of, act, machine, Unrolls}
+use Rattle.p3l_code.specs.Machine.{Ending, present, after, index_of, machine, Unrolls}
 use Rattle.p3l_compile.specs.declared.scope.Slot.{Slot}
 use Rattle.p3l_compile.specs.Scope.{Names, found, constant_of, state_of, IsLaid}
-use Rattle.p3l_compile.specs.Phrase.{operator_size, read_size, phrase_size, index_size, scalar_code, sizes_in, element_code, read_code, operator_code, phrase_code, index_code, count_of, IsAccess, Fits, FitsAll}
+use Rattle.p3l_compile.specs.Phrase.{operator_size, read_size, phrase_size, index_size, scalar_code, sizes_in, element_code, read_code, operator_code, phrase_code, first_code, index_code, count_of, IsAccess, Fits, FitsAll}
 use Rattle.p3l_compile.proofs.Steps.{HasAt, has_front, has_back, step, after_given, after_same}
-use Rattle.p3l_compile.proofs.Scopes.{sizes_found, sizes_none, word_none, Lies, lies_within, word_found}
+use Rattle.p3l_compile.proofs.Scopes.{sizes_found, word_none, lies_within, word_found}
 use Rattle.p3l_types.specs.Shape.{product}
+
+-- there is one index
+abbrev pub IsSingle : Phrases → Type 0
+IsSingle none = ⊥
+IsSingle (more e none) = Unit {0}
+IsSingle (more e (more f is)) = ⊥
 
 -- how long the code is
 operator_length : (op : BinOp) (pc m n : ℕ) (left : List Instr) (right : ℕ → List Instr) → length left ≡ m → ((p : ℕ) → length (right p) ≡ n) → length (operator_code op pc left m right n) ≡ m + n + operator_size op
@@ -39,18 +43,24 @@ operator_length op pc m n left right h k =
     let r = k (pc + m) in
     omega (arith, length-append left (right (pc + m) ++ Binary op ∷ []), length-append (right (pc + m)) (Binary op ∷ []))
 
-read_length : (slot : Option Slot) (v : ℤ) (is : Phrases) (index : List Instr) (n : ℕ) → length index ≡ n → length (read_code slot v is index) ≡ read_size is n
-read_length slot v none index n h = refl
-read_length slot v (more e is) index n h = omega (arith, length-append index (element_code slot ∷ []))
+read_length : (slot : Option Slot) (v : ℤ) (is : Phrases) (first index : List Instr) (n : ℕ) → length index ≡ n → (IsSingle is → length first + 1 ≡ n) → length (read_code slot v is first index) ≡ read_size is n
+read_length slot v none first index n h one = refl
+read_length slot v (more e none) first index n h one = omega (arith, length-append first (element_code slot ∷ []), one tt)
+read_length slot v (more e (more f is)) first index n h one = omega (arith, length-append index (element_code slot ∷ []))
 
 mutual
   pub phrase_length : (scope : Names) (pc : ℕ) (e : Phrase) → length (phrase_code scope pc e) ≡ phrase_size e
   phrase_length scope pc (number v) = refl
   phrase_length scope pc (read x is) =
-      read_length (found scope x.name) (constant_of scope x.name) is (index_code scope (pc + 1) (sizes_in (found scope x.name)) is) (index_size is) (index_length scope (pc + 1) (sizes_in (found scope x.name)) is)
+      read_length (found scope x.name) (constant_of scope x.name) is (first_code scope pc is) (index_code scope (pc + 1) (sizes_in (found scope x.name)) is) (index_size is) (index_length scope (pc + 1) (sizes_in (found scope x.name)) is) (first_length scope pc is)
   phrase_length scope pc (unary op e) = let h = phrase_length scope pc e in omega (arith, length-append (phrase_code scope pc e) (Unary op ∷ []))
   phrase_length scope pc (binary op a b) =
       operator_length op pc (phrase_size a) (phrase_size b) (phrase_code scope pc a) (λ p. phrase_code scope p b) (phrase_length scope pc a) (λ p. phrase_length scope p b)
+
+  pub first_length : (scope : Names) (pc : ℕ) (is : Phrases) → IsSingle is → length (first_code scope pc is) + 1 ≡ index_size is
+  first_length scope pc none one = absurd one
+  first_length scope pc (more e none) one = let h = phrase_length scope pc e in omega arith
+  first_length scope pc (more e (more f is)) one = absurd one
 
   pub index_length : (scope : Names) (pc : ℕ) (sizes : List ℕ) (is : Phrases) → length (index_code scope pc sizes is) ≡ index_size is
   index_length scope pc sizes none = refl
@@ -204,17 +214,61 @@ module _ (code : Code) (unrolls : Unrolls code) (scope : Names) (size : ℕ) (la
   Indexes is =
       (pc : ℕ) (sizes : List ℕ) (place : ℕ) (stack : List ℤ) → HasAt code pc (index_code scope pc sizes is) → FitsAll scope is → count_of is ≡ length sizes → AllByRecursion (λ n. 1 ≤ n) sizes → (place + 1) * product sizes ≤ 65536 → (K : ℕ → Ending) → ((p : ℕ) → p < (place + 1) * product sizes → machine code (pc + index_size is) (pos p ∷ stack) memory turns ≡ K p) → machine code pc (pos place ∷ stack) memory turns ≡ after (place_of (state_of scope memory turns) is sizes place) K
 
-  read_runs : (x : Spot) (is : Phrases) → Indexes is → (pc : ℕ) (stack : List ℤ) (o : Option Slot) → found scope x.name ≡ o → HasAt code pc (read_code o (constant_of scope x.name) is (index_code scope (pc + 1) (sizes_in o) is)) → IsAccess o (count_of is) → FitsAll scope is → Pushes code unrolls pc (pc + read_size is (index_size is)) stack memory turns (given (place_of (state_of scope memory turns) is (sizes_of (state_of scope memory turns) x.name) 0) (λ place. Ok (word_of (state_of scope memory turns) x.name place)))
+  -- the same of the first index alone: its number is on the stack
+  abbrev First : Phrases → Type 0
+  First none = Unit {0}
+  First (more e is) =
+      (pc : ℕ) (stack : List ℤ) → HasAt code pc (phrase_code scope pc e) → Fits scope e → Pushes code unrolls pc (pc + phrase_size e) stack memory turns (value_of (state_of scope memory turns) e)
+
+  -- an element of an array of one size is tested where it is read
+  one_runs : (x : List ℕ) (e : Phrase) (slot : Slot) (n pc : ℕ) (stack : List ℤ) → found scope x ≡ Some slot → slot.sizes ≡ n ∷ [] → First (more e none) →
+      HasAt code pc (phrase_code scope pc e ++ LoadAt slot.base slot.words ∷ []) → Fits scope e →
+      Pushes code unrolls pc (pc + (phrase_size e + 1 + 0)) stack memory turns (given (place_of (state_of scope memory turns) (more e none) (n ∷ []) 0) (λ place. Ok (word_of (state_of scope memory turns) x place)))
   unfolding place_of
-  read_runs x none index pc stack o f has access fits K h =
-      scalar_runs x.name pc stack o f has.0 access ∙ h (word_of (state_of scope memory turns) x.name 0)
-  read_runs x (more e is) index pc stack None f has access fits K h = absurd (let q : count_of is + 1 ≡ 0 = access in omega arith)
-  read_runs x (more e is) index pc stack (Some slot) f has access fits K h =
+  one_runs x e slot n pc stack f sized first has fits K h =
       let s = state_of scope memory turns in
-      let n = index_size (more e is) in
+      let m = phrase_size e in
+      let l = lies_within scope size x slot laid f in
+      let words : slot.words ≡ n = let p = ap product sized in omega (arith, l.words, p) in
+      let last = (has_back code pc m (phrase_code scope pc e) (LoadAt slot.base slot.words ∷ []) (phrase_length scope pc e) has).0 in
+      let end : pc + m + 1 ≡ pc + (m + 1 + 0) = omega arith in
+      let go = λ (k : ℕ). present (slice_get memory (slot.base + k)) (λ v. machine code (pc + m + 1) (v ∷ stack) memory turns) in
+      let K' : ℕ → Ending = λ p. K (word_of s x p) in
+      let word : (k : ℕ) → k < n → go k ≡ K' (0 * n + k) =
+      λ k lt. let inside : slot.base + k < length memory = omega (arith, l.below, words) in
+      let same : k ≡ 0 * n + k = omega arith in
+      ap (λ o. present o (λ v. machine code (pc + m + 1) (v ∷ stack) memory turns)) (word_found scope memory turns x slot k f inside (omega (arith, words)))
+      ∙ (ap (λ q. machine code q (word_of s x k ∷ stack) memory turns) end ∙ (h (word_of s x k) ∙ ap K' same)) in
+      first pc stack (has_front code pc (phrase_code scope pc e) (LoadAt slot.base slot.words ∷ []) has) fits
+      (λ i. after (indexed (n ∷ []) 0 (place_of s none) i) K')
+      (λ i. step code unrolls (pc + m) (i ∷ stack) memory turns (LoadAt slot.base slot.words) last
+      ∙ (ap (λ w. after (index_of w i) go) words ∙ index_given n 0 [] i (place_of s none) go K' word))
+      ∙ after_given (value_of s e) (indexed (n ∷ []) 0 (place_of s none)) K'
+      ∙ after_given (place_of s (more e none) (n ∷ []) 0) (λ p. Ok (word_of s x p)) K
+
+  read_runs : (x : Spot) (is : Phrases) → First is → Indexes is → (pc : ℕ) (stack : List ℤ) (o : Option Slot) → found scope x.name ≡ o → HasAt code pc (read_code o (constant_of scope x.name) is (first_code scope pc is) (index_code scope (pc + 1) (sizes_in o) is)) → IsAccess o (count_of is) → FitsAll scope is → Pushes code unrolls pc (pc + read_size is (index_size is)) stack memory turns (given (place_of (state_of scope memory turns) is (sizes_of (state_of scope memory turns) x.name) 0) (λ place. Ok (word_of (state_of scope memory turns) x.name place)))
+  unfolding place_of
+  read_runs x none first index pc stack o f has access fits K h =
+      scalar_runs x.name pc stack o f has.0 access ∙ h (word_of (state_of scope memory turns) x.name 0)
+  read_runs x (more e none) first index pc stack None f has access fits K h = absurd (let q : 0 + 1 ≡ 0 = access in omega arith)
+  read_runs x (more e none) first index pc stack (Some slot) f has access fits K h =
+      let s = state_of scope memory turns in
+      by slot.sizes refl access
+      ∙ ap (λ z. after (given (place_of s (more e none) z 0) (λ p. Ok (word_of s x.name p))) K) (sym (sizes_found scope memory turns x.name slot f))
+    where
+      by : (sizes : List ℕ) → slot.sizes ≡ sizes → 0 + 1 ≡ length sizes → machine code pc stack memory turns ≡ after (given (place_of (state_of scope memory turns) (more e none) slot.sizes 0) (λ p. Ok (word_of (state_of scope memory turns) x.name p))) K
+      by [] sized count = absurd (omega (arith, count))
+      by (n ∷ []) sized count =
+          one_runs x.name e slot n pc stack f sized first has fits.0 K h
+          ∙ ap (λ z. after (given (place_of (state_of scope memory turns) (more e none) z 0) (λ p. Ok (word_of (state_of scope memory turns) x.name p))) K) (sym sized)
+      by (n ∷ (k ∷ sizes)) sized count = absurd (omega (arith, count))
+  read_runs x (more e (more d is)) first index pc stack None f has access fits K h = absurd (let q : count_of is + 1 + 1 ≡ 0 = access in omega arith)
+  read_runs x (more e (more d is)) first index pc stack (Some slot) f has access fits K h =
+      let s = state_of scope memory turns in
+      let n = index_size (more e (more d is)) in
       let l = lies_within scope size x.name slot laid f in
-      let code_of = index_code scope (pc + 1) slot.sizes (more e is) in
-      let last = (has_back code (pc + 1) n code_of (LoadAt slot.base slot.words ∷ []) (index_length scope (pc + 1) slot.sizes (more e is)) has.1).0 in
+      let code_of = index_code scope (pc + 1) slot.sizes (more e (more d is)) in
+      let last = (has_back code (pc + 1) n code_of (LoadAt slot.base slot.words ∷ []) (index_length scope (pc + 1) slot.sizes (more e (more d is))) has.1).0 in
       let place : pc + 1 + n + 1 ≡ pc + (n + 2) = omega arith in
       let small : (0 + 1) * product slot.sizes ≤ 65536 = omega (arith, l.few, l.words) in
       step code unrolls pc stack memory turns (Push (pos 0)) has.0
@@ -222,8 +276,8 @@ module _ (code : Code) (unrolls : Unrolls code) (scope : Names) (size : ℕ) (la
       (λ p. K (word_of s x.name p))
       (λ p b. element_runs x.name slot (pc + 1 + n) p stack f last (omega (arith, b, l.words))
       ∙ (ap (λ q. machine code q (word_of s x.name p ∷ stack) memory turns) place ∙ h (word_of s x.name p)))
-      ∙ (after_given (place_of s (more e is) slot.sizes 0) (λ p. Ok (word_of s x.name p)) K
-      ∙ ap (λ z. after (given (place_of s (more e is) z 0) (λ p. Ok (word_of s x.name p))) K) (sym (sizes_found scope memory turns x.name slot f)))
+      ∙ (after_given (place_of s (more e (more d is)) slot.sizes 0) (λ p. Ok (word_of s x.name p)) K
+      ∙ ap (λ z. after (given (place_of s (more e (more d is)) z 0) (λ p. Ok (word_of s x.name p))) K) (sym (sizes_found scope memory turns x.name slot f)))
 
   mutual
     unfolding value_of place_of
@@ -231,7 +285,7 @@ module _ (code : Code) (unrolls : Unrolls code) (scope : Names) (size : ℕ) (la
     pub phrase_runs : (e : Phrase) (pc : ℕ) (stack : List ℤ) → HasAt code pc (phrase_code scope pc e) → Fits scope e → Pushes code unrolls pc (pc + phrase_size e) stack memory turns (value_of (state_of scope memory turns) e)
     phrase_runs (number v) pc stack has fits K h = step code unrolls pc stack memory turns (Push v) has.0 ∙ h v
     phrase_runs (read x is) pc stack has fits K h =
-        read_runs x is (index_runs is) pc stack (found scope x.name) refl has fits.0 fits.1 K h
+        read_runs x is (first_runs is) (index_runs is) pc stack (found scope x.name) refl has fits.0 fits.1 K h
     phrase_runs (unary op e) pc stack has fits K h =
         let n = phrase_size e in
         let here = (has_back code pc n (phrase_code scope pc e) (Unary op ∷ []) (phrase_length scope pc e) has).0 in
@@ -242,6 +296,10 @@ module _ (code : Code) (unrolls : Unrolls code) (scope : Names) (size : ℕ) (la
     phrase_runs (binary op a b) pc stack has fits K h =
         operator_runs code unrolls op pc (phrase_size a) (phrase_size b) (phrase_code scope pc a) (λ p. phrase_code scope p b) stack memory turns (value_of (state_of scope memory turns) a) (value_of (state_of scope memory turns) b) has (phrase_length scope pc a) (λ p. phrase_length scope p b)
         (λ l. phrase_runs a pc stack l fits.0) (λ p s r. phrase_runs b p s r fits.1) K h
+
+    first_runs : (is : Phrases) → First is
+    first_runs none = tt
+    first_runs (more e is) = phrase_runs e
 
     pub index_runs : (is : Phrases) → Indexes is
     index_runs none pc [] place stack has fits count some small K h =

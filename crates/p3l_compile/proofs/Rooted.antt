@@ -1,21 +1,21 @@
 -- Each place of compiled code is reached, or has an empty stack.
-use Rattle.std.proofs.Common.{◌≡◌, ℕ, ℤ, zero, suc, pos, ◌+◌, ◌<◌, ◌≤◌, ◌⊎◌, inl, inr, ⊎_elim, Bool, true, false, List, [], ◌∷◌, ◌++◌, length, Option, Some, None, refl, sym, ap, ◌∙◌, subst, arith, length-append}
+use Rattle.std.proofs.Common.{◌≡◌, ℕ, ℤ, pos, ◌+◌, ◌<◌, ◌≤◌, ◌⊎◌, inl, inr, ⊎_elim, true, List, [], ◌∷◌, ◌++◌, length, Option, Some, None, refl, sym, ap, ◌∙◌, subst, arith, length-append}
 use Rattle.std.specs.Prelude.{slice_get}
 use Rattle.std.proofs.lemmas.Bool.{cases_lt}
 use Rattle.p3l_ast.specs.declared.expression.BinOp.{BinOp}
 use Rattle.p3l_ast.specs.declared.expression.BinOp.TheVariants as operators
 use Rattle.p3l_ast.specs.Tree.{Phrase, number, read, unary, binary, Phrases, none, more, Statements, done, assign, if_, if_else, while_, for_}
 use Rattle.p3l_code.specs.declared.instr.Instr.{Instr}
-use Rattle.p3l_code.specs.declared.instr.Instr.TheVariants.{Push, Load, Step, Unary, Binary, Jump, JumpZero, JumpNonZero, Turn}
+use Rattle.p3l_code.specs.declared.instr.Instr.TheVariants.{Push, Step, Unary, Binary, Jump, JumpZero, JumpNonZero, Turn}
 use Rattle.p3l_code.specs.declared.instr.Code.{Code}
 use Rattle.p3l_code.specs.Safe.{target_of, goes_on, IsReached}
 use Rattle.p3l_compile.specs.declared.scope.Slot.{Slot}
 use Rattle.p3l_compile.specs.Scope.{Names, found, constant_of}
-use Rattle.p3l_compile.specs.Phrase.{operator_size, read_size, phrase_size, index_size, scalar_code, sizes_in, element_code, read_code, operator_code, phrase_code, index_code}
+use Rattle.p3l_compile.specs.Phrase.{operator_size, read_size, phrase_size, index_size, scalar_code, sizes_in, element_code, read_code, operator_code, phrase_code, first_code, index_code}
 use Rattle.p3l_compile.specs.Statement.{assign_size, loop_size, statement_size, store_code, store_at_code, assign_code, loop_code, statement_code}
-use Rattle.p3l_compile.specs.Depth.{phrase_depths, index_depths}
+use Rattle.p3l_compile.specs.Depth.{phrase_depths}
 use Rattle.p3l_compile.proofs.Steps.{HasAt, has_front, has_back}
-use Rattle.p3l_compile.proofs.Phrases.{phrase_length, index_length}
+use Rattle.p3l_compile.proofs.Phrases.{IsSingle, phrase_length, first_length, index_length}
 use Rattle.p3l_compile.proofs.Statements.{statement_length, assign_length, loop_length, stepped_length}
 use Rattle.p3l_compile.proofs.Depths.{DepthsAt, depths_front, depths_back, depths_length, phrase_first}
 use Rattle.p3l_compile.proofs.StatementDepths.{assign_depths, loop_depths, statement_depths, assign_depths_length, loop_depths_length, statement_depths_length, assign_first, statement_first, here}
@@ -95,9 +95,14 @@ module _ (code : Code) (table : List ℕ) where
       (join pc m (n + 1) (L (has_front code pc left (right (pc + m) ++ Binary op ∷ []) at))
       (join (pc + m) n 1 (R (pc + m) (has_front code (pc + m) (right (pc + m)) (Binary op ∷ []) back)) (goes (pc + m + n) (Binary op) last.0 refl)))
 
-  read_rooted : (o : Option Slot) (v : ℤ) (is : Phrases) (index : List Instr) (n pc : ℕ) → length index ≡ n → HasAt code pc (read_code o v is index) → (HasAt code (pc + 1) index → Rooted (pc + 1) n) → Rooted pc (read_size is n)
-  read_rooted o v none index n pc long at I = goes pc (scalar_code o v) at.0 (scalar_goes o v)
-  read_rooted o v (more e is) index n pc long at I =
+  read_rooted : (o : Option Slot) (v : ℤ) (is : Phrases) (first index : List Instr) (n m pc : ℕ) → length index ≡ n → length first ≡ m → (IsSingle is → m + 1 ≡ n) → HasAt code pc (read_code o v is first index) →
+      (HasAt code pc first → Rooted pc m) → (HasAt code (pc + 1) index → Rooted (pc + 1) n) → Rooted pc (read_size is n)
+  read_rooted o v none first index n m pc long alone one at F I = goes pc (scalar_code o v) at.0 (scalar_goes o v)
+  read_rooted o v (more e none) first index n m pc long alone one at F I =
+      let last = has_back code pc m first (element_code o ∷ []) alone at in
+      resize pc (m + 1) n (omega (arith, one tt))
+      (join pc m 1 (F (has_front code pc first (element_code o ∷ []) at)) (goes (pc + m) (element_code o) last.0 (element_goes o)))
+  read_rooted o v (more e (more f is)) first index n m pc long alone one at F I =
       let last = has_back code (pc + 1) n index (element_code o ∷ []) long at.1 in
       resize pc (n + 1 + 1) (n + 2) (omega arith)
       (then pc (n + 1) (Push (pos 0)) at.0 refl
@@ -107,7 +112,8 @@ module _ (code : Code) (table : List ℕ) where
     pub phrase_rooted : (scope : Names) (e : Phrase) (pc : ℕ) → HasAt code pc (phrase_code scope pc e) → Rooted pc (phrase_size e)
     phrase_rooted scope (number v) pc at = goes pc (Push v) at.0 refl
     phrase_rooted scope (read x is) pc at =
-        read_rooted (found scope x.name) (constant_of scope x.name) is (index_code scope (pc + 1) (sizes_in (found scope x.name)) is) (index_size is) pc (index_length scope (pc + 1) (sizes_in (found scope x.name)) is) at
+        read_rooted (found scope x.name) (constant_of scope x.name) is (first_code scope pc is) (index_code scope (pc + 1) (sizes_in (found scope x.name)) is) (index_size is) (length (first_code scope pc is)) pc (index_length scope (pc + 1) (sizes_in (found scope x.name)) is) refl (first_length scope pc is) at
+        (λ h. first_rooted scope is pc h)
         (λ h. index_rooted scope is (pc + 1) (sizes_in (found scope x.name)) h)
     phrase_rooted scope (unary op e) pc at =
         let n = phrase_size e in
@@ -116,6 +122,10 @@ module _ (code : Code) (table : List ℕ) where
     phrase_rooted scope (binary op a b) pc at =
         operator_rooted op pc (phrase_size a) (phrase_size b) (phrase_code scope pc a) (λ p. phrase_code scope p b) (phrase_length scope pc a) (λ p. phrase_length scope p b) at
         (λ h. phrase_rooted scope a pc h) (λ p h. phrase_rooted scope b p h)
+
+    first_rooted : (scope : Names) (is : Phrases) (pc : ℕ) → HasAt code pc (first_code scope pc is) → Rooted pc (length (first_code scope pc is))
+    first_rooted scope none pc at = rooted_none pc
+    first_rooted scope (more e is) pc at = subst (Rooted pc) (sym (phrase_length scope pc e)) (phrase_rooted scope e pc at)
 
     pub index_rooted : (scope : Names) (is : Phrases) (pc : ℕ) (sizes : List ℕ) → HasAt code pc (index_code scope pc sizes is) → Rooted pc (index_size is)
     index_rooted scope none pc sizes at = rooted_none pc

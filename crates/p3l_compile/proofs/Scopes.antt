@@ -1,6 +1,6 @@
 -- What the state that a memory stands for says of names.
-use Rattle.std.proofs.Common.{◌≡◌, ◌≢◌, ℕ, ℤ, zero, suc, pos, ◌+◌, ◌*◌, ◌-◌, ◌≤◌, ◌<◌, Bool, true, false, cond, List, [], ◌∷◌, ◌++◌, length, take, drop, map, Option, Some, None, refl, sym, ap, ◌∙◌, subst, arith}
-use Rattle.std.specs.Prelude.{find, bytes_eq, slice_get, slice_set, slice_index_or, option_map}
+use Rattle.std.proofs.Common.{◌≡◌, ◌≢◌, ℕ, ℤ, zero, suc, pos, ◌+◌, ◌-◌, ◌≤◌, ◌<◌, Bool, true, false, cond, List, [], ◌∷◌, ◌++◌, length, take, drop, map, Some, None, refl, sym, ap, ◌∙◌, subst, arith}
+use Rattle.std.specs.Prelude.{find, bytes_eq, slice_get, slice_set, slice_index_or}
 use Rattle.std.specs.List.{AllByRecursion}
 use Rattle.std.specs.Option.{option_map_or}
 use Rattle.std.proofs.lemmas.Option.{slice_get-get_or}
@@ -15,7 +15,7 @@ use Rattle.p3l_types.specs.Constants.{Constants}
 use Rattle.p3l_types.specs.Shape.{product}
 use Rattle.p3l_body.specs.Eval.{constant}
 use Rattle.p3l_compile.specs.declared.scope.Slot.{Slot}
-use Rattle.p3l_compile.specs.Scope.{Names, found, constant_of, bound_at, state_of, IsAlone, LieFrom, IsLaid}
+use Rattle.p3l_compile.specs.Scope.{Names, found, constant_of, bound_at, state_of, LieFrom, IsLaid}
 
 -- equality of names does not hang on their order
 pub eq_flip : (a b : List ℕ) → bytes_eq a b ≡ bytes_eq b a

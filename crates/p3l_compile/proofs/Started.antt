@@ -1,6 +1,6 @@
 -- The memory at the start of a run stands for the state in which the body starts, and its out words
 -- are the words of the outs.
-use Rattle.std.proofs.Common.{◌≡◌, ◌≢◌, ℕ, ℤ, zero, suc, pos, ◌+◌, ◌-◌, ◌<◌, ◌≤◌, Bool, true, false, cond, List, [], ◌∷◌, ◌++◌, length, take, drop, map, replicate, Option, Some, None, refl, sym, ap, ◌∙◌, subst, arith, append_assoc, length-append, length-drop}
+use Rattle.std.proofs.Common.{◌≡◌, ◌≢◌, ℕ, ℤ, zero, suc, pos, ◌+◌, ◌-◌, ◌≤◌, cond, List, [], ◌∷◌, ◌++◌, length, take, drop, map, replicate, Some, None, refl, sym, ap, ◌∙◌, subst, arith, append_assoc, length-drop}
 use Rattle.std.specs.Prelude.{bytes_eq}
 use Rattle.std.specs.List.{AllByRecursion, flat_map}
 use Rattle.std.specs.Map.{lookup}
@@ -16,7 +16,7 @@ use Rattle.p3l_body.specs.declared.var.Var.{Var}
 use Rattle.p3l_body.specs.Eval.{width, bound, holding, zeroed, constant, start_of, words_in}
 use Rattle.p3l_body.specs.Seq.{SeqTree}
 use Rattle.p3l_compile.specs.declared.scope.Slot.{Slot}
-use Rattle.p3l_compile.specs.Scope.{Names, found, bound_at, state_of, IsAlone, LieFrom, IsLaid, slot_at, slots_from, names_of}
+use Rattle.p3l_compile.specs.Scope.{Names, found, bound_at, state_of, LieFrom, IsLaid, slot_at, slots_from, names_of}
 use Rattle.p3l_compile.specs.Condition.{total, Differ, IsArray}
 use Rattle.p3l_compile.proofs.Scopes.{no_match, words_found}
 

@@ -1,18 +1,18 @@
 -- The code of statements keeps the rules.
-use Rattle.std.proofs.Common.{◌≡◌, ℕ, ℤ, zero, suc, pos, ◌+◌, ◌-◌, ◌<◌, ◌≤◌, Bool, true, false, List, [], ◌∷◌, ◌++◌, length, Option, Some, None, refl, sym, ap, ◌∙◌, subst, arith, length-append}
+use Rattle.std.proofs.Common.{◌≡◌, ℕ, pos, ◌+◌, ◌-◌, ◌<◌, List, [], ◌∷◌, ◌++◌, length, Option, Some, None, refl, sym, ap, ◌∙◌, subst, arith, length-append}
 use Rattle.std.specs.Prelude.{slice_get}
 use Rattle.std.proofs.lemmas.Option.{same_Some}
 use Rattle.p3l_ast.specs.Tree.{Phrase, Phrases, none, more, Statements, done, assign, if_, if_else, while_, for_}
 use Rattle.p3l_code.specs.declared.instr.Instr.{Instr}
 use Rattle.p3l_code.specs.declared.instr.Instr.TheVariants.{Push, Store, StoreAt, Jump, JumpZero, JumpNonZero, Turn}
 use Rattle.p3l_code.specs.declared.instr.Code.{Code}
-use Rattle.p3l_code.specs.Safe.{IsWithin, Leads, depth_behind, next_of, Agrees, EndsAt, IsFine}
+use Rattle.p3l_code.specs.Safe.{IsWithin, IsFine}
 use Rattle.p3l_compile.specs.declared.scope.Slot.{Slot}
 use Rattle.p3l_compile.specs.Scope.{Names, found, IsLaid}
 use Rattle.p3l_compile.specs.Phrase.{phrase_size, index_size, phrase_code, index_code, sizes_in, count_of, Fits, FitsAll}
 use Rattle.p3l_compile.specs.Statement.{assign_size, loop_size, statement_size, store_code, store_at_code, assign_code, loop_code, statement_code, IsTarget, FitsAssign, FitsCode}
 use Rattle.p3l_compile.specs.Limits.{IsLimited, AreLimited, KeepsLimits}
-use Rattle.p3l_compile.specs.Depth.{phrase_depth, index_depth, phrase_depths, index_depths}
+use Rattle.p3l_compile.specs.Depth.{phrase_depths, index_depths}
 use Rattle.p3l_compile.proofs.Bounds.{limited_depth, limited_index_depth}
 use Rattle.p3l_compile.proofs.Scopes.{lies_within}
 use Rattle.p3l_compile.proofs.Phrases.{phrase_length, index_length, some_words}

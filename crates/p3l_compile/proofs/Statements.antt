@@ -1,6 +1,6 @@
 -- The machine on the code of statements: it goes on behind the code with the memory of the state that they make, or
 -- traps.
-use Rattle.std.proofs.Common.{◌≡◌, ℕ, ℤ, zero, suc, pos, ◌+◌, ◌-◌, ◌*◌, ◌≤◌, ◌<◌, Bool, true, false, cond, List, [], ◌∷◌, ◌++◌, length, drop, Option, Some, None, Result, Ok, Err, refl, sym, ap, ◌∙◌, subst, arith, length-append, append_assoc, ltb-true, length-set}
+use Rattle.std.proofs.Common.{◌≡◌, ℕ, ℤ, zero, suc, pos, ◌+◌, ◌*◌, ◌≤◌, ◌<◌, Bool, true, false, cond, List, [], ◌∷◌, ◌++◌, length, Option, Some, None, Result, Ok, Err, refl, sym, ap, ◌∙◌, subst, arith, length-append, ltb-true, length-set}
 use Rattle.std.specs.Prelude.{slice_get, slice_set, nat_lt}
 use Rattle.std.proofs.lemmas.Bool.Decides.{nat_tests}
 use Rattle.p3l_base.specs.declared.outcome.TrapKind.{TrapKind}
@@ -9,21 +9,21 @@ use Rattle.p3l_ast.specs.declared.position.Spot.{Spot}
 use Rattle.p3l_ast.specs.declared.meaning.state.State.{State}
 use Rattle.p3l_ast.specs.Tree.{Phrase, Phrases, none, more, Statements, done, assign, if_, if_else, while_, for_, join}
 use Rattle.p3l_ast.specs.Meaning.Operator.{holds}
-use Rattle.p3l_ast.specs.Meaning.State.{sizes_of, with_word, turned}
+use Rattle.p3l_ast.specs.Meaning.State.{with_word, turned}
 use Rattle.p3l_ast.specs.Meaning.Expression.{given, value_of, place_of}
 use Rattle.p3l_ast.specs.Meaning.Statement.{assigned, chosen, run_by, loop_of, run_of}
 use Rattle.p3l_ast.proofs.Turns.{loop_unrolls, run_join, given_same, given_done}
 use Rattle.p3l_code.specs.declared.instr.Instr.{Instr}
 use Rattle.p3l_code.specs.declared.instr.Instr.TheVariants.{Push, Store, StoreAt, Jump, JumpZero, JumpNonZero, Turn}
 use Rattle.p3l_code.specs.declared.instr.Code.{Code}
-use Rattle.p3l_code.specs.Machine.{Ending, present, after, written, index_of, act, machine, Unrolls}
+use Rattle.p3l_code.specs.Machine.{Ending, present, after, written, machine, Unrolls}
 use Rattle.p3l_compile.specs.declared.scope.Slot.{Slot}
 use Rattle.p3l_compile.specs.Scope.{Names, found, state_of, IsLaid}
-use Rattle.p3l_compile.specs.Phrase.{phrase_size, index_size, phrase_code, index_code, sizes_in, count_of, Fits, FitsAll}
+use Rattle.p3l_compile.specs.Phrase.{phrase_size, index_size, phrase_code, index_code, sizes_in, count_of, Fits}
 use Rattle.p3l_compile.specs.Statement.{assign_size, loop_size, statement_size, store_code, store_at_code, assign_code, loop_code, statement_code, IsTarget, FitsAssign, FitsCode}
-use Rattle.p3l_compile.proofs.Steps.{HasAt, has_front, has_back, step, after_given, after_same}
-use Rattle.p3l_compile.proofs.Scopes.{sizes_found, Lies, lies_within, set_found}
-use Rattle.p3l_compile.proofs.Phrases.{Pushes, phrase_length, index_length, phrase_runs, index_runs, below_size, some_words}
+use Rattle.p3l_compile.proofs.Steps.{HasAt, has_front, has_back, step, after_given}
+use Rattle.p3l_compile.proofs.Scopes.{sizes_found, lies_within, set_found}
+use Rattle.p3l_compile.proofs.Phrases.{phrase_length, index_length, phrase_runs, index_runs, below_size, some_words}
 use Rattle.p3l_types.specs.Shape.{product}
 
 pub assign_length : (scope : Names) (pc : ℕ) (name : List ℕ) (is : Phrases) (e : Phrase) → length (assign_code scope pc name is e) ≡ assign_size is e

@@ -1,5 +1,5 @@
 -- What a compiled body does.
-use Rattle.std.specs.Prelude.{◌≡◌, ℕ, ℤ, pos, ◌+◌, ◌-◌, List, [], ◌∷◌, ◌++◌, length, take, drop, replicate, Some, Ok, slice_get}
+use Rattle.std.specs.Prelude.{◌≡◌, ℕ, ℤ, List, [], ◌∷◌, ◌++◌, length, Some, Ok}
 use Rattle.p3l_ast.specs.declared.meaning.state.State.{State}
 use Rattle.p3l_ast.specs.Tree.{Statements}
 use Rattle.p3l_ast.specs.Meaning.Statement.{run_of}

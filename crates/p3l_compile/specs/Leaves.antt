@@ -41,3 +41,9 @@ AreCodes [] [] = Unit {0}
 AreCodes [] (code ∷ codes) = ⊥
 AreCodes (seq ∷ seqs) [] = ⊥
 AreCodes (seq ∷ seqs) (code ∷ codes) = Compiles seq code × AreCodes seqs codes
+
+-- codes were compiled from the bodies of a tree's `seq` modules
+pub record HasBodies (tree : Tree) (codes : List Code) : Type 0 where
+  pub seqs : List SeqTree
+  pub bodies : AreBodies tree seqs
+  pub compiled : AreCodes seqs codes

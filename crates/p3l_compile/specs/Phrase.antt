@@ -1,6 +1,5 @@
 -- The code of expressions.
-use Rattle.std.specs.Prelude.{◌≡◌, ℕ, ℤ, zero, suc, pos, ◌+◌, List, [], ◌∷◌, ◌++◌, length, drop, slice_index, Option, Some, None, IsSome, IsTrue}
-use Rattle.std.specs.Option.{option_map_or}
+use Rattle.std.specs.Prelude.{◌≡◌, ℕ, ℤ, pos, ◌+◌, List, [], ◌∷◌, ◌++◌, length, drop, slice_index, Option, Some, None}
 use Rattle.p3l_ast.specs.declared.expression.BinOp.{BinOp}
 use Rattle.p3l_ast.specs.declared.expression.BinOp.TheVariants as operators
 use Rattle.p3l_ast.specs.Tree.{Phrase, number, read, unary, binary, Phrases, none, more}
@@ -15,10 +14,12 @@ operator_size operators.Or = 5
 operator_size operators.And = 5
 operator_size op = 1
 
--- an array's element is read by two instructions more than its indices have
+-- an element is read by two instructions more than its indices have, but where there is one index it is
+-- tested by the instruction that reads
 abbrev pub read_size : Phrases → ℕ → ℕ
 read_size none n = 1
-read_size (more e is) n = n + 2
+read_size (more e none) n = n
+read_size (more e (more f is)) n = n + 2
 
 -- how many instructions an expression has
 abbrev mutual
@@ -45,16 +46,31 @@ abbrev pub element_code : Option Slot → Instr
 element_code (Some slot) = LoadAt slot.base slot.words
 element_code None = LoadAt 0 1
 
-abbrev pub read_code : Option Slot → ℤ → Phrases → List Instr → List Instr
-read_code slot constant none index = scalar_code slot constant ∷ []
-read_code slot constant (more e is) index = Push (pos 0) ∷ (index ++ element_code slot ∷ [])
+-- a name with its indices: the code of the first index where it stands alone, and that of all indices
+abbrev pub read_code : Option Slot → ℤ → Phrases → List Instr → List Instr → List Instr
+read_code slot constant none first index = scalar_code slot constant ∷ []
+read_code slot constant (more e none) first index = first ++ element_code slot ∷ []
+read_code slot constant (more e (more f is)) first index = Push (pos 0) ∷ (index ++ element_code slot ∷ [])
 
--- an operator, from a place on: its left operand's code with its size, and its right operand's
+-- where the left operand of `||` or `&&` decides: a jump past the right one, to where the number stands
+-- that it then gives
+abbrev pub skip_code : BinOp → ℕ → Instr
+skip_code operators.Or to = JumpNonZero to
+skip_code op to = JumpZero to
+
+abbrev pub decided : BinOp → ℤ
+decided operators.Or = pos 1
+decided op = pos 0
+
+-- `||` or `&&`, from a place on: its left operand's code with its size, and its right operand's
+abbrev pub short_code : BinOp → ℕ → List Instr → ℕ → (ℕ → List Instr) → ℕ → List Instr
+short_code op pc left m right n =
+    left ++ (skip_code op (pc + m + n + 4) ∷ (right (pc + m + 1) ++ (Push (pos 0) ∷ Binary operators.Ne ∷ Jump (pc + m + n + 5) ∷ Push (decided op) ∷ [])))
+
+-- an operator, from a place on
 abbrev pub operator_code : BinOp → ℕ → List Instr → ℕ → (ℕ → List Instr) → ℕ → List Instr
-operator_code operators.Or pc left m right n =
-    left ++ (JumpNonZero (pc + m + n + 4) ∷ (right (pc + m + 1) ++ (Push (pos 0) ∷ Binary operators.Ne ∷ Jump (pc + m + n + 5) ∷ Push (pos 1) ∷ [])))
-operator_code operators.And pc left m right n =
-    left ++ (JumpZero (pc + m + n + 4) ∷ (right (pc + m + 1) ++ (Push (pos 0) ∷ Binary operators.Ne ∷ Jump (pc + m + n + 5) ∷ Push (pos 0) ∷ [])))
+operator_code operators.Or pc left m right n = short_code operators.Or pc left m right n
+operator_code operators.And pc left m right n = short_code operators.And pc left m right n
 operator_code op pc left m right n = left ++ (right (pc + m) ++ Binary op ∷ [])
 
 -- the code of an expression that stands at a place
@@ -62,10 +78,15 @@ abbrev mutual
   pub phrase_code : Names → ℕ → Phrase → List Instr
   phrase_code scope pc (number v) = Push v ∷ []
   phrase_code scope pc (read x is) =
-      read_code (found scope x.name) (constant_of scope x.name) is (index_code scope (pc + 1) (sizes_in (found scope x.name)) is)
+      read_code (found scope x.name) (constant_of scope x.name) is (first_code scope pc is) (index_code scope (pc + 1) (sizes_in (found scope x.name)) is)
   phrase_code scope pc (unary op e) = phrase_code scope pc e ++ Unary op ∷ []
   phrase_code scope pc (binary op a b) =
       operator_code op pc (phrase_code scope pc a) (phrase_size a) (λ p. phrase_code scope p b) (phrase_size b)
+
+  -- the first index
+  pub first_code : Names → ℕ → Phrases → List Instr
+  first_code scope pc none = []
+  first_code scope pc (more e is) = phrase_code scope pc e
 
   -- each index, tested against its size
   pub index_code : Names → ℕ → List ℕ → Phrases → List Instr

@@ -3,7 +3,7 @@
 ghost use Rattle.std.specs.Prelude.{◌≡◌, ℕ, pos, ◌+◌, ◌<◌, ◌≤◌, [], ◌∷◌, ◌++◌, length, slice_index, OnOk};
 ghost use Rattle.p3l_ast.specs.Tree.{phrase, phrases, read, unary, binary};
 ghost use Rattle.p3l_compile.specs.Scope.{found, constant_of};
-ghost use Rattle.p3l_compile.specs.Phrase.{phrase_size, index_size, scalar_code, element_code, sizes_in, phrase_code, index_code};
+ghost use Rattle.p3l_compile.specs.Phrase.{phrase_size, index_size, skip_code, decided, short_code, scalar_code, element_code, sizes_in, phrase_code, index_code};
 
 use crate::scope::Scope;
 use p3l_ast::{BinOp, Expr, Target, UnOp};
@@ -56,58 +56,58 @@ fn emit_binary(
     ensures size { OnOk result (length code.new.items ≡ length code.old.items + phrase_size (binary op (phrase left.now) (phrase right.now))) }
 {
     if op == BinOp::Or {
-        return emit_or(scope, code, left, right);
+        return emit_short(scope, code, BinOp::Or, left, right);
     }
     if op == BinOp::And {
-        return emit_and(scope, code, left, right);
+        return emit_short(scope, code, BinOp::And, left, right);
     }
     emit_expr(scope, code, left)?;
     emit_expr(scope, code, right)?;
     put(code, Instr::Binary(op))
 }
 
-// Puts the code of `left || right` behind the code so far.
+// Puts the code of `left || right` or `left && right` behind the code so far.
 #[cycle(expression)]
-fn emit_or(
+fn emit_short(
     scope: &Scope<'_>,
     code: &mut Vec<Instr>,
+    op: BinOp,
     left: &Expr,
     right: &Expr,
 ) -> Result<(), NoMemory>
-    requires { length code.old.items + phrase_size (binary BinOp.Or (phrase left.now) (phrase right.now)) ≤ 4194304 }
-    ensures code { OnOk result (code.new.items
-        ≡ code.old.items ++ phrase_code scope.now (length code.old.items) (binary BinOp.Or (phrase left.now) (phrase right.now))) }
-    ensures size { OnOk result (length code.new.items ≡ length code.old.items + phrase_size (binary BinOp.Or (phrase left.now) (phrase right.now))) }
+    requires { length code.old.items + phrase_size (phrase left.now) + phrase_size (phrase right.now) + 5 ≤ 4194304 }
+    ensures code { OnOk result (code.new.items ≡ code.old.items
+        ++ short_code op (length code.old.items) (phrase_code scope.now (length code.old.items) (phrase left.now)) (phrase_size (phrase left.now))
+        (λ p. phrase_code scope.now p (phrase right.now)) (phrase_size (phrase right.now))) }
+    ensures size { OnOk result (length code.new.items ≡ length code.old.items + (phrase_size (phrase left.now) + phrase_size (phrase right.now) + 5)) }
 {
     emit_expr(scope, code, left)?;
     let jump = code.len();
-    put(code, Instr::JumpNonZero(0))?;
+    put(code, skip(op, 0))?;
     emit_expr(scope, code, right)?;
-    put_truth(code, 1)?;
-    code[jump] = Instr::JumpNonZero(place(code) - 1);
+    put_truth(code, decided(op))?;
+    code[jump] = skip(op, place(code) - 1);
     Ok(())
 }
 
-// Puts the code of `left && right` behind the code so far.
-#[cycle(expression)]
-fn emit_and(
-    scope: &Scope<'_>,
-    code: &mut Vec<Instr>,
-    left: &Expr,
-    right: &Expr,
-) -> Result<(), NoMemory>
-    requires { length code.old.items + phrase_size (binary BinOp.And (phrase left.now) (phrase right.now)) ≤ 4194304 }
-    ensures code { OnOk result (code.new.items
-        ≡ code.old.items ++ phrase_code scope.now (length code.old.items) (binary BinOp.And (phrase left.now) (phrase right.now))) }
-    ensures size { OnOk result (length code.new.items ≡ length code.old.items + phrase_size (binary BinOp.And (phrase left.now) (phrase right.now))) }
+// The jump past a right operand that the left one of `||` or `&&` makes needless.
+fn skip(op: BinOp, to: u32) -> Instr
+    ensures { result ≡ skip_code op to }
 {
-    emit_expr(scope, code, left)?;
-    let jump = code.len();
-    put(code, Instr::JumpZero(0))?;
-    emit_expr(scope, code, right)?;
-    put_truth(code, 0)?;
-    code[jump] = Instr::JumpZero(place(code) - 1);
-    Ok(())
+    match op {
+        BinOp::Or => Instr::JumpNonZero(to),
+        _ => Instr::JumpZero(to),
+    }
+}
+
+// What `||` or `&&` gives where its left operand decides.
+fn decided(op: BinOp) -> i64
+    ensures { result ≡ decided op }
+{
+    match op {
+        BinOp::Or => 1,
+        _ => 0,
+    }
 }
 
 // Puts the code that reads a variable, an element or a constant behind the code so far.
@@ -122,9 +122,30 @@ fn emit_read(scope: &Scope<'_>, code: &mut Vec<Instr>, target: &Target) -> Resul
     if target.index.is_empty() {
         return put(code, scalar(scope, &target.at.name));
     }
+    if target.index.len() == 1 {
+        return emit_only(scope, code, &target.at.name, &target.index[0]);
+    }
     put(code, Instr::Push(0))?;
     emit_index(scope, code, target)?;
     put(code, element(scope, &target.at.name))
+}
+
+// Puts the code that reads an element by its one index, which is tested as it is read, behind the
+// code so far.
+#[cycle(expression)]
+fn emit_only(
+    scope: &Scope<'_>,
+    code: &mut Vec<Instr>,
+    name: &Name,
+    index: &Expr,
+) -> Result<(), NoMemory>
+    requires { length code.old.items + phrase_size (phrase index.now) + 1 ≤ 4194304 }
+    ensures code { OnOk result (code.new.items ≡ code.old.items
+        ++ (phrase_code scope.now (length code.old.items) (phrase index.now) ++ element_code (found scope.now name.now) ∷ [])) }
+    ensures size { OnOk result (length code.new.items ≡ length code.old.items + (phrase_size (phrase index.now) + 1)) }
+{
+    emit_expr(scope, code, index)?;
+    put(code, element(scope, name))
 }
 
 // Puts the code of a target's indices behind the code so far, each with the test against its size.

@@ -1,12 +1,12 @@
 // The units of a tree from the bodies of its modules.
 
-ghost use Rattle.std.specs.Prelude.{◌≡◌, IfOk, map};
+ghost use Rattle.std.specs.Prelude.{◌≡◌, IfOk, List, map};
 ghost use Rattle.std.specs.List.{AllByRecursion};
-ghost use Rattle.p3l_body.specs.Seq.{seq_tree};
+ghost use Rattle.p3l_body.specs.Seq.{SeqTree, seq_tree};
 ghost use Rattle.p3l_skel.specs.Lawful.{IsLawfulTree};
 ghost use Rattle.p3l_units.specs.Table.{leaf};
 ghost use Rattle.p3l_compile.specs.Condition.{IsCompilable};
-ghost use Rattle.p3l_compile.specs.Leaves.{AreBodies, AreCodes, body_leaf};
+ghost use Rattle.p3l_compile.specs.Leaves.{AreBodies, AreCodes, HasBodies, body_leaf};
 
 use crate::body::compile;
 use p3l_base::{List, NoMemory};
@@ -15,6 +15,33 @@ use p3l_code::SafeCode;
 use p3l_skel::Tree;
 use p3l_units::UnitTable;
 use std::alloc::Global;
+
+/// The codes of bodies, in their order.
+pub fn codes_of(alloc: Global, seqs: &[CheckedSeq<'_>]) -> Result<List<SafeCode>, NoMemory>
+    requires { AllByRecursion IsCompilable (map seq_tree seqs.now) }
+    ensures { IfOk result (AreCodes (map seq_tree seqs.now)) }
+{
+    let mut codes = List::new(alloc);
+    for seq in seqs {
+        codes.push(compile(alloc, seq)?)?;
+    }
+    Ok(codes)
+}
+
+/// The units of a lawful tree on the codes of its `seq` modules: what they make of words is what the
+/// bodies mean that the codes were compiled from.
+pub fn table_of<'t>(
+    alloc: Global,
+    tree: &'t Tree,
+    codes: List<SafeCode>,
+) -> Result<UnitTable<'t>, NoMemory>
+    requires lawful { IsLawfulTree tree.now }
+    requires bodies { HasBodies tree.now codes }
+    ensures tree { IfOk result (λ table. table.tree ≡ tree.now) }
+    ensures leaf { (seqs : List SeqTree) → AreBodies tree.now seqs → AreCodes seqs codes → IfOk result (λ table. leaf table ≡ body_leaf tree.now seqs) }
+{
+    UnitTable::new(alloc, tree, codes)
+}
 
 /// The units of a lawful tree, from the bodies of its `seq` modules in their order: what they make
 /// of words is what the bodies mean.
@@ -29,17 +56,5 @@ pub fn units_of<'t>(
     ensures leaf { IfOk result (λ table. leaf table ≡ body_leaf tree.now (map seq_tree seqs.now)) }
 {
     let codes = codes_of(alloc, seqs)?;
-    UnitTable::new(alloc, tree, codes)
-}
-
-// The codes of bodies, in their order.
-fn codes_of(alloc: Global, seqs: &[CheckedSeq<'_>]) -> Result<List<SafeCode>, NoMemory>
-    requires { AllByRecursion IsCompilable (map seq_tree seqs.now) }
-    ensures { IfOk result (AreCodes (map seq_tree seqs.now)) }
-{
-    let mut codes = List::new(alloc);
-    for seq in seqs {
-        codes.push(compile(alloc, seq)?)?;
-    }
-    Ok(codes)
+    table_of(alloc, tree, codes)
 }

@@ -1,14 +1,14 @@
-use Rattle.std.proofs.Common.{rules, ◌≡◌, ℕ, ◌+◌, ◌-◌, ◌≤◌, List, [], ◌∷◌, ◌++◌, length, drop, OnOk, refl, sym, ap, ◌∙◌, subst, arith, length-append, append_assoc, length-set}
+use Rattle.std.proofs.Common.{◌≡◌, ◌+◌, List, ◌∷◌, ◌++◌, length, refl, sym, ap, ◌∙◌, arith, length-append, append_assoc, length-set}
 use Rattle.std.proofs.lemmas.Result.{on_ok_weaker}
 use Rattle.std.proofs.lemmas.List.{append-nil}
 use Rattle.p3l_ast.specs.declared.statement.Stmt.{Stmt}
-use Rattle.p3l_ast.specs.Tree.{phrase, phrases, one, statements, join, assign, done, while_}
+use Rattle.p3l_ast.specs.Tree.{phrase, phrases, statements, join, assign, done, while_}
 use Rattle.p3l_compile.specs.Phrase.{phrase_size, phrase_code}
 use Rattle.p3l_compile.specs.Statement.{assign_size, statement_size, statement_code, assign_code}
 use Rattle.p3l_code.specs.declared.instr.Instr.TheVariants.{JumpZero, Jump}
 use Rattle.p3l_compile.proofs.Phrases.{phrase_length}
 use Rattle.p3l_compile.proofs.Statements.{statement_length}
-use Rattle.p3l_compile.proofs.Joined.{size_join, code_join, statement_falls, statement_left, statement_emitted, branch_emitted, choice_emitted, loop_emitted, stepped_emitted}
+use Rattle.p3l_compile.proofs.Joined.{size_join, statement_falls, statement_left, statement_emitted, branch_emitted, choice_emitted, loop_emitted, stepped_emitted}
 use Rattle.p3l_compile.proofs.Choices.{assign_tree, if_tree, choice_tree, while_tree, for_tree, turns_size, turns_code}
 use Rattle.p3l_compile.proofs.statement.+statement.Goals as goal
 

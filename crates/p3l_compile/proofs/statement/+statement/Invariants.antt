@@ -1,6 +1,6 @@
 use Rattle.std.proofs.Common.{◌≡◌, ◌+◌, ◌*◌, drop, length, ◌++◌}
-use Rattle.p3l_ast.specs.Tree.{phrase, phrases, one, statements, join, assign, done}
-use Rattle.p3l_compile.specs.Statement.{assign_size, statement_size, statement_code}
+use Rattle.p3l_ast.specs.Tree.{one, statements}
+use Rattle.p3l_compile.specs.Statement.{statement_size, statement_code}
 use Rattle.p3l_compile.proofs.statement.+statement.Given as goal
 
 abbrev pub decreases-emit_stmts : goal.decreases-emit_stmts
