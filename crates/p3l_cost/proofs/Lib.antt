@@ -1,1 +1,4 @@
 pub mod Turns
+pub mod Given
+pub mod Modules
+pub mod Reading

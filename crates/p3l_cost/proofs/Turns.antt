@@ -1,12 +1,12 @@
 -- The turns that loops allow, and the standard costs.
-use Rattle.std.proofs.Common.{◌≡◌, ℕ, zero, suc, ◌+◌, ◌<◌, ◌≤◌, ◌==◌, true, false, List, [], ◌∷◌, drop, get_or, length, map, refl, arith, add-one, sym, ◌∙◌, subst, ap, inl, inr, Some, None, Option}
+use Rattle.std.proofs.Common.{◌≡◌, ℕ, zero, suc, ◌+◌, ◌<◌, ◌≤◌, ◌==◌, true, false, List, [], ◌∷◌, drop, get_or, length, map, refl, arith, add-one, sym, ◌∙◌, ap, inl, inr, Some, Option}
 use Rattle.std.specs.Prelude.{unwrap_or, slice_index, slice_get, IsSomeAnd}
 use Rattle.std.specs.List.{All, range_with_len}
 use Rattle.std.proofs.Math.Seq.{drop-cons}
 use Rattle.std.proofs.lemmas.Bool.{cases_eq}
 use Rattle.std.proofs.lemmas.Bool.Decides.{nat_tests}
 use Rattle.std.proofs.lemmas.List.{length-map}
-use Rattle.std.proofs.lemmas.List.Elements.{All-head, All-tail, All-map, All-get_or}
+use Rattle.std.proofs.lemmas.List.Elements.{All-head, All-tail, All-map}
 use Rattle.std.proofs.lemmas.List.FromFn.{length-map-range_with_len, get_or-map-range_with_len}
 use Rattle.p3l_skel.specs.declared.tree.Form.{Form}
 use Rattle.p3l_skel.specs.declared.tree.Form.TheVariants.{Seq, Comp, Pipe, Farm, Map, Reduce, Loop}
@@ -15,19 +15,18 @@ use Rattle.p3l_skel.specs.declared.tree.ModuleKind.{ModuleKind}
 use Rattle.p3l_skel.specs.declared.tree.ModuleKind.TheVariants as kind
 use Rattle.p3l_skel.specs.declared.tree.Node.{Node}
 use Rattle.p3l_skel.specs.declared.tree.Tree.{Tree}
-use Rattle.p3l_skel.specs.Tree.{node_at, no_node}
-use Rattle.p3l_skel.specs.Lawful.{HasTwoParts, IsLawfulLoop, IsLawfulForm, IsLawfulNode, IsLawfulTree, AgreesWithAll}
+use Rattle.p3l_skel.specs.Lawful.{HasTwoParts, IsLawfulLoop, IsLawfulForm, IsLawfulTree}
 use Rattle.p3l_cost.specs.Costs.{AreCostsOf, IsTurns, IsWithinTurns, most_cost}
-use Rattle.p3l_cost.specs.Standard.{standard_costs, standard_ticks, full_turns, turns_in, turns_of}
+use Rattle.p3l_cost.specs.Standard.{standard_costs, standard_ticks, full_turns, turns_or, turns_in, turns_of}
 
-pub full_turns-step : (nodes : List Node) (i home : ℕ) (d : Node) → i < length nodes → full_turns (drop i nodes) home ≡ unwrap_or (turns_in (get_or nodes i d) home) (full_turns (drop (i + 1) nodes) home)
-full_turns-step nodes i home d inside = rw (add-one, drop-cons nodes i d inside) refl
+pub turns_or-step : (other : ℕ) (nodes : List Node) (i home : ℕ) (d : Node) → i < length nodes → turns_or other (drop i nodes) home ≡ unwrap_or (turns_in (get_or nodes i d) home) (turns_or other (drop (i + 1) nodes) home)
+turns_or-step other nodes i home d inside = rw (add-one, drop-cons nodes i d inside) refl
 
 -- the turns from a node on, by what the node itself allows
-pub full_turns-at : (nodes : List Node) (i home : ℕ) (node : Node) (o : Option ℕ) → i < length nodes → full_turns nodes home ≡ full_turns (drop i nodes) home → node ≡ get_or nodes i node → o ≡ turns_in node home → full_turns nodes home ≡ unwrap_or o (full_turns (drop (i + 1) nodes) home)
-full_turns-at nodes i home node o inside so_far here is =
-    let rest = full_turns (drop (i + 1) nodes) home in
-    so_far ∙ full_turns-step nodes i home node inside
+pub turns_or-at : (other : ℕ) (nodes : List Node) (i home : ℕ) (node : Node) (o : Option ℕ) → i < length nodes → turns_or other nodes home ≡ turns_or other (drop i nodes) home → node ≡ get_or nodes i node → o ≡ turns_in node home → turns_or other nodes home ≡ unwrap_or o (turns_or other (drop (i + 1) nodes) home)
+turns_or-at other nodes i home node o inside so_far here is =
+    let rest = turns_or other (drop (i + 1) nodes) home in
+    so_far ∙ turns_or-step other nodes i home node inside
     ∙ sym (ap (λ (n : Node). unwrap_or (turns_in n home) rest) here)
     ∙ sym (ap (λ (p : Option ℕ). unwrap_or p rest) is)
 
@@ -49,12 +48,22 @@ or_else P node home other own rest =
     of_form (Reduce w len elem) h = rest
     of_form (Loop turns tokens) h = h turns refl
 
--- what holds of 1 and of the turns of each loop of the module holds of its full turns
-full_turns-are : (P : ℕ → Type 0) (home : ℕ) → P 1 → (nodes : List Node) → All (λ (n : Node). (t : ℕ) → n.module ≡ home → turns_of n.form ≡ Some t → P t) nodes → P (full_turns nodes home)
-full_turns-are P home one [] all = one
-full_turns-are P home one (node ∷ nodes) all =
+-- what holds of the other number and of the turns of each loop of the module holds of its turns
+turns_or-are : (P : ℕ → Type 0) (other home : ℕ) → P other → (nodes : List Node) → All (λ (n : Node). (t : ℕ) → n.module ≡ home → turns_of n.form ≡ Some t → P t) nodes → P (turns_or other nodes home)
+turns_or-are P other home own [] all = own
+turns_or-are P other home own (node ∷ nodes) all =
     let each = λ (n : Node). (t : ℕ) → n.module ≡ home → turns_of n.form ≡ Some t → P t in
-    or_else P node home (full_turns nodes home) (All-head each node nodes all) (full_turns-are P home one nodes (All-tail each node nodes all))
+    or_else P node home (turns_or other nodes home) (All-head each node nodes all) (turns_or-are P other home own nodes (All-tail each node nodes all))
+
+-- where a node is a loop of the module, and none of its loops allows more than t turns, no other number counts
+turns_or-found : (other home t : ℕ) (nodes : List Node) (k : ℕ) (d : Node) → k < length nodes → (get_or nodes k d).module ≡ home → turns_of (get_or nodes k d).form ≡ Some t → All (λ (n : Node). (u : ℕ) → n.module ≡ home → turns_of n.form ≡ Some u → u ≤ t) nodes → turns_or other nodes home ≤ t
+turns_or-found other home t [] k d inside same form all = absurd (omega (arith, inside))
+turns_or-found other home t (node ∷ nodes) zero d inside same form all =
+    let test : (node.module == home) ≡ true = search (arith, nat_tests, same) in rw (test, form) (omega arith)
+turns_or-found other home t (node ∷ nodes) (suc k) d inside same form all =
+    let each = λ (n : Node). (u : ℕ) → n.module ≡ home → turns_of n.form ≡ Some u → u ≤ t in
+    or_else (λ n. n ≤ t) node home (turns_or other nodes home) (All-head each node nodes all)
+    (turns_or-found other home t nodes k d (omega (arith, inside)) same form (All-tail each node nodes all))
 
 loop_limits : (tree : Tree) (form : Form) (ins outs : ℕ) (parts : List ℕ) (t : ℕ) → IsLawfulForm tree form ins outs parts → turns_of form ≡ Some t → (1 ≤ t) × (t ≤ 65536)
 loop_limits tree Seq ins outs parts t lawful e = cc
@@ -71,7 +80,7 @@ loop_limits tree (Loop turns tokens) ins outs parts t lawful e = let same : turn
     limits (p ∷ (q ∷ [])) h = (h.limits.some_turns, h.limits.few_turns)
     limits (p ∷ (q ∷ (r ∷ ps))) h = absurd h
 
-within-form : (form : Form) (n : ℕ) → ((t : ℕ) → turns_of form ≡ Some t → n ≤ t) → IsWithinTurns form n
+pub within-form : (form : Form) (n : ℕ) → ((t : ℕ) → turns_of form ≡ Some t → n ≤ t) → IsWithinTurns form n
 within-form Seq n h = tt
 within-form Comp n h = tt
 within-form Pipe n h = tt
@@ -95,24 +104,25 @@ some_inside (m ∷ ms) zero P h = omega arith
 some_inside (m ∷ ms) (suc i) P h = let rest = some_inside ms i P h in omega arith
 
 module _ (tree : Tree) (lawful : IsLawfulTree tree) where
-  limits_at : (k : ℕ) (d : Node) → k < length tree.nodes → (t : ℕ) → turns_of (get_or tree.nodes k d).form ≡ Some t → (1 ≤ t) × (t ≤ 65536)
+  pub limits_at : (k : ℕ) (d : Node) → k < length tree.nodes → (t : ℕ) → turns_of (get_or tree.nodes k d).form ≡ Some t → (1 ≤ t) × (t ≤ 65536)
   limits_at k d inside t e = loop_limits tree (get_or tree.nodes k d).form _ _ _ t (lawful.nodes k d inside).form e
 
-  turns_lawful : (home : ℕ) → IsTurns (full_turns tree.nodes home)
-  turns_lawful home =
-      full_turns-are IsTurns home (omega arith, omega arith) tree.nodes
+  pub turns_lawful : (other home : ℕ) → IsTurns other → IsTurns (turns_or other tree.nodes home)
+  turns_lawful other home own =
+      turns_or-are IsTurns other home own tree.nodes
       (λ k d inside t same e. let l = limits_at k d inside t e in (l.0, omega (arith, l.1)))
 
-  turns_within : (k : ℕ) (d : Node) → k < length tree.nodes → (t : ℕ) → turns_of (get_or tree.nodes k d).form ≡ Some t → full_turns tree.nodes (get_or tree.nodes k d).module ≤ t
-  turns_within k d inside t e =
-      let mine = limits_at k d inside t e in
-      let P : ℕ → Type 0 = λ n. n ≤ t in
-      full_turns-are P (get_or tree.nodes k d).module mine.0 tree.nodes
-      (λ j b there u same f.
+  -- no loop of the module of a loop allows more turns than this one
+  agreeing : (k : ℕ) (d : Node) → k < length tree.nodes → (t : ℕ) → turns_of (get_or tree.nodes k d).form ≡ Some t → All (λ (n : Node). (u : ℕ) → n.module ≡ (get_or tree.nodes k d).module → turns_of n.form ≡ Some u → u ≤ t) tree.nodes
+  agreeing k d inside t e =
+      λ j b there u same f.
       let agreed = lawful.agree j b there k d inside same in
       let forms : turns_of (get_or tree.nodes j b).form ≡ turns_of (get_or tree.nodes k d).form = ap turns_of agreed.form in
       let one : Some u ≡ Some t = sym f ∙ forms ∙ e in
-      let equal : u ≡ t = cc in omega arith)
+      let equal : u ≡ t = cc in omega arith
+
+  pub turns_within : (other k : ℕ) (d : Node) → k < length tree.nodes → (t : ℕ) → turns_of (get_or tree.nodes k d).form ≡ Some t → turns_or other tree.nodes (get_or tree.nodes k d).module ≤ t
+  turns_within other k d inside t e = turns_or-found other (get_or tree.nodes k d).module t tree.nodes k d inside refl e (agreeing k d inside t e)
 
   pub home_inside : (k : ℕ) (d : Node) → k < length tree.nodes → (get_or tree.nodes k d).module < length tree.modules
   home_inside k d inside = some_inside tree.modules _ _ (lawful.nodes k d inside).kind
@@ -124,10 +134,10 @@ module _ (tree : Tree) (lawful : IsLawfulTree tree) where
     ticks_each = length-map _ _;
     ticks = All-map (λ n. n ≤ most_cost) (λ (m : ModuleInfo). standard_ticks m.kind) tree.modules (λ k d inside. few_ticks (get_or tree.modules k d).kind);
     turns_each = length-map-range_with_len (full_turns tree.nodes) 0 (length tree.modules);
-    turns = All-map IsTurns (full_turns tree.nodes) (range_with_len 0 (length tree.modules)) (λ k d inside. turns_lawful (get_or (range_with_len 0 (length tree.modules)) k d));
+    turns = All-map IsTurns (full_turns tree.nodes) (range_with_len 0 (length tree.modules)) (λ k d inside. turns_lawful 1 (get_or (range_with_len 0 (length tree.modules)) k d) (omega arith, omega arith));
     within = λ k d inside.
         let node = get_or tree.nodes k d in
         let same : slice_index (map (full_turns tree.nodes) (range_with_len 0 (length tree.modules))) node.module ≡ full_turns tree.nodes node.module =
         get_or-map-range_with_len (full_turns tree.nodes) 0 (length tree.modules) node.module node.module 0 (home_inside k d inside) (omega arith) in
-        within-form node.form _ (λ t e. rw same (turns_within k d inside t e));
+        within-form node.form _ (λ t e. rw same (turns_within 1 k d inside t e));
   }

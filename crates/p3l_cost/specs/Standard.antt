@@ -34,10 +34,14 @@ turns_of (Loop turns tokens) = Some turns
 abbrev pub turns_in : Node → ℕ → Option ℕ
 turns_in node home = if node.module == home then turns_of node.form else None
 
+-- the turns that a loop module allows of which one of these nodes is, and else another number
+abbrev pub turns_or : ℕ → List Node → ℕ → ℕ
+turns_or other [] home = other
+turns_or other (node ∷ nodes) home = unwrap_or (turns_in node home) (turns_or other nodes home)
+
 -- the turns that a loop module allows, and 1 for a module of no loop
 abbrev pub full_turns : List Node → ℕ → ℕ
-full_turns [] home = 1
-full_turns (node ∷ nodes) home = unwrap_or (turns_in node home) (full_turns nodes home)
+full_turns = turns_or 1
 
 -- the standard costs of a tree
 abbrev pub standard_costs : Tree → Costs

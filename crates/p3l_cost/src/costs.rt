@@ -3,7 +3,7 @@
 ghost use Rattle.std.specs.Prelude.{◌≡◌, IfOk};
 ghost use Rattle.p3l_skel.specs.Lawful.{IsLawfulTree};
 ghost use Rattle.p3l_cost.specs.Costs.{AreCostsOf};
-ghost use Rattle.p3l_cost.specs.Standard.{standard_costs, standard_ticks, full_turns, turns_in};
+ghost use Rattle.p3l_cost.specs.Standard.{standard_costs, standard_ticks, full_turns, turns_or, turns_in};
 
 use p3l_base::{List, NoMemory};
 use p3l_skel::{Form, ModuleKind, Node, Tree};
@@ -55,9 +55,16 @@ fn standard_ticks(kind: ModuleKind) -> u32
     }
 }
 
-// The turns that a loop module allows, of which one of these nodes is, and 1 for other modules.
-fn full_turns(nodes: &[Node], home: u32) -> u32
+/// The turns that a loop module allows of which one of these nodes is, and 1 for other modules.
+pub(crate) fn full_turns(nodes: &[Node], home: u32) -> u32
     ensures { result ≡ full_turns nodes.now home }
+{
+    turns_or(nodes, home, 1)
+}
+
+/// The turns that a loop module allows of which one of these nodes is, and else another number.
+pub(crate) fn turns_or(nodes: &[Node], home: u32, other: u32) -> u32
+    ensures { result ≡ turns_or other nodes.now home }
 {
     for node in nodes {
         match turns_in(node, home) {
@@ -65,7 +72,7 @@ fn full_turns(nodes: &[Node], home: u32) -> u32
             None => {}
         }
     }
-    1
+    other
 }
 
 // The turns that a node allows, if it is a loop of this module.

@@ -1,0 +1,139 @@
+// The rules of keys and values.
+
+ghost use Rattle.std.specs.Prelude.{◌≡◌, ◌<◌, ◌^◌, IfOk, bytes_eq, length, option_map};
+ghost use Rattle.std.specs.Map.{lookup};
+ghost use Rattle.toml.specs.View.{table_view, view};
+ghost use Rattle.p3l_cost.specs.File.{Gives, entries_rule, entry_key, entry_within, found, is_number_key, key_rule, keys_rule, section_rule, whole_in};
+
+use crate::costs::MOST_COST;
+use crate::limits::{Limits, limits_of};
+use crate::refusal::CostRefusal;
+use crate::section::Section;
+use p3l_base::{Name, NoMemory};
+use p3l_skel::Tree;
+use std::alloc::Global;
+use toml::{Table, Value};
+
+/// A whole number from `low` to `high`.
+pub(crate) fn whole_in(low: u32, high: u32, value: &Value) -> Option<u32>
+    ensures { result ≡ whole_in low high (view value.now) }
+{
+    match value.as_integer() {
+        Some(number) => {
+            if (low as i64) <= number && number <= (high as i64) {
+                Some(number as u32)
+            } else {
+                None
+            }
+        }
+        None => None,
+    }
+}
+
+/// How an entry is written.
+fn entry_key(alloc: Global, section: Section, name: &str) -> Result<Name, NoMemory>
+    ensures { IfOk result (λ key. key ≡ entry_key section name.now) }
+{
+    let table = section.key();
+    let text = format!(in alloc; "{table}.{name}")?;
+    Name::from_text(alloc, text.as_str())
+}
+
+/// Whether an entry names a module that its table speaks of, with a number in range.
+fn check_entry(
+    alloc: Global,
+    section: Section,
+    name: &str,
+    value: &Value,
+    limits: &Limits,
+) -> Result<(), CostRefusal>
+    ensures { Gives result (entry_within section name.now (view value.now) (lookup (bytes_eq name.now) limits.now)) }
+{
+    let module = Name::from_text(alloc, name)?;
+    match limits.get(&module) {
+        None => Err(CostRefusal::BadKey(entry_key(alloc, section, name)?)),
+        Some(most) => match whole_in(section.least(), most, value) {
+            None => Err(CostRefusal::BadValue(entry_key(alloc, section, name)?)),
+            Some(_) => Ok(()),
+        },
+    }
+}
+
+/// Whether the entries of a table keep the rules.
+fn check_entries(
+    alloc: Global,
+    section: Section,
+    entries: &Table,
+    limits: &Limits,
+) -> Result<(), CostRefusal>
+    ensures { Gives result (entries_rule (λ name. lookup (bytes_eq name) limits.now) section (table_view entries.now)) }
+{
+    'entries: for (name, value) in entries.iter() {
+        check_entry(alloc, section, name.as_str(), value, limits)?;
+    }
+    Ok(())
+}
+
+/// Whether a value is a table whose entries keep the rules.
+fn check_section(
+    alloc: Global,
+    section: Section,
+    value: &Value,
+    tree: &Tree,
+) -> Result<(), CostRefusal>
+    requires few { length tree.now.modules < 2 ^ 32 }
+    ensures { Gives result (section_rule tree.now section (view value.now)) }
+{
+    match value.as_table() {
+        None => Err(CostRefusal::BadValue(Name::from_text(alloc, section.key())?)),
+        Some(entries) => {
+            let limits = limits_of(alloc, tree, section)?;
+            check_entries(alloc, section, entries, &limits)
+        }
+    }
+}
+
+/// Whether a key is that of a number.
+fn is_number_key(key: &str) -> bool
+    ensures { result ≡ is_number_key key.now }
+{
+    key == "setup" || key == "word" || key == "default"
+}
+
+/// Whether a value is a number of the cost model.
+fn check_number(alloc: Global, key: &str, value: &Value) -> Result<(), CostRefusal>
+    ensures { Gives result (found key.now (whole_in 0 1000000 (view value.now))) }
+{
+    match whole_in(0, MOST_COST, value) {
+        Some(_) => Ok(()),
+        None => Err(CostRefusal::BadValue(Name::from_text(alloc, key)?)),
+    }
+}
+
+/// Whether a key of the document is known, and its value keeps the rules.
+fn check_key(alloc: Global, key: &str, value: &Value, tree: &Tree) -> Result<(), CostRefusal>
+    requires few { length tree.now.modules < 2 ^ 32 }
+    ensures { Gives result (key_rule tree.now key.now (view value.now)) }
+{
+    if is_number_key(key) {
+        check_number(alloc, key, value)
+    } else if key == Section::Ticks.key() {
+        check_section(alloc, Section::Ticks, value, tree)
+    } else if key == Section::Turns.key() {
+        check_section(alloc, Section::Turns, value, tree)
+    } else {
+        Err(CostRefusal::BadKey(Name::from_text(alloc, key)?))
+    }
+}
+
+/// Whether all keys of the document keep the rules; the first in the order of bytes that doesn't
+/// is told.
+pub(crate) fn check_keys(alloc: Global, document: &Table, tree: &Tree) -> Result<(), CostRefusal>
+    requires few { length tree.now.modules < 2 ^ 32 }
+    ensures { Gives result (keys_rule tree.now (table_view document.now)) }
+{
+    'keys: for (key, value) in document.iter() {
+        check_key(alloc, key.as_str(), value, tree)?;
+    }
+    Ok(())
+}
