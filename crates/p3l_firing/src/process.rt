@@ -73,4 +73,12 @@ impl Proc {
     {
         self.outs.as_slice()[0]
     }
+
+    /// Channel `k` of those that it writes.
+    pub fn nth_output(&self, k: usize) -> u32
+        requires { k < length self.now.outs }
+        ensures { result ≡ out_of self.now k }
+    {
+        self.outs.as_slice()[k]
+    }
 }

@@ -1,7 +1,7 @@
 // Tags of tokens.
 
-ghost use Rattle.std.specs.Prelude.{◌≡◌, ◌<◌, ◌≤◌, [], ◌∷◌, length};
-ghost use Rattle.p3l_firing.specs.Token.{most_tags, first_tag, later_tags};
+ghost use Rattle.std.specs.Prelude.{◌≡◌, ◌<◌, ◌≤◌, ◌^◌, [], ◌∷◌, length};
+ghost use Rattle.p3l_firing.specs.Token.{most_tags, first_tag, later_tags, next_tag};
 
 use arrayvec::ArrayVec;
 use std::marker::Model;
@@ -62,6 +62,30 @@ impl Tags {
             0
         } else {
             items[items.len() - 1]
+        }
+    }
+
+    /// The tag behind the newest, 0 if there is none.
+    pub fn second(&self) -> u64
+        ensures { result ≡ first_tag (later_tags self.now) }
+    {
+        let items = self.items.as_slice();
+        if items.len() < 2 {
+            0
+        } else {
+            items[items.len() - 2]
+        }
+    }
+
+    /// Counts one more in the newest tag, if there is one.
+    pub fn count_newest(&mut self)
+        requires { first_tag self.old < 2 ^ 63 }
+        ensures { self.new ≡ next_tag self.old }
+    {
+        let newest = self.newest();
+        if self.items.as_slice().len() > 0 {
+            let _newest = self.items.pop();
+            self.items.push(newest + 1);
         }
     }
 

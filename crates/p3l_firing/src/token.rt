@@ -1,7 +1,7 @@
 // What travels through channels, and what a firing hands out.
 
-ghost use Rattle.std.specs.Prelude.{◌≡◌, ◌<◌, length};
-ghost use Rattle.p3l_firing.specs.Token.{plain, credit, tagged, newest_tag, peeled, is_trap};
+ghost use Rattle.std.specs.Prelude.{◌≡◌, ◌<◌, ◌^◌, length};
+ghost use Rattle.p3l_firing.specs.Token.{plain, credit, tagged, newest_tag, second_tag, peeled, once_more, is_trap};
 
 use crate::process::ProcKind;
 use crate::tags::Tags;
@@ -56,6 +56,23 @@ impl Token {
         ensures { result ≡ newest_tag self.now }
     {
         self.tags.newest()
+    }
+
+    /// The tag behind the newest, 0 if there is none.
+    pub fn second_tag(&self) -> u64
+        ensures { result ≡ second_tag self.now }
+    {
+        self.tags.second()
+    }
+
+    /// The token with one more in its newest tag, if it has one: as it goes round a loop once more.
+    pub fn once_more(self) -> Token
+        requires { newest_tag self < 2 ^ 63 }
+        ensures { result ≡ once_more self }
+    {
+        let Token { mut tags, body } = self;
+        tags.count_newest();
+        Token { tags, body }
     }
 
     /// The token without its newest tag.

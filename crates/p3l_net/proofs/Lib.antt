@@ -3,6 +3,10 @@ pub mod StepLaw
 pub mod Standing
 pub mod Sides
 pub mod Choosing
+pub mod Held
+pub mod Folding
+pub mod Joining
+pub mod Segmenting
 pub mod step
 pub mod Emitted
 pub mod Cyclic

@@ -14,7 +14,7 @@ use Rattle.p3l_firing.specs.Widths.{Widths}
 use Rattle.p3l_firing.specs.Fire.{can_fire, fire}
 use Rattle.p3l_firing.specs.Typed.{IsTyped, IsFitting}
 use Rattle.p3l_firing.proofs.RowLaws.{fitting_fired, fitting_first}
-use Rattle.p3l_net.specs.Machine.{Seen, HasRows, IsSound, started, state_of}
+use Rattle.p3l_net.specs.Machine.{Seen, IsSound, started, state_of}
 use Rattle.p3l_net.specs.Steps.{Done, ready_at}
 use Rattle.p3l_net.proofs.Queues.{rooms-opened, tokens-opened, owns-first}
 
@@ -25,10 +25,9 @@ started_state tree net =
     let with : (ℕ → List Token) → (ℕ → Own) → State = λ f g. record { tokens = f; own = g; unsent = []; sent = 0; emitted = [] } in
     ap₂ with (tokens-opened net) (owns-first (length net.procs))
 
-pub started_sound : (tree : Tree) (net : Net) → IsTyped tree net → HasRows net → IsSound (started tree net)
-started_sound tree net typed rows = record {
+pub started_sound : (tree : Tree) (net : Net) → IsTyped tree net → IsSound (started tree net)
+started_sound tree net typed = record {
   typed = typed;
-  rows = rows;
   shaped = record {
     rooms = rooms-opened net.chans;
     keeps = length-replicate (length net.procs) fresh;
@@ -49,14 +48,13 @@ pub offered_sound : (m : Seen) (item : List ℤ) → IsSound m → length item �
 unfolding state_of
 offered_sound m item sound long = record {
   typed = sound.typed;
-  rows = sound.rows;
   shaped = record { rooms = sound.shaped.rooms; keeps = sound.shaped.keeps; numbers = sound.shaped.numbers; sent = sound.shaped.sent; emitted = sound.shaped.emitted };
   fitting = record { rooms = sound.fitting.rooms; tokens = sound.fitting.tokens; owns = sound.fitting.owns; unsent = (long, tt) };
 }
 
 -- what is typed, and fits
 Fitted : State → Tree → Net → Type 0
-Fitted s tree net = (typed : IsTyped tree net) × HasRows net × IsFitting tree net typed.widths s
+Fitted s tree net = (typed : IsTyped tree net) × IsFitting tree net typed.widths s
 
 ready_can : (m : Seen) (p : ℕ) → ready_at m p ≡ true → can_fire m.tree m.net (state_of m []) p ≡ true
 unfolding can_fire has_trap state_of
@@ -69,6 +67,6 @@ fired_sound {leaf = leaf} {m = m} {n = n} {p = p} {outcome = outcome} sound give
     let after : IsFitting m.tree m.net sound.typed.widths (fire m.tree leaf m.net (state_of m []) p) = fitting_fired m.tree leaf gives m.net sound.typed (state_of m []) sound.fitting p (ready_can m p ready) in
     let same : state_of n (option_to_list outcome) ≡ fire m.tree leaf m.net (state_of m []) p = done.fires.state [] in
     let fits : IsFitting m.tree m.net sound.typed.widths (state_of n []) = emitted_fits n (option_to_list outcome) [] (subst (IsFitting m.tree m.net sound.typed.widths) (sym same) after) in
-    let old : Fitted (state_of n []) m.tree m.net = (sound.typed, sound.rows, fits) in
+    let old : Fitted (state_of n []) m.tree m.net = (sound.typed, fits) in
     let new : Fitted (state_of n []) n.tree n.net = subst (λ x. Fitted (state_of n []) n.tree x) (sym done.fires.net) (subst (λ t. Fitted (state_of n []) t m.net) (sym done.fires.tree) old) in
-    record { typed = new.0; rows = new.1; shaped = done.shaped; fitting = new.2 }
+    record { typed = new.0; shaped = done.shaped; fitting = new.1 }

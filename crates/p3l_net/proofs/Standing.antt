@@ -1,15 +1,18 @@
 -- What is known of the process that stands at a number of a sound machine.
-use Rattle.std.proofs.Common.{◌≡◌, ◌≢◌, ℕ, ◌+◌, ◌^◌, ◌<◌, ◌≤◌, true, List, [], ◌∷◌, length, Some, zero, suc, slice_get, nat_lt, sym, ap, ◌∙◌, subst, arith, length-set}
+use Rattle.std.proofs.Common.{◌≡◌, ◌≢◌, ℕ, ◌+◌, ◌^◌, ◌<◌, ◌≤◌, true, List, [], ◌∷◌, length, Some, zero, suc, slice_get, get_or, nat_lt, sym, ap, ◌∙◌, subst, arith, length-set}
 use Rattle.std.specs.Option.{option_map}
-use Rattle.std.specs.Result.{OnErr}
+use Rattle.std.specs.Result.{IfOk, OnOk, OnErr}
 use Rattle.std.proofs.Common.{Result, Ok, Err}
 use Rattle.std.specs.List.{AllByRecursion}
 use Rattle.std.proofs.lemmas.Bool.{ltb-true}
+use Rattle.std.proofs.lemmas.List.{get_or-set_other}
 use Rattle.p3l_firing.specs.declared.process.Proc.{Proc}
 use Rattle.p3l_firing.specs.declared.process.ProcKind.{ProcKind}
+use Rattle.p3l_firing.specs.declared.token.Token.{Token}
+use Rattle.p3l_firing.specs.declared.token.Token.{Token}
 use Rattle.p3l_firing.specs.Lists.{has_first, first_or}
 use Rattle.p3l_firing.specs.Token.{credit}
-use Rattle.p3l_firing.specs.State.{has_room, own_at}
+use Rattle.p3l_firing.specs.State.{Own, has_room, own_at}
 use Rattle.p3l_firing.specs.Process.{Has, kind_at}
 use Rattle.p3l_firing.specs.Widths.{FitsToken}
 use Rattle.p3l_firing.specs.Fire.{row_can, row_wants_memory, wants_memory, wants_memory_of}
@@ -17,9 +20,9 @@ use Rattle.p3l_firing.specs.Typed.{FitsKind, FitsOwn}
 use Rattle.p3l_firing.proofs.Rows.{ready_at as row_ready, length_when_first}
 use Rattle.p3l_firing.proofs.Places.{all-has, has-each}
 use Rattle.p3l_firing.proofs.Fitting.{all_of_one, all_first}
-use Rattle.p3l_net.specs.Channel.{tokens_at}
+use Rattle.p3l_net.specs.Channel.{Queue, no_queue, queue_at, tokens_at}
 use Rattle.p3l_net.specs.Machine.{Seen, IsSound, Stands, may_want_memory, state_of}
-use Rattle.p3l_net.specs.Steps.{CanTake, CanPut, MayFire, ready_at, room_at, without_first}
+use Rattle.p3l_net.specs.Steps.{CanTake, CanPut, MayFire, ready_at, room_at, without_first, with_last, with_own}
 use Rattle.p3l_net.proofs.Queues.{queue_count, room_is_cap, room_after_take, tokens-other-take}
 
 -- the room of a queue is that of the net's channel
@@ -86,6 +89,11 @@ module _ {m : Seen} {p : ℕ} {q : Proc} (h : Stands m p q) where
   pub can_put : (c : ℕ) → Has q.outs c → has_room m.net (state_of m []) c ≡ true → CanPut m c
   can_put c has room = record { there = writes_there c has; room = ltb-true _ _ (room-seen m h.sound c ∙ room) }
 
+  -- a channel holds no more than it has room for
+  pub within_room : (c : ℕ) → length (tokens_at m.queues c) ≤ (queue_at m.queues c).room
+  unfolding state_of
+  within_room c = subst (λ n. length (tokens_at m.queues c) ≤ n) (sym (room_is_cap m.queues m.net.chans h.sound.shaped.rooms c)) (h.sound.fitting.rooms c)
+
   -- a first token of a channel fits
   pub first_fits : (c : ℕ) → has_first (tokens_at m.queues c) ≡ true → FitsToken h.sound.typed.widths c (first_or credit (tokens_at m.queues c))
   unfolding state_of
@@ -108,6 +116,16 @@ take_after_take {m = m} {c = c} i apart can = record {
   token = subst (λ ts. 0 < length ts) (sym (tokens-other-take m.queues i c apart)) can.token;
 }
 
+-- what a process keeps has nothing to do with the room of channels, and a channel that was put into leaves the room of others
+pub put_after_own : {m : Seen} (p : ℕ) (o : Own) {c : ℕ} → CanPut m c → CanPut (with_own m p o) c
+put_after_own p o can = record { there = can.there; room = can.room }
+
+pub put_after_put : {m : Seen} {c : ℕ} (o : ℕ) (token : Token) → c ≢ o → CanPut m c → CanPut (with_last m o token) c
+put_after_put {m = m} {c = c} o token apart can = record {
+  there = subst (λ n. c < n) (sym (length-set m.queues o _)) can.there;
+  room = subst (λ (x : Queue). length x.tokens < x.room) (sym (get_or-set_other m.queues o c _ no_queue apart)) can.room;
+}
+
 -- of a process that may fire
 module _ {m : Seen} {p : ℕ} {q : Proc} {k : ProcKind} (may : MayFire m p k) (stands : slice_get m.net.procs p ≡ Some q) where
   pub here : Stands m p q
@@ -118,6 +136,11 @@ module _ {m : Seen} {p : ℕ} {q : Proc} {k : ProcKind} (may : MayFire m p k) (s
 
   pub row_holds : row_can k m.tree m.net (state_of m []) (own_at m.owns p) q ≡ true
   row_holds = sym (ready_as here k is_kind) ∙ may.ready
+
+-- the first of the tokens that a process holds
+pub first_held : (tokens : List Token) (token : Token) → has_first tokens ≡ true → token ≡ get_or tokens 0 token → token ≡ first_or credit tokens
+first_held [] token some is = cc
+first_held (first ∷ more) token some is = is
 
 -- whether a firing may want memory is what its row says
 pub wants_as : (m : Seen) (p : ℕ) {q : Proc} {k : ProcKind} → slice_get m.net.procs p ≡ Some q → q.kind ≡ k → row_wants_memory k m.net (state_of m []) (own_at m.owns p) q ≡ true → may_want_memory m p ≡ true
@@ -130,3 +153,8 @@ wants_as m p {q = q} {k = k} stands kind wants =
 pub on_err : {A E : Type 0} {P : Type 0} (r : Result A E) → P → OnErr r P
 on_err (Ok x) p = tt
 on_err (Err e) p = p
+
+-- what two clauses say together where a call was not refused
+pub if_ok_both : {A E : Type 0} {P : Type 0} {Q R : A → Type 0} (r : Result A E) → OnOk r P → IfOk r Q → ((x : A) → P → Q x → R x) → IfOk r R
+if_ok_both (Ok x) p q f = f x p q
+if_ok_both (Err e) p q f = tt

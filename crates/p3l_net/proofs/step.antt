@@ -3,4 +3,10 @@ pub mod Sink
 pub mod Run
 pub mod Emit
 pub mod Collect
+pub mod Scatter
+pub mod Gather
+pub mod Split
+pub mod FoldGather
+pub mod Join
 pub mod Head
+pub mod Tail

@@ -18,6 +18,9 @@ pub use Rattle.p3l_firing.specs.Typed
 pub use Rattle.p3l_firing.specs.Single
 pub use Rattle.p3l_firing.specs.Examples
 pub mod Channel
+pub mod Forms
+pub mod Turns
+pub mod Operators
 pub mod Machine
 pub mod Steps
 pub mod Offered

@@ -1,5 +1,5 @@
 -- What contracts see of a machine, and the state that it is in.
-use Rattle.std.specs.Prelude.{◌≡◌, ℕ, ℤ, ⊤, ◌+◌, ◌≤◌, List, [], ◌++◌, Bool, false, not, ◌&&◌, Option, None, Some, slice_get, length, map, replicate, filter}
+use Rattle.std.specs.Prelude.{◌≡◌, ℕ, ℤ, ◌+◌, ◌≤◌, List, [], ◌++◌, Bool, false, not, ◌&&◌, Option, None, Some, slice_get, length, map, replicate, filter}
 use Rattle.std.specs.List.{range_with_len}
 use Rattle.std.specs.Option.{option_to_list}
 use Rattle.p3l_base.specs.declared.outcome.Outcome.{Outcome}
@@ -13,8 +13,6 @@ use Rattle.p3l_firing.specs.Nodes.{Leaf}
 use Rattle.p3l_firing.specs.Fire.{is_ready, fire, wants_memory}
 use Rattle.p3l_firing.specs.Typed.{IsTyped, IsFitting}
 use Rattle.p3l_firing.specs.declared.process.Proc.{Proc}
-use Rattle.p3l_firing.specs.declared.process.ProcKind.{ProcKind}
-use Rattle.p3l_firing.specs.declared.process.ProcKind.TheVariants.{Source, Sink, Run, Emit, Collect, Head}
 
 -- what contracts see of a machine: the tree and the net that it was started with, the queue of each channel, what each
 -- process keeps, the item in the inbox, the numbers of firings, of items sent and of outcomes emitted, and whether one of these was a trap
@@ -80,24 +78,9 @@ pub record IsShaped (m : Seen) : Type 0 where
   pub sent : m.sent ≤ m.fired
   pub emitted : m.emitted ≤ m.fired
 
--- the kinds of processes that a machine fires
-abbrev pub HasRow : ProcKind → Type 0
-HasRow Source = ⊤
-HasRow Sink = ⊤
-HasRow Run = ⊤
-HasRow Emit = ⊤
-HasRow Collect = ⊤
-HasRow Head = ⊤
-HasRow _ = ⊥
-
--- each process of a net is of such a kind
-abbrev pub HasRows : Net → Type 0
-HasRows net = (p : ℕ) (q : Proc) → slice_get net.procs p ≡ Some q → HasRow q.kind
-
 -- what every machine keeps: its net is typed, and its state fits the net
 pub record IsSound (m : Seen) : Type 0 where
   pub typed : IsTyped m.tree m.net
-  pub rows : HasRows m.net
   pub shaped : IsShaped m
   pub fitting : IsFitting m.tree m.net typed.widths (state_of m [])
 

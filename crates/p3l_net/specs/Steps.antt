@@ -121,3 +121,9 @@ pub record MayFire (m : Seen) (p : ℕ) (kind : ProcKind) : Type 0 where
 abbrev pub IfValue : Outcome → (List ℤ → Type 0) → Type 0
 IfValue (Value words) P = P words
 IfValue (Trapped trap) P = ⊤
+
+-- a fact on the words of two outcomes, if both are values
+abbrev pub IfValues : Outcome → Outcome → (List ℤ → List ℤ → Type 0) → Type 0
+IfValues (Value v) (Value w) P = P v w
+IfValues (Value v) (Trapped trap) P = ⊤
+IfValues (Trapped trap) right P = ⊤

@@ -2,10 +2,17 @@
 
 mod collect;
 mod emit;
+mod fold_gather;
+mod gather;
 mod head;
+mod join;
+mod pieces;
 mod run;
+mod scatter;
 mod sink;
 mod source;
+mod split;
+mod tail;
 
 ghost use Rattle.std.specs.Prelude.{◌≡◌, ◌<◌, ◌^◌, ◌↔◌, length, Some, None, true, false, IfOk, OnErr, IsSome};
 ghost use Rattle.p3l_firing.specs.Process.{kind_at};
@@ -53,8 +60,13 @@ impl<'t> Store<'t> {
             ProcKind::Run => self.can_run(p, process),
             ProcKind::Emit => self.can_emit(p, process),
             ProcKind::Collect => self.can_collect(p, process),
+            ProcKind::Scatter => self.can_scatter(p, process),
+            ProcKind::Gather => self.can_gather(p, process),
+            ProcKind::Split => self.can_split(p, process),
+            ProcKind::FoldGather => self.can_fold_gather(p, process),
+            ProcKind::Join => self.can_join(p, process),
             ProcKind::Head => self.can_head(p, process),
-            _ => unreachable!(),
+            ProcKind::Tail => self.can_tail(p, process),
         }
     }
 
@@ -105,11 +117,34 @@ impl<'t> Store<'t> {
                 let touched = self.fire_collect(p);
                 Ok(quiet(kind, touched))
             }
+            ProcKind::Scatter => {
+                let touched = self.fire_scatter(alloc, p)?;
+                Ok(quiet(kind, touched))
+            }
+            ProcKind::Gather => {
+                let touched = self.fire_gather(alloc, p)?;
+                Ok(quiet(kind, touched))
+            }
+            ProcKind::Split => {
+                let touched = self.fire_split(alloc, p)?;
+                Ok(quiet(kind, touched))
+            }
+            ProcKind::FoldGather => {
+                let touched = self.fire_fold_gather(alloc, units, p)?;
+                Ok(quiet(kind, touched))
+            }
+            ProcKind::Join => {
+                let touched = self.fire_join(alloc, units, p)?;
+                Ok(quiet(kind, touched))
+            }
             ProcKind::Head => {
                 let touched = self.fire_head(p);
                 Ok(quiet(kind, touched))
             }
-            _ => unreachable!(),
+            ProcKind::Tail => {
+                let touched = self.fire_tail(alloc, units, p)?;
+                Ok(quiet(kind, touched))
+            }
         }
     }
 }

@@ -2,7 +2,7 @@
 
 ghost use Rattle.std.specs.Prelude.{◌≡◌, ◌<◌, length, None, IsTrue, ◌↔◌, IfOk, OnOk, OnErr, Some, [], ◌+◌, ◌^◌, ℕ, List, IsSome, IfSome, IfNone, true, false, slice_get, find};
 ghost use Rattle.p3l_ready.specs.Flags.{in_turn};
-ghost use Rattle.p3l_net.specs.Machine.{can_step, started, state_of, HasEmitted, Fires, HasRows, IsSound, may_want_memory, ready_list};
+ghost use Rattle.p3l_net.specs.Machine.{can_step, started, state_of, HasEmitted, Fires, IsSound, may_want_memory, ready_list};
 ghost use Rattle.p3l_firing.specs.Fire.{can_fire};
 ghost use Rattle.p3l_firing.specs.State.{first_state};
 ghost use Rattle.p3l_firing.specs.RoundRobin.{next_of};
@@ -46,8 +46,7 @@ impl<'t> Model for Machine<'t> {
 impl<'t> Machine<'t> {
     /// A machine in which nothing has fired. All channels are empty but for their credits.
     pub fn start(alloc: Global, tree: &'t Tree, net: Net) -> Result<Machine<'t>, NoMemory>
-        requires typed { IsTyped tree.now net }
-        requires rows { HasRows net }
+        requires { IsTyped tree.now net }
         ensures started { IfOk result (λ machine. machine ≡ started tree.now net) }
         ensures state { IfOk result (λ machine. state_of machine [] ≡ first_state net []) }
     {

@@ -1,7 +1,9 @@
 // What the processes of a machine keep.
 
-ghost use Rattle.std.specs.Prelude.{◌≡◌, ℕ, ◌+◌, ◌<◌, ◌^◌, [], ◌∷◌, ◌++◌, length, replicate, slice_set, true, IfOk, IfErr, OnOk, OnErr};
+ghost use Rattle.std.specs.Prelude.{◌≡◌, ℕ, ◌+◌, ◌<◌, ◌^◌, [], ◌∷◌, ◌++◌, length, replicate, slice_set, true, false, IfSome, IfNone, IfOk, IfErr, OnOk, OnErr};
 ghost use Rattle.p3l_firing.specs.State.{fresh, own_at, counted, holding, gathering, released};
+ghost use Rattle.p3l_firing.specs.kinds.Tail.{has_number, pick_number, after_release};
+ghost use Rattle.p3l_net.specs.Turns.{IsDue};
 
 use p3l_base::NoMemory;
 use p3l_firing::Token;
@@ -69,6 +71,37 @@ impl Keep {
         ensures back { IfErr result (λ failed. failed.value ≡ token) }
     {
         self.held.push(token)
+    }
+
+    // The place of the first token held whose number is due.
+    fn place_due(&self) -> Option<usize>
+        ensures due { IfSome result (λ k. IsDue self.now.number self.now.held k) }
+        ensures none { IfNone result (has_number self.now.number self.now.held ≡ false) }
+    {
+        for k in 0..self.held.len() {
+            if self.held[k].second_tag() == self.number {
+                return Some(k);
+            }
+        }
+        None
+    }
+
+    fn holds_due(&self) -> bool
+        ensures { result ≡ has_number self.now.number self.now.held }
+    {
+        self.place_due().is_some()
+    }
+
+    fn let_out(&mut self) -> Token
+        requires due { has_number self.old.number self.old.held ≡ true }
+        requires few { self.old.number < 2 ^ 63 }
+        ensures token { result ≡ pick_number self.old.number self.old.held }
+        ensures after { self.new ≡ after_release self.old }
+    {
+        let place = self.place_due().unwrap();
+        let token = self.held.remove(place);
+        self.count();
+        token
     }
 
     fn let_go(&mut self)
@@ -153,6 +186,25 @@ impl Keeps {
         ensures back { IfErr result (λ failed. failed.value ≡ token) }
     {
         self.list[p as usize].gather(token)
+    }
+
+    /// Whether a process holds the token whose number is due.
+    pub(crate) fn holds_due(&self, p: u32) -> bool
+        requires { p < length self.now }
+        ensures { result ≡ has_number (own_at self.now p).number (own_at self.now p).held }
+    {
+        self.list[p as usize].holds_due()
+    }
+
+    /// A process lets the first token out that it holds whose number is due, and counts one more.
+    pub(crate) fn let_out(&mut self, p: u32) -> Token
+        requires there { p < length self.old }
+        requires due { has_number (own_at self.old p).number (own_at self.old p).held ≡ true }
+        requires few { (own_at self.old p).number < 2 ^ 63 }
+        ensures token { result ≡ pick_number (own_at self.old p).number (own_at self.old p).held }
+        ensures after { self.new ≡ slice_set self.old p (after_release (own_at self.old p)) }
+    {
+        self.list[p as usize].let_out()
     }
 
     /// A process lets go of what it keeps.

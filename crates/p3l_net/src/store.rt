@@ -1,20 +1,23 @@
 // What a machine holds: the tokens of a net, and the steps that its firings are made of.
 
-ghost use Rattle.std.specs.Prelude.{◌≡◌, ◌<◌, ◌≤◌, ◌+◌, ◌^◌, ◌↔◌, length, None, Some, IsTrue, IfOk, OnOk, OnErr, slice_get, is_some};
+ghost use Rattle.std.specs.Prelude.{◌≡◌, ◌<◌, ◌≤◌, ◌+◌, ◌^◌, ◌↔◌, length, None, Some, IsTrue, true, IfOk, OnOk, OnErr, slice_get, is_some, cond};
+ghost use Rattle.p3l_base.specs.declared.outcome.Outcome.TheVariants.{Trapped};
 ghost use Rattle.p3l_firing.specs.Lists.{has_first, first_or};
-ghost use Rattle.p3l_firing.specs.State.{own_at, counted, fresh, holding, released};
+ghost use Rattle.p3l_firing.specs.State.{own_at, counted, fresh, gathering, holding, released};
 ghost use Rattle.p3l_firing.specs.Token.{credit};
+ghost use Rattle.p3l_firing.specs.kinds.Tail.{has_number, pick_number, after_release};
 ghost use Rattle.p3l_firing.specs.Typed.{IsTyped};
 ghost use Rattle.p3l_net.specs.Channel.{queue_at, tokens_at};
 ghost use Rattle.p3l_net.specs.Machine.{started};
+ghost use Rattle.p3l_skel.specs.Tree.{node_at};
 ghost use Rattle.p3l_net.specs.Steps.{CanTake, CanPut, ticked, without_first, with_last, with_own, item_sent, one_emitted, room_at};
 
 use crate::channels::Channels;
 use crate::own::Keeps;
-use p3l_base::{NoMemory, Outcome, Words};
+use p3l_base::{NoMemory, Outcome, Trap, Words};
 use p3l_firing::token::is_trap;
 use p3l_firing::{Net, Proc, Token};
-use p3l_skel::Tree;
+use p3l_skel::{Node, Tree};
 use std::alloc::Global;
 use std::marker::Model;
 
@@ -105,6 +108,14 @@ impl<'t> Store<'t> {
         &self.net.procs.as_slice()[p as usize]
     }
 
+    /// The node of this number.
+    pub(crate) fn node(&self, number: u32) -> &'t Node
+        requires { number < length self.now.tree.nodes }
+        ensures { result.now ≡ node_at self.now.tree number }
+    {
+        self.tree.node(number).unwrap()
+    }
+
     /// The first token of a channel that has one.
     pub(crate) fn front(&self, c: u32) -> &Token
         requires { CanTake self.now c }
@@ -155,12 +166,87 @@ impl<'t> Store<'t> {
         self.keeps.hold(p, token);
     }
 
+    /// Process `p` takes the first token of channel `c` to those that it holds. Refused, nothing
+    /// changes.
+    pub(crate) fn gather(&mut self, p: u32, c: u32) -> Result<(), NoMemory>
+        requires there { p < length self.old.owns }
+        requires token { CanTake self.old c }
+        requires room { length (tokens_at self.old.queues c) ≤ (queue_at self.old.queues c).room }
+        ensures ok { OnOk result (self.new ≡ with_own (without_first self.old c) p (gathering (own_at self.old.owns p) (first_or credit (tokens_at self.old.queues c)))) }
+        ensures err { OnErr result (self.new ≡ self.old) }
+    {
+        let token = self.channels.take(c);
+        match self.keeps.gather(p, token) {
+            Ok(()) => Ok(()),
+            Err(failed) => {
+                self.channels.put_back(c, failed.value);
+                Err(NoMemory)
+            }
+        }
+    }
+
+    /// Whether process `p` holds the token whose number is due.
+    pub(crate) fn holds_due(&self, p: u32) -> bool
+        requires { p < length self.now.owns }
+        ensures { result ≡ has_number (own_at self.now.owns p).number (own_at self.now.owns p).held }
+    {
+        self.keeps.holds_due(p)
+    }
+
+    /// Process `p` lets the first token out that it holds whose number is due, and counts one more.
+    pub(crate) fn let_out(&mut self, p: u32) -> Token
+        requires there { p < length self.old.owns }
+        requires due { has_number (own_at self.old.owns p).number (own_at self.old.owns p).held ≡ true }
+        requires few { (own_at self.old.owns p).number < 2 ^ 63 }
+        ensures token { result ≡ pick_number (own_at self.old.owns p).number (own_at self.old.owns p).held }
+        ensures after { self.new ≡ with_own self.old p (after_release (own_at self.old.owns p)) }
+    {
+        self.keeps.let_out(p)
+    }
+
+    /// Process `p` takes the first token of channel `c` to those that it holds, with a trap in place
+    /// of its outcome. Refused, nothing changes.
+    pub(crate) fn gather_trapped(&mut self, p: u32, c: u32, trap: Trap) -> Result<(), NoMemory>
+        requires there { p < length self.old.owns }
+        requires token { CanTake self.old c }
+        requires room { length (tokens_at self.old.queues c) ≤ (queue_at self.old.queues c).room }
+        ensures ok { OnOk result (self.new ≡ with_own (without_first self.old c) p (gathering (own_at self.old.owns p) (record (first_or credit (tokens_at self.old.queues c)) { body = Trapped trap }))) }
+        ensures err { OnErr result (self.new ≡ self.old) }
+    {
+        let Token { tags, body } = self.channels.take(c);
+        let trapped = Token {
+            tags,
+            body: Outcome::Trapped(trap),
+        };
+        match self.keeps.gather(p, trapped) {
+            Ok(()) => Ok(()),
+            Err(failed) => {
+                self.channels.put_back(c, failed.value.with_body(body));
+                Err(NoMemory)
+            }
+        }
+    }
+
     /// Process `p` lets go of what it keeps.
     pub(crate) fn let_go(&mut self, p: u32)
         requires { p < length self.old.owns }
         ensures { self.new ≡ with_own self.old p fresh }
     {
         self.keeps.let_go(p);
+    }
+
+    /// Process `p` counts one piece more of the token that it hands out, or lets go of it after the
+    /// last.
+    pub(crate) fn pass_piece(&mut self, p: u32, more: bool)
+        requires there { p < length self.old.owns }
+        requires few { (own_at self.old.owns p).number < 2 ^ 63 }
+        ensures { self.new ≡ with_own self.old p (cond more (counted (own_at self.old.owns p)) fresh) }
+    {
+        if more {
+            self.count(p);
+        } else {
+            self.let_go(p);
+        }
     }
 
     /// Process `p` lets go of all tokens that it holds.
@@ -185,6 +271,14 @@ impl<'t> Store<'t> {
         ensures { result.now ≡ (own_at self.now.owns p).held }
     {
         self.keeps.held(p)
+    }
+
+    /// Whether process `p` holds a token.
+    pub(crate) fn is_holding(&self, p: u32) -> bool
+        requires { p < length self.now.owns }
+        ensures { result ≡ has_first (own_at self.now.owns p).held }
+    {
+        !self.keeps.held(p).is_empty()
     }
 
     /// Whether there is an item in the inbox.

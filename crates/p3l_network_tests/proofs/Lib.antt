@@ -1,1 +1,3 @@
 pub mod OneNode
+pub mod Parts
+pub mod Loops

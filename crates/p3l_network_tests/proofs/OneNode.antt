@@ -1,6 +1,5 @@
 -- The tree of one node, its bodies and its net.
-use Rattle.std.proofs.Common.{◌≡◌, ℕ, ℤ, zero, suc, ◌<◌, List, [], ◌∷◌, ◌++◌, Option, Some, None, length, refl, sym, subst, arith}
-use Rattle.std.specs.List.{slice_get}
+use Rattle.std.proofs.Common.{◌≡◌, ℕ, ℤ, zero, suc, ◌<◌, List, [], ◌∷◌, ◌++◌, length, refl, sym, subst, arith}
 use Rattle.p3l_base.specs.declared.outcome.Outcome.TheVariants.{Value, Trapped}
 use Rattle.p3l_base.specs.declared.outcome.TrapKind.TheVariants.{DivZero}
 use Rattle.p3l_skel.specs.declared.tree.Form.TheVariants.{Seq}
@@ -13,8 +12,6 @@ use Rattle.p3l_skel.specs.Tree.{IsUnit, HasFittingLength, node_at}
 use Rattle.p3l_skel.specs.Item.{item, item_to}
 use Rattle.p3l_skel.specs.Lawful.{IsLawfulTree}
 use Rattle.p3l_firing.specs.declared.net.Net.{Net}
-use Rattle.p3l_firing.specs.declared.process.Proc.{Proc}
-use Rattle.p3l_net.specs.Machine.{HasRow, HasRows}
 use Rattle.p3l_net.specs.Single.{unit_net}
 use Rattle.p3l_net.specs.Typed.{IsTyped}
 use Rattle.p3l_network_tests.specs.OneNode.{one_node, given_back}
@@ -61,20 +58,3 @@ pub typed_there : (tree : Tree) (net : Net) → ((tree : Tree) (cap : ℕ) → 0
 unfolding one_node
 typed_there tree net law lawful is same =
     subst (λ n. IsTyped tree n) (sym same) (law tree 4 (omega arith) lawful (rw is (omega arith)) (rw is refl))
-
--- a process has a row, if it is there
-RowOf : Option Proc → Type 0
-RowOf None = Unit {0}
-RowOf (Some q) = HasRow q.kind
-
-row_of : (p : ℕ) → RowOf (slice_get (unit_net 4).procs p)
-unfolding RowOf
-row_of zero = tt
-row_of (suc zero) = tt
-row_of (suc (suc zero)) = tt
-row_of (suc (suc (suc p))) = tt
-
--- the machine has the rows of the net
-pub rows_there : (net : Net) → net ≡ unit_net 4 → HasRows net
-unfolding RowOf
-rows_there net same = subst HasRows (sym same) (λ p q is. subst RowOf is (row_of p))

@@ -1,3 +1,7 @@
 pub mod OneNode
 pub mod OneNodeLaws
 pub mod Refusing
+pub mod Looped
+pub mod LoopedLaws
+pub mod Parted
+pub mod PartedLaws

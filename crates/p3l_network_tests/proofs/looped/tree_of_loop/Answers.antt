@@ -1,0 +1,6 @@
+use Rattle.p3l_network_tests.proofs.Loops.{tree_is}
+use Rattle.p3l_network_tests.proofs.looped.tree_of_loop.Goals as goal
+
+pub returns : goal.returns
+returns c =
+    tree_is _ _ _ _ _ _ _ _ _ _ c.new-parts.ensures c.in_ok-push.ensures.ok c.in_ok-push-2.ensures.ok c.new-nodes.ensures c.in_ok-push-3.ensures.ok c.seq_node.ensures c.in_ok-push-4.ensures.ok c.seq_node-2.ensures c.in_ok-push-5.ensures.ok c.in_ok-modules.ensures

@@ -1,0 +1,276 @@
+// Trees of a root with one `seq` part, and what their parts do.
+
+ghost use Rattle.std.specs.Prelude.{◌≡◌, ◌<◌, pos, [], ◌∷◌, ◌-ℤ◌, length, slice_index_or, IfOk, IfSome};
+ghost use Rattle.p3l_base.specs.declared.outcome.Outcome.TheVariants.{Value};
+ghost use Rattle.p3l_base.specs.declared.slice.Place.TheVariants as places;
+ghost use Rattle.p3l_skel.specs.Examples.{checked, four_cut};
+ghost use Rattle.p3l_network_tests.specs.Parted.{two_modules, four_map, reduce_of};
+
+use p3l_base::{Cut, Dim, List, Name, NoMemory, Outcome, Place, Slice, Trap, TrapKind, Words};
+use p3l_skel::{Form, ModuleInfo, ModuleKind, Node, Tree, Units};
+use std::alloc::Global;
+
+/// The list of one slice, over four words of which each is an element.
+fn slices_of_four(alloc: Global) -> Result<List<Slice>, NoMemory>
+    ensures { IfOk result (λ slices. slices ≡ record { start = 0; dims = record { size = 4; place = places.First } ∷ [] } ∷ []) }
+{
+    let mut dims = List::new(alloc);
+    dims.push(Dim {
+        size: 4,
+        place: Place::First,
+    })?;
+    let mut slices = List::new(alloc);
+    slices.push(Slice { start: 0, dims })?;
+    Ok(slices)
+}
+
+/// The cut of four words, one by one.
+fn cut_of_four(alloc: Global) -> Result<Cut, NoMemory>
+    ensures { IfOk result (λ cut. cut ≡ four_cut) }
+{
+    let ins = slices_of_four(alloc)?;
+    let outs = slices_of_four(alloc)?;
+    Ok(Cut {
+        first: 4,
+        second: 1,
+        ins,
+        outs,
+    })
+}
+
+/// The modules of a root of this kind and of its part.
+fn modules_of(alloc: Global, kind: ModuleKind) -> Result<List<ModuleInfo>, NoMemory>
+    ensures { IfOk result (λ modules. modules ≡ two_modules kind) }
+{
+    let main = Name::from_text(alloc, "main")?;
+    let part = Name::from_text(alloc, "part")?;
+    let mut modules = List::new(alloc);
+    modules.push(ModuleInfo { name: main, kind })?;
+    modules.push(ModuleInfo {
+        name: part,
+        kind: ModuleKind::Seq,
+    })?;
+    Ok(modules)
+}
+
+/// The list of node 1.
+fn the_part(alloc: Global) -> Result<List<u32>, NoMemory>
+    ensures { IfOk result (λ parts. parts ≡ 1 ∷ []) }
+{
+    let mut parts = List::new(alloc);
+    parts.push(1u32)?;
+    Ok(parts)
+}
+
+/// The tree of a map of four words, one by one.
+pub fn tree_of_map(alloc: Global) -> Result<Tree, NoMemory>
+    ensures { IfOk result (λ tree. tree ≡ four_map) }
+{
+    let cut = cut_of_four(alloc)?;
+    let parts = the_part(alloc)?;
+    let mut nodes = List::new(alloc);
+    nodes.push(Node {
+        form: Form::Map { workers: None, cut },
+        module: 0,
+        ins: 4,
+        outs: 4,
+        parts,
+    })?;
+    nodes.push(Node {
+        form: Form::Seq,
+        module: 1,
+        ins: 1,
+        outs: 1,
+        parts: List::new(alloc),
+    })?;
+    let modules = modules_of(alloc, ModuleKind::Map)?;
+    Ok(Tree { nodes, modules })
+}
+
+/// The tree of a reduce of so many words.
+pub fn tree_of_reduce(alloc: Global, len: u32) -> Result<Tree, NoMemory>
+    ensures { IfOk result (λ tree. tree ≡ reduce_of len) }
+{
+    let parts = the_part(alloc)?;
+    let mut nodes = List::new(alloc);
+    nodes.push(Node {
+        form: Form::Reduce {
+            workers: None,
+            len,
+            elem: 1,
+        },
+        module: 0,
+        ins: len,
+        outs: 1,
+        parts,
+    })?;
+    nodes.push(Node {
+        form: Form::Seq,
+        module: 1,
+        ins: 2,
+        outs: 1,
+        parts: List::new(alloc),
+    })?;
+    let modules = modules_of(alloc, ModuleKind::Reduce)?;
+    Ok(Tree { nodes, modules })
+}
+
+/// The outcome of one word.
+fn value(alloc: Global, word: i64) -> Result<Outcome, NoMemory>
+    ensures { IfOk result (λ outcome. outcome ≡ Value (word ∷ [])) }
+{
+    let mut words = Words::new(alloc);
+    words.push(word)?;
+    Ok(Outcome::Value(words))
+}
+
+/// The number, or a trap where it is 0 and another one where it is below.
+fn checked(alloc: Global, word: i64) -> Result<Outcome, NoMemory>
+    ensures { IfOk result (λ outcome. outcome ≡ checked (word ∷ [])) }
+{
+    if word == 0 {
+        return Ok(Outcome::Trapped(Trap {
+            kind: TrapKind::DivZero,
+            module: 1,
+        }));
+    }
+    if word < 0 {
+        return Ok(Outcome::Trapped(Trap {
+            kind: TrapKind::Shift,
+            module: 1,
+        }));
+    }
+    value(alloc, word)
+}
+
+/// Word `k` of several.
+pub fn word(words: &Words, k: usize) -> i64
+    requires { k < length words.now }
+    ensures { result ≡ slice_index_or words.now k (pos 0) }
+{
+    words.as_slice()[k]
+}
+
+/// The outcome of the first of some words.
+pub fn first_value(alloc: Global, words: &Words) -> Result<Outcome, NoMemory>
+    requires { 0 < length words.now }
+    ensures { IfOk result (λ outcome. outcome ≡ Value (slice_index_or words.now 0 (pos 0) ∷ [])) }
+{
+    value(alloc, word(words, 0))
+}
+
+/// What the part of the map makes of one word.
+fn checked_word(alloc: Global, words: &Words) -> Result<Outcome, NoMemory>
+    requires { 0 < length words.now }
+    ensures { IfOk result (λ outcome. outcome ≡ checked (slice_index_or words.now 0 (pos 0) ∷ [])) }
+{
+    checked(alloc, word(words, 0))
+}
+
+/// What checks the elements of the map. Other nodes are not run by the tests: they are refused.
+pub struct Checks;
+
+impl Units for Checks {
+    ghost use Rattle.p3l_network_tests.specs.Parted.{four_map, checks};
+    ghost use Rattle.p3l_network_tests.specs.PartedLaws.{checks_give};
+
+    ghost tree = { λ _. four_map };
+
+    ghost leaf = { λ _. checks };
+
+    ghost gives_outs = { λ _. checks_give };
+
+    fn run(&self, alloc: Global, node: u32, words: &Words) -> Result<Outcome, NoMemory> {
+        if node == 1 && words.len() == 1 {
+            return checked_word(alloc, words);
+        }
+        Err(NoMemory)
+    }
+}
+
+/// The difference of two words, where it fits.
+pub fn minus(left: i64, right: i64) -> Option<i64>
+    ensures { IfSome result (λ word. word ≡ left -ℤ right) }
+{
+    left.checked_sub(right)
+}
+
+/// The outcome of the difference of two words; refused where it doesn't fit.
+fn difference(alloc: Global, words: &Words) -> Result<Outcome, NoMemory>
+    requires { 1 < length words.now }
+    ensures { IfOk result (λ outcome. outcome ≡ Value ((slice_index_or words.now 0 (pos 0) -ℤ slice_index_or words.now 1 (pos 0)) ∷ [])) }
+{
+    match minus(word(words, 0), word(words, 1)) {
+        Some(word) => value(alloc, word),
+        None => Err(NoMemory),
+    }
+}
+
+/// The outcome of the fold of three words: the first less the difference of the others.
+fn difference_of_three(alloc: Global, words: &Words) -> Result<Outcome, NoMemory>
+    requires { 2 < length words.now }
+    ensures { IfOk result (λ outcome. outcome ≡ Value ((slice_index_or words.now 0 (pos 0)
+        -ℤ (slice_index_or words.now 1 (pos 0) -ℤ slice_index_or words.now 2 (pos 0))) ∷ [])) }
+{
+    let Some(rest) = minus(word(words, 1), word(words, 2)) else {
+        return Err(NoMemory);
+    };
+    match minus(word(words, 0), rest) {
+        Some(word) => value(alloc, word),
+        None => Err(NoMemory),
+    }
+}
+
+/// What folds segments of two or three words by differences, and subtracts. Other segments are
+/// refused: the tests have none.
+pub struct Subtracts;
+
+impl Units for Subtracts {
+    ghost use Rattle.p3l_network_tests.specs.Parted.{five_reduce, subtracts};
+    ghost use Rattle.p3l_network_tests.specs.PartedLaws.{subtracts_give};
+
+    ghost tree = { λ _. five_reduce };
+
+    ghost leaf = { λ _. subtracts };
+
+    ghost gives_outs = { λ _. subtracts_give };
+
+    fn run(&self, alloc: Global, node: u32, words: &Words) -> Result<Outcome, NoMemory> {
+        if words.len() == 2 {
+            return difference(alloc, words);
+        }
+        if node == 0 && words.len() == 3 {
+            return difference_of_three(alloc, words);
+        }
+        Err(NoMemory)
+    }
+}
+
+/// What traps on any two words, so that only segments of one word have a value. Other segments are
+/// refused: the tests have none.
+pub struct Refuses;
+
+impl Units for Refuses {
+    ghost use Rattle.p3l_network_tests.specs.Parted.{three_reduce};
+    ghost use Rattle.p3l_network_tests.specs.PartedLaws.{refusing_gives};
+    ghost use Rattle.p3l_network_tests.specs.Refusing.{refusing};
+
+    ghost tree = { λ _. three_reduce };
+
+    ghost leaf = { λ _. refusing };
+
+    ghost gives_outs = { λ _. refusing_gives };
+
+    fn run(&self, alloc: Global, node: u32, words: &Words) -> Result<Outcome, NoMemory> {
+        if words.len() == 2 {
+            return Ok(Outcome::Trapped(Trap {
+                kind: TrapKind::DivZero,
+                module: 0,
+            }));
+        }
+        if node == 0 && words.len() == 1 {
+            return first_value(alloc, words);
+        }
+        Err(NoMemory)
+    }
+}

@@ -1,0 +1,161 @@
+// Machines fired process by process, by tables worked out from the rows of the kinds.
+
+ghost use Rattle.std.specs.Prelude.{◌≡◌, None, IfOk};
+
+use p3l_base::{List, NoMemory, Outcome, Words};
+use p3l_link::link;
+use p3l_model::{is_outside, procs};
+use p3l_net::Machine;
+use p3l_skel::{Counts, Tree, Units, lawful_counts, lawful_tree};
+use std::alloc::Global;
+use std::process::Abort;
+
+/// The machine of a tree with these numbers of workers, and with room for one token in each channel.
+fn machine_of<'t>(
+    rt: &impl Abort,
+    alloc: Global,
+    tree: &'t Tree,
+    workers: &[u32],
+) -> Result<Machine<'t>, NoMemory>
+    ensures tree { IfOk result (λ machine. machine.tree ≡ tree.now) }
+    ensures empty { IfOk result (λ machine. machine.inbox ≡ None) }
+{
+    let counts = Counts {
+        list: List::from_vec(workers.to_vec(alloc)?),
+    };
+    assert!(rt; lawful_tree(tree));
+    assert!(rt; lawful_counts(tree, &counts));
+    assert!(rt; is_outside(tree, 0));
+    assert!(rt; procs(tree, &counts, 0) <= 4096);
+    let net = link(alloc, tree, &counts, 1)?;
+    Machine::start(alloc, tree, net)
+}
+
+/// Compares which processes can fire with a set of bits: asked one by one, counted, in order and
+/// from each on.
+fn compare_ready(rt: &impl Abort, machine: &Machine<'_>, ready: u32) {
+    assert!(rt; machine.size() < 32);
+    let mut before = 0;
+    for process in 0..machine.size() {
+        let can = machine.can_step(process);
+        assert_eq!(rt; can, ready >> process & 1 == 1);
+        assert_eq!(rt; machine.next_ready(process) == Some(process), can);
+        if can {
+            assert!(rt; before < machine.ready());
+            assert_eq!(rt; machine.ready_at(before), process);
+            before += 1;
+        }
+    }
+    assert_eq!(rt; machine.ready(), before);
+}
+
+/// Fires a process that can fire, and compares what can fire after it; gives what was handed out.
+fn fire<U: Units>(
+    rt: &impl Abort,
+    alloc: Global,
+    machine: &mut Machine<'_>,
+    tree: &Tree,
+    units: &U,
+    process: u32,
+    ready: u32,
+) -> Result<Option<Outcome>, NoMemory>
+    requires machine { machine.old.tree ≡ tree.now }
+    requires units { U.tree units.now ≡ tree.now }
+    ensures { machine.new.tree ≡ machine.old.tree }
+{
+    assert!(rt; process < machine.size());
+    assert!(rt; machine.can_step(process));
+    assert!(rt; machine.fired() < 100);
+    let fired = machine.fire(alloc, tree, units, process)?;
+    compare_ready(rt, machine, ready);
+    Ok(fired.emitted)
+}
+
+/// Offers an item of the root's in words.
+fn offer(
+    rt: &impl Abort,
+    alloc: Global,
+    machine: &mut Machine<'_>,
+    tree: &Tree,
+    item: &[i64],
+) -> Result<(), NoMemory>
+    requires machine { machine.old.tree ≡ tree.now }
+    requires empty { machine.old.inbox ≡ None }
+    ensures { machine.new.tree ≡ machine.old.tree }
+{
+    let words = Words::from_vec(item.to_vec(alloc)?);
+    let root = tree.node(0);
+    assert!(rt; root.is_some());
+    let ins = root.unwrap().ins;
+    assert!(rt; words.len() == ins as usize);
+    machine.offer(alloc, words)
+}
+
+/// Offers the item at `next`, if the machine wants one and there is one; gives the place of the next
+/// one.
+fn fill(
+    rt: &impl Abort,
+    alloc: Global,
+    machine: &mut Machine<'_>,
+    tree: &Tree,
+    items: &[[i64; 2]],
+    next: usize,
+) -> Result<usize, NoMemory>
+    requires { machine.old.tree ≡ tree.now }
+    ensures { machine.new.tree ≡ machine.old.tree }
+{
+    if next < items.len() && machine.wants_item() {
+        offer(rt, alloc, machine, tree, items[next].as_slice())?;
+        return Ok(next + 1);
+    }
+    Ok(next)
+}
+
+/// What the network of a tree hands out of items under these picks, as `outcome_of`; each item is
+/// offered as soon as the machine wants one.
+pub fn outcomes_of<U: Units>(
+    rt: &impl Abort,
+    alloc: Global,
+    tree: &Tree,
+    units: &U,
+    workers: &[u32],
+    items: &[[i64; 2]],
+    steps: &[(u32, u32)],
+) -> Result<List<Outcome>, NoMemory>
+    requires { U.tree units.now ≡ tree.now }
+{
+    let mut machine = machine_of(rt, alloc, tree, workers)?;
+    let mut outcomes = List::new(alloc);
+    let mut next = 0;
+    for (process, ready) in steps {
+        next = fill(rt, alloc, &mut machine, tree, items, next)?;
+        let outcome = fire(rt, alloc, &mut machine, tree, units, *process, *ready)?;
+        if let Some(outcome) = outcome {
+            outcomes.push(outcome)?;
+        }
+    }
+    Ok(outcomes)
+}
+
+/// What the network of a tree makes of an item under these picks. Behind each of them stands the set
+/// of the processes that can fire after it, as bits.
+pub fn outcome_of<U: Units>(
+    rt: &impl Abort,
+    alloc: Global,
+    tree: &Tree,
+    units: &U,
+    workers: &[u32],
+    item: &[i64],
+    steps: &[(u32, u32)],
+) -> Result<Option<Outcome>, NoMemory>
+    requires { U.tree units.now ≡ tree.now }
+{
+    let mut machine = machine_of(rt, alloc, tree, workers)?;
+    offer(rt, alloc, &mut machine, tree, item)?;
+    compare_ready(rt, &machine, 0b1);
+    let mut last = None;
+    for (process, ready) in steps {
+        last = fire(rt, alloc, &mut machine, tree, units, *process, *ready)?;
+    }
+    Ok(last)
+}
