@@ -1,0 +1,110 @@
+-- The walk over the seats of a node that can be placed, by the lemmas of Placing.
+use Rattle.std.proofs.Common.{◌≡◌, ℕ, suc, ◌+◌, ◌-◌, ◌<◌, ◌≤◌, List, length, get_or, slice_index, drop, sym, ap, ap₂, ◌∙◌, subst, arith, length-append}
+use Rattle.std.proofs.lemmas.List.{get_or-map, length-map}
+use Rattle.p3l_skel.specs.declared.tree.Tree.{Tree}
+use Rattle.p3l_skel.specs.Lawful.{IsLawfulTree}
+use Rattle.p3l_skel.specs.Tree.{node_at, part_at}
+use Rattle.p3l_firing.specs.declared.net.Net.{Net}
+use Rattle.p3l_template.specs.declared.template.Ports.{Ports}
+use Rattle.p3l_template.specs.Built.{all_ports}
+use Rattle.p3l_template.specs.Placed.{IsLawfulShape}
+use Rattle.p3l_template.specs.Shape.{Base, Seat, base_of, no_seat, ports_of}
+use Rattle.p3l_link.specs.Counts.{IsCounted}
+use Rattle.p3l_link.specs.Net.{Piece, HasRoom, base_at, inner_pieces, own_piece, part_piece, piece_of, whole_piece, with_piece}
+use Rattle.p3l_link.specs.Shape.{shape_at, seat_part}
+use Rattle.p3l_link.proofs.Counted.{counted_deep, counted_own, counted_there, seat_counted, seat_is, shape_lawful}
+use Rattle.p3l_link.proofs.Placing.{end_built, init_built, next_built, piece_step, room_built}
+
+module _ (tree : Tree) (count : ℕ → ℕ) (cap levels k : ℕ) (lawful : IsLawfulTree tree)
+    (counted : IsCounted tree count levels k) (at : Ports) (b0 : Net) where
+  abbrev seats : List Seat
+  seats = (shape_at tree count k).seats (base_of at b0)
+
+  abbrev whole : Piece
+  whole = piece_of tree count cap levels k (base_of at b0)
+
+  abbrev own : Piece
+  own = own_piece (shape_at tree count k) cap (base_of at b0)
+
+  abbrev parts : ℕ → Base → Piece
+  parts = part_piece tree count cap (levels - 1) k
+
+  there : k < length tree.nodes
+  there = counted_there tree count levels k counted
+
+  law : IsLawfulShape (shape_at tree count k)
+  law = shape_lawful tree count k lawful there (counted_own tree count levels k counted)
+
+  whole_is : whole ≡ whole_piece (shape_at tree count k) cap parts (base_of at b0)
+  whole_is = piece_step tree count cap levels k (base_of at b0) (counted_deep tree count levels k counted)
+
+  -- there is room for the node's own processes and channels
+  pub own_room : HasRoom b0 whole → HasRoom b0 own
+  own_room room =
+      let rest : Piece = inner_pieces parts seats (length b0.procs + length own.procs)
+      (length b0.chans + (shape_at tree count k).chans (base_of at b0)) in
+      let procs = ap (λ (z : Piece). length z.procs) whole_is in
+      let chans = ap (λ (z : Piece). length z.chans) whole_is in (
+        omega (arith, room.0, procs, length-append own.procs rest.procs),
+        omega (arith, room.1, chans, length-append own.chans rest.chans),
+      )
+
+  pub begun : (b : Net) → b ≡ with_piece b0 own →
+      with_piece b (inner_pieces parts seats (length b.procs) (length b.chans)) ≡ with_piece b0 whole
+  begun b e =
+      let chans = law in
+      init_built parts (shape_at tree count k) cap at b0 b (chans.laid cap (base_of at b0)) e ∙ ap (with_piece b0) (sym whole_is)
+
+  -- with the parts at the seats from i on, b is the whole
+  abbrev pub IsBuilt : Net → ℕ → Type 0
+  IsBuilt b i =
+      with_piece b (inner_pieces parts (drop i seats) (length b.procs) (length b.chans)) ≡ with_piece b0 whole
+
+  module _ (items : List Ports) (items_are : items ≡ all_ports seats) (b : Net) (i : ℕ) (built : IsBuilt b i) where
+    seats_length : length items ≡ length seats
+    seats_length = ap length items_are ∙ length-map seats ports_of
+
+    pub ended : length items ≤ i → b ≡ with_piece b0 whole
+    ended l = end_built parts seats b (with_piece b0 whole) i built (omega (arith, l, seats_length))
+
+    module _ (l : i < length items) (part : ℕ)
+        (part_is : part ≡ slice_index (node_at tree k).parts (seat_part (node_at tree k).form i)) where
+      abbrev seat : Seat
+      seat = get_or seats i no_seat
+
+      below : i < length seats
+      below = omega (arith, l, seats_length)
+
+      part_there : part ≡ part_at tree k seat.part
+      part_there =
+          part_is ∙ ap (slice_index (node_at tree k).parts) (sym (seat_is tree count k lawful there (base_of at b0) i below))
+
+      pub part_counted : IsCounted tree count (levels - 1) part
+      part_counted =
+          let some = counted_deep tree count levels k counted in
+          let e : levels ≡ suc (levels - 1) = omega (arith, some) in
+          subst (IsCounted tree count (levels - 1)) (sym part_there)
+          (seat_counted tree count k lawful there (base_of at b0) i below (levels - 1)
+          (subst (λ d. IsCounted tree count d k) e counted))
+
+      module _ (none : Ports) where
+        port_is : get_or items i none ≡ ports_of seat
+        port_is = ap (λ xs. get_or xs i none) items_are ∙ get_or-map ports_of seats i no_seat none below
+
+        abbrev here : Piece
+        here = piece_of tree count cap (levels - 1) part (base_of (get_or items i none) b)
+
+        here_is : here ≡ parts seat.part (base_at seat (length b.procs) (length b.chans))
+        here_is =
+            ap₂ (λ n (x : Ports). piece_of tree count cap (levels - 1) n (base_of x b)) part_there port_is
+
+        -- there is room for the part
+        pub part_room : HasRoom b0 whole → HasRoom b here
+        part_room room =
+            subst (HasRoom b) (sym here_is)
+            (room_built parts seats b (with_piece b0 whole) i built below
+            (omega (arith, room.0, length-append b0.procs whole.procs), omega (arith, room.1, length-append b0.chans whole.chans)))
+
+        pub continued : (b' : Net) → b' ≡ with_piece b here → IsBuilt b' (i + 1)
+        continued b' e =
+            next_built parts seats b (with_piece b0 whole) i built b' below (e ∙ ap (with_piece b) here_is)

@@ -1,0 +1,48 @@
+// Laws of all linked nets: each is the contract of a function that does nothing.
+
+ghost use Rattle.p3l_link.specs.Laws.{EveryFiringKeepsFitting, EveryFiringKeepsTheList, EveryNetIsCarried, EveryNodeDoesWhatItMeans, EveryPlacedNodeIsAPart, EveryRootIsAPart, EveryRunBeginsFitting, EveryRunBeginsOrderly, EveryRunBeginsTheMeaning, FiringsAreBounded, OwedIsBoundedByTokens, RoundRobinEnds, StuckMeansEmpty, StuckMeansFinished};
+
+/// A node of a lawful tree that is placed in a net with all that is below it is a lawful part of
+/// that net, whatever else stands in it; and it makes of words what the language says, and fires as
+/// often as is said of the tree.
+pub fn every_placed_node_is_a_part()
+    ensures placed { EveryPlacedNodeIsAPart }
+    ensures means { EveryNodeDoesWhatItMeans }
+    ensures root { EveryRootIsAPart }
+{}
+
+/// A linked net is carried by its root, so that every law over all picks of a carried net holds of
+/// it.
+pub fn every_linked_net_is_carried()
+    ensures { EveryNetIsCarried }
+{}
+
+/// A run begins orderly, and every firing keeps the order and the whole list of what was emitted
+/// and what is to come, and takes from what is owed. In a typed net every token has the words of its
+/// place, at first and after every firing.
+pub fn every_firing_keeps_the_list()
+    ensures begins { EveryRunBeginsOrderly }
+    ensures step { EveryFiringKeepsTheList }
+    ensures first_words { EveryRunBeginsFitting }
+    ensures words { EveryFiringKeepsFitting }
+{}
+
+/// Whatever the picks, what a linked net has emitted begins the meaning of the items.
+pub fn every_run_begins_the_meaning()
+    ensures { EveryRunBeginsTheMeaning }
+{}
+
+/// Where nothing can fire, the whole meaning was emitted: either it ended with a trap, or nothing is
+/// left in the net. The round robin comes to such an end.
+pub fn stuck_means_finished()
+    ensures state { StuckMeansEmpty }
+    ensures run { StuckMeansFinished }
+    ensures ends { RoundRobinEnds }
+{}
+
+/// The firings of a run, and those that its tokens can still need, are at most the stated number for
+/// each item sent; and what is owed is at most that number for each token in the net.
+pub fn firings_are_bounded()
+    ensures run { FiringsAreBounded }
+    ensures tokens { OwedIsBoundedByTokens }
+{}

@@ -1,0 +1,11 @@
+//! Tests of the linker over its public calls: nets that were worked out by hand.
+#![tactic(auto)]
+
+#[cfg(test)]
+mod expected;
+#[cfg(test)]
+mod nested;
+#[cfg(test)]
+mod skeletons;
+#[cfg(test)]
+mod trees;
