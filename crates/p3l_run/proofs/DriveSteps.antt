@@ -1,205 +1,228 @@
--- A machine that runs a network by round robin: its first state, each pick, and its end.
-use Rattle.std.proofs.Common.{◌≡◌, ℕ, ℤ, suc, ◌+◌, ◌-◌, ◌*◌, ◌%◌, ◌<◌, ◌≤◌, true, false, List, [], ◌∷◌, ◌++◌, length, get_or, drop, fold, Option, Some, None, IsTrue, All, refl, sym, ap, subst, ◌∙◌, arith, append_assoc, append-nil, add-one, drop-cons}
-use Rattle.std.proofs.lemmas.List.Elements.{All-get_or}
-use Rattle.std.proofs.lemmas.List.Sums.{fold-append}
-use Rattle.std.proofs.lemmas.Nat.{mod_below, mul-le}
+-- A run on its way: what it does with an item, with a pick, and at its end.
+use Rattle.std.proofs.Common.{◌≡◌, ◌≢◌, ℕ, ℤ, ◌+◌, ◌*◌, ◌<◌, ◌≤◌, ◌^◌, true, false, List, [], ◌++◌, length, fold, Option, Some, None, IsTrue, IsNone, IsSome, refl, sym, ap, subst, ◌∙◌, arith}
 use Rattle.std.specs.Option.{option_to_list}
+use Rattle.std.proofs.lemmas.Bool.{cond-false, cond-true}
 use Rattle.p3l_base.specs.declared.outcome.Outcome.{Outcome}
 use Rattle.p3l_base.specs.declared.outcome.Trap.{Trap}
-use Rattle.p3l_skel.specs.declared.tree.Tree.{Tree}
 use Rattle.p3l_skel.specs.Tree.{node_at}
-use Rattle.p3l_net.specs.Fire.{can_fire, fire}
-use Rattle.p3l_net.specs.Machine.{Seen, Fires, can_step, started, state_of}
-use Rattle.p3l_net.specs.Offered.{Follows, HasFilledInbox}
-use Rattle.p3l_net.specs.State.{with_rest}
-use Rattle.p3l_net.specs.RoundRobin.{after, next_of, round_robin}
-use Rattle.p3l_net.specs.Run.{Course, after_picks, picked}
-use Rattle.p3l_net.specs.Carried.{HaveInWords}
-use Rattle.p3l_net.specs.Outcomes.{IsPrefixOf}
+use Rattle.p3l_net.specs.Machine.{Seen, Fires, can_step, ready_list, started}
+use Rattle.p3l_net.specs.Offered.{HasFilledInbox}
+use Rattle.p3l_report.specs.declared.stats.Stats.{Stats}
+use Rattle.p3l_report.specs.declared.verdict.Finish.{Finish}
+use Rattle.p3l_report.specs.declared.verdict.Finish.TheVariants as finish
+use Rattle.p3l_sched.specs.declared.picker.Way.{Way}
+use Rattle.p3l_sched.specs.declared.schedule.Schedule.{Schedule}
+use Rattle.p3l_sched.specs.Picker.{IsPickedFrom, NamesProcesses, after_pick, begun, pick_of, recorded}
+use Rattle.p3l_stream.specs.declared.items.Ending.{Ending}
+use Rattle.p3l_stream.specs.Given.{HasGiven}
+use Rattle.p3l_stream.specs.Seen as lines
 use Rattle.p3l_stream.specs.Text.{text_of}
+use Rattle.p3l_run.specs.Feed.{Feeds, FeedsInVain, closed_so, input_limit, most_of_input}
 use Rattle.p3l_run.specs.Laws.{Laws}
-use Rattle.p3l_run.specs.Network.{Network, course_of, course_under, meaning_of, picks_of}
-use Rattle.p3l_run.specs.Steps.{IsRun, Stands, trap_after, trap_of}
+use Rattle.p3l_run.specs.Network.{Network, course_of, goes_on, is_some, size_of, width_of}
+use Rattle.p3l_run.specs.Run.{Finishes, MayCome, MayEnd, Starts, end_of}
+use Rattle.p3l_run.specs.Steps.{Drives, Stands, left_of}
+use Rattle.p3l_run.specs.Trap.{trap_after, trap_of}
 use Rattle.p3l_run.specs.Write.{HasBegun, HasPut}
-use Rattle.p3l_run.proofs.WriteSteps.{begun_longer, begun_more, begun_whole, text_begins, text_more}
+use Rattle.p3l_run.proofs.FeedSteps.{gives_first}
+use Rattle.p3l_run.proofs.RunSteps as steps
+use Rattle.p3l_run.proofs.WriteSteps.{begun_whole, put_more, put_nothing, text_more}
 
--- an item that was offered
-pub offered_follows : (n : Network) (items : List (List ℤ)) (m new : Seen) (outcomes : List Outcome) (c : Course) (next : ℕ) (word given : List ℤ) → Laws n →
-    next < length items → word ≡ get_or items next word → given ≡ word → m.inbox ≡ None → new ≡ record m { inbox = Some given } →
-    Follows m outcomes (drop next items) c → Follows new outcomes (drop (next + 1) items) c
-offered_follows n items m new outcomes c next word given laws within at same empty is f =
-    let front : drop next items ≡ given ∷ drop (next + 1) items = rw (add-one, drop-cons items next word) (ap (λ w. w ∷ drop (suc next) items) (sym at ∙ sym same)) in
-    subst (λ s. Follows s outcomes (drop (next + 1) items) c) (sym is)
-    (laws.offered m outcomes given (drop (next + 1) items) c (subst (λ l. Follows m outcomes l c) front f) empty)
-
--- an item has the words that the root takes
-pub root_takes : (tree : Tree) (given : List ℤ) (items : List (List ℤ)) (next : ℕ) (word : List ℤ) → All (λ words. length words ≡ (node_at tree 0).ins) items → next < length items →
-    word ≡ get_or items next word → given ≡ word → length given ≡ (node_at tree 0).ins
-root_takes tree given items next word all within at same =
-    let one : length (get_or items next word) ≡ (node_at tree 0).ins = All-get_or (λ words. length words ≡ (node_at tree 0).ins) items next word within all in
-    ap length same ∙ ap length at ∙ one
-
--- a machine that was just started
-pub stands_first : (n : Network) (items : List (List ℤ)) (m : Seen) → Laws n → HaveInWords n.tree items → m ≡ started n.tree n.net → Stands n items m [] 0 0
-unfolding picks_of after_picks
-stands_first n items m laws widths fresh = record {
-  widths = widths;
-  tree = ap (λ s. s.tree) fresh;
-  net = ap (λ s. s.net) fresh;
-  picks = [];
-  more = n.firings * length items;
-  follows = subst (λ s. Follows s [] items (course_under n items [])) (sym fresh) (laws.starts items);
-  count = sym (ap (λ s. s.fired) fresh);
-  total = omega arith;
-  robin = refl;
-  place = laws.some;
-  within = omega arith;
+-- nothing was asked and nothing written
+pub starts_first : (n : Network) (rest taken : Option (List ℕ)) (faults : ℕ) → HasGiven (width_of n) (lines.started (width_of n) input_limit) [] [] → Starts n rest rest faults faults taken taken
+starts_first n rest taken faults given = record {
+  stream = lines.started (width_of n) input_limit;
+  items = [];
+  closed = None;
+  gives = gives_first (width_of n) rest faults (lines.started (width_of n) input_limit) given refl;
+  begun = begun_whole taken taken [] _ _ (put_nothing taken) refl;
 }
 
--- a machine whose inbox was filled
-pub stands_filled : (n : Network) (items : List (List ℤ)) (m new : Seen) (outcomes : List Outcome) (next after cursor : ℕ) → Laws n → Stands n items m outcomes next cursor →
-    new.tree ≡ m.tree → new.net ≡ m.net → new.fired ≡ m.fired → after ≤ length items →
-    ((k : Network) (o : List Outcome) (c : Course) → Laws k → Follows m o (drop next items) c → Follows new o (drop after items) c) →
-    Stands n items new outcomes after cursor
-stands_filled n items m new outcomes next after cursor laws s tree net fired within follows = record {
-  tree = tree ∙ s.tree;
-  net = net ∙ s.net;
-  picks = s.picks;
-  more = s.more;
-  follows = follows n outcomes _ laws s.follows;
-  count = s.count ∙ sym fired;
-  total = s.total;
-  robin = s.robin;
-  widths = s.widths;
-  place = s.place;
-  within = within;
-}
+module _ (n : Network) (laws : Laws n) (schedule : Schedule) where
+  pub drives_first : (m : Seen) (s : lines.Seen) (rest taken : Option (List ℕ)) (faults width : ℕ) → width ≡ width_of n → HasGiven (width_of n) (lines.started (width_of n) input_limit) [] [] → m ≡ started n.tree n.net →
+      s ≡ lines.started width input_limit → NamesProcesses (size_of n) schedule → Drives n schedule m (begun schedule) s None None 0 rest rest faults faults taken taken
+  drives_first m s rest taken faults width wide given fresh new named = record {
+    items = [];
+    outcomes = [];
+    gives = gives_first (width_of n) rest faults s given (new ∙ ap (λ w. lines.started w input_limit) wide);
+    stands = steps.stands_first n laws schedule m fresh named;
+    trap_is = refl;
+    put = put_nothing taken;
+  }
 
--- where process p can fire, a pick fires it
-picked_state : (n : Network) (c : Course) (p : ℕ) → can_fire n.tree n.net c.state p ≡ true → (picked n.tree n.leaf n.net c p).state ≡ fire n.tree n.leaf n.net c.state p
-unfolding picked
-picked_state n c p can = rw can refl
+  module _ (m : Seen) (w : Way) (s : lines.Seen) (close : Option Ending) (trap : Option Trap) (idle : ℕ) (rest left : Option (List ℕ)) (before now : ℕ) (taken taken' : Option (List ℕ)) (d : Drives n schedule m w s close trap idle rest left before now taken taken') where
+    same_width : (node_at m.tree 0).ins ≡ width_of n
+    same_width = ap (λ t. (node_at t 0).ins) d.stands.runs.tree
 
-length_more : (xs : List ℕ) (x : ℕ) → length (xs ++ x ∷ []) ≡ length xs + 1
-length_more [] x = refl
-length_more (y ∷ ys) x = (let h = length_more ys x in omega arith)
-
--- no run fires more often than all items may
-pub few_firings : (n : Network) (items : List (List ℤ)) (picks : List ℕ) → Laws n → HaveInWords n.tree items → (course_under n items picks).fired ≤ n.firings * length items
-few_firings n items picks laws widths =
-    let a = laws.fired_most items widths picks in
-    let b = laws.sent_most items widths picks in
-    omega (arith, mul-le n.firings (course_under n items picks).state.sent n.firings (length items) (omega arith) b)
-
--- what one pick more leads to
-module _ (n : Network) (items : List (List ℤ)) (m new : Seen) (outcomes : List Outcome) (handed : Option Outcome) (next cursor p : ℕ) (laws : Laws n) (s : Stands n items m outcomes next cursor)
-    (filled : HasFilledInbox m (drop next items)) (can : IsTrue (can_step m p)) (fires : Fires n.leaf m new p handed) where
-  abbrev before : Course
-  before = course_under n items s.picks
-
-  led : Follows new (outcomes ++ option_to_list handed) (drop next items) (course_under n items (s.picks ++ p ∷ []))
-  led =
-      let kept : List Outcome = outcomes ++ option_to_list handed in
-      subst (λ c. Follows new kept (drop next items) c) (sym (laws.one_more _ s.picks p))
-      (subst (λ k. Follows new kept (drop next items) (picked n.tree n.leaf k before p)) s.net
-      (subst (λ t. Follows new kept (drop next items) (picked t n.leaf m.net before p)) s.tree (laws.fires m new outcomes (drop next items) before p handed s.follows filled can fires)))
-
-  -- what was emitted begins the meaning
-  pub led_begins : IsPrefixOf (outcomes ++ option_to_list handed) (meaning_of n items)
-  unfolding with_rest state_of
-  led_begins = subst (λ o. IsPrefixOf o (meaning_of n items)) (sym (ap (λ x. x.emitted) led.state)) (laws.begins items s.widths (s.picks ++ p ∷ []))
-
-  -- there was a pick left
-  pub left : m.fired + 1 ≤ n.firings * length items
-  left =
-      let a = few_firings n items (s.picks ++ p ∷ []) laws s.widths in
-      let e = led.fired in
-      let f = fires.fired in
-      omega arith
-
-  fires_there : can_fire n.tree n.net before.state p ≡ true
-  fires_there =
-      let a = laws.can_fires m outcomes (drop next items) before p s.follows filled in
-      subst (λ k. can_fire n.tree k before.state p ≡ true) s.net (subst (λ t. can_fire t m.net before.state p ≡ true) s.tree (a ∙ can))
-
-  left_over : (more : ℕ) → length s.picks ≡ m.fired → length s.picks + more ≡ n.firings * length items → m.fired + 1 ≤ n.firings * length items → more ≡ suc (more - 1)
-  left_over more a b c = omega arith
-
-  module _ (is : Some p ≡ next_of m.tree m.net (state_of m outcomes) cursor) where
-    comes : next_of n.tree n.net before.state cursor ≡ Some p
-    comes =
-        let a = laws.nexts m outcomes (drop next items) before cursor s.follows filled in
-        subst (λ k. next_of n.tree k before.state cursor ≡ Some p) s.net (subst (λ t. next_of t m.net before.state cursor ≡ Some p) s.tree (a ∙ sym is))
-
-    robin_on : (more : ℕ) → more ≡ suc (more - 1) → s.picks ++ round_robin n.tree n.leaf n.net more before.state cursor ≡ picks_of n items → (to : ℕ) → to ≡ after n.net p →
-        (s.picks ++ p ∷ []) ++ round_robin n.tree n.leaf n.net (more - 1) (course_under n items (s.picks ++ p ∷ [])).state to ≡ picks_of n items
-    robin_on more one whole to place =
-        let rest : List ℕ = round_robin n.tree n.leaf n.net (more - 1) (course_under n items (s.picks ++ p ∷ [])).state to in
-        let state : (course_under n items (s.picks ++ p ∷ [])).state ≡ fire n.tree n.leaf n.net before.state p = ap (λ c. c.state) (laws.one_more _ s.picks p) ∙ picked_state n before p fires_there in
-        let taken : round_robin n.tree n.leaf n.net more before.state cursor ≡ p ∷ rest =
-        ap (λ k. round_robin n.tree n.leaf n.net k before.state cursor) one
-        ∙ laws.robin_next (more - 1) before.state cursor p comes
-        ∙ ap (λ t. p ∷ round_robin n.tree n.leaf n.net (more - 1) t (after n.net p)) (sym state)
-        ∙ ap (λ t. p ∷ round_robin n.tree n.leaf n.net (more - 1) (course_under n items (s.picks ++ p ∷ [])).state t) (sym place) in
-        append_assoc s.picks (p ∷ []) rest ∙ ap (λ l. s.picks ++ l) (sym taken) ∙ whole
-
-    pub stands_on : (size to : ℕ) → size ≡ length new.net.procs → to ≡ (p + 1) % size → Stands n items new (outcomes ++ option_to_list handed) next to
-    stands_on size to whole turn =
-        let place : to ≡ after n.net p = turn ∙ ap (λ k. (p + 1) % k) (whole ∙ ap (λ k. length k.procs) (fires.net ∙ s.net)) in
+    -- the machine was fed
+    pub drives_fed : (m' : Seen) (s' : lines.Seen) (left' : Option (List ℕ)) (now' : ℕ) (close' : Option Ending) → Feeds (node_at m.tree 0).ins m m' s s' left left' now now' close close' → Drives n schedule m' w s' close' trap idle rest left' before now' taken taken'
+    drives_fed m' s' left' now' close' feeds =
+        let f : Feeds (width_of n) m m' s s' left left' now now' close close' = subst (λ k. Feeds k m m' s s' left left' now now' close close') same_width feeds in
         record {
-          tree = fires.tree ∙ s.tree;
-          net = fires.net ∙ s.net;
-          picks = s.picks ++ p ∷ [];
-          more = s.more - 1;
-          follows = led;
-          count = length_more s.picks p ∙ ap (λ k. k + 1) s.count ∙ sym fires.fired;
-          total = (let l = left in let k = length_more s.picks p in let t = s.total in let e = s.count in omega arith);
-          robin = robin_on s.more (left_over s.more s.count s.total left) s.robin to place;
-          widths = s.widths;
-          place = subst (λ q. q < length n.net.procs) (sym place) (mod_below (p + 1) (length n.net.procs) laws.some);
-          within = s.within;
+          items = d.items ++ f.more;
+          outcomes = d.outcomes;
+          gives = f.gives rest before d.items d.gives;
+          stands = steps.stands_fed n laws schedule m m' w d.items close close' d.outcomes idle d.stands f.kept f.more f.offers f.wide f.asked;
+          trap_is = d.trap_is;
+          put = d.put;
         }
 
--- where no process can fire, the run is whole
-pub run_ended : (n : Network) (items : List (List ℤ)) (m : Seen) (outcomes : List Outcome) (next cursor : ℕ) → Laws n → Stands n items m outcomes next cursor →
-    HasFilledInbox m (drop next items) → None ≡ next_of m.tree m.net (state_of m outcomes) cursor → IsRun n items m outcomes
-unfolding course_of with_rest state_of
-run_ended n items m outcomes next cursor laws s filled none =
-    let before : Course = course_under n items s.picks in
-    let a = laws.nexts m outcomes (drop next items) before cursor s.follows filled in
-    let ends : next_of n.tree n.net before.state cursor ≡ None =
-    subst (λ k. next_of n.tree k before.state cursor ≡ None) s.net (subst (λ t. next_of t m.net before.state cursor ≡ None) s.tree (a ∙ sym none)) in
-    let whole : s.picks ≡ picks_of n items = sym (append-nil s.picks) ∙ ap (λ l. s.picks ++ l) (sym (laws.robin_end s.more before.state cursor ends)) ∙ s.robin in
-    let same : before ≡ course_under n items (picks_of n items) = ap (course_under n items) whole in
-    record {
-      fired = s.follows.fired ∙ ap (λ c. c.fired) same;
-      sent = ap (λ x. x.sent) s.follows.state ∙ ap (λ c. c.state.sent) same;
-      emitted = ap (λ x. x.emitted) s.follows.state ∙ ap (λ c. c.state.emitted) same;
-      count = s.follows.emitted.count;
-      widths = s.widths;
+    -- memory was wanting for that
+    pub starts_unfed : (s' : lines.Seen) (left' : Option (List ℕ)) (now' : ℕ) → FeedsInVain (node_at m.tree 0).ins s s' left left' now now' close → Starts n rest left' before now' taken taken'
+    starts_unfed s' left' now' vain =
+        let f : FeedsInVain (width_of n) s s' left left' now now' close = subst (λ k. FeedsInVain k s s' left left' now now' close) same_width vain in
+        let may : MayCome n close f.more = record { wide = f.wide; none = λ e is. absurd (no_end e (sym f.asked ∙ is)) } in
+        record {
+          stream = s';
+          items = d.items ++ f.more;
+          closed = f.closed;
+          gives = f.gives rest before d.items d.gives;
+          begun = steps.begun_by n (d.items ++ f.more) d.outcomes taken taken' (steps.begins_given n laws schedule m w d.items close d.outcomes idle d.stands f.more may) d.put;
+        }
+      where
+        no_end : (e : Ending) → ◌≡◌ {A = Option Ending} None (Some e) → ⊥
+        no_end e h = cc
+
+    -- or for something else
+    pub starts_so : Starts n rest left before now taken taken'
+    starts_so = record {
+      stream = s;
+      items = d.items;
+      closed = closed_so close;
+      gives = d.gives;
+      begun = steps.begun_by n d.items d.outcomes taken taken' (steps.begins_all n laws schedule m w d.items close d.outcomes idle d.stands) d.put;
     }
 
--- what was emitted so far begins the meaning
-pub stands_begins : (n : Network) (items : List (List ℤ)) (m : Seen) (outcomes : List Outcome) (next cursor : ℕ) → Laws n → Stands n items m outcomes next cursor → IsPrefixOf outcomes (meaning_of n items)
-unfolding with_rest state_of
-stands_begins n items m outcomes next cursor laws s = subst (λ o. IsPrefixOf o (meaning_of n items)) (sym (ap (λ x. x.emitted) s.follows.state)) (laws.begins items s.widths s.picks)
+    few_items : length d.items ≤ most_of_input
+    few_items = (let few = d.gives.few in omega arith)
 
--- so what was written begins the text of the meaning
-pub stands_begun : (n : Network) (items : List (List ℤ)) (outcomes : List Outcome) (taken taken' : Option (List ℕ)) → IsPrefixOf outcomes (meaning_of n items) → HasPut taken taken' (text_of outcomes) →
-    HasBegun taken taken' (text_of (meaning_of n items))
-stands_begun n items outcomes taken taken' begins put =
-    let more = text_begins outcomes (meaning_of n items) begins in
-    begun_whole taken taken' (text_of outcomes) more.0 (text_of (meaning_of n items)) put more.1
+    pub sent_fits : n.firings * most_of_input < 2 ^ 63 → m.sent * n.firings < 2 ^ 64
+    sent_fits fits = steps.bound_fits n.firings m.sent (length d.items) most_of_input (steps.few_sent n laws schedule m w d.items close d.outcomes idle d.stands) few_items fits
 
--- also where the text of the last outcome was only begun
-pub led_begun : (n : Network) (items : List (List ℤ)) (outcomes : List Outcome) (handed : Option Outcome) (taken mid new : Option (List ℕ)) → IsPrefixOf (outcomes ++ option_to_list handed) (meaning_of n items) →
-    HasPut taken mid (text_of outcomes) → HasBegun mid new (text_of (option_to_list handed)) → HasBegun taken new (text_of (meaning_of n items))
-led_begun n items outcomes handed taken mid new begins put begun =
-    let more = text_begins (outcomes ++ option_to_list handed) (meaning_of n items) begins in
-    begun_longer taken new (text_of outcomes ++ text_of (option_to_list handed)) more.0 (text_of (meaning_of n items))
-    (begun_more taken mid new (text_of outcomes) (text_of (option_to_list handed)) put begun)
-    (ap (λ t. t ++ more.0) (sym (text_more outcomes (option_to_list handed))) ∙ more.1)
+    pub fired_fits : n.firings * most_of_input < 2 ^ 63 → m.fired < 2 ^ 63
+    fired_fits fits =
+        let a = steps.few_fired n laws schedule m w d.items close d.outcomes idle d.stands in
+        let b = steps.few_fits n.firings (length d.items) most_of_input few_items in
+        omega arith
 
--- the last trap of outcomes, one list after another
-pub trap_more : (trap : Option Trap) (first second : List Outcome) → trap ≡ trap_of first → fold trap_after trap second ≡ trap_of (first ++ second)
-trap_more trap first second e = ap (λ t. fold trap_after t second) e ∙ sym (fold-append trap_after None first second)
+    module _ (inbox : close ≡ None → m.inbox ≢ None) where
+      filled : (later : List (List ℤ)) → MayCome n close later → HasFilledInbox m later
+      filled = steps.filled_after n close m inbox
+
+      -- no process can fire
+      module _ (none : ready_list m ≡ []) where
+        pub must_end : IsNone trap → IsSome close
+        must_end calm = by_trap trap close calm d.trap_is (steps.must_end n laws schedule m w d.items close d.outcomes idle d.stands filled none)
+          where
+            by_trap : (t : Option Trap) (c : Option Ending) → IsNone t → t ≡ trap_of d.outcomes → (trap_of d.outcomes ≡ None → c ≢ None) → IsSome c
+            by_trap None None calm is ends = absurd (ends (sym is) refl)
+            by_trap None (Some e) calm is ends = refl
+            by_trap (Some t) c calm is ends = absurd (let z : true ≡ false = calm in cc)
+
+        pub finishes_stuck : (end : Finish) (stats : Stats) (emitted : ℕ) → emitted ≡ m.emitted → ((e : Ending) → MayEnd close e → end ≡ end_of n.tree trap emitted e) →
+            stats ≡ record { items = m.sent; fired = m.fired; idle = idle; bound = m.sent * n.firings } → Finishes n schedule rest left before now taken taken' end stats
+        finishes_stuck end stats emitted count ends are =
+            let over = steps.over_stuck n laws schedule m w d.items close d.outcomes idle d.stands filled none in
+            record {
+              stream = s;
+              items = d.items;
+              close = close;
+              gives = d.gives;
+              outcomes = d.outcomes;
+              put = d.put;
+              ran = steps.ran n laws schedule m w d.items close d.outcomes idle d.stands filled over stats are;
+              ends = λ later may e may_end.
+                  let stuck : goes_on n (course_of n schedule (d.items ++ later)) ≡ false = steps.goes_same n laws schedule m w d.items close d.outcomes idle d.stands filled over later may ∙ ap is_some none in
+                  let same = steps.emitted_so n laws schedule m w d.items close d.outcomes idle d.stands filled over later may in
+                  let there : m.emitted ≡ length d.outcomes = (d.stands.at later may).follows.emitted.count in
+                  ends e may_end
+                  ∙ ap (λ k. end_of n.tree trap k e) (count ∙ there)
+                  ∙ ap (λ t. end_of n.tree t (length d.outcomes) e) d.trap_is
+                  ∙ ap (λ o. end_of n.tree (trap_of o) (length o) e) (sym same)
+                  ∙ sym (cond-false _ _ _ stuck);
+              closed = λ e is. closed_by trap close must_end ends e is;
+            }
+          where
+            closed_by : (t : Option Trap) (c : Option Ending) → (IsNone t → IsSome c) → ((e : Ending) → MayEnd c e → end ≡ end_of n.tree t emitted e) → (e : Ending) → end ≡ finish.Stream e → c ≡ Some e
+            closed_by None None must ends e is = absurd (let z : false ≡ true = must refl in cc)
+            closed_by None (Some x) must ends e is = (let z : finish.Stream x ≡ finish.Stream e = sym (ends x refl) ∙ is in let same : x ≡ e = cc in ap (λ k. Some k) same)
+            closed_by (Some t) None must ends e is = absurd (let z = sym (ends e tt) ∙ is in cc)
+            closed_by (Some t) (Some x) must ends e is = absurd (let z = sym (ends x refl) ∙ is in cc)
+
+      -- the picks are ended
+      module _ (some : ready_list m ≢ []) (ended : pick_of (can_step m) (length m.net.procs) w ≡ None) where
+        pub finishes_ended : (end : Finish) (stats : Stats) → end ≡ finish.Stopped m.fired idle → stats ≡ record { items = m.sent; fired = m.fired; idle = idle; bound = m.sent * n.firings } →
+            Finishes n schedule rest left before now taken taken' end stats
+        finishes_ended end stats end_is are =
+            let over = steps.over_ended n laws schedule m w d.items close d.outcomes idle d.stands filled ended in
+            record {
+              stream = s;
+              items = d.items;
+              close = close;
+              gives = d.gives;
+              outcomes = d.outcomes;
+              put = d.put;
+              ran = steps.ran n laws schedule m w d.items close d.outcomes idle d.stands filled over stats are;
+              ends = λ later may e may_end.
+                  let going : goes_on n (course_of n schedule (d.items ++ later)) ≡ true = steps.goes_same n laws schedule m w d.items close d.outcomes idle d.stands filled over later may ∙ steps.some_ready (ready_list m) some in
+                  end_is
+                  ∙ ap (λ k. finish.Stopped k idle) (sym (steps.fired_so n laws schedule m w d.items close d.outcomes idle d.stands filled over later may))
+                  ∙ ap (λ k. finish.Stopped (course_of n schedule (d.items ++ later)).fired k) (sym (steps.idle_so n laws schedule m w d.items close d.outcomes idle d.stands filled over later may))
+                  ∙ sym (cond-true _ _ _ going);
+              closed = λ e is. absurd (let z = sym end_is ∙ is in cc);
+            }
+
+      -- a process was picked
+      module _ (p : ℕ) (w' : Way) (is : pick_of (can_step m) (length m.net.procs) w ≡ Some p) (some : ready_list m ≢ []) (next : w' ≡ after_pick (length m.net.procs) w p) where
+        next_is : w' ≡ after_pick (size_of n) w p
+        next_is = next ∙ ap (λ k. after_pick (length k.procs) w p) d.stands.runs.net
+
+        from : IsPickedFrom (can_step m) (size_of n) w p
+        from = steps.picked_so n laws schedule m w d.items close d.outcomes idle d.stands filled p is some
+
+        module _ (cannot : can_step m p ≡ false) where
+          pub idle_fits : recorded schedule < 2 ^ 63 → idle + 1 < 2 ^ 64
+          idle_fits few = (let a = steps.idle_reads schedule (can_step m) (size_of n) w p idle from cannot d.stands.room in omega arith)
+
+          pub idle_less : (bound : ℕ) → left_of bound m.fired w' < left_of bound m.fired w
+          idle_less bound = subst (λ k. left_of bound m.fired k < left_of bound m.fired w) (sym next_is) (steps.fewer_idle bound m.fired (can_step m) (size_of n) w p from cannot)
+
+          pub drives_idle : Drives n schedule m w' s close trap (idle + 1) rest left before now taken taken'
+          drives_idle = record {
+            items = d.items;
+            outcomes = d.outcomes;
+            gives = d.gives;
+            stands = subst (λ k. Stands n schedule m k d.items close d.outcomes (idle + 1)) (sym next_is) (steps.stands_idle n laws schedule m w d.items close d.outcomes idle d.stands filled p is some cannot);
+            trap_is = d.trap_is;
+            put = d.put;
+          }
+
+        module _ (new : Seen) (handed : Option Outcome) (can : IsTrue (can_step m p)) (fires : Fires n.leaf m new p handed) where
+          pub fired_less : left_of (n.firings * most_of_input) new.fired w' < left_of (n.firings * most_of_input) m.fired w
+          fired_less =
+              let a = steps.firing_left_given n laws schedule m w d.items close d.outcomes idle d.stands filled p is some new handed can fires in
+              let b = steps.few_fits n.firings (length d.items) most_of_input few_items in
+              subst (λ k. left_of (n.firings * most_of_input) new.fired k < left_of (n.firings * most_of_input) m.fired w) (sym next_is)
+              (steps.fewer_fired (n.firings * most_of_input) m.fired new.fired (can_step m) (size_of n) w p from fires.fired (omega arith))
+
+          pub starts_last : (new_taken : Option (List ℕ)) → HasBegun taken' new_taken (text_of (option_to_list handed)) → Starts n rest left before now taken new_taken
+          starts_last new_taken begun = record {
+            stream = s;
+            items = d.items;
+            closed = closed_so close;
+            gives = d.gives;
+            begun = steps.begun_last n d.items d.outcomes handed taken taken' new_taken (steps.led_begins n laws schedule m w d.items close d.outcomes idle d.stands filled p is some new handed can fires) d.put begun;
+          }
+
+          pub drives_fired : (trap' : Option Trap) (new_taken : Option (List ℕ)) → trap' ≡ fold trap_after trap (option_to_list handed) → HasPut taken' new_taken (text_of (option_to_list handed)) →
+              Drives n schedule new w' s close trap' idle rest left before now taken new_taken
+          drives_fired trap' new_taken trap_is put = record {
+            items = d.items;
+            outcomes = d.outcomes ++ option_to_list handed;
+            gives = d.gives;
+            stands = subst (λ k. Stands n schedule new k d.items close (d.outcomes ++ option_to_list handed) idle) (sym next_is) (steps.stands_fired n laws schedule m w d.items close d.outcomes idle d.stands filled p is some new handed can fires);
+            trap_is = trap_is ∙ steps.trap_more trap d.outcomes (option_to_list handed) d.trap_is;
+            put =
+                subst (λ t. HasPut taken new_taken t) (sym (text_more d.outcomes (option_to_list handed)))
+                (put_more taken taken' new_taken (text_of d.outcomes) (text_of (option_to_list handed)) d.put put);
+          }

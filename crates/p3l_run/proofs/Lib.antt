@@ -1,4 +1,4 @@
 pub mod WriteSteps
-pub mod DriveSteps
-pub mod ExecuteSteps
+pub mod FeedSteps
 pub mod RunSteps
+pub mod DriveSteps

@@ -1,103 +1,436 @@
--- Reading, running and writing, one after another.
-use Rattle.std.proofs.Common.{◌≡◌, ℕ, ◌+◌, ◌*◌, ◌≤◌, ◌↔◌, List, [], ◌++◌, length, Option, Some, None, refl, sym, ap, subst, ◌∙◌, append-nil, arith}
+-- A machine that runs a network pick by pick: its first state, each item, each pick, and its end.
+use Rattle.std.proofs.Common.{◌≡◌, ◌≢◌, ℕ, ℤ, pos, suc, ◌+◌, ◌*◌, ◌<◌, ◌≤◌, ◌^◌, Bool, true, false, List, [], ◌∷◌, ◌++◌, length, fold, replicate, Option, Some, None, IsTrue, refl, sym, ap, subst, ◌∙◌, arith, append_assoc, append-nil, length-append, mul_comm}
+use Rattle.std.proofs.lemmas.List.{length-replicate}
+use Rattle.std.specs.List.{AllByRecursion}
+use Rattle.std.specs.Option.{option_to_list}
+use Rattle.std.proofs.lemmas.Bool.{cond-false, cond-true, false≢true}
+use Rattle.std.proofs.lemmas.List.Sums.{fold-append}
+use Rattle.std.proofs.lemmas.Nat.{mod_below, mul-le}
+use Rattle.p3l_base.specs.declared.outcome.Outcome.{Outcome}
+use Rattle.p3l_base.specs.declared.outcome.Outcome.TheVariants.{Value, Trapped}
 use Rattle.p3l_base.specs.declared.outcome.Trap.{Trap}
+use Rattle.p3l_firing.specs.declared.net.Net.{Net}
 use Rattle.p3l_skel.specs.declared.tree.Tree.{Tree}
-use Rattle.p3l_report.specs.declared.verdict.Finish.{Finish}
+use Rattle.p3l_skel.specs.Item.{item, meaning, up_to_trap}
+use Rattle.p3l_net.specs.Fire.{can_fire}
+use Rattle.p3l_net.specs.Machine.{Seen, Fires, can_step, ready_list, started, state_of}
+use Rattle.p3l_net.specs.Offered.{Follows, HasFilledInbox}
+use Rattle.p3l_net.specs.State.{with_rest}
+use Rattle.p3l_net.specs.Run.{Course, after_picks, picked}
+use Rattle.p3l_net.specs.Carried.{HaveInWords}
+use Rattle.p3l_net.specs.Outcomes.{IsPrefixOf}
+use Rattle.p3l_report.specs.declared.stats.Stats.{Stats}
+use Rattle.p3l_sched.specs.declared.picker.Way.{Way}
+use Rattle.p3l_sched.specs.declared.picker.Way.TheVariants as way
+use Rattle.p3l_sched.specs.declared.schedule.Schedule.{Schedule}
+use Rattle.p3l_sched.specs.declared.schedule.Schedule.TheVariants as schedules
+use Rattle.p3l_sched.specs.Course.{most_picks, picks_from, picks_of}
+use Rattle.p3l_sched.specs.Picker.{HasPlace, HasProcesses, IsPickedFrom, NamesProcesses, after_pick, begun, pick_of, ready_of, recorded}
 use Rattle.p3l_stream.specs.declared.items.Ending.{Ending}
-use Rattle.p3l_stream.specs.declared.items.Ending.TheVariants as ending
-use Rattle.p3l_stream.specs.declared.items.Items.{Items}
-use Rattle.p3l_stream.specs.declared.taken.Stop.{Stop}
-use Rattle.p3l_stream.specs.declared.taken.Stop.TheVariants as stop
-use Rattle.p3l_stream.specs.Items.{IsEndingOf, IsReadOf, items_taken}
-use Rattle.p3l_stream.specs.Taken.{IsDrained, IsLost, IsStopCause, IsTaken}
 use Rattle.p3l_stream.specs.Text.{text_of}
-use Rattle.p3l_run.specs.declared.execute.Executed.{Executed}
-use Rattle.p3l_run.specs.Network.{Network, meaning_of, width_of}
-use Rattle.p3l_run.specs.Run.{Executes, Finishes, IsFinishCause, IsStreamCause, Starts, finish_of, input_limit}
-use Rattle.p3l_run.specs.Steps.{trap_of}
-use Rattle.p3l_run.specs.Write.{HasBegun}
-use Rattle.p3l_run.proofs.WriteSteps.{begun_whole, put_nothing}
+use Rattle.p3l_run.specs.Feed.{Offers}
+use Rattle.p3l_run.specs.Laws.{Laws, Runs}
+use Rattle.p3l_run.specs.Network.{IsRunOn, Network, course_of, course_under, goes_on, is_some, meaning_of, ready_at, size_of, stats_of, width_of}
+use Rattle.p3l_run.specs.Run.{MayCome}
+use Rattle.p3l_run.specs.Steps.{HasRoom, IsAt, Stands, left_of}
+use Rattle.p3l_run.specs.Trap.{trap_after, trap_of}
+use Rattle.p3l_run.specs.Write.{HasBegun, HasPut}
+use Rattle.p3l_run.proofs.WriteSteps.{begun_longer, begun_more, begun_whole, text_begins, text_more}
 
--- bytes that were taken to a stop were taken
-taken_of : (old new : Option (List ℕ)) (bytes : List ℕ) (how : Stop) → IsDrained old new bytes how → IsTaken old new bytes
-taken_of None new bytes how h = h
-taken_of (Some rest) new bytes how h = (h.0, h.1, h.2)
+-- items behind others, each of so many words
+pub wide_append : (width : ℕ) (xs ys : List (List ℤ)) → AllByRecursion (λ (w : List ℤ). length w ≡ width) xs → AllByRecursion (λ (w : List ℤ). length w ≡ width) ys → AllByRecursion (λ (w : List ℤ). length w ≡ width) (xs ++ ys)
+wide_append width [] ys all more = more
+wide_append width (x ∷ xs) ys all more = (all.0, wide_append width xs ys all.1 more)
 
--- bytes that are lost were taken
-lost_bytes : (old new : Option (List ℕ)) → IsLost old new → (bytes : List ℕ) × IsTaken old new bytes
-lost_bytes None new h = ([], h)
-lost_bytes (Some rest) new h = (h.0, (h.1, h.2, h.3))
+-- the last trap of outcomes, one list after another
+pub trap_more : (trap : Option Trap) (first second : List Outcome) → trap ≡ trap_of first → fold trap_after trap second ≡ trap_of (first ++ second)
+trap_more trap first second e = ap (λ t. fold trap_after t second) e ∙ sym (fold-append trap_after None first second)
 
--- nothing was written yet, and what was taken is lost
-pub starts_lost : (n : Network) (rest rest' taken : Option (List ℕ)) → IsLost rest rest' → Starts n rest rest' taken taken
-starts_lost n rest rest' taken lost =
-    let found = lost_bytes rest rest' lost in
-    record { bytes = found.0; how = stop.Fault; read = found.1; begun = begun_whole taken taken [] _ _ (put_nothing taken) refl }
+-- nothing may always come
+pub nothing_comes : (n : Network) (close : Option Ending) → MayCome n close []
+nothing_comes n close = record { wide = tt; none = λ e is. refl }
 
--- or it is known
-pub starts_nothing : (n : Network) (rest rest' taken : Option (List ℕ)) (bytes : List ℕ) (how : Stop) → IsDrained rest rest' bytes how → Starts n rest rest' taken taken
-starts_nothing n rest rest' taken bytes how read =
-    record { bytes = bytes; how = how; read = taken_of rest rest' bytes how read; begun = begun_whole taken taken [] _ _ (put_nothing taken) refl }
+-- as long as the stream isn't ended the inbox is filled
+pub filled_after : (n : Network) (close : Option Ending) (m : Seen) → (close ≡ None → m.inbox ≢ None) → (later : List (List ℤ)) → MayCome n close later → HasFilledInbox m later
+filled_after n None m filled later may = λ empty. absurd (filled refl empty)
+filled_after n (Some e) m filled later may = λ empty. may.none e refl
 
-module _ (n : Network) (rest rest' taken taken' : Option (List ℕ)) (bytes : List ℕ) (how : Stop) (width : ℕ) (read : Items) (drained : IsDrained rest rest' bytes how) (wide : width ≡ width_of n) (read_is : read ≡ items_taken width how bytes) where
-  items_are : items_taken (width_of n) how bytes ≡ read
-  items_are = ap (λ w. items_taken w how bytes) (sym wide) ∙ sym read_is
+most_first : (schedule : Schedule) (bound fired : ℕ) → fired ≡ 0 → left_of bound fired (begun schedule) ≡ most_picks schedule bound
+most_first schedules.RoundRobin bound fired none = omega arith
+most_first (schedules.Seeded seed) bound fired none = omega arith
+most_first (schedules.Recorded picks) bound fired none = refl
 
-  -- a front was written
-  pub starts_begun : HasBegun taken taken' (text_of (meaning_of n read.items)) → Starts n rest rest' taken taken'
-  starts_begun begun = record {
-    bytes = bytes;
-    how = how;
-    read = taken_of rest rest' bytes how drained;
-    begun = subst (λ (i : Items). HasBegun taken taken' (text_of (meaning_of n i.items))) (sym items_are) begun;
+place_first : (schedule : Schedule) (size : ℕ) → 0 < size → HasPlace size (begun schedule)
+place_first schedules.RoundRobin size some = some
+place_first (schedules.Seeded seed) size some = tt
+place_first (schedules.Recorded picks) size some = tt
+
+named_first : (schedule : Schedule) (size : ℕ) → NamesProcesses size schedule → HasProcesses size (begun schedule)
+named_first schedules.RoundRobin size named = tt
+named_first (schedules.Seeded seed) size named = tt
+named_first (schedules.Recorded picks) size named = named
+
+room_first : (schedule : Schedule) → HasRoom schedule (begun schedule) 0
+room_first schedules.RoundRobin = tt
+room_first (schedules.Seeded seed) = tt
+room_first (schedules.Recorded picks) = omega arith
+
+-- behind a pick the cursor is a process
+place_after : (size : ℕ) (w : Way) (p : ℕ) → 0 < size → HasPlace size (after_pick size w p)
+place_after size (way.Turns cursor) p some = mod_below (p + 1) size some
+place_after size (way.Draws generator) p some = tt
+place_after size (way.Reads picks) p some = tt
+
+named_after : (can : ℕ → Bool) (size : ℕ) (w : Way) (p : ℕ) → HasProcesses size w → HasProcesses size (after_pick size w p)
+named_after can size (way.Turns cursor) p named = tt
+named_after can size (way.Draws generator) p named = tt
+named_after can size (way.Reads []) p named = tt
+named_after can size (way.Reads (q ∷ picks)) p named = named.1
+
+-- of recorded picks one less is left
+room_after : (schedule : Schedule) (can : ℕ → Bool) (size : ℕ) (w : Way) (p idle : ℕ) → IsPickedFrom can size w p → HasRoom schedule w idle → HasRoom schedule (after_pick size w p) idle
+room_after schedule can size (way.Turns cursor) p idle from room = tt
+room_after schedule can size (way.Draws generator) p idle from room = tt
+room_after schedule can size (way.Reads picks) p idle from room = (let one = ap length from in omega arith)
+
+-- and one pick more may have been idle
+room_idle : (schedule : Schedule) (can : ℕ → Bool) (size : ℕ) (w : Way) (p idle : ℕ) → IsPickedFrom can size w p → HasRoom schedule w idle → HasRoom schedule (after_pick size w p) (idle + 1)
+room_idle schedule can size (way.Turns cursor) p idle from room = tt
+room_idle schedule can size (way.Draws generator) p idle from room = tt
+room_idle schedule can size (way.Reads picks) p idle from room = (let one = ap length from in omega arith)
+
+-- a turn and a draw fire
+pub idle_reads : (schedule : Schedule) (can : ℕ → Bool) (size : ℕ) (w : Way) (p idle : ℕ) → IsPickedFrom can size w p → can p ≡ false → HasRoom schedule w idle → idle + 1 ≤ recorded schedule
+idle_reads schedule can size (way.Turns cursor) p idle from cannot room = absurd (false≢true (sym cannot ∙ from))
+idle_reads schedule can size (way.Draws generator) p idle from cannot room = absurd (false≢true (sym cannot ∙ from))
+idle_reads schedule can size (way.Reads picks) p idle from cannot room = (let one = ap length from in omega arith)
+
+-- what is left after a firing
+left_fired : (bound fired fired' : ℕ) (can : ℕ → Bool) (size : ℕ) (w : Way) (p : ℕ) → IsPickedFrom can size w p → fired' ≡ fired + 1 → fired + 1 ≤ bound → left_of bound fired w ≡ suc (left_of bound fired' (after_pick size w p))
+left_fired bound fired fired' can size (way.Turns cursor) p from more low = omega arith
+left_fired bound fired fired' can size (way.Draws generator) p from more low = omega arith
+left_fired bound fired fired' can size (way.Reads picks) p from more low = ap length from
+
+-- and after an idle pick
+left_idle : (bound fired : ℕ) (can : ℕ → Bool) (size : ℕ) (w : Way) (p : ℕ) → IsPickedFrom can size w p → can p ≡ false → left_of bound fired w ≡ suc (left_of bound fired (after_pick size w p))
+left_idle bound fired can size (way.Turns cursor) p from cannot = absurd (false≢true (sym cannot ∙ from))
+left_idle bound fired can size (way.Draws generator) p from cannot = absurd (false≢true (sym cannot ∙ from))
+left_idle bound fired can size (way.Reads picks) p from cannot = ap length from
+
+-- so fewer are left
+pub fewer_fired : (bound fired fired' : ℕ) (can : ℕ → Bool) (size : ℕ) (w : Way) (p : ℕ) → IsPickedFrom can size w p → fired' ≡ fired + 1 → fired + 1 ≤ bound → left_of bound fired' (after_pick size w p) < left_of bound fired w
+fewer_fired bound fired fired' can size w p from more low = (let e = left_fired bound fired fired' can size w p from more low in omega arith)
+
+pub fewer_idle : (bound fired : ℕ) (can : ℕ → Bool) (size : ℕ) (w : Way) (p : ℕ) → IsPickedFrom can size w p → can p ≡ false → left_of bound fired (after_pick size w p) < left_of bound fired w
+fewer_idle bound fired can size w p from cannot = (let e = left_idle bound fired can size w p from cannot in omega arith)
+
+-- where no outcome is a trap there is one for each item
+all_come : (tree : Tree) (leaf : ℕ → List ℤ → Outcome) (items : List (List ℤ)) → trap_of (meaning tree leaf items) ≡ None → length (meaning tree leaf items) ≡ length items
+all_come tree leaf [] none = refl
+all_come tree leaf (words ∷ items) none = by_first (all_come tree leaf items) (item tree leaf 0 words) none
+  where
+    by_first : (trap_of (meaning tree leaf items) ≡ None → length (meaning tree leaf items) ≡ length items) → (o : Outcome) → trap_of (up_to_trap o (meaning tree leaf items)) ≡ None →
+        length (up_to_trap o (meaning tree leaf items)) ≡ suc (length items)
+    by_first rest (Value result) h = ap suc (rest h)
+    by_first rest (Trapped trap) h = cc
+
+none_ready : (ready : List ℕ) → is_some ready ≡ false → ready ≡ []
+none_ready [] e = refl
+none_ready (p ∷ ps) e = cc
+
+pub some_ready : (ready : List ℕ) → ready ≢ [] → is_some ready ≡ true
+some_ready [] some = absurd (some refl)
+some_ready (p ∷ ps) some = refl
+
+-- what was emitted begins the meaning, so the text that was written begins its text
+pub begun_by : (n : Network) (items : List (List ℤ)) (outcomes : List Outcome) (taken taken' : Option (List ℕ)) → IsPrefixOf outcomes (meaning_of n items) → HasPut taken taken' (text_of outcomes) →
+    HasBegun taken taken' (text_of (meaning_of n items))
+begun_by n items outcomes taken taken' begins put =
+    let more = text_begins outcomes (meaning_of n items) begins in
+    begun_whole taken taken' (text_of outcomes) more.0 (text_of (meaning_of n items)) put more.1
+
+-- also where the text of the last outcome was only begun
+pub begun_last : (n : Network) (items : List (List ℤ)) (outcomes : List Outcome) (handed : Option Outcome) (taken mid new : Option (List ℕ)) → IsPrefixOf (outcomes ++ option_to_list handed) (meaning_of n items) →
+    HasPut taken mid (text_of outcomes) → HasBegun mid new (text_of (option_to_list handed)) → HasBegun taken new (text_of (meaning_of n items))
+begun_last n items outcomes handed taken mid new begins put begun =
+    let more = text_begins (outcomes ++ option_to_list handed) (meaning_of n items) begins in
+    begun_longer taken new (text_of outcomes ++ text_of (option_to_list handed)) more.0 (text_of (meaning_of n items))
+    (begun_more taken mid new (text_of outcomes) (text_of (option_to_list handed)) put begun)
+    (ap (λ t. t ++ more.0) (sym (text_more outcomes (option_to_list handed))) ∙ more.1)
+
+-- the bound on firings is a number of 64 bits
+pub bound_fits : (firings sent count most : ℕ) → sent ≤ count → count ≤ most → firings * most < 2 ^ 63 → sent * firings < 2 ^ 64
+bound_fits firings sent count most a b c =
+    omega (arith, mul-le sent firings most firings (omega arith) (omega arith), mul_comm most firings)
+
+-- no run fires more often than this number
+pub few_fits : (firings count most : ℕ) → count ≤ most → firings * count ≤ firings * most
+few_fits firings count most a = mul-le firings count firings most (omega arith) a
+
+module _ (n : Network) (laws : Laws n) (schedule : Schedule) where
+  -- what holds of the tree and the net of a machine that runs the network
+  at_network : (m : Seen) → Runs n m → (P : Tree → Net → Type 0) → P m.tree m.net → P n.tree n.net
+  at_network m runs P p = subst (λ t. P t n.net) runs.tree (subst (λ k. P m.tree k) runs.net p)
+
+  -- a machine that was just started
+  pub stands_first : (m : Seen) → m ≡ started n.tree n.net → NamesProcesses (size_of n) schedule → Stands n schedule m (begun schedule) [] None [] 0
+  unfolding picks_of after_picks
+  stands_first m fresh named = record {
+    runs = record { tree = ap (λ s. s.tree) fresh; net = ap (λ s. s.net) fresh };
+    wide = tt;
+    place = place_first schedule (size_of n) laws.some;
+    named = named_first schedule (size_of n) named;
+    room = room_first schedule;
+    picks = [];
+    at = λ later may. record {
+      follows = subst (λ s. Follows s [] later (course_under n later [])) (sym fresh) (laws.starts later);
+      idle_is = refl;
+      goes_on = ap (λ k. picks_from n.tree n.leaf n.net k (begun schedule) (course_under n later [])) (most_first schedule (n.firings * length later) m.fired (ap (λ s. s.fired) fresh));
+    };
   }
 
-  module _ (done : Executed) (executes : Executes n read.items taken taken' done) where
-    -- all was written, and memory was wanting then
-    pub starts_whole : Starts n rest rest' taken taken'
-    starts_whole = starts_begun (begun_whole taken taken' (text_of executes.outcomes) [] (text_of (meaning_of n read.items)) executes.put (append-nil (text_of executes.outcomes) ∙ ap text_of executes.ran.whole))
+  -- an item that was offered
+  module _ (m m' : Seen) (w : Way) (given : List (List ℤ)) (close close' : Option Ending) (outcomes : List Outcome) (idle : ℕ) (s : Stands n schedule m w given close outcomes idle)
+      (kept : (e : Ending) → close ≡ Some e → close' ≡ Some e) where
+    stands_same : Offers m m' [] → Stands n schedule m' w (given ++ []) close' outcomes idle
+    stands_same same =
+        subst (λ k. Stands n schedule k w (given ++ []) close' outcomes idle) (sym same)
+        (subst (λ g. Stands n schedule m w g close' outcomes idle) (sym (append-nil given)) (record {
+          runs = s.runs;
+          wide = s.wide;
+          place = s.place;
+          named = s.named;
+          room = s.room;
+          picks = s.picks;
+          at = λ later may. s.at later (record { wide = may.wide; none = λ e is. may.none e (kept e is) });
+        }))
 
-    -- all was written
-    pub finishes : (fin : Finish) (before now : ℕ) → length bytes ≤ input_limit → ((how ≡ stop.Limit) ↔ (length bytes ≡ input_limit)) → IsStopCause how before now → IsReadOf width how bytes read → fin ≡ finish_of n.tree done.trap done.emitted read.ending → Finishes n rest rest' before now taken taken' fin done.stats
-    finishes fin before now within full cause first fin_is = record {
-      items = read.items;
-      close = read.ending;
-      gives = record {
-        bytes = bytes;
-        how = how;
-        read = drained;
-        within = within;
-        full = full;
-        cause = cause;
-        items_are = items_are;
-        first = subst (λ w. IsReadOf w how bytes read) wide first;
-      };
-      outcomes = executes.outcomes;
-      ran = executes.ran;
-      put = executes.put;
-      finish_is =
-          fin_is ∙ ap (λ t. finish_of n.tree t done.emitted read.ending) executes.trap_is
-          ∙ ap (λ k. finish_of n.tree (trap_of executes.outcomes) k read.ending) executes.count;
-    }
+    stands_offered : (item : List ℤ) → m.inbox ≡ None → m' ≡ record m { inbox = Some item } → length item ≡ width_of n → close ≡ None → Stands n schedule m' w (given ++ item ∷ []) close' outcomes idle
+    stands_offered item empty is one not_ended =
+        subst (λ k. Stands n schedule k w (given ++ item ∷ []) close' outcomes idle) (sym is) (record {
+          runs = record { tree = s.runs.tree; net = s.runs.net };
+          wide = wide_append (width_of n) given (item ∷ []) s.wide (one, tt);
+          place = s.place;
+          named = s.named;
+          room = s.room;
+          picks = s.picks;
+          at = λ later may.
+              let was = s.at (item ∷ later) (record { wide = (one, may.wide); none = λ e closed. absurd (none_open e (sym not_ended ∙ closed)) }) in
+              subst (λ i. IsAt n schedule (record m { inbox = Some item }) w i later outcomes idle s.picks) (sym (append_assoc given (item ∷ []) later)) (record {
+                follows = laws.offered m outcomes item later (course_under n (given ++ item ∷ later) s.picks) was.follows empty;
+                idle_is = was.idle_is;
+                goes_on = was.goes_on;
+              });
+        })
+      where
+        none_open : (e : Ending) → ◌≡◌ {A = Option Ending} None (Some e) → ⊥
+        none_open e h = cc
 
--- the count of the input with the ending of its items
-stream_cause : (how : Stop) (close : Ending) (before now : ℕ) → IsEndingOf how close → IsStopCause how before now → IsStreamCause close before now
-stream_cause how ending.End before now e h = subst (λ s. IsStopCause s before now) e h
-stream_cause how (ending.BadWord line) before now e h = tt
-stream_cause how (ending.WrongCount line had) before now e h = tt
-stream_cause how (ending.OutOfRange line) before now e h = tt
-stream_cause how ending.ReadFault before now e h = subst (λ s. IsStopCause s before now) e h
-stream_cause how ending.TooLong before now e h = subst (λ s. IsStopCause s before now) e h
+    pub stands_fed : (more : List (List ℤ)) → Offers m m' more → AllByRecursion (λ (words : List ℤ). length words ≡ width_of n) more → (more ≢ [] → close ≡ None) → Stands n schedule m' w (given ++ more) close' outcomes idle
+    stands_fed [] offers wide asked = stands_same offers
+    stands_fed (item ∷ []) offers wide asked = stands_offered item offers.0 offers.1 wide.0 (asked (λ e. cc))
+    stands_fed (item ∷ other ∷ more) offers wide asked = absurd (let none = offers.2 in cc)
 
-with_cause : (tree : Tree) (trap : Option Trap) (emitted : ℕ) (close : Ending) (before now : ℕ) → IsStreamCause close before now → IsFinishCause (finish_of tree trap emitted close) before now
-with_cause tree None emitted close before now h = h
-with_cause tree (Some trap) emitted close before now h = tt
+  -- where the machine stands
+  module _ (m : Seen) (w : Way) (given : List (List ℤ)) (close : Option Ending) (outcomes : List Outcome) (idle : ℕ) (s : Stands n schedule m w given close outcomes idle) where
+    abbrev course : List (List ℤ) → Course
+    course later = course_under n (given ++ later) s.picks
 
--- and with the end of the run
-pub finish_cause : (tree : Tree) (trap : Option Trap) (emitted : ℕ) (how : Stop) (close : Ending) (fin : Finish) (before now : ℕ) → fin ≡ finish_of tree trap emitted close → IsEndingOf how close → IsStopCause how before now → IsFinishCause fin before now
-finish_cause tree trap emitted how close fin before now is e h =
-    subst (λ f. IsFinishCause f before now) (sym is) (with_cause tree trap emitted close before now (stream_cause how close before now e h))
+    all_wide : (later : List (List ℤ)) → MayCome n close later → HaveInWords n.tree (given ++ later)
+    all_wide later may = wide_append (width_of n) given later s.wide may.wide
 
--- the items are few enough
-pub few_items : (count size : ℕ) → 2 * count ≤ size + 1 → size ≤ 68719476736 → count ≤ 34359738369
-few_items count size few within = omega arith
+    emitted_is : (later : List (List ℤ)) → MayCome n close later → outcomes ≡ (course later).state.emitted
+    unfolding with_rest state_of
+    emitted_is later may = ap (λ x. x.emitted) (s.at later may).follows.state
+
+    sent_is : (later : List (List ℤ)) → MayCome n close later → m.sent ≡ (course later).state.sent
+    unfolding with_rest state_of
+    sent_is later may = ap (λ x. x.sent) (s.at later may).follows.state
+
+    bare : (P : List (List ℤ) → Type 0) → P (given ++ []) → P given
+    bare P p = subst P (append-nil given) p
+
+    pub few_sent : m.sent ≤ length given
+    few_sent = bare (λ i. m.sent ≤ length i) (subst (λ k. k ≤ length (given ++ [])) (sym (sent_is [] (nothing_comes n close))) (laws.sent_most (given ++ []) (all_wide [] (nothing_comes n close)) s.picks))
+
+    pub few_fired : m.fired ≤ n.firings * length given
+    few_fired =
+        let may = nothing_comes n close in
+        let a = laws.fired_most (given ++ []) (all_wide [] may) s.picks in
+        let same : m.fired ≡ (course []).fired = (s.at [] may).follows.fired in
+        let sent : (course []).state.sent ≤ length given = subst (λ k. k ≤ length given) (sent_is [] may) few_sent in
+        omega (arith, same, mul-le n.firings (course []).state.sent n.firings (length given) (omega arith) sent)
+
+    pub begins_given : (later : List (List ℤ)) → MayCome n close later → IsPrefixOf outcomes (meaning_of n (given ++ later))
+    begins_given later may = subst (λ o. IsPrefixOf o (meaning_of n (given ++ later))) (sym (emitted_is later may)) (laws.begins (given ++ later) (all_wide later may) s.picks)
+
+    pub begins_all : IsPrefixOf outcomes (meaning_of n given)
+    begins_all = bare (λ i. IsPrefixOf outcomes (meaning_of n i)) (begins_given [] (nothing_comes n close))
+
+    module _ (filled : (later : List (List ℤ)) → MayCome n close later → HasFilledInbox m later) where
+      ready_same : (later : List (List ℤ)) → MayCome n close later → ready_at n (course later) ≡ ready_list m
+      ready_same later may =
+          at_network m s.runs (λ t k. ready_of (can_fire t k (course later).state) (length k.procs) ≡ ready_list m) (laws.readies m outcomes later (course later) (s.at later may).follows (filled later may))
+
+      pick_same : (later : List (List ℤ)) → MayCome n close later → pick_of (can_fire n.tree n.net (course later).state) (size_of n) w ≡ pick_of (can_step m) (length m.net.procs) w
+      pick_same later may =
+          at_network m s.runs (λ t k. pick_of (can_fire t k (course later).state) (length k.procs) w ≡ pick_of (can_step m) (length m.net.procs) w) (laws.picks m outcomes later (course later) w (s.at later may).follows (filled later may))
+
+      can_same : (later : List (List ℤ)) → MayCome n close later → (p : ℕ) → can_fire n.tree n.net (course later).state p ≡ can_step m p
+      can_same later may p = at_network m s.runs (λ t k. can_fire t k (course later).state p ≡ can_step m p) (laws.can_fires m outcomes later (course later) p (s.at later may).follows (filled later may))
+
+      -- a pick that was made
+      module _ (p : ℕ) (is : pick_of (can_step m) (length m.net.procs) w ≡ Some p) (some : ready_list m ≢ []) where
+        pub picked_so : IsPickedFrom (can_step m) (size_of n) w p
+        picked_so = at_network m s.runs (λ t k. IsPickedFrom (can_step m) (length k.procs) w p) (laws.picked_from (can_step m) (length m.net.procs) w p is)
+
+        abbrev after_it : Way
+        after_it = after_pick (size_of n) w p
+
+        one_more : (later : List (List ℤ)) → course_under n (given ++ later) (s.picks ++ p ∷ []) ≡ picked n.tree n.leaf n.net (course later) p
+        one_more later = laws.one_more _ s.picks p
+
+        on : (later : List (List ℤ)) → MayCome n close later → (left left' : ℕ) → left ≡ suc left' → s.picks ++ picks_from n.tree n.leaf n.net left w (course later) ≡ picks_of n.tree n.leaf n.net n.firings schedule (given ++ later) →
+            (s.picks ++ p ∷ []) ++ picks_from n.tree n.leaf n.net left' after_it (course_under n (given ++ later) (s.picks ++ p ∷ [])) ≡ picks_of n.tree n.leaf n.net n.firings schedule (given ++ later)
+        on later may left left' one whole =
+            let rest : List ℕ = picks_from n.tree n.leaf n.net left' after_it (course_under n (given ++ later) (s.picks ++ p ∷ [])) in
+            let some_there : ready_at n (course later) ≢ [] = λ none. some (sym (ready_same later may) ∙ none) in
+            let taken : picks_from n.tree n.leaf n.net left w (course later) ≡ p ∷ rest =
+            ap (λ k. picks_from n.tree n.leaf n.net k w (course later)) one
+            ∙ laws.next left' w (course later) p some_there (pick_same later may ∙ is)
+            ∙ ap (λ c. p ∷ picks_from n.tree n.leaf n.net left' after_it c) (sym (one_more later)) in
+            append_assoc s.picks (p ∷ []) rest ∙ ap (λ l. s.picks ++ l) (sym taken) ∙ whole
+
+        -- its process fires
+        module _ (new : Seen) (handed : Option Outcome) (can : IsTrue (can_step m p)) (fires : Fires n.leaf m new p handed) where
+          led : (later : List (List ℤ)) → MayCome n close later → Follows new (outcomes ++ option_to_list handed) later (course_under n (given ++ later) (s.picks ++ p ∷ []))
+          led later may =
+              subst (λ c. Follows new (outcomes ++ option_to_list handed) later c) (sym (one_more later))
+              (at_network m s.runs (λ t k. Follows new (outcomes ++ option_to_list handed) later (picked t n.leaf k (course later) p)) (laws.fires m new outcomes later (course later) p handed (s.at later may).follows (filled later may) can fires))
+
+          idle_stays : (later : List (List ℤ)) → MayCome n close later → (course_under n (given ++ later) (s.picks ++ p ∷ [])).idle ≡ idle
+          unfolding picked
+          idle_stays later may =
+              let here : can_fire n.tree n.net (course later).state p ≡ true = can_same later may p ∙ can in
+              ap (λ c. c.idle) (one_more later) ∙ ap (λ (c : Course). c.idle) (cond-true _ _ _ here) ∙ (s.at later may).idle_is
+
+          -- there was a firing left
+          pub firing_left : (later : List (List ℤ)) → MayCome n close later → m.fired + 1 ≤ n.firings * length (given ++ later)
+          firing_left later may =
+              let picks : List ℕ = s.picks ++ p ∷ [] in
+              let a = laws.fired_most (given ++ later) (all_wide later may) picks in
+              let b = laws.sent_most (given ++ later) (all_wide later may) picks in
+              let e = (led later may).fired in
+              let f = fires.fired in
+              omega (arith, mul-le n.firings (course_under n (given ++ later) picks).state.sent n.firings (length (given ++ later)) (omega arith) b)
+
+          pub firing_left_given : m.fired + 1 ≤ n.firings * length given
+          firing_left_given = bare (λ i. m.fired + 1 ≤ n.firings * length i) (firing_left [] (nothing_comes n close))
+
+          -- what was emitted begins the meaning
+          pub led_begins : IsPrefixOf (outcomes ++ option_to_list handed) (meaning_of n given)
+          unfolding with_rest state_of
+          led_begins =
+              bare (λ i. IsPrefixOf (outcomes ++ option_to_list handed) (meaning_of n i))
+              (subst (λ o. IsPrefixOf o (meaning_of n (given ++ []))) (sym (ap (λ x. x.emitted) (led [] (nothing_comes n close)).state)) (laws.begins (given ++ []) (all_wide [] (nothing_comes n close)) (s.picks ++ p ∷ [])))
+
+          pub stands_fired : Stands n schedule new after_it given close (outcomes ++ option_to_list handed) idle
+          stands_fired = record {
+            runs = record { tree = fires.tree ∙ s.runs.tree; net = fires.net ∙ s.runs.net };
+            wide = s.wide;
+            place = place_after (size_of n) w p laws.some;
+            named = named_after (can_step m) (size_of n) w p s.named;
+            room = room_after schedule (can_step m) (size_of n) w p idle picked_so s.room;
+            picks = s.picks ++ p ∷ [];
+            at = λ later may. record {
+              follows = led later may;
+              idle_is = idle_stays later may;
+              goes_on = on later may _ _ (left_fired (n.firings * length (given ++ later)) m.fired new.fired (can_step m) (size_of n) w p picked_so fires.fired (firing_left later may)) (s.at later may).goes_on;
+            };
+          }
+
+        -- it can't fire
+        module _ (cannot : can_step m p ≡ false) where
+          pub stands_idle : Stands n schedule m after_it given close outcomes (idle + 1)
+          unfolding picked
+          stands_idle = record {
+            runs = s.runs;
+            wide = s.wide;
+            place = place_after (size_of n) w p laws.some;
+            named = named_after (can_step m) (size_of n) w p s.named;
+            room = room_idle schedule (can_step m) (size_of n) w p idle picked_so s.room;
+            picks = s.picks ++ p ∷ [];
+            at = λ later may. record {
+              follows =
+                  subst (λ c. Follows m outcomes later c) (sym (one_more later))
+                  (at_network m s.runs (λ t k. Follows m outcomes later (picked t n.leaf k (course later) p)) (laws.idles m outcomes later (course later) p (s.at later may).follows (filled later may) cannot));
+              idle_is =
+                  (let here : can_fire n.tree n.net (course later).state p ≡ false = can_same later may p ∙ cannot in
+                  ap (λ c. c.idle) (one_more later) ∙ ap (λ (c : Course). c.idle) (cond-false _ _ _ here) ∙ ap (λ k. k + 1) (s.at later may).idle_is);
+              goes_on = on later may _ _ (left_idle (n.firings * length (given ++ later)) m.fired (can_step m) (size_of n) w p picked_so cannot) (s.at later may).goes_on;
+            };
+          }
+
+      -- no pick is left
+      module _ (over : (later : List (List ℤ)) → MayCome n close later → picks_from n.tree n.leaf n.net (left_of (n.firings * length (given ++ later)) m.fired w) w (course later) ≡ []) where
+        whole_course : (later : List (List ℤ)) → MayCome n close later → course later ≡ course_of n schedule (given ++ later)
+        unfolding course_of
+        whole_course later may = ap (course_under n (given ++ later)) (sym (append-nil s.picks) ∙ ap (λ l. s.picks ++ l) (sym (over later may)) ∙ (s.at later may).goes_on)
+
+        pub ran : (stats : Stats) → stats ≡ record { items = m.sent; fired = m.fired; idle = idle; bound = m.sent * n.firings } → (later : List (List ℤ)) → MayCome n close later → IsRunOn n schedule (given ++ later) outcomes stats
+        ran stats are later may =
+            let c : Course = course later in
+            let at = s.at later may in
+            let same = whole_course later may in
+            let numbers : record { items = m.sent; fired = m.fired; idle = idle; bound = m.sent * n.firings } ≡ stats_of n c =
+            λ i. record { items = sent_is later may i; fired = at.follows.fired i; idle = sym at.idle_is i; bound = ap (λ k. k * n.firings) (sent_is later may) i } in
+            let all : stats ≡ stats_of n c = are ∙ numbers in
+            record {
+              emitted = emitted_is later may ∙ ap (λ (x : Course). x.state.emitted) same;
+              begins = begins_given later may;
+              whole = λ stuck.
+                  let none : ready_at n c ≡ [] = none_ready (ready_at n c) (ap (goes_on n) same ∙ stuck) in
+                  emitted_is later may ∙ laws.finished (given ++ later) (all_wide later may) s.picks (laws.none_can c none);
+              stats_are = all ∙ ap (stats_of n) same;
+              bounded = subst (λ (x : Stats). x.fired ≤ n.firings * x.items) (sym all) (laws.fired_most (given ++ later) (all_wide later may) s.picks);
+            }
+
+        pub goes_same : (later : List (List ℤ)) → MayCome n close later → goes_on n (course_of n schedule (given ++ later)) ≡ is_some (ready_list m)
+        goes_same later may = ap (goes_on n) (sym (whole_course later may)) ∙ ap is_some (ready_same later may)
+
+        pub emitted_so : (later : List (List ℤ)) → MayCome n close later → (course_of n schedule (given ++ later)).state.emitted ≡ outcomes
+        emitted_so later may = ap (λ (x : Course). x.state.emitted) (sym (whole_course later may)) ∙ sym (emitted_is later may)
+
+        pub fired_so : (later : List (List ℤ)) → MayCome n close later → (course_of n schedule (given ++ later)).fired ≡ m.fired
+        fired_so later may = ap (λ (x : Course). x.fired) (sym (whole_course later may)) ∙ sym (s.at later may).follows.fired
+
+        pub idle_so : (later : List (List ℤ)) → MayCome n close later → (course_of n schedule (given ++ later)).idle ≡ idle
+        idle_so later may = ap (λ (x : Course). x.idle) (sym (whole_course later may)) ∙ (s.at later may).idle_is
+
+      -- no process can fire
+      pub over_stuck : ready_list m ≡ [] → (later : List (List ℤ)) → MayCome n close later → picks_from n.tree n.leaf n.net (left_of (n.firings * length (given ++ later)) m.fired w) w (course later) ≡ []
+      over_stuck none later may = laws.stuck _ w (course later) (ready_same later may ∙ none)
+
+      -- the picks are ended
+      pub over_ended : pick_of (can_step m) (length m.net.procs) w ≡ None → (later : List (List ℤ)) → MayCome n close later → picks_from n.tree n.leaf n.net (left_of (n.firings * length (given ++ later)) m.fired w) w (course later) ≡ []
+      over_ended none later may = laws.ended _ w (course later) (pick_same later may ∙ none)
+
+      finished_at : ready_list m ≡ [] → (later : List (List ℤ)) → MayCome n close later → outcomes ≡ meaning_of n (given ++ later)
+      finished_at none later may =
+          emitted_is later may ∙ laws.finished (given ++ later) (all_wide later may) s.picks (laws.none_can (course later) (ready_same later may ∙ none))
+
+      -- without a trap this is only where the stream is ended
+      pub must_end : ready_list m ≡ [] → trap_of outcomes ≡ None → close ≢ None
+      must_end none calm not_ended =
+          let word : List ℤ = replicate (width_of n) (pos 0) in
+          let may : MayCome n close (word ∷ []) = record { wide = (length-replicate (width_of n) (pos 0), tt); none = λ e closed. absurd (none_open e (sym not_ended ∙ closed)) } in
+          let a : outcomes ≡ meaning_of n (given ++ []) = finished_at none [] (nothing_comes n close) in
+          let b : outcomes ≡ meaning_of n (given ++ word ∷ []) = finished_at none (word ∷ []) may in
+          let x = all_come n.tree n.leaf (given ++ []) (ap trap_of (sym a) ∙ calm) in
+          let y = all_come n.tree n.leaf (given ++ word ∷ []) (ap trap_of (sym b) ∙ calm) in
+          let one = ap length a in
+          let two = ap length b in
+          absurd (omega (arith, length-append given [], length-append given (word ∷ [])))
+        where
+          none_open : (e : Ending) → ◌≡◌ {A = Option Ending} None (Some e) → ⊥
+          none_open e h = cc

@@ -1,7 +1,6 @@
 -- What was written, text after text.
 use Rattle.std.proofs.Common.{◌≡◌, ℕ, ℤ, List, [], ◌∷◌, ◌++◌, Option, Some, None, take, drop, refl, sym, ap, subst, ◌∙◌, append_assoc, append-nil}
 use Rattle.std.proofs.lemmas.List.{take-append-drop}
-use Rattle.std.specs.Option.{option_to_list}
 use Rattle.std.specs.declared.result.Result.{Result}
 use Rattle.std.specs.declared.result.Result.TheVariants.{Ok, Err}
 use Rattle.p3l_base.specs.declared.outcome.Outcome.{Outcome}
@@ -10,7 +9,10 @@ use Rattle.p3l_io.specs.declared.fault.Failed.{Failed}
 use Rattle.p3l_io.specs.Told.{Puts}
 use Rattle.p3l_net.specs.Outcomes.{IsPrefixOf}
 use Rattle.p3l_stream.specs.Text.{item_text, text_of}
-use Rattle.p3l_run.specs.Write.{HasBegun, HasPut}
+use Rattle.p3l_io.specs.Causes.{Rose}
+use Rattle.p3l_run.specs.declared.fault.RunFault.{RunFault}
+use Rattle.p3l_run.specs.declared.fault.RunFault.TheVariants as fault
+use Rattle.p3l_run.specs.Write.{HasBegun, HasPut, WriteCause}
 
 -- nothing was written yet
 pub put_nothing : (old : Option (List ℕ)) → HasPut old old []
@@ -68,3 +70,11 @@ text_begins first whole p = (text_of p.0, sym (text_more first p.0) ∙ ap text_
 -- the text of one outcome that is a value
 pub text_one : (words : List ℤ) → text_of (Value words ∷ []) ≡ item_text words
 text_one words = append-nil (item_text words)
+
+-- a fault that is handed on, with the count from before
+pub cause_on : {T : Type 0} (U : Type 0) (before mid now : ℕ) (first other : RunFault) (r : Result T RunFault) → mid ≡ before → r ≡ Err other → other ≡ first → WriteCause {T = U} mid now (Err first) → WriteCause {T = T} before now r
+cause_on {T = T} U before mid now first other r same is hands cause = rw (is, hands) (by first cause)
+  where
+    by : (f : RunFault) → WriteCause {T = U} mid now (Err f) → WriteCause {T = T} before now (Err f)
+    by fault.Write c = subst (λ k. Rose k now) same c
+    by fault.NoMemory c = c ∙ same

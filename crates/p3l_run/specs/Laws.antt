@@ -1,40 +1,56 @@
 -- What is known of every run of a network, as it is needed of a machine that goes pick by pick.
-use Rattle.std.specs.Prelude.{◌≡◌, ℕ, ℤ, suc, ◌*◌, ◌<◌, ◌≤◌, List, [], ◌∷◌, ◌++◌, Option, Some, None, IsTrue, length}
+use Rattle.std.specs.Prelude.{◌≡◌, ◌≢◌, ℕ, ℤ, suc, Bool, false, ◌*◌, ◌<◌, ◌≤◌, List, [], ◌∷◌, ◌++◌, Option, Some, None, IsTrue, length}
 use Rattle.std.specs.Option.{option_to_list}
 use Rattle.p3l_base.specs.declared.outcome.Outcome.{Outcome}
-use Rattle.p3l_net.specs.Fire.{IsStuck, can_fire, fire}
-use Rattle.p3l_net.specs.Machine.{Seen, Fires, can_step, started, state_of}
+use Rattle.p3l_net.specs.Fire.{IsStuck, can_fire}
+use Rattle.p3l_net.specs.Machine.{Seen, Fires, can_step, ready_list, started}
 use Rattle.p3l_net.specs.Offered.{Follows, HasFilledInbox}
-use Rattle.p3l_net.specs.RoundRobin.{after, next_of, round_robin}
 use Rattle.p3l_net.specs.Run.{Course, after_picks, course_from, picked}
 use Rattle.p3l_net.specs.Carried.{HaveInWords}
 use Rattle.p3l_net.specs.Outcomes.{IsPrefixOf}
-use Rattle.p3l_net.specs.State.{State, first_state}
+use Rattle.p3l_net.specs.State.{first_state}
 use Rattle.p3l_net.specs.Typed.{IsTyped}
-use Rattle.p3l_run.specs.Network.{Network, course_under, meaning_of, picks_of}
+use Rattle.p3l_sched.specs.declared.picker.Way.{Way}
+use Rattle.p3l_sched.specs.Course.{picks_from}
+use Rattle.p3l_sched.specs.Picker.{IsPickedFrom, after_pick, pick_of, ready_of}
+use Rattle.p3l_run.specs.Network.{Network, course_under, meaning_of, ready_at, size_of}
+
+-- a machine runs the network
+pub record Runs (n : Network) (m : Seen) : Type 0 where
+  pub tree : m.tree ≡ n.tree
+  pub net : m.net ≡ n.net
 
 pub record Laws (n : Network) : Type 0 where
   pub typed : IsTyped n.tree n.net
-  pub some : 0 < length n.net.procs
+  pub some : 0 < size_of n
+  -- of a machine that is offered the items
   pub starts : (items : List (List ℤ)) → Follows (started n.tree n.net) [] items (course_from (first_state n.net items))
   pub offered : (m : Seen) (outcomes : List Outcome) (item : List ℤ) (rest : List (List ℤ)) (c : Course) →
       Follows m outcomes (item ∷ rest) c → m.inbox ≡ None → Follows (record m { inbox = Some item }) outcomes rest c
   pub fires : (m new : Seen) (outcomes : List Outcome) (rest : List (List ℤ)) (c : Course) (p : ℕ) (outcome : Option Outcome) →
       Follows m outcomes rest c → HasFilledInbox m rest → IsTrue (can_step m p) → Fires n.leaf m new p outcome →
       Follows new (outcomes ++ option_to_list outcome) rest (picked m.tree n.leaf m.net c p)
+  pub idles : (m : Seen) (outcomes : List Outcome) (rest : List (List ℤ)) (c : Course) (p : ℕ) →
+      Follows m outcomes rest c → HasFilledInbox m rest → can_step m p ≡ false → Follows m outcomes rest (picked m.tree n.leaf m.net c p)
   pub can_fires : (m : Seen) (outcomes : List Outcome) (rest : List (List ℤ)) (c : Course) (p : ℕ) →
       Follows m outcomes rest c → HasFilledInbox m rest → can_fire m.tree m.net c.state p ≡ can_step m p
-  pub nexts : (m : Seen) (outcomes : List Outcome) (rest : List (List ℤ)) (c : Course) (from : ℕ) →
-      Follows m outcomes rest c → HasFilledInbox m rest → next_of m.tree m.net c.state from ≡ next_of m.tree m.net (state_of m outcomes) from
+  -- of what is picked for it
+  pub readies : (m : Seen) (outcomes : List Outcome) (rest : List (List ℤ)) (c : Course) →
+      Follows m outcomes rest c → HasFilledInbox m rest → ready_of (can_fire m.tree m.net c.state) (length m.net.procs) ≡ ready_list m
+  pub picks : (m : Seen) (outcomes : List Outcome) (rest : List (List ℤ)) (c : Course) (way : Way) →
+      Follows m outcomes rest c → HasFilledInbox m rest → pick_of (can_fire m.tree m.net c.state) (length m.net.procs) way ≡ pick_of (can_step m) (length m.net.procs) way
+  pub picked_from : (can : ℕ → Bool) (size : ℕ) (way : Way) (p : ℕ) → pick_of can size way ≡ Some p → IsPickedFrom can size way p
+  -- of the picks of a run
+  pub next : (most : ℕ) (way : Way) (c : Course) (p : ℕ) → ready_at n c ≢ [] → pick_of (can_fire n.tree n.net c.state) (size_of n) way ≡ Some p →
+      picks_from n.tree n.leaf n.net (suc most) way c ≡ p ∷ picks_from n.tree n.leaf n.net most (after_pick (size_of n) way p) (picked n.tree n.leaf n.net c p)
+  pub ended : (most : ℕ) (way : Way) (c : Course) → pick_of (can_fire n.tree n.net c.state) (size_of n) way ≡ None → picks_from n.tree n.leaf n.net most way c ≡ []
+  pub stuck : (most : ℕ) (way : Way) (c : Course) → ready_at n c ≡ [] → picks_from n.tree n.leaf n.net most way c ≡ []
+  pub none_can : (c : Course) → ready_at n c ≡ [] → IsStuck n.tree n.net c.state
   pub one_more : (c : Course) (picks : List ℕ) (p : ℕ) →
       after_picks n.tree n.leaf n.net c (picks ++ p ∷ []) ≡ picked n.tree n.leaf n.net (after_picks n.tree n.leaf n.net c picks) p
-  pub robin_next : (most : ℕ) (s : State) (from p : ℕ) → next_of n.tree n.net s from ≡ Some p →
-      round_robin n.tree n.leaf n.net (suc most) s from ≡ p ∷ round_robin n.tree n.leaf n.net most (fire n.tree n.leaf n.net s p) (after n.net p)
-  pub robin_end : (most : ℕ) (s : State) (from : ℕ) → next_of n.tree n.net s from ≡ None → round_robin n.tree n.leaf n.net most s from ≡ []
+  -- of all runs
   pub fired_most : (items : List (List ℤ)) → HaveInWords n.tree items → (picks : List ℕ) → (course_under n items picks).fired ≤ n.firings * (course_under n items picks).state.sent
   pub sent_most : (items : List (List ℤ)) → HaveInWords n.tree items → (picks : List ℕ) → (course_under n items picks).state.sent ≤ length items
   pub begins : (items : List (List ℤ)) → HaveInWords n.tree items → (picks : List ℕ) → IsPrefixOf (course_under n items picks).state.emitted (meaning_of n items)
-  pub busy : (items : List (List ℤ)) → (course_under n items (picks_of n items)).idle ≡ 0
-  pub stuck : (items : List (List ℤ)) → HaveInWords n.tree items → IsStuck n.tree n.net (course_under n items (picks_of n items)).state
   pub finished : (items : List (List ℤ)) → HaveInWords n.tree items → (picks : List ℕ) → IsStuck n.tree n.net (course_under n items picks).state →
       (course_under n items picks).state.emitted ≡ meaning_of n items

@@ -1,17 +1,19 @@
 -- A network that runs a tree of skeletons, and its runs on items.
-use Rattle.std.specs.Prelude.{◌≡◌, ℕ, ℤ, ◌*◌, ◌≤◌, List, length}
+use Rattle.std.specs.Prelude.{◌≡◌, ℕ, ℤ, ◌*◌, ◌≤◌, Bool, true, false, List, [], ◌∷◌, length}
 use Rattle.p3l_base.specs.declared.outcome.Outcome.{Outcome}
 use Rattle.p3l_skel.specs.declared.tree.Tree.{Tree}
 use Rattle.p3l_skel.specs.Item.{meaning}
 use Rattle.p3l_skel.specs.Tree.{node_at}
 use Rattle.p3l_firing.specs.declared.net.Net.{Net}
+use Rattle.p3l_firing.specs.Fire.{can_fire}
 use Rattle.p3l_net.specs.Carried.{Carry, IsCarried}
-use Rattle.p3l_net.specs.Machine.{HasRows}
-use Rattle.p3l_net.specs.RoundRobin.{round_robin}
+use Rattle.p3l_net.specs.Outcomes.{IsPrefixOf}
 use Rattle.p3l_net.specs.Run.{Course, run}
-use Rattle.p3l_net.specs.State.{first_state}
 use Rattle.p3l_net.specs.Typed.{IsTyped}
 use Rattle.p3l_report.specs.declared.stats.Stats.{Stats}
+use Rattle.p3l_sched.specs.declared.schedule.Schedule.{Schedule}
+use Rattle.p3l_sched.specs.Course as schedules
+use Rattle.p3l_sched.specs.Picker.{ready_of}
 
 -- a tree, what its `seq` modules do with words, the net that runs it, and how often that can fire for one item
 pub record Network : Type 0 where
@@ -20,15 +22,18 @@ pub record Network : Type 0 where
   pub net : Net
   pub firings : ℕ
 
--- the net is typed for the tree, the machine has the rows of its kinds, and some record carries it, with so many firings an item
+-- the net is typed for the tree, and some record carries it, with so many firings an item
 pub record IsSound (n : Network) : Type 0 where
   pub typed : IsTyped n.tree n.net
-  pub rows : HasRows n.net
   pub carried : (carry : Carry) × IsCarried n.tree n.leaf n.net n.firings carry
 
 -- how many words an item has
 abbrev pub width_of : Network → ℕ
 width_of n = (node_at n.tree 0).ins
+
+-- how many processes there are
+abbrev pub size_of : Network → ℕ
+size_of n = length n.net.procs
 
 -- what the items come to, with no process and no channel
 abbrev pub meaning_of : Network → List (List ℤ) → List Outcome
@@ -38,13 +43,25 @@ meaning_of n items = meaning n.tree n.leaf items
 abbrev pub course_under : Network → List (List ℤ) → List ℕ → Course
 course_under n items picks = run n.tree n.leaf n.net items picks
 
--- the picks of the round robin for items, from process 0 on
-unfoldable pub picks_of : Network → List (List ℤ) → List ℕ
-picks_of n items = round_robin n.tree n.leaf n.net (n.firings * length items) (first_state n.net items) 0
+-- the picks of a schedule for items
+abbrev pub picks_of : Network → Schedule → List (List ℤ) → List ℕ
+picks_of n schedule items = schedules.picks_of n.tree n.leaf n.net n.firings schedule items
 
--- the run on items under round robin
-unfoldable pub course_of : Network → List (List ℤ) → Course
-course_of n items = course_under n items (picks_of n items)
+-- the run on items under a schedule
+unfoldable pub course_of : Network → Schedule → List (List ℤ) → Course
+course_of n schedule items = course_under n items (picks_of n schedule items)
+
+-- the processes that can fire where a run stands
+abbrev pub ready_at : Network → Course → List ℕ
+ready_at n c = ready_of (can_fire n.tree n.net c.state) (size_of n)
+
+abbrev pub is_some : List ℕ → Bool
+is_some [] = false
+is_some (p ∷ ps) = true
+
+-- some process can fire
+abbrev pub goes_on : Network → Course → Bool
+goes_on n c = is_some (ready_at n c)
 
 -- the numbers of a run
 abbrev pub stats_of : Network → Course → Stats
@@ -55,12 +72,13 @@ stats_of n course = record {
   bound = course.state.sent * n.firings;
 }
 
--- the network was run on the items: it emitted these outcomes, which are the whole meaning of the items, and these are the
--- numbers of the run, which fired at most so often for each item sent
-pub record IsRunOn (n : Network) (items : List (List ℤ)) (outcomes : List Outcome) (stats : Stats) : Type 0 where
-  pub emitted : outcomes ≡ (course_of n items).state.emitted
-  pub whole : outcomes ≡ meaning_of n items
-  pub stats_are : stats ≡ stats_of n (course_of n items)
+-- the network was run on the items: it emitted these outcomes, which begin the meaning of the items, and are all of it where no
+-- process can fire at the end, and these are the numbers of the run, which fired at most so often for each item sent
+pub record IsRunOn (n : Network) (schedule : Schedule) (items : List (List ℤ)) (outcomes : List Outcome) (stats : Stats) : Type 0 where
+  pub emitted : outcomes ≡ (course_of n schedule items).state.emitted
+  pub begins : IsPrefixOf outcomes (meaning_of n items)
+  pub whole : goes_on n (course_of n schedule items) ≡ false → outcomes ≡ meaning_of n items
+  pub stats_are : stats ≡ stats_of n (course_of n schedule items)
   pub bounded : stats.fired ≤ n.firings * stats.items
 
 -- the network of these parts

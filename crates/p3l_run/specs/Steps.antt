@@ -1,53 +1,57 @@
--- A machine that runs a network by round robin, pick by pick.
-use Rattle.std.specs.Prelude.{◌≡◌, ℕ, ℤ, ◌+◌, ◌*◌, ◌<◌, ◌≤◌, List, ◌++◌, length, drop, Option, None, Some, fold}
+-- A machine that runs a network pick by pick, on items that come from a stream.
+use Rattle.std.specs.Prelude.{◌≡◌, ℕ, ℤ, ◌+◌, ◌-◌, ◌*◌, ◌≤◌, List, ◌++◌, length, Option}
 use Rattle.p3l_base.specs.declared.outcome.Outcome.{Outcome}
-use Rattle.p3l_base.specs.declared.outcome.Outcome.TheVariants.{Value, Trapped}
 use Rattle.p3l_base.specs.declared.outcome.Trap.{Trap}
 use Rattle.p3l_net.specs.Carried.{HaveInWords}
 use Rattle.p3l_net.specs.Machine.{Seen}
 use Rattle.p3l_net.specs.Offered.{Follows}
-use Rattle.p3l_net.specs.RoundRobin.{round_robin}
+use Rattle.p3l_sched.specs.declared.picker.Way.{Way}
+use Rattle.p3l_sched.specs.declared.picker.Way.TheVariants as way
+use Rattle.p3l_sched.specs.declared.schedule.Schedule.{Schedule}
+use Rattle.p3l_sched.specs.Course.{picks_from}
+use Rattle.p3l_sched.specs.Picker.{HasPlace, HasProcesses, recorded}
+use Rattle.p3l_stream.specs.declared.items.Ending.{Ending}
+use Rattle.p3l_stream.specs.Seen as lines
 use Rattle.p3l_stream.specs.Text.{text_of}
-use Rattle.p3l_run.specs.Network.{Network, course_of, course_under, picks_of}
+use Rattle.p3l_run.specs.Feed.{Gives, closed_so}
+use Rattle.p3l_run.specs.Laws.{Runs}
+use Rattle.p3l_run.specs.Network.{Network, course_under, picks_of, size_of, width_of}
+use Rattle.p3l_run.specs.Run.{MayCome}
+use Rattle.p3l_run.specs.Trap.{trap_of}
 use Rattle.p3l_run.specs.Write.{HasPut}
 
--- the last trap after one more outcome
-abbrev pub trap_after : Option Trap → Outcome → Option Trap
-trap_after trap (Value words) = trap
-trap_after trap (Trapped other) = Some other
+-- how many picks are left of so many firings, or of those recorded
+abbrev pub left_of : ℕ → ℕ → Way → ℕ
+left_of bound fired (way.Reads picks) = length picks
+left_of bound fired w = bound - fired
 
--- the last trap of outcomes, if there is one
-abbrev pub trap_of : List Outcome → Option Trap
-trap_of outcomes = fold trap_after None outcomes
+-- the machine stands where these picks lead on the items given and those that come later, and the picks of the schedule go on from there
+pub record IsAt (n : Network) (schedule : Schedule) (m : Seen) (way : Way) (items later : List (List ℤ)) (outcomes : List Outcome) (idle : ℕ) (picks : List ℕ) : Type 0 where
+  pub follows : Follows m outcomes later (course_under n items picks)
+  pub idle_is : (course_under n items picks).idle ≡ idle
+  pub goes_on : picks ++ picks_from n.tree n.leaf n.net (left_of (n.firings * length items) m.fired way) way (course_under n items picks) ≡ picks_of n schedule items
 
--- the machine stands where some picks of the round robin lead, with the cursor where the next pick begins to look, and the
--- items from `next` on not yet offered
-pub record Stands (n : Network) (items : List (List ℤ)) (m : Seen) (outcomes : List Outcome) (next cursor : ℕ) : Type 0 where
-  pub tree : m.tree ≡ n.tree
-  pub net : m.net ≡ n.net
+-- there were no more idle picks than those recorded that are not left
+abbrev pub HasRoom : Schedule → Way → ℕ → Type 0
+HasRoom schedule (way.Reads picks) idle = idle + length picks ≤ recorded schedule
+HasRoom schedule w idle = Unit {0}
+
+-- the machine runs the network on the items given, and whatever may still come behind them
+pub record Stands (n : Network) (schedule : Schedule) (m : Seen) (way : Way) (given : List (List ℤ)) (close : Option Ending) (outcomes : List Outcome) (idle : ℕ) : Type 0 where
+  pub runs : Runs n m
+  pub wide : HaveInWords n.tree given
+  pub place : HasPlace (size_of n) way
+  pub named : HasProcesses (size_of n) way
+  pub room : HasRoom schedule way idle
   pub picks : List ℕ
-  pub more : ℕ
-  pub follows : Follows m outcomes (drop next items) (course_under n items picks)
-  pub count : length picks ≡ m.fired
-  pub total : length picks + more ≡ n.firings * length items
-  pub robin :
-      picks ++ round_robin n.tree n.leaf n.net more (course_under n items picks).state cursor
-      ≡ picks_of n items
-  pub widths : HaveInWords n.tree items
-  pub place : cursor < length n.net.procs
-  pub within : next ≤ length items
+  pub at : (later : List (List ℤ)) → MayCome n close later → IsAt n schedule m way (given ++ later) later outcomes idle picks
 
--- the machine stands at the end of the run
-pub record IsRun (n : Network) (items : List (List ℤ)) (m : Seen) (outcomes : List Outcome) : Type 0 where
-  pub fired : m.fired ≡ (course_of n items).fired
-  pub sent : m.sent ≡ (course_of n items).state.sent
-  pub emitted : outcomes ≡ (course_of n items).state.emitted
-  pub count : m.emitted ≡ length outcomes
-  pub widths : HaveInWords n.tree items
-
--- the same, with the text of the outcomes written, and the trap among them
-pub record Drives (n : Network) (items : List (List ℤ)) (m : Seen) (next cursor : ℕ) (trap : Option Trap) (taken taken' : Option (List ℕ)) : Type 0 where
+-- the same, with the text of the outcomes written, the trap among them, and the stream where it gave these items
+pub record Drives (n : Network) (schedule : Schedule) (m : Seen) (way : Way) (stream : lines.Seen) (close : Option Ending) (trap : Option Trap) (idle : ℕ) (rest left : Option (List ℕ)) (before now : ℕ)
+    (taken taken' : Option (List ℕ)) : Type 0 where
+  pub items : List (List ℤ)
   pub outcomes : List Outcome
-  pub stands : Stands n items m outcomes next cursor
+  pub gives : Gives (width_of n) rest left before now stream items (closed_so close)
+  pub stands : Stands n schedule m way items close outcomes idle
   pub trap_is : trap ≡ trap_of outcomes
   pub put : HasPut taken taken' (text_of outcomes)

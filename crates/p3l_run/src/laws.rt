@@ -4,6 +4,7 @@ ghost use Rattle.p3l_run.specs.Laws.{Laws};
 ghost use Rattle.p3l_run.specs.Network.{IsSound, Network};
 
 use p3l_net::laws as net;
+use p3l_sched::laws as sched;
 
 /// The laws of all runs, at one network.
 pub fn laws()
@@ -12,4 +13,7 @@ pub fn laws()
     net::a_carried_net_means_its_items();
     net::a_filled_machine_follows_the_run();
     net::runs_go_pick_by_pick();
+    sched::a_filled_machine_is_picked_for_as_its_run();
+    sched::picks_are_ready();
+    sched::picks_go_one_by_one();
 }

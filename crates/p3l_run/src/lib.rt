@@ -1,15 +1,16 @@
-//! Runs a network on a stream: reads the items, fires process after process by round robin, and
-//! writes each value that comes out.
+//! Runs a network on a stream under a schedule: asks for the items one by one, fires process after
+//! process, and writes each value that comes out.
 #![tactic(auto)]
 
-pub mod drive;
-pub mod execute;
 pub mod fault;
+mod feed;
+mod finish;
 pub mod laws;
 pub mod plan;
 pub mod run;
 pub mod write;
 
 pub use fault::RunFault;
+pub use feed::INPUT_LIMIT;
 pub use plan::Plan;
 pub use run::Ran;

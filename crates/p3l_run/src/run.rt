@@ -1,23 +1,27 @@
 // The run of a network from the input to the output.
 
-ghost use Rattle.std.specs.Prelude.{◌≡◌, ◌<◌, ◌*◌, ◌^◌, IfOk};
+ghost use Rattle.std.specs.Prelude.{◌≡◌, ◌<◌, ◌≤◌, ◌*◌, ◌^◌, length};
+ghost use Rattle.p3l_sched.specs.Picker.{NamesProcesses, recorded};
 ghost use Rattle.p3l_skel.specs.Tree.{node_at};
+ghost use Rattle.p3l_run.specs.Feed.{most_of_input};
 ghost use Rattle.p3l_run.specs.Network.{IsSound, network};
-ghost use Rattle.p3l_run.specs.Run.{InputCause, IsRunEnd, finish_of, module_name, most_items};
+ghost use Rattle.p3l_run.specs.Run.{IsRunEnd};
 ghost use Rattle.p3l_run.specs.Write.{WriteCause};
 
-use crate::execute::execute;
 use crate::fault::RunFault;
+use crate::feed::{INPUT_LIMIT, feed};
+use crate::finish::{finish_with, stats_of};
+use crate::laws::laws;
 use crate::plan::Plan;
-use p3l_base::{Name, NoMemory, Trap};
+use crate::write::write_emitted;
 use p3l_io::{Sink, Source};
+use p3l_net::Machine;
 use p3l_report::{Finish, Stats};
-use p3l_skel::{Tree, Units};
-use p3l_stream::{Ending, read_items, take_all};
+use p3l_sched::{Picker, Schedule};
+use p3l_skel::Units;
+use p3l_stream::Lines;
+use p3l_stream::laws::a_stream_gives_its_items;
 use std::alloc::Global;
-
-/// The most bytes of the input.
-pub const INPUT_LIMIT: u64 = 68_719_476_736;
 
 /// A run that came to its end, and its numbers.
 #[derive(Debug, Drop)]
@@ -26,67 +30,56 @@ pub struct Ran {
     pub stats: Stats,
 }
 
-/// The name of the module of a number, and none where there are not so many.
-fn name_of(alloc: Global, tree: &Tree, number: u32) -> Result<Name, NoMemory>
-    ensures { IfOk result (λ name. name ≡ module_name tree.now number) }
-{
-    match tree.modules.as_slice().get(number as usize) {
-        Some(found) => Name::from_text(alloc, found.name.as_str()),
-        None => Name::from_text(alloc, ""),
-    }
-}
-
-/// How a run ends that emitted so many outcomes, with this trap or none, and whose stream ended so.
-fn finish_with(
-    alloc: Global,
-    tree: &Tree,
-    trap: Option<Trap>,
-    emitted: u64,
-    close: Ending,
-) -> Result<Finish, NoMemory>
-    ensures { IfOk result (λ finish. finish ≡ finish_of tree.now trap emitted close) }
-{
-    match trap {
-        None => Ok(Finish::Stream(close)),
-        Some(trap) => {
-            let name = name_of(alloc, tree, trap.module)?;
-            Ok(Finish::Trapped {
-                item: emitted,
-                kind: trap.kind,
-                module: name,
-            })
-        }
-    }
-}
-
-/// Runs a network on the items of the input, and writes each value as it comes out.
+/// Runs a network on the items of the input under a schedule, and writes each value as it comes out.
+///
+/// An item is asked for where the inbox is empty; a pick that can't fire is idle. The run ends where
+/// no process can fire, or the recorded picks are ended.
 pub fn run<U: Units, S: Source, K: Sink>(
     alloc: Global,
     plan: Plan<'_, U>,
+    schedule: Schedule,
     input: &mut S,
     out: &mut K,
 ) -> Result<Ran, RunFault>
     requires units { U.tree plan.units.now ≡ plan.tree.now }
     requires sound { IsSound (network plan.tree.now (U.leaf plan.units.now) plan.net plan.firings) }
     requires width { plan.width ≡ (node_at plan.tree.now 0).ins }
-    requires fits { plan.firings * most_items < 2 ^ 63 }
-    ensures ends { IsRunEnd (network plan.entry.tree.now (U.leaf plan.entry.units.now) plan.entry.net plan.entry.firings)
+    requires wide { 1 ≤ plan.width }
+    requires fits { plan.firings * most_of_input < 2 ^ 63 }
+    requires named { NamesProcesses (length plan.net.procs) schedule }
+    requires few { recorded schedule < 2 ^ 63 }
+    ensures ends { IsRunEnd (network plan.entry.tree.now (U.leaf plan.entry.units.now) plan.entry.net plan.entry.firings) schedule
         (S.rest input.old) (S.rest input.new) (S.faults input.old) (S.faults input.new) (K.taken out.old) (K.taken out.new) result }
-    ensures input { InputCause result (S.faults input.old) (S.faults input.new) }
     ensures output { WriteCause (K.faults out.old) (K.faults out.new) result }
 {
-    let taken = take_all(alloc, input, INPUT_LIMIT)?;
-    let read = read_items(alloc, &taken, plan.width)?;
-    let done = execute(
-        alloc,
-        plan.tree,
-        plan.units,
-        plan.net,
-        plan.firings,
-        read.items.as_slice(),
-        out,
-    )?;
-    let finish = finish_with(alloc, plan.tree, done.trap, done.emitted, read.ending)?;
-    let stats = done.stats;
-    Ok(Ran { finish, stats })
+    laws();
+    a_stream_gives_its_items();
+    let mut machine = Machine::start(alloc, plan.tree, plan.net)?;
+    let mut lines = Lines::new(alloc, plan.width, INPUT_LIMIT)?;
+    let mut picker = Picker::new(schedule);
+    let mut close = None;
+    let mut trap = None;
+    let mut idle: u64 = 0;
+    'picks: loop {
+        close = feed(alloc, &mut machine, &mut lines, close, input)?;
+        if machine.ready() == 0 {
+            let finish = finish_with(alloc, plan.tree, trap, machine.emitted(), close)?;
+            let stats = stats_of(&machine, plan.firings, idle);
+            return Ok(Ran { finish, stats });
+        }
+        let Some(process) = picker.pick(&machine) else {
+            let stats = stats_of(&machine, plan.firings, idle);
+            let finish = Finish::Stopped {
+                fired: stats.fired,
+                idle,
+            };
+            return Ok(Ran { finish, stats });
+        };
+        if !machine.can_step(process) {
+            idle += 1;
+            continue 'picks;
+        }
+        let fired = machine.fire(alloc, plan.tree, plan.units, process)?;
+        trap = write_emitted(alloc, fired.emitted, trap, out)?;
+    }
 }

@@ -2,7 +2,7 @@
 
 ghost use Rattle.std.specs.Prelude.{◌≡◌, IfOk, OnOk, OnErr, fold};
 ghost use Rattle.std.specs.Option.{option_to_list};
-ghost use Rattle.p3l_run.specs.Steps.{trap_after};
+ghost use Rattle.p3l_run.specs.Trap.{trap_after};
 ghost use Rattle.p3l_run.specs.Write.{HasBegun, HasPut, WriteCause};
 ghost use Rattle.p3l_stream.specs.Text.{text_of};
 

@@ -1,3 +1,5 @@
+pub mod Below
 pub mod Gaps
 pub mod Numbers
+pub mod Picking
 pub mod Reading

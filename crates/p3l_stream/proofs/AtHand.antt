@@ -75,7 +75,7 @@ answer_behind old mid new got (Ok next.End) passed found = (
 answer_behind old mid new got (Ok (next.BadWord number)) passed found = (finds_behind old mid new got _ passed found.0, found.1)
 answer_behind old mid new got (Ok (next.WrongCount number had)) passed found = (finds_behind old mid new got _ passed found.0, found.1)
 answer_behind old mid new got (Ok (next.OutOfRange number)) passed found = (finds_behind old mid new got _ passed found.0, found.1)
-answer_behind old mid new got (Ok next.ReadFault) passed found = ((found.0.0, runs_behind old mid new.passed 0 got found.0.0 passed found.0.1, found.0.2), found.1)
+answer_behind old mid new got (Ok next.ReadFault) passed found = ((found.0.0, runs_behind old mid new.passed 0 got found.0.0 passed found.0.1, found.0.2), found.1, found.2)
 answer_behind old mid new got (Ok next.TooLong) passed found = ((found.0.0, runs_behind old mid new.passed 0 got found.0.0 passed found.0.1, found.0.2), found.1)
 answer_behind old mid new got (Err e) passed found = tt
 

@@ -1,5 +1,5 @@
 -- How the items of the bytes taken end, how many words each has, and how many there are.
-use Rattle.std.proofs.Common.{◌≡◌, ℕ, zero, suc, arith, ◌+◌, ◌*◌, ◌<◌, ◌≤◌, ℤ, Bool, true, false, List, [], ◌∷◌, All, length, nat_eq, refl, sym, ap, cond, if◌then◌else◌}
+use Rattle.std.proofs.Common.{◌≡◌, ℕ, zero, suc, arith, ◌+◌, ◌*◌, ◌<◌, ◌≤◌, ℤ, Bool, true, false, List, [], ◌∷◌, All, length, nat_eq, refl, cond, if◌then◌else◌}
 use Rattle.std.proofs.lemmas.Map.Views.{exact_unsigned_eq}
 use Rattle.std.specs.List.{onto_first, slice_split}
 use Rattle.std.specs.Str.Lines.{strip_carriage_return}
@@ -13,7 +13,6 @@ use Rattle.p3l_stream.specs.declared.taken.Stop.TheVariants as stop
 use Rattle.p3l_stream.specs.declared.line.Line.{Line}
 use Rattle.p3l_stream.specs.declared.line.Line.TheVariants as line
 use Rattle.p3l_stream.specs.declared.items.Ending.{Ending}
-use Rattle.p3l_stream.specs.declared.items.Ending.TheVariants as ending
 use Rattle.p3l_stream.specs.declared.items.Items.{Items}
 use Rattle.p3l_stream.specs.Lines.{is_feed, last_line, line_of, lines_between, lines_of, line_from}
 use Rattle.p3l_stream.specs.Items.{IsEndingOf, put_line, items_of_lines, items_taken, closing}
@@ -40,7 +39,7 @@ pub items_ending : (width : ℕ) (how : Stop) (bytes : List ℕ) → IsEndingOf 
 items_ending width how bytes = lines_ending how width 1 (closing how) (lines_of how bytes) (closing_ending how)
 
 -- a line that is an item has as many numbers as an item has words
-abbrev IsWide : ℕ → Line → Type 0
+abbrev pub IsWide : ℕ → Line → Type 0
 IsWide width line.Blank = Unit {0}
 IsWide width (line.Item words) = length words ≡ width
 IsWide width line.BadWord = Unit {0}
@@ -51,7 +50,8 @@ counted_wide : (width : ℕ) (numbers : List ℤ) (b : Bool) → nat_eq (length 
 counted_wide width numbers true h = exact_unsigned_eq _ _ h
 counted_wide width numbers false h = tt
 
-line_wide : (width : ℕ) (numbers : Result (List ℤ) WordFault) → IsWide width (line_from width numbers)
+-- what a line holds is as wide
+pub line_wide : (width : ℕ) (numbers : Result (List ℤ) WordFault) → IsWide width (line_from width numbers)
 line_wide width (Err fault.Form) = tt
 line_wide width (Err fault.Range) = tt
 line_wide width (Ok []) = tt

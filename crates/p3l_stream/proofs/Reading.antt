@@ -18,12 +18,12 @@ use Rattle.p3l_stream.proofs.Feeds.{fewer_behind, place-line}
 use Rattle.p3l_stream.proofs.Pieces.{not_both}
 
 -- nothing was taken
-IsTaken-none : (rest : Option (List ℕ)) → IsTaken rest rest []
+pub IsTaken-none : (rest : Option (List ℕ)) → IsTaken rest rest []
 IsTaken-none None = refl
 IsTaken-none (Some bytes) = (bytes, refl, refl)
 
 -- what was taken twice
-IsTaken-twice : (rest mid left : Option (List ℕ)) (got piece : List ℕ) → IsTaken rest mid got → IsTaken mid left piece → IsTaken rest left (got ++ piece)
+pub IsTaken-twice : (rest mid left : Option (List ℕ)) (got piece : List ℕ) → IsTaken rest mid got → IsTaken mid left piece → IsTaken rest left (got ++ piece)
 IsTaken-twice None mid left got piece was is = twice mid was is
   where
     twice : (mid : Option (List ℕ)) → mid ≡ None → IsTaken mid left piece → left ≡ None
@@ -193,7 +193,7 @@ answers_fault old now rest mid left way none is_open below = record {
         all = λ ends. absurd (not_both now.at_end ends is_open);
       }))
       refl;
-  answer = (rw (append-nil way.got) (drops old now rest mid way), below);
+  answer = (rw (append-nil way.got) (drops old now rest mid way), is_open, below);
 }
 
 -- the limit

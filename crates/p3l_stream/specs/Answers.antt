@@ -74,7 +74,7 @@ AnswerOf old new bytes (Ok next.End) = FindsEnd old new bytes × (new.at_end ≡
 AnswerOf old new bytes (Ok (next.BadWord number)) = FindsLine old new bytes line.BadWord × (number ≡ new.passed)
 AnswerOf old new bytes (Ok (next.WrongCount number had)) = FindsLine old new bytes (line.WrongCount had) × (number ≡ new.passed)
 AnswerOf old new bytes (Ok (next.OutOfRange number)) = FindsLine old new bytes line.OutOfRange × (number ≡ new.passed)
-AnswerOf old new bytes (Ok next.ReadFault) = FindsNone old new bytes × (new.taken < new.limit)
+AnswerOf old new bytes (Ok next.ReadFault) = FindsNone old new bytes × (new.at_end ≡ false) × (new.taken < new.limit)
 AnswerOf old new bytes (Ok next.TooLong) = FindsNone old new bytes × (new.taken ≡ new.limit)
 AnswerOf old new bytes (Err e) = Unit {0}
 

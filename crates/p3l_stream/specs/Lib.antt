@@ -7,3 +7,4 @@ pub mod Ended
 pub mod Seen
 pub mod Answers
 pub mod Passing
+pub mod Given

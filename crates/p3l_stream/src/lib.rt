@@ -4,6 +4,7 @@
 
 mod buffer;
 pub mod items;
+pub mod laws;
 pub mod line;
 pub mod lines;
 pub mod next;

@@ -3,6 +3,7 @@
 ghost use Rattle.std.specs.Prelude.{◌≡◌};
 ghost use Rattle.p3l_stream.specs.Answers.{answer_for};
 ghost use Rattle.p3l_stream.specs.Seen.{ending_of, next_of};
+ghost use Rattle.p3l_stream.specs.Given.{answered};
 
 use crate::items::Ending;
 use crate::line::Line;
@@ -25,6 +26,23 @@ pub enum Next {
     ReadFault,
     /// The limit of bytes was reached.
     TooLong,
+}
+
+impl Next {
+    /// The item, or the ending that the answer is.
+    pub fn into_item(self) -> Result<Words, Ending>
+        ensures { result ≡ answered self }
+    {
+        match self {
+            Next::Item(words) => Ok(words),
+            Next::End => Err(Ending::End),
+            Next::BadWord(line) => Err(Ending::BadWord(line)),
+            Next::WrongCount { line, had } => Err(Ending::WrongCount { line, had }),
+            Next::OutOfRange(line) => Err(Ending::OutOfRange(line)),
+            Next::ReadFault => Err(Ending::ReadFault),
+            Next::TooLong => Err(Ending::TooLong),
+        }
+    }
 }
 
 /// The answer that is this ending.

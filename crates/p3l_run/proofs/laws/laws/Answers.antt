@@ -3,7 +3,6 @@ use Rattle.std.specs.Option.{option_map}
 use Rattle.std.specs.List.{slice_get}
 use Rattle.p3l_firing.specs.declared.process.Proc.{Proc}
 use Rattle.p3l_firing.specs.declared.process.ProcKind.TheVariants.{Source}
-use Rattle.p3l_run.specs.Network.{picks_of}
 use Rattle.p3l_run.proofs.laws.laws.Goals as goal
 
 -- a net that has a source has a process
@@ -12,24 +11,24 @@ some_process [] e = absurd cc
 some_process (q ∷ qs) e = omega arith
 
 pub returns : goal.returns
-unfolding picks_of
-returns c = λ n sound. let carry = sound.carried.0 in let carried = sound.carried.1 in
-    let some : 0 < length n.net.procs = some_process n.net.procs sound.typed.source in
-    record {
-      typed = sound.typed;
-      some = some;
-      starts = c.a_filled_machine_follows_the_run.ensures.starts n.tree n.net;
-      offered = c.a_filled_machine_follows_the_run.ensures.offered;
-      fires = λ m new outcomes rest k p outcome. c.a_filled_machine_follows_the_run.ensures.fired m new outcomes rest k n.leaf p outcome;
-      can_fires = c.a_filled_machine_follows_the_run.ensures.can_fire;
-      nexts = c.a_filled_machine_follows_the_run.ensures.next;
-      one_more = c.runs_go_pick_by_pick.ensures.more n.tree n.leaf n.net;
-      robin_next = c.runs_go_pick_by_pick.ensures.next n.tree n.leaf n.net;
-      robin_end = c.runs_go_pick_by_pick.ensures.end n.tree n.leaf n.net;
-      fired_most = λ items widths picks. c.a_carried_net_means_its_items.ensures.bounded n.tree n.leaf n.net n.firings carry items picks carried widths;
-      sent_most = λ items widths picks. c.a_carried_net_means_its_items.ensures.sent n.tree n.leaf n.net n.firings carry items picks carried widths;
-      begins = λ items widths picks. c.a_carried_net_means_its_items.ensures.begins n.tree n.leaf n.net n.firings carry items picks carried widths;
-      busy = λ items. c.runs_go_pick_by_pick.ensures.busy n.tree n.leaf n.net items _;
-      stuck = λ items widths. c.a_carried_net_means_its_items.ensures.ends n.tree n.leaf n.net n.firings carry items carried widths some;
-      finished = λ items widths picks stuck. c.a_carried_net_means_its_items.ensures.finished n.tree n.leaf n.net n.firings carry items picks carried widths stuck;
-    }
+returns c = λ n sound. let carry = sound.carried.0 in let carried = sound.carried.1 in record {
+  typed = sound.typed;
+  some = some_process n.net.procs sound.typed.source;
+  starts = c.a_filled_machine_follows_the_run.ensures.starts n.tree n.net;
+  offered = c.a_filled_machine_follows_the_run.ensures.offered;
+  fires = λ m new outcomes rest k p outcome. c.a_filled_machine_follows_the_run.ensures.fired m new outcomes rest k n.leaf p outcome;
+  idles = λ m outcomes rest k p. c.a_filled_machine_follows_the_run.ensures.idle m outcomes rest k n.leaf p;
+  can_fires = c.a_filled_machine_follows_the_run.ensures.can_fire;
+  readies = c.a_filled_machine_is_picked_for_as_its_run.ensures.ready;
+  picks = c.a_filled_machine_is_picked_for_as_its_run.ensures.pick;
+  picked_from = c.picks_are_ready.ensures.ready;
+  next = c.picks_go_one_by_one.ensures.next n.tree n.leaf n.net;
+  ended = c.picks_go_one_by_one.ensures.ended n.tree n.leaf n.net;
+  stuck = c.picks_go_one_by_one.ensures.stuck n.tree n.leaf n.net;
+  none_can = λ k. c.picks_are_ready.ensures.stuck n.tree n.net k.state;
+  one_more = c.runs_go_pick_by_pick.ensures.more n.tree n.leaf n.net;
+  fired_most = λ items widths picks. c.a_carried_net_means_its_items.ensures.bounded n.tree n.leaf n.net n.firings carry items picks carried widths;
+  sent_most = λ items widths picks. c.a_carried_net_means_its_items.ensures.sent n.tree n.leaf n.net n.firings carry items picks carried widths;
+  begins = λ items widths picks. c.a_carried_net_means_its_items.ensures.begins n.tree n.leaf n.net n.firings carry items picks carried widths;
+  finished = λ items widths picks stuck. c.a_carried_net_means_its_items.ensures.finished n.tree n.leaf n.net n.firings carry items picks carried widths stuck;
+}

@@ -1,32 +1,166 @@
-use Rattle.std.proofs.Common.{subst, sym}
+use Rattle.std.proofs.Common.{◌*◌, ◌<◌, ◌∙◌, ap, sym, subst, refl, Option, None, rules}
 use Rattle.std.proofs.lemmas.Result.{err_from_is_err_and}
+use Rattle.p3l_base.specs.declared.outcome.Trap.{Trap}
+use Rattle.p3l_run.specs.Laws.{Laws}
 use Rattle.p3l_run.specs.Network.{Network, network}
-use Rattle.p3l_run.specs.Run.{Executes}
-use Rattle.p3l_run.proofs.RunSteps.{finishes, starts_lost, starts_nothing, starts_whole}
+use Rattle.p3l_net.specs.Machine.{ready_list}
+use Rattle.p3l_report.specs.declared.stats.Stats.{Stats}
+use Rattle.p3l_report.specs.declared.verdict.Finish.TheVariants as finish
+use Rattle.p3l_run.specs.Feed.{most_of_input}
+use Rattle.p3l_run.specs.Steps.{Drives, left_of}
+use Rattle.p3l_run.proofs.FeedSteps.{fed_fired, none_listed, some_listed}
+use Rattle.p3l_run.proofs.DriveSteps as drive
+use Rattle.p3l_run.proofs.WriteSteps.{cause_on}
 use Rattle.p3l_run.proofs.run.run.Goals as goal
 
-pub returns-in_err-taken-clause-ends : goal.returns-in_err-taken-clause-ends
-returns-in_err-taken-clause-ends g c =
+pub returns-in_err-machine-clause-ends : goal.returns-in_err-machine-clause-ends
+returns-in_err-machine-clause-ends g c =
+    let n : Network = network c.args.plan.tree.now (g.U.Units.leaf c.args.plan.units.now) c.args.plan.net c.args.plan.firings in
     let p = err_from_is_err_and c.from_residual.result c.from_residual.ensures.1 in
-    rw p.1 (starts_lost _ _ _ _ c.in_err-taken.ensures.lost)
+    rw p.1 (drive.starts_first n _ _ _ (c.a_stream_gives_its_items.ensures.starts _ _))
 
-pub returns-in_err-read-clause-ends : goal.returns-in_err-read-clause-ends
-returns-in_err-read-clause-ends g c =
-    let p = err_from_is_err_and c.from_residual-in_err-read.result c.from_residual-in_err-read.ensures.1 in
-    rw p.1 (starts_nothing _ _ _ _ c.in_ok-taken.taken.bytes c.in_ok-taken.taken.stop c.in_ok-taken.ensures.told)
+pub returns-in_err-lines-clause-ends : goal.returns-in_err-lines-clause-ends
+returns-in_err-lines-clause-ends g c =
+    let n : Network = network c.args.plan.tree.now (g.U.Units.leaf c.args.plan.units.now) c.args.plan.net c.args.plan.firings in
+    let p = err_from_is_err_and c.from_residual-in_err-lines.result c.from_residual-in_err-lines.ensures.1 in
+    rw p.1 (drive.starts_first n _ _ _ (c.a_stream_gives_its_items.ensures.starts _ _))
+
+pub picks-init : goal.picks-init
+picks-init g c =
+    let n : Network = network c.args.plan.tree.now (g.U.Units.leaf c.args.plan.units.now) c.args.plan.net c.args.plan.firings in
+    let laws : Laws n = c.laws.ensures n c.requires.sound in
+    record {
+      drives =
+          subst (λ w. Drives n c.args.schedule c.in_ok-machine.machine w c.in_ok-lines.lines None None 0 (g.S.Source.rest c.args.input.now) (g.S.Source.rest c.args.input.now) (g.S.Source.faults c.args.input.now) (g.S.Source.faults c.args.input.now) (g.K.Sink.taken c.args.out.now) (g.K.Sink.taken c.args.out.now))
+          (sym c.new-picker.ensures)
+          (drive.drives_first n laws c.args.schedule c.in_ok-machine.machine c.in_ok-lines.lines _ _ _ c.args.plan.width c.requires.width (c.a_stream_gives_its_items.ensures.starts _ _) c.in_ok-machine.ensures.started c.in_ok-lines.ensures c.requires.named);
+      faults = refl;
+    }
+
+pub returns-in_err-close-clause-ends : goal.returns-in_err-close-clause-ends
+returns-in_err-close-clause-ends g c =
+    let n : Network = network c.args.plan.tree.now (g.U.Units.leaf c.args.plan.units.now) c.args.plan.net c.args.plan.firings in
+    let laws : Laws n = c.laws.ensures n c.requires.sound in
+    let p = err_from_is_err_and c.from_residual-in_err-close.result c.from_residual-in_err-close.ensures.1 in
+    rw p.1 (drive.starts_unfed n laws c.args.schedule c.picks.machine c.picks.picker c.picks.lines c.picks.close c.picks.trap c.picks.idle _ _ _ _ _ _ c.picks.invariant.drives c.feed.new.lines _ _ c.in_err-close.ensures)
+
+pub finish_with-requires : goal.finish_with-requires
+finish_with-requires g c =
+    let n : Network = network c.args.plan.tree.now (g.U.Units.leaf c.args.plan.units.now) c.args.plan.net c.args.plan.firings in
+    let laws : Laws n = c.laws.ensures n c.requires.sound in
+    let d = drive.drives_fed n laws c.args.schedule c.picks.machine c.picks.picker c.picks.lines c.picks.close c.picks.trap c.picks.idle _ _ _ _ _ _ c.picks.invariant.drives c.feed.new.machine c.feed.new.lines _ _ c.in_ok-close.close c.in_ok-close.ensures in
+    drive.must_end n laws c.args.schedule c.feed.new.machine c.picks.picker c.feed.new.lines c.in_ok-close.close c.picks.trap c.picks.idle _ _ _ _ _ _ d c.in_ok-close.ensures.filled (none_listed (ready_list c.feed.new.machine) c.ready.result c.ready.ensures c.if-ready-eq0.true)
 
 pub returns-in_err-finish-clause-ends : goal.returns-in_err-finish-clause-ends
 returns-in_err-finish-clause-ends g c =
     let n : Network = network c.args.plan.tree.now (g.U.Units.leaf c.args.plan.units.now) c.args.plan.net c.args.plan.firings in
+    let laws : Laws n = c.laws.ensures n c.requires.sound in
+    let d = drive.drives_fed n laws c.args.schedule c.picks.machine c.picks.picker c.picks.lines c.picks.close c.picks.trap c.picks.idle _ _ _ _ _ _ c.picks.invariant.drives c.feed.new.machine c.feed.new.lines _ _ c.in_ok-close.close c.in_ok-close.ensures in
     let p = err_from_is_err_and c.from_residual-in_err-finish.result c.from_residual-in_err-finish.ensures.1 in
-    let e : Executes n c.in_ok-read.read.items (g.K.Sink.taken c.args.out.now) (g.K.Sink.taken c.execute.new.out) c.in_ok-done.done =
-    subst (λ i. Executes n i (g.K.Sink.taken c.args.out.now) (g.K.Sink.taken c.execute.new.out) c.in_ok-done.done) c.as_slice.ensures c.in_ok-done.ensures.executed in
-    rw p.1 (starts_whole n _ _ _ _ c.in_ok-taken.taken.bytes c.in_ok-taken.taken.stop c.args.plan.width c.in_ok-read.read c.in_ok-taken.ensures.told c.requires.width c.in_ok-read.ensures.items c.in_ok-done.done e)
+    rw p.1 (drive.starts_so n laws c.args.schedule c.feed.new.machine c.picks.picker c.feed.new.lines c.in_ok-close.close c.picks.trap c.picks.idle _ _ _ _ _ _ d)
 
-pub returns-clause-ends : goal.returns-clause-ends
-returns-clause-ends g c =
+pub stats_of-stats-requires : goal.stats_of-stats-requires
+stats_of-stats-requires g c =
     let n : Network = network c.args.plan.tree.now (g.U.Units.leaf c.args.plan.units.now) c.args.plan.net c.args.plan.firings in
-    let e : Executes n c.in_ok-read.read.items (g.K.Sink.taken c.args.out.now) (g.K.Sink.taken c.execute.new.out) c.in_ok-done.done =
-    subst (λ i. Executes n i (g.K.Sink.taken c.args.out.now) (g.K.Sink.taken c.execute.new.out) c.in_ok-done.done) c.as_slice.ensures c.in_ok-done.ensures.executed in
-    finishes n _ _ _ _ c.in_ok-taken.taken.bytes c.in_ok-taken.taken.stop c.args.plan.width c.in_ok-read.read c.in_ok-taken.ensures.told c.requires.width c.in_ok-read.ensures.items c.in_ok-done.done e
-    c.in_ok-finish.finish _ _ c.in_ok-taken.ensures.within c.in_ok-taken.ensures.full c.in_ok-taken.ensures.cause c.in_ok-read.ensures.first c.in_ok-finish.ensures
+    let laws : Laws n = c.laws.ensures n c.requires.sound in
+    let d = drive.drives_fed n laws c.args.schedule c.picks.machine c.picks.picker c.picks.lines c.picks.close c.picks.trap c.picks.idle _ _ _ _ _ _ c.picks.invariant.drives c.feed.new.machine c.feed.new.lines _ _ c.in_ok-close.close c.in_ok-close.ensures in
+    drive.sent_fits n laws c.args.schedule c.feed.new.machine c.picks.picker c.feed.new.lines c.in_ok-close.close c.picks.trap c.picks.idle _ _ _ _ _ _ d c.requires.fits
+
+pub returns-then-ready-eq0-clause-ends : goal.returns-then-ready-eq0-clause-ends
+returns-then-ready-eq0-clause-ends g c =
+    let n : Network = network c.args.plan.tree.now (g.U.Units.leaf c.args.plan.units.now) c.args.plan.net c.args.plan.firings in
+    let laws : Laws n = c.laws.ensures n c.requires.sound in
+    let d = drive.drives_fed n laws c.args.schedule c.picks.machine c.picks.picker c.picks.lines c.picks.close c.picks.trap c.picks.idle _ _ _ _ _ _ c.picks.invariant.drives c.feed.new.machine c.feed.new.lines _ _ c.in_ok-close.close c.in_ok-close.ensures in
+    drive.finishes_stuck n laws c.args.schedule c.feed.new.machine c.picks.picker c.feed.new.lines c.in_ok-close.close c.picks.trap c.picks.idle _ _ _ _ _ _ d c.in_ok-close.ensures.filled (none_listed (ready_list c.feed.new.machine) c.ready.result c.ready.ensures c.if-ready-eq0.true) c.in_ok-finish.finish c.stats_of-stats.result c.emitted.result c.emitted.ensures c.in_ok-finish.ensures c.stats_of-stats.ensures
+
+pub stats_of-stats-requires-in_default : goal.stats_of-stats-requires-in_default
+stats_of-stats-requires-in_default g c =
+    let n : Network = network c.args.plan.tree.now (g.U.Units.leaf c.args.plan.units.now) c.args.plan.net c.args.plan.firings in
+    let laws : Laws n = c.laws.ensures n c.requires.sound in
+    let d = drive.drives_fed n laws c.args.schedule c.picks.machine c.picks.picker c.picks.lines c.picks.close c.picks.trap c.picks.idle _ _ _ _ _ _ c.picks.invariant.drives c.feed.new.machine c.feed.new.lines _ _ c.in_ok-close.close c.in_ok-close.ensures in
+    drive.sent_fits n laws c.args.schedule c.feed.new.machine c.picks.picker c.feed.new.lines c.in_ok-close.close c.picks.trap c.picks.idle _ _ _ _ _ _ d c.requires.fits
+
+pub returns-in_default-clause-ends : goal.returns-in_default-clause-ends
+returns-in_default-clause-ends g c =
+    let n : Network = network c.args.plan.tree.now (g.U.Units.leaf c.args.plan.units.now) c.args.plan.net c.args.plan.firings in
+    let laws : Laws n = c.laws.ensures n c.requires.sound in
+    let d = drive.drives_fed n laws c.args.schedule c.picks.machine c.picks.picker c.picks.lines c.picks.close c.picks.trap c.picks.idle _ _ _ _ _ _ c.picks.invariant.drives c.feed.new.machine c.feed.new.lines _ _ c.in_ok-close.close c.in_ok-close.ensures in
+    drive.finishes_ended n laws c.args.schedule c.feed.new.machine c.picks.picker c.feed.new.lines c.in_ok-close.close c.picks.trap c.picks.idle _ _ _ _ _ _ d c.in_ok-close.ensures.filled (some_listed (ready_list c.feed.new.machine) c.ready.result c.ready.ensures c.if-ready-eq0.false) (sym c.in_default.ensures.pick) _ c.stats_of-stats-in_default.result (ap (λ (k : Stats). finish.Stopped k.fired c.picks.idle) c.stats_of-stats-in_default.ensures) c.stats_of-stats-in_default.ensures
+
+pub overflow_add-idle : goal.overflow_add-idle
+overflow_add-idle g c =
+    let n : Network = network c.args.plan.tree.now (g.U.Units.leaf c.args.plan.units.now) c.args.plan.net c.args.plan.firings in
+    let laws : Laws n = c.laws.ensures n c.requires.sound in
+    let d = drive.drives_fed n laws c.args.schedule c.picks.machine c.picks.picker c.picks.lines c.picks.close c.picks.trap c.picks.idle _ _ _ _ _ _ c.picks.invariant.drives c.feed.new.machine c.feed.new.lines _ _ c.in_ok-close.close c.in_ok-close.ensures in
+    let small = drive.idle_fits n laws c.args.schedule c.feed.new.machine c.picks.picker c.feed.new.lines c.in_ok-close.close c.picks.trap c.picks.idle _ _ _ _ _ _ d c.in_ok-close.ensures.filled c.in-Some.process c.pick.new.self (sym c.in-Some.ensures.pick) (some_listed (ready_list c.feed.new.machine) c.ready.result c.ready.ensures c.if-ready-eq0.false) c.in-Some.ensures.after (sym c.can_step.ensures.ready ∙ c.if-not-can_step.true) c.requires.few in
+    search rules
+
+pub picks-smaller-then-not-can_step : goal.picks-smaller-then-not-can_step
+picks-smaller-then-not-can_step g c =
+    let n : Network = network c.args.plan.tree.now (g.U.Units.leaf c.args.plan.units.now) c.args.plan.net c.args.plan.firings in
+    let laws : Laws n = c.laws.ensures n c.requires.sound in
+    let d = drive.drives_fed n laws c.args.schedule c.picks.machine c.picks.picker c.picks.lines c.picks.close c.picks.trap c.picks.idle _ _ _ _ _ _ c.picks.invariant.drives c.feed.new.machine c.feed.new.lines _ _ c.in_ok-close.close c.in_ok-close.ensures in
+    subst (λ k. left_of (c.args.plan.firings * most_of_input) c.feed.new.machine.fired c.pick.new.self < left_of (c.args.plan.firings * most_of_input) k c.picks.picker) (fed_fired c.picks.machine c.feed.new.machine c.in_ok-close.ensures.more c.in_ok-close.ensures.offers)
+    (drive.idle_less n laws c.args.schedule c.feed.new.machine c.picks.picker c.feed.new.lines c.in_ok-close.close c.picks.trap c.picks.idle _ _ _ _ _ _ d c.in_ok-close.ensures.filled c.in-Some.process c.pick.new.self (sym c.in-Some.ensures.pick) (some_listed (ready_list c.feed.new.machine) c.ready.result c.ready.ensures c.if-ready-eq0.false) c.in-Some.ensures.after (sym c.can_step.ensures.ready ∙ c.if-not-can_step.true) (c.args.plan.firings * most_of_input))
+
+pub picks-preserved-then-not-can_step : goal.picks-preserved-then-not-can_step
+picks-preserved-then-not-can_step g c =
+    let n : Network = network c.args.plan.tree.now (g.U.Units.leaf c.args.plan.units.now) c.args.plan.net c.args.plan.firings in
+    let laws : Laws n = c.laws.ensures n c.requires.sound in
+    let d = drive.drives_fed n laws c.args.schedule c.picks.machine c.picks.picker c.picks.lines c.picks.close c.picks.trap c.picks.idle _ _ _ _ _ _ c.picks.invariant.drives c.feed.new.machine c.feed.new.lines _ _ c.in_ok-close.close c.in_ok-close.ensures in
+    record { drives = drive.drives_idle n laws c.args.schedule c.feed.new.machine c.picks.picker c.feed.new.lines c.in_ok-close.close c.picks.trap c.picks.idle _ _ _ _ _ _ d c.in_ok-close.ensures.filled c.in-Some.process c.pick.new.self (sym c.in-Some.ensures.pick) (some_listed (ready_list c.feed.new.machine) c.ready.result c.ready.ensures c.if-ready-eq0.false) c.in-Some.ensures.after (sym c.can_step.ensures.ready ∙ c.if-not-can_step.true); faults = c.picks.invariant.faults }
+
+pub fire-requires-clause-count : goal.fire-requires-clause-count
+fire-requires-clause-count g c =
+    let n : Network = network c.args.plan.tree.now (g.U.Units.leaf c.args.plan.units.now) c.args.plan.net c.args.plan.firings in
+    let laws : Laws n = c.laws.ensures n c.requires.sound in
+    let d = drive.drives_fed n laws c.args.schedule c.picks.machine c.picks.picker c.picks.lines c.picks.close c.picks.trap c.picks.idle _ _ _ _ _ _ c.picks.invariant.drives c.feed.new.machine c.feed.new.lines _ _ c.in_ok-close.close c.in_ok-close.ensures in
+    drive.fired_fits n laws c.args.schedule c.feed.new.machine c.picks.picker c.feed.new.lines c.in_ok-close.close c.picks.trap c.picks.idle _ _ _ _ _ _ d c.requires.fits
+
+pub returns-in_err-fired-clause-ends : goal.returns-in_err-fired-clause-ends
+returns-in_err-fired-clause-ends g c =
+    let n : Network = network c.args.plan.tree.now (g.U.Units.leaf c.args.plan.units.now) c.args.plan.net c.args.plan.firings in
+    let laws : Laws n = c.laws.ensures n c.requires.sound in
+    let d = drive.drives_fed n laws c.args.schedule c.picks.machine c.picks.picker c.picks.lines c.picks.close c.picks.trap c.picks.idle _ _ _ _ _ _ c.picks.invariant.drives c.feed.new.machine c.feed.new.lines _ _ c.in_ok-close.close c.in_ok-close.ensures in
+    let p = err_from_is_err_and c.from_residual-in_err-fired.result c.from_residual-in_err-fired.ensures.1 in
+    rw p.1 (drive.starts_so n laws c.args.schedule c.feed.new.machine c.picks.picker c.feed.new.lines c.in_ok-close.close c.picks.trap c.picks.idle _ _ _ _ _ _ d)
+
+pub returns-in_err-fired-clause-output : goal.returns-in_err-fired-clause-output
+returns-in_err-fired-clause-output g c =
+    let n : Network = network c.args.plan.tree.now (g.U.Units.leaf c.args.plan.units.now) c.args.plan.net c.args.plan.firings in
+    let laws : Laws n = c.laws.ensures n c.requires.sound in
+    let p = err_from_is_err_and c.from_residual-in_err-fired.result c.from_residual-in_err-fired.ensures.1 in
+    rw (p.1, p.2) c.picks.invariant.faults
+
+pub returns-in_err-trap-clause-ends : goal.returns-in_err-trap-clause-ends
+returns-in_err-trap-clause-ends g c =
+    let n : Network = network c.args.plan.tree.now (g.U.Units.leaf c.args.plan.units.now) c.args.plan.net c.args.plan.firings in
+    let laws : Laws n = c.laws.ensures n c.requires.sound in
+    let d = drive.drives_fed n laws c.args.schedule c.picks.machine c.picks.picker c.picks.lines c.picks.close c.picks.trap c.picks.idle _ _ _ _ _ _ c.picks.invariant.drives c.feed.new.machine c.feed.new.lines _ _ c.in_ok-close.close c.in_ok-close.ensures in
+    let p = err_from_is_err_and c.from_residual-in_err-trap.result c.from_residual-in_err-trap.ensures.1 in
+    rw p.1 (drive.starts_last n laws c.args.schedule c.feed.new.machine c.picks.picker c.feed.new.lines c.in_ok-close.close c.picks.trap c.picks.idle _ _ _ _ _ _ d c.in_ok-close.ensures.filled c.in-Some.process c.pick.new.self (sym c.in-Some.ensures.pick) (some_listed (ready_list c.feed.new.machine) c.ready.result c.ready.ensures c.if-ready-eq0.false) c.in-Some.ensures.after c.fire.new.self c.in_ok-fired.fired.emitted (sym c.can_step.ensures.ready ∙ c.if-not-can_step.false) c.in_ok-fired.ensures.fires _ c.in_err-trap.ensures.begun)
+
+pub returns-in_err-trap-clause-output : goal.returns-in_err-trap-clause-output
+returns-in_err-trap-clause-output g c =
+    let n : Network = network c.args.plan.tree.now (g.U.Units.leaf c.args.plan.units.now) c.args.plan.net c.args.plan.firings in
+    let laws : Laws n = c.laws.ensures n c.requires.sound in
+    let p = err_from_is_err_and c.from_residual-in_err-trap.result c.from_residual-in_err-trap.ensures.1 in
+    cause_on (Option Trap) _ _ _ _ p.0 _ c.picks.invariant.faults p.1 p.2 c.in_err-trap.ensures.cause
+
+pub picks-smaller : goal.picks-smaller
+picks-smaller g c =
+    let n : Network = network c.args.plan.tree.now (g.U.Units.leaf c.args.plan.units.now) c.args.plan.net c.args.plan.firings in
+    let laws : Laws n = c.laws.ensures n c.requires.sound in
+    let d = drive.drives_fed n laws c.args.schedule c.picks.machine c.picks.picker c.picks.lines c.picks.close c.picks.trap c.picks.idle _ _ _ _ _ _ c.picks.invariant.drives c.feed.new.machine c.feed.new.lines _ _ c.in_ok-close.close c.in_ok-close.ensures in
+    subst (λ k. left_of (c.args.plan.firings * most_of_input) c.fire.new.self.fired c.pick.new.self < left_of (c.args.plan.firings * most_of_input) k c.picks.picker) (fed_fired c.picks.machine c.feed.new.machine c.in_ok-close.ensures.more c.in_ok-close.ensures.offers)
+    (drive.fired_less n laws c.args.schedule c.feed.new.machine c.picks.picker c.feed.new.lines c.in_ok-close.close c.picks.trap c.picks.idle _ _ _ _ _ _ d c.in_ok-close.ensures.filled c.in-Some.process c.pick.new.self (sym c.in-Some.ensures.pick) (some_listed (ready_list c.feed.new.machine) c.ready.result c.ready.ensures c.if-ready-eq0.false) c.in-Some.ensures.after c.fire.new.self c.in_ok-fired.fired.emitted (sym c.can_step.ensures.ready ∙ c.if-not-can_step.false) c.in_ok-fired.ensures.fires)
+
+pub picks-preserved : goal.picks-preserved
+picks-preserved g c =
+    let n : Network = network c.args.plan.tree.now (g.U.Units.leaf c.args.plan.units.now) c.args.plan.net c.args.plan.firings in
+    let laws : Laws n = c.laws.ensures n c.requires.sound in
+    let d = drive.drives_fed n laws c.args.schedule c.picks.machine c.picks.picker c.picks.lines c.picks.close c.picks.trap c.picks.idle _ _ _ _ _ _ c.picks.invariant.drives c.feed.new.machine c.feed.new.lines _ _ c.in_ok-close.close c.in_ok-close.ensures in
+    record {
+      drives = drive.drives_fired n laws c.args.schedule c.feed.new.machine c.picks.picker c.feed.new.lines c.in_ok-close.close c.picks.trap c.picks.idle _ _ _ _ _ _ d c.in_ok-close.ensures.filled c.in-Some.process c.pick.new.self (sym c.in-Some.ensures.pick) (some_listed (ready_list c.feed.new.machine) c.ready.result c.ready.ensures c.if-ready-eq0.false) c.in-Some.ensures.after c.fire.new.self c.in_ok-fired.fired.emitted (sym c.can_step.ensures.ready ∙ c.if-not-can_step.false) c.in_ok-fired.ensures.fires c.in_ok-trap.trap _ c.in_ok-trap.ensures.trap c.in_ok-trap.ensures.put;
+      faults = c.in_ok-trap.ensures.cause ∙ c.picks.invariant.faults;
+    }

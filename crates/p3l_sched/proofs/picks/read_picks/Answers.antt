@@ -1,6 +1,7 @@
-use Rattle.std.proofs.Common.{◌≡◌, ◌+◌, ◌<◌, ℕ, length, count_by, ap, sym, ◌∙◌, Ok, arith}
+use Rattle.std.proofs.Common.{◌≡◌, ◌+◌, ◌<◌, ℕ, length, count_by, ap, sym, ◌∙◌, Ok, arith, length-append, [], ◌∷◌}
 use Rattle.std.proofs.lemmas.List.Sums.{count_by-le-length}
 use Rattle.p3l_sched.specs.Picks.{is_feed, pick_of}
+use Rattle.p3l_sched.proofs.Below.{read_below}
 use Rattle.p3l_sched.proofs.Reading.{read_more, shorter}
 use Rattle.p3l_sched.proofs.picks.read_picks.Goals as goal
 
@@ -14,4 +15,8 @@ loop-gap-preserved c =
     record {
       read = rw (c.in_ok-push.ensures.ok, feeds) more;
       within = omega (arith, count_by-le-length is_feed c.in-Some.gap.now, feeds, c.loop-gap.invariant.within);
+      few = omega (arith, ap length c.in_ok-push.ensures.ok, length-append c.loop-gap.picks (c.in_ok-pick.pick ∷ []), c.loop-gap.invariant.few);
     }
+
+pub returns-clause-below : goal.returns-clause-below
+returns-clause-below c = read_below c.args.count 1 c.args.text.now c.loop-gap.picks c.loop-gap.line c.loop-gap.rest.now c.loop-gap.invariant.read

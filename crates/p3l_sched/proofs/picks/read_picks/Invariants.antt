@@ -6,6 +6,7 @@ abbrev pub invariant-loop-gap : goal.invariant-loop-gap
 invariant-loop-gap l = record {
   read : AreRead l.count 1 l.text l.picks l.line l.rest;
   within : l.line + length l.rest ≤ 1 + length l.text;
+  few : length l.picks + length l.rest ≤ length l.text;
 }
 
 abbrev pub decreases-loop-gap : goal.decreases-loop-gap

@@ -1,0 +1,65 @@
+-- What a stream feeds a machine with.
+use Rattle.std.specs.Prelude.{◌≡◌, ◌≢◌, ℕ, ℤ, ◌+◌, ◌≤◌, true, List, [], ◌∷◌, ◌++◌, length, Option, Some, None, Result, Ok, Err, option_map}
+use Rattle.p3l_base.specs.declared.memory.NoMemory.{NoMemory}
+use Rattle.p3l_net.specs.Machine as machine
+use Rattle.p3l_stream.specs.declared.items.Ending.{Ending}
+use Rattle.p3l_stream.specs.Answers.{IsAtEnd}
+use Rattle.p3l_stream.specs.Given.{GivenCause, HasGiven}
+use Rattle.p3l_stream.specs.Seen.{Seen, most_items}
+use Rattle.p3l_stream.specs.Taken.{IsTaken}
+use Rattle.std.specs.List.{AllByRecursion}
+
+-- the most bytes of the input
+abbrev pub input_limit : ℕ
+input_limit = 68719476736
+
+-- the most items of so many bytes: each has a byte, and a line feed before the next
+abbrev pub most_of_input : ℕ
+most_of_input = 34359738369
+
+-- a stream was asked for items of so many words: these bytes were taken from the input, these items were given, and this ended it
+pub record Gives (width : ℕ) (rest left : Option (List ℕ)) (before now : ℕ) (s : Seen) (items : List (List ℤ)) (closed : Option (Result Ending NoMemory)) : Type 0 where
+  pub bytes : List ℕ
+  pub given : HasGiven width s bytes items
+  pub limit : s.limit ≡ input_limit
+  pub closed_is : s.closed ≡ closed
+  pub read : IsTaken rest left bytes
+  pub at_end : s.at_end ≡ true → IsAtEnd left
+  pub cause : GivenCause closed before now
+  pub few : length items + most_items s ≤ most_of_input
+
+-- how a stream stands that ended so, if it did
+abbrev pub closed_so : Option Ending → Option (Result Ending NoMemory)
+closed_so close = option_map Ok close
+
+-- an inbox that was empty was filled with an item; or nothing was offered
+abbrev pub Offers : machine.Seen → machine.Seen → List (List ℤ) → Type 0
+Offers m new [] = new ≡ m
+Offers m new (item ∷ items) = (m.inbox ≡ None) × (new ≡ record m { inbox = Some item }) × (items ≡ [])
+
+-- whatever a stream gave before, it gave these items more
+abbrev pub GivesMore : ℕ → Option (List ℕ) → Option (List ℕ) → ℕ → ℕ → Seen → Seen → Option Ending → List (List ℤ) → Option (Result Ending NoMemory) → Type 0
+GivesMore width rest left before now s new close more closed =
+    (first : Option (List ℕ)) (count : ℕ) (items : List (List ℤ)) → Gives width first rest count before s items (closed_so close) → Gives width first left count now new (items ++ more) closed
+
+-- a machine was fed: an empty inbox was filled, as long as the stream isn't ended
+pub record Feeds (width : ℕ) (m m' : machine.Seen) (s s' : Seen) (rest left : Option (List ℕ)) (before now : ℕ) (close close' : Option Ending) : Type 0 where
+  pub more : List (List ℤ)
+  pub gives : GivesMore width rest left before now s s' close more (closed_so close')
+  pub offers : Offers m m' more
+  pub wide : AllByRecursion (λ (words : List ℤ). length words ≡ width) more
+  pub filled : close' ≡ None → m'.inbox ≢ None
+  pub asked : more ≢ [] → close ≡ None
+  pub kept : (e : Ending) → close ≡ Some e → close' ≡ Some e
+
+-- memory was wanting for that
+pub record FeedsInVain (width : ℕ) (s s' : Seen) (rest left : Option (List ℕ)) (before now : ℕ) (close : Option Ending) : Type 0 where
+  pub more : List (List ℤ)
+  pub closed : Option (Result Ending NoMemory)
+  pub gives : GivesMore width rest left before now s s' close more closed
+  pub wide : AllByRecursion (λ (words : List ℤ). length words ≡ width) more
+  pub asked : close ≡ None
+
+abbrev pub IsFed : ℕ → machine.Seen → machine.Seen → Seen → Seen → Option (List ℕ) → Option (List ℕ) → ℕ → ℕ → Option Ending → Result (Option Ending) NoMemory → Type 0
+IsFed width m m' s s' rest left before now close (Ok close') = Feeds width m m' s s' rest left before now close close'
+IsFed width m m' s s' rest left before now close (Err want) = FeedsInVain width s s' rest left before now close

@@ -1,0 +1,61 @@
+// How a run came to its end.
+
+ghost use Rattle.std.specs.Prelude.{◌≡◌, ◌<◌, ◌*◌, ◌^◌, IfOk, IsNone, IsSome};
+ghost use Rattle.p3l_stream.specs.declared.items.Ending.{Ending};
+ghost use Rattle.p3l_run.specs.Run.{MayEnd, end_of, module_name};
+
+use p3l_base::{Name, NoMemory, Trap};
+use p3l_net::Machine;
+use p3l_report::{Finish, Stats};
+use p3l_skel::Tree;
+use p3l_stream::Ending;
+use std::alloc::Global;
+
+/// The name of the module of a number, and none where there are not so many.
+fn name_of(alloc: Global, tree: &Tree, number: u32) -> Result<Name, NoMemory>
+    ensures { IfOk result (λ name. name ≡ module_name tree.now number) }
+{
+    match tree.modules.as_slice().get(number as usize) {
+        Some(found) => Name::from_text(alloc, found.name.as_str()),
+        None => Name::from_text(alloc, ""),
+    }
+}
+
+/// How a run ends in which no process can fire: by the trap that was emitted, with so many outcomes,
+/// and else as its stream did.
+pub(crate) fn finish_with(
+    alloc: Global,
+    tree: &Tree,
+    trap: Option<Trap>,
+    emitted: u64,
+    close: Option<Ending>,
+) -> Result<Finish, NoMemory>
+    requires { IsNone trap → IsSome close }
+    ensures { IfOk result (λ finish. (e : Ending) → MayEnd close e → finish ≡ end_of tree.now trap emitted e) }
+{
+    match trap {
+        None => Ok(Finish::Stream(close.unwrap())),
+        Some(trap) => {
+            let name = name_of(alloc, tree, trap.module)?;
+            Ok(Finish::Trapped {
+                item: emitted,
+                kind: trap.kind,
+                module: name,
+            })
+        }
+    }
+}
+
+/// The numbers of a run of a machine, with so many idle picks and so many firings an item at most.
+pub(crate) fn stats_of(machine: &Machine<'_>, firings: u64, idle: u64) -> Stats
+    requires { machine.now.sent * firings < 2 ^ 64 }
+    ensures { result ≡ record { items = machine.now.sent; fired = machine.now.fired; idle = idle; bound = machine.now.sent * firings } }
+{
+    let sent = machine.sent();
+    Stats {
+        items: sent,
+        fired: machine.fired(),
+        idle,
+        bound: sent * firings,
+    }
+}

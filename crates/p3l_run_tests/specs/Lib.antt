@@ -1,0 +1,3 @@
+pub mod OneNode
+pub mod OneNodeLaws
+pub mod Refusing

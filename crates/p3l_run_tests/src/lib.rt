@@ -1,0 +1,8 @@
+//! Tests of runs of a network over the public calls: each schedule, item by item, and each fault of
+//! the outside.
+#![tactic(auto)]
+
+#[cfg(test)]
+mod network;
+#[cfg(test)]
+mod running;

@@ -1,0 +1,213 @@
+// Runs of a network of three processes: 0 is the source, 1 the sink, and 2 runs the body.
+
+use crate::network::{Echo, Refusing, run_on};
+use p3l_base::List;
+use p3l_io::{MemSink, MemSource, PutFail};
+use p3l_report::{Finish, Stats};
+use p3l_run::{Ran, RunFault};
+use p3l_sched::{Schedule, read_picks};
+use p3l_stream::Ending;
+use std::alloc::Global;
+use std::process::Abort;
+use std::test::Fail;
+
+/// The list of these items.
+fn list<T: Copy + Drop>(alloc: Global, items: &[T]) -> Result<List<T>, Fail> {
+    Ok(List::from_vec(Vec::from_slice(alloc, items)?))
+}
+
+/// How a run ended, as a text.
+fn shown(alloc: Global, ran: &Result<Ran, RunFault>) -> Result<String, Fail> {
+    let ran = match ran {
+        Ok(ran) => ran,
+        Err(RunFault::Write) => return Ok(String::from_str(alloc, "write fault")?),
+        Err(RunFault::NoMemory) => return Ok(String::from_str(alloc, "no memory")?),
+    };
+    let numbers = numbers_shown(alloc, &ran.stats)?;
+    let numbers = numbers.as_str();
+    Ok(match &ran.finish {
+        Finish::Done => String::from_str(alloc, "done")?,
+        Finish::Stopped { fired, idle } => format!(in alloc; "{numbers}stopped {fired} {idle}")?,
+        Finish::Trapped { item, module, .. } => {
+            format!(in alloc; "{numbers}trap {item} {}", module.as_str())?
+        }
+        Finish::Stream(ending) => format!(in alloc; "{numbers}{}", ending_shown(*ending))?,
+    })
+}
+
+/// The numbers of a run, as a text.
+fn numbers_shown(alloc: Global, stats: &Stats) -> Result<String, Fail> {
+    let items = stats.items;
+    let fired = stats.fired;
+    let idle = stats.idle;
+    let bound = stats.bound;
+    Ok(format!(in alloc; "{items} {fired} {idle} {bound} ")?)
+}
+
+fn ending_shown(ending: Ending) -> &'static str {
+    match ending {
+        Ending::End => "end",
+        Ending::ReadFault => "read fault",
+        Ending::TooLong => "too long",
+        _ => "refused",
+    }
+}
+
+/// A run on these bytes, given one by one, by a source that fails at these calls: how it ended,
+/// what was written, and how often the source was asked.
+fn run_under(
+    rt: &impl Abort,
+    alloc: Global,
+    schedule: Sched,
+    input: &[u8],
+    fails: &[u64],
+) -> Result<(String, Vec<u8>, u64), Fail> {
+    let mut source = MemSource::new(list(alloc, input)?, 1, list(alloc, fails)?);
+    let mut sink = MemSink::new(alloc, 1024, List::new(alloc))?;
+    let ran = match schedule {
+        Sched::Turns => run_on(alloc, &Echo, Schedule::RoundRobin, &mut source, &mut sink),
+        Sched::Seed(seed) => run_on(alloc, &Echo, Schedule::Seeded(seed), &mut source, &mut sink),
+        Sched::Picks(text) => {
+            let picks = read_picks(alloc, text, 3)?;
+            assert!(rt; picks.len() < 1000);
+            run_on(
+                alloc,
+                &Echo,
+                Schedule::Recorded(picks),
+                &mut source,
+                &mut sink,
+            )
+        }
+    };
+    let written = sink.taken().to_vec(alloc)?;
+    Ok((shown(alloc, &ran)?, written, source.calls()))
+}
+
+/// A schedule of a table.
+#[derive(Clone, Copy)]
+enum Sched {
+    Turns,
+    Seed(u64),
+    Picks(&'static [u8]),
+}
+
+#[test]
+fn each_schedule_runs_item_by_item(rt: HostRuntime) -> Result<(), Fail> {
+    let three: &[u8] = b"1\n2\n-3\n";
+    let table: [(Sched, &[u8], &str, &[u8], u64); 10] = [
+        (Sched::Turns, three, "3 9 0 9 end", three, 8),
+        (Sched::Turns, b"", "0 0 0 0 end", b"", 1),
+        (Sched::Seed(1), three, "3 9 0 9 end", three, 8),
+        (Sched::Seed(2), three, "3 9 0 9 end", three, 8),
+        (
+            Sched::Picks(b"0 2 0 1"),
+            three,
+            "2 4 0 6 stopped 4 0",
+            b"1\n",
+            7,
+        ),
+        (Sched::Picks(b"1 1 0"), three, "1 1 2 3 stopped 1 2", b"", 4),
+        (Sched::Picks(b""), three, "0 0 0 0 stopped 0 0", b"", 2),
+        (
+            Sched::Picks(b"0 2 1 0 2 1 0 2 1"),
+            three,
+            "3 9 0 9 end",
+            three,
+            8,
+        ),
+        (
+            Sched::Picks(b"0 2 1 0 2 1 0 2 1 1 1"),
+            three,
+            "3 9 0 9 end",
+            three,
+            8,
+        ),
+        (
+            Sched::Turns,
+            b"1\n2\n1 x\n4\n",
+            "2 6 0 6 refused",
+            b"1\n2\n",
+            8,
+        ),
+    ];
+    for (schedule, input, how, text, calls) in table {
+        let (shown, written, taken) = run_under(&rt, rt.alloc(), schedule, input, &[])?;
+        assert_eq!(rt; shown.as_str(), how);
+        assert_eq!(rt; written.as_slice(), text);
+        assert_eq!(rt; taken, calls);
+    }
+    Ok(())
+}
+
+#[test]
+fn no_item_is_asked_for_before_the_network_wants_it(rt: HostRuntime) -> Result<(), Fail> {
+    let lines: &[u8] = b"5\n5\n5\n5\n5\n5\n5\n5\n5\n5\n5\n5\n5\n5\n5\n5\n";
+    // Under the round robin, and by generators of four seeds.
+    let table: [(Option<u64>, &str, u64); 5] = [
+        (None, "2 4 0 6 trap 1 main", 6),
+        (Some(0), "1 3 0 3 trap 1 main", 4),
+        (Some(1), "2 5 0 6 trap 1 main", 6),
+        (Some(7), "5 7 0 15 trap 1 main", 12),
+        (Some(18446744073709551615), "3 7 0 9 trap 1 main", 8),
+    ];
+    for (seed, how, calls) in table {
+        let schedule = match seed {
+            None => Schedule::RoundRobin,
+            Some(seed) => Schedule::Seeded(seed),
+        };
+        let mut source = MemSource::new(list(rt.alloc(), lines)?, 1, List::new(rt.alloc()));
+        let mut sink = MemSink::new(rt.alloc(), 1024, List::new(rt.alloc()))?;
+        let ran = run_on(rt.alloc(), &Refusing, schedule, &mut source, &mut sink);
+        assert_eq!(rt; shown(rt.alloc(), &ran)?.as_str(), how);
+        assert_eq!(rt; sink.taken(), b"".as_slice());
+        assert_eq!(rt; source.calls(), calls);
+    }
+    Ok(())
+}
+
+#[test]
+fn a_fault_of_each_take_ends_the_stream(rt: HostRuntime) -> Result<(), Fail> {
+    let table: [(u64, &str, &[u8]); 9] = [
+        (1, "0 0 0 0 read fault", b""),
+        (2, "0 0 0 0 read fault", b""),
+        (3, "1 3 0 3 read fault", b"1\n"),
+        (4, "1 3 0 3 read fault", b"1\n"),
+        (5, "2 6 0 6 read fault", b"1\n2\n"),
+        (6, "2 6 0 6 read fault", b"1\n2\n"),
+        (7, "2 6 0 6 read fault", b"1\n2\n"),
+        (8, "3 9 0 9 read fault", b"1\n2\n-3\n"),
+        (9, "3 9 0 9 end", b"1\n2\n-3\n"),
+    ];
+    for (call, how, text) in table {
+        let (shown, written, _) = run_under(&rt, rt.alloc(), Sched::Turns, b"1\n2\n-3\n", &[call])?;
+        assert_eq!(rt; shown.as_str(), how);
+        assert_eq!(rt; written.as_slice(), text);
+    }
+    Ok(())
+}
+
+#[test]
+fn a_fault_of_each_put_ends_the_run(rt: HostRuntime) -> Result<(), Fail> {
+    let table: [(u64, usize, &[u8]); 4] = [
+        (1, 0, b""),
+        (2, 0, b"1\n"),
+        (2, 1, b"1\n2"),
+        (3, 0, b"1\n2\n"),
+    ];
+    for (call, prefix, text) in table {
+        let bytes: &[u8] = b"1\n2\n-3\n";
+        let mut source = MemSource::new(list(rt.alloc(), bytes)?, 4096, List::new(rt.alloc()));
+        let fails = list(rt.alloc(), &[PutFail { call, prefix }])?;
+        let mut sink = MemSink::new(rt.alloc(), 1024, fails)?;
+        let ran = run_on(
+            rt.alloc(),
+            &Echo,
+            Schedule::RoundRobin,
+            &mut source,
+            &mut sink,
+        );
+        assert_eq!(rt; shown(rt.alloc(), &ran)?.as_str(), "write fault");
+        assert_eq!(rt; sink.taken(), text);
+    }
+    Ok(())
+}
