@@ -1,0 +1,15 @@
+pub mod Order
+pub mod Lookup
+pub mod Powers
+pub mod Steps
+pub mod Nodes
+pub mod Truth
+pub mod Optimal
+pub mod Faults
+pub mod Form
+pub mod Needs
+pub mod Made
+pub mod Found
+pub mod Filling
+pub mod Outside
+pub mod Whole

@@ -1,0 +1,15 @@
+use Rattle.std.proofs.Common.{◌≡◌, None, sym, ◌∙◌}
+use Rattle.p3l_cert.specs.Rule.{cost_at}
+use Rattle.p3l_cert.specs.Keys.{rests_on}
+use Rattle.p3l_cert.proofs.Nodes.{table_at, usable_at}
+use Rattle.p3l_cert.proofs.keys.rests_on.Goals as goal
+
+pub returns-in_default : goal.returns-in_default
+unfolding rests_on
+returns-in_default c =
+    let none : cost_at c.args.tree.now c.args.costs.now c.args.key.node ≡ None = sym (table_at c.args.tree.now c.args.costs.now c.args.table.now c.args.key.node c.requires.table) ∙ sym c.in_default.ensures in
+    rw none c.new.ensures
+
+pub rests_of-requires-clause-cost : goal.rests_of-requires-clause-cost
+rests_of-requires-clause-cost c =
+    usable_at c.args.tree.now c.args.costs.now c.requires.tree c.requires.costs c.args.key.node c.in-Some.cost.now (sym (table_at c.args.tree.now c.args.costs.now c.args.table.now c.args.key.node c.requires.table) ∙ sym c.in-Some.ensures)

@@ -1,0 +1,13 @@
+pub mod Order
+pub mod Text
+pub mod Told
+pub mod Rule
+pub mod Checker
+pub mod Rows
+pub mod Find
+pub mod Usable
+pub mod Table
+pub mod Keys
+pub mod Fill
+pub mod Certified
+pub mod laws

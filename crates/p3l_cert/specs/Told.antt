@@ -1,0 +1,17 @@
+-- What is told of a text that is no certificate.
+use Rattle.std.specs.Prelude.{◌≡◌, ℕ, List, Result, Ok, Err, ⊤}
+use Rattle.p3l_cert.specs.declared.cert.Cert.{Cert}
+use Rattle.p3l_cert.specs.declared.cert.CertRefusal.{CertRefusal}
+use Rattle.p3l_cert.specs.declared.cert.CertRefusal.TheVariants as refusals
+use Rattle.p3l_format.specs.declared.fault.Fault.{Fault}
+use Rattle.p3l_format.specs.Line.{line_number}
+
+-- what reading gives, with the line of its fault
+abbrev pub told : List ℕ → Result Cert Fault → Result Cert CertRefusal
+told text (Ok cert) = Ok cert
+told text (Err fault) = Err (refusals.BadText (line_number text fault.left))
+
+-- a call answered what reading gives, unless memory was wanting
+abbrev pub Answers : List ℕ → Result Cert CertRefusal → Result Cert Fault → Type 0
+Answers text (Err refusals.NoMemory) read = ⊤
+Answers text answer read = answer ≡ told text read

@@ -1,0 +1,166 @@
+// The keys of the rows that a certificate needs.
+
+ghost use Rattle.std.specs.Prelude.{◌≡◌, ◌<◌, ◌≤◌, ◌^◌, ◌++◌, map, OnOk, IfOk};
+ghost use Rattle.std.specs.List.Sorted.{IsPermutation};
+ghost use Rattle.p3l_skel.specs.Lawful.{IsLawfulTree};
+ghost use Rattle.p3l_cost.specs.Costs.{AreCostsOf};
+ghost use Rattle.p3l_model.specs.Costed.{IsSharing};
+ghost use Rattle.p3l_model.specs.Least.{part_bound};
+ghost use Rattle.p3l_cert.specs.Keys.{worker_keys, rests_of, rests_on, keys_from, AreSorted, IsSmall};
+ghost use Rattle.p3l_cert.specs.Rule.{key, low_of, run_of};
+ghost use Rattle.p3l_cert.specs.Table.{IsTable};
+ghost use Rattle.p3l_cert.specs.Usable.{IsUsable};
+
+use crate::cert::Key;
+use crate::rule::{first_of, part_bound};
+use crate::table::cost_in;
+use p3l_base::{List, NoMemory};
+use p3l_cost::Costs;
+use p3l_model::{NodeCost, Sharing, Span};
+use p3l_skel::Tree;
+use std::alloc::Global;
+
+// The keys of the stages of a pipe.
+fn stage_keys(alloc: Global, parts: &[u32], bound: u128, cap: u32) -> Result<List<Key>, NoMemory>
+    ensures { IfOk result (λ keys. keys ≡ map (λ p. key p bound cap) parts.now) }
+{
+    let mut keys = List::new(alloc);
+    for part in parts {
+        keys.push(Key {
+            node: *part,
+            bound,
+            cap,
+        })?;
+    }
+    Ok(keys)
+}
+
+// The keys of the part for each lawful number of workers that may fit.
+fn worker_keys(
+    alloc: Global,
+    part: u32,
+    sharing: Sharing,
+    span: Span,
+    bound: u128,
+    cap: u32,
+) -> Result<List<Key>, NoMemory>
+    requires sharing { IsSharing sharing }
+    requires low { span.low ≤ 512 }
+    requires bound { bound < 2 ^ 110 }
+    requires cap { cap ≤ 512 }
+    ensures { IfOk result (λ keys. keys ≡ worker_keys part (part_bound sharing bound) cap (low_of span) (run_of span cap)) }
+{
+    let room = cap.saturating_sub(2);
+    let first = span.low.max(1);
+    let end = (span.high.min(room) + 1).max(first);
+    let mut keys = List::new(alloc);
+    for workers in first..end {
+        keys.push(Key {
+            node: part,
+            bound: part_bound(sharing, bound, workers),
+            cap: room / workers,
+        })?;
+    }
+    Ok(keys)
+}
+
+// The keys on which the rule of a node of this cost rests.
+#[tactic(auto, unfolding(crate::specs::Keys::rests_of))]
+fn rests_of(
+    alloc: Global,
+    cost: &NodeCost,
+    parts: &[u32],
+    bound: u128,
+    cap: u32,
+) -> Result<List<Key>, NoMemory>
+    requires cost { IsUsable cost.now }
+    requires bound { bound < 2 ^ 110 }
+    requires cap { cap ≤ 512 }
+    ensures { IfOk result (λ keys. keys ≡ rests_of cost.now parts.now bound cap) }
+{
+    match cost {
+        NodeCost::Unit { .. } | NodeCost::Segments { .. } => Ok(List::new(alloc)),
+        NodeCost::Stages => stage_keys(alloc, parts, bound, cap),
+        NodeCost::Workers {
+            span,
+            sharing,
+            ends,
+        } => {
+            if *ends <= bound {
+                return worker_keys(alloc, first_of(parts), *sharing, *span, bound, cap);
+            }
+            Ok(List::new(alloc))
+        }
+        NodeCost::Loop { turns, ends } => {
+            let mut keys = List::new(alloc);
+            if *ends <= bound && 3 <= cap {
+                keys.push(Key {
+                    node: first_of(parts),
+                    bound: bound / *turns as u128,
+                    cap: cap - 2,
+                })?;
+            }
+            Ok(keys)
+        }
+    }
+}
+
+// The keys on which the rule of a key rests.
+#[tactic(auto, unfolding(crate::specs::Keys::rests_on))]
+fn rests_on(
+    alloc: Global,
+    tree: &Tree,
+    costs: &Costs,
+    table: &[Option<NodeCost>],
+    key: Key,
+) -> Result<List<Key>, NoMemory>
+    requires tree { IsLawfulTree tree.now }
+    requires costs { AreCostsOf tree.now costs.now }
+    requires table { IsTable tree.now costs.now table.now }
+    requires key { IsSmall key }
+    ensures { IfOk result (λ keys. keys ≡ rests_on tree.now costs.now key) }
+{
+    let Some(cost) = cost_in(table, key.node) else {
+        return Ok(List::new(alloc));
+    };
+    match tree.node(key.node) {
+        Some(node) => rests_of(alloc, cost, node.parts.as_slice(), key.bound, key.cap),
+        None => Ok(List::new(alloc)),
+    }
+}
+
+/// Sorts keys.
+pub fn sort(keys: &mut Vec<Key>)
+    ensures permutation { IsPermutation keys.old.items keys.new.items }
+    ensures sorted { AreSorted keys.new.items }
+{
+    keys.sort_unstable();
+}
+
+/// Puts a key and all that it rests on behind others, as deep as so many levels.
+#[tactic(auto, unfolding(crate::specs::Keys::keys_from))]
+pub fn push_keys(
+    alloc: Global,
+    tree: &Tree,
+    costs: &Costs,
+    table: &[Option<NodeCost>],
+    levels: u32,
+    key: Key,
+    keys: &mut Vec<Key>,
+) -> Result<(), NoMemory>
+    requires tree { IsLawfulTree tree.now }
+    requires costs { AreCostsOf tree.now costs.now }
+    requires table { IsTable tree.now costs.now table.now }
+    requires key { IsSmall key }
+    ensures { OnOk result (keys.new.items ≡ keys.old.items ++ keys_from tree.now costs.now levels key) }
+{
+    if levels == 0 {
+        return Ok(());
+    }
+    keys.push(key)?;
+    let rests = rests_on(alloc, tree, costs, table, key)?;
+    for part in rests.as_slice() {
+        push_keys(alloc, tree, costs, table, levels - 1, *part, keys)?;
+    }
+    Ok(())
+}

@@ -1,0 +1,9 @@
+//! Tests of certificates: made, read, and refused one damage at a time.
+#![tactic(auto)]
+
+#[cfg(test)]
+mod damaged;
+#[cfg(test)]
+mod made;
+#[cfg(test)]
+mod pipe;
