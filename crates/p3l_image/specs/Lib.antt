@@ -1,0 +1,5 @@
+pub mod Instr
+pub mod Net
+pub mod Image
+pub mod Refusal
+pub mod laws

@@ -1,0 +1,33 @@
+-- What is told of bytes that are no image.
+use Rattle.std.specs.Prelude.{◌≡◌, ℕ, ◌-◌, List, [], ◌∷◌, length, slice_index, Result, Ok, Err, ◌==◌, if◌then◌else◌, ⊤}
+use Rattle.std.specs.Int.{w32, from_be_bytes}
+use Rattle.p3l_image.specs.declared.image.Image.{Image}
+use Rattle.p3l_image.specs.declared.image.ImageRefusal.{ImageRefusal}
+use Rattle.p3l_image.specs.declared.image.ImageRefusal.TheVariants as refusals
+use Rattle.p3l_format.specs.declared.fault.Fault.{Fault}
+use Rattle.p3l_format.specs.declared.fault.Cause.{Cause}
+use Rattle.p3l_format.specs.declared.fault.Cause.TheVariants.{Short, Range, More}
+
+-- the number in the four bytes behind the magic number
+abbrev pub version_at : List ℕ → ℕ
+version_at bytes = from_be_bytes w32 (slice_index bytes 4 ∷ slice_index bytes 5 ∷ slice_index bytes 6 ∷ slice_index bytes 7 ∷ [])
+
+-- what is told of a field that begins at this place
+abbrev pub refusal_at : List ℕ → Cause → ℕ → ImageRefusal
+refusal_at bytes Short place = refusals.Short place
+refusal_at bytes More place = refusals.TrailingBytes place
+refusal_at bytes Range place =
+    if place == 0 then refusals.BadMagic else (if place == 4 then refusals.Version (version_at bytes) else refusals.BadField place)
+
+abbrev pub refusal_of : List ℕ → Fault → ImageRefusal
+refusal_of bytes fault = refusal_at bytes fault.cause (length bytes - fault.left)
+
+-- what reading gives, with its fault as a refusal
+abbrev pub told : List ℕ → Result Image Fault → Result Image ImageRefusal
+told bytes (Ok image) = Ok image
+told bytes (Err fault) = Err (refusal_of bytes fault)
+
+-- a call answered what reading gives, unless memory was wanting
+abbrev pub Answers : List ℕ → Result Image ImageRefusal → Result Image Fault → Type 0
+Answers bytes (Err refusals.NoMemory) read = ⊤
+Answers bytes answer read = answer ≡ told bytes read

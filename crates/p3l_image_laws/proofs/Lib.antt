@@ -1,0 +1,10 @@
+pub mod Ranges
+pub mod Seen
+pub mod Slices
+pub mod Below
+pub mod Nodes
+pub mod Codes
+pub mod Pieces
+pub mod Nets
+pub mod Words
+pub mod Spelled

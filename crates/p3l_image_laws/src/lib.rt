@@ -1,0 +1,11 @@
+//! What can be run can be written as an image.
+#![tactic(auto)]
+
+pub mod laws;
+pub mod operands;
+
+pub use laws::{
+    every_entry_has_a_name, every_runnable_image_can_be_written, every_word_is_a_name,
+    no_runnable_image_is_refused,
+};
+pub use operands::have_operands;

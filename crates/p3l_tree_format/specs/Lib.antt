@@ -1,0 +1,5 @@
+pub mod Slice
+pub mod Module
+pub mod Form
+pub mod Tree
+pub mod laws

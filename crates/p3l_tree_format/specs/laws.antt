@@ -1,0 +1,4 @@
+pub mod Slice
+pub mod Module
+pub mod Form
+pub mod Tree
