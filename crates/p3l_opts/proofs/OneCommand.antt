@@ -1,54 +1,121 @@
 -- Words spell at most one command.
-use Rattle.std.proofs.Common.{◌≡◌, ℕ, Bool, Option, Some, List, get_or, sym, refl, ap, ◌∙◌, arith}
+use Rattle.std.proofs.Common.{◌≡◌, ℕ, ◌<◌, ◌^◌, Option, None, Some, List, bytes_eq, codes, drop, get_or, if◌then◌else◌, sym, refl, ap, ◌∙◌, arith}
 use Rattle.std.proofs.lemmas.Fmt.{decimal_injective}
 use Rattle.std.specs.Fmt.{decimal}
 use Rattle.clap.specs.Words.{Row, Text}
+use Rattle.p3l_opts.specs.declared.command.Build.{Build}
 use Rattle.p3l_opts.specs.declared.command.Command.{Command}
 use Rattle.p3l_opts.specs.declared.command.Command.TheVariants as command
 use Rattle.p3l_opts.specs.declared.command.Sched.{Sched}
+use Rattle.p3l_opts.specs.declared.command.Sched.TheVariants as sched
 use Rattle.p3l_opts.specs.declared.verb.Verb.{Verb}
 use Rattle.p3l_opts.specs.declared.verb.Verb.TheVariants as verb
 use Rattle.p3l_opts.specs.Verb.{name_of, rows}
-use Rattle.p3l_opts.specs.Command.{HasProcessors, HasValues, verb_of}
+use Rattle.p3l_opts.specs.Command.{HasBuild, HasCapacity, HasCount, HasItems, HasNumber, HasSchedule, HasValues, SpellsSchedule, verb_of}
 use Rattle.p3l_opts.specs.Laws.{SpellsOneAtMost}
 
--- verbs of one name are the same, since no two names begin with the same letter
-one_verb : (v w : Verb) → name_of v ≡ name_of w → v ≡ w
-one_verb v w e = by_letter v w (ap (λ (name : Text). get_or name 0 0) e)
-  where
-    by_letter : (v w : Verb) → get_or (name_of v) 0 0 ≡ get_or (name_of w) 0 0 → v ≡ w
-    by_letter verb.Check verb.Check e = refl
-    by_letter verb.Check verb.Fmt e = absurd (omega arith)
-    by_letter verb.Check verb.Run e = absurd (omega arith)
-    by_letter verb.Fmt verb.Check e = absurd (omega arith)
-    by_letter verb.Fmt verb.Fmt e = refl
-    by_letter verb.Fmt verb.Run e = absurd (omega arith)
-    by_letter verb.Run verb.Check e = absurd (omega arith)
-    by_letter verb.Run verb.Fmt e = absurd (omega arith)
-    by_letter verb.Run verb.Run e = refl
+-- the verb of a name
+verb_named : Text → Option Verb
+verb_named text =
+    if bytes_eq text (codes "check") then Some verb.Check
+    else if bytes_eq text (codes "fmt") then Some verb.Fmt
+    else if bytes_eq text (codes "explain") then Some verb.Explain
+    else if bytes_eq text (codes "compile") then Some verb.Compile
+    else if bytes_eq text (codes "run") then Some verb.Run
+    else if bytes_eq text (codes "exec") then Some verb.Exec
+    else if bytes_eq text (codes "verify-cert") then Some verb.VerifyCert
+    else if bytes_eq text (codes "check-trace") then Some verb.CheckTrace
+    else Some verb.Gen
 
--- a text is that of one number of processors
-one_count : (text : Option Text) (m n : ℕ) → HasProcessors text m → HasProcessors text n → m ≡ n
-one_count text m n p q =
+named : (v : Verb) → verb_named (name_of v) ≡ Some v
+unfolding verb_named
+named verb.Check = refl
+named verb.Fmt = refl
+named verb.Explain = refl
+named verb.Compile = refl
+named verb.Run = refl
+named verb.Exec = refl
+named verb.VerifyCert = refl
+named verb.CheckTrace = refl
+named verb.Gen = refl
+
+-- verbs of one name are the same
+one_verb : (v w : Verb) → name_of v ≡ name_of w → v ≡ w
+one_verb v w e = (let same : Some v ≡ Some w = sym (named v) ∙ ap verb_named e ∙ named w in cc)
+
+-- a text is that of one count
+one_count : (most : ℕ) (text : Option Text) (m n : ℕ) → most < 2 ^ 32 → HasCount most text m → HasCount most text n → m ≡ n
+one_count most text m n low p q =
     let texts : Some (decimal m) ≡ Some (decimal n) = sym p.spelled ∙ q.spelled in
     let same : decimal m ≡ decimal n = cc in
+    let a = p.most_is in
+    let b = q.most_is in
     decimal_injective m n (omega arith) (omega arith) same
 
--- commands `run` with the same values are the same
-same_run : (program program' : Text) (processors processors' : ℕ) (costs costs' : Option Text) (capacity capacity' : ℕ) (schedule schedule' : Sched) (trace trace' : Option Text) (stats stats' : Bool)
-    → program ≡ program' → processors ≡ processors' → costs ≡ costs' → capacity ≡ capacity' → schedule ≡ schedule' → trace ≡ trace' → stats ≡ stats'
-    → command.Run (record { program = program; processors = processors; costs = costs; capacity = capacity }) schedule trace stats
-    ≡ command.Run (record { program = program'; processors = processors'; costs = costs'; capacity = capacity' }) schedule' trace' stats'
-same_run p p' n n' c c' k k' s s' t t' b b' ep en ec ek es et eb = cc
+one_capacity : (text : Option Text) (m n : ℕ) → HasCapacity text m → HasCapacity text n → m ≡ n
+one_capacity None m n p q = p ∙ sym q
+one_capacity (Some text) m n p q = one_count 1024 (Some text) m n (omega arith) p q
+
+-- and of one schedule
+one_spelled : (text : Text) (s t : Sched) → SpellsSchedule text s → SpellsSchedule text t → s ≡ t
+one_spelled text sched.RoundRobin sched.RoundRobin p q = refl
+one_spelled text sched.RoundRobin (sched.Seeded n) p q = absurd (let z = ap (λ (w : Text). get_or w 0 0) (sym p ∙ q.0) in omega arith)
+one_spelled text sched.RoundRobin (sched.File name) p q = absurd (let z = ap (λ (w : Text). get_or w 0 0) (sym p ∙ q) in omega arith)
+one_spelled text (sched.Seeded m) sched.RoundRobin p q = absurd (let z = ap (λ (w : Text). get_or w 0 0) (sym p.0 ∙ q) in omega arith)
+one_spelled text (sched.Seeded m) (sched.Seeded n) p q =
+    let same : decimal m ≡ decimal n = ap (λ (w : Text). drop 5 w) (sym p.0 ∙ q.0) in
+    ap sched.Seeded (decimal_injective m n (omega (arith, p.1)) (omega (arith, q.1)) same)
+one_spelled text (sched.Seeded m) (sched.File name) p q = absurd (let z = ap (λ (w : Text). get_or w 0 0) (sym p.0 ∙ q) in omega arith)
+one_spelled text (sched.File name) sched.RoundRobin p q = absurd (let z = ap (λ (w : Text). get_or w 0 0) (sym p ∙ q) in omega arith)
+one_spelled text (sched.File name) (sched.Seeded n) p q = absurd (let z = ap (λ (w : Text). get_or w 0 0) (sym p ∙ q.0) in omega arith)
+one_spelled text (sched.File name) (sched.File other) p q =
+    let same : name ≡ other = ap (λ (w : Text). drop 5 w) (sym p ∙ q) in
+    ap sched.File same
+
+one_schedule : (text : Option Text) (s t : Sched) → HasSchedule text s → HasSchedule text t → s ≡ t
+one_schedule None s t p q = p ∙ sym q
+one_schedule (Some text) s t p q = one_spelled text s t p q
+
+one_items : (text : Option Text) (m n : ℕ) → HasItems text m → HasItems text n → m ≡ n
+one_items None m n p q = p ∙ sym q
+one_items (Some text) m n p q = one_count 100000 (Some text) m n (omega arith) p q
+
+one_number : (text : Option Text) (m n : ℕ) → HasNumber text m → HasNumber text n → m ≡ n
+one_number text m n p q =
+    let texts : Some (decimal m) ≡ Some (decimal n) = sym p.spelled ∙ q.spelled in
+    let same : decimal m ≡ decimal n = cc in
+    let a = p.most_is in
+    let b = q.most_is in
+    decimal_injective m n (omega arith) (omega arith) same
+
+-- a name that was found
+one_name : (text : Option Text) (m n : Text) → text ≡ Some m → text ≡ Some n → m ≡ n
+one_name text m n p q = (let same : Some m ≡ Some n = sym p ∙ q in cc)
+
+-- one way to build
+one_build : (found : List Row) (capacity : Option Text) (a b : Build) → HasBuild found capacity a → HasBuild found capacity b → a ≡ b
+one_build found capacity a b p q = λ i. record {
+  program = one_name _ _ _ p.program q.program i;
+  processors = one_count 512 _ _ _ (omega arith) p.processors q.processors i;
+  costs = (p.costs ∙ sym q.costs) i;
+  capacity = one_capacity _ _ _ p.capacity_is q.capacity_is i;
+}
 
 -- what was found are the values of one command of a verb
 one_command : (found : List Row) (a b : Command) → verb_of a ≡ verb_of b → HasValues found a → HasValues found b → a ≡ b
-one_command found (command.Check p) (command.Check q) v ha hb = cc
-one_command found (command.Fmt p) (command.Fmt q) v ha hb = cc
-one_command found (command.Run x s t r) (command.Run x' s' t' r') v ha hb =
-    let program : x.program ≡ x'.program = cc in
-    let count : x.processors ≡ x'.processors = one_count _ _ _ ha.processors hb.processors in
-    same_run _ _ _ _ _ _ _ _ _ _ _ _ _ _ program count (ha.costs ∙ sym hb.costs) (ha.capacity ∙ sym hb.capacity) (ha.picks ∙ sym hb.picks) (ha.traced ∙ sym hb.traced) (ha.reported ∙ sym hb.reported)
+one_command found (command.Check p) (command.Check q) v ha hb = ap command.Check (one_name _ _ _ ha hb)
+one_command found (command.Fmt p) (command.Fmt q) v ha hb = ap command.Fmt (one_name _ _ _ ha hb)
+one_command found (command.Explain x c) (command.Explain y d) v ha hb = λ i. command.Explain (one_build _ _ x y ha.0 hb.0 i) ((ha.1 ∙ sym hb.1) i)
+one_command found (command.Compile x o) (command.Compile y p) v ha hb = λ i. command.Compile (one_build _ _ x y ha.0 hb.0 i) (one_name _ _ _ ha.1 hb.1 i)
+one_command found (command.Run x s t r) (command.Run y s' t' r') v ha hb = λ i.
+    command.Run (one_build _ _ x y ha.0 hb.0 i) (one_schedule _ _ _ ha.1.picks hb.1.picks i) ((ha.1.traced ∙ sym hb.1.traced) i) ((ha.1.reported ∙ sym hb.1.reported) i)
+one_command found (command.Exec x s t r) (command.Exec y s' t' r') v ha hb = λ i.
+    command.Exec (one_name _ _ _ ha.0 hb.0 i) (one_schedule _ _ _ ha.1.picks hb.1.picks i) ((ha.1.traced ∙ sym hb.1.traced) i) ((ha.1.reported ∙ sym hb.1.reported) i)
+one_command found (command.VerifyCert x c k) (command.VerifyCert y d l) v ha hb = λ i. command.VerifyCert (one_name _ _ _ ha.0 hb.0 i) (one_name _ _ _ ha.1 hb.1 i) ((ha.2 ∙ sym hb.2) i)
+one_command found (command.CheckTrace x t) (command.CheckTrace y u) v ha hb = λ i. command.CheckTrace (one_build _ _ x y ha.0 hb.0 i) (one_name _ _ _ ha.1 hb.1 i)
+one_command found (command.Gen m p k s t) (command.Gen n q l s' t') v ha hb = λ i.
+    command.Gen (one_number _ _ _ ha.number_is hb.number_is i) (one_count 512 _ _ _ (omega arith) ha.processors_are hb.processors_are i) (one_items _ _ _ ha.items_are hb.items_are i)
+    (one_schedule _ _ _ ha.picks hb.picks i) ((ha.saved ∙ sym hb.saved) i)
 one_command found a b v ha hb = cc
 
 pub spells_one_at_most : SpellsOneAtMost

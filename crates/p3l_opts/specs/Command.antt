@@ -1,5 +1,5 @@
 -- The words that spell a command.
-use Rattle.std.specs.Prelude.{◌≡◌, ℕ, ◌≤◌, Bool, false, List, [], Option, Some, None, bytes_eq, codes, map, slice_get}
+use Rattle.std.specs.Prelude.{◌≡◌, ℕ, ◌≤◌, ◌<◌, ◌^◌, ◌++◌, Bool, false, List, [], Option, Some, None, bytes_eq, codes, map, slice_get}
 use Rattle.std.specs.Borrow.{Bor}
 use Rattle.std.specs.Fmt.{decimal}
 use Rattle.clap.specs.Words.{Row, Text, first_of}
@@ -20,34 +20,95 @@ texts_of words = map (λ word. word.now) words
 abbrev pub verb_of : Command → Verb
 verb_of (command.Check program) = verb.Check
 verb_of (command.Fmt program) = verb.Fmt
+verb_of (command.Explain build cert) = verb.Explain
+verb_of (command.Compile build output) = verb.Compile
 verb_of (command.Run build schedule trace stats) = verb.Run
+verb_of (command.Exec image schedule trace stats) = verb.Exec
+verb_of (command.VerifyCert program cert costs) = verb.VerifyCert
+verb_of (command.CheckTrace build trace) = verb.CheckTrace
+verb_of (command.Gen number processors items schedule save) = verb.Gen
 
--- the text is a number of processors, in decimal digits without a sign and without a leading zero
-pub record HasProcessors (text : Option Text) (count : ℕ) : Type 0 where
+-- the text is a number from 1 to `most`, in decimal digits without a sign and without a leading zero
+pub record HasCount (most : ℕ) (text : Option Text) (count : ℕ) : Type 0 where
   pub spelled : text ≡ Some (decimal count)
   pub least : 1 ≤ count
-  pub most : count ≤ 512
+  pub most_is : count ≤ most
+
+-- the same of a number of processors
+abbrev pub HasProcessors : Option Text → ℕ → Type 0
+HasProcessors = HasCount 512
+
+-- the same of a capacity, which is 4 where no word spells it
+abbrev pub HasCapacity : Option Text → ℕ → Type 0
+HasCapacity None capacity = capacity ≡ 4
+HasCapacity (Some text) capacity = HasCount 1024 (Some text) capacity
+
+-- the text is `rr`, `seed:N` with a number of 64 bits in decimal digits without a leading zero, or `file:NAME`
+abbrev pub SpellsSchedule : Text → Sched → Type 0
+SpellsSchedule text sched.RoundRobin = text ≡ codes "rr"
+SpellsSchedule text (sched.Seeded seed) = (text ≡ codes "seed:" ++ decimal seed) × (seed < 2 ^ 64)
+SpellsSchedule text (sched.File name) = text ≡ codes "file:" ++ name
+
+-- the same of a schedule, which is `rr` where no word spells it
+abbrev pub HasSchedule : Option Text → Sched → Type 0
+HasSchedule None schedule = schedule ≡ sched.RoundRobin
+HasSchedule (Some text) schedule = SpellsSchedule text schedule
 
 -- the text of a flag is that of `true`
 abbrev pub says_true : Option Text → Bool
 says_true None = false
 says_true (Some text) = bytes_eq text (codes "true")
 
--- the values of `run`, of which those that no word spells have their defaults
-pub record HasRunValues (found : List Row) (build : Build) (schedule : Sched) (trace : Option Text) (stats : Bool) : Type 0 where
+-- the text is a number of 32 bits, in decimal digits without a sign and without a leading zero
+pub record HasNumber (text : Option Text) (number : ℕ) : Type 0 where
+  pub spelled : text ≡ Some (decimal number)
+  pub most_is : number < 2 ^ 32
+
+-- the text is a number of items, which is 1,000 where no word spells it
+abbrev pub HasItems : Option Text → ℕ → Type 0
+HasItems None items = items ≡ 1000
+HasItems (Some text) items = HasCount 100000 (Some text) items
+
+-- picks don't come from a file
+abbrev pub IsMade : Sched → Type 0
+IsMade sched.RoundRobin = Unit {0}
+IsMade (sched.Seeded seed) = Unit {0}
+IsMade (sched.File name) = ⊥
+
+-- how a network is built, where this is the text of its capacity
+pub record HasBuild (found : List Row) (capacity : Option Text) (build : Build) : Type 0 where
   pub program : first_of (codes "program") found ≡ Some build.program
   pub processors : HasProcessors (first_of (codes "processors") found) build.processors
-  pub costs : build.costs ≡ None
-  pub capacity : build.capacity ≡ 4
-  pub picks : schedule ≡ sched.RoundRobin
-  pub traced : trace ≡ None
+  pub costs : build.costs ≡ first_of (codes "costs") found
+  pub capacity_is : HasCapacity capacity build.capacity
+
+-- how a run goes on
+pub record HasRun (found : List Row) (schedule : Sched) (trace : Option Text) (stats : Bool) : Type 0 where
+  pub picks : HasSchedule (first_of (codes "schedule") found) schedule
+  pub traced : trace ≡ first_of (codes "trace") found
   pub reported : stats ≡ says_true (first_of (codes "stats") found)
 
--- the values of a command are those that were found
+-- what is generated, and how it is run
+pub record HasGen (found : List Row) (number processors items : ℕ) (schedule : Sched) (save : Option Text) : Type 0 where
+  pub number_is : HasNumber (first_of (codes "number") found) number
+  pub processors_are : HasProcessors (first_of (codes "processors") found) processors
+  pub items_are : HasItems (first_of (codes "items") found) items
+  pub picks : HasSchedule (first_of (codes "schedule") found) schedule
+  pub made : IsMade schedule
+  pub saved : save ≡ first_of (codes "save") found
+
+-- the values of a command are those that were found, of which those that no word spells have their defaults
 abbrev pub HasValues : List Row → Command → Type 0
 HasValues found (command.Check program) = first_of (codes "program") found ≡ Some program
 HasValues found (command.Fmt program) = first_of (codes "program") found ≡ Some program
-HasValues found (command.Run build schedule trace stats) = HasRunValues found build schedule trace stats
+HasValues found (command.Explain build cert) = HasBuild found None build × (cert ≡ first_of (codes "cert") found)
+HasValues found (command.Compile build output) = HasBuild found (first_of (codes "capacity") found) build × (first_of (codes "output") found ≡ Some output)
+HasValues found (command.Run build schedule trace stats) = HasBuild found (first_of (codes "capacity") found) build × HasRun found schedule trace stats
+HasValues found (command.Exec image schedule trace stats) = (first_of (codes "image") found ≡ Some image) × HasRun found schedule trace stats
+HasValues found (command.VerifyCert program cert costs) =
+    (first_of (codes "program") found ≡ Some program) × (first_of (codes "cert") found ≡ Some cert) × (costs ≡ first_of (codes "costs") found)
+HasValues found (command.CheckTrace build trace) = HasBuild found (first_of (codes "capacity") found) build × (first_of (codes "trace") found ≡ Some trace)
+HasValues found (command.Gen number processors items schedule save) = HasGen found number processors items schedule save
 
 -- the first word names the command, `clap` takes those behind it, and its values are what they spell
 pub record Spells (words : List Text) (command : Command) : Type 0 where

@@ -4,12 +4,13 @@ use Rattle.std.specs.Borrow.{Bor}
 use Rattle.clap.specs.Words.{App, Rule, Text, new_rule, with_rule}
 use Rattle.clap.specs.declared.builder.action.ArgAction.TheVariants.{SetTrue}
 use Rattle.p3l_opts.specs.declared.table.Form.{Form}
-use Rattle.p3l_opts.specs.declared.table.Form.TheVariants.{Positional, Mandatory, Flag}
+use Rattle.p3l_opts.specs.declared.table.Form.TheVariants.{Positional, Mandatory, Optional, Flag}
 
 -- what `clap` is told of a word of this form
 abbrev pub rule_for : Text → Form → Rule
 rule_for name Positional = record (new_rule name) { required = true }
 rule_for name Mandatory = record (new_rule name) { long = Some name; required = true }
+rule_for name Optional = record (new_rule name) { long = Some name }
 rule_for name Flag = record (new_rule name) { long = Some name; action = Some SetTrue }
 
 -- the command with one word more

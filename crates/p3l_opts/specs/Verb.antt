@@ -2,7 +2,7 @@
 use Rattle.std.specs.Prelude.{List, [], ◌∷◌, codes, fold}
 use Rattle.clap.specs.Words.{App, Kinds, Row, Rule, Text, fault_of, matches_of, new_app, with_rule}
 use Rattle.p3l_opts.specs.Table.{rule_for}
-use Rattle.p3l_opts.specs.declared.table.Form.TheVariants.{Positional, Mandatory, Flag}
+use Rattle.p3l_opts.specs.declared.table.Form.TheVariants.{Positional, Mandatory, Optional, Flag}
 use Rattle.p3l_opts.specs.declared.verb.Verb.{Verb}
 use Rattle.p3l_opts.specs.declared.verb.Verb.TheVariants as verb
 
@@ -10,16 +10,64 @@ use Rattle.p3l_opts.specs.declared.verb.Verb.TheVariants as verb
 abbrev pub name_of : Verb → Text
 name_of verb.Check = codes "check"
 name_of verb.Fmt = codes "fmt"
+name_of verb.Explain = codes "explain"
+name_of verb.Compile = codes "compile"
 name_of verb.Run = codes "run"
+name_of verb.Exec = codes "exec"
+name_of verb.VerifyCert = codes "verify-cert"
+name_of verb.CheckTrace = codes "check-trace"
+name_of verb.Gen = codes "gen"
 
 -- the words that may stand behind it
 abbrev pub rules_of : Verb → List Rule
 rules_of verb.Check = rule_for (codes "program") Positional ∷ []
 rules_of verb.Fmt = rule_for (codes "program") Positional ∷ []
+rules_of verb.Explain =
+    rule_for (codes "program") Positional
+    ∷ rule_for (codes "processors") Mandatory
+    ∷ rule_for (codes "costs") Optional
+    ∷ rule_for (codes "cert") Optional
+    ∷ []
+rules_of verb.Compile =
+    rule_for (codes "program") Positional
+    ∷ rule_for (codes "processors") Mandatory
+    ∷ rule_for (codes "output") Mandatory
+    ∷ rule_for (codes "costs") Optional
+    ∷ rule_for (codes "capacity") Optional
+    ∷ []
 rules_of verb.Run =
     rule_for (codes "program") Positional
     ∷ rule_for (codes "processors") Mandatory
+    ∷ rule_for (codes "costs") Optional
+    ∷ rule_for (codes "schedule") Optional
+    ∷ rule_for (codes "capacity") Optional
+    ∷ rule_for (codes "trace") Optional
     ∷ rule_for (codes "stats") Flag
+    ∷ []
+rules_of verb.Exec =
+    rule_for (codes "image") Positional
+    ∷ rule_for (codes "schedule") Optional
+    ∷ rule_for (codes "trace") Optional
+    ∷ rule_for (codes "stats") Flag
+    ∷ []
+rules_of verb.VerifyCert =
+    rule_for (codes "program") Positional
+    ∷ rule_for (codes "cert") Mandatory
+    ∷ rule_for (codes "costs") Optional
+    ∷ []
+rules_of verb.CheckTrace =
+    rule_for (codes "program") Positional
+    ∷ rule_for (codes "processors") Mandatory
+    ∷ rule_for (codes "trace") Mandatory
+    ∷ rule_for (codes "costs") Optional
+    ∷ rule_for (codes "capacity") Optional
+    ∷ []
+rules_of verb.Gen =
+    rule_for (codes "number") Positional
+    ∷ rule_for (codes "processors") Mandatory
+    ∷ rule_for (codes "items") Optional
+    ∷ rule_for (codes "schedule") Optional
+    ∷ rule_for (codes "save") Optional
     ∷ []
 
 -- the command as `clap` is told of it

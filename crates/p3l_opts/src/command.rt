@@ -12,10 +12,29 @@ pub enum Command {
     Check(Name),
     /// `fmt PROGRAM`: writes the canonical text of a program.
     Fmt(Name),
-    /// `run PROGRAM --processors P [--stats]`: runs a program on the input. It has how the network
-    /// is built, how picks are made, the name of the file for the trace, and whether the numbers of
-    /// the run are reported.
+    /// `explain PROGRAM --processors P [--costs FILE] [--cert FILE]`: writes the allocation. It has
+    /// how the network is built, and the name of the file for the certificate.
+    Explain(Build, Option<Name>),
+    /// `compile PROGRAM --processors P --output FILE [--costs FILE] [--capacity C]`: writes an image.
+    /// It has how the network is built, and the name of the image's file.
+    Compile(Build, Name),
+    /// `run PROGRAM --processors P [--costs FILE] [--schedule S] [--capacity C] [--trace FILE]
+    /// [--stats]`: runs a program on the input. It has how the network is built, how picks are made,
+    /// the name of the file for the trace, and whether the numbers of the run are reported.
     Run(Build, Sched, Option<Name>, bool),
+    /// `exec IMAGE [--schedule S] [--trace FILE] [--stats]`: runs an image on the input. It has the
+    /// name of the image's file, and the rest as `run`.
+    Exec(Name, Sched, Option<Name>, bool),
+    /// `verify-cert PROGRAM --cert FILE [--costs FILE]`: checks a certificate. It has the names of
+    /// the program's file, of the certificate's and of the costs'.
+    VerifyCert(Name, Name, Option<Name>),
+    /// `check-trace PROGRAM --processors P --trace FILE [--costs FILE] [--capacity C]`: checks a trace.
+    /// It has how the network is built, and the name of the trace's file.
+    CheckTrace(Build, Name),
+    /// `gen N --processors P [--items I] [--schedule S] [--save PREFIX]`: generates a program with
+    /// its input and runs it. It has the number, the processors, the items, how picks are made, and
+    /// what the names of saved files begin with.
+    Gen(u32, u32, u32, Sched, Option<Name>),
 }
 
 /// How a program's network is built.

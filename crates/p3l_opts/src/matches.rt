@@ -2,16 +2,32 @@
 
 ghost use Rattle.std.specs.Prelude.{◌≡◌, ◌≢◌, ℕ, [], Some, None, IfOk, IfSome, IfNone, IsErrOf, option_map};
 ghost use Rattle.clap.specs.Words.{first_of, found_of, kind_of, rows_of};
-ghost use Rattle.p3l_opts.specs.Command.{HasProcessors, says_true, texts_of};
+ghost use Rattle.p3l_opts.specs.Command.{HasCapacity, HasItems, HasNumber, HasProcessors, HasSchedule, says_true, texts_of};
+ghost use Rattle.p3l_opts.specs.declared.command.Sched.{Sched};
 ghost use Rattle.p3l_opts.specs.Verb.{faults, rows};
 
-use crate::command::OptsRefusal;
-use crate::value::processors_of;
+use crate::command::{OptsRefusal, Sched};
+use crate::value::{count_of, number_in, schedule_of};
 use crate::verb::{Verb, clap_command};
 use clap::error::ErrorKind;
 use clap::{ArgMatches, Error};
-use p3l_base::Name;
+use p3l_base::{Name, NoMemory};
 use std::alloc::Global;
+
+/// The most processors that a program can be given.
+const MOST_PROCESSORS: u32 = 512;
+
+/// The most tokens that a channel can be told to hold.
+const MOST_CAPACITY: u32 = 1024;
+
+/// How many tokens a channel holds at most where the words don't say it.
+pub(crate) const DEFAULT_CAPACITY: u32 = 4;
+
+/// The most items that can be generated.
+const MOST_ITEMS: u32 = 100_000;
+
+/// How many items are generated where the words don't say it.
+const DEFAULT_ITEMS: u32 = 1000;
 
 /// What `clap` finds in the words, if it takes those behind the first as words of this verb.
 pub(crate) fn matches_of<'a>(
@@ -61,13 +77,75 @@ pub(crate) fn name_of(alloc: Global, matches: &ArgMatches, id: &str) -> Result<N
     }
 }
 
+/// The name that the words have for a value, if they have one.
+pub(crate) fn name_if_given(
+    alloc: Global,
+    matches: &ArgMatches,
+    id: &str,
+) -> Result<Option<Name>, NoMemory>
+    ensures { IfOk result (λ name. name ≡ first_of id.now (rows_of (found_of matches.now))) }
+{
+    match text_of(matches, id) {
+        Some(text) => Ok(Some(Name::from_text(alloc, text)?)),
+        None => Ok(None),
+    }
+}
+
 /// The number of processors that the words have for a value.
 pub(crate) fn processors_in(matches: &ArgMatches, id: &str) -> Option<u32>
     ensures some { IfSome result (HasProcessors (first_of id.now (rows_of (found_of matches.now)))) }
     ensures none { IfNone result ((count : ℕ) → HasProcessors (first_of id.now (rows_of (found_of matches.now))) count → ⊥) }
 {
     match text_of(matches, id) {
-        Some(text) => processors_of(text),
+        Some(text) => count_of(text, MOST_PROCESSORS),
+        None => None,
+    }
+}
+
+/// The capacity that the words have for a value, or the default.
+pub(crate) fn capacity_in(matches: &ArgMatches, id: &str) -> Option<u32>
+    ensures some { IfSome result (HasCapacity (first_of id.now (rows_of (found_of matches.now)))) }
+    ensures none { IfNone result ((capacity : ℕ) → HasCapacity (first_of id.now (rows_of (found_of matches.now))) capacity → ⊥) }
+{
+    match text_of(matches, id) {
+        Some(text) => count_of(text, MOST_CAPACITY),
+        None => Some(DEFAULT_CAPACITY),
+    }
+}
+
+/// The schedule that the words have for a value, or round robin.
+pub(crate) fn schedule_in(
+    alloc: Global,
+    matches: &ArgMatches,
+    id: &str,
+) -> Result<Sched, OptsRefusal>
+    ensures ok { IfOk result (HasSchedule (first_of id.now (rows_of (found_of matches.now)))) }
+    ensures usage { IsErrOf result OptsRefusal.Usage → (schedule : Sched) → HasSchedule (first_of id.now (rows_of (found_of matches.now))) schedule → ⊥ }
+{
+    match text_of(matches, id) {
+        Some(text) => schedule_of(alloc, text),
+        None => Ok(Sched::RoundRobin),
+    }
+}
+
+/// The number of items that the words have for a value, or the default.
+pub(crate) fn items_in(matches: &ArgMatches, id: &str) -> Option<u32>
+    ensures some { IfSome result (HasItems (first_of id.now (rows_of (found_of matches.now)))) }
+    ensures none { IfNone result ((items : ℕ) → HasItems (first_of id.now (rows_of (found_of matches.now))) items → ⊥) }
+{
+    match text_of(matches, id) {
+        Some(text) => count_of(text, MOST_ITEMS),
+        None => Some(DEFAULT_ITEMS),
+    }
+}
+
+/// The number of 32 bits that the words have for a value.
+pub(crate) fn number_of(matches: &ArgMatches, id: &str) -> Option<u32>
+    ensures some { IfSome result (HasNumber (first_of id.now (rows_of (found_of matches.now)))) }
+    ensures none { IfNone result ((number : ℕ) → HasNumber (first_of id.now (rows_of (found_of matches.now))) number → ⊥) }
+{
+    match text_of(matches, id) {
+        Some(text) => number_in(text),
         None => None,
     }
 }

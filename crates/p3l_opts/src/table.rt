@@ -14,6 +14,8 @@ pub(crate) enum Form {
     Positional,
     /// `--name VALUE`, which has to be there.
     Mandatory,
+    /// `--name VALUE`.
+    Optional,
     /// `--name`.
     Flag,
 }
@@ -27,6 +29,7 @@ fn arg_for<'a>(alloc: Global, name: &'a str, form: Form) -> Arg<'a>
     match form {
         Form::Positional => arg.required(true),
         Form::Mandatory => arg.long(name).required(true),
+        Form::Optional => arg.long(name),
         Form::Flag => arg.long(name).action(ArgAction::SetTrue),
     }
 }

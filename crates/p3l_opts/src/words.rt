@@ -1,18 +1,18 @@
 // The command that the words of a command line spell.
 
-ghost use Rattle.std.specs.Prelude.{◌≡◌, Some, IfOk, IsErrOf, slice_get};
-ghost use Rattle.clap.specs.Words.{found_of, rows_of};
-ghost use Rattle.p3l_opts.specs.Command.{HasValues, Spells, texts_of, verb_of};
+ghost use Rattle.std.specs.Prelude.{◌≡◌, ℕ, List, Option, None, Some, IfOk, IsErrOf, codes, slice_get};
+ghost use Rattle.clap.specs.Words.{first_of, found_of, rows_of};
+ghost use Rattle.p3l_opts.specs.Command.{HasBuild, HasCapacity, HasSchedule, HasValues, IsMade, Spells, texts_of, verb_of};
 ghost use Rattle.p3l_opts.specs.Verb.{name_of};
 
 use crate::command::{Build, Command, OptsRefusal, Sched};
-use crate::matches::{is_given, matches_of, name_of, processors_in};
+use crate::matches::{
+    DEFAULT_CAPACITY, capacity_in, is_given, items_in, matches_of, name_if_given, name_of,
+    number_of, processors_in, schedule_in,
+};
 use crate::verb::{Verb, verb_of};
 use clap::ArgMatches;
 use std::alloc::Global;
-
-/// How many tokens a channel holds at most where the words don't say it.
-const DEFAULT_CAPACITY: u32 = 4;
 
 /// The command that the words spell; the program's own name is none of them.
 pub fn parse(alloc: Global, words: &[&str]) -> Result<Command, OptsRefusal>
@@ -44,21 +44,155 @@ fn command_of(alloc: Global, verb: Verb, matches: &ArgMatches) -> Result<Command
     ensures values { IfOk result (HasValues (rows_of (found_of matches.now))) }
     ensures usage { IsErrOf result OptsRefusal.Usage → (command : Command) → verb_of command ≡ verb → HasValues (rows_of (found_of matches.now)) command → ⊥ }
 {
-    let program = name_of(alloc, matches, "program")?;
     match verb {
-        Verb::Check => Ok(Command::Check(program)),
-        Verb::Fmt => Ok(Command::Fmt(program)),
-        Verb::Run => {
-            let Some(processors) = processors_in(matches, "processors") else {
-                return Err(OptsRefusal::Usage);
-            };
-            let build = Build {
-                program,
-                processors,
-                costs: None,
-                capacity: DEFAULT_CAPACITY,
-            };
-            Ok(Command::Run(build, Sched::RoundRobin, None, is_given(matches, "stats")))
-        }
+        Verb::Check => Ok(Command::Check(name_of(alloc, matches, "program")?)),
+        Verb::Fmt => Ok(Command::Fmt(name_of(alloc, matches, "program")?)),
+        Verb::Explain => explain_of(alloc, matches),
+        Verb::Compile => compile_of(alloc, matches),
+        Verb::Run => run_of(alloc, matches),
+        Verb::Exec => exec_of(alloc, matches),
+        Verb::VerifyCert => verify_cert_of(alloc, matches),
+        Verb::CheckTrace => check_trace_of(alloc, matches),
+        Verb::Gen => gen_of(alloc, matches),
+    }
+}
+
+/// How a network of this capacity is built, by the other values that were found.
+fn build_with(alloc: Global, matches: &ArgMatches, capacity: u32) -> Result<Build, OptsRefusal>
+    ensures ok { IfOk result (λ build. (text : Option (List ℕ)) → HasCapacity text capacity → HasBuild (rows_of (found_of matches.now)) text build) }
+    ensures usage { IsErrOf result OptsRefusal.Usage → (text : Option (List ℕ)) (build : Build) → HasBuild (rows_of (found_of matches.now)) text build → ⊥ }
+{
+    let program = name_of(alloc, matches, "program")?;
+    let Some(processors) = processors_in(matches, "processors") else {
+        return Err(OptsRefusal::Usage);
+    };
+    let costs = name_if_given(alloc, matches, "costs")?;
+    Ok(Build {
+        program,
+        processors,
+        costs,
+        capacity,
+    })
+}
+
+/// How a network of the default capacity is built, by the other values that were found.
+fn plain_build_of(alloc: Global, matches: &ArgMatches) -> Result<Build, OptsRefusal>
+    ensures ok { IfOk result (HasBuild (rows_of (found_of matches.now)) None) }
+    ensures usage { IsErrOf result OptsRefusal.Usage → (build : Build) → HasBuild (rows_of (found_of matches.now)) None build → ⊥ }
+{
+    build_with(alloc, matches, DEFAULT_CAPACITY)
+}
+
+/// How a network is built, by the values that were found.
+fn build_of(alloc: Global, matches: &ArgMatches) -> Result<Build, OptsRefusal>
+    ensures ok { IfOk result (HasBuild (rows_of (found_of matches.now)) (first_of (codes "capacity") (rows_of (found_of matches.now)))) }
+    ensures usage { IsErrOf result OptsRefusal.Usage → (build : Build) → HasBuild (rows_of (found_of matches.now)) (first_of (codes "capacity") (rows_of (found_of matches.now))) build → ⊥ }
+{
+    let Some(capacity) = capacity_in(matches, "capacity") else {
+        return Err(OptsRefusal::Usage);
+    };
+    build_with(alloc, matches, capacity)
+}
+
+/// The command `explain` with the values that were found.
+fn explain_of(alloc: Global, matches: &ArgMatches) -> Result<Command, OptsRefusal>
+    ensures verb { IfOk result (λ command. verb_of command ≡ Verb.Explain) }
+    ensures values { IfOk result (HasValues (rows_of (found_of matches.now))) }
+    ensures usage { IsErrOf result OptsRefusal.Usage → (command : Command) → verb_of command ≡ Verb.Explain → HasValues (rows_of (found_of matches.now)) command → ⊥ }
+{
+    let build = plain_build_of(alloc, matches)?;
+    let cert = name_if_given(alloc, matches, "cert")?;
+    Ok(Command::Explain(build, cert))
+}
+
+/// The command `compile` with the values that were found.
+fn compile_of(alloc: Global, matches: &ArgMatches) -> Result<Command, OptsRefusal>
+    ensures verb { IfOk result (λ command. verb_of command ≡ Verb.Compile) }
+    ensures values { IfOk result (HasValues (rows_of (found_of matches.now))) }
+    ensures usage { IsErrOf result OptsRefusal.Usage → (command : Command) → verb_of command ≡ Verb.Compile → HasValues (rows_of (found_of matches.now)) command → ⊥ }
+{
+    let build = build_of(alloc, matches)?;
+    let output = name_of(alloc, matches, "output")?;
+    Ok(Command::Compile(build, output))
+}
+
+/// The command `run` with the values that were found.
+fn run_of(alloc: Global, matches: &ArgMatches) -> Result<Command, OptsRefusal>
+    ensures verb { IfOk result (λ command. verb_of command ≡ Verb.Run) }
+    ensures values { IfOk result (HasValues (rows_of (found_of matches.now))) }
+    ensures usage { IsErrOf result OptsRefusal.Usage → (command : Command) → verb_of command ≡ Verb.Run → HasValues (rows_of (found_of matches.now)) command → ⊥ }
+{
+    let build = build_of(alloc, matches)?;
+    let schedule = schedule_in(alloc, matches, "schedule")?;
+    let trace = name_if_given(alloc, matches, "trace")?;
+    let stats = is_given(matches, "stats");
+    Ok(Command::Run(build, schedule, trace, stats))
+}
+
+/// The command `exec` with the values that were found.
+fn exec_of(alloc: Global, matches: &ArgMatches) -> Result<Command, OptsRefusal>
+    ensures verb { IfOk result (λ command. verb_of command ≡ Verb.Exec) }
+    ensures values { IfOk result (HasValues (rows_of (found_of matches.now))) }
+    ensures usage { IsErrOf result OptsRefusal.Usage → (command : Command) → verb_of command ≡ Verb.Exec → HasValues (rows_of (found_of matches.now)) command → ⊥ }
+{
+    let image = name_of(alloc, matches, "image")?;
+    let schedule = schedule_in(alloc, matches, "schedule")?;
+    let trace = name_if_given(alloc, matches, "trace")?;
+    let stats = is_given(matches, "stats");
+    Ok(Command::Exec(image, schedule, trace, stats))
+}
+
+/// The command `verify-cert` with the values that were found.
+fn verify_cert_of(alloc: Global, matches: &ArgMatches) -> Result<Command, OptsRefusal>
+    ensures verb { IfOk result (λ command. verb_of command ≡ Verb.VerifyCert) }
+    ensures values { IfOk result (HasValues (rows_of (found_of matches.now))) }
+    ensures usage { IsErrOf result OptsRefusal.Usage → (command : Command) → verb_of command ≡ Verb.VerifyCert → HasValues (rows_of (found_of matches.now)) command → ⊥ }
+{
+    let program = name_of(alloc, matches, "program")?;
+    let cert = name_of(alloc, matches, "cert")?;
+    let costs = name_if_given(alloc, matches, "costs")?;
+    Ok(Command::VerifyCert(program, cert, costs))
+}
+
+/// The command `check-trace` with the values that were found.
+fn check_trace_of(alloc: Global, matches: &ArgMatches) -> Result<Command, OptsRefusal>
+    ensures verb { IfOk result (λ command. verb_of command ≡ Verb.CheckTrace) }
+    ensures values { IfOk result (HasValues (rows_of (found_of matches.now))) }
+    ensures usage { IsErrOf result OptsRefusal.Usage → (command : Command) → verb_of command ≡ Verb.CheckTrace → HasValues (rows_of (found_of matches.now)) command → ⊥ }
+{
+    let build = build_of(alloc, matches)?;
+    let trace = name_of(alloc, matches, "trace")?;
+    Ok(Command::CheckTrace(build, trace))
+}
+
+/// The command `gen` with the values that were found.
+fn gen_of(alloc: Global, matches: &ArgMatches) -> Result<Command, OptsRefusal>
+    ensures verb { IfOk result (λ command. verb_of command ≡ Verb.Gen) }
+    ensures values { IfOk result (HasValues (rows_of (found_of matches.now))) }
+    ensures usage { IsErrOf result OptsRefusal.Usage → (command : Command) → verb_of command ≡ Verb.Gen → HasValues (rows_of (found_of matches.now)) command → ⊥ }
+{
+    let Some(number) = number_of(matches, "number") else {
+        return Err(OptsRefusal::Usage);
+    };
+    let Some(processors) = processors_in(matches, "processors") else {
+        return Err(OptsRefusal::Usage);
+    };
+    let Some(items) = items_in(matches, "items") else {
+        return Err(OptsRefusal::Usage);
+    };
+    let schedule = made_in(alloc, matches, "schedule")?;
+    let save = name_if_given(alloc, matches, "save")?;
+    Ok(Command::Gen(number, processors, items, schedule, save))
+}
+
+/// The schedule that the words have for a value, or round robin, unless its picks stand in a file.
+fn made_in(alloc: Global, matches: &ArgMatches, id: &str) -> Result<Sched, OptsRefusal>
+    ensures ok { IfOk result (λ schedule. HasSchedule (first_of id.now (rows_of (found_of matches.now))) schedule × IsMade schedule) }
+    ensures usage { IsErrOf result OptsRefusal.Usage → (schedule : Sched) → HasSchedule (first_of id.now (rows_of (found_of matches.now))) schedule → IsMade schedule → ⊥ }
+{
+    match schedule_in(alloc, matches, id)? {
+        Sched::RoundRobin => Ok(Sched::RoundRobin),
+        Sched::Seeded(seed) => Ok(Sched::Seeded(seed)),
+        Sched::File(_) => Err(OptsRefusal::Usage),
     }
 }

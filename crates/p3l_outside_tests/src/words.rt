@@ -1,68 +1,220 @@
 // Words that spell commands, and words that spell none.
 
+use p3l_base::Name;
 use p3l_opts::{Build, Command, OptsRefusal, Sched, parse};
+use std::alloc::Global;
 use std::test::Fail;
 
-/// A command as one text: the name of the program's file, and for `run` the processors, the
-/// capacity, and what else is asked for.
-fn shown(alloc: std::alloc::Global, command: &Command) -> Result<String, Fail> {
+/// A command as one text: its values in their order, and a hyphen for a name that isn't there.
+fn shown(alloc: Global, command: &Command) -> Result<String, Fail> {
     Ok(match command {
         Command::Check(program) => format!(in alloc; "check {}", program.as_str())?,
         Command::Fmt(program) => format!(in alloc; "fmt {}", program.as_str())?,
-        Command::Run(build, Sched::RoundRobin, None, stats) => run_shown(alloc, build, *stats)?,
-        Command::Run(_, _, _, _) => String::from_str(alloc, "another run")?,
+        Command::Explain(build, cert) => {
+            let built = build_shown(alloc, build)?;
+            format!(in alloc; "explain {} {}", built.as_str(), or_hyphen(cert))?
+        }
+        Command::Compile(build, output) => {
+            let built = build_shown(alloc, build)?;
+            format!(in alloc; "compile {} {}", built.as_str(), output.as_str())?
+        }
+        Command::Run(build, schedule, trace, stats) => {
+            let built = build_shown(alloc, build)?;
+            let picks = schedule_shown(alloc, schedule)?;
+            let trace = or_hyphen(trace);
+            format!(in alloc; "run {} {} {trace} {stats}", built.as_str(), picks.as_str())?
+        }
+        Command::Exec(image, schedule, trace, stats) => {
+            let picks = schedule_shown(alloc, schedule)?;
+            let trace = or_hyphen(trace);
+            format!(in alloc;
+                "exec {} {} {trace} {stats}",
+                image.as_str(),
+                picks.as_str()
+            )?
+        }
+        Command::VerifyCert(program, cert, costs) => {
+            let program = program.as_str();
+            let cert = cert.as_str();
+            format!(in alloc; "verify-cert {program} {cert} {}", or_hyphen(costs))?
+        }
+        Command::CheckTrace(build, trace) => {
+            let built = build_shown(alloc, build)?;
+            format!(in alloc; "check-trace {} {}", built.as_str(), trace.as_str())?
+        }
+        Command::Gen(number, processors, items, schedule, save) => {
+            let picks = schedule_shown(alloc, schedule)?;
+            let save = or_hyphen(save);
+            format!(in alloc;
+                "gen {number} {processors} {items} {} {save}",
+                picks.as_str()
+            )?
+        }
     })
 }
 
-/// A command `run` under round robin without a trace.
-fn run_shown(alloc: std::alloc::Global, build: &Build, stats: bool) -> Result<String, Fail> {
-    let costs = build.costs.is_some();
+/// A name, or a hyphen.
+fn or_hyphen(name: &Option<Name>) -> &str {
+    match name {
+        Some(name) => name.as_str(),
+        None => "-",
+    }
+}
+
+/// How a network is built, as one text.
+fn build_shown(alloc: Global, build: &Build) -> Result<String, Fail> {
+    let program = build.program.as_str();
+    let processors = build.processors;
+    let capacity = build.capacity;
     Ok(format!(in alloc;
-        "run {} {} {} {costs} {stats}",
-        build.program.as_str(),
-        build.processors,
-        build.capacity
+        "{program} {processors} {} {capacity}",
+        or_hyphen(&build.costs)
     )?)
+}
+
+/// How picks are made, as the words have it.
+fn schedule_shown(alloc: Global, schedule: &Sched) -> Result<String, Fail> {
+    Ok(match schedule {
+        Sched::RoundRobin => String::from_str(alloc, "rr")?,
+        Sched::Seeded(seed) => format!(in alloc; "seed:{seed}")?,
+        Sched::File(name) => format!(in alloc; "file:{}", name.as_str())?,
+    })
 }
 
 #[test]
 fn words_spell_commands(rt: HostRuntime) -> Result<(), Fail> {
-    let table: [(&[&str], &str); 14] = [
+    let table: [(&[&str], &str); 27] = [
         (&["check", "m.p3l"], "check m.p3l"),
         (&["fmt", "m.p3l"], "fmt m.p3l"),
         (&["fmt", "--", "--odd"], "fmt --odd"),
         (&["fmt", ""], "fmt "),
         (
             &["run", "m.p3l", "--processors", "4"],
-            "run m.p3l 4 4 false false",
+            "run m.p3l 4 - 4 rr - false",
         ),
         (
             &["run", "--processors", "512", "m.p3l"],
-            "run m.p3l 512 4 false false",
+            "run m.p3l 512 - 4 rr - false",
         ),
         (
             &["run", "--stats", "--processors=1", "m.p3l"],
-            "run m.p3l 1 4 false true",
+            "run m.p3l 1 - 4 rr - true",
         ),
         (
             &["run", "m.p3l", "--processors", "16", "--stats"],
-            "run m.p3l 16 4 false true",
+            "run m.p3l 16 - 4 rr - true",
         ),
         (
             &["run", "--processors", "9", "--", "m.p3l"],
-            "run m.p3l 9 4 false false",
+            "run m.p3l 9 - 4 rr - false",
         ),
         (
             &["run", "-", "--processors", "10"],
-            "run - 10 4 false false",
+            "run - 10 - 4 rr - false",
         ),
         (
             &["run", "a b", "--processors", "99"],
-            "run a b 99 4 false false",
+            "run a b 99 - 4 rr - false",
         ),
         (
             &["run", "run", "--processors", "2"],
-            "run run 2 4 false false",
+            "run run 2 - 4 rr - false",
+        ),
+        (
+            &[
+                "run",
+                "m.p3l",
+                "--processors=4",
+                "--schedule",
+                "seed:0",
+                "--capacity=1",
+            ],
+            "run m.p3l 4 - 1 seed:0 - false",
+        ),
+        (
+            &[
+                "run",
+                "--schedule=seed:18446744073709551615",
+                "m.p3l",
+                "--processors",
+                "4",
+            ],
+            "run m.p3l 4 - 4 seed:18446744073709551615 - false",
+        ),
+        (
+            &[
+                "run",
+                "m",
+                "--processors",
+                "4",
+                "--schedule",
+                "file:p",
+                "--costs=c",
+                "--trace=t",
+            ],
+            "run m 4 c 4 file:p t false",
+        ),
+        (
+            &[
+                "run",
+                "m",
+                "--processors",
+                "4",
+                "--schedule",
+                "file:",
+                "--capacity",
+                "1024",
+            ],
+            "run m 4 - 1024 file: - false",
+        ),
+        (
+            &["run", "m", "--schedule", "rr", "--processors", "4"],
+            "run m 4 - 4 rr - false",
+        ),
+        (
+            &[
+                "explain",
+                "a.p3l",
+                "--processors",
+                "8",
+                "--costs",
+                "a.toml",
+                "--cert",
+                "x",
+            ],
+            "explain a.p3l 8 a.toml 4 x",
+        ),
+        (
+            &[
+                "compile",
+                "a",
+                "--output=i",
+                "--processors=8",
+                "--capacity=2",
+            ],
+            "compile a 8 - 2 i",
+        ),
+        (&["exec", "i", "--stats"], "exec i rr - true"),
+        (
+            &["exec", "i", "--schedule", "seed:7", "--trace", "t"],
+            "exec i seed:7 t false",
+        ),
+        (&["verify-cert", "a", "--cert", "x"], "verify-cert a x -"),
+        (
+            &["check-trace", "a", "--trace", "t", "--processors", "3"],
+            "check-trace a 3 - 4 t",
+        ),
+        (&["gen", "0", "--processors", "16"], "gen 0 16 1000 rr -"),
+        (
+            &[
+                "gen",
+                "4294967295",
+                "--processors=1",
+                "--items=100000",
+                "--save",
+                "s",
+            ],
+            "gen 4294967295 1 100000 rr s",
         ),
         (&["check", "check"], "check check"),
         (&["check", "-"], "check -"),
@@ -76,7 +228,7 @@ fn words_spell_commands(rt: HostRuntime) -> Result<(), Fail> {
 
 #[test]
 fn other_words_spell_none(rt: HostRuntime) -> Result<(), Fail> {
-    let table: [&[&str]; 31] = [
+    let table: [&[&str]; 48] = [
         &[],
         &["walk"],
         &[""],
@@ -107,6 +259,30 @@ fn other_words_spell_none(rt: HostRuntime) -> Result<(), Fail> {
         &["fmt", "m.p3l", "--stats"],
         &["check"],
         &["check", "m.p3l", "--processors", "4"],
+        &["run", "m", "--processors", "4", "--schedule", "seed:007"],
+        &["run", "m", "--processors", "4", "--schedule", "seed:"],
+        &[
+            "run",
+            "m",
+            "--processors",
+            "4",
+            "--schedule",
+            "seed:18446744073709551616",
+        ],
+        &["run", "m", "--processors", "4", "--schedule", "RR"],
+        &["run", "m", "--processors", "4", "--schedule", ""],
+        &["run", "m", "--processors", "4", "--capacity", "0"],
+        &["run", "m", "--processors", "4", "--capacity", "1025"],
+        &["explain", "m", "--processors", "4", "--capacity", "1"],
+        &["compile", "m", "--processors", "4"],
+        &["exec", "i", "--processors", "4"],
+        &["verify-cert", "m"],
+        &["check-trace", "m", "--processors", "4"],
+        &["gen", "4294967296", "--processors", "4"],
+        &["gen", "01", "--processors", "4"],
+        &["gen", "1", "--processors", "4", "--items", "0"],
+        &["gen", "1", "--processors", "4", "--items", "100001"],
+        &["gen", "1", "--processors", "4", "--schedule", "file:p"],
         &["m.p3l", "check"],
     ];
     for words in table {

@@ -1,5 +1,5 @@
 -- Which verdicts have a status.
-use Rattle.std.proofs.Common.{◌≡◌, ℕ, Bool, true, false, Option, refl, sym, ap, ◌∙◌, arith}
+use Rattle.std.proofs.Common.{◌≡◌, ℕ, true, false, Option, refl, sym, ap, ◌∙◌, arith}
 use Rattle.p3l_ast.specs.declared.position.Pos.{Pos}
 use Rattle.p3l_ast.specs.declared.refusal.Fault.{Fault}
 use Rattle.p3l_stream.specs.declared.items.Ending.{Ending}
@@ -20,9 +20,11 @@ refusal_kind refusal.Usage = refl
 refusal_kind (refusal.FileFault name) = refl
 refusal_kind (refusal.FileTooLong name) = refl
 refusal_kind (refusal.Source fault pos) = refl
+refusal_kind (refusal.Costs fault) = refl
 refusal_kind (refusal.TooFew need) = refl
 refusal_kind (refusal.BadPick line) = refl
 refusal_kind (refusal.NoSuchProcess line pick count) = refl
+refusal_kind (refusal.Evidence evidence) = refl
 
 ending_kind : (e : Ending) → status.is_end (ending_status e) ≡ true
 ending_kind ending.End = refl
@@ -57,9 +59,11 @@ refusal_other refusal.Usage = refl
 refusal_other (refusal.FileFault name) = refl
 refusal_other (refusal.FileTooLong name) = refl
 refusal_other (refusal.Source fault pos) = refl
+refusal_other (refusal.Costs fault) = refl
 refusal_other (refusal.TooFew need) = refl
 refusal_other (refusal.BadPick line) = refl
 refusal_other (refusal.NoSuchProcess line pick count) = refl
+refusal_other (refusal.Evidence evidence) = refl
 
 -- a verdict that is a refusal of this status
 pub record IsRefusedWith (v : Verdict) (n : ℕ) : Type 0 where

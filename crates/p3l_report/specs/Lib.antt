@@ -1,3 +1,5 @@
+pub mod CostFault
+pub mod Evidence
 pub mod Status
 pub mod LineFault
 pub mod Trap

@@ -17,6 +17,10 @@ usage = 2
 abbrev pub source : ℕ
 source = 3
 
+-- the file of costs is refused
+abbrev pub costs : ℕ
+costs = 4
+
 -- no counts of workers fit the processors
 abbrev pub too_few : ℕ
 too_few = 5
@@ -49,13 +53,17 @@ no_memory = 11
 abbrev pub schedule : ℕ
 schedule = 12
 
+-- an image, a certificate or a trace is refused
+abbrev pub evidence : ℕ
+evidence = 13
+
 -- the limit of the input was reached
 abbrev pub too_long : ℕ
 too_long = 14
 
 -- the statuses of commands that are refused before anything is touched
 abbrev pub is_refusal : ℕ → Bool
-is_refusal n = n == usage || n == source || n == too_few || n == file || n == schedule
+is_refusal n = n == usage || n == source || n == costs || n == too_few || n == file || n == schedule || n == evidence
 
 -- the statuses of commands that come to their end
 abbrev pub is_end : ℕ → Bool

@@ -1,15 +1,16 @@
 -- The statuses of verdicts, and the lines that are due with them.
-use Rattle.std.specs.Prelude.{ℕ, List, [], ◌++◌, codes, Option, Some, None}
+use Rattle.std.specs.Prelude.{ℕ, List, [], ◌++◌, codes, Some, None}
 use Rattle.p3l_stream.specs.declared.items.Ending.{Ending}
 use Rattle.p3l_stream.specs.declared.items.Ending.TheVariants as ending
 use Rattle.p3l_report.specs.declared.line_fault.LineFault.TheVariants as fault
-use Rattle.p3l_report.specs.declared.stats.Stats.{Stats}
 use Rattle.p3l_report.specs.declared.verdict.Refusal.{Refusal}
 use Rattle.p3l_report.specs.declared.verdict.Refusal.TheVariants as refusal
 use Rattle.p3l_report.specs.declared.verdict.Finish.{Finish}
 use Rattle.p3l_report.specs.declared.verdict.Finish.TheVariants as finish
 use Rattle.p3l_report.specs.declared.verdict.Verdict.{Verdict}
 use Rattle.p3l_report.specs.declared.verdict.Verdict.TheVariants as verdict
+use Rattle.p3l_report.specs.CostFault.{cost_line}
+use Rattle.p3l_report.specs.Evidence.{evidence_line}
 use Rattle.p3l_report.specs.Line.{counted_line, named_line, need_line, pick_line, source_line, stats_line, stopped_line, told_line, trap_line}
 use Rattle.p3l_report.specs.Status as status
 
@@ -19,9 +20,11 @@ refusal_status refusal.Usage = status.usage
 refusal_status (refusal.FileFault name) = status.file
 refusal_status (refusal.FileTooLong name) = status.file
 refusal_status (refusal.Source fault pos) = status.source
+refusal_status (refusal.Costs fault) = status.costs
 refusal_status (refusal.TooFew need) = status.too_few
 refusal_status (refusal.BadPick line) = status.schedule
 refusal_status (refusal.NoSuchProcess line pick count) = status.schedule
+refusal_status (refusal.Evidence evidence) = status.evidence
 
 -- the status of a run whose stream ended so
 abbrev pub ending_status : Ending → ℕ
@@ -52,9 +55,11 @@ refusal_line refusal.Usage = codes "usage: the words are not a command of p3l\n"
 refusal_line (refusal.FileFault name) = named_line (codes "file fault") name
 refusal_line (refusal.FileTooLong name) = named_line (codes "file too long") name
 refusal_line (refusal.Source fault pos) = source_line fault pos
+refusal_line (refusal.Costs fault) = cost_line fault
 refusal_line (refusal.TooFew need) = need_line need
 refusal_line (refusal.BadPick line) = told_line (codes "schedule") line fault.BadPick
 refusal_line (refusal.NoSuchProcess line pick count) = pick_line line fault.NoSuchProcess pick count
+refusal_line (refusal.Evidence evidence) = evidence_line evidence
 
 -- the line of a run whose stream ended so, or no bytes where none is due
 abbrev pub ending_line : Ending → List ℕ

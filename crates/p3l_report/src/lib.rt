@@ -1,6 +1,8 @@
 //! What the program answers: how a command ended, with which status, and the lines that say so.
 #![tactic(auto)]
 
+pub mod cost_fault;
+pub mod evidence;
 pub mod line;
 pub mod line_fault;
 pub mod report;
@@ -8,6 +10,8 @@ pub mod stats;
 pub mod trap;
 pub mod verdict;
 
+pub use cost_fault::CostFault;
+pub use evidence::{Claim, Evidence};
 pub use line_fault::LineFault;
 pub use report::{put_no_memory, put_report, report_of};
 pub use stats::Stats;

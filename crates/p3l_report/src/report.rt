@@ -6,6 +6,8 @@ ghost use Rattle.p3l_report.specs.declared.verdict.Verdict.TheVariants as verdic
 ghost use Rattle.p3l_report.specs.Verdict.{ending_line, finish_line, lines_of, refusal_line, reported_line, status_line};
 ghost use Rattle.p3l_report.specs.Report.{optional_text, report_text};
 
+use crate::cost_fault::cost_line;
+use crate::evidence::evidence_line;
 use crate::line::{
     Line, count_line, fault_line, few_line, file_line, numbers_line, picks_line, process_line,
     refused_line, trapped_line,
@@ -33,6 +35,7 @@ fn line_of_refusal(alloc: Global, refusal: &Refusal) -> Result<Line, NoMemory>
         Refusal::FileFault(name) => file_line(alloc, "file fault", name),
         Refusal::FileTooLong(name) => file_line(alloc, "file too long", name),
         Refusal::Source { fault, pos } => fault_line(alloc, *fault, *pos),
+        Refusal::Costs(fault) => cost_line(alloc, fault),
         Refusal::TooFew { need } => few_line(alloc, *need),
         Refusal::BadPick { line } => refused_line(alloc, "schedule", *line, LineFault::BadPick),
         Refusal::NoSuchProcess { line, pick, count } => process_line(
@@ -42,6 +45,7 @@ fn line_of_refusal(alloc: Global, refusal: &Refusal) -> Result<Line, NoMemory>
             *pick,
             *count,
         ),
+        Refusal::Evidence(evidence) => evidence_line(alloc, evidence),
     }
 }
 

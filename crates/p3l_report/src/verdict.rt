@@ -3,6 +3,8 @@
 ghost use Rattle.std.specs.Prelude.{◌≡◌};
 ghost use Rattle.p3l_report.specs.Verdict.{ending_status, finish_status, refusal_status, status_of};
 
+use crate::cost_fault::CostFault;
+use crate::evidence::Evidence;
 use crate::stats::Stats;
 use p3l_ast::{Fault, Pos};
 use p3l_base::{Name, TrapKind};
@@ -23,12 +25,16 @@ pub enum Refusal {
     FileTooLong(Name),
     /// The text of the program is refused.
     Source { fault: Fault, pos: Pos },
+    /// The file of costs is refused.
+    Costs(CostFault),
     /// No counts of workers fit the processors; so many are needed at least.
     TooFew { need: u64 },
     /// A word of the file of picks is no number.
     BadPick { line: u64 },
     /// A pick is the number of no process, of which there are so many.
     NoSuchProcess { line: u64, pick: u64, count: u32 },
+    /// An image, a certificate or a trace is refused.
+    Evidence(Evidence),
 }
 
 /// How a command came to its end, with all written that was due by then.
@@ -73,8 +79,10 @@ impl Refusal {
             Refusal::Usage => Status(2),
             Refusal::FileFault(_) | Refusal::FileTooLong(_) => Status(9),
             Refusal::Source { .. } => Status(3),
+            Refusal::Costs(_) => Status(4),
             Refusal::TooFew { .. } => Status(5),
             Refusal::BadPick { .. } | Refusal::NoSuchProcess { .. } => Status(12),
+            Refusal::Evidence(_) => Status(13),
         }
     }
 }

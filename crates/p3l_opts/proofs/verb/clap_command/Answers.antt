@@ -10,6 +10,30 @@ pub returns-in-Fmt : goal.returns-in-Fmt
 unfolding app_for
 returns-in-Fmt c = rw c.in-Fmt.is (IfOk-weaker c.command_with-in-Fmt.result _ _ (λ r e. e) c.command_with-in-Fmt.ensures)
 
+pub returns-in-Explain : goal.returns-in-Explain
+unfolding app_for
+returns-in-Explain c = rw c.in-Explain.is (IfOk-weaker c.command_with-in-Explain.result _ _ (λ r e. e) c.command_with-in-Explain.ensures)
+
+pub returns-in-Compile : goal.returns-in-Compile
+unfolding app_for
+returns-in-Compile c = rw c.in-Compile.is (IfOk-weaker c.command_with-in-Compile.result _ _ (λ r e. e) c.command_with-in-Compile.ensures)
+
 pub returns-in-Run : goal.returns-in-Run
 unfolding app_for
 returns-in-Run c = rw c.in-Run.is (IfOk-weaker c.command_with-in-Run.result _ _ (λ r e. e) c.command_with-in-Run.ensures)
+
+pub returns-in-Exec : goal.returns-in-Exec
+unfolding app_for
+returns-in-Exec c = rw c.in-Exec.is (IfOk-weaker c.command_with-in-Exec.result _ _ (λ r e. e) c.command_with-in-Exec.ensures)
+
+pub returns-in-VerifyCert : goal.returns-in-VerifyCert
+unfolding app_for
+returns-in-VerifyCert c = rw c.in-VerifyCert.is (IfOk-weaker c.command_with-in-VerifyCert.result _ _ (λ r e. e) c.command_with-in-VerifyCert.ensures)
+
+pub returns-in-CheckTrace : goal.returns-in-CheckTrace
+unfolding app_for
+returns-in-CheckTrace c = rw c.in-CheckTrace.is (IfOk-weaker c.command_with-in-CheckTrace.result _ _ (λ r e. e) c.command_with-in-CheckTrace.ensures)
+
+pub returns-in-Gen : goal.returns-in-Gen
+unfolding app_for
+returns-in-Gen c = rw c.in-Gen.is (IfOk-weaker c.command_with-in-Gen.result _ _ (λ r e. e) c.command_with-in-Gen.ensures)
