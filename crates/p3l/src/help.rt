@@ -6,22 +6,51 @@ const PROGRAM: &str = "p3l compiles P3L programs to networks of processes, and r
 usage: p3l COMMAND ..
 
 commands:
-  run PROGRAM --processors P [--stats]   run a program on the standard input
-  fmt PROGRAM                            write a program in its canonical text
+  run PROGRAM --processors P ..       run a program on the standard input
+  explain PROGRAM --processors P ..   write the worker counts that are chosen for a program
+  check PROGRAM                       say whether a program keeps the rules of the language
+  fmt PROGRAM                         write a program in its canonical text
 
 p3l COMMAND --help says more. --version gives the version.
 ";
 
 /// What `run` does.
-const RUN: &str = "usage: p3l run PROGRAM --processors P [--stats]
+const RUN: &str =
+    "usage: p3l run PROGRAM --processors P [--costs FILE] [--schedule S] [--capacity C] [--stats]
 
 Reads items from the standard input, one a line, and writes one line for each result.
 
   PROGRAM          the file of the program
   --processors P   how many processors there are, 1 to 512
+  --costs FILE     the costs by which worker counts are chosen; without them the standard costs
+  --schedule S     how processes take turns: rr (the default), seed:N or file:NAME
+  --capacity C     how many tokens a channel holds at most, 1 to 1,024 (4 if not given)
   --stats          put a line on the run's numbers on the standard error
 
-example: p3l run m.p3l --processors 4 < items
+example: p3l run m.p3l --processors 16 --schedule seed:7 < items
+";
+
+/// What `explain` does.
+const EXPLAIN: &str = "usage: p3l explain PROGRAM --processors P [--costs FILE]
+
+Writes the worker counts that are chosen for a program, with the processes and the service time
+of the whole and of each part.
+
+  PROGRAM          the file of the program
+  --processors P   how many processors there are, 1 to 512
+  --costs FILE     the costs of its modules; without them the standard costs
+
+example: p3l explain m.p3l --processors 16
+";
+
+/// What `check` does.
+const CHECK: &str = "usage: p3l check PROGRAM
+
+Says whether a program keeps the rules of the language, and how large it is.
+
+  PROGRAM          the file of the program
+
+example: p3l check m.p3l
 ";
 
 /// What `fmt` does.
@@ -51,6 +80,8 @@ fn is_version(word: &str) -> bool {
 fn help_of(command: &str) -> Option<&'static str> {
     match command {
         "run" => Some(RUN),
+        "explain" => Some(EXPLAIN),
+        "check" => Some(CHECK),
         "fmt" => Some(FMT),
         _ => None,
     }

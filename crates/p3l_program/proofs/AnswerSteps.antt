@@ -1,5 +1,5 @@
 -- What an answer says of its status.
-use Rattle.std.proofs.Common.{◌≡◌, ◌≢◌, ℕ, ◌*◌, ◌<◌, Bool, true, List, [], ◌∷◌, ◌++◌, ◌⊎◌, length, Option, Some, None, refl, sym, ap, subst, inl, inr, ◌∙◌, arith, append-nil}
+use Rattle.std.proofs.Common.{◌≡◌, ◌≢◌, ℕ, ◌*◌, ◌<◌, Bool, true, List, [], ◌∷◌, ◌++◌, ◌⊎◌, length, Option, Some, None, refl, sym, ap, subst, cond, inl, inr, ◌∙◌, arith, append-nil, false}
 use Rattle.clap.specs.Words.{Text}
 use Rattle.p3l_base.specs.declared.outcome.Trap.{Trap}
 use Rattle.p3l_io.specs.Causes.{Rose}
@@ -20,29 +20,39 @@ use Rattle.p3l_report.specs.declared.verdict.Verdict.{Verdict}
 use Rattle.p3l_report.specs.declared.verdict.Verdict.TheVariants as verdict
 use Rattle.p3l_report.specs.Status as status
 use Rattle.p3l_report.specs.Verdict.{ending_status, finish_line, finish_status, lines_of, refusal_status, status_of}
-use Rattle.p3l_skel.specs.declared.tree.Tree.{Tree}
-use Rattle.p3l_stream.proofs.Endings.{items_ending}
+use Rattle.p3l_net.specs.Run.{Course}
 use Rattle.p3l_stream.specs.declared.items.Ending.{Ending}
 use Rattle.p3l_stream.specs.declared.items.Ending.TheVariants as ending
-use Rattle.p3l_stream.specs.declared.taken.Stop.{Stop}
-use Rattle.p3l_stream.specs.declared.taken.Stop.TheVariants as stop
-use Rattle.p3l_stream.specs.Items.{IsEndingOf, items_of, items_taken}
-use Rattle.p3l_stream.specs.Taken.{IsDrained}
+use Rattle.p3l_stream.specs.Answers.{IsAtEnd}
+use Rattle.p3l_stream.specs.Given.{Closes, GivenCause, ended_by as items_ended}
+use Rattle.p3l_stream.specs.Items.{items_of}
+use Rattle.p3l_stream.specs.Taken.{IsTaken}
 use Rattle.p3l_stream.specs.Text.{text_of}
-use Rattle.p3l_run.specs.Network.{meaning_of, width_of}
-use Rattle.p3l_run.specs.Run.{IsFinishCause, IsStreamCause, finish_of}
-use Rattle.p3l_run.specs.Steps.{trap_of}
+use Rattle.p3l_sched.specs.declared.schedule.Schedule.{Schedule}
+use Rattle.p3l_run.proofs.RunSteps.{nothing_comes}
+use Rattle.p3l_run.specs.Feed.{closed_so}
+use Rattle.p3l_run.specs.Network.{Network, course_of, goes_on, meaning_of, width_of}
+use Rattle.p3l_run.specs.Run.{Finishes, MayEnd, end_of, finish_of}
+use Rattle.p3l_run.specs.Trap.{trap_of}
 use Rattle.p3l_run.specs.Write.{HasPut}
 use Rattle.p3l_program.specs.Answer.{Answers, BeginsWork, HasTooLong, IsDone, IsDue, IsEndedWith, IsRefusedAt, IsRefusedWith, Reports, SpellsNone}
+use Rattle.p3l_program.specs.Check.{IsCounted}
 use Rattle.p3l_program.specs.Command.{Ends, IsDueOf, IsStatusDue, IsWhole, file_of, stages_of}
-use Rattle.p3l_program.specs.File.{IsTooLong}
+use Rattle.p3l_program.specs.Explain.{IsExplained}
+use Rattle.p3l_program.specs.File.{IsTooLong, text_limit}
+use Rattle.p3l_program.specs.Fmt.{IsFormatted}
 use Rattle.p3l_program.specs.Run.{Emits, EndsRun, RunsWhole}
-use Rattle.p3l_program.specs.Stage.{AllPass, FilesCause, IsRefusedBy, Stage, readable, runnable}
+use Rattle.p3l_program.specs.Stage.{AllPass, FilesCause, IsRefusedBy, Stage, readable, resolved}
 use Rattle.p3l_program.specs.Stage as stage
+use Rattle.p3l_program.specs.Text.{EndsText, WritesWhole}
 use Rattle.p3l_program.specs.World.{Change, HasNoFault, HasRisen, IsUntouched, World}
 use Rattle.p3l_program.proofs.DueSteps.{ends_begins}
-use Rattle.p3l_program.proofs.SeenSteps.{seen_status}
+use Rattle.p3l_program.proofs.SeenSteps.{at_end_left, seen_status}
 use Rattle.p3l_program.proofs.StageSteps.{not_longer, passed_all, refused_once}
+
+-- the stages of a build behind the reading of its program
+abbrev behind_read : Build → List Stage
+behind_read build = resolved build.program ∷ (stage.cost_stages build.program build.costs ++ stage.fitting build ∷ [])
 
 module _ (words : List Text) (w : World) where
   -- what was written begins what the command writes
@@ -91,23 +101,29 @@ module _ (words : List Text) (w : World) where
       stage_refuses r by verdict.NoMemory due = inr refl
 
     -- a file that is too long stops the first stage
-    module _ (held : Held) (told : w.files.old ≡ Some held) (name : List ℕ) (named : file_of c ≡ Some name) (longer : IsTooLong w.files.old name) where
-      not_read : (k : Command) → file_of k ≡ Some name → AllPass w.files (stages_of k) → ⊥
-      not_read (command.Check n) e p = absurd cc
-      not_read (command.Fmt n) e p = let same : n ≡ name = cc in not_longer w.files.old held told n p.0.0 p.0.1 (subst (λ m. IsTooLong w.files.old m) (sym same) longer)
-      not_read (command.Run build schedule trace reported) e p =
-          let same : build.program ≡ name = cc in not_longer w.files.old held told build.program p.0.0 p.0.1 (subst (λ m. IsTooLong w.files.old m) (sym same) longer)
+    module _ (held : Held) (told : w.files.old ≡ Some held) (name : List ℕ) (named : file_of c ≡ Some name) (longer : IsTooLong w.files.old text_limit name) where
+      never_read : (other : List ℕ) (stages : List Stage) → Some other ≡ Some name → AllPass w.files (readable text_limit other ∷ stages) → ⊥
+      never_read other stages same p = not_longer w.files.old held told text_limit other p.0.0 p.0.1 (subst (λ m. IsTooLong w.files.old text_limit m) (let one : name ≡ other = cc in one) longer)
 
-      read_refused : (n : List ℕ) (stages : List Stage) (r : Refusal) → n ≡ name → IsRefusedBy w.files (readable n ∷ stages) r → refusal_status r ≡ status.file
-      read_refused n stages (refusal.FileFault a) same (inl h) = refl
-      read_refused n stages (refusal.FileTooLong a) same (inl h) = refl
-      read_refused n stages r same (inr h) = absurd (not_longer w.files.old held told n h.0.0 h.0.1 (subst (λ m. IsTooLong w.files.old m) (sym same) longer))
-      read_refused n stages r same (inl h) = absurd h
+      read_refused : (other : List ℕ) (stages : List Stage) (r : Refusal) → Some other ≡ Some name → IsRefusedBy w.files (readable text_limit other ∷ stages) r → refusal_status r ≡ status.file
+      read_refused other stages (refusal.FileFault a) same (inl h) = refl
+      read_refused other stages (refusal.FileTooLong a) same (inl h) = refl
+      read_refused other stages r same (inr h) = absurd (never_read other [] same (h.0, tt))
+      read_refused other stages r same (inl h) = absurd h
+
+      not_read : (k : Command) → file_of k ≡ Some name → AllPass w.files (stages_of k) → ⊥
+      not_read (command.Check n) e p = never_read n (resolved n ∷ []) e p
+      not_read (command.Fmt n) e p = never_read n (stage.spelled n ∷ []) e p
+      not_read (command.Explain build None) e p = never_read build.program (behind_read build) e p
+      not_read (command.Run build schedule None reported) e p = never_read build.program (behind_read build ++ stage.schedule_stages build schedule) e p
+      not_read _ e p = absurd cc
 
       file_refused : (k : Command) (r : Refusal) → file_of k ≡ Some name → IsRefusedBy w.files (stages_of k) r → refusal_status r ≡ status.file
-      file_refused (command.Check n) r e by = absurd cc
-      file_refused (command.Fmt n) r e by = read_refused n (stage.spelled n ∷ []) r (cc) by
-      file_refused (command.Run build schedule trace reported) r e by = read_refused build.program (runnable build.program ∷ []) r (cc) by
+      file_refused (command.Check n) r e by = read_refused n (resolved n ∷ []) r e by
+      file_refused (command.Fmt n) r e by = read_refused n (stage.spelled n ∷ []) r e by
+      file_refused (command.Explain build None) r e by = read_refused build.program (behind_read build) r e by
+      file_refused (command.Run build schedule None reported) r e by = read_refused build.program (behind_read build ++ stage.schedule_stages build schedule) r e by
+      file_refused _ r e by = absurd cc
 
       long_by : (v : Verdict) → IsDueOf w c v → (status_of v ≡ status.file) ⊎ (status_of v ≡ status.no_memory)
       long_by (verdict.Refused r) due = inl (file_refused c r named due.by)
@@ -118,9 +134,11 @@ module _ (words : List Text) (w : World) where
     -- where no fault comes it comes to its end
     module _ (held : Held) (rest : List ℕ) (told : w.files.old ≡ Some held) (input : w.input.old ≡ Some rest) (passed : AllPass w.files (stages_of c)) (calm : HasNoFault w) where
       end_status : (k : Command) (finish : Finish) (stats : Option Stats) → Ends w k finish stats → IsStatusDue w rest k (finish_status finish)
-      end_status (command.Check n) finish stats h = h
+      end_status (command.Check n) finish stats h = ap finish_status h.finish_is
       end_status (command.Fmt n) finish stats h = ap finish_status h.finish_is
-      end_status (command.Run build schedule trace reported) finish stats h = record { n = h.n; has = h.has; status_is = seen_status h.n rest _ _ _ _ _ _ finish h.numbers input calm.input h.finishes }
+      end_status (command.Explain build None) finish stats h = ap finish_status h.finish_is
+      end_status (command.Run build schedule None reported) finish stats h = record { n = h.n; s = h.s; has = h.has; status_is = seen_status h.n h.s rest _ _ _ _ _ _ finish h.numbers input calm.input h.finishes }
+      end_status _ finish stats h = absurd h
 
       complete_by : (v : Verdict) → IsDueOf w c v → IsStatusDue w rest c (status_of v) ⊎ (status_of v ≡ status.no_memory)
       complete_by (verdict.Refused r) due = absurd (passed_all w.files held told calm.files (stages_of c) r passed due.by)
@@ -128,82 +146,136 @@ module _ (words : List Text) (w : World) where
       complete_by verdict.WriteFault due = absurd (calm.out due.out)
       complete_by verdict.NoMemory due = inr refl
 
--- how the count of the input goes with the statuses of an end
-read_cause : (f : Finish) (before now : ℕ) → finish_status f ≡ status.read → IsFinishCause f before now → Rose before now
-read_cause finish.Done before now h cause = absurd (omega arith)
-read_cause (finish.Stopped fired idle) before now h cause = absurd (omega arith)
-read_cause (finish.Trapped item kind home) before now h cause = absurd (omega arith)
-read_cause (finish.Stream e) before now h cause = subst (λ k. IsStreamCause k before now) (statuses.read_is e h) cause
+-- only the end of a stream has its statuses
+record IsStream (f : Finish) (n : ℕ) : Type 0 where
+  e : Ending
+  finish_is : f ≡ finish.Stream e
+  status_is : ending_status e ≡ n
 
-stream_cause : (e : Ending) (before now : ℕ) → (ending_status e ≡ status.done) ⊎ (ending_status e ≡ status.too_long) → IsStreamCause e before now → now ≡ before
-stream_cause e before now (inl h) cause = subst (λ k. IsStreamCause k before now) (statuses.done_is e h) cause
-stream_cause e before now (inr h) cause = subst (λ k. IsStreamCause k before now) (statuses.too_long_is e h) cause
-
-calm_cause : (f : Finish) (tree : Tree) (trap : Option Trap) (k : ℕ) (close : Ending) (before now : ℕ) → f ≡ finish_of tree trap k close → (finish_status f ≡ status.done) ⊎ (finish_status f ≡ status.too_long) → IsFinishCause f before now → now ≡ before
-calm_cause f tree None k close before now is h cause =
-    stream_cause close before now (subst (λ g. (finish_status g ≡ status.done) ⊎ (finish_status g ≡ status.too_long)) is h) (subst (λ g. IsFinishCause g before now) is cause)
-calm_cause f tree (Some t) k close before now is h cause = absurd (none (subst (λ g. (finish_status g ≡ status.done) ⊎ (finish_status g ≡ status.too_long)) is h))
+-- an end of a run is no command's that writes a text
+end_is : (n : Network) (c : Course) (e : Ending) (f : Finish) → f ≡ finish_of n c e → f ≡ finish.Done → ⊥
+end_is n c e f is done = by (goes_on n c) (trap_of c.state.emitted) (sym is ∙ done)
   where
-    none : (status.trap ≡ status.done) ⊎ (status.trap ≡ status.too_long) → ⊥
-    none (inl z) = absurd (omega arith)
-    none (inr z) = absurd (omega arith)
+    by : (b : Bool) (trap : Option Trap) → cond b (finish.Stopped c.fired c.idle) (end_of n.tree trap (length c.state.emitted) e) ≡ finish.Done → ⊥
+    by true trap h = absurd cc
+    by false None h = absurd cc
+    by false (Some t) h = absurd cc
 
--- status 0 of a run comes with the end of its stream
-done_close : (tree : Tree) (trap : Option Trap) (k : ℕ) (close : Ending) → finish_status (finish_of tree trap k close) ≡ status.done → close ≡ ending.End
-done_close tree None k close h = statuses.done_is close h
-done_close tree (Some t) k close h = absurd (omega arith)
+-- statuses 0, 6, 8 and 14 of a run come with the ending of its stream
+stream_is : (f : Finish) (k : ℕ) → finish_status f ≡ k → (f ≡ finish.Done → ⊥) → (k ≡ status.stopped → ⊥) → (k ≡ status.trap → ⊥) → IsStream f k
+stream_is finish.Done k h done stopped trap = absurd (done refl)
+stream_is (finish.Stopped fired idle) k h done stopped trap = absurd (stopped (sym h))
+stream_is (finish.Trapped item kind home) k h done stopped trap = absurd (trap (sym h))
+stream_is (finish.Stream e) k h done stopped trap = record { e = e; finish_is = refl; status_is = h }
+
+module _ (n : Network) (s : Schedule) (rest left : Option (List ℕ)) (before now : ℕ) (taken taken' : Option (List ℕ)) (f : Finish) (numbers : Stats) (ran : Finishes n s rest left before now taken taken' f numbers) where
+  not_done : f ≡ finish.Done → ⊥
+  not_done h = end_is n (course_of n s (ran.items ++ [])) (some_ending ran.close) f (ran.ends [] (nothing_comes n ran.close) (some_ending ran.close) (may_end ran.close)) h
+    where
+      some_ending : Option Ending → Ending
+      some_ending None = ending.End
+      some_ending (Some e) = e
+
+      may_end : (close : Option Ending) → MayEnd close (some_ending close)
+      may_end None = tt
+      may_end (Some e) = refl
+
+  run_stream : (k : ℕ) → finish_status f ≡ k → (k ≡ status.stopped → ⊥) → (k ≡ status.trap → ⊥) → IsStream f k
+  run_stream k h stopped trap = stream_is f k h not_done stopped trap
+
+  closed_by : (k : ℕ) → (st : IsStream f k) → ran.close ≡ Some st.e
+  closed_by k st = ran.closed st.e st.finish_is
+
+  run_cause : (k : ℕ) → (st : IsStream f k) → GivenCause (closed_so (Some st.e)) before now
+  run_cause k st = subst (λ c. GivenCause (closed_so c) before now) (closed_by k st) ran.gives.cause
+
+  run_read : finish_status f ≡ status.read → Rose before now
+  run_read h =
+      let st = run_stream status.read h (λ e. absurd (omega arith)) (λ e. absurd (omega arith)) in
+      subst (λ e. GivenCause (closed_so (Some e)) before now) (statuses.read_is st.e st.status_is) (run_cause status.read st)
+
+  run_calm : (k : ℕ) → finish_status f ≡ k → (k ≡ status.stopped → ⊥) → (k ≡ status.trap → ⊥) → (k ≡ status.read → ⊥) → now ≡ before
+  run_calm k h stopped trap read = (let st = run_stream k h stopped trap in by st.e (λ e. read (sym st.status_is ∙ ap ending_status e)) (run_cause k st))
+    where
+      by : (e : Ending) → (e ≡ ending.ReadFault → ⊥) → GivenCause (closed_so (Some e)) before now → now ≡ before
+      by ending.End other cause = cause
+      by (ending.BadWord line) other cause = cause
+      by (ending.WrongCount line had) other cause = cause
+      by (ending.OutOfRange line) other cause = cause
+      by ending.ReadFault other cause = absurd (other refl)
+      by ending.TooLong other cause = cause
 
 put_told : (old new : Option (List ℕ)) (taken text : List ℕ) → old ≡ Some taken → HasPut old new text → new ≡ Some (taken ++ text)
 put_told None new taken text told put = absurd cc
 put_told (Some other) new taken text told put = let same : other ≡ taken = cc in put ∙ ap (λ t. Some (t ++ text)) same
 
-drained_told : (old new : Option (List ℕ)) (rest bytes : List ℕ) (how : Stop) → old ≡ Some rest → IsDrained old new bytes how → how ≡ stop.End → (new ≡ Some []) × (bytes ≡ rest)
-drained_told None new rest bytes how told read end = absurd cc
-drained_told (Some other) new rest bytes how told read end =
+-- an input that came to its end was taken whole
+ended_told : (old left : Option (List ℕ)) (rest bytes : List ℕ) → old ≡ Some rest → IsTaken old left bytes → IsAtEnd left → (left ≡ Some []) × (bytes ≡ rest)
+ended_told None left rest bytes told read end = absurd cc
+ended_told (Some other) left rest bytes told read end =
     let same : other ≡ rest = cc in
-    let none : read.0 ≡ [] = read.3 end in
+    let none : read.0 ≡ [] = at_end_left left read.0 read.1 end in
     (read.1 ∙ ap Some none, sym (sym same ∙ read.2 ∙ ap (λ l. bytes ++ l) none ∙ append-nil bytes))
 
+-- where a run ends as its stream does no process can fire
+still_of : (n : Network) (c : Course) (e close : Ending) (f : Finish) → f ≡ finish.Stream close → f ≡ finish_of n c e → goes_on n c ≡ false
+still_of n c e close f stream is = by (goes_on n c) refl
+  where
+    by : (b : Bool) → goes_on n c ≡ b → goes_on n c ≡ false
+    by false h = h
+    by true h = absurd (let z : finish_of n c e ≡ finish.Stopped c.fired c.idle = ap (λ b. cond b (finish.Stopped c.fired c.idle) (end_of n.tree (trap_of c.state.emitted) (length c.state.emitted) e)) h in let y = sym stream ∙ is ∙ z in cc)
+
 -- a run of status 0 is whole
-run_whole : (w : World) (name rest taken : List ℕ) (reported : Bool) (finish : Finish) (stats : Option Stats) → w.input.old ≡ Some rest → w.out.old ≡ Some taken → finish_status finish ≡ status.done →
-    EndsRun w name reported finish stats → RunsWhole w name rest taken
-run_whole w name rest taken reported finish stats input out h e =
+run_whole : (w : World) (build : Build) (order : Sched) (rest taken : List ℕ) (reported : Bool) (finish : Finish) (stats : Option Stats) → w.input.old ≡ Some rest → w.out.old ≡ Some taken → finish_status finish ≡ status.done →
+    EndsRun w build order reported finish stats → RunsWhole w build rest taken
+run_whole w build order rest taken reported finish stats input out h e =
     let f = e.finishes in
     let g = f.gives in
-    let close : f.close ≡ ending.End = done_close e.n.tree (trap_of f.outcomes) (length f.outcomes) f.close (sym (ap finish_status f.finish_is) ∙ h) in
-    let last : (items_taken (width_of e.n) g.how g.bytes).ending ≡ ending.End = ap (λ i. i.ending) g.items_are ∙ close in
-    let how : g.how ≡ stop.End = subst (λ k. IsEndingOf g.how k) last (items_ending (width_of e.n) g.how g.bytes) in
-    let told = drained_told w.input.old w.input.new rest g.bytes g.how input g.read how in
-    let all : items_taken (width_of e.n) g.how g.bytes ≡ items_of (width_of e.n) rest = ap (λ k. items_taken (width_of e.n) k g.bytes) how ∙ ap (items_of (width_of e.n)) told.1 in
+    let st = run_stream e.n e.s _ _ _ _ _ _ finish e.numbers f status.done h (λ z. absurd (omega arith)) (λ z. absurd (omega arith)) in
+    let is_end : st.e ≡ ending.End = statuses.done_is st.e st.status_is in
+    let close : f.close ≡ Some ending.End = closed_by e.n e.s _ _ _ _ _ _ finish e.numbers f status.done st ∙ ap Some is_end in
+    let closes : Closes (width_of e.n) f.stream g.bytes f.items (closed_so (Some ending.End)) = subst (λ c. Closes (width_of e.n) f.stream g.bytes f.items c) (g.closed_is ∙ ap closed_so close) g.given.closes in
+    let told = ended_told w.input.old w.input.new rest g.bytes input g.read (g.at_end closes.0) in
+    let all : items_of (width_of e.n) rest ≡ items_ended f.items ending.End = ap (items_of (width_of e.n)) (sym told.1) ∙ closes.1 in
+    let may : MayEnd f.close ending.End = subst (λ c. MayEnd c ending.End) (sym close) refl in
+    let ran = f.ran [] (nothing_comes e.n f.close) in
+    let still = still_of e.n (course_of e.n e.s (f.items ++ [])) ending.End st.e finish st.finish_is (f.ends [] (nothing_comes e.n f.close) ending.End may) in
     record {
       n = e.n;
-      has = e.has;
+      has = e.has.network;
       input_ended = told.0;
-      all_items = sym (ap (λ i. i.ending) all) ∙ last;
+      all_items = ap (λ i. i.ending) all;
       taken_is =
           put_told w.out.old w.out.new taken (text_of f.outcomes) out f.put
-          ∙ ap (λ o. Some (taken ++ text_of o)) f.ran.whole
-          ∙ ap (λ i. Some (taken ++ text_of (meaning_of e.n i.items))) (sym g.items_are ∙ all);
+          ∙ ap (λ o. Some (taken ++ text_of o)) (ran.whole still ∙ ap (meaning_of e.n) (append-nil f.items))
+          ∙ ap (λ i. Some (taken ++ text_of (meaning_of e.n i.items))) (sym all);
     }
 
-whole_of : (w : World) (rest taken : List ℕ) (c : Command) (finish : Finish) (stats : Option Stats) → w.input.old ≡ Some rest → w.out.old ≡ Some taken → finish_status finish ≡ status.done → Ends w c finish stats → IsWhole w rest taken c
-whole_of w rest taken (command.Check name) finish stats input out h e = e
-whole_of w rest taken (command.Fmt name) finish stats input out h e = record {
-  program = e.program;
-  has = e.has;
+-- a text that was written is whole
+text_whole : (w : World) (IsText : List ℕ → Type 0) (rest taken : List ℕ) (finish : Finish) (stats : Option Stats) → w.input.old ≡ Some rest → w.out.old ≡ Some taken → EndsText w IsText finish stats → WritesWhole w IsText rest taken
+text_whole w IsText rest taken finish stats input out e = record {
+  text = e.text;
+  is = e.is;
   rest_stays = e.input.told ∙ input;
-  taken_is = put_told w.out.old w.out.new taken _ out e.put;
+  taken_is = put_told w.out.old w.out.new taken e.text out e.put;
 }
-whole_of w rest taken (command.Run build schedule trace reported) finish stats input out h e = run_whole w build.program rest taken reported finish stats input out h e
 
-emits_of : (w : World) (name : List ℕ) (reported : Bool) (finish : Finish) (stats : Option Stats) → (e : EndsRun w name reported finish stats) → Emits w name e.numbers
-emits_of w name reported finish stats e = let f = e.finishes in record {
+whole_of : (w : World) (rest taken : List ℕ) (c : Command) (finish : Finish) (stats : Option Stats) → w.input.old ≡ Some rest → w.out.old ≡ Some taken → finish_status finish ≡ status.done → Ends w c finish stats → IsWhole w rest taken c
+whole_of w rest taken (command.Check name) finish stats input out h e = text_whole w (IsCounted w.files.old name) rest taken finish stats input out e
+whole_of w rest taken (command.Fmt name) finish stats input out h e = text_whole w (IsFormatted w.files.old name) rest taken finish stats input out e
+whole_of w rest taken (command.Explain build None) finish stats input out h e = text_whole w (IsExplained w.files.old build) rest taken finish stats input out e
+whole_of w rest taken (command.Run build schedule None reported) finish stats input out h e = run_whole w build schedule rest taken reported finish stats input out h e
+whole_of w rest taken _ finish stats input out h e = absurd e
+
+emits_of : (w : World) (build : Build) (order : Sched) (reported : Bool) (finish : Finish) (stats : Option Stats) → (e : EndsRun w build order reported finish stats) → Emits w build order e.numbers
+emits_of w build order reported finish stats e = let f = e.finishes in let ran = f.ran [] (nothing_comes e.n f.close) in record {
   n = e.n;
+  s = e.s;
   has = e.has;
-  items = f.items;
-  put = subst (λ o. HasPut w.out.old w.out.new (text_of o)) f.ran.emitted f.put;
-  bounded = f.ran.bounded;
-  bound_is = ap (λ s. s.bound) f.ran.stats_are ∙ sym (ap (λ s. s.items * e.n.firings) f.ran.stats_are);
+  items = f.items ++ [];
+  put = subst (λ o. HasPut w.out.old w.out.new (text_of o)) ran.emitted f.put;
+  bounded = ran.bounded;
+  bound_is = ap (λ s. s.bound) ran.stats_are ∙ sym (ap (λ s. s.items * e.n.firings) ran.stats_are);
 }
 
 files_refused : (r : Refusal) (files : Change Held) → FilesCause r files → files.before < files.now → refusal_status r ≡ status.file
@@ -211,9 +283,11 @@ files_refused (refusal.FileFault name) files cause up = refl
 files_refused refusal.Usage files cause up = absurd (omega arith)
 files_refused (refusal.FileTooLong name) files cause up = refl
 files_refused (refusal.Source fault pos) files cause up = absurd (omega arith)
+files_refused (refusal.Costs fault) files cause up = absurd (omega arith)
 files_refused (refusal.TooFew need) files cause up = absurd (omega arith)
 files_refused (refusal.BadPick line) files cause up = absurd (omega arith)
 files_refused (refusal.NoSuchProcess line pick count) files cause up = absurd (omega arith)
+files_refused (refusal.Evidence evidence) files cause up = absurd (omega arith)
 
 module _ (words : List Text) (w : World) (err : Change (List ℕ)) (n : ℕ) (a : Answers words w err n) where
   at : status_of a.verdict ≡ n
@@ -261,37 +335,48 @@ module _ (words : List Text) (w : World) (err : Change (List ℕ)) (n : ℕ) (a 
       let e = ended (ap status.is_end h) in
       record { command = e.command; spelled = e.spelled; whole = whole_of w rest taken e.command e.finish e.stats input out (e.status_is ∙ h) e.end.ends }
 
-  pub reported : SpellsOneAtMost → (build : Build) (schedule : Sched) (trace : Option (List ℕ)) → Spells words (command.Run build schedule trace true) → status.is_end n ≡ true → (said : List ℕ) → err.old ≡ Some said →
-      (HasRisen err → ⊥) → Reports w build.program said err.new
-  reported once build schedule trace spelled kind said told calm =
+  pub reported : SpellsOneAtMost → (build : Build) (schedule : Sched) → Spells words (command.Run build schedule None true) → status.is_end n ≡ true → (said : List ℕ) → err.old ≡ Some said →
+      (HasRisen err → ⊥) → Reports w build schedule said err.new
+  reported once build schedule spelled kind said told calm =
       let e = statuses.ended_with a.verdict n at kind in
       let due : IsDue words w (verdict.Ended e.finish e.stats) = subst (λ v. IsDue words w v) e.verdict_is a.due in
       let line : err.new ≡ Some (said ++ lines_of (verdict.Ended e.finish e.stats)) = a.says said told calm ∙ ap (λ v. Some (said ++ lines_of v)) e.verdict_is in
-      elim (asked words w once (command.Run build schedule trace true) spelled (verdict.Ended e.finish e.stats) due) [
+      elim (asked words w once (command.Run build schedule None true) spelled (verdict.Ended e.finish e.stats) due) [
         | inl run ↦ record {
           numbers = run.ends.numbers;
           more = finish_line e.finish;
           line = line ∙ ap (λ s. Some (said ++ lines_of (verdict.Ended e.finish s))) run.ends.stats_are;
-          emits = emits_of w build.program true e.finish e.stats run.ends;
+          emits = emits_of w build schedule true e.finish e.stats run.ends;
         }
         | inr want ↦ absurd (let z = sym (statuses.finish_kind e.finish) ∙ ap status.is_end want in cc)
       ]
 
-  input_cause : (c : Command) (f : Finish) (stats : Option Stats) → Ends w c f stats → (finish_status f ≡ status.done) ⊎ (finish_status f ≡ status.too_long) → w.input.now ≡ w.input.before
-  input_cause (command.Check name) f stats e h = absurd e
-  input_cause (command.Fmt name) f stats e h = e.input.calm
-  input_cause (command.Run build schedule trace shows) f stats e h = calm_cause f e.n.tree (trap_of e.finishes.outcomes) (length e.finishes.outcomes) e.finishes.close _ _ e.finishes.finish_is h e.input
+  input_cause : (c : Command) (f : Finish) (stats : Option Stats) (k : ℕ) → Ends w c f stats → finish_status f ≡ k → (k ≡ status.stopped → ⊥) → (k ≡ status.trap → ⊥) → (k ≡ status.read → ⊥) → w.input.now ≡ w.input.before
+  input_cause (command.Check name) f stats k e h stopped trap read = e.input.calm
+  input_cause (command.Fmt name) f stats k e h stopped trap read = e.input.calm
+  input_cause (command.Explain build None) f stats k e h stopped trap read = e.input.calm
+  input_cause (command.Run build schedule None shows) f stats k e h stopped trap read = run_calm e.n e.s _ _ _ _ _ _ f e.numbers e.finishes k h stopped trap read
+  input_cause _ f stats k e h stopped trap read = absurd e
 
-  pub input_failed : w.input.before < w.input.now → (n ≢ status.done) × (n ≢ status.too_long)
+  -- an end of such a status leaves the count of the input
+  calm_end : (k : ℕ) → status.is_end k ≡ true → (k ≡ status.stopped → ⊥) → (k ≡ status.trap → ⊥) → (k ≡ status.read → ⊥) → w.input.before < w.input.now → n ≢ k
+  calm_end k kind stopped trap read up h =
+      let e = ended (ap status.is_end h ∙ kind) in
+      let z = input_cause e.command e.finish e.stats k e.end.ends (e.status_is ∙ h) stopped trap read in absurd (omega arith)
+
+  pub input_failed : w.input.before < w.input.now → (n ≢ status.done) × (n ≢ status.too_long) × (n ≢ status.stream)
   input_failed up = (
-    λ h. (let e = ended (ap status.is_end h) in let z = input_cause e.command e.finish e.stats e.end.ends (inl (e.status_is ∙ h)) in absurd (omega arith)),
-    λ h. (let e = ended (ap status.is_end h) in let z = input_cause e.command e.finish e.stats e.end.ends (inr (e.status_is ∙ h)) in absurd (omega arith)),
+    calm_end status.done refl (λ z. absurd (omega arith)) (λ z. absurd (omega arith)) (λ z. absurd (omega arith)) up,
+    calm_end status.too_long refl (λ z. absurd (omega arith)) (λ z. absurd (omega arith)) (λ z. absurd (omega arith)) up,
+    calm_end status.stream refl (λ z. absurd (omega arith)) (λ z. absurd (omega arith)) (λ z. absurd (omega arith)) up,
   )
 
   read_by : (c : Command) (f : Finish) (stats : Option Stats) → Ends w c f stats → finish_status f ≡ status.read → HasRisen w.input
-  read_by (command.Check name) f stats e h = absurd e
+  read_by (command.Check name) f stats e h = absurd (let z = sym (ap finish_status e.finish_is) ∙ h in omega arith)
   read_by (command.Fmt name) f stats e h = absurd (let z = sym (ap finish_status e.finish_is) ∙ h in omega arith)
-  read_by (command.Run build schedule trace shows) f stats e h = read_cause f _ _ h e.input
+  read_by (command.Explain build None) f stats e h = absurd (let z = sym (ap finish_status e.finish_is) ∙ h in omega arith)
+  read_by (command.Run build schedule None shows) f stats e h = run_read e.n e.s _ _ _ _ _ _ f e.numbers e.finishes h
+  read_by _ f stats e h = absurd e
 
   pub read_fault : n ≡ status.read → HasRisen w.input
   read_fault h = (let e = ended (ap status.is_end h) in read_by e.command e.finish e.stats e.end.ends (e.status_is ∙ h))

@@ -1,10 +1,12 @@
-pub mod AffineSteps
-pub mod AnswerSteps
-pub mod DueSteps
-pub mod FileSteps
-pub mod FmtSteps
-pub mod FormSteps
-pub mod RunSteps
-pub mod SeenSteps
-pub mod StageSteps
-mod AffineSound
+mod AcceptSteps
+mod FileSteps
+mod StageSteps
+mod TextSteps
+mod LoadSteps
+mod OnceSteps
+mod PickSteps
+mod RunSteps
+mod SoundSteps
+mod SeenSteps
+mod DueSteps
+mod AnswerSteps

@@ -1,75 +1,91 @@
 -- From the run of a network to the verdict of `run`.
-use Rattle.std.proofs.Common.{ℕ, Bool, List, [], Option, Some, None, refl, sym, ap, ◌∙◌, inr, append-nil}
+use Rattle.std.proofs.Common.{◌≡◌, ℕ, Bool, List, [], Option, inl, inr, subst, append-nil}
 use Rattle.std.specs.declared.result.Result.TheVariants.{Err}
+use Rattle.p3l_io.specs.Told.{Held}
+use Rattle.p3l_opts.specs.declared.command.Build.{Build}
+use Rattle.p3l_opts.specs.declared.command.Sched.{Sched}
+use Rattle.p3l_opts.specs.declared.command.Sched.TheVariants as sched
 use Rattle.p3l_report.specs.declared.stats.Stats.{Stats}
 use Rattle.p3l_report.specs.declared.verdict.Finish.{Finish}
+use Rattle.p3l_report.specs.declared.verdict.Refusal.{Refusal}
+use Rattle.p3l_report.specs.declared.verdict.Refusal.TheVariants as refusal
+use Rattle.p3l_report.specs.declared.verdict.Verdict.{Verdict}
 use Rattle.p3l_report.specs.declared.verdict.Verdict.TheVariants as verdict
-use Rattle.p3l_run.specs.declared.fault.RunFault.{RunFault}
-use Rattle.p3l_run.specs.declared.fault.RunFault.TheVariants as fault
-use Rattle.p3l_run.specs.Fault.{verdict_of}
-use Rattle.p3l_run.specs.Network.{Network, meaning_of, width_of}
-use Rattle.p3l_run.specs.Run.{Finishes, IsFinishCause, Starts}
-use Rattle.p3l_run.specs.Write.{HasBegun, WriteCause}
-use Rattle.p3l_stream.specs.Taken.{IsDrained, IsTaken}
-use Rattle.p3l_stream.specs.declared.taken.Stop.{Stop}
-use Rattle.p3l_stream.specs.declared.taken.Stop.TheVariants as stop
-use Rattle.p3l_stream.specs.Items.{items_taken}
-use Rattle.p3l_stream.specs.Text.{text_of}
-use Rattle.p3l_program.specs.File.{HasNetwork}
-use Rattle.p3l_program.specs.Run.{IsRunDue, run_stages, shown}
-use Rattle.p3l_program.specs.Stage.{AllPass}
-use Rattle.p3l_program.specs.World.{IsCalm, World}
-
--- nothing was taken and nothing written
-pub starts_still : (n : Network) (rest taken : Option (List ℕ)) → Starts n rest rest taken taken
-starts_still n rest taken = record { bytes = []; how = stop.Fault; read = none rest; begun = begun taken }
-  where
-    none : (rest : Option (List ℕ)) → IsTaken rest rest []
-    none None = refl
-    none (Some bytes) = (bytes, refl, refl)
-
-    begun : (taken : Option (List ℕ)) → HasBegun taken taken (text_of (meaning_of n (items_taken (width_of n) stop.Fault []).items))
-    begun None = record { written = []; more = _; put = refl; text_is = refl }
-    begun (Some bytes) = record { written = []; more = _; put = ap Some (sym (append-nil bytes)); text_is = refl }
-
--- what was taken to a stop was taken
-taken_of : (old new : Option (List ℕ)) (bytes : List ℕ) (how : Stop) → IsDrained old new bytes how → IsTaken old new bytes
-taken_of None new bytes how h = h
-taken_of (Some rest) new bytes how h = (h.0, h.1, h.2)
+use Rattle.p3l_net.specs.Outcomes.{IsPrefixOf}
+use Rattle.p3l_run.specs.Feed.{closed_so}
+use Rattle.p3l_run.specs.Network.{Network, meaning_of, size_of}
+use Rattle.p3l_run.specs.Run.{Finishes, Starts}
+use Rattle.p3l_run.proofs.RunSteps.{begun_by, nothing_comes}
+use Rattle.p3l_sched.specs.declared.refusal.PickRefusal.{PickRefusal}
+use Rattle.p3l_sched.specs.declared.refusal.PickRefusal.TheVariants as picks
+use Rattle.p3l_sched.specs.declared.schedule.Schedule.{Schedule}
+use Rattle.p3l_sched.specs.Picks.{Reads}
+use Rattle.p3l_program.specs.File.{HasText}
+use Rattle.p3l_program.specs.Network.{HasNetwork}
+use Rattle.p3l_program.specs.Run.{BeginsRun, HasBadPicks, IsRunDue, IsRunOf, IsRunSome, IsUnasked}
+use Rattle.p3l_program.specs.Scheduled.{HasNoPicks, HasSchedule, picks_limit}
+use Rattle.p3l_program.specs.Stage.{AllPass, FilesCause, IsRefusedBy, Refuses, build_stages, run_stages, schedule_stages, scheduled}
+use Rattle.p3l_program.specs.World.{Change, world}
+use Rattle.p3l_program.proofs.StageSteps.{passed_both, refused_behind}
 
 -- a run that came to its end was begun
-pub finishes_starts : (n : Network) (rest rest' : Option (List ℕ)) (before now : ℕ) (taken taken' : Option (List ℕ)) (finish : Finish) (stats : Stats) → Finishes n rest rest' before now taken taken' finish stats → Starts n rest rest' taken taken'
-finishes_starts n rest rest' before now taken taken' finish stats f = record {
-  bytes = f.gives.bytes;
-  how = f.gives.how;
-  read = taken_of rest rest' f.gives.bytes f.gives.how f.gives.read;
-  begun = record {
-    written = text_of f.outcomes;
-    more = [];
-    put = f.put;
-    text_is = append-nil (text_of f.outcomes) ∙ ap text_of f.ran.whole ∙ ap (λ i. text_of (meaning_of n i)) (sym (ap (λ i. i.items) f.gives.items_are));
-  };
-}
+pub finishes_starts : (n : Network) (s : Schedule) (rest left : Option (List ℕ)) (before now : ℕ) (taken taken' : Option (List ℕ)) (finish : Finish) (stats : Stats) →
+    Finishes n s rest left before now taken taken' finish stats → Starts n rest left before now taken taken'
+finishes_starts n s rest left before now taken taken' finish stats f =
+    let ran = f.ran [] (nothing_comes n f.close) in
+    let begins : IsPrefixOf f.outcomes (meaning_of n f.items) = subst (λ i. IsPrefixOf f.outcomes (meaning_of n i)) (append-nil f.items) ran.begins in
+    record {
+      stream = f.stream;
+      items = f.items;
+      closed = closed_so f.close;
+      gives = f.gives;
+      begun = begun_by n f.items f.outcomes taken taken' begins f.put;
+    }
 
-module _ (w : World) (name : List ℕ) (n : Network) (reported : Bool) (has : HasNetwork w.files.old name n) (calm : IsCalm w.files) where
-  passed : AllPass w.files (run_stages name)
-  passed = ((has.text, has.has), ((n, has), tt))
+module _ (files : Change Held) (input out : Change (List ℕ)) (build : Build) (n : Network) (has : HasNetwork files.old build n) (passed : AllPass files (build_stages build)) where
+  schedule_passes : (asked : Sched) (s : Schedule) → HasSchedule files.old (size_of n) asked s → AllPass files (schedule_stages build asked)
+  schedule_passes sched.RoundRobin s h = tt
+  schedule_passes (sched.Seeded seed) s h = tt
+  schedule_passes (sched.File name) s h = ((h.text, h.has), ((n, s, has, h), tt))
 
-  -- a run that came to its end
-  pub end_due : (finish : Finish) (numbers : Stats) → Finishes n w.input.old w.input.new w.input.before w.input.now w.out.old w.out.new finish numbers → IsFinishCause finish w.input.before w.input.now → IsCalm w.out →
-      IsRunDue w name reported (verdict.Ended finish (shown reported numbers))
-  end_due finish numbers f cause out = record {
-    passed = passed;
-    ends = record { n = n; has = has; numbers = numbers; stats_are = refl; finishes = f; input = cause };
-    files = calm;
-    out = out;
-  }
+  all_passes : (asked : Sched) (s : Schedule) → HasSchedule files.old (size_of n) asked s → AllPass files (run_stages build asked)
+  all_passes asked s h = passed_both files (build_stages build) (schedule_stages build asked) passed (schedule_passes asked s h)
 
-  -- one that ended early
-  pub fault_due : (r : RunFault) → Starts n w.input.old w.input.new w.out.old w.out.new → WriteCause {T = Unit {0}} w.out.before w.out.now (Err r) → IsRunDue w name reported (verdict_of r)
-  fault_due fault.Write s cause = record {
-    begun = record { passed = passed; begins = record { n = n; has = has; starts = s } };
-    files = calm;
-    out = cause;
-  }
-  fault_due fault.NoMemory s cause = inr (record { passed = passed; begins = record { n = n; has = has; starts = s } })
+  -- no picks of this network are there for this word
+  module _ (no_picks : (name text : List ℕ) (r : PickRefusal) → HasText files.old picks_limit name text → Reads text (size_of n) (Err r) → (r ≡ picks.NoMemory → ⊥) → HasNoPicks files.old build name r) where
+    bad_picks : (name : List ℕ) (r : Refusal) → HasBadPicks files (size_of n) name r → Refuses files (scheduled build name) r
+    bad_picks name (refusal.BadPick line) h = no_picks name h.text (picks.BadPick line) h.has h.bad (λ e. absurd cc)
+    bad_picks name (refusal.NoSuchProcess line pick count) h = no_picks name h.text (picks.NoSuchProcess line pick count) h.has h.bad (λ e. absurd cc)
+    bad_picks name r h = absurd h.bad
+
+    files_cause : (r : Refusal) (name : List ℕ) → HasBadPicks files (size_of n) name r → FilesCause r files
+    files_cause (refusal.BadPick line) name h = h.calm
+    files_cause (refusal.NoSuchProcess line pick count) name h = h.calm
+    files_cause r name h = absurd h.bad
+
+    refused_by : (asked : Sched) (r : Refusal) → IsUnasked files (size_of n) asked (verdict.Refused r) → IsRefusedBy files (run_stages build asked) r × FilesCause r files
+    refused_by sched.RoundRobin r h = absurd h
+    refused_by (sched.Seeded seed) r h = absurd h
+    refused_by (sched.File name) r (inl h) = (refused_behind files (build_stages build) (schedule_stages build (sched.File name)) r passed (inl h.0), h.1)
+    refused_by (sched.File name) r (inr h) =
+        (refused_behind files (build_stages build) (schedule_stages build (sched.File name)) r passed (inr ((h.text, h.has), inl (bad_picks name r h))), files_cause r name h)
+
+    begins_run : (asked : Sched) → IsRunSome n files input out asked → BeginsRun (world files input out) build asked
+    begins_run asked h = record { n = n; s = h.s; has = record { network = has; schedule = h.schedule }; starts = h.starts }
+
+    -- the verdict of the run is due
+    pub run_due : (asked : Sched) (reported : Bool) (v : Verdict) → IsRunOf n files input out asked reported v → IsRunDue (world files input out) build asked reported v
+    run_due asked reported (verdict.Refused r) h = (let by = refused_by asked r h.0 in record { by = by.0; untouched = record { input = h.1.input_still; out = h.1.out_still }; files = by.1 })
+    run_due asked reported (verdict.Ended finish stats) h = record {
+      passed = all_passes asked h.s h.schedule;
+      ends = record { n = n; s = h.s; has = record { network = has; schedule = h.schedule }; numbers = h.numbers; stats_are = h.stats_are; finishes = h.finishes };
+      files = h.files_calm;
+      out = h.out_calm;
+    }
+    run_due asked reported verdict.WriteFault h = record {
+      begun = record { passed = all_passes asked h.0.s h.0.schedule; begins = begins_run asked h.0 };
+      files = h.0.files_calm;
+      out = h.1;
+    }
+    run_due asked reported verdict.NoMemory (inl h) = inl (record { input = h.input_still; out = h.out_still })
+    run_due asked reported verdict.NoMemory (inr h) = inr (record { passed = all_passes asked h.s h.schedule; begins = begins_run asked h })

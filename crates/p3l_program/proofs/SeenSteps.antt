@@ -1,60 +1,152 @@
 -- What is seen of an input where no fault comes, and the status of a run on it.
-use Rattle.std.proofs.Common.{◌≡◌, ℕ, ℤ, ◌<◌, ◌≤◌, ◌↔◌, Bool, true, false, List, [], ◌++◌, length, take, nat_le, Option, Some, None, refl, sym, ap, subst, ◌∙◌, arith, append-nil, length-append, if◌then◌else◌}
-use Rattle.std.proofs.Math.Seq.{take-append_seam}
-use Rattle.std.proofs.lemmas.Bool.{leb-true, leb-false, le-leb, lt-leb}
-use Rattle.std.proofs.lemmas.List.{take_all}
-use Rattle.p3l_base.specs.declared.outcome.Outcome.{Outcome}
+use Rattle.std.proofs.Common.{◌≡◌, ℕ, zero, suc, ℤ, ◌+◌, ◌-◌, ◌<◌, ◌≤◌, true, List, [], ◌++◌, length, take, Option, Some, None, refl, sym, ap, subst, ◌∙◌, arith, append-nil, length-append, if◌then◌else◌, ◌∷◌}
+use Rattle.std.specs.List.{AllByRecursion}
+use Rattle.std.proofs.Math.Seq.{take-append-add}
+use Rattle.std.proofs.lemmas.Bool.{le-leb, lt-leb}
+use Rattle.std.proofs.lemmas.List.Elements.{recursion_from_All}
 use Rattle.p3l_io.specs.Causes.{Rose}
 use Rattle.p3l_report.specs.declared.stats.Stats.{Stats}
 use Rattle.p3l_report.specs.declared.verdict.Finish.{Finish}
 use Rattle.p3l_report.specs.Verdict.{finish_status}
-use Rattle.p3l_run.specs.Network.{Network, meaning_of, width_of}
-use Rattle.p3l_run.specs.Run.{Finishes, Gives, finish_of, input_limit}
-use Rattle.p3l_run.specs.Steps.{trap_of}
+use Rattle.p3l_run.specs.Feed.{closed_so, input_limit}
+use Rattle.p3l_run.specs.Network.{Network, width_of}
+use Rattle.p3l_run.specs.Run.{Finishes, MayCome, MayEnd}
+use Rattle.p3l_sched.specs.declared.schedule.Schedule.{Schedule}
 use Rattle.p3l_stream.specs.declared.items.Ending.{Ending}
+use Rattle.p3l_stream.specs.declared.items.Ending.TheVariants as ending
 use Rattle.p3l_stream.specs.declared.items.Items.{Items}
-use Rattle.p3l_stream.specs.declared.taken.Stop.{Stop}
 use Rattle.p3l_stream.specs.declared.taken.Stop.TheVariants as stop
+use Rattle.p3l_stream.proofs.Endings.{items_wide}
+use Rattle.p3l_stream.specs.Answers.{IsAtEnd}
+use Rattle.p3l_stream.specs.Given.{Closes, GivenCause, HasGiven, TakesOn, ended_by}
 use Rattle.p3l_stream.specs.Items.{items_taken}
-use Rattle.p3l_stream.specs.Taken.{IsDrained, IsStopCause}
+use Rattle.p3l_stream.specs.Seen.{Seen}
 use Rattle.p3l_program.specs.Run.{run_status, seen_of, status_with, stop_of}
 
--- bytes that were taken to the end, or to the limit, are all that is seen
-seen_at : (width : ℕ) (rest bytes : List ℕ) (how : Stop) (before now : ℕ) (left : List ℕ) → rest ≡ bytes ++ left → (how ≡ stop.End → left ≡ []) → length bytes ≤ input_limit →
-    ((how ≡ stop.Limit) ↔ (length bytes ≡ input_limit)) → IsStopCause how before now → (Rose before now → ⊥) → items_taken width how bytes ≡ seen_of width rest
-seen_at width rest bytes stop.Fault before now left whole ended within full cause calm = absurd (calm cause)
-seen_at width rest bytes stop.Limit before now left whole ended within full cause calm =
-    let size : length bytes ≡ input_limit = full.0 refl in
-    let all = ap length whole in
-    let sum = length-append bytes left in
-    let far : nat_le input_limit (length rest) ≡ true = le-leb _ _ (omega arith) in
-    let front : take input_limit rest ≡ bytes = ap (take input_limit) whole ∙ ap (λ k. take k (bytes ++ left)) (sym size) ∙ take-append_seam bytes left in
-    let how : stop_of rest ≡ stop.Limit = ap (λ b. if b then stop.Limit else stop.End) far in
-    sym (ap (λ h. items_taken width h (take input_limit rest)) how ∙ ap (items_taken width stop.Limit) front)
-seen_at width rest bytes stop.End before now left whole ended within full cause calm =
-    let none : left ≡ [] = ended refl in
-    let same : rest ≡ bytes = whole ∙ ap (λ l. bytes ++ l) none ∙ append-nil bytes in
-    let size = ap length same in
-    let short : length rest < input_limit = by (nat_le input_limit (length bytes)) refl size in
-    let near : nat_le input_limit (length rest) ≡ false = lt-leb _ _ short in
-    let front : take input_limit rest ≡ bytes = take_all input_limit rest (omega arith) ∙ same in
-    let how : stop_of rest ≡ stop.End = ap (λ b. if b then stop.Limit else stop.End) near in
-    sym (ap (λ h. items_taken width h (take input_limit rest)) how ∙ ap (items_taken width stop.End) front)
-  where
-    by : (b : Bool) → nat_le input_limit (length bytes) ≡ b → length rest ≡ length bytes → length rest < input_limit
-    by true e size = let k = leb-true _ _ e in absurd (let z = full.1 (omega arith) in cc)
-    by false e size = let k = leb-false _ _ e in omega arith
+-- what is seen of an input goes on from these items to this ending, as the stream may
+pub record GoesOnTo (n : Network) (close : Option Ending) (items : List (List ℤ)) (rest : List ℕ) : Type 0 where
+  pub later : List (List ℤ)
+  pub e : Ending
+  pub may_come : MayCome n close later
+  pub may_end : MayEnd close e
+  pub seen : seen_of (width_of n) rest ≡ ended_by (items ++ later) e
+
+-- how an input of at least, or of fewer bytes than the limit stops
+stops_far : (rest : List ℕ) → input_limit ≤ length rest → stop_of rest ≡ stop.Limit
+stops_far rest far = ap (λ b. if b then stop.Limit else stop.End) (le-leb _ _ far)
+
+stops_near : (rest : List ℕ) → length rest < input_limit → stop_of rest ≡ stop.End
+stops_near rest near = ap (λ b. if b then stop.Limit else stop.End) (lt-leb _ _ near)
+
+take_none : (k : ℕ) → take {A = ℕ} k [] ≡ []
+take_none zero = refl
+take_none (suc k) = refl
+
+wide_tail : (P : List ℤ → Type 0) (xs ys : List (List ℤ)) → AllByRecursion P (xs ++ ys) → AllByRecursion P ys
+wide_tail P [] ys all = all
+wide_tail P (x ∷ xs) ys all = wide_tail P xs ys all.1
+
+module _ (n : Network) (rest : List ℕ) (s : Seen) (items : List (List ℤ)) (bytes left : List ℕ) (given : HasGiven (width_of n) s bytes items) (limit : s.limit ≡ input_limit)
+    (whole : rest ≡ bytes ++ left) (ended : s.at_end ≡ true → left ≡ []) where
+  few : length bytes ≤ input_limit
+  few = let a = given.counted in let b = given.within in omega arith
+
+  -- the bytes that are seen behind those taken
+  abbrev more : List ℕ
+  more = take (input_limit - length bytes) left
+
+  front : take input_limit rest ≡ bytes ++ more
+  front =
+      let far : input_limit ≡ length bytes + (input_limit - length bytes) = omega (arith, few) in
+      ap (take input_limit) whole ∙ ap (λ k. take k (bytes ++ left)) far ∙ take-append-add bytes left (input_limit - length bytes)
+
+  at_the_end : s.at_end ≡ true → (stop_of rest ≡ stop.End) × (more ≡ [])
+  at_the_end end =
+      let none : left ≡ [] = ended end in
+      let same : rest ≡ bytes = whole ∙ ap (λ l. bytes ++ l) none ∙ append-nil bytes in
+      let size = ap length same in
+      let a = given.counted in
+      let b = given.below end in
+      (stops_near rest (omega arith), ap (take (input_limit - length bytes)) none ∙ take_none (input_limit - length bytes))
+
+  -- what is seen, by what holds whatever follows the bytes taken
+  seen_by : (P : Items → Type 0) → TakesOn s.at_end (λ how later. P (items_taken (width_of n) how (bytes ++ later))) → P (seen_of (width_of n) rest)
+  seen_by P on = subst (λ t. P (items_taken (width_of n) (stop_of rest) t)) (sym front) (on (stop_of rest) more at_the_end)
+
+  -- a line that is refused ends it
+  refused_line : (e : Ending) → TakesOn s.at_end (λ how later. items_taken (width_of n) how (bytes ++ later) ≡ ended_by items e) → GoesOnTo n (Some e) items rest
+  refused_line e on = record {
+    later = [];
+    e = e;
+    may_come = record { wide = tt; none = λ close h. refl };
+    may_end = refl;
+    seen = seen_by (λ i. i ≡ ended_by items e) on ∙ ap (λ i. ended_by i e) (sym (append-nil items));
+  }
+
+  goes_on_to : (close : Option Ending) (before now : ℕ) → s.closed ≡ closed_so close → GivenCause (closed_so close) before now → (Rose before now → ⊥) → GoesOnTo n close items rest
+  goes_on_to None before now closed cause calm = by (subst (λ c. Closes (width_of n) s bytes items c) closed given.closes)
+    where
+      by : Closes (width_of n) s bytes items None → GoesOnTo n None items rest
+      by on =
+          let here = on (stop_of rest) more at_the_end in
+          let all = ap (λ t. items_taken (width_of n) (stop_of rest) t) front ∙ here in
+          let wide = recursion_from_All (λ words. length words ≡ width_of n) _ (items_wide (width_of n) (stop_of rest) (bytes ++ more)) in
+          record {
+            later = _;
+            e = _;
+            may_come = record {
+              wide = wide_tail (λ words. length words ≡ width_of n) items _ (subst (λ (i : Items). AllByRecursion (λ words. length words ≡ width_of n) i.items) here wide);
+              none = λ close h. absurd cc;
+            };
+            may_end = tt;
+            seen = all;
+          }
+  goes_on_to (Some ending.End) before now closed cause calm = by (subst (λ c. Closes (width_of n) s bytes items c) closed given.closes)
+    where
+      by : Closes (width_of n) s bytes items (closed_so (Some ending.End)) → GoesOnTo n (Some ending.End) items rest
+      by h =
+          let end = at_the_end h.0 in
+          let same : bytes ++ more ≡ bytes = ap (λ m. bytes ++ m) end.1 ∙ append-nil bytes in
+          record {
+            later = [];
+            e = ending.End;
+            may_come = record { wide = tt; none = λ close e. refl };
+            may_end = refl;
+            seen = ap (λ h. items_taken (width_of n) h (take input_limit rest)) end.0 ∙ ap (items_taken (width_of n) stop.End) (front ∙ same) ∙ h.1 ∙ ap (λ i. ended_by i ending.End) (sym (append-nil items));
+          }
+  goes_on_to (Some (ending.BadWord line)) before now closed cause calm = refused_line (ending.BadWord line) (subst (λ c. Closes (width_of n) s bytes items c) closed given.closes)
+  goes_on_to (Some (ending.WrongCount line had)) before now closed cause calm = refused_line (ending.WrongCount line had) (subst (λ c. Closes (width_of n) s bytes items c) closed given.closes)
+  goes_on_to (Some (ending.OutOfRange line)) before now closed cause calm = refused_line (ending.OutOfRange line) (subst (λ c. Closes (width_of n) s bytes items c) closed given.closes)
+  goes_on_to (Some ending.ReadFault) before now closed cause calm = absurd (calm cause)
+  goes_on_to (Some ending.TooLong) before now closed cause calm = by (subst (λ c. Closes (width_of n) s bytes items c) closed given.closes)
+    where
+      by : Closes (width_of n) s bytes items (closed_so (Some ending.TooLong)) → GoesOnTo n (Some ending.TooLong) items rest
+      by h =
+          let a = given.counted in
+          let full = h.1 in
+          let size = ap length whole ∙ length-append bytes left in
+          let none : input_limit - length bytes ≡ 0 = omega arith in
+          let nothing : more ≡ [] = ap (λ k. take k left) none in
+          let same : bytes ++ more ≡ bytes = ap (λ m. bytes ++ m) nothing ∙ append-nil bytes in
+          record {
+            later = [];
+            e = ending.TooLong;
+            may_come = record { wide = tt; none = λ close e. refl };
+            may_end = refl;
+            seen = ap (λ h. items_taken (width_of n) h (take input_limit rest)) (stops_far rest (omega arith)) ∙ ap (items_taken (width_of n) stop.Limit) (front ∙ same) ∙ h.2
+                ∙ ap (λ i. ended_by i ending.TooLong) (sym (append-nil items));
+          }
+
+pub at_end_left : (rest : Option (List ℕ)) (left : List ℕ) → rest ≡ Some left → IsAtEnd rest → left ≡ []
+at_end_left None left told h = absurd cc
+at_end_left (Some other) left told h = let same : other ≡ left = cc in sym same ∙ h
 
 -- so the status of a run on an input that tells what is left, where no fault came, is that of what is seen
-pub seen_status : (n : Network) (rest : List ℕ) (old new : Option (List ℕ)) (before now : ℕ) (taken taken' : Option (List ℕ)) (finish : Finish) (stats : Stats) →
-    old ≡ Some rest → (Rose before now → ⊥) → Finishes n old new before now taken taken' finish stats → finish_status finish ≡ run_status n rest
-seen_status n rest None new before now taken taken' finish stats told calm f = absurd cc
-seen_status n rest (Some other) new before now taken taken' finish stats told calm f =
+pub seen_status : (n : Network) (s : Schedule) (rest : List ℕ) (old new : Option (List ℕ)) (before now : ℕ) (taken taken' : Option (List ℕ)) (finish : Finish) (stats : Stats) →
+    old ≡ Some rest → (Rose before now → ⊥) → Finishes n s old new before now taken taken' finish stats → finish_status finish ≡ run_status n s rest
+seen_status n s rest None new before now taken taken' finish stats told calm f = absurd cc
+seen_status n s rest (Some other) new before now taken taken' finish stats told calm f =
     let g = f.gives in
     let same : other ≡ rest = cc in
-    let seen : items_taken (width_of n) g.how g.bytes ≡ seen_of (width_of n) rest =
-    seen_at (width_of n) rest g.bytes g.how before now g.read.0 (sym same ∙ g.read.2) g.read.3 g.within g.full g.cause calm in
-    let whole : record { items = f.items; ending = f.close } ≡ seen_of (width_of n) rest = sym g.items_are ∙ seen in
-    ap finish_status f.finish_is
-    ∙ ap (λ o. finish_status (finish_of n.tree (trap_of o) (length o) f.close)) f.ran.whole
-    ∙ ap (status_with n) whole
+    let to = goes_on_to n rest f.stream f.items g.bytes g.read.0 g.given g.limit (sym same ∙ g.read.2) (λ h. at_end_left new g.read.0 g.read.1 (g.at_end h)) f.close before now g.closed_is g.cause calm in
+    ap finish_status (f.ends to.later to.may_come to.e to.may_end) ∙ ap (status_with n s) (sym to.seen)

@@ -1,64 +1,138 @@
 -- Stages, where the files tell what they hold and no reading failed.
-use Rattle.std.proofs.Common.{◌≡◌, ℕ, ◌<◌, ◌≤◌, List, [], ◌∷◌, length, ◌⊎◌, Option, Some, None, refl, sym, ap, ◌∙◌, inl, inr, subst, arith}
+use Rattle.std.proofs.Common.{◌≡◌, ℕ, List, [], ◌∷◌, ◌++◌, length, Option, Some, None, refl, ap, inl, inr, subst, arith}
 use Rattle.p3l_ast.specs.declared.position.Pos.{Pos}
 use Rattle.p3l_ast.specs.declared.refusal.Fault.{Fault}
 use Rattle.p3l_ast.specs.Tree.{ProgramTree}
+use Rattle.p3l_cost.specs.declared.costs.Costs.{Costs}
 use Rattle.p3l_grammar.specs.Grammar.{Spells}
 use Rattle.p3l_io.specs.Told.{Held}
+use Rattle.p3l_opts.specs.declared.command.Build.{Build}
+use Rattle.p3l_report.specs.declared.cost_fault.CostFault.{CostFault}
 use Rattle.p3l_report.specs.declared.verdict.Refusal.{Refusal}
 use Rattle.p3l_report.specs.declared.verdict.Refusal.TheVariants as refusal
 use Rattle.p3l_report.specs.Verdict.{refusal_status}
-use Rattle.p3l_program.specs.File.{HasFault, HasNetwork, HasNoNetwork, HasProgram, HasText, Holds, IsTooLong, file_limit}
-use Rattle.p3l_run.specs.Network.{Network}
-use Rattle.p3l_program.specs.Form.{IsProgram}
-use Rattle.p3l_program.specs.Stage.{AllPass, IsRefusedBy, Passes, Refuses, Stage, readable, runnable, spelled, there}
+use Rattle.std.specs.declared.result.Result.TheVariants.{Ok}
+use Rattle.p3l_run.specs.Network.{Network, size_of}
+use Rattle.p3l_sched.specs.declared.refusal.PickRefusal.{PickRefusal}
+use Rattle.p3l_sched.specs.declared.refusal.PickRefusal.TheVariants as picks
+use Rattle.p3l_sched.specs.declared.schedule.Schedule.{Schedule}
+use Rattle.p3l_sched.specs.Picks.{Reads}
+use Rattle.p3l_check.specs.Resolving.{ResolvedTree}
+use Rattle.p3l_program.specs.Accepted.{HasNoTree, HasTree, IsAccepted}
+use Rattle.p3l_program.specs.Chosen.{HasCostText, HasCosts, HasCounts, HasNoCosts, HasTooFew, IsAllotted, IsPriced}
+use Rattle.p3l_program.specs.File.{HasFault, HasProgram, HasText, Holds, IsTooLong}
+use Rattle.p3l_program.specs.Network.{HasNetwork, network_of}
+use Rattle.p3l_program.specs.Scheduled.{HasNoPicks, HasPicks}
+use Rattle.p3l_program.specs.Stage.{AllPass, IsRefusedBy, Passes, Refuses, Stage, fitting, priced, readable, resolved, scheduled, spelled, there}
 use Rattle.p3l_program.specs.World.{Change, HasRisen}
 
-module _ (files : Option Held) (held : Held) (told : files ≡ Some held) (name : List ℕ) where
+-- a stage that refuses, whatever stages come behind it
+pub refused_front : (files : Change Held) (stages more : List Stage) (r : Refusal) → IsRefusedBy files stages r → IsRefusedBy files (stages ++ more) r
+refused_front files [] more r h = absurd h
+refused_front files (stage ∷ stages) more r (inl h) = inl h
+refused_front files (stage ∷ stages) more r (inr h) = inr (h.0, refused_front files stages more r h.1)
+
+-- one that refuses behind others that pass
+pub refused_behind : (files : Change Held) (stages more : List Stage) (r : Refusal) → AllPass files stages → IsRefusedBy files more r → IsRefusedBy files (stages ++ more) r
+refused_behind files [] more r p h = h
+refused_behind files (stage ∷ stages) more r p h = inr (p.0, refused_behind files stages more r p.1 h)
+
+-- stages that pass, one list behind the other
+pub passed_both : (files : Change Held) (stages more : List Stage) → AllPass files stages → AllPass files more → AllPass files (stages ++ more)
+passed_both files [] more p q = q
+passed_both files (stage ∷ stages) more p q = (p.0, passed_both files stages more p.1 q)
+
+module _ (files : Option Held) (held : Held) (told : files ≡ Some held) where
   -- one text is held
-  same_text : (text other : List ℕ) → Holds files name text → Holds files name other → other ≡ text
-  same_text text other a b =
+  same_text : (name text other : List ℕ) → Holds files name text → Holds files name other → other ≡ text
+  same_text name text other a b =
       let c : held name ≡ Some text = subst (λ f. Holds f name text) told a in
       let d : held name ≡ Some other = subst (λ f. Holds f name other) told b in cc
 
+  -- and one of costs
+  same_said : (costs text other : Option (List ℕ)) → HasCostText files costs text → HasCostText files costs other → other ≡ text
+  same_said None None None a b = refl
+  same_said None None (Some other) a b = absurd b
+  same_said None (Some text) other a b = absurd a
+  same_said (Some name) None other a b = absurd a
+  same_said (Some name) (Some text) None a b = absurd b
+  same_said (Some name) (Some text) (Some other) a b = ap Some (same_text name text other a.holds b.holds)
+
   -- a text that is held within the limit is not too long
-  pub not_longer : (text : List ℕ) → HasText files name text → IsTooLong files name → ⊥
-  not_longer text has long =
-      let l = subst (λ f. IsTooLong f name) told long in
+  pub not_longer : (limit : ℕ) (name text : List ℕ) → HasText files limit name text → IsTooLong files limit name → ⊥
+  not_longer limit name text has long =
+      let l = subst (λ f. IsTooLong f limit name) told long in
       let c : held name ≡ Some text = subst (λ f. Holds f name text) told has.holds in
       let d = l.holds in
       let same : l.bytes ≡ text = cc in
       let n = ap length same in let w = has.within in let m = l.longer in absurd (omega arith)
 
   -- a text that spells a program has no first fault
-  spelled_once : (program : ProgramTree) (fault : Fault) (pos : Pos) → HasProgram files name program → HasFault files name fault pos → ⊥
-  spelled_once program fault pos has none =
-      none.no_program program (subst (λ t. Spells t program) (same_text none.text has.text none.has.holds has.has.holds) has.spelled)
+  spelled_once : (name : List ℕ) (program : ProgramTree) (fault : Fault) (pos : Pos) → HasProgram files name program → HasFault files name fault pos → ⊥
+  spelled_once name program fault pos has none =
+      none.no_program program (subst (λ t. Spells t program) (same_text name none.text has.text none.has.holds has.has.holds) has.spelled)
 
-  -- a text that can be run is not refused
-  run_once : (n : Network) (fault : Fault) (pos : Pos) → HasNetwork files name n → HasNoNetwork files name fault pos → ⊥
-  run_once n fault pos has none =
-      none.refused.no_program has.runs.factor has.runs.summand
-      (subst (λ t. IsProgram t has.runs.factor has.runs.summand) (same_text none.text has.text none.has.holds has.has.holds) has.runs.program)
+  -- an accepted program is not refused
+  accepted_once : (name : List ℕ) (r : ResolvedTree) (fault : Fault) (pos : Pos) → HasTree files name r → HasNoTree files name fault pos → ⊥
+  accepted_once name r fault pos has none =
+      none.refused.never r (subst (λ t. IsAccepted t r) (same_text name none.text has.text none.has.holds has.has.holds) has.accepted)
+
+  -- costs that are said are not refused
+  priced_once : (program costs : List ℕ) (r : ResolvedTree) (cs : Costs) (fault : CostFault) → HasCosts files program (Some costs) r cs → HasNoCosts files program costs fault → ⊥
+  priced_once program costs r cs fault has none =
+      let said : has.said ≡ Some none.said = same_said (Some costs) (Some none.said) has.said none.says has.says in
+      let moved : IsPriced none.text has.said r cs = subst (λ t. IsPriced t has.said r cs) (same_text program none.text has.text none.has.holds has.has.holds) has.priced in
+      none.refused.never r cs (subst (λ s. IsPriced none.text s r cs) said moved)
+
+  -- where counts fit there are enough processors
+  fitting_once : (build : Build) (r : ResolvedTree) (cs : Costs) (counts : List ℕ) (need : ℕ) → HasCounts files build r cs counts → HasTooFew files build need → ⊥
+  fitting_once build r cs counts need has none =
+      let said : has.said ≡ none.said = same_said build.costs none.said has.said none.says has.says in
+      let moved : IsAllotted none.text has.said build.processors r cs counts =
+      subst (λ t. IsAllotted t has.said build.processors r cs counts) (same_text build.program none.text has.text none.has.holds has.has.holds) has.allotted in
+      none.refused.never r cs counts (subst (λ s. IsAllotted none.text s build.processors r cs counts) said moved)
+
+  -- where a file has picks for the network it is not refused
+  scheduled_once : (build : Build) (name : List ℕ) (n : Network) (s : Schedule) (refused : PickRefusal) → HasNetwork files build n → HasPicks files (size_of n) name s → HasNoPicks files build name refused → ⊥
+  scheduled_once build name n s refused has reads none =
+      let h = has.has in
+      let said : h.said ≡ none.said = same_said build.costs none.said h.said none.says h.says in
+      let moved : IsAllotted none.text h.said build.processors has.r has.cs has.counts =
+      subst (λ t. IsAllotted t h.said build.processors has.r has.cs has.counts) (same_text build.program none.text h.text none.has.holds h.has.holds) h.allotted in
+      let allotted : IsAllotted none.text none.said build.processors has.r has.cs has.counts = subst (λ t. IsAllotted none.text t build.processors has.r has.cs has.counts) said moved in
+      let here : Reads reads.text (size_of (network_of has.r has.counts build.capacity)) (Ok reads.picks) = subst (λ m. Reads reads.text (size_of m) (Ok reads.picks)) has.network_is reads.reads in
+      let read : Reads none.picks (size_of (network_of has.r has.counts build.capacity)) (Ok reads.picks) =
+      subst (λ t. Reads t (size_of (network_of has.r has.counts build.capacity)) (Ok reads.picks)) (same_text name none.picks reads.text none.held.holds reads.has.holds) here in
+      none.refused.never has.r has.cs has.counts reads.picks allotted read
 
 module _ (files : Change Held) (held : Held) (told : files.old ≡ Some held) (calm : HasRisen files → ⊥) where
   -- a stage that is passed refuses nothing
   passed_stage : (stage : Stage) (r : Refusal) → Passes files stage → Refuses files stage r → ⊥
   passed_stage there r p h = p
-  passed_stage (readable name) (refusal.FileFault named) p h = calm h.1
-  passed_stage (readable name) (refusal.FileTooLong named) p h = not_longer files.old held told name p.0 p.1 h.1
+  passed_stage (readable limit name) (refusal.FileFault named) p h = calm h.1
+  passed_stage (readable limit name) (refusal.FileTooLong named) p h = not_longer files.old held told limit name p.0 p.1 h.1
   passed_stage (spelled name) (refusal.Source fault pos) p h = spelled_once files.old held told name p.0 fault pos p.1 h
-  passed_stage (runnable name) (refusal.Source fault pos) p h = run_once files.old held told name p.0 fault pos p.1 h
+  passed_stage (resolved name) (refusal.Source fault pos) p h = accepted_once files.old held told name p.0 fault pos p.1 h
+  passed_stage (priced program costs) (refusal.Costs fault) p h = priced_once files.old held told program costs p.0 p.1 fault p.2 h
+  passed_stage (fitting build) (refusal.TooFew need) p h = fitting_once files.old held told build p.0 p.1 p.2 need p.3 h
+  passed_stage (scheduled build name) (refusal.BadPick line) p h = scheduled_once files.old held told build name p.0 p.1 (picks.BadPick line) p.2 p.3 h
+  passed_stage (scheduled build name) (refusal.NoSuchProcess line pick count) p h = scheduled_once files.old held told build name p.0 p.1 (picks.NoSuchProcess line pick count) p.2 p.3 h
   passed_stage stage r p h = absurd h
 
   -- a stage refuses with one status
   refused_stage : (stage : Stage) (r other : Refusal) → Refuses files stage r → Refuses files stage other → refusal_status r ≡ refusal_status other
   refused_stage there refusal.Usage refusal.Usage h k = refl
-  refused_stage (readable name) (refusal.FileFault a) other h k = absurd (calm h.1)
-  refused_stage (readable name) (refusal.FileTooLong a) (refusal.FileFault b) h k = absurd (calm k.1)
-  refused_stage (readable name) (refusal.FileTooLong a) (refusal.FileTooLong b) h k = refl
+  refused_stage (readable limit name) (refusal.FileFault a) other h k = absurd (calm h.1)
+  refused_stage (readable limit name) (refusal.FileTooLong a) (refusal.FileFault b) h k = absurd (calm k.1)
+  refused_stage (readable limit name) (refusal.FileTooLong a) (refusal.FileTooLong b) h k = refl
   refused_stage (spelled name) (refusal.Source fault pos) (refusal.Source other at) h k = refl
-  refused_stage (runnable name) (refusal.Source fault pos) (refusal.Source other at) h k = refl
+  refused_stage (resolved name) (refusal.Source fault pos) (refusal.Source other at) h k = refl
+  refused_stage (priced program costs) (refusal.Costs fault) (refusal.Costs other) h k = refl
+  refused_stage (fitting build) (refusal.TooFew need) (refusal.TooFew other) h k = refl
+  refused_stage (scheduled build name) (refusal.BadPick line) (refusal.BadPick other) h k = refl
+  refused_stage (scheduled build name) (refusal.BadPick line) (refusal.NoSuchProcess other pick count) h k = refl
+  refused_stage (scheduled build name) (refusal.NoSuchProcess line pick count) (refusal.BadPick other) h k = refl
+  refused_stage (scheduled build name) (refusal.NoSuchProcess line pick count) (refusal.NoSuchProcess other one of) h k = refl
   refused_stage stage r other h k = absurd (search (h, k))
 
   -- where all stages pass none refuses

@@ -2,7 +2,9 @@
 use Rattle.std.specs.Prelude.{◌≡◌, ℕ, List, ◌++◌, ◌⊎◌, Option, Some}
 use Rattle.clap.specs.Words.{Text}
 use Rattle.p3l_io.specs.Told.{Held}
+use Rattle.p3l_opts.specs.declared.command.Build.{Build}
 use Rattle.p3l_opts.specs.declared.command.Command.{Command}
+use Rattle.p3l_opts.specs.declared.command.Sched.{Sched}
 use Rattle.p3l_opts.specs.Command.{Spells}
 use Rattle.p3l_report.specs.declared.stats.Stats.{Stats}
 use Rattle.p3l_report.specs.declared.verdict.Finish.{Finish}
@@ -13,10 +15,10 @@ use Rattle.p3l_report.specs.declared.verdict.Verdict.TheVariants as verdict
 use Rattle.p3l_report.specs.Line.{stats_line}
 use Rattle.p3l_report.specs.Verdict.{finish_status, lines_of, refusal_status, status_of}
 use Rattle.p3l_program.specs.Command.{Begins, Ends, IsDueOf, IsWhole, file_of, stages_of}
-use Rattle.p3l_program.specs.Due.{IsBegun, IsEnd, IsRefusal}
+use Rattle.p3l_program.specs.Due.{IsBegun, IsEnd}
 use Rattle.p3l_program.specs.Run.{Emits}
 use Rattle.p3l_program.specs.Stage.{IsRefusedBy}
-use Rattle.p3l_program.specs.File.{IsTooLong}
+use Rattle.p3l_program.specs.File.{IsTooLong, text_limit}
 use Rattle.p3l_program.specs.World.{Change, HasRisen, IsCalm, IsUntouched, World}
 
 -- the words spell no command
@@ -93,11 +95,11 @@ pub record HasTooLong (words : List Text) (files : Option Held) : Type 0 where
   pub spelled : Spells words command
   pub name : List ℕ
   pub name_is : file_of command ≡ Some name
-  pub longer : IsTooLong files name
+  pub longer : IsTooLong files text_limit name
 
 -- the line of the numbers comes first on the standard error, and they are those of the run
-pub record Reports (w : World) (name said : List ℕ) (err : Option (List ℕ)) : Type 0 where
+pub record Reports (w : World) (build : Build) (asked : Sched) (said : List ℕ) (err : Option (List ℕ)) : Type 0 where
   pub numbers : Stats
   pub more : List ℕ
   pub line : err ≡ Some (said ++ (stats_line numbers ++ more))
-  pub emits : Emits w name numbers
+  pub emits : Emits w build asked numbers

@@ -1,24 +1,37 @@
--- What comes of a file: its text, or why there is none.
-use Rattle.std.specs.Prelude.{◌≡◌, ℕ, List}
-use Rattle.p3l_ast.specs.declared.refusal.SourceRefusal.{SourceRefusal}
-use Rattle.p3l_ast.specs.declared.refusal.SourceRefusal.TheVariants as source
+-- What is loaded from files, and why nothing is.
+use Rattle.std.specs.Prelude.{◌≡◌, ℕ, ◌≤◌, List, Err, Option, Some, None, ◌⊎◌}
 use Rattle.p3l_io.specs.Told.{Held}
+use Rattle.p3l_skel.specs.declared.tree.Tree.{Tree}
+use Rattle.p3l_cost.specs.declared.costs.Costs.{Costs}
+use Rattle.p3l_cost.specs.declared.refusal.CostRefusal.{CostRefusal}
+use Rattle.p3l_cost.specs.declared.refusal.CostRefusal.TheVariants as costs
+use Rattle.p3l_cost.specs.Costs.{AreCostsOf}
+use Rattle.p3l_cost.specs.File.{IsRead}
+use Rattle.p3l_model.specs.Service.{service}
+use Rattle.p3l_skel.specs.Counts.{HasLawfulCounts}
+use Rattle.p3l_skel.specs.Numbers.{procs}
+use Rattle.p3l_opts.specs.declared.command.Build.{Build}
+use Rattle.p3l_report.specs.declared.cost_fault.CostFault.TheVariants as fault
 use Rattle.p3l_report.specs.declared.verdict.Refusal.{Refusal}
 use Rattle.p3l_report.specs.declared.verdict.Refusal.TheVariants as refusal
 use Rattle.p3l_report.specs.declared.verdict.Verdict.{Verdict}
 use Rattle.p3l_report.specs.declared.verdict.Verdict.TheVariants as verdict
+use Rattle.p3l_check.specs.Resolving.{ResolvedTree}
+use Rattle.p3l_program.specs.declared.accept.Accepted.{Accepted}
 use Rattle.p3l_program.specs.declared.file.FileRefusal.{FileRefusal}
 use Rattle.p3l_program.specs.declared.file.FileRefusal.TheVariants as file
-use Rattle.p3l_program.specs.File.{IsTooLong}
-use Rattle.p3l_program.specs.Form.{IsRefused}
-use Rattle.p3l_program.specs.Stage.{FilesCause, IsRefusedBy, Stage}
+use Rattle.p3l_program.specs.declared.load.Loaded.{Loaded}
+use Rattle.p3l_program.specs.Accepted.{ComesTo, IsCompiled}
+use Rattle.p3l_program.specs.Chosen.{AreSaid, HasCostText, IsAllotted, refusal_of}
+use Rattle.p3l_program.specs.File.{HasText, IsTooLong, text_limit}
+use Rattle.p3l_program.specs.Stage.{FilesCause, IsRefusedBy, Refuses, Stage, readable}
 use Rattle.p3l_program.specs.World.{Change, HasRisen, IsCalm}
 
 -- why a file gives no text
-abbrev pub IsUnreadable : Change Held → List ℕ → FileRefusal → Type 0
-IsUnreadable files name (file.Fault named) = (named ≡ name) × HasRisen files
-IsUnreadable files name (file.TooLong named) = (named ≡ name) × IsTooLong files.old name × IsCalm files
-IsUnreadable files name file.NoMemory = IsCalm files
+abbrev pub IsUnreadable : Change Held → ℕ → List ℕ → FileRefusal → Type 0
+IsUnreadable files limit name (file.Fault named) = (named ≡ name) × HasRisen files
+IsUnreadable files limit name (file.TooLong named) = (named ≡ name) × IsTooLong files.old limit name × IsCalm files
+IsUnreadable files limit name file.NoMemory = IsCalm files
 
 -- the verdicts of these
 abbrev pub file_verdict : FileRefusal → Verdict
@@ -26,13 +39,80 @@ file_verdict (file.Fault name) = verdict.Refused (refusal.FileFault name)
 file_verdict (file.TooLong name) = verdict.Refused (refusal.FileTooLong name)
 file_verdict file.NoMemory = verdict.NoMemory
 
--- a text is refused for a fault, or memory was wanting
-abbrev pub IsTextRefused : List ℕ → SourceRefusal → Type 0
-IsTextRefused text (source.At fault pos) = IsRefused text fault pos
-IsTextRefused text source.NoMemory = Unit {0}
-
 -- the stages before a command's work don't pass: one refuses, or memory was wanting
 abbrev pub IsNotLoaded : Change Held → List Stage → Verdict → Type 0
 IsNotLoaded files stages (verdict.Refused refused) = IsRefusedBy files stages refused × FilesCause refused files
 IsNotLoaded files stages verdict.NoMemory = IsCalm files
 IsNotLoaded files stages v = ⊥
+
+-- what a text comes to
+pub record AcceptsText (text : List ℕ) (accepted : Accepted) : Type 0 where
+  pub r : ResolvedTree
+  pub comes : ComesTo text r accepted
+
+-- the verdict of costs that are refused
+abbrev pub cost_verdict : CostRefusal → Verdict
+cost_verdict costs.NotToml = verdict.Refused (refusal.Costs fault.NotToml)
+cost_verdict (costs.BadKey key) = verdict.Refused (refusal.Costs (fault.BadKey key))
+cost_verdict (costs.BadValue key) = verdict.Refused (refusal.Costs (fault.BadValue key))
+cost_verdict (costs.Missing name) = verdict.Refused (refusal.Costs (fault.Missing name))
+cost_verdict costs.NoMemory = verdict.NoMemory
+
+-- the program of a file, with its codes
+pub record IsProgram (files : Option Held) (name : List ℕ) (r : ResolvedTree) (accepted : Accepted) : Type 0 where
+  pub text : List ℕ
+  pub has : HasText files text_limit name text
+  pub comes : ComesTo text r accepted
+
+pub record LoadsProgram (files : Option Held) (name : List ℕ) (accepted : Accepted) : Type 0 where
+  pub r : ResolvedTree
+  pub is : IsProgram files name r accepted
+
+-- the costs of a tree, by the file that is named for them
+pub record LoadsCosts (files : Option Held) (costs_file : Option (List ℕ)) (tree : Tree) (cs : Costs) : Type 0 where
+  pub said : Option (List ℕ)
+  pub says : HasCostText files costs_file said
+  pub costs : AreSaid tree said cs
+  pub lawful : AreCostsOf tree cs
+
+-- a text says no costs of a tree
+abbrev pub IsNoCosts : Tree → List ℕ → Refusal → Type 0
+IsNoCosts tree said (refusal.Costs fault) = IsRead tree said (Err (refusal_of fault))
+IsNoCosts tree said refused = ⊥
+
+-- why no costs are loaded
+pub record HasUnsaidCosts (files : Change Held) (name : List ℕ) (tree : Tree) (refused : Refusal) : Type 0 where
+  pub said : List ℕ
+  pub has : HasText files.old text_limit name said
+  pub no_costs : IsNoCosts tree said refused
+  pub calm : IsCalm files
+
+abbrev pub IsCostless : Change Held → Option (List ℕ) → Tree → Verdict → Type 0
+IsCostless files None tree (verdict.Refused refused) = ⊥
+IsCostless files (Some name) tree (verdict.Refused refused) =
+    (Refuses files (readable text_limit name) refused × FilesCause refused files) ⊎ HasUnsaidCosts files name tree refused
+IsCostless files costs tree verdict.NoMemory = IsCalm files
+IsCostless files costs tree v = ⊥
+
+-- a program with its costs and the counts that are chosen for it
+pub record IsLoaded (files : Option Held) (build : Build) (r : ResolvedTree) (loaded : Loaded) : Type 0 where
+  pub text : List ℕ
+  pub has : HasText files text_limit build.program text
+  pub comes : ComesTo text r loaded.program
+  pub said : Option (List ℕ)
+  pub says : HasCostText files build.costs said
+  pub allotted : IsAllotted text said build.processors r loaded.costs loaded.choice.counts.list
+  pub lawful : AreCostsOf r.tree loaded.costs
+  pub service_is : loaded.choice.service ≡ service r.tree loaded.costs loaded.choice.counts.list 0
+  pub used_is : loaded.choice.used ≡ procs r.tree loaded.choice.counts.list 0
+
+pub record Loads (files : Option Held) (build : Build) (loaded : Loaded) : Type 0 where
+  pub r : ResolvedTree
+  pub is : IsLoaded files build r loaded
+
+-- a program can be run with the counts that are chosen
+pub record IsReady (loaded : Loaded) : Type 0 where
+  pub r : ResolvedTree
+  pub compiled : IsCompiled r loaded.program
+  pub fit : HasLawfulCounts r.tree loaded.choice.counts.list
+  pub few : procs r.tree loaded.choice.counts.list 0 ≤ 512

@@ -1,6 +1,6 @@
 // The text of a file.
 
-ghost use Rattle.std.specs.Prelude.{◌≡◌, IfOk, IfErr, OnOk};
+ghost use Rattle.std.specs.Prelude.{◌≡◌, ◌≤◌, ◌<◌, ◌^◌, IfOk, IfErr, OnOk};
 ghost use Rattle.p3l_program.specs.File.{HasText};
 ghost use Rattle.p3l_program.specs.Load.{IsUnreadable, file_verdict};
 ghost use Rattle.p3l_program.specs.World.{change};
@@ -10,15 +10,15 @@ use p3l_io::{FileFault, Files};
 use p3l_report::{Refusal, Verdict};
 use std::alloc::Global;
 
-/// The most bytes of a program's file.
-pub const FILE_LIMIT: u64 = 1_048_576;
+/// The most bytes of a file of a program, and of one of costs.
+pub const TEXT_LIMIT: u64 = 1_048_576;
 
 /// Why a file of this name gives no text.
 #[derive(Debug, Drop)]
 pub enum FileRefusal {
     /// It could not be read.
     Fault(Name),
-    /// It is longer than the limit.
+    /// It is longer than its limit.
     TooLong(Name),
     NoMemory,
 }
@@ -35,18 +35,19 @@ impl From<FileRefusal> for Verdict {
     }
 }
 
-/// The text of the file of this name, or why there is none.
+/// The text of the file of this name, of so many bytes at most, or why there is none.
 pub fn find_text<F: Files>(
     alloc: Global,
     name: Name,
+    limit: u64,
     files: &mut F,
 ) -> Result<List<u8>, FileRefusal>
-    ensures found { IfOk result (λ text. HasText (F.held files.old) name text) }
+    ensures found { IfOk result (λ text. HasText (F.held files.old) limit name text) }
     ensures calm { OnOk result (F.faults files.new ≡ F.faults files.old) }
-    ensures refused { IfErr result (λ refusal. IsUnreadable (change F.held F.faults files.old files.new) name refusal) }
+    ensures refused { IfErr result (λ refusal. IsUnreadable (change F.held F.faults files.old files.new) limit name refusal) }
     ensures stays { F.held files.new ≡ F.held files.old }
 {
-    match files.read(alloc, name.as_str(), FILE_LIMIT) {
+    match files.read(alloc, name.as_str(), limit) {
         Ok(text) => Ok(text),
         Err(FileFault::Failed) => Err(FileRefusal::Fault(name)),
         Err(FileFault::TooLong) => Err(FileRefusal::TooLong(name)),

@@ -1,17 +1,18 @@
 // The command `fmt`: the canonical text of a program, from its file to the output.
 
 ghost use Rattle.std.specs.Prelude.{◌≡◌, ◌≤◌, length, IfOk, IfErr};
-ghost use Rattle.p3l_program.specs.Fmt.{HasNoCanonical, IsCanonicalOf, IsFmtDue, IsTextEnd};
+ghost use Rattle.p3l_program.specs.Command.{IsTextDue};
+ghost use Rattle.p3l_program.specs.Fmt.{HasNoCanonical, IsCanonicalOf, IsFormatted, fmt_stages};
 ghost use Rattle.p3l_program.specs.World.{change};
 
-use crate::file::find_text;
+use crate::file::{TEXT_LIMIT, find_text};
+use crate::text::write_text;
 use p3l_ast::SourceRefusal;
 use p3l_base::{List, Name};
 use p3l_io::{Files, Sink};
 use p3l_print::print;
 use p3l_reader::read;
-use p3l_report::{Finish, Refusal, Verdict};
-use p3l_run::write::write;
+use p3l_report::{Refusal, Verdict};
 use std::alloc::Global;
 
 /// The canonical text of the program that a text spells.
@@ -26,28 +27,19 @@ fn canonical_of(alloc: Global, text: &[u8]) -> Result<List<u8>, SourceRefusal>
     }
 }
 
-/// Writes the canonical text of the program that a text spells.
-fn format_text<K: Sink>(alloc: Global, text: &[u8], out: &mut K) -> Verdict
-    requires { length text.now ≤ 1048576 }
-    ensures { IsTextEnd text.now (change K.taken K.faults out.old out.new) result }
-{
-    match canonical_of(alloc, text) {
-        Err(SourceRefusal::At { fault, pos }) => Verdict::Refused(Refusal::Source { fault, pos }),
-        Err(SourceRefusal::NoMemory) => Verdict::NoMemory,
-        Ok(canonical) => match write(out, canonical.as_slice()) {
-            Ok(()) => Verdict::Ended(Finish::Done, None),
-            Err(fault) => Verdict::from(fault),
-        },
-    }
-}
-
 /// Writes the canonical text of the program of the file of this name.
 pub fn fmt<F: Files, K: Sink>(alloc: Global, name: Name, files: &mut F, out: &mut K) -> Verdict
-    ensures due { IsFmtDue (change F.held F.faults files.old files.new) (change K.taken K.faults out.old out.new) name result }
+    ensures due { IsTextDue (change F.held F.faults files.old files.new) (change K.taken K.faults out.old out.new) (fmt_stages name) (IsFormatted (F.held files.old) name) result }
     ensures stays { F.held files.new ≡ F.held files.old }
 {
-    match find_text(alloc, name, files) {
+    match find_text(alloc, name, TEXT_LIMIT, files) {
         Err(refusal) => Verdict::from(refusal),
-        Ok(text) => format_text(alloc, text.as_slice(), out),
+        Ok(text) => match canonical_of(alloc, text.as_slice()) {
+            Err(SourceRefusal::At { fault, pos }) => {
+                Verdict::Refused(Refusal::Source { fault, pos })
+            }
+            Err(SourceRefusal::NoMemory) => Verdict::NoMemory,
+            Ok(canonical) => write_text(canonical.as_slice(), out),
+        },
     }
 }

@@ -2,10 +2,14 @@
 //! streams.
 #![tactic(auto)]
 
-mod affine;
+mod accept;
+pub mod check;
+mod costs;
+pub mod explain;
 mod file;
 pub mod fmt;
-mod form;
 mod load;
 pub mod run;
+mod schedule;
+mod text;
 pub mod top;

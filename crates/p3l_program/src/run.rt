@@ -1,72 +1,117 @@
-// The command `run`: a program of a file, run on the input.
+// The command `run`: a program of a file, run on the input under a schedule.
 
-ghost use Rattle.std.specs.Prelude.{◌≡◌};
-ghost use Rattle.p3l_program.specs.Network.{affine_network};
-ghost use Rattle.p3l_program.specs.Run.{IsRunDue};
+ghost use Rattle.std.specs.Prelude.{◌≡◌, ◌≤◌};
+ghost use Rattle.p3l_skel.specs.Tree.{node_at};
+ghost use Rattle.p3l_check.specs.Resolving.{ResolvedTree};
+ghost use Rattle.p3l_program.specs.Accepted.{IsCompiled};
+ghost use Rattle.p3l_program.specs.Load.{IsReady};
+ghost use Rattle.p3l_program.specs.Network.{network_of};
+ghost use Rattle.p3l_program.specs.Run.{IsRunDue, IsRunOf, shown};
+ghost use Rattle.p3l_report.specs.declared.verdict.Verdict.TheVariants as verdict;
 ghost use Rattle.p3l_program.specs.World.{change, world};
-ghost use Rattle.p3l_run.specs.Run.{InputCause, IsRunEnd};
-ghost use Rattle.p3l_run.specs.Write.{WriteCause};
 
-use crate::affine::Affine;
-use crate::load::load;
-use p3l_base::Name;
+use crate::accept::Accepted;
+use crate::load::{Loaded, load};
+use crate::schedule::load_schedule;
+use p3l_compile::table_of;
 use p3l_io::{Files, Sink, Source};
-use p3l_net::laws::{the_net_of_one_unit_is_carried, the_net_of_one_unit_is_typed};
-use p3l_net::unit_net;
+use p3l_link::laws::every_linked_net_is_carried;
+use p3l_link::link;
+use p3l_model::firings;
+use p3l_opts::{Build, Sched};
 use p3l_report::Verdict;
 use p3l_run::run::run as run_plan;
-use p3l_run::{Plan, Ran, RunFault};
+use p3l_run::{Plan, Ran};
+use p3l_skel::Tree;
 use std::alloc::Global;
 
-/// How many tokens a channel holds at most.
-const CAPACITY: u32 = 4;
-
-/// How often the network can fire for one item.
-const FIRINGS: u64 = 3;
-
-/// Runs the network of a program on the items of the input, and writes each value as it comes out.
-fn run_program<S: Source, K: Sink>(
-    alloc: Global,
-    program: &Affine,
-    input: &mut S,
-    out: &mut K,
-) -> Result<Ran, RunFault>
-    ensures ends { IsRunEnd (affine_network program.now.factor program.now.summand) (S.rest input.old) (S.rest input.new) (S.faults input.old) (S.faults input.new) (K.taken out.old) (K.taken out.new) result }
-    ensures input { InputCause result (S.faults input.old) (S.faults input.new) }
-    ensures output { WriteCause (K.faults out.old) (K.faults out.new) result }
+/// How many words an item of a tree has.
+fn width_of(tree: &Tree) -> u32
+    ensures { result ≡ (node_at tree.now 0).ins }
 {
-    the_net_of_one_unit_is_typed();
-    the_net_of_one_unit_is_carried();
-    let tree = Affine::tree(alloc)?;
-    let net = unit_net(alloc, CAPACITY)?;
-    let plan = Plan {
-        tree: &tree,
-        units: program,
-        net,
-        firings: FIRINGS,
-        width: 1,
-    };
-    run_plan(alloc, plan, input, out)
+    match tree.node(0) {
+        Some(root) => root.ins,
+        None => 0,
+    }
 }
 
-/// Runs the program of the file of this name on the input; its numbers are to be reported or not.
-pub fn run<F: Files, S: Source, K: Sink>(
+/// The verdict of a run that came to its end, whose numbers are to be reported or not.
+fn ended(ran: Ran, reported: bool) -> Verdict
+    ensures { result ≡ verdict.Ended ran.finish (shown reported ran.stats) }
+{
+    if reported {
+        Verdict::Ended(ran.finish, Some(ran.stats))
+    } else {
+        Verdict::Ended(ran.finish, None)
+    }
+}
+
+/// Runs the network of a program on the items of the input, and writes each value as it comes out.
+fn run_loaded<F: Files, S: Source, K: Sink>(
     alloc: Global,
-    name: Name,
+    loaded: Loaded,
+    capacity: u32,
+    asked: Sched,
     reported: bool,
     files: &mut F,
     input: &mut S,
     out: &mut K,
 ) -> Verdict
-    ensures due { IsRunDue (world (change F.held F.faults files.old files.new) (change S.rest S.faults input.old input.new) (change K.taken K.faults out.old out.new)) name reported result }
+    requires ready { IsReady loaded }
+    requires some { 1 ≤ capacity }
+    requires few { capacity ≤ 1024 }
+    ensures ran { (r : ResolvedTree) → IsCompiled r loaded.program → IsRunOf (network_of r loaded.choice.counts.list capacity) (change F.held F.faults files.old files.new) (change S.rest S.faults input.old input.new) (change K.taken K.faults out.old out.new) asked reported result }
     ensures stays { F.held files.new ≡ F.held files.old }
 {
-    match load(alloc, name, files) {
+    every_linked_net_is_carried();
+    let Loaded {
+        program,
+        choice,
+        ..
+    } = loaded;
+    let Accepted { tree, codes } = program;
+    let counts = choice.counts;
+    let Ok(units) = table_of(alloc, &tree, codes) else {
+        return Verdict::NoMemory;
+    };
+    let Ok(net) = link(alloc, &tree, &counts, capacity) else {
+        return Verdict::NoMemory;
+    };
+    let schedule = match load_schedule(alloc, asked, net.procs.len() as u32, files) {
+        Ok(schedule) => schedule,
+        Err(verdict) => return verdict,
+    };
+    let plan = Plan {
+        tree: &tree,
+        units: &units,
+        net,
+        firings: firings(&tree, &counts),
+        width: width_of(&tree),
+    };
+    match run_plan(alloc, plan, schedule, input, out) {
+        Err(fault) => Verdict::from(fault),
+        Ok(ran) => ended(ran, reported),
+    }
+}
+
+/// Runs the program of a file on the input; its numbers are to be reported or not.
+pub fn run<F: Files, S: Source, K: Sink>(
+    alloc: Global,
+    build: Build,
+    asked: Sched,
+    reported: bool,
+    files: &mut F,
+    input: &mut S,
+    out: &mut K,
+) -> Verdict
+    requires processors { (1 ≤ build.processors) × (build.processors ≤ 512) }
+    requires capacity { (1 ≤ build.capacity) × (build.capacity ≤ 1024) }
+    ensures due { IsRunDue (world (change F.held F.faults files.old files.new) (change S.rest S.faults input.old input.new) (change K.taken K.faults out.old out.new)) build asked reported result }
+    ensures stays { F.held files.new ≡ F.held files.old }
+{
+    let capacity = build.capacity;
+    match load(alloc, build, files) {
         Err(verdict) => verdict,
-        Ok(program) => match run_program(alloc, &program, input, out) {
-            Err(fault) => Verdict::from(fault),
-            Ok(ran) if reported => Verdict::Ended(ran.finish, Some(ran.stats)),
-            Ok(ran) => Verdict::Ended(ran.finish, None),
-        },
+        Ok(loaded) => run_loaded(alloc, loaded, capacity, asked, reported, files, input, out),
     }
 }

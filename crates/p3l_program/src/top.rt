@@ -1,6 +1,6 @@
 // The top call: from the words of the command line to the status.
 
-ghost use Rattle.std.specs.Prelude.{◌≡◌, ◌≢◌, ◌<◌, ◌⊎◌, List, ℕ, Option, Some, true};
+ghost use Rattle.std.specs.Prelude.{◌≡◌, ◌≢◌, ◌<◌, ◌⊎◌, List, ℕ, Some, None, true};
 ghost use Rattle.p3l_io.specs.Causes.{Rose};
 ghost use Rattle.p3l_opts.specs.declared.command.Build.{Build};
 ghost use Rattle.p3l_opts.specs.declared.command.Command.{Command};
@@ -15,6 +15,8 @@ ghost use Rattle.p3l_program.specs.Command.{IsStatusDue, stages_of};
 ghost use Rattle.p3l_program.specs.Stage.{AllPass};
 ghost use Rattle.p3l_program.specs.World.{HasNoFault, IsUntouched, WhenTold, change, world};
 
+use crate::check::check;
+use crate::explain::explain;
 use crate::fmt::fmt;
 use crate::run::run;
 use p3l_io::{Files, Sink, Source};
@@ -36,11 +38,20 @@ fn perform<F: Files, S: Source, K: Sink>(
     match parse(alloc, words) {
         Err(OptsRefusal::Usage) => Verdict::Refused(Refusal::Usage),
         Err(OptsRefusal::NoMemory) => Verdict::NoMemory,
-        Ok(Command::Check(_)) => Verdict::Refused(Refusal::Usage),
+        Ok(Command::Check(name)) => check(alloc, name, files, out),
         Ok(Command::Fmt(name)) => fmt(alloc, name, files, out),
-        Ok(Command::Run(build, _, _, reported)) => {
-            run(alloc, build.program, reported, files, input, out)
+        Ok(Command::Explain(build, None)) => explain(alloc, build, files, out),
+        Ok(Command::Run(build, schedule, None, reported)) => {
+            run(alloc, build, schedule, reported, files, input, out)
         }
+        // Commands that are still to come.
+        Ok(Command::Explain(_, Some(_))) => Verdict::Refused(Refusal::Usage),
+        Ok(Command::Run(_, _, Some(_), _)) => Verdict::Refused(Refusal::Usage),
+        Ok(Command::Compile(_, _)) => Verdict::Refused(Refusal::Usage),
+        Ok(Command::Exec(_, _, _, _)) => Verdict::Refused(Refusal::Usage),
+        Ok(Command::VerifyCert(_, _, _)) => Verdict::Refused(Refusal::Usage),
+        Ok(Command::CheckTrace(_, _)) => Verdict::Refused(Refusal::Usage),
+        Ok(Command::Gen(_, _, _, _, _)) => Verdict::Refused(Refusal::Usage),
     }
 }
 
@@ -122,8 +133,8 @@ pub fn top<F: Files, S: Source, K: Sink, E: Sink>(
     // The line of the numbers is due where the words ask for it, and they are the run's: they come
     // with what the network emitted, and with the bound on its firings.
     ensures reported { let w = world (change F.held F.faults files.old files.new) (change S.rest S.faults input.old input.new) (change K.taken K.faults out.old out.new)
-        in (build : Build) (schedule : Sched) (trace : Option (List ℕ)) → Spells (texts_of words.now) (command.Run build schedule trace true) → status.is_end result.0 ≡ true
-        → (said : List ℕ) → E.taken err.old ≡ Some said → (Rose (E.faults err.old) (E.faults err.new) → ⊥) → Reports w build.program said (E.taken err.new) }
+        in (build : Build) (schedule : Sched) → Spells (texts_of words.now) (command.Run build schedule None true) → status.is_end result.0 ≡ true
+        → (said : List ℕ) → E.taken err.old ≡ Some said → (Rose (E.faults err.old) (E.faults err.new) → ⊥) → Reports w build schedule said (E.taken err.new) }
 
     // A fault is answered only where the count of the object rose in this call.
     ensures read_fault { result.0 ≡ status.read → Rose (S.faults input.old) (S.faults input.new) }
@@ -132,7 +143,7 @@ pub fn top<F: Files, S: Source, K: Sink, E: Sink>(
     // No failure is dropped, and no file is changed.
     ensures out_failed { K.faults out.old < K.faults out.new → (result.0 ≡ status.write) ⊎ (result.0 ≡ status.no_memory) }
     ensures files_failed { F.faults files.old < F.faults files.new → (result.0 ≡ status.file) ⊎ (result.0 ≡ status.no_memory) }
-    ensures input_failed { S.faults input.old < S.faults input.new → (result.0 ≢ status.done) × (result.0 ≢ status.too_long) }
+    ensures input_failed { S.faults input.old < S.faults input.new → (result.0 ≢ status.done) × (result.0 ≢ status.too_long) × (result.0 ≢ status.stream) }
     ensures files_stay { F.held files.new ≡ F.held files.old }
 {
     one_command_at_most();

@@ -9,6 +9,27 @@ use std::test::Fail;
 
 const DOUBLE: &str = "seq main in(int x) out(int y)\n${ y = x * 2 + 1; }$\nend seq\n";
 
+/// A body that speaks of a name that is not declared.
+const UNDECLARED: &str = "seq main in(int x) out(int y) ${ y = z; }$ end seq";
+
+const PIPE: &str =
+    "seq more in(int x) out(int y) ${ y = x + 1; }$ end seq seq twice in(int x) out(int y) ${ y = x * 2; }$ end seq pipe main in(int x) out(int z) more in(x) out(int y) twice in(y) out(z) end pipe";
+
+const COMP: &str =
+    "seq more in(int x) out(int y) ${ y = x + 1; }$ end seq seq twice in(int x) out(int y) ${ y = x * 2; }$ end seq comp main in(int x) out(int z) more in(x) out(int y) twice in(y) out(z) end comp";
+
+const FARM: &str =
+    "seq part in(int x) out(int y) ${ y = 100 / x; }$ end seq farm main in(int x) out(int y) part in(x) out(y) end farm";
+
+const MAP: &str =
+    "seq more in(int x) out(int y) ${ y = x + 1; }$ end seq map main in(int a[3]) out(int b[3]) more in(a[*i]) out(b[*i]) end map";
+
+const REDUCE: &str =
+    "seq less in(int x, int y) out(int z) ${ z = x - y; }$ end seq reduce main in(int a[5]) out(int s) less in(a[*i]) out(s) end reduce";
+
+const LOOP: &str =
+    "seq half in(int x, int c) out(int y, int d) ${ y = x / 2; d = c + 1; }$ end seq seq more in(int x, int c) out(int again) ${ again = x > 1; }$ end seq loop main in(int x, int c) out(int y, int d) turns 64 half in(x, c) out(y, d) while more in(y, d) out(int again) end loop";
+
 const RUN: [&str; 4] = ["run", "m.p3l", "--processors", "4"];
 
 const FMT: [&str; 2] = ["fmt", "m.p3l"];
@@ -26,11 +47,13 @@ const ODD_TEXT: &str =
 
 const REPORTED: [&str; 5] = ["run", "m.p3l", "--processors", "4", "--stats"];
 
-/// A command, a file `m.p3l`, an input in pieces of one byte, and the calls that fail.
+/// A command, a file `m.p3l`, perhaps another file, an input in pieces of one byte, and the calls
+/// that fail.
 #[derive(Clone, Copy)]
 struct World<'a> {
     words: &'a [&'a str],
     program: &'a str,
+    other: Option<(&'a str, &'a str)>,
     input: &'a str,
     takes: &'a [u64],
     reads: &'a [u64],
@@ -43,6 +66,7 @@ fn sound<'a>(words: &'a [&'a str], program: &'a str, input: &'a str) -> World<'a
     World {
         words,
         program,
+        other: None,
         input,
         takes: &[],
         reads: &[],
@@ -66,6 +90,9 @@ fn compare(
 ) -> Result<(), Fail> {
     let mut files = MemFiles::new(alloc, list(alloc, world.reads)?);
     files.add("m.p3l", world.program.as_bytes())?;
+    if let Some((name, text)) = world.other {
+        files.add(name, text.as_bytes())?;
+    }
     let mut input = MemSource::new(
         list(alloc, world.input.as_bytes())?,
         1,
@@ -161,8 +188,7 @@ fn the_numbers_of_a_run_come_before_its_line(rt: HostRuntime) -> Result<(), Fail
 #[test]
 fn words_files_and_texts_are_refused(rt: HostRuntime) -> Result<(), Fail> {
     let usage = "usage: the words are not a command of p3l\n";
-    let not_yet = "source: 1:5: 7 NotYet\n";
-    let table: [(&[&str], &str, u8, &str); 11] = [
+    let table: [(&[&str], &str, u8, &str); 13] = [
         (&[], DOUBLE, 2, usage),
         (&["walk"], DOUBLE, 2, usage),
         (&["run", "m.p3l", "--processors", "0"], DOUBLE, 2, usage),
@@ -175,19 +201,21 @@ fn words_files_and_texts_are_refused(rt: HostRuntime) -> Result<(), Fail> {
             9,
             "file fault: none.p3l\n",
         ),
-        (&RUN, "", 3, "source: 1:1: 7 NotYet\n"),
+        (&RUN, "", 3, "source: 1:1: 21 NoMain\n"),
         (&RUN, "seq main in(int 1x)", 3, "source: 1:17: 2 BadToken\n"),
+        (&REPORTED, UNDECLARED, 3, "source: 1:38: 40 Undeclared\n"),
         (
-            &RUN,
-            "seq main in(int x) out(int x) ${ x = x * 2 + 1; }$ end seq",
+            &["check", "m.p3l"],
+            UNDECLARED,
             3,
-            not_yet,
+            "source: 1:38: 40 Undeclared\n",
         ),
+        (&["exec", "m.p3l"], DOUBLE, 2, usage),
         (
-            &REPORTED,
-            "seq main in(int x) out(int y) ${ y = x + 1; }$ end seq",
-            3,
-            not_yet,
+            &["run", "m.p3l", "--processors", "1"],
+            PIPE,
+            5,
+            "too few processors: need 2\n",
         ),
     ];
     for (words, program, status, lines) in table {
@@ -306,7 +334,7 @@ fn programs_are_written_in_their_canonical_text(rt: HostRuntime) -> Result<(), F
 fn a_file_is_as_long_as_its_limit_at_most(rt: HostRuntime) -> Result<(), Fail> {
     let table: [(usize, &[&str], u8, &str); 4] = [
         (1_048_576, &FMT, 0, ""),
-        (1_048_576, &RUN, 3, "source: 1:1: 7 NotYet\n"),
+        (1_048_576, &RUN, 3, "source: 1:1048577: 21 NoMain\n"),
         (1_048_577, &FMT, 9, "file too long: m.p3l\n"),
         (1_048_577, &RUN, 9, "file too long: m.p3l\n"),
     ];
@@ -369,4 +397,137 @@ fn nothing_is_called_again_after_its_end(rt: HostRuntime) -> Result<(), Fail> {
         ..sound(&RUN, DOUBLE, "1\n2\n-3\n")
     };
     compare(&rt, rt.alloc(), &world, 0, "3\n5\n-5\n", "")
+}
+
+#[test]
+fn every_skeleton_runs_under_every_schedule(rt: HostRuntime) -> Result<(), Fail> {
+    let schedules = ["rr", "seed:0", "seed:7"];
+    let table: [(&str, &str, u8, &str, &str); 6] = [
+        (PIPE, "1\n5\n", 0, "4\n12\n", ""),
+        (COMP, "1\n5\n", 0, "4\n12\n", ""),
+        (
+            FARM,
+            "5\n0\n2\n",
+            7,
+            "20\n",
+            "trap: item 2: division by zero in part\n",
+        ),
+        (MAP, "1 2 3\n-1 0 7\n", 0, "2 3 4\n0 1 8\n", ""),
+        (REDUCE, "9 1 2 3 4\n", 0, "5\n", ""),
+        (LOOP, "64 0\n3 0\n1000000 0\n", 0, "1 6\n1 1\n1 19\n", ""),
+    ];
+    for schedule in schedules {
+        let words = ["run", "m.p3l", "--processors", "8", "--schedule", schedule];
+        for (program, input, status, output, lines) in table {
+            compare(
+                &rt,
+                rt.alloc(),
+                &sound(&words, program, input),
+                status,
+                output,
+                lines,
+            )?;
+        }
+    }
+    Ok(())
+}
+
+#[test]
+fn recorded_picks_are_followed(rt: HostRuntime) -> Result<(), Fail> {
+    let words = [
+        "run",
+        "m.p3l",
+        "--processors",
+        "4",
+        "--stats",
+        "--schedule",
+        "file:p",
+    ];
+    let table: [(&str, u8, &str, &str); 5] = [
+        (
+            "0 2 0 1\n",
+            1,
+            "3\n",
+            "stats: items 2, fired 4, idle 0, bound 6\nstopped: 4 fired, 0 idle\n",
+        ),
+        (
+            "1\t1\r\n0",
+            1,
+            "",
+            "stats: items 1, fired 1, idle 2, bound 3\nstopped: 1 fired, 2 idle\n",
+        ),
+        (
+            "0 2 9\n",
+            12,
+            "",
+            "schedule: line 1: 96 NoSuchProcess 9 of 3\n",
+        ),
+        ("0\nx\n", 12, "", "schedule: line 2: 95 BadPick\n"),
+        (
+            "0 2 1 0 2 1 0 2 1\n",
+            0,
+            "3\n5\n-5\n",
+            "stats: items 3, fired 9, idle 0, bound 9\n",
+        ),
+    ];
+    for (picks, status, output, lines) in table {
+        let world = World {
+            other: Some(("p", picks)),
+            ..sound(&words, DOUBLE, "1\n2\n-3\n")
+        };
+        compare(&rt, rt.alloc(), &world, status, output, lines)?;
+    }
+    let none = sound(&words, DOUBLE, "1\n");
+    compare(&rt, rt.alloc(), &none, 9, "", "file fault: p\n")
+}
+
+#[test]
+fn counts_are_explained_by_the_costs(rt: HostRuntime) -> Result<(), Fail> {
+    let words = ["explain", "m.p3l", "--processors", "4"];
+    let text = "processors 4 used 1 service 122\n0 seq main procs 1 service 122\n";
+    compare(&rt, rt.alloc(), &sound(&words, DOUBLE, ""), 0, text, "")?;
+    let words = ["explain", "m.p3l", "--processors", "4", "--costs", "c"];
+    let table: [(&str, u8, &str, &str); 4] = [
+        (
+            "setup = 0\nword = 0\n[seq]\nmain = 10\n",
+            0,
+            "processors 4 used 1 service 10\n0 seq main procs 1 service 10\n",
+            "",
+        ),
+        (
+            "setup = 0\nword = 0\n[seq]\n",
+            4,
+            "",
+            "costs: 53 Missing main\n",
+        ),
+        (
+            "speed = 1\n[seq]\nmain = 10\n",
+            4,
+            "",
+            "costs: 51 BadKey speed\n",
+        ),
+        ("speed", 4, "", "costs: 50 NotToml\n"),
+    ];
+    for (costs, status, output, lines) in table {
+        let world = World {
+            other: Some(("c", costs)),
+            ..sound(&words, DOUBLE, "")
+        };
+        compare(&rt, rt.alloc(), &world, status, output, lines)?;
+    }
+    Ok(())
+}
+
+#[test]
+fn programs_are_counted(rt: HostRuntime) -> Result<(), Fail> {
+    let words = ["check", "m.p3l"];
+    let table = [
+        (DOUBLE, "ok: 1 modules, 1 instances\n"),
+        (PIPE, "ok: 3 modules, 3 instances\n"),
+        (FARM, "ok: 2 modules, 2 instances\n"),
+    ];
+    for (program, output) in table {
+        compare(&rt, rt.alloc(), &sound(&words, program, ""), 0, output, "")?;
+    }
+    Ok(())
 }

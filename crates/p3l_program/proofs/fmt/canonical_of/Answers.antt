@@ -1,4 +1,4 @@
-use Rattle.p3l_program.proofs.FmtSteps.{no_canonical}
+use Rattle.p3l_program.proofs.TextSteps.{no_canonical}
 use Rattle.p3l_program.proofs.fmt.canonical_of.Goals as goal
 
 pub returns-in-Err-clause-refused : goal.returns-in-Err-clause-refused

@@ -1,10 +1,16 @@
-use Rattle.std.proofs.Common.{subst}
-use Rattle.p3l_program.specs.Fmt.{IsTextEnd}
+use Rattle.std.proofs.Common.{refl, subst}
+use Rattle.p3l_report.specs.declared.verdict.Refusal.TheVariants as refusal
+use Rattle.p3l_report.specs.declared.verdict.Verdict.TheVariants as verdict
+use Rattle.p3l_program.specs.Fmt.{HasNoCanonical, IsFormatted, fmt_stages}
 use Rattle.p3l_program.specs.World.{change}
-use Rattle.p3l_program.proofs.FmtSteps.{text_due}
+use Rattle.p3l_program.proofs.TextSteps.{not_formatted, text_refused}
 use Rattle.p3l_program.proofs.fmt.fmt.Goals as goal
 
-pub returns-in-Ok-clause-due : goal.returns-in-Ok-clause-due
-returns-in-Ok-clause-due g c =
-    text_due (change g.F.Files.held g.F.Files.faults c.args.files.now c.find_text.new.files) (change g.K.Sink.taken g.K.Sink.faults c.args.out.now c.format_text.new.out) c.args.name c.in-Ok.text
-    c.in-Ok.ensures.found c.in-Ok.ensures.calm c.format_text.result (subst (λ t. IsTextEnd t (change g.K.Sink.taken g.K.Sink.faults c.args.out.now c.format_text.new.out) c.format_text.result) c.as_slice.ensures c.format_text.ensures)
+pub returns-in-Err-At-clause-due : goal.returns-in-Err-At-clause-due
+returns-in-Err-At-clause-due g c =
+    let files = change g.F.Files.held g.F.Files.faults c.args.files.now c.find_text.new.files in
+    let told = subst (λ text. HasNoCanonical text c.in-Err-At.field-0) c.as_slice.ensures c.in-Err-At.ensures.refused in
+    let faulty = subst (λ refusal. HasNoCanonical c.in-Ok.text refusal) c.in-Err-At.field-0-is told in
+    text_refused files (change g.K.Sink.taken g.K.Sink.faults c.args.out.now c.args.out.now) (fmt_stages c.args.name) (IsFormatted (g.F.Files.held c.args.files.now) c.args.name)
+    (verdict.Refused (refusal.Source c.in-Err-At.fault c.in-Err-At.pos)) (record { told = refl; calm = refl })
+    (not_formatted files c.args.name c.in-Ok.text c.in-Err-At.fault c.in-Err-At.pos c.in-Ok.ensures.found faulty c.in-Ok.ensures.calm)

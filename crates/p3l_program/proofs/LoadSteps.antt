@@ -1,0 +1,196 @@
+-- From the stages of loading to what was loaded.
+use Rattle.std.proofs.Common.{◌≡◌, ℕ, List, [], ◌∷◌, ◌++◌, Option, Some, None, refl, sym, ap, ◌∙◌, inl, inr, subst}
+use Rattle.std.specs.declared.result.Result.TheVariants.{Ok, Err}
+use Rattle.p3l_ast.specs.declared.position.Pos.{Pos}
+use Rattle.p3l_ast.specs.declared.refusal.Fault.{Fault}
+use Rattle.p3l_io.specs.Told.{Held}
+use Rattle.p3l_skel.specs.declared.tree.Tree.{Tree}
+use Rattle.p3l_skel.specs.Numbers.{procs}
+use Rattle.p3l_cost.specs.declared.costs.Costs.{Costs}
+use Rattle.p3l_cost.specs.declared.refusal.CostRefusal.{CostRefusal}
+use Rattle.p3l_cost.specs.declared.refusal.CostRefusal.TheVariants as costs
+use Rattle.p3l_cost.specs.File.{IsRead, Says, costs_in}
+use Rattle.p3l_alloc.specs.Chosen.{IsShort}
+use Rattle.p3l_explain.specs.Allocation.{allocation_text}
+use Rattle.p3l_opts.specs.declared.command.Build.{Build}
+use Rattle.p3l_report.specs.declared.cost_fault.CostFault.{CostFault}
+use Rattle.p3l_report.specs.declared.cost_fault.CostFault.TheVariants as fault
+use Rattle.p3l_report.specs.declared.verdict.Refusal.{Refusal}
+use Rattle.p3l_report.specs.declared.verdict.Refusal.TheVariants as refusal
+use Rattle.p3l_report.specs.declared.verdict.Verdict.{Verdict}
+use Rattle.p3l_report.specs.declared.verdict.Verdict.TheVariants as verdict
+use Rattle.p3l_check.specs.Resolving.{ResolvedTree}
+use Rattle.p3l_program.specs.declared.accept.Accepted.{Accepted}
+use Rattle.p3l_program.specs.declared.load.Loaded.{Loaded}
+use Rattle.p3l_program.specs.Accepted.{ComesTo, IsNotAccepted}
+use Rattle.p3l_program.specs.Chosen.{AreSaid, HasCostText, IsAllotted, IsPriced, refusal_of}
+use Rattle.p3l_program.specs.Explain.{IsExplained}
+use Rattle.p3l_program.specs.File.{HasText, text_limit}
+use Rattle.p3l_program.specs.Load.{IsCostless, IsLoaded, IsNotLoaded, cost_verdict}
+use Rattle.p3l_program.specs.Network.{HasNetwork, network_of}
+use Rattle.p3l_program.specs.Stage.{AllPass, FilesCause, IsRefusedBy, Stage, build_stages, cost_stages, fitting, program_stages}
+use Rattle.p3l_program.specs.World.{Change, IsCalm}
+use Rattle.p3l_program.proofs.StageSteps.{passed_both, refused_behind, refused_front}
+
+-- files that tell the same at the beginning
+pub same_change : (old old' new : Option Held) (before before' now : ℕ) → old ≡ old' → before ≡ before' →
+    let a : Change Held = record { old = old; new = new; before = before; now = now } in
+    let b : Change Held = record { old = old'; new = new; before = before'; now = now } in a ≡ b
+same_change old old' new before before' now a b = cc
+
+-- what doesn't load is not loaded, whatever stages come behind
+pub not_loaded_front : (files : Change Held) (stages more : List Stage) (v : Verdict) → IsNotLoaded files stages v → IsNotLoaded files (stages ++ more) v
+not_loaded_front files stages more (verdict.Refused r) h = (refused_front files stages more r h.0, h.1)
+not_loaded_front files stages more verdict.NoMemory h = h
+not_loaded_front files stages more v h = absurd h
+
+-- a text that is refused stops the stages of a program at their second
+pub refused_text : (files : Change Held) (name text : List ℕ) (fault : Fault) (pos : Pos) → HasText files.old text_limit name text → IsNotAccepted text fault pos → IsCalm files →
+    IsNotLoaded files (program_stages name) (verdict.Refused (refusal.Source fault pos))
+refused_text files name text fault pos has refused calm = (inr ((text, has), inl (record { text = text; has = has; refused = refused })), calm)
+
+-- a text of costs that is refused
+pub unsaid : (files : Change Held) (name : List ℕ) (tree : Tree) (said : List ℕ) (r : CostRefusal) → HasText files.old text_limit name said → IsRead tree said (Err r) → IsCalm files →
+    IsCostless files (Some name) tree (cost_verdict r)
+unsaid files name tree said costs.NotToml has read calm = inr (record { said = said; has = has; no_costs = read; calm = calm })
+unsaid files name tree said (costs.BadKey key) has read calm = inr (record { said = said; has = has; no_costs = read; calm = calm })
+unsaid files name tree said (costs.BadValue key) has read calm = inr (record { said = said; has = has; no_costs = read; calm = calm })
+unsaid files name tree said (costs.Missing key) has read calm = inr (record { said = said; has = has; no_costs = read; calm = calm })
+unsaid files name tree said costs.NoMemory has read calm = calm
+
+-- a text that says costs is not refused
+said_once : (tree : Tree) (said : List ℕ) (cs : Costs) (f : CostFault) → Says tree said (Ok cs) → IsRead tree said (Err (refusal_of f)) → ⊥
+said_once tree said cs fault.NotToml says none = none says.document says.is
+said_once tree said cs (fault.BadKey key) says none = two says none
+  where
+    two : Says tree said (Ok cs) → Says tree said (Err (costs.BadKey key)) → ⊥
+    two a b = let p = a.is.parsed in let q = b.is.parsed in let one : a.document ≡ b.document = cc in let x = a.says in let y = ap (costs_in tree) one ∙ b.says in absurd cc
+said_once tree said cs (fault.BadValue key) says none = two says none
+  where
+    two : Says tree said (Ok cs) → Says tree said (Err (costs.BadValue key)) → ⊥
+    two a b = let p = a.is.parsed in let q = b.is.parsed in let one : a.document ≡ b.document = cc in let x = a.says in let y = ap (costs_in tree) one ∙ b.says in absurd cc
+said_once tree said cs (fault.Missing key) says none = two says none
+  where
+    two : Says tree said (Ok cs) → Says tree said (Err (costs.Missing key)) → ⊥
+    two a b = let p = a.is.parsed in let q = b.is.parsed in let one : a.document ≡ b.document = cc in let x = a.says in let y = ap (costs_in tree) one ∙ b.says in absurd cc
+
+module _ (files : Change Held) (build : Build) (r : ResolvedTree) (program : Accepted) (text : List ℕ) (has : HasText files.old text_limit build.program text) (comes : ComesTo text r program) where
+  program_passes : AllPass files (program_stages build.program)
+  program_passes = ((text, has), ((r, record { text = text; has = has; accepted = comes.accepted }), tt))
+
+  -- costs of a tree that is the program's are the program's, and no other ones are
+  priced_here : (said : Option (List ℕ)) (cs : Costs) → AreSaid program.tree said cs → IsPriced text said r cs
+  priced_here said cs are = record { accepted = comes.accepted; costs = subst (λ t. AreSaid t said cs) comes.compiled.tree_is are }
+
+  costless_some : (name : List ℕ) (refused : Refusal) → build.costs ≡ Some name → IsCostless files (Some name) program.tree (verdict.Refused refused) →
+      IsRefusedBy files (cost_stages build.program (Some name) ++ fitting build ∷ []) refused × FilesCause refused files
+  costless_some name refused named (inl h) = (inl h.0, h.1)
+  costless_some name (refusal.Costs f) named (inr h) = (
+    inr (
+      (h.said, h.has),
+      inl (record {
+        text = text;
+        has = has;
+        said = h.said;
+        says = h.has;
+        refused = record {
+          r = r;
+          accepted = comes.accepted;
+          refused = here;
+          never = λ other cs p. said_once r.tree h.said cs f (subst (λ t. Says t.tree h.said (Ok cs)) (comes.only other p.accepted) p.costs) here;
+        };
+      }),
+    ),
+    h.calm,
+  )
+    where
+      here : IsRead r.tree h.said (Err (refusal_of f))
+      here = subst (λ t. IsRead t h.said (Err (refusal_of f))) comes.compiled.tree_is h.no_costs
+  costless_some name refused named (inr h) = absurd (h.no_costs)
+
+  pub costless : (v : Verdict) → IsCostless files build.costs program.tree v → IsNotLoaded files (build_stages build) v
+  costless v h = by build.costs refl v h
+    where
+      by : (c : Option (List ℕ)) → build.costs ≡ c → (v : Verdict) → IsCostless files c program.tree v → IsNotLoaded files (program_stages build.program ++ (cost_stages build.program c ++ fitting build ∷ [])) v
+      by None named (verdict.Refused refused) h = absurd h
+      by (Some name) named (verdict.Refused refused) h =
+          let s = costless_some name refused named h in
+          (refused_behind files (program_stages build.program) (cost_stages build.program (Some name) ++ fitting build ∷ []) refused program_passes s.0, s.1)
+      by c named verdict.NoMemory h = calm_of c h
+        where
+          calm_of : (c : Option (List ℕ)) → IsCostless files c program.tree verdict.NoMemory → IsCalm files
+          calm_of None h = h
+          calm_of (Some name) h = h
+      by None named (verdict.Ended finish stats) h = absurd h
+      by (Some name) named (verdict.Ended finish stats) h = absurd h
+      by None named verdict.WriteFault h = absurd h
+      by (Some name) named verdict.WriteFault h = absurd h
+
+  module _ (said : Option (List ℕ)) (says : HasCostText files.old build.costs said) (cs : Costs) (are : AreSaid program.tree said cs) where
+    costs_pass : (c said : Option (List ℕ)) → HasCostText files.old c said → AreSaid program.tree said cs → AllPass files (cost_stages build.program c)
+    costs_pass None said says are = tt
+    costs_pass (Some name) None says are = absurd says
+    costs_pass (Some name) (Some t) says are = ((t, says), ((r, cs, record { text = text; has = has; said = Some t; says = says; priced = priced_here (Some t) cs are }), tt))
+
+    front_passes : AllPass files (program_stages build.program ++ cost_stages build.program build.costs)
+    front_passes = passed_both files (program_stages build.program) (cost_stages build.program build.costs) program_passes (costs_pass build.costs said says are)
+
+    pub too_few : (need : ℕ) → IsShort program.tree build.processors need → IsCalm files → IsNotLoaded files (build_stages build) (verdict.Refused (refusal.TooFew need))
+    too_few need short calm =
+        let here : IsShort r.tree build.processors need = subst (λ t. IsShort t build.processors need) comes.compiled.tree_is short in (
+          refused_behind files (program_stages build.program) (cost_stages build.program build.costs ++ fitting build ∷ []) (refusal.TooFew need) program_passes
+              (refused_behind files (cost_stages build.program build.costs) (fitting build ∷ []) (refusal.TooFew need) (costs_pass build.costs said says are)
+              (inl (record {
+                text = text;
+                has = has;
+                said = said;
+                says = says;
+                refused = record {
+                  r = r;
+                  cs = cs;
+                  priced = priced_here said cs are;
+                  short = here;
+                  never = λ other others counts p.
+                      let fits = p.chosen.optimal.fit in
+                      here.none counts (subst (λ t. Rattle.p3l_skel.specs.Numbers.Fits t.tree build.processors counts) (comes.only other p.priced.accepted) fits);
+                };
+              }))),
+          calm,
+        )
+
+    pub all_pass : (counts : List ℕ) → IsAllotted text said build.processors r cs counts → AllPass files (build_stages build)
+    all_pass counts allotted =
+        passed_both files (program_stages build.program) (cost_stages build.program build.costs ++ fitting build ∷ []) program_passes
+        (passed_both files (cost_stages build.program build.costs) (fitting build ∷ []) (costs_pass build.costs said says are)
+        ((r, cs, counts, record { text = text; has = has; said = said; says = says; allotted = allotted }), tt))
+
+module _ (build : Build) (r : ResolvedTree) (loaded : Loaded) where
+  -- where all is loaded all stages of a build pass
+  pub loaded_passes : (files : Change Held) → IsLoaded files.old build r loaded → AllPass files (build_stages build)
+  loaded_passes files is =
+      let costs : AreSaid loaded.program.tree is.said loaded.costs = subst (λ t. AreSaid t is.said loaded.costs) (sym is.comes.compiled.tree_is) is.allotted.priced.costs in
+      all_pass files build r loaded.program is.text is.has is.comes is.said is.says loaded.costs costs loaded.choice.counts.list is.allotted
+
+  -- and the text of the counts is that of the program's
+  pub explained : (files : Option Held) (text : List ℕ) → IsLoaded files build r loaded →
+      text ≡ allocation_text loaded.program.tree loaded.costs build.processors loaded.choice.counts.list loaded.choice.used loaded.choice.service → IsExplained files build text
+  explained files text is text_is = record {
+    r = r;
+    cs = loaded.costs;
+    counts = loaded.choice.counts.list;
+    has = record { text = is.text; has = is.has; said = is.said; says = is.says; allotted = is.allotted };
+    text_is =
+        (let tree = subst (λ t. text ≡ allocation_text t loaded.costs build.processors loaded.choice.counts.list loaded.choice.used loaded.choice.service) is.comes.compiled.tree_is text_is in
+        let used = subst (λ n. text ≡ allocation_text r.tree loaded.costs build.processors loaded.choice.counts.list n loaded.choice.service) is.used_is tree in
+        subst (λ n. text ≡ allocation_text r.tree loaded.costs build.processors loaded.choice.counts.list (procs r.tree loaded.choice.counts.list 0) n) is.service_is used);
+  }
+
+  -- and its network is the one that is asked for
+  pub has_network : (files : Option Held) → IsLoaded files build r loaded → HasNetwork files build (network_of r loaded.choice.counts.list build.capacity)
+  has_network files is = record {
+    r = r;
+    cs = loaded.costs;
+    counts = loaded.choice.counts.list;
+    has = record { text = is.text; has = is.has; said = is.said; says = is.says; allotted = is.allotted };
+    network_is = refl;
+  }

@@ -1,0 +1,29 @@
+-- The net that is linked for a lawful tree is sound on its codes.
+use Rattle.std.proofs.Common.{◌≡◌, ℕ, ℤ, ◌≤◌, List, sym, subst, arith}
+use Rattle.p3l_base.specs.declared.outcome.Outcome.{Outcome}
+use Rattle.p3l_skel.specs.declared.tree.Tree.{Tree}
+use Rattle.p3l_skel.specs.Counts.{HasLawfulCounts}
+use Rattle.p3l_skel.specs.Lawful.{IsLawfulTree, IsSubtree}
+use Rattle.p3l_skel.specs.Numbers.{firings}
+use Rattle.p3l_skel.specs.Tree.{GivesOuts, no_node, node_at}
+use Rattle.p3l_firing.specs.declared.net.Net.{Net}
+use Rattle.p3l_net.specs.Carried.{IsCarried}
+use Rattle.p3l_net.specs.Typed.{IsTyped}
+use Rattle.p3l_link.specs.Laws.{EveryNetIsCarried}
+use Rattle.p3l_link.specs.Net.{linked_net}
+use Rattle.p3l_link.specs.Whole.{root_carry}
+use Rattle.p3l_run.specs.Network.{IsSound, network}
+
+-- a linked net is typed and carried
+pub sound : EveryNetIsCarried → (tree : Tree) (leaf : ℕ → List ℤ → Outcome) (counts : List ℕ) (capacity : ℕ) (net : Net) (bound : ℕ) → IsLawfulTree tree → HasLawfulCounts tree counts → 1 ≤ capacity → GivesOuts tree leaf →
+    net ≡ linked_net tree counts capacity → IsTyped tree net → bound ≡ firings tree counts → IsSound (network tree leaf net bound)
+sound carried tree leaf counts capacity net bound lawful fit room gives linked typed bound_is =
+    let carry = root_carry (record { tree = tree; leaf = leaf }) counts in
+    let whole = carried (record { tree = tree; leaf = leaf }) counts capacity (record { lawful = lawful; fit = fit; room = omega arith; gives = gives }) in
+    let here = subst (λ w. IsCarried tree leaf w (firings tree counts) carry) (sym linked) whole in
+    record { typed = typed; carried = (carry, subst (λ n. IsCarried tree leaf net n carry) (sym bound_is) here) }
+
+-- an item has a word at least
+pub some_words : (tree : Tree) → IsLawfulTree tree → 1 ≤ (node_at tree 0).ins
+unfolding IsSubtree
+some_words tree lawful = (lawful.nodes 0 no_node lawful.preorder.0).ins.0

@@ -1,0 +1,78 @@
+-- Commands that write one text.
+use Rattle.std.proofs.Common.{ℕ, ◌≤◌, List, [], length, Option, inl, inr, append-nil}
+use Rattle.std.specs.declared.result.Result.TheVariants.{Err}
+use Rattle.p3l_ast.specs.declared.position.Pos.{Pos}
+use Rattle.p3l_ast.specs.declared.refusal.Fault.{Fault}
+use Rattle.p3l_ast.specs.declared.refusal.SourceRefusal.{SourceRefusal}
+use Rattle.p3l_ast.specs.declared.refusal.SourceRefusal.TheVariants as source
+use Rattle.p3l_ast.specs.Tree.{ProgramTree}
+use Rattle.p3l_grammar.specs.Grammar.{Spells}
+use Rattle.p3l_io.specs.Told.{Held}
+use Rattle.p3l_reader.specs.Faults.{IsOnly, IsRefusal}
+use Rattle.p3l_report.specs.declared.stats.Stats.{Stats}
+use Rattle.p3l_report.specs.declared.verdict.Finish.{Finish}
+use Rattle.p3l_report.specs.declared.verdict.Refusal.TheVariants as refusal
+use Rattle.p3l_report.specs.declared.verdict.Verdict.{Verdict}
+use Rattle.p3l_report.specs.declared.verdict.Verdict.TheVariants as verdict
+use Rattle.p3l_program.specs.Command.{IsTextDue}
+use Rattle.p3l_program.specs.Due.{IsDueWith}
+use Rattle.p3l_program.specs.File.{HasText, text_limit}
+use Rattle.p3l_program.specs.Fmt.{HasNoCanonical, IsFaulty, fmt_stages}
+use Rattle.p3l_program.specs.Load.{IsNotLoaded}
+use Rattle.p3l_program.specs.Stage.{AllPass, Stage}
+use Rattle.p3l_program.specs.Text.{BeginsText, EndsText, IsWritten}
+use Rattle.p3l_program.specs.World.{Change, IsCalm, IsStill, World, world}
+
+-- a text that is refused spells no program
+pub no_canonical : (text : List ℕ) (r : SourceRefusal) → length text ≤ 1048576 → ((program : ProgramTree) → Spells text program → IsOnly program (Err r)) → IsRefusal text r → HasNoCanonical text r
+no_canonical text (source.At fault pos) within only first = record { first = first within; no_program = only }
+no_canonical text source.NoMemory within only first = tt
+
+-- stages that don't pass, where nothing was touched
+pub not_loaded : (w : World) (stages : List Stage) (Ends : Finish → Option Stats → Type 0) (Begins : Type 0) (v : Verdict) → IsStill w.input → IsStill w.out → IsNotLoaded w.files stages v → IsDueWith w stages Ends Begins v
+not_loaded w stages Ends Begins (verdict.Refused r) input out h = record { by = h.0; untouched = record { input = input; out = out }; files = h.1 }
+not_loaded w stages Ends Begins verdict.NoMemory input out h = inl (record { input = input; out = out })
+not_loaded w stages Ends Begins v input out h = absurd h
+
+-- a text that spells no program stops the stages of `fmt` at their second
+pub not_formatted : (files : Change Held) (name text : List ℕ) (fault : Fault) (pos : Pos) → HasText files.old text_limit name text → IsFaulty text fault pos → IsCalm files →
+    IsNotLoaded files (fmt_stages name) (verdict.Refused (refusal.Source fault pos))
+not_formatted files name text fault pos has faulty calm =
+    (inr ((text, has), inl (record { text = text; has = has; first = faulty.first; no_program = faulty.no_program })), calm)
+
+module _ (files : Change Held) (out : Change (List ℕ)) (stages : List Stage) (IsText : List ℕ → Type 0) where
+  -- stages that don't pass
+  pub text_refused : (v : Verdict) → IsStill out → IsNotLoaded files stages v → IsTextDue files out stages IsText v
+  text_refused v still h input quiet = not_loaded (world files input out) stages (EndsText (world files input out) IsText) (BeginsText (world files input out) IsText) v quiet still h
+
+  -- a text that was written behind stages that pass
+  pub text_due : (text : List ℕ) (v : Verdict) → IsCalm files → AllPass files stages → IsText text → IsWritten out text v → IsTextDue files out stages IsText v
+  text_due text (verdict.Refused r) calm passed is h input still = absurd h
+  text_due text (verdict.Ended finish stats) calm passed is h input still = record {
+    passed = passed;
+    ends = record { finish_is = h.0; stats_are = h.1; text = text; is = is; put = h.2; input = still };
+    files = calm;
+    out = h.3;
+  }
+  text_due text verdict.WriteFault calm passed is h input still = record {
+    begun = record { passed = passed; begins = record { text = text; is = is; begun = h.0; input = still } };
+    files = calm;
+    out = h.1;
+  }
+  text_due text verdict.NoMemory calm passed is h input still = inr (record {
+    passed = passed;
+    begins = record { text = text; is = is; begun = h; input = still };
+  })
+
+  -- want of memory before anything was written
+  pub text_unwritten : IsStill out → IsTextDue files out stages IsText verdict.NoMemory
+  text_unwritten still input quiet = inl (record { input = quiet; out = still })
+
+-- a text that was written was begun
+pub ends_text : (w : World) (IsText : List ℕ → Type 0) (finish : Finish) (stats : Option Stats) → EndsText w IsText finish stats → BeginsText w IsText
+ends_text w IsText finish stats e = record {
+  text = e.text;
+  is = e.is;
+  begun = record { written = e.text; more = []; put = e.put; text_is = append-nil e.text };
+  input = e.input;
+}

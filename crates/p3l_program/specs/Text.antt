@@ -1,0 +1,39 @@
+-- Commands that write one text, and take nothing.
+use Rattle.std.specs.Prelude.{◌≡◌, ℕ, List, ◌++◌, Option, Some, None}
+use Rattle.p3l_report.specs.declared.stats.Stats.{Stats}
+use Rattle.p3l_report.specs.declared.verdict.Finish.{Finish}
+use Rattle.p3l_report.specs.declared.verdict.Finish.TheVariants as finishes
+use Rattle.p3l_report.specs.declared.verdict.Verdict.{Verdict}
+use Rattle.p3l_report.specs.declared.verdict.Verdict.TheVariants as verdict
+use Rattle.p3l_run.specs.Write.{HasBegun, HasPut}
+use Rattle.p3l_program.specs.World.{Change, HasRisen, IsCalm, IsStill, World}
+
+-- such a text was written, and nothing was taken
+pub record EndsText (w : World) (IsText : List ℕ → Type 0) (finish : Finish) (stats : Option Stats) : Type 0 where
+  pub finish_is : finish ≡ finishes.Done
+  pub stats_are : stats ≡ None
+  pub text : List ℕ
+  pub is : IsText text
+  pub put : HasPut w.out.old w.out.new text
+  pub input : IsStill w.input
+
+-- a front of such a text was written
+pub record BeginsText (w : World) (IsText : List ℕ → Type 0) : Type 0 where
+  pub text : List ℕ
+  pub is : IsText text
+  pub begun : HasBegun w.out.old w.out.new text
+  pub input : IsStill w.input
+
+-- over an input and an output that tell: the whole of such a text was written, and nothing was taken
+pub record WritesWhole (w : World) (IsText : List ℕ → Type 0) (rest taken : List ℕ) : Type 0 where
+  pub text : List ℕ
+  pub is : IsText text
+  pub rest_stays : w.input.new ≡ Some rest
+  pub taken_is : w.out.new ≡ Some (taken ++ text)
+
+-- how the writing of a text ends
+abbrev pub IsWritten : Change (List ℕ) → List ℕ → Verdict → Type 0
+IsWritten out text (verdict.Ended finish stats) = (finish ≡ finishes.Done) × (stats ≡ None) × HasPut out.old out.new text × IsCalm out
+IsWritten out text verdict.WriteFault = HasBegun out.old out.new text × HasRisen out
+IsWritten out text verdict.NoMemory = HasBegun out.old out.new text
+IsWritten out text (verdict.Refused refused) = ⊥

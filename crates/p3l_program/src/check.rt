@@ -1,0 +1,38 @@
+// The command `check`: whether a program keeps all rules, and how large it is.
+
+ghost use Rattle.std.specs.Prelude.{◌≡◌, length, IfOk, string_bytes};
+ghost use Rattle.p3l_program.specs.Check.{IsCounted, ok_line};
+ghost use Rattle.p3l_program.specs.Command.{IsTextDue};
+ghost use Rattle.p3l_program.specs.Stage.{program_stages};
+ghost use Rattle.p3l_program.specs.World.{change};
+
+use crate::load::load_program;
+use crate::text::write_text;
+use p3l_base::Name;
+use p3l_io::{Files, Sink};
+use p3l_report::Verdict;
+use p3l_skel::Tree;
+use std::alloc::{AllocError, Global};
+
+/// The line of a program that keeps all rules.
+fn ok_line(alloc: Global, tree: &Tree) -> Result<String, AllocError>
+    ensures { IfOk result (λ line. string_bytes line ≡ ok_line (length tree.now.modules) (length tree.now.nodes)) }
+{
+    let modules = tree.modules.len();
+    let instances = tree.nodes.len();
+    format!(in alloc; "ok: {modules} modules, {instances} instances\n")
+}
+
+/// Writes how many modules and instances the program of the file of this name has.
+pub fn check<F: Files, K: Sink>(alloc: Global, name: Name, files: &mut F, out: &mut K) -> Verdict
+    ensures due { IsTextDue (change F.held F.faults files.old files.new) (change K.taken K.faults out.old out.new) (program_stages name) (IsCounted (F.held files.old) name) result }
+    ensures stays { F.held files.new ≡ F.held files.old }
+{
+    match load_program(alloc, name, files) {
+        Err(verdict) => verdict,
+        Ok(program) => match ok_line(alloc, &program.tree) {
+            Err(_) => Verdict::NoMemory,
+            Ok(line) => write_text(line.as_str().as_bytes(), out),
+        },
+    }
+}

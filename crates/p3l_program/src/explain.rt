@@ -1,0 +1,39 @@
+// The command `explain`: the counts that are chosen for a program, and what they come to.
+
+ghost use Rattle.std.specs.Prelude.{◌≡◌, ◌≤◌};
+ghost use Rattle.p3l_program.specs.Command.{IsTextDue};
+ghost use Rattle.p3l_program.specs.Explain.{IsExplained};
+ghost use Rattle.p3l_program.specs.Stage.{build_stages};
+ghost use Rattle.p3l_program.specs.World.{change};
+
+use crate::load::load;
+use crate::text::write_text;
+use p3l_explain::allocation_text;
+use p3l_io::{Files, Sink};
+use p3l_opts::Build;
+use p3l_report::Verdict;
+use std::alloc::Global;
+
+/// Writes the counts that are chosen for the program of a file.
+pub fn explain<F: Files, K: Sink>(
+    alloc: Global,
+    build: Build,
+    files: &mut F,
+    out: &mut K,
+) -> Verdict
+    requires processors { (1 ≤ build.processors) × (build.processors ≤ 512) }
+    ensures due { IsTextDue (change F.held F.faults files.old files.new) (change K.taken K.faults out.old out.new) (build_stages build) (IsExplained (F.held files.old) build) result }
+    ensures stays { F.held files.new ≡ F.held files.old }
+{
+    let processors = build.processors;
+    match load(alloc, build, files) {
+        Err(verdict) => verdict,
+        Ok(loaded) => {
+            let tree = &loaded.program.tree;
+            match allocation_text(alloc, tree, &loaded.costs, processors, &loaded.choice) {
+                Err(_) => Verdict::NoMemory,
+                Ok(text) => write_text(text.as_slice(), out),
+            }
+        }
+    }
+}

@@ -1,0 +1,67 @@
+// The schedule that words and files ask for.
+
+ghost use Rattle.std.specs.Prelude.{◌≡◌, ◌<◌, ◌^◌, IfOk, IfErr, OnOk};
+ghost use Rattle.p3l_opts.specs.declared.command.Sched.TheVariants as sched;
+ghost use Rattle.p3l_program.specs.Run.{IsUnasked};
+ghost use Rattle.p3l_program.specs.Scheduled.{HasSchedule};
+ghost use Rattle.p3l_program.specs.World.{change};
+ghost use Rattle.p3l_sched.specs.Picker.{NamesProcesses, recorded};
+
+use crate::file::find_text;
+use p3l_base::Name;
+use p3l_io::Files;
+use p3l_opts::Sched;
+use p3l_report::{Refusal, Verdict};
+use p3l_sched::{PickRefusal, Schedule, read_picks};
+use std::alloc::Global;
+
+/// The most bytes of a file of picks.
+pub const PICKS_LIMIT: u64 = 67_108_864;
+
+/// The picks of so many processes in the file of this name.
+fn picks_in<F: Files>(
+    alloc: Global,
+    name: Name,
+    count: u32,
+    files: &mut F,
+) -> Result<Schedule, Verdict>
+    ensures asked { IfOk result (HasSchedule (F.held files.old) count (sched.File name)) }
+    ensures named { IfOk result (NamesProcesses count) }
+    ensures few { IfOk result (λ schedule. recorded schedule < 2 ^ 63) }
+    ensures calm { OnOk result (F.faults files.new ≡ F.faults files.old) }
+    ensures refused { IfErr result (IsUnasked (change F.held F.faults files.old files.new) count (sched.File name)) }
+    ensures stays { F.held files.new ≡ F.held files.old }
+{
+    match find_text(alloc, name, PICKS_LIMIT, files) {
+        Err(refusal) => Err(Verdict::from(refusal)),
+        Ok(text) => match read_picks(alloc, text.as_slice(), count) {
+            Ok(picks) => Ok(Schedule::Recorded(picks)),
+            Err(PickRefusal::BadPick { line }) => Err(Verdict::Refused(Refusal::BadPick { line })),
+            Err(PickRefusal::NoSuchProcess { line, pick, count }) => {
+                Err(Verdict::Refused(Refusal::NoSuchProcess { line, pick, count }))
+            }
+            Err(PickRefusal::NoMemory) => Err(Verdict::NoMemory),
+        },
+    }
+}
+
+/// The schedule of a network of so many processes.
+pub fn load_schedule<F: Files>(
+    alloc: Global,
+    asked: Sched,
+    count: u32,
+    files: &mut F,
+) -> Result<Schedule, Verdict>
+    ensures asked { IfOk result (HasSchedule (F.held files.old) count asked) }
+    ensures named { IfOk result (NamesProcesses count) }
+    ensures few { IfOk result (λ schedule. recorded schedule < 2 ^ 63) }
+    ensures calm { OnOk result (F.faults files.new ≡ F.faults files.old) }
+    ensures refused { IfErr result (IsUnasked (change F.held F.faults files.old files.new) count asked) }
+    ensures stays { F.held files.new ≡ F.held files.old }
+{
+    match asked {
+        Sched::RoundRobin => Ok(Schedule::RoundRobin),
+        Sched::Seeded(seed) => Ok(Schedule::Seeded(seed)),
+        Sched::File(name) => picks_in(alloc, name, count, files),
+    }
+}

@@ -1,0 +1,18 @@
+// The writing of the one text of a command.
+
+ghost use Rattle.p3l_program.specs.Text.{IsWritten};
+ghost use Rattle.p3l_program.specs.World.{change};
+
+use p3l_io::Sink;
+use p3l_report::{Finish, Verdict};
+use p3l_run::write::write;
+
+/// Writes the text of a command, which ends it.
+pub fn write_text<K: Sink>(text: &[u8], out: &mut K) -> Verdict
+    ensures { IsWritten (change K.taken K.faults out.old out.new) text.now result }
+{
+    match write(out, text) {
+        Ok(()) => Verdict::Ended(Finish::Done, None),
+        Err(fault) => Verdict::from(fault),
+    }
+}
