@@ -47,13 +47,12 @@ const ODD_TEXT: &str =
 
 const REPORTED: [&str; 5] = ["run", "m.p3l", "--processors", "4", "--stats"];
 
-/// A command, a file `m.p3l`, perhaps another file, an input in pieces of one byte, and the calls
-/// that fail.
+/// A command, files `m.p3l` and `s`, an input in pieces of one byte, and the calls that fail.
 #[derive(Clone, Copy)]
 struct World<'a> {
     words: &'a [&'a str],
     program: &'a str,
-    other: Option<(&'a str, &'a str)>,
+    side: &'a str,
     input: &'a str,
     takes: &'a [u64],
     reads: &'a [u64],
@@ -66,7 +65,7 @@ fn sound<'a>(words: &'a [&'a str], program: &'a str, input: &'a str) -> World<'a
     World {
         words,
         program,
-        other: None,
+        side: "",
         input,
         takes: &[],
         reads: &[],
@@ -90,9 +89,7 @@ fn compare(
 ) -> Result<(), Fail> {
     let mut files = MemFiles::new(alloc, list(alloc, world.reads)?);
     files.add("m.p3l", world.program.as_bytes())?;
-    if let Some((name, text)) = world.other {
-        files.add(name, text.as_bytes())?;
-    }
+    files.add("s", world.side.as_bytes())?;
     let mut input = MemSource::new(
         list(alloc, world.input.as_bytes())?,
         1,
@@ -441,7 +438,7 @@ fn recorded_picks_are_followed(rt: HostRuntime) -> Result<(), Fail> {
         "4",
         "--stats",
         "--schedule",
-        "file:p",
+        "file:s",
     ];
     let table: [(&str, u8, &str, &str); 5] = [
         (
@@ -472,13 +469,17 @@ fn recorded_picks_are_followed(rt: HostRuntime) -> Result<(), Fail> {
     ];
     for (picks, status, output, lines) in table {
         let world = World {
-            other: Some(("p", picks)),
+            side: picks,
             ..sound(&words, DOUBLE, "1\n2\n-3\n")
         };
         compare(&rt, rt.alloc(), &world, status, output, lines)?;
     }
-    let none = sound(&words, DOUBLE, "1\n");
-    compare(&rt, rt.alloc(), &none, 9, "", "file fault: p\n")
+    let reads = [2];
+    let world = World {
+        reads: &reads,
+        ..sound(&words, DOUBLE, "1\n")
+    };
+    compare(&rt, rt.alloc(), &world, 9, "", "file fault: s\n")
 }
 
 #[test]
@@ -486,7 +487,7 @@ fn counts_are_explained_by_the_costs(rt: HostRuntime) -> Result<(), Fail> {
     let words = ["explain", "m.p3l", "--processors", "4"];
     let text = "processors 4 used 1 service 122\n0 seq main procs 1 service 122\n";
     compare(&rt, rt.alloc(), &sound(&words, DOUBLE, ""), 0, text, "")?;
-    let words = ["explain", "m.p3l", "--processors", "4", "--costs", "c"];
+    let words = ["explain", "m.p3l", "--processors", "4", "--costs", "s"];
     let table: [(&str, u8, &str, &str); 4] = [
         (
             "setup = 0\nword = 0\n[seq]\nmain = 10\n",
@@ -510,7 +511,7 @@ fn counts_are_explained_by_the_costs(rt: HostRuntime) -> Result<(), Fail> {
     ];
     for (costs, status, output, lines) in table {
         let world = World {
-            other: Some(("c", costs)),
+            side: costs,
             ..sound(&words, DOUBLE, "")
         };
         compare(&rt, rt.alloc(), &world, status, output, lines)?;
