@@ -1,4 +1,4 @@
--- The network of the tree of one node: its tree is lawful, the machine has the rows of its net, and it fires three times for an item.
+-- The network of the tree of one node: its tree is lawful, and it fires three times for an item.
 use Rattle.std.proofs.Common.{◌≡◌, ℕ, ℤ, zero, suc, ◌<◌, ◌≤◌, List, [], ◌∷◌, ◌++◌, Option, Some, None, length, refl, sym, subst, arith}
 use Rattle.std.specs.List.{All, slice_get}
 use Rattle.p3l_base.specs.declared.outcome.Outcome.{Outcome}
@@ -20,7 +20,6 @@ use Rattle.p3l_skel.specs.Lawful.{IsSubtree, IsLawfulNode, AgreesWith, AgreesWit
 use Rattle.p3l_skel.specs.Numbers.{firings, firings_by, runs_to, flat_firings, joined_firings}
 use Rattle.p3l_skel.specs.Work.{IsLight}
 use Rattle.p3l_firing.specs.declared.process.Proc.{Proc}
-use Rattle.p3l_net.specs.Machine.{HasRow, HasRows}
 use Rattle.p3l_net.specs.Single.{unit_net}
 use Rattle.p3l_run_tests.specs.OneNode.{given_back, one_node}
 use Rattle.p3l_run_tests.specs.Refusing.{refusing}
@@ -56,22 +55,6 @@ one_lawful = record {
   light = one_light;
 }
 
--- a process has a row, if it is there
-RowOf : Option Proc → Type 0
-RowOf None = Unit {0}
-RowOf (Some q) = HasRow q.kind
-
-rows_of : (p : ℕ) → RowOf (slice_get (unit_net 4).procs p)
-unfolding RowOf
-rows_of zero = tt
-rows_of (suc zero) = tt
-rows_of (suc (suc zero)) = tt
-rows_of (suc (suc (suc p))) = tt
-
-pub unit_rows : HasRows (unit_net 4)
-unfolding RowOf
-unit_rows p q is = subst RowOf is (rows_of p)
-
 pub three_firings : firings one_node [] ≡ 3
 unfolding one_node firings_by by_parts
 three_firings = refl
@@ -105,7 +88,6 @@ one_sound tree net leaf typed carried is same =
     let unit = carried one_node leaf 4 [] (omega arith) refl in
     let sound : IsSound (network one_node leaf (unit_net 4) 3) = record {
       typed = typed one_node 4 (omega arith) one_lawful (omega arith) refl;
-      rows = unit_rows;
       carried = (unit.0, subst (λ n. IsCarried one_node leaf (unit_net 4) n unit.0) three_firings unit.1);
     } in
     subst (λ t. IsSound (network t leaf net 3)) (sym is) (subst (λ k. IsSound (network one_node leaf k 3)) (sym same) sound)
