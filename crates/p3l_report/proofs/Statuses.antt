@@ -1,5 +1,5 @@
 -- Which verdicts have a status.
-use Rattle.std.proofs.Common.{◌≡◌, ℕ, true, false, Option, refl, sym, ap, ◌∙◌, arith}
+use Rattle.std.proofs.Common.{◌≡◌, ◌⊎◌, ◌==◌, ℕ, Bool, true, false, Option, inl, inr, refl, sym, ap, ◌∙◌, arith}
 use Rattle.p3l_ast.specs.declared.position.Pos.{Pos}
 use Rattle.p3l_ast.specs.declared.refusal.Fault.{Fault}
 use Rattle.p3l_stream.specs.declared.items.Ending.{Ending}
@@ -14,26 +14,48 @@ use Rattle.p3l_report.specs.declared.verdict.Verdict.TheVariants as verdict
 use Rattle.p3l_report.specs.Status as status
 use Rattle.p3l_report.specs.Verdict.{ending_status, finish_status, refusal_status, status_of}
 
+-- no refusal and no end is a failed writing
+abbrev is_write : ℕ → Bool
+is_write n = n == status.write
+
+refusal_no_write : (r : Refusal) → is_write (refusal_status r) ≡ false
+refusal_no_write refusal.Usage = refl
+refusal_no_write (refusal.FileFault name) = refl
+refusal_no_write (refusal.FileTooLong name) = refl
+refusal_no_write (refusal.Source fault pos) = refl
+refusal_no_write (refusal.Costs fault) = refl
+refusal_no_write (refusal.TooFew need) = refl
+refusal_no_write (refusal.BadPick line) = refl
+refusal_no_write (refusal.NoSuchProcess line pick count) = refl
+refusal_no_write (refusal.Evidence why) = refl
+
+ending_no_write : (e : Ending) → is_write (ending_status e) ≡ false
+ending_no_write ending.End = refl
+ending_no_write (ending.BadWord line) = refl
+ending_no_write (ending.WrongCount line had) = refl
+ending_no_write (ending.OutOfRange line) = refl
+ending_no_write ending.ReadFault = refl
+ending_no_write ending.TooLong = refl
+
+abbrev is_evidence : ℕ → Bool
+is_evidence n = n == status.evidence
+
+ending_no_evidence : (e : Ending) → is_evidence (ending_status e) ≡ false
+ending_no_evidence ending.End = refl
+ending_no_evidence (ending.BadWord line) = refl
+ending_no_evidence (ending.WrongCount line had) = refl
+ending_no_evidence (ending.OutOfRange line) = refl
+ending_no_evidence ending.ReadFault = refl
+ending_no_evidence ending.TooLong = refl
+
+finish_no_write : (f : Finish) → is_write (finish_status f) ≡ false
+finish_no_write finish.Done = refl
+finish_no_write (finish.Stopped fired idle) = refl
+finish_no_write (finish.Trapped item kind home) = refl
+finish_no_write (finish.Stream e) = ending_no_write e
+finish_no_write (finish.Differs line) = refl
+
 -- the two kinds of statuses are apart
-pub refusal_kind : (r : Refusal) → status.is_refusal (refusal_status r) ≡ true
-refusal_kind refusal.Usage = refl
-refusal_kind (refusal.FileFault name) = refl
-refusal_kind (refusal.FileTooLong name) = refl
-refusal_kind (refusal.Source fault pos) = refl
-refusal_kind (refusal.Costs fault) = refl
-refusal_kind (refusal.TooFew need) = refl
-refusal_kind (refusal.BadPick line) = refl
-refusal_kind (refusal.NoSuchProcess line pick count) = refl
-refusal_kind (refusal.Evidence evidence) = refl
-
-ending_kind : (e : Ending) → status.is_end (ending_status e) ≡ true
-ending_kind ending.End = refl
-ending_kind (ending.BadWord line) = refl
-ending_kind (ending.WrongCount line had) = refl
-ending_kind (ending.OutOfRange line) = refl
-ending_kind ending.ReadFault = refl
-ending_kind ending.TooLong = refl
-
 ending_other : (e : Ending) → status.is_refusal (ending_status e) ≡ false
 ending_other ending.End = refl
 ending_other (ending.BadWord line) = refl
@@ -42,17 +64,12 @@ ending_other (ending.OutOfRange line) = refl
 ending_other ending.ReadFault = refl
 ending_other ending.TooLong = refl
 
-pub finish_kind : (f : Finish) → status.is_end (finish_status f) ≡ true
-finish_kind finish.Done = refl
-finish_kind (finish.Stopped fired idle) = refl
-finish_kind (finish.Trapped item kind home) = refl
-finish_kind (finish.Stream e) = ending_kind e
-
 pub finish_other : (f : Finish) → status.is_refusal (finish_status f) ≡ false
 finish_other finish.Done = refl
 finish_other (finish.Stopped fired idle) = refl
 finish_other (finish.Trapped item kind home) = refl
 finish_other (finish.Stream e) = ending_other e
+finish_other (finish.Differs line) = refl
 
 pub refusal_other : (r : Refusal) → status.is_end (refusal_status r) ≡ false
 refusal_other refusal.Usage = refl
@@ -63,7 +80,7 @@ refusal_other (refusal.Costs fault) = refl
 refusal_other (refusal.TooFew need) = refl
 refusal_other (refusal.BadPick line) = refl
 refusal_other (refusal.NoSuchProcess line pick count) = refl
-refusal_other (refusal.Evidence evidence) = refl
+refusal_other (refusal.Evidence why) = refl
 
 -- a verdict that is a refusal of this status
 pub record IsRefusedWith (v : Verdict) (n : ℕ) : Type 0 where
@@ -92,10 +109,27 @@ ended_with (verdict.Ended f s) n h kind = record { finish = f; stats = s; verdic
 ended_with verdict.WriteFault n h kind = absurd (let z = ap status.is_end h ∙ kind in cc)
 ended_with verdict.NoMemory n h kind = absurd (let z = ap status.is_end h ∙ kind in cc)
 
+-- a verdict that is an end by a line of a trace that differs
+pub record IsDifferent (v : Verdict) : Type 0 where
+  pub line : ℕ
+  pub stats : Option Stats
+  pub verdict_is : v ≡ verdict.Ended (finish.Differs line) stats
+
+-- 13 is that of a refusal, or of a line that differs
+pub evidence_with : (v : Verdict) → status_of v ≡ status.evidence → IsRefusedWith v status.evidence ⊎ IsDifferent v
+evidence_with (verdict.Refused r) h = inl (record { refusal = r; verdict_is = refl; status_is = h })
+evidence_with (verdict.Ended (finish.Differs line) stats) h = inr (record { line = line; stats = stats; verdict_is = refl })
+evidence_with (verdict.Ended (finish.Stream e) stats) h = absurd (let z = sym (ending_no_evidence e) ∙ ap is_evidence h in cc)
+evidence_with (verdict.Ended finish.Done stats) h = absurd (omega arith)
+evidence_with (verdict.Ended (finish.Stopped fired idle) stats) h = absurd (omega arith)
+evidence_with (verdict.Ended (finish.Trapped item kind home) stats) h = absurd (omega arith)
+evidence_with verdict.WriteFault h = absurd (omega arith)
+evidence_with verdict.NoMemory h = absurd (omega arith)
+
 -- 10 is a failed writing alone
 pub write_is : (v : Verdict) → status_of v ≡ status.write → v ≡ verdict.WriteFault
-write_is (verdict.Refused r) h = absurd (let z = sym (refusal_kind r) ∙ ap status.is_refusal h in cc)
-write_is (verdict.Ended f s) h = absurd (let z = sym (finish_kind f) ∙ ap status.is_end h in cc)
+write_is (verdict.Refused r) h = absurd (let z = sym (refusal_no_write r) ∙ ap is_write h in cc)
+write_is (verdict.Ended f s) h = absurd (let z = sym (finish_no_write f) ∙ ap is_write h in cc)
 write_is verdict.WriteFault h = refl
 write_is verdict.NoMemory h = absurd (omega arith)
 

@@ -53,7 +53,7 @@ no_memory = 11
 abbrev pub schedule : ℕ
 schedule = 12
 
--- an image, a certificate or a trace is refused
+-- an image, a certificate or a trace is refused, or a trace differs from the run
 abbrev pub evidence : ℕ
 evidence = 13
 
@@ -61,10 +61,10 @@ evidence = 13
 abbrev pub too_long : ℕ
 too_long = 14
 
--- the statuses of commands that are refused before anything is touched
+-- the statuses of commands that are refused before anything is touched; of evidence that is so with some refusals alone
 abbrev pub is_refusal : ℕ → Bool
-is_refusal n = n == usage || n == source || n == costs || n == too_few || n == file || n == schedule || n == evidence
+is_refusal n = n == usage || n == source || n == costs || n == too_few || n == file || n == schedule
 
--- the statuses of commands that come to their end
+-- the statuses of commands that come to their end; so does one whose trace differs
 abbrev pub is_end : ℕ → Bool
 is_end n = n == done || n == stopped || n == stream || n == trap || n == read || n == too_long

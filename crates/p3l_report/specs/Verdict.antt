@@ -2,6 +2,7 @@
 use Rattle.std.specs.Prelude.{ℕ, List, [], ◌++◌, codes, Some, None}
 use Rattle.p3l_stream.specs.declared.items.Ending.{Ending}
 use Rattle.p3l_stream.specs.declared.items.Ending.TheVariants as ending
+use Rattle.p3l_report.specs.declared.evidence.Evidence.TheVariants as evidence
 use Rattle.p3l_report.specs.declared.line_fault.LineFault.TheVariants as fault
 use Rattle.p3l_report.specs.declared.verdict.Refusal.{Refusal}
 use Rattle.p3l_report.specs.declared.verdict.Refusal.TheVariants as refusal
@@ -24,7 +25,7 @@ refusal_status (refusal.Costs fault) = status.costs
 refusal_status (refusal.TooFew need) = status.too_few
 refusal_status (refusal.BadPick line) = status.schedule
 refusal_status (refusal.NoSuchProcess line pick count) = status.schedule
-refusal_status (refusal.Evidence evidence) = status.evidence
+refusal_status (refusal.Evidence why) = status.evidence
 
 -- the status of a run whose stream ended so
 abbrev pub ending_status : Ending → ℕ
@@ -41,6 +42,7 @@ finish_status finish.Done = status.done
 finish_status (finish.Stopped fired idle) = status.stopped
 finish_status (finish.Trapped item kind home) = status.trap
 finish_status (finish.Stream ending) = ending_status ending
+finish_status (finish.Differs line) = status.evidence
 
 -- the status of a verdict
 abbrev pub status_of : Verdict → ℕ
@@ -59,7 +61,7 @@ refusal_line (refusal.Costs fault) = cost_line fault
 refusal_line (refusal.TooFew need) = need_line need
 refusal_line (refusal.BadPick line) = told_line (codes "schedule") line fault.BadPick
 refusal_line (refusal.NoSuchProcess line pick count) = pick_line line fault.NoSuchProcess pick count
-refusal_line (refusal.Evidence evidence) = evidence_line evidence
+refusal_line (refusal.Evidence why) = evidence_line why
 
 -- the line of a run whose stream ended so, or no bytes where none is due
 abbrev pub ending_line : Ending → List ℕ
@@ -76,6 +78,7 @@ finish_line finish.Done = []
 finish_line (finish.Stopped fired idle) = stopped_line fired idle
 finish_line (finish.Trapped item kind home) = trap_line item kind home
 finish_line (finish.Stream ending) = ending_line ending
+finish_line (finish.Differs line) = evidence_line (evidence.Differs line)
 
 -- the line of a verdict's status, or no bytes where none is due
 abbrev pub status_line : Verdict → List ℕ

@@ -7,7 +7,7 @@ ghost use Rattle.p3l_report.specs.Verdict.{ending_line, finish_line, lines_of, r
 ghost use Rattle.p3l_report.specs.Report.{optional_text, report_text};
 
 use crate::cost_fault::cost_line;
-use crate::evidence::evidence_line;
+use crate::evidence::{Evidence, evidence_line};
 use crate::line::{
     Line, count_line, fault_line, few_line, file_line, numbers_line, picks_line, process_line,
     refused_line, trapped_line,
@@ -83,6 +83,10 @@ fn line_of_finish(alloc: Global, finish: &Finish) -> Result<Option<Line>, NoMemo
             Ok(Some(trapped_line(alloc, *item, *kind, module)?))
         }
         Finish::Stream(ending) => line_of_ending(alloc, *ending),
+        Finish::Differs { line } => Ok(Some(evidence_line(
+            alloc,
+            &Evidence::Differs { line: *line },
+        )?)),
     }
 }
 

@@ -55,6 +55,10 @@ pub enum Finish {
     },
     /// All items that the stream gave were run, and it ended so.
     Stream(Ending),
+    /// The line of this number of a trace is the first that differs from the run.
+    Differs {
+        line: u64,
+    },
 }
 
 /// How a command ended, with all that its lines say.
@@ -97,6 +101,7 @@ impl Finish {
             Finish::Stopped { .. } => Status(1),
             Finish::Trapped { .. } => Status(7),
             Finish::Stream(ending) => stream_status(*ending),
+            Finish::Differs { .. } => Status(13),
         }
     }
 }

@@ -16,7 +16,7 @@ pub const INPUT_LIMIT: u64 = 68_719_476_736;
 
 /// Asks the stream for the next item and offers it to the machine, where its inbox is empty and the
 /// stream isn't ended; gives how the stream ended, if it did.
-pub(crate) fn feed<S: Source>(
+pub fn feed<S: Source>(
     alloc: Global,
     machine: &mut Machine<'_>,
     lines: &mut Lines,

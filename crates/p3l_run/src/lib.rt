@@ -3,7 +3,7 @@
 #![tactic(auto)]
 
 pub mod fault;
-mod feed;
+pub mod feed;
 mod finish;
 pub mod laws;
 pub mod plan;
