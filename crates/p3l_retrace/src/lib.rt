@@ -1,0 +1,6 @@
+//! Checks a trace against a network on a stream: asks for the items as a run does, and compares line
+//! after line.
+#![tactic(auto)]
+
+pub mod retrace;
+mod step;

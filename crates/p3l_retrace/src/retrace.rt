@@ -1,0 +1,68 @@
+// The check of a trace.
+
+ghost use Rattle.std.specs.Prelude.{◌≡◌, ◌<◌, ◌≤◌, ◌*◌, ◌^◌};
+ghost use Rattle.p3l_skel.specs.Tree.{node_at};
+ghost use Rattle.p3l_run.specs.Feed.{most_of_input};
+ghost use Rattle.p3l_run.specs.Network.{IsSound, network};
+ghost use Rattle.p3l_retrace.specs.Retraced.{IsRetraced};
+
+use crate::step::step;
+use p3l_base::NoMemory;
+use p3l_io::Source;
+use p3l_net::Machine;
+use p3l_run::Plan;
+use p3l_run::feed::{INPUT_LIMIT, feed};
+use p3l_run::laws::laws;
+use p3l_skel::Units;
+use p3l_stream::laws::a_stream_gives_its_items;
+use p3l_stream::{Ending, Lines};
+use p3l_trace::{Traced, agrees, is_counted};
+use std::alloc::Global;
+
+/// How a trace was checked.
+#[derive(Clone, Copy, Debug, Drop, PartialEq, Eq)]
+pub enum Retraced {
+    /// All lines agree, and the stream ended so, if it did.
+    Agreed(Option<Ending>),
+    /// The line of this number, from 1, is the first that differs.
+    Differs(u64),
+}
+
+/// Checks a trace against a network on the items of the input.
+///
+/// An item is asked for before each line of a pick where the inbox is empty, and none at the last
+/// line.
+pub fn retrace<U: Units, S: Source>(
+    alloc: Global,
+    plan: Plan<'_, U>,
+    traced: &Traced,
+    input: &mut S,
+) -> Result<Retraced, NoMemory>
+    requires units { U.tree plan.units.now ≡ plan.tree.now }
+    requires sound { IsSound (network plan.tree.now (U.leaf plan.units.now) plan.net plan.firings) }
+    requires width { plan.width ≡ (node_at plan.tree.now 0).ins }
+    requires wide { 1 ≤ plan.width }
+    requires fits { plan.firings * most_of_input < 2 ^ 63 }
+    ensures { IsRetraced (network plan.entry.tree.now (U.leaf plan.entry.units.now) plan.entry.net plan.entry.firings) traced.now
+        (S.rest input.old) (S.rest input.new) (S.faults input.old) (S.faults input.new) result }
+{
+    laws();
+    a_stream_gives_its_items();
+    let mut machine = Machine::start(alloc, plan.tree, plan.net)?;
+    let mut lines = Lines::new(alloc, plan.width, INPUT_LIMIT)?;
+    let mut close = None;
+    let mut number: u64 = 1;
+    for line in traced.lines.as_slice() {
+        number += 1;
+        close = feed(alloc, &mut machine, &mut lines, close, input)?;
+        if !agrees(line, &machine, machine.net()) {
+            return Ok(Retraced::Differs(number));
+        }
+        step(alloc, &mut machine, plan.tree, plan.units, line.pick)?;
+    }
+    number += 1;
+    if !is_counted(traced) {
+        return Ok(Retraced::Differs(number));
+    }
+    Ok(Retraced::Agreed(close))
+}

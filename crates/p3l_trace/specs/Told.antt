@@ -1,0 +1,17 @@
+-- What is told of a text that is no trace.
+use Rattle.std.specs.Prelude.{◌≡◌, ℕ, List, Result, Ok, Err, ⊤}
+use Rattle.p3l_trace.specs.declared.trace.Traced.{Traced}
+use Rattle.p3l_trace.specs.declared.trace.TraceRefusal.{TraceRefusal}
+use Rattle.p3l_trace.specs.declared.trace.TraceRefusal.TheVariants as refusals
+use Rattle.p3l_format.specs.declared.fault.Fault.{Fault}
+use Rattle.p3l_format.specs.Line.{line_number}
+
+-- what reading gives, with the line of its fault
+abbrev pub told : List ℕ → Result Traced Fault → Result Traced TraceRefusal
+told text (Ok traced) = Ok traced
+told text (Err fault) = Err (refusals.BadLine (line_number text fault.left))
+
+-- a call answered what reading gives, unless memory was wanting
+abbrev pub Answers : List ℕ → Result Traced TraceRefusal → Result Traced Fault → Type 0
+Answers text (Err refusals.NoMemory) read = ⊤
+Answers text answer read = answer ≡ told text read

@@ -1,0 +1,96 @@
+// Lines against the machine of one body: 0 is the source, 1 the sink, and 2 runs the body.
+
+ghost use Rattle.std.specs.Prelude.{◌≡◌, None, IfOk};
+
+use p3l_base::{List, Name, NoMemory, Words};
+use p3l_link::link;
+use p3l_model::{is_outside, procs};
+use p3l_net::{Machine, ProcKind};
+use p3l_skel::{Counts, Form, ModuleInfo, ModuleKind, Node, Tree, lawful_counts, lawful_tree};
+use p3l_trace::{TraceLine, agrees};
+use std::alloc::Global;
+use std::process::Abort;
+use std::test::Fail;
+
+/// The tree of one body, which takes and gives a word.
+fn tree_of_one(alloc: Global) -> Result<Tree, NoMemory> {
+    let mut nodes = List::new(alloc);
+    nodes.push(Node {
+        form: Form::Seq,
+        module: 0,
+        ins: 1,
+        outs: 1,
+        parts: List::new(alloc),
+    })?;
+    let mut modules = List::new(alloc);
+    modules.push(ModuleInfo {
+        name: Name::from_text(alloc, "main")?,
+        kind: ModuleKind::Seq,
+    })?;
+    Ok(Tree { nodes, modules })
+}
+
+/// The machine of a tree without workers, before the first firing.
+fn machine_of<'t>(rt: &impl Abort, alloc: Global, tree: &'t Tree) -> Result<Machine<'t>, NoMemory>
+    ensures tree { IfOk result (λ machine. machine.tree ≡ tree.now) }
+    ensures empty { IfOk result (λ machine. machine.inbox ≡ None) }
+{
+    let counts = Counts {
+        list: List::new(alloc),
+    };
+    assert!(rt; lawful_tree(tree));
+    assert!(rt; lawful_counts(tree, &counts));
+    assert!(rt; is_outside(tree, 0));
+    assert!(rt; procs(tree, &counts, 0) <= 4096);
+    let net = link(alloc, tree, &counts, 4)?;
+    Machine::start(alloc, tree, net)
+}
+
+/// Compares which of these lines agree with a machine.
+fn compare(rt: &impl Abort, machine: &Machine<'_>, wanted: &[(u32, Option<ProcKind>, bool)]) {
+    for (pick, kind, agreed) in wanted {
+        let line = TraceLine {
+            pick: *pick,
+            kind: *kind,
+        };
+        assert_eq!(rt; agrees(&line, machine, machine.net()), *agreed);
+    }
+}
+
+// Where there is no item, nothing can fire.
+const EMPTY: [(u32, Option<ProcKind>, bool); 7] = [
+    (0, None, true),
+    (1, None, true),
+    (2, None, true),
+    (3, None, false),
+    (4_294_967_295, None, false),
+    (0, Some(ProcKind::Source), false),
+    (2, Some(ProcKind::Run), false),
+];
+
+// Where there is one, the source can fire alone.
+const OFFERED: [(u32, Option<ProcKind>, bool); 8] = [
+    (0, Some(ProcKind::Source), true),
+    (0, None, false),
+    (0, Some(ProcKind::Sink), false),
+    (0, Some(ProcKind::Run), false),
+    (1, None, true),
+    (1, Some(ProcKind::Sink), false),
+    (2, None, true),
+    (3, Some(ProcKind::Source), false),
+];
+
+#[test]
+fn lines_agree_by_what_can_fire_and_its_kind(rt: HostRuntime) -> Result<(), Fail> {
+    let alloc = rt.alloc();
+    let tree = tree_of_one(alloc)?;
+    let mut machine = machine_of(&rt, alloc, &tree)?;
+    compare(&rt, &machine, &EMPTY);
+    let words = Words::from_vec(Vec::from_slice(alloc, &[7])?);
+    let root = tree.node(0);
+    assert!(rt; root.is_some());
+    assert!(rt; words.len() == root.unwrap().ins as usize);
+    machine.offer(alloc, words)?;
+    compare(&rt, &machine, &OFFERED);
+    Ok(())
+}
