@@ -6,10 +6,14 @@ const PROGRAM: &str = "p3l compiles P3L programs to networks of processes, and r
 usage: p3l COMMAND ..
 
 commands:
-  run PROGRAM --processors P ..       run a program on the standard input
-  explain PROGRAM --processors P ..   write the worker counts that are chosen for a program
-  check PROGRAM                       say whether a program keeps the rules of the language
-  fmt PROGRAM                         write a program in its canonical text
+  run PROGRAM --processors P ..           run a program on the standard input
+  compile PROGRAM --processors P ..       write the image of a program to a file
+  exec IMAGE ..                           run an image on the standard input
+  explain PROGRAM --processors P ..       write the worker counts that are chosen for a program
+  verify-cert PROGRAM --cert FILE ..      check a certificate that worker counts are the best
+  check-trace PROGRAM --processors P ..   check a trace against a run on the standard input
+  check PROGRAM                           say whether a program keeps the rules of the language
+  fmt PROGRAM                             write a program in its canonical text
 
 p3l COMMAND --help says more. --version gives the version.
 ";
@@ -30,8 +34,37 @@ Reads items from the standard input, one a line, and writes one line for each re
 example: p3l run m.p3l --processors 16 --schedule seed:7 < items
 ";
 
+/// What `compile` does.
+const COMPILE: &str =
+    "usage: p3l compile PROGRAM --processors P --output FILE [--costs FILE] [--capacity C]
+
+Writes the image of a program to a file: its tree, the worker counts that are chosen, the codes of its
+bodies and its network. What runs it needs neither the program nor its costs.
+
+  PROGRAM          the file of the program
+  --processors P   how many processors there are, 1 to 512
+  --output FILE    where to write the image
+  --costs FILE     the costs by which worker counts are chosen; without them the standard costs
+  --capacity C     how many tokens a channel holds at most, 1 to 1,024 (4 if not given)
+
+example: p3l compile m.p3l --processors 16 --output m.img
+";
+
+/// What `exec` does.
+const EXEC: &str = "usage: p3l exec IMAGE [--schedule S] [--stats]
+
+Reads items from the standard input, one a line, and writes one line for each result, as the program
+does that the image was compiled from. An image that is not lawful, safe and linked is refused.
+
+  IMAGE            the file of the image
+  --schedule S     how processes take turns: rr (the default), seed:N or file:NAME
+  --stats          put a line on the run's numbers on the standard error
+
+example: p3l exec m.img --schedule seed:7 < items
+";
+
 /// What `explain` does.
-const EXPLAIN: &str = "usage: p3l explain PROGRAM --processors P [--costs FILE]
+const EXPLAIN: &str = "usage: p3l explain PROGRAM --processors P [--costs FILE] [--cert FILE]
 
 Writes the worker counts that are chosen for a program, with the processes and the service time
 of the whole and of each part.
@@ -39,8 +72,37 @@ of the whole and of each part.
   PROGRAM          the file of the program
   --processors P   how many processors there are, 1 to 512
   --costs FILE     the costs of its modules; without them the standard costs
+  --cert FILE      where to write a certificate that no other counts are better
 
-example: p3l explain m.p3l --processors 16
+example: p3l explain m.p3l --processors 16 --cert m.cert
+";
+
+/// What `verify-cert` does.
+const VERIFY_CERT: &str = "usage: p3l verify-cert PROGRAM --cert FILE [--costs FILE]
+
+Checks a certificate that worker counts of a program are the best for some processors, whoever
+wrote it, and writes what the counts come to.
+
+  PROGRAM          the file of the program
+  --cert FILE      the file of the certificate
+  --costs FILE     the costs of its modules; without them the standard costs
+
+example: p3l verify-cert m.p3l --cert m.cert
+";
+
+/// What `check-trace` does.
+const CHECK_TRACE: &str =
+    "usage: p3l check-trace PROGRAM --processors P --trace FILE [--costs FILE] [--capacity C]
+
+Says whether a trace is that of a run of the program on the items of the standard input.
+
+  PROGRAM          the file of the program
+  --processors P   how many processors there are, 1 to 512
+  --trace FILE     the trace: which process each pick took, and what it did
+  --costs FILE     the costs by which worker counts are chosen; without them the standard costs
+  --capacity C     how many tokens a channel holds at most, 1 to 1,024 (4 if not given)
+
+example: p3l check-trace m.p3l --processors 16 --trace m.trace < items
 ";
 
 /// What `check` does.
@@ -80,7 +142,11 @@ fn is_version(word: &str) -> bool {
 fn help_of(command: &str) -> Option<&'static str> {
     match command {
         "run" => Some(RUN),
+        "compile" => Some(COMPILE),
+        "exec" => Some(EXEC),
         "explain" => Some(EXPLAIN),
+        "verify-cert" => Some(VERIFY_CERT),
+        "check-trace" => Some(CHECK_TRACE),
         "check" => Some(CHECK),
         "fmt" => Some(FMT),
         _ => None,

@@ -35,24 +35,44 @@ use Rattle.p3l_run.specs.Network.{Network, course_of, goes_on, meaning_of, width
 use Rattle.p3l_run.specs.Run.{Finishes, MayEnd, end_of, finish_of}
 use Rattle.p3l_run.specs.Trap.{trap_of}
 use Rattle.p3l_run.specs.Write.{HasPut}
-use Rattle.p3l_program.specs.Answer.{Answers, BeginsWork, HasTooLong, IsDone, IsDue, IsEndedWith, IsRefusedAt, IsRefusedWith, Reports, SpellsNone}
+use Rattle.p3l_program.specs.Answer.{Answers, BeginsWork, HasTooLong, IsDone, IsDue, IsEndedWith, IsRefusedAt, IsRefusedWith, KeepsOthers, Reports, SpellsNone, SpellsWriter}
 use Rattle.p3l_program.specs.Check.{IsCounted}
-use Rattle.p3l_program.specs.Command.{Ends, IsDueOf, IsStatusDue, IsWhole, file_of, stages_of}
+use Rattle.p3l_program.specs.Certificate.{IsCertificate}
+use Rattle.p3l_program.specs.Command.{Ends, IsDueOf, IsStatusDue, IsWhole, Unsaved, file_of, stages_of, written_of, limit_of, runs}
+use Rattle.p3l_program.specs.Compile.{IsImageOf}
 use Rattle.p3l_program.specs.Explain.{IsExplained}
 use Rattle.p3l_program.specs.File.{IsTooLong, text_limit}
 use Rattle.p3l_program.specs.Fmt.{IsFormatted}
+use Rattle.p3l_program.specs.Image.{image_limit}
+use Rattle.p3l_program.specs.Origin.{Origin, built, imaged}
 use Rattle.p3l_program.specs.Run.{Emits, EndsRun, RunsWhole}
+use Rattle.p3l_program.specs.Saved.{EndsSaving, KeepsFiles, SavesWhole}
 use Rattle.p3l_program.specs.Stage.{AllPass, FilesCause, IsRefusedBy, Stage, readable, resolved}
 use Rattle.p3l_program.specs.Stage as stage
-use Rattle.p3l_program.specs.Text.{EndsText, WritesWhole}
+use Rattle.p3l_program.specs.Text.{EndsText, WritesWhole, IsNothing}
+use Rattle.p3l_program.specs.Verify.{IsVerified}
+use Rattle.p3l_program.specs.TraceFile.{trace_limit}
 use Rattle.p3l_program.specs.World.{Change, HasNoFault, HasRisen, IsUntouched, World}
 use Rattle.p3l_program.proofs.DueSteps.{ends_begins}
 use Rattle.p3l_program.proofs.SeenSteps.{at_end_left, seen_status}
 use Rattle.p3l_program.proofs.StageSteps.{not_longer, passed_all, refused_once}
+use Rattle.p3l_program.proofs.TraceSteps.{check_calm, check_read, check_status, check_whole}
 
 -- the stages of a build behind the reading of its program
 abbrev behind_read : Build → List Stage
 behind_read build = resolved build.program ∷ (stage.cost_stages build.program build.costs ++ stage.fitting build ∷ [])
+
+-- those of a certificate behind the same
+abbrev behind_program : List ℕ → List ℕ → Option (List ℕ) → List Stage
+behind_program program cert costs = resolved program ∷ (stage.cost_stages program costs ++ stage.cert_stages program costs cert)
+
+-- the stages of an image behind its reading
+abbrev behind_image : List ℕ → List Stage
+behind_image name = stage.decoded name ∷ (stage.loaded name ∷ [])
+
+-- and those of the check of a trace behind those of its build
+abbrev behind_build : List ℕ → List Stage
+behind_build name = readable trace_limit name ∷ (stage.traced name ∷ [])
 
 module _ (words : List Text) (w : World) where
   -- what was written begins what the command writes
@@ -76,8 +96,8 @@ module _ (words : List Text) (w : World) where
 
   -- a refusal is due of words that are no command, or of a stage
   refused_by : (r : Refusal) (n : ℕ) → refusal_status r ≡ n → IsDue words w (verdict.Refused r) → IsRefusedWith words w n
-  refused_by r n h (inl a) = record { refused = r; status_is = h; by = inr (record { command = a.command; spelled = a.spelled; by = a.due.by }); untouched = a.due.untouched }
-  refused_by r n h (inr (inl u)) = record { refused = r; status_is = h; by = inl ((let z = u.verdict_is in cc), u.none); untouched = u.untouched }
+  refused_by r n h (inl a) = record { refused = r; status_is = h; by = inr (record { command = a.command; spelled = a.spelled; by = a.due.by }); untouched = a.due.untouched; kept = a.kept }
+  refused_by r n h (inr (inl u)) = record { refused = r; status_is = h; by = inl ((let z = u.verdict_is in cc), u.none); untouched = u.untouched; kept = u.files.told }
   refused_by r n h (inr (inr u)) = absurd (let z = u.verdict_is in cc)
 
   usage_by : (v : Verdict) → SpellsNone words → IsDue words w v → (status_of v ≡ status.usage) ⊎ (status_of v ≡ status.no_memory)
@@ -101,35 +121,43 @@ module _ (words : List Text) (w : World) where
       stage_refuses r by verdict.NoMemory due = inr refl
 
     -- a file that is too long stops the first stage
-    module _ (held : Held) (told : w.files.old ≡ Some held) (name : List ℕ) (named : file_of c ≡ Some name) (longer : IsTooLong w.files.old text_limit name) where
-      never_read : (other : List ℕ) (stages : List Stage) → Some other ≡ Some name → AllPass w.files (readable text_limit other ∷ stages) → ⊥
-      never_read other stages same p = not_longer w.files.old held told text_limit other p.0.0 p.0.1 (subst (λ m. IsTooLong w.files.old text_limit m) (let one : name ≡ other = cc in one) longer)
+    module _ (held : Held) (told : w.files.old ≡ Some held) (name : List ℕ) where
+      never_read : (limit : ℕ) (other : List ℕ) (stages : List Stage) → Some other ≡ Some name → IsTooLong w.files.old limit name → AllPass w.files (readable limit other ∷ stages) → ⊥
+      never_read limit other stages same longer p = not_longer w.files.old held told limit other p.0.0 p.0.1 (subst (λ m. IsTooLong w.files.old limit m) (let one : name ≡ other = cc in one) longer)
 
-      read_refused : (other : List ℕ) (stages : List Stage) (r : Refusal) → Some other ≡ Some name → IsRefusedBy w.files (readable text_limit other ∷ stages) r → refusal_status r ≡ status.file
-      read_refused other stages (refusal.FileFault a) same (inl h) = refl
-      read_refused other stages (refusal.FileTooLong a) same (inl h) = refl
-      read_refused other stages r same (inr h) = absurd (never_read other [] same (h.0, tt))
-      read_refused other stages r same (inl h) = absurd h
+      read_refused : (limit : ℕ) (other : List ℕ) (stages : List Stage) (r : Refusal) → Some other ≡ Some name → IsTooLong w.files.old limit name → IsRefusedBy w.files (readable limit other ∷ stages) r → refusal_status r ≡ status.file
+      read_refused limit other stages (refusal.FileFault a) same longer (inl h) = refl
+      read_refused limit other stages (refusal.FileTooLong a) same longer (inl h) = refl
+      read_refused limit other stages r same longer (inr h) = absurd (never_read limit other [] same longer (h.0, tt))
+      read_refused limit other stages r same longer (inl h) = absurd h
 
-      not_read : (k : Command) → file_of k ≡ Some name → AllPass w.files (stages_of k) → ⊥
-      not_read (command.Check n) e p = never_read n (resolved n ∷ []) e p
-      not_read (command.Fmt n) e p = never_read n (stage.spelled n ∷ []) e p
-      not_read (command.Explain build None) e p = never_read build.program (behind_read build) e p
-      not_read (command.Run build schedule None reported) e p = never_read build.program (behind_read build ++ stage.schedule_stages build schedule) e p
-      not_read _ e p = absurd cc
+      not_read : (k : Command) → file_of k ≡ Some name → IsTooLong w.files.old (limit_of k) name → AllPass w.files (stages_of k) → ⊥
+      not_read (command.Check n) e l p = never_read text_limit n (resolved n ∷ []) e l p
+      not_read (command.Fmt n) e l p = never_read text_limit n (stage.spelled n ∷ []) e l p
+      not_read (command.Explain build cert) e l p = never_read text_limit build.program (behind_read build) e l p
+      not_read (command.Compile build n) e l p = never_read text_limit build.program (behind_read build) e l p
+      not_read (command.Run build schedule None reported) e l p = never_read text_limit build.program (behind_read build ++ stage.schedule_stages (built build) schedule) e l p
+      not_read (command.Exec n schedule None reported) e l p = never_read image_limit n (behind_image n ++ stage.schedule_stages (imaged n) schedule) e l p
+      not_read (command.VerifyCert program cert costs) e l p = never_read text_limit program (behind_program program cert costs) e l p
+      not_read (command.CheckTrace build n) e l p = never_read text_limit build.program (behind_read build ++ behind_build n) e l p
+      not_read _ e l p = absurd cc
 
-      file_refused : (k : Command) (r : Refusal) → file_of k ≡ Some name → IsRefusedBy w.files (stages_of k) r → refusal_status r ≡ status.file
-      file_refused (command.Check n) r e by = read_refused n (resolved n ∷ []) r e by
-      file_refused (command.Fmt n) r e by = read_refused n (stage.spelled n ∷ []) r e by
-      file_refused (command.Explain build None) r e by = read_refused build.program (behind_read build) r e by
-      file_refused (command.Run build schedule None reported) r e by = read_refused build.program (behind_read build ++ stage.schedule_stages build schedule) r e by
-      file_refused _ r e by = absurd cc
+      file_refused : (k : Command) (r : Refusal) → file_of k ≡ Some name → IsTooLong w.files.old (limit_of k) name → IsRefusedBy w.files (stages_of k) r → refusal_status r ≡ status.file
+      file_refused (command.Check n) r e l by = read_refused text_limit n (resolved n ∷ []) r e l by
+      file_refused (command.Fmt n) r e l by = read_refused text_limit n (stage.spelled n ∷ []) r e l by
+      file_refused (command.Explain build cert) r e l by = read_refused text_limit build.program (behind_read build) r e l by
+      file_refused (command.Compile build n) r e l by = read_refused text_limit build.program (behind_read build) r e l by
+      file_refused (command.Run build schedule None reported) r e l by = read_refused text_limit build.program (behind_read build ++ stage.schedule_stages (built build) schedule) r e l by
+      file_refused (command.Exec n schedule None reported) r e l by = read_refused image_limit n (behind_image n ++ stage.schedule_stages (imaged n) schedule) r e l by
+      file_refused (command.VerifyCert program cert costs) r e l by = read_refused text_limit program (behind_program program cert costs) r e l by
+      file_refused (command.CheckTrace build n) r e l by = read_refused text_limit build.program (behind_read build ++ behind_build n) r e l by
+      file_refused _ r e l by = absurd cc
 
-      long_by : (v : Verdict) → IsDueOf w c v → (status_of v ≡ status.file) ⊎ (status_of v ≡ status.no_memory)
-      long_by (verdict.Refused r) due = inl (file_refused c r named due.by)
-      long_by (verdict.Ended finish stats) due = absurd (not_read c named due.passed)
-      long_by verdict.WriteFault due = absurd (not_read c named due.begun.passed)
-      long_by verdict.NoMemory due = inr refl
+      long_by : file_of c ≡ Some name → IsTooLong w.files.old (limit_of c) name → (v : Verdict) → IsDueOf w c v → (status_of v ≡ status.file) ⊎ (status_of v ≡ status.no_memory)
+      long_by named longer (verdict.Refused r) due = inl (file_refused c r named longer due.by)
+      long_by named longer (verdict.Ended finish stats) due = absurd (not_read c named longer due.passed)
+      long_by named longer verdict.WriteFault due = absurd (not_read c named longer due.begun.passed)
+      long_by named longer verdict.NoMemory due = inr refl
 
     -- where no fault comes it comes to its end
     module _ (held : Held) (rest : List ℕ) (told : w.files.old ≡ Some held) (input : w.input.old ≡ Some rest) (passed : AllPass w.files (stages_of c)) (calm : HasNoFault w) where
@@ -137,13 +165,18 @@ module _ (words : List Text) (w : World) where
       end_status (command.Check n) finish stats h = ap finish_status h.finish_is
       end_status (command.Fmt n) finish stats h = ap finish_status h.finish_is
       end_status (command.Explain build None) finish stats h = ap finish_status h.finish_is
+      end_status (command.Explain build (Some cert)) finish stats h = ap finish_status h.ends.finish_is
+      end_status (command.Compile build n) finish stats h = ap finish_status h.ends.finish_is
       end_status (command.Run build schedule None reported) finish stats h = record { n = h.n; s = h.s; has = h.has; status_is = seen_status h.n h.s rest _ _ _ _ _ _ finish h.numbers input calm.input h.finishes }
+      end_status (command.VerifyCert program cert costs) finish stats h = ap finish_status h.finish_is
+      end_status (command.Exec name schedule None reported) finish stats h = record { n = h.n; s = h.s; has = h.has; status_is = seen_status h.n h.s rest _ _ _ _ _ _ finish h.numbers input calm.input h.finishes }
+      end_status (command.CheckTrace build n) finish stats h = check_status w build n rest finish stats input calm h
       end_status _ finish stats h = absurd h
 
       complete_by : (v : Verdict) → IsDueOf w c v → IsStatusDue w rest c (status_of v) ⊎ (status_of v ≡ status.no_memory)
       complete_by (verdict.Refused r) due = absurd (passed_all w.files held told calm.files (stages_of c) r passed due.by)
       complete_by (verdict.Ended finish stats) due = inl (end_status c finish stats due.ends)
-      complete_by verdict.WriteFault due = absurd (calm.out due.out)
+      complete_by verdict.WriteFault due = elim due.fault [ inl put ↦ absurd (calm.out put.out) | inr saved ↦ absurd (calm.files saved.1) ]
       complete_by verdict.NoMemory due = inr refl
 
 -- only the end of a stream has its statuses
@@ -153,24 +186,30 @@ record IsStream (f : Finish) (n : ℕ) : Type 0 where
   status_is : ending_status e ≡ n
 
 -- an end of a run is no command's that writes a text
-end_is : (n : Network) (c : Course) (e : Ending) (f : Finish) → f ≡ finish_of n c e → f ≡ finish.Done → ⊥
-end_is n c e f is done = by (goes_on n c) (trap_of c.state.emitted) (sym is ∙ done)
+end_is : (n : Network) (c : Course) (e : Ending) (f : Finish) → f ≡ finish_of n c e → (f ≡ finish.Done → ⊥) × ((line : ℕ) → f ≡ finish.Differs line → ⊥)
+end_is n c e f is = (λ done. by (goes_on n c) (trap_of c.state.emitted) (sym is ∙ done), λ line differs. other line (goes_on n c) (trap_of c.state.emitted) (sym is ∙ differs))
   where
     by : (b : Bool) (trap : Option Trap) → cond b (finish.Stopped c.fired c.idle) (end_of n.tree trap (length c.state.emitted) e) ≡ finish.Done → ⊥
     by true trap h = absurd cc
     by false None h = absurd cc
     by false (Some t) h = absurd cc
 
+    other : (line : ℕ) (b : Bool) (trap : Option Trap) → cond b (finish.Stopped c.fired c.idle) (end_of n.tree trap (length c.state.emitted) e) ≡ finish.Differs line → ⊥
+    other line true trap h = absurd cc
+    other line false None h = absurd cc
+    other line false (Some t) h = absurd cc
+
 -- statuses 0, 6, 8 and 14 of a run come with the ending of its stream
-stream_is : (f : Finish) (k : ℕ) → finish_status f ≡ k → (f ≡ finish.Done → ⊥) → (k ≡ status.stopped → ⊥) → (k ≡ status.trap → ⊥) → IsStream f k
-stream_is finish.Done k h done stopped trap = absurd (done refl)
-stream_is (finish.Stopped fired idle) k h done stopped trap = absurd (stopped (sym h))
-stream_is (finish.Trapped item kind home) k h done stopped trap = absurd (trap (sym h))
-stream_is (finish.Stream e) k h done stopped trap = record { e = e; finish_is = refl; status_is = h }
+stream_is : (f : Finish) (k : ℕ) → finish_status f ≡ k → (f ≡ finish.Done → ⊥) → ((line : ℕ) → f ≡ finish.Differs line → ⊥) → (k ≡ status.stopped → ⊥) → (k ≡ status.trap → ⊥) → IsStream f k
+stream_is finish.Done k h done differs stopped trap = absurd (done refl)
+stream_is (finish.Stopped fired idle) k h done differs stopped trap = absurd (stopped (sym h))
+stream_is (finish.Trapped item kind home) k h done differs stopped trap = absurd (trap (sym h))
+stream_is (finish.Differs line) k h done differs stopped trap = absurd (differs line refl)
+stream_is (finish.Stream e) k h done differs stopped trap = record { e = e; finish_is = refl; status_is = h }
 
 module _ (n : Network) (s : Schedule) (rest left : Option (List ℕ)) (before now : ℕ) (taken taken' : Option (List ℕ)) (f : Finish) (numbers : Stats) (ran : Finishes n s rest left before now taken taken' f numbers) where
-  not_done : f ≡ finish.Done → ⊥
-  not_done h = end_is n (course_of n s (ran.items ++ [])) (some_ending ran.close) f (ran.ends [] (nothing_comes n ran.close) (some_ending ran.close) (may_end ran.close)) h
+  not_other : (f ≡ finish.Done → ⊥) × ((line : ℕ) → f ≡ finish.Differs line → ⊥)
+  not_other = end_is n (course_of n s (ran.items ++ [])) (some_ending ran.close) f (ran.ends [] (nothing_comes n ran.close) (some_ending ran.close) (may_end ran.close))
     where
       some_ending : Option Ending → Ending
       some_ending None = ending.End
@@ -181,7 +220,7 @@ module _ (n : Network) (s : Schedule) (rest left : Option (List ℕ)) (before no
       may_end (Some e) = refl
 
   run_stream : (k : ℕ) → finish_status f ≡ k → (k ≡ status.stopped → ⊥) → (k ≡ status.trap → ⊥) → IsStream f k
-  run_stream k h stopped trap = stream_is f k h not_done stopped trap
+  run_stream k h stopped trap = stream_is f k h not_other.0 not_other.1 stopped trap
 
   closed_by : (k : ℕ) → (st : IsStream f k) → ran.close ≡ Some st.e
   closed_by k st = ran.closed st.e st.finish_is
@@ -226,9 +265,9 @@ still_of n c e close f stream is = by (goes_on n c) refl
     by true h = absurd (let z : finish_of n c e ≡ finish.Stopped c.fired c.idle = ap (λ b. cond b (finish.Stopped c.fired c.idle) (end_of n.tree (trap_of c.state.emitted) (length c.state.emitted) e)) h in let y = sym stream ∙ is ∙ z in cc)
 
 -- a run of status 0 is whole
-run_whole : (w : World) (build : Build) (order : Sched) (rest taken : List ℕ) (reported : Bool) (finish : Finish) (stats : Option Stats) → w.input.old ≡ Some rest → w.out.old ≡ Some taken → finish_status finish ≡ status.done →
-    EndsRun w build order reported finish stats → RunsWhole w build rest taken
-run_whole w build order rest taken reported finish stats input out h e =
+run_whole : (w : World) (origin : Origin) (order : Sched) (rest taken : List ℕ) (reported : Bool) (finish : Finish) (stats : Option Stats) → w.input.old ≡ Some rest → w.out.old ≡ Some taken → finish_status finish ≡ status.done →
+    EndsRun w origin order reported finish stats → RunsWhole w origin rest taken
+run_whole w origin order rest taken reported finish stats input out h e =
     let f = e.finishes in
     let g = f.gives in
     let st = run_stream e.n e.s _ _ _ _ _ _ finish e.numbers f status.done h (λ z. absurd (omega arith)) (λ z. absurd (omega arith)) in
@@ -260,15 +299,30 @@ text_whole w IsText rest taken finish stats input out e = record {
   taken_is = put_told w.out.old w.out.new taken e.text out e.put;
 }
 
+-- and so is one behind a file
+saving_whole : (w : World) (IsText : List ℕ → Type 0) (name : List ℕ) (IsBytes : List ℕ → Type 0) (rest taken : List ℕ) (finish : Finish) (stats : Option Stats) → w.input.old ≡ Some rest → w.out.old ≡ Some taken →
+    EndsSaving w IsText name IsBytes finish stats → SavesWhole w IsText name IsBytes rest taken
+saving_whole w IsText name IsBytes rest taken finish stats input out e = record {
+  text = text_whole w IsText rest taken finish stats input out e.ends;
+  bytes = e.bytes;
+  is = e.is;
+  saved = e.saved;
+}
+
 whole_of : (w : World) (rest taken : List ℕ) (c : Command) (finish : Finish) (stats : Option Stats) → w.input.old ≡ Some rest → w.out.old ≡ Some taken → finish_status finish ≡ status.done → Ends w c finish stats → IsWhole w rest taken c
 whole_of w rest taken (command.Check name) finish stats input out h e = text_whole w (IsCounted w.files.old name) rest taken finish stats input out e
 whole_of w rest taken (command.Fmt name) finish stats input out h e = text_whole w (IsFormatted w.files.old name) rest taken finish stats input out e
 whole_of w rest taken (command.Explain build None) finish stats input out h e = text_whole w (IsExplained w.files.old build) rest taken finish stats input out e
-whole_of w rest taken (command.Run build schedule None reported) finish stats input out h e = run_whole w build schedule rest taken reported finish stats input out h e
+whole_of w rest taken (command.Explain build (Some cert)) finish stats input out h e = saving_whole w (IsExplained w.files.old build) cert (IsCertificate w.files.old build) rest taken finish stats input out e
+whole_of w rest taken (command.Compile build name) finish stats input out h e = saving_whole w IsNothing name (IsImageOf w.files.old build) rest taken finish stats input out e
+whole_of w rest taken (command.Run build schedule None reported) finish stats input out h e = run_whole w (built build) schedule rest taken reported finish stats input out h e
+whole_of w rest taken (command.Exec name schedule None reported) finish stats input out h e = run_whole w (imaged name) schedule rest taken reported finish stats input out h e
+whole_of w rest taken (command.VerifyCert program cert costs) finish stats input out h e = text_whole w (IsVerified w.files.old program costs cert) rest taken finish stats input out e
+whole_of w rest taken (command.CheckTrace build name) finish stats input out h e = check_whole w build name rest taken finish stats (λ text put. put_told w.out.old w.out.new taken text out put) input h e
 whole_of w rest taken _ finish stats input out h e = absurd e
 
-emits_of : (w : World) (build : Build) (order : Sched) (reported : Bool) (finish : Finish) (stats : Option Stats) → (e : EndsRun w build order reported finish stats) → Emits w build order e.numbers
-emits_of w build order reported finish stats e = let f = e.finishes in let ran = f.ran [] (nothing_comes e.n f.close) in record {
+emits_of : (w : World) (origin : Origin) (order : Sched) (reported : Bool) (finish : Finish) (stats : Option Stats) → (e : EndsRun w origin order reported finish stats) → Emits w origin order e.numbers
+emits_of w origin order reported finish stats e = let f = e.finishes in let ran = f.ran [] (nothing_comes e.n f.close) in record {
   n = e.n;
   s = e.s;
   has = e.has;
@@ -306,6 +360,12 @@ module _ (words : List Text) (w : World) (err : Change (List ℕ)) (n : ℕ) (a 
       let r = statuses.refused_with a.verdict n at kind in
       refused_by words w r.refusal n r.status_is (subst (λ v. IsDue words w v) r.verdict_is a.due)
 
+  pub evidence : n ≡ status.evidence → IsRefusedWith words w n ⊎ IsEndedWith words w n
+  evidence is = elim (statuses.evidence_with a.verdict (at ∙ is)) [
+    | inl r ↦ inl (refused_by words w r.refusal n (r.status_is ∙ sym is) (subst (λ v. IsDue words w v) r.verdict_is a.due))
+    | inr d ↦ inr (ended_by words w (finish.Differs d.line) d.stats n (sym is) (subst (λ v. IsDue words w v) d.verdict_is a.due))
+  ]
+
   move : (m : ℕ) → (status_of a.verdict ≡ m) ⊎ (status_of a.verdict ≡ status.no_memory) → (n ≡ m) ⊎ (n ≡ status.no_memory)
   move m h = subst (λ k. (k ≡ m) ⊎ (k ≡ status.no_memory)) at h
 
@@ -335,34 +395,46 @@ module _ (words : List Text) (w : World) (err : Change (List ℕ)) (n : ℕ) (a 
       let e = ended (ap status.is_end h) in
       record { command = e.command; spelled = e.spelled; whole = whole_of w rest taken e.command e.finish e.stats input out (e.status_is ∙ h) e.end.ends }
 
-  pub reported : SpellsOneAtMost → (build : Build) (schedule : Sched) → Spells words (command.Run build schedule None true) → status.is_end n ≡ true → (said : List ℕ) → err.old ≡ Some said →
-      (HasRisen err → ⊥) → Reports w build schedule said err.new
-  reported once build schedule spelled kind said told calm =
+  run_end : (origin : Origin) (schedule : Sched) (finish : Finish) (stats : Option Stats) → IsDueOf w (runs origin schedule true) (verdict.Ended finish stats) → EndsRun w origin schedule true finish stats
+  run_end (built build) schedule finish stats due = due.ends
+  run_end (imaged name) schedule finish stats due = due.ends
+
+  pub reported : SpellsOneAtMost → (origin : Origin) (schedule : Sched) → Spells words (runs origin schedule true) → status.is_end n ≡ true → (said : List ℕ) → err.old ≡ Some said →
+      (HasRisen err → ⊥) → Reports w origin schedule said err.new
+  reported once origin schedule spelled kind said told calm =
       let e = statuses.ended_with a.verdict n at kind in
       let due : IsDue words w (verdict.Ended e.finish e.stats) = subst (λ v. IsDue words w v) e.verdict_is a.due in
       let line : err.new ≡ Some (said ++ lines_of (verdict.Ended e.finish e.stats)) = a.says said told calm ∙ ap (λ v. Some (said ++ lines_of v)) e.verdict_is in
-      elim (asked words w once (command.Run build schedule None true) spelled (verdict.Ended e.finish e.stats) due) [
-        | inl run ↦ record {
-          numbers = run.ends.numbers;
+      elim (asked words w once (runs origin schedule true) spelled (verdict.Ended e.finish e.stats) due) [
+        | inl run ↦ let ends : EndsRun w origin schedule true e.finish e.stats = run_end origin schedule e.finish e.stats run in record {
+          numbers = ends.numbers;
           more = finish_line e.finish;
-          line = line ∙ ap (λ s. Some (said ++ lines_of (verdict.Ended e.finish s))) run.ends.stats_are;
-          emits = emits_of w build schedule true e.finish e.stats run.ends;
+          line = line ∙ ap (λ s. Some (said ++ lines_of (verdict.Ended e.finish s))) ends.stats_are;
+          emits = emits_of w origin schedule true e.finish e.stats ends;
         }
-        | inr want ↦ absurd (let z = sym (statuses.finish_kind e.finish) ∙ ap status.is_end want in cc)
+        | inr want ↦ absurd (let z : status.is_end status.no_memory ≡ true = ap status.is_end (sym want ∙ sym (ap status_of e.verdict_is) ∙ at) ∙ kind in cc)
       ]
 
-  input_cause : (c : Command) (f : Finish) (stats : Option Stats) (k : ℕ) → Ends w c f stats → finish_status f ≡ k → (k ≡ status.stopped → ⊥) → (k ≡ status.trap → ⊥) → (k ≡ status.read → ⊥) → w.input.now ≡ w.input.before
-  input_cause (command.Check name) f stats k e h stopped trap read = e.input.calm
-  input_cause (command.Fmt name) f stats k e h stopped trap read = e.input.calm
-  input_cause (command.Explain build None) f stats k e h stopped trap read = e.input.calm
-  input_cause (command.Run build schedule None shows) f stats k e h stopped trap read = run_calm e.n e.s _ _ _ _ _ _ f e.numbers e.finishes k h stopped trap read
-  input_cause _ f stats k e h stopped trap read = absurd e
+  no_evidence : (k : ℕ) → status.is_end k ≡ true → k ≡ status.evidence → ⊥
+  no_evidence k kind is = (let z = sym (ap status.is_end is) ∙ kind in cc)
+
+  input_cause : (c : Command) (f : Finish) (stats : Option Stats) (k : ℕ) → Ends w c f stats → finish_status f ≡ k → status.is_end k ≡ true → (k ≡ status.stopped → ⊥) → (k ≡ status.trap → ⊥) → (k ≡ status.read → ⊥) → w.input.now ≡ w.input.before
+  input_cause (command.Check name) f stats k e h kind stopped trap read = e.input.calm
+  input_cause (command.Fmt name) f stats k e h kind stopped trap read = e.input.calm
+  input_cause (command.Explain build None) f stats k e h kind stopped trap read = e.input.calm
+  input_cause (command.Explain build (Some cert)) f stats k e h kind stopped trap read = e.ends.input.calm
+  input_cause (command.Compile build name) f stats k e h kind stopped trap read = e.ends.input.calm
+  input_cause (command.Run build schedule None shows) f stats k e h kind stopped trap read = run_calm e.n e.s _ _ _ _ _ _ f e.numbers e.finishes k h stopped trap read
+  input_cause (command.VerifyCert program cert costs) f stats k e h kind stopped trap read = e.input.calm
+  input_cause (command.Exec name schedule None shows) f stats k e h kind stopped trap read = run_calm e.n e.s _ _ _ _ _ _ f e.numbers e.finishes k h stopped trap read
+  input_cause (command.CheckTrace build name) f stats k e h kind stopped trap read = check_calm w build name f stats k e h (λ is. no_evidence k kind is) read
+  input_cause _ f stats k e h kind stopped trap read = absurd e
 
   -- an end of such a status leaves the count of the input
   calm_end : (k : ℕ) → status.is_end k ≡ true → (k ≡ status.stopped → ⊥) → (k ≡ status.trap → ⊥) → (k ≡ status.read → ⊥) → w.input.before < w.input.now → n ≢ k
   calm_end k kind stopped trap read up h =
       let e = ended (ap status.is_end h ∙ kind) in
-      let z = input_cause e.command e.finish e.stats k e.end.ends (e.status_is ∙ h) stopped trap read in absurd (omega arith)
+      let z = input_cause e.command e.finish e.stats k e.end.ends (e.status_is ∙ h) kind stopped trap read in absurd (omega arith)
 
   pub input_failed : w.input.before < w.input.now → (n ≢ status.done) × (n ≢ status.too_long) × (n ≢ status.stream)
   input_failed up = (
@@ -375,18 +447,29 @@ module _ (words : List Text) (w : World) (err : Change (List ℕ)) (n : ℕ) (a 
   read_by (command.Check name) f stats e h = absurd (let z = sym (ap finish_status e.finish_is) ∙ h in omega arith)
   read_by (command.Fmt name) f stats e h = absurd (let z = sym (ap finish_status e.finish_is) ∙ h in omega arith)
   read_by (command.Explain build None) f stats e h = absurd (let z = sym (ap finish_status e.finish_is) ∙ h in omega arith)
+  read_by (command.Explain build (Some cert)) f stats e h = absurd (let z = sym (ap finish_status e.ends.finish_is) ∙ h in omega arith)
+  read_by (command.Compile build name) f stats e h = absurd (let z = sym (ap finish_status e.ends.finish_is) ∙ h in omega arith)
   read_by (command.Run build schedule None shows) f stats e h = run_read e.n e.s _ _ _ _ _ _ f e.numbers e.finishes h
+  read_by (command.VerifyCert program cert costs) f stats e h = absurd (let z = sym (ap finish_status e.finish_is) ∙ h in omega arith)
+  read_by (command.Exec name schedule None shows) f stats e h = run_read e.n e.s _ _ _ _ _ _ f e.numbers e.finishes h
+  read_by (command.CheckTrace build name) f stats e h = check_read w build name f stats e h
   read_by _ f stats e h = absurd e
 
   pub read_fault : n ≡ status.read → HasRisen w.input
   read_fault h = (let e = ended (ap status.is_end h) in read_by e.command e.finish e.stats e.end.ends (e.status_is ∙ h))
 
-  write_by : IsDue words w verdict.WriteFault → HasRisen w.out
-  write_by (inl d) = d.due.out
+  -- a command that could not write its file writes one
+  writer : (c : Command) → Spells words c → Unsaved w c → SpellsWriter words
+  writer (command.Explain build (Some cert)) spelled h = record { command = command.Explain build (Some cert); spelled = spelled; writes = λ none. absurd cc }
+  writer (command.Compile build name) spelled h = record { command = command.Compile build name; spelled = spelled; writes = λ none. absurd cc }
+  writer c spelled h = absurd h
+
+  write_by : IsDue words w verdict.WriteFault → HasRisen w.out ⊎ (SpellsWriter words × HasRisen w.files)
+  write_by (inl d) = elim d.due.fault [ inl put ↦ inl put.out | inr saved ↦ inr (writer d.command d.spelled saved.0, saved.1) ]
   write_by (inr (inl u)) = absurd (let z = u.verdict_is in cc)
   write_by (inr (inr u)) = absurd (let z = u.verdict_is in cc)
 
-  pub write_fault : n ≡ status.write → HasRisen w.out
+  pub write_fault : n ≡ status.write → HasRisen w.out ⊎ (SpellsWriter words × HasRisen w.files)
   write_fault h = write_by (subst (λ v. IsDue words w v) (statuses.write_is a.verdict (at ∙ h)) a.due)
 
   out_by : (v : Verdict) → IsDue words w v → w.out.before < w.out.now → (status_of v ≡ status.write) ⊎ (status_of v ≡ status.no_memory)
@@ -400,13 +483,35 @@ module _ (words : List Text) (w : World) (err : Change (List ℕ)) (n : ℕ) (a 
   pub out_failed : w.out.before < w.out.now → (n ≡ status.write) ⊎ (n ≡ status.no_memory)
   out_failed up = move status.write (out_by a.verdict a.due up)
 
-  files_by : (v : Verdict) → IsDue words w v → w.files.before < w.files.now → (status_of v ≡ status.file) ⊎ (status_of v ≡ status.no_memory)
+  -- how a failure of the files is answered
+  abbrev IsToldOfFiles : ℕ → Type 0
+  IsToldOfFiles k = (k ≡ status.file) ⊎ ((k ≡ status.no_memory) ⊎ (SpellsWriter words × (k ≡ status.write)))
+
+  files_by : (v : Verdict) → IsDue words w v → w.files.before < w.files.now → IsToldOfFiles (status_of v)
   files_by (verdict.Refused r) (inl d) up = inl (files_refused r w.files d.due.files up)
   files_by (verdict.Ended f s) (inl d) up = absurd (let z = d.due.files in omega arith)
-  files_by verdict.WriteFault (inl d) up = absurd (let z = d.due.files in omega arith)
-  files_by verdict.NoMemory (inl d) up = inr refl
-  files_by v (inr (inl u)) up = absurd (let z = u.files in omega arith)
-  files_by v (inr (inr u)) up = inr (ap status_of u.verdict_is)
+  files_by verdict.WriteFault (inl d) up = elim d.due.fault [
+    | inl put ↦ absurd (let z = put.files in omega arith)
+    | inr saved ↦ inr (inr (writer d.command d.spelled saved.0, refl))
+  ]
+  files_by verdict.NoMemory (inl d) up = inr (inl refl)
+  files_by v (inr (inl u)) up = absurd (let z = u.files.calm in omega arith)
+  files_by v (inr (inr u)) up = inr (inl (ap status_of u.verdict_is))
 
-  pub files_failed : w.files.before < w.files.now → (n ≡ status.file) ⊎ (n ≡ status.no_memory)
-  files_failed up = move status.file (files_by a.verdict a.due up)
+  pub files_failed : w.files.before < w.files.now → IsToldOfFiles n
+  files_failed up = subst IsToldOfFiles at (files_by a.verdict a.due up)
+
+  -- which files are changed
+  kept_for : (c : Command) → Spells words c → (v : Verdict) → KeepsFiles w.files (written_of c) v → (w.files.new ≡ w.files.old) ⊎ KeepsOthers words w.files
+  kept_for c spelled (verdict.Refused r) h = inl h
+  kept_for c spelled (verdict.Ended f s) h = inr (record { command = c; spelled = spelled; kept = h })
+  kept_for c spelled verdict.WriteFault h = inr (record { command = c; spelled = spelled; kept = h })
+  kept_for c spelled verdict.NoMemory h = inr (record { command = c; spelled = spelled; kept = h })
+
+  files_kept : (v : Verdict) → IsDue words w v → (w.files.new ≡ w.files.old) ⊎ KeepsOthers words w.files
+  files_kept v (inl d) = kept_for d.command d.spelled v d.kept
+  files_kept v (inr (inl u)) = inl u.files.told
+  files_kept v (inr (inr u)) = inl u.kept
+
+  pub files_stay : (w.files.new ≡ w.files.old) ⊎ KeepsOthers words w.files
+  files_stay = files_kept a.verdict a.due

@@ -2,11 +2,17 @@ mod AcceptSteps
 mod FileSteps
 mod StageSteps
 mod TextSteps
+mod SavedSteps
 mod LoadSteps
+mod ImageSteps
+mod CompileSteps
 mod OnceSteps
+mod CertSteps
 mod PickSteps
 mod RunSteps
+mod AlikeSteps
 mod SoundSteps
 mod SeenSteps
+mod TraceSteps
 mod DueSteps
 mod AnswerSteps

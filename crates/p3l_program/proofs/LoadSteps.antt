@@ -11,6 +11,10 @@ use Rattle.p3l_cost.specs.declared.refusal.CostRefusal.{CostRefusal}
 use Rattle.p3l_cost.specs.declared.refusal.CostRefusal.TheVariants as costs
 use Rattle.p3l_cost.specs.File.{IsRead, Says, costs_in}
 use Rattle.p3l_alloc.specs.Chosen.{IsShort}
+use Rattle.p3l_cert.specs.declared.cert.Cert.{Cert}
+use Rattle.p3l_cert.specs.Certified.{AreRowsAsked}
+use Rattle.p3l_cert.specs.Checker.{CertHolds}
+use Rattle.p3l_cert.specs.Text.{cert_format}
 use Rattle.p3l_explain.specs.Allocation.{allocation_text}
 use Rattle.p3l_opts.specs.declared.command.Build.{Build}
 use Rattle.p3l_report.specs.declared.cost_fault.CostFault.{CostFault}
@@ -23,11 +27,12 @@ use Rattle.p3l_check.specs.Resolving.{ResolvedTree}
 use Rattle.p3l_program.specs.declared.accept.Accepted.{Accepted}
 use Rattle.p3l_program.specs.declared.load.Loaded.{Loaded}
 use Rattle.p3l_program.specs.Accepted.{ComesTo, IsNotAccepted}
+use Rattle.p3l_program.specs.Certificate.{IsCertificate}
 use Rattle.p3l_program.specs.Chosen.{AreSaid, HasCostText, IsAllotted, IsPriced, refusal_of}
 use Rattle.p3l_program.specs.Explain.{IsExplained}
 use Rattle.p3l_program.specs.File.{HasText, text_limit}
 use Rattle.p3l_program.specs.Load.{IsCostless, IsLoaded, IsNotLoaded, cost_verdict}
-use Rattle.p3l_program.specs.Network.{HasNetwork, network_of}
+use Rattle.p3l_program.specs.Network.{IsBuilt, network_of}
 use Rattle.p3l_program.specs.Stage.{AllPass, FilesCause, IsRefusedBy, Stage, build_stages, cost_stages, fitting, program_stages}
 use Rattle.p3l_program.specs.World.{Change, IsCalm}
 use Rattle.p3l_program.proofs.StageSteps.{passed_both, refused_behind, refused_front}
@@ -74,18 +79,18 @@ said_once tree said cs (fault.Missing key) says none = two says none
     two : Says tree said (Ok cs) → Says tree said (Err (costs.Missing key)) → ⊥
     two a b = let p = a.is.parsed in let q = b.is.parsed in let one : a.document ≡ b.document = cc in let x = a.says in let y = ap (costs_in tree) one ∙ b.says in absurd cc
 
-module _ (files : Change Held) (build : Build) (r : ResolvedTree) (program : Accepted) (text : List ℕ) (has : HasText files.old text_limit build.program text) (comes : ComesTo text r program) where
-  program_passes : AllPass files (program_stages build.program)
+module _ (files : Change Held) (name : List ℕ) (r : ResolvedTree) (program : Accepted) (text : List ℕ) (has : HasText files.old text_limit name text) (comes : ComesTo text r program) where
+  pub program_passes : AllPass files (program_stages name)
   program_passes = ((text, has), ((r, record { text = text; has = has; accepted = comes.accepted }), tt))
 
   -- costs of a tree that is the program's are the program's, and no other ones are
-  priced_here : (said : Option (List ℕ)) (cs : Costs) → AreSaid program.tree said cs → IsPriced text said r cs
+  pub priced_here : (said : Option (List ℕ)) (cs : Costs) → AreSaid program.tree said cs → IsPriced text said r cs
   priced_here said cs are = record { accepted = comes.accepted; costs = subst (λ t. AreSaid t said cs) comes.compiled.tree_is are }
 
-  costless_some : (name : List ℕ) (refused : Refusal) → build.costs ≡ Some name → IsCostless files (Some name) program.tree (verdict.Refused refused) →
-      IsRefusedBy files (cost_stages build.program (Some name) ++ fitting build ∷ []) refused × FilesCause refused files
-  costless_some name refused named (inl h) = (inl h.0, h.1)
-  costless_some name (refusal.Costs f) named (inr h) = (
+  costless_some : (costs : List ℕ) (more : List Stage) (refused : Refusal) → IsCostless files (Some costs) program.tree (verdict.Refused refused) →
+      IsRefusedBy files (cost_stages name (Some costs) ++ more) refused × FilesCause refused files
+  costless_some costs more refused (inl h) = (inl h.0, h.1)
+  costless_some costs more (refusal.Costs f) (inr h) = (
     inr (
       (h.said, h.has),
       inl (record {
@@ -106,40 +111,38 @@ module _ (files : Change Held) (build : Build) (r : ResolvedTree) (program : Acc
     where
       here : IsRead r.tree h.said (Err (refusal_of f))
       here = subst (λ t. IsRead t h.said (Err (refusal_of f))) comes.compiled.tree_is h.no_costs
-  costless_some name refused named (inr h) = absurd (h.no_costs)
+  costless_some costs more refused (inr h) = absurd (h.no_costs)
 
-  pub costless : (v : Verdict) → IsCostless files build.costs program.tree v → IsNotLoaded files (build_stages build) v
-  costless v h = by build.costs refl v h
-    where
-      by : (c : Option (List ℕ)) → build.costs ≡ c → (v : Verdict) → IsCostless files c program.tree v → IsNotLoaded files (program_stages build.program ++ (cost_stages build.program c ++ fitting build ∷ [])) v
-      by None named (verdict.Refused refused) h = absurd h
-      by (Some name) named (verdict.Refused refused) h =
-          let s = costless_some name refused named h in
-          (refused_behind files (program_stages build.program) (cost_stages build.program (Some name) ++ fitting build ∷ []) refused program_passes s.0, s.1)
-      by c named verdict.NoMemory h = calm_of c h
-        where
-          calm_of : (c : Option (List ℕ)) → IsCostless files c program.tree verdict.NoMemory → IsCalm files
-          calm_of None h = h
-          calm_of (Some name) h = h
-      by None named (verdict.Ended finish stats) h = absurd h
-      by (Some name) named (verdict.Ended finish stats) h = absurd h
-      by None named verdict.WriteFault h = absurd h
-      by (Some name) named verdict.WriteFault h = absurd h
+  -- where no costs are loaded their stages don't pass, whatever stages come behind
+  pub costless : (costs : Option (List ℕ)) (more : List Stage) (v : Verdict) → IsCostless files costs program.tree v → IsNotLoaded files (program_stages name ++ (cost_stages name costs ++ more)) v
+  costless None more (verdict.Refused refused) h = absurd h
+  costless (Some costs) more (verdict.Refused refused) h =
+      let s = costless_some costs more refused h in
+      (refused_behind files (program_stages name) (cost_stages name (Some costs) ++ more) refused program_passes s.0, s.1)
+  costless None more verdict.NoMemory h = h
+  costless (Some costs) more verdict.NoMemory h = h
+  costless None more (verdict.Ended finish stats) h = absurd h
+  costless (Some costs) more (verdict.Ended finish stats) h = absurd h
+  costless None more verdict.WriteFault h = absurd h
+  costless (Some costs) more verdict.WriteFault h = absurd h
 
+  pub costs_pass : (costs said : Option (List ℕ)) (cs : Costs) → HasCostText files.old costs said → AreSaid program.tree said cs → AllPass files (cost_stages name costs)
+  costs_pass None said cs says are = tt
+  costs_pass (Some costs) None cs says are = absurd says
+  costs_pass (Some costs) (Some t) cs says are = ((t, says), ((r, cs, record { text = text; has = has; said = Some t; says = says; priced = priced_here (Some t) cs are }), tt))
+
+module _ (files : Change Held) (build : Build) (r : ResolvedTree) (program : Accepted) (text : List ℕ) (has : HasText files.old text_limit build.program text) (comes : ComesTo text r program) where
   module _ (said : Option (List ℕ)) (says : HasCostText files.old build.costs said) (cs : Costs) (are : AreSaid program.tree said cs) where
-    costs_pass : (c said : Option (List ℕ)) → HasCostText files.old c said → AreSaid program.tree said cs → AllPass files (cost_stages build.program c)
-    costs_pass None said says are = tt
-    costs_pass (Some name) None says are = absurd says
-    costs_pass (Some name) (Some t) says are = ((t, says), ((r, cs, record { text = text; has = has; said = Some t; says = says; priced = priced_here (Some t) cs are }), tt))
-
-    front_passes : AllPass files (program_stages build.program ++ cost_stages build.program build.costs)
-    front_passes = passed_both files (program_stages build.program) (cost_stages build.program build.costs) program_passes (costs_pass build.costs said says are)
+    front_passes : (more : List Stage) → AllPass files more → AllPass files (program_stages build.program ++ (cost_stages build.program build.costs ++ more))
+    front_passes more passed =
+        passed_both files (program_stages build.program) (cost_stages build.program build.costs ++ more) (program_passes files build.program r program text has comes)
+        (passed_both files (cost_stages build.program build.costs) more (costs_pass files build.program r program text has comes build.costs said cs says are) passed)
 
     pub too_few : (need : ℕ) → IsShort program.tree build.processors need → IsCalm files → IsNotLoaded files (build_stages build) (verdict.Refused (refusal.TooFew need))
     too_few need short calm =
         let here : IsShort r.tree build.processors need = subst (λ t. IsShort t build.processors need) comes.compiled.tree_is short in (
-          refused_behind files (program_stages build.program) (cost_stages build.program build.costs ++ fitting build ∷ []) (refusal.TooFew need) program_passes
-              (refused_behind files (cost_stages build.program build.costs) (fitting build ∷ []) (refusal.TooFew need) (costs_pass build.costs said says are)
+          refused_behind files (program_stages build.program) (cost_stages build.program build.costs ++ fitting build ∷ []) (refusal.TooFew need) (program_passes files build.program r program text has comes)
+              (refused_behind files (cost_stages build.program build.costs) (fitting build ∷ []) (refusal.TooFew need) (costs_pass files build.program r program text has comes build.costs said cs says are)
               (inl (record {
                 text = text;
                 has = has;
@@ -148,7 +151,7 @@ module _ (files : Change Held) (build : Build) (r : ResolvedTree) (program : Acc
                 refused = record {
                   r = r;
                   cs = cs;
-                  priced = priced_here said cs are;
+                  priced = priced_here files build.program r program text has comes said cs are;
                   short = here;
                   never = λ other others counts p.
                       let fits = p.chosen.optimal.fit in
@@ -159,10 +162,7 @@ module _ (files : Change Held) (build : Build) (r : ResolvedTree) (program : Acc
         )
 
     pub all_pass : (counts : List ℕ) → IsAllotted text said build.processors r cs counts → AllPass files (build_stages build)
-    all_pass counts allotted =
-        passed_both files (program_stages build.program) (cost_stages build.program build.costs ++ fitting build ∷ []) program_passes
-        (passed_both files (cost_stages build.program build.costs) (fitting build ∷ []) (costs_pass build.costs said says are)
-        ((r, cs, counts, record { text = text; has = has; said = said; says = says; allotted = allotted }), tt))
+    all_pass counts allotted = front_passes (fitting build ∷ []) ((r, cs, counts, record { text = text; has = has; said = said; says = says; allotted = allotted }), tt)
 
 module _ (build : Build) (r : ResolvedTree) (loaded : Loaded) where
   -- where all is loaded all stages of a build pass
@@ -185,12 +185,26 @@ module _ (build : Build) (r : ResolvedTree) (loaded : Loaded) where
         subst (λ n. text ≡ allocation_text r.tree loaded.costs build.processors loaded.choice.counts.list (procs r.tree loaded.choice.counts.list 0) n) is.service_is used);
   }
 
-  -- and its network is the one that is asked for
-  pub has_network : (files : Option Held) → IsLoaded files build r loaded → HasNetwork files build (network_of r loaded.choice.counts.list build.capacity)
-  has_network files is = record {
+  -- a certificate of them is that of the program's
+  pub certified : (files : Option Held) (cert : Cert) (text : List ℕ) → IsLoaded files build r loaded → cert.processors ≡ build.processors → cert.counts.list ≡ loaded.choice.counts.list →
+      CertHolds loaded.program.tree loaded.costs cert → AreRowsAsked loaded.program.tree loaded.costs loaded.choice.service build.processors cert.rows → cert.service ≡ loaded.choice.service →
+      text ≡ cert_format.spell cert → IsCertificate files build text
+  certified files cert text is processors counts holds rows service_is text_is = record {
     r = r;
     cs = loaded.costs;
     counts = loaded.choice.counts.list;
     has = record { text = is.text; has = is.has; said = is.said; says = is.says; allotted = is.allotted };
-    network_is = refl;
+    cert = cert;
+    processors_are = processors;
+    counts_are = counts;
+    holds = subst (λ t. CertHolds t loaded.costs cert) is.comes.compiled.tree_is holds;
+    rows =
+        (let asked = subst (λ t. AreRowsAsked t loaded.costs loaded.choice.service build.processors cert.rows) is.comes.compiled.tree_is rows in
+        let served = subst (λ n. AreRowsAsked r.tree loaded.costs n build.processors cert.rows) (sym service_is) asked in
+        subst (λ n. AreRowsAsked r.tree loaded.costs cert.service n cert.rows) (sym processors) served);
+    text_is = text_is;
   }
+
+  -- and its network is the one that is asked for
+  pub is_built : (files : Option Held) → (is : IsLoaded files build r loaded) → IsBuilt build (record { text = is.text; said = is.said }) (network_of r loaded.choice.counts.list build.capacity)
+  is_built files is = record { r = r; cs = loaded.costs; counts = loaded.choice.counts.list; allotted = is.allotted; network_is = refl }

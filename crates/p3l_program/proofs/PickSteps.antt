@@ -1,6 +1,7 @@
 -- The words of a text are what they are, so a text whose words are all picks is not refused.
 use Rattle.std.proofs.Common.{◌≡◌, ℕ, ◌+◌, List, [], ◌∷◌, ◌++◌, count_by, Ok, Err, refl, sym, ap, ◌∙◌, subst}
 use Rattle.p3l_sched.specs.declared.refusal.PickRefusal.{PickRefusal}
+use Rattle.p3l_sched.specs.declared.refusal.PickRefusal.TheVariants as refusals
 use Rattle.p3l_sched.specs.Picks.{AreGap, AreOfWord, AreRead, EndsWord, IsAtWord, IsFirstRefused, IsWord, Reads, is_feed, is_gap, pick_of}
 
 -- a text begins with one gap
@@ -71,3 +72,9 @@ read_once count line text (p ∷ ps) last rest (q ∷ qs) end left g w a r one g
 pub reads_once : (text : List ℕ) (count : ℕ) (picks : List ℕ) (r : PickRefusal) → Reads text count (Ok picks) → IsFirstRefused text count r → ⊥
 reads_once text count picks r read refused =
     read_once count 1 text picks read.0 read.1 refused.picks refused.line refused.rest refused.gap refused.word refused.after r read.2 read.3 refused.before refused.at refused.is_refused
+
+-- picks that are read are not refused
+pub read_or_refused : (text : List ℕ) (count : ℕ) (read : List ℕ) (r : PickRefusal) → (r ≡ refusals.NoMemory → ⊥) → Reads text count (Ok read) → Reads text count (Err r) → ⊥
+read_or_refused text count read refusals.NoMemory some one two = some refl
+read_or_refused text count read (refusals.BadPick line) some one two = reads_once text count read (refusals.BadPick line) one two
+read_or_refused text count read (refusals.NoSuchProcess line pick of_count) some one two = reads_once text count read (refusals.NoSuchProcess line pick of_count) one two

@@ -1,8 +1,7 @@
--- From the run of a network to the verdict of `run`.
+-- From the run of a network to the verdict of `run` and `exec`.
 use Rattle.std.proofs.Common.{◌≡◌, ℕ, Bool, List, [], Option, inl, inr, subst, append-nil}
-use Rattle.std.specs.declared.result.Result.TheVariants.{Err}
+use Rattle.std.specs.declared.result.Result.TheVariants.{Ok, Err}
 use Rattle.p3l_io.specs.Told.{Held}
-use Rattle.p3l_opts.specs.declared.command.Build.{Build}
 use Rattle.p3l_opts.specs.declared.command.Sched.{Sched}
 use Rattle.p3l_opts.specs.declared.command.Sched.TheVariants as sched
 use Rattle.p3l_report.specs.declared.stats.Stats.{Stats}
@@ -21,11 +20,13 @@ use Rattle.p3l_sched.specs.declared.refusal.PickRefusal.TheVariants as picks
 use Rattle.p3l_sched.specs.declared.schedule.Schedule.{Schedule}
 use Rattle.p3l_sched.specs.Picks.{Reads}
 use Rattle.p3l_program.specs.File.{HasText}
-use Rattle.p3l_program.specs.Network.{HasNetwork}
+use Rattle.p3l_program.specs.Network.{HasNetwork, HaveTexts, IsNetworkOf, Texts}
+use Rattle.p3l_program.specs.Origin.{Origin}
 use Rattle.p3l_program.specs.Run.{BeginsRun, HasBadPicks, IsRunDue, IsRunOf, IsRunSome, IsUnasked}
 use Rattle.p3l_program.specs.Scheduled.{HasNoPicks, HasSchedule, picks_limit}
-use Rattle.p3l_program.specs.Stage.{AllPass, FilesCause, IsRefusedBy, Refuses, build_stages, run_stages, schedule_stages, scheduled}
+use Rattle.p3l_program.specs.Stage.{AllPass, FilesCause, IsRefusedBy, Refuses, origin_stages, run_stages, schedule_stages, scheduled}
 use Rattle.p3l_program.specs.World.{Change, world}
+use Rattle.p3l_program.proofs.PickSteps.{read_or_refused}
 use Rattle.p3l_program.proofs.StageSteps.{passed_both, refused_behind}
 
 -- a run that came to its end was begun
@@ -42,18 +43,35 @@ finishes_starts n s rest left before now taken taken' finish stats f =
       begun = begun_by n f.items f.outcomes taken taken' begins f.put;
     }
 
-module _ (files : Change Held) (input out : Change (List ℕ)) (build : Build) (n : Network) (has : HasNetwork files.old build n) (passed : AllPass files (build_stages build)) where
-  schedule_passes : (asked : Sched) (s : Schedule) → HasSchedule files.old (size_of n) asked s → AllPass files (schedule_stages build asked)
+module _ (files : Change Held) (input out : Change (List ℕ)) (origin : Origin) (n : Network) (texts : Texts) (have : HaveTexts files.old origin texts) (is : IsNetworkOf origin texts n) (passed : AllPass files (origin_stages origin)) where
+  has : HasNetwork files.old origin n
+  has = record { texts = texts; have = have; is = is }
+
+  schedule_passes : (asked : Sched) (s : Schedule) → HasSchedule files.old (size_of n) asked s → AllPass files (schedule_stages origin asked)
   schedule_passes sched.RoundRobin s h = tt
   schedule_passes (sched.Seeded seed) s h = tt
   schedule_passes (sched.File name) s h = ((h.text, h.has), ((n, s, has, h), tt))
 
-  all_passes : (asked : Sched) (s : Schedule) → HasSchedule files.old (size_of n) asked s → AllPass files (run_stages build asked)
-  all_passes asked s h = passed_both files (build_stages build) (schedule_stages build asked) passed (schedule_passes asked s h)
+  all_passes : (asked : Sched) (s : Schedule) → HasSchedule files.old (size_of n) asked s → AllPass files (run_stages origin asked)
+  all_passes asked s h = passed_both files (origin_stages origin) (schedule_stages origin asked) passed (schedule_passes asked s h)
 
-  -- no picks of this network are there for this word
-  module _ (no_picks : (name text : List ℕ) (r : PickRefusal) → HasText files.old picks_limit name text → Reads text (size_of n) (Err r) → (r ≡ picks.NoMemory → ⊥) → HasNoPicks files.old build name r) where
-    bad_picks : (name : List ℕ) (r : Refusal) → HasBadPicks files (size_of n) name r → Refuses files (scheduled build name) r
+  -- where what is run has one network, a text that is refused for it has no picks
+  module _ (only : (other : Network) → IsNetworkOf origin texts other → other ≡ n) where
+    no_picks : (name text : List ℕ) (r : PickRefusal) → HasText files.old picks_limit name text → Reads text (size_of n) (Err r) → (r ≡ picks.NoMemory → ⊥) → HasNoPicks files.old origin name r
+    no_picks name text r held reads some = record {
+      texts = texts;
+      have = have;
+      picks = text;
+      held = held;
+      refused = record {
+        n = n;
+        is = is;
+        reads = reads;
+        never = λ other read here q. read_or_refused text (size_of n) read r some (subst (λ m. Reads text (size_of m) (Ok read)) (only other here) q) reads;
+      };
+    }
+
+    bad_picks : (name : List ℕ) (r : Refusal) → HasBadPicks files (size_of n) name r → Refuses files (scheduled origin name) r
     bad_picks name (refusal.BadPick line) h = no_picks name h.text (picks.BadPick line) h.has h.bad (λ e. absurd cc)
     bad_picks name (refusal.NoSuchProcess line pick count) h = no_picks name h.text (picks.NoSuchProcess line pick count) h.has h.bad (λ e. absurd cc)
     bad_picks name r h = absurd h.bad
@@ -63,18 +81,18 @@ module _ (files : Change Held) (input out : Change (List ℕ)) (build : Build) (
     files_cause (refusal.NoSuchProcess line pick count) name h = h.calm
     files_cause r name h = absurd h.bad
 
-    refused_by : (asked : Sched) (r : Refusal) → IsUnasked files (size_of n) asked (verdict.Refused r) → IsRefusedBy files (run_stages build asked) r × FilesCause r files
+    refused_by : (asked : Sched) (r : Refusal) → IsUnasked files (size_of n) asked (verdict.Refused r) → IsRefusedBy files (run_stages origin asked) r × FilesCause r files
     refused_by sched.RoundRobin r h = absurd h
     refused_by (sched.Seeded seed) r h = absurd h
-    refused_by (sched.File name) r (inl h) = (refused_behind files (build_stages build) (schedule_stages build (sched.File name)) r passed (inl h.0), h.1)
+    refused_by (sched.File name) r (inl h) = (refused_behind files (origin_stages origin) (schedule_stages origin (sched.File name)) r passed (inl h.0), h.1)
     refused_by (sched.File name) r (inr h) =
-        (refused_behind files (build_stages build) (schedule_stages build (sched.File name)) r passed (inr ((h.text, h.has), inl (bad_picks name r h))), files_cause r name h)
+        (refused_behind files (origin_stages origin) (schedule_stages origin (sched.File name)) r passed (inr ((h.text, h.has), inl (bad_picks name r h))), files_cause r name h)
 
-    begins_run : (asked : Sched) → IsRunSome n files input out asked → BeginsRun (world files input out) build asked
+    begins_run : (asked : Sched) → IsRunSome n files input out asked → BeginsRun (world files input out) origin asked
     begins_run asked h = record { n = n; s = h.s; has = record { network = has; schedule = h.schedule }; starts = h.starts }
 
     -- the verdict of the run is due
-    pub run_due : (asked : Sched) (reported : Bool) (v : Verdict) → IsRunOf n files input out asked reported v → IsRunDue (world files input out) build asked reported v
+    pub run_due : (asked : Sched) (reported : Bool) (v : Verdict) → IsRunOf n files input out asked reported v → IsRunDue (world files input out) origin asked reported v
     run_due asked reported (verdict.Refused r) h = (let by = refused_by asked r h.0 in record { by = by.0; untouched = record { input = h.1.input_still; out = h.1.out_still }; files = by.1 })
     run_due asked reported (verdict.Ended finish stats) h = record {
       passed = all_passes asked h.s h.schedule;
@@ -84,8 +102,7 @@ module _ (files : Change Held) (input out : Change (List ℕ)) (build : Build) (
     }
     run_due asked reported verdict.WriteFault h = record {
       begun = record { passed = all_passes asked h.0.s h.0.schedule; begins = begins_run asked h.0 };
-      files = h.0.files_calm;
-      out = h.1;
+      fault = inl (record { files = h.0.files_calm; out = h.1 });
     }
     run_due asked reported verdict.NoMemory (inl h) = inl (record { input = h.input_still; out = h.out_still })
     run_due asked reported verdict.NoMemory (inr h) = inr (record { passed = all_passes asked h.s h.schedule; begins = begins_run asked h })

@@ -8,7 +8,7 @@ use Rattle.p3l_io.specs.Causes.{Rose}
 use Rattle.p3l_report.specs.declared.stats.Stats.{Stats}
 use Rattle.p3l_report.specs.declared.verdict.Finish.{Finish}
 use Rattle.p3l_report.specs.Verdict.{finish_status}
-use Rattle.p3l_run.specs.Feed.{closed_so, input_limit}
+use Rattle.p3l_run.specs.Feed.{Gives, closed_so, input_limit}
 use Rattle.p3l_run.specs.Network.{Network, width_of}
 use Rattle.p3l_run.specs.Run.{Finishes, MayCome, MayEnd}
 use Rattle.p3l_sched.specs.declared.schedule.Schedule.{Schedule}
@@ -42,7 +42,7 @@ take_none : (k : ℕ) → take {A = ℕ} k [] ≡ []
 take_none zero = refl
 take_none (suc k) = refl
 
-wide_tail : (P : List ℤ → Type 0) (xs ys : List (List ℤ)) → AllByRecursion P (xs ++ ys) → AllByRecursion P ys
+pub wide_tail : (P : List ℤ → Type 0) (xs ys : List (List ℤ)) → AllByRecursion P (xs ++ ys) → AllByRecursion P ys
 wide_tail P [] ys all = all
 wide_tail P (x ∷ xs) ys all = wide_tail P xs ys all.1
 
@@ -141,12 +141,17 @@ pub at_end_left : (rest : Option (List ℕ)) (left : List ℕ) → rest ≡ Some
 at_end_left None left told h = absurd cc
 at_end_left (Some other) left told h = let same : other ≡ left = cc in sym same ∙ h
 
+-- what is seen of an input that tells what is left, where no fault came, goes on from the items that its stream gave
+pub seen_goes_on : (n : Network) (rest : List ℕ) (old new : Option (List ℕ)) (before now : ℕ) (close : Option Ending) (s : Seen) (items : List (List ℤ)) → Gives (width_of n) old new before now s items (closed_so close) →
+    old ≡ Some rest → (Rose before now → ⊥) → GoesOnTo n close items rest
+seen_goes_on n rest None new before now close s items g told calm = absurd cc
+seen_goes_on n rest (Some other) new before now close s items g told calm =
+    let same : other ≡ rest = cc in
+    goes_on_to n rest s items g.bytes g.read.0 g.given g.limit (sym same ∙ g.read.2) (λ h. at_end_left new g.read.0 g.read.1 (g.at_end h)) close before now g.closed_is g.cause calm
+
 -- so the status of a run on an input that tells what is left, where no fault came, is that of what is seen
 pub seen_status : (n : Network) (s : Schedule) (rest : List ℕ) (old new : Option (List ℕ)) (before now : ℕ) (taken taken' : Option (List ℕ)) (finish : Finish) (stats : Stats) →
     old ≡ Some rest → (Rose before now → ⊥) → Finishes n s old new before now taken taken' finish stats → finish_status finish ≡ run_status n s rest
-seen_status n s rest None new before now taken taken' finish stats told calm f = absurd cc
-seen_status n s rest (Some other) new before now taken taken' finish stats told calm f =
-    let g = f.gives in
-    let same : other ≡ rest = cc in
-    let to = goes_on_to n rest f.stream f.items g.bytes g.read.0 g.given g.limit (sym same ∙ g.read.2) (λ h. at_end_left new g.read.0 g.read.1 (g.at_end h)) f.close before now g.closed_is g.cause calm in
+seen_status n s rest old new before now taken taken' finish stats told calm f =
+    let to = seen_goes_on n rest old new before now f.close f.stream f.items f.gives told calm in
     ap finish_status (f.ends to.later to.may_come to.e to.may_end) ∙ ap (status_with n s) (sym to.seen)

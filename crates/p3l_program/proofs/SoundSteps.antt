@@ -1,11 +1,13 @@
 -- The net that is linked for a lawful tree is sound on its codes.
-use Rattle.std.proofs.Common.{◌≡◌, ℕ, ℤ, ◌≤◌, List, sym, subst, arith}
+use Rattle.std.proofs.Common.{◌≡◌, ℕ, ℤ, ◌≤◌, List, sym, ap, ◌∙◌, subst, arith}
 use Rattle.p3l_base.specs.declared.outcome.Outcome.{Outcome}
 use Rattle.p3l_skel.specs.declared.tree.Tree.{Tree}
 use Rattle.p3l_skel.specs.Counts.{HasLawfulCounts}
 use Rattle.p3l_skel.specs.Lawful.{IsLawfulTree, IsSubtree}
 use Rattle.p3l_skel.specs.Numbers.{firings}
 use Rattle.p3l_skel.specs.Tree.{GivesOuts, no_node, node_at}
+use Rattle.p3l_check.specs.Resolving.{ResolvedTree}
+use Rattle.p3l_compile.specs.Leaves.{body_leaf}
 use Rattle.p3l_firing.specs.declared.net.Net.{Net}
 use Rattle.p3l_net.specs.Carried.{IsCarried}
 use Rattle.p3l_net.specs.Typed.{IsTyped}
@@ -13,6 +15,7 @@ use Rattle.p3l_link.specs.Laws.{EveryNetIsCarried}
 use Rattle.p3l_link.specs.Net.{linked_net}
 use Rattle.p3l_link.specs.Whole.{root_carry}
 use Rattle.p3l_run.specs.Network.{IsSound, network}
+use Rattle.p3l_program.specs.Network.{network_of}
 
 -- a linked net is typed and carried
 pub sound : EveryNetIsCarried → (tree : Tree) (leaf : ℕ → List ℤ → Outcome) (counts : List ℕ) (capacity : ℕ) (net : Net) (bound : ℕ) → IsLawfulTree tree → HasLawfulCounts tree counts → 1 ≤ capacity → GivesOuts tree leaf →
@@ -27,3 +30,12 @@ sound carried tree leaf counts capacity net bound lawful fit room gives linked t
 pub some_words : (tree : Tree) → IsLawfulTree tree → 1 ≤ (node_at tree 0).ins
 unfolding IsSubtree
 some_words tree lawful = (lawful.nodes 0 no_node lawful.preorder.0).ins.0
+
+-- the network that is linked on the codes of a program is the program's
+pub compiled_network : (r : ResolvedTree) (tree : Tree) (leaf : ℕ → List ℤ → Outcome) (net : Net) (bound : ℕ) (counts : List ℕ) (capacity : ℕ) → tree ≡ r.tree → leaf ≡ body_leaf tree r.seqs →
+    net ≡ linked_net tree counts capacity → bound ≡ firings tree counts → network tree leaf net bound ≡ network_of r counts capacity
+compiled_network r tree leaf net bound counts capacity same leaves linked bound_is =
+    ap (λ l. network tree l net bound) leaves
+    ∙ ap (λ n. network tree (body_leaf tree r.seqs) n bound) linked
+    ∙ ap (λ b. network tree (body_leaf tree r.seqs) (linked_net tree counts capacity) b) bound_is
+    ∙ ap (λ t. network t (body_leaf t r.seqs) (linked_net t counts capacity) (firings t counts)) same

@@ -1,13 +1,17 @@
 -- Stages, where the files tell what they hold and no reading failed.
-use Rattle.std.proofs.Common.{◌≡◌, ℕ, List, [], ◌∷◌, ◌++◌, length, Option, Some, None, refl, ap, inl, inr, subst, arith}
+use Rattle.std.proofs.Common.{◌≡◌, ℕ, List, [], ◌∷◌, ◌++◌, length, Option, Some, None, refl, sym, ap, ◌∙◌, inl, inr, subst, arith}
 use Rattle.p3l_ast.specs.declared.position.Pos.{Pos}
 use Rattle.p3l_ast.specs.declared.refusal.Fault.{Fault}
 use Rattle.p3l_ast.specs.Tree.{ProgramTree}
 use Rattle.p3l_cost.specs.declared.costs.Costs.{Costs}
+use Rattle.p3l_cert.specs.declared.cert.Cert.{Cert}
 use Rattle.p3l_grammar.specs.Grammar.{Spells}
+use Rattle.p3l_image.specs.declared.image.Image.{Image}
 use Rattle.p3l_io.specs.Told.{Held}
 use Rattle.p3l_opts.specs.declared.command.Build.{Build}
 use Rattle.p3l_report.specs.declared.cost_fault.CostFault.{CostFault}
+use Rattle.p3l_report.specs.declared.evidence.Evidence.{Evidence}
+use Rattle.p3l_report.specs.declared.evidence.Evidence.TheVariants as evidence
 use Rattle.p3l_report.specs.declared.verdict.Refusal.{Refusal}
 use Rattle.p3l_report.specs.declared.verdict.Refusal.TheVariants as refusal
 use Rattle.p3l_report.specs.Verdict.{refusal_status}
@@ -17,13 +21,18 @@ use Rattle.p3l_sched.specs.declared.refusal.PickRefusal.{PickRefusal}
 use Rattle.p3l_sched.specs.declared.refusal.PickRefusal.TheVariants as picks
 use Rattle.p3l_sched.specs.declared.schedule.Schedule.{Schedule}
 use Rattle.p3l_sched.specs.Picks.{Reads}
+use Rattle.p3l_trace.specs.declared.trace.Traced.{Traced}
 use Rattle.p3l_check.specs.Resolving.{ResolvedTree}
 use Rattle.p3l_program.specs.Accepted.{HasNoTree, HasTree, IsAccepted}
+use Rattle.p3l_program.specs.Certified.{HasCert, HasNoCert, IsCertified}
 use Rattle.p3l_program.specs.Chosen.{HasCostText, HasCosts, HasCounts, HasNoCosts, HasTooFew, IsAllotted, IsPriced}
 use Rattle.p3l_program.specs.File.{HasFault, HasProgram, HasText, Holds, IsTooLong}
-use Rattle.p3l_program.specs.Network.{HasNetwork, network_of}
+use Rattle.p3l_program.specs.Image.{HasBytes, IsBrokenImage, IsImage, IsNoImage, IsRunnableImage}
+use Rattle.p3l_program.specs.Network.{HasNetwork, HaveTexts, IsNetworkOf, Texts}
+use Rattle.p3l_program.specs.Origin.{Origin, built, imaged}
 use Rattle.p3l_program.specs.Scheduled.{HasNoPicks, HasPicks}
-use Rattle.p3l_program.specs.Stage.{AllPass, IsRefusedBy, Passes, Refuses, Stage, fitting, priced, readable, resolved, scheduled, spelled, there}
+use Rattle.p3l_program.specs.Stage.{AllPass, IsRefusedBy, Passes, Refuses, Stage, certified, fitting, priced, readable, resolved, scheduled, spelled, there, decoded, loaded, traced}
+use Rattle.p3l_program.specs.TraceFile.{HasNoTrace, HasTrace}
 use Rattle.p3l_program.specs.World.{Change, HasRisen}
 
 -- a stage that refuses, whatever stages come behind it
@@ -41,6 +50,10 @@ refused_behind files (stage ∷ stages) more r p h = inr (p.0, refused_behind fi
 pub passed_both : (files : Change Held) (stages more : List Stage) → AllPass files stages → AllPass files more → AllPass files (stages ++ more)
 passed_both files [] more p q = q
 passed_both files (stage ∷ stages) more p q = (p.0, passed_both files stages more p.1 q)
+
+-- the texts of what is run
+abbrev texts_with : List ℕ → Option (List ℕ) → Texts
+texts_with text said = record { text = text; said = said }
 
 module _ (files : Option Held) (held : Held) (told : files ≡ Some held) where
   -- one text is held
@@ -92,18 +105,42 @@ module _ (files : Option Held) (held : Held) (told : files ≡ Some held) where
       subst (λ t. IsAllotted t has.said build.processors r cs counts) (same_text build.program none.text has.text none.has.holds has.has.holds) has.allotted in
       none.refused.never r cs counts (subst (λ s. IsAllotted none.text s build.processors r cs counts) said moved)
 
+  -- bytes that spell an image are not refused as none
+  decoded_once : (name : List ℕ) (i : Image) (e : Evidence) → HasBytes files name (IsImage i) → HasBytes files name (IsNoImage e) → ⊥
+  decoded_once name i e has none = none.are.never i (subst (λ b. IsImage i b) (same_text name none.bytes has.bytes none.has.holds has.has.holds) has.are)
+
+  -- nor those of one that can be run as one that can't
+  loaded_once : (name : List ℕ) (i : Image) (e : Evidence) → HasBytes files name (IsRunnableImage i) → HasBytes files name (IsBrokenImage e) → ⊥
+  loaded_once name i e has none = none.are.never i (subst (λ b. IsRunnableImage i b) (same_text name none.bytes has.bytes none.has.holds has.has.holds) has.are)
+
+  -- what is run has one list of texts
+  same_texts : (origin : Origin) (texts others : Texts) → HaveTexts files origin texts → HaveTexts files origin others → texts ≡ others
+  same_texts (built build) texts others a b =
+      ap (λ t. texts_with t texts.said) (same_text build.program others.text texts.text b.0.holds a.0.holds)
+      ∙ ap (λ s. texts_with others.text s) (same_said build.costs others.said texts.said b.1 a.1)
+  same_texts (imaged name) texts others a b =
+      ap (λ t. texts_with t texts.said) (same_text name others.text texts.text b.0.holds a.0.holds) ∙ ap (λ s. texts_with others.text s) (a.1 ∙ sym b.1)
+
   -- where a file has picks for the network it is not refused
-  scheduled_once : (build : Build) (name : List ℕ) (n : Network) (s : Schedule) (refused : PickRefusal) → HasNetwork files build n → HasPicks files (size_of n) name s → HasNoPicks files build name refused → ⊥
-  scheduled_once build name n s refused has reads none =
-      let h = has.has in
-      let said : h.said ≡ none.said = same_said build.costs none.said h.said none.says h.says in
-      let moved : IsAllotted none.text h.said build.processors has.r has.cs has.counts =
-      subst (λ t. IsAllotted t h.said build.processors has.r has.cs has.counts) (same_text build.program none.text h.text none.has.holds h.has.holds) h.allotted in
-      let allotted : IsAllotted none.text none.said build.processors has.r has.cs has.counts = subst (λ t. IsAllotted none.text t build.processors has.r has.cs has.counts) said moved in
-      let here : Reads reads.text (size_of (network_of has.r has.counts build.capacity)) (Ok reads.picks) = subst (λ m. Reads reads.text (size_of m) (Ok reads.picks)) has.network_is reads.reads in
-      let read : Reads none.picks (size_of (network_of has.r has.counts build.capacity)) (Ok reads.picks) =
-      subst (λ t. Reads t (size_of (network_of has.r has.counts build.capacity)) (Ok reads.picks)) (same_text name none.picks reads.text none.held.holds reads.has.holds) here in
-      none.refused.never has.r has.cs has.counts reads.picks allotted read
+  scheduled_once : (origin : Origin) (name : List ℕ) (n : Network) (s : Schedule) (refused : PickRefusal) → HasNetwork files origin n → HasPicks files (size_of n) name s → HasNoPicks files origin name refused → ⊥
+  scheduled_once origin name n s refused has reads none =
+      let is : IsNetworkOf origin none.texts n = subst (λ t. IsNetworkOf origin t n) (same_texts origin has.texts none.texts has.have none.have) has.is in
+      let read : Reads none.picks (size_of n) (Ok reads.picks) = subst (λ t. Reads t (size_of n) (Ok reads.picks)) (same_text name none.picks reads.text none.held.holds reads.has.holds) reads.reads in
+      none.refused.never n reads.picks is read
+
+  -- a certificate that holds is not refused
+  certified_once : (program : List ℕ) (costs : Option (List ℕ)) (name : List ℕ) (r : ResolvedTree) (cs : Costs) (cert : Cert) (shown : Evidence) → HasCert files program costs name r cs cert → HasNoCert files program costs name shown → ⊥
+  certified_once program costs name r cs cert shown has none =
+      let said : has.said ≡ none.said = same_said costs none.said has.said none.says has.says in
+      let text : has.text ≡ none.text = same_text program none.text has.text none.has.holds has.has.holds in
+      let written : has.written ≡ none.written = same_text name none.written has.written none.held.holds has.held.holds in
+      let one : IsCertified none.text has.said has.written r cs cert = subst (λ t. IsCertified t has.said has.written r cs cert) text has.certified in
+      let two : IsCertified none.text none.said has.written r cs cert = subst (λ s. IsCertified none.text s has.written r cs cert) said one in
+      none.refused.never r cs cert (subst (λ t. IsCertified none.text none.said t r cs cert) written two)
+
+  -- where a file has a trace it is not refused
+  traced_once : (name : List ℕ) (t : Traced) (line : ℕ) → HasTrace files name t → HasNoTrace files name line → ⊥
+  traced_once name t line has none = none.none.no_trace t has.fits (sym (same_text name none.text has.text none.has.holds has.has.holds) ∙ has.spelled)
 
 module _ (files : Change Held) (held : Held) (told : files.old ≡ Some held) (calm : HasRisen files → ⊥) where
   -- a stage that is passed refuses nothing
@@ -115,8 +152,12 @@ module _ (files : Change Held) (held : Held) (told : files.old ≡ Some held) (c
   passed_stage (resolved name) (refusal.Source fault pos) p h = accepted_once files.old held told name p.0 fault pos p.1 h
   passed_stage (priced program costs) (refusal.Costs fault) p h = priced_once files.old held told program costs p.0 p.1 fault p.2 h
   passed_stage (fitting build) (refusal.TooFew need) p h = fitting_once files.old held told build p.0 p.1 p.2 need p.3 h
-  passed_stage (scheduled build name) (refusal.BadPick line) p h = scheduled_once files.old held told build name p.0 p.1 (picks.BadPick line) p.2 p.3 h
-  passed_stage (scheduled build name) (refusal.NoSuchProcess line pick count) p h = scheduled_once files.old held told build name p.0 p.1 (picks.NoSuchProcess line pick count) p.2 p.3 h
+  passed_stage (decoded name) (refusal.Evidence evidence) p h = decoded_once files.old held told name p.0 evidence p.1 h
+  passed_stage (loaded name) (refusal.Evidence evidence) p h = loaded_once files.old held told name p.0 evidence p.1 h
+  passed_stage (scheduled origin name) (refusal.BadPick line) p h = scheduled_once files.old held told origin name p.0 p.1 (picks.BadPick line) p.2 p.3 h
+  passed_stage (scheduled origin name) (refusal.NoSuchProcess line pick count) p h = scheduled_once files.old held told origin name p.0 p.1 (picks.NoSuchProcess line pick count) p.2 p.3 h
+  passed_stage (certified program costs name) (refusal.Evidence shown) p h = certified_once files.old held told program costs name p.0 p.1 p.2 shown p.3 h
+  passed_stage (traced name) (refusal.Evidence (evidence.BadLine line)) p h = traced_once files.old held told name p.0 line p.1 h
   passed_stage stage r p h = absurd h
 
   -- a stage refuses with one status
@@ -129,10 +170,14 @@ module _ (files : Change Held) (held : Held) (told : files.old ≡ Some held) (c
   refused_stage (resolved name) (refusal.Source fault pos) (refusal.Source other at) h k = refl
   refused_stage (priced program costs) (refusal.Costs fault) (refusal.Costs other) h k = refl
   refused_stage (fitting build) (refusal.TooFew need) (refusal.TooFew other) h k = refl
-  refused_stage (scheduled build name) (refusal.BadPick line) (refusal.BadPick other) h k = refl
-  refused_stage (scheduled build name) (refusal.BadPick line) (refusal.NoSuchProcess other pick count) h k = refl
-  refused_stage (scheduled build name) (refusal.NoSuchProcess line pick count) (refusal.BadPick other) h k = refl
-  refused_stage (scheduled build name) (refusal.NoSuchProcess line pick count) (refusal.NoSuchProcess other one of) h k = refl
+  refused_stage (decoded name) (refusal.Evidence evidence) (refusal.Evidence other) h k = refl
+  refused_stage (loaded name) (refusal.Evidence evidence) (refusal.Evidence other) h k = refl
+  refused_stage (scheduled origin name) (refusal.BadPick line) (refusal.BadPick other) h k = refl
+  refused_stage (scheduled origin name) (refusal.BadPick line) (refusal.NoSuchProcess other pick count) h k = refl
+  refused_stage (scheduled origin name) (refusal.NoSuchProcess line pick count) (refusal.BadPick other) h k = refl
+  refused_stage (scheduled origin name) (refusal.NoSuchProcess line pick count) (refusal.NoSuchProcess other one of) h k = refl
+  refused_stage (certified program costs name) (refusal.Evidence shown) (refusal.Evidence other) h k = refl
+  refused_stage (traced name) (refusal.Evidence (evidence.BadLine line)) (refusal.Evidence (evidence.BadLine other)) h k = refl
   refused_stage stage r other h k = absurd (search (h, k))
 
   -- where all stages pass none refuses

@@ -29,10 +29,11 @@ no_canonical text (source.At fault pos) within only first = record { first = fir
 no_canonical text source.NoMemory within only first = tt
 
 -- stages that don't pass, where nothing was touched
-pub not_loaded : (w : World) (stages : List Stage) (Ends : Finish → Option Stats → Type 0) (Begins : Type 0) (v : Verdict) → IsStill w.input → IsStill w.out → IsNotLoaded w.files stages v → IsDueWith w stages Ends Begins v
-not_loaded w stages Ends Begins (verdict.Refused r) input out h = record { by = h.0; untouched = record { input = input; out = out }; files = h.1 }
-not_loaded w stages Ends Begins verdict.NoMemory input out h = inl (record { input = input; out = out })
-not_loaded w stages Ends Begins v input out h = absurd h
+pub not_loaded : (w : World) (stages : List Stage) (Ends : Finish → Option Stats → Type 0) (Begins Unsaved : Type 0) (v : Verdict) → IsStill w.input → IsStill w.out → IsNotLoaded w.files stages v →
+    IsDueWith w stages Ends Begins Unsaved v
+not_loaded w stages Ends Begins Unsaved (verdict.Refused r) input out h = record { by = h.0; untouched = record { input = input; out = out }; files = h.1 }
+not_loaded w stages Ends Begins Unsaved verdict.NoMemory input out h = inl (record { input = input; out = out })
+not_loaded w stages Ends Begins Unsaved v input out h = absurd h
 
 -- a text that spells no program stops the stages of `fmt` at their second
 pub not_formatted : (files : Change Held) (name text : List ℕ) (fault : Fault) (pos : Pos) → HasText files.old text_limit name text → IsFaulty text fault pos → IsCalm files →
@@ -43,7 +44,7 @@ not_formatted files name text fault pos has faulty calm =
 module _ (files : Change Held) (out : Change (List ℕ)) (stages : List Stage) (IsText : List ℕ → Type 0) where
   -- stages that don't pass
   pub text_refused : (v : Verdict) → IsStill out → IsNotLoaded files stages v → IsTextDue files out stages IsText v
-  text_refused v still h input quiet = not_loaded (world files input out) stages (EndsText (world files input out) IsText) (BeginsText (world files input out) IsText) v quiet still h
+  text_refused v still h input quiet = not_loaded (world files input out) stages (EndsText (world files input out) IsText) (BeginsText (world files input out) IsText) ⊥ v quiet still h
 
   -- a text that was written behind stages that pass
   pub text_due : (text : List ℕ) (v : Verdict) → IsCalm files → AllPass files stages → IsText text → IsWritten out text v → IsTextDue files out stages IsText v
@@ -56,8 +57,7 @@ module _ (files : Change Held) (out : Change (List ℕ)) (stages : List Stage) (
   }
   text_due text verdict.WriteFault calm passed is h input still = record {
     begun = record { passed = passed; begins = record { text = text; is = is; begun = h.0; input = still } };
-    files = calm;
-    out = h.1;
+    fault = inl (record { files = calm; out = h.1 });
   }
   text_due text verdict.NoMemory calm passed is h input still = inr (record {
     passed = passed;

@@ -1,8 +1,7 @@
 -- What the program answers, writes and says, and why.
-use Rattle.std.specs.Prelude.{◌≡◌, ℕ, List, ◌++◌, ◌⊎◌, Option, Some}
+use Rattle.std.specs.Prelude.{◌≡◌, ◌≢◌, ℕ, List, [], ◌++◌, ◌⊎◌, Option, Some}
 use Rattle.clap.specs.Words.{Text}
 use Rattle.p3l_io.specs.Told.{Held}
-use Rattle.p3l_opts.specs.declared.command.Build.{Build}
 use Rattle.p3l_opts.specs.declared.command.Command.{Command}
 use Rattle.p3l_opts.specs.declared.command.Sched.{Sched}
 use Rattle.p3l_opts.specs.Command.{Spells}
@@ -14,12 +13,14 @@ use Rattle.p3l_report.specs.declared.verdict.Verdict.{Verdict}
 use Rattle.p3l_report.specs.declared.verdict.Verdict.TheVariants as verdict
 use Rattle.p3l_report.specs.Line.{stats_line}
 use Rattle.p3l_report.specs.Verdict.{finish_status, lines_of, refusal_status, status_of}
-use Rattle.p3l_program.specs.Command.{Begins, Ends, IsDueOf, IsWhole, file_of, stages_of}
+use Rattle.p3l_program.specs.Command.{Begins, Ends, IsDueOf, IsWhole, file_of, stages_of, written_of, limit_of}
 use Rattle.p3l_program.specs.Due.{IsBegun, IsEnd}
 use Rattle.p3l_program.specs.Run.{Emits}
+use Rattle.p3l_program.specs.Saved.{KeepsBut, KeepsFiles}
 use Rattle.p3l_program.specs.Stage.{IsRefusedBy}
-use Rattle.p3l_program.specs.File.{IsTooLong, text_limit}
-use Rattle.p3l_program.specs.World.{Change, HasRisen, IsCalm, IsUntouched, World}
+use Rattle.p3l_program.specs.File.{IsTooLong}
+use Rattle.p3l_program.specs.World.{Change, HasRisen, IsStill, IsUntouched, World}
+use Rattle.p3l_program.specs.Origin.{Origin}
 
 -- the words spell no command
 abbrev pub SpellsNone : List Text → Type 0
@@ -30,18 +31,20 @@ pub record IsAsked (words : List Text) (w : World) (v : Verdict) : Type 0 where
   pub command : Command
   pub spelled : Spells words command
   pub due : IsDueOf w command v
+  pub kept : KeepsFiles w.files (written_of command) v
 
 -- they spell none, and the verdict says so
 pub record IsUsage (words : List Text) (w : World) (v : Verdict) : Type 0 where
   pub verdict_is : v ≡ verdict.Refused refusal.Usage
   pub none : SpellsNone words
   pub untouched : IsUntouched w
-  pub files : IsCalm w.files
+  pub files : IsStill w.files
 
 -- memory for reading them was wanting
 pub record IsUnread (w : World) (v : Verdict) : Type 0 where
   pub verdict_is : v ≡ verdict.NoMemory
   pub untouched : IsUntouched w
+  pub kept : w.files.new ≡ w.files.old
 
 -- why a verdict is due
 abbrev pub IsDue : List Text → World → Verdict → Type 0
@@ -73,12 +76,13 @@ pub record IsRefusedAt (words : List Text) (files : Change Held) (refused : Refu
   pub spelled : Spells words command
   pub by : IsRefusedBy files (stages_of command) refused
 
--- the words spell no command, or a stage of the one that they spell refuses; nothing was touched
+-- the words spell no command, or a stage of the one that they spell refuses; nothing was touched, and no file changed
 pub record IsRefusedWith (words : List Text) (w : World) (status : ℕ) : Type 0 where
   pub refused : Refusal
   pub status_is : refusal_status refused ≡ status
   pub by : ((refused ≡ refusal.Usage) × SpellsNone words) ⊎ IsRefusedAt words w.files refused
   pub untouched : IsUntouched w
+  pub kept : w.files.new ≡ w.files.old
 
 -- the command that the words spell came to an end of this status
 pub record IsEndedWith (words : List Text) (w : World) (status : ℕ) : Type 0 where
@@ -89,17 +93,29 @@ pub record IsEndedWith (words : List Text) (w : World) (status : ℕ) : Type 0 w
   pub status_is : finish_status finish ≡ status
   pub end : IsEnd w (stages_of command) (Ends w command finish stats)
 
+-- the words spell a command that writes files
+pub record SpellsWriter (words : List Text) : Type 0 where
+  pub command : Command
+  pub spelled : Spells words command
+  pub writes : written_of command ≢ []
+
+-- no file was changed but those that the command writes that the words spell
+pub record KeepsOthers (words : List Text) (files : Change Held) : Type 0 where
+  pub command : Command
+  pub spelled : Spells words command
+  pub kept : KeepsBut files (written_of command)
+
 -- the file that the words name is longer than the limit
 pub record HasTooLong (words : List Text) (files : Option Held) : Type 0 where
   pub command : Command
   pub spelled : Spells words command
   pub name : List ℕ
   pub name_is : file_of command ≡ Some name
-  pub longer : IsTooLong files text_limit name
+  pub longer : IsTooLong files (limit_of command) name
 
 -- the line of the numbers comes first on the standard error, and they are those of the run
-pub record Reports (w : World) (build : Build) (asked : Sched) (said : List ℕ) (err : Option (List ℕ)) : Type 0 where
+pub record Reports (w : World) (origin : Origin) (asked : Sched) (said : List ℕ) (err : Option (List ℕ)) : Type 0 where
   pub numbers : Stats
   pub more : List ℕ
   pub line : err ≡ Some (said ++ (stats_line numbers ++ more))
-  pub emits : Emits w build asked numbers
+  pub emits : Emits w origin asked numbers

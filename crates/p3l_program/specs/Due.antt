@@ -26,15 +26,19 @@ pub record IsBegun (w : World) (stages : List Stage) (Begins : Type 0) : Type 0 
   pub passed : AllPass w.files stages
   pub begins : Begins
 
--- writing failed then
-pub record IsWriteFault (w : World) (stages : List Stage) (Begins : Type 0) : Type 0 where
-  pub begun : IsBegun w stages Begins
+-- the output could not be written
+pub record IsPutFault (w : World) : Type 0 where
   pub files : IsCalm w.files
   pub out : HasRisen w.out
 
--- a verdict is due of a command with these stages, by what its end and its beginning mean
-abbrev pub IsDueWith : World → List Stage → (Finish → Option Stats → Type 0) → Type 0 → Verdict → Type 0
-IsDueWith w stages Ends Begins (verdict.Refused refused) = IsRefusal w stages refused
-IsDueWith w stages Ends Begins (verdict.Ended finish stats) = IsEnd w stages (Ends finish stats)
-IsDueWith w stages Ends Begins verdict.WriteFault = IsWriteFault w stages Begins
-IsDueWith w stages Ends Begins verdict.NoMemory = IsUntouched w ⊎ IsBegun w stages Begins
+-- writing failed then: of the output, or of a file, by when so much holds
+pub record IsWriteFault (w : World) (stages : List Stage) (Begins Unsaved : Type 0) : Type 0 where
+  pub begun : IsBegun w stages Begins
+  pub fault : IsPutFault w ⊎ (Unsaved × HasRisen w.files)
+
+-- a verdict is due of a command with these stages, by what its end, its beginning and a file of it that could not be written mean
+abbrev pub IsDueWith : World → List Stage → (Finish → Option Stats → Type 0) → (Begins Unsaved : Type 0) → Verdict → Type 0
+IsDueWith w stages Ends Begins Unsaved (verdict.Refused refused) = IsRefusal w stages refused
+IsDueWith w stages Ends Begins Unsaved (verdict.Ended finish stats) = IsEnd w stages (Ends finish stats)
+IsDueWith w stages Ends Begins Unsaved verdict.WriteFault = IsWriteFault w stages Begins Unsaved
+IsDueWith w stages Ends Begins Unsaved verdict.NoMemory = IsUntouched w ⊎ IsBegun w stages Begins

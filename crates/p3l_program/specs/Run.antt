@@ -1,7 +1,6 @@
--- The command `run`: a program run on the input.
+-- The commands `run` and `exec`: a program, or an image, run on the input.
 use Rattle.std.specs.Prelude.{◌≡◌, ℕ, ℤ, ◌*◌, ◌≤◌, Bool, true, false, nat_le, List, [], ◌++◌, ◌⊎◌, length, take, Err, Option, Some, None, if◌then◌else◌}
 use Rattle.p3l_io.specs.Told.{Held}
-use Rattle.p3l_opts.specs.declared.command.Build.{Build}
 use Rattle.p3l_opts.specs.declared.command.Sched.{Sched}
 use Rattle.p3l_opts.specs.declared.command.Sched.TheVariants as sched
 use Rattle.p3l_report.specs.declared.stats.Stats.{Stats}
@@ -27,6 +26,7 @@ use Rattle.p3l_stream.specs.Text.{text_of}
 use Rattle.p3l_program.specs.Due.{IsDueWith}
 use Rattle.p3l_program.specs.File.{HasText}
 use Rattle.p3l_program.specs.Network.{HasNetwork}
+use Rattle.p3l_program.specs.Origin.{Origin}
 use Rattle.p3l_program.specs.Scheduled.{HasSchedule, picks_limit}
 use Rattle.p3l_program.specs.Stage.{FilesCause, Refuses, readable, run_stages}
 use Rattle.p3l_program.specs.World.{Change, HasRisen, IsCalm, IsStill, World}
@@ -37,41 +37,41 @@ shown true numbers = Some numbers
 shown false numbers = None
 
 -- the network and the schedule that files and words ask for
-pub record HasRun (files : Option Held) (build : Build) (asked : Sched) (n : Network) (s : Schedule) : Type 0 where
-  pub network : HasNetwork files build n
+pub record HasRun (files : Option Held) (origin : Origin) (asked : Sched) (n : Network) (s : Schedule) : Type 0 where
+  pub network : HasNetwork files origin n
   pub schedule : HasSchedule files (size_of n) asked s
 
--- the program was run to this end, with these numbers
-pub record EndsRun (w : World) (build : Build) (asked : Sched) (reported : Bool) (finish : Finish) (stats : Option Stats) : Type 0 where
+-- what is run was run to this end, with these numbers
+pub record EndsRun (w : World) (origin : Origin) (asked : Sched) (reported : Bool) (finish : Finish) (stats : Option Stats) : Type 0 where
   pub n : Network
   pub s : Schedule
-  pub has : HasRun w.files.old build asked n s
+  pub has : HasRun w.files.old origin asked n s
   pub numbers : Stats
   pub stats_are : stats ≡ shown reported numbers
   pub finishes : Finishes n s w.input.old w.input.new w.input.before w.input.now w.out.old w.out.new finish numbers
 
 -- it was run, and a front of the text of its meaning was written
-pub record BeginsRun (w : World) (build : Build) (asked : Sched) : Type 0 where
+pub record BeginsRun (w : World) (origin : Origin) (asked : Sched) : Type 0 where
   pub n : Network
   pub s : Schedule
-  pub has : HasRun w.files.old build asked n s
+  pub has : HasRun w.files.old origin asked n s
   pub starts : Starts n w.input.old w.input.new w.input.before w.input.now w.out.old w.out.new
 
 -- over an input and an output that tell: the whole input was taken, each of its lines is an item or has no words, and the whole
 -- text of the meaning of its items was written
-pub record RunsWhole (w : World) (build : Build) (rest taken : List ℕ) : Type 0 where
+pub record RunsWhole (w : World) (origin : Origin) (rest taken : List ℕ) : Type 0 where
   pub n : Network
-  pub has : HasNetwork w.files.old build n
+  pub has : HasNetwork w.files.old origin n
   pub input_ended : w.input.new ≡ Some []
   pub all_items : (items_of (width_of n) rest).ending ≡ ending.End
   pub taken_is : w.out.new ≡ Some (taken ++ text_of (meaning_of n (items_of (width_of n) rest).items))
 
 -- the text of what the network emits on these items under the schedule was written, with these numbers, of which the firings are
 -- at most so many for each item sent
-pub record Emits (w : World) (build : Build) (asked : Sched) (numbers : Stats) : Type 0 where
+pub record Emits (w : World) (origin : Origin) (asked : Sched) (numbers : Stats) : Type 0 where
   pub n : Network
   pub s : Schedule
-  pub has : HasRun w.files.old build asked n s
+  pub has : HasRun w.files.old origin asked n s
   pub items : List (List ℤ)
   pub put : HasPut w.out.old w.out.new (text_of (course_of n s items).state.emitted)
   pub bounded : numbers.fired ≤ n.firings * numbers.items
@@ -93,16 +93,16 @@ status_with n s seen = finish_status (finish_of n (course_of n s seen.items) see
 abbrev pub run_status : Network → Schedule → List ℕ → ℕ
 run_status n s rest = status_with n s (seen_of (width_of n) rest)
 
--- the program that the file spells is due to end with this status
-pub record IsRunStatus (w : World) (build : Build) (asked : Sched) (rest : List ℕ) (status : ℕ) : Type 0 where
+-- what is run is due to end with this status
+pub record IsRunStatus (w : World) (origin : Origin) (asked : Sched) (rest : List ℕ) (status : ℕ) : Type 0 where
   pub n : Network
   pub s : Schedule
-  pub has : HasRun w.files.old build asked n s
+  pub has : HasRun w.files.old origin asked n s
   pub status_is : status ≡ run_status n s rest
 
--- a verdict is due of the command
-abbrev pub IsRunDue : World → Build → Sched → Bool → Verdict → Type 0
-IsRunDue w build asked reported v = IsDueWith w (run_stages build asked) (EndsRun w build asked reported) (BeginsRun w build asked) v
+-- a verdict is due of the running of it
+abbrev pub IsRunDue : World → Origin → Sched → Bool → Verdict → Type 0
+IsRunDue w origin asked reported v = IsDueWith w (run_stages origin asked) (EndsRun w origin asked reported) (BeginsRun w origin asked) ⊥ v
 
 -- a text has no picks of so many processes
 abbrev pub IsBadPicks : List ℕ → ℕ → Refusal → Type 0

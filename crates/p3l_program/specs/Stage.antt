@@ -3,24 +3,34 @@ use Rattle.std.specs.Prelude.{◌≡◌, ℕ, List, [], ◌∷◌, ◌++◌, ◌
 use Rattle.p3l_ast.specs.Tree.{ProgramTree}
 use Rattle.p3l_io.specs.Told.{Held}
 use Rattle.p3l_cost.specs.declared.costs.Costs.{Costs}
+use Rattle.p3l_cert.specs.declared.cert.Cert.{Cert}
+use Rattle.p3l_image.specs.declared.image.Image.{Image}
 use Rattle.p3l_opts.specs.declared.command.Build.{Build}
 use Rattle.p3l_opts.specs.declared.command.Sched.{Sched}
 use Rattle.p3l_opts.specs.declared.command.Sched.TheVariants as sched
+use Rattle.p3l_report.specs.declared.evidence.Evidence.TheVariants as evidence
 use Rattle.p3l_report.specs.declared.verdict.Refusal.{Refusal}
 use Rattle.p3l_report.specs.declared.verdict.Refusal.TheVariants as refusal
 use Rattle.p3l_run.specs.Network.{Network, size_of}
 use Rattle.p3l_sched.specs.declared.refusal.PickRefusal.TheVariants as picks
 use Rattle.p3l_sched.specs.declared.schedule.Schedule.{Schedule}
+use Rattle.p3l_trace.specs.declared.trace.Traced.{Traced}
 use Rattle.p3l_check.specs.Resolving.{ResolvedTree}
 use Rattle.p3l_program.specs.Accepted.{HasNoTree, HasTree}
+use Rattle.p3l_program.specs.Certified.{HasCert, HasNoCert, cert_limit}
 use Rattle.p3l_program.specs.Chosen.{HasCosts, HasCounts, HasNoCosts, HasTooFew}
 use Rattle.p3l_program.specs.File.{HasFault, HasProgram, HasText, IsTooLong, text_limit}
+use Rattle.p3l_program.specs.Image.{HasBytes, IsBrokenImage, IsImage, IsNoImage, IsRunnableImage, image_limit}
 use Rattle.p3l_program.specs.Network.{HasNetwork}
+use Rattle.p3l_program.specs.Origin.{Origin, built, imaged}
 use Rattle.p3l_program.specs.Scheduled.{HasNoPicks, HasPicks, picks_limit}
+use Rattle.p3l_program.specs.TraceFile.{HasNoTrace, HasTrace}
 use Rattle.p3l_program.specs.World.{Change, HasRisen, IsCalm}
 
 -- the command is not there yet; the file of this name can be read, within its limit; its text spells a program; the program keeps all rules; the file of the second
--- name says costs of it; some counts fit the processors; the file of this name has picks for its network
+-- name says costs of it; some counts fit the processors; the bytes of the file spell an image; the image can be run; the file of this
+-- name has picks for the network of what is run; the file of the last name has a certificate that holds for a program and its costs;
+-- the file of this name spells a trace
 pub data Stage : Type 0 where
   there : Stage
   readable : ℕ → List ℕ → Stage
@@ -28,7 +38,11 @@ pub data Stage : Type 0 where
   resolved : List ℕ → Stage
   priced : List ℕ → List ℕ → Stage
   fitting : Build → Stage
-  scheduled : Build → List ℕ → Stage
+  decoded : List ℕ → Stage
+  loaded : List ℕ → Stage
+  scheduled : Origin → List ℕ → Stage
+  certified : List ℕ → Option (List ℕ) → List ℕ → Stage
+  traced : List ℕ → Stage
 
 -- the stage is passed
 abbrev pub Passes : Change Held → Stage → Type 0
@@ -38,7 +52,11 @@ Passes files (spelled name) = (program : ProgramTree) × HasProgram files.old na
 Passes files (resolved name) = (r : ResolvedTree) × HasTree files.old name r
 Passes files (priced program costs) = (r : ResolvedTree) × (cs : Costs) × HasCosts files.old program (Some costs) r cs
 Passes files (fitting build) = (r : ResolvedTree) × (cs : Costs) × (counts : List ℕ) × HasCounts files.old build r cs counts
-Passes files (scheduled build name) = (n : Network) × (s : Schedule) × HasNetwork files.old build n × HasPicks files.old (size_of n) name s
+Passes files (decoded name) = (i : Image) × HasBytes files.old name (IsImage i)
+Passes files (loaded name) = (i : Image) × HasBytes files.old name (IsRunnableImage i)
+Passes files (scheduled origin name) = (n : Network) × (s : Schedule) × HasNetwork files.old origin n × HasPicks files.old (size_of n) name s
+Passes files (certified program costs name) = (r : ResolvedTree) × (cs : Costs) × (cert : Cert) × HasCert files.old program costs name r cs cert
+Passes files (traced name) = (t : Traced) × HasTrace files.old name t
 
 -- the stage refuses so
 abbrev pub Refuses : Change Held → Stage → Refusal → Type 0
@@ -49,8 +67,12 @@ Refuses files (spelled name) (refusal.Source fault pos) = HasFault files.old nam
 Refuses files (resolved name) (refusal.Source fault pos) = HasNoTree files.old name fault pos
 Refuses files (priced program costs) (refusal.Costs fault) = HasNoCosts files.old program costs fault
 Refuses files (fitting build) (refusal.TooFew need) = HasTooFew files.old build need
-Refuses files (scheduled build name) (refusal.BadPick line) = HasNoPicks files.old build name (picks.BadPick line)
-Refuses files (scheduled build name) (refusal.NoSuchProcess line pick count) = HasNoPicks files.old build name (picks.NoSuchProcess line pick count)
+Refuses files (decoded name) (refusal.Evidence evidence) = HasBytes files.old name (IsNoImage evidence)
+Refuses files (loaded name) (refusal.Evidence evidence) = HasBytes files.old name (IsBrokenImage evidence)
+Refuses files (scheduled origin name) (refusal.BadPick line) = HasNoPicks files.old origin name (picks.BadPick line)
+Refuses files (scheduled origin name) (refusal.NoSuchProcess line pick count) = HasNoPicks files.old origin name (picks.NoSuchProcess line pick count)
+Refuses files (certified program costs name) (refusal.Evidence shown) = HasNoCert files.old program costs name shown
+Refuses files (traced name) (refusal.Evidence (evidence.BadLine line)) = HasNoTrace files.old name line
 Refuses files stage refused = ⊥
 
 -- all stages are passed
@@ -81,12 +103,28 @@ cost_stages program (Some costs) = readable text_limit costs ∷ (priced program
 abbrev pub build_stages : Build → List Stage
 build_stages build = program_stages build.program ++ (cost_stages build.program build.costs ++ fitting build ∷ [])
 
--- a file of picks is read, where one is named, and has picks for the network
-abbrev pub schedule_stages : Build → Sched → List Stage
-schedule_stages build sched.RoundRobin = []
-schedule_stages build (sched.Seeded seed) = []
-schedule_stages build (sched.File name) = readable picks_limit name ∷ (scheduled build name ∷ [])
+-- a file of a certificate is read, and its certificate holds for a program and its costs
+abbrev pub cert_stages : List ℕ → Option (List ℕ) → List ℕ → List Stage
+cert_stages program costs cert = readable cert_limit cert ∷ (certified program costs cert ∷ [])
 
--- what is run is built, and has a schedule
-abbrev pub run_stages : Build → Sched → List Stage
-run_stages build schedule = build_stages build ++ schedule_stages build schedule
+abbrev pub verify_stages : List ℕ → List ℕ → Option (List ℕ) → List Stage
+verify_stages program cert costs = program_stages program ++ (cost_stages program costs ++ cert_stages program costs cert)
+
+-- an image is read, spelled by its bytes, and can be run
+abbrev pub image_stages : List ℕ → List Stage
+image_stages name = readable image_limit name ∷ (decoded name ∷ (loaded name ∷ []))
+
+-- what is run is built or loaded
+abbrev pub origin_stages : Origin → List Stage
+origin_stages (built build) = build_stages build
+origin_stages (imaged name) = image_stages name
+
+-- a file of picks is read, where one is named, and has picks for the network
+abbrev pub schedule_stages : Origin → Sched → List Stage
+schedule_stages origin sched.RoundRobin = []
+schedule_stages origin (sched.Seeded seed) = []
+schedule_stages origin (sched.File name) = readable picks_limit name ∷ (scheduled origin name ∷ [])
+
+-- what is run is built or loaded, and has a schedule
+abbrev pub run_stages : Origin → Sched → List Stage
+run_stages origin schedule = origin_stages origin ++ schedule_stages origin schedule

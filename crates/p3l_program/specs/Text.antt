@@ -1,5 +1,5 @@
 -- Commands that write one text, and take nothing.
-use Rattle.std.specs.Prelude.{◌≡◌, ℕ, List, ◌++◌, Option, Some, None}
+use Rattle.std.specs.Prelude.{◌≡◌, ℕ, List, [], ◌++◌, Option, Some, None}
 use Rattle.p3l_report.specs.declared.stats.Stats.{Stats}
 use Rattle.p3l_report.specs.declared.verdict.Finish.{Finish}
 use Rattle.p3l_report.specs.declared.verdict.Finish.TheVariants as finishes
@@ -7,6 +7,10 @@ use Rattle.p3l_report.specs.declared.verdict.Verdict.{Verdict}
 use Rattle.p3l_report.specs.declared.verdict.Verdict.TheVariants as verdict
 use Rattle.p3l_run.specs.Write.{HasBegun, HasPut}
 use Rattle.p3l_program.specs.World.{Change, HasRisen, IsCalm, IsStill, World}
+
+-- the text of a command that writes none
+abbrev pub IsNothing : List ℕ → Type 0
+IsNothing text = text ≡ []
 
 -- such a text was written, and nothing was taken
 pub record EndsText (w : World) (IsText : List ℕ → Type 0) (finish : Finish) (stats : Option Stats) : Type 0 where

@@ -3,13 +3,23 @@
 #![tactic(auto)]
 
 mod accept;
+pub mod alike;
+mod cert;
+pub mod certify;
 pub mod check;
+pub mod check_trace;
+pub mod compile;
 mod costs;
+pub mod exec;
 pub mod explain;
 mod file;
 pub mod fmt;
+mod image;
 mod load;
 pub mod run;
+mod running;
+mod save;
 mod schedule;
 mod text;
 pub mod top;
+pub mod verify;

@@ -1,18 +1,17 @@
 // The command `run`: a program of a file, run on the input under a schedule.
 
 ghost use Rattle.std.specs.Prelude.{◌≡◌, ◌≤◌};
-ghost use Rattle.p3l_skel.specs.Tree.{node_at};
 ghost use Rattle.p3l_check.specs.Resolving.{ResolvedTree};
 ghost use Rattle.p3l_program.specs.Accepted.{IsCompiled};
 ghost use Rattle.p3l_program.specs.Load.{IsReady};
 ghost use Rattle.p3l_program.specs.Network.{network_of};
-ghost use Rattle.p3l_program.specs.Run.{IsRunDue, IsRunOf, shown};
-ghost use Rattle.p3l_report.specs.declared.verdict.Verdict.TheVariants as verdict;
+ghost use Rattle.p3l_program.specs.Origin.{built};
+ghost use Rattle.p3l_program.specs.Run.{IsRunDue, IsRunOf};
 ghost use Rattle.p3l_program.specs.World.{change, world};
 
 use crate::accept::Accepted;
 use crate::load::{Loaded, load};
-use crate::schedule::load_schedule;
+use crate::running::{run_network, width_of};
 use p3l_compile::table_of;
 use p3l_io::{Files, Sink, Source};
 use p3l_link::laws::every_linked_net_is_carried;
@@ -20,31 +19,8 @@ use p3l_link::link;
 use p3l_model::firings;
 use p3l_opts::{Build, Sched};
 use p3l_report::Verdict;
-use p3l_run::run::run as run_plan;
-use p3l_run::{Plan, Ran};
-use p3l_skel::Tree;
+use p3l_run::Plan;
 use std::alloc::Global;
-
-/// How many words an item of a tree has.
-fn width_of(tree: &Tree) -> u32
-    ensures { result ≡ (node_at tree.now 0).ins }
-{
-    match tree.node(0) {
-        Some(root) => root.ins,
-        None => 0,
-    }
-}
-
-/// The verdict of a run that came to its end, whose numbers are to be reported or not.
-fn ended(ran: Ran, reported: bool) -> Verdict
-    ensures { result ≡ verdict.Ended ran.finish (shown reported ran.stats) }
-{
-    if reported {
-        Verdict::Ended(ran.finish, Some(ran.stats))
-    } else {
-        Verdict::Ended(ran.finish, None)
-    }
-}
 
 /// Runs the network of a program on the items of the input, and writes each value as it comes out.
 fn run_loaded<F: Files, S: Source, K: Sink>(
@@ -77,10 +53,6 @@ fn run_loaded<F: Files, S: Source, K: Sink>(
     let Ok(net) = link(alloc, &tree, &counts, capacity) else {
         return Verdict::NoMemory;
     };
-    let schedule = match load_schedule(alloc, asked, net.procs.len() as u32, files) {
-        Ok(schedule) => schedule,
-        Err(verdict) => return verdict,
-    };
     let plan = Plan {
         tree: &tree,
         units: &units,
@@ -88,10 +60,7 @@ fn run_loaded<F: Files, S: Source, K: Sink>(
         firings: firings(&tree, &counts),
         width: width_of(&tree),
     };
-    match run_plan(alloc, plan, schedule, input, out) {
-        Err(fault) => Verdict::from(fault),
-        Ok(ran) => ended(ran, reported),
-    }
+    run_network(alloc, plan, asked, reported, files, input, out)
 }
 
 /// Runs the program of a file on the input; its numbers are to be reported or not.
@@ -106,7 +75,7 @@ pub fn run<F: Files, S: Source, K: Sink>(
 ) -> Verdict
     requires processors { (1 ≤ build.processors) × (build.processors ≤ 512) }
     requires capacity { (1 ≤ build.capacity) × (build.capacity ≤ 1024) }
-    ensures due { IsRunDue (world (change F.held F.faults files.old files.new) (change S.rest S.faults input.old input.new) (change K.taken K.faults out.old out.new)) build asked reported result }
+    ensures due { IsRunDue (world (change F.held F.faults files.old files.new) (change S.rest S.faults input.old input.new) (change K.taken K.faults out.old out.new)) (built build) asked reported result }
     ensures stays { F.held files.new ≡ F.held files.old }
 {
     let capacity = build.capacity;

@@ -1,7 +1,8 @@
-use Rattle.std.proofs.Common.{subst, ◌∙◌}
+use Rattle.std.proofs.Common.{[], ◌∷◌, subst, ◌∙◌}
 use Rattle.p3l_alloc.specs.Chosen.{IsRefused}
 use Rattle.p3l_program.specs.Chosen.{HasCostText}
 use Rattle.p3l_program.specs.Load.{IsCostless}
+use Rattle.p3l_program.specs.Stage.{fitting}
 use Rattle.p3l_program.specs.World.{change}
 use Rattle.p3l_program.proofs.LoadSteps.{costless, same_change, too_few}
 use Rattle.p3l_program.proofs.load.load.Goals as goal
@@ -13,7 +14,7 @@ returns-in-Err-load_costs-clause-refused g c =
     let faults = g.F.Files.faults in
     let end = c.load_costs.new.files in
     let same = same_change (held c.load_program.new.files) (held c.args.files.now) (held end) (faults c.load_program.new.files) (faults c.args.files.now) (faults end) c.load_program.ensures.stays c.in-Ok.ensures.calm in
-    costless (change held faults c.args.files.now end) c.args.build loaded.r c.in-Ok.program loaded.is.text loaded.is.has loaded.is.comes c.in-Err-load_costs.verdict
+    costless (change held faults c.args.files.now end) c.args.build.program loaded.r c.in-Ok.program loaded.is.text loaded.is.has loaded.is.comes c.args.build.costs (fitting c.args.build ∷ []) c.in-Err-load_costs.verdict
     (subst (λ files. IsCostless files c.args.build.costs c.in-Ok.program.tree c.in-Err-load_costs.verdict) same c.in-Err-load_costs.ensures.refused)
 
 pub returns-in-Err-TooFew-clause-refused : goal.returns-in-Err-TooFew-clause-refused

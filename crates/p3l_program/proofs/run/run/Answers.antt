@@ -1,9 +1,10 @@
 use Rattle.std.proofs.Common.{subst}
 use Rattle.p3l_program.specs.Network.{network_of}
+use Rattle.p3l_program.specs.Origin.{built}
 use Rattle.p3l_program.specs.Run.{IsRunOf}
 use Rattle.p3l_program.specs.World.{change}
-use Rattle.p3l_program.proofs.LoadSteps.{has_network, loaded_passes, same_change}
-use Rattle.p3l_program.proofs.OnceSteps.{no_picks}
+use Rattle.p3l_program.proofs.LoadSteps.{is_built, loaded_passes, same_change}
+use Rattle.p3l_program.proofs.OnceSteps.{only_built}
 use Rattle.p3l_program.proofs.RunSteps.{run_due}
 use Rattle.p3l_program.proofs.run.run.Goals as goal
 
@@ -20,5 +21,5 @@ returns-in-Ok-clause-due g c =
     let net = network_of loads.r loaded.choice.counts.list c.args.build.capacity in
     let same = same_change (held c.load.new.files) (held c.args.files.now) (held end) (faults c.load.new.files) (faults c.args.files.now) (faults end) c.load.ensures.stays c.in-Ok.ensures.calm in
     let ran = subst (λ f. IsRunOf net f input out c.args.asked c.args.reported c.run_loaded.result) same (c.run_loaded.ensures.ran loads.r loads.is.comes.compiled) in
-    run_due files input out c.args.build net (has_network c.args.build loads.r loaded (held c.args.files.now) loads.is) (loaded_passes c.args.build loads.r loaded files loads.is)
-    (no_picks (held c.args.files.now) c.args.build loads.r loaded loads.is) c.args.asked c.args.reported c.run_loaded.result ran
+    run_due files input out (built c.args.build) net (record { text = loads.is.text; said = loads.is.said }) (loads.is.has, loads.is.says) (is_built c.args.build loads.r loaded (held c.args.files.now) loads.is)
+    (loaded_passes c.args.build loads.r loaded files loads.is) (only_built (held c.args.files.now) c.args.build loads.r loaded loads.is) c.args.asked c.args.reported c.run_loaded.result ran

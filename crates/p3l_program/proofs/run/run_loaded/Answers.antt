@@ -2,13 +2,16 @@ use Rattle.std.proofs.Common.{◌≤◌, subst, sym}
 use Rattle.p3l_skel.specs.Counts.{HasLawfulCounts}
 use Rattle.p3l_skel.specs.Lawful.{IsLawfulTree}
 use Rattle.p3l_skel.specs.Tree.{GivesOuts}
+use Rattle.p3l_compile.specs.Leaves.{AreBodies}
 use Rattle.p3l_units.specs.Table.{leaf}
 use Rattle.p3l_units.specs.laws.Leaf.{gives_outs}
-use Rattle.p3l_program.proofs.SoundSteps.{some_words, sound}
+use Rattle.p3l_program.specs.Run.{IsRunOf}
+use Rattle.p3l_program.specs.World.{change}
+use Rattle.p3l_program.proofs.SoundSteps.{compiled_network, some_words, sound}
 use Rattle.p3l_program.proofs.run.run_loaded.Goals as goal
 
-pub run-requires-clause-sound : goal.run-requires-clause-sound
-run-requires-clause-sound g c =
+pub run_network-requires-clause-sound : goal.run_network-requires-clause-sound
+run_network-requires-clause-sound g c =
     let ready = c.requires.ready in
     let tree = c.args.loaded.program.tree in
     let counts = c.args.loaded.choice.counts.list in
@@ -18,8 +21,20 @@ run-requires-clause-sound g c =
     sound c.every_linked_net_is_carried.ensures tree (leaf c.in-Ok.units) counts c.args.capacity c.in-Ok-link.net c.firings.result lawful fit c.requires.some gives
     c.in-Ok-link.ensures.net c.in-Ok-link.ensures.typed c.firings.ensures.number
 
-pub run-requires-clause-wide : goal.run-requires-clause-wide
-run-requires-clause-wide g c =
+pub run_network-requires-clause-wide : goal.run_network-requires-clause-wide
+run_network-requires-clause-wide g c =
     let compiled = c.requires.ready.compiled in
     let lawful = subst (λ t. IsLawfulTree t) (sym compiled.tree_is) compiled.lawful in
     subst (λ n. 1 ≤ n) (sym c.width_of.ensures) (some_words c.args.loaded.program.tree lawful)
+
+pub returns-clause-ran : goal.returns-clause-ran
+returns-clause-ran g c = λ r compiled.
+    let tree = c.args.loaded.program.tree in
+    let counts = c.args.loaded.choice.counts.list in
+    let files = change g.F.Files.held g.F.Files.faults c.args.files.now c.run_network.new.files in
+    let input = change g.S.Source.rest g.S.Source.faults c.args.input.now c.run_network.new.input in
+    let out = change g.K.Sink.taken g.K.Sink.faults c.args.out.now c.run_network.new.out in
+    let bodies = subst (λ t. AreBodies t r.seqs) (sym compiled.tree_is) compiled.bodies in
+    let same = compiled_network r tree (leaf c.in-Ok.units) c.in-Ok-link.net c.firings.result counts c.args.capacity compiled.tree_is (c.in-Ok.ensures.leaf r.seqs bodies compiled.codes)
+    c.in-Ok-link.ensures.net c.firings.ensures.number in
+    subst (λ n. IsRunOf n files input out c.args.asked c.args.reported c.run_network.result) same c.run_network.ensures.ran

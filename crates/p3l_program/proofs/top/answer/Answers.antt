@@ -2,10 +2,12 @@ use Rattle.p3l_report.specs.declared.verdict.Verdict.TheVariants as verdict
 use Rattle.p3l_program.proofs.DueSteps.{due_no_memory}
 use Rattle.p3l_program.proofs.top.answer.Goals as goal
 
-pub returns-clause-answers : goal.returns-clause-answers
-returns-clause-answers g c = record {
-  verdict = verdict.NoMemory;
-  status_is = c.status-in-Err.ensures;
-  due = due_no_memory _ _ c.perform-verdict.result c.perform-verdict.ensures.due;
-  says = c.put_no_memory.ensures.told;
+pub returns : goal.returns
+returns g c = record {
+  answers = record {
+    verdict = verdict.NoMemory;
+    status_is = c.status-in-Err.ensures;
+    due = due_no_memory _ _ c.perform-verdict.result c.perform-verdict.ensures.due;
+    says = c.put_no_memory.ensures.told;
+  };
 }

@@ -26,7 +26,7 @@ pub returns-clause-completes : goal.returns-clause-completes
 returns-clause-completes g c = λ held rest taken told input out command spelled passed calm. steps.completes _ _ _ _ c.answer.ensures.answers c.one_command_at_most.ensures held rest told input command spelled passed calm
 
 pub returns-clause-reported : goal.returns-clause-reported
-returns-clause-reported g c = λ build schedule spelled kind said told calm. steps.reported _ _ _ _ c.answer.ensures.answers c.one_command_at_most.ensures build schedule spelled kind said told calm
+returns-clause-reported g c = λ origin schedule spelled kind said told calm. steps.reported _ _ _ _ c.answer.ensures.answers c.one_command_at_most.ensures origin schedule spelled kind said told calm
 
 pub returns-clause-read_fault : goal.returns-clause-read_fault
 returns-clause-read_fault g c = steps.read_fault _ _ _ _ c.answer.ensures.answers
@@ -42,3 +42,9 @@ returns-clause-files_failed g c = steps.files_failed _ _ _ _ c.answer.ensures.an
 
 pub returns-clause-input_failed : goal.returns-clause-input_failed
 returns-clause-input_failed g c = steps.input_failed _ _ _ _ c.answer.ensures.answers
+
+pub returns-clause-files_stay : goal.returns-clause-files_stay
+returns-clause-files_stay g c = steps.files_stay _ _ _ _ c.answer.ensures.answers
+
+pub returns-clause-evidence : goal.returns-clause-evidence
+returns-clause-evidence g c = steps.evidence _ _ _ _ c.answer.ensures.answers

@@ -1,0 +1,105 @@
+-- From the reading and the loading of an image to its stages and its network.
+use Rattle.std.proofs.Common.{◌≡◌, ℕ, zero, suc, true, List, [], ◌∷◌, Option, None, sym, ap, ◌∙◌, inl, inr, subst}
+use Rattle.std.specs.List.{All, AllByRecursion}
+use Rattle.std.specs.Prelude.{IsSomeAnd, slice_get}
+use Rattle.std.specs.declared.result.Result.TheVariants.{Ok, Err}
+use Rattle.std.proofs.lemmas.List.Elements.{recursion_from_All}
+use Rattle.p3l_format.specs.Format.{read_all}
+use Rattle.p3l_code.specs.declared.instr.Code.{Code}
+use Rattle.p3l_code.specs.Safe.{IsSafe}
+use Rattle.p3l_image.specs.declared.image.Image.{Image}
+use Rattle.p3l_image.specs.declared.image.ImageRefusal.{ImageRefusal}
+use Rattle.p3l_image.specs.declared.image.ImageRefusal.TheVariants as image
+use Rattle.p3l_image.specs.Image.{image_format}
+use Rattle.p3l_image.specs.Refusal.{Answers}
+use Rattle.p3l_io.specs.Told.{Held}
+use Rattle.p3l_load.specs.declared.loaded.Loaded.{Loaded}
+use Rattle.p3l_load.specs.declared.loaded.LoadRefusal.{LoadRefusal}
+use Rattle.p3l_load.specs.declared.loaded.LoadRefusal.TheVariants as load
+use Rattle.p3l_load.specs.Codes.{IsFirstUnsafe}
+use Rattle.p3l_load.specs.Load.{IsRunnable, Refuses, loaded_of}
+use Rattle.p3l_report.specs.declared.evidence.Evidence.{Evidence}
+use Rattle.p3l_report.specs.declared.evidence.Evidence.TheVariants as evidence
+use Rattle.p3l_report.specs.declared.verdict.Refusal.TheVariants as refusal
+use Rattle.p3l_report.specs.declared.verdict.Verdict.TheVariants as verdict
+use Rattle.p3l_run.specs.Network.{Network}
+use Rattle.p3l_program.specs.File.{HasText}
+use Rattle.p3l_program.specs.Image.{IsBroken, IsImage, IsMisspelled, image_limit}
+use Rattle.p3l_program.specs.Load.{IsNotLoaded}
+use Rattle.p3l_program.specs.LoadImage.{IsReadyImage, LoadsImage, image_verdict, load_verdict}
+use Rattle.p3l_program.specs.Network.{IsImaged, network_in}
+use Rattle.p3l_program.specs.Stage.{AllPass, image_stages}
+use Rattle.p3l_program.specs.World.{Change, IsCalm}
+
+-- codes that are all safe have no unsafe one
+unsafe_at : (codes : List Code) (number : ℕ) → IsSomeAnd (slice_get codes number) (λ code. ¬ IsSafe code) → AllByRecursion IsSafe codes → ⊥
+unsafe_at [] number unsafe safe = absurd unsafe
+unsafe_at (code ∷ codes) zero unsafe safe = unsafe safe.0
+unsafe_at (code ∷ codes) (suc number) unsafe safe = unsafe_at codes number unsafe safe.1
+
+first_unsafe : (codes : List Code) (number : ℕ) → IsFirstUnsafe codes number → All IsSafe codes → ⊥
+first_unsafe codes number first safe = unsafe_at codes number first.unsafe (recursion_from_All IsSafe codes safe)
+
+module _ (files : Change Held) (name bytes : List ℕ) (has : HasText files.old image_limit name bytes) (calm : IsCalm files) where
+  no_image : (e : Evidence) → IsMisspelled e bytes → ((i : Image) → IsImage i bytes → ⊥) → IsNotLoaded files (image_stages name) (verdict.Refused (refusal.Evidence e))
+  no_image e is never = (inr ((bytes, has), inl (record { bytes = bytes; has = has; are = record { misspelled = is; never = never } })), calm)
+
+  -- bytes that are refused spell no image
+  pub not_decoded : (r : ImageRefusal) → ((i : Image) → image_format.fits i ≡ true → bytes ≡ image_format.spell i → Answers bytes (Err r) (Ok i)) → Answers bytes (Err r) (read_all image_format bytes) →
+      IsNotLoaded files (image_stages name) (image_verdict r)
+  not_decoded image.BadMagic only exact = no_image evidence.BadMagic (sym exact) (λ i is. let z = only i is.fits is.spelled in absurd cc)
+  not_decoded (image.Version version) only exact = no_image (evidence.Version version) (sym exact) (λ i is. let z = only i is.fits is.spelled in absurd cc)
+  not_decoded (image.Short place) only exact = no_image (evidence.Short place) (sym exact) (λ i is. let z = only i is.fits is.spelled in absurd cc)
+  not_decoded (image.BadField place) only exact = no_image (evidence.BadField place) (sym exact) (λ i is. let z = only i is.fits is.spelled in absurd cc)
+  not_decoded (image.TrailingBytes place) only exact = no_image (evidence.TrailingBytes place) (sym exact) (λ i is. let z = only i is.fits is.spelled in absurd cc)
+  not_decoded image.NoMemory only exact = calm
+
+  module _ (i : Image) (is : IsImage i bytes) (only : (other : Image) → IsImage other bytes → other ≡ i) where
+    broken : (e : Evidence) → IsBroken e i → (IsRunnable i → ⊥) → IsNotLoaded files (image_stages name) (verdict.Refused (refusal.Evidence e))
+    broken e why never = (
+      inr (
+        (bytes, has),
+        inr (
+          (i, record { bytes = bytes; has = has; are = is }),
+          inl (record {
+            bytes = bytes;
+            has = has;
+            are = record { i = i; is = is; broken = why; never = λ other runs. never (subst (λ o. IsRunnable o) (only other runs.is) runs.runs) };
+          }),
+        ),
+      ),
+      calm,
+    )
+
+    -- an image that is refused can't be run
+    pub not_run : (r : LoadRefusal) → Refuses i r → IsNotLoaded files (image_stages name) (load_verdict r)
+    not_run load.TreeWrong h = broken evidence.TreeWrong h (λ runs. h runs.whole)
+    not_run (load.CodeUnsafe number) h = broken (evidence.CodeUnsafe number) h (λ runs. first_unsafe i.codes number h.1 runs.safe)
+    not_run load.NotLinked h = broken evidence.NotLinked h (λ runs. h.2 runs.linked)
+    not_run load.NoMemory h = calm
+
+-- bytes spell one image
+pub same_image : (bytes : List ℕ) (i : Image) → ((other : Image) → image_format.fits other ≡ true → bytes ≡ image_format.spell other → Answers bytes (Ok i) (Ok other)) → (other : Image) → IsImage other bytes → other ≡ i
+same_image bytes i only other is = let z = only other is.fits is.spelled in cc
+
+module _ (name : List ℕ) (loaded : Loaded) where
+  module _ (files : Option Held) (loads : LoadsImage files name loaded) where
+    -- what was loaded can be run
+    pub ready : IsReadyImage loaded
+    ready =
+        let runs = loads.runs.runs in
+        let here : IsReadyImage (loaded_of loads.i) = record { lawful = runs.whole.lawful; fit = runs.whole.counted; codes = runs.whole.coded.words; net_is = runs.linked; typed = runs.typed; room = loads.room } in
+        subst IsReadyImage (sym loads.loaded_is) here
+
+    -- its network is the one that is asked for
+    pub is_imaged : IsImaged (record { text = loads.bytes; said = None }) (network_in loaded)
+    is_imaged = record { i = loads.i; runs = loads.runs; network_is = ap network_in loads.loaded_is }
+
+    -- and the only one
+    pub only_imaged : (other : Network) → IsImaged (record { text = loads.bytes; said = None }) other → other ≡ network_in loaded
+    only_imaged other o = o.network_is ∙ ap (λ i. network_in (loaded_of i)) (loads.only o.i o.runs.is) ∙ ap network_in (sym loads.loaded_is)
+
+  -- and all stages of the image pass
+  pub image_passes : (files : Change Held) → LoadsImage files.old name loaded → AllPass files (image_stages name)
+  image_passes files loads =
+      ((loads.bytes, loads.has), ((loads.i, record { bytes = loads.bytes; has = loads.has; are = loads.runs.is }), ((loads.i, record { bytes = loads.bytes; has = loads.has; are = loads.runs }), tt)))

@@ -1,0 +1,100 @@
+-- Commands that write a file, and then one text.
+use Rattle.std.proofs.Common.{◌≡◌, ℕ, List, [], ◌∷◌, Option, Some, None, refl, sym, ap, subst, inl, inr, append-nil, ◌∙◌}
+use Rattle.std.specs.declared.result.Result.{Result}
+use Rattle.std.specs.declared.result.Result.TheVariants.{Ok, Err}
+use Rattle.p3l_io.specs.Told.{Held, Writes}
+use Rattle.p3l_io.specs.declared.fault.WriteFault.{WriteFault}
+use Rattle.p3l_report.specs.declared.verdict.Verdict.{Verdict}
+use Rattle.p3l_report.specs.declared.verdict.Verdict.TheVariants as verdict
+use Rattle.p3l_run.specs.Write.{HasBegun, HasPut}
+use Rattle.p3l_program.specs.Command.{IsSavingDue}
+use Rattle.p3l_program.specs.Load.{IsNotLoaded}
+use Rattle.p3l_program.specs.Saved.{EndsSaving, HasSave, HoldsBut, IsSaved, KeepsBut, KeepsFiles, SaveCause, Stands}
+use Rattle.p3l_program.specs.Stage.{AllPass, Stage}
+use Rattle.p3l_program.specs.Text.{BeginsText, IsWritten}
+use Rattle.p3l_program.specs.World.{Change, HasRisen, IsCalm, IsStill, world}
+use Rattle.p3l_program.proofs.TextSteps.{not_loaded}
+
+-- nothing is a front of any text
+pub none_put : (old new : Option (List ℕ)) → new ≡ old → HasPut old new []
+none_put None new h = h
+none_put (Some taken) new h = h ∙ ap Some (sym (append-nil taken))
+
+pub none_begun : (out : Change (List ℕ)) (text : List ℕ) → IsStill out → HasBegun out.old out.new text
+none_begun out text still = record { written = []; more = text; put = none_put out.old out.new still.told; text_is = refl }
+
+-- files that hold what they held keep all others
+pub kept_all : (files : Change Held) (names : List (List ℕ)) → files.new ≡ files.old → KeepsBut files names
+kept_all files [] h = h
+kept_all files (name ∷ names) h = λ held told. by held (h ∙ told)
+  where
+    by : (held : Held) → files.new ≡ Some held → HoldsBut held files.new (name ∷ names)
+    by held told = subst (λ f. HoldsBut held f (name ∷ names)) (sym told) (λ other out. refl)
+
+pub kept_by : (files : Change Held) (names : List (List ℕ)) (v : Verdict) → files.new ≡ files.old → KeepsFiles files names v
+kept_by files names (verdict.Refused refused) h = h
+kept_by files names (verdict.Ended finish stats) h = kept_all files names h
+kept_by files names verdict.WriteFault h = kept_all files names h
+kept_by files names verdict.NoMemory h = kept_all files names h
+
+-- what a writing does to the files
+write_kept : (old new : Option Held) (name bytes : List ℕ) (r : Result (Unit {0}) WriteFault) → Writes old new name bytes r → (held : Held) → old ≡ Some held → HoldsBut held new (name ∷ [])
+write_kept None new name bytes r h held told = absurd cc
+write_kept (Some old) None name bytes r h held told = absurd h
+write_kept (Some old) (Some new) name bytes (Ok done) h held told = (let same : old ≡ held = cc in subst (λ f. HoldsBut f (Some new) (name ∷ [])) same (λ other out. h.1 other out.0))
+write_kept (Some old) (Some new) name bytes (Err e) h held told = (let same : old ≡ held = cc in subst (λ f. HoldsBut f (Some new) (name ∷ [])) same (λ other out. h other out.0))
+
+write_stands : (old new : Option Held) (name bytes : List ℕ) → Writes old new name bytes (Ok tt) → (held : Held) → old ≡ Some held → Stands new name bytes
+write_stands None new name bytes h held told = absurd cc
+write_stands (Some old) None name bytes h held told = absurd h
+write_stands (Some old) (Some new) name bytes h held told = h.0
+
+module _ (files : Change Held) (name bytes : List ℕ) where
+  pub saved : Writes files.old files.new name bytes (Ok tt) → files.now ≡ files.before → HasSave files name bytes (Ok tt)
+  saved h calm = record { kept = write_kept files.old files.new name bytes (Ok tt) h; by = (write_stands files.old files.new name bytes h, calm) }
+
+  pub not_saved : (e : WriteFault) → Writes files.old files.new name bytes (Err e) → HasRisen files → HasSave files name bytes (Err verdict.WriteFault)
+  not_saved e h up = record { kept = write_kept files.old files.new name bytes (Err e) h; by = up }
+
+  pub no_room : (e : WriteFault) → Writes files.old files.new name bytes (Err e) → files.now ≡ files.before → HasSave files name bytes (Err verdict.NoMemory)
+  no_room e h calm = record { kept = write_kept files.old files.new name bytes (Err e) h; by = calm }
+
+module _ (files : Change Held) (out : Change (List ℕ)) (stages : List Stage) (IsText : List ℕ → Type 0) (name : List ℕ) (IsBytes : List ℕ → Type 0) where
+  -- stages that don't pass
+  pub saving_refused : (v : Verdict) → IsStill out → IsNotLoaded files stages v → IsSavingDue files out stages IsText name IsBytes v
+  saving_refused v still h input quiet = not_loaded (world files input out) stages (EndsSaving (world files input out) IsText name IsBytes) (BeginsText (world files input out) IsText) (IsStill out) v quiet still h
+
+  -- want of memory before anything was written
+  pub saving_unwritten : IsStill out → IsSavingDue files out stages IsText name IsBytes verdict.NoMemory
+  saving_unwritten still input quiet = inl (record { input = quiet; out = still })
+
+  module _ (text bytes : List ℕ) (passed : AllPass files stages) (is : IsText text) (of : IsBytes bytes) where
+    -- the file could not be written
+    pub saving_failed : (v : Verdict) → IsStill out → SaveCause files name bytes (Err v) → IsSavingDue files out stages IsText name IsBytes v
+    saving_failed (verdict.Refused r) still h input quiet = absurd h
+    saving_failed (verdict.Ended finish stats) still h input quiet = absurd h
+    saving_failed verdict.WriteFault still h input quiet = record {
+      begun = record { passed = passed; begins = record { text = text; is = is; begun = none_begun out text still; input = quiet } };
+      fault = inr (still, h);
+    }
+    saving_failed verdict.NoMemory still h input quiet = inl (record { input = quiet; out = still })
+
+    -- a text that was written behind it
+    pub saving_due : (v : Verdict) → IsSaved files name bytes → IsCalm files → IsWritten out text v → IsSavingDue files out stages IsText name IsBytes v
+    saving_due (verdict.Refused r) saved calm h input still = absurd h
+    saving_due (verdict.Ended finish stats) saved calm h input still = record {
+      passed = passed;
+      ends = record {
+        ends = record { finish_is = h.0; stats_are = h.1; text = text; is = is; put = h.2; input = still };
+        bytes = bytes;
+        is = of;
+        saved = saved;
+      };
+      files = calm;
+      out = h.3;
+    }
+    saving_due verdict.WriteFault saved calm h input still = record {
+      begun = record { passed = passed; begins = record { text = text; is = is; begun = h.0; input = still } };
+      fault = inl (record { files = calm; out = h.1 });
+    }
+    saving_due verdict.NoMemory saved calm h input still = inr (record { passed = passed; begins = record { text = text; is = is; begun = h; input = still } })

@@ -1,0 +1,220 @@
+-- From the check of a trace to the verdict of `check-trace`, and what its end says.
+use Rattle.std.proofs.Common.{◌≡◌, ℕ, ℤ, true, List, [], ◌∷◌, ◌++◌, length, Option, Some, None, refl, sym, ap, subst, inl, inr, ◌∙◌, arith, append-nil}
+use Rattle.std.specs.declared.result.Result.{Result}
+use Rattle.std.specs.declared.result.Result.TheVariants.{Ok, Err}
+use Rattle.std.specs.List.{AllByRecursion}
+use Rattle.std.proofs.lemmas.List.Elements.{recursion_from_All}
+use Rattle.p3l_io.specs.Told.{Held}
+use Rattle.p3l_opts.specs.declared.command.Build.{Build}
+use Rattle.p3l_report.specs.declared.evidence.Evidence.TheVariants as evidence
+use Rattle.p3l_report.specs.declared.stats.Stats.{Stats}
+use Rattle.p3l_report.specs.declared.verdict.Finish.{Finish}
+use Rattle.p3l_report.specs.declared.verdict.Finish.TheVariants as finish
+use Rattle.p3l_report.specs.declared.verdict.Refusal.{Refusal}
+use Rattle.p3l_report.specs.declared.verdict.Refusal.TheVariants as refusal
+use Rattle.p3l_report.specs.declared.verdict.Verdict.{Verdict}
+use Rattle.p3l_report.specs.declared.verdict.Verdict.TheVariants as verdict
+use Rattle.p3l_report.specs.Status as status
+use Rattle.p3l_report.specs.Verdict.{ending_status, finish_status}
+use Rattle.p3l_report.proofs.Statuses as statuses
+use Rattle.p3l_run.specs.Feed.{closed_so}
+use Rattle.p3l_run.specs.Network.{Network, width_of}
+use Rattle.p3l_run.specs.Run.{MayCome}
+use Rattle.p3l_run.specs.Write.{HasPut}
+use Rattle.p3l_stream.proofs.Endings.{items_wide}
+use Rattle.p3l_stream.specs.declared.items.Ending.{Ending}
+use Rattle.p3l_stream.specs.declared.items.Ending.TheVariants as ending
+use Rattle.p3l_stream.specs.declared.items.Items.{Items}
+use Rattle.p3l_stream.specs.declared.taken.Stop.TheVariants as stop
+use Rattle.p3l_stream.specs.Given.{Closes, GivenCause, HasGiven}
+use Rattle.p3l_stream.specs.Items.{items_of}
+use Rattle.p3l_stream.specs.Seen.{Seen}
+use Rattle.p3l_stream.specs.Taken.{IsTaken}
+use Rattle.p3l_format.specs.declared.fault.Fault.{Fault}
+use Rattle.p3l_format.specs.Format.{read_all}
+use Rattle.p3l_trace.specs.declared.trace.Traced.{Traced}
+use Rattle.p3l_trace.specs.declared.trace.TraceRefusal.TheVariants as refusals
+use Rattle.p3l_trace.specs.Text.{trace_format}
+use Rattle.p3l_trace.specs.Told.{Answers}
+use Rattle.p3l_trace.specs.Agreement.{Agrees, DiffersAt}
+use Rattle.p3l_program.specs.Network.{HasNetwork}
+use Rattle.p3l_program.specs.Origin.{built}
+use Rattle.p3l_program.specs.Stage.{AllPass, FilesCause, IsRefusedBy, Refuses, build_stages, readable, traced}
+use Rattle.p3l_program.specs.Trace.{Agreed, BeginsTrace, ChecksWhole, EndsTrace, HasBadTrace, IsCheckDue, IsCheckOf, IsCheckSome, IsTraceStatus, IsUnrefused, IsUntraced, check_stages, holds_line}
+use Rattle.p3l_program.specs.File.{HasText}
+use Rattle.p3l_program.specs.TraceFile.{HasTrace, SpellsNoTrace, trace_limit}
+use Rattle.p3l_program.specs.World.{Change, HasNoFault, HasRisen, IsCalm, World, world}
+use Rattle.p3l_program.proofs.SeenSteps.{at_end_left, seen_goes_on, wide_tail}
+use Rattle.p3l_program.proofs.StageSteps.{passed_both, refused_behind}
+
+-- a text that is read as no trace
+unspelled : (text : List ℕ) (line : ℕ) → ((t : Traced) → trace_format.fits t ≡ true → text ≡ trace_format.spell t → Answers text (Err (refusals.BadLine line)) (Ok t)) →
+    (r : Result Traced Fault) → read_all trace_format text ≡ r → Answers text (Err (refusals.BadLine line)) r → SpellsNoTrace text line
+unspelled text line only (Ok t) is a = absurd cc
+unspelled text line only (Err fault) is a = record { fault = fault; read = is; line_is = (let z = a in cc); no_trace = λ t fits spelled. absurd (let z = only t fits spelled in cc) }
+
+pub untraced : (files : Change Held) (name text : List ℕ) (line : ℕ) → HasText files.old trace_limit name text → IsCalm files →
+    ((t : Traced) → trace_format.fits t ≡ true → text ≡ trace_format.spell t → Answers text (Err (refusals.BadLine line)) (Ok t)) → Answers text (Err (refusals.BadLine line)) (read_all trace_format text) →
+    IsUntraced files name (verdict.Refused (refusal.Evidence (evidence.BadLine line)))
+untraced files name text line has calm only exact =
+    inr (record { line = line; is = refl; none = record { text = text; has = has; none = unspelled text line only (read_all trace_format text) refl exact }; calm = calm })
+
+module _ (files : Change Held) (input out : Change (List ℕ)) (build : Build) (n : Network) (has : HasNetwork files.old (built build) n) (passed : AllPass files (build_stages build)) (name : List ℕ) where
+  all_passes : (t : Traced) → HasTrace files.old name t → AllPass files (check_stages build name)
+  all_passes t h = passed_both files (build_stages build) (readable trace_limit name ∷ (traced name ∷ [])) passed ((h.text, h.has), ((t, h), tt))
+
+  bad_trace : (r : Refusal) → HasBadTrace files name r → Refuses files (traced name) r × FilesCause r files
+  bad_trace r h = subst (λ k. Refuses files (traced name) k × FilesCause k files) (sym h.is) (h.none, h.calm)
+
+  refused_by : (r : Refusal) → IsUntraced files name (verdict.Refused r) → IsRefusedBy files (check_stages build name) r × FilesCause r files
+  refused_by r (inl h) = (refused_behind files (build_stages build) (readable trace_limit name ∷ (traced name ∷ [])) r passed (inl h.0), h.1)
+  refused_by r (inr h) =
+      let bad = bad_trace r h in
+      (refused_behind files (build_stages build) (readable trace_limit name ∷ (traced name ∷ [])) r passed (inr ((h.none.text, h.none.has), inl bad.0)), bad.1)
+
+  begins_check : IsCheckSome n files input out name → BeginsTrace (world files input out) build name
+  begins_check h = record { n = n; t = h.t; has = record { network = has; trace = h.trace }; begun = h.begun }
+
+  -- the verdict of the check is due
+  pub check_due : (v : Verdict) → IsCheckOf n files input out name v → IsCheckDue (world files input out) build name v
+  check_due (verdict.Refused r) h = (let by = refused_by r h.0 in record { by = by.0; untouched = record { input = h.1.input_still; out = h.1.out_still }; files = by.1 })
+  check_due (verdict.Ended f stats) h = record {
+    passed = all_passes h.t h.trace;
+    ends = record { n = n; t = h.t; has = record { network = has; trace = h.trace }; stats_are = h.stats_are; checked = h.checked };
+    files = h.files_calm;
+    out = h.out_calm;
+  }
+  check_due verdict.WriteFault h = record {
+    begun = record { passed = all_passes h.0.t h.0.trace; begins = begins_check h.0 };
+    fault = inl (record { files = h.0.files_calm; out = h.1 });
+  }
+  check_due verdict.NoMemory (inl h) = inl (record { input = h.input_still; out = h.out_still })
+  check_due verdict.NoMemory (inr h) = inr (record { passed = all_passes h.t h.trace; begins = begins_check h })
+
+-- a check that came to its end was begun
+pub ends_check : (w : World) (build : Build) (name : List ℕ) (f : Finish) (stats : Option Stats) → EndsTrace w build name f stats → BeginsTrace w build name
+ends_check w build name finish.Done stats h = record {
+  n = h.n;
+  t = h.t;
+  has = h.has;
+  begun = inr (record { close = h.checked.close; agrees = h.checked.agrees; begun = record { written = holds_line h.t; more = []; put = h.checked.put; text_is = append-nil (holds_line h.t) } });
+}
+ends_check w build name (finish.Stream e) stats h = record { n = h.n; t = h.t; has = h.has; begun = inl h.checked.out }
+ends_check w build name (finish.Differs line) stats h = record { n = h.n; t = h.t; has = h.has; begun = inl h.checked.out }
+ends_check w build name (finish.Stopped fired idle) stats h = absurd h.checked
+ends_check w build name (finish.Trapped item kind home) stats h = absurd h.checked
+
+-- how the count of the input goes, where it was not refused as far as it was asked
+unrefused_calm : (close : Option Ending) (before now : ℕ) → IsUnrefused close → GivenCause (closed_so close) before now → now ≡ before
+unrefused_calm close before now (inl none) cause = subst (λ c. GivenCause (closed_so c) before now) none cause
+unrefused_calm close before now (inr end) cause = subst (λ c. GivenCause (closed_so c) before now) end cause
+
+pub check_calm : (w : World) (build : Build) (name : List ℕ) (f : Finish) (stats : Option Stats) (k : ℕ) → EndsTrace w build name f stats → finish_status f ≡ k → (k ≡ status.evidence → ⊥) → (k ≡ status.read → ⊥) → w.input.now ≡ w.input.before
+check_calm w build name finish.Done stats k h is other read = unrefused_calm h.checked.close w.input.before w.input.now h.checked.unrefused h.checked.agrees.gives.cause
+check_calm w build name (finish.Stream e) stats k h is other read = by e (λ same. read (sym is ∙ ap ending_status same)) h.checked.agrees.gives.cause
+  where
+    by : (e : Ending) → (e ≡ ending.ReadFault → ⊥) → GivenCause (closed_so (Some e)) w.input.before w.input.now → w.input.now ≡ w.input.before
+    by ending.End unlike cause = cause
+    by (ending.BadWord line) unlike cause = cause
+    by (ending.WrongCount line had) unlike cause = cause
+    by (ending.OutOfRange line) unlike cause = cause
+    by ending.ReadFault unlike cause = absurd (unlike refl)
+    by ending.TooLong unlike cause = cause
+check_calm w build name (finish.Differs line) stats k h is other read = absurd (other (sym is))
+check_calm w build name (finish.Stopped fired idle) stats k h is other read = absurd h.checked
+check_calm w build name (finish.Trapped item kind home) stats k h is other read = absurd h.checked
+
+pub check_read : (w : World) (build : Build) (name : List ℕ) (f : Finish) (stats : Option Stats) → EndsTrace w build name f stats → finish_status f ≡ status.read → HasRisen w.input
+check_read w build name finish.Done stats h is = absurd (omega arith)
+check_read w build name (finish.Stream e) stats h is = subst (λ k. GivenCause (closed_so (Some k)) w.input.before w.input.now) (statuses.read_is e is) h.checked.agrees.gives.cause
+check_read w build name (finish.Differs line) stats h is = absurd (omega arith)
+check_read w build name (finish.Stopped fired idle) stats h is = absurd h.checked
+check_read w build name (finish.Trapped item kind home) stats h is = absurd h.checked
+
+-- where no fault comes the check ends by what is seen of the input
+pub check_status : (w : World) (build : Build) (name rest : List ℕ) (f : Finish) (stats : Option Stats) → w.input.old ≡ Some rest → HasNoFault w → EndsTrace w build name f stats → IsTraceStatus w build name rest (finish_status f)
+check_status w build name rest finish.Done stats told calm h =
+    let to = seen_goes_on h.n rest w.input.old w.input.new w.input.before w.input.now h.checked.close h.checked.agrees.stream h.checked.agrees.items h.checked.agrees.gives told calm.input in
+    record {
+      n = h.n;
+      t = h.t;
+      has = h.has;
+      status_is = inr (inl refl, subst (λ (i : Items). Agrees h.n.tree h.n.leaf h.n.net i.items h.t) (sym to.seen) (h.checked.agrees.holds to.later to.may_come));
+    }
+check_status w build name rest (finish.Stream e) stats told calm h =
+    let to = seen_goes_on h.n rest w.input.old w.input.new w.input.before w.input.now (Some e) h.checked.agrees.stream h.checked.agrees.items h.checked.agrees.gives told calm.input in
+    record {
+      n = h.n;
+      t = h.t;
+      has = h.has;
+      status_is = inr (inr (ap ending_status (to.may_end ∙ sym (ap (λ (i : Items). i.ending) to.seen))), subst (λ (i : Items). Agrees h.n.tree h.n.leaf h.n.net i.items h.t) (sym to.seen) (h.checked.agrees.holds to.later to.may_come));
+    }
+check_status w build name rest (finish.Differs line) stats told calm h =
+    let on = h.checked.differs.1 in
+    let to = seen_goes_on h.n rest w.input.old w.input.new w.input.before w.input.now h.checked.differs.0 on.stream on.items on.gives told calm.input in
+    record {
+      n = h.n;
+      t = h.t;
+      has = h.has;
+      status_is = inl (refl, (line, subst (λ (i : Items). DiffersAt h.n.tree h.n.leaf h.n.net i.items h.t line) (sym to.seen) (on.holds to.later to.may_come)));
+    }
+check_status w build name rest (finish.Stopped fired idle) stats told calm h = absurd h.checked
+check_status w build name rest (finish.Trapped item kind home) stats told calm h = absurd h.checked
+
+-- all items of an input go on from those given
+pub record GoesOnAll (n : Network) (close : Option Ending) (items : List (List ℤ)) (rest : List ℕ) : Type 0 where
+  pub later : List (List ℤ)
+  pub may_come : MayCome n close later
+  pub all : (items_of (width_of n) rest).items ≡ items ++ later
+
+module _ (n : Network) (rest : List ℕ) (s : Seen) (items : List (List ℤ)) (bytes left : List ℕ) (given : HasGiven (width_of n) s bytes items) (whole : rest ≡ bytes ++ left) (ended : s.at_end ≡ true → left ≡ []) where
+  goes_on_open : Closes (width_of n) s bytes items None → GoesOnAll n None items rest
+  goes_on_open on =
+      let here = on stop.End left (λ end. (refl, ended end)) in
+      let wide = recursion_from_All (λ words. length words ≡ width_of n) _ (items_wide (width_of n) stop.End (bytes ++ left)) in
+      record {
+        later = _;
+        may_come = record {
+          wide = wide_tail (λ words. length words ≡ width_of n) items _ (subst (λ (i : Items). AllByRecursion (λ words. length words ≡ width_of n) i.items) here wide);
+          none = λ close h. absurd cc;
+        };
+        all = ap (λ t. (items_of (width_of n) t).items) whole ∙ ap (λ (i : Items). i.items) here;
+      }
+
+  goes_on_ended : Closes (width_of n) s bytes items (closed_so (Some ending.End)) → GoesOnAll n (Some ending.End) items rest
+  goes_on_ended h =
+      let same : rest ≡ bytes = whole ∙ ap (λ l. bytes ++ l) (ended h.0) ∙ append-nil bytes in
+      record {
+        later = [];
+        may_come = record { wide = tt; none = λ close e. refl };
+        all = ap (λ t. (items_of (width_of n) t).items) same ∙ ap (λ (i : Items). i.items) h.1 ∙ sym (append-nil items);
+      }
+
+  goes_on_all : (close : Option Ending) → s.closed ≡ closed_so close → IsUnrefused close → GoesOnAll n close items rest
+  goes_on_all close closed (inl none) =
+      subst (λ c. GoesOnAll n c items rest) (sym none) (goes_on_open (subst (λ c. Closes (width_of n) s bytes items c) (closed ∙ ap closed_so none) given.closes))
+  goes_on_all close closed (inr end) =
+      subst (λ c. GoesOnAll n c items rest) (sym end) (goes_on_ended (subst (λ c. Closes (width_of n) s bytes items c) (closed ∙ ap closed_so end) given.closes))
+
+agreed_all : (w : World) (n : Network) (t : Traced) (rest : List ℕ) (old : Option (List ℕ)) → w.input.old ≡ old → old ≡ Some rest → Agreed w n t → Agrees n.tree n.leaf n.net (items_of (width_of n) rest).items t
+agreed_all w n t rest None is told a = absurd cc
+agreed_all w n t rest (Some other) is told a =
+    let g = a.agrees.gives in
+    let read = subst (λ o. IsTaken o w.input.new g.bytes) (is ∙ told) g.read in
+    let to = goes_on_all n rest a.agrees.stream a.agrees.items g.bytes read.0 g.given read.2 (λ h. at_end_left w.input.new read.0 read.1 (g.at_end h)) a.close g.closed_is a.unrefused in
+    subst (λ i. Agrees n.tree n.leaf n.net i t) (sym to.all) (a.agrees.holds to.later to.may_come)
+
+-- a check of status 0 is whole
+pub check_whole : (w : World) (build : Build) (name rest taken : List ℕ) (f : Finish) (stats : Option Stats) → ((text : List ℕ) → HasPut w.out.old w.out.new text → w.out.new ≡ Some (taken ++ text)) → w.input.old ≡ Some rest → finish_status f ≡ status.done →
+    EndsTrace w build name f stats → ChecksWhole w build name rest taken
+check_whole w build name rest taken finish.Done stats put input h e = record {
+  n = e.n;
+  t = e.t;
+  has = e.has;
+  agrees = agreed_all w e.n e.t rest w.input.old refl input e.checked;
+  taken_is = put (holds_line e.t) e.checked.put;
+}
+check_whole w build name rest taken (finish.Stream k) stats put input h e = absurd (e.checked.other (statuses.done_is k h))
+check_whole w build name rest taken (finish.Differs line) stats put input h e = absurd (omega arith)
+check_whole w build name rest taken (finish.Stopped fired idle) stats put input h e = absurd e.checked
+check_whole w build name rest taken (finish.Trapped item kind home) stats put input h e = absurd e.checked

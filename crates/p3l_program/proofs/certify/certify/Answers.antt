@@ -1,0 +1,55 @@
+use Rattle.std.proofs.Common.{refl, subst}
+use Rattle.std.specs.declared.result.Result.TheVariants.{Ok, Err}
+use Rattle.p3l_program.specs.Certificate.{IsCertificate}
+use Rattle.p3l_program.specs.Explain.{IsExplained}
+use Rattle.p3l_program.specs.Saved.{SaveCause}
+use Rattle.p3l_program.specs.Stage.{build_stages}
+use Rattle.p3l_program.specs.Text.{IsWritten}
+use Rattle.p3l_program.specs.World.{change}
+use Rattle.p3l_program.proofs.LoadSteps.{certified, explained, loaded_passes, same_change}
+use Rattle.p3l_program.proofs.SavedSteps.{saving_due, saving_failed}
+use Rattle.p3l_program.proofs.certify.certify.Goals as goal
+
+pub returns-in-Ok-save-clause-due : goal.returns-in-Ok-save-clause-due
+returns-in-Ok-save-clause-due g c =
+    let loads = c.in-Ok.ensures.loaded in
+    let loaded = c.in-Ok.loaded in
+    let held = g.F.Files.held in
+    let faults = g.F.Files.faults in
+    let end = c.save.new.files in
+    let files = change held faults c.args.files.now end in
+    let out = change g.K.Sink.taken g.K.Sink.faults c.args.out.now c.write_text.new.out in
+    let text = c.in-Ok-allocation_text.text in
+    let cert = c.in-Ok-certify.cert in
+    let bytes = c.in-Ok-cert_text.certificate in
+    let claims = c.in-Ok-certify.ensures.claims in
+    let same = same_change (held c.load.new.files) (held c.args.files.now) (held end) (faults c.load.new.files) (faults c.args.files.now) (faults end) c.load.ensures.stays c.in-Ok.ensures.calm in
+    let written = subst (λ b. SaveCause (change held faults c.load.new.files end) c.args.name b (Ok tt)) c.as_slice.ensures c.in-Ok-save.ensures.by in
+    let save = subst (λ f. SaveCause f c.args.name bytes (Ok tt)) same written in
+    saving_due files out (build_stages c.args.build) (IsExplained (held c.args.files.now) c.args.build) c.args.name (IsCertificate (held c.args.files.now) c.args.build) text bytes
+    (loaded_passes c.args.build loads.r loaded files loads.is)
+    (explained c.args.build loads.r loaded (held c.args.files.now) text loads.is c.in-Ok-allocation_text.ensures)
+    (certified c.args.build loads.r loaded (held c.args.files.now) cert bytes loads.is claims.0 claims.1 c.in-Ok-certify.ensures.holds c.in-Ok-certify.ensures.rows claims.2 c.in-Ok-cert_text.ensures)
+    c.write_text.result save.0 save.1 (subst (λ t. IsWritten out t c.write_text.result) c.as_slice-in-Ok-save.ensures c.write_text.ensures)
+
+pub returns-clause-due : goal.returns-clause-due
+returns-clause-due g c =
+    let loads = c.in-Ok.ensures.loaded in
+    let loaded = c.in-Ok.loaded in
+    let held = g.F.Files.held in
+    let faults = g.F.Files.faults in
+    let end = c.save.new.files in
+    let files = change held faults c.args.files.now end in
+    let out = change g.K.Sink.taken g.K.Sink.faults c.args.out.now c.args.out.now in
+    let text = c.in-Ok-allocation_text.text in
+    let cert = c.in-Ok-certify.cert in
+    let bytes = c.in-Ok-cert_text.certificate in
+    let claims = c.in-Ok-certify.ensures.claims in
+    let v = c.in-Err-save.verdict in
+    let same = same_change (held c.load.new.files) (held c.args.files.now) (held end) (faults c.load.new.files) (faults c.args.files.now) (faults end) c.load.ensures.stays c.in-Ok.ensures.calm in
+    let written = subst (λ b. SaveCause (change held faults c.load.new.files end) c.args.name b (Err v)) c.as_slice.ensures c.in-Err-save.ensures.by in
+    saving_failed files out (build_stages c.args.build) (IsExplained (held c.args.files.now) c.args.build) c.args.name (IsCertificate (held c.args.files.now) c.args.build) text bytes
+    (loaded_passes c.args.build loads.r loaded files loads.is)
+    (explained c.args.build loads.r loaded (held c.args.files.now) text loads.is c.in-Ok-allocation_text.ensures)
+    (certified c.args.build loads.r loaded (held c.args.files.now) cert bytes loads.is claims.0 claims.1 c.in-Ok-certify.ensures.holds c.in-Ok-certify.ensures.rows claims.2 c.in-Ok-cert_text.ensures)
+    v (record { told = refl; calm = refl }) (subst (λ f. SaveCause f c.args.name bytes (Err v)) same written)

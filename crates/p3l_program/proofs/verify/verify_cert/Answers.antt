@@ -1,0 +1,22 @@
+use Rattle.std.proofs.Common.{◌≡◌}
+use Rattle.p3l_program.specs.Stage.{verify_stages}
+use Rattle.p3l_program.specs.Verify.{IsVerified, holds_line}
+use Rattle.p3l_program.specs.World.{change}
+use Rattle.p3l_program.proofs.CertSteps.{verified, verified_passes}
+use Rattle.p3l_program.proofs.TextSteps.{text_due}
+use Rattle.p3l_program.proofs.verify.verify_cert.Goals as goal
+
+pub returns-clause-due : goal.returns-clause-due
+returns-clause-due g c =
+    let args = c.args in
+    let old = g.F.Files.held args.files.now in
+    let files = change g.F.Files.held g.F.Files.faults args.files.now c.load_cert.new.files in
+    let out = change g.K.Sink.taken g.K.Sink.faults args.out.now c.write_text.new.out in
+    let cert = c.in-Ok.cert in
+    let loads = c.in-Ok.ensures.loaded in
+    let bytes = c.as_bytes.ensures in
+    let text = c.as_str.ensures in
+    let line = c.in-Ok-holds_line.ensures in
+    let is : c.as_bytes.result.now ≡ holds_line cert.processors cert.used cert.service = cc in
+    text_due files out (verify_stages args.program args.name args.costs) (IsVerified old args.program args.costs args.name) c.as_bytes.result.now c.write_text.result c.in-Ok.ensures.calm
+    (verified_passes files args.program args.costs args.name cert loads) (verified files args.program args.costs args.name cert loads c.as_bytes.result.now is) c.write_text.ensures

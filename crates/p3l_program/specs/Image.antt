@@ -1,0 +1,67 @@
+-- Images of files, and which of them can be run.
+use Rattle.std.specs.Prelude.{◌≡◌, ℕ, List, true, Result, Err, Option}
+use Rattle.p3l_format.specs.Format.{read_all}
+use Rattle.p3l_image.specs.declared.image.Image.{Image}
+use Rattle.p3l_image.specs.declared.image.ImageRefusal.{ImageRefusal}
+use Rattle.p3l_image.specs.declared.image.ImageRefusal.TheVariants as image
+use Rattle.p3l_image.specs.Image.{image_format}
+use Rattle.p3l_image.specs.Refusal.{told}
+use Rattle.p3l_io.specs.Told.{Held}
+use Rattle.p3l_load.specs.declared.loaded.LoadRefusal.TheVariants as load
+use Rattle.p3l_load.specs.Load.{IsRunnable, Refuses}
+use Rattle.p3l_report.specs.declared.evidence.Evidence.{Evidence}
+use Rattle.p3l_report.specs.declared.evidence.Evidence.TheVariants as evidence
+use Rattle.p3l_program.specs.File.{HasText}
+
+-- the most bytes of a file of an image
+abbrev pub image_limit : ℕ
+image_limit = 67108864
+
+-- the bytes spell an image
+pub record IsImage (i : Image) (bytes : List ℕ) : Type 0 where
+  pub fits : image_format.fits i ≡ true
+  pub spelled : bytes ≡ image_format.spell i
+
+-- an image or the first fault of the bytes
+abbrev pub read_image : List ℕ → Result Image ImageRefusal
+read_image bytes = told bytes (read_all image_format bytes)
+
+-- why bytes spell no image
+abbrev pub IsMisspelled : Evidence → List ℕ → Type 0
+IsMisspelled evidence.BadMagic bytes = read_image bytes ≡ Err image.BadMagic
+IsMisspelled (evidence.Version version) bytes = read_image bytes ≡ Err (image.Version version)
+IsMisspelled (evidence.Short place) bytes = read_image bytes ≡ Err (image.Short place)
+IsMisspelled (evidence.BadField place) bytes = read_image bytes ≡ Err (image.BadField place)
+IsMisspelled (evidence.TrailingBytes place) bytes = read_image bytes ≡ Err (image.TrailingBytes place)
+IsMisspelled _ bytes = ⊥
+
+-- why an image can't be run: its tree, its counts or its codes are wrong; or else this code is the first that isn't safe; or else its
+-- net is not that of its tree
+abbrev pub IsBroken : Evidence → Image → Type 0
+IsBroken evidence.TreeWrong i = Refuses i load.TreeWrong
+IsBroken (evidence.CodeUnsafe number) i = Refuses i (load.CodeUnsafe number)
+IsBroken evidence.NotLinked i = Refuses i load.NotLinked
+IsBroken _ i = ⊥
+
+-- the bytes spell no image, for this reason
+pub record IsNoImage (e : Evidence) (bytes : List ℕ) : Type 0 where
+  pub misspelled : IsMisspelled e bytes
+  pub never : (i : Image) → IsImage i bytes → ⊥
+
+-- they spell an image that can be run
+pub record IsRunnableImage (i : Image) (bytes : List ℕ) : Type 0 where
+  pub is : IsImage i bytes
+  pub runs : IsRunnable i
+
+-- they spell one that can't, for this reason
+pub record IsBrokenImage (e : Evidence) (bytes : List ℕ) : Type 0 where
+  pub i : Image
+  pub is : IsImage i bytes
+  pub broken : IsBroken e i
+  pub never : (other : Image) → IsRunnableImage other bytes → ⊥
+
+-- the file of this name has bytes within the limit, and they are such
+pub record HasBytes (files : Option Held) (name : List ℕ) (AreSuch : List ℕ → Type 0) : Type 0 where
+  pub bytes : List ℕ
+  pub has : HasText files image_limit name bytes
+  pub are : AreSuch bytes

@@ -1,0 +1,57 @@
+-- What is loaded from the image of a file, and why nothing is.
+use Rattle.std.specs.Prelude.{◌≡◌, ℕ, ◌≤◌, List, Option}
+use Rattle.std.specs.List.{All}
+use Rattle.p3l_skel.specs.Counts.{HasLawfulCounts}
+use Rattle.p3l_skel.specs.Lawful.{IsLawfulTree}
+use Rattle.p3l_firing.specs.Typed.{IsTyped}
+use Rattle.p3l_link.specs.Net.{linked_net}
+use Rattle.p3l_units.specs.Table.{HasCode}
+use Rattle.p3l_image.specs.declared.image.Image.{Image}
+use Rattle.p3l_image.specs.declared.image.ImageRefusal.{ImageRefusal}
+use Rattle.p3l_image.specs.declared.image.ImageRefusal.TheVariants as image
+use Rattle.p3l_io.specs.Told.{Held}
+use Rattle.p3l_load.specs.declared.loaded.Loaded.{Loaded}
+use Rattle.p3l_load.specs.declared.loaded.LoadRefusal.{LoadRefusal}
+use Rattle.p3l_load.specs.declared.loaded.LoadRefusal.TheVariants as load
+use Rattle.p3l_load.specs.Load.{loaded_of}
+use Rattle.p3l_report.specs.declared.evidence.Evidence.TheVariants as evidence
+use Rattle.p3l_report.specs.declared.verdict.Refusal.TheVariants as refusal
+use Rattle.p3l_report.specs.declared.verdict.Verdict.{Verdict}
+use Rattle.p3l_report.specs.declared.verdict.Verdict.TheVariants as verdict
+use Rattle.p3l_program.specs.File.{HasText}
+use Rattle.p3l_program.specs.Image.{IsImage, IsRunnableImage, image_limit}
+
+-- the verdict of bytes that are no image
+abbrev pub image_verdict : ImageRefusal → Verdict
+image_verdict image.BadMagic = verdict.Refused (refusal.Evidence evidence.BadMagic)
+image_verdict (image.Version version) = verdict.Refused (refusal.Evidence (evidence.Version version))
+image_verdict (image.Short place) = verdict.Refused (refusal.Evidence (evidence.Short place))
+image_verdict (image.BadField place) = verdict.Refused (refusal.Evidence (evidence.BadField place))
+image_verdict (image.TrailingBytes place) = verdict.Refused (refusal.Evidence (evidence.TrailingBytes place))
+image_verdict image.NoMemory = verdict.NoMemory
+
+-- the verdict of an image that can't be run
+abbrev pub load_verdict : LoadRefusal → Verdict
+load_verdict load.TreeWrong = verdict.Refused (refusal.Evidence evidence.TreeWrong)
+load_verdict (load.CodeUnsafe number) = verdict.Refused (refusal.Evidence (evidence.CodeUnsafe number))
+load_verdict load.NotLinked = verdict.Refused (refusal.Evidence evidence.NotLinked)
+load_verdict load.NoMemory = verdict.NoMemory
+
+-- what was loaded can be run: its tree and counts are lawful, each `seq` module has its code, and the net is that of the tree
+pub record IsReadyImage (loaded : Loaded) : Type 0 where
+  pub lawful : IsLawfulTree loaded.tree
+  pub fit : HasLawfulCounts loaded.tree loaded.counts.list
+  pub codes : All (HasCode (record { tree = loaded.tree; codes = loaded.codes })) loaded.tree.nodes
+  pub net_is : loaded.net ≡ linked_net loaded.tree loaded.counts.list loaded.cap
+  pub typed : IsTyped loaded.tree loaded.net
+  pub room : 1 ≤ loaded.cap
+
+-- the one image that the file of this name has was loaded
+pub record LoadsImage (files : Option Held) (name : List ℕ) (loaded : Loaded) : Type 0 where
+  pub i : Image
+  pub loaded_is : loaded ≡ loaded_of i
+  pub bytes : List ℕ
+  pub has : HasText files image_limit name bytes
+  pub runs : IsRunnableImage i bytes
+  pub only : (other : Image) → IsImage other bytes → other ≡ i
+  pub room : 1 ≤ i.cap

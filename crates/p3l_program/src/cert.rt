@@ -1,0 +1,126 @@
+// The certificate of a program and its costs.
+
+ghost use Rattle.std.specs.Prelude.{◌≡◌, IfOk, IfErr, OnOk};
+ghost use Rattle.p3l_skel.specs.Lawful.{IsLawfulTree};
+ghost use Rattle.p3l_cost.specs.Costs.{AreCostsOf};
+ghost use Rattle.p3l_program.specs.Certified.{claim_of};
+ghost use Rattle.p3l_program.specs.Load.{IsNotLoaded};
+ghost use Rattle.p3l_program.specs.LoadCert.{AcceptsCert, IsCertRefused, IsCertless, LoadsCert, LoadsVerified, cert_verdict};
+ghost use Rattle.p3l_program.specs.Stage.{verify_stages};
+ghost use Rattle.p3l_program.specs.World.{change};
+
+use crate::costs::load_costs;
+use crate::file::find_text;
+use crate::load::load_program;
+use p3l_base::Name;
+use p3l_cert::{Cert, CertRefusal, check, read_cert};
+use p3l_cost::Costs;
+use p3l_io::Files;
+use p3l_report::{Claim, Evidence, Refusal, Verdict};
+use p3l_skel::Tree;
+use std::alloc::Global;
+
+/// The most bytes of a file of a certificate.
+pub const CERT_LIMIT: u64 = 268_435_456;
+
+/// The name of a claim that isn't so.
+fn claim_of(claim: p3l_cert::Claim) -> Claim
+    ensures { result ≡ claim_of claim }
+{
+    match claim {
+        p3l_cert::Claim::Counts => Claim::Counts,
+        p3l_cert::Claim::Service => Claim::Service,
+        p3l_cert::Claim::Used => Claim::Used,
+        p3l_cert::Claim::Fits => Claim::Fits,
+        p3l_cert::Claim::Least => Claim::Least,
+    }
+}
+
+/// The verdict of a certificate that is refused.
+fn cert_verdict(refusal: CertRefusal) -> Verdict
+    ensures { result ≡ cert_verdict refusal }
+{
+    let evidence = match refusal {
+        CertRefusal::RowWrong { row, kept, found } => Evidence::RowWrong { row, kept, found },
+        CertRefusal::RowMissing {
+            row,
+            node,
+            bound,
+            cap,
+        } => Evidence::RowMissing {
+            row,
+            node,
+            bound,
+            cap,
+        },
+        CertRefusal::ClaimWrong(claim) => Evidence::ClaimWrong(claim_of(claim)),
+        CertRefusal::BadText { line } => Evidence::BadText { line },
+        CertRefusal::NoMemory => return Verdict::NoMemory,
+    };
+    Verdict::Refused(Refusal::Evidence(evidence))
+}
+
+/// The certificate that a text spells, if it holds for a tree and its costs; else its first fault.
+fn accept_cert(alloc: Global, tree: &Tree, costs: &Costs, text: &[u8]) -> Result<Cert, CertRefusal>
+    requires lawful { IsLawfulTree tree.now }
+    requires costs { AreCostsOf tree.now costs.now }
+    ensures accepted { IfOk result (AcceptsCert tree.now costs.now text.now) }
+    ensures refused { IfErr result (IsCertRefused tree.now costs.now text.now) }
+{
+    match read_cert(alloc, text) {
+        Err(refusal) => Err(refusal),
+        Ok(cert) => match check(alloc, tree, costs, &cert) {
+            Err(refusal) => Err(refusal),
+            Ok(()) => Ok(cert),
+        },
+    }
+}
+
+/// The certificate of the file of this name, if it holds for a tree and its costs.
+fn cert_in<F: Files>(
+    alloc: Global,
+    name: Name,
+    tree: &Tree,
+    costs: &Costs,
+    files: &mut F,
+) -> Result<Cert, Verdict>
+    requires lawful { IsLawfulTree tree.now }
+    requires costs { AreCostsOf tree.now costs.now }
+    ensures loaded { IfOk result (LoadsCert (F.held files.old) name tree.now costs.now) }
+    ensures calm { OnOk result (F.faults files.new ≡ F.faults files.old) }
+    ensures refused { IfErr result (IsCertless (change F.held F.faults files.old files.new) name tree.now costs.now) }
+    ensures stays { F.held files.new ≡ F.held files.old }
+{
+    match find_text(alloc, name, CERT_LIMIT, files) {
+        Err(refusal) => Err(Verdict::from(refusal)),
+        Ok(text) => match accept_cert(alloc, tree, costs, text.as_slice()) {
+            Ok(cert) => Ok(cert),
+            Err(refusal) => Err(cert_verdict(refusal)),
+        },
+    }
+}
+
+/// The certificate of the file of the last name, if it holds for the program and the costs of the
+/// others; or the verdict that there is none.
+pub fn load_cert<F: Files>(
+    alloc: Global,
+    program: Name,
+    costs: Option<Name>,
+    name: Name,
+    files: &mut F,
+) -> Result<Cert, Verdict>
+    ensures loaded { IfOk result (LoadsVerified (F.held files.old) program costs name) }
+    ensures calm { OnOk result (F.faults files.new ≡ F.faults files.old) }
+    ensures refused { IfErr result (IsNotLoaded (change F.held F.faults files.old files.new) (verify_stages program name costs)) }
+    ensures stays { F.held files.new ≡ F.held files.old }
+{
+    let program = match load_program(alloc, program, files) {
+        Ok(program) => program,
+        Err(verdict) => return Err(verdict),
+    };
+    let costs = match load_costs(alloc, costs, &program.tree, files) {
+        Ok(costs) => costs,
+        Err(verdict) => return Err(verdict),
+    };
+    cert_in(alloc, name, &program.tree, &costs, files)
+}

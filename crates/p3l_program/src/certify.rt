@@ -1,0 +1,66 @@
+// The command `explain` with a file for the certificate of the counts.
+
+ghost use Rattle.std.specs.Prelude.{◌≡◌, ◌∷◌, ◌≤◌, []};
+ghost use Rattle.p3l_program.specs.Certificate.{IsCertificate};
+ghost use Rattle.p3l_program.specs.Command.{IsSavingDue};
+ghost use Rattle.p3l_program.specs.Explain.{IsExplained};
+ghost use Rattle.p3l_program.specs.Saved.{KeepsFiles};
+ghost use Rattle.p3l_program.specs.Stage.{build_stages};
+ghost use Rattle.p3l_program.specs.World.{change};
+
+use crate::load::{Loaded, load};
+use crate::save::save;
+use crate::text::write_text;
+use p3l_base::Name;
+use p3l_cert::cert_text;
+use p3l_explain::allocation_text;
+use p3l_io::{Files, Sink};
+use p3l_opts::Build;
+use p3l_report::Verdict;
+use std::alloc::Global;
+
+/// Writes the counts that are chosen for the program of a file, and before that the certificate that
+/// they are the best to the file of another name.
+pub fn certify<F: Files, K: Sink>(
+    alloc: Global,
+    build: Build,
+    name: Name,
+    files: &mut F,
+    out: &mut K,
+) -> Verdict
+    requires processors { (1 ≤ build.processors) × (build.processors ≤ 512) }
+    ensures due { IsSavingDue (change F.held F.faults files.old files.new) (change K.taken K.faults out.old out.new) (build_stages build) (IsExplained (F.held files.old) build) name (IsCertificate (F.held files.old) build) result }
+    ensures kept { KeepsFiles (change F.held F.faults files.old files.new) (name ∷ []) result }
+{
+    let processors = build.processors;
+    let Loaded {
+        program,
+        costs,
+        choice,
+    } = match load(alloc, build, files) {
+        Ok(loaded) => loaded,
+        Err(verdict) => return verdict,
+    };
+    let tree = program.tree;
+    let Ok(text) = allocation_text(alloc, &tree, &costs, processors, &choice) else {
+        return Verdict::NoMemory;
+    };
+    let Ok(cert) = p3l_cert::certify(
+        alloc,
+        &tree,
+        &costs,
+        processors,
+        &choice.counts,
+        choice.service,
+        choice.used,
+    ) else {
+        return Verdict::NoMemory;
+    };
+    let Ok(certificate) = cert_text(alloc, &cert) else {
+        return Verdict::NoMemory;
+    };
+    match save(alloc, &name, certificate.as_slice(), files) {
+        Ok(()) => write_text(text.as_slice(), out),
+        Err(verdict) => verdict,
+    }
+}

@@ -1,0 +1,169 @@
+// The command `check-trace`: a trace of a file, checked against the run of a program on the input.
+
+ghost use Rattle.std.specs.Prelude.{◌≡◌, ◌<◌, ◌≤◌, ◌*◌, ◌^◌, IfOk, IfErr, OnOk, string_bytes};
+ghost use Rattle.p3l_check.specs.Resolving.{ResolvedTree};
+ghost use Rattle.p3l_run.specs.Feed.{most_of_input};
+ghost use Rattle.p3l_run.specs.Network.{IsSound, network};
+ghost use Rattle.p3l_skel.specs.Tree.{node_at};
+ghost use Rattle.p3l_program.specs.Accepted.{IsCompiled};
+ghost use Rattle.p3l_program.specs.Load.{IsReady};
+ghost use Rattle.p3l_program.specs.Network.{network_of};
+ghost use Rattle.p3l_program.specs.Trace.{IsAgreed, IsCheckDue, IsCheckOf, IsUntraced, holds_line};
+ghost use Rattle.p3l_program.specs.TraceFile.{HasTrace};
+ghost use Rattle.p3l_program.specs.World.{change, world};
+
+use crate::accept::Accepted;
+use crate::file::find_text;
+use crate::load::{Loaded, load};
+use crate::running::width_of;
+use crate::text::write_text;
+use p3l_base::{Name, NoMemory};
+use p3l_compile::table_of;
+use p3l_io::{Files, Sink, Source};
+use p3l_link::laws::every_linked_net_is_carried;
+use p3l_link::link;
+use p3l_model::firings;
+use p3l_opts::Build;
+use p3l_report::{Evidence, Finish, Refusal, Verdict};
+use p3l_retrace::retrace::{Retraced, retrace};
+use p3l_run::Plan;
+use p3l_skel::Units;
+use p3l_stream::Ending;
+use p3l_trace::{TraceRefusal, Traced, read_trace};
+use std::alloc::Global;
+
+/// The most bytes of a file of a trace.
+pub const TRACE_LIMIT: u64 = 268_435_456;
+
+/// The trace in the file of this name.
+fn load_trace<F: Files>(alloc: Global, name: Name, files: &mut F) -> Result<Traced, Verdict>
+    ensures found { IfOk result (HasTrace (F.held files.old) name) }
+    ensures calm { OnOk result (F.faults files.new ≡ F.faults files.old) }
+    ensures refused { IfErr result (IsUntraced (change F.held F.faults files.old files.new) name) }
+    ensures stays { F.held files.new ≡ F.held files.old }
+{
+    match find_text(alloc, name, TRACE_LIMIT, files) {
+        Err(refusal) => Err(Verdict::from(refusal)),
+        Ok(text) => match read_trace(alloc, text.as_slice()) {
+            Ok(traced) => Ok(traced),
+            Err(TraceRefusal::BadLine { line }) => Err(Verdict::Refused(Refusal::Evidence(
+                Evidence::BadLine { line },
+            ))),
+            Err(TraceRefusal::NoMemory) => Err(Verdict::NoMemory),
+        },
+    }
+}
+
+/// The line of a trace that is that of a run.
+fn holds_line(alloc: Global, traced: &Traced) -> Result<String, NoMemory>
+    ensures { IfOk result (λ line. string_bytes line ≡ holds_line traced.now) }
+{
+    let fired = traced.fired;
+    let idle = traced.idle;
+    Ok(format!(in alloc; "trace holds: {fired} fired, {idle} idle\n")?)
+}
+
+/// The verdict of a trace of which no line differs, on a stream that ended so, if it did.
+fn agreed<K: Sink>(alloc: Global, traced: &Traced, close: Option<Ending>, out: &mut K) -> Verdict
+    ensures { IsAgreed (change K.taken K.faults out.old out.new) traced.now close result }
+{
+    if let Some(ending) = close
+        && ending != Ending::End
+    {
+        return Verdict::Ended(Finish::Stream(ending), None);
+    }
+    match holds_line(alloc, traced) {
+        Ok(line) => write_text(line.as_str().as_bytes(), out),
+        Err(_) => Verdict::NoMemory,
+    }
+}
+
+/// Checks the trace of a file against a network on the items of the input.
+fn check_network<U: Units, F: Files, S: Source, K: Sink>(
+    alloc: Global,
+    plan: Plan<'_, U>,
+    name: Name,
+    files: &mut F,
+    input: &mut S,
+    out: &mut K,
+) -> Verdict
+    requires units { U.tree plan.units.now ≡ plan.tree.now }
+    requires sound { IsSound (network plan.tree.now (U.leaf plan.units.now) plan.net plan.firings) }
+    requires width { plan.width ≡ (node_at plan.tree.now 0).ins }
+    requires wide { 1 ≤ plan.width }
+    requires fits { plan.firings * most_of_input < 2 ^ 63 }
+    ensures checked { IsCheckOf (network plan.entry.tree.now (U.leaf plan.entry.units.now) plan.entry.net plan.entry.firings)
+        (change F.held F.faults files.old files.new) (change S.rest S.faults input.old input.new) (change K.taken K.faults out.old out.new) name result }
+    ensures stays { F.held files.new ≡ F.held files.old }
+{
+    let traced = match load_trace(alloc, name, files) {
+        Ok(traced) => traced,
+        Err(verdict) => return verdict,
+    };
+    match retrace(alloc, plan, &traced, input) {
+        Err(_) => Verdict::NoMemory,
+        Ok(Retraced::Differs(line)) => Verdict::Ended(Finish::Differs { line }, None),
+        Ok(Retraced::Agreed(close)) => agreed(alloc, &traced, close, out),
+    }
+}
+
+/// Checks the trace of a file against the network of a program on the items of the input.
+fn check_loaded<F: Files, S: Source, K: Sink>(
+    alloc: Global,
+    loaded: Loaded,
+    capacity: u32,
+    name: Name,
+    files: &mut F,
+    input: &mut S,
+    out: &mut K,
+) -> Verdict
+    requires ready { IsReady loaded }
+    requires some { 1 ≤ capacity }
+    requires few { capacity ≤ 1024 }
+    ensures checked { (r : ResolvedTree) → IsCompiled r loaded.program → IsCheckOf (network_of r loaded.choice.counts.list capacity) (change F.held F.faults files.old files.new) (change S.rest S.faults input.old input.new) (change K.taken K.faults out.old out.new) name result }
+    ensures stays { F.held files.new ≡ F.held files.old }
+{
+    every_linked_net_is_carried();
+    let Loaded {
+        program,
+        choice,
+        ..
+    } = loaded;
+    let Accepted { tree, codes } = program;
+    let counts = choice.counts;
+    let Ok(units) = table_of(alloc, &tree, codes) else {
+        return Verdict::NoMemory;
+    };
+    let Ok(net) = link(alloc, &tree, &counts, capacity) else {
+        return Verdict::NoMemory;
+    };
+    let plan = Plan {
+        tree: &tree,
+        units: &units,
+        net,
+        firings: firings(&tree, &counts),
+        width: width_of(&tree),
+    };
+    check_network(alloc, plan, name, files, input, out)
+}
+
+/// Checks the trace of a file against the run of the program of another on the input.
+pub fn check_trace<F: Files, S: Source, K: Sink>(
+    alloc: Global,
+    build: Build,
+    name: Name,
+    files: &mut F,
+    input: &mut S,
+    out: &mut K,
+) -> Verdict
+    requires processors { (1 ≤ build.processors) × (build.processors ≤ 512) }
+    requires capacity { (1 ≤ build.capacity) × (build.capacity ≤ 1024) }
+    ensures due { IsCheckDue (world (change F.held F.faults files.old files.new) (change S.rest S.faults input.old input.new) (change K.taken K.faults out.old out.new)) build name result }
+    ensures stays { F.held files.new ≡ F.held files.old }
+{
+    let capacity = build.capacity;
+    match load(alloc, build, files) {
+        Err(verdict) => verdict,
+        Ok(loaded) => check_loaded(alloc, loaded, capacity, name, files, input, out),
+    }
+}

@@ -1,0 +1,45 @@
+// The command `compile`: the image of a program, written to a file.
+
+ghost use Rattle.std.specs.Prelude.{◌≡◌, ◌∷◌, ◌≤◌, []};
+ghost use Rattle.p3l_program.specs.Command.{IsFileDue};
+ghost use Rattle.p3l_program.specs.Compile.{IsImageOf};
+ghost use Rattle.p3l_program.specs.Saved.{KeepsFiles};
+ghost use Rattle.p3l_program.specs.Stage.{build_stages};
+ghost use Rattle.p3l_program.specs.World.{change};
+
+use crate::accept::Accepted;
+use crate::load::{Loaded, load};
+use crate::save::save;
+use p3l_base::Name;
+use p3l_compiled::image_text;
+use p3l_io::Files;
+use p3l_opts::Build;
+use p3l_report::{Finish, Verdict};
+use std::alloc::Global;
+
+/// Writes the image of the program of a file, with the counts that are chosen for it, to the file of
+/// another name.
+pub fn compile<F: Files>(alloc: Global, build: Build, name: Name, files: &mut F) -> Verdict
+    requires processors { (1 ≤ build.processors) × (build.processors ≤ 512) }
+    requires capacity { (1 ≤ build.capacity) × (build.capacity ≤ 1024) }
+    ensures due { IsFileDue (change F.held F.faults files.old files.new) (build_stages build) name (IsImageOf (F.held files.old) build) result }
+    ensures kept { KeepsFiles (change F.held F.faults files.old files.new) (name ∷ []) result }
+{
+    let capacity = build.capacity;
+    let Loaded {
+        program,
+        choice,
+        ..
+    } = match load(alloc, build, files) {
+        Ok(loaded) => loaded,
+        Err(verdict) => return verdict,
+    };
+    let Accepted { tree, codes } = program;
+    let Ok(image) = image_text(alloc, tree, choice.counts, codes.as_slice(), capacity) else {
+        return Verdict::NoMemory;
+    };
+    match save(alloc, &name, image.as_slice(), files) {
+        Ok(()) => Verdict::Ended(Finish::Done, None),
+        Err(verdict) => verdict,
+    }
+}

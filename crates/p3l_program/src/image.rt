@@ -1,0 +1,67 @@
+// Loading the image that a command runs.
+
+ghost use Rattle.std.specs.Prelude.{◌≡◌, ◌≤◌, IfOk, IfErr, OnOk};
+ghost use Rattle.p3l_program.specs.Load.{IsNotLoaded};
+ghost use Rattle.p3l_program.specs.LoadImage.{LoadsImage, image_verdict, load_verdict};
+ghost use Rattle.p3l_program.specs.Stage.{image_stages};
+ghost use Rattle.p3l_program.specs.World.{change};
+
+use crate::file::find_text;
+use p3l_base::Name;
+use p3l_image::{ImageRefusal, decode};
+use p3l_io::Files;
+use p3l_load::{LoadRefusal, Loaded, load};
+use p3l_report::{Evidence, Refusal, Verdict};
+use std::alloc::Global;
+
+/// The most bytes of a file of an image.
+pub const IMAGE_LIMIT: u64 = 67_108_864;
+
+/// The verdict of bytes that are no image.
+fn image_verdict(refusal: ImageRefusal) -> Verdict
+    ensures { result ≡ image_verdict refusal }
+{
+    let evidence = match refusal {
+        ImageRefusal::BadMagic => Evidence::BadMagic,
+        ImageRefusal::Version(version) => Evidence::Version(version),
+        ImageRefusal::Short(place) => Evidence::Short(place),
+        ImageRefusal::BadField(place) => Evidence::BadField(place),
+        ImageRefusal::TrailingBytes(place) => Evidence::TrailingBytes(place),
+        ImageRefusal::NoMemory => return Verdict::NoMemory,
+    };
+    Verdict::Refused(Refusal::Evidence(evidence))
+}
+
+/// The verdict of an image that can't be run.
+fn load_verdict(refusal: LoadRefusal) -> Verdict
+    ensures { result ≡ load_verdict refusal }
+{
+    let evidence = match refusal {
+        LoadRefusal::TreeWrong => Evidence::TreeWrong,
+        LoadRefusal::CodeUnsafe(number) => Evidence::CodeUnsafe(number),
+        LoadRefusal::NotLinked => Evidence::NotLinked,
+        LoadRefusal::NoMemory => return Verdict::NoMemory,
+    };
+    Verdict::Refused(Refusal::Evidence(evidence))
+}
+
+/// The image of the file of this name, if it can be run; else the verdict that it can't.
+pub fn load_image<F: Files>(alloc: Global, name: Name, files: &mut F) -> Result<Loaded, Verdict>
+    ensures loaded { IfOk result (LoadsImage (F.held files.old) name) }
+    ensures calm { OnOk result (F.faults files.new ≡ F.faults files.old) }
+    ensures refused { IfErr result (IsNotLoaded (change F.held F.faults files.old files.new) (image_stages name)) }
+    ensures stays { F.held files.new ≡ F.held files.old }
+{
+    let bytes = match find_text(alloc, name, IMAGE_LIMIT, files) {
+        Ok(bytes) => bytes,
+        Err(refusal) => return Err(Verdict::from(refusal)),
+    };
+    let image = match decode(alloc, bytes.as_slice()) {
+        Ok(image) => image,
+        Err(refusal) => return Err(image_verdict(refusal)),
+    };
+    match load(alloc, image) {
+        Ok(loaded) => Ok(loaded),
+        Err(refusal) => Err(load_verdict(refusal)),
+    }
+}

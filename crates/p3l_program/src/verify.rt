@@ -1,0 +1,47 @@
+// The command `verify-cert`: whether a certificate holds for a program and its costs.
+
+ghost use Rattle.std.specs.Prelude.{◌≡◌, IfOk, string_bytes};
+ghost use Rattle.p3l_program.specs.Command.{IsTextDue};
+ghost use Rattle.p3l_program.specs.Stage.{verify_stages};
+ghost use Rattle.p3l_program.specs.Verify.{IsVerified, holds_line};
+ghost use Rattle.p3l_program.specs.World.{change};
+
+use crate::cert::load_cert;
+use crate::text::write_text;
+use p3l_base::Name;
+use p3l_cert::Cert;
+use p3l_io::{Files, Sink};
+use p3l_report::Verdict;
+use std::alloc::{AllocError, Global};
+
+/// The line of a certificate that holds.
+fn holds_line(alloc: Global, cert: &Cert) -> Result<String, AllocError>
+    ensures { IfOk result (λ line. string_bytes line ≡ holds_line cert.now.processors cert.now.used cert.now.service) }
+{
+    let processors = cert.processors;
+    let used = cert.used;
+    let service = cert.service;
+    format!(in alloc; "certificate holds: processors {processors} used {used} service {service}\n")
+}
+
+/// Writes what the certificate of a file says, if it holds for the program and the costs of others:
+/// then its counts are the best for its processors, whoever wrote it.
+pub fn verify_cert<F: Files, K: Sink>(
+    alloc: Global,
+    program: Name,
+    name: Name,
+    costs: Option<Name>,
+    files: &mut F,
+    out: &mut K,
+) -> Verdict
+    ensures due { IsTextDue (change F.held F.faults files.old files.new) (change K.taken K.faults out.old out.new) (verify_stages program name costs) (IsVerified (F.held files.old) program costs name) result }
+    ensures stays { F.held files.new ≡ F.held files.old }
+{
+    match load_cert(alloc, program, costs, name, files) {
+        Err(verdict) => verdict,
+        Ok(cert) => match holds_line(alloc, &cert) {
+            Err(_) => Verdict::NoMemory,
+            Ok(line) => write_text(line.as_str().as_bytes(), out),
+        },
+    }
+}
