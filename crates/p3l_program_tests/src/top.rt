@@ -207,7 +207,7 @@ fn words_files_and_texts_are_refused(rt: HostRuntime) -> Result<(), Fail> {
             3,
             "source: 1:38: 40 Undeclared\n",
         ),
-        (&["exec", "m.p3l"], DOUBLE, 2, usage),
+        (&["exec", "m.p3l"], DOUBLE, 13, "evidence: 80 BadMagic\n"),
         (
             &["run", "m.p3l", "--processors", "1"],
             PIPE,
