@@ -1,83 +1,11 @@
-// Items of texts, takings that stop early, and written text.
+// The items of a stream, one by one, how it ends, and written text.
 
 use crate::lists::{list, words_of};
-use p3l_base::{List, Outcome, Trap, TrapKind};
+use p3l_base::{Outcome, Trap, TrapKind};
 use p3l_io::MemSource;
-use p3l_stream::{
-    Ending, Items, Lines, Next, Stop, Taken, item_text, read_items, take_all, text_of,
-};
+use p3l_stream::{Lines, Next, item_text, text_of};
 use std::alloc::Global;
 use std::test::Fail;
-
-/// The items as they are written.
-fn written(alloc: Global, read: &Items) -> Result<Vec<u8>, Fail> {
-    let mut text = Vec::new(alloc);
-    for item in read.items.as_slice() {
-        text.extend_from_slice(item_text(alloc, item)?.as_slice())?;
-    }
-    Ok(text)
-}
-
-#[test]
-fn lines_give_items_up_to_the_first_refused(rt: HostRuntime) -> Result<(), Fail> {
-    let table: [(&[u8], u32, &[u8], Ending); 14] = [
-        (b"1\n2\n-3\n", 1, b"1\n2\n-3\n", Ending::End),
-        (b"", 1, b"", Ending::End),
-        (b"1\n2\n1 x\n4\n", 1, b"1\n2\n", Ending::BadWord(3)),
-        (b"+1\n", 1, b"", Ending::BadWord(1)),
-        (b"-\n", 1, b"", Ending::BadWord(1)),
-        (b"\n7\r\n8", 1, b"7\n8\n", Ending::End),
-        (b"1 2\n", 1, b"", Ending::WrongCount { line: 1, had: 2 }),
-        (b"\t1  2 \r", 2, b"1 2\n", Ending::End),
-        (b"1\r2\n", 1, b"", Ending::BadWord(1)),
-        (
-            b"9223372036854775807\n-0009\n",
-            1,
-            b"9223372036854775807\n-9\n",
-            Ending::End,
-        ),
-        (
-            b"-9223372036854775808",
-            1,
-            b"-9223372036854775808\n",
-            Ending::End,
-        ),
-        (b" \n9223372036854775808\n", 1, b"", Ending::OutOfRange(2)),
-        (b"-9223372036854775809 x", 1, b"", Ending::OutOfRange(1)),
-        (b"1 9-\n", 1, b"", Ending::BadWord(1)),
-    ];
-    for (text, width, items, ending) in table {
-        let taken = Taken {
-            bytes: list(rt.alloc(), text)?,
-            stop: Stop::End,
-        };
-        let read = read_items(rt.alloc(), &taken, width)?;
-        assert_eq!(rt; written(rt.alloc(), &read)?.as_slice(), items);
-        assert_eq!(rt; read.ending, ending);
-    }
-    Ok(())
-}
-
-#[test]
-fn a_fault_or_the_limit_drops_a_line_without_a_line_feed(rt: HostRuntime) -> Result<(), Fail> {
-    let table: [(&[u8], u64, u64, Stop, &[u8], Ending); 5] = [
-        (b"1\n2\n", 9, 5, Stop::Fault, b"1\n2\n", Ending::ReadFault),
-        (b"1\n2\n", 9, 4, Stop::Fault, b"1\n", Ending::ReadFault),
-        (b"1\n22\n3\n", 4, 9, Stop::Limit, b"1\n", Ending::TooLong),
-        (b"1\n2\n", 4, 9, Stop::Limit, b"1\n2\n", Ending::TooLong),
-        (b"x\n2\n", 9, 4, Stop::Fault, b"", Ending::BadWord(1)),
-    ];
-    for (text, limit, fails, stop, items, ending) in table {
-        let fails = List::from_vec(vec![in rt.alloc(); fails]?);
-        let mut source = MemSource::new(list(rt.alloc(), text)?, 1, fails);
-        let taken = take_all(rt.alloc(), &mut source, limit)?;
-        assert_eq!(rt; taken.stop, stop);
-        let read = read_items(rt.alloc(), &taken, 1)?;
-        assert_eq!(rt; written(rt.alloc(), &read)?.as_slice(), items);
-        assert_eq!(rt; read.ending, ending);
-    }
-    Ok(())
-}
 
 #[test]
 fn values_are_written_in_lines(rt: HostRuntime) -> Result<(), Fail> {
@@ -145,7 +73,7 @@ fn show(alloc: Global, shown: &mut String, next: &Next) -> Result<(), Fail> {
 
 #[test]
 fn items_are_answered_one_by_one_however_the_bytes_are_cut(rt: HostRuntime) -> Result<(), Fail> {
-    let table: [(&[u8], u32, u64, &str); 13] = [
+    let table: [(&[u8], u32, u64, &str); 21] = [
         (b"1\n2\n-3\n", 1, 99, "1\n2\n-3\nEnd\nEnd\n"),
         (b"", 1, 99, "End\nEnd\n"),
         (
@@ -169,6 +97,29 @@ fn items_are_answered_one_by_one_however_the_bytes_are_cut(rt: HostRuntime) -> R
         (b" \n\t\n\r\n 5 -6 \n  ", 2, 99, "5 -6\nEnd\nEnd\n"),
         (b"\nx", 1, 99, "BadWord 2\nBadWord 2\n"),
         (b"\n1 2", 1, 99, "WrongCount 2 2\nWrongCount 2 2\n"),
+        (b"-\n", 1, 99, "BadWord 1\nBadWord 1\n"),
+        (b"1\r2\n", 1, 99, "BadWord 1\nBadWord 1\n"),
+        (b"1 9-\n", 1, 99, "BadWord 1\nBadWord 1\n"),
+        (b"\t1  2 \r", 2, 99, "1 2\nEnd\nEnd\n"),
+        (b"-0009\n", 1, 99, "-9\nEnd\nEnd\n"),
+        (
+            b"-9223372036854775808",
+            1,
+            99,
+            "-9223372036854775808\nEnd\nEnd\n",
+        ),
+        (
+            b" \n9223372036854775808\n",
+            1,
+            99,
+            "OutOfRange 2\nOutOfRange 2\n",
+        ),
+        (
+            b"-9223372036854775809 x",
+            1,
+            99,
+            "OutOfRange 1\nOutOfRange 1\n",
+        ),
     ];
     for piece in [1usize, 2, 4095, 4096, 9999] {
         for (text, width, limit, shown) in table {
@@ -183,17 +134,21 @@ fn items_are_answered_one_by_one_however_the_bytes_are_cut(rt: HostRuntime) -> R
 
 #[test]
 fn a_fault_at_each_take_ends_the_stream(rt: HostRuntime) -> Result<(), Fail> {
-    let table: [(u64, &str, u64); 6] = [
-        (1, "ReadFault\nReadFault\n", 1),
-        (2, "ReadFault\nReadFault\n", 2),
-        (3, "1\nReadFault\nReadFault\n", 3),
-        (4, "1\nReadFault\nReadFault\n", 4),
-        (5, "1\n2\nReadFault\nReadFault\n", 5),
-        (6, "1\n2\nEnd\nEnd\n", 5),
+    let two: &[u8] = b"1\n2\n";
+    let table: [(&[u8], u64, &str, u64); 8] = [
+        (two, 1, "ReadFault\nReadFault\n", 1),
+        (two, 2, "ReadFault\nReadFault\n", 2),
+        (two, 3, "1\nReadFault\nReadFault\n", 3),
+        (two, 4, "1\nReadFault\nReadFault\n", 4),
+        (two, 5, "1\n2\nReadFault\nReadFault\n", 5),
+        (two, 6, "1\n2\nEnd\nEnd\n", 5),
+        // A line that is refused before the fault, and one that the fault drops.
+        (b"x\n2\n", 4, "BadWord 1\nBadWord 1\n", 2),
+        (b"x\n2\n", 2, "ReadFault\nReadFault\n", 2),
     ];
-    for (call, shown, calls) in table {
+    for (text, call, shown, calls) in table {
         let fails = list(rt.alloc(), &[call])?;
-        let mut source = MemSource::new(list(rt.alloc(), b"1\n2\n".as_slice())?, 1, fails);
+        let mut source = MemSource::new(list(rt.alloc(), text)?, 1, fails);
         let answers = answers(rt.alloc(), &mut source, 1, 99)?;
         assert_eq!(rt; answers.as_str(), shown);
         assert_eq!(rt; source.calls(), calls);
