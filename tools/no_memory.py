@@ -1,0 +1,76 @@
+#!/usr/bin/env python3
+"""Each request for memory refused in turn: a run then ends with 11 and the line `no memory`, or as it ends with ample memory.
+
+    tools/no_memory.py PATH_OF_P3L
+
+The program is loaded behind tools/refused_memory.c, which refuses the request of one number. What was written by then must
+be a front of what is written with ample memory, and no line but `no memory` may stand on standard error where the status is 11.
+"""
+
+import os
+import subprocess
+import sys
+import tempfile
+
+HERE = os.path.dirname(os.path.abspath(__file__))
+DOUBLE = b"seq main in(int x) out(int y)\n${ y = x * 2 + 1; }$\nend seq\n"
+LOOP = b"seq half in(int x, int c) out(int y, int d) ${ y = x / 2; d = c + 1; }$ end seq seq more in(int x, int c) out(int again) ${ again = x > 1; }$ end seq farm halves in(int x, int c) out(int y, int d) workers 4 half in(x, c) out(y, d) end farm loop main in(int x, int c) out(int y, int d) turns 10 tokens 4 halves in(x, c) out(y, d) while more in(y, d) out(int again) end loop"
+FARM = b"seq f in(int x) out(int y) ${ y = x + 1; }$ end seq seq g in(int x) out(int y) ${ y = x * 3; }$ end seq farm w in(int x) out(int y) g in(x) out(y) end farm pipe main in(int x) out(int z) f in(x) out(int y) w in(y) out(z) end pipe"
+COSTS = b"setup = 0\nword = 0\n[seq]\nf = 10\ng = 60\n"
+PICKS = b"0 1 2 3 4 5 7 8 9 " * 200 + b"0 1 2 3 4 5 6 7 8 9 " * 200
+FILES = {"double.p3l": DOUBLE, "loop.p3l": LOOP, "farm.p3l": FARM, "costs": COSTS, "picks": PICKS}
+COSTED = ["farm.p3l", "--processors", "8", "--costs", "costs"]
+# The words of each run, its stream, and the words by which its files are made before.
+RUNS = [
+    (["run", "double.p3l", "--processors", "4", "--stats"], b"1\n2\n-3\n", []),
+    (["run", "loop.p3l", "--processors", "16", "--capacity", "1", "--schedule", "file:picks"], b"64 0\n3 0\n", []),
+    (["check", "farm.p3l"], b"", []),
+    (["fmt", "farm.p3l"], b"", []),
+    (["explain", *COSTED], b"", []),
+    (["explain", *COSTED, "--cert", "cert"], b"", []),
+    (["verify-cert", "farm.p3l", "--costs", "costs", "--cert", "made.cert"], b"", ["explain", *COSTED, "--cert", "made.cert"]),
+    (["compile", *COSTED, "--output", "image"], b"", []),
+    (["exec", "made.image", "--stats"], b"1\n2\n-3\n", ["compile", *COSTED, "--output", "made.image"]),
+    (["run", *COSTED, "--trace", "trace"], b"1\n2\n-3\n", []),
+    (["check-trace", *COSTED, "--trace", "made.trace"], b"1\n2\n-3\n", ["run", *COSTED, "--trace", "made.trace"]),
+    (["gen", "7", "--processors", "16", "--items", "3"], b"", []),
+]
+
+
+def main():
+    binary, tried, wrong, ended = os.path.abspath(sys.argv[1]), 0, 0, {}
+    with tempfile.TemporaryDirectory() as folder:
+        library = f"{folder}/refused_memory.so"
+        subprocess.run(["cc", "-O2", "-shared", "-fPIC", "-o", library, f"{HERE}/refused_memory.c"], check=True)
+        for name, data in FILES.items():
+            with open(f"{folder}/{name}", "wb") as it:
+                it.write(data)
+
+        def run(words, stream, refuse=0):
+            given = {**os.environ, "LD_PRELOAD": library, "REFUSE": str(refuse), "COUNT": f"{folder}/count"}
+            return subprocess.run([binary, *words], cwd=folder, input=stream, capture_output=True, env=given, timeout=60)
+
+        for words, stream, maker in RUNS:
+            if maker:
+                run(maker, stream)
+            whole = run(words, stream)
+            if whole.returncode == 2:
+                print(f"not built: {words[0]}")
+                continue
+            with open(f"{folder}/count") as it:
+                count = int(it.read())
+            for number in range(1, count + 1):
+                done = run(words, stream, number)
+                tried += 1
+                ended[done.returncode] = ended.get(done.returncode, 0) + 1
+                is_short = done.returncode == 11 and done.stderr == b"no memory\n" and whole.stdout.startswith(done.stdout)
+                is_whole = (done.returncode, done.stdout, done.stderr) == (whole.returncode, whole.stdout, whole.stderr)
+                if not is_short and not is_whole:
+                    wrong += 1
+                    print(f"{' '.join(words)}: request {number}: status {done.returncode}: {done.stderr[:200]!r}")
+            print(f"{' '.join(words)}: {count} requests, status {whole.returncode} with all")
+    print(f"tried {tried}, wrong {wrong}; statuses " + ", ".join(f"{status}: {times}" for status, times in sorted(ended.items())))
+    return int(wrong > 0)
+
+
+sys.exit(main())
