@@ -32,6 +32,7 @@ fn shown(alloc: Global, ran: &Result<Ran, RunFault>) -> Result<String, Fail> {
             format!(in alloc; "{numbers}trap {item} {}", module.as_str())?
         }
         Finish::Stream(ending) => format!(in alloc; "{numbers}{}", ending_shown(*ending))?,
+        Finish::Differs { line } => format!(in alloc; "{numbers}differs {line}")?,
     })
 }
 
