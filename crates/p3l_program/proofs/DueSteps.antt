@@ -1,10 +1,9 @@
 -- Verdicts that are due, and want of memory in their place.
-use Rattle.std.proofs.Common.{◌≡◌, ℕ, Bool, List, [], ◌∷◌, Option, Some, None, refl, sym, subst, inl, inr}
+use Rattle.std.proofs.Common.{◌≡◌, ℕ, List, [], ◌∷◌, Option, Some, None, refl, sym, subst, inl, inr}
 use Rattle.clap.specs.Words.{Text}
 use Rattle.p3l_opts.specs.declared.command.Build.{Build}
 use Rattle.p3l_opts.specs.declared.command.Command.{Command}
 use Rattle.p3l_opts.specs.declared.command.Command.TheVariants as command
-use Rattle.p3l_opts.specs.declared.command.Sched.{Sched}
 use Rattle.p3l_io.specs.Told.{Held}
 use Rattle.p3l_opts.specs.Command.{Spells}
 use Rattle.p3l_report.specs.declared.stats.Stats.{Stats}
@@ -19,8 +18,6 @@ use Rattle.p3l_program.specs.Command.{Begins, Ends, IsDueOf, IsFileDue, IsSaving
 use Rattle.p3l_program.specs.Compile.{IsImageOf}
 use Rattle.p3l_program.specs.Explain.{IsExplained}
 use Rattle.p3l_program.specs.Fmt.{IsFormatted, fmt_stages}
-use Rattle.p3l_program.specs.Origin.{built, imaged}
-use Rattle.p3l_program.specs.Run.{IsRunDue}
 use Rattle.p3l_program.specs.Saved.{KeepsFiles}
 use Rattle.p3l_program.specs.Stage.{IsRefusedBy, build_stages, program_stages, there, verify_stages}
 use Rattle.p3l_program.specs.Verify.{IsVerified}
@@ -78,14 +75,6 @@ module _ (words : List Text) (files : Change Held) (input out : Change (List ℕ
   -- one that writes no file
   asked : (c : Command) → Spells words c → written_of c ≡ [] → IsDueOf (world files input out) c v → files.new ≡ files.old → IsDue words (world files input out) v
   asked c spelled none due same = inl (record { command = c; spelled = spelled; due = due; kept = subst (λ names. KeepsFiles files names v) (sym none) (kept_by files [] v same) })
-
-  pub run_asked : (build : Build) (schedule : Sched) (reported : Bool) → Spells words (command.Run build schedule None reported) → IsRunDue (world files input out) (built build) schedule reported v → files.new ≡ files.old →
-      IsDue words (world files input out) v
-  run_asked build schedule reported spelled due same = asked (command.Run build schedule None reported) spelled refl due same
-
-  pub exec_asked : (name : List ℕ) (schedule : Sched) (reported : Bool) → Spells words (command.Exec name schedule None reported) → IsRunDue (world files input out) (imaged name) schedule reported v → files.new ≡ files.old →
-      IsDue words (world files input out) v
-  exec_asked name schedule reported spelled due same = asked (command.Exec name schedule None reported) spelled refl due same
 
 -- one that lets the input alone
 module _ (words : List Text) (files : Change Held) (out : Change (List ℕ)) (rest : Option (List ℕ)) (faults : ℕ) (v : Verdict) where

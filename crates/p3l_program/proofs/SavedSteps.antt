@@ -1,18 +1,16 @@
 -- Commands that write a file, and then one text.
 use Rattle.std.proofs.Common.{◌≡◌, ℕ, List, [], ◌∷◌, Option, Some, None, refl, sym, ap, subst, inl, inr, append-nil, ◌∙◌}
-use Rattle.std.specs.declared.result.Result.{Result}
-use Rattle.std.specs.declared.result.Result.TheVariants.{Ok, Err}
-use Rattle.p3l_io.specs.Told.{Held, Writes}
-use Rattle.p3l_io.specs.declared.fault.WriteFault.{WriteFault}
+use Rattle.std.specs.declared.result.Result.TheVariants.{Err}
+use Rattle.p3l_io.specs.Told.{Held}
 use Rattle.p3l_report.specs.declared.verdict.Verdict.{Verdict}
 use Rattle.p3l_report.specs.declared.verdict.Verdict.TheVariants as verdict
 use Rattle.p3l_run.specs.Write.{HasBegun, HasPut}
 use Rattle.p3l_program.specs.Command.{IsSavingDue}
 use Rattle.p3l_program.specs.Load.{IsNotLoaded}
-use Rattle.p3l_program.specs.Saved.{EndsSaving, HasSave, HoldsBut, IsSaved, KeepsBut, KeepsFiles, SaveCause, Stands}
+use Rattle.p3l_program.specs.Saved.{EndsSaving, HoldsBut, IsSaved, KeepsBut, KeepsFiles, SaveCause}
 use Rattle.p3l_program.specs.Stage.{AllPass, Stage}
 use Rattle.p3l_program.specs.Text.{BeginsText, IsWritten}
-use Rattle.p3l_program.specs.World.{Change, HasRisen, IsCalm, IsStill, world}
+use Rattle.p3l_program.specs.World.{Change, IsCalm, IsStill, world}
 use Rattle.p3l_program.proofs.TextSteps.{not_loaded}
 
 -- nothing is a front of any text
@@ -36,28 +34,6 @@ kept_by files names (verdict.Refused refused) h = h
 kept_by files names (verdict.Ended finish stats) h = kept_all files names h
 kept_by files names verdict.WriteFault h = kept_all files names h
 kept_by files names verdict.NoMemory h = kept_all files names h
-
--- what a writing does to the files
-write_kept : (old new : Option Held) (name bytes : List ℕ) (r : Result (Unit {0}) WriteFault) → Writes old new name bytes r → (held : Held) → old ≡ Some held → HoldsBut held new (name ∷ [])
-write_kept None new name bytes r h held told = absurd cc
-write_kept (Some old) None name bytes r h held told = absurd h
-write_kept (Some old) (Some new) name bytes (Ok done) h held told = (let same : old ≡ held = cc in subst (λ f. HoldsBut f (Some new) (name ∷ [])) same (λ other out. h.1 other out.0))
-write_kept (Some old) (Some new) name bytes (Err e) h held told = (let same : old ≡ held = cc in subst (λ f. HoldsBut f (Some new) (name ∷ [])) same (λ other out. h other out.0))
-
-write_stands : (old new : Option Held) (name bytes : List ℕ) → Writes old new name bytes (Ok tt) → (held : Held) → old ≡ Some held → Stands new name bytes
-write_stands None new name bytes h held told = absurd cc
-write_stands (Some old) None name bytes h held told = absurd h
-write_stands (Some old) (Some new) name bytes h held told = h.0
-
-module _ (files : Change Held) (name bytes : List ℕ) where
-  pub saved : Writes files.old files.new name bytes (Ok tt) → files.now ≡ files.before → HasSave files name bytes (Ok tt)
-  saved h calm = record { kept = write_kept files.old files.new name bytes (Ok tt) h; by = (write_stands files.old files.new name bytes h, calm) }
-
-  pub not_saved : (e : WriteFault) → Writes files.old files.new name bytes (Err e) → HasRisen files → HasSave files name bytes (Err verdict.WriteFault)
-  not_saved e h up = record { kept = write_kept files.old files.new name bytes (Err e) h; by = up }
-
-  pub no_room : (e : WriteFault) → Writes files.old files.new name bytes (Err e) → files.now ≡ files.before → HasSave files name bytes (Err verdict.NoMemory)
-  no_room e h calm = record { kept = write_kept files.old files.new name bytes (Err e) h; by = calm }
 
 module _ (files : Change Held) (out : Change (List ℕ)) (stages : List Stage) (IsText : List ℕ → Type 0) (name : List ℕ) (IsBytes : List ℕ → Type 0) where
   -- stages that don't pass
