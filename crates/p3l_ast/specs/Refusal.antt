@@ -1,7 +1,7 @@
 -- The numbers and the names of faults, as they are printed.
 use Rattle.std.specs.Prelude.{ℕ, List, codes}
 use Rattle.p3l_ast.specs.declared.refusal.Fault.{Fault}
-use Rattle.p3l_ast.specs.declared.refusal.Fault.TheVariants.{BadByte, BadToken, Expected, NumberTooBig, NameTooLong, SourceTooLong, NotYet, TooNested, UnknownName, BadSize, TooWide, Twice, NoMain, UsedBeforeDefined, Arity, TypeDiffers, Wiring, FreeIndex, BadOperator, NotInComp, LoopTypes, BadWorkers, TooManyInstances, TooDeep, TooHeavy, Undeclared, DeclaredTwice, NotArray, IsArray, WriteToIn}
+use Rattle.p3l_ast.specs.declared.refusal.Fault.TheVariants.{BadByte, BadToken, Expected, NumberTooBig, NameTooLong, SourceTooLong, TooNested, UnknownName, BadSize, TooWide, Twice, NoMain, UsedBeforeDefined, Arity, TypeDiffers, Wiring, FreeIndex, BadOperator, NotInComp, LoopTypes, BadWorkers, TooManyInstances, TooDeep, TooHeavy, Undeclared, DeclaredTwice, NotArray, IsArray, WriteToIn}
 
 -- the number of a fault
 abbrev pub number_of : Fault → ℕ
@@ -11,7 +11,6 @@ number_of Expected = 3
 number_of NumberTooBig = 4
 number_of NameTooLong = 5
 number_of SourceTooLong = 6
-number_of NotYet = 7
 number_of TooNested = 8
 number_of UnknownName = 10
 number_of BadSize = 11
@@ -44,7 +43,6 @@ name_of Expected = codes "Expected"
 name_of NumberTooBig = codes "NumberTooBig"
 name_of NameTooLong = codes "NameTooLong"
 name_of SourceTooLong = codes "SourceTooLong"
-name_of NotYet = codes "NotYet"
 name_of TooNested = codes "TooNested"
 name_of UnknownName = codes "UnknownName"
 name_of BadSize = codes "BadSize"

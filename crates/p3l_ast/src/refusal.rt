@@ -22,8 +22,6 @@ pub enum Fault {
     NameTooLong,
     /// A text of more than 1,048,576 bytes.
     SourceTooLong,
-    /// A program that is right, and that this version cannot run yet.
-    NotYet,
     /// The 65th open bracket of a body, or the 257th operator of an expression.
     TooNested,
     /// A name that nothing defines.
@@ -84,7 +82,6 @@ impl Fault {
             Fault::NumberTooBig => 4,
             Fault::NameTooLong => 5,
             Fault::SourceTooLong => 6,
-            Fault::NotYet => 7,
             Fault::TooNested => 8,
             Fault::UnknownName => 10,
             Fault::BadSize => 11,
@@ -122,7 +119,6 @@ impl Fault {
             Fault::NumberTooBig => "NumberTooBig",
             Fault::NameTooLong => "NameTooLong",
             Fault::SourceTooLong => "SourceTooLong",
-            Fault::NotYet => "NotYet",
             Fault::TooNested => "TooNested",
             Fault::UnknownName => "UnknownName",
             Fault::BadSize => "BadSize",
