@@ -82,6 +82,6 @@ pub fn check_body<'a>(
         locals,
         budget,
         body: block.stmts.as_slice(),
-        consts: consts.copy(alloc)?,
+        consts: consts.copy()?,
     })
 }

@@ -163,15 +163,15 @@ fn with_body<'a>(
 }
 
 impl<'a> Progress<'a> {
-    /// No entries.
-    fn new(alloc: Global) -> Progress<'a>
-        ensures { checked_of result ≡ none_checked }
+    /// No entries, with the constants of a program held ready.
+    fn new(alloc: Global, entries: &[Entry]) -> Result<Progress<'a>, NoMemory>
+        ensures { IfOk result (λ progress. checked_of progress ≡ none_checked) }
     {
-        Progress {
-            consts: Consts::new(alloc),
+        Ok(Progress {
+            consts: Consts::ahead(alloc, entries)?,
             modules: Modules::new(alloc),
             seqs: List::new(alloc),
-        }
+        })
     }
 
     /// An entry's name is no earlier entry's.
@@ -274,7 +274,7 @@ impl<'a> Progress<'a> {
         ensures { Gives (checked_result result) (checked_entries none_checked (map entry_tree entries.now)) }
     {
         let places = Places::of(alloc, entries)?;
-        let mut progress = Progress::new(alloc);
+        let mut progress = Progress::new(alloc, entries)?;
         for (place, entry) in entries.iter().enumerate() {
             progress = progress.check_entry(alloc, &places, place, entry)?;
         }

@@ -38,7 +38,7 @@ fn first_compiled(
     let Some(module) = first_module(program) else {
         return Ok(None);
     };
-    let consts = Consts::new(alloc);
+    let consts = Consts::new(alloc)?;
     let Ok(seq) = check_body(alloc, module, HOME, &consts) else {
         return Ok(None);
     };

@@ -10,7 +10,7 @@ use std::test::Fail;
 
 /// Checks the first module behind its constants.
 fn check(alloc: Global, program: &Program) -> Result<(), SourceRefusal> {
-    let mut consts = Consts::new(alloc);
+    let mut consts = Consts::new(alloc)?;
     for entry in program.entries.as_slice() {
         match entry {
             Entry::Constant(spot, value) => {

@@ -251,7 +251,7 @@ fn check_calls(
 /// Checks the calls of all modules.
 fn check(alloc: Global, text: &str) -> Result<(), SourceRefusal> {
     let program = read(alloc, text.as_bytes())?;
-    let mut consts = Consts::new(alloc);
+    let mut consts = Consts::new(alloc)?;
     for entry in program.entries.as_slice() {
         match entry {
             Entry::Constant(spot, value) => {

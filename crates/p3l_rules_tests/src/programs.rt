@@ -255,3 +255,29 @@ fn millions_of_instances_are_refused_at_once(rt: HostRuntime) -> Result<(), Fail
     assert_eq!(rt; found.as_str(), "31 2:6");
     Ok(())
 }
+
+/// Constants and `seq` modules by turns, within the limit of a text: the last module has the name of the first constant.
+fn many_entries(alloc: Global) -> Result<String, AllocError> {
+    let mut text = String::new(alloc);
+    for k in 0..10000u32 {
+        let constants = format!(in alloc; "const A{k}=1;const B{k}=2;const C{k}=3;")?;
+        text.push_str(constants.as_str())?;
+        let head = format!(in alloc; "seq m{k} in(int x)out(int y)")?;
+        text.push_str(head.as_str())?;
+        let sum = format!(in alloc; "x+A{k}+B0;")?;
+        text.push_str("${y=")?;
+        text.push_str(sum.as_str())?;
+        text.push_str("}$end seq\n")?;
+    }
+    text.push_str("seq A0 in(int x)out(int y)${y=x;}$end seq")?;
+    Ok(text)
+}
+
+#[test]
+fn thousands_of_constants_before_thousands_of_bodies(rt: HostRuntime) -> Result<(), Fail> {
+    let text = many_entries(rt.alloc())?;
+    assert!(rt; text.as_str().len() <= 1048576);
+    let found = answer(rt.alloc(), text.as_str())?;
+    assert_eq!(rt; found.as_str(), "20 10001:5");
+    Ok(())
+}

@@ -16,12 +16,12 @@ fn spot(alloc: Global, name: &str) -> Result<Spot, NoMemory> {
 #[test]
 fn constants(rt: HostRuntime) -> Result<(), Fail> {
     let alloc = rt.alloc();
-    let mut consts = Consts::new(alloc);
+    let mut consts = Consts::new(alloc)?;
     let name = Name::from_text(alloc, "N")?;
     assert!(rt; consts.get(&name).is_none());
     consts.add(alloc, &name, 3)?;
     assert_eq!(rt; consts.get(&name), Some(3));
-    let copy = consts.copy(alloc)?;
+    let copy = consts.copy()?;
     assert_eq!(rt; copy.get(&name), Some(3));
     Ok(())
 }
@@ -40,7 +40,7 @@ fn port(alloc: Global) -> Result<Port, NoMemory> {
 #[test]
 fn shapes(rt: HostRuntime) -> Result<(), Fail> {
     let alloc = rt.alloc();
-    let mut consts = Consts::new(alloc);
+    let mut consts = Consts::new(alloc)?;
     if consts.get(&Name::from_text(alloc, "N")?).is_none() {
         consts.add(alloc, &Name::from_text(alloc, "N")?, 3)?;
     }
