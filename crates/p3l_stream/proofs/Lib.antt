@@ -1,6 +1,4 @@
 pub mod Endings
-pub mod Fronts
-pub mod Gathering
 pub mod LinesApart
 pub mod Numbers
 pub mod Positions

@@ -1,11 +1,10 @@
 -- How the lines of a text follow one another.
-use Rattle.std.proofs.Common.{◌≡◌, ℕ, suc, ◌+◌, ◌<◌, true, false, not, cond, List, [], ◌∷◌, length, take, drop, Option, Some, None, position, refl, ap, sym, ◌∙◌, arith, length-drop}
+use Rattle.std.proofs.Common.{◌≡◌, ℕ, suc, ◌+◌, ◌<◌, true, false, not, cond, List, [], ◌∷◌, length, take, drop, Some, None, position, refl, ap, sym, ◌∙◌, arith}
 use Rattle.std.specs.List.{after_first, onto_first, position_or_len, slice_split}
 use Rattle.std.specs.Str.Lines.{strip_carriage_return}
 use Rattle.std.proofs.lemmas.List.Splits.{slice_split_first}
 use Rattle.p3l_stream.specs.declared.taken.Stop.{Stop}
-use Rattle.p3l_stream.specs.declared.taken.Stop.TheVariants as stop
-use Rattle.p3l_stream.specs.Lines.{IsFirstLine, IsLastLine, is_feed, last_line, lines_between, lines_of}
+use Rattle.p3l_stream.specs.Lines.{is_feed, last_line, lines_between, lines_of}
 use Rattle.p3l_stream.proofs.Positions.{position-none, position-some}
 
 more_parts : (how : Stop) (part : List ℕ) (parts : List (List ℕ)) (bytes : List ℕ) → slice_split is_feed bytes ≡ parts → lines_between how (part ∷ slice_split is_feed bytes) ≡ strip_carriage_return part ∷ lines_between how (slice_split is_feed bytes)
@@ -45,26 +44,3 @@ one_part (byte ∷ bytes) none =
 -- without a line feed the bytes are the last part
 pub lines_of-last : (how : Stop) (bytes : List ℕ) → None ≡ position is_feed bytes → lines_of how bytes ≡ last_line how bytes
 lines_of-last how bytes none = ap (lines_between how) (one_part bytes (position-none is_feed bytes (sym none)))
-
--- the first line ends at the first line feed
-pub IsFirstLine-feed : (how : Stop) (bytes : List ℕ) (end : ℕ) (first after : List ℕ) → Some end ≡ position is_feed bytes → first ≡ strip_carriage_return (take end bytes) → after ≡ drop (end + 1) bytes → IsFirstLine how bytes (Some (first, after))
-IsFirstLine-feed how bytes end first after found first_is after_is =
-    let at : (position_or_len is_feed bytes ≡ end) × (position_or_len is_feed bytes < length bytes) = position-some is_feed bytes end (sym found) in (
-      lines_of-feed how bytes end found
-          ∙ ap (λ line. line ∷ lines_of how (drop (end + 1) bytes)) (sym first_is)
-          ∙ ap (λ rest. first ∷ lines_of how rest) (sym after_is),
-      omega (arith, ap length after_is, length-drop (end + 1) bytes),
-    )
-
--- without a line feed the first line is the last
-pub IsFirstLine-last : (how : Stop) (bytes : List ℕ) (found : Option (List ℕ × List ℕ)) → None ≡ position is_feed bytes → IsLastLine how bytes found → IsFirstLine how bytes found
-IsFirstLine-last how bytes None none is = lines_of-last how bytes none ∙ is
-IsFirstLine-last how bytes (Some (first, after)) none is = (
-  lines_of-last how bytes none ∙ is.0 ∙ ap (λ lines. first ∷ lines) (sym (ap (lines_of how) is.1 ∙ nothing how)),
-  omega (arith, ap length is.1),
-)
-  where
-    nothing : (how : Stop) → lines_of how [] ≡ []
-    nothing stop.End = refl
-    nothing stop.Fault = refl
-    nothing stop.Limit = refl

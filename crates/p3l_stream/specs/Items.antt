@@ -1,5 +1,5 @@
 -- The items of a text.
-use Rattle.std.specs.Prelude.{◌≡◌, ℕ, ◌+◌, ℤ, List, [], ◌∷◌, ◌++◌}
+use Rattle.std.specs.Prelude.{ℕ, ◌+◌, List, [], ◌∷◌}
 use Rattle.p3l_stream.specs.declared.taken.Stop.{Stop}
 use Rattle.p3l_stream.specs.declared.taken.Stop.TheVariants as stop
 use Rattle.p3l_stream.specs.declared.line.Line.{Line}
@@ -28,15 +28,6 @@ closing stop.End = ending.End
 closing stop.Fault = ending.ReadFault
 closing stop.Limit = ending.TooLong
 
--- what an ending without a refused line says of how the taking stopped
-abbrev pub IsEndingOf : Stop → Ending → Type 0
-IsEndingOf how ending.End = how ≡ stop.End
-IsEndingOf how ending.ReadFault = how ≡ stop.Fault
-IsEndingOf how ending.TooLong = how ≡ stop.Limit
-IsEndingOf how (ending.BadWord line) = Unit {0}
-IsEndingOf how (ending.WrongCount line had) = Unit {0}
-IsEndingOf how (ending.OutOfRange line) = Unit {0}
-
 -- the items of the bytes taken, and their ending, by how the taking stopped
 abbrev pub items_taken : ℕ → Stop → List ℕ → Items
 items_taken width how bytes = items_of_lines width 1 (closing how) (lines_of how bytes)
@@ -44,17 +35,3 @@ items_taken width how bytes = items_of_lines width 1 (closing how) (lines_of how
 -- the items of a whole text, and their ending
 abbrev pub items_of : ℕ → List ℕ → Items
 items_of width bytes = items_taken width stop.End bytes
-
--- these items and this ending are the first of a whole text's: up to a fault or the limit some of its items, and else all, and its ending
-abbrev pub Begins : List (List ℤ) → Ending → Items → Type 0
-Begins items ending.ReadFault whole = (later : List (List ℤ)) × (whole.items ≡ items ++ later)
-Begins items ending.TooLong whole = (later : List (List ℤ)) × (whole.items ≡ items ++ later)
-Begins items ending.End whole = whole ≡ record { items = items; ending = ending.End }
-Begins items (ending.BadWord line) whole = whole ≡ record { items = items; ending = ending.BadWord line }
-Begins items (ending.WrongCount line had) whole = whole ≡ record { items = items; ending = ending.WrongCount line had }
-Begins items (ending.OutOfRange line) whole = whole ≡ record { items = items; ending = ending.OutOfRange line }
-
--- whatever follows the bytes taken, and nothing does at the end, the items read are the first of the whole text's
-abbrev pub IsReadOf : ℕ → Stop → List ℕ → Items → Type 0
-IsReadOf width how bytes read =
-    (more : List ℕ) → (how ≡ stop.End → more ≡ []) → Begins read.items read.ending (items_of width (bytes ++ more))

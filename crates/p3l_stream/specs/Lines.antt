@@ -1,5 +1,5 @@
 -- The lines of a text, and what each holds.
-use Rattle.std.specs.Prelude.{◌≡◌, ℕ, ℤ, ◌<◌, Bool, ◌==◌, List, [], ◌∷◌, length, Option, Some, None, Result, Ok, Err, if◌then◌else◌}
+use Rattle.std.specs.Prelude.{ℕ, ℤ, Bool, ◌==◌, List, [], ◌∷◌, length, Result, Ok, Err, if◌then◌else◌}
 use Rattle.std.specs.List.{slice_split}
 use Rattle.std.specs.Str.Lines.{strip_carriage_return}
 use Rattle.p3l_stream.specs.declared.taken.Stop.{Stop}
@@ -29,16 +29,6 @@ lines_between how (part ∷ next ∷ parts) = strip_carriage_return part ∷ lin
 -- the lines of the bytes taken, by how the taking stopped
 abbrev pub lines_of : Stop → List ℕ → List (List ℕ)
 lines_of how bytes = lines_between how (slice_split is_feed bytes)
-
--- this line comes first, and these bytes have the others; or there is no line
-abbrev pub IsFirstLine : Stop → List ℕ → Option (List ℕ × List ℕ) → Type 0
-IsFirstLine how bytes None = lines_of how bytes ≡ []
-IsFirstLine how bytes (Some (first, after)) = (lines_of how bytes ≡ first ∷ lines_of how after) × (length after < length bytes)
-
--- bytes without a line feed are this line, with nothing behind it; or they are no line
-abbrev pub IsLastLine : Stop → List ℕ → Option (List ℕ × List ℕ) → Type 0
-IsLastLine how bytes None = last_line how bytes ≡ []
-IsLastLine how bytes (Some (first, after)) = (last_line how bytes ≡ first ∷ []) × (after ≡ []) × (0 < length bytes)
 
 -- what a line holds whose words write these numbers, where an item has so many words
 abbrev pub line_from : ℕ → Result (List ℤ) WordFault → Line

@@ -1,5 +1,5 @@
-//! The stream: the items of a source's lines, asked for one by one or all at once, and the text that
-//! items are written as.
+//! The stream: the items of a source's lines, asked for one by one, and the text that items are
+//! written as.
 #![tactic(auto)]
 
 mod buffer;
@@ -12,10 +12,10 @@ pub mod taken;
 pub mod text;
 pub mod word;
 
-pub use items::{Ending, Items, read_items};
+pub use items::{Ending, Items};
 pub use line::Line;
 pub use lines::Lines;
 pub use next::Next;
-pub use taken::{Stop, Taken, take_all};
+pub use taken::Stop;
 pub use text::{item_text, text_of};
 pub use word::WordFault;

@@ -1,11 +1,9 @@
 // The lines of a text, and what each holds.
 
 ghost use Rattle.std.specs.Prelude.{◌≡◌, Ok, IfOk, position};
-ghost use Rattle.std.specs.Option.{option_map};
 ghost use Rattle.std.specs.Str.Lines.{strip_carriage_return};
-ghost use Rattle.p3l_stream.specs.Lines.{IsFirstLine, IsLastLine, is_feed, line_from, line_of};
+ghost use Rattle.p3l_stream.specs.Lines.{is_feed, line_from, line_of};
 
-use crate::taken::Stop;
 use crate::word::{WordFault, read_numbers};
 use p3l_base::{NoMemory, Words};
 use std::alloc::Global;
@@ -25,32 +23,11 @@ pub enum Line {
     OutOfRange,
 }
 
-/// The first line of the bytes, without a carriage return at its end, and what is behind it.
-/// Bytes behind the last line feed are a line only where the input is at its end.
-pub(crate) fn next_line(bytes: &[u8], stop: Stop) -> Option<(&[u8], &[u8])>
-    ensures { IsFirstLine stop bytes.now (option_map (λ found. (found.0.now, found.1.now)) result) }
-{
-    match first_feed(bytes) {
-        Some(end) => Some((without_return(&bytes[..end]), &bytes[end + 1..])),
-        None => last_line(bytes, stop),
-    }
-}
-
 /// Where the first line feed stands.
 pub(crate) fn first_feed(bytes: &[u8]) -> Option<usize>
     ensures { result ≡ position is_feed bytes.now }
 {
     bytes.iter().position(|byte| *byte == b'\n')
-}
-
-/// The line of bytes without a line feed, if they are one, and nothing behind it.
-fn last_line(bytes: &[u8], stop: Stop) -> Option<(&[u8], &[u8])>
-    ensures { IsLastLine stop bytes.now (option_map (λ found. (found.0.now, found.1.now)) result) }
-{
-    match stop {
-        Stop::End if !bytes.is_empty() => Some((without_return(bytes), &[])),
-        _ => None,
-    }
 }
 
 /// A line without one carriage return at its end, if it has one.
