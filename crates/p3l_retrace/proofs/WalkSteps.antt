@@ -1,5 +1,5 @@
 -- A machine that goes through the picks of a trace: its first state, each item, each pick, and the end.
-use Rattle.std.proofs.Common.{◌≡◌, ◌≢◌, ℕ, ℤ, suc, ◌+◌, ◌*◌, ◌<◌, ◌≤◌, ◌^◌, Bool, true, false, List, [], ◌∷◌, ◌++◌, length, map, take, drop, get_or, Option, Some, None, IsTrue, inl, inr, refl, sym, ap, subst, ◌∙◌, arith, append_assoc, append-nil}
+use Rattle.std.proofs.Common.{◌≡◌, ◌≢◌, ℕ, ℤ, suc, ◌+◌, ◌*◌, ◌<◌, ◌≤◌, ◌^◌, Bool, true, false, List, [], ◌∷◌, ◌++◌, length, take, drop, get_or, Option, Some, None, inl, inr, refl, sym, ap, subst, ◌∙◌, arith, append_assoc, append-nil}
 use Rattle.std.specs.Option.{option_to_list}
 use Rattle.std.proofs.Math.Seq.{take-suc}
 use Rattle.std.proofs.lemmas.List.{take-append-drop}
@@ -10,39 +10,25 @@ use Rattle.p3l_skel.specs.Tree.{node_at}
 use Rattle.p3l_firing.specs.declared.net.Net.{Net}
 use Rattle.p3l_net.specs.Carried.{HaveInWords}
 use Rattle.p3l_net.specs.Fire.{can_fire}
-use Rattle.p3l_net.specs.Machine.{Seen, Fires, can_step, started, state_of}
+use Rattle.p3l_net.specs.Machine.{Seen, can_step, started}
 use Rattle.p3l_net.specs.Offered.{Follows, HasFilledInbox}
 use Rattle.p3l_net.specs.Run.{Course, after_picks, picked}
-use Rattle.p3l_net.specs.State.{with_rest}
 use Rattle.p3l_stream.specs.declared.items.Ending.{Ending}
 use Rattle.p3l_stream.specs.Given.{HasGiven}
 use Rattle.p3l_stream.specs.Seen as lines
-use Rattle.p3l_run.specs.Feed.{Feeds, Offers, closed_so, input_limit, most_of_input}
+use Rattle.p3l_run.specs.Feed.{Feeds, Offers, input_limit, most_of_input}
 use Rattle.p3l_run.specs.Laws.{Laws, Runs}
 use Rattle.p3l_run.specs.Network.{Network, course_under, width_of}
 use Rattle.p3l_run.specs.Run.{MayCome}
 use Rattle.p3l_run.proofs.FeedSteps.{gives_first}
-use Rattle.p3l_run.proofs.RunSteps.{filled_after, few_fits, nothing_comes, wide_append}
+use Rattle.p3l_run.proofs.RunSteps.{filled_after, nothing_comes, wide_append}
+use Rattle.p3l_run.proofs.TraceSteps.{agree_more, picks_more, same_line}
 use Rattle.p3l_trace.specs.declared.trace.TraceLine.{TraceLine}
 use Rattle.p3l_trace.specs.declared.trace.Traced.{Traced}
-use Rattle.p3l_trace.specs.Agreement.{AgreeFrom, AgreesIn, AgreesWith, AllAgree, IsCounted, IsLineOf, picks_of}
+use Rattle.p3l_trace.specs.Agreement.{AgreeFrom, AgreesIn, AgreesWith, AllAgree, IsCounted, picks_of}
 use Rattle.p3l_retrace.specs.Retraced.{AgreesOn, DiffersOn}
 use Rattle.p3l_retrace.specs.Step.{Steps, StepsIf}
 use Rattle.p3l_retrace.specs.Walk.{IsAt, Stands, Walks}
-
-picks_more : (walked : List TraceLine) (line : TraceLine) → picks_of (walked ++ line ∷ []) ≡ picks_of walked ++ line.pick ∷ []
-picks_more [] line = refl
-picks_more (first ∷ walked) line = ap (λ ps. first.pick ∷ ps) (picks_more walked line)
-
--- one line more agrees
-agree_more : (tree : Tree) (leaf : ℕ → List ℤ → Outcome) (net : Net) (c : Course) (walked : List TraceLine) (line : TraceLine)
-    → AgreeFrom tree leaf net c walked → AgreesIn tree net (after_picks tree leaf net c (picks_of walked)).state line → AgreeFrom tree leaf net c (walked ++ line ∷ [])
-unfolding AgreeFrom after_picks
-agree_more tree leaf net c [] line agree one = (one, tt)
-agree_more tree leaf net c (first ∷ walked) line agree one = (agree.0, agree_more tree leaf net (picked tree leaf net c first.pick) walked line agree.1 one)
-
-same_line : (b b' : Bool) (net net' : Net) (line : TraceLine) → b ≡ b' → net ≡ net' → IsLineOf b net line → IsLineOf b' net' line
-same_line b b' net net' line e f is = subst (λ k. IsLineOf b' k line) f (subst (λ k. IsLineOf k net line) e is)
 
 no_end : (e : Ending) → ◌≡◌ {A = Option Ending} None (Some e) → ⊥
 no_end e h = cc

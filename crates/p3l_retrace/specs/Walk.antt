@@ -1,5 +1,5 @@
 -- A machine that goes through the picks of a trace, on items that come from a stream.
-use Rattle.std.specs.Prelude.{◌≡◌, ℕ, ℤ, List, ◌++◌, Option}
+use Rattle.std.specs.Prelude.{ℕ, ℤ, List, ◌++◌, Option}
 use Rattle.p3l_base.specs.declared.outcome.Outcome.{Outcome}
 use Rattle.p3l_net.specs.Carried.{HaveInWords}
 use Rattle.p3l_net.specs.Machine.{Seen}

@@ -1,4 +1,5 @@
 pub mod WriteSteps
 pub mod FeedSteps
+pub mod TraceSteps
 pub mod RunSteps
 pub mod DriveSteps

@@ -10,9 +10,11 @@ use Rattle.p3l_base.specs.declared.outcome.Outcome.{Outcome}
 use Rattle.p3l_base.specs.declared.outcome.Outcome.TheVariants.{Value, Trapped}
 use Rattle.p3l_base.specs.declared.outcome.Trap.{Trap}
 use Rattle.p3l_firing.specs.declared.net.Net.{Net}
+use Rattle.p3l_firing.specs.declared.process.ProcKind.{ProcKind}
 use Rattle.p3l_skel.specs.declared.tree.Tree.{Tree}
 use Rattle.p3l_skel.specs.Item.{item, meaning, up_to_trap}
 use Rattle.p3l_net.specs.Fire.{can_fire}
+use Rattle.p3l_net.specs.Process.{kind_at}
 use Rattle.p3l_net.specs.Machine.{Seen, Fires, can_step, ready_list, started, state_of}
 use Rattle.p3l_net.specs.Offered.{Follows, HasFilledInbox}
 use Rattle.p3l_net.specs.State.{with_rest}
@@ -28,13 +30,18 @@ use Rattle.p3l_sched.specs.Course.{most_picks, picks_from, picks_of}
 use Rattle.p3l_sched.specs.Picker.{HasPlace, HasProcesses, IsPickedFrom, NamesProcesses, after_pick, begun, pick_of, ready_of, recorded}
 use Rattle.p3l_stream.specs.declared.items.Ending.{Ending}
 use Rattle.p3l_stream.specs.Text.{text_of}
+use Rattle.p3l_trace.specs.declared.trace.TraceLine.{TraceLine}
+use Rattle.p3l_trace.specs.Agreement as trace
+use Rattle.p3l_trace.specs.Agreement.{AgreeFrom}
 use Rattle.p3l_run.specs.Feed.{Offers}
 use Rattle.p3l_run.specs.Laws.{Laws, Runs}
-use Rattle.p3l_run.specs.Network.{IsRunOn, Network, course_of, course_under, goes_on, is_some, meaning_of, ready_at, size_of, stats_of, width_of}
-use Rattle.p3l_run.specs.Run.{MayCome}
+use Rattle.p3l_run.specs.Network.{IsRunOn, Network, course_of, course_under, goes_on, is_some, meaning_of, picks_of as run_picks, ready_at, size_of, stats_of, width_of}
+use Rattle.p3l_run.specs.Run.{IsTraceOf, MayCome}
 use Rattle.p3l_run.specs.Steps.{HasRoom, IsAt, Stands, left_of}
+use Rattle.p3l_run.specs.Sum.{sum_after, sum_of}
 use Rattle.p3l_run.specs.Trap.{trap_after, trap_of}
 use Rattle.p3l_run.specs.Write.{HasBegun, HasPut}
+use Rattle.p3l_run.proofs.TraceSteps.{agree_more, counts_fired, counts_idle, picks_more, same_line}
 use Rattle.p3l_run.proofs.WriteSteps.{begun_longer, begun_more, begun_whole, text_begins, text_more}
 
 -- items behind others, each of so many words
@@ -45,6 +52,10 @@ wide_append width (x ∷ xs) ys all more = (all.0, wide_append width xs ys all.1
 -- the last trap of outcomes, one list after another
 pub trap_more : (trap : Option Trap) (first second : List Outcome) → trap ≡ trap_of first → fold trap_after trap second ≡ trap_of (first ++ second)
 trap_more trap first second e = ap (λ t. fold trap_after t second) e ∙ sym (fold-append trap_after None first second)
+
+-- and the sum of their words
+pub sum_more : (sum : ℤ) (first second : List Outcome) → sum ≡ sum_of first → fold sum_after sum second ≡ sum_of (first ++ second)
+sum_more sum first second e = ap (λ t. fold sum_after t second) e ∙ sym (fold-append sum_after (pos 0) first second)
 
 -- nothing may always come
 pub nothing_comes : (n : Network) (close : Option Ending) → MayCome n close []
@@ -173,68 +184,73 @@ module _ (n : Network) (laws : Laws n) (schedule : Schedule) where
   at_network m runs P p = subst (λ t. P t n.net) runs.tree (subst (λ k. P m.tree k) runs.net p)
 
   -- a machine that was just started
-  pub stands_first : (m : Seen) → m ≡ started n.tree n.net → NamesProcesses (size_of n) schedule → Stands n schedule m (begun schedule) [] None [] 0
-  unfolding picks_of after_picks
+  pub stands_first : (m : Seen) → m ≡ started n.tree n.net → NamesProcesses (size_of n) schedule → Stands n schedule m (begun schedule) [] None [] 0 []
+  unfolding picks_of after_picks AgreeFrom
   stands_first m fresh named = record {
     runs = record { tree = ap (λ s. s.tree) fresh; net = ap (λ s. s.net) fresh };
     wide = tt;
     place = place_first schedule (size_of n) laws.some;
     named = named_first schedule (size_of n) named;
     room = room_first schedule;
-    picks = [];
+    counts = record { fired = ap (λ s. s.fired) fresh; idle = refl };
     at = λ later may. record {
       follows = subst (λ s. Follows s [] later (course_under n later [])) (sym fresh) (laws.starts later);
       idle_is = refl;
       goes_on = ap (λ k. picks_from n.tree n.leaf n.net k (begun schedule) (course_under n later [])) (most_first schedule (n.firings * length later) m.fired (ap (λ s. s.fired) fresh));
+      agree = tt;
     };
   }
 
   -- an item that was offered
-  module _ (m m' : Seen) (w : Way) (given : List (List ℤ)) (close close' : Option Ending) (outcomes : List Outcome) (idle : ℕ) (s : Stands n schedule m w given close outcomes idle)
+  module _ (m m' : Seen) (w : Way) (given : List (List ℤ)) (close close' : Option Ending) (outcomes : List Outcome) (idle : ℕ) (walked : List TraceLine) (s : Stands n schedule m w given close outcomes idle walked)
       (kept : (e : Ending) → close ≡ Some e → close' ≡ Some e) where
-    stands_same : Offers m m' [] → Stands n schedule m' w (given ++ []) close' outcomes idle
+    stands_same : Offers m m' [] → Stands n schedule m' w (given ++ []) close' outcomes idle walked
     stands_same same =
-        subst (λ k. Stands n schedule k w (given ++ []) close' outcomes idle) (sym same)
-        (subst (λ g. Stands n schedule m w g close' outcomes idle) (sym (append-nil given)) (record {
+        subst (λ k. Stands n schedule k w (given ++ []) close' outcomes idle walked) (sym same)
+        (subst (λ g. Stands n schedule m w g close' outcomes idle walked) (sym (append-nil given)) (record {
           runs = s.runs;
           wide = s.wide;
           place = s.place;
           named = s.named;
           room = s.room;
-          picks = s.picks;
+          counts = s.counts;
           at = λ later may. s.at later (record { wide = may.wide; none = λ e is. may.none e (kept e is) });
         }))
 
-    stands_offered : (item : List ℤ) → m.inbox ≡ None → m' ≡ record m { inbox = Some item } → length item ≡ width_of n → close ≡ None → Stands n schedule m' w (given ++ item ∷ []) close' outcomes idle
+    stands_offered : (item : List ℤ) → m.inbox ≡ None → m' ≡ record m { inbox = Some item } → length item ≡ width_of n → close ≡ None → Stands n schedule m' w (given ++ item ∷ []) close' outcomes idle walked
     stands_offered item empty is one not_ended =
-        subst (λ k. Stands n schedule k w (given ++ item ∷ []) close' outcomes idle) (sym is) (record {
+        subst (λ k. Stands n schedule k w (given ++ item ∷ []) close' outcomes idle walked) (sym is) (record {
           runs = record { tree = s.runs.tree; net = s.runs.net };
           wide = wide_append (width_of n) given (item ∷ []) s.wide (one, tt);
           place = s.place;
           named = s.named;
           room = s.room;
-          picks = s.picks;
+          counts = record { fired = s.counts.fired; idle = s.counts.idle };
           at = λ later may.
               let was = s.at (item ∷ later) (record { wide = (one, may.wide); none = λ e closed. absurd (none_open e (sym not_ended ∙ closed)) }) in
-              subst (λ i. IsAt n schedule (record m { inbox = Some item }) w i later outcomes idle s.picks) (sym (append_assoc given (item ∷ []) later)) (record {
-                follows = laws.offered m outcomes item later (course_under n (given ++ item ∷ later) s.picks) was.follows empty;
+              subst (λ i. IsAt n schedule (record m { inbox = Some item }) w i later outcomes idle walked) (sym (append_assoc given (item ∷ []) later)) (record {
+                follows = laws.offered m outcomes item later (course_under n (given ++ item ∷ later) (trace.picks_of walked)) was.follows empty;
                 idle_is = was.idle_is;
                 goes_on = was.goes_on;
+                agree = was.agree;
               });
         })
       where
         none_open : (e : Ending) → ◌≡◌ {A = Option Ending} None (Some e) → ⊥
         none_open e h = cc
 
-    pub stands_fed : (more : List (List ℤ)) → Offers m m' more → AllByRecursion (λ (words : List ℤ). length words ≡ width_of n) more → (more ≢ [] → close ≡ None) → Stands n schedule m' w (given ++ more) close' outcomes idle
+    pub stands_fed : (more : List (List ℤ)) → Offers m m' more → AllByRecursion (λ (words : List ℤ). length words ≡ width_of n) more → (more ≢ [] → close ≡ None) → Stands n schedule m' w (given ++ more) close' outcomes idle walked
     stands_fed [] offers wide asked = stands_same offers
     stands_fed (item ∷ []) offers wide asked = stands_offered item offers.0 offers.1 wide.0 (asked (λ e. cc))
     stands_fed (item ∷ other ∷ more) offers wide asked = absurd (let none = offers.2 in cc)
 
   -- where the machine stands
-  module _ (m : Seen) (w : Way) (given : List (List ℤ)) (close : Option Ending) (outcomes : List Outcome) (idle : ℕ) (s : Stands n schedule m w given close outcomes idle) where
+  module _ (m : Seen) (w : Way) (given : List (List ℤ)) (close : Option Ending) (outcomes : List Outcome) (idle : ℕ) (walked : List TraceLine) (s : Stands n schedule m w given close outcomes idle walked) where
+    abbrev picks : List ℕ
+    picks = trace.picks_of walked
+
     abbrev course : List (List ℤ) → Course
-    course later = course_under n (given ++ later) s.picks
+    course later = course_under n (given ++ later) picks
 
     all_wide : (later : List (List ℤ)) → MayCome n close later → HaveInWords n.tree (given ++ later)
     all_wide later may = wide_append (width_of n) given later s.wide may.wide
@@ -251,18 +267,18 @@ module _ (n : Network) (laws : Laws n) (schedule : Schedule) where
     bare P p = subst P (append-nil given) p
 
     pub few_sent : m.sent ≤ length given
-    few_sent = bare (λ i. m.sent ≤ length i) (subst (λ k. k ≤ length (given ++ [])) (sym (sent_is [] (nothing_comes n close))) (laws.sent_most (given ++ []) (all_wide [] (nothing_comes n close)) s.picks))
+    few_sent = bare (λ i. m.sent ≤ length i) (subst (λ k. k ≤ length (given ++ [])) (sym (sent_is [] (nothing_comes n close))) (laws.sent_most (given ++ []) (all_wide [] (nothing_comes n close)) picks))
 
     pub few_fired : m.fired ≤ n.firings * length given
     few_fired =
         let may = nothing_comes n close in
-        let a = laws.fired_most (given ++ []) (all_wide [] may) s.picks in
+        let a = laws.fired_most (given ++ []) (all_wide [] may) picks in
         let same : m.fired ≡ (course []).fired = (s.at [] may).follows.fired in
         let sent : (course []).state.sent ≤ length given = subst (λ k. k ≤ length given) (sent_is [] may) few_sent in
         omega (arith, same, mul-le n.firings (course []).state.sent n.firings (length given) (omega arith) sent)
 
     pub begins_given : (later : List (List ℤ)) → MayCome n close later → IsPrefixOf outcomes (meaning_of n (given ++ later))
-    begins_given later may = subst (λ o. IsPrefixOf o (meaning_of n (given ++ later))) (sym (emitted_is later may)) (laws.begins (given ++ later) (all_wide later may) s.picks)
+    begins_given later may = subst (λ o. IsPrefixOf o (meaning_of n (given ++ later))) (sym (emitted_is later may)) (laws.begins (given ++ later) (all_wide later may) picks)
 
     pub begins_all : IsPrefixOf outcomes (meaning_of n given)
     begins_all = bare (λ i. IsPrefixOf outcomes (meaning_of n i)) (begins_given [] (nothing_comes n close))
@@ -280,35 +296,47 @@ module _ (n : Network) (laws : Laws n) (schedule : Schedule) where
       can_same later may p = at_network m s.runs (λ t k. can_fire t k (course later).state p ≡ can_step m p) (laws.can_fires m outcomes later (course later) p (s.at later may).follows (filled later may))
 
       -- a pick that was made
-      module _ (p : ℕ) (is : pick_of (can_step m) (length m.net.procs) w ≡ Some p) (some : ready_list m ≢ []) where
+      module _ (p : ℕ) (said : Option ProcKind) (is : pick_of (can_step m) (length m.net.procs) w ≡ Some p) (some : ready_list m ≢ []) where
         pub picked_so : IsPickedFrom (can_step m) (size_of n) w p
         picked_so = at_network m s.runs (λ t k. IsPickedFrom (can_step m) (length k.procs) w p) (laws.picked_from (can_step m) (length m.net.procs) w p is)
 
         abbrev after_it : Way
         after_it = after_pick (size_of n) w p
 
-        one_more : (later : List (List ℤ)) → course_under n (given ++ later) (s.picks ++ p ∷ []) ≡ picked n.tree n.leaf n.net (course later) p
-        one_more later = laws.one_more _ s.picks p
+        -- the trace with its line
+        abbrev line : TraceLine
+        line = record { pick = p; kind = said }
 
-        on : (later : List (List ℤ)) → MayCome n close later → (left left' : ℕ) → left ≡ suc left' → s.picks ++ picks_from n.tree n.leaf n.net left w (course later) ≡ picks_of n.tree n.leaf n.net n.firings schedule (given ++ later) →
-            (s.picks ++ p ∷ []) ++ picks_from n.tree n.leaf n.net left' after_it (course_under n (given ++ later) (s.picks ++ p ∷ [])) ≡ picks_of n.tree n.leaf n.net n.firings schedule (given ++ later)
+        abbrev more : List TraceLine
+        more = walked ++ line ∷ []
+
+        one_more : (later : List (List ℤ)) → course_under n (given ++ later) (trace.picks_of more) ≡ picked n.tree n.leaf n.net (course later) p
+        one_more later = ap (course_under n (given ++ later)) (picks_more walked line) ∙ laws.one_more _ picks p
+
+        agree_on : (there : p < length m.net.procs) → said ≡ trace.said_if (can_step m p) m.net p → (later : List (List ℤ)) → MayCome n close later → trace.AllAgree n.tree n.leaf n.net (given ++ later) more
+        agree_on there is_said later may =
+            agree_more n.tree n.leaf n.net _ walked line (s.at later may).agree
+            (same_line (can_step m p) (can_fire n.tree n.net (course later).state p) m.net n.net line (sym (can_same later may p)) s.runs.net (record { there = there; said = is_said }))
+
+        on : (later : List (List ℤ)) → MayCome n close later → (left left' : ℕ) → left ≡ suc left' → picks ++ picks_from n.tree n.leaf n.net left w (course later) ≡ picks_of n.tree n.leaf n.net n.firings schedule (given ++ later) →
+            trace.picks_of more ++ picks_from n.tree n.leaf n.net left' after_it (course_under n (given ++ later) (trace.picks_of more)) ≡ picks_of n.tree n.leaf n.net n.firings schedule (given ++ later)
         on later may left left' one whole =
-            let rest : List ℕ = picks_from n.tree n.leaf n.net left' after_it (course_under n (given ++ later) (s.picks ++ p ∷ [])) in
+            let rest : List ℕ = picks_from n.tree n.leaf n.net left' after_it (course_under n (given ++ later) (trace.picks_of more)) in
             let some_there : ready_at n (course later) ≢ [] = λ none. some (sym (ready_same later may) ∙ none) in
             let taken : picks_from n.tree n.leaf n.net left w (course later) ≡ p ∷ rest =
             ap (λ k. picks_from n.tree n.leaf n.net k w (course later)) one
             ∙ laws.next left' w (course later) p some_there (pick_same later may ∙ is)
             ∙ ap (λ c. p ∷ picks_from n.tree n.leaf n.net left' after_it c) (sym (one_more later)) in
-            append_assoc s.picks (p ∷ []) rest ∙ ap (λ l. s.picks ++ l) (sym taken) ∙ whole
+            ap (λ l. l ++ rest) (picks_more walked line) ∙ append_assoc picks (p ∷ []) rest ∙ ap (λ l. picks ++ l) (sym taken) ∙ whole
 
         -- its process fires
         module _ (new : Seen) (handed : Option Outcome) (can : IsTrue (can_step m p)) (fires : Fires n.leaf m new p handed) where
-          led : (later : List (List ℤ)) → MayCome n close later → Follows new (outcomes ++ option_to_list handed) later (course_under n (given ++ later) (s.picks ++ p ∷ []))
+          led : (later : List (List ℤ)) → MayCome n close later → Follows new (outcomes ++ option_to_list handed) later (course_under n (given ++ later) (trace.picks_of more))
           led later may =
               subst (λ c. Follows new (outcomes ++ option_to_list handed) later c) (sym (one_more later))
               (at_network m s.runs (λ t k. Follows new (outcomes ++ option_to_list handed) later (picked t n.leaf k (course later) p)) (laws.fires m new outcomes later (course later) p handed (s.at later may).follows (filled later may) can fires))
 
-          idle_stays : (later : List (List ℤ)) → MayCome n close later → (course_under n (given ++ later) (s.picks ++ p ∷ [])).idle ≡ idle
+          idle_stays : (later : List (List ℤ)) → MayCome n close later → (course_under n (given ++ later) (trace.picks_of more)).idle ≡ idle
           unfolding picked
           idle_stays later may =
               let here : can_fire n.tree n.net (course later).state p ≡ true = can_same later may p ∙ can in
@@ -317,12 +345,11 @@ module _ (n : Network) (laws : Laws n) (schedule : Schedule) where
           -- there was a firing left
           pub firing_left : (later : List (List ℤ)) → MayCome n close later → m.fired + 1 ≤ n.firings * length (given ++ later)
           firing_left later may =
-              let picks : List ℕ = s.picks ++ p ∷ [] in
-              let a = laws.fired_most (given ++ later) (all_wide later may) picks in
-              let b = laws.sent_most (given ++ later) (all_wide later may) picks in
+              let a = laws.fired_most (given ++ later) (all_wide later may) (trace.picks_of more) in
+              let b = laws.sent_most (given ++ later) (all_wide later may) (trace.picks_of more) in
               let e = (led later may).fired in
               let f = fires.fired in
-              omega (arith, mul-le n.firings (course_under n (given ++ later) picks).state.sent n.firings (length (given ++ later)) (omega arith) b)
+              omega (arith, mul-le n.firings (course_under n (given ++ later) (trace.picks_of more)).state.sent n.firings (length (given ++ later)) (omega arith) b)
 
           pub firing_left_given : m.fired + 1 ≤ n.firings * length given
           firing_left_given = bare (λ i. m.fired + 1 ≤ n.firings * length i) (firing_left [] (nothing_comes n close))
@@ -332,18 +359,19 @@ module _ (n : Network) (laws : Laws n) (schedule : Schedule) where
           unfolding with_rest state_of
           led_begins =
               bare (λ i. IsPrefixOf (outcomes ++ option_to_list handed) (meaning_of n i))
-              (subst (λ o. IsPrefixOf o (meaning_of n (given ++ []))) (sym (ap (λ x. x.emitted) (led [] (nothing_comes n close)).state)) (laws.begins (given ++ []) (all_wide [] (nothing_comes n close)) (s.picks ++ p ∷ [])))
+              (subst (λ o. IsPrefixOf o (meaning_of n (given ++ []))) (sym (ap (λ x. x.emitted) (led [] (nothing_comes n close)).state)) (laws.begins (given ++ []) (all_wide [] (nothing_comes n close)) (trace.picks_of more)))
 
-          pub stands_fired : Stands n schedule new after_it given close (outcomes ++ option_to_list handed) idle
-          stands_fired = record {
+          pub stands_fired : p < length m.net.procs → (kind : ProcKind) → kind_at m.net p ≡ Some kind → said ≡ Some kind → Stands n schedule new after_it given close (outcomes ++ option_to_list handed) idle more
+          stands_fired there kind kind_is is_said = record {
             runs = record { tree = fires.tree ∙ s.runs.tree; net = fires.net ∙ s.runs.net };
             wide = s.wide;
             place = place_after (size_of n) w p laws.some;
             named = named_after (can_step m) (size_of n) w p s.named;
             room = room_after schedule (can_step m) (size_of n) w p idle picked_so s.room;
-            picks = s.picks ++ p ∷ [];
+            counts = counts_fired walked line m.fired new.fired idle kind is_said fires.fired s.counts;
             at = λ later may. record {
               follows = led later may;
+              agree = agree_on there (is_said ∙ sym kind_is ∙ sym (cond-true _ _ _ can)) later may;
               idle_is = idle_stays later may;
               goes_on = on later may _ _ (left_fired (n.firings * length (given ++ later)) m.fired new.fired (can_step m) (size_of n) w p picked_so fires.fired (firing_left later may)) (s.at later may).goes_on;
             };
@@ -351,16 +379,17 @@ module _ (n : Network) (laws : Laws n) (schedule : Schedule) where
 
         -- it can't fire
         module _ (cannot : can_step m p ≡ false) where
-          pub stands_idle : Stands n schedule m after_it given close outcomes (idle + 1)
+          pub stands_idle : p < length m.net.procs → said ≡ None → Stands n schedule m after_it given close outcomes (idle + 1) more
           unfolding picked
-          stands_idle = record {
+          stands_idle there is_said = record {
             runs = s.runs;
             wide = s.wide;
             place = place_after (size_of n) w p laws.some;
             named = named_after (can_step m) (size_of n) w p s.named;
             room = room_idle schedule (can_step m) (size_of n) w p idle picked_so s.room;
-            picks = s.picks ++ p ∷ [];
+            counts = counts_idle walked line m.fired idle is_said s.counts;
             at = λ later may. record {
+              agree = agree_on there (is_said ∙ sym (cond-false _ _ _ cannot)) later may;
               follows =
                   subst (λ c. Follows m outcomes later c) (sym (one_more later))
                   (at_network m s.runs (λ t k. Follows m outcomes later (picked t n.leaf k (course later) p)) (laws.idles m outcomes later (course later) p (s.at later may).follows (filled later may) cannot));
@@ -373,9 +402,12 @@ module _ (n : Network) (laws : Laws n) (schedule : Schedule) where
 
       -- no pick is left
       module _ (over : (later : List (List ℤ)) → MayCome n close later → picks_from n.tree n.leaf n.net (left_of (n.firings * length (given ++ later)) m.fired w) w (course later) ≡ []) where
+        picks_whole : (later : List (List ℤ)) → MayCome n close later → picks ≡ run_picks n schedule (given ++ later)
+        picks_whole later may = sym (append-nil picks) ∙ ap (λ l. picks ++ l) (sym (over later may)) ∙ (s.at later may).goes_on
+
         whole_course : (later : List (List ℤ)) → MayCome n close later → course later ≡ course_of n schedule (given ++ later)
         unfolding course_of
-        whole_course later may = ap (course_under n (given ++ later)) (sym (append-nil s.picks) ∙ ap (λ l. s.picks ++ l) (sym (over later may)) ∙ (s.at later may).goes_on)
+        whole_course later may = ap (course_under n (given ++ later)) (picks_whole later may)
 
         pub ran : (stats : Stats) → stats ≡ record { items = m.sent; fired = m.fired; idle = idle; bound = m.sent * n.firings } → (later : List (List ℤ)) → MayCome n close later → IsRunOn n schedule (given ++ later) outcomes stats
         ran stats are later may =
@@ -390,10 +422,19 @@ module _ (n : Network) (laws : Laws n) (schedule : Schedule) where
               begins = begins_given later may;
               whole = λ stuck.
                   let none : ready_at n c ≡ [] = none_ready (ready_at n c) (ap (goes_on n) same ∙ stuck) in
-                  emitted_is later may ∙ laws.finished (given ++ later) (all_wide later may) s.picks (laws.none_can c none);
+                  emitted_is later may ∙ laws.finished (given ++ later) (all_wide later may) picks (laws.none_can c none);
               stats_are = all ∙ ap (stats_of n) same;
-              bounded = subst (λ (x : Stats). x.fired ≤ n.firings * x.items) (sym all) (laws.fired_most (given ++ later) (all_wide later may) s.picks);
+              bounded = subst (λ (x : Stats). x.fired ≤ n.firings * x.items) (sym all) (laws.fired_most (given ++ later) (all_wide later may) picks);
             }
+
+        pub traced : (stats : Stats) → stats ≡ record { items = m.sent; fired = m.fired; idle = idle; bound = m.sent * n.firings } → (later : List (List ℤ)) → MayCome n close later → IsTraceOf n schedule (given ++ later) stats walked
+        traced stats are later may = record {
+          picks = picks_whole later may;
+          agrees = record {
+            lines = (s.at later may).agree;
+            counts = record { fired = ap (λ k. k.fired) are ∙ s.counts.fired; idle = ap (λ k. k.idle) are ∙ s.counts.idle };
+          };
+        }
 
         pub goes_same : (later : List (List ℤ)) → MayCome n close later → goes_on n (course_of n schedule (given ++ later)) ≡ is_some (ready_list m)
         goes_same later may = ap (goes_on n) (sym (whole_course later may)) ∙ ap is_some (ready_same later may)
@@ -417,7 +458,7 @@ module _ (n : Network) (laws : Laws n) (schedule : Schedule) where
 
       finished_at : ready_list m ≡ [] → (later : List (List ℤ)) → MayCome n close later → outcomes ≡ meaning_of n (given ++ later)
       finished_at none later may =
-          emitted_is later may ∙ laws.finished (given ++ later) (all_wide later may) s.picks (laws.none_can (course later) (ready_same later may ∙ none))
+          emitted_is later may ∙ laws.finished (given ++ later) (all_wide later may) picks (laws.none_can (course later) (ready_same later may ∙ none))
 
       -- without a trap this is only where the stream is ended
       pub must_end : ready_list m ≡ [] → trap_of outcomes ≡ None → close ≢ None

@@ -2,6 +2,8 @@ pub mod Fault
 pub mod Network
 pub mod Laws
 pub mod Trap
+pub mod Sum
+pub mod Keeping
 pub mod Write
 pub mod Feed
 pub mod Run

@@ -15,10 +15,15 @@ use Rattle.p3l_sched.specs.declared.schedule.Schedule.{Schedule}
 use Rattle.p3l_stream.specs.declared.items.Ending.{Ending}
 use Rattle.p3l_stream.specs.Seen.{Seen}
 use Rattle.p3l_stream.specs.Text.{text_of}
+use Rattle.p3l_trace.specs.declared.trace.TraceLine.{TraceLine}
+use Rattle.p3l_trace.specs.Agreement as trace
 use Rattle.p3l_run.specs.declared.fault.RunFault.{RunFault}
+use Rattle.p3l_run.specs.declared.keeping.Keeping.{Keeping}
 use Rattle.p3l_run.specs.declared.run.Ran.{Ran}
 use Rattle.p3l_run.specs.Feed.{Gives, closed_so}
-use Rattle.p3l_run.specs.Network.{IsRunOn, Network, course_of, goes_on, meaning_of, width_of}
+use Rattle.p3l_run.specs.Network.{IsRunOn, Network, course_of, goes_on, meaning_of, picks_of, width_of}
+use Rattle.p3l_run.specs.Keeping.{kept_by}
+use Rattle.p3l_run.specs.Sum.{sum_of}
 use Rattle.p3l_run.specs.Trap.{trap_of}
 use Rattle.p3l_run.specs.Write.{HasBegun, HasPut}
 
@@ -50,18 +55,29 @@ abbrev pub MayEnd : Option Ending → Ending → Type 0
 MayEnd None e = Unit {0}
 MayEnd (Some close) e = close ≡ e
 
+-- these lines are the trace of the run of the network on the items under the schedule, which has these numbers: their picks are
+-- that run's, and each says of its pick what happened
+pub record IsTraceOf (n : Network) (schedule : Schedule) (items : List (List ℤ)) (stats : Stats) (lines : List TraceLine) : Type 0 where
+  pub picks : trace.picks_of lines ≡ picks_of n schedule items
+  pub agrees : trace.Agrees n.tree n.leaf n.net items (record { lines = lines; fired = stats.fired; idle = stats.idle })
+
 -- a run came to its end: the text of what the network emits was written, on the items that the stream gave and whatever may
--- still come behind them, and it ended as that run does
-pub record Finishes (n : Network) (schedule : Schedule) (rest left : Option (List ℕ)) (before now : ℕ) (taken taken' : Option (List ℕ)) (end : Finish) (stats : Stats) : Type 0 where
+-- still come behind them, and it ended as that run does; its lines are that run's trace, where they were to be kept, and its sum
+-- is that of the words that were emitted
+pub record Finishes (n : Network) (schedule : Schedule) (keeping : Keeping) (rest left : Option (List ℕ)) (before now : ℕ) (taken taken' : Option (List ℕ)) (end : Ran) : Type 0 where
   pub stream : Seen
   pub items : List (List ℤ)
   pub close : Option Ending
   pub gives : Gives (width_of n) rest left before now stream items (closed_so close)
   pub outcomes : List Outcome
   pub put : HasPut taken taken' (text_of outcomes)
-  pub ran : (later : List (List ℤ)) → MayCome n close later → IsRunOn n schedule (items ++ later) outcomes stats
-  pub ends : (later : List (List ℤ)) → MayCome n close later → (e : Ending) → MayEnd close e → end ≡ finish_of n (course_of n schedule (items ++ later)) e
-  pub closed : (e : Ending) → end ≡ finish.Stream e → close ≡ Some e
+  pub ran : (later : List (List ℤ)) → MayCome n close later → IsRunOn n schedule (items ++ later) outcomes end.stats
+  pub ends : (later : List (List ℤ)) → MayCome n close later → (e : Ending) → MayEnd close e → end.finish ≡ finish_of n (course_of n schedule (items ++ later)) e
+  pub closed : (e : Ending) → end.finish ≡ finish.Stream e → close ≡ Some e
+  pub lines : List TraceLine
+  pub traced : (later : List (List ℤ)) → MayCome n close later → IsTraceOf n schedule (items ++ later) end.stats lines
+  pub kept : end.lines ≡ kept_by keeping lines
+  pub summed : end.sum ≡ sum_of outcomes
 
 -- a run ended early: a front of the text of the meaning of the items that the stream gave was written
 pub record Starts (n : Network) (rest left : Option (List ℕ)) (before now : ℕ) (taken taken' : Option (List ℕ)) : Type 0 where
@@ -72,6 +88,6 @@ pub record Starts (n : Network) (rest left : Option (List ℕ)) (before now : �
   pub begun : HasBegun taken taken' (text_of (meaning_of n items))
 
 -- how a run ends
-abbrev pub IsRunEnd : Network → Schedule → Option (List ℕ) → Option (List ℕ) → ℕ → ℕ → Option (List ℕ) → Option (List ℕ) → Result Ran RunFault → Type 0
-IsRunEnd n schedule rest left before now taken taken' (Ok ran) = Finishes n schedule rest left before now taken taken' ran.finish ran.stats
-IsRunEnd n schedule rest left before now taken taken' (Err fault) = Starts n rest left before now taken taken'
+abbrev pub IsRunEnd : Network → Schedule → Keeping → Option (List ℕ) → Option (List ℕ) → ℕ → ℕ → Option (List ℕ) → Option (List ℕ) → Result Ran RunFault → Type 0
+IsRunEnd n schedule keeping rest left before now taken taken' (Ok ran) = Finishes n schedule keeping rest left before now taken taken' ran
+IsRunEnd n schedule keeping rest left before now taken taken' (Err fault) = Starts n rest left before now taken taken'

@@ -1,7 +1,6 @@
 -- A machine that runs a network pick by pick, on items that come from a stream.
 use Rattle.std.specs.Prelude.{◌≡◌, ℕ, ℤ, ◌+◌, ◌-◌, ◌*◌, ◌≤◌, List, ◌++◌, length, Option}
 use Rattle.p3l_base.specs.declared.outcome.Outcome.{Outcome}
-use Rattle.p3l_base.specs.declared.outcome.Trap.{Trap}
 use Rattle.p3l_net.specs.Carried.{HaveInWords}
 use Rattle.p3l_net.specs.Machine.{Seen}
 use Rattle.p3l_net.specs.Offered.{Follows}
@@ -13,10 +12,16 @@ use Rattle.p3l_sched.specs.Picker.{HasPlace, HasProcesses, recorded}
 use Rattle.p3l_stream.specs.declared.items.Ending.{Ending}
 use Rattle.p3l_stream.specs.Seen as lines
 use Rattle.p3l_stream.specs.Text.{text_of}
+use Rattle.p3l_trace.specs.declared.trace.TraceLine.{TraceLine}
+use Rattle.p3l_trace.specs.Agreement as trace
+use Rattle.p3l_run.specs.declared.keeping.Keeping.{Keeping}
+use Rattle.p3l_run.specs.declared.write.Told.{Told}
 use Rattle.p3l_run.specs.Feed.{Gives, closed_so}
+use Rattle.p3l_run.specs.Keeping.{kept_by}
 use Rattle.p3l_run.specs.Laws.{Runs}
 use Rattle.p3l_run.specs.Network.{Network, course_under, picks_of, size_of, width_of}
 use Rattle.p3l_run.specs.Run.{MayCome}
+use Rattle.p3l_run.specs.Sum.{sum_of}
 use Rattle.p3l_run.specs.Trap.{trap_of}
 use Rattle.p3l_run.specs.Write.{HasPut}
 
@@ -25,33 +30,40 @@ abbrev pub left_of : ℕ → ℕ → Way → ℕ
 left_of bound fired (way.Reads picks) = length picks
 left_of bound fired w = bound - fired
 
--- the machine stands where these picks lead on the items given and those that come later, and the picks of the schedule go on from there
-pub record IsAt (n : Network) (schedule : Schedule) (m : Seen) (way : Way) (items later : List (List ℤ)) (outcomes : List Outcome) (idle : ℕ) (picks : List ℕ) : Type 0 where
-  pub follows : Follows m outcomes later (course_under n items picks)
-  pub idle_is : (course_under n items picks).idle ≡ idle
-  pub goes_on : picks ++ picks_from n.tree n.leaf n.net (left_of (n.firings * length items) m.fired way) way (course_under n items picks) ≡ picks_of n schedule items
+-- the machine stands where the picks of these lines lead on the items given and those that come later, the picks of the schedule
+-- go on from there, and each of the lines agrees
+pub record IsAt (n : Network) (schedule : Schedule) (m : Seen) (way : Way) (items later : List (List ℤ)) (outcomes : List Outcome) (idle : ℕ) (walked : List TraceLine) : Type 0 where
+  pub follows : Follows m outcomes later (course_under n items (trace.picks_of walked))
+  pub idle_is : (course_under n items (trace.picks_of walked)).idle ≡ idle
+  pub goes_on :
+      trace.picks_of walked ++ picks_from n.tree n.leaf n.net (left_of (n.firings * length items) m.fired way) way (course_under n items (trace.picks_of walked)) ≡ picks_of n schedule items
+  pub agree : trace.AllAgree n.tree n.leaf n.net items walked
 
 -- there were no more idle picks than those recorded that are not left
 abbrev pub HasRoom : Schedule → Way → ℕ → Type 0
 HasRoom schedule (way.Reads picks) idle = idle + length picks ≤ recorded schedule
 HasRoom schedule w idle = Unit {0}
 
--- the machine runs the network on the items given, and whatever may still come behind them
-pub record Stands (n : Network) (schedule : Schedule) (m : Seen) (way : Way) (given : List (List ℤ)) (close : Option Ending) (outcomes : List Outcome) (idle : ℕ) : Type 0 where
+-- the machine runs the network on the items given, and whatever may still come behind them, and this is the trace so far
+pub record Stands (n : Network) (schedule : Schedule) (m : Seen) (way : Way) (given : List (List ℤ)) (close : Option Ending) (outcomes : List Outcome) (idle : ℕ) (walked : List TraceLine) : Type 0 where
   pub runs : Runs n m
   pub wide : HaveInWords n.tree given
   pub place : HasPlace (size_of n) way
   pub named : HasProcesses (size_of n) way
   pub room : HasRoom schedule way idle
-  pub picks : List ℕ
-  pub at : (later : List (List ℤ)) → MayCome n close later → IsAt n schedule m way (given ++ later) later outcomes idle picks
+  pub counts : trace.IsCounted (record { lines = walked; fired = m.fired; idle = idle })
+  pub at : (later : List (List ℤ)) → MayCome n close later → IsAt n schedule m way (given ++ later) later outcomes idle walked
 
--- the same, with the text of the outcomes written, the trap among them, and the stream where it gave these items
-pub record Drives (n : Network) (schedule : Schedule) (m : Seen) (way : Way) (stream : lines.Seen) (close : Option Ending) (trap : Option Trap) (idle : ℕ) (rest left : Option (List ℕ)) (before now : ℕ)
-    (taken taken' : Option (List ℕ)) : Type 0 where
+-- the same, with the text of the outcomes written, the trap among them, the sum of their words, the lines that are kept, and the
+-- stream where it gave these items
+pub record Drives (n : Network) (schedule : Schedule) (keeping : Keeping) (m : Seen) (way : Way) (stream : lines.Seen) (close : Option Ending) (told : Told) (idle : ℕ) (kept : Option (List TraceLine))
+    (rest left : Option (List ℕ)) (before now : ℕ) (taken taken' : Option (List ℕ)) : Type 0 where
   pub items : List (List ℤ)
   pub outcomes : List Outcome
+  pub walked : List TraceLine
   pub gives : Gives (width_of n) rest left before now stream items (closed_so close)
-  pub stands : Stands n schedule m way items close outcomes idle
-  pub trap_is : trap ≡ trap_of outcomes
+  pub stands : Stands n schedule m way items close outcomes idle walked
+  pub trap_is : told.trap ≡ trap_of outcomes
+  pub sum_is : told.sum ≡ sum_of outcomes
   pub put : HasPut taken taken' (text_of outcomes)
+  pub kept_is : kept ≡ kept_by keeping walked

@@ -1,16 +1,20 @@
 //! Runs a network on a stream under a schedule: asks for the items one by one, fires process after
-//! process, and writes each value that comes out.
+//! process, and writes each value that comes out; keeps the lines of its trace, where that is asked
+//! for.
 #![tactic(auto)]
 
 pub mod fault;
 pub mod feed;
 mod finish;
+pub mod keeping;
 pub mod laws;
 pub mod plan;
 pub mod run;
+mod sum;
 pub mod write;
 
 pub use fault::RunFault;
 pub use feed::INPUT_LIMIT;
+pub use keeping::Keeping;
 pub use plan::Plan;
 pub use run::Ran;

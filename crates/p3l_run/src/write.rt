@@ -2,11 +2,13 @@
 
 ghost use Rattle.std.specs.Prelude.{◌≡◌, IfOk, OnOk, OnErr, fold};
 ghost use Rattle.std.specs.Option.{option_to_list};
+ghost use Rattle.p3l_run.specs.Sum.{sum_after};
 ghost use Rattle.p3l_run.specs.Trap.{trap_after};
 ghost use Rattle.p3l_run.specs.Write.{HasBegun, HasPut, WriteCause};
 ghost use Rattle.p3l_stream.specs.Text.{text_of};
 
 use crate::fault::RunFault;
+use crate::sum::add_words;
 use p3l_base::{Outcome, Trap};
 use p3l_io::Sink;
 use p3l_stream::item_text;
@@ -27,27 +29,41 @@ pub fn write<K: Sink>(out: &mut K, text: &[u8]) -> Result<(), RunFault>
     }
 }
 
-/// Writes the line of what was emitted, if that is a value; gives the last trap so far.
+/// What the outcomes so far tell: the last trap among them, and the sum of the words of the values.
+#[derive(Clone, Copy, Debug, Drop)]
+pub struct Told {
+    pub trap: Option<Trap>,
+    pub sum: i64,
+}
+
+/// Writes the line of what was emitted, if that is a value; gives what the outcomes tell with it.
 pub(crate) fn write_emitted<K: Sink>(
     alloc: Global,
     emitted: Option<Outcome>,
-    trap: Option<Trap>,
+    told: Told,
     out: &mut K,
-) -> Result<Option<Trap>, RunFault>
-    ensures trap { IfOk result (λ last. last ≡ fold trap_after trap (option_to_list emitted)) }
+) -> Result<Told, RunFault>
+    ensures trap { IfOk result (λ after. after.trap ≡ fold trap_after told.trap (option_to_list emitted)) }
+    ensures sum { IfOk result (λ after. after.sum ≡ fold sum_after told.sum (option_to_list emitted)) }
     ensures put { OnOk result (HasPut (K.taken out.old) (K.taken out.new) (text_of (option_to_list emitted))) }
     ensures begun { OnErr result (HasBegun (K.taken out.old) (K.taken out.new) (text_of (option_to_list emitted))) }
     ensures cause { WriteCause (K.faults out.old) (K.faults out.new) result }
 {
     match emitted {
-        None => Ok(trap),
-        Some(Outcome::Trapped(other)) => Ok(Some(other)),
+        None => Ok(told),
+        Some(Outcome::Trapped(other)) => Ok(Told {
+            trap: Some(other),
+            sum: told.sum,
+        }),
         Some(Outcome::Value(words)) => {
             let Ok(text) = item_text(alloc, &words) else {
                 return Err(RunFault::NoMemory);
             };
             match write(out, text.as_slice()) {
-                Ok(()) => Ok(trap),
+                Ok(()) => Ok(Told {
+                    trap: told.trap,
+                    sum: add_words(told.sum, &words),
+                }),
                 Err(fault) => Err(fault),
             }
         }

@@ -9,7 +9,7 @@ use p3l_io::{MemSink, MemSource};
 use p3l_net::laws::{the_net_of_one_unit_is_carried, the_net_of_one_unit_is_typed};
 use p3l_net::unit_net;
 use p3l_run::run::run;
-use p3l_run::{Plan, Ran, RunFault};
+use p3l_run::{Keeping, Plan, Ran, RunFault};
 use p3l_sched::Schedule;
 use p3l_skel::{Form, ModuleInfo, ModuleKind, Node, Tree, Units};
 use std::alloc::Global;
@@ -79,6 +79,7 @@ pub fn run_on<U: Units>(
     alloc: Global,
     units: &U,
     schedule: Schedule,
+    keeping: Keeping,
     input: &mut MemSource,
     out: &mut MemSink,
 ) -> Result<Ran, RunFault>
@@ -97,5 +98,5 @@ pub fn run_on<U: Units>(
         firings: 3,
         width: 1,
     };
-    run(alloc, plan, schedule, input, out)
+    run(alloc, plan, schedule, keeping, input, out)
 }

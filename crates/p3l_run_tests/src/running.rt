@@ -4,7 +4,7 @@ use crate::network::{Echo, Refusing, run_on};
 use p3l_base::List;
 use p3l_io::{MemSink, MemSource, PutFail};
 use p3l_report::{Finish, Stats};
-use p3l_run::{Ran, RunFault};
+use p3l_run::{Keeping, Ran, RunFault};
 use p3l_sched::{Schedule, read_picks};
 use p3l_stream::Ending;
 use std::alloc::Global;
@@ -66,8 +66,22 @@ fn run_under(
     let mut source = MemSource::new(list(alloc, input)?, 1, list(alloc, fails)?);
     let mut sink = MemSink::new(alloc, 1024, List::new(alloc))?;
     let ran = match schedule {
-        Sched::Turns => run_on(alloc, &Echo, Schedule::RoundRobin, &mut source, &mut sink),
-        Sched::Seed(seed) => run_on(alloc, &Echo, Schedule::Seeded(seed), &mut source, &mut sink),
+        Sched::Turns => run_on(
+            alloc,
+            &Echo,
+            Schedule::RoundRobin,
+            Keeping::Nothing,
+            &mut source,
+            &mut sink,
+        ),
+        Sched::Seed(seed) => run_on(
+            alloc,
+            &Echo,
+            Schedule::Seeded(seed),
+            Keeping::Nothing,
+            &mut source,
+            &mut sink,
+        ),
         Sched::Picks(text) => {
             let picks = read_picks(alloc, text, 3)?;
             assert!(rt; picks.len() < 1000);
@@ -75,6 +89,7 @@ fn run_under(
                 alloc,
                 &Echo,
                 Schedule::Recorded(picks),
+                Keeping::Nothing,
                 &mut source,
                 &mut sink,
             )
@@ -158,7 +173,14 @@ fn no_item_is_asked_for_before_the_network_wants_it(rt: HostRuntime) -> Result<(
         };
         let mut source = MemSource::new(list(rt.alloc(), lines)?, 1, List::new(rt.alloc()));
         let mut sink = MemSink::new(rt.alloc(), 1024, List::new(rt.alloc()))?;
-        let ran = run_on(rt.alloc(), &Refusing, schedule, &mut source, &mut sink);
+        let ran = run_on(
+            rt.alloc(),
+            &Refusing,
+            schedule,
+            Keeping::Nothing,
+            &mut source,
+            &mut sink,
+        );
         assert_eq!(rt; shown(rt.alloc(), &ran)?.as_str(), how);
         assert_eq!(rt; sink.taken(), b"".as_slice());
         assert_eq!(rt; source.calls(), calls);
@@ -204,6 +226,7 @@ fn a_fault_of_each_put_ends_the_run(rt: HostRuntime) -> Result<(), Fail> {
             rt.alloc(),
             &Echo,
             Schedule::RoundRobin,
+            Keeping::Nothing,
             &mut source,
             &mut sink,
         );

@@ -1,4 +1,4 @@
-use Rattle.std.proofs.Common.{◌≡◌, ◌<◌, ◌+◌, List, [], ◌∷◌, ◌++◌, None, ap, sym, subst, refl, length, take, drop, get_or, true, false, arith}
+use Rattle.std.proofs.Common.{◌≡◌, ◌<◌, ◌+◌, List, [], ◌∷◌, ◌++◌, None, ap, sym, subst, refl, length, take, drop, get_or, arith}
 use Rattle.std.proofs.lemmas.List.{length-take-le, take_all}
 use Rattle.p3l_run.specs.Laws.{Laws}
 use Rattle.p3l_run.specs.Network.{Network, network}

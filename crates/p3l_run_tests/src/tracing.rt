@@ -1,0 +1,136 @@
+// The lines that are kept of runs of a network of three processes, and the sums of their words.
+
+use crate::network::{Echo, Refusing, run_on};
+use p3l_base::List;
+use p3l_firing::ProcKind;
+use p3l_io::{MemSink, MemSource};
+use p3l_run::Keeping;
+use p3l_sched::{Schedule, read_picks};
+use p3l_trace::TraceLine;
+use std::alloc::Global;
+use std::process::Abort;
+use std::test::Fail;
+
+/// The line of a firing.
+fn fired(pick: u32, kind: ProcKind) -> TraceLine {
+    TraceLine {
+        pick,
+        kind: Some(kind),
+    }
+}
+
+/// The line of an idle pick.
+fn idle(pick: u32) -> TraceLine {
+    TraceLine { pick, kind: None }
+}
+
+/// A run on these bytes under recorded picks, or else the round robin: its lines, if they are kept,
+/// and its sum.
+fn traced_of(
+    rt: &impl Abort,
+    alloc: Global,
+    echoes: bool,
+    picks: Option<&[u8]>,
+    keeping: Keeping,
+    input: &[u8],
+) -> Result<Option<(Option<List<TraceLine>>, i64)>, Fail> {
+    let bytes = List::from_vec(Vec::from_slice(alloc, input)?);
+    let mut source = MemSource::new(bytes, 3, List::new(alloc));
+    let mut sink = MemSink::new(alloc, 1024, List::new(alloc))?;
+    let schedule = match picks {
+        None => Schedule::RoundRobin,
+        Some(text) => {
+            let picks = read_picks(alloc, text, 3)?;
+            assert!(rt; picks.len() < 1000);
+            Schedule::Recorded(picks)
+        }
+    };
+    let ran = if echoes {
+        run_on(alloc, &Echo, schedule, keeping, &mut source, &mut sink)
+    } else {
+        run_on(alloc, &Refusing, schedule, keeping, &mut source, &mut sink)
+    };
+    Ok(match ran {
+        Ok(ran) => Some((ran.lines, ran.sum)),
+        Err(_) => None,
+    })
+}
+
+/// Whether these lines were kept, and this is the sum.
+fn is_traced(told: &Option<(Option<List<TraceLine>>, i64)>, lines: &[TraceLine], sum: i64) -> bool {
+    match told {
+        Some((Some(kept), total)) => kept.as_slice() == lines && *total == sum,
+        _ => false,
+    }
+}
+
+#[test]
+fn each_pick_is_a_line(rt: HostRuntime) -> Result<(), Fail> {
+    // The sink can't fire at first, and the body not before the source.
+    let told = traced_of(
+        &rt,
+        rt.alloc(),
+        true,
+        Some(b"1 0 2 2 1 0"),
+        Keeping::Lines,
+        b"5\n-7\n9\n",
+    )?;
+    let lines = [
+        idle(1),
+        fired(0, ProcKind::Source),
+        fired(2, ProcKind::Run),
+        idle(2),
+        fired(1, ProcKind::Sink),
+        fired(0, ProcKind::Source),
+    ];
+    assert!(rt; is_traced(&told, &lines, 5));
+    Ok(())
+}
+
+#[test]
+fn a_whole_run_is_kept(rt: HostRuntime) -> Result<(), Fail> {
+    let told = traced_of(
+        &rt,
+        rt.alloc(),
+        true,
+        None,
+        Keeping::Lines,
+        b"9223372036854775807\n3\n",
+    )?;
+    let lines = [
+        fired(0, ProcKind::Source),
+        fired(2, ProcKind::Run),
+        fired(0, ProcKind::Source),
+        fired(1, ProcKind::Sink),
+        fired(2, ProcKind::Run),
+        fired(1, ProcKind::Sink),
+    ];
+    assert!(rt; is_traced(&told, &lines, -9223372036854775806));
+    Ok(())
+}
+
+#[test]
+fn a_trap_has_no_words(rt: HostRuntime) -> Result<(), Fail> {
+    let told = traced_of(
+        &rt,
+        rt.alloc(),
+        false,
+        Some(b"0 2 1"),
+        Keeping::Lines,
+        b"5\n",
+    )?;
+    let lines = [
+        fired(0, ProcKind::Source),
+        fired(2, ProcKind::Run),
+        fired(1, ProcKind::Sink),
+    ];
+    assert!(rt; is_traced(&told, &lines, 0));
+    Ok(())
+}
+
+#[test]
+fn no_line_is_kept_unasked(rt: HostRuntime) -> Result<(), Fail> {
+    let told = traced_of(&rt, rt.alloc(), true, None, Keeping::Nothing, b"5\n-7\n")?;
+    assert!(rt; matches!(told, Some((None, -2))));
+    Ok(())
+}
