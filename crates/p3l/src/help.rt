@@ -14,13 +14,15 @@ commands:
   check-trace PROGRAM --processors P ..   check a trace against a run on the standard input
   check PROGRAM                           say whether a program keeps the rules of the language
   fmt PROGRAM                             write a program in its canonical text
+  gen N --processors P ..                 generate a program with its items by a number, and run it
 
 p3l COMMAND --help says more. --version gives the version.
 ";
 
 /// What `run` does.
 const RUN: &str =
-    "usage: p3l run PROGRAM --processors P [--costs FILE] [--schedule S] [--capacity C] [--stats]
+    "usage: p3l run PROGRAM --processors P [--costs FILE] [--schedule S] [--capacity C] [--trace FILE]
+               [--stats]
 
 Reads items from the standard input, one a line, and writes one line for each result.
 
@@ -29,6 +31,7 @@ Reads items from the standard input, one a line, and writes one line for each re
   --costs FILE     the costs by which worker counts are chosen; without them the standard costs
   --schedule S     how processes take turns: rr (the default), seed:N or file:NAME
   --capacity C     how many tokens a channel holds at most, 1 to 1,024 (4 if not given)
+  --trace FILE     where to write the trace of the run, when it has ended
   --stats          put a line on the run's numbers on the standard error
 
 example: p3l run m.p3l --processors 16 --schedule seed:7 < items
@@ -51,13 +54,14 @@ example: p3l compile m.p3l --processors 16 --output m.img
 ";
 
 /// What `exec` does.
-const EXEC: &str = "usage: p3l exec IMAGE [--schedule S] [--stats]
+const EXEC: &str = "usage: p3l exec IMAGE [--schedule S] [--trace FILE] [--stats]
 
 Reads items from the standard input, one a line, and writes one line for each result, as the program
 does that the image was compiled from. An image that is not lawful, safe and linked is refused.
 
   IMAGE            the file of the image
   --schedule S     how processes take turns: rr (the default), seed:N or file:NAME
+  --trace FILE     where to write the trace of the run, when it has ended
   --stats          put a line on the run's numbers on the standard error
 
 example: p3l exec m.img --schedule seed:7 < items
@@ -125,6 +129,22 @@ Writes the canonical text of a program to the standard output.
 example: p3l fmt m.p3l
 ";
 
+/// What `gen` does.
+const GEN: &str = "usage: p3l gen N --processors P [--items I] [--schedule S] [--save PREFIX]
+
+Generates a program, its costs and a stream of items by a number, runs the program on the items in
+memory, and writes one line on the run: its numbers, the service time and the processes of the worker
+counts that are chosen, and the sum of all words that came out, which wraps at 64 bits.
+
+  N                the number, 0 to 4,294,967,295
+  --processors P   how many processors there are, 1 to 512
+  --items I        how many items, 1 to 100,000 (1,000 if not given)
+  --schedule S     how processes take turns: rr (the default) or seed:N
+  --save PREFIX    first write the three texts to PREFIX.p3l, PREFIX.toml and PREFIX.txt
+
+example: p3l gen 7 --processors 16 --save seven
+";
+
 /// The version.
 const VERSION: &str = "p3l 0.1.0\n";
 
@@ -149,6 +169,7 @@ fn help_of(command: &str) -> Option<&'static str> {
         "check-trace" => Some(CHECK_TRACE),
         "check" => Some(CHECK),
         "fmt" => Some(FMT),
+        "gen" => Some(GEN),
         _ => None,
     }
 }

@@ -22,7 +22,7 @@ use Rattle.p3l_program.specs.File.{HasText, text_limit}
 use Rattle.p3l_program.specs.Image.{IsRunnableImage, image_limit}
 use Rattle.p3l_program.specs.Network.{HasNetwork, network_in, network_of}
 use Rattle.p3l_program.specs.Origin.{Origin, built, imaged}
-use Rattle.p3l_program.specs.Run.{BeginsRun, Emits, EndsRun, IsRunStatus, RunsWhole}
+use Rattle.p3l_program.specs.Run.{BeginsRun, Emits, EndsRun, IsRunStatus, RunsOver, RunsWhole}
 use Rattle.p3l_program.specs.World.{World}
 use Rattle.p3l_program.proofs.OnceSteps.{allotted_once}
 
@@ -103,32 +103,46 @@ has_network serve begins held others build name bytes own there n =
 
 -- what is due of one network is due of another way to it
 module _ (w : World) (one another : Origin) (asked : Sched) (go : (n : Network) → HasNetwork w.files.old one n → HasNetwork w.files.old another n) where
-  ends_so : (reported : Bool) (finish : Finish) (stats : Option Stats) → EndsRun w one asked reported finish stats → EndsRun w another asked reported finish stats
-  ends_so reported finish stats h = record {
+  ends_so : (trace : Option (List ℕ)) (reported : Bool) (finish : Finish) (stats : Option Stats) → EndsRun w one asked trace reported finish stats → EndsRun w another asked trace reported finish stats
+  ends_so trace reported finish stats h = record {
     n = h.n;
     s = h.s;
     has = record { network = go h.n h.has.network; schedule = h.has.schedule };
-    numbers = h.numbers;
+    ran = h.ran;
+    finish_is = h.finish_is;
     stats_are = h.stats_are;
     finishes = h.finishes;
+    recorded = h.recorded;
   }
 
   begins_so : BeginsRun w one asked → BeginsRun w another asked
   begins_so h = record { n = h.n; s = h.s; has = record { network = go h.n h.has.network; schedule = h.has.schedule }; starts = h.starts }
 
-  whole_so : (rest taken : List ℕ) → RunsWhole w one rest taken → RunsWhole w another rest taken
-  whole_so rest taken h = record { n = h.n; has = go h.n h.has; input_ended = h.input_ended; all_items = h.all_items; taken_is = h.taken_is }
+  over_so : RunsOver w one asked → RunsOver w another asked
+  over_so h = record { n = h.n; s = h.s; has = record { network = go h.n h.has.network; schedule = h.has.schedule }; keeping = h.keeping; ran = h.ran; finishes = h.finishes }
+
+  whole_so : (trace : Option (List ℕ)) (rest taken : List ℕ) → RunsWhole w one asked trace rest taken → RunsWhole w another asked trace rest taken
+  whole_so trace rest taken h = record {
+    n = h.n;
+    s = h.s;
+    has = record { network = go h.n h.has.network; schedule = h.has.schedule };
+    input_ended = h.input_ended;
+    all_items = h.all_items;
+    taken_is = h.taken_is;
+    recorded = h.recorded;
+  }
 
   status_so : (rest : List ℕ) (k : ℕ) → IsRunStatus w one asked rest k → IsRunStatus w another asked rest k
   status_so rest k h = record { n = h.n; s = h.s; has = record { network = go h.n h.has.network; schedule = h.has.schedule }; status_is = h.status_is }
 
-  emits_so : (numbers : Stats) → Emits w one asked numbers → Emits w another asked numbers
-  emits_so numbers h = record {
+  emits_so : (trace : Option (List ℕ)) (numbers : Stats) → Emits w one asked trace numbers → Emits w another asked trace numbers
+  emits_so trace numbers h = record {
     n = h.n;
     s = h.s;
     has = record { network = go h.n h.has.network; schedule = h.has.schedule };
     items = h.items;
     put = h.put;
+    recorded = h.recorded;
     bounded = h.bounded;
     bound_is = h.bound_is;
   }
@@ -142,9 +156,10 @@ run_alike same w held build name bytes asked told own there =
     let image = imaged name in
     let program = built build in
     record {
-      ends = λ reported finish stats. (ends_so w image program asked go reported finish stats, ends_so w program image asked back reported finish stats);
+      ends = λ trace reported finish stats. (ends_so w image program asked go trace reported finish stats, ends_so w program image asked back trace reported finish stats);
       begins = (begins_so w image program asked go, begins_so w program image asked back);
-      whole = λ rest taken. (whole_so w image program asked go rest taken, whole_so w program image asked back rest taken);
+      over = (over_so w image program asked go, over_so w program image asked back);
+      whole = λ trace rest taken. (whole_so w image program asked go trace rest taken, whole_so w program image asked back trace rest taken);
       status = λ rest k. (status_so w image program asked go rest k, status_so w program image asked back rest k);
-      emits = λ numbers. (emits_so w image program asked go numbers, emits_so w program image asked back numbers);
+      emits = λ trace numbers. (emits_so w image program asked go trace numbers, emits_so w program image asked back trace numbers);
     }

@@ -3,6 +3,8 @@ mod FileSteps
 mod StageSteps
 mod TextSteps
 mod SavedSteps
+mod SeriesSteps
+mod GenLengths
 mod LoadSteps
 mod ImageSteps
 mod CompileSteps
@@ -10,9 +12,13 @@ mod OnceSteps
 mod CertSteps
 mod PickSteps
 mod RunSteps
+mod RecordSteps
 mod AlikeSteps
 mod SoundSteps
 mod SeenSteps
 mod TraceSteps
+mod RecheckSteps
+mod FirstSteps
+mod GenSteps
 mod DueSteps
 mod AnswerSteps

@@ -64,7 +64,7 @@ unsaid files name tree said (costs.Missing key) has read calm = inr (record { sa
 unsaid files name tree said costs.NoMemory has read calm = calm
 
 -- a text that says costs is not refused
-said_once : (tree : Tree) (said : List ℕ) (cs : Costs) (f : CostFault) → Says tree said (Ok cs) → IsRead tree said (Err (refusal_of f)) → ⊥
+pub said_once : (tree : Tree) (said : List ℕ) (cs : Costs) (f : CostFault) → Says tree said (Ok cs) → IsRead tree said (Err (refusal_of f)) → ⊥
 said_once tree said cs fault.NotToml says none = none says.document says.is
 said_once tree said cs (fault.BadKey key) says none = two says none
   where

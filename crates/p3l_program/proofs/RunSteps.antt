@@ -1,16 +1,16 @@
 -- From the run of a network to the verdict of `run` and `exec`.
-use Rattle.std.proofs.Common.{◌≡◌, ℕ, Bool, List, [], Option, inl, inr, subst, append-nil}
+use Rattle.std.proofs.Common.{◌≡◌, ℕ, Bool, List, [], Option, Some, None, ◌⊎◌, inl, inr, subst, append-nil}
 use Rattle.std.specs.declared.result.Result.TheVariants.{Ok, Err}
 use Rattle.p3l_io.specs.Told.{Held}
 use Rattle.p3l_opts.specs.declared.command.Sched.{Sched}
 use Rattle.p3l_opts.specs.declared.command.Sched.TheVariants as sched
-use Rattle.p3l_report.specs.declared.stats.Stats.{Stats}
-use Rattle.p3l_report.specs.declared.verdict.Finish.{Finish}
 use Rattle.p3l_report.specs.declared.verdict.Refusal.{Refusal}
 use Rattle.p3l_report.specs.declared.verdict.Refusal.TheVariants as refusal
 use Rattle.p3l_report.specs.declared.verdict.Verdict.{Verdict}
 use Rattle.p3l_report.specs.declared.verdict.Verdict.TheVariants as verdict
 use Rattle.p3l_net.specs.Outcomes.{IsPrefixOf}
+use Rattle.p3l_run.specs.declared.keeping.Keeping.{Keeping}
+use Rattle.p3l_run.specs.declared.run.Ran.{Ran}
 use Rattle.p3l_run.specs.Feed.{closed_so}
 use Rattle.p3l_run.specs.Network.{Network, meaning_of, size_of}
 use Rattle.p3l_run.specs.Run.{Finishes, Starts}
@@ -19,20 +19,24 @@ use Rattle.p3l_sched.specs.declared.refusal.PickRefusal.{PickRefusal}
 use Rattle.p3l_sched.specs.declared.refusal.PickRefusal.TheVariants as picks
 use Rattle.p3l_sched.specs.declared.schedule.Schedule.{Schedule}
 use Rattle.p3l_sched.specs.Picks.{Reads}
+use Rattle.p3l_program.specs.Due.{IsWriteFault}
 use Rattle.p3l_program.specs.File.{HasText}
+use Rattle.p3l_program.specs.Load.{IsNotLoaded}
 use Rattle.p3l_program.specs.Network.{HasNetwork, HaveTexts, IsNetworkOf, Texts}
 use Rattle.p3l_program.specs.Origin.{Origin}
-use Rattle.p3l_program.specs.Run.{BeginsRun, HasBadPicks, IsRunDue, IsRunOf, IsRunSome, IsUnasked}
+use Rattle.p3l_program.specs.Run.{BeginsRun, EndsRun, HasBadPicks, IsRunDue, IsRunOf, IsRunOver, IsRunSome, IsUnasked, IsUnsavedRun, KeepsRun, RunsOver, UnsavedRun}
 use Rattle.p3l_program.specs.Scheduled.{HasNoPicks, HasSchedule, picks_limit}
 use Rattle.p3l_program.specs.Stage.{AllPass, FilesCause, IsRefusedBy, Refuses, origin_stages, run_stages, schedule_stages, scheduled}
-use Rattle.p3l_program.specs.World.{Change, world}
+use Rattle.p3l_program.specs.World.{Change, IsStill, world}
 use Rattle.p3l_program.proofs.PickSteps.{read_or_refused}
+use Rattle.p3l_program.proofs.LoadSteps.{not_loaded_front}
 use Rattle.p3l_program.proofs.StageSteps.{passed_both, refused_behind}
+use Rattle.p3l_program.proofs.TextSteps.{not_loaded}
 
 -- a run that came to its end was begun
-pub finishes_starts : (n : Network) (s : Schedule) (rest left : Option (List ℕ)) (before now : ℕ) (taken taken' : Option (List ℕ)) (finish : Finish) (stats : Stats) →
-    Finishes n s rest left before now taken taken' finish stats → Starts n rest left before now taken taken'
-finishes_starts n s rest left before now taken taken' finish stats f =
+pub finishes_starts : (n : Network) (s : Schedule) (keeping : Keeping) (rest left : Option (List ℕ)) (before now : ℕ) (taken taken' : Option (List ℕ)) (end : Ran) →
+    Finishes n s keeping rest left before now taken taken' end → Starts n rest left before now taken taken'
+finishes_starts n s keeping rest left before now taken taken' end f =
     let ran = f.ran [] (nothing_comes n f.close) in
     let begins : IsPrefixOf f.outcomes (meaning_of n f.items) = subst (λ i. IsPrefixOf f.outcomes (meaning_of n i)) (append-nil f.items) ran.begins in
     record {
@@ -42,6 +46,13 @@ finishes_starts n s rest left before now taken taken' finish stats f =
       gives = f.gives;
       begun = begun_by n f.items f.outcomes taken taken' begins f.put;
     }
+
+-- what was not loaded is not run
+pub run_unloaded : (files : Change Held) (input out : Change (List ℕ)) (origin : Origin) (asked : Sched) (trace : Option (List ℕ)) (reported : Bool) (v : Verdict) → IsStill input → IsStill out → IsNotLoaded files (origin_stages origin) v →
+    IsRunDue (world files input out) origin asked trace reported v
+run_unloaded files input out origin asked trace reported v still silent h =
+    not_loaded (world files input out) (run_stages origin asked) (EndsRun (world files input out) origin asked trace reported) (BeginsRun (world files input out) origin asked) (UnsavedRun (world files input out) origin asked trace) v still silent
+    (not_loaded_front files (origin_stages origin) (schedule_stages origin asked) v h)
 
 module _ (files : Change Held) (input out : Change (List ℕ)) (origin : Origin) (n : Network) (texts : Texts) (have : HaveTexts files.old origin texts) (is : IsNetworkOf origin texts n) (passed : AllPass files (origin_stages origin)) where
   has : HasNetwork files.old origin n
@@ -54,6 +65,13 @@ module _ (files : Change Held) (input out : Change (List ℕ)) (origin : Origin)
 
   all_passes : (asked : Sched) (s : Schedule) → HasSchedule files.old (size_of n) asked s → AllPass files (run_stages origin asked)
   all_passes asked s h = passed_both files (origin_stages origin) (schedule_stages origin asked) passed (schedule_passes asked s h)
+
+  runs_over : (asked : Sched) → IsRunOver n files input out asked → RunsOver (world files input out) origin asked
+  runs_over asked h = record { n = n; s = h.s; has = record { network = has; schedule = h.schedule }; keeping = h.keeping; ran = h.ran; finishes = h.finishes }
+
+  -- a file is touched when the run is over
+  pub run_touched : (asked : Sched) (trace : Option (List ℕ)) (v : Verdict) → KeepsRun n files input out asked trace v → (files.new ≡ files.old) ⊎ RunsOver (world files input out) origin asked
+  run_touched asked trace v h = elim h.over [ inl same ↦ inl same | inr over ↦ inr (runs_over asked over) ]
 
   -- where what is run has one network, a text that is refused for it has no picks
   module _ (only : (other : Network) → IsNetworkOf origin texts other → other ≡ n) where
@@ -91,18 +109,37 @@ module _ (files : Change Held) (input out : Change (List ℕ)) (origin : Origin)
     begins_run : (asked : Sched) → IsRunSome n files input out asked → BeginsRun (world files input out) origin asked
     begins_run asked h = record { n = n; s = h.s; has = record { network = has; schedule = h.schedule }; starts = h.starts }
 
+    -- the file of the trace could not be written
+    unsaved : (asked : Sched) (trace : Option (List ℕ)) → IsUnsavedRun n files input out asked trace →
+        IsWriteFault (world files input out) (run_stages origin asked) (BeginsRun (world files input out) origin asked) (UnsavedRun (world files input out) origin asked trace)
+    unsaved asked None h = absurd h
+    unsaved asked (Some name) h = record {
+      begun = record {
+        passed = all_passes asked h.0.s h.0.schedule;
+        begins = record {
+          n = n;
+          s = h.0.s;
+          has = record { network = has; schedule = h.0.schedule };
+          starts = finishes_starts n h.0.s h.0.keeping _ _ _ _ _ _ h.0.ran h.0.finishes;
+        };
+      };
+      fault = inr ((runs_over asked h.0, h.0.out_calm), h.1);
+    }
+
     -- the verdict of the run is due
-    pub run_due : (asked : Sched) (reported : Bool) (v : Verdict) → IsRunOf n files input out asked reported v → IsRunDue (world files input out) origin asked reported v
-    run_due asked reported (verdict.Refused r) h = (let by = refused_by asked r h.0 in record { by = by.0; untouched = record { input = h.1.input_still; out = h.1.out_still }; files = by.1 })
-    run_due asked reported (verdict.Ended finish stats) h = record {
+    pub run_due : (asked : Sched) (trace : Option (List ℕ)) (reported : Bool) (v : Verdict) → IsRunOf n files input out asked trace reported v → IsRunDue (world files input out) origin asked trace reported v
+    run_due asked trace reported (verdict.Refused r) h =
+        (let by = refused_by asked r h.0 in record { by = by.0; untouched = record { input = h.1.input_still; out = h.1.out_still }; files = by.1 })
+    run_due asked trace reported (verdict.Ended finish stats) h = record {
       passed = all_passes asked h.s h.schedule;
-      ends = record { n = n; s = h.s; has = record { network = has; schedule = h.schedule }; numbers = h.numbers; stats_are = h.stats_are; finishes = h.finishes };
+      ends = record { n = n; s = h.s; has = record { network = has; schedule = h.schedule }; ran = h.ran; finish_is = h.finish_is; stats_are = h.stats_are; finishes = h.finishes; recorded = h.recorded };
       files = h.files_calm;
       out = h.out_calm;
     }
-    run_due asked reported verdict.WriteFault h = record {
+    run_due asked trace reported verdict.WriteFault (inl h) = record {
       begun = record { passed = all_passes asked h.0.s h.0.schedule; begins = begins_run asked h.0 };
       fault = inl (record { files = h.0.files_calm; out = h.1 });
     }
-    run_due asked reported verdict.NoMemory (inl h) = inl (record { input = h.input_still; out = h.out_still })
-    run_due asked reported verdict.NoMemory (inr h) = inr (record { passed = all_passes asked h.s h.schedule; begins = begins_run asked h })
+    run_due asked trace reported verdict.WriteFault (inr h) = unsaved asked trace h
+    run_due asked trace reported verdict.NoMemory (inl h) = inl (record { input = h.input_still; out = h.out_still })
+    run_due asked trace reported verdict.NoMemory (inr h) = inr (record { passed = all_passes asked h.s h.schedule; begins = begins_run asked h })

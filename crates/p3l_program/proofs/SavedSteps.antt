@@ -35,6 +35,13 @@ kept_by files names (verdict.Ended finish stats) h = kept_all files names h
 kept_by files names verdict.WriteFault h = kept_all files names h
 kept_by files names verdict.NoMemory h = kept_all files names h
 
+-- where memory is wanting for the lines, of files no more is changed
+pub kept_no_memory : (files : Change Held) (names : List (List ℕ)) (v : Verdict) → KeepsFiles files names v → KeepsFiles files names verdict.NoMemory
+kept_no_memory files names (verdict.Refused r) h = kept_all files names h
+kept_no_memory files names (verdict.Ended finish stats) h = h
+kept_no_memory files names verdict.WriteFault h = h
+kept_no_memory files names verdict.NoMemory h = h
+
 module _ (files : Change Held) (out : Change (List ℕ)) (stages : List Stage) (IsText : List ℕ → Type 0) (name : List ℕ) (IsBytes : List ℕ → Type 0) where
   -- stages that don't pass
   pub saving_refused : (v : Verdict) → IsStill out → IsNotLoaded files stages v → IsSavingDue files out stages IsText name IsBytes v

@@ -1,16 +1,22 @@
 -- What is seen of an input where no fault comes, and the status of a run on it.
-use Rattle.std.proofs.Common.{◌≡◌, ℕ, zero, suc, ℤ, ◌+◌, ◌-◌, ◌<◌, ◌≤◌, true, List, [], ◌++◌, length, take, Option, Some, None, refl, sym, ap, subst, ◌∙◌, arith, append-nil, length-append, if◌then◌else◌, ◌∷◌}
+use Rattle.std.proofs.Common.{◌≡◌, ℕ, zero, suc, ℤ, ◌+◌, ◌-◌, ◌<◌, ◌≤◌, Bool, true, false, cond, List, [], ◌++◌, length, take, Option, Some, None, refl, sym, ap, subst, ◌∙◌, arith, append-nil, length-append, if◌then◌else◌, ◌∷◌}
 use Rattle.std.specs.List.{AllByRecursion}
 use Rattle.std.proofs.Math.Seq.{take-append-add}
 use Rattle.std.proofs.lemmas.Bool.{le-leb, lt-leb}
+use Rattle.std.proofs.lemmas.List.{take_all}
 use Rattle.std.proofs.lemmas.List.Elements.{recursion_from_All}
 use Rattle.p3l_io.specs.Causes.{Rose}
-use Rattle.p3l_report.specs.declared.stats.Stats.{Stats}
 use Rattle.p3l_report.specs.declared.verdict.Finish.{Finish}
+use Rattle.p3l_report.specs.declared.verdict.Finish.TheVariants as finish
 use Rattle.p3l_report.specs.Verdict.{finish_status}
+use Rattle.p3l_run.specs.declared.keeping.Keeping.{Keeping}
+use Rattle.p3l_run.specs.declared.run.Ran.{Ran}
 use Rattle.p3l_run.specs.Feed.{Gives, closed_so, input_limit}
-use Rattle.p3l_run.specs.Network.{Network, width_of}
-use Rattle.p3l_run.specs.Run.{Finishes, MayCome, MayEnd}
+use Rattle.p3l_net.specs.Run.{Course}
+use Rattle.p3l_run.specs.Network.{Network, goes_on, width_of}
+use Rattle.p3l_run.specs.Run.{Finishes, MayCome, MayEnd, end_of, finish_of}
+use Rattle.p3l_run.specs.Trap.{trap_of}
+use Rattle.p3l_base.specs.declared.outcome.Trap.{Trap}
 use Rattle.p3l_sched.specs.declared.schedule.Schedule.{Schedule}
 use Rattle.p3l_stream.specs.declared.items.Ending.{Ending}
 use Rattle.p3l_stream.specs.declared.items.Ending.TheVariants as ending
@@ -19,7 +25,10 @@ use Rattle.p3l_stream.specs.declared.taken.Stop.TheVariants as stop
 use Rattle.p3l_stream.proofs.Endings.{items_wide}
 use Rattle.p3l_stream.specs.Answers.{IsAtEnd}
 use Rattle.p3l_stream.specs.Given.{Closes, GivenCause, HasGiven, TakesOn, ended_by}
-use Rattle.p3l_stream.specs.Items.{items_taken}
+use Rattle.p3l_stream.specs.declared.line.Line.{Line}
+use Rattle.p3l_stream.specs.declared.line.Line.TheVariants as line
+use Rattle.p3l_stream.specs.Lines.{line_of, lines_of}
+use Rattle.p3l_stream.specs.Items.{items_of, items_of_lines, items_taken, put_line}
 use Rattle.p3l_stream.specs.Seen.{Seen}
 use Rattle.p3l_program.specs.Run.{run_status, seen_of, status_with, stop_of}
 
@@ -150,8 +159,44 @@ seen_goes_on n rest (Some other) new before now close s items g told calm =
     goes_on_to n rest s items g.bytes g.read.0 g.given g.limit (sym same ∙ g.read.2) (λ h. at_end_left new g.read.0 g.read.1 (g.at_end h)) close before now g.closed_is g.cause calm
 
 -- so the status of a run on an input that tells what is left, where no fault came, is that of what is seen
-pub seen_status : (n : Network) (s : Schedule) (rest : List ℕ) (old new : Option (List ℕ)) (before now : ℕ) (taken taken' : Option (List ℕ)) (finish : Finish) (stats : Stats) →
-    old ≡ Some rest → (Rose before now → ⊥) → Finishes n s old new before now taken taken' finish stats → finish_status finish ≡ run_status n s rest
-seen_status n s rest old new before now taken taken' finish stats told calm f =
+pub seen_status : (n : Network) (s : Schedule) (rest : List ℕ) (keeping : Keeping) (old new : Option (List ℕ)) (before now : ℕ) (taken taken' : Option (List ℕ)) (end : Ran) →
+    old ≡ Some rest → (Rose before now → ⊥) → Finishes n s keeping old new before now taken taken' end → finish_status end.finish ≡ run_status n s rest
+seen_status n s rest keeping old new before now taken taken' end told calm f =
     let to = seen_goes_on n rest old new before now f.close f.stream f.items f.gives told calm in
     ap finish_status (f.ends to.later to.may_come to.e to.may_end) ∙ ap (status_with n s) (sym to.seen)
+
+-- below the limit all items of an input are seen
+pub seen_short : (width : ℕ) (rest : List ℕ) → length rest < input_limit → seen_of width rest ≡ items_of width rest
+seen_short width rest near = ap (λ how. items_taken width how (take input_limit rest)) (stops_near rest near) ∙ ap (items_taken width stop.End) (take_all input_limit rest (omega arith))
+
+-- and they don't end with a fault of reading
+line_ends : (l : Line) (number : ℕ) (rest : Items) → (rest.ending ≡ ending.ReadFault → ⊥) → (put_line l number rest).ending ≡ ending.ReadFault → ⊥
+line_ends line.Blank number rest h = h
+line_ends (line.Item words) number rest h = h
+line_ends line.BadWord number rest h = λ e. absurd cc
+line_ends (line.WrongCount had) number rest h = λ e. absurd cc
+line_ends line.OutOfRange number rest h = λ e. absurd cc
+
+lines_end : (width number : ℕ) (lines : List (List ℕ)) → (items_of_lines width number ending.End lines).ending ≡ ending.ReadFault → ⊥
+lines_end width number [] = λ e. absurd cc
+lines_end width number (bytes ∷ lines) = line_ends (line_of width bytes) number (items_of_lines width (number + 1) ending.End lines) (lines_end width (number + 1) lines)
+
+pub text_ends : (width : ℕ) (text : List ℕ) → (items_of width text).ending ≡ ending.ReadFault → ⊥
+text_ends width text = lines_end width 1 (lines_of stop.End text)
+
+-- where a run ends as its stream does no process can fire
+pub still_of : (n : Network) (c : Course) (e close : Ending) (f : Finish) → f ≡ finish.Stream close → f ≡ finish_of n c e → goes_on n c ≡ false
+still_of n c e close f stream is = by (goes_on n c) refl
+  where
+    by : (b : Bool) → goes_on n c ≡ b → goes_on n c ≡ false
+    by false h = h
+    by true h = absurd (let z : finish_of n c e ≡ finish.Stopped c.fired c.idle = ap (λ b. cond b (finish.Stopped c.fired c.idle) (end_of n.tree (trap_of c.state.emitted) (length c.state.emitted) e)) h in let y = sym stream ∙ is ∙ z in cc)
+
+-- and its stream ended so
+pub stream_end : (n : Network) (c : Course) (close e : Ending) (f : Finish) → f ≡ finish_of n c close → f ≡ finish.Stream e → close ≡ e
+stream_end n c close e f is stream = by (goes_on n c) (trap_of c.state.emitted) (sym is ∙ stream)
+  where
+    by : (b : Bool) (trap : Option Trap) → cond b (finish.Stopped c.fired c.idle) (end_of n.tree trap (length c.state.emitted) close) ≡ finish.Stream e → close ≡ e
+    by true trap h = absurd cc
+    by false None h = cc
+    by false (Some t) h = absurd cc

@@ -1,5 +1,5 @@
 -- The net that is linked for a lawful tree is sound on its codes.
-use Rattle.std.proofs.Common.{◌≡◌, ℕ, ℤ, ◌≤◌, List, sym, ap, ◌∙◌, subst, arith}
+use Rattle.std.proofs.Common.{◌≡◌, ℕ, ℤ, ◌≤◌, List, refl, sym, ap, ◌∙◌, subst, arith}
 use Rattle.p3l_base.specs.declared.outcome.Outcome.{Outcome}
 use Rattle.p3l_skel.specs.declared.tree.Tree.{Tree}
 use Rattle.p3l_skel.specs.Counts.{HasLawfulCounts}
@@ -7,7 +7,8 @@ use Rattle.p3l_skel.specs.Lawful.{IsLawfulTree, IsSubtree}
 use Rattle.p3l_skel.specs.Numbers.{firings}
 use Rattle.p3l_skel.specs.Tree.{GivesOuts, no_node, node_at}
 use Rattle.p3l_check.specs.Resolving.{ResolvedTree}
-use Rattle.p3l_compile.specs.Leaves.{body_leaf}
+use Rattle.p3l_compile.specs.Leaves.{AreBodies, body_leaf}
+use Rattle.p3l_compile.proofs.Leaves.{have_codes, same_leaf}
 use Rattle.p3l_firing.specs.declared.net.Net.{Net}
 use Rattle.p3l_net.specs.Carried.{IsCarried}
 use Rattle.p3l_net.specs.Typed.{IsTyped}
@@ -15,7 +16,12 @@ use Rattle.p3l_link.specs.Laws.{EveryNetIsCarried}
 use Rattle.p3l_link.specs.Net.{linked_net}
 use Rattle.p3l_link.specs.Whole.{root_carry}
 use Rattle.p3l_run.specs.Network.{IsSound, network}
-use Rattle.p3l_program.specs.Network.{network_of}
+use Rattle.p3l_load.specs.declared.loaded.Loaded.{Loaded as LoadedImage}
+use Rattle.p3l_program.specs.declared.load.Loaded.{Loaded}
+use Rattle.p3l_program.specs.Accepted.{IsCompiled}
+use Rattle.p3l_program.specs.Load.{IsReady}
+use Rattle.p3l_program.specs.LoadImage.{IsReadyImage}
+use Rattle.p3l_program.specs.Network.{network_in, network_of}
 
 -- a linked net is typed and carried
 pub sound : EveryNetIsCarried → (tree : Tree) (leaf : ℕ → List ℤ → Outcome) (counts : List ℕ) (capacity : ℕ) (net : Net) (bound : ℕ) → IsLawfulTree tree → HasLawfulCounts tree counts → 1 ≤ capacity → GivesOuts tree leaf →
@@ -39,3 +45,26 @@ compiled_network r tree leaf net bound counts capacity same leaves linked bound_
     ∙ ap (λ n. network tree (body_leaf tree r.seqs) n bound) linked
     ∙ ap (λ b. network tree (body_leaf tree r.seqs) (linked_net tree counts capacity) b) bound_is
     ∙ ap (λ t. network t (body_leaf t r.seqs) (linked_net t counts capacity) (firings t counts)) same
+
+-- a program that was loaded is, linked under its counts, ready as an image is, and its network is the program's
+module _ (loaded : Loaded) (capacity : ℕ) (ready : IsReady loaded) (room : 1 ≤ capacity) (net : Net) (linked : net ≡ linked_net loaded.program.tree loaded.choice.counts.list capacity) where
+  abbrev pub linked_as : LoadedImage
+  linked_as = record { cap = capacity; tree = loaded.program.tree; counts = loaded.choice.counts; codes = loaded.program.codes; net = net }
+
+  bodies_of : (r : ResolvedTree) → IsCompiled r loaded.program → AreBodies loaded.program.tree r.seqs
+  bodies_of r compiled = subst (λ t. AreBodies t r.seqs) (sym compiled.tree_is) compiled.bodies
+
+  pub linked_ready : IsTyped loaded.program.tree net → IsReadyImage linked_as
+  linked_ready typed =
+      let compiled = ready.compiled in record {
+        lawful = subst (λ t. IsLawfulTree t) (sym compiled.tree_is) compiled.lawful;
+        fit = subst (λ t. HasLawfulCounts t loaded.choice.counts.list) (sym compiled.tree_is) ready.fit;
+        codes = have_codes loaded.program.tree ready.r.seqs loaded.program.codes (bodies_of ready.r compiled) compiled.codes;
+        net_is = linked;
+        typed = typed;
+        room = room;
+      }
+
+  pub linked_network : (r : ResolvedTree) → IsCompiled r loaded.program → network_in linked_as ≡ network_of r loaded.choice.counts.list capacity
+  linked_network r compiled =
+      compiled_network r loaded.program.tree _ net _ loaded.choice.counts.list capacity compiled.tree_is (same_leaf loaded.program.tree r.seqs loaded.program.codes (bodies_of r compiled) compiled.codes) linked refl

@@ -31,7 +31,7 @@ use Rattle.p3l_program.specs.Image.{HasBytes, IsBrokenImage, IsImage, IsNoImage,
 use Rattle.p3l_program.specs.Network.{HasNetwork, HaveTexts, IsNetworkOf, Texts}
 use Rattle.p3l_program.specs.Origin.{Origin, built, imaged}
 use Rattle.p3l_program.specs.Scheduled.{HasNoPicks, HasPicks}
-use Rattle.p3l_program.specs.Stage.{AllPass, IsRefusedBy, Passes, Refuses, Stage, certified, fitting, priced, readable, resolved, scheduled, spelled, there, decoded, loaded, traced}
+use Rattle.p3l_program.specs.Stage.{AllPass, IsRefusedBy, Passes, Refuses, Stage, certified, fitting, priced, readable, resolved, scheduled, spelled, text_fitting, text_kept, text_priced, decoded, loaded, traced}
 use Rattle.p3l_program.specs.TraceFile.{HasNoTrace, HasTrace}
 use Rattle.p3l_program.specs.World.{Change, HasRisen}
 
@@ -145,7 +145,6 @@ module _ (files : Option Held) (held : Held) (told : files ≡ Some held) where
 module _ (files : Change Held) (held : Held) (told : files.old ≡ Some held) (calm : HasRisen files → ⊥) where
   -- a stage that is passed refuses nothing
   passed_stage : (stage : Stage) (r : Refusal) → Passes files stage → Refuses files stage r → ⊥
-  passed_stage there r p h = p
   passed_stage (readable limit name) (refusal.FileFault named) p h = calm h.1
   passed_stage (readable limit name) (refusal.FileTooLong named) p h = not_longer files.old held told limit name p.0 p.1 h.1
   passed_stage (spelled name) (refusal.Source fault pos) p h = spelled_once files.old held told name p.0 fault pos p.1 h
@@ -158,11 +157,13 @@ module _ (files : Change Held) (held : Held) (told : files.old ≡ Some held) (c
   passed_stage (scheduled origin name) (refusal.NoSuchProcess line pick count) p h = scheduled_once files.old held told origin name p.0 p.1 (picks.NoSuchProcess line pick count) p.2 p.3 h
   passed_stage (certified program costs name) (refusal.Evidence shown) p h = certified_once files.old held told program costs name p.0 p.1 p.2 shown p.3 h
   passed_stage (traced name) (refusal.Evidence (evidence.BadLine line)) p h = traced_once files.old held told name p.0 line p.1 h
+  passed_stage (text_kept text) (refusal.Source fault pos) p h = h.never p.0 p.1
+  passed_stage (text_priced text said) (refusal.Costs fault) p h = h.never p.0 p.1 p.2
+  passed_stage (text_fitting text said processors) (refusal.TooFew need) p h = h.never p.0 p.1 p.2 p.3
   passed_stage stage r p h = absurd h
 
   -- a stage refuses with one status
   refused_stage : (stage : Stage) (r other : Refusal) → Refuses files stage r → Refuses files stage other → refusal_status r ≡ refusal_status other
-  refused_stage there refusal.Usage refusal.Usage h k = refl
   refused_stage (readable limit name) (refusal.FileFault a) other h k = absurd (calm h.1)
   refused_stage (readable limit name) (refusal.FileTooLong a) (refusal.FileFault b) h k = absurd (calm k.1)
   refused_stage (readable limit name) (refusal.FileTooLong a) (refusal.FileTooLong b) h k = refl
@@ -178,6 +179,9 @@ module _ (files : Change Held) (held : Held) (told : files.old ≡ Some held) (c
   refused_stage (scheduled origin name) (refusal.NoSuchProcess line pick count) (refusal.NoSuchProcess other one of) h k = refl
   refused_stage (certified program costs name) (refusal.Evidence shown) (refusal.Evidence other) h k = refl
   refused_stage (traced name) (refusal.Evidence (evidence.BadLine line)) (refusal.Evidence (evidence.BadLine other)) h k = refl
+  refused_stage (text_kept text) (refusal.Source fault pos) (refusal.Source other at) h k = refl
+  refused_stage (text_priced text said) (refusal.Costs fault) (refusal.Costs other) h k = refl
+  refused_stage (text_fitting text said processors) (refusal.TooFew need) (refusal.TooFew other) h k = refl
   refused_stage stage r other h k = absurd (search (h, k))
 
   -- where all stages pass none refuses

@@ -11,7 +11,7 @@ use Rattle.p3l_program.specs.File.{HasText}
 use Rattle.p3l_program.specs.Image.{image_limit}
 use Rattle.p3l_program.specs.Network.{HasNetwork}
 use Rattle.p3l_program.specs.Origin.{built, imaged}
-use Rattle.p3l_program.specs.Run.{BeginsRun, Emits, EndsRun, IsRunStatus, RunsWhole}
+use Rattle.p3l_program.specs.Run.{BeginsRun, Emits, EndsRun, IsRunStatus, RunsOver, RunsWhole}
 use Rattle.p3l_program.specs.World.{World}
 
 -- an image that was made of a program, and is no longer than images may be, has the network of the program, wherever it lies
@@ -20,13 +20,14 @@ EveryImageHasItsProgramsNetwork =
     (held others : Held) (build : Build) (name bytes : List ℕ) → IsImageOf (Some held) build bytes → HasText (Some others) image_limit name bytes →
     (n : Network) → HasNetwork (Some others) (imaged name) n ↔ HasNetwork (Some held) (built build) n
 
--- the running of an image and that of a program are due the same: the same ends with the same numbers, texts and statuses
+-- the running of an image and that of a program are due the same: the same ends with the same numbers, texts, traces and statuses
 pub record RunsAlike (w : World) (name : List ℕ) (build : Build) (asked : Sched) : Type 0 where
-  pub ends : (reported : Bool) (finish : Finish) (stats : Option Stats) → EndsRun w (imaged name) asked reported finish stats ↔ EndsRun w (built build) asked reported finish stats
+  pub ends : (trace : Option (List ℕ)) (reported : Bool) (finish : Finish) (stats : Option Stats) → EndsRun w (imaged name) asked trace reported finish stats ↔ EndsRun w (built build) asked trace reported finish stats
   pub begins : BeginsRun w (imaged name) asked ↔ BeginsRun w (built build) asked
-  pub whole : (rest taken : List ℕ) → RunsWhole w (imaged name) rest taken ↔ RunsWhole w (built build) rest taken
+  pub over : RunsOver w (imaged name) asked ↔ RunsOver w (built build) asked
+  pub whole : (trace : Option (List ℕ)) (rest taken : List ℕ) → RunsWhole w (imaged name) asked trace rest taken ↔ RunsWhole w (built build) asked trace rest taken
   pub status : (rest : List ℕ) (k : ℕ) → IsRunStatus w (imaged name) asked rest k ↔ IsRunStatus w (built build) asked rest k
-  pub emits : (numbers : Stats) → Emits w (imaged name) asked numbers ↔ Emits w (built build) asked numbers
+  pub emits : (trace : Option (List ℕ)) (numbers : Stats) → Emits w (imaged name) asked trace numbers ↔ Emits w (built build) asked trace numbers
 
 -- where files hold a program and the image that was made of it, `exec` of the image is due what `run` of the program is
 abbrev pub EveryImageRunsAsItsProgram : Type 0

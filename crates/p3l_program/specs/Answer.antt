@@ -13,10 +13,10 @@ use Rattle.p3l_report.specs.declared.verdict.Verdict.{Verdict}
 use Rattle.p3l_report.specs.declared.verdict.Verdict.TheVariants as verdict
 use Rattle.p3l_report.specs.Line.{stats_line}
 use Rattle.p3l_report.specs.Verdict.{finish_status, lines_of, refusal_status, status_of}
-use Rattle.p3l_program.specs.Command.{Begins, Ends, IsDueOf, IsWhole, file_of, stages_of, written_of, limit_of}
+use Rattle.p3l_program.specs.Command.{Begins, Ends, IsDueOf, IsWhole, Touches, file_of, saved_first, stages_of, written_of, limit_of}
 use Rattle.p3l_program.specs.Due.{IsBegun, IsEnd}
 use Rattle.p3l_program.specs.Run.{Emits}
-use Rattle.p3l_program.specs.Saved.{KeepsBut, KeepsFiles}
+use Rattle.p3l_program.specs.Saved.{AreSaved, KeepsBut, KeepsFirst}
 use Rattle.p3l_program.specs.Stage.{IsRefusedBy}
 use Rattle.p3l_program.specs.File.{IsTooLong}
 use Rattle.p3l_program.specs.World.{Change, HasRisen, IsStill, IsUntouched, World}
@@ -31,7 +31,8 @@ pub record IsAsked (words : List Text) (w : World) (v : Verdict) : Type 0 where
   pub command : Command
   pub spelled : Spells words command
   pub due : IsDueOf w command v
-  pub kept : KeepsFiles w.files (written_of command) v
+  pub kept : KeepsFirst w.files (written_of command) (saved_first command) v
+  pub touched : (w.files.new ≡ w.files.old) ⊎ Touches w command
 
 -- they spell none, and the verdict says so
 pub record IsUsage (words : List Text) (w : World) (v : Verdict) : Type 0 where
@@ -46,9 +47,19 @@ pub record IsUnread (w : World) (v : Verdict) : Type 0 where
   pub untouched : IsUntouched w
   pub kept : w.files.new ≡ w.files.old
 
+-- they spell a command that writes files before its work, and one of them could not be written
+pub record IsUnsaved (words : List Text) (w : World) (v : Verdict) : Type 0 where
+  pub verdict_is : v ≡ verdict.WriteFault
+  pub command : Command
+  pub spelled : Spells words command
+  pub some : saved_first command ≢ []
+  pub untouched : IsUntouched w
+  pub risen : HasRisen w.files
+  pub kept : KeepsBut w.files (written_of command)
+
 -- why a verdict is due
 abbrev pub IsDue : List Text → World → Verdict → Type 0
-IsDue words w v = IsAsked words w v ⊎ (IsUsage words w v ⊎ IsUnread w v)
+IsDue words w v = IsAsked words w v ⊎ (IsUsage words w v ⊎ (IsUnread w v ⊎ IsUnsaved words w v))
 
 -- the answer of the program: how it ended, with this status, why, and, where its count of faults doesn't rise, its lines on the
 -- standard error
@@ -76,13 +87,22 @@ pub record IsRefusedAt (words : List Text) (files : Change Held) (refused : Refu
   pub spelled : Spells words command
   pub by : IsRefusedBy files (stages_of command) refused
 
--- the words spell no command, or a stage of the one that they spell refuses; nothing was touched, and no file changed
+-- the command that the words spell wrote the files that it writes before its work, and no others
+pub record HasSavedFirst (words : List Text) (files : Change Held) : Type 0 where
+  pub command : Command
+  pub spelled : Spells words command
+  pub some : saved_first command ≢ []
+  pub saved : AreSaved files (saved_first command)
+  pub kept : KeepsBut files (written_of command)
+
+-- the words spell no command, or a stage of the one that they spell refuses; nothing was touched, and no file changed, but for those
+-- that the command writes before its work
 pub record IsRefusedWith (words : List Text) (w : World) (status : ℕ) : Type 0 where
   pub refused : Refusal
   pub status_is : refusal_status refused ≡ status
   pub by : ((refused ≡ refusal.Usage) × SpellsNone words) ⊎ IsRefusedAt words w.files refused
   pub untouched : IsUntouched w
-  pub kept : w.files.new ≡ w.files.old
+  pub kept : (w.files.new ≡ w.files.old) ⊎ HasSavedFirst words w.files
 
 -- the command that the words spell came to an end of this status
 pub record IsEndedWith (words : List Text) (w : World) (status : ℕ) : Type 0 where
@@ -99,11 +119,12 @@ pub record SpellsWriter (words : List Text) : Type 0 where
   pub spelled : Spells words command
   pub writes : written_of command ≢ []
 
--- no file was changed but those that the command writes that the words spell
-pub record KeepsOthers (words : List Text) (files : Change Held) : Type 0 where
+-- no file was changed but those that the command writes that the words spell, and of a run none before it was over
+pub record KeepsOthers (words : List Text) (w : World) : Type 0 where
   pub command : Command
   pub spelled : Spells words command
-  pub kept : KeepsBut files (written_of command)
+  pub kept : KeepsBut w.files (written_of command)
+  pub touched : Touches w command
 
 -- the file that the words name is longer than the limit
 pub record HasTooLong (words : List Text) (files : Option Held) : Type 0 where
@@ -114,8 +135,8 @@ pub record HasTooLong (words : List Text) (files : Option Held) : Type 0 where
   pub longer : IsTooLong files (limit_of command) name
 
 -- the line of the numbers comes first on the standard error, and they are those of the run
-pub record Reports (w : World) (origin : Origin) (asked : Sched) (said : List ℕ) (err : Option (List ℕ)) : Type 0 where
+pub record Reports (w : World) (origin : Origin) (asked : Sched) (trace : Option (List ℕ)) (said : List ℕ) (err : Option (List ℕ)) : Type 0 where
   pub numbers : Stats
   pub more : List ℕ
   pub line : err ≡ Some (said ++ (stats_line numbers ++ more))
-  pub emits : Emits w origin asked numbers
+  pub emits : Emits w origin asked trace numbers

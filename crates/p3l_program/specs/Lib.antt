@@ -21,8 +21,11 @@ pub mod Explain
 pub mod Certificate
 pub mod Verify
 pub mod Compile
+pub mod Recorded
 pub mod Run
 pub mod Trace
+pub mod Generated
 pub mod Alike
+pub mod Recheck
 pub mod Command
 pub mod Answer

@@ -1,5 +1,6 @@
 -- The commands `run` and `exec`: a program, or an image, run on the input.
-use Rattle.std.specs.Prelude.{◌≡◌, ℕ, ℤ, ◌*◌, ◌≤◌, Bool, true, false, nat_le, List, [], ◌++◌, ◌⊎◌, length, take, Err, Option, Some, None, if◌then◌else◌}
+use Rattle.std.specs.Prelude.{◌≡◌, ℕ, ℤ, ◌*◌, ◌≤◌, Bool, true, false, nat_le, List, [], ◌++◌, ◌⊎◌, length, take, Ok, Err, Option, Some, None, if◌then◌else◌}
+use Rattle.std.specs.Option.{option_to_list}
 use Rattle.p3l_io.specs.Told.{Held}
 use Rattle.p3l_opts.specs.declared.command.Sched.{Sched}
 use Rattle.p3l_opts.specs.declared.command.Sched.TheVariants as sched
@@ -10,6 +11,9 @@ use Rattle.p3l_report.specs.declared.verdict.Refusal.TheVariants as refusal
 use Rattle.p3l_report.specs.declared.verdict.Verdict.{Verdict}
 use Rattle.p3l_report.specs.declared.verdict.Verdict.TheVariants as verdict
 use Rattle.p3l_report.specs.Verdict.{finish_status}
+use Rattle.p3l_run.specs.declared.keeping.Keeping.{Keeping}
+use Rattle.p3l_run.specs.declared.keeping.Keeping.TheVariants as keep
+use Rattle.p3l_run.specs.declared.run.Ran.{Ran}
 use Rattle.p3l_run.specs.Feed.{input_limit}
 use Rattle.p3l_run.specs.Network.{Network, course_of, meaning_of, size_of, width_of}
 use Rattle.p3l_run.specs.Run.{Finishes, Starts, finish_of}
@@ -27,6 +31,8 @@ use Rattle.p3l_program.specs.Due.{IsDueWith}
 use Rattle.p3l_program.specs.File.{HasText}
 use Rattle.p3l_program.specs.Network.{HasNetwork}
 use Rattle.p3l_program.specs.Origin.{Origin}
+use Rattle.p3l_program.specs.Recorded.{IsRecorded, IsRecording, IsRecordOf, IsRecordOn}
+use Rattle.p3l_program.specs.Saved.{KeepsFiles}
 use Rattle.p3l_program.specs.Scheduled.{HasSchedule, picks_limit}
 use Rattle.p3l_program.specs.Stage.{FilesCause, Refuses, readable, run_stages}
 use Rattle.p3l_program.specs.World.{Change, HasRisen, IsCalm, IsStill, World}
@@ -36,19 +42,40 @@ abbrev pub shown : Bool → Stats → Option Stats
 shown true numbers = Some numbers
 shown false numbers = None
 
+-- the lines of a trace are kept where a file is named for it
+abbrev pub keeping_for : Option (List ℕ) → Keeping
+keeping_for None = keep.Nothing
+keeping_for (Some name) = keep.Lines
+
 -- the network and the schedule that files and words ask for
 pub record HasRun (files : Option Held) (origin : Origin) (asked : Sched) (n : Network) (s : Schedule) : Type 0 where
   pub network : HasNetwork files origin n
   pub schedule : HasSchedule files (size_of n) asked s
 
--- what is run was run to this end, with these numbers
-pub record EndsRun (w : World) (origin : Origin) (asked : Sched) (reported : Bool) (finish : Finish) (stats : Option Stats) : Type 0 where
+-- what is run was run to this end, with these numbers, and its trace was written where a file is named for it
+pub record EndsRun (w : World) (origin : Origin) (asked : Sched) (trace : Option (List ℕ)) (reported : Bool) (finish : Finish) (stats : Option Stats) : Type 0 where
   pub n : Network
   pub s : Schedule
   pub has : HasRun w.files.old origin asked n s
-  pub numbers : Stats
-  pub stats_are : stats ≡ shown reported numbers
-  pub finishes : Finishes n s w.input.old w.input.new w.input.before w.input.now w.out.old w.out.new finish numbers
+  pub ran : Ran
+  pub finish_is : finish ≡ ran.finish
+  pub stats_are : stats ≡ shown reported ran.stats
+  pub finishes : Finishes n s (keeping_for trace) w.input.old w.input.new w.input.before w.input.now w.out.old w.out.new ran
+  pub recorded : IsRecorded w.files trace (IsRecordOn n s finishes.items finishes.close)
+
+-- it was run to some end, whatever became of its trace
+pub record RunsOver (w : World) (origin : Origin) (asked : Sched) : Type 0 where
+  pub n : Network
+  pub s : Schedule
+  pub has : HasRun w.files.old origin asked n s
+  pub keeping : Keeping
+  pub ran : Ran
+  pub finishes : Finishes n s keeping w.input.old w.input.new w.input.before w.input.now w.out.old w.out.new ran
+
+-- by when the file of its trace could not be written
+abbrev pub UnsavedRun : World → Origin → Sched → Option (List ℕ) → Type 0
+UnsavedRun w origin asked None = ⊥
+UnsavedRun w origin asked (Some name) = RunsOver w origin asked × IsCalm w.out
 
 -- it was run, and a front of the text of its meaning was written
 pub record BeginsRun (w : World) (origin : Origin) (asked : Sched) : Type 0 where
@@ -57,23 +84,26 @@ pub record BeginsRun (w : World) (origin : Origin) (asked : Sched) : Type 0 wher
   pub has : HasRun w.files.old origin asked n s
   pub starts : Starts n w.input.old w.input.new w.input.before w.input.now w.out.old w.out.new
 
--- over an input and an output that tell: the whole input was taken, each of its lines is an item or has no words, and the whole
--- text of the meaning of its items was written
-pub record RunsWhole (w : World) (origin : Origin) (rest taken : List ℕ) : Type 0 where
+-- over an input and an output that tell: the whole input was taken, each of its lines is an item or has no words, the whole
+-- text of the meaning of its items was written, and the trace is that of the run on them
+pub record RunsWhole (w : World) (origin : Origin) (asked : Sched) (trace : Option (List ℕ)) (rest taken : List ℕ) : Type 0 where
   pub n : Network
-  pub has : HasNetwork w.files.old origin n
+  pub s : Schedule
+  pub has : HasRun w.files.old origin asked n s
   pub input_ended : w.input.new ≡ Some []
   pub all_items : (items_of (width_of n) rest).ending ≡ ending.End
   pub taken_is : w.out.new ≡ Some (taken ++ text_of (meaning_of n (items_of (width_of n) rest).items))
+  pub recorded : IsRecorded w.files trace (IsRecordOf n s (items_of (width_of n) rest).items)
 
--- the text of what the network emits on these items under the schedule was written, with these numbers, of which the firings are
--- at most so many for each item sent
-pub record Emits (w : World) (origin : Origin) (asked : Sched) (numbers : Stats) : Type 0 where
+-- the text of what the network emits on these items under the schedule was written, and the trace of this run, with these numbers, of
+-- which the firings are at most so many for each item sent
+pub record Emits (w : World) (origin : Origin) (asked : Sched) (trace : Option (List ℕ)) (numbers : Stats) : Type 0 where
   pub n : Network
   pub s : Schedule
   pub has : HasRun w.files.old origin asked n s
   pub items : List (List ℤ)
   pub put : HasPut w.out.old w.out.new (text_of (course_of n s items).state.emitted)
+  pub recorded : IsRecorded w.files trace (IsRecordOf n s items)
   pub bounded : numbers.fired ≤ n.firings * numbers.items
   pub bound_is : numbers.bound ≡ numbers.items * n.firings
 
@@ -101,8 +131,8 @@ pub record IsRunStatus (w : World) (origin : Origin) (asked : Sched) (rest : Lis
   pub status_is : status ≡ run_status n s rest
 
 -- a verdict is due of the running of it
-abbrev pub IsRunDue : World → Origin → Sched → Bool → Verdict → Type 0
-IsRunDue w origin asked reported v = IsDueWith w (run_stages origin asked) (EndsRun w origin asked reported) (BeginsRun w origin asked) ⊥ v
+abbrev pub IsRunDue : World → Origin → Sched → Option (List ℕ) → Bool → Verdict → Type 0
+IsRunDue w origin asked trace reported v = IsDueWith w (run_stages origin asked) (EndsRun w origin asked trace reported) (BeginsRun w origin asked) (UnsavedRun w origin asked trace) v
 
 -- a text has no picks of so many processes
 abbrev pub IsBadPicks : List ℕ → ℕ → Refusal → Type 0
@@ -123,15 +153,31 @@ IsUnasked files count (sched.File name) (verdict.Refused refused) =
 IsUnasked files count (sched.File name) verdict.NoMemory = IsCalm files
 IsUnasked files count asked v = ⊥
 
--- a network was run under the schedule that is asked for, to this end
-pub record IsRunTo (n : Network) (files : Change Held) (input out : Change (List ℕ)) (asked : Sched) (reported : Bool) (finish : Finish) (stats : Option Stats) : Type 0 where
+-- a network was run under the schedule that is asked for, to this end, and its trace was written
+pub record IsRunTo (n : Network) (files : Change Held) (input out : Change (List ℕ)) (asked : Sched) (trace : Option (List ℕ)) (reported : Bool) (finish : Finish) (stats : Option Stats) : Type 0 where
   pub s : Schedule
   pub schedule : HasSchedule files.old (size_of n) asked s
-  pub numbers : Stats
-  pub stats_are : stats ≡ shown reported numbers
-  pub finishes : Finishes n s input.old input.new input.before input.now out.old out.new finish numbers
+  pub ran : Ran
+  pub finish_is : finish ≡ ran.finish
+  pub stats_are : stats ≡ shown reported ran.stats
+  pub finishes : Finishes n s (keeping_for trace) input.old input.new input.before input.now out.old out.new ran
+  pub recorded : IsRecorded files trace (IsRecordOn n s finishes.items finishes.close)
   pub files_calm : IsCalm files
   pub out_calm : IsCalm out
+
+-- or to some end
+pub record IsRunOver (n : Network) (files : Change Held) (input out : Change (List ℕ)) (asked : Sched) : Type 0 where
+  pub s : Schedule
+  pub schedule : HasSchedule files.old (size_of n) asked s
+  pub keeping : Keeping
+  pub ran : Ran
+  pub finishes : Finishes n s keeping input.old input.new input.before input.now out.old out.new ran
+  pub out_calm : IsCalm out
+
+-- by when the file of its trace could not be written
+abbrev pub IsUnsavedRun : Network → Change Held → Change (List ℕ) → Change (List ℕ) → Sched → Option (List ℕ) → Type 0
+IsUnsavedRun n files input out asked None = ⊥
+IsUnsavedRun n files input out asked (Some name) = IsRunOver n files input out asked × HasRisen files
 
 -- or a front of the text of its meaning was written
 pub record IsRunSome (n : Network) (files : Change Held) (input out : Change (List ℕ)) (asked : Sched) : Type 0 where
@@ -145,9 +191,19 @@ pub record IsRunNot (files : Change Held) (input out : Change (List ℕ)) : Type
   pub input_still : IsStill input
   pub out_still : IsStill out
 
+-- how a run that came to its end is told, once its trace was written where a file is named for it
+abbrev pub IsClosed : Change Held → Ran → Option (List ℕ) → Bool → Verdict → Type 0
+IsClosed files ran trace reported (verdict.Ended finish stats) = (finish ≡ ran.finish) × (stats ≡ shown reported ran.stats) × IsRecording files trace ran.lines ran.stats (Ok tt)
+IsClosed files ran trace reported v = IsRecording files trace ran.lines ran.stats (Err v)
+
 -- how the run of a network under the schedule that is asked for ends
-abbrev pub IsRunOf : Network → Change Held → Change (List ℕ) → Change (List ℕ) → Sched → Bool → Verdict → Type 0
-IsRunOf n files input out asked reported (verdict.Refused refused) = IsUnasked files (size_of n) asked (verdict.Refused refused) × IsRunNot files input out
-IsRunOf n files input out asked reported (verdict.Ended finish stats) = IsRunTo n files input out asked reported finish stats
-IsRunOf n files input out asked reported verdict.WriteFault = IsRunSome n files input out asked × HasRisen out
-IsRunOf n files input out asked reported verdict.NoMemory = IsRunNot files input out ⊎ IsRunSome n files input out asked
+abbrev pub IsRunOf : Network → Change Held → Change (List ℕ) → Change (List ℕ) → Sched → Option (List ℕ) → Bool → Verdict → Type 0
+IsRunOf n files input out asked trace reported (verdict.Refused refused) = IsUnasked files (size_of n) asked (verdict.Refused refused) × IsRunNot files input out
+IsRunOf n files input out asked trace reported (verdict.Ended finish stats) = IsRunTo n files input out asked trace reported finish stats
+IsRunOf n files input out asked trace reported verdict.WriteFault = (IsRunSome n files input out asked × HasRisen out) ⊎ IsUnsavedRun n files input out asked trace
+IsRunOf n files input out asked trace reported verdict.NoMemory = IsRunNot files input out ⊎ IsRunSome n files input out asked
+
+-- which files it changes: that of the trace alone, when it is over
+pub record KeepsRun (n : Network) (files : Change Held) (input out : Change (List ℕ)) (asked : Sched) (trace : Option (List ℕ)) (v : Verdict) : Type 0 where
+  pub kept : KeepsFiles files (option_to_list trace) v
+  pub over : (files.new ≡ files.old) ⊎ IsRunOver n files input out asked

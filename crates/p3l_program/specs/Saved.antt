@@ -1,5 +1,5 @@
 -- Files that a command writes.
-use Rattle.std.specs.Prelude.{◌≡◌, ◌≢◌, ℕ, List, [], ◌∷◌, Option, Some, None, Result, Ok, Err}
+use Rattle.std.specs.Prelude.{◌≡◌, ◌≢◌, ℕ, List, [], ◌∷◌, map, Option, Some, None, Result, Ok, Err}
 use Rattle.p3l_io.specs.Told.{Held}
 use Rattle.p3l_report.specs.declared.stats.Stats.{Stats}
 use Rattle.p3l_report.specs.declared.verdict.Finish.{Finish}
@@ -47,6 +47,37 @@ SaveCause files name bytes (Err v) = ⊥
 pub record HasSave (files : Change Held) (name bytes : List ℕ) (result : Result (Unit {0}) Verdict) : Type 0 where
   pub kept : KeepsBut files (name ∷ [])
   pub by : SaveCause files name bytes result
+
+-- the bytes stand under their names, of files that are each a name and its bytes
+abbrev pub AreSaved : Change Held → List (List ℕ × List ℕ) → Type 0
+AreSaved files [] = Unit {0}
+AreSaved files (save ∷ saves) = IsSaved files save.0 save.1 × AreSaved files saves
+
+abbrev pub names_of : List (List ℕ × List ℕ) → List (List ℕ)
+names_of saves = map (λ save. save.0) saves
+
+-- how the writing of several files ends
+abbrev pub SavesCause : Change Held → List (List ℕ × List ℕ) → Result (Unit {0}) Verdict → Type 0
+SavesCause files saves (Ok done) = AreSaved files saves × IsCalm files
+SavesCause files saves (Err verdict.WriteFault) = (saves ≢ []) × HasRisen files
+SavesCause files saves (Err verdict.NoMemory) = IsCalm files
+SavesCause files saves (Err v) = ⊥
+
+-- and changes no other file
+pub record HasSaves (files : Change Held) (saves : List (List ℕ × List ℕ)) (result : Result (Unit {0}) Verdict) : Type 0 where
+  pub kept : KeepsBut files (names_of saves)
+  pub by : SavesCause files saves result
+
+-- with this verdict files that a command wrote before its work have what was written, but where memory was wanting
+abbrev pub HoldFirst : Change Held → List (List ℕ × List ℕ) → Verdict → Type 0
+HoldFirst files saves verdict.NoMemory = Unit {0}
+HoldFirst files saves v = AreSaved files saves
+
+-- with this verdict no file is changed but those of these names; and by a refusal none, or those alone that the command wrote before
+-- its work
+abbrev pub KeepsFirst : Change Held → List (List ℕ) → List (List ℕ × List ℕ) → Verdict → Type 0
+KeepsFirst files names [] v = KeepsFiles files names v
+KeepsFirst files names (save ∷ saves) v = KeepsBut files names × HoldFirst files (save ∷ saves) v
 
 -- such a file and such a text were written, and nothing was taken
 pub record EndsSaving (w : World) (IsText : List ℕ → Type 0) (name : List ℕ) (IsBytes : List ℕ → Type 0) (finish : Finish) (stats : Option Stats) : Type 0 where

@@ -16,9 +16,9 @@ use Rattle.p3l_sched.specs.declared.refusal.PickRefusal.TheVariants as picks
 use Rattle.p3l_sched.specs.declared.schedule.Schedule.{Schedule}
 use Rattle.p3l_trace.specs.declared.trace.Traced.{Traced}
 use Rattle.p3l_check.specs.Resolving.{ResolvedTree}
-use Rattle.p3l_program.specs.Accepted.{HasNoTree, HasTree}
+use Rattle.p3l_program.specs.Accepted.{HasNoTree, HasTree, IsAccepted, IsNotAccepted}
 use Rattle.p3l_program.specs.Certified.{HasCert, HasNoCert, cert_limit}
-use Rattle.p3l_program.specs.Chosen.{HasCosts, HasCounts, HasNoCosts, HasTooFew}
+use Rattle.p3l_program.specs.Chosen.{HasCosts, HasCounts, HasNoCosts, HasTooFew, IsAllotted, IsOverfull, IsPriced, IsUnpriced}
 use Rattle.p3l_program.specs.File.{HasFault, HasProgram, HasText, IsTooLong, text_limit}
 use Rattle.p3l_program.specs.Image.{HasBytes, IsBrokenImage, IsImage, IsNoImage, IsRunnableImage, image_limit}
 use Rattle.p3l_program.specs.Network.{HasNetwork}
@@ -27,12 +27,12 @@ use Rattle.p3l_program.specs.Scheduled.{HasNoPicks, HasPicks, picks_limit}
 use Rattle.p3l_program.specs.TraceFile.{HasNoTrace, HasTrace}
 use Rattle.p3l_program.specs.World.{Change, HasRisen, IsCalm}
 
--- the command is not there yet; the file of this name can be read, within its limit; its text spells a program; the program keeps all rules; the file of the second
+-- the file of this name can be read, within its limit; its text spells a program; the program keeps all rules; the file of the second
 -- name says costs of it; some counts fit the processors; the bytes of the file spell an image; the image can be run; the file of this
 -- name has picks for the network of what is run; the file of the last name has a certificate that holds for a program and its costs;
--- the file of this name spells a trace
+-- the file of this name spells a trace; the text spells a program that keeps all rules, the second text says costs of it, and some
+-- counts of it fit so many processors
 pub data Stage : Type 0 where
-  there : Stage
   readable : ℕ → List ℕ → Stage
   spelled : List ℕ → Stage
   resolved : List ℕ → Stage
@@ -43,10 +43,12 @@ pub data Stage : Type 0 where
   scheduled : Origin → List ℕ → Stage
   certified : List ℕ → Option (List ℕ) → List ℕ → Stage
   traced : List ℕ → Stage
+  text_kept : List ℕ → Stage
+  text_priced : List ℕ → List ℕ → Stage
+  text_fitting : List ℕ → List ℕ → ℕ → Stage
 
 -- the stage is passed
 abbrev pub Passes : Change Held → Stage → Type 0
-Passes files there = ⊥
 Passes files (readable limit name) = (text : List ℕ) × HasText files.old limit name text
 Passes files (spelled name) = (program : ProgramTree) × HasProgram files.old name program
 Passes files (resolved name) = (r : ResolvedTree) × HasTree files.old name r
@@ -57,10 +59,12 @@ Passes files (loaded name) = (i : Image) × HasBytes files.old name (IsRunnableI
 Passes files (scheduled origin name) = (n : Network) × (s : Schedule) × HasNetwork files.old origin n × HasPicks files.old (size_of n) name s
 Passes files (certified program costs name) = (r : ResolvedTree) × (cs : Costs) × (cert : Cert) × HasCert files.old program costs name r cs cert
 Passes files (traced name) = (t : Traced) × HasTrace files.old name t
+Passes files (text_kept text) = (r : ResolvedTree) × IsAccepted text r
+Passes files (text_priced text said) = (r : ResolvedTree) × (cs : Costs) × IsPriced text (Some said) r cs
+Passes files (text_fitting text said processors) = (r : ResolvedTree) × (cs : Costs) × (counts : List ℕ) × IsAllotted text (Some said) processors r cs counts
 
 -- the stage refuses so
 abbrev pub Refuses : Change Held → Stage → Refusal → Type 0
-Refuses files there refusal.Usage = Unit {0}
 Refuses files (readable limit name) (refusal.FileFault named) = (named ≡ name) × HasRisen files
 Refuses files (readable limit name) (refusal.FileTooLong named) = (named ≡ name) × IsTooLong files.old limit name
 Refuses files (spelled name) (refusal.Source fault pos) = HasFault files.old name fault pos
@@ -73,6 +77,9 @@ Refuses files (scheduled origin name) (refusal.BadPick line) = HasNoPicks files.
 Refuses files (scheduled origin name) (refusal.NoSuchProcess line pick count) = HasNoPicks files.old origin name (picks.NoSuchProcess line pick count)
 Refuses files (certified program costs name) (refusal.Evidence shown) = HasNoCert files.old program costs name shown
 Refuses files (traced name) (refusal.Evidence (evidence.BadLine line)) = HasNoTrace files.old name line
+Refuses files (text_kept text) (refusal.Source fault pos) = IsNotAccepted text fault pos
+Refuses files (text_priced text said) (refusal.Costs fault) = IsUnpriced text said fault
+Refuses files (text_fitting text said processors) (refusal.TooFew need) = IsOverfull text (Some said) processors need
 Refuses files stage refused = ⊥
 
 -- all stages are passed

@@ -1,27 +1,24 @@
 // The command `check-trace`: a trace of a file, checked against the run of a program on the input.
 
 ghost use Rattle.std.specs.Prelude.{◌≡◌, ◌<◌, ◌≤◌, ◌*◌, ◌^◌, IfOk, IfErr, OnOk, string_bytes};
-ghost use Rattle.p3l_check.specs.Resolving.{ResolvedTree};
 ghost use Rattle.p3l_run.specs.Feed.{most_of_input};
 ghost use Rattle.p3l_run.specs.Network.{IsSound, network};
 ghost use Rattle.p3l_skel.specs.Tree.{node_at};
-ghost use Rattle.p3l_program.specs.Accepted.{IsCompiled};
-ghost use Rattle.p3l_program.specs.Load.{IsReady};
-ghost use Rattle.p3l_program.specs.Network.{network_of};
+ghost use Rattle.p3l_program.specs.LoadImage.{IsReadyImage};
+ghost use Rattle.p3l_program.specs.Network.{network_in};
 ghost use Rattle.p3l_program.specs.Trace.{IsAgreed, IsCheckDue, IsCheckOf, IsUntraced, holds_line};
 ghost use Rattle.p3l_program.specs.TraceFile.{HasTrace};
 ghost use Rattle.p3l_program.specs.World.{change, world};
 
-use crate::accept::Accepted;
 use crate::file::find_text;
-use crate::load::{Loaded, load};
+use crate::linked::linked;
+use crate::load::load;
 use crate::running::width_of;
 use crate::text::write_text;
 use p3l_base::{Name, NoMemory};
-use p3l_compile::table_of;
 use p3l_io::{Files, Sink, Source};
 use p3l_link::laws::every_linked_net_is_carried;
-use p3l_link::link;
+use p3l_load::Loaded;
 use p3l_model::firings;
 use p3l_opts::Build;
 use p3l_report::{Evidence, Finish, Refusal, Verdict};
@@ -30,6 +27,7 @@ use p3l_run::Plan;
 use p3l_skel::Units;
 use p3l_stream::Ending;
 use p3l_trace::{TraceRefusal, Traced, read_trace};
+use p3l_units::UnitTable;
 use std::alloc::Global;
 
 /// The most bytes of a file of a trace.
@@ -107,34 +105,28 @@ fn check_network<U: Units, F: Files, S: Source, K: Sink>(
     }
 }
 
-/// Checks the trace of a file against the network of a program on the items of the input.
-fn check_loaded<F: Files, S: Source, K: Sink>(
+/// Checks the trace of a file against what was linked, on the items of the input.
+fn check_linked<F: Files, S: Source, K: Sink>(
     alloc: Global,
-    loaded: Loaded,
-    capacity: u32,
+    linked: Loaded,
     name: Name,
     files: &mut F,
     input: &mut S,
     out: &mut K,
 ) -> Verdict
-    requires ready { IsReady loaded }
-    requires some { 1 ≤ capacity }
-    requires few { capacity ≤ 1024 }
-    ensures checked { (r : ResolvedTree) → IsCompiled r loaded.program → IsCheckOf (network_of r loaded.choice.counts.list capacity) (change F.held F.faults files.old files.new) (change S.rest S.faults input.old input.new) (change K.taken K.faults out.old out.new) name result }
+    requires ready { IsReadyImage linked }
+    ensures checked { IsCheckOf (network_in linked) (change F.held F.faults files.old files.new) (change S.rest S.faults input.old input.new) (change K.taken K.faults out.old out.new) name result }
     ensures stays { F.held files.new ≡ F.held files.old }
 {
     every_linked_net_is_carried();
     let Loaded {
-        program,
-        choice,
+        tree,
+        counts,
+        codes,
+        net,
         ..
-    } = loaded;
-    let Accepted { tree, codes } = program;
-    let counts = choice.counts;
-    let Ok(units) = table_of(alloc, &tree, codes) else {
-        return Verdict::NoMemory;
-    };
-    let Ok(net) = link(alloc, &tree, &counts, capacity) else {
+    } = linked;
+    let Ok(units) = UnitTable::new(alloc, &tree, codes) else {
         return Verdict::NoMemory;
     };
     let plan = Plan {
@@ -162,8 +154,12 @@ pub fn check_trace<F: Files, S: Source, K: Sink>(
     ensures stays { F.held files.new ≡ F.held files.old }
 {
     let capacity = build.capacity;
-    match load(alloc, build, files) {
-        Err(verdict) => verdict,
-        Ok(loaded) => check_loaded(alloc, loaded, capacity, name, files, input, out),
+    let loaded = match load(alloc, build, files) {
+        Ok(loaded) => loaded,
+        Err(verdict) => return verdict,
+    };
+    match linked(alloc, loaded, capacity) {
+        Err(_) => Verdict::NoMemory,
+        Ok(linked) => check_linked(alloc, linked, name, files, input, out),
     }
 }

@@ -14,7 +14,7 @@ use p3l_skel::Tree;
 use std::alloc::Global;
 
 /// The verdict of costs that are refused.
-fn cost_verdict(refusal: CostRefusal) -> Verdict
+pub fn cost_verdict(refusal: CostRefusal) -> Verdict
     ensures { result ≡ cost_verdict refusal }
 {
     match refusal {

@@ -1,20 +1,28 @@
 // A network that is run under the schedule that words and files ask for, whatever it was made from.
 
-ghost use Rattle.std.specs.Prelude.{◌≡◌, ◌<◌, ◌≤◌, ◌*◌, ◌^◌, length};
+ghost use Rattle.std.specs.Prelude.{◌≡◌, ◌<◌, ◌≤◌, ◌*◌, ◌^◌};
 ghost use Rattle.p3l_report.specs.declared.verdict.Verdict.TheVariants as verdict;
 ghost use Rattle.p3l_run.specs.Feed.{most_of_input};
 ghost use Rattle.p3l_run.specs.Network.{IsSound, network};
 ghost use Rattle.p3l_skel.specs.Tree.{node_at};
-ghost use Rattle.p3l_program.specs.Run.{IsRunOf, shown};
+ghost use Rattle.p3l_program.specs.LoadImage.{IsReadyImage};
+ghost use Rattle.p3l_program.specs.Network.{network_in};
+ghost use Rattle.p3l_program.specs.Run.{IsClosed, IsRunOf, KeepsRun, keeping_for, shown};
 ghost use Rattle.p3l_program.specs.World.{change};
 
+use crate::record::record;
 use crate::schedule::load_schedule;
+use p3l_base::Name;
 use p3l_io::{Files, Sink, Source};
+use p3l_link::laws::every_linked_net_is_carried;
+use p3l_load::Loaded;
+use p3l_model::firings;
 use p3l_opts::Sched;
-use p3l_report::Verdict;
+use p3l_report::{Finish, Stats, Verdict};
 use p3l_run::run::run;
-use p3l_run::{Plan, Ran};
+use p3l_run::{Keeping, Plan, Ran};
 use p3l_skel::{Tree, Units};
+use p3l_units::UnitTable;
 use std::alloc::Global;
 
 /// How many words an item of a tree has.
@@ -28,22 +36,55 @@ pub fn width_of(tree: &Tree) -> u32
 }
 
 /// The verdict of a run that came to its end, whose numbers are to be reported or not.
-fn ended(ran: Ran, reported: bool) -> Verdict
-    ensures { result ≡ verdict.Ended ran.finish (shown reported ran.stats) }
+fn ended(finish: Finish, stats: Stats, reported: bool) -> Verdict
+    ensures { result ≡ verdict.Ended finish (shown reported stats) }
 {
     if reported {
-        Verdict::Ended(ran.finish, Some(ran.stats))
+        Verdict::Ended(finish, Some(stats))
     } else {
-        Verdict::Ended(ran.finish, None)
+        Verdict::Ended(finish, None)
     }
 }
 
-/// Runs a network on the items of the input under the schedule that is asked for, and writes each
-/// value as it comes out.
+/// What is kept of the picks of a run: their lines, where a file is named for the trace.
+fn keeping_for(trace: &Option<Name>) -> Keeping
+    ensures { result ≡ keeping_for trace.now }
+{
+    match trace {
+        None => Keeping::Nothing,
+        Some(_) => Keeping::Lines,
+    }
+}
+
+/// Ends a run: writes its trace where a file is named for it, and tells how it ended.
+fn close<F: Files>(
+    alloc: Global,
+    ran: Ran,
+    trace: Option<Name>,
+    reported: bool,
+    files: &mut F,
+) -> Verdict
+    ensures { IsClosed (change F.held F.faults files.old files.new) ran trace reported result }
+{
+    let Ran {
+        finish,
+        stats,
+        lines,
+        ..
+    } = ran;
+    match record(alloc, trace, lines, &stats, files) {
+        Ok(()) => ended(finish, stats, reported),
+        Err(verdict) => verdict,
+    }
+}
+
+/// Runs a network on the items of the input under the schedule that is asked for, writes each value
+/// as it comes out, and at the end the trace.
 pub fn run_network<U: Units, F: Files, S: Source, K: Sink>(
     alloc: Global,
     plan: Plan<'_, U>,
     asked: Sched,
+    trace: Option<Name>,
     reported: bool,
     files: &mut F,
     input: &mut S,
@@ -55,16 +96,54 @@ pub fn run_network<U: Units, F: Files, S: Source, K: Sink>(
     requires wide { 1 ≤ plan.width }
     requires fits { plan.firings * most_of_input < 2 ^ 63 }
     ensures ran { IsRunOf (network plan.entry.tree.now (U.leaf plan.entry.units.now) plan.entry.net plan.entry.firings)
-        (change F.held F.faults files.old files.new) (change S.rest S.faults input.old input.new) (change K.taken K.faults out.old out.new) asked reported result }
-    ensures stays { F.held files.new ≡ F.held files.old }
+        (change F.held F.faults files.old files.new) (change S.rest S.faults input.old input.new) (change K.taken K.faults out.old out.new) asked trace reported result }
+    ensures kept { KeepsRun (network plan.entry.tree.now (U.leaf plan.entry.units.now) plan.entry.net plan.entry.firings)
+        (change F.held F.faults files.old files.new) (change S.rest S.faults input.old input.new) (change K.taken K.faults out.old out.new) asked trace result }
 {
     let count = plan.net.procs.len() as u32;
     let schedule = match load_schedule(alloc, asked, count, files) {
         Ok(schedule) => schedule,
         Err(verdict) => return verdict,
     };
-    match run(alloc, plan, schedule, input, out) {
+    let keeping = keeping_for(&trace);
+    match run(alloc, plan, schedule, keeping, input, out) {
         Err(fault) => Verdict::from(fault),
-        Ok(ran) => ended(ran, reported),
+        Ok(ran) => close(alloc, ran, trace, reported, files),
     }
+}
+
+/// Runs what was loaded, or linked as an image is.
+pub fn run_loaded<F: Files, S: Source, K: Sink>(
+    alloc: Global,
+    loaded: Loaded,
+    asked: Sched,
+    trace: Option<Name>,
+    reported: bool,
+    files: &mut F,
+    input: &mut S,
+    out: &mut K,
+) -> Verdict
+    requires ready { IsReadyImage loaded }
+    ensures ran { IsRunOf (network_in loaded) (change F.held F.faults files.old files.new) (change S.rest S.faults input.old input.new) (change K.taken K.faults out.old out.new) asked trace reported result }
+    ensures kept { KeepsRun (network_in loaded) (change F.held F.faults files.old files.new) (change S.rest S.faults input.old input.new) (change K.taken K.faults out.old out.new) asked trace result }
+{
+    every_linked_net_is_carried();
+    let Loaded {
+        tree,
+        counts,
+        codes,
+        net,
+        ..
+    } = loaded;
+    let Ok(units) = UnitTable::new(alloc, &tree, codes) else {
+        return Verdict::NoMemory;
+    };
+    let plan = Plan {
+        tree: &tree,
+        units: &units,
+        net,
+        firings: firings(&tree, &counts),
+        width: width_of(&tree),
+    };
+    run_network(alloc, plan, asked, trace, reported, files, input, out)
 }

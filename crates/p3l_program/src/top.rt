@@ -1,16 +1,18 @@
 // The top call: from the words of the command line to the status.
 
-ghost use Rattle.std.specs.Prelude.{◌≡◌, ◌≢◌, ◌<◌, ◌⊎◌, List, ℕ, Some, true};
+ghost use Rattle.std.specs.Prelude.{◌≡◌, ◌≢◌, ◌<◌, ◌⊎◌, Bool, List, ℕ, Option, Some, true};
 ghost use Rattle.p3l_io.specs.Causes.{Rose};
 ghost use Rattle.p3l_opts.specs.declared.command.Command.{Command};
 ghost use Rattle.p3l_opts.specs.declared.command.Sched.{Sched};
 ghost use Rattle.p3l_opts.specs.Command.{Spells, texts_of};
+ghost use Rattle.p3l_report.specs.declared.stats.Stats.{Stats};
 ghost use Rattle.p3l_report.specs.declared.verdict.Refusal.{Refusal};
 ghost use Rattle.p3l_report.specs.Status as status;
 ghost use Rattle.p3l_report.specs.Verdict.{refusal_status};
 ghost use Rattle.p3l_program.specs.Answer.{Answers, BeginsWork, HasTooLong, IsDone, IsDue, IsEndedWith, IsRefusedAt, IsRefusedWith, KeepsOthers, Reports, SpellsNone, SpellsWriter};
 ghost use Rattle.p3l_program.specs.Command.{IsStatusDue, stages_of, runs};
 ghost use Rattle.p3l_program.specs.Origin.{Origin};
+ghost use Rattle.p3l_program.specs.Run.{Emits};
 ghost use Rattle.p3l_program.specs.Stage.{AllPass};
 ghost use Rattle.p3l_program.specs.World.{HasNoFault, IsUntouched, WhenTold, change, world};
 
@@ -21,6 +23,7 @@ use crate::compile::compile;
 use crate::exec::exec;
 use crate::explain::explain;
 use crate::fmt::fmt;
+use crate::generated::run_generated;
 use crate::run::run;
 use crate::verify::verify_cert;
 use p3l_io::{Files, Sink, Source};
@@ -48,22 +51,23 @@ fn perform<F: Files, S: Source, K: Sink>(
             Some(name) => certify(alloc, build, name, files, out),
         },
         Ok(Command::Compile(build, name)) => compile(alloc, build, name, files),
-        Ok(Command::Run(build, schedule, None, reported)) => {
-            run(alloc, build, schedule, reported, files, input, out)
-        }
+        Ok(Command::Run(build, schedule, trace, reported)) => run(
+            alloc, build, schedule, trace, reported, files, input, out,
+        ),
         Ok(Command::VerifyCert(program, cert, costs)) => {
             verify_cert(alloc, program, cert, costs, files, out)
         }
-        Ok(Command::Exec(name, schedule, None, reported)) => {
-            exec(alloc, name, schedule, reported, files, input, out)
-        }
+        Ok(Command::Exec(name, schedule, trace, reported)) => exec(
+            alloc, name, schedule, trace, reported, files, input, out,
+        ),
         Ok(Command::CheckTrace(build, name)) => {
             check_trace(alloc, build, name, files, input, out)
         }
-        // Commands that are still to come.
-        Ok(Command::Run(_, _, Some(_), _)) => Verdict::Refused(Refusal::Usage),
-        Ok(Command::Exec(_, _, Some(_), _)) => Verdict::Refused(Refusal::Usage),
-        Ok(Command::Gen(_, _, _, _, _)) => Verdict::Refused(Refusal::Usage),
+        Ok(Command::Gen(number, processors, items, schedule, prefix)) => {
+            run_generated(
+                alloc, number, processors, items, schedule, prefix, files, out,
+            )
+        }
     }
 }
 
@@ -107,7 +111,8 @@ pub fn top<F: Files, S: Source, K: Sink, E: Sink>(
         (change E.taken E.faults err.old err.new) result.0 }
 
     // What is written begins what the command that the words spell writes: of `run` and `exec` the
-    // text of the program's meaning on the items read, of `fmt` the canonical text of the program.
+    // text of the program's meaning on the items read, of `fmt` the canonical text of the program,
+    // of `gen` the line of the run of the texts that its number gives.
     ensures begins { let w = world (change F.held F.faults files.old files.new) (change S.rest S.faults input.old input.new) (change K.taken K.faults out.old out.new)
         in IsUntouched w ⊎ BeginsWork (texts_of words.now) w }
 
@@ -120,8 +125,8 @@ pub fn top<F: Files, S: Source, K: Sink, E: Sink>(
     ensures ended { let w = world (change F.held F.faults files.old files.new) (change S.rest S.faults input.old input.new) (change K.taken K.faults out.old out.new)
         in status.is_end result.0 ≡ true → IsEndedWith (texts_of words.now) w result.0 }
 
-    // With each status of a refusal nothing was touched and no file changed, and the words are no command, or the stage
-    // that refuses so comes after others that all pass.
+    // With each status of a refusal nothing was touched, no file changed but those that the command writes before its
+    // work, and the words are no command, or the stage that refuses so comes after others that all pass.
     ensures refused { let w = world (change F.held F.faults files.old files.new) (change S.rest S.faults input.old input.new) (change K.taken K.faults out.old out.new)
         in status.is_refusal result.0 ≡ true → IsRefusedWith (texts_of words.now) w result.0 }
 
@@ -149,8 +154,14 @@ pub fn top<F: Files, S: Source, K: Sink, E: Sink>(
     // The line of the numbers is due where the words ask for it, and they are the run's: they come
     // with what the network emitted, and with the bound on its firings.
     ensures reported { let w = world (change F.held F.faults files.old files.new) (change S.rest S.faults input.old input.new) (change K.taken K.faults out.old out.new)
-        in (origin : Origin) (schedule : Sched) → Spells (texts_of words.now) (runs origin schedule true) → status.is_end result.0 ≡ true
-        → (said : List ℕ) → E.taken err.old ≡ Some said → (Rose (E.faults err.old) (E.faults err.new) → ⊥) → Reports w origin schedule said (E.taken err.new) }
+        in (origin : Origin) (schedule : Sched) (trace : Option (List ℕ)) → Spells (texts_of words.now) (runs origin schedule trace true) → status.is_end result.0 ≡ true
+        → (said : List ℕ) → E.taken err.old ≡ Some said → (Rose (E.faults err.old) (E.faults err.new) → ⊥) → Reports w origin schedule trace said (E.taken err.new) }
+
+    // With each status of an end the text of what the network emits was written, and where the words name a file for the
+    // trace of the run, it has the text of it: its picks are those of the schedule, and it agrees with this same run.
+    ensures recorded { let w = world (change F.held F.faults files.old files.new) (change S.rest S.faults input.old input.new) (change K.taken K.faults out.old out.new)
+        in (origin : Origin) (schedule : Sched) (trace : Option (List ℕ)) (reported : Bool) → Spells (texts_of words.now) (runs origin schedule trace reported) → status.is_end result.0 ≡ true
+        → (numbers : Stats) × Emits w origin schedule trace numbers }
 
     // A fault is answered only where the count of the object rose in this call.
     ensures read_fault { result.0 ≡ status.read → Rose (S.faults input.old) (S.faults input.new) }
@@ -161,8 +172,9 @@ pub fn top<F: Files, S: Source, K: Sink, E: Sink>(
     ensures files_failed { F.faults files.old < F.faults files.new → (result.0 ≡ status.file) ⊎ ((result.0 ≡ status.no_memory) ⊎ (SpellsWriter (texts_of words.now) × (result.0 ≡ status.write))) }
     ensures input_failed { S.faults input.old < S.faults input.new → (result.0 ≢ status.done) × (result.0 ≢ status.too_long) × (result.0 ≢ status.stream) }
 
-    // No file is changed but those that the words name for writing.
-    ensures files_stay { (F.held files.new ≡ F.held files.old) ⊎ KeepsOthers (texts_of words.now) (change F.held F.faults files.old files.new) }
+    // No file is changed but those that the words name for writing, and by a run none before it is over.
+    ensures files_stay { let w = world (change F.held F.faults files.old files.new) (change S.rest S.faults input.old input.new) (change K.taken K.faults out.old out.new)
+        in (F.held files.new ≡ F.held files.old) ⊎ KeepsOthers (texts_of words.now) w }
 {
     one_command_at_most();
     answer(alloc, words, files, input, out, err)

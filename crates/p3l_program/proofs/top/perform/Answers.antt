@@ -2,7 +2,8 @@ use Rattle.std.proofs.Common.{refl, rules, subst}
 use Rattle.p3l_opts.specs.declared.command.Command.TheVariants as command
 use Rattle.p3l_opts.specs.Command.{Spells, texts_of}
 use Rattle.p3l_program.specs.World.{change}
-use Rattle.p3l_program.proofs.DueSteps.{certify_asked, check_asked, compile_asked, explain_asked, fmt_asked, verify_asked}
+use Rattle.p3l_program.proofs.DueSteps.{certify_asked, check_asked, compile_asked, explain_asked, fmt_asked, gen_asked, verify_asked}
+use Rattle.p3l_program.proofs.GenSteps.{items_few}
 use Rattle.p3l_program.proofs.top.perform.Goals as goal
 
 pub returns-in-Ok-Check : goal.returns-in-Ok-Check
@@ -58,4 +59,19 @@ returns-in-Ok-VerifyCert g c =
       due =
           verify_asked (texts_of c.args.words.now) (change g.F.Files.held g.F.Files.faults c.args.files.now c.verify_cert.new.files) (change g.K.Sink.taken g.K.Sink.faults c.args.out.now c.verify_cert.new.out)
           (g.S.Source.rest c.args.input.now) (g.S.Source.faults c.args.input.now) c.verify_cert.result asked.program asked.cert asked.costs spelled c.verify_cert.ensures.due c.verify_cert.ensures.stays;
+    }
+
+pub run_generated-requires-clause-items : goal.run_generated-requires-clause-items
+run_generated-requires-clause-items g c =
+    let asked = c.in-Ok-Gen in
+    let spelled : Spells (texts_of c.args.words.now) (command.Gen asked.number asked.processors asked.items asked.schedule asked.prefix) = search (rules, asked.ensures.spelled) in
+    items_few _ asked.items spelled.values.items_are
+
+pub returns-in-Ok-Gen : goal.returns-in-Ok-Gen
+returns-in-Ok-Gen g c =
+    let asked = c.in-Ok-Gen in
+    let spelled : Spells (texts_of c.args.words.now) (command.Gen asked.number asked.processors asked.items asked.schedule asked.prefix) = search (rules, asked.ensures.spelled) in record {
+      due =
+          gen_asked (texts_of c.args.words.now) (change g.F.Files.held g.F.Files.faults c.args.files.now c.run_generated.new.files) (change g.K.Sink.taken g.K.Sink.faults c.args.out.now c.run_generated.new.out)
+          (g.S.Source.rest c.args.input.now) (g.S.Source.faults c.args.input.now) c.run_generated.result asked.number asked.processors asked.items asked.schedule asked.prefix spelled c.run_generated.ensures.due;
     }

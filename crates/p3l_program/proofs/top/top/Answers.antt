@@ -26,7 +26,10 @@ pub returns-clause-completes : goal.returns-clause-completes
 returns-clause-completes g c = λ held rest taken told input out command spelled passed calm. steps.completes _ _ _ _ c.answer.ensures.answers c.one_command_at_most.ensures held rest told input command spelled passed calm
 
 pub returns-clause-reported : goal.returns-clause-reported
-returns-clause-reported g c = λ origin schedule spelled kind said told calm. steps.reported _ _ _ _ c.answer.ensures.answers c.one_command_at_most.ensures origin schedule spelled kind said told calm
+returns-clause-reported g c = λ origin schedule trace spelled kind said told calm. steps.reported _ _ _ _ c.answer.ensures.answers c.one_command_at_most.ensures origin schedule trace spelled kind said told calm
+
+pub returns-clause-recorded : goal.returns-clause-recorded
+returns-clause-recorded g c = λ origin schedule trace reported spelled kind. steps.recorded _ _ _ _ c.answer.ensures.answers c.one_command_at_most.ensures origin schedule trace reported spelled kind
 
 pub returns-clause-read_fault : goal.returns-clause-read_fault
 returns-clause-read_fault g c = steps.read_fault _ _ _ _ c.answer.ensures.answers

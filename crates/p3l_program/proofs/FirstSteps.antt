@@ -1,0 +1,64 @@
+-- Files that a command writes before its work.
+use Rattle.std.proofs.Common.{◌≡◌, ◌≢◌, ℕ, List, [], ◌∷◌, ◌⊎◌, Some, None, refl, sym, subst, inl, inr}
+use Rattle.clap.specs.Words.{Text}
+use Rattle.p3l_io.specs.Told.{Held}
+use Rattle.p3l_opts.specs.declared.command.Command.{Command}
+use Rattle.p3l_opts.specs.declared.command.Command.TheVariants as command
+use Rattle.p3l_opts.specs.Command.{Spells}
+use Rattle.p3l_report.specs.declared.verdict.Refusal.{Refusal}
+use Rattle.p3l_report.specs.declared.verdict.Verdict.{Verdict}
+use Rattle.p3l_report.specs.declared.verdict.Verdict.TheVariants as verdict
+use Rattle.p3l_program.specs.Answer.{HasSavedFirst, SpellsWriter}
+use Rattle.p3l_program.specs.Command.{Touches, file_of, saved_first, written_of}
+use Rattle.p3l_program.specs.Saved.{AreSaved, KeepsBut, KeepsFirst}
+use Rattle.p3l_program.specs.World.{Change, World}
+use Rattle.p3l_program.proofs.SavedSteps.{kept_by, kept_no_memory}
+
+-- a command that writes no files writes none before its work
+pub saves_none : (c : Command) → written_of c ≡ [] → saved_first c ≡ []
+saves_none (command.Gen number processors items asked None) none = refl
+saves_none (command.Gen number processors items asked (Some prefix)) none = absurd cc
+saves_none _ none = refl
+
+-- nor does one that reads its program or its image from a file
+pub read_saves_none : (c : Command) (name : List ℕ) → file_of c ≡ Some name → saved_first c ≡ []
+read_saves_none (command.Gen number processors items asked save) name named = absurd cc
+read_saves_none _ name named = refl
+
+-- one that does is one that writes files
+pub first_writer : (words : List Text) (c : Command) → Spells words c → saved_first c ≢ [] → SpellsWriter words
+first_writer words c spelled some = record { command = c; spelled = spelled; writes = λ none. some (saves_none c none) }
+
+-- and a run is none
+pub first_touches : (w : World) (c : Command) → saved_first c ≢ [] → Touches w c
+first_touches w (command.Gen number processors items asked save) some = tt
+first_touches w _ some = absurd (some refl)
+
+module _ (files : Change Held) (names : List (List ℕ)) where
+  -- files that are kept, where there are none of those
+  pub first_by : (saves : List (List ℕ × List ℕ)) (v : Verdict) → saves ≡ [] → names ≡ [] → files.new ≡ files.old → KeepsFirst files names saves v
+  first_by saves v none written same = subst (λ s. KeepsFirst files names s v) (sym none) (subst (λ n. KeepsFirst files n [] v) (sym written) (kept_by files [] v same))
+
+  -- where memory is wanting for the lines no more is changed
+  pub first_no_memory : (saves : List (List ℕ × List ℕ)) (v : Verdict) → KeepsFirst files names saves v → KeepsFirst files names saves verdict.NoMemory
+  first_no_memory [] v h = kept_no_memory files names v h
+  first_no_memory (save ∷ saves) v h = (h.0, tt)
+
+  pub unsaved_no_memory : (saves : List (List ℕ × List ℕ)) → saves ≢ [] → KeepsBut files names → KeepsFirst files names saves verdict.NoMemory
+  unsaved_no_memory [] some kept = absurd (some refl)
+  unsaved_no_memory (save ∷ saves) some kept = (kept, tt)
+
+  -- which files are changed
+  pub kept_first : (saves : List (List ℕ × List ℕ)) (v : Verdict) → KeepsFirst files names saves v → (files.new ≡ files.old) ⊎ KeepsBut files names
+  kept_first [] (verdict.Refused r) h = inl h
+  kept_first [] (verdict.Ended f s) h = inr h
+  kept_first [] verdict.WriteFault h = inr h
+  kept_first [] verdict.NoMemory h = inr h
+  kept_first (save ∷ saves) v h = inr h.0
+
+-- by a refusal none, or those that were written before
+pub left_first : (words : List Text) (files : Change Held) (c : Command) → Spells words c → (r : Refusal) (saves : List (List ℕ × List ℕ)) → saved_first c ≡ saves → KeepsFirst files (written_of c) saves (verdict.Refused r) →
+    (files.new ≡ files.old) ⊎ HasSavedFirst words files
+left_first words files c spelled r [] is h = inl h
+left_first words files c spelled r (save ∷ saves) is h =
+    inr (record { command = c; spelled = spelled; some = λ none. absurd cc; saved = subst (λ s. AreSaved files s) (sym is) h.1; kept = h.0 })

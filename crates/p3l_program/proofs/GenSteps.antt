@@ -1,0 +1,195 @@
+-- From the run of what is generated to the verdict of `gen`.
+use Rattle.std.proofs.Common.{◌≡◌, ℕ, ◌<◌, ◌≤◌, ◌^◌, true, false, List, [], ◌∷◌, length, Option, Some, None, refl, sym, ap, subst, inl, inr, ◌∙◌, arith}
+use Rattle.std.specs.declared.result.Result.TheVariants.{Ok, Err}
+use Rattle.p3l_gen.specs.Texts.{costs_text, program_text, stream_text}
+use Rattle.p3l_io.specs.Told.{Held}
+use Rattle.p3l_skel.specs.Numbers.{procs}
+use Rattle.p3l_cost.specs.declared.costs.Costs.{Costs}
+use Rattle.p3l_cost.specs.declared.refusal.CostRefusal.{CostRefusal}
+use Rattle.p3l_cost.specs.declared.refusal.CostRefusal.TheVariants as costs
+use Rattle.p3l_cost.specs.File.{IsRead, Says}
+use Rattle.p3l_model.specs.Service.{service}
+use Rattle.p3l_alloc.specs.Chosen.{IsShort}
+use Rattle.p3l_opts.specs.Command.{HasItems}
+use Rattle.p3l_report.specs.declared.cost_fault.CostFault.{CostFault}
+use Rattle.p3l_report.specs.declared.cost_fault.CostFault.TheVariants as fault
+use Rattle.p3l_report.specs.declared.verdict.Finish.{Finish}
+use Rattle.p3l_report.specs.declared.verdict.Finish.TheVariants as finish
+use Rattle.p3l_report.specs.declared.verdict.Refusal.TheVariants as refusal
+use Rattle.p3l_report.specs.declared.verdict.Verdict.{Verdict}
+use Rattle.p3l_report.specs.declared.verdict.Verdict.TheVariants as verdict
+use Rattle.p3l_run.specs.Network.{Network, course_of, goes_on, meaning_of, stats_of, width_of}
+use Rattle.p3l_run.specs.declared.keeping.Keeping.TheVariants as keep
+use Rattle.p3l_run.specs.declared.run.Ran.{Ran}
+use Rattle.p3l_run.specs.Run.{Finishes, finish_of}
+use Rattle.p3l_run.specs.Sum.{sum_of}
+use Rattle.p3l_sched.specs.declared.schedule.Schedule.{Schedule}
+use Rattle.p3l_stream.specs.declared.items.Ending.TheVariants as ending
+use Rattle.p3l_stream.specs.declared.items.Items.{Items}
+use Rattle.p3l_check.specs.Resolving.{ResolvedTree}
+use Rattle.p3l_program.specs.declared.accept.Accepted.{Accepted}
+use Rattle.p3l_program.specs.declared.load.Loaded.{Loaded}
+use Rattle.p3l_program.specs.Accepted.{ComesTo}
+use Rattle.p3l_program.specs.Chosen.{IsPriced, IsUnpriced, refusal_of}
+use Rattle.p3l_program.specs.Generated.{AreNotLoaded, EndsGen, Gen, IsGenDue, IsGenRun, IsGenText, IsGenerated, IsRanOn, IsRanUnder, IsToldOf, LoadsTexts, comes_whole, due_at, gen_capacity, gen_stages, saves_of, summary_line, text_stages}
+use Rattle.p3l_program.specs.Load.{cost_verdict}
+use Rattle.p3l_program.specs.Network.{network_of}
+use Rattle.p3l_program.specs.Saved.{AreSaved, HasSaves, HoldFirst, KeepsFirst, names_of}
+use Rattle.p3l_program.specs.Stage.{AllPass}
+use Rattle.p3l_program.specs.Text.{BeginsText}
+use Rattle.p3l_program.specs.World.{Change, IsStill, world}
+use Rattle.p3l_program.proofs.LoadSteps.{said_once}
+use Rattle.p3l_program.proofs.SavedSteps.{kept_by}
+use Rattle.p3l_program.proofs.SeenSteps.{seen_goes_on, seen_short, still_of}
+use Rattle.p3l_program.proofs.TextSteps.{not_loaded}
+
+-- a text of costs that is refused, and processors that are too few
+module _ (text said : List ℕ) (processors : ℕ) (r : ResolvedTree) (program : Accepted) (comes : ComesTo text r program) where
+  unpriced : (f : CostFault) → IsRead program.tree said (Err (refusal_of f)) → IsUnpriced text said f
+  unpriced f read = record {
+    r = r;
+    accepted = comes.accepted;
+    refused = here;
+    never = λ other cs p. said_once r.tree said cs f (subst (λ t. Says t.tree said (Ok cs)) (comes.only other p.accepted) p.costs) here;
+  }
+    where
+      here : IsRead r.tree said (Err (refusal_of f))
+      here = subst (λ t. IsRead t said (Err (refusal_of f))) comes.compiled.tree_is read
+
+  not_priced : (f : CostFault) → IsRead program.tree said (Err (refusal_of f)) → AreNotLoaded text said processors (verdict.Refused (refusal.Costs f))
+  not_priced f read = λ files calm. (inr ((r, comes.accepted), inl (unpriced f read)), calm)
+
+  pub costs_refused : (e : CostRefusal) → IsRead program.tree said (Err e) → AreNotLoaded text said processors (cost_verdict e)
+  costs_refused costs.NotToml read = not_priced fault.NotToml read
+  costs_refused (costs.BadKey key) read = not_priced (fault.BadKey key) read
+  costs_refused (costs.BadValue key) read = not_priced (fault.BadValue key) read
+  costs_refused (costs.Missing name) read = not_priced (fault.Missing name) read
+  costs_refused costs.NoMemory read = λ files calm. calm
+
+  module _ (cs : Costs) (says : Says program.tree said (Ok cs)) where
+    priced : IsPriced text (Some said) r cs
+    priced = record { accepted = comes.accepted; costs = subst (λ t. Says t said (Ok cs)) comes.compiled.tree_is says }
+
+    pub texts_too_few : (need : ℕ) → IsShort program.tree processors need → AreNotLoaded text said processors (verdict.Refused (refusal.TooFew need))
+    texts_too_few need short = λ files calm. (
+      inr (
+        (r, comes.accepted),
+        inr (
+          (r, cs, priced),
+          inl (record {
+            r = r;
+            cs = cs;
+            priced = priced;
+            short = here;
+            never = λ other others counts p.
+                let fits = p.chosen.optimal.fit in
+                here.none counts (subst (λ t. Rattle.p3l_skel.specs.Numbers.Fits t.tree processors counts) (comes.only other p.priced.accepted) fits);
+          }),
+        ),
+      ),
+      calm,
+    )
+      where
+        here : IsShort r.tree processors need
+        here = subst (λ t. IsShort t processors need) comes.compiled.tree_is short
+
+-- where all is loaded the stages pass
+module _ (text said : List ℕ) (processors : ℕ) (loaded : Loaded) (loads : LoadsTexts text said processors loaded) where
+  pub texts_pass : (files : Change Held) → AllPass files (text_stages text said processors)
+  texts_pass files =
+      let a = loads.are in
+      ((loads.r, a.comes.accepted), ((loads.r, loaded.costs, a.allotted.priced), ((loads.r, loaded.costs, loaded.choice.counts.list, a.allotted), tt)))
+
+-- there are few items
+pub items_few : (text : Option (List ℕ)) (items : ℕ) → HasItems text items → items ≤ 100000
+items_few None items h = omega arith
+items_few (Some text) items h = h.most_is
+
+-- only the end of a stream is whole
+whole_is : (f : Finish) → comes_whole f ≡ true → f ≡ finish.Stream ending.End
+whole_is (finish.Stream ending.End) h = refl
+whole_is (finish.Stream (ending.BadWord line)) h = absurd cc
+whole_is (finish.Stream (ending.WrongCount line had)) h = absurd cc
+whole_is (finish.Stream (ending.OutOfRange line)) h = absurd cc
+whole_is (finish.Stream ending.ReadFault) h = absurd cc
+whole_is (finish.Stream ending.TooLong) h = absurd cc
+whole_is finish.Done h = absurd cc
+whole_is (finish.Stopped fired idle) h = absurd cc
+whole_is (finish.Trapped item kind home) h = absurd cc
+whole_is (finish.Differs line) h = absurd cc
+
+-- a run on a source that tells a text below the limit, and never fails, is one on all items of the text
+pub ran_on : (n : Network) (s : Schedule) (text : List ℕ) (rest left taken taken' : Option (List ℕ)) (ran : Ran) → rest ≡ Some text → length text < 2 ^ 36 → Finishes n s keep.Nothing rest left 0 0 taken taken' ran → IsRanOn n s text ran.finish ran.stats ran.sum
+ran_on n s text rest left taken taken' ran told short f =
+    let to = seen_goes_on n text rest left 0 0 f.close f.stream f.items f.gives told (λ rose. absurd (omega arith)) in
+    let all = sym (sym (seen_short (width_of n) text (omega arith)) ∙ to.seen) in
+    let on = f.ran to.later to.may_come in
+    let ends = subst (λ (i : Items). ran.finish ≡ finish_of n (course_of n s i.items) i.ending) all (f.ends to.later to.may_come to.e to.may_end) in
+    let emitted = subst (λ (i : Items). f.outcomes ≡ (course_of n s i.items).state.emitted) all on.emitted in
+    record {
+      ends = ends;
+      stats_are = subst (λ (i : Items). ran.stats ≡ stats_of n (course_of n s i.items)) all on.stats_are;
+      bounded = on.bounded;
+      sum_is = f.summed ∙ ap sum_of emitted;
+      whole = λ h.
+          let stuck = subst (λ (i : Items). goes_on n (course_of n s i.items) ≡ false) (sym all) (still_of n _ _ ending.End ran.finish (whole_is ran.finish h) ends) in
+          sym emitted ∙ subst (λ (i : Items). f.outcomes ≡ meaning_of n i.items) all (on.whole stuck);
+    }
+
+-- the run of what is generated, as it was told
+module _ (out : Change (List ℕ)) (g : Gen) where
+  -- what doesn't load
+  pub gen_refused : (v : Verdict) → IsStill out → AreNotLoaded (program_text g.number) costs_text g.processors v → IsGenRun out g v
+  gen_refused v untouched h = λ files input calm saved still. not_loaded (world files input out) (gen_stages g) (EndsGen (world files input out) g) (BeginsText (world files input out) (IsGenText g)) ⊥ v still untouched (h files calm)
+
+  module _ (f : Finish) (text : List ℕ) (is : IsGenerated g f text) (passed : (files : Change Held) → AllPass files (gen_stages g)) where
+    pub gen_told : (v : Verdict) → IsToldOf out f text v → IsGenRun out g v
+    gen_told (verdict.Refused refused) h = absurd h
+    gen_told (verdict.Ended f' stats) h = λ files input calm saved still. record {
+      passed = passed files;
+      ends = record { stats_are = h.1; text = text; is = subst (λ k. IsGenerated g k text) (sym h.0) is; put = h.2; input = still; saved = saved };
+      files = calm;
+      out = h.3;
+    }
+    gen_told verdict.WriteFault h = λ files input calm saved still. record {
+      begun = record { passed = passed files; begins = record { text = text; is = (f, is); begun = h.0; input = still } };
+      fault = inl (record { files = calm; out = h.1 });
+    }
+    gen_told verdict.NoMemory h = λ files input calm saved still. inr (record {
+      passed = passed files;
+      begins = record { text = text; is = (f, is); begun = h; input = still };
+    })
+
+-- the line of a run of what was loaded is that of what is asked for
+pub generated_by : (g : Gen) (loaded : Loaded) (ran : Ran) → (loads : LoadsTexts (program_text g.number) costs_text g.processors loaded) →
+    IsRanUnder (network_of loads.r loaded.choice.counts.list gen_capacity) g.asked (stream_text g.number g.items) ran →
+    IsGenerated g ran.finish (due_at ran.finish (summary_line g.number ran.stats loaded.choice.service loaded.choice.used ran.sum))
+generated_by g loaded ran loads under = record {
+  r = loads.r;
+  cs = loaded.costs;
+  counts = loaded.choice.counts.list;
+  allotted = loads.are.allotted;
+  s = under.s;
+  picked = under.picked;
+  numbers = ran.stats;
+  sum = ran.sum;
+  ran = under.on;
+  text_is = ap (λ k. due_at ran.finish (summary_line g.number ran.stats k loaded.choice.used ran.sum)) loads.are.service_is
+      ∙ ap (λ k. due_at ran.finish (summary_line g.number ran.stats (service loads.r.tree loaded.costs loaded.choice.counts.list 0) k ran.sum)) loads.are.used_is;
+}
+
+-- files that were saved before
+module _ (files : Change Held) where
+  held_first : (saves : List (List ℕ × List ℕ)) (v : Verdict) → AreSaved files saves → HoldFirst files saves v
+  held_first saves (verdict.Refused refused) saved = saved
+  held_first saves (verdict.Ended f stats) saved = saved
+  held_first saves verdict.WriteFault saved = saved
+  held_first saves verdict.NoMemory saved = tt
+
+  first_saved : (saves : List (List ℕ × List ℕ)) (v : Verdict) → HasSaves files saves (Ok tt) → KeepsFirst files (names_of saves) saves v
+  first_saved [] v h = kept_by files [] v h.kept
+  first_saved (save ∷ saves) v h = (h.kept, held_first (save ∷ saves) v h.by.0)
+
+  -- so the verdict of their run is due of what is asked for
+  pub generated_due : (out : Change (List ℕ)) (g : Gen) (v : Verdict) → HasSaves files (saves_of g) (Ok tt) → IsGenRun out g v → IsGenDue files out g v
+  generated_due out g v saves run = record { due = λ input quiet. run files input saves.by.1 saves.by.0 quiet; kept = first_saved (saves_of g) v saves }
