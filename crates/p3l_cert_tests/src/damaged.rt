@@ -128,6 +128,48 @@ fn the_first_of_two(rt: HostRuntime) -> Result<(), Fail> {
     Ok(())
 }
 
+// True rows that say that fewer processes are to be had in the same time.
+const NOT_THE_FEWEST: &[u8] =
+    b"p3l-cert 1\nprocessors 10\ncounts 7\nservice 10\nused 10\nrow 0 9 10 11\nrow 0 10 10 9\nrow 1 9 10 11\nrow 1 10 10 1\nrow 2 9 10 9\nrow 2 10 10 8\nrow 3 9 8 9\nrow 3 10 8 9\nrow 3 18 4 5\nrow 3 20 4 5\nrow 3 27 2 3\nrow 3 30 2 3\nrow 3 36 2 3\nrow 3 40 2 3\nrow 3 45 1 2\nrow 3 50 1 2\nrow 3 54 1 2\nrow 3 60 1 1\nrow 3 63 1 1\nrow 3 70 1 1\nrow 3 72 1 1\nrow 3 80 1 1\nend\n";
+
+#[test]
+fn counts_that_are_not_the_fewest(rt: HostRuntime) -> Result<(), Fail> {
+    assert_eq!(rt;
+        refusal(&rt, rt.alloc(), NOT_THE_FEWEST)?,
+        claim(Claim::Least)
+    );
+    Ok(())
+}
+
+#[test]
+fn the_first_test_decides(rt: HostRuntime) -> Result<(), Fail> {
+    let alloc = rt.alloc();
+    let wrong_row: (usize, &[u8]) = (9, b"row 2 11 8 9\n");
+    let two = refused_two(&rt, alloc, (2, b"counts 02\n"), (3, b"service 13\n"))?;
+    assert_eq!(rt; two, bad(3));
+    let two = refused_two(&rt, alloc, (2, b"counts 0\n"), wrong_row)?;
+    assert_eq!(rt; two, claim(Claim::Counts));
+    let two = refused_two(&rt, alloc, (1, b"processors 7\n"), wrong_row)?;
+    assert_eq!(rt; two, claim(Claim::Fits));
+    let two = refused_two(&rt, alloc, wrong_row, (6, b""))?;
+    assert_eq!(rt; two, wrong(3, 9, 8));
+    let two = refused_two(&rt, alloc, (5, b"row 0 11 8 8\n"), wrong_row)?;
+    assert_eq!(rt; two, wrong(0, 8, 9));
+    Ok(())
+}
+
+#[test]
+fn rows_that_nothing_rests_on(rt: HostRuntime) -> Result<(), Fail> {
+    let alloc = rt.alloc();
+    let true_one: &[u8] = b"row 1 5 3 4\nrow 1 11 8 1\n";
+    assert_eq!(rt; refused(&rt, alloc, 7, true_one)?, None);
+    let untrue: &[u8] = b"row 1 5 3 1\nrow 1 11 8 1\n";
+    assert_eq!(rt; refused(&rt, alloc, 7, untrue)?, wrong(2, 1, 4));
+    let alone: &[u8] = b"row 2 12 7 6\nrow 2 12 8 7\n";
+    assert_eq!(rt; refused(&rt, alloc, 10, alone)?, missing(5, 3, 12, 5));
+    Ok(())
+}
+
 #[test]
 fn texts(rt: HostRuntime) -> Result<(), Fail> {
     let alloc = rt.alloc();
@@ -151,7 +193,7 @@ fn texts(rt: HostRuntime) -> Result<(), Fail> {
 
 // The line in which each front of a text ends, if a front is read as a certificate or told at
 // another line.
-fn first_unlike(alloc: Global, text: &[u8]) -> Option<u64> {
+pub fn first_unlike(alloc: Global, text: &[u8]) -> Option<u64> {
     let mut line = 1;
     for end in 0..text.len() {
         match read_cert(alloc, &text[..end]) {

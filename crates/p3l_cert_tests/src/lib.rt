@@ -4,6 +4,8 @@
 #[cfg(test)]
 mod damaged;
 #[cfg(test)]
+mod examples;
+#[cfg(test)]
 mod made;
 #[cfg(test)]
 mod pipe;
