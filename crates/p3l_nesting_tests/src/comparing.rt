@@ -1,0 +1,122 @@
+// Networks against the plain program.
+
+ghost use Rattle.p3l_nesting_tests.specs.Ready.{IsReady};
+
+use crate::items::{Case, cases_of, is_trap};
+use crate::running::{Setting, emitted};
+use crate::serving::loaded_of;
+use crate::sketch::Sketch;
+use p3l_base::Outcome;
+use p3l_load::Loaded;
+use p3l_skel::Counts;
+use p3l_units::UnitTable;
+use std::alloc::Global;
+use std::process::Abort;
+use std::test::Fail;
+
+/// How many tokens channels hold.
+const CAPACITIES: [u32; 3] = [1, 2, 4];
+
+/// The seeds are those below.
+const SEEDS: u64 = 16;
+
+// Whether two outcomes are the same.
+fn is_same(one: &Outcome, other: &Outcome) -> bool {
+    match (one, other) {
+        (Outcome::Value(words), Outcome::Value(others)) => words.as_slice() == others.as_slice(),
+        (Outcome::Trapped(trap), Outcome::Trapped(another)) => trap == another,
+        _ => false,
+    }
+}
+
+// How many outcomes there are of these items: those up to the first trap and with it.
+fn due(cases: &[Case]) -> usize {
+    match cases.iter().position(|case| is_trap(&case.outcome)) {
+        Some(place) => place.saturating_add(1),
+        None => cases.len(),
+    }
+}
+
+// Compares one run; gives the items behind those that it had outcomes of.
+fn compare_run<'c>(
+    rt: &impl Abort,
+    alloc: Global,
+    units: &UnitTable<'_>,
+    counts: &Counts,
+    setting: Setting,
+    cases: &'c [Case],
+) -> Result<&'c [Case], Fail> {
+    let outcomes = emitted(rt, alloc, units, counts, setting, cases)?;
+    let due = due(cases);
+    assert_eq!(rt; outcomes.len(), due);
+    for (outcome, case) in outcomes.as_slice().iter().zip(cases) {
+        assert!(rt; is_same(outcome, &case.outcome));
+    }
+    assert!(rt; due <= cases.len());
+    Ok(cases.split_at(due).1)
+}
+
+// Compares the runs on these items, each but the first begun behind the trap that ended the one
+// before.
+fn compare_runs(
+    rt: &impl Abort,
+    alloc: Global,
+    units: &UnitTable<'_>,
+    counts: &Counts,
+    setting: Setting,
+    cases: &[Case],
+) -> Result<(), Fail> {
+    let mut left = cases;
+    for _run in 0..cases.len() {
+        if left.is_empty() {
+            return Ok(());
+        }
+        left = compare_run(rt, alloc, units, counts, setting, left)?;
+    }
+    Ok(())
+}
+
+// Compares the runs with channels of this capacity, by turns and by each seed.
+fn compare_schedules(
+    rt: &impl Abort,
+    alloc: Global,
+    units: &UnitTable<'_>,
+    counts: &Counts,
+    cap: u32,
+    cases: &[Case],
+) -> Result<(), Fail> {
+    compare_runs(rt, alloc, units, counts, (cap, None), cases)?;
+    for seed in 0..SEEDS {
+        compare_runs(rt, alloc, units, counts, (cap, Some(seed)), cases)?;
+    }
+    Ok(())
+}
+
+// Compares the runs of what was loaded. Some trap is in the middle of its items.
+fn compare_loaded(rt: &impl Abort, alloc: Global, loaded: Loaded) -> Result<(), Fail>
+    requires { IsReady loaded }
+{
+    let Loaded {
+        tree,
+        counts,
+        codes,
+        ..
+    } = loaded;
+    let units = UnitTable::new(alloc, &tree, codes)?;
+    let cases = cases_of(rt, alloc, &units)?;
+    let cases = cases.as_slice();
+    assert!(rt; due(cases) > 1 && due(cases) < cases.len());
+    for cap in CAPACITIES {
+        compare_schedules(rt, alloc, &units, &counts, cap, cases)?;
+    }
+    Ok(())
+}
+
+/// Compares the networks of sketches with the plain program.
+pub fn compare(rt: &impl Abort, alloc: Global, sketches: &[Sketch]) -> Result<(), Fail> {
+    for sketch in sketches {
+        let loaded = loaded_of(rt, alloc, *sketch)?;
+        compare_loaded(rt, alloc, loaded)?;
+    }
+    Ok(())
+}

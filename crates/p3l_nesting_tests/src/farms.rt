@@ -1,0 +1,58 @@
+// Farms of each other skeleton.
+
+use crate::comparing::compare;
+use crate::sketch::{JOIN, JOINS, Row, Shape, Sketch, TEST, TWO};
+use std::test::Fail;
+
+pub const OF_FARM: [Row; 3] = [(Shape::Farm, 2, 2, &[1]), (Shape::Farm, 2, 2, &[2]), TWO];
+
+const OF_MAP: [Row; 3] = [(Shape::Farm, 4, 2, &[1]), (JOINS, 4, 2, &[2]), JOIN];
+
+pub const OF_REDUCE: [Row; 3] = [
+    (Shape::Farm, 5, 1, &[1]),
+    (Shape::Reduce(5, 1), 5, 1, &[2]),
+    JOIN,
+];
+
+pub const OF_LOOP: [Row; 4] = [
+    (Shape::Farm, 2, 2, &[1]),
+    (Shape::Loop(12, 2), 2, 2, &[2, 3]),
+    TWO,
+    TEST,
+];
+
+const OF_PIPE: [Row; 4] = [
+    (Shape::Farm, 2, 1, &[1]),
+    (Shape::Pipe, 2, 1, &[2, 3]),
+    TWO,
+    JOIN,
+];
+
+const OF_COMP: [Row; 4] = [
+    (Shape::Farm, 2, 1, &[1]),
+    (Shape::Comp, 2, 1, &[2, 3]),
+    TWO,
+    JOIN,
+];
+
+const WITH_WORKERS: [Sketch; 3] = [
+    ("farm of farm", &OF_FARM, &[2, 3]),
+    ("farm of map", &OF_MAP, &[3, 2]),
+    ("farm of reduce", &OF_REDUCE, &[2, 4]),
+];
+
+const WITHOUT: [Sketch; 3] = [
+    ("farm of loop", &OF_LOOP, &[2]),
+    ("farm of pipe", &OF_PIPE, &[3]),
+    ("farm of comp", &OF_COMP, &[3]),
+];
+
+#[test]
+fn farms_of_workers_are_as_the_plain_program(rt: HostRuntime) -> Result<(), Fail> {
+    compare(&rt, rt.alloc(), &WITH_WORKERS)
+}
+
+#[test]
+fn farms_are_as_the_plain_program(rt: HostRuntime) -> Result<(), Fail> {
+    compare(&rt, rt.alloc(), &WITHOUT)
+}

@@ -1,0 +1,44 @@
+// Maps of each other skeleton.
+
+use crate::comparing::compare;
+use crate::sketch::{FOLDS, HALVES, JOIN, JOINS, Row, Shape, Sketch, TEST, TWO, TWOS};
+use std::test::Fail;
+
+const OF_FARM: [Row; 3] = [(TWOS, 4, 4, &[1]), (Shape::Farm, 2, 2, &[2]), TWO];
+
+pub const OF_MAP: [Row; 3] = [(HALVES, 8, 4, &[1]), (JOINS, 4, 2, &[2]), JOIN];
+
+const OF_REDUCE: [Row; 3] = [(FOLDS, 8, 2, &[1]), (Shape::Reduce(4, 1), 4, 1, &[2]), JOIN];
+
+const OF_LOOP: [Row; 4] = [
+    (TWOS, 4, 4, &[1]),
+    (Shape::Loop(12, 2), 2, 2, &[2, 3]),
+    TWO,
+    TEST,
+];
+
+const OF_PIPE: [Row; 4] = [(JOINS, 4, 2, &[1]), (Shape::Pipe, 2, 1, &[2, 3]), TWO, JOIN];
+
+const OF_COMP: [Row; 4] = [(JOINS, 4, 2, &[1]), (Shape::Comp, 2, 1, &[2, 3]), TWO, JOIN];
+
+const WITH_WORKERS: [Sketch; 3] = [
+    ("map of farm", &OF_FARM, &[2, 3]),
+    ("map of map", &OF_MAP, &[2, 2]),
+    ("map of reduce", &OF_REDUCE, &[2, 4]),
+];
+
+const WITHOUT: [Sketch; 3] = [
+    ("map of loop", &OF_LOOP, &[2]),
+    ("map of pipe", &OF_PIPE, &[2]),
+    ("map of comp", &OF_COMP, &[2]),
+];
+
+#[test]
+fn maps_of_workers_are_as_the_plain_program(rt: HostRuntime) -> Result<(), Fail> {
+    compare(&rt, rt.alloc(), &WITH_WORKERS)
+}
+
+#[test]
+fn maps_are_as_the_plain_program(rt: HostRuntime) -> Result<(), Fail> {
+    compare(&rt, rt.alloc(), &WITHOUT)
+}

@@ -1,0 +1,75 @@
+// Trees as tables, a row for each node in preorder. Each node is a module of its own, so that a trap
+// tells the node that it came from.
+
+use crate::bodies::Body;
+use p3l_base::{Dim, Place};
+
+/// What a node does. No `workers` clause is written: the counts stand beside the rows.
+#[derive(Clone, Copy, Drop)]
+pub enum Shape {
+    Seq(Body),
+    Comp,
+    Pipe,
+    Farm,
+    /// So many first and second indices, and the sizes of the one array that is taken apart and of
+    /// the one that is filled.
+    Map(u32, u32, &'static [Dim], &'static [Dim]),
+    /// So many elements of so many words.
+    Reduce(u32, u32),
+    /// So many turns, and so many tokens at once.
+    Loop(u32, u32),
+}
+
+/// A node: what it does, the words that it takes and gives, and its parts.
+pub type Row = (Shape, u32, u32, &'static [u32]);
+
+/// A tree: its name in messages, its nodes, and the numbers of its workers.
+pub type Sketch = (&'static str, &'static [Row], &'static [u32]);
+
+// Nodes of `seq` modules.
+pub const ONE: Row = (Shape::Seq(Body::One), 1, 1, &[]);
+
+pub const TWO: Row = (Shape::Seq(Body::Two), 2, 2, &[]);
+
+pub const JOIN: Row = (Shape::Seq(Body::Join), 2, 1, &[]);
+
+pub const TEST: Row = (Shape::Seq(Body::Test), 2, 1, &[]);
+
+// Sizes of arrays of two rows, and of their rows.
+const OF_TWO: Dim = Dim {
+    size: 2,
+    place: Place::First,
+};
+
+const ALL_TWO: Dim = Dim {
+    size: 2,
+    place: Place::Rest,
+};
+
+const ALL_FOUR: Dim = Dim {
+    size: 4,
+    place: Place::Rest,
+};
+
+const SINGLES: [Dim; 1] = [OF_TWO];
+
+const PAIRS: [Dim; 2] = [OF_TWO, ALL_TWO];
+
+const FOURS: [Dim; 2] = [OF_TWO, ALL_FOUR];
+
+const COLUMNS: [Dim; 2] = [ALL_TWO, OF_TWO];
+
+/// Maps of two elements: of a word each, of two words, of two words for one, of four words for two,
+/// and of four words for one.
+pub const ONES: Shape = Shape::Map(2, 1, &SINGLES, &SINGLES);
+
+pub const TWOS: Shape = Shape::Map(2, 1, &PAIRS, &PAIRS);
+
+pub const JOINS: Shape = Shape::Map(2, 1, &PAIRS, &SINGLES);
+
+pub const HALVES: Shape = Shape::Map(2, 1, &FOURS, &PAIRS);
+
+pub const FOLDS: Shape = Shape::Map(2, 1, &FOURS, &SINGLES);
+
+/// A map of two elements, each of a word of the first half and the one beside it in the second.
+pub const ACROSS: Shape = Shape::Map(2, 1, &COLUMNS, &SINGLES);
