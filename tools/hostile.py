@@ -97,6 +97,12 @@ def filled(valid, length):
     return (valid * (length // len(valid) + 1))[:length]
 
 
+def random_bytes(draw, length):
+    """Random bytes, drawn piece by piece: a single draw is limited to 256 MiB."""
+    piece = 1 << 20
+    return b"".join(draw.randbytes(min(piece, length - at)) for at in range(0, length, piece))
+
+
 def spoiled(case, draw, is_quick):
     """What is tried of a case, each with a name."""
     yield "empty", b""
@@ -110,7 +116,7 @@ def spoiled(case, draw, is_quick):
         yield f"front of {at}", case.valid[:at]
     if not is_quick:
         yield "greatest", filled(case.valid, case.most)
-        yield "greatest, random", draw.randbytes(case.most)
+        yield "greatest, random", random_bytes(draw, case.most)
         yield "one more", filled(case.valid, case.most + 1)
 
 
