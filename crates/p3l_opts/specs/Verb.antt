@@ -2,7 +2,7 @@
 use Rattle.std.specs.Prelude.{List, [], ◌∷◌, codes, fold}
 use Rattle.clap.specs.Words.{App, Kinds, Row, Rule, Text, fault_of, matches_of, new_app, with_rule}
 use Rattle.p3l_opts.specs.Table.{rule_for}
-use Rattle.p3l_opts.specs.declared.table.Form.TheVariants.{Positional, Mandatory, Optional, Flag}
+use Rattle.p3l_opts.specs.declared.table.Spelling.TheVariants.{Positional, Mandatory, Optional, Flag}
 use Rattle.p3l_opts.specs.declared.verb.Verb.{Verb}
 use Rattle.p3l_opts.specs.declared.verb.Verb.TheVariants as verb
 

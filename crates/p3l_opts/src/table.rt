@@ -9,7 +9,7 @@ use std::alloc::{AllocError, Global};
 
 /// How a word of a command is spelled, and whether it has to be there.
 #[derive(Clone, Copy)]
-pub(crate) enum Form {
+pub(crate) enum Spelling {
     /// `VALUE`, which has to be there.
     Positional,
     /// `--name VALUE`, which has to be there.
@@ -20,17 +20,17 @@ pub(crate) enum Form {
     Flag,
 }
 
-/// The argument of this name and form.
-fn arg_for<'a>(alloc: Global, name: &'a str, form: Form) -> Arg<'a>
-    ensures rule { rule_of result ≡ rule_for name.entry.now form }
+/// The argument of this name and spelling.
+fn arg_for<'a>(alloc: Global, name: &'a str, spelling: Spelling) -> Arg<'a>
+    ensures rule { rule_of result ≡ rule_for name.entry.now spelling }
     ensures local { result.global ≡ false }
 {
     let arg = Arg::new(alloc, name);
-    match form {
-        Form::Positional => arg.required(true),
-        Form::Mandatory => arg.long(name).required(true),
-        Form::Optional => arg.long(name),
-        Form::Flag => arg.long(name).action(ArgAction::SetTrue),
+    match spelling {
+        Spelling::Positional => arg.required(true),
+        Spelling::Mandatory => arg.long(name).required(true),
+        Spelling::Optional => arg.long(name),
+        Spelling::Flag => arg.long(name).action(ArgAction::SetTrue),
     }
 }
 
@@ -38,14 +38,14 @@ fn arg_for<'a>(alloc: Global, name: &'a str, form: Form) -> Arg<'a>
 pub(crate) fn command_with<'a>(
     alloc: Global,
     name: &'a str,
-    words: &[(&'a str, Form)],
+    words: &[(&'a str, Spelling)],
 ) -> Result<Command<'a>, AllocError>
     ensures { IfOk result (λ c. app_of c ≡ app_with (new_app name.entry.now) words.now) }
 {
     let mut command = Command::new(alloc, name);
     'words: for word in words {
-        let (id, form) = *word;
-        command = command.arg(arg_for(alloc, id, form))?;
+        let (id, spelling) = *word;
+        command = command.arg(arg_for(alloc, id, spelling))?;
     }
     Ok(command)
 }

@@ -4,7 +4,7 @@ ghost use Rattle.std.specs.Prelude.{◌≡◌, ◌↔◌, IfOk, IfSome, IfNone, 
 ghost use Rattle.clap.specs.Words.{app_of};
 ghost use Rattle.p3l_opts.specs.Verb.{app_for, name_of};
 
-use crate::table::{Form, command_with};
+use crate::table::{Spelling, command_with};
 use clap::Command;
 use std::alloc::{AllocError, Global};
 
@@ -69,81 +69,81 @@ pub(crate) fn clap_command<'a>(alloc: Global, verb: Verb) -> Result<Command<'a>,
     ensures { IfOk result (λ command. app_of command ≡ app_for verb) }
 {
     match verb {
-        Verb::Check => command_with(alloc, "check", &[("program", Form::Positional)]),
-        Verb::Fmt => command_with(alloc, "fmt", &[("program", Form::Positional)]),
+        Verb::Check => command_with(alloc, "check", &[("program", Spelling::Positional)]),
+        Verb::Fmt => command_with(alloc, "fmt", &[("program", Spelling::Positional)]),
         Verb::Explain => command_with(
             alloc,
             "explain",
             &[
-                ("program", Form::Positional),
-                ("processors", Form::Mandatory),
-                ("costs", Form::Optional),
-                ("cert", Form::Optional),
+                ("program", Spelling::Positional),
+                ("processors", Spelling::Mandatory),
+                ("costs", Spelling::Optional),
+                ("cert", Spelling::Optional),
             ],
         ),
         Verb::Compile => command_with(
             alloc,
             "compile",
             &[
-                ("program", Form::Positional),
-                ("processors", Form::Mandatory),
-                ("output", Form::Mandatory),
-                ("costs", Form::Optional),
-                ("capacity", Form::Optional),
+                ("program", Spelling::Positional),
+                ("processors", Spelling::Mandatory),
+                ("output", Spelling::Mandatory),
+                ("costs", Spelling::Optional),
+                ("capacity", Spelling::Optional),
             ],
         ),
         Verb::Run => command_with(
             alloc,
             "run",
             &[
-                ("program", Form::Positional),
-                ("processors", Form::Mandatory),
-                ("costs", Form::Optional),
-                ("schedule", Form::Optional),
-                ("capacity", Form::Optional),
-                ("trace", Form::Optional),
-                ("stats", Form::Flag),
+                ("program", Spelling::Positional),
+                ("processors", Spelling::Mandatory),
+                ("costs", Spelling::Optional),
+                ("schedule", Spelling::Optional),
+                ("capacity", Spelling::Optional),
+                ("trace", Spelling::Optional),
+                ("stats", Spelling::Flag),
             ],
         ),
         Verb::Exec => command_with(
             alloc,
             "exec",
             &[
-                ("image", Form::Positional),
-                ("schedule", Form::Optional),
-                ("trace", Form::Optional),
-                ("stats", Form::Flag),
+                ("image", Spelling::Positional),
+                ("schedule", Spelling::Optional),
+                ("trace", Spelling::Optional),
+                ("stats", Spelling::Flag),
             ],
         ),
         Verb::VerifyCert => command_with(
             alloc,
             "verify-cert",
             &[
-                ("program", Form::Positional),
-                ("cert", Form::Mandatory),
-                ("costs", Form::Optional),
+                ("program", Spelling::Positional),
+                ("cert", Spelling::Mandatory),
+                ("costs", Spelling::Optional),
             ],
         ),
         Verb::CheckTrace => command_with(
             alloc,
             "check-trace",
             &[
-                ("program", Form::Positional),
-                ("processors", Form::Mandatory),
-                ("trace", Form::Mandatory),
-                ("costs", Form::Optional),
-                ("capacity", Form::Optional),
+                ("program", Spelling::Positional),
+                ("processors", Spelling::Mandatory),
+                ("trace", Spelling::Mandatory),
+                ("costs", Spelling::Optional),
+                ("capacity", Spelling::Optional),
             ],
         ),
         Verb::Gen => command_with(
             alloc,
             "gen",
             &[
-                ("number", Form::Positional),
-                ("processors", Form::Mandatory),
-                ("items", Form::Optional),
-                ("schedule", Form::Optional),
-                ("save", Form::Optional),
+                ("number", Spelling::Positional),
+                ("processors", Spelling::Mandatory),
+                ("items", Spelling::Optional),
+                ("schedule", Spelling::Optional),
+                ("save", Spelling::Optional),
             ],
         ),
     }

@@ -25,7 +25,7 @@ use Rattle.p3l_stream.proofs.Endings.{items_wide}
 use Rattle.p3l_stream.specs.declared.items.Ending.{Ending}
 use Rattle.p3l_stream.specs.declared.items.Ending.TheVariants as ending
 use Rattle.p3l_stream.specs.declared.items.Items.{Items}
-use Rattle.p3l_stream.specs.declared.taken.Stop.TheVariants as stop
+use Rattle.p3l_stream.specs.declared.taken.Cutoff.TheVariants as stop
 use Rattle.p3l_stream.specs.Given.{Closes, GivenCause, HasGiven}
 use Rattle.p3l_stream.specs.Items.{items_of}
 use Rattle.p3l_stream.specs.Seen.{Seen}

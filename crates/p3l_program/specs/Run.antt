@@ -23,8 +23,8 @@ use Rattle.p3l_sched.specs.declared.schedule.Schedule.{Schedule}
 use Rattle.p3l_sched.specs.Picks.{Reads}
 use Rattle.p3l_stream.specs.declared.items.Ending.TheVariants as ending
 use Rattle.p3l_stream.specs.declared.items.Items.{Items}
-use Rattle.p3l_stream.specs.declared.taken.Stop.{Stop}
-use Rattle.p3l_stream.specs.declared.taken.Stop.TheVariants as stop
+use Rattle.p3l_stream.specs.declared.taken.Cutoff.{Cutoff}
+use Rattle.p3l_stream.specs.declared.taken.Cutoff.TheVariants as stop
 use Rattle.p3l_stream.specs.Items.{items_of, items_taken}
 use Rattle.p3l_stream.specs.Text.{text_of}
 use Rattle.p3l_program.specs.Due.{IsDueWith}
@@ -108,7 +108,7 @@ pub record Emits (w : World) (origin : Origin) (asked : Sched) (trace : Option (
   pub bound_is : numbers.bound ≡ numbers.items * n.firings
 
 -- how the taking of an input stops where no fault comes: at its end, or at the limit
-abbrev pub stop_of : List ℕ → Stop
+abbrev pub stop_of : List ℕ → Cutoff
 stop_of rest = if nat_le input_limit (length rest) then stop.Limit else stop.End
 
 -- the items that are seen of an input where no fault comes, and their ending

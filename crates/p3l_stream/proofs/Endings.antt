@@ -6,7 +6,7 @@ use Rattle.std.specs.declared.result.Result.TheVariants.{Ok, Err}
 use Rattle.p3l_stream.specs.declared.word.WordFault.{WordFault}
 use Rattle.p3l_stream.specs.declared.word.WordFault.TheVariants as fault
 use Rattle.p3l_stream.specs.Words.{numbers_of, words_of}
-use Rattle.p3l_stream.specs.declared.taken.Stop.{Stop}
+use Rattle.p3l_stream.specs.declared.taken.Cutoff.{Cutoff}
 use Rattle.p3l_stream.specs.declared.line.Line.{Line}
 use Rattle.p3l_stream.specs.declared.line.Line.TheVariants as line
 use Rattle.p3l_stream.specs.declared.items.Ending.{Ending}
@@ -53,5 +53,5 @@ lines_wide width number close (bytes ∷ lines) =
     put_wide width (line_of width bytes) number (items_of_lines width (number + 1) close lines) (line_wide width (numbers_of (words_of bytes))) (lines_wide width (number + 1) close lines)
 
 -- each item has so many words
-pub items_wide : (width : ℕ) (how : Stop) (bytes : List ℕ) → All (λ words. length words ≡ width) (items_taken width how bytes).items
+pub items_wide : (width : ℕ) (how : Cutoff) (bytes : List ℕ) → All (λ words. length words ≡ width) (items_taken width how bytes).items
 items_wide width how bytes = lines_wide width 1 (closing how) (lines_of how bytes)

@@ -10,8 +10,8 @@ use Rattle.p3l_stream.specs.declared.line.Line.{Line}
 use Rattle.p3l_stream.specs.declared.line.Line.TheVariants as line
 use Rattle.p3l_stream.specs.declared.next.Next.{Next}
 use Rattle.p3l_stream.specs.declared.next.Next.TheVariants as next
-use Rattle.p3l_stream.specs.declared.taken.Stop.{Stop}
-use Rattle.p3l_stream.specs.declared.taken.Stop.TheVariants as stop
+use Rattle.p3l_stream.specs.declared.taken.Cutoff.{Cutoff}
+use Rattle.p3l_stream.specs.declared.taken.Cutoff.TheVariants as stop
 use Rattle.p3l_stream.specs.Answers.{Answers, FindsLine, FindsNone, IsBefore, RunsOut}
 use Rattle.p3l_stream.specs.Ended.{AreBlank, ended, held_by}
 use Rattle.p3l_stream.specs.Given.{AreFirst, AreRefused, Closes, GoesOn, HasGiven, TakesOn, before_items, ended_by, items_in}
@@ -49,14 +49,14 @@ module _ (width : ℕ) (old new : Seen) (rest left : Option (List ℕ)) (bytes :
   behind : Closes width old bytes items None
   behind = subst (Closes width old bytes items) is_open was.closes
 
-  goes_on : (how : Stop) (more : List ℕ) → GoesOn new.at_end how more → GoesOn old.at_end how (got ++ more)
+  goes_on : (how : Cutoff) (more : List ℕ) → GoesOn new.at_end how more → GoesOn old.at_end how (got ++ more)
   goes_on how more on ends =
       let once = answers.takes.once ends in
       let now = on once.1 in
       (now.0, ap (λ (l : List ℕ). l ++ more) once.0 ∙ now.1)
 
   -- the items of all bytes, by those still held and those that the call took
-  on_from : (how : Stop) (more : List ℕ) → GoesOn old.at_end how (got ++ more) → items_taken width how ((bytes ++ got) ++ more) ≡ before_items items (items_from width (old.passed + 1) (closing how) how ((old.held ++ got) ++ more))
+  on_from : (how : Cutoff) (more : List ℕ) → GoesOn old.at_end how (got ++ more) → items_taken width how ((bytes ++ got) ++ more) ≡ before_items items (items_from width (old.passed + 1) (closing how) how ((old.held ++ got) ++ more))
   on_from how more on =
       ap (items_taken width how) (append_assoc bytes got more)
       ∙ behind how (got ++ more) on
@@ -73,7 +73,7 @@ module _ (width : ℕ) (old new : Seen) (rest left : Option (List ℕ)) (bytes :
     number : old.passed + 1 + length found.blanks ≡ new.passed
     number = (let count = found.counted in omega arith)
 
-    stands_before : (how : Stop) (more : List ℕ) → GoesOn new.at_end how more → IsBefore new.at_end found.behind found.first new.held →
+    stands_before : (how : Cutoff) (more : List ℕ) → GoesOn new.at_end how more → IsBefore new.at_end found.behind found.first new.held →
         items_from width new.passed (closing how) how (found.behind ++ more) ≡ put_line holds new.passed (items_from width (new.passed + 1) (closing how) how (new.held ++ more))
     stands_before how more on (inl at) =
         ap (λ (l : List ℕ). items_from width new.passed (closing how) how (l ++ more)) at
@@ -85,12 +85,12 @@ module _ (width : ℕ) (old new : Seen) (rest left : Option (List ℕ)) (bytes :
         let none : new.held ++ more ≡ [] = ap (λ (l : List ℕ). l ++ more) at.2 ∙ now.1 in
         let last = items_last width new.passed (closing stop.End) found.first holds found.is_line held_it filled in
         ap (λ (l : List ℕ). items_from width new.passed (closing how) how l) bare
-        ∙ ap (λ (h : Stop). items_from width new.passed (closing h) h found.first) now.0
+        ∙ ap (λ (h : Cutoff). items_from width new.passed (closing h) h found.first) now.0
         ∙ last
-        ∙ ap (λ (h : Stop). put_line holds new.passed (items_from width (new.passed + 1) (closing h) h [])) (sym now.0)
+        ∙ ap (λ (h : Cutoff). put_line holds new.passed (items_from width (new.passed + 1) (closing h) h [])) (sym now.0)
         ∙ ap (λ (l : List ℕ). put_line holds new.passed (items_from width (new.passed + 1) (closing how) how l)) (sym none)
 
-    on_line : (how : Stop) (more : List ℕ) → GoesOn new.at_end how more →
+    on_line : (how : Cutoff) (more : List ℕ) → GoesOn new.at_end how more →
         items_taken width how ((bytes ++ got) ++ more) ≡ before_items items (put_line holds new.passed (items_from width (new.passed + 1) (closing how) how (new.held ++ more)))
     on_line how more on =
         on_from how more (goes_on how more on)
@@ -105,7 +105,7 @@ module _ (width : ℕ) (old new : Seen) (rest left : Option (List ℕ)) (bytes :
       on_line holds filled found how more on ∙ ap (before_items items) (puts _) ∙ ap (λ (i : List (List ℤ)). ended_by i close) (append-nil items)
 
   -- no line, and a part of one that is dropped
-  on_none : (how : Stop) → ((part : List ℕ) → last_line how part ≡ []) → new.at_end ≡ false → FindsNone old new (old.held ++ got) → items_taken width how (bytes ++ got) ≡ ended_by items (closing how)
+  on_none : (how : Cutoff) → ((part : List ℕ) → last_line how part ≡ []) → new.at_end ≡ false → FindsNone old new (old.held ++ got) → items_taken width how (bytes ++ got) ≡ ended_by items (closing how)
   on_none how drops not_ended none =
       let out = none.1 in
       ap (items_taken width how) (sym (append-nil (bytes ++ got)))

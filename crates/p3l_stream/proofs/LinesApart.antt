@@ -3,11 +3,11 @@ use Rattle.std.proofs.Common.{◌≡◌, ℕ, suc, ◌+◌, ◌<◌, true, false
 use Rattle.std.specs.List.{after_first, onto_first, position_or_len, slice_split}
 use Rattle.std.specs.Str.Lines.{strip_carriage_return}
 use Rattle.std.proofs.lemmas.List.Splits.{slice_split_first}
-use Rattle.p3l_stream.specs.declared.taken.Stop.{Stop}
+use Rattle.p3l_stream.specs.declared.taken.Cutoff.{Cutoff}
 use Rattle.p3l_stream.specs.Lines.{is_feed, last_line, lines_between, lines_of}
 use Rattle.p3l_stream.proofs.Positions.{position-none, position-some}
 
-more_parts : (how : Stop) (part : List ℕ) (parts : List (List ℕ)) (bytes : List ℕ) → slice_split is_feed bytes ≡ parts → lines_between how (part ∷ slice_split is_feed bytes) ≡ strip_carriage_return part ∷ lines_between how (slice_split is_feed bytes)
+more_parts : (how : Cutoff) (part : List ℕ) (parts : List (List ℕ)) (bytes : List ℕ) → slice_split is_feed bytes ≡ parts → lines_between how (part ∷ slice_split is_feed bytes) ≡ strip_carriage_return part ∷ lines_between how (slice_split is_feed bytes)
 more_parts how part parts [] is = refl
 more_parts how part parts (byte ∷ bytes) is =
     elim (is_feed byte) as (
@@ -23,7 +23,7 @@ more_parts how part parts (byte ∷ bytes) is =
     onto (next ∷ rest) = refl
 
 -- a line ends at the first line feed
-pub lines_of-feed : (how : Stop) (bytes : List ℕ) (end : ℕ) → Some end ≡ position is_feed bytes → lines_of how bytes ≡ strip_carriage_return (take end bytes) ∷ lines_of how (drop (end + 1) bytes)
+pub lines_of-feed : (how : Cutoff) (bytes : List ℕ) (end : ℕ) → Some end ≡ position is_feed bytes → lines_of how bytes ≡ strip_carriage_return (take end bytes) ∷ lines_of how (drop (end + 1) bytes)
 lines_of-feed how bytes end found =
     let first : (position_or_len is_feed bytes ≡ end) × (position_or_len is_feed bytes < length bytes) = position-some is_feed bytes end (sym found) in
     ap (lines_between how) (slice_split_first is_feed bytes 0 first.1)
@@ -42,5 +42,5 @@ one_part (byte ∷ bytes) none =
     ] none
 
 -- without a line feed the bytes are the last part
-pub lines_of-last : (how : Stop) (bytes : List ℕ) → None ≡ position is_feed bytes → lines_of how bytes ≡ last_line how bytes
+pub lines_of-last : (how : Cutoff) (bytes : List ℕ) → None ≡ position is_feed bytes → lines_of how bytes ≡ last_line how bytes
 lines_of-last how bytes none = ap (lines_between how) (one_part bytes (position-none is_feed bytes (sym none)))

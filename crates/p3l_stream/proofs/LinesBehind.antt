@@ -4,8 +4,8 @@ use Rattle.std.specs.Str.Lines.{strip_carriage_return}
 use Rattle.p3l_stream.specs.declared.items.Ending.{Ending}
 use Rattle.p3l_stream.specs.declared.line.Line.{Line}
 use Rattle.p3l_stream.specs.declared.line.Line.TheVariants as line
-use Rattle.p3l_stream.specs.declared.taken.Stop.{Stop}
-use Rattle.p3l_stream.specs.declared.taken.Stop.TheVariants as stop
+use Rattle.p3l_stream.specs.declared.taken.Cutoff.{Cutoff}
+use Rattle.p3l_stream.specs.declared.taken.Cutoff.TheVariants as stop
 use Rattle.p3l_stream.specs.declared.items.Items.{Items}
 use Rattle.p3l_stream.specs.Ended.{AreBlank, IsLine, ended, held_by}
 use Rattle.p3l_stream.specs.Items.{items_of_lines, put_line}
@@ -28,7 +28,7 @@ longer [] after = omega arith
 longer (byte ∷ first) after = (let rest = longer first after in omega arith)
 
 -- an ended line comes before the lines behind it
-pub lines_of-ended : (how : Stop) (first after : List ℕ) → IsLine first → lines_of how (first ++ 10 ∷ after) ≡ strip_carriage_return first ∷ lines_of how after
+pub lines_of-ended : (how : Cutoff) (first after : List ℕ) → IsLine first → lines_of how (first ++ 10 ∷ after) ≡ strip_carriage_return first ∷ lines_of how after
 lines_of-ended how first after is_line =
     let bytes : List ℕ = first ++ 10 ∷ after in
     let at : place bytes ≡ length first = place-behind first (10 ∷ after) (place-line first is_line) ∙ omega arith in
@@ -39,17 +39,17 @@ lines_of-ended how first after is_line =
     ∙ ap (λ (l : List ℕ). strip_carriage_return first ∷ lines_of how l) (drop-front first after)
 
 -- the items of the lines of bytes, numbered from here on
-abbrev pub items_from : ℕ → ℕ → Ending → Stop → List ℕ → Items
+abbrev pub items_from : ℕ → ℕ → Ending → Cutoff → List ℕ → Items
 items_from width number close how bytes = items_of_lines width number close (lines_of how bytes)
 
 -- an ended line, and what it holds
-pub items_ended : (width number : ℕ) (close : Ending) (how : Stop) (first after : List ℕ) (holds : Line) → IsLine first → held_by width first ≡ holds →
+pub items_ended : (width number : ℕ) (close : Ending) (how : Cutoff) (first after : List ℕ) (holds : Line) → IsLine first → held_by width first ≡ holds →
     items_from width number close how (first ++ 10 ∷ after) ≡ put_line holds number (items_from width (number + 1) close how after)
 items_ended width number close how first after holds is_line is =
     ap (items_of_lines width number close) (lines_of-ended how first after is_line) ∙ ap (λ (l : Line). put_line l number (items_from width (number + 1) close how after)) is
 
 -- lines without words give no item
-pub items_behind : (width number : ℕ) (close : Ending) (how : Stop) (blanks : List (List ℕ)) (rest : List ℕ) → AreBlank width blanks →
+pub items_behind : (width number : ℕ) (close : Ending) (how : Cutoff) (blanks : List (List ℕ)) (rest : List ℕ) → AreBlank width blanks →
     items_from width number close how (ended blanks ++ rest) ≡ items_from width (number + length blanks) close how rest
 items_behind width number close how [] rest blank = ap (λ (k : ℕ). items_from width k close how rest) (omega arith)
 items_behind width number close how (b ∷ bs) rest blank =
@@ -59,7 +59,7 @@ items_behind width number close how (b ∷ bs) rest blank =
     ∙ items_behind width (number + 1) close how bs rest blank.2
     ∙ ap (λ (k : ℕ). items_from width k close how rest) same
 
-nothing : (how : Stop) → lines_of how [] ≡ []
+nothing : (how : Cutoff) → lines_of how [] ≡ []
 nothing stop.End = refl
 nothing stop.Fault = refl
 nothing stop.Limit = refl
@@ -81,6 +81,6 @@ items_none width number close (byte ∷ part) is_line is =
     ∙ ap (λ (l : Line). put_line l number (items_of_lines width (number + 1) close [])) is
 
 -- a part of a line is dropped where the input isn't at its end
-pub items_dropped : (width number : ℕ) (close : Ending) (how : Stop) (part : List ℕ) → IsLine part → last_line how part ≡ [] →
+pub items_dropped : (width number : ℕ) (close : Ending) (how : Cutoff) (part : List ℕ) → IsLine part → last_line how part ≡ [] →
     items_from width number close how part ≡ record { items = []; ending = close }
 items_dropped width number close how part is_line drops = ap (items_of_lines width number close) (lines_of-last how part (sym is_line) ∙ drops)

@@ -7,7 +7,7 @@ use Rattle.p3l_stream.specs.declared.line.Line.{Line}
 use Rattle.p3l_stream.specs.declared.line.Line.TheVariants as line
 use Rattle.p3l_stream.specs.declared.next.Next.{Next}
 use Rattle.p3l_stream.specs.declared.next.Next.TheVariants as next
-use Rattle.p3l_stream.specs.declared.taken.Stop.TheVariants as stop
+use Rattle.p3l_stream.specs.declared.taken.Cutoff.TheVariants as stop
 use Rattle.p3l_stream.specs.Ended.{AreBlank, IsLine, ended, held_by}
 use Rattle.p3l_stream.specs.Lines.{last_line}
 use Rattle.p3l_stream.specs.Seen.{Seen}

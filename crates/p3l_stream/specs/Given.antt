@@ -8,8 +8,8 @@ use Rattle.p3l_stream.specs.declared.items.Ending.TheVariants as ending
 use Rattle.p3l_stream.specs.declared.items.Items.{Items}
 use Rattle.p3l_stream.specs.declared.next.Next.{Next}
 use Rattle.p3l_stream.specs.declared.next.Next.TheVariants as next
-use Rattle.p3l_stream.specs.declared.taken.Stop.{Stop}
-use Rattle.p3l_stream.specs.declared.taken.Stop.TheVariants as stop
+use Rattle.p3l_stream.specs.declared.taken.Cutoff.{Cutoff}
+use Rattle.p3l_stream.specs.declared.taken.Cutoff.TheVariants as stop
 use Rattle.p3l_stream.specs.Items.{closing, items_of_lines, items_taken}
 use Rattle.p3l_stream.specs.Lines.{lines_of}
 use Rattle.p3l_stream.specs.Seen.{Seen}
@@ -23,12 +23,12 @@ abbrev pub ended_by : List (List ℤ) → Ending → Items
 ended_by items close = record { items = items; ending = close }
 
 -- how the input goes on behind the bytes taken, and stops: it doesn't where it was at its end
-abbrev pub GoesOn : Bool → Stop → List ℕ → Type 0
+abbrev pub GoesOn : Bool → Cutoff → List ℕ → Type 0
 GoesOn at_end how more = at_end ≡ true → (how ≡ stop.End) × (more ≡ [])
 
 -- the items of the bytes taken and those that follow
-abbrev pub TakesOn : Bool → (Stop → List ℕ → Type 0) → Type 0
-TakesOn at_end P = (how : Stop) (more : List ℕ) → GoesOn at_end how more → P how more
+abbrev pub TakesOn : Bool → (Cutoff → List ℕ → Type 0) → Type 0
+TakesOn at_end P = (how : Cutoff) (more : List ℕ) → GoesOn at_end how more → P how more
 
 -- whatever follows, these items come first
 abbrev pub AreFirst : ℕ → Bool → List ℕ → List (List ℤ) → Type 0

@@ -1,7 +1,7 @@
 -- The items of a text.
 use Rattle.std.specs.Prelude.{ℕ, ◌+◌, List, [], ◌∷◌}
-use Rattle.p3l_stream.specs.declared.taken.Stop.{Stop}
-use Rattle.p3l_stream.specs.declared.taken.Stop.TheVariants as stop
+use Rattle.p3l_stream.specs.declared.taken.Cutoff.{Cutoff}
+use Rattle.p3l_stream.specs.declared.taken.Cutoff.TheVariants as stop
 use Rattle.p3l_stream.specs.declared.line.Line.{Line}
 use Rattle.p3l_stream.specs.declared.line.Line.TheVariants as line
 use Rattle.p3l_stream.specs.declared.items.Ending.{Ending}
@@ -23,13 +23,13 @@ items_of_lines width number close [] = record { items = []; ending = close }
 items_of_lines width number close (bytes ∷ lines) = put_line (line_of width bytes) number (items_of_lines width (number + 1) close lines)
 
 -- the ending where no line is refused
-abbrev pub closing : Stop → Ending
+abbrev pub closing : Cutoff → Ending
 closing stop.End = ending.End
 closing stop.Fault = ending.ReadFault
 closing stop.Limit = ending.TooLong
 
 -- the items of the bytes taken, and their ending, by how the taking stopped
-abbrev pub items_taken : ℕ → Stop → List ℕ → Items
+abbrev pub items_taken : ℕ → Cutoff → List ℕ → Items
 items_taken width how bytes = items_of_lines width 1 (closing how) (lines_of how bytes)
 
 -- the items of a whole text, and their ending

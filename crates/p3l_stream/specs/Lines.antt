@@ -2,8 +2,8 @@
 use Rattle.std.specs.Prelude.{ℕ, ℤ, Bool, ◌==◌, List, [], ◌∷◌, length, Result, Ok, Err, if◌then◌else◌}
 use Rattle.std.specs.List.{slice_split}
 use Rattle.std.specs.Str.Lines.{strip_carriage_return}
-use Rattle.p3l_stream.specs.declared.taken.Stop.{Stop}
-use Rattle.p3l_stream.specs.declared.taken.Stop.TheVariants as stop
+use Rattle.p3l_stream.specs.declared.taken.Cutoff.{Cutoff}
+use Rattle.p3l_stream.specs.declared.taken.Cutoff.TheVariants as stop
 use Rattle.p3l_stream.specs.declared.line.Line.{Line}
 use Rattle.p3l_stream.specs.declared.line.Line.TheVariants as line
 use Rattle.p3l_stream.specs.declared.word.WordFault.{WordFault}
@@ -15,19 +15,19 @@ abbrev pub is_feed : ℕ → Bool
 is_feed byte = byte == 10
 
 -- the part behind the last line feed is a line where the input is at its end, if there are bytes; else it is dropped
-abbrev pub last_line : Stop → List ℕ → List (List ℕ)
+abbrev pub last_line : Cutoff → List ℕ → List (List ℕ)
 last_line stop.End [] = []
 last_line stop.End (byte ∷ bytes) = strip_carriage_return (byte ∷ bytes) ∷ []
 last_line _ part = []
 
 -- the lines of the parts between line feeds: a line ends by a line feed, and one carriage return before its end is no part of it
-abbrev pub lines_between : Stop → List (List ℕ) → List (List ℕ)
+abbrev pub lines_between : Cutoff → List (List ℕ) → List (List ℕ)
 lines_between how [] = []
 lines_between how (part ∷ []) = last_line how part
 lines_between how (part ∷ next ∷ parts) = strip_carriage_return part ∷ lines_between how (next ∷ parts)
 
 -- the lines of the bytes taken, by how the taking stopped
-abbrev pub lines_of : Stop → List ℕ → List (List ℕ)
+abbrev pub lines_of : Cutoff → List ℕ → List (List ℕ)
 lines_of how bytes = lines_between how (slice_split is_feed bytes)
 
 -- what a line holds whose words write these numbers, where an item has so many words

@@ -16,6 +16,6 @@ pub use items::{Ending, Items};
 pub use line::Line;
 pub use lines::Lines;
 pub use next::Next;
-pub use taken::Stop;
+pub use taken::Cutoff;
 pub use text::{item_text, text_of};
 pub use word::WordFault;

@@ -2,7 +2,7 @@
 
 /// How the taking of bytes stopped, of which definitions speak.
 #[derive(Clone, Copy, Debug, Drop, PartialEq, Eq)]
-pub enum Stop {
+pub enum Cutoff {
     /// The source was at its end.
     End,
     /// The source failed.
