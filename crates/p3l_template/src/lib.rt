@@ -7,7 +7,7 @@ pub mod fan;
 pub mod pipe;
 pub mod run;
 pub mod template;
-pub mod workers;
+mod workers;
 
 pub use builder::Builder;
 pub use fan::Fan;

@@ -217,8 +217,6 @@ pub record Fan (net : Net) (units : Units) (roles : ℕ → Role) (n : ℕ) (bas
   pub alike : (s t : State) → Around base n s t → (w : ℕ) → w < n → IsAlike (get_or Ps w no_part) s t
   -- a step of a worker keeps the two processes and the ports, each line, and what is due in each other worker
   pub own : (s t : State) (one : OneFired Ps s t) (p : ℕ) → p < base.proc + 2 → t.own p ≡ s.own p
-  pub quiet : (s t : State) (one : OneFired Ps s t) (c : ℕ) → c < base.chan + (n + n) → c ≢ base.chan + one.which →
-      c ≢ base.chan + n + one.which → t.tokens c ≡ s.tokens c
   pub input : (s t : State) → OneFired Ps s t → t.tokens base.input ≡ s.tokens base.input
   pub output : (s t : State) → OneFired Ps s t → t.tokens base.output ≡ s.tokens base.output
   pub lines : (s t : State) (one : OneFired Ps s t) → all_orderly Ps s ≡ true → (w : ℕ) → w < n →
@@ -240,7 +238,6 @@ fan_of net units roles n base Ps good h =
       due_kept = due_kept net units roles n base Ps good a;
       alike = around_alike net units roles n base Ps good a;
       own = one_own net units roles n base Ps good a;
-      quiet = one_quiet net units roles n base Ps good a;
       input = one_input net units roles n base Ps good a;
       output = one_output net units roles n base Ps good a;
       lines = one_line net units roles n base Ps good a;
