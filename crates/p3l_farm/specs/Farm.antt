@@ -11,9 +11,10 @@ use Rattle.p3l_firing.specs.declared.token.Token.{Token}
 use Rattle.p3l_firing.specs.State.{State}
 use Rattle.p3l_firing.specs.Token.{newest_tag}
 use Rattle.p3l_template.specs.Bag.{read, numbered}
+use Rattle.p3l_template.specs.Fan.{first_proc, last_proc}
 use Rattle.p3l_template.specs.Part.{Part, line, all_orderly, due}
 use Rattle.p3l_template.specs.Placed.{proc_end, chan_end}
-use Rattle.p3l_template.specs.Shape.{Shape, Role, Base, empty_chan, numbers_from, fan_seats}
+use Rattle.p3l_template.specs.Shape.{Shape, Role, Base, empty_chan, fan_seats}
 
 -- all these tokens have greater numbers than k
 unfoldable pub all_above : ℕ → List Token → Bool
@@ -65,13 +66,11 @@ dues (P ∷ Ps) s = due P s + dues Ps s
 
 -- Emit reads what comes in, and writes the in channels of the workers
 abbrev pub emit_proc : ℕ → ℕ → Base → Proc
-emit_proc node n base =
-    record { kind = Emit; node = node; arg = 0; ins = base.input ∷ []; outs = numbers_from base.chan n }
+emit_proc = first_proc Emit
 
 -- Collect reads the out channels of the workers, and writes what goes out
 abbrev pub collect_proc : ℕ → ℕ → Base → Proc
-collect_proc node n base =
-    record { kind = Collect; node = node; arg = 0; ins = numbers_from (base.chan + n) n; outs = base.output ∷ [] }
+collect_proc = last_proc Collect
 
 abbrev pub view_of : Base → List Part → State → View
 view_of base parts s =

@@ -11,20 +11,19 @@ use Rattle.p3l_firing.specs.declared.process.Proc.{Proc}
 use Rattle.p3l_firing.specs.declared.process.ProcKind.TheVariants.{Scatter, Gather}
 use Rattle.p3l_firing.specs.declared.token.Token.{Token}
 use Rattle.p3l_map.specs.Map.{Pieces, View, mapped, to_come, well_kept}
+use Rattle.p3l_template.specs.Fan.{first_proc, last_proc}
 use Rattle.p3l_template.specs.Part.{Part, line, no_part, all_orderly, due}
 use Rattle.p3l_template.specs.Placed.{proc_end, chan_end}
-use Rattle.p3l_template.specs.Shape.{empty_chan, Shape, Role, Base, numbers_from, fan_seats}
+use Rattle.p3l_template.specs.Shape.{empty_chan, Shape, Role, Base, fan_seats}
 use Rattle.p3l_template.specs.Sum.{sum_of}
 use Rattle.p3l_template.specs.Units.{Units}
 use Rattle.p3l_firing.specs.Nodes.{last_element, element_of, joined_of}
 
 abbrev pub scatter_proc : ℕ → ℕ → Base → Proc
-scatter_proc node n base =
-    record { kind = Scatter; node = node; arg = 0; ins = base.input ∷ []; outs = numbers_from base.chan n }
+scatter_proc = first_proc Scatter
 
 abbrev pub gather_proc : ℕ → ℕ → Base → Proc
-gather_proc node n base =
-    record { kind = Gather; node = node; arg = 0; ins = numbers_from (base.chan + n) n; outs = base.output ∷ [] }
+gather_proc = last_proc Gather
 
 abbrev pub pieces_of : Units → ℕ → ℕ → (Outcome → Outcome) → Pieces
 pieces_of units node n f =

@@ -7,10 +7,8 @@ ghost use Rattle.p3l_map.specs.laws.MapLaw.{map_lawful};
 ghost use Rattle.p3l_map.specs.laws.MapTyping.{map_serves};
 
 use p3l_base::{List, NoMemory};
-use p3l_firing::{Proc, ProcKind};
-use p3l_template::builder::one_channel;
-use p3l_template::workers::worker_ports;
-use p3l_template::{Builder, Ports, Template};
+use p3l_firing::ProcKind;
+use p3l_template::{Builder, Fan, Ports, Template};
 use std::alloc::Global;
 
 /// A map: the elements of each token go to the workers by turns, and their results are joined in
@@ -35,27 +33,13 @@ impl Template for MapTemplate {
         at: &Ports,
         cap: u32,
     ) -> Result<List<Ports>, NoMemory> {
-        let first = builder.channel_count() as u32;
-        let to_workers = builder.channels(alloc, self.workers, cap)?;
-        let from_workers = builder.channels(alloc, self.workers, cap)?;
-        let input = one_channel(alloc, at.input)?;
-        let output = one_channel(alloc, at.output)?;
-        let _scatter = builder.process(Proc {
-            kind: ProcKind::Scatter,
+        let fan = Fan {
             node: self.node,
-            arg: 0,
-            ins: input,
-            outs: to_workers,
-        })?;
-        let _gather = builder.process(Proc {
-            kind: ProcKind::Gather,
-            node: self.node,
-            arg: 0,
-            ins: from_workers,
-            outs: output,
-        })?;
-        let ports = worker_ports(alloc, first, self.workers)?;
-        Ok(ports)
+            workers: self.workers,
+            first: ProcKind::Scatter,
+            last: ProcKind::Gather,
+        };
+        fan.place(alloc, builder, at, cap)
     }
 
     ghost lawful = { λ t fit. map_lawful t.node t.workers fit };

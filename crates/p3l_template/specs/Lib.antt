@@ -2,6 +2,7 @@ pub mod Units
 pub mod Part
 pub mod Shape
 pub mod Placed
+pub mod Fan
 pub mod Run
 pub mod Pipe
 pub mod Bag

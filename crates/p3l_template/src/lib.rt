@@ -3,12 +3,14 @@
 #![tactic(auto)]
 
 pub mod builder;
+pub mod fan;
 pub mod pipe;
 pub mod run;
 pub mod template;
-pub mod workers;
+mod workers;
 
 pub use builder::Builder;
+pub use fan::Fan;
 pub use pipe::PipeTemplate;
 pub use run::RunTemplate;
 pub use template::{Ports, Template};

@@ -1,31 +1,31 @@
 -- THE LAW OF THE FARM (`farm_lawful`): any number of workers but 0, round any lawful parts, on demand. Whichever worker
 -- Emit and Collect choose, the tokens leave in the order in which they came, each with its meaning.
 -- A worker may be slow or fast: its own line stays, so the list of the farm does.
-use Rattle.std.proofs.Common.{◌≡◌, ℕ, zero, suc, ◌+◌, ◌-◌, ◌*◌, ◌≤◌, ◌<◌, ◌≢◌, ◌⊎◌, inl, inr, ◌&&◌, Bool, true, false, Some, is_some, List, [], ◌∷◌, ◌++◌, map, length, get_or, refl, sym, ap, ap₂, ◌∙◌, subst, arith, append_assoc, length-append, le_refl, eqb-true, slice_get}
-use Rattle.std.proofs.lemmas.Bool.{and_parts, and_from, cases_eq, cases_lt, cases_Bool}
-use Rattle.std.proofs.lemmas.List.{map-append, length-replicate}
+use Rattle.std.proofs.Common.{◌≡◌, ℕ, zero, suc, ◌+◌, ◌-◌, ◌*◌, ◌≤◌, ◌<◌, ◌≢◌, inl, inr, ◌&&◌, Bool, true, false, Some, is_some, List, [], ◌∷◌, ◌++◌, map, length, get_or, refl, sym, ap, ap₂, ◌∙◌, subst, arith, append_assoc, length-append, le_refl, eqb-true, slice_get}
+use Rattle.std.proofs.lemmas.Bool.{and_parts, and_from, cases_Bool}
+use Rattle.std.proofs.lemmas.List.{map-append}
 use Rattle.p3l_farm.specs.Farm.{rising, all_rising, joined, to_come, well_kept, lines_of, dues, emit_proc, collect_proc, view_of, farm_part, farm_shape}
 use Rattle.p3l_firing.proofs.ChoiceLaw.{emptiest_is, due_in_is}
 use Rattle.p3l_farm.specs.laws.ViewLaw.{change, view_line, Kept, kept_to, kept_from, Goes, none_ready, each_empty, emit_view, emit_goes, collect_view, collect_goes}
 use Rattle.p3l_firing.specs.Fire.{row_can, row_fire, can_fire, fire}
 use Rattle.p3l_firing.specs.Lists.{first_or, rest_of, has_first}
-use Rattle.p3l_firing.specs.State.{State, has_room, chan_at}
+use Rattle.p3l_firing.specs.State.{State, has_room}
 use Rattle.p3l_firing.specs.Token.{over, newest_tag, peeled, tagged, has_trap, credit}
 use Rattle.p3l_firing.specs.declared.net.Net.{Net}
+use Rattle.p3l_firing.specs.declared.process.ProcKind.TheVariants.{Emit, Collect}
 use Rattle.p3l_firing.specs.declared.token.Token.{Token}
 use Rattle.p3l_firing.specs.kinds.Collect.{front_is, due_in, taken_from}
 use Rattle.p3l_firing.specs.kinds.Emit.{emptiest, sent_to}
 use Rattle.p3l_template.specs.Bag.{read, IsNumbered}
 use Rattle.p3l_template.specs.Part.{Part, IsLawfulPart, IsSized, in_channels, inside, line, IsInside, IsSameInside, IsAlike, Moves, OneFired, no_part, all_orderly, IsFresh, Begins, IsDrained, due}
-use Rattle.p3l_template.specs.Placed.{IsLawfulShape, IsPlaced, AreStanding, AreChained}
-use Rattle.p3l_template.specs.Shape.{empty_chan, Role, Base, numbers_from, fan_seats}
+use Rattle.p3l_template.specs.Placed.{IsLawfulShape, IsPlaced, AreChained}
+use Rattle.p3l_template.specs.Shape.{Role, Base, numbers_from, fan_seats}
 use Rattle.p3l_template.specs.Units.{Units}
 use Rattle.p3l_template.specs.laws.BagLaw.{look_empty, read_length}
-use Rattle.p3l_template.specs.laws.Chain.{chain_fires, all_same, all_kept, all_at, all_from}
-use Rattle.p3l_template.specs.laws.Fan.{fan_length, fan_low, fan_good, Fan, fan_of, Around, Holds, around_moves, one_moves, same_alike, each_begins, fan_empty}
+use Rattle.p3l_template.specs.laws.Chain.{all_same, all_kept, all_at, all_from}
+use Rattle.p3l_template.specs.laws.Fan.{Fan, fan_of, Around, Holds, around_moves, one_moves, same_alike, each_begins, fan_empty, fan_fires, fan_drained, fan_lawful}
 use Rattle.p3l_template.specs.laws.Inside.{insides, channels_split, around_inside, times_le, line_length}
-use Rattle.p3l_template.specs.laws.Plain.{plain_room}
-use Rattle.p3l_template.specs.laws.Row.{numbers_length, numbers_at}
+use Rattle.p3l_template.specs.laws.Row.{numbers_length, numbers_at, stands_two}
 use Rattle.p3l_template.specs.laws.Rows.{front, fire_at, can_at, cannot_at, emptied, and_right_true, room_when_empty}
 use Rattle.p3l_template.specs.laws.Touch.{passed, passed_in, passed_out, passed_other, passed_count, passed_own, passed_unsent, passed_sent, passed_emitted}
 use Rattle.p3l_firing.specs.kinds.Emit as emit
@@ -495,12 +495,10 @@ module _ (net : Net) (units : Units) (roles : ℕ → Role) (node n : ℕ) (pos 
 
   -- THE ROWS GIVE THESE STATES
   emit_stands : slice_get net.procs base.proc ≡ Some (emit_proc node n base)
-  unfolding AreStanding
-  emit_stands = placed.procs.0
+  emit_stands = (stands_two net base.proc _ (collect_proc node n base) placed.procs).0
 
   collect_stands : slice_get net.procs (base.proc + 1) ≡ Some (collect_proc node n base)
-  unfolding AreStanding
-  collect_stands = let e : base.proc + 1 ≡ suc base.proc = omega arith in ap (slice_get net.procs) e ∙ placed.procs.1.0
+  collect_stands = (stands_two net base.proc (emit_proc node n base) _ placed.procs).1
 
   module _ (s : State) where
     emit_fires : (w : ℕ) → emptiest net s (numbers_from base.chan n) ≡ Some (base.chan + w) →
@@ -556,80 +554,39 @@ module _ (net : Net) (units : Units) (roles : ℕ → Role) (node n : ℕ) (pos 
     module _ (t : State) (one : OneFired Ps s t) where
       worker_right : all_orderly Ps s ≡ true → Kept (view_of base Ps s) → Right s t
       worker_right o k =
-          let h = all_at Ps s o one.which one.below in
           let e = ap (λ q. q.number) (fan.own s t one base.proc (omega arith)) in
           let c = ap (λ q. q.number) (fan.own s t one (base.proc + 1) (omega arith)) in
-          let i = fan.quiet s t one base.input (omega (arith, placed.good.input))
-          (λ d. omega (arith, d, placed.good.input)) (λ d. omega (arith, d, placed.good.input)) in
-          let u = fan.quiet s t one base.output (omega (arith, placed.good.output))
-          (λ d. omega (arith, d, placed.good.output)) (λ d. omega (arith, d, placed.good.output)) in
-          let to : (w : ℕ) → w < n → w ≢ one.which → t.tokens (base.chan + w) ≡ s.tokens (base.chan + w) =
-          λ w l d. fan.quiet s t one _ (omega (arith, l)) (λ x. d (omega (arith, x))) (λ x. omega (arith, x, l)) in
-          let ls = lines_same Ps s t (λ w q. elim (cases_eq w one.which) [
-            | inl d ↦
-                subst (λ z. line (get_or Ps z no_part) t ≡ line (get_or Ps z no_part) s) (sym d) (one.keeps h).line
-            | inr d ↦ let l = fan.all.below w q in
-                fan.line_kept s t w l (to w l d)
-                (fan.quiet s t one _ (omega (arith, l)) (λ x. omega (arith, x, fan.all.below one.which one.below))
-                (λ x. d (omega (arith, x)))) (one.others w q d).pending
-          ]) in
-          let ds =
-          dues_change Ps s t one.which one.below
-          (λ w q d. fan.due_kept s t w (fan.all.below w q) (to w (fan.all.below w q) d) (one.others w q d).owed) in
+          let i = fan.input s t one in
+          let u = fan.output s t one in
+          let ls = lines_same Ps s t (λ w q. fan.lines s t one o w (fan.all.below w q)) in
+          let ds = dues_change Ps s t one.which one.below (λ w q. fan.dues s t one w (fan.all.below w q)) in
           let v : view_of base Ps t ≡ view_of base Ps s = view_is t _ _ _ _ _ e c ls i u in
           record {
             parts = all_kept Ps s t one o;
             goes = record { kept = subst Kept (sym v) k; line = ap (view_line (roles 0).meaning) v };
             work = less_by (all_due t _ _ _ _ (ap length i) refl e c) (all_due s _ _ _ _ refl refl refl refl)
-                (worker_falls _ _ _ _ _ _ (one.works h) ds);
+                (worker_falls _ _ _ _ _ _ (one.works (all_at Ps s o one.which one.below)) ds);
           }
 
   -- THE LAWS OF A FIRING
-  farm_case : (s : State) (p : ℕ) → IsInside (farm_part n roles base Ps) p → can_fire units.tree net s p ≡ true →
-      (p ≡ base.proc) ⊎ ((p ≡ base.proc + 1) ⊎ OneFired Ps s (fire units.tree units.leaf net s p))
-  farm_case s p inside can =
-      elim (cases_lt p (base.proc + 2)) [
-        | inl l ↦ elim (cases_eq p base.proc) [ inl e ↦ inl e | inr e ↦ inr (inl (omega (arith, inside.from, l, e))) ]
-        | inr l ↦
-            inr (inr (chain_fires net units roles (base.chan + (n + n)) (base.proc + 2)
-            (base.chan + (n + n)) _ Ps placed.inner (le_refl _) (fan_low base.chan n) s p l inside.to can))
-      ]
-
   farm_moves : (s : State) (p : ℕ) → IsInside (farm_part n roles base Ps) p → can_fire units.tree net s p ≡ true →
       Moves (farm_part n roles base Ps) s (fire units.tree units.leaf net s p)
   farm_moves s p i can =
-      elim (farm_case s p i can) [
-        | inl e ↦
-            subst (λ z. can_fire units.tree net s z ≡ true → Moves (farm_part n roles base Ps) s (fire units.tree units.leaf net s z)) (sym e)
-            (emit_goes_to s (Moves (farm_part n roles base Ps) s)
-            (λ w l _. around_moves net units roles n base Ps fan (farm_part n roles base Ps) holds s _
-            (emit_around s w l))) can
-        | inr r ↦ elim r [
-          | inl e ↦
-              subst (λ z. can_fire units.tree net s z ≡ true → Moves (farm_part n roles base Ps) s (fire units.tree units.leaf net s z))
-              (sym e) (collect_goes_to s (Moves (farm_part n roles base Ps) s)
-              (λ w l _. around_moves net units roles n base Ps fan (farm_part n roles base Ps) holds s _
-              (collect_around s w l))) can
-          | inr one ↦ one_moves net units roles n base Ps fan (farm_part n roles base Ps) holds s _ one
-        ]
-      ]
+      let P = farm_part n roles base Ps in
+      let own = around_moves net units roles n base Ps fan P holds s in
+      fan_fires net units roles n base Ps fan P holds s p i can (Moves P s)
+      (emit_goes_to s (Moves P s) (λ w l _. own _ (emit_around s w l)))
+      (collect_goes_to s (Moves P s) (λ w l _. own _ (collect_around s w l)))
+      (one_moves net units roles n base Ps fan P holds s)
 
   farm_right : (s : State) (p : ℕ) → IsInside (farm_part n roles base Ps) p → can_fire units.tree net s p ≡ true →
       (farm_part n roles base Ps).orderly s ≡ true → Right s (fire units.tree units.leaf net s p)
   farm_right s p i can h =
       let a = and_parts (all_orderly Ps s) (well_kept (view_of base Ps s)) h in
       let k = kept_to (view_of base Ps s) a.1 in
-      elim (farm_case s p i can) [
-        | inl e ↦
-            subst (λ z. can_fire units.tree net s z ≡ true → Right s (fire units.tree units.leaf net s z)) (sym e)
-            (emit_goes_to s (Right s) (λ w l full. emit_right s w l a.0 k full)) can
-        | inr r ↦ elim r [
-          | inl e ↦
-              subst (λ z. can_fire units.tree net s z ≡ true → Right s (fire units.tree units.leaf net s z)) (sym e)
-              (collect_goes_to s (Right s) (λ w l f. collect_right s w l a.0 k f)) can
-          | inr one ↦ worker_right s _ one a.0 k
-        ]
-      ]
+      fan_fires net units roles n base Ps fan (farm_part n roles base Ps) holds s p i can (Right s)
+      (emit_goes_to s (Right s) (λ w l full. emit_right s w l a.0 k full))
+      (collect_goes_to s (Right s) (λ w l f. collect_right s w l a.0 k f)) (λ t one. worker_right s t one a.0 k)
 
   -- DRAIN
   module _ (s : State) (h : (farm_part n roles base Ps).orderly s ≡ true)
@@ -661,14 +618,8 @@ module _ (net : Net) (units : Units) (roles : ℕ → Role) (node n : ℕ) (pos 
         ]
 
     worker_drained : (w : ℕ) → w < n → s.tokens (base.chan + n + w) ≡ [] → IsDrained (get_or Ps w no_part) s
-    worker_drained w l e =
-        let y = fan.all.lies w l in
-        (fan.all.lawful w l).drain s (all_at Ps s parts_orderly w (fan.all.within w l))
-        (λ p i. quiet p (record { from = omega (arith, i.from, y.proc_from); to = omega (arith, i.to, y.proc_to) }))
-        calm
-        (room_when_empty net s _ (ap s.tokens (fan.all.output w l) ∙ e)
-        (subst (λ z. 0 < (chan_at net z).cap) (sym (fan.all.output w l))
-        (placed.chans.room _ (omega arith) (omega (arith, l)))))
+    worker_drained =
+        fan_drained net units roles n base Ps fan (farm_part n roles base Ps) holds s placed.chans parts_orderly quiet calm
 
     -- no line begins with the number that is due
     no_line : (w : ℕ) → w < n → front_is (s.own (base.proc + 1)).number (line (get_or Ps w no_part) s) ≡ false
@@ -761,21 +712,6 @@ module _ (net : Net) (units : Units) (roles : ℕ → Role) (node n : ℕ) (pos 
   }
 
 pub farm_lawful : (node n : ℕ) → 0 < n → IsLawfulShape (farm_shape node n)
-farm_lawful node n pos = record {
-  lawful = λ net units roles base parts placed. farm_law net units roles node n pos base parts placed;
-  lies = λ net units roles base parts placed.
-      record {
-        meaning = refl;
-        firings = refl;
-        input = refl;
-        output = refl;
-        proc_from = refl;
-        chan_from = refl;
-        proc_to = refl;
-        chan_to = refl;
-      };
-  count = λ base. fan_length base.chan (base.chan + n) n;
-  laid = λ cap base. length-replicate (n + n) (empty_chan cap);
-  rooms = λ cap base k h l. plain_room (n + n) cap k h l;
-  seats = λ net base good v l. fan_good base n v pos l;
-}
+farm_lawful node n pos =
+    fan_lawful Emit Collect node n (farm_shape node n) pos
+    (λ net units roles base parts placed. farm_law net units roles node n pos base parts placed)

@@ -4,14 +4,15 @@
 use Rattle.std.proofs.Common.{◌≡◌, ℕ, zero, suc, ◌+◌, ◌-◌, ◌%◌, ◌≤◌, ◌<◌, ◌≢◌, inl, inr, ◌&&◌, cond, nat_lt, true, false, List, [], ◌∷◌, ◌++◌, map, length, get_or, refl, sym, ap, ap₂, ◌∙◌, subst, arith, append_assoc, le_refl, length-append, mod-lt, slice_get, Some, ltb-true, ◌*◌, nat_eq, nat_le, eqb-true, ltb-false}
 use Rattle.std.proofs.Math.Nat.{mod-eq_of_lt}
 use Rattle.std.proofs.lemmas.Bool.{cases_Bool, and_parts, and_from, cases_eq, cond-true, cond-false}
-use Rattle.std.proofs.lemmas.List.{map-append, length-map, length-replicate}
+use Rattle.std.proofs.lemmas.List.{map-append, length-map}
 use Rattle.p3l_firing.specs.Fire.{row_can, row_fire, can_fire, fire}
 use Rattle.p3l_firing.specs.Lists.{rest_of, first_or, has_first}
 use Rattle.p3l_firing.specs.Process.{in_of, out_of}
 use Rattle.p3l_firing.specs.At.{at}
-use Rattle.p3l_firing.specs.State.{Own, State, pop, push, set_own, counted, fresh, has_room, chan_at}
+use Rattle.p3l_firing.specs.State.{Own, State, pop, push, set_own, counted, fresh, has_room}
 use Rattle.p3l_firing.specs.Token.{over, bodies, has_trap, credit}
 use Rattle.p3l_firing.specs.declared.net.Net.{Net}
+use Rattle.p3l_firing.specs.declared.process.ProcKind.TheVariants.{Scatter, Gather}
 use Rattle.p3l_firing.specs.declared.token.Token.{Token}
 use Rattle.p3l_map.specs.Map.{Pieces, View, spot, piece, joined, mapped, whole, to_come, well_kept, unsent, under_way, scatter_ok}
 use Rattle.p3l_map.specs.MapShape.{scatter_proc, gather_proc, pieces_of, lines_of, view_of, map_part, map_shape}
@@ -20,15 +21,14 @@ use Rattle.p3l_map.specs.laws.MapView.{view_line, Kept, kept_to, kept_from, Goes
 use Rattle.p3l_map.specs.laws.SizeLaw.{total_sum, come_bound, le_times, all_bound}
 use Rattle.p3l_map.specs.laws.Turns.{turns_same, total_same, all_empty_at, all_empty_from}
 use Rattle.p3l_template.specs.Part.{Part, IsLawfulPart, IsSized, in_hands, inside, line, IsInside, IsSameInside, IsAlike, Moves, Keeps, OneFired, no_part, all_orderly, IsFresh, Begins, IsDrained, due}
-use Rattle.p3l_template.specs.Placed.{IsLawfulShape, IsPlaced, AreStanding}
-use Rattle.p3l_template.specs.Shape.{empty_chan, Role, Base, numbers_from}
+use Rattle.p3l_template.specs.Placed.{IsLawfulShape, IsPlaced}
+use Rattle.p3l_template.specs.Shape.{Role, Base, numbers_from}
 use Rattle.p3l_template.specs.Sum.{sum_of}
 use Rattle.p3l_template.specs.Units.{Units}
-use Rattle.p3l_template.specs.laws.Chain.{chain_fires, all_same, all_kept, all_at, all_from}
-use Rattle.p3l_template.specs.laws.Fan.{fan_length, fan_low, fan_good, Fan, fan_of, Around, Holds, around_moves, one_moves, same_alike, each_begins, fan_empty}
+use Rattle.p3l_template.specs.laws.Chain.{all_same, all_kept, all_at, all_from}
+use Rattle.p3l_template.specs.laws.Fan.{Fan, fan_of, Around, Holds, around_moves, one_moves, same_alike, each_begins, fan_empty, fan_fires, fan_drained, fan_lawful}
 use Rattle.p3l_template.specs.laws.Inside.{channels_split, around_inside, times_le, line_length, channels_sum, insides_sum}
-use Rattle.p3l_template.specs.laws.Plain.{plain_room}
-use Rattle.p3l_template.specs.laws.Row.{numbers_length, numbers_at}
+use Rattle.p3l_template.specs.laws.Row.{numbers_length, numbers_at, stands_two}
 use Rattle.p3l_template.specs.laws.Rows.{at-same, at-other, front, fire_at, can_at, cannot_at, emptied, room_when_empty}
 use Rattle.p3l_template.specs.laws.SumLaw.{sum_same, sum_none, sum_change, sum_le, sum_times, sum_add}
 use Rattle.p3l_template.specs.laws.Touch.{pop_same, pop_other, push_same, push_other, set_tokens, own_same, own_other, pop_own, push_own}
@@ -558,12 +558,10 @@ module _ (net : Net) (units : Units) (roles : ℕ → Role) (node n : ℕ) (pos 
 
     -- THE ROWS GIVE THESE STATES
     scatter_stands : slice_get net.procs base.proc ≡ Some (scatter_proc node n base)
-    unfolding AreStanding
-    scatter_stands = placed.procs.0
+    scatter_stands = (stands_two net base.proc _ (gather_proc node n base) placed.procs).0
 
     gather_stands : slice_get net.procs (base.proc + 1) ≡ Some (gather_proc node n base)
-    unfolding AreStanding
-    gather_stands = let e : base.proc + 1 ≡ suc base.proc = omega arith in ap (slice_get net.procs) e ∙ placed.procs.1.0
+    gather_stands = (stands_two net base.proc (scatter_proc node n base) _ placed.procs).1
 
     scatter_chan : (k : ℕ) →
         out_of (scatter_proc node n base) (k % length (scatter_proc node n base).outs) ≡ base.chan + k % n
@@ -664,28 +662,11 @@ module _ (net : Net) (units : Units) (roles : ℕ → Role) (node n : ℕ) (pos 
     worker_goes : (t : State) → OneFired Ps s t → all_orderly Ps s ≡ true → Kept Q (view_of base Ps s) →
         Goes Q (view_of base Ps s) (view_of base Ps t)
     worker_goes t one h k =
-        let b : one.which < n = omega (arith, one.below, fan.all.count) in
-        let y = fan.all.lies one.which b in
-        let ls : (w : ℕ) → w < n → lines_of Ps t w ≡ lines_of Ps s w =
-        λ w l. elim (cases_eq w one.which) [
-          | inl d ↦
-              subst (λ v. lines_of Ps t v ≡ lines_of Ps s v) (sym d)
-              (one.keeps (all_at Ps s h one.which one.below)).line
-          | inr d ↦
-              fan.line_kept s t w l (fan.quiet s t one _ (omega arith) (λ z. d (omega (arith, z))) (omega (arith, b)))
-              (fan.quiet s t one _ (omega arith) (omega (arith, b)) (λ z. d (omega (arith, z))))
-              (one.others w (omega (arith, fan.all.count)) d).pending
-        ] in
-        let g : t.own (base.proc + 1) ≡ s.own (base.proc + 1) =
-        one.moves.own (base.proc + 1) (λ f. absurd (omega (arith, f, y.proc_from))) in
-        let c : t.own base.proc ≡ s.own base.proc =
-        one.moves.own base.proc (λ f. absurd (omega (arith, f, y.proc_from))) in
-        let i : t.tokens base.input ≡ s.tokens base.input =
-        fan.quiet s t one base.input (omega (arith, placed.good.input)) (omega (arith, placed.good.input))
-        (omega (arith, placed.good.input)) in
-        let o : t.tokens base.output ≡ s.tokens base.output =
-        fan.quiet s t one base.output (omega (arith, placed.good.output)) (omega (arith, placed.good.output))
-        (omega (arith, placed.good.output)) in
+        let ls = fan.lines s t one h in
+        let g = fan.own s t one (base.proc + 1) (omega arith) in
+        let c = fan.own s t one base.proc (omega arith) in
+        let i = fan.input s t one in
+        let o = fan.output s t one in
         let e : view_of base Ps t
         ≡ record {
           lines = lines_of Ps t;
@@ -706,30 +687,14 @@ module _ (net : Net) (units : Units) (roles : ℕ → Role) (node n : ℕ) (pos 
         subst (λ z. Goes Q (view_of base Ps s) z) (sym e)
         (near_goes Q pos (view_of base Ps s) (lines_of Ps t) ls (view_of base Ps s) (record { kept = k; line = refl }))
 
-    map_one : (p : ℕ) → IsInside (map_part units node n roles base Ps) p → base.proc + 2 ≤ p →
-        can_fire units.tree net s p ≡ true → OneFired Ps s (fire units.tree units.leaf net s p)
-    map_one p inside f can =
-        chain_fires net units roles (base.chan + (n + n)) (base.proc + 2)
-        (base.chan + (n + n)) _ Ps placed.inner (le_refl _)
-        (fan_low base.chan n) s p f inside.to can
-
     -- THE LAWS: what moves, and the step law
     pub map_moves : (p : ℕ) → IsInside (map_part units node n roles base Ps) p → can_fire units.tree net s p ≡ true →
         Moves (map_part units node n roles base Ps) s (fire units.tree units.leaf net s p)
     map_moves p i can =
-        elim (cases_eq p base.proc) [
-          | inl e ↦
-              subst (λ z. Moves (map_part units node n roles base Ps) s (fire units.tree units.leaf net s z)) (sym e)
-              (around_moves net units roles n base Ps fan (map_part units node n roles base Ps) holds s _ scatter_around)
-          | inr e ↦ elim (cases_eq p (base.proc + 1)) [
-            | inl d ↦
-                subst (λ z. Moves (map_part units node n roles base Ps) s (fire units.tree units.leaf net s z)) (sym d)
-                (around_moves net units roles n base Ps fan (map_part units node n roles base Ps) holds s _ gather_around)
-            | inr d ↦
-                one_moves net units roles n base Ps fan (map_part units node n roles base Ps) holds s _
-                (map_one p i (omega (arith, e, d, i.from)) can)
-          ]
-        ]
+        let P = map_part units node n roles base Ps in
+        let own = around_moves net units roles n base Ps fan P holds s in
+        fan_fires net units roles n base Ps fan P holds s p i can (Moves P s) (λ _. own _ scatter_around)
+        (λ _. own _ gather_around) (one_moves net units roles n base Ps fan P holds s)
 
     map_line : (t : State) → line (map_part units node n roles base Ps) t ≡ view_line Q (view_of base Ps t)
     unfolding line view_line
@@ -750,22 +715,13 @@ module _ (net : Net) (units : Units) (roles : ℕ → Role) (node n : ℕ) (pos 
         (map_part units node n roles base Ps).orderly s ≡ true →
         Keeps (map_part units node n roles base Ps) s (fire units.tree units.leaf net s p)
     map_step p i can h =
+        let P = map_part units node n roles base Ps in
         let a = and_parts _ _ h in
         let k = kept_to Q (view_of base Ps s) a.0 in
-        elim (cases_eq p base.proc) [
-          | inl e ↦
-              subst (λ z. Keeps (map_part units node n roles base Ps) s (fire units.tree units.leaf net s z)) (sym e)
-              (keeps_from _ (scatter_goes k (ap (can_fire units.tree net s) (sym e) ∙ can))
-              (own_orderly _ scatter_around a.1))
-          | inr e ↦ elim (cases_eq p (base.proc + 1)) [
-            | inl d ↦
-                subst (λ z. Keeps (map_part units node n roles base Ps) s (fire units.tree units.leaf net s z)) (sym d)
-                (keeps_from _ (gather_goes k (ap (can_fire units.tree net s) (sym d) ∙ can))
-                (own_orderly _ gather_around a.1))
-            | inr d ↦ let one = map_one p i (omega (arith, e, d, i.from)) can in
-                keeps_from _ (worker_goes _ one a.1 k) (all_kept Ps s _ one a.1)
-          ]
-        ]
+        fan_fires net units roles n base Ps fan P holds s p i can (Keeps P s)
+        (λ c. keeps_from _ (scatter_goes k c) (own_orderly _ scatter_around a.1))
+        (λ c. keeps_from _ (gather_goes k c) (own_orderly _ gather_around a.1))
+        (λ t one. keeps_from t (worker_goes t one a.1 k) (all_kept Ps s t one a.1))
 
     -- THE WORK
     view_length : (q : Pieces) (v : View) →
@@ -977,30 +933,22 @@ module _ (net : Net) (units : Units) (roles : ℕ → Role) (node n : ℕ) (pos 
     unfolding due
     worker_works t one h k =
         let b : one.which < n = omega (arith, one.below, fan.all.count) in
-        let y = fan.all.lies one.which b in
         let hq = all_at Ps s h one.which one.below in
         let g = come_from t (worker_goes t one h k) in
         let x = sum_change (λ w. due (get_or Ps w no_part) s + length (lines_of Ps s w))
         (λ w. due (get_or Ps w no_part) t + length (lines_of Ps t w)) n one.which b
-        (λ w l m. ap₂ (λ y z. y + length z)
-        (fan.due_kept s t w l (fan.quiet s t one _ (omega arith) (λ z. m (omega (arith, z))) (omega (arith, b)))
-        (one.others w (omega (arith, fan.all.count)) m).owed)
-        (fan.line_kept s t w l (fan.quiet s t one _ (omega arith) (λ z. m (omega (arith, z))) (omega (arith, b)))
-        (fan.quiet s t one _ (omega arith) (omega (arith, b)) (λ z. m (omega (arith, z))))
-        (one.others w (omega (arith, fan.all.count)) m).pending)) in
+        (λ w l m. ap₂ (λ y z. y + length z) (fan.dues s t one w l m) (fan.lines s t one h w l)) in
         let z : length (lines_of Ps t one.which) ≡ length (lines_of Ps s one.which) = ap length (one.keeps hq).line in
         let d = one.works hq in
         let a : length (t.own base.proc).held
         * ((suc (last_element units.tree node) - (t.own base.proc).number) * ((roles 0).firings + 2))
         ≡ length (s.own base.proc).held * ((suc (last_element units.tree node) - (s.own base.proc).number) * ((roles 0).firings + 2)) =
         ap (λ z. length z.held * ((suc (last_element units.tree node) - z.number) * ((roles 0).firings + 2)))
-        (one.moves.own base.proc (λ f. absurd (omega (arith, f, y.proc_from)))) in
+        (fan.own s t one base.proc (omega arith)) in
         let i : length (t.tokens base.input) ≡ length (s.tokens base.input) =
-        ap length (fan.quiet s t one base.input (omega (arith, placed.good.input)) (omega (arith, placed.good.input))
-        (omega (arith, placed.good.input))) in
+        ap length (fan.input s t one) in
         let o : length (t.tokens base.output) ≡ length (s.tokens base.output) =
-        ap length (fan.quiet s t one base.output (omega (arith, placed.good.output)) (omega (arith, placed.good.output))
-        (omega (arith, placed.good.output))) in
+        ap length (fan.output s t one) in
         let c : (2 + suc (last_element units.tree node) * ((roles 0).firings + 2)) * length (t.tokens base.input)
         ≡ (2 + suc (last_element units.tree node) * ((roles 0).firings + 2)) * length (s.tokens base.input) =
         ap (λ z. (2 + suc (last_element units.tree node) * ((roles 0).firings + 2)) * z) i in
@@ -1010,39 +958,24 @@ module _ (net : Net) (units : Units) (roles : ℕ → Role) (node n : ℕ) (pos 
         (map_part units node n roles base Ps).orderly s ≡ true →
         due (map_part units node n roles base Ps) (fire units.tree units.leaf net s p) < due (map_part units node n roles base Ps) s
     map_work p i can h =
+        let P = map_part units node n roles base Ps in
         let a = and_parts _ _ h in
         let k = kept_to Q (view_of base Ps s) a.0 in
-        elim (cases_eq p base.proc) [
-          | inl e ↦
-              subst (λ z. due (map_part units node n roles base Ps) (fire units.tree units.leaf net s z)
-              < due (map_part units node n roles base Ps) s) (sym e)
-              (elim (cases_Bool (has_first (s.own base.proc).held)) [
-                | inl f ↦
-                    subst (λ t. due (map_part units node n roles base Ps) t < due (map_part units node n roles base Ps) s)
-                    (sym (scatter_fires ∙ cond-true _ _ _ f)) (send_works k f)
-                | inr f ↦
-                    subst (λ t. due (map_part units node n roles base Ps) t < due (map_part units node n roles base Ps) s)
-                    (sym (scatter_fires ∙ cond-false _ _ _ f))
-                    (take_works k f (sym (cond-false _ _ _ f) ∙ scatter_can (ap (can_fire units.tree net s) (sym e) ∙ can)))
-              ])
-          | inr e ↦ elim (cases_eq p (base.proc + 1)) [
-            | inl d ↦
-                subst (λ z. due (map_part units node n roles base Ps) (fire units.tree units.leaf net s z)
-                < due (map_part units node n roles base Ps) s) (sym d)
-                (elim (cases_Bool (nat_lt (last_element units.tree node) (length (s.own (base.proc + 1)).held))) [
-                  | inl f ↦
-                      subst (λ t. due (map_part units node n roles base Ps) t
-                      < due (map_part units node n roles base Ps) s) (sym (gather_fires ∙ cond-true _ _ _ f))
-                      (emit_works k (omega (arith, ltb-true _ _ f, k.full)))
-                  | inr f ↦
-                      subst (λ t. due (map_part units node n roles base Ps) t
-                      < due (map_part units node n roles base Ps) s) (sym (gather_fires ∙ cond-false _ _ _ f))
-                      (collect_works k (omega (arith, ltb-false _ _ f))
-                      (sym (cond-false _ _ _ f) ∙ gather_can (ap (can_fire units.tree net s) (sym d) ∙ can)))
-                ])
-            | inr d ↦ worker_works _ (map_one p i (omega (arith, e, d, i.from)) can) a.1 k
-          ]
-        ]
+        fan_fires net units roles n base Ps fan P holds s p i can (λ t. due P t < due P s)
+        (λ c. elim (cases_Bool (has_first (s.own base.proc).held)) [
+          | inl f ↦ subst (λ t. due P t < due P s) (sym (scatter_fires ∙ cond-true _ _ _ f)) (send_works k f)
+          | inr f ↦
+              subst (λ t. due P t < due P s) (sym (scatter_fires ∙ cond-false _ _ _ f))
+              (take_works k f (sym (cond-false _ _ _ f) ∙ scatter_can c))
+        ])
+        (λ c. elim (cases_Bool (nat_lt (last_element units.tree node) (length (s.own (base.proc + 1)).held))) [
+          | inl f ↦
+              subst (λ t. due P t < due P s) (sym (gather_fires ∙ cond-true _ _ _ f))
+              (emit_works k (omega (arith, ltb-true _ _ f, k.full)))
+          | inr f ↦
+              subst (λ t. due P t < due P s) (sym (gather_fires ∙ cond-false _ _ _ f))
+              (collect_works k (omega (arith, ltb-false _ _ f)) (sym (cond-false _ _ _ f) ∙ gather_can c))
+        ]) (λ t one. worker_works t one a.1 k)
 
     -- DRAIN
     module _ (h : (map_part units node n roles base Ps).orderly s ≡ true)
@@ -1080,14 +1013,9 @@ module _ (net : Net) (units : Units) (roles : ℕ → Role) (node n : ℕ) (pos 
       held_few = omega (arith, ltb-false _ _ not_full)
 
       worker_drained : (w : ℕ) → w < n → s.tokens (base.chan + n + w) ≡ [] → IsDrained (get_or Ps w no_part) s
-      worker_drained w l e =
-          let y = fan.all.lies w l in
-          (fan.all.lawful w l).drain s (all_at Ps s (and_parts _ _ h).1 w (omega (arith, l, fan.all.count)))
-          (λ p i. quiet p
-          (record { from = omega (arith, i.from, y.proc_from); to = omega (arith, i.to, y.proc_to) })) calm
-          (room_when_empty net s _ (ap s.tokens (fan.all.output w l) ∙ e)
-          (subst (λ z. 0 < (chan_at net z).cap) (sym (fan.all.output w l))
-          (placed.chans.room _ (omega arith) (omega (arith, l)))))
+      worker_drained =
+          fan_drained net units roles n base Ps fan (map_part units node n roles base Ps) holds s placed.chans
+          (and_parts _ _ h).1 quiet calm
 
       line_dry : (w : ℕ) → w < n → s.tokens (base.chan + n + w) ≡ [] → lines_of Ps s w ≡ []
       unfolding line
@@ -1365,21 +1293,6 @@ module _ (net : Net) (units : Units) (roles : ℕ → Role) (node n : ℕ) (pos 
   }
 
 pub map_lawful : (node n : ℕ) → 0 < n → IsLawfulShape (map_shape node n)
-map_lawful node n pos = record {
-  lawful = λ net units roles base parts placed. map_law net units roles node n pos base parts placed;
-  lies = λ net units roles base parts placed.
-      record {
-        meaning = refl;
-        firings = refl;
-        input = refl;
-        output = refl;
-        proc_from = refl;
-        chan_from = refl;
-        proc_to = refl;
-        chan_to = refl;
-      };
-  count = λ base. fan_length base.chan (base.chan + n) n;
-  laid = λ cap base. length-replicate (n + n) (empty_chan cap);
-  rooms = λ cap base k h l. plain_room (n + n) cap k h l;
-  seats = λ net base good v l. fan_good base n v pos l;
-}
+map_lawful node n pos =
+    fan_lawful Scatter Gather node n (map_shape node n) pos
+    (λ net units roles base parts placed. map_law net units roles node n pos base parts placed)

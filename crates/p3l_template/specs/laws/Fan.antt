@@ -1,18 +1,25 @@
 -- Workers between two rows of channels, and two processes before them: what a farm and a map share. `fan_of` says where
 -- each worker stands, what it means, and what of its line and its firings a step leaves;
--- the rest is what a part round the workers touches, reads and begins with (`around_moves` to `fan_empty`).
-use Rattle.std.proofs.Common.{◌≡◌, ℕ, zero, suc, ◌+◌, ◌-◌, ◌*◌, ◌≤◌, ◌<◌, ◌≢◌, inr, List, [], ◌++◌, map, length, get_or, replicate, refl, sym, ap, ap₂, ◌∙◌, subst, arith}
+-- the rest is what a part round the workers touches, reads and begins with (`around_moves` to `fan_empty`), who fires in it
+-- and when its workers are drained (`fan_fires`, `fan_drained`), and what its shape owes besides (`fan_lawful`).
+use Rattle.std.proofs.Common.{◌≡◌, ℕ, zero, suc, ◌+◌, ◌-◌, ◌*◌, ◌≤◌, ◌<◌, ◌≢◌, inl, inr, true, false, List, [], ◌++◌, map, length, get_or, replicate, refl, sym, ap, ap₂, ◌∙◌, subst, arith, le_refl}
+use Rattle.std.proofs.lemmas.Bool.{cases_eq}
+use Rattle.std.proofs.lemmas.List.{length-replicate}
 use Rattle.p3l_template.specs.Shape.{empty_chan}
-use Rattle.p3l_firing.specs.State.{State, at_first}
-use Rattle.p3l_firing.specs.Token.{over}
+use Rattle.p3l_firing.specs.Fire.{can_fire, fire}
+use Rattle.p3l_firing.specs.State.{State, at_first, chan_at}
+use Rattle.p3l_firing.specs.Token.{over, has_trap}
 use Rattle.p3l_firing.specs.declared.net.Net.{Net}
+use Rattle.p3l_firing.specs.declared.process.ProcKind.{ProcKind}
 use Rattle.p3l_firing.specs.declared.token.Token.{Token}
-use Rattle.p3l_template.specs.Part.{Part, IsLawfulPart, line, IsSameInside, IsAlike, Moves, OneFired, IsFresh, Begins, no_part, due}
-use Rattle.p3l_template.specs.Placed.{IsGoodBase, IsGoodSeat, AreLaid, AreChained, proc_end, chan_end, AreBelow}
-use Rattle.p3l_template.specs.Shape.{Role, Base, no_seat, fan_seats}
+use Rattle.p3l_template.specs.Part.{Part, IsLawfulPart, line, IsInside, IsSameInside, IsAlike, Moves, OneFired, IsFresh, Begins, IsDrained, all_orderly, no_part, due}
+use Rattle.p3l_template.specs.Placed.{IsGoodBase, IsGoodSeat, IsLawfulShape, IsPlaced, HaveRoom, AreLaid, AreChained, proc_end, chan_end, AreBelow}
+use Rattle.p3l_template.specs.Fan.{fanned}
+use Rattle.p3l_template.specs.Shape.{Shape, Role, Base, no_seat, fan_seats}
 use Rattle.p3l_template.specs.Units.{Units}
-use Rattle.p3l_template.specs.laws.Chain.{chain_lies, chain_lawful, chain_input, chain_output, chain_meaning, chain_firings, chain_length, chain_grows, Lies}
-use Rattle.p3l_template.specs.laws.Plain.{plain_empty}
+use Rattle.p3l_template.specs.laws.Chain.{all_at, chain_fires, chain_lies, chain_lawful, chain_input, chain_output, chain_meaning, chain_firings, chain_length, chain_grows, Lies}
+use Rattle.p3l_template.specs.laws.Plain.{plain_empty, plain_room}
+use Rattle.p3l_template.specs.laws.Rows.{room_when_empty}
 
 pub fan_length : (i o n : ℕ) → length (fan_seats i o n) ≡ n
 unfolding fan_seats
@@ -158,9 +165,42 @@ module _ (net : Net) (units : Units) (roles : ℕ → Role) (n : ℕ) (base : Ba
       (λ e. o (e ∙ fan.output one.which (fan_low_one s t one)))
       (λ f. absurd (omega (arith, f, l, (fan.lies one.which (fan_low_one s t one)).chan_from)))
 
+  one_input : (s t : State) → OneFired Ps s t → t.tokens base.input ≡ s.tokens base.input
+  one_input s t one =
+      one_quiet s t one base.input (omega (arith, good.input)) (λ e. omega (arith, e, good.input))
+      (λ e. omega (arith, e, good.input))
+
+  one_output : (s t : State) → OneFired Ps s t → t.tokens base.output ≡ s.tokens base.output
+  one_output s t one =
+      one_quiet s t one base.output (omega (arith, good.output)) (λ e. omega (arith, e, good.output))
+      (λ e. omega (arith, e, good.output))
+
+  one_in : (s t : State) (one : OneFired Ps s t) (w : ℕ) → w < n → w ≢ one.which →
+      t.tokens (base.chan + w) ≡ s.tokens (base.chan + w)
+  one_in s t one w l d = one_quiet s t one _ (omega (arith, l)) (λ e. d (omega (arith, e))) (λ e. omega (arith, e, l))
+
+  one_line : (s t : State) (one : OneFired Ps s t) → all_orderly Ps s ≡ true → (w : ℕ) → w < n →
+      line (get_or Ps w no_part) t ≡ line (get_or Ps w no_part) s
+  one_line s t one h w l =
+      elim (cases_eq w one.which) [
+        | inl d ↦
+            subst (λ z. line (get_or Ps z no_part) t ≡ line (get_or Ps z no_part) s) (sym d)
+            (one.keeps (all_at Ps s h one.which one.below)).line
+        | inr d ↦
+            line_kept s t w l (one_in s t one w l d)
+            (one_quiet s t one _ (omega (arith, l)) (λ e. omega (arith, e, fan_low_one s t one))
+            (λ e. d (omega (arith, e)))) (one.others w (fan.within w l) d).pending
+      ]
+
+  one_due : (s t : State) (one : OneFired Ps s t) (w : ℕ) → w < n → w ≢ one.which →
+      due (get_or Ps w no_part) t ≡ due (get_or Ps w no_part) s
+  one_due s t one w l d = due_kept s t w l (one_in s t one w l d) (one.others w (fan.within w l) d).owed
+
 -- the workers, each where it lies, and what a step leaves of their lines
 pub record Fan (net : Net) (units : Units) (roles : ℕ → Role) (n : ℕ) (base : Base) (Ps : List Part) : Type 0 where
   pub all : Spread net units roles n base Ps
+  pub chained : AreChained net units roles (base.proc + 2) (base.chan + (n + n))
+      (fan_seats base.chan (base.chan + n) n) Ps
   pub line_is : (t : State) (w : ℕ) (d p b : List Token) → w < n → t.tokens (base.chan + n + w) ≡ d →
       (get_or Ps w no_part).pending t ≡ p → t.tokens (base.chan + w) ≡ b →
       line (get_or Ps w no_part) t ≡ d ++ (p ++ map (over (roles 0).meaning) b)
@@ -175,10 +215,14 @@ pub record Fan (net : Net) (units : Units) (roles : ℕ → Role) (n : ℕ) (bas
       due (get_or Ps w no_part) t ≡ due (get_or Ps w no_part) s
   -- a step of the two processes
   pub alike : (s t : State) → Around base n s t → (w : ℕ) → w < n → IsAlike (get_or Ps w no_part) s t
-  -- a step of a worker
+  -- a step of a worker keeps the two processes and the ports, each line, and what is due in each other worker
   pub own : (s t : State) (one : OneFired Ps s t) (p : ℕ) → p < base.proc + 2 → t.own p ≡ s.own p
-  pub quiet : (s t : State) (one : OneFired Ps s t) (c : ℕ) → c < base.chan + (n + n) → c ≢ base.chan + one.which →
-      c ≢ base.chan + n + one.which → t.tokens c ≡ s.tokens c
+  pub input : (s t : State) → OneFired Ps s t → t.tokens base.input ≡ s.tokens base.input
+  pub output : (s t : State) → OneFired Ps s t → t.tokens base.output ≡ s.tokens base.output
+  pub lines : (s t : State) (one : OneFired Ps s t) → all_orderly Ps s ≡ true → (w : ℕ) → w < n →
+      line (get_or Ps w no_part) t ≡ line (get_or Ps w no_part) s
+  pub dues : (s t : State) (one : OneFired Ps s t) (w : ℕ) → w < n → w ≢ one.which →
+      due (get_or Ps w no_part) t ≡ due (get_or Ps w no_part) s
 
 pub fan_of : (net : Net) (units : Units) (roles : ℕ → Role) (n : ℕ) (base : Base) (Ps : List Part) → IsGoodBase net base →
     AreChained net units roles (base.proc + 2) (base.chan + (n + n))
@@ -187,13 +231,17 @@ fan_of net units roles n base Ps good h =
     let a = spread_of net units roles n base Ps h in
     record {
       all = a;
+      chained = h;
       line_is = line_is net units roles n base Ps good a;
       due_is = due_is net units roles n base Ps good a;
       line_kept = line_kept net units roles n base Ps good a;
       due_kept = due_kept net units roles n base Ps good a;
       alike = around_alike net units roles n base Ps good a;
       own = one_own net units roles n base Ps good a;
-      quiet = one_quiet net units roles n base Ps good a;
+      input = one_input net units roles n base Ps good a;
+      output = one_output net units roles n base Ps good a;
+      lines = one_line net units roles n base Ps good a;
+      dues = one_due net units roles n base Ps good a;
     }
 
 -- the part P lies round the workers
@@ -270,3 +318,62 @@ module _ (net : Net) (units : Units) (roles : ℕ → Role) (n : ℕ) (base : Ba
       fresh.tokens c (omega (arith, f, h.chan_from)) (omega (arith, l, fan.all.chans, h.chan_to))
       ∙ subst (λ z. at_first net z ≡ []) (omega (arith, f))
       (plain_empty net base.chan (n + n) cap laid (c - base.chan) (omega (arith, f, l)))
+
+  -- what holds after a firing of each of the two processes and of each worker holds after every firing inside
+  pub fan_fires : (s : State) (p : ℕ) → IsInside P p → can_fire units.tree net s p ≡ true → (A : State → Type 0) →
+      (can_fire units.tree net s base.proc ≡ true → A (fire units.tree units.leaf net s base.proc)) →
+      (can_fire units.tree net s (base.proc + 1) ≡ true → A (fire units.tree units.leaf net s (base.proc + 1))) →
+      ((t : State) → OneFired Ps s t → A t) → A (fire units.tree units.leaf net s p)
+  fan_fires s p i can A first last one =
+      elim (cases_eq p base.proc) [
+        | inl e ↦
+            subst (λ z. can_fire units.tree net s z ≡ true → A (fire units.tree units.leaf net s z)) (sym e) first can
+        | inr e ↦ elim (cases_eq p (base.proc + 1)) [
+          | inl d ↦
+              subst (λ z. can_fire units.tree net s z ≡ true → A (fire units.tree units.leaf net s z)) (sym d) last can
+          | inr d ↦
+              one _ (chain_fires net units roles (base.chan + (n + n)) (base.proc + 2) (base.chan + (n + n)) _ Ps
+              fan.chained (le_refl _) (fan_low base.chan n) s p (omega (arith, e, d, i.from, h.proc_from))
+              (omega (arith, i.to, h.proc_to)) can)
+        ]
+      ]
+
+  -- where nothing inside can fire, nothing is left in a worker that has room behind it
+  pub fan_drained : (s : State) → HaveRoom net base.chan (n + n) → all_orderly Ps s ≡ true →
+      ((p : ℕ) → IsInside P p → can_fire units.tree net s p ≡ false) → has_trap s.emitted ≡ false → (w : ℕ) → w < n →
+      s.tokens (base.chan + n + w) ≡ [] → IsDrained (get_or Ps w no_part) s
+  fan_drained s have orderly quiet calm w l e =
+      let y = fan.all.lies w l in
+      (fan.all.lawful w l).drain s (all_at Ps s orderly w (fan.all.within w l))
+      (λ p i. quiet p
+      (record {
+        from = omega (arith, i.from, y.proc_from, h.proc_from);
+        to = omega (arith, i.to, y.proc_to, h.proc_to);
+      })) calm
+      (room_when_empty net s _ (ap s.tokens (fan.all.output w l) ∙ e)
+      (subst (λ z. 0 < (chan_at net z).cap) (sym (fan.all.output w l)) (have.room _ (omega arith) (omega (arith, l)))))
+
+-- once the part of such a shape is lawful, so is the shape
+pub fan_lawful : (first last : ProcKind) (node n : ℕ) (shape : Shape) → 0 < n →
+    ((net : Net) (units : Units) (roles : ℕ → Role) (base : Base) (parts : List Part) →
+    IsPlaced net units roles (fanned first last node n shape) base parts →
+    IsLawfulPart net units ((fanned first last node n shape).part units roles base parts)) →
+    IsLawfulShape (fanned first last node n shape)
+fan_lawful first last node n shape pos lawful = record {
+  lawful = lawful;
+  lies = λ net units roles base parts placed.
+      record {
+        meaning = refl;
+        firings = refl;
+        input = refl;
+        output = refl;
+        proc_from = refl;
+        chan_from = refl;
+        proc_to = refl;
+        chan_to = refl;
+      };
+  count = λ base. fan_length base.chan (base.chan + n) n;
+  laid = λ cap base. length-replicate (n + n) (empty_chan cap);
+  rooms = λ cap base k h l. plain_room (n + n) cap k h l;
+  seats = λ net base good v l. fan_good base n v pos l;
+}

@@ -1,11 +1,18 @@
 -- The typing of workers between two rows of channels: the rows carry what is said of them (`row_in`, `row_out`), and together
 -- with the two processes before the workers they are read and written once (`fan_reads`, `fan_writes`).
-use Rattle.std.proofs.Common.{◌≡◌, ℕ, zero, suc, ◌+◌, ◌<◌, ◌≤◌, List, [], ◌∷◌, ◌++◌, length, length-append, get_or, replicate, refl, ap, ◌∙◌, subst, arith, append-nil}
+use Rattle.std.proofs.Common.{◌≡◌, ℕ, zero, suc, ◌+◌, ◌<◌, ◌≤◌, List, [], ◌∷◌, ◌++◌, length, length-append, get_or, replicate, refl, sym, ap, ◌∙◌, subst, arith, append-nil}
 use Rattle.std.proofs.lemmas.List.{length-replicate}
+use Rattle.p3l_skel.specs.declared.tree.Tree.{Tree}
+use Rattle.p3l_skel.specs.Tree.{node_at, part_at}
+use Rattle.p3l_firing.specs.declared.process.ProcKind.{ProcKind}
 use Rattle.p3l_firing.specs.Process.{times}
+use Rattle.p3l_firing.specs.Typed.{FitsKind}
 use Rattle.p3l_firing.specs.Widths.{Widths, Carries, AllCarry}
-use Rattle.p3l_template.specs.Shape.{numbers_from, fan_seats}
-use Rattle.p3l_template.specs.Typing.{Width, no_width, Carry, seat_ins, seat_outs}
+use Rattle.p3l_template.specs.Fan.{first_proc, last_proc, fanned}
+use Rattle.p3l_template.specs.Shape.{Shape, Base, numbers_from, fan_seats}
+use Rattle.p3l_template.specs.Typing.{IsTypedShape, IsInner, SeatFits, Width, no_width, Carry, seat_ins, seat_outs}
+use Rattle.p3l_template.specs.laws.Fan.{fan_at, fan_length}
+use Rattle.p3l_template.specs.laws.Plain.{plain_credits}
 use Rattle.p3l_template.specs.laws.TimesLaw.{times_append, times_cons, numbers_append, fan_ins, fan_outs, all_numbers}
 
 -- n channels of width a, then n of width b
@@ -95,3 +102,40 @@ fan_writes c output i n =
     let f = times_cons c output (numbers_from i (n + n)) in
     let g = ap (times c) (numbers_append i n n) ∙ times_append c (numbers_from i n) (numbers_from (i + n) n) in
     omega (arith, a, b, e, f, g)
+
+-- workers that take x words and give y, with so many tags more: such a shape is typed once its two processes fit there
+pub fan_typed : (tree : Tree) (node n : ℕ) (first last : ProcKind) (shape : Shape) (x y deeper : ℕ) → deeper ≤ 2 →
+    IsInner first → IsInner last → (node_at tree (part_at tree node 0)).ins ≡ x →
+    (node_at tree (part_at tree node 0)).outs ≡ y →
+    ((w : Widths) (base : Base) (t : ℕ) → Carries w base.input (node_at tree node).ins t →
+    Carries w base.output (node_at tree node).outs t → AllCarry w (numbers_from base.chan n) x (t + deeper) →
+    AllCarry w (numbers_from (base.chan + n) n) y (t + deeper) →
+    FitsKind first tree w (first_proc first node n base) × FitsKind last tree w (last_proc last node n base)) →
+    IsTypedShape tree node (fanned first last node n shape)
+fan_typed tree node n first last shape x y deeper few in_first in_last takes gives fits =
+    let a : ℕ → Width = λ t. record { words = x; tags = t + deeper } in
+    let b : ℕ → Width = λ t. record { words = y; tags = t + deeper } in
+    record {
+      widths = λ t. rows n (a t) (b t);
+      deeper = deeper;
+      shallow = few;
+      count = λ t base. rows_count n (a t) (b t);
+      tags = λ t k. rows_few n (a t) (b t) (t + 2) k (omega (arith, few)) (omega (arith, few));
+      credits = λ cap base t k l. plain_credits (n + n) cap k;
+      reads = λ base c. fan_reads c base.input base.chan n;
+      writes = λ base c. fan_writes c base.output base.chan n;
+      inner = λ base. (in_first, (in_last, tt));
+      procs = λ w base t s.
+          let both = fits w base t s.input s.output (row_in w base.chan n (a t) (b t) s.own)
+          (row_out w base.chan n (a t) (b t) s.own) in
+          (both.0, (both.1, tt));
+      seats = λ w base t s v l.
+          let k : v < n = omega (arith, l, fan_length base.chan (base.chan + n) n) in
+          subst (SeatFits tree node w (t + deeper)) (sym (fan_at base.chan (base.chan + n) n v k))
+          (record {
+            input = subst (λ z. Carries w (base.chan + v) z (t + deeper)) (sym takes)
+                (in_at w base.chan n (a t) (b t) s.own v k);
+            output = subst (λ z. Carries w (base.chan + n + v) z (t + deeper)) (sym gives)
+                (out_at w base.chan n (a t) (b t) s.own v k);
+          });
+    }

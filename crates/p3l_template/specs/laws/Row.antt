@@ -1,7 +1,8 @@
 -- What stands in a row: there are n numbers from c on, the one at w is c + w (`upto_length`, `upto_at`), and where
--- two lists of processes stand in a net one behind the other, each of them stands there (`stands_split`).
+-- two lists of processes stand in a net one behind the other, each of them stands there (`stands_split`); and where
+-- two processes do, each of them (`stands_two`).
 -- The templates use the first two for the ports of a process, reduce and linker the third for their own processes.
-use Rattle.std.proofs.Common.{◌≡◌, ℕ, zero, suc, ◌+◌, ◌<◌, List, [], ◌∷◌, ◌++◌, length, get_or, refl, ap, ◌∙◌, subst, arith}
+use Rattle.std.proofs.Common.{◌≡◌, ℕ, zero, suc, ◌+◌, ◌<◌, List, [], ◌∷◌, ◌++◌, length, get_or, Some, slice_get, refl, ap, ◌∙◌, subst, arith}
 use Rattle.p3l_firing.specs.declared.net.Net.{Net}
 use Rattle.p3l_firing.specs.declared.process.Proc.{Proc}
 use Rattle.p3l_template.specs.Placed.{AreStanding}
@@ -25,3 +26,8 @@ stands_split net p [] ys h = (tt, subst (λ q. AreStanding net q ys) (omega arit
 stands_split net p (x ∷ xs) ys h =
     let r = stands_split net (suc p) xs ys h.1 in
     ((h.0, r.0), subst (λ q. AreStanding net q ys) (omega arith) r.1)
+
+pub stands_two : (net : Net) (p : ℕ) (x y : Proc) → AreStanding net p (x ∷ (y ∷ [])) →
+    (slice_get net.procs p ≡ Some x) × (slice_get net.procs (p + 1) ≡ Some y)
+unfolding AreStanding
+stands_two net p x y h = let e : p + 1 ≡ suc p = omega arith in (h.0, ap (slice_get net.procs) e ∙ h.1.0)

@@ -1,0 +1,67 @@
+// Workers side by side between two processes of their node: what a farm and a map place alike.
+
+ghost use Rattle.std.specs.Prelude.{◌≡◌, ◌+◌, IfOk, replicate};
+ghost use Rattle.p3l_template.specs.Built.{all_ports};
+ghost use Rattle.p3l_template.specs.Fan.{fan_procs};
+ghost use Rattle.p3l_template.specs.Shape.{base_of, added, HasRoomFor, empty_chan, fan_seats};
+
+use crate::builder::{Builder, one_channel};
+use crate::template::Ports;
+use crate::workers::worker_ports;
+use p3l_base::{List, NoMemory};
+use p3l_firing::{Proc, ProcKind};
+use std::alloc::Global;
+
+/// Workers side by side, a process of their node before them and one behind them.
+#[derive(Clone, Copy, Debug, Drop)]
+pub struct Fan {
+    pub node: u32,
+    pub workers: u32,
+    /// What the process does that hands on to the workers.
+    pub first: ProcKind,
+    /// What the process does that takes from them.
+    pub last: ProcKind,
+}
+
+impl Fan {
+    /// Adds both processes and, for each worker, a channel to it and one from it; gives the workers'
+    /// ports in order.
+    pub fn place(
+        &self,
+        alloc: Global,
+        builder: &mut Builder,
+        at: &Ports,
+        cap: u32,
+    ) -> Result<List<Ports>, NoMemory>
+        requires room { HasRoomFor builder.old 2 (self.now.workers + self.now.workers) }
+        ensures placed { IfOk result (λ ports. builder.new
+            ≡ added builder.old
+            (fan_procs self.now.first self.now.last self.now.node self.now.workers (base_of at.now builder.old))
+            (replicate (self.now.workers + self.now.workers) (empty_chan cap))) }
+        ensures ports { IfOk result (λ ports. ports
+            ≡ all_ports (fan_seats (base_of at.now builder.old).chan
+            ((base_of at.now builder.old).chan + self.now.workers) self.now.workers)) }
+    {
+        let from = builder.channel_count() as u32;
+        let to_workers = builder.channels(alloc, self.workers, cap)?;
+        let from_workers = builder.channels(alloc, self.workers, cap)?;
+        let input = one_channel(alloc, at.input)?;
+        let output = one_channel(alloc, at.output)?;
+        let _first = builder.process(Proc {
+            kind: self.first,
+            node: self.node,
+            arg: 0,
+            ins: input,
+            outs: to_workers,
+        })?;
+        let _last = builder.process(Proc {
+            kind: self.last,
+            node: self.node,
+            arg: 0,
+            ins: from_workers,
+            outs: output,
+        })?;
+        let ports = worker_ports(alloc, from, self.workers)?;
+        Ok(ports)
+    }
+}
