@@ -1,6 +1,6 @@
 -- Which line of a text is the first that isn't of its form.
 use Rattle.std.proofs.Common.{◌≡◌, ℕ, zero, suc, ◌+◌, ◌-◌, ◌^◌, ◌<◌, ◌≤◌, ◌⊎◌, inl, inr, Bool, true, false, cond, eqb, List, [], ◌∷◌, ◌++◌, length, take, drop, Option, Some, None, Result, Ok, Err, refl, sym, ap, subst, ◌∙◌, append_assoc, arith}
-use Rattle.std.proofs.lemmas.Bool.{ne_eqb, ltb-true, lt-ltb, le-leb}
+use Rattle.std.proofs.lemmas.Bool.{cases_eq, ne_eqb, ltb-true, lt-ltb, le-leb}
 use Rattle.std.proofs.lemmas.List.{length-append, append-nil, append_cancel_left, take_at}
 use Rattle.std.proofs.lemmas.List.Sums.{sum_by-append}
 use Rattle.std.proofs.lemmas.Fmt.{decimal_is_IsNumeral_wide}
@@ -664,4 +664,76 @@ first_bad format t whole s f e =
                 let none = (one_spelling format t.law h.0.0 v more is.fits fits (sym e)).1 in
                 no_line h.0.1 (subst (λ (m : List ℕ). BeginAlike m h.0.1) none alike);
           }
+    ]
+
+-- ---- a text has one such line
+
+-- of two fronts of a text one begins the other
+fronts : (a b s t : List ℕ) → a ++ s ≡ b ++ t → ((m : List ℕ) × (b ≡ a ++ m) × (s ≡ m ++ t)) ⊎ ((m : List ℕ) × (a ≡ b ++ m) × (t ≡ m ++ s))
+fronts [] b s t e = inl (b, refl, e)
+fronts (c ∷ a) [] s t e = inr (c ∷ a, refl, sym e)
+fronts (c ∷ a) (d ∷ b) s t e =
+    let head : c ≡ d = cc in
+    let more : a ++ s ≡ b ++ t = cc in
+    elim (fronts a b s t more) [
+      | inl h ↦ let is : b ≡ a ++ h.0 = h.1 in inl (h.0, cc, h.2)
+      | inr h ↦ let is : a ≡ b ++ h.0 = h.1 in inr (h.0, cc, h.2)
+    ]
+
+none_behind : (a m : List ℕ) → a ++ m ≡ [] → m ≡ []
+none_behind [] m e = e
+none_behind (c ∷ a) m e = absurd cc
+
+ended_by_feed : (a m front : List ℕ) → a ++ m ≡ front ++ 10 ∷ [] → (m ≡ []) ⊎ ((rest : List ℕ) × (m ≡ rest ++ 10 ∷ []))
+ended_by_feed [] m front e = inr (front, e)
+ended_by_feed (c ∷ a) m [] e =
+    let none : a ++ m ≡ [] = cc in
+    inl (none_behind a m none)
+ended_by_feed (c ∷ a) m (d ∷ front) e =
+    let more : a ++ m ≡ front ++ 10 ∷ [] = cc in
+    ended_by_feed a m front more
+
+first_line : (front : List ℕ) → (l : List ℕ) × (r : List ℕ) × (feeds l ≡ 0) × (front ++ 10 ∷ [] ≡ l ++ 10 ∷ r)
+first_line [] = ([], [], refl, refl)
+first_line (c ∷ front) =
+    let h = first_line front in
+    elim (cases_eq c 10) [
+      | inl is ↦ ([], front ++ 10 ∷ [], refl, ap (λ b. b ∷ (front ++ 10 ∷ [])) is)
+      | inr other ↦
+          let one : feeds (c ∷ []) ≡ 0 = rw (ne_eqb c 10 other) refl in
+          (c ∷ h.0, h.1, feeds-append (c ∷ []) h.0 ∙ omega (arith, h.2), ap (λ (t : List ℕ). c ∷ t) h.3)
+    ]
+
+-- no such line is behind another
+not_behind : {A : Type 0} (format : Format ℕ A) (text : List ℕ) (line other : ℕ) (a : IsFirstBadLine format text line) (b : IsFirstBadLine format text other) (m : List ℕ) → b.before ≡ a.before ++ m → a.others ≡ m ++ b.others → m ≡ []
+not_behind format text line other a b m is rest =
+    elim b.whole [
+      | inl none ↦ none_behind a.before m (sym is ∙ none)
+      | inr w ↦
+          elim (ended_by_feed a.before m w.0 (sym is ∙ w.1)) [
+            | inl none ↦ none
+            | inr h ↦
+                let l = first_line h.0 in
+                let m_is : m ≡ l.0 ++ 10 ∷ l.1 = h.1 ∙ l.3 in
+                absurd (a.bad b.good.0 (m ++ b.good.1) b.good.2 (b.good.3 ∙ ap (λ (r : List ℕ). r ++ b.good.1) is ∙ append_assoc a.before m b.good.1) (record {
+                  first = l.0;
+                  one = l.2;
+                  s_rest = l.1 ++ b.good.1;
+                  s_is = ap (λ (r : List ℕ). r ++ b.good.1) m_is ∙ append_assoc l.0 (10 ∷ l.1) b.good.1;
+                  t_rest = l.1 ++ b.others;
+                  t_is = rest ∙ ap (λ (r : List ℕ). r ++ b.others) m_is ∙ append_assoc l.0 (10 ∷ l.1) b.others;
+                }))
+          ]
+    ]
+
+one_before : {A : Type 0} (format : Format ℕ A) (text : List ℕ) (line other : ℕ) (a : IsFirstBadLine format text line) (b : IsFirstBadLine format text other) (m : List ℕ) → b.before ≡ a.before ++ m → a.others ≡ m ++ b.others → line ≡ other
+one_before format text line other a b m is rest =
+    let same : b.before ≡ a.before = is ∙ ap (λ (r : List ℕ). a.before ++ r) (not_behind format text line other a b m is rest) ∙ append-nil a.before in
+    a.number ∙ ap (λ (r : List ℕ). feeds r + 1) (sym same) ∙ sym b.number
+
+pub one_first_bad : {A : Type 0} (format : Format ℕ A) (text : List ℕ) (line other : ℕ) → IsFirstBadLine format text line → IsFirstBadLine format text other → line ≡ other
+one_first_bad format text line other a b =
+    elim (fronts a.before b.before a.others b.others (sym a.is ∙ b.is)) [
+      | inl h ↦ one_before format text line other a b h.0 h.1 h.2
+      | inr h ↦ sym (one_before format text other line b a h.0 h.1 h.2)
     ]
