@@ -13,3 +13,4 @@ pub mod Found
 pub mod Filling
 pub mod Outside
 pub mod Whole
+pub mod FirstLine

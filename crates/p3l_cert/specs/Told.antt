@@ -5,6 +5,8 @@ use Rattle.p3l_cert.specs.declared.cert.CertRefusal.{CertRefusal}
 use Rattle.p3l_cert.specs.declared.cert.CertRefusal.TheVariants as refusals
 use Rattle.p3l_format.specs.declared.fault.Fault.{Fault}
 use Rattle.p3l_format.specs.Line.{line_number}
+use Rattle.p3l_format.specs.FirstLine.{IsFirstBadLine}
+use Rattle.p3l_cert.specs.Text.{cert_format}
 
 -- what reading gives, with the line of its fault
 abbrev pub told : List ℕ → Result Cert Fault → Result Cert CertRefusal
@@ -15,3 +17,8 @@ told text (Err fault) = Err (refusals.BadText (line_number text fault.left))
 abbrev pub Answers : List ℕ → Result Cert CertRefusal → Result Cert Fault → Type 0
 Answers text (Err refusals.NoMemory) read = ⊤
 Answers text answer read = answer ≡ told text read
+
+-- a line that is told is the first that isn't of a certificate's form
+abbrev pub TellsFirst : List ℕ → Result Cert CertRefusal → Type 0
+TellsFirst text (Err (refusals.BadText line)) = IsFirstBadLine cert_format text line
+TellsFirst text answer = ⊤

@@ -6,7 +6,7 @@ ghost use Rattle.p3l_format.specs.Text.{text_then};
 ghost use Rattle.p3l_format.specs.Series.{until};
 ghost use Rattle.p3l_cert.specs.declared.cert.Cert.{Cert as TheCert};
 ghost use Rattle.p3l_cert.specs.Text.{counts_word, feed, count_format, next_count, first_count, counts_format, rows_format, body_format, cert_format};
-ghost use Rattle.p3l_cert.specs.Told.{Answers};
+ghost use Rattle.p3l_cert.specs.Told.{Answers, TellsFirst};
 ghost use Rattle.p3l_cert.specs.laws.Text.{lawful_cert};
 
 use crate::cert::{Cert, CertRefusal, Row};
@@ -158,12 +158,15 @@ pub fn cert_text(alloc: Global, cert: &Cert) -> Result<List<u8>, NoMemory>
 }
 
 /// The certificate that a text spells, or the number of the first line that isn't of its form.
+#[tactic(auto, using(crate::proofs::FirstLine::cert_first_bad))]
 pub fn read_cert(alloc: Global, text: &[u8]) -> Result<Cert, CertRefusal>
     // What is read is spelled so.
     ensures found { IfOk result (λ cert. (cert_format.fits cert ≡ true) × (text.now ≡ cert_format.spell cert)) }
     // What is spelled so is read, unless memory runs out.
     ensures only { (cert : TheCert) → cert_format.fits cert ≡ true → text.now ≡ cert_format.spell cert → Answers text.now result (Ok cert) }
-    // Which line it is.
+    // The line that is told is the first that isn't of its form, whatever reads it.
+    ensures first { TellsFirst text.now result }
+    // Which line the format's own reading tells.
     ensures exact { Answers text.now result (read_all cert_format text.now) }
 {
     match p3l_format::decode(&CertField { alloc }, alloc, text) {

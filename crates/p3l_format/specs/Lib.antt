@@ -5,4 +5,5 @@ pub mod Text
 pub mod Decimal
 pub mod Line
 pub mod Series
+pub mod FirstLine
 pub mod laws

@@ -5,3 +5,4 @@ pub mod Text
 pub mod Decimal
 pub mod Line
 pub mod Series
+pub mod FirstLine

@@ -20,4 +20,4 @@ pub use number::{
 };
 pub use series::{Item, read_until, write_series};
 pub use text::{read_text, strip};
-pub use whole::{begins_no_other, decode, encode};
+pub use whole::{begins_no_other, decode, encode, one_bad_line_is_first};

@@ -5,6 +5,8 @@ use Rattle.p3l_trace.specs.declared.trace.TraceRefusal.{TraceRefusal}
 use Rattle.p3l_trace.specs.declared.trace.TraceRefusal.TheVariants as refusals
 use Rattle.p3l_format.specs.declared.fault.Fault.{Fault}
 use Rattle.p3l_format.specs.Line.{line_number}
+use Rattle.p3l_format.specs.FirstLine.{IsFirstBadLine}
+use Rattle.p3l_trace.specs.Text.{trace_format}
 
 -- what reading gives, with the line of its fault
 abbrev pub told : List ℕ → Result Traced Fault → Result Traced TraceRefusal
@@ -15,3 +17,8 @@ told text (Err fault) = Err (refusals.BadLine (line_number text fault.left))
 abbrev pub Answers : List ℕ → Result Traced TraceRefusal → Result Traced Fault → Type 0
 Answers text (Err refusals.NoMemory) read = ⊤
 Answers text answer read = answer ≡ told text read
+
+-- a line that is told is the first that isn't of a trace's form
+abbrev pub TellsFirst : List ℕ → Result Traced TraceRefusal → Type 0
+TellsFirst text (Err (refusals.BadLine line)) = IsFirstBadLine trace_format text line
+TellsFirst text answer = ⊤

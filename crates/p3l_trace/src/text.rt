@@ -4,7 +4,7 @@ ghost use Rattle.std.specs.Prelude.{◌≡◌, ℕ, ◌++◌, List, [], true, Ok
 ghost use Rattle.p3l_format.specs.Format.{Gives, read_all};
 ghost use Rattle.p3l_trace.specs.declared.trace.Traced.{Traced as TheTraced};
 ghost use Rattle.p3l_trace.specs.Text.{lines_format, counts_format, body_format, trace_format, line_format, next_line, first_line};
-ghost use Rattle.p3l_trace.specs.Told.{Answers};
+ghost use Rattle.p3l_trace.specs.Told.{Answers, TellsFirst};
 ghost use Rattle.p3l_format.specs.Series.{fits_from, spell_from};
 ghost use Rattle.p3l_trace.specs.laws.Text.{lawful_trace};
 
@@ -121,12 +121,15 @@ pub fn trace_text(alloc: Global, traced: &Traced) -> Result<List<u8>, NoMemory>
 }
 
 /// The trace that a text spells, or the number of the first line that isn't of its form.
+#[tactic(auto, using(crate::proofs::FirstLine::trace_first_bad))]
 pub fn read_trace(alloc: Global, text: &[u8]) -> Result<Traced, TraceRefusal>
     // What is read is spelled so.
     ensures found { IfOk result (λ traced. (trace_format.fits traced ≡ true) × (text.now ≡ trace_format.spell traced)) }
     // What is spelled so is read, unless memory runs out.
     ensures only { (traced : TheTraced) → trace_format.fits traced ≡ true → text.now ≡ trace_format.spell traced → Answers text.now result (Ok traced) }
-    // Which line it is.
+    // The line that is told is the first that isn't of its form, whatever reads it.
+    ensures first { TellsFirst text.now result }
+    // Which line the format's own reading tells.
     ensures exact { Answers text.now result (read_all trace_format text.now) }
 {
     match p3l_format::decode(&TraceField { alloc }, alloc, text) {

@@ -1,15 +1,14 @@
 -- Texts before and behind values are lawful.
-use Rattle.std.proofs.Common.{◌≡◌, ℕ, ◌+◌, Bool, true, false, cond, eqb, List, [], ◌∷◌, ◌++◌, length, take, drop, Option, Some, None, Result, Ok, Err, refl, sym, ap, subst, ◌∙◌, append_assoc, Bor, inl, inr}
+use Rattle.std.proofs.Common.{◌≡◌, ℕ, ◌+◌, Bool, true, false, cond, eqb, List, [], ◌∷◌, ◌++◌, length, take, drop, Option, Some, None, Result, Ok, refl, sym, ap, subst, ◌∙◌, append_assoc, Bor, inl, inr}
 use Rattle.std.specs.Str.{bytes_eq}
 use Rattle.std.specs.Option.{MatchOption, option_map}
 use Rattle.std.proofs.lemmas.Bool.{eqb-true, eq-eqb, ne_eqb, cases_eq}
 use Rattle.p3l_format.specs.declared.fault.Fault.{Fault}
-use Rattle.p3l_format.specs.declared.fault.Cause.TheVariants.{Range}
-use Rattle.p3l_format.specs.Format.{Format, fault_at, ◌>>=◌}
+use Rattle.p3l_format.specs.Format.{Format}
 use Rattle.p3l_format.specs.Lawful.{IsLawful, IsLawfulBefore}
 use Rattle.p3l_format.specs.Text.{behind_text, go_on, text_then, then_text}
 use Rattle.p3l_format.specs.laws.Parts.{bind_ok, ok_is, some_is, chosen_some}
-use Rattle.p3l_format.specs.laws.Formats.{Taken, lawful_from, taken, joined}
+use Rattle.p3l_format.specs.laws.Formats.{Taken, lawful_from, joined}
 
 pub lawful_before_from : {A : Type 0} (fine : List ℕ → Bool) (format : Format ℕ A)
     → ((v : A) (rest : List ℕ) → format.fits v ≡ true → fine rest ≡ true → format.read (format.spell v ++ rest) ≡ Ok (v, rest))

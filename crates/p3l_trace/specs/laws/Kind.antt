@@ -1,11 +1,10 @@
 -- What is said of a pick is read as it is spelled.
-use Rattle.std.proofs.Common.{◌≡◌, ℕ, List, [], ◌∷◌, ◌++◌, Option, Some, None, Result, Ok, Err, refl, subst}
+use Rattle.std.proofs.Common.{◌≡◌, ℕ, List, [], ◌∷◌, ◌++◌, Option, Some, None, Ok, refl, subst}
 use Rattle.p3l_firing.specs.declared.process.ProcKind.{ProcKind}
 use Rattle.p3l_firing.specs.declared.process.ProcKind.TheVariants.{Source, Sink, Run, Emit, Collect, Scatter, Gather, Split, FoldGather, Join, Head, Tail}
-use Rattle.p3l_format.specs.declared.fault.Fault.{Fault}
 use Rattle.p3l_format.specs.Lawful.{IsLawful}
 use Rattle.p3l_format.specs.Text.{behind_text}
-use Rattle.p3l_format.specs.laws.Formats.{Taken, lawful_from}
+use Rattle.p3l_format.specs.laws.Formats.{lawful_from}
 use Rattle.p3l_format.specs.laws.Parts.{ok_is}
 use Rattle.p3l_format.specs.laws.Text.{behind_is}
 use Rattle.p3l_trace.specs.Kind.{word_of, all_said, said_or, first_said, said_format}
