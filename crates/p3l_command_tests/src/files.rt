@@ -1,529 +1,141 @@
 // Files that can't be read or written, and files that are too long.
 
 use crate::spelled::DOUBLE_IMAGE;
-use crate::texts::{CERTIFICATE, DOUBLE, FARMED, FARMED_COSTS};
-use crate::world::{Held, NONE, Step, compare, holding, holds};
-use std::alloc::Global;
-use std::process::Abort;
+use crate::texts::{
+    CERTIFICATE, COUNTED, DOUBLE, FARMED, FARMED_COSTS, ITEMS, NO_COSTS, NO_IMAGE, NO_PICKS,
+    NO_PROGRAM, TRACE, WRITE_FAULT,
+};
+use crate::world::{
+    Case, Cases, Ends, FIRST_FILE, FOURTH_FILE, Held, NONE, SECOND_FILE, Step, THIRD_FILE, holding,
+    take, take_cases,
+};
 use std::test::Fail;
 
 /// All files that the commands below read.
 const ALL: &[Held] = &[
-    Held {
-        name: "m.p3l",
-        text: DOUBLE,
-    },
-    Held {
-        name: "c",
-        text: "default = 1\n",
-    },
-    Held {
-        name: "p",
-        text: "0 2 1 0 2 1 0 2 1\n",
-    },
-    Held {
-        name: "i",
-        text: DOUBLE_IMAGE,
-    },
-    Held {
-        name: "t",
-        text: "p3l-trace 1\n0 source\n2 run\n1 sink\nend 3 0\n",
-    },
-    Held {
-        name: "a.p3l",
-        text: FARMED,
-    },
-    Held {
-        name: "a.toml",
-        text: FARMED_COSTS,
-    },
-    Held {
-        name: "e",
-        text: CERTIFICATE,
-    },
+    Held("m.p3l", DOUBLE),
+    Held("c", "default = 1\n"),
+    Held("p", "0 2 1 0 2 1 0 2 1\n"),
+    Held("i", DOUBLE_IMAGE),
+    Held("t", TRACE),
+    Held("a.p3l", FARMED),
+    Held("a.toml", FARMED_COSTS),
+    Held("e", CERTIFICATE),
 ];
 
-/// A step, and the call of the files that fails in it, from 1 (0 for none).
-#[derive(Clone, Copy)]
-struct Failing {
-    call: u64,
-    step: Step,
-}
+const NO_FARM: Ends = Ends(9, "", "file fault: a.p3l\n");
 
-/// Takes each step on all files, and looks that none of the two that are written is there.
-fn take_failing_each(rt: &impl Abort, alloc: Global, table: &[Failing]) -> Result<(), Fail> {
-    for failing in table {
-        let mut files = holding(alloc, ALL, &[failing.call])?;
-        compare(
-            rt,
-            alloc,
-            &mut files,
-            &failing.step,
-            failing.step.lines,
-            &NONE,
-        )?;
-        assert!(rt; holds(&files, "new", None));
-    }
-    Ok(())
-}
+const NO_FARM_COSTS: Ends = Ends(9, "", "file fault: a.toml\n");
 
-const OF_RUN: &[Failing] = &[
-    Failing {
-        call: 1,
-        step: Step {
-            words: &[
-                "run",
-                "m.p3l",
-                "--processors",
-                "16",
-                "--costs",
-                "c",
-                "--schedule",
-                "file:p",
-                "--stats",
-            ],
-            input: "1\n2\n-3\n",
-            status: 9,
-            output: "",
-            lines: "file fault: m.p3l\n",
-        },
-    },
-    Failing {
-        call: 2,
-        step: Step {
-            words: &[
-                "run",
-                "m.p3l",
-                "--processors",
-                "16",
-                "--costs",
-                "c",
-                "--schedule",
-                "file:p",
-                "--stats",
-            ],
-            input: "1\n2\n-3\n",
-            status: 9,
-            output: "",
-            lines: "file fault: c\n",
-        },
-    },
-    Failing {
-        call: 3,
-        step: Step {
-            words: &[
-                "run",
-                "m.p3l",
-                "--processors",
-                "16",
-                "--costs",
-                "c",
-                "--schedule",
-                "file:p",
-                "--stats",
-            ],
-            input: "1\n2\n-3\n",
-            status: 9,
-            output: "",
-            lines: "file fault: p\n",
-        },
-    },
-    Failing {
-        call: 4,
-        step: Step {
-            words: &[
-                "run",
-                "m.p3l",
-                "--processors",
-                "16",
-                "--costs",
-                "c",
-                "--schedule",
-                "file:p",
-                "--stats",
-            ],
-            input: "1\n2\n-3\n",
-            status: 0,
-            output: "3\n5\n-5\n",
-            lines: "stats: items 3, fired 9, idle 0, bound 9\n",
-        },
-    },
+const NO_CERTIFICATE: Ends = Ends(9, "", "file fault: e\n");
+
+const VERIFIED: Ends = Ends(0, "certificate holds: processors 8 used 8 service 12\n", "");
+
+const NO_TRACE: Ends = Ends(9, "", "file fault: t\n");
+
+const HELD: Ends = Ends(0, "trace holds: 3 fired, 0 idle\n", "");
+
+const CHECKED: Ends = Ends(0, "ok: 1 modules, 1 instances\n", "");
+
+const OF_A_RUN: &[Cases] = &[Cases(
+    "run m.p3l --processors 16 --costs c --schedule file:p --stats",
+    &[
+        Case(ALL, FIRST_FILE, ITEMS, NO_PROGRAM),
+        Case(ALL, SECOND_FILE, ITEMS, NO_COSTS),
+        Case(ALL, THIRD_FILE, ITEMS, NO_PICKS),
+        Case(ALL, FOURTH_FILE, ITEMS, COUNTED),
+    ],
+)];
+
+const OF_AN_IMAGE: &[Cases] = &[Cases(
+    "exec i --schedule file:p --stats",
+    &[
+        Case(ALL, FIRST_FILE, ITEMS, NO_IMAGE),
+        Case(ALL, SECOND_FILE, ITEMS, NO_PICKS),
+        Case(ALL, THIRD_FILE, ITEMS, COUNTED),
+    ],
+)];
+
+const OF_COMPILING: &[Cases] = &[Cases(
+    "compile m.p3l --processors 4 --costs c --output new",
+    &[
+        Case(ALL, FIRST_FILE, "", NO_PROGRAM),
+        Case(ALL, SECOND_FILE, "", NO_COSTS),
+        Case(ALL, THIRD_FILE, "", WRITE_FAULT),
+    ],
+)];
+
+const OF_AN_EXPLANATION: &[Cases] = &[Cases(
+    "explain a.p3l --processors 8 --costs a.toml --cert new",
+    &[
+        Case(ALL, FIRST_FILE, "", NO_FARM),
+        Case(ALL, SECOND_FILE, "", NO_FARM_COSTS),
+        Case(ALL, THIRD_FILE, "", WRITE_FAULT),
+    ],
+)];
+
+const OF_VERIFYING: &[Cases] = &[Cases(
+    "verify-cert a.p3l --cert e --costs a.toml",
+    &[
+        Case(ALL, FIRST_FILE, "", NO_FARM),
+        Case(ALL, SECOND_FILE, "", NO_FARM_COSTS),
+        Case(ALL, THIRD_FILE, "", NO_CERTIFICATE),
+        Case(ALL, FOURTH_FILE, "", VERIFIED),
+    ],
+)];
+
+const OF_CHECKING: &[Cases] = &[Cases(
+    "check-trace m.p3l --processors 4 --costs c --trace t",
+    &[
+        Case(ALL, FIRST_FILE, "1\n", NO_PROGRAM),
+        Case(ALL, SECOND_FILE, "1\n", NO_COSTS),
+        Case(ALL, THIRD_FILE, "1\n", NO_TRACE),
+        Case(ALL, FOURTH_FILE, "1\n", HELD),
+    ],
+)];
+
+const OF_READING: &[Cases] = &[
+    Cases(
+        "check m.p3l",
+        &[
+            Case(ALL, FIRST_FILE, "", NO_PROGRAM),
+            Case(ALL, SECOND_FILE, "", CHECKED),
+        ],
+    ),
+    Cases("fmt m.p3l", &[Case(ALL, FIRST_FILE, "", NO_PROGRAM)]),
 ];
 
-const OF_EXEC: &[Failing] = &[
-    Failing {
-        call: 1,
-        step: Step {
-            words: &["exec", "i", "--schedule", "file:p", "--stats"],
-            input: "1\n2\n-3\n",
-            status: 9,
-            output: "",
-            lines: "file fault: i\n",
-        },
-    },
-    Failing {
-        call: 2,
-        step: Step {
-            words: &["exec", "i", "--schedule", "file:p", "--stats"],
-            input: "1\n2\n-3\n",
-            status: 9,
-            output: "",
-            lines: "file fault: p\n",
-        },
-    },
-    Failing {
-        call: 3,
-        step: Step {
-            words: &["exec", "i", "--schedule", "file:p", "--stats"],
-            input: "1\n2\n-3\n",
-            status: 0,
-            output: "3\n5\n-5\n",
-            lines: "stats: items 3, fired 9, idle 0, bound 9\n",
-        },
-    },
-];
-
-const OF_COMPILE: &[Failing] = &[
-    Failing {
-        call: 1,
-        step: Step {
-            words: &[
-                "compile",
-                "m.p3l",
-                "--processors",
-                "4",
-                "--costs",
-                "c",
-                "--output",
-                "new",
-            ],
-            input: "",
-            status: 9,
-            output: "",
-            lines: "file fault: m.p3l\n",
-        },
-    },
-    Failing {
-        call: 2,
-        step: Step {
-            words: &[
-                "compile",
-                "m.p3l",
-                "--processors",
-                "4",
-                "--costs",
-                "c",
-                "--output",
-                "new",
-            ],
-            input: "",
-            status: 9,
-            output: "",
-            lines: "file fault: c\n",
-        },
-    },
-    Failing {
-        call: 3,
-        step: Step {
-            words: &[
-                "compile",
-                "m.p3l",
-                "--processors",
-                "4",
-                "--costs",
-                "c",
-                "--output",
-                "new",
-            ],
-            input: "",
-            status: 10,
-            output: "",
-            lines: "write fault\n",
-        },
-    },
-];
-
-const OF_EXPLAIN: &[Failing] = &[
-    Failing {
-        call: 1,
-        step: Step {
-            words: &[
-                "explain",
-                "a.p3l",
-                "--processors",
-                "8",
-                "--costs",
-                "a.toml",
-                "--cert",
-                "new",
-            ],
-            input: "",
-            status: 9,
-            output: "",
-            lines: "file fault: a.p3l\n",
-        },
-    },
-    Failing {
-        call: 2,
-        step: Step {
-            words: &[
-                "explain",
-                "a.p3l",
-                "--processors",
-                "8",
-                "--costs",
-                "a.toml",
-                "--cert",
-                "new",
-            ],
-            input: "",
-            status: 9,
-            output: "",
-            lines: "file fault: a.toml\n",
-        },
-    },
-    Failing {
-        call: 3,
-        step: Step {
-            words: &[
-                "explain",
-                "a.p3l",
-                "--processors",
-                "8",
-                "--costs",
-                "a.toml",
-                "--cert",
-                "new",
-            ],
-            input: "",
-            status: 10,
-            output: "",
-            lines: "write fault\n",
-        },
-    },
-];
-
-const OF_VERIFYING: &[Failing] = &[
-    Failing {
-        call: 1,
-        step: Step {
-            words: &["verify-cert", "a.p3l", "--cert", "e", "--costs", "a.toml"],
-            input: "",
-            status: 9,
-            output: "",
-            lines: "file fault: a.p3l\n",
-        },
-    },
-    Failing {
-        call: 2,
-        step: Step {
-            words: &["verify-cert", "a.p3l", "--cert", "e", "--costs", "a.toml"],
-            input: "",
-            status: 9,
-            output: "",
-            lines: "file fault: a.toml\n",
-        },
-    },
-    Failing {
-        call: 3,
-        step: Step {
-            words: &["verify-cert", "a.p3l", "--cert", "e", "--costs", "a.toml"],
-            input: "",
-            status: 9,
-            output: "",
-            lines: "file fault: e\n",
-        },
-    },
-    Failing {
-        call: 4,
-        step: Step {
-            words: &["verify-cert", "a.p3l", "--cert", "e", "--costs", "a.toml"],
-            input: "",
-            status: 0,
-            output: "certificate holds: processors 8 used 8 service 12\n",
-            lines: "",
-        },
-    },
-];
-
-const OF_CHECKING: &[Failing] = &[
-    Failing {
-        call: 1,
-        step: Step {
-            words: &[
-                "check-trace",
-                "m.p3l",
-                "--processors",
-                "4",
-                "--costs",
-                "c",
-                "--trace",
-                "t",
-            ],
-            input: "1\n",
-            status: 9,
-            output: "",
-            lines: "file fault: m.p3l\n",
-        },
-    },
-    Failing {
-        call: 2,
-        step: Step {
-            words: &[
-                "check-trace",
-                "m.p3l",
-                "--processors",
-                "4",
-                "--costs",
-                "c",
-                "--trace",
-                "t",
-            ],
-            input: "1\n",
-            status: 9,
-            output: "",
-            lines: "file fault: c\n",
-        },
-    },
-    Failing {
-        call: 3,
-        step: Step {
-            words: &[
-                "check-trace",
-                "m.p3l",
-                "--processors",
-                "4",
-                "--costs",
-                "c",
-                "--trace",
-                "t",
-            ],
-            input: "1\n",
-            status: 9,
-            output: "",
-            lines: "file fault: t\n",
-        },
-    },
-    Failing {
-        call: 4,
-        step: Step {
-            words: &[
-                "check-trace",
-                "m.p3l",
-                "--processors",
-                "4",
-                "--costs",
-                "c",
-                "--trace",
-                "t",
-            ],
-            input: "1\n",
-            status: 0,
-            output: "trace holds: 3 fired, 0 idle\n",
-            lines: "",
-        },
-    },
-];
-
-const OF_READING: &[Failing] = &[
-    Failing {
-        call: 1,
-        step: Step {
-            words: &["check", "m.p3l"],
-            input: "",
-            status: 9,
-            output: "",
-            lines: "file fault: m.p3l\n",
-        },
-    },
-    Failing {
-        call: 1,
-        step: Step {
-            words: &["fmt", "m.p3l"],
-            input: "",
-            status: 9,
-            output: "",
-            lines: "file fault: m.p3l\n",
-        },
-    },
-    Failing {
-        call: 2,
-        step: Step {
-            words: &["check", "m.p3l"],
-            input: "",
-            status: 0,
-            output: "ok: 1 modules, 1 instances\n",
-            lines: "",
-        },
-    },
+const EACH: &[&[Cases]] = &[
+    OF_A_RUN,
+    OF_AN_IMAGE,
+    OF_COMPILING,
+    OF_AN_EXPLANATION,
+    OF_VERIFYING,
+    OF_CHECKING,
+    OF_READING,
 ];
 
 #[test]
-fn each_file_of_a_run_fails_in_turn(rt: HostRuntime) -> Result<(), Fail> {
-    take_failing_each(&rt, rt.alloc(), OF_RUN)
+fn each_file_of_a_command_fails_in_turn(rt: HostRuntime) -> Result<(), Fail> {
+    take_cases(&rt, rt.alloc(), EACH)
 }
 
-#[test]
-fn each_file_of_an_image_fails_in_turn(rt: HostRuntime) -> Result<(), Fail> {
-    take_failing_each(&rt, rt.alloc(), OF_EXEC)
-}
+const TOO_LONG: Ends = Ends(9, "", "file too long: long\n");
 
-#[test]
-fn each_file_of_compiling_fails_in_turn(rt: HostRuntime) -> Result<(), Fail> {
-    take_failing_each(&rt, rt.alloc(), OF_COMPILE)
-}
+const OF_A_LONG_FILE: &[Step] = &[
+    Step("compile long --processors 4 --output new", "", TOO_LONG),
+    Step("explain m.p3l --processors 4 --costs long", "", TOO_LONG),
+];
 
-#[test]
-fn each_file_of_an_explanation_fails_in_turn(rt: HostRuntime) -> Result<(), Fail> {
-    take_failing_each(&rt, rt.alloc(), OF_EXPLAIN)
-}
-
-#[test]
-fn each_file_of_verifying_fails_in_turn(rt: HostRuntime) -> Result<(), Fail> {
-    take_failing_each(&rt, rt.alloc(), OF_VERIFYING)
-}
-
-#[test]
-fn each_file_of_checking_fails_in_turn(rt: HostRuntime) -> Result<(), Fail> {
-    take_failing_each(&rt, rt.alloc(), OF_CHECKING)
-}
-
-#[test]
-fn the_file_of_a_program_fails(rt: HostRuntime) -> Result<(), Fail> {
-    take_failing_each(&rt, rt.alloc(), OF_READING)
-}
-
-const LONG_PROGRAM: Step = Step {
-    words: &["compile", "long", "--processors", "4", "--output", "new"],
-    input: "",
-    status: 9,
-    output: "",
-    lines: "file too long: long\n",
-};
-
-const LONG_COSTS: Step = Step {
-    words: &["explain", "m.p3l", "--processors", "4", "--costs", "long"],
-    input: "",
-    status: 9,
-    output: "",
-    lines: "file too long: long\n",
-};
-
-/// Takes a step on all files and one of this many blanks.
-fn take_with_blanks(
-    rt: &impl Abort,
-    alloc: Global,
-    blanks: usize,
-    step: &Step,
-) -> Result<(), Fail> {
-    let mut files = holding(alloc, ALL, &[])?;
-    let long = " ".repeat(alloc, blanks)?;
-    files.add("long", long.as_str().as_bytes())?;
-    compare(rt, alloc, &mut files, step, step.lines, &NONE)
-}
-
+/// A file of one blank more than a file may have.
 #[test]
 fn a_file_that_is_too_long_is_told(rt: HostRuntime) -> Result<(), Fail> {
-    take_with_blanks(&rt, rt.alloc(), 1_048_577, &LONG_PROGRAM)?;
-    take_with_blanks(&rt, rt.alloc(), 1_048_577, &LONG_COSTS)
+    let alloc = rt.alloc();
+    for step in OF_A_LONG_FILE {
+        let mut files = holding(alloc, ALL, &[])?;
+        let long = " ".repeat(alloc, 1_048_577)?;
+        files.add("long", long.as_str().as_bytes())?;
+        take(&rt, alloc, &mut files, step, &NONE)?;
+    }
+    Ok(())
 }

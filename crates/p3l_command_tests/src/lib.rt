@@ -17,7 +17,9 @@ mod generating;
 #[cfg(test)]
 mod images;
 #[cfg(test)]
-mod order;
+mod order_of_endings;
+#[cfg(test)]
+mod order_of_stages;
 #[cfg(test)]
 mod picks;
 #[cfg(test)]

@@ -1,7 +1,7 @@
 // Runs of the skeletons, with numbers of workers that are given or chosen.
 
-use crate::texts::{FARMED, HALVES, RUN, RUN_PLAIN};
-use crate::world::{Held, Program, Row, Step, take_each, take_programs, take_rows};
+use crate::texts::{FARMED, FARMED_COUNTED, HALVES, ITEMS, RUN, RUN_PLAIN};
+use crate::world::{Case, Cases, Ends, Held, NONE, Program, Programs, take_cases, take_programs};
 use std::test::Fail;
 
 const PRODUCT_IN_THREE: &str =
@@ -45,245 +45,141 @@ const FOLDED_THEN_MORE_IN_A_UNIT: &str =
 const HUNDREDS: &str =
     "seq dv in(int x) out(int y)\n${ y = 100 / x; }$\nend seq\nfarm main in(int x) out(int y) workers 3\n  dv in(x) out(y)\nend farm\n";
 
-const PRODUCTS: &[Program] = &[
-    Program {
-        text: PRODUCT_IN_THREE,
-        input: "1 2 3 4 5 6 7 8\n",
-        status: 0,
-        output: "19 22 43 50\n",
-        lines: "stats: items 1, fired 16, idle 0, bound 16\n",
-    },
-    Program {
-        text: PRODUCT_IN_ONE,
-        input: "1 2 3 4 5 6 7 8\n",
-        status: 0,
-        output: "19 22 43 50\n",
-        lines: "stats: items 1, fired 16, idle 0, bound 16\n",
-    },
-    Program {
-        text: PRODUCT_IN_TWO,
-        input: "1 2 3 4 5 6 7 8\n",
-        status: 0,
-        output: "19 22 43 50\n",
-        lines: "stats: items 1, fired 16, idle 0, bound 16\n",
-    },
+const FOUR_PAIRS: &str = "1 2 3 4 5 6 7 8\n";
+
+const PRODUCT: Ends = Ends(
+    0,
+    "19 22 43 50\n",
+    "stats: items 1, fired 16, idle 0, bound 16\n",
+);
+
+/// A fold of five, with the line of the numbers.
+const FIVE: &str = "1 2 3 4 5\n";
+
+const FOLDED_BY_FOUR: Ends = Ends(0, "-5\n", "stats: items 1, fired 14, idle 0, bound 14\n");
+
+const FOLDED_BY_ONE: Ends = Ends(0, "-5\n", "stats: items 1, fired 3, idle 0, bound 3\n");
+
+const FOLDED_BY_TWO: Ends = Ends(0, "-5\n", "stats: items 1, fired 8, idle 0, bound 8\n");
+
+const SHIFT_TRAPPED: Ends = Ends(7, "", "trap: item 1: shift out of range in dv\n");
+
+const SKELETONS: &[Programs] = &[
+    // A map by any number of workers.
+    Programs(
+        RUN,
+        &[
+            Program(PRODUCT_IN_THREE, FOUR_PAIRS, PRODUCT),
+            Program(PRODUCT_IN_ONE, FOUR_PAIRS, PRODUCT),
+            Program(PRODUCT_IN_TWO, FOUR_PAIRS, PRODUCT),
+        ],
+    ),
+    // A reduce by any number of segments.
+    Programs(
+        RUN,
+        &[
+            Program(FOLD_IN_FOUR, FIVE, FOLDED_BY_FOUR),
+            Program(FOLD_IN_ONE, FIVE, FOLDED_BY_ONE),
+            Program(FOLD_IN_TWO, FIVE, FOLDED_BY_TWO),
+        ],
+    ),
+    // A loop, whose second item finishes its turns first, and a pipe.
+    Programs(
+        RUN,
+        &[
+            Program(
+                HALVED,
+                "64 0\n3 0\n",
+                Ends(
+                    0,
+                    "1 6\n1 1\n",
+                    "stats: items 2, fired 27, idle 0, bound 66\n",
+                ),
+            ),
+            Program(FARMED, ITEMS, FARMED_COUNTED),
+        ],
+    ),
+    // Traps and units.
+    Programs(
+        RUN_PLAIN,
+        &[
+            Program(
+                HALVED_FIVE,
+                "64 0\n3 0\n",
+                Ends(7, "", "trap: item 1: turns spent in main\n"),
+            ),
+            // The first trap in the order of the elements is told, whichever worker comes to one first.
+            Program(DIVIDED, "5 -1 0 2\n", SHIFT_TRAPPED),
+            Program(DIVIDED_IN_A_UNIT, "5 -1 0 2\n", SHIFT_TRAPPED),
+            Program(FOLDED_THEN_MORE, "1 2 3 4\n", Ends(0, "1\n", "")),
+            Program(FOLDED_THEN_MORE_IN_A_UNIT, "1 2 3 4\n", Ends(0, "1\n", "")),
+        ],
+    ),
 ];
 
-const FOLDS: &[Program] = &[
-    Program {
-        text: FOLD_IN_FOUR,
-        input: "1 2 3 4 5\n",
-        status: 0,
-        output: "-5\n",
-        lines: "stats: items 1, fired 14, idle 0, bound 14\n",
-    },
-    Program {
-        text: FOLD_IN_ONE,
-        input: "1 2 3 4 5\n",
-        status: 0,
-        output: "-5\n",
-        lines: "stats: items 1, fired 3, idle 0, bound 3\n",
-    },
-    Program {
-        text: FOLD_IN_TWO,
-        input: "1 2 3 4 5\n",
-        status: 0,
-        output: "-5\n",
-        lines: "stats: items 1, fired 8, idle 0, bound 8\n",
-    },
-];
+#[test]
+fn skeletons_by_any_number_of_workers(rt: HostRuntime) -> Result<(), Fail> {
+    take_programs(&rt, rt.alloc(), SKELETONS)
+}
 
-const OTHERS: &[Program] = &[
-    // The second item finishes its turns first.
-    Program {
-        text: HALVED,
-        input: "64 0\n3 0\n",
-        status: 0,
-        output: "1 6\n1 1\n",
-        lines: "stats: items 2, fired 27, idle 0, bound 66\n",
-    },
-    Program {
-        text: FARMED,
-        input: "1\n2\n-3\n",
-        status: 0,
-        output: "6\n9\n-6\n",
-        lines: "stats: items 3, fired 18, idle 0, bound 18\n",
-    },
-];
+const HUNDREDS_FILES: &[Held] = &[Held("m.p3l", HUNDREDS)];
 
-const PLAIN: &[Program] = &[
-    Program {
-        text: HALVED_FIVE,
-        input: "64 0\n3 0\n",
-        status: 7,
-        output: "",
-        lines: "trap: item 1: turns spent in main\n",
-    },
-    // The first trap in the order of the elements is told, whichever worker comes to one first.
-    Program {
-        text: DIVIDED,
-        input: "5 -1 0 2\n",
-        status: 7,
-        output: "",
-        lines: "trap: item 1: shift out of range in dv\n",
-    },
-    Program {
-        text: DIVIDED_IN_A_UNIT,
-        input: "5 -1 0 2\n",
-        status: 7,
-        output: "",
-        lines: "trap: item 1: shift out of range in dv\n",
-    },
-    Program {
-        text: FOLDED_THEN_MORE,
-        input: "1 2 3 4\n",
-        status: 0,
-        output: "1\n",
-        lines: "",
-    },
-    Program {
-        text: FOLDED_THEN_MORE_IN_A_UNIT,
-        input: "1 2 3 4\n",
-        status: 0,
-        output: "1\n",
-        lines: "",
-    },
-];
-
-const HUNDREDS_FILES: &[Held] = &[Held {
-    name: "m.p3l",
-    text: HUNDREDS,
-}];
+const HUNDREDS_TRAPPED: &[Case] = &[Case(
+    HUNDREDS_FILES,
+    NONE,
+    "5\n0\n2\n",
+    Ends(7, "20\n", "trap: item 2: division by zero in dv\n"),
+)];
 
 /// A farm under three schedules, and with too few processors.
-const SCHEDULED: &[Row] = &[
-    Row {
-        files: HUNDREDS_FILES,
-        step: Step {
-            words: &["run", "m.p3l", "--processors", "16", "--schedule", "seed:1"],
-            input: "5\n0\n2\n",
-            status: 7,
-            output: "20\n",
-            lines: "trap: item 2: division by zero in dv\n",
-        },
-    },
-    Row {
-        files: HUNDREDS_FILES,
-        step: Step {
-            words: &["run", "m.p3l", "--processors", "16", "--schedule", "seed:2"],
-            input: "5\n0\n2\n",
-            status: 7,
-            output: "20\n",
-            lines: "trap: item 2: division by zero in dv\n",
-        },
-    },
-    Row {
-        files: HUNDREDS_FILES,
-        step: Step {
-            words: &["run", "m.p3l", "--processors", "16", "--schedule", "rr"],
-            input: "5\n0\n2\n",
-            status: 7,
-            output: "20\n",
-            lines: "trap: item 2: division by zero in dv\n",
-        },
-    },
-    Row {
-        files: HUNDREDS_FILES,
-        step: Step {
-            words: &["run", "m.p3l", "--processors", "4", "--stats"],
-            input: "5\n",
-            status: 5,
-            output: "",
-            lines: "too few processors: need 5\n",
-        },
-    },
+const A_FARM: &[Cases] = &[
+    Cases(
+        "run m.p3l --processors 16 --schedule seed:1",
+        HUNDREDS_TRAPPED,
+    ),
+    Cases(
+        "run m.p3l --processors 16 --schedule seed:2",
+        HUNDREDS_TRAPPED,
+    ),
+    Cases("run m.p3l --processors 16 --schedule rr", HUNDREDS_TRAPPED),
+    Cases(
+        "run m.p3l --processors 4 --stats",
+        &[Case(
+            HUNDREDS_FILES,
+            NONE,
+            "5\n",
+            Ends(5, "", "too few processors: need 5\n"),
+        )],
+    ),
 ];
 
-const HALVES_FILES: &[Held] = &[Held {
-    name: "m.p3l",
-    text: HALVES,
-}];
+const HALVED_NARROWLY: &[Case] = &[Case(
+    &[Held("m.p3l", HALVES)],
+    NONE,
+    "64 0\n3 0\n",
+    Ends(
+        0,
+        "1 6\n1 1\n",
+        "stats: items 2, fired 41, idle 0, bound 106\n",
+    ),
+)];
 
-const NARROW_STEPS: &[Step] = &[
-    Step {
-        words: &[
-            "run",
-            "m.p3l",
-            "--processors",
-            "16",
-            "--schedule",
-            "rr",
-            "--capacity",
-            "1",
-            "--stats",
-        ],
-        input: "64 0\n3 0\n",
-        status: 0,
-        output: "1 6\n1 1\n",
-        lines: "stats: items 2, fired 41, idle 0, bound 106\n",
-    },
-    Step {
-        words: &[
-            "run",
-            "m.p3l",
-            "--processors",
-            "16",
-            "--schedule",
-            "seed:1",
-            "--capacity",
-            "1",
-            "--stats",
-        ],
-        input: "64 0\n3 0\n",
-        status: 0,
-        output: "1 6\n1 1\n",
-        lines: "stats: items 2, fired 41, idle 0, bound 106\n",
-    },
-    Step {
-        words: &[
-            "run",
-            "m.p3l",
-            "--processors",
-            "16",
-            "--schedule",
-            "seed:2",
-            "--capacity",
-            "1",
-            "--stats",
-        ],
-        input: "64 0\n3 0\n",
-        status: 0,
-        output: "1 6\n1 1\n",
-        lines: "stats: items 2, fired 41, idle 0, bound 106\n",
-    },
+const A_LOOP_ROUND_A_FARM: &[Cases] = &[
+    Cases(
+        "run m.p3l --processors 16 --schedule rr --capacity 1 --stats",
+        HALVED_NARROWLY,
+    ),
+    Cases(
+        "run m.p3l --processors 16 --schedule seed:1 --capacity 1 --stats",
+        HALVED_NARROWLY,
+    ),
+    Cases(
+        "run m.p3l --processors 16 --schedule seed:2 --capacity 1 --stats",
+        HALVED_NARROWLY,
+    ),
 ];
 
 #[test]
-fn a_map_by_any_number_of_workers(rt: HostRuntime) -> Result<(), Fail> {
-    take_programs(&rt, rt.alloc(), RUN, PRODUCTS)
-}
-
-#[test]
-fn a_reduce_by_any_number_of_segments(rt: HostRuntime) -> Result<(), Fail> {
-    take_programs(&rt, rt.alloc(), RUN, FOLDS)
-}
-
-#[test]
-fn a_loop_and_a_pipe(rt: HostRuntime) -> Result<(), Fail> {
-    take_programs(&rt, rt.alloc(), RUN, OTHERS)
-}
-
-#[test]
-fn traps_and_units(rt: HostRuntime) -> Result<(), Fail> {
-    take_programs(&rt, rt.alloc(), RUN_PLAIN, PLAIN)
-}
-
-#[test]
-fn a_farm_under_each_schedule(rt: HostRuntime) -> Result<(), Fail> {
-    take_rows(&rt, rt.alloc(), SCHEDULED)
-}
-
-#[test]
-fn a_loop_round_a_farm_under_each_schedule(rt: HostRuntime) -> Result<(), Fail> {
-    take_each(&rt, rt.alloc(), HALVES_FILES, NARROW_STEPS)
+fn farms_and_loops_under_each_schedule(rt: HostRuntime) -> Result<(), Fail> {
+    take_cases(&rt, rt.alloc(), &[A_FARM, A_LOOP_ROUND_A_FARM])
 }

@@ -1,14 +1,15 @@
 // What a run takes from its input, and lines that can't be put.
 
-use crate::texts::{DOUBLE_FILES, HUNDRED_FILES, RUN, RUN_PLAIN};
-use crate::world::{Ended, Faults, NONE, Step, holding, perform, take_failing};
-use p3l_io::PutFail;
+use crate::texts::{DOUBLE_FILES, GIVEN, HUNDRED_FILES, ITEMS, RUN, RUN_PLAIN};
+use crate::world::{
+    Case, Cases, Ended, Ends, FIRST_PUT, Faults, NONE, holding, perform, take_cases,
+};
 use std::alloc::Global;
 use std::process::Abort;
 use std::test::Fail;
 
 /// Runs a hundred by an item on a hundred zeros.
-fn run_on_zeros(rt: &impl Abort, alloc: Global, words: &[&str]) -> Result<Ended, Fail> {
+fn run_on_zeros(rt: &impl Abort, alloc: Global, words: &str) -> Result<Ended, Fail> {
     let mut files = holding(alloc, HUNDRED_FILES, &[])?;
     let zeros = "0\n".repeat(alloc, 100)?;
     let ended = perform(alloc, words, zeros.as_str(), &mut files, &NONE)?;
@@ -17,81 +18,74 @@ fn run_on_zeros(rt: &impl Abort, alloc: Global, words: &[&str]) -> Result<Ended,
     Ok(ended)
 }
 
+/// Words, and the lines that they end with.
+#[derive(Clone, Copy)]
+struct Said(&'static str, &'static str);
+
+const IN_TURN: &[Said] = &[
+    Said(
+        RUN,
+        "stats: items 2, fired 4, idle 0, bound 6\ntrap: item 1: division by zero in main\n",
+    ),
+    Said(RUN_PLAIN, "trap: item 1: division by zero in main\n"),
+];
+
 /// Two bytes an item, and one item more than those that were sent.
 #[test]
 fn no_more_is_taken_than_is_asked_for(rt: HostRuntime) -> Result<(), Fail> {
-    let alloc = rt.alloc();
-    let lines =
-        "stats: items 2, fired 4, idle 0, bound 6\ntrap: item 1: division by zero in main\n";
-    let ended = run_on_zeros(&rt, alloc, RUN)?;
-    assert_eq!(rt; ended.calls, 6);
-    assert_eq!(rt; ended.lines.as_slice(), lines.as_bytes());
-    let lines = "trap: item 1: division by zero in main\n";
-    let ended = run_on_zeros(&rt, alloc, RUN_PLAIN)?;
-    assert_eq!(rt; ended.calls, 6);
-    assert_eq!(rt; ended.lines.as_slice(), lines.as_bytes());
+    for said in IN_TURN {
+        let ended = run_on_zeros(&rt, rt.alloc(), said.0)?;
+        assert_eq!(rt; ended.calls, 6);
+        assert_eq!(rt; ended.lines.as_slice(), said.1.as_bytes());
+    }
     Ok(())
 }
 
-/// The words of a run by a seed.
-fn seeded<'a>(seed: &'a str) -> [&'a str; 7] {
-    [
-        "run",
-        "m.p3l",
-        "--processors",
-        "16",
-        "--stats",
-        "--schedule",
-        seed,
-    ]
-}
-
-/// Whether a text begins so.
-fn begins(text: &[u8], begin: &[u8]) -> bool {
-    text.starts_with(begin)
-}
+const BY_SEEDS: &[&str] = &[
+    "run m.p3l --processors 16 --stats --schedule seed:1",
+    "run m.p3l --processors 16 --stats --schedule seed:2",
+];
 
 /// By a seed, too, one item more than were sent is asked for.
-fn take_by(rt: &impl Abort, alloc: Global, seed: &str) -> Result<(), Fail> {
-    let ended = run_on_zeros(rt, alloc, &seeded(seed))?;
-    assert!(rt; ended.calls >= 2);
-    let items = ended.calls / 2 - 1;
-    assert_eq!(rt; ended.calls % 2, 0);
-    let begin = format!(in alloc; "stats: items {items}, ")?;
-    assert!(rt; begins(ended.lines.as_slice(), begin.as_str().as_bytes()));
-    Ok(())
-}
-
 #[test]
 fn no_more_is_taken_by_a_seed(rt: HostRuntime) -> Result<(), Fail> {
-    take_by(&rt, rt.alloc(), "seed:1")?;
-    take_by(&rt, rt.alloc(), "seed:2")
+    let alloc = rt.alloc();
+    for words in BY_SEEDS {
+        let ended = run_on_zeros(&rt, alloc, words)?;
+        assert!(rt; ended.calls >= 2);
+        let items = ended.calls / 2 - 1;
+        assert_eq!(rt; ended.calls % 2, 0);
+        let begin = format!(in alloc; "stats: items {items}, ")?;
+        assert!(rt;
+            ended
+                .lines
+                .as_slice()
+                .starts_with(begin.as_str().as_bytes())
+        );
+    }
+    Ok(())
 }
 
 const UNSAID: Faults = Faults {
-    says: &[PutFail { call: 1, prefix: 0 }],
+    says: FIRST_PUT,
     ..NONE
 };
 
-/// A line that can't be put changes no status.
+/// A line that can't be put changes no status: the first is lost, and the second is put.
+const LOST: &[Cases] = &[Cases(
+    RUN,
+    &[
+        Case(DOUBLE_FILES, UNSAID, ITEMS, GIVEN),
+        Case(
+            DOUBLE_FILES,
+            UNSAID,
+            "1\n2\n-3\nx\n",
+            Ends(6, "3\n5\n-5\n", "stream: line 4: 100 BadWord\n"),
+        ),
+    ],
+)];
+
 #[test]
 fn lines_may_be_lost(rt: HostRuntime) -> Result<(), Fail> {
-    let step = Step {
-        words: RUN,
-        input: "1\n2\n-3\n",
-        status: 0,
-        output: "3\n5\n-5\n",
-        lines: "",
-    };
-    take_failing(&rt, rt.alloc(), DOUBLE_FILES, &step, &UNSAID)?;
-    // The first line is lost, and the second is put.
-    let step = Step {
-        words: RUN,
-        input: "1\n2\n-3\nx\n",
-        status: 6,
-        output: "3\n5\n-5\n",
-        lines: "stream: line 4: 100 BadWord\n",
-    };
-    take_failing(&rt, rt.alloc(), DOUBLE_FILES, &step, &UNSAID)?;
-    Ok(())
+    take_cases(&rt, rt.alloc(), &[LOST])
 }

@@ -1,347 +1,207 @@
 // Traces held against runs: those that hold, that differ, and that are no traces.
 
-use crate::texts::{DOUBLE, DOUBLE_FILES, FARMED, HUNDRED};
-use crate::world::{Faults, NONE, Step, compare, holding};
+use crate::texts::{DOUBLE, DOUBLE_FILES, FARMED, HUNDRED, TRACE};
+use crate::world::{Ends, Faults, NO_TAKE, NONE, Step, THIRD_TAKE, holding, take};
 use std::alloc::Global;
 use std::process::Abort;
 use std::test::Fail;
 
-const CHECK_TRACE: &[&str] = &["check-trace", "m.p3l", "--processors", "16", "--trace", "t"];
+const CHECK_TRACE: &str = "check-trace m.p3l --processors 16 --trace t";
 
-/// The trace of a body on one item.
-const TRACE: &str = "p3l-trace 1\n0 source\n2 run\n1 sink\nend 3 0\n";
-
-/// A program, a trace and an input, and what is told of them.
+/// A trace and an input, and what is told of them: the output where the trace holds, and the lines where
+/// it doesn't.
 #[derive(Clone, Copy)]
-struct Checked {
-    program: &'static str,
-    trace: &'static str,
-    input: &'static str,
-    status: u8,
-    output: &'static str,
-    lines: &'static str,
-}
+struct Told(&'static str, &'static str, &'static str);
 
-/// Checks a trace, with the calls that fail.
-fn check(rt: &impl Abort, alloc: Global, checked: &Checked, faults: &Faults) -> Result<(), Fail> {
-    let mut files = holding(alloc, &[], faults.files)?;
-    files.add("m.p3l", checked.program.as_bytes())?;
-    files.add("t", checked.trace.as_bytes())?;
-    let step = Step {
-        words: CHECK_TRACE,
-        input: checked.input,
-        status: checked.status,
-        output: checked.output,
-        lines: checked.lines,
+/// A program, the calls that fail, the status, and traces of the program that end with it.
+#[derive(Clone, Copy)]
+struct Checked(&'static str, Faults, u8, &'static [Told]);
+
+fn check(rt: &impl Abort, alloc: Global, checked: &Checked, told: &Told) -> Result<(), Fail> {
+    let mut files = holding(alloc, &[], &[])?;
+    files.add("m.p3l", checked.0.as_bytes())?;
+    files.add("t", told.0.as_bytes())?;
+    let ends = if checked.2 == 0 {
+        Ends(0, told.2, "")
+    } else {
+        Ends(checked.2, "", told.2)
     };
-    compare(rt, alloc, &mut files, &step, step.lines, faults)
+    take(
+        rt,
+        alloc,
+        &mut files,
+        &Step(CHECK_TRACE, told.1, ends),
+        &checked.1,
+    )
 }
 
-fn check_each(rt: &impl Abort, alloc: Global, table: &[Checked]) -> Result<(), Fail> {
-    for checked in table {
-        check(rt, alloc, checked, &NONE)?;
+/// Traces of whole runs hold.
+const OF_WHOLE_RUNS: &[Told] = &[
+    Told(TRACE, "1\n", "trace holds: 3 fired, 0 idle\n"),
+    Told(
+        "p3l-trace 1\n0 source\n2 run\n1 sink\n0 source\n2 run\n1 sink\n0 source\n2 run\n1 sink\nend 9 0\n",
+        "1\n2\n-3\n",
+        "trace holds: 9 fired, 0 idle\n",
+    ),
+];
+
+const OF_A_WHOLE_FARM: &[Told] = &[Told(
+    "p3l-trace 1\n0 source\n2 run\n3 emit\n5 run\n4 collect\n1 sink\nend 6 0\n",
+    "1\n",
+    "trace holds: 6 fired, 0 idle\n",
+)];
+
+/// Traces of other picks hold.
+const OF_OTHER_PICKS: &[Told] = &[
+    // Picks that can't fire are idle.
+    Told(
+        "p3l-trace 1\n1 idle\n0 source\n2 run\n2 idle\n1 sink\nend 3 2\n",
+        "1\n",
+        "trace holds: 3 fired, 2 idle\n",
+    ),
+    // It may stop before the run does, and go on behind its end.
+    Told(
+        "p3l-trace 1\n0 source\nend 1 0\n",
+        "1\n2\n",
+        "trace holds: 1 fired, 0 idle\n",
+    ),
+    Told(
+        "p3l-trace 1\n0 source\n2 run\n1 sink\n0 idle\nend 3 1\n",
+        "1\n",
+        "trace holds: 3 fired, 1 idle\n",
+    ),
+    // No line of a pick asks for no item.
+    Told(
+        "p3l-trace 1\nend 0 0\n",
+        "x\n",
+        "trace holds: 0 fired, 0 idle\n",
+    ),
+];
+
+const BEHIND_A_TRAP: &[Told] = &[
+    // Nothing fires behind a trap.
+    Told(
+        "p3l-trace 1\n0 source\n2 run\n1 sink\n0 idle\nend 3 1\n",
+        "0\n5\n",
+        "trace holds: 3 fired, 1 idle\n",
+    ),
+];
+
+/// A pick differs.
+const IN_A_PICK: &[Told] = &[
+    Told(
+        "p3l-trace 1\n2 run\n2 run\n1 sink\nend 3 0\n",
+        "1\n",
+        "evidence: 111 Differs 2\n",
+    ),
+    Told(
+        "p3l-trace 1\n0 idle\nend 0 1\n",
+        "1\n",
+        "evidence: 111 Differs 2\n",
+    ),
+    Told(
+        "p3l-trace 1\n0 source\n2 emit\n1 sink\nend 3 0\n",
+        "1\n",
+        "evidence: 111 Differs 3\n",
+    ),
+    // There is no such process.
+    Told(
+        "p3l-trace 1\n0 source\n2 run\n3 idle\nend 2 1\n",
+        "1\n",
+        "evidence: 111 Differs 4\n",
+    ),
+    Told(TRACE, "", "evidence: 111 Differs 2\n"),
+];
+
+/// A count differs.
+const IN_A_COUNT: &[Told] = &[
+    Told(
+        "p3l-trace 1\n0 source\n2 run\n1 sink\nend 3 1\n",
+        "1\n",
+        "evidence: 111 Differs 5\n",
+    ),
+    Told(
+        "p3l-trace 1\n0 source\n2 run\n1 sink\nend 2 0\n",
+        "1\n",
+        "evidence: 111 Differs 5\n",
+    ),
+    // A line that differs comes before what the input ends with.
+    Told(TRACE, "x\n", "evidence: 111 Differs 2\n"),
+    Told(
+        "p3l-trace 1\n0 source\n2 run\n1 sink\nend 3 1\n",
+        "1\nx\n",
+        "evidence: 111 Differs 5\n",
+    ),
+];
+
+/// A stream that is refused is told: an item is asked for before each line of a pick where none is waiting.
+const BY_THE_STREAM: &[Told] = &[
+    Told(TRACE, "1\nx\n", "stream: line 2: 100 BadWord\n"),
+    Told(TRACE, "1\n2 3\n", "stream: line 2: 101 WrongCount 2\n"),
+    Told(
+        "p3l-trace 1\n0 idle\nend 0 1\n",
+        "9223372036854775808\n",
+        "stream: line 1: 102 OutOfRange\n",
+    ),
+];
+
+/// Other texts are no traces.
+const NO_TRACES: &[Told] = &[
+    Told(
+        "p3l-trace 2\n0 source\n2 run\n1 sink\nend 3 0\n",
+        "1\n",
+        "evidence: 110 BadLine 1\n",
+    ),
+    Told(
+        "p3l-trace 1\n00 source\n2 run\n1 sink\nend 3 0\n",
+        "1\n",
+        "evidence: 110 BadLine 2\n",
+    ),
+    Told(
+        "p3l-trace 1\n0 source\n2  run\n1 sink\nend 3 0\n",
+        "1\n",
+        "evidence: 110 BadLine 3\n",
+    ),
+    Told(
+        "p3l-trace 1\n0 source\n2 run\n4294967296 idle\nend 2 1\n",
+        "1\n",
+        "evidence: 110 BadLine 4\n",
+    ),
+    Told(
+        "p3l-trace 1\n0 source\n2 run\n1 sink\nend 3 0\n\n",
+        "1\n",
+        "evidence: 110 BadLine 6\n",
+    ),
+];
+
+/// The trace holds, and reading the input fails behind its first item.
+const UNREAD: &[Told] = &[Told(TRACE, "1\n2\n", "read fault\n")];
+
+/// A line differs before the fault is told.
+const UNREAD_AND_DIFFERS: &[Told] = &[Told(TRACE, "1\n", "evidence: 111 Differs 2\n")];
+
+const ALL: &[Checked] = &[
+    Checked(DOUBLE, NONE, 0, OF_WHOLE_RUNS),
+    Checked(FARMED, NONE, 0, OF_A_WHOLE_FARM),
+    Checked(DOUBLE, NONE, 0, OF_OTHER_PICKS),
+    Checked(HUNDRED, NONE, 0, BEHIND_A_TRAP),
+    Checked(DOUBLE, NONE, 13, IN_A_PICK),
+    Checked(DOUBLE, NONE, 13, IN_A_COUNT),
+    Checked(DOUBLE, NONE, 6, BY_THE_STREAM),
+    Checked(DOUBLE, NONE, 13, NO_TRACES),
+    Checked(DOUBLE, THIRD_TAKE, 8, UNREAD),
+    Checked(DOUBLE, NO_TAKE, 13, UNREAD_AND_DIFFERS),
+];
+
+#[test]
+fn traces_hold_or_differ_or_are_none(rt: HostRuntime) -> Result<(), Fail> {
+    for checked in ALL {
+        for told in checked.3 {
+            check(&rt, rt.alloc(), checked, told)?;
+        }
     }
     Ok(())
 }
-
-const WHOLE: &[Checked] = &[
-    Checked {
-        program: DOUBLE,
-        trace: TRACE,
-        input: "1\n",
-        status: 0,
-        output: "trace holds: 3 fired, 0 idle\n",
-        lines: "",
-    },
-    Checked {
-        program: DOUBLE,
-        trace: "p3l-trace 1\n0 source\n2 run\n1 sink\n0 source\n2 run\n1 sink\n0 source\n2 run\n1 sink\nend 9 0\n",
-        input: "1\n2\n-3\n",
-        status: 0,
-        output: "trace holds: 9 fired, 0 idle\n",
-        lines: "",
-    },
-    Checked {
-        program: FARMED,
-        trace: "p3l-trace 1\n0 source\n2 run\n3 emit\n5 run\n4 collect\n1 sink\nend 6 0\n",
-        input: "1\n",
-        status: 0,
-        output: "trace holds: 6 fired, 0 idle\n",
-        lines: "",
-    },
-];
-
-const PARTLY: &[Checked] = &[
-    // Picks that can't fire are idle.
-    Checked {
-        program: DOUBLE,
-        trace: "p3l-trace 1\n1 idle\n0 source\n2 run\n2 idle\n1 sink\nend 3 2\n",
-        input: "1\n",
-        status: 0,
-        output: "trace holds: 3 fired, 2 idle\n",
-        lines: "",
-    },
-    // It may stop before the run does, and go on behind its end.
-    Checked {
-        program: DOUBLE,
-        trace: "p3l-trace 1\n0 source\nend 1 0\n",
-        input: "1\n2\n",
-        status: 0,
-        output: "trace holds: 1 fired, 0 idle\n",
-        lines: "",
-    },
-    Checked {
-        program: DOUBLE,
-        trace: "p3l-trace 1\n0 source\n2 run\n1 sink\n0 idle\nend 3 1\n",
-        input: "1\n",
-        status: 0,
-        output: "trace holds: 3 fired, 1 idle\n",
-        lines: "",
-    },
-    // Nothing fires behind a trap.
-    Checked {
-        program: HUNDRED,
-        trace: "p3l-trace 1\n0 source\n2 run\n1 sink\n0 idle\nend 3 1\n",
-        input: "0\n5\n",
-        status: 0,
-        output: "trace holds: 3 fired, 1 idle\n",
-        lines: "",
-    },
-    // No line of a pick asks for no item.
-    Checked {
-        program: DOUBLE,
-        trace: "p3l-trace 1\nend 0 0\n",
-        input: "x\n",
-        status: 0,
-        output: "trace holds: 0 fired, 0 idle\n",
-        lines: "",
-    },
-];
-
-const IN_A_PICK: &[Checked] = &[
-    Checked {
-        program: DOUBLE,
-        trace: "p3l-trace 1\n2 run\n2 run\n1 sink\nend 3 0\n",
-        input: "1\n",
-        status: 13,
-        output: "",
-        lines: "evidence: 111 Differs 2\n",
-    },
-    Checked {
-        program: DOUBLE,
-        trace: "p3l-trace 1\n0 idle\nend 0 1\n",
-        input: "1\n",
-        status: 13,
-        output: "",
-        lines: "evidence: 111 Differs 2\n",
-    },
-    Checked {
-        program: DOUBLE,
-        trace: "p3l-trace 1\n0 source\n2 emit\n1 sink\nend 3 0\n",
-        input: "1\n",
-        status: 13,
-        output: "",
-        lines: "evidence: 111 Differs 3\n",
-    },
-    // There is no such process.
-    Checked {
-        program: DOUBLE,
-        trace: "p3l-trace 1\n0 source\n2 run\n3 idle\nend 2 1\n",
-        input: "1\n",
-        status: 13,
-        output: "",
-        lines: "evidence: 111 Differs 4\n",
-    },
-    Checked {
-        program: DOUBLE,
-        trace: TRACE,
-        input: "",
-        status: 13,
-        output: "",
-        lines: "evidence: 111 Differs 2\n",
-    },
-];
-
-const IN_A_COUNT: &[Checked] = &[
-    Checked {
-        program: DOUBLE,
-        trace: "p3l-trace 1\n0 source\n2 run\n1 sink\nend 3 1\n",
-        input: "1\n",
-        status: 13,
-        output: "",
-        lines: "evidence: 111 Differs 5\n",
-    },
-    Checked {
-        program: DOUBLE,
-        trace: "p3l-trace 1\n0 source\n2 run\n1 sink\nend 2 0\n",
-        input: "1\n",
-        status: 13,
-        output: "",
-        lines: "evidence: 111 Differs 5\n",
-    },
-    // A line that differs comes before what the input ends with.
-    Checked {
-        program: DOUBLE,
-        trace: TRACE,
-        input: "x\n",
-        status: 13,
-        output: "",
-        lines: "evidence: 111 Differs 2\n",
-    },
-    Checked {
-        program: DOUBLE,
-        trace: "p3l-trace 1\n0 source\n2 run\n1 sink\nend 3 1\n",
-        input: "1\nx\n",
-        status: 13,
-        output: "",
-        lines: "evidence: 111 Differs 5\n",
-    },
-];
-
-/// An item is asked for before each line of a pick where none is waiting.
-const BY_THE_STREAM: &[Checked] = &[
-    Checked {
-        program: DOUBLE,
-        trace: TRACE,
-        input: "1\nx\n",
-        status: 6,
-        output: "",
-        lines: "stream: line 2: 100 BadWord\n",
-    },
-    Checked {
-        program: DOUBLE,
-        trace: TRACE,
-        input: "1\n2 3\n",
-        status: 6,
-        output: "",
-        lines: "stream: line 2: 101 WrongCount 2\n",
-    },
-    Checked {
-        program: DOUBLE,
-        trace: "p3l-trace 1\n0 idle\nend 0 1\n",
-        input: "9223372036854775808\n",
-        status: 6,
-        output: "",
-        lines: "stream: line 1: 102 OutOfRange\n",
-    },
-];
-
-const NO_TRACES: &[Checked] = &[
-    Checked {
-        program: DOUBLE,
-        trace: "p3l-trace 2\n0 source\n2 run\n1 sink\nend 3 0\n",
-        input: "1\n",
-        status: 13,
-        output: "",
-        lines: "evidence: 110 BadLine 1\n",
-    },
-    Checked {
-        program: DOUBLE,
-        trace: "p3l-trace 1\n00 source\n2 run\n1 sink\nend 3 0\n",
-        input: "1\n",
-        status: 13,
-        output: "",
-        lines: "evidence: 110 BadLine 2\n",
-    },
-    Checked {
-        program: DOUBLE,
-        trace: "p3l-trace 1\n0 source\n2  run\n1 sink\nend 3 0\n",
-        input: "1\n",
-        status: 13,
-        output: "",
-        lines: "evidence: 110 BadLine 3\n",
-    },
-    Checked {
-        program: DOUBLE,
-        trace: "p3l-trace 1\n0 source\n2 run\n4294967296 idle\nend 2 1\n",
-        input: "1\n",
-        status: 13,
-        output: "",
-        lines: "evidence: 110 BadLine 4\n",
-    },
-    Checked {
-        program: DOUBLE,
-        trace: "p3l-trace 1\n0 source\n2 run\n1 sink\nend 3 0\n\n",
-        input: "1\n",
-        status: 13,
-        output: "",
-        lines: "evidence: 110 BadLine 6\n",
-    },
-];
-
-#[test]
-fn traces_of_whole_runs_hold(rt: HostRuntime) -> Result<(), Fail> {
-    check_each(&rt, rt.alloc(), WHOLE)
-}
-
-#[test]
-fn traces_of_other_picks_hold(rt: HostRuntime) -> Result<(), Fail> {
-    check_each(&rt, rt.alloc(), PARTLY)
-}
-
-#[test]
-fn a_pick_differs(rt: HostRuntime) -> Result<(), Fail> {
-    check_each(&rt, rt.alloc(), IN_A_PICK)
-}
-
-#[test]
-fn a_count_differs(rt: HostRuntime) -> Result<(), Fail> {
-    check_each(&rt, rt.alloc(), IN_A_COUNT)
-}
-
-#[test]
-fn a_stream_that_is_refused_is_told(rt: HostRuntime) -> Result<(), Fail> {
-    check_each(&rt, rt.alloc(), BY_THE_STREAM)
-}
-
-#[test]
-fn other_texts_are_no_traces(rt: HostRuntime) -> Result<(), Fail> {
-    check_each(&rt, rt.alloc(), NO_TRACES)
-}
-
-/// The trace holds, and reading the input fails behind its first item.
-const UNREAD: Checked = Checked {
-    program: DOUBLE,
-    trace: TRACE,
-    input: "1\n2\n",
-    status: 8,
-    output: "",
-    lines: "read fault\n",
-};
-
-/// A line differs before the fault is told.
-const UNREAD_AND_DIFFERS: Checked = Checked {
-    program: DOUBLE,
-    trace: TRACE,
-    input: "1\n",
-    status: 13,
-    output: "",
-    lines: "evidence: 111 Differs 2\n",
-};
-
-const THIRD_TAKE: Faults = Faults {
-    takes: &[3],
-    ..NONE
-};
-
-const FIRST_TAKE: Faults = Faults {
-    takes: &[1],
-    ..NONE
-};
-
-#[test]
-fn a_fault_of_reading_is_told(rt: HostRuntime) -> Result<(), Fail> {
-    check(&rt, rt.alloc(), &UNREAD, &THIRD_TAKE)?;
-    check(&rt, rt.alloc(), &UNREAD_AND_DIFFERS, &FIRST_TAKE)
-}
-
-const REFUSED: Step = Step {
-    words: CHECK_TRACE,
-    input: "1\n",
-    status: 13,
-    output: "",
-    lines: "",
-};
 
 /// Checks a text that the trace begins with, of so many whole lines.
 fn refuse_beginning(rt: &impl Abort, alloc: Global, text: &[u8], whole: u64) -> Result<(), Fail> {
@@ -349,7 +209,8 @@ fn refuse_beginning(rt: &impl Abort, alloc: Global, text: &[u8], whole: u64) -> 
     files.add("t", text)?;
     let line = whole.saturating_add(1);
     let lines = format!(in alloc; "evidence: 110 BadLine {line}\n")?;
-    compare(rt, alloc, &mut files, &REFUSED, lines.as_str(), &NONE)
+    let step = Step(CHECK_TRACE, "1\n", Ends(13, "", lines.as_str()));
+    take(rt, alloc, &mut files, &step, &NONE)
 }
 
 #[test]

@@ -9,37 +9,47 @@ use std::test::Fail;
 
 /// A file: its name and its text.
 #[derive(Clone, Copy)]
-pub struct Held {
-    pub name: &'static str,
-    pub text: &'static str,
-}
+pub struct Held(pub &'static str, pub &'static str);
 
-/// A command on an input, and what it must end with: its status, its output and its lines.
+/// How a command ends: its status, its output and its lines.
 #[derive(Clone, Copy)]
-pub struct Step {
-    pub words: &'static [&'static str],
-    pub input: &'static str,
-    pub status: u8,
-    pub output: &'static str,
-    pub lines: &'static str,
-}
+pub struct Ends<'a>(pub u8, pub &'a str, pub &'a str);
 
-/// A step on files of its own.
+/// A command: its words with a blank between two, its input, and how it ends.
 #[derive(Clone, Copy)]
-pub struct Row {
-    pub files: &'static [Held],
-    pub step: Step,
-}
+pub struct Step<'a>(pub &'a str, pub &'a str, pub Ends<'a>);
 
-/// A program in the file m.p3l and an input, and what a command on them must end with.
+/// What words are called with: the files, the calls that fail and the input; and how they end.
 #[derive(Clone, Copy)]
-pub struct Program {
-    pub text: &'static str,
-    pub input: &'static str,
-    pub status: u8,
-    pub output: &'static str,
-    pub lines: &'static str,
-}
+pub struct Case(
+    pub &'static [Held],
+    pub Faults,
+    pub &'static str,
+    pub Ends<'static>,
+);
+
+/// Words, and cases of them.
+#[derive(Clone, Copy)]
+pub struct Cases(pub &'static str, pub &'static [Case]);
+
+/// A program in the file m.p3l and an input, and how words end on them.
+#[derive(Clone, Copy)]
+pub struct Program(pub &'static str, pub &'static str, pub Ends<'static>);
+
+/// Words, and programs that they are called with.
+#[derive(Clone, Copy)]
+pub struct Programs(pub &'static str, pub &'static [Program]);
+
+/// Files, the calls that fail, steps on these files one after another, and behind these the files that
+/// hold a text, and the names that none has.
+#[derive(Clone, Copy)]
+pub struct Course(
+    pub &'static [Held],
+    pub Faults,
+    pub &'static [Step<'static>],
+    pub &'static [Held],
+    pub &'static [&'static str],
+);
 
 /// The calls that fail: takings of the input, readings and writings of files, puts of the output and of
 /// the lines.
@@ -59,20 +69,46 @@ pub const NONE: Faults = Faults {
     says: &[],
 };
 
+/// The first put, of which nothing is taken.
+pub const FIRST_PUT: &[PutFail] = &[PutFail { call: 1, prefix: 0 }];
+
 /// The first put of the output fails, and nothing of it is taken.
 pub const NO_PUT: Faults = Faults {
-    takes: &[],
-    files: &[],
-    puts: &[PutFail { call: 1, prefix: 0 }],
-    says: &[],
+    puts: FIRST_PUT,
+    ..NONE
 };
 
 /// The first taking of the input fails.
 pub const NO_TAKE: Faults = Faults {
     takes: &[1],
-    files: &[],
-    puts: &[],
-    says: &[],
+    ..NONE
+};
+
+/// The third taking of the input fails: that behind an item of one digit.
+pub const THIRD_TAKE: Faults = Faults {
+    takes: &[3],
+    ..NONE
+};
+
+/// The first call of the files fails.
+pub const FIRST_FILE: Faults = Faults {
+    files: &[1],
+    ..NONE
+};
+
+pub const SECOND_FILE: Faults = Faults {
+    files: &[2],
+    ..NONE
+};
+
+pub const THIRD_FILE: Faults = Faults {
+    files: &[3],
+    ..NONE
+};
+
+pub const FOURTH_FILE: Faults = Faults {
+    files: &[4],
+    ..NONE
 };
 
 fn list<T: Copy + Drop>(alloc: Global, items: &[T]) -> Result<List<T>, Fail> {
@@ -83,17 +119,16 @@ fn list<T: Copy + Drop>(alloc: Global, items: &[T]) -> Result<List<T>, Fail> {
 pub fn holding(alloc: Global, held: &[Held], fails: &[u64]) -> Result<MemFiles, Fail> {
     let mut files = MemFiles::new(alloc, list(alloc, fails)?);
     for file in held {
-        files.add(file.name, file.text.as_bytes())?;
+        files.add(file.0, file.1.as_bytes())?;
     }
     Ok(files)
 }
 
-/// Whether the files hold these bytes under the name, or nothing.
-pub fn holds(files: &MemFiles, name: &str, bytes: Option<&[u8]>) -> bool {
-    match (files.get(name), bytes) {
-        (None, None) => true,
-        (Some(held), Some(bytes)) => held == bytes,
-        _ => false,
+/// Whether the files hold these bytes under the name.
+pub fn holds(files: &MemFiles, name: &str, bytes: &[u8]) -> bool {
+    match files.get(name) {
+        None => false,
+        Some(held) => held == bytes,
     }
 }
 
@@ -106,59 +141,83 @@ pub struct Ended {
     pub lines: Vec<u8>,
 }
 
-/// Does what words ask for with files and an input that gives a byte at a time.
-pub fn perform(
+/// An input of this text, which gives a byte at a time, and of which the takings of these numbers fail.
+fn source_of(alloc: Global, text: &str, fails: &[u64]) -> Result<MemSource, Fail> {
+    let bytes = list(alloc, text.as_bytes())?;
+    Ok(MemSource::new(bytes, 1, list(alloc, fails)?))
+}
+
+/// Room for an output, of which these puts fail.
+fn sink_of(alloc: Global, fails: &[PutFail]) -> Result<MemSink, Fail> {
+    Ok(MemSink::new(alloc, 65_536, list(alloc, fails)?)?)
+}
+
+/// What was given and said.
+fn what_came(
+    alloc: Global,
+    status: u8,
+    calls: u64,
+    output: &[u8],
+    lines: &[u8],
+) -> Result<Ended, Fail> {
+    Ok(Ended {
+        status,
+        calls,
+        output: Vec::from_slice(alloc, output)?,
+        lines: Vec::from_slice(alloc, lines)?,
+    })
+}
+
+/// Does what words ask for with files and an input.
+fn call(
     alloc: Global,
     words: &[&str],
     input: &str,
     files: &mut MemFiles,
     faults: &Faults,
 ) -> Result<Ended, Fail> {
-    let bytes = list(alloc, input.as_bytes())?;
-    let mut input = MemSource::new(bytes, 1, list(alloc, faults.takes)?);
-    let mut out = MemSink::new(alloc, 65_536, list(alloc, faults.puts)?)?;
-    let mut err = MemSink::new(alloc, 65_536, list(alloc, faults.says)?)?;
+    let mut input = source_of(alloc, input, faults.takes)?;
+    let mut out = sink_of(alloc, faults.puts)?;
+    let mut err = sink_of(alloc, faults.says)?;
     let answer = top(alloc, words, files, &mut input, &mut out, &mut err);
-    Ok(Ended {
-        status: answer.0,
-        calls: input.calls(),
-        output: Vec::from_slice(alloc, out.taken())?,
-        lines: Vec::from_slice(alloc, err.taken())?,
-    })
+    what_came(alloc, answer.0, input.calls(), out.taken(), err.taken())
 }
 
-/// Does what a step asks for, and compares the status, the output and the lines.
-pub fn compare(
+/// The words of a text that has a blank between two.
+fn words_of<'a>(alloc: Global, text: &'a str) -> Result<Vec<&'a str>, Fail> {
+    let mut words = Vec::new(alloc);
+    for word in text.split(' ') {
+        words.push(word)?;
+    }
+    Ok(words)
+}
+
+/// Does what the words of a text ask for.
+pub fn perform(
+    alloc: Global,
+    text: &str,
+    input: &str,
+    files: &mut MemFiles,
+    faults: &Faults,
+) -> Result<Ended, Fail> {
+    let words = words_of(alloc, text)?;
+    call(alloc, words.as_slice(), input, files, faults)
+}
+
+/// Takes a step, and compares the status, the output and the lines.
+pub fn take(
     rt: &impl Abort,
     alloc: Global,
     files: &mut MemFiles,
     step: &Step,
-    lines: &str,
     faults: &Faults,
 ) -> Result<(), Fail> {
-    let ended = perform(alloc, step.words, step.input, files, faults)?;
-    assert_eq!(rt; ended.status, step.status);
-    assert_eq!(rt; ended.output.as_slice(), step.output.as_bytes());
-    assert_eq!(rt; ended.lines.as_slice(), lines.as_bytes());
+    let words = step.0;
+    let ended = perform(alloc, words, step.1, files, faults)?;
+    assert_eq!(rt; ended.status, step.2.0, "{words}");
+    assert_eq!(rt; ended.output.as_slice(), step.2.1.as_bytes(), "{words}");
+    assert_eq!(rt; ended.lines.as_slice(), step.2.2.as_bytes(), "{words}");
     Ok(())
-}
-
-/// Takes a step on these files, with no call that fails.
-pub fn take(rt: &impl Abort, alloc: Global, files: &mut MemFiles, step: &Step) -> Result<(), Fail> {
-    compare(rt, alloc, files, step, step.lines, &NONE)
-}
-
-/// Takes a step on files that hold these, with the calls that fail.
-pub fn take_failing(
-    rt: &impl Abort,
-    alloc: Global,
-    held: &[Held],
-    step: &Step,
-    faults: &Faults,
-) -> Result<MemFiles, Fail> {
-    let mut files = holding(alloc, held, faults.files)?;
-    compare(rt, alloc, &mut files, step, step.lines, faults)?;
-    Ok(files)
 }
 
 /// Takes steps on files that hold these, one after another.
@@ -170,52 +229,66 @@ pub fn take_all(
 ) -> Result<MemFiles, Fail> {
     let mut files = holding(alloc, held, &[])?;
     for step in steps {
-        take(rt, alloc, &mut files, step)?;
+        take(rt, alloc, &mut files, step, &NONE)?;
     }
     Ok(files)
 }
 
-/// Takes steps, each on files that hold the same.
-pub fn take_each(
-    rt: &impl Abort,
-    alloc: Global,
-    held: &[Held],
-    steps: &[Step],
-) -> Result<(), Fail> {
-    for step in steps {
-        let mut files = holding(alloc, held, &[])?;
-        take(rt, alloc, &mut files, step)?;
+/// Takes the words in one of their cases, none of which leaves a file new.
+fn take_case(rt: &impl Abort, alloc: Global, words: &str, case: &Case) -> Result<(), Fail> {
+    let mut files = holding(alloc, case.0, case.1.files)?;
+    take(rt, alloc, &mut files, &Step(words, case.2, case.3), &case.1)?;
+    assert!(rt; files.get("new").is_none(), "{words}");
+    Ok(())
+}
+
+/// Takes words in each of their cases.
+pub fn take_cases(rt: &impl Abort, alloc: Global, tables: &[&[Cases]]) -> Result<(), Fail> {
+    for table in tables {
+        for cases in *table {
+            for case in cases.1 {
+                take_case(rt, alloc, cases.0, case)?;
+            }
+        }
     }
     Ok(())
 }
 
-/// Takes the step of each row on the row's files.
-pub fn take_rows(rt: &impl Abort, alloc: Global, rows: &[Row]) -> Result<(), Fail> {
-    for row in rows {
-        let mut files = holding(alloc, row.files, &[])?;
-        take(rt, alloc, &mut files, &row.step)?;
+/// Takes words with each of their programs.
+pub fn take_programs(rt: &impl Abort, alloc: Global, tables: &[Programs]) -> Result<(), Fail> {
+    for programs in tables {
+        for program in programs.1 {
+            let mut files = MemFiles::new(alloc, List::new(alloc));
+            files.add("m.p3l", program.0.as_bytes())?;
+            let step = Step(programs.0, program.1, program.2);
+            take(rt, alloc, &mut files, &step, &NONE)?;
+        }
     }
     Ok(())
 }
 
-/// Does what the words ask for with each of the programs.
-pub fn take_programs(
-    rt: &impl Abort,
-    alloc: Global,
-    words: &'static [&'static str],
-    programs: &[Program],
-) -> Result<(), Fail> {
-    for program in programs {
-        let mut files = MemFiles::new(alloc, List::new(alloc));
-        files.add("m.p3l", program.text.as_bytes())?;
-        let step = Step {
-            words,
-            input: program.input,
-            status: program.status,
-            output: program.output,
-            lines: program.lines,
-        };
-        take(rt, alloc, &mut files, &step)?;
+/// Takes a course, and looks at the files that it leaves.
+fn take_course(rt: &impl Abort, alloc: Global, course: &Course) -> Result<(), Fail> {
+    let mut files = holding(alloc, course.0, course.1.files)?;
+    for step in course.2 {
+        take(rt, alloc, &mut files, step, &course.1)?;
+    }
+    for left in course.3 {
+        let name = left.0;
+        assert!(rt; holds(&files, name, left.1.as_bytes()), "{name}");
+    }
+    for name in course.4 {
+        assert!(rt; files.get(name).is_none(), "{name}");
+    }
+    Ok(())
+}
+
+/// Takes courses, each on files of its own.
+pub fn take_courses(rt: &impl Abort, alloc: Global, tables: &[&[Course]]) -> Result<(), Fail> {
+    for table in tables {
+        for course in *table {
+            take_course(rt, alloc, course)?;
+        }
     }
     Ok(())
 }

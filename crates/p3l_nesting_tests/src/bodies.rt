@@ -20,101 +20,84 @@ pub enum Body {
     Test,
 }
 
-const ONE: [Instr; 18] = [
-    Instr::Load(0),
-    Instr::Push(9),
-    Instr::Binary(BinOp::Mul),
-    Instr::Push(4),
-    Instr::Binary(BinOp::Add),
+/// Takes off `2 / x`, with `x` at 0.
+const LESS_A: &[Instr] = &[
     Instr::Push(2),
     Instr::Load(0),
     Instr::Binary(BinOp::Div),
     Instr::Binary(BinOp::Sub),
-    Instr::Push(2),
-    Instr::Load(0),
+];
+
+/// Takes off `b`, behind `2` and the last word.
+const LESS_B: &[Instr] = &[
     Instr::Push(2),
     Instr::Binary(BinOp::Eq),
     Instr::Push(6),
     Instr::Binary(BinOp::Shl),
     Instr::Binary(BinOp::Shl),
     Instr::Binary(BinOp::Sub),
-    Instr::Store(1),
 ];
 
-const TWO: [Instr; 18] = [
-    Instr::Load(1),
-    Instr::Push(2),
-    Instr::Load(0),
-    Instr::Binary(BinOp::Div),
-    Instr::Binary(BinOp::Sub),
-    Instr::Store(2),
-    Instr::Load(0),
-    Instr::Push(3),
-    Instr::Binary(BinOp::Mul),
-    Instr::Push(2),
-    Instr::Load(1),
-    Instr::Push(2),
-    Instr::Binary(BinOp::Eq),
-    Instr::Push(6),
-    Instr::Binary(BinOp::Shl),
-    Instr::Binary(BinOp::Shl),
-    Instr::Binary(BinOp::Sub),
-    Instr::Store(3),
+const ONE: &[&[Instr]] = &[
+    &[Instr::Load(0), Instr::Push(9), Instr::Binary(BinOp::Mul)],
+    &[Instr::Push(4), Instr::Binary(BinOp::Add)],
+    LESS_A,
+    &[Instr::Push(2), Instr::Load(0)],
+    LESS_B,
+    &[Instr::Store(1)],
 ];
 
-const JOIN: [Instr; 18] = [
-    Instr::Load(0),
-    Instr::Push(2),
-    Instr::Load(1),
-    Instr::Binary(BinOp::Mul),
-    Instr::Binary(BinOp::Sub),
-    Instr::Push(2),
-    Instr::Load(0),
-    Instr::Binary(BinOp::Div),
-    Instr::Binary(BinOp::Sub),
-    Instr::Push(2),
-    Instr::Load(1),
-    Instr::Push(2),
-    Instr::Binary(BinOp::Eq),
-    Instr::Push(6),
-    Instr::Binary(BinOp::Shl),
-    Instr::Binary(BinOp::Shl),
-    Instr::Binary(BinOp::Sub),
-    Instr::Store(2),
+const TWO: &[&[Instr]] = &[
+    &[Instr::Load(1)],
+    LESS_A,
+    &[Instr::Store(2)],
+    &[Instr::Load(0), Instr::Push(3), Instr::Binary(BinOp::Mul)],
+    &[Instr::Push(2), Instr::Load(1)],
+    LESS_B,
+    &[Instr::Store(3)],
 ];
 
-const TEST: [Instr; 10] = [
-    Instr::Push(2),
-    Instr::Load(0),
-    Instr::Binary(BinOp::Div),
-    Instr::Push(0),
-    Instr::Binary(BinOp::Mul),
-    Instr::Load(0),
-    Instr::Push(4),
-    Instr::Binary(BinOp::BitAnd),
-    Instr::Binary(BinOp::Add),
-    Instr::Store(2),
+const JOIN: &[&[Instr]] = &[
+    &[Instr::Load(0), Instr::Push(2), Instr::Load(1)],
+    &[Instr::Binary(BinOp::Mul), Instr::Binary(BinOp::Sub)],
+    LESS_A,
+    &[Instr::Push(2), Instr::Load(1)],
+    LESS_B,
+    &[Instr::Store(2)],
+];
+
+const TEST: &[&[Instr]] = &[
+    &[Instr::Push(2), Instr::Load(0), Instr::Binary(BinOp::Div)],
+    &[Instr::Push(0), Instr::Binary(BinOp::Mul)],
+    &[Instr::Load(0), Instr::Push(4)],
+    &[Instr::Binary(BinOp::BitAnd), Instr::Binary(BinOp::Add)],
+    &[Instr::Store(2)],
 ];
 
 // The code of these instructions, which takes and gives so many words.
-fn code(alloc: Global, ins: u32, outs: u32, instrs: &[Instr]) -> Result<Code, NoMemory> {
-    let mut list = instrs.to_vec(alloc)?;
-    list.push(Instr::End)?;
+fn code(alloc: Global, ins: u32, outs: u32, pieces: &[&[Instr]]) -> Result<Code, NoMemory> {
+    let mut instrs = List::new(alloc);
+    for piece in pieces {
+        for instr in *piece {
+            instrs.push(*instr)?;
+        }
+    }
+    instrs.push(Instr::End)?;
     Ok(Code {
         budget: 1,
         ins,
         outs,
         memory: ins.wrapping_add(outs),
-        instrs: List::from_vec(list),
+        instrs,
     })
 }
 
 /// The code of a body.
 pub fn code_of(alloc: Global, body: Body) -> Result<Code, NoMemory> {
     match body {
-        Body::One => code(alloc, 1, 1, &ONE),
-        Body::Two => code(alloc, 2, 2, &TWO),
-        Body::Join => code(alloc, 2, 1, &JOIN),
-        Body::Test => code(alloc, 2, 1, &TEST),
+        Body::One => code(alloc, 1, 1, ONE),
+        Body::Two => code(alloc, 2, 2, TWO),
+        Body::Join => code(alloc, 2, 1, JOIN),
+        Body::Test => code(alloc, 2, 1, TEST),
     }
 }

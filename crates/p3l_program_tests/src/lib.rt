@@ -3,8 +3,4 @@
 #![tactic(auto)]
 
 #[cfg(test)]
-mod generated;
-#[cfg(test)]
 mod top;
-#[cfg(test)]
-mod traces;
