@@ -20,67 +20,35 @@ is_write n = n == status.write
 
 refusal_no_write : (r : Refusal) → is_write (refusal_status r) ≡ false
 refusal_no_write refusal.Usage = refl
-refusal_no_write (refusal.FileFault name) = refl
-refusal_no_write (refusal.FileTooLong name) = refl
-refusal_no_write (refusal.Source fault pos) = refl
-refusal_no_write (refusal.Costs fault) = refl
-refusal_no_write (refusal.TooFew need) = refl
-refusal_no_write (refusal.BadPick line) = refl
-refusal_no_write (refusal.NoSuchProcess line pick count) = refl
-refusal_no_write (refusal.Evidence why) = refl
+refusal_no_write _ = refl
 
 ending_no_write : (e : Ending) → is_write (ending_status e) ≡ false
 ending_no_write ending.End = refl
-ending_no_write (ending.BadWord line) = refl
-ending_no_write (ending.WrongCount line had) = refl
-ending_no_write (ending.OutOfRange line) = refl
-ending_no_write ending.ReadFault = refl
-ending_no_write ending.TooLong = refl
+ending_no_write _ = refl
 
 abbrev is_evidence : ℕ → Bool
 is_evidence n = n == status.evidence
 
 ending_no_evidence : (e : Ending) → is_evidence (ending_status e) ≡ false
 ending_no_evidence ending.End = refl
-ending_no_evidence (ending.BadWord line) = refl
-ending_no_evidence (ending.WrongCount line had) = refl
-ending_no_evidence (ending.OutOfRange line) = refl
-ending_no_evidence ending.ReadFault = refl
-ending_no_evidence ending.TooLong = refl
+ending_no_evidence _ = refl
 
 finish_no_write : (f : Finish) → is_write (finish_status f) ≡ false
-finish_no_write finish.Done = refl
-finish_no_write (finish.Stopped fired idle) = refl
-finish_no_write (finish.Trapped item kind home) = refl
 finish_no_write (finish.Stream e) = ending_no_write e
-finish_no_write (finish.Differs line) = refl
+finish_no_write _ = refl
 
 -- the two kinds of statuses are apart
 ending_other : (e : Ending) → status.is_refusal (ending_status e) ≡ false
 ending_other ending.End = refl
-ending_other (ending.BadWord line) = refl
-ending_other (ending.WrongCount line had) = refl
-ending_other (ending.OutOfRange line) = refl
-ending_other ending.ReadFault = refl
-ending_other ending.TooLong = refl
+ending_other _ = refl
 
 pub finish_other : (f : Finish) → status.is_refusal (finish_status f) ≡ false
-finish_other finish.Done = refl
-finish_other (finish.Stopped fired idle) = refl
-finish_other (finish.Trapped item kind home) = refl
 finish_other (finish.Stream e) = ending_other e
-finish_other (finish.Differs line) = refl
+finish_other _ = refl
 
 pub refusal_other : (r : Refusal) → status.is_end (refusal_status r) ≡ false
 refusal_other refusal.Usage = refl
-refusal_other (refusal.FileFault name) = refl
-refusal_other (refusal.FileTooLong name) = refl
-refusal_other (refusal.Source fault pos) = refl
-refusal_other (refusal.Costs fault) = refl
-refusal_other (refusal.TooFew need) = refl
-refusal_other (refusal.BadPick line) = refl
-refusal_other (refusal.NoSuchProcess line pick count) = refl
-refusal_other (refusal.Evidence why) = refl
+refusal_other _ = refl
 
 -- a verdict that is a refusal of this status
 pub record IsRefusedWith (v : Verdict) (n : ℕ) : Type 0 where
