@@ -388,14 +388,7 @@ emits_of w origin order trace reported finish stats e = let f = e.finishes in le
 
 files_refused : (r : Refusal) (files : Change Held) → FilesCause r files → files.before < files.now → refusal_status r ≡ status.file
 files_refused (refusal.FileFault name) files cause up = refl
-files_refused refusal.Usage files cause up = absurd (omega arith)
-files_refused (refusal.FileTooLong name) files cause up = refl
-files_refused (refusal.Source fault pos) files cause up = absurd (omega arith)
-files_refused (refusal.Costs fault) files cause up = absurd (omega arith)
-files_refused (refusal.TooFew need) files cause up = absurd (omega arith)
-files_refused (refusal.BadPick line) files cause up = absurd (omega arith)
-files_refused (refusal.NoSuchProcess line pick count) files cause up = absurd (omega arith)
-files_refused (refusal.Evidence evidence) files cause up = absurd (omega arith)
+files_refused _ files cause up = absurd (omega arith)
 
 module _ (words : List Text) (w : World) (err : Change (List ℕ)) (n : ℕ) (a : Answers words w err n) where
   at : status_of a.verdict ≡ n

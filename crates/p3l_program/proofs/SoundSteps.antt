@@ -10,6 +10,8 @@ use Rattle.p3l_check.specs.Resolving.{ResolvedTree}
 use Rattle.p3l_compile.specs.Leaves.{AreBodies, body_leaf}
 use Rattle.p3l_compile.proofs.Leaves.{have_codes, same_leaf}
 use Rattle.p3l_firing.specs.declared.net.Net.{Net}
+use Rattle.p3l_units.specs.Table.{Served, leaf}
+use Rattle.p3l_units.specs.laws.Leaf.{gives_outs}
 use Rattle.p3l_net.specs.Carried.{IsCarried}
 use Rattle.p3l_net.specs.Typed.{IsTyped}
 use Rattle.p3l_link.specs.Laws.{EveryNetIsCarried}
@@ -31,6 +33,18 @@ sound carried tree leaf counts capacity net bound lawful fit room gives linked t
     let whole = carried (record { tree = tree; leaf = leaf }) counts capacity (record { lawful = lawful; fit = fit; room = omega arith; gives = gives }) in
     let here = subst (λ w. IsCarried tree leaf w (firings tree counts) carry) (sym linked) whole in
     record { typed = typed; carried = (carry, subst (λ n. IsCarried tree leaf net n carry) (sym bound_is) here) }
+
+-- what was loaded is run on its codes by a sound network, which is the one that was loaded
+module _ (loaded : LoadedImage) (ready : IsReadyImage loaded) (units : Served) (units_are : units ≡ record { tree = loaded.tree; codes = loaded.codes }) (bound : ℕ) (bound_is : bound ≡ firings loaded.tree loaded.counts.list) where
+  pub loaded_sound : EveryNetIsCarried → IsSound (network loaded.tree (leaf units) loaded.net bound)
+  loaded_sound carried =
+      let gives = subst (λ t. GivesOuts t (leaf units)) (ap (λ u. u.tree) units_are) (gives_outs units) in
+      sound carried loaded.tree (leaf units) loaded.counts.list loaded.cap loaded.net bound ready.lawful ready.fit ready.room gives ready.net_is ready.typed bound_is
+
+  pub loaded_network : network loaded.tree (leaf units) loaded.net bound ≡ network_in loaded
+  loaded_network =
+      ap (λ u. network loaded.tree (leaf u) loaded.net bound) units_are
+      ∙ ap (λ b. network loaded.tree (leaf (record { tree = loaded.tree; codes = loaded.codes })) loaded.net b) bound_is
 
 -- an item has a word at least
 pub some_words : (tree : Tree) → IsLawfulTree tree → 1 ≤ (node_at tree 0).ins

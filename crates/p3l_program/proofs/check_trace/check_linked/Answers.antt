@@ -1,33 +1,19 @@
-use Rattle.std.proofs.Common.{◌≡◌, ◌≤◌, ap, ◌∙◌, subst, sym}
-use Rattle.p3l_skel.specs.Tree.{GivesOuts}
-use Rattle.p3l_run.specs.Network.{network}
-use Rattle.p3l_units.specs.Table.{leaf}
-use Rattle.p3l_units.specs.laws.Leaf.{gives_outs}
-use Rattle.p3l_program.specs.Network.{network_in}
+use Rattle.std.proofs.Common.{◌≡◌, ◌≤◌, subst, sym}
 use Rattle.p3l_program.specs.Trace.{IsCheckOf}
 use Rattle.p3l_program.specs.World.{change}
-use Rattle.p3l_program.proofs.SoundSteps.{some_words, sound}
+use Rattle.p3l_program.proofs.SoundSteps.{loaded_network, loaded_sound, some_words}
 use Rattle.p3l_program.proofs.check_trace.check_linked.Goals as goal
 
 pub check_network-requires-clause-sound : goal.check_network-requires-clause-sound
-check_network-requires-clause-sound g c =
-    let ready = c.requires.ready in
-    let loaded = c.args.linked in
-    let units = c.in-Ok.units in
-    let gives = subst (λ t. GivesOuts t (leaf units)) (ap (λ u. u.tree) c.in-Ok.ensures) (gives_outs units) in
-    sound c.every_linked_net_is_carried.ensures loaded.tree (leaf units) loaded.counts.list loaded.cap loaded.net c.firings.result ready.lawful ready.fit ready.room gives
-    ready.net_is ready.typed c.firings.ensures.number
+check_network-requires-clause-sound g c = loaded_sound c.args.linked c.requires.ready c.in-Ok.units c.in-Ok.ensures c.firings.result c.firings.ensures.number c.every_linked_net_is_carried.ensures
 
 pub check_network-requires-clause-wide : goal.check_network-requires-clause-wide
 check_network-requires-clause-wide g c = subst (λ n. 1 ≤ n) (sym c.width_of.ensures) (some_words c.args.linked.tree c.requires.ready.lawful)
 
 pub returns-clause-checked : goal.returns-clause-checked
 returns-clause-checked g c =
-    let loaded = c.args.linked in
     let files = change g.F.Files.held g.F.Files.faults c.args.files.now c.check_network.new.files in
     let input = change g.S.Source.rest g.S.Source.faults c.args.input.now c.check_network.new.input in
     let out = change g.K.Sink.taken g.K.Sink.faults c.args.out.now c.check_network.new.out in
-    let same : network loaded.tree (leaf c.in-Ok.units) loaded.net c.firings.result ≡ network_in loaded =
-    ap (λ u. network loaded.tree (leaf u) loaded.net c.firings.result) c.in-Ok.ensures
-    ∙ ap (λ b. network loaded.tree (leaf (record { tree = loaded.tree; codes = loaded.codes })) loaded.net b) c.firings.ensures.number in
+    let same = loaded_network c.args.linked c.requires.ready c.in-Ok.units c.in-Ok.ensures c.firings.result c.firings.ensures.number in
     subst (λ n. IsCheckOf n files input out c.args.name c.check_network.result) same c.check_network.ensures.checked
