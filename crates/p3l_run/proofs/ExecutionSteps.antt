@@ -110,9 +110,6 @@ module _ (job : Job) where
     few_firings : n.firings * length d.items ≤ n.firings * most_of_input
     few_firings = steps.few_fits n.firings (length d.items) most_of_input few_items
 
-    pub same_tree : n.tree ≡ e.machine.tree
-    same_tree = sym d.stands.runs.tree
-
     pub in_range : IsInRange e
     in_range = record {
       place = subst (λ k. HasPlace (length k.procs) e.picker) (sym d.stands.runs.net) d.stands.place;

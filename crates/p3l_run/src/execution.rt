@@ -1,11 +1,11 @@
 // A run under way, pick by pick.
 
-ghost use Rattle.std.specs.Prelude.{◌≡◌, ◌<◌, ◌≤◌, ◌+◌, ◌*◌, ◌^◌, ℕ, [], None, length, IfOk, IsNone, IsSome, IsTrue, OnOk};
+ghost use Rattle.std.specs.Prelude.{◌≡◌, ◌<◌, ◌≤◌, ◌*◌, ◌^◌, [], None, length, IfOk, IsNone, IsSome, IsTrue, OnOk};
 ghost use Rattle.p3l_net.specs.Machine.{can_step, ready_list};
 ghost use Rattle.p3l_net.specs.Typed.{IsTyped};
 ghost use Rattle.p3l_sched.specs.Picker.{HasPlace, HasProcesses};
 ghost use Rattle.p3l_skel.specs.Tree.{node_at};
-ghost use Rattle.p3l_run.specs.Execution.{FeedsOn, HasFired, IsFinish, IsInRange, MayPick, IsUnderWay, RunsOut, StepsOn, after_idle, outside, started, stats_at};
+ghost use Rattle.p3l_run.specs.Execution.{FeedsOn, HasFired, IsFinish, IsInRange, IsUnderWay, MayPick, RunsOut, StepsOn, after_idle, outside, started, stats_at};
 
 use crate::fault::RunFault;
 use crate::feed::{INPUT_LIMIT, feed};

@@ -1,14 +1,14 @@
 use Rattle.std.proofs.Common.{◌<◌, ◌∙◌, subst, sym}
 use Rattle.std.proofs.lemmas.Result.{err_from_is_err_and}
 use Rattle.p3l_run.specs.Execution.{left_at, outside}
-use Rattle.p3l_run.proofs.ExecutionSteps.{in_range, made, none_made, same_tree, unended, wide}
+use Rattle.p3l_run.proofs.ExecutionSteps.{in_range, made, none_made, unended, wide}
 use Rattle.p3l_run.proofs.execution.Execution.run_out.Goals as goal
 
 pub feed-requires-clause-wide : goal.feed-requires-clause-wide
-feed-requires-clause-wide g c = let way = c.requires.job in wide way.job _ _ (c.picks.invariant way.job way.leaf_is way.executes)
+feed-requires-clause-wide g c = let way = c.requires.job in wide way.job (outside (g.S.Source.rest c.picks.input) (g.S.Source.faults c.picks.input) (g.K.Sink.taken c.picks.out) (g.K.Sink.faults c.picks.out)) c.picks.self (c.picks.invariant way.job way.leaf_is way.executes)
 
 pub feed-requires-clause-open : goal.feed-requires-clause-open
-feed-requires-clause-open g c = let way = c.requires.job in unended way.job _ _ (c.picks.invariant way.job way.leaf_is way.executes)
+feed-requires-clause-open g c = let way = c.requires.job in unended way.job (outside (g.S.Source.rest c.picks.input) (g.S.Source.faults c.picks.input) (g.K.Sink.taken c.picks.out) (g.K.Sink.faults c.picks.out)) c.picks.self (c.picks.invariant way.job way.leaf_is way.executes)
 
 pub returns-in_err-feed : goal.returns-in_err-feed
 returns-in_err-feed g c =
@@ -18,14 +18,12 @@ returns-in_err-feed g c =
 pub step-requires-clause-tree : goal.step-requires-clause-tree
 step-requires-clause-tree g c =
     let way = c.requires.job in
-    c.requires.tree
-    ∙ sym (same_tree way.job _ c.args.self.now way.executes)
-    ∙ same_tree way.job _ c.feed.new.self (c.in_ok-feed.ensures way.job _ _ (c.picks.invariant way.job way.leaf_is way.executes)).0.executes
+    c.requires.tree ∙ way.executes.stands.runs.tree ∙ sym (c.in_ok-feed.ensures way.job _ _ (c.picks.invariant way.job way.leaf_is way.executes)).0.executes.stands.runs.tree
 
 pub step-requires-clause-range : goal.step-requires-clause-range
 step-requires-clause-range g c =
     let way = c.requires.job in
-    in_range way.job _ c.feed.new.self (c.in_ok-feed.ensures way.job _ _ (c.picks.invariant way.job way.leaf_is way.executes)).0.executes
+    in_range way.job (outside (g.S.Source.rest c.feed.new.input) (g.S.Source.faults c.feed.new.input) (g.K.Sink.taken c.picks.out) (g.K.Sink.faults c.picks.out)) c.feed.new.self (c.in_ok-feed.ensures way.job _ _ (c.picks.invariant way.job way.leaf_is way.executes)).0.executes
 
 pub returns-in_err-step : goal.returns-in_err-step
 returns-in_err-step g c =
