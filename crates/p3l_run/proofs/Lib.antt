@@ -2,4 +2,4 @@ pub mod WriteSteps
 pub mod FeedSteps
 pub mod TraceSteps
 pub mod RunSteps
-pub mod DriveSteps
+pub mod ExecutionSteps

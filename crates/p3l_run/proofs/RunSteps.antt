@@ -27,7 +27,7 @@ use Rattle.p3l_sched.specs.declared.picker.Way.TheVariants as way
 use Rattle.p3l_sched.specs.declared.schedule.Schedule.{Schedule}
 use Rattle.p3l_sched.specs.declared.schedule.Schedule.TheVariants as schedules
 use Rattle.p3l_sched.specs.Course.{most_picks, picks_from, picks_of}
-use Rattle.p3l_sched.specs.Picker.{HasPlace, HasProcesses, IsPickedFrom, NamesProcesses, after_pick, begun, pick_of, ready_of, recorded}
+use Rattle.p3l_sched.specs.Picker.{HasPlace, HasProcesses, IsPickedFrom, NamesProcesses, after_pick, begun, pick_of, ready_of}
 use Rattle.p3l_stream.specs.declared.items.Ending.{Ending}
 use Rattle.p3l_stream.specs.Text.{text_of}
 use Rattle.p3l_trace.specs.declared.trace.TraceLine.{TraceLine}
@@ -82,8 +82,8 @@ named_first (schedules.Seeded seed) size named = tt
 named_first (schedules.Recorded picks) size named = named
 
 room_first : (schedule : Schedule) → HasRoom schedule (begun schedule) 0
-room_first schedules.RoundRobin = tt
-room_first (schedules.Seeded seed) = tt
+room_first schedules.RoundRobin = omega arith
+room_first (schedules.Seeded seed) = omega arith
 room_first (schedules.Recorded picks) = omega arith
 
 -- behind a pick the cursor is a process
@@ -100,21 +100,15 @@ named_after can size (way.Reads (q ∷ picks)) p named = named.1
 
 -- of recorded picks one less is left
 room_after : (schedule : Schedule) (can : ℕ → Bool) (size : ℕ) (w : Way) (p idle : ℕ) → IsPickedFrom can size w p → HasRoom schedule w idle → HasRoom schedule (after_pick size w p) idle
-room_after schedule can size (way.Turns cursor) p idle from room = tt
-room_after schedule can size (way.Draws generator) p idle from room = tt
+room_after schedule can size (way.Turns cursor) p idle from room = room
+room_after schedule can size (way.Draws generator) p idle from room = room
 room_after schedule can size (way.Reads picks) p idle from room = (let one = ap length from in omega arith)
 
--- and one pick more may have been idle
-room_idle : (schedule : Schedule) (can : ℕ → Bool) (size : ℕ) (w : Way) (p idle : ℕ) → IsPickedFrom can size w p → HasRoom schedule w idle → HasRoom schedule (after_pick size w p) (idle + 1)
-room_idle schedule can size (way.Turns cursor) p idle from room = tt
-room_idle schedule can size (way.Draws generator) p idle from room = tt
-room_idle schedule can size (way.Reads picks) p idle from room = (let one = ap length from in omega arith)
-
--- a turn and a draw fire
-pub idle_reads : (schedule : Schedule) (can : ℕ → Bool) (size : ℕ) (w : Way) (p idle : ℕ) → IsPickedFrom can size w p → can p ≡ false → HasRoom schedule w idle → idle + 1 ≤ recorded schedule
-idle_reads schedule can size (way.Turns cursor) p idle from cannot room = absurd (false≢true (sym cannot ∙ from))
-idle_reads schedule can size (way.Draws generator) p idle from cannot room = absurd (false≢true (sym cannot ∙ from))
-idle_reads schedule can size (way.Reads picks) p idle from cannot room = (let one = ap length from in omega arith)
+-- and one pick more may have been idle, which a turn and a draw are not
+room_idle : (schedule : Schedule) (can : ℕ → Bool) (size : ℕ) (w : Way) (p idle : ℕ) → IsPickedFrom can size w p → can p ≡ false → HasRoom schedule w idle → HasRoom schedule (after_pick size w p) (idle + 1)
+room_idle schedule can size (way.Turns cursor) p idle from cannot room = absurd (false≢true (sym cannot ∙ from))
+room_idle schedule can size (way.Draws generator) p idle from cannot room = absurd (false≢true (sym cannot ∙ from))
+room_idle schedule can size (way.Reads picks) p idle from cannot room = (let one = ap length from in omega arith)
 
 -- what is left after a firing
 left_fired : (bound fired fired' : ℕ) (can : ℕ → Bool) (size : ℕ) (w : Way) (p : ℕ) → IsPickedFrom can size w p → fired' ≡ fired + 1 → fired + 1 ≤ bound → left_of bound fired w ≡ suc (left_of bound fired' (after_pick size w p))
@@ -386,7 +380,7 @@ module _ (n : Network) (laws : Laws n) (schedule : Schedule) where
             wide = s.wide;
             place = place_after (size_of n) w p laws.some;
             named = named_after (can_step m) (size_of n) w p s.named;
-            room = room_idle schedule (can_step m) (size_of n) w p idle picked_so s.room;
+            room = room_idle schedule (can_step m) (size_of n) w p idle picked_so cannot s.room;
             counts = counts_idle walked line m.fired idle is_said s.counts;
             at = λ later may. record {
               agree = agree_on there (is_said ∙ sym (cond-false _ _ _ cannot)) later may;

@@ -1,7 +1,6 @@
 -- What was written, text after text.
 use Rattle.std.proofs.Common.{◌≡◌, ℕ, ℤ, List, [], ◌∷◌, ◌++◌, Option, Some, None, take, drop, refl, sym, ap, subst, ◌∙◌, append_assoc, append-nil}
 use Rattle.std.proofs.lemmas.List.{take-append-drop}
-use Rattle.std.specs.declared.result.Result.{Result}
 use Rattle.std.specs.declared.result.Result.TheVariants.{Ok, Err}
 use Rattle.p3l_base.specs.declared.outcome.Outcome.{Outcome}
 use Rattle.p3l_base.specs.declared.outcome.Outcome.TheVariants.{Value, Trapped}
@@ -72,9 +71,6 @@ pub text_one : (words : List ℤ) → text_of (Value words ∷ []) ≡ item_text
 text_one words = append-nil (item_text words)
 
 -- a fault that is handed on, with the count from before
-pub cause_on : {T : Type 0} (U : Type 0) (before mid now : ℕ) (first other : RunFault) (r : Result T RunFault) → mid ≡ before → r ≡ Err other → other ≡ first → WriteCause {T = U} mid now (Err first) → WriteCause {T = T} before now r
-cause_on {T = T} U before mid now first other r same is hands cause = rw (is, hands) (by first cause)
-  where
-    by : (f : RunFault) → WriteCause {T = U} mid now (Err f) → WriteCause {T = T} before now (Err f)
-    by fault.Write c = subst (λ k. Rose k now) same c
-    by fault.NoMemory c = c ∙ same
+pub cause_on : (T U : Type 0) (before mid now : ℕ) (failed : RunFault) → mid ≡ before → WriteCause {T = U} mid now (Err failed) → WriteCause {T = T} before now (Err failed)
+cause_on T U before mid now fault.Write same cause = subst (λ k. Rose k now) same cause
+cause_on T U before mid now fault.NoMemory same cause = cause ∙ same

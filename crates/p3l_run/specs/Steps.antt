@@ -10,20 +10,11 @@ use Rattle.p3l_sched.specs.declared.schedule.Schedule.{Schedule}
 use Rattle.p3l_sched.specs.Course.{picks_from}
 use Rattle.p3l_sched.specs.Picker.{HasPlace, HasProcesses, recorded}
 use Rattle.p3l_stream.specs.declared.items.Ending.{Ending}
-use Rattle.p3l_stream.specs.Seen as lines
-use Rattle.p3l_stream.specs.Text.{text_of}
 use Rattle.p3l_trace.specs.declared.trace.TraceLine.{TraceLine}
 use Rattle.p3l_trace.specs.Agreement as trace
-use Rattle.p3l_run.specs.declared.keeping.Keeping.{Keeping}
-use Rattle.p3l_run.specs.declared.write.Told.{Told}
-use Rattle.p3l_run.specs.Feed.{Gives, closed_so}
-use Rattle.p3l_run.specs.Keeping.{kept_by}
 use Rattle.p3l_run.specs.Laws.{Runs}
-use Rattle.p3l_run.specs.Network.{Network, course_under, picks_of, size_of, width_of}
+use Rattle.p3l_run.specs.Network.{Network, course_under, picks_of, size_of}
 use Rattle.p3l_run.specs.Run.{MayCome}
-use Rattle.p3l_run.specs.Sum.{sum_of}
-use Rattle.p3l_run.specs.Trap.{trap_of}
-use Rattle.p3l_run.specs.Write.{HasPut}
 
 -- how many picks are left of so many firings, or of those recorded
 abbrev pub left_of : ℕ → ℕ → Way → ℕ
@@ -39,10 +30,14 @@ pub record IsAt (n : Network) (schedule : Schedule) (m : Seen) (way : Way) (item
       trace.picks_of walked ++ picks_from n.tree n.leaf n.net (left_of (n.firings * length items) m.fired way) way (course_under n items (trace.picks_of walked)) ≡ picks_of n schedule items
   pub agree : trace.AllAgree n.tree n.leaf n.net items walked
 
+-- how many recorded picks are left
+abbrev pub unread : Way → ℕ
+unread (way.Reads picks) = length picks
+unread w = 0
+
 -- there were no more idle picks than those recorded that are not left
 abbrev pub HasRoom : Schedule → Way → ℕ → Type 0
-HasRoom schedule (way.Reads picks) idle = idle + length picks ≤ recorded schedule
-HasRoom schedule w idle = Unit {0}
+HasRoom schedule w idle = idle + unread w ≤ recorded schedule
 
 -- the machine runs the network on the items given, and whatever may still come behind them, and this is the trace so far
 pub record Stands (n : Network) (schedule : Schedule) (m : Seen) (way : Way) (given : List (List ℤ)) (close : Option Ending) (outcomes : List Outcome) (idle : ℕ) (walked : List TraceLine) : Type 0 where
@@ -53,17 +48,3 @@ pub record Stands (n : Network) (schedule : Schedule) (m : Seen) (way : Way) (gi
   pub room : HasRoom schedule way idle
   pub counts : trace.IsCounted (record { lines = walked; fired = m.fired; idle = idle })
   pub at : (later : List (List ℤ)) → MayCome n close later → IsAt n schedule m way (given ++ later) later outcomes idle walked
-
--- the same, with the text of the outcomes written, the trap among them, the sum of their words, the lines that are kept, and the
--- stream where it gave these items
-pub record Drives (n : Network) (schedule : Schedule) (keeping : Keeping) (m : Seen) (way : Way) (stream : lines.Seen) (close : Option Ending) (told : Told) (idle : ℕ) (kept : Option (List TraceLine))
-    (rest left : Option (List ℕ)) (before now : ℕ) (taken taken' : Option (List ℕ)) : Type 0 where
-  pub items : List (List ℤ)
-  pub outcomes : List Outcome
-  pub walked : List TraceLine
-  pub gives : Gives (width_of n) rest left before now stream items (closed_so close)
-  pub stands : Stands n schedule m way items close outcomes idle walked
-  pub trap_is : told.trap ≡ trap_of outcomes
-  pub sum_is : told.sum ≡ sum_of outcomes
-  pub put : HasPut taken taken' (text_of outcomes)
-  pub kept_is : kept ≡ kept_by keeping walked

@@ -3,6 +3,7 @@
 //! for.
 #![tactic(auto)]
 
+mod execution;
 pub mod fault;
 pub mod feed;
 mod finish;

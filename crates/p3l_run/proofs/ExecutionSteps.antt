@@ -1,0 +1,370 @@
+-- A run under way: its first state, what is fed, each pick, and its end.
+use Rattle.std.proofs.Common.{◌≡◌, ◌≢◌, ℕ, ℤ, ◌+◌, ◌*◌, ◌<◌, ◌≤◌, ◌^◌, Bool, true, false, List, [], ◌∷◌, ◌++◌, length, fold, Option, Some, None, Ok, Err, IsTrue, IsNone, IsSome, inl, inr, refl, sym, ap, subst, ◌∙◌, arith}
+use Rattle.std.specs.Option.{option_to_list}
+use Rattle.std.proofs.lemmas.Bool.{cond-false, cond-true}
+use Rattle.p3l_base.specs.declared.outcome.Outcome.{Outcome}
+use Rattle.p3l_base.specs.declared.outcome.Trap.{Trap}
+use Rattle.p3l_firing.specs.declared.process.ProcKind.{ProcKind}
+use Rattle.p3l_firing.specs.Nodes.{Leaf}
+use Rattle.p3l_skel.specs.Tree.{node_at}
+use Rattle.p3l_net.specs.Machine as machine
+use Rattle.p3l_net.specs.Machine.{Fires, can_step, ready_list}
+use Rattle.p3l_net.specs.Offered.{HasFilledInbox}
+use Rattle.p3l_net.specs.Process.{kind_at}
+use Rattle.p3l_report.specs.declared.verdict.Finish.TheVariants as finish
+use Rattle.p3l_sched.specs.declared.picker.Way.{Way}
+use Rattle.p3l_sched.specs.Course.{picks_from}
+use Rattle.p3l_sched.specs.Picker.{HasPlace, HasProcesses, IsPickedFrom, NamesProcesses, after_pick, recorded}
+use Rattle.p3l_stream.specs.declared.items.Ending.{Ending}
+use Rattle.p3l_stream.specs.Given.{HasGiven}
+use Rattle.p3l_stream.specs.Seen as stream
+use Rattle.p3l_stream.specs.Text.{text_of}
+use Rattle.p3l_trace.specs.declared.trace.TraceLine.{TraceLine}
+use Rattle.p3l_trace.specs.Agreement as trace
+use Rattle.p3l_run.specs.declared.execution.Execution.{Execution}
+use Rattle.p3l_run.specs.declared.fault.RunFault.{RunFault}
+use Rattle.p3l_run.specs.declared.fault.RunFault.TheVariants as fault
+use Rattle.p3l_run.specs.declared.keeping.Keeping.{Keeping}
+use Rattle.p3l_run.specs.declared.keeping.Keeping.TheVariants as keep
+use Rattle.p3l_run.specs.declared.run.Ran.{Ran}
+use Rattle.p3l_run.specs.declared.write.Told.{Told}
+use Rattle.p3l_run.specs.Execution.{AwaitsPick, Ends, Executes, GoesOn, HasFired, IsFinish, IsInRange, IsOver, Job, Outside, Picks, after_idle, kept_with, left_at, outside, started, stats_at}
+use Rattle.p3l_run.specs.Feed.{Feeds, FeedsInVain, closed_so, input_limit, most_of_input}
+use Rattle.p3l_run.specs.Keeping.{kept_by}
+use Rattle.p3l_run.specs.Laws.{Laws}
+use Rattle.p3l_run.specs.Network.{Network, course_of, course_under, goes_on, is_some, size_of, width_of}
+use Rattle.p3l_run.specs.Run.{MayCome, MayEnd, end_of, finish_of}
+use Rattle.p3l_run.specs.Steps.{Stands, left_of}
+use Rattle.p3l_run.specs.Sum.{sum_after}
+use Rattle.p3l_run.specs.Trap.{trap_after, trap_of}
+use Rattle.p3l_run.specs.Write.{HasBegun, HasPut, WriteCause}
+use Rattle.p3l_run.proofs.FeedSteps.{fed_fired, gives_first}
+use Rattle.p3l_run.proofs.RunSteps as steps
+use Rattle.p3l_run.proofs.WriteSteps.{begun_whole, cause_on, put_more, put_nothing, text_more}
+
+-- the lines that are kept are those of the trace with one more
+kept_more : (keeping : Keeping) (kept : Option (List TraceLine)) (walked : List TraceLine) (p : ℕ) (kind : Option ProcKind) → kept ≡ kept_by keeping walked →
+    kept_with p kind kept ≡ kept_by keeping (walked ++ record { pick = p; kind = kind } ∷ [])
+kept_more keeping kept walked p kind is = ap (kept_with p kind) is ∙ by keeping
+  where
+    by : (k : Keeping) → kept_with p kind (kept_by k walked) ≡ kept_by k (walked ++ record { pick = p; kind = kind } ∷ [])
+    by keep.Lines = refl
+    by keep.Nothing = refl
+
+-- what a pick led to, where it was made, and where none was left
+pub made : (job : Job) (now : Outside) (old new : Execution) (going : Bool) → going ≡ true → GoesOn job now old new going → Executes job now new × (left_at new < left_at old)
+made job now old new going is goes = subst (GoesOn job now old new) is goes
+
+pub none_made : (job : Job) (now : Outside) (old new : Execution) (going : Bool) → going ≡ false → GoesOn job now old new going → AwaitsPick job now new × IsOver new
+none_made job now old new going is goes = subst (GoesOn job now old new) is goes
+
+module _ (job : Job) where
+  abbrev n : Network
+  n = job.network
+
+  -- nothing was asked and nothing written
+  pub ends_unstarted : HasGiven (width_of n) (stream.started (width_of n) input_limit) [] [] → Ends job job.before (Err fault.NoMemory)
+  ends_unstarted given = record {
+    ends = record {
+      stream = stream.started (width_of n) input_limit;
+      items = [];
+      closed = None;
+      gives = gives_first (width_of n) job.before.rest job.before.read_faults (stream.started (width_of n) input_limit) given refl;
+      begun = begun_whole job.before.taken job.before.taken [] _ _ (put_nothing job.before.taken) refl;
+    };
+    output = refl;
+  }
+
+  pub executes_first : Laws n → n.firings * most_of_input < 2 ^ 63 → recorded job.schedule < 2 ^ 63 → NamesProcesses (size_of n) job.schedule → HasGiven (width_of n) (stream.started (width_of n) input_limit) [] [] →
+      (width : ℕ) → width ≡ width_of n → (e : Execution) → e ≡ started n.tree n.net width job.schedule job.keeping → Executes job job.before e
+  executes_first laws fits few named given width wide e is =
+      subst (Executes job job.before) (sym is) (subst (λ w. Executes job job.before (started n.tree n.net w job.schedule job.keeping)) (sym wide) (record {
+        laws = laws;
+        fits = fits;
+        few = few;
+        items = [];
+        outcomes = [];
+        walked = [];
+        gives = gives_first (width_of n) job.before.rest job.before.read_faults (stream.started (width_of n) input_limit) given refl;
+        stands = steps.stands_first n laws job.schedule (machine.started n.tree n.net) refl named;
+        trap_is = refl;
+        sum_is = refl;
+        put = put_nothing job.before.taken;
+        kept_is = refl;
+        quiet = refl;
+      }))
+
+  module _ (now : Outside) (e : Execution) (d : Executes job now e) where
+    same_width : (node_at e.machine.tree 0).ins ≡ width_of n
+    same_width = ap (λ t. (node_at t 0).ins) d.stands.runs.tree
+
+    pub wide : e.stream.words ≡ (node_at e.machine.tree 0).ins
+    wide = d.gives.given.width_is ∙ sym same_width
+
+    pub unended : e.close ≡ None → e.stream.closed ≡ None
+    unended none = d.gives.closed_is ∙ ap closed_so none
+
+    few_items : length d.items ≤ most_of_input
+    few_items = (let few = d.gives.few in omega arith)
+
+    few_firings : n.firings * length d.items ≤ n.firings * most_of_input
+    few_firings = steps.few_fits n.firings (length d.items) most_of_input few_items
+
+    pub in_range : IsInRange e
+    in_range = record {
+      place = subst (λ k. HasPlace (length k.procs) e.picker) (sym d.stands.runs.net) d.stands.place;
+      named = subst (λ k. HasProcesses (length k.procs) e.picker) (sym d.stands.runs.net) d.stands.named;
+      fired =
+          (let a = steps.few_fired n d.laws job.schedule e.machine e.picker d.items e.close d.outcomes e.idle d.walked d.stands in
+          let b = few_firings in
+          let c = d.fits in
+          omega arith);
+      idle = (let a = d.stands.room in let b = d.few in omega arith);
+    }
+
+    pub sent_fits : e.machine.sent * n.firings < 2 ^ 64
+    sent_fits =
+        steps.bound_fits n.firings e.machine.sent (length d.items) most_of_input (steps.few_sent n d.laws job.schedule e.machine e.picker d.items e.close d.outcomes e.idle d.walked d.stands) few_items d.fits
+
+    -- memory was wanting
+    pub ends_early : Ends job now (Err fault.NoMemory)
+    ends_early = record {
+      ends = record {
+        stream = e.stream;
+        items = d.items;
+        closed = closed_so e.close;
+        gives = d.gives;
+        begun = steps.begun_by n d.items d.outcomes job.before.taken now.taken (steps.begins_all n d.laws job.schedule e.machine e.picker d.items e.close d.outcomes e.idle d.walked d.stands) d.put;
+      };
+      output = d.quiet;
+    }
+
+    -- the machine was fed
+    pub fed : (m : machine.Seen) (s : stream.Seen) (left : Option (List ℕ)) (after : ℕ) (close : Option Ending) → Feeds (node_at e.machine.tree 0).ins e.machine m e.stream s now.rest left now.read_faults after e.close close →
+        AwaitsPick job (outside left after now.taken now.write_faults) (record e { machine = m; stream = s; close = close }) × (left_at (record e { machine = m; stream = s; close = close }) ≡ left_at e)
+    fed m s left after close feeds =
+        let f : Feeds (width_of n) e.machine m e.stream s now.rest left now.read_faults after e.close close = subst (λ k. Feeds k e.machine m e.stream s now.rest left now.read_faults after e.close close) same_width feeds in (
+          record {
+            executes = record {
+              laws = d.laws;
+              fits = d.fits;
+              few = d.few;
+              items = d.items ++ f.more;
+              outcomes = d.outcomes;
+              walked = d.walked;
+              gives = f.gives job.before.rest job.before.read_faults d.items d.gives;
+              stands = steps.stands_fed n d.laws job.schedule e.machine m e.picker d.items e.close close d.outcomes e.idle d.walked d.stands f.kept f.more f.offers f.wide f.asked;
+              trap_is = d.trap_is;
+              sum_is = d.sum_is;
+              put = d.put;
+              kept_is = d.kept_is;
+              quiet = d.quiet;
+            };
+            filled = f.filled;
+          },
+          ap (λ k. left_of (2 ^ 63) k e.picker) (fed_fired e.machine m f.more f.offers),
+        )
+
+    -- memory was wanting for that
+    pub ends_unfed : (s : stream.Seen) (left : Option (List ℕ)) (after : ℕ) → FeedsInVain (node_at e.machine.tree 0).ins e.stream s now.rest left now.read_faults after e.close → Ends job (outside left after now.taken now.write_faults) (Err fault.NoMemory)
+    ends_unfed s left after vain =
+        let f : FeedsInVain (width_of n) e.stream s now.rest left now.read_faults after e.close = subst (λ k. FeedsInVain k e.stream s now.rest left now.read_faults after e.close) same_width vain in
+        let may : MayCome n e.close f.more = record { wide = f.wide; none = λ x is. absurd (no_end x (sym f.asked ∙ is)) } in
+        record {
+          ends = record {
+            stream = s;
+            items = d.items ++ f.more;
+            closed = f.closed;
+            gives = f.gives job.before.rest job.before.read_faults d.items d.gives;
+            begun =
+                steps.begun_by n (d.items ++ f.more) d.outcomes job.before.taken now.taken
+                (steps.begins_given n d.laws job.schedule e.machine e.picker d.items e.close d.outcomes e.idle d.walked d.stands f.more may) d.put;
+          };
+          output = d.quiet;
+        }
+      where
+        no_end : (x : Ending) → ◌≡◌ {A = Option Ending} None (Some x) → ⊥
+        no_end x h = cc
+
+  module _ (now : Outside) (e : Execution) (a : AwaitsPick job now e) where
+    abbrev d : Executes job now e
+    d = a.executes
+
+    filled : (later : List (List ℤ)) → MayCome n e.close later → HasFilledInbox e.machine later
+    filled = steps.filled_after n e.close e.machine a.filled
+
+    -- where no process can fire and no trap was emitted the stream is ended
+    pub must_end : ready_list e.machine ≡ [] → IsNone e.told.trap → IsSome e.close
+    must_end none calm = by_trap e.told.trap e.close calm d.trap_is (steps.must_end n d.laws job.schedule e.machine e.picker d.items e.close d.outcomes e.idle d.walked d.stands filled none)
+      where
+        by_trap : (t : Option Trap) (c : Option Ending) → IsNone t → t ≡ trap_of d.outcomes → (trap_of d.outcomes ≡ None → c ≢ None) → IsSome c
+        by_trap None None calm is ends = absurd (ends (sym is) refl)
+        by_trap None (Some x) calm is ends = refl
+        by_trap (Some t) c calm is ends = absurd (let z : true ≡ false = calm in cc)
+
+    -- no pick is left
+    module _ (over : IsOver e) (ran : Ran) (finish_is : IsFinish n.tree e ran.finish) (stats_are : ran.stats ≡ stats_at n.firings e) (lines_are : ran.lines ≡ e.kept) (sum_is : ran.sum ≡ e.told.sum) where
+      none_left : (later : List (List ℤ)) → MayCome n e.close later → picks_from n.tree n.leaf n.net (left_of (n.firings * length (d.items ++ later)) e.machine.fired e.picker) e.picker (course_under n (d.items ++ later) (trace.picks_of d.walked)) ≡ []
+      none_left = by over
+        where
+          by : IsOver e → (later : List (List ℤ)) → MayCome n e.close later → picks_from n.tree n.leaf n.net (left_of (n.firings * length (d.items ++ later)) e.machine.fired e.picker) e.picker (course_under n (d.items ++ later) (trace.picks_of d.walked)) ≡ []
+          by (inl stuck) = steps.over_stuck n d.laws job.schedule e.machine e.picker d.items e.close d.outcomes e.idle d.walked d.stands filled stuck
+          by (inr ended) = steps.over_ended n d.laws job.schedule e.machine e.picker d.items e.close d.outcomes e.idle d.walked d.stands filled ended
+
+      -- the run on the items, and whatever may still come behind them, goes on just where a process can fire
+      goes : (later : List (List ℤ)) → MayCome n e.close later → goes_on n (course_of n job.schedule (d.items ++ later)) ≡ is_some (ready_list e.machine)
+      goes = steps.goes_same n d.laws job.schedule e.machine e.picker d.items e.close d.outcomes e.idle d.walked d.stands filled none_left
+
+      emitted : (later : List (List ℤ)) → MayCome n e.close later → (course_of n job.schedule (d.items ++ later)).state.emitted ≡ d.outcomes
+      emitted = steps.emitted_so n d.laws job.schedule e.machine e.picker d.items e.close d.outcomes e.idle d.walked d.stands filled none_left
+
+      finishes : (later : List (List ℤ)) → MayCome n e.close later → (x : Ending) → MayEnd e.close x → ran.finish ≡ finish_of n (course_of n job.schedule (d.items ++ later)) x
+      finishes later may x ends = by (ready_list e.machine) refl
+        where
+          by : (ready : List ℕ) → ready_list e.machine ≡ ready → ran.finish ≡ finish_of n (course_of n job.schedule (d.items ++ later)) x
+          by [] is =
+              let count : e.machine.emitted ≡ length d.outcomes = (d.stands.at later may).follows.emitted.count in
+              finish_is.stuck is x ends
+              ∙ ap (λ k. end_of n.tree e.told.trap k x) count
+              ∙ ap (λ t. end_of n.tree t (length d.outcomes) x) d.trap_is
+              ∙ ap (λ o. end_of n.tree (trap_of o) (length o) x) (sym (emitted later may))
+              ∙ sym (cond-false _ _ _ (goes later may ∙ ap is_some is))
+          by (p ∷ ps) is =
+              finish_is.stopped (λ none. (let z : [] ≡ p ∷ ps = sym none ∙ is in cc))
+              ∙ ap (λ k. finish.Stopped k e.idle) (sym (steps.fired_so n d.laws job.schedule e.machine e.picker d.items e.close d.outcomes e.idle d.walked d.stands filled none_left later may))
+              ∙ ap (λ k. finish.Stopped (course_of n job.schedule (d.items ++ later)).fired k) (sym (steps.idle_so n d.laws job.schedule e.machine e.picker d.items e.close d.outcomes e.idle d.walked d.stands filled none_left later may))
+              ∙ sym (cond-true _ _ _ (goes later may ∙ ap is_some is))
+
+      closed_so_is : (x : Ending) → ran.finish ≡ finish.Stream x → e.close ≡ Some x
+      closed_so_is x is = by (ready_list e.machine) refl
+        where
+          by_close : (t : Option Trap) (c : Option Ending) → (IsNone t → IsSome c) → ((y : Ending) → MayEnd c y → ran.finish ≡ end_of n.tree t e.machine.emitted y) → c ≡ Some x
+          by_close None None must ends = absurd (let z : false ≡ true = must refl in cc)
+          by_close None (Some y) must ends = (let z : finish.Stream y ≡ finish.Stream x = sym (ends y refl) ∙ is in let same : y ≡ x = cc in ap (λ k. Some k) same)
+          by_close (Some t) None must ends = absurd (let z = sym (ends x tt) ∙ is in cc)
+          by_close (Some t) (Some y) must ends = absurd (let z = sym (ends y refl) ∙ is in cc)
+
+          by : (ready : List ℕ) → ready_list e.machine ≡ ready → e.close ≡ Some x
+          by [] none = by_close e.told.trap e.close (must_end none) (finish_is.stuck none)
+          by (p ∷ ps) some = absurd (let z = sym (finish_is.stopped (λ none. (let y : [] ≡ p ∷ ps = sym none ∙ some in cc))) ∙ is in cc)
+
+      pub ends_over : Ends job now (Ok ran)
+      ends_over = record {
+        ends = record {
+          stream = e.stream;
+          items = d.items;
+          close = e.close;
+          gives = d.gives;
+          outcomes = d.outcomes;
+          put = d.put;
+          ran = steps.ran n d.laws job.schedule e.machine e.picker d.items e.close d.outcomes e.idle d.walked d.stands filled none_left ran.stats stats_are;
+          ends = finishes;
+          closed = closed_so_is;
+          lines = d.walked;
+          traced = steps.traced n d.laws job.schedule e.machine e.picker d.items e.close d.outcomes e.idle d.walked d.stands filled none_left ran.stats stats_are;
+          kept = lines_are ∙ d.kept_is;
+          summed = sum_is ∙ d.sum_is;
+        };
+        output = d.quiet;
+      }
+
+    -- a process was picked
+    module _ (e' : Execution) (p : ℕ) (picked : Picks e e' p) where
+      same_machine : e'.machine ≡ e.machine
+      same_machine = ap (λ k. k.machine) picked.after
+
+      abbrev way : Way
+      way = after_pick (length e.machine.net.procs) e.picker p
+
+      from : IsPickedFrom (can_step e.machine) (size_of n) e.picker p
+      from = steps.picked_so n d.laws job.schedule e.machine e.picker d.items e.close d.outcomes e.idle d.walked d.stands filled p None picked.pick picked.some
+
+      way_is : way ≡ after_pick (size_of n) e.picker p
+      way_is = ap (λ k. after_pick (length k.procs) e.picker p) d.stands.runs.net
+
+      -- which can't fire
+      pub passed : can_step e'.machine p ≡ false → (e'' : Execution) → e'' ≡ after_idle p e' → GoesOn job now e e'' true
+      passed cant e'' is = let cannot : can_step e.machine p ≡ false = subst (λ m. can_step m p ≡ false) same_machine cant in subst (λ k. GoesOn job now e k true) (sym (is ∙ ap (after_idle p) picked.after)) (
+        record {
+          laws = d.laws;
+          fits = d.fits;
+          few = d.few;
+          items = d.items;
+          outcomes = d.outcomes;
+          walked = d.walked ++ record { pick = p; kind = None } ∷ [];
+          gives = d.gives;
+          stands =
+              subst (λ k. Stands n job.schedule e.machine k d.items e.close d.outcomes (e.idle + 1) (d.walked ++ record { pick = p; kind = None } ∷ [])) (sym way_is)
+              (steps.stands_idle n d.laws job.schedule e.machine e.picker d.items e.close d.outcomes e.idle d.walked d.stands filled p None picked.pick picked.some cannot picked.there refl);
+          trap_is = d.trap_is;
+          sum_is = d.sum_is;
+          put = d.put;
+          kept_is = kept_more job.keeping e.kept d.walked p None d.kept_is;
+          quiet = d.quiet;
+        },
+        subst (λ k. left_of (2 ^ 63) e.machine.fired k < left_at e) (sym way_is) (steps.fewer_idle (2 ^ 63) e.machine.fired (can_step e.machine) (size_of n) e.picker p from cannot),
+      )
+
+      -- which fired
+      module _ (may : IsTrue (can_step e'.machine p)) (leaf : Leaf) (leaf_is : n.leaf ≡ leaf) (e'' : Execution) (handed : Option Outcome) (fired : HasFired leaf p e' e'' handed) where
+        can : IsTrue (can_step e.machine p)
+        can = subst (λ m. IsTrue (can_step m p)) same_machine may
+
+        fires : Fires n.leaf e.machine e''.machine p handed
+        fires = subst (λ l. Fires l e.machine e''.machine p handed) (sym leaf_is) (subst (λ m. Fires leaf m e''.machine p handed) same_machine fired.fires)
+
+        kind_is : kind_at e.machine.net p ≡ Some fired.kind
+        kind_is = subst (λ m. kind_at m.net p ≡ Some fired.kind) same_machine fired.kind_is
+
+        -- memory was wanting, or writing failed, for the line of what it handed out
+        pub ends_unwritten : (taken : Option (List ℕ)) (after : ℕ) (failed : RunFault) → HasBegun now.taken taken (text_of (option_to_list handed)) → WriteCause {T = Told} now.write_faults after (Err failed) →
+            Ends job (outside now.rest now.read_faults taken after) (Err failed)
+        ends_unwritten taken after failed begun cause = record {
+          ends = record {
+            stream = e.stream;
+            items = d.items;
+            closed = closed_so e.close;
+            gives = d.gives;
+            begun =
+                steps.begun_last n d.items d.outcomes handed job.before.taken now.taken taken
+                (steps.led_begins n d.laws job.schedule e.machine e.picker d.items e.close d.outcomes e.idle d.walked d.stands filled p None picked.pick picked.some e''.machine handed can fires) d.put begun;
+          };
+          output = cause_on Ran Told job.before.write_faults now.write_faults after failed d.quiet cause;
+        }
+
+        -- its line was written
+        pub went_on : (told : Told) (taken : Option (List ℕ)) (after : ℕ) → told.trap ≡ fold trap_after e''.told.trap (option_to_list handed) → told.sum ≡ fold sum_after e''.told.sum (option_to_list handed) →
+            HasPut now.taken taken (text_of (option_to_list handed)) → after ≡ now.write_faults → GoesOn job (outside now.rest now.read_faults taken after) e (record e'' { told = told }) true
+        went_on told taken after trap_is sum_is put quiet = subst (λ k. GoesOn job (outside now.rest now.read_faults taken after) e (record k { told = told }) true) (sym rest_is) (
+          record {
+            laws = d.laws;
+            fits = d.fits;
+            few = d.few;
+            items = d.items;
+            outcomes = d.outcomes ++ option_to_list handed;
+            walked = d.walked ++ record { pick = p; kind = Some fired.kind } ∷ [];
+            gives = d.gives;
+            stands =
+                subst (λ k. Stands n job.schedule e''.machine k d.items e.close (d.outcomes ++ option_to_list handed) e.idle (d.walked ++ record { pick = p; kind = Some fired.kind } ∷ [])) (sym way_is)
+                (steps.stands_fired n d.laws job.schedule e.machine e.picker d.items e.close d.outcomes e.idle d.walked d.stands filled p (Some fired.kind) picked.pick picked.some e''.machine handed can fires picked.there fired.kind kind_is refl);
+            trap_is = trap_is ∙ ap (λ t. fold trap_after t.trap (option_to_list handed)) same_told ∙ steps.trap_more e.told.trap d.outcomes (option_to_list handed) d.trap_is;
+            sum_is = sum_is ∙ ap (λ t. fold sum_after t.sum (option_to_list handed)) same_told ∙ steps.sum_more e.told.sum d.outcomes (option_to_list handed) d.sum_is;
+            put =
+                subst (λ t. HasPut job.before.taken taken t) (sym (text_more d.outcomes (option_to_list handed)))
+                (put_more job.before.taken now.taken taken (text_of d.outcomes) (text_of (option_to_list handed)) d.put put);
+            kept_is = kept_more job.keeping e.kept d.walked p (Some fired.kind) d.kept_is;
+            quiet = quiet ∙ d.quiet;
+          },
+          fewer,
+        )
+          where
+            rest_is : e'' ≡ record e { machine = e''.machine; picker = way; kept = kept_with p (Some fired.kind) e.kept }
+            rest_is = fired.rest ∙ ap (λ (k : Execution). record k { machine = e''.machine; kept = kept_with p (Some fired.kind) k.kept }) picked.after
+
+            same_told : e''.told ≡ e.told
+            same_told = ap (λ k. k.told) rest_is
+
+            fewer : left_of (2 ^ 63) e''.machine.fired way < left_at e
+            fewer =
+                let low = (in_range now e d).fired in
+                subst (λ k. left_of (2 ^ 63) e''.machine.fired k < left_at e) (sym way_is) (steps.fewer_fired (2 ^ 63) e.machine.fired e''.machine.fired (can_step e.machine) (size_of n) e.picker p from fires.fired (omega arith))

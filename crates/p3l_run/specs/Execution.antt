@@ -1,0 +1,181 @@
+-- An execution: a run of a network that is under way, and what each of its steps does.
+use Rattle.std.specs.Prelude.{◌≡◌, ◌≢◌, ℕ, ℤ, ◌+◌, ◌*◌, ◌<◌, ◌^◌, ◌⊎◌, pos, true, false, Bool, List, [], ◌∷◌, ◌++◌, length, option_map, Option, Some, None, Result, Ok, Err}
+use Rattle.p3l_base.specs.declared.memory.NoMemory.{NoMemory}
+use Rattle.p3l_base.specs.declared.outcome.Outcome.{Outcome}
+use Rattle.p3l_firing.specs.declared.net.Net.{Net}
+use Rattle.p3l_firing.specs.declared.process.ProcKind.{ProcKind}
+use Rattle.p3l_firing.specs.Nodes.{Leaf}
+use Rattle.p3l_skel.specs.declared.tree.Tree.{Tree}
+use Rattle.p3l_net.specs.Machine as machine
+use Rattle.p3l_net.specs.Machine.{Fires, can_step, ready_list}
+use Rattle.p3l_net.specs.Process.{kind_at}
+use Rattle.p3l_report.specs.declared.stats.Stats.{Stats}
+use Rattle.p3l_report.specs.declared.verdict.Finish.{Finish}
+use Rattle.p3l_report.specs.declared.verdict.Finish.TheVariants as finish
+use Rattle.p3l_sched.specs.declared.schedule.Schedule.{Schedule}
+use Rattle.p3l_sched.specs.Picker.{HasPlace, HasProcesses, after_pick, begun, pick_of, recorded}
+use Rattle.p3l_stream.specs.declared.items.Ending.{Ending}
+use Rattle.p3l_stream.specs.Seen as stream
+use Rattle.p3l_stream.specs.Text.{text_of}
+use Rattle.p3l_trace.specs.declared.trace.TraceLine.{TraceLine}
+use Rattle.p3l_run.specs.declared.execution.Execution.{Execution}
+use Rattle.p3l_run.specs.declared.fault.RunFault.{RunFault}
+use Rattle.p3l_run.specs.declared.fault.RunFault.TheVariants as fault
+use Rattle.p3l_run.specs.declared.keeping.Keeping.{Keeping}
+use Rattle.p3l_run.specs.declared.run.Ran.{Ran}
+use Rattle.p3l_run.specs.Feed.{Gives, closed_so, input_limit, most_of_input}
+use Rattle.p3l_run.specs.Keeping.{kept_by}
+use Rattle.p3l_run.specs.Laws.{Laws}
+use Rattle.p3l_run.specs.Network.{Network, width_of}
+use Rattle.p3l_run.specs.Run.{IsRunEnd, MayEnd, end_of}
+use Rattle.p3l_run.specs.Steps.{Stands, left_of}
+use Rattle.p3l_run.specs.Sum.{sum_of}
+use Rattle.p3l_run.specs.Trap.{trap_of}
+use Rattle.p3l_run.specs.Write.{HasPut, WriteCause}
+
+-- what the outside tells: the rest of the input and the count of its faults, what the output took and the count of its faults
+pub record Outside : Type 0 where
+  pub rest : Option (List ℕ)
+  pub read_faults : ℕ
+  pub taken : Option (List ℕ)
+  pub write_faults : ℕ
+
+abbrev pub outside : Option (List ℕ) → ℕ → Option (List ℕ) → ℕ → Outside
+outside rest read_faults taken write_faults = record { rest = rest; read_faults = read_faults; taken = taken; write_faults = write_faults }
+
+-- what is to be run: a network under a schedule, of which so much is kept, and what the outside told before
+pub record Job : Type 0 where
+  pub network : Network
+  pub schedule : Schedule
+  pub keeping : Keeping
+  pub before : Outside
+
+abbrev pub job_of : Network → Schedule → Keeping → Outside → Job
+job_of network schedule keeping before = record { network = network; schedule = schedule; keeping = keeping; before = before }
+
+-- the run of a job came to this end, with what the outside tells then
+pub record Ends (job : Job) (now : Outside) (result : Result Ran RunFault) : Type 0 where
+  pub ends : IsRunEnd job.network job.schedule job.keeping job.before.rest now.rest job.before.read_faults now.read_faults job.before.taken now.taken result
+  pub output : WriteCause job.before.write_faults now.write_faults result
+
+-- how many picks are left at most, where there are so many firings at most
+abbrev pub left_at : Execution → ℕ
+left_at e = left_of (2 ^ 63) e.machine.fired e.picker
+
+-- an execution that was just started
+abbrev pub started : Tree → Net → ℕ → Schedule → Keeping → Execution
+started tree net width schedule keeping =
+    record {
+      machine = machine.started tree net;
+      stream = stream.started width input_limit;
+      picker = begun schedule;
+      close = None;
+      told = record { trap = None; sum = pos 0 };
+      idle = 0;
+      kept = kept_by keeping [];
+    }
+
+-- the run of a job is under way: the machine runs the network on the items that the stream gave, the text of what it emitted is
+-- written, told are the trap and the sum of these outcomes, and kept is the trace so far
+pub record Executes (job : Job) (now : Outside) (e : Execution) : Type 0 where
+  pub laws : Laws job.network
+  pub fits : job.network.firings * most_of_input < 2 ^ 63
+  pub few : recorded job.schedule < 2 ^ 63
+  pub items : List (List ℤ)
+  pub outcomes : List Outcome
+  pub walked : List TraceLine
+  pub gives : Gives (width_of job.network) job.before.rest now.rest job.before.read_faults now.read_faults e.stream items (closed_so e.close)
+  pub stands : Stands job.network job.schedule e.machine e.picker items e.close outcomes e.idle walked
+  pub trap_is : e.told.trap ≡ trap_of outcomes
+  pub sum_is : e.told.sum ≡ sum_of outcomes
+  pub put : HasPut job.before.taken now.taken (text_of outcomes)
+  pub kept_is : e.kept ≡ kept_by job.keeping walked
+  pub quiet : now.write_faults ≡ job.before.write_faults
+
+-- the same where the inbox is filled, as long as the stream isn't ended, so that the machine can fire just where the network can
+pub record AwaitsPick (job : Job) (now : Outside) (e : Execution) : Type 0 where
+  pub executes : Executes job now e
+  pub filled : e.close ≡ None → e.machine.inbox ≢ None
+
+-- the next pick, which is one where some process can fire
+abbrev pub pick_at : Execution → Option ℕ
+pick_at e = pick_of (can_step e.machine) (length e.machine.net.procs) e.picker
+
+-- no pick is left: no process can fire, or the recorded picks are ended
+abbrev pub IsOver : Execution → Type 0
+IsOver e = (ready_list e.machine ≡ []) ⊎ (pick_at e ≡ None)
+
+-- a pick was made of this process
+pub record Picks (old new : Execution) (p : ℕ) : Type 0 where
+  pub some : ready_list old.machine ≢ []
+  pub pick : pick_at old ≡ Some p
+  pub there : p < length old.machine.net.procs
+  pub after : new ≡ record old { picker = after_pick (length old.machine.net.procs) old.picker p }
+
+abbrev pub MayPick : Execution → Execution → Option ℕ → Type 0
+MayPick old new None = (new ≡ old) × IsOver old
+MayPick old new (Some p) = Picks old new p
+
+-- the line of a pick, behind those that are kept
+abbrev pub kept_with : ℕ → Option ProcKind → Option (List TraceLine) → Option (List TraceLine)
+kept_with p kind kept = option_map (λ lines. lines ++ record { pick = p; kind = kind } ∷ []) kept
+
+-- behind an idle pick
+abbrev pub after_idle : ℕ → Execution → Execution
+after_idle p e = record e { idle = e.idle + 1; kept = kept_with p None e.kept }
+
+-- behind a firing, which handed out this outcome
+pub record HasFired (leaf : Leaf) (p : ℕ) (old new : Execution) (handed : Option Outcome) : Type 0 where
+  pub kind : ProcKind
+  pub kind_is : kind_at old.machine.net p ≡ Some kind
+  pub fires : Fires leaf old.machine new.machine p handed
+  pub rest : new ≡ record old { machine = new.machine; kept = kept_with p (Some kind) old.kept }
+
+-- how an execution ends that stands so, and has no pick left
+pub record IsFinish (tree : Tree) (e : Execution) (f : Finish) : Type 0 where
+  pub stuck : ready_list e.machine ≡ [] → (close : Ending) → MayEnd e.close close → f ≡ end_of tree e.told.trap e.machine.emitted close
+  pub stopped : ready_list e.machine ≢ [] → f ≡ finish.Stopped e.machine.fired e.idle
+
+-- the numbers of an execution
+abbrev pub stats_at : ℕ → Execution → Stats
+stats_at firings e = record { items = e.machine.sent; fired = e.machine.fired; idle = e.idle; bound = e.machine.sent * firings }
+
+-- the next pick is in range, and so are the counts with it
+pub record IsInRange (e : Execution) : Type 0 where
+  pub place : HasPlace (length e.machine.net.procs) e.picker
+  pub named : HasProcesses (length e.machine.net.procs) e.picker
+  pub fired : e.machine.fired < 2 ^ 63
+  pub idle : e.idle < 2 ^ 63
+
+-- whatever job it executes, an execution that was fed does still, and as many picks are left
+abbrev pub FeedsOn : Option (List ℕ) → Option (List ℕ) → ℕ → ℕ → Execution → Execution → Result (Unit {0}) NoMemory → Type 0
+FeedsOn rest left before after old new (Ok done) = (job : Job) (taken : Option (List ℕ)) (faults : ℕ) → Executes job (outside rest before taken faults) old → AwaitsPick job (outside left after taken faults) new × (left_at new ≡ left_at old)
+FeedsOn rest left before after old new (Err want) =
+    (job : Job) (taken : Option (List ℕ)) (faults : ℕ) → Executes job (outside rest before taken faults) old → Ends job (outside left after taken faults) (Err fault.NoMemory)
+
+-- a pick was made, and fewer are left; or none was left
+abbrev pub GoesOn : Job → Outside → Execution → Execution → Bool → Type 0
+GoesOn job now old new true = Executes job now new × (left_at new < left_at old)
+GoesOn job now old new false = AwaitsPick job now new × IsOver new
+
+-- whatever job it executes, with these bodies of modules, an execution that was fed makes the next pick of it, if one is left
+abbrev pub StepsOn : Leaf → Option (List ℕ) → Option (List ℕ) → ℕ → ℕ → Execution → Execution → Result Bool RunFault → Type 0
+StepsOn leaf taken taken' before after old new (Ok going) =
+    (job : Job) (rest : Option (List ℕ)) (faults : ℕ) → job.network.leaf ≡ leaf → AwaitsPick job (outside rest faults taken before) old → GoesOn job (outside rest faults taken' after) old new going
+StepsOn leaf taken taken' before after old new (Err failed) =
+    (job : Job) (rest : Option (List ℕ)) (faults : ℕ) → job.network.leaf ≡ leaf → AwaitsPick job (outside rest faults taken before) old → Ends job (outside rest faults taken' after) (Err failed)
+
+-- some job is executed, with these bodies of modules
+pub record IsUnderWay (leaf : Leaf) (now : Outside) (e : Execution) : Type 0 where
+  pub job : Job
+  pub leaf_is : job.network.leaf ≡ leaf
+  pub executes : Executes job now e
+
+-- whatever job was executed is still
+abbrev pub LeadsOn : Leaf → Outside → Outside → Execution → Execution → Type 0
+LeadsOn leaf before now old new = (job : Job) → job.network.leaf ≡ leaf → Executes job before old → Executes job now new
+
+-- whatever job it executes, an execution makes all picks of it
+abbrev pub RunsOut : Leaf → Outside → Outside → Execution → Execution → Result (Unit {0}) RunFault → Type 0
+RunsOut leaf before now old new (Ok done) = (job : Job) → job.network.leaf ≡ leaf → Executes job before old → AwaitsPick job now new × IsOver new
+RunsOut leaf before now old new (Err failed) = (job : Job) → job.network.leaf ≡ leaf → Executes job before old → Ends job now (Err failed)

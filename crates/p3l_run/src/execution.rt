@@ -1,0 +1,212 @@
+// A run under way, pick by pick.
+
+ghost use Rattle.std.specs.Prelude.{◌≡◌, ◌<◌, ◌≤◌, ◌*◌, ◌^◌, [], None, length, IfOk, IsNone, IsSome, IsTrue, OnOk};
+ghost use Rattle.p3l_net.specs.Machine.{can_step, ready_list};
+ghost use Rattle.p3l_net.specs.Typed.{IsTyped};
+ghost use Rattle.p3l_sched.specs.Picker.{HasPlace, HasProcesses};
+ghost use Rattle.p3l_skel.specs.Tree.{node_at};
+ghost use Rattle.p3l_run.specs.Execution.{FeedsOn, HasFired, IsFinish, IsInRange, IsUnderWay, MayPick, RunsOut, StepsOn, after_idle, outside, started, stats_at};
+
+use crate::fault::RunFault;
+use crate::feed::{INPUT_LIMIT, feed};
+use crate::finish::{finish_with, stats_of};
+use crate::keeping::{Keeping, keep, no_lines};
+use crate::run::Ran;
+use crate::write::{Told, write_emitted};
+use p3l_base::{List, NoMemory, Outcome};
+use p3l_firing::Net;
+use p3l_io::{Sink, Source};
+use p3l_net::Machine;
+use p3l_report::Finish;
+use p3l_sched::{Picker, Schedule};
+use p3l_skel::{Tree, Units};
+use p3l_stream::{Ending, Lines};
+use p3l_trace::TraceLine;
+use std::alloc::Global;
+
+/// A run under way.
+#[derive(Drop)]
+pub(crate) struct Execution<'t> {
+    machine: Machine<'t>,
+    stream: Lines,
+    picker: Picker,
+    /// How the stream ended, if it did.
+    close: Option<Ending>,
+    told: Told,
+    /// How many picks were idle.
+    idle: u64,
+    /// A line for each pick, where lines are kept.
+    kept: Option<List<TraceLine>>,
+}
+
+impl<'t> Execution<'t> {
+    /// A run in which nothing was asked for and nothing picked.
+    pub(crate) fn start(
+        alloc: Global,
+        tree: &'t Tree,
+        net: Net,
+        width: u32,
+        schedule: Schedule,
+        keeping: Keeping,
+    ) -> Result<Execution<'t>, NoMemory>
+        requires typed { IsTyped tree.now net }
+        requires wide { 1 ≤ width }
+        ensures { IfOk result (λ execution. execution ≡ started tree.now net width schedule keeping) }
+    {
+        Ok(Execution {
+            machine: Machine::start(alloc, tree, net)?,
+            stream: Lines::new(alloc, width, INPUT_LIMIT)?,
+            picker: Picker::new(schedule),
+            close: None,
+            told: Told { trap: None, sum: 0 },
+            idle: 0,
+            kept: no_lines(alloc, keeping),
+        })
+    }
+
+    /// Makes one pick after another until none is left, and asks for an item before each where the
+    /// machine wants one.
+    pub(crate) fn run_out<U: Units, S: Source, K: Sink>(
+        &mut self,
+        alloc: Global,
+        tree: &Tree,
+        units: &U,
+        input: &mut S,
+        out: &mut K,
+    ) -> Result<(), RunFault>
+        requires tree { tree.now ≡ self.old.machine.tree }
+        requires units { U.tree units.now ≡ tree.now }
+        requires job { IsUnderWay (U.leaf units.now) (outside (S.rest input.old) (S.faults input.old) (K.taken out.old) (K.faults out.old)) self.old }
+        ensures { RunsOut (U.leaf units.now) (outside (S.rest input.old) (S.faults input.old) (K.taken out.old) (K.faults out.old))
+            (outside (S.rest input.new) (S.faults input.new) (K.taken out.new) (K.faults out.new)) self.old self.new result }
+    {
+        'picks: loop {
+            self.feed(alloc, input)?;
+            if !self.step(alloc, tree, units, out)? {
+                return Ok(());
+            }
+        }
+    }
+
+    /// Asks the stream for the next item, where the machine wants one.
+    fn feed<S: Source>(&mut self, alloc: Global, input: &mut S) -> Result<(), NoMemory>
+        requires wide { self.old.stream.words ≡ (node_at self.old.machine.tree 0).ins }
+        requires open { self.old.close ≡ None → self.old.stream.closed ≡ None }
+        ensures { FeedsOn (S.rest input.old) (S.rest input.new) (S.faults input.old) (S.faults input.new) self.old self.new result }
+    {
+        self.close = feed(
+            alloc,
+            &mut self.machine,
+            &mut self.stream,
+            self.close,
+            input,
+        )?;
+        Ok(())
+    }
+
+    /// Makes the next pick and does what it leads to, and says whether one was left: where the
+    /// process can fire it does, and what it emits is written; else the pick is idle.
+    fn step<U: Units, K: Sink>(
+        &mut self,
+        alloc: Global,
+        tree: &Tree,
+        units: &U,
+        out: &mut K,
+    ) -> Result<bool, RunFault>
+        requires tree { tree.now ≡ self.old.machine.tree }
+        requires units { U.tree units.now ≡ tree.now }
+        requires range { IsInRange self.old }
+        ensures { StepsOn (U.leaf units.now) (K.taken out.old) (K.taken out.new) (K.faults out.old) (K.faults out.new) self.old self.new result }
+    {
+        let Some(process) = self.pick() else {
+            return Ok(false);
+        };
+        if !self.machine.can_step(process) {
+            self.pass(process)?;
+            return Ok(true);
+        }
+        let emitted = self.fire(alloc, tree, units, process)?;
+        self.told = write_emitted(alloc, emitted, self.told, out)?;
+        Ok(true)
+    }
+
+    /// The next pick, and none where no process can fire or the recorded picks are ended.
+    fn pick(&mut self) -> Option<u32>
+        requires place { HasPlace (length self.old.machine.net.procs) self.old.picker }
+        requires named { HasProcesses (length self.old.machine.net.procs) self.old.picker }
+        ensures { MayPick self.old self.new result }
+    {
+        if self.machine.ready() == 0 {
+            return None;
+        }
+        self.picker.pick(&self.machine)
+    }
+
+    /// Counts an idle pick of a process, and keeps its line.
+    fn pass(&mut self, process: u32) -> Result<(), NoMemory>
+        requires { self.old.idle < 2 ^ 63 }
+        ensures { OnOk result (self.new ≡ after_idle process self.old) }
+    {
+        self.idle += 1;
+        keep(&mut self.kept, process, None)
+    }
+
+    /// Fires a process, and keeps the line of that; gives what it emitted.
+    fn fire<U: Units>(
+        &mut self,
+        alloc: Global,
+        tree: &Tree,
+        units: &U,
+        process: u32,
+    ) -> Result<Option<Outcome>, NoMemory>
+        requires there { process < length self.old.machine.net.procs }
+        requires can { IsTrue (can_step self.old.machine process) }
+        requires count { self.old.machine.fired < 2 ^ 63 }
+        requires tree { tree.now ≡ self.old.machine.tree }
+        requires units { U.tree units.now ≡ tree.now }
+        ensures { IfOk result (HasFired (U.leaf units.now) process self.old self.new) }
+    {
+        let fired = self.machine.fire(alloc, tree, units, process)?;
+        keep(&mut self.kept, process, Some(fired.kind))?;
+        Ok(fired.emitted)
+    }
+
+    /// How the run ended, where no pick is left, with its numbers and what was kept of it.
+    pub(crate) fn into_ran(self, alloc: Global, tree: &Tree, firings: u64) -> Result<Ran, NoMemory>
+        requires fits { self.machine.sent * firings < 2 ^ 64 }
+        requires ended { ready_list self.machine ≡ [] → IsNone self.told.trap → IsSome self.close }
+        ensures finish { IfOk result (λ ran. IsFinish tree.now self.entry ran.finish) }
+        ensures stats { IfOk result (λ ran. ran.stats ≡ stats_at firings self.entry) }
+        ensures lines { IfOk result (λ ran. ran.lines ≡ self.entry.kept) }
+        ensures sum { IfOk result (λ ran. ran.sum ≡ self.entry.told.sum) }
+    {
+        let finish = self.finish(alloc, tree)?;
+        let stats = stats_of(&self.machine, firings, self.idle);
+        Ok(Ran {
+            finish,
+            stats,
+            lines: self.kept,
+            sum: self.told.sum,
+        })
+    }
+
+    /// How the run ended, where no pick is left.
+    fn finish(&self, alloc: Global, tree: &Tree) -> Result<Finish, NoMemory>
+        requires { ready_list self.now.machine ≡ [] → IsNone self.now.told.trap → IsSome self.now.close }
+        ensures { IfOk result (IsFinish tree.now self.now) }
+    {
+        if self.machine.ready() == 0 {
+            return finish_with(
+                alloc,
+                tree,
+                self.told.trap,
+                self.machine.emitted(),
+                self.close,
+            );
+        }
+        Ok(Finish::Stopped {
+            fired: self.machine.fired(),
+            idle: self.idle,
+        })
+    }
+}
