@@ -17,6 +17,17 @@ commands:
   gen N --processors P ..                 generate a program with its items by a number, and run it
 
 p3l COMMAND --help says more. --version gives the version.
+
+Options stand in any order, each once at most; numbers have no sign and no leading zero. Results go to the
+standard output, and a message to the standard error says why the program ended with another status than 0:
+
+   1  stopped by the end of the schedule's picks     8  the standard input could not be read
+   2  the words are not a command                    9  a file could not be read, or is too long
+   3  the source is refused                         10  writing failed
+   4  the costs are refused                         11  no memory
+   5  too few processors                            12  the schedule is refused
+   6  a line of the stream is refused               13  an image, a certificate or a trace is refused
+   7  a trap                                        14  the input is too long
 ";
 
 /// What `run` does.
@@ -98,7 +109,8 @@ example: p3l verify-cert m.p3l --cert m.cert
 const CHECK_TRACE: &str =
     "usage: p3l check-trace PROGRAM --processors P --trace FILE [--costs FILE] [--capacity C]
 
-Says whether a trace is that of a run of the program on the items of the standard input.
+Says whether a trace is that of a run of the program on the items of the standard input, or tells the first
+line that differs; the trace of `p3l run --trace` under the same picks shows what is due there.
 
   PROGRAM          the file of the program
   --processors P   how many processors there are, 1 to 512
@@ -112,7 +124,8 @@ example: p3l check-trace m.p3l --processors 16 --trace m.trace < items
 /// What `check` does.
 const CHECK: &str = "usage: p3l check PROGRAM
 
-Says whether a program keeps the rules of the language, and how large it is.
+Says whether a program keeps the rules of the language, how many modules it has, and how many instances of
+them its module `main` comes to, with itself.
 
   PROGRAM          the file of the program
 

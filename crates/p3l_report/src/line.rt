@@ -110,16 +110,11 @@ pub fn picks_line(alloc: Global, fired: u64, idle: u64) -> Result<Line, NoMemory
 }
 
 /// The line of an item that came to a trap.
-pub fn trapped_line(
-    alloc: Global,
-    item: u64,
-    kind: TrapKind,
-    module: &Name,
-) -> Result<Line, NoMemory>
-    ensures { IfOk result (λ line. line_text line ≡ trap_line item kind module.now) }
+pub fn trapped_line(alloc: Global, item: u64, kind: TrapKind, home: &Name) -> Result<Line, NoMemory>
+    ensures { IfOk result (λ line. line_text line ≡ trap_line item kind home.now) }
 {
     let what = kind_text(kind);
-    let name = module.as_str();
+    let name = home.as_str();
     let text = format!(in alloc; "trap: item {item}: {what} in {name}\n")?;
     Ok(Line::Made(text))
 }
