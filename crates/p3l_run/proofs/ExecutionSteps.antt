@@ -6,11 +6,13 @@ use Rattle.p3l_base.specs.declared.outcome.Outcome.{Outcome}
 use Rattle.p3l_base.specs.declared.outcome.Trap.{Trap}
 use Rattle.p3l_firing.specs.declared.process.ProcKind.{ProcKind}
 use Rattle.p3l_firing.specs.Nodes.{Leaf}
+use Rattle.p3l_skel.specs.declared.tree.Tree.{Tree}
 use Rattle.p3l_skel.specs.Tree.{node_at}
 use Rattle.p3l_net.specs.Machine as machine
 use Rattle.p3l_net.specs.Machine.{Fires, can_step, ready_list}
 use Rattle.p3l_net.specs.Offered.{HasFilledInbox}
 use Rattle.p3l_net.specs.Process.{kind_at}
+use Rattle.p3l_report.specs.declared.stats.Stats.{Stats}
 use Rattle.p3l_report.specs.declared.verdict.Finish.TheVariants as finish
 use Rattle.p3l_sched.specs.declared.picker.Way.{Way}
 use Rattle.p3l_sched.specs.Course.{picks_from}
@@ -76,10 +78,11 @@ module _ (job : Job) where
   }
 
   pub executes_first : Laws n → n.firings * most_of_input < 2 ^ 63 → recorded job.schedule < 2 ^ 63 → NamesProcesses (size_of n) job.schedule → HasGiven (width_of n) (stream.started (width_of n) input_limit) [] [] →
-      (width : ℕ) → width ≡ width_of n → (e : Execution) → e ≡ started n.tree n.net width job.schedule job.keeping → Executes job job.before e
+      (width : ℕ) → width ≡ width_of n → (e : Execution) → e ≡ started n.tree n.net n.firings width job.schedule job.keeping → Executes job job.before e
   executes_first laws fits few named given width wide e is =
-      subst (Executes job job.before) (sym is) (subst (λ w. Executes job job.before (started n.tree n.net w job.schedule job.keeping)) (sym wide) (record {
+      subst (Executes job job.before) (sym is) (subst (λ w. Executes job job.before (started n.tree n.net n.firings w job.schedule job.keeping)) (sym wide) (record {
         laws = laws;
+        firings_is = refl;
         fits = fits;
         few = few;
         items = [];
@@ -122,9 +125,10 @@ module _ (job : Job) where
       idle = (let a = d.stands.room in let b = d.few in omega arith);
     }
 
-    pub sent_fits : e.machine.sent * n.firings < 2 ^ 64
+    pub sent_fits : e.machine.sent * e.firings < 2 ^ 64
     sent_fits =
-        steps.bound_fits n.firings e.machine.sent (length d.items) most_of_input (steps.few_sent n d.laws job.schedule e.machine e.picker d.items e.close d.outcomes e.idle d.walked d.stands) few_items d.fits
+        subst (λ k. e.machine.sent * k < 2 ^ 64) (sym d.firings_is)
+        (steps.bound_fits n.firings e.machine.sent (length d.items) most_of_input (steps.few_sent n d.laws job.schedule e.machine e.picker d.items e.close d.outcomes e.idle d.walked d.stands) few_items d.fits)
 
     -- memory was wanting
     pub ends_early : Ends job now (Err fault.NoMemory)
@@ -147,6 +151,7 @@ module _ (job : Job) where
           record {
             executes = record {
               laws = d.laws;
+              firings_is = d.firings_is;
               fits = d.fits;
               few = d.few;
               items = d.items ++ f.more;
@@ -203,7 +208,10 @@ module _ (job : Job) where
         by_trap (Some t) c calm is ends = absurd (let z : true ≡ false = calm in cc)
 
     -- no pick is left
-    module _ (over : IsOver e) (ran : Ran) (finish_is : IsFinish n.tree e ran.finish) (stats_are : ran.stats ≡ stats_at n.firings e) (lines_are : ran.lines ≡ e.kept) (sum_is : ran.sum ≡ e.told.sum) where
+    module _ (over : IsOver e) (tree : Tree) (tree_is : tree ≡ n.tree) (ran : Ran) (finishes_so : IsFinish tree e ran.finish) (stats_are : ran.stats ≡ stats_at e) (lines_are : ran.lines ≡ e.kept) (sum_is : ran.sum ≡ e.told.sum) where
+      finish_is : IsFinish n.tree e ran.finish
+      finish_is = subst (λ t. IsFinish t e ran.finish) tree_is finishes_so
+
       none_left : (later : List (List ℤ)) → MayCome n e.close later → picks_from n.tree n.leaf n.net (left_of (n.firings * length (d.items ++ later)) e.machine.fired e.picker) e.picker (course_under n (d.items ++ later) (trace.picks_of d.walked)) ≡ []
       none_left = by over
         where
@@ -248,6 +256,9 @@ module _ (job : Job) where
           by [] none = by_close e.told.trap e.close (must_end none) (finish_is.stuck none)
           by (p ∷ ps) some = absurd (let z = sym (finish_is.stopped (λ none. (let y : [] ≡ p ∷ ps = sym none ∙ some in cc))) ∙ is in cc)
 
+      numbers : ran.stats ≡ record { items = e.machine.sent; fired = e.machine.fired; idle = e.idle; bound = e.machine.sent * n.firings }
+      numbers = (let with_firings : ℕ → Stats = λ k. record { items = e.machine.sent; fired = e.machine.fired; idle = e.idle; bound = e.machine.sent * k } in stats_are ∙ ap with_firings d.firings_is)
+
       pub ends_over : Ends job now (Ok ran)
       ends_over = record {
         ends = record {
@@ -257,11 +268,11 @@ module _ (job : Job) where
           gives = d.gives;
           outcomes = d.outcomes;
           put = d.put;
-          ran = steps.ran n d.laws job.schedule e.machine e.picker d.items e.close d.outcomes e.idle d.walked d.stands filled none_left ran.stats stats_are;
+          ran = steps.ran n d.laws job.schedule e.machine e.picker d.items e.close d.outcomes e.idle d.walked d.stands filled none_left ran.stats numbers;
           ends = finishes;
           closed = closed_so_is;
           lines = d.walked;
-          traced = steps.traced n d.laws job.schedule e.machine e.picker d.items e.close d.outcomes e.idle d.walked d.stands filled none_left ran.stats stats_are;
+          traced = steps.traced n d.laws job.schedule e.machine e.picker d.items e.close d.outcomes e.idle d.walked d.stands filled none_left ran.stats numbers;
           kept = lines_are ∙ d.kept_is;
           summed = sum_is ∙ d.sum_is;
         };
@@ -287,6 +298,7 @@ module _ (job : Job) where
       passed cant e'' is = let cannot : can_step e.machine p ≡ false = subst (λ m. can_step m p ≡ false) same_machine cant in subst (λ k. GoesOn job now e k true) (sym (is ∙ ap (after_idle p) picked.after)) (
         record {
           laws = d.laws;
+          firings_is = d.firings_is;
           fits = d.fits;
           few = d.few;
           items = d.items;
@@ -338,6 +350,7 @@ module _ (job : Job) where
         went_on told taken after trap_is sum_is put quiet = subst (λ k. GoesOn job (outside now.rest now.read_faults taken after) e (record k { told = told }) true) (sym rest_is) (
           record {
             laws = d.laws;
+            firings_is = d.firings_is;
             fits = d.fits;
             few = d.few;
             items = d.items;

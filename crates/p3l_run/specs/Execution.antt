@@ -63,9 +63,10 @@ abbrev pub left_at : Execution → ℕ
 left_at e = left_of (2 ^ 63) e.machine.fired e.picker
 
 -- an execution that was just started
-abbrev pub started : Tree → Net → ℕ → Schedule → Keeping → Execution
-started tree net width schedule keeping =
+abbrev pub started : Tree → Net → ℕ → ℕ → Schedule → Keeping → Execution
+started tree net firings width schedule keeping =
     record {
+      firings = firings;
       machine = machine.started tree net;
       stream = stream.started width input_limit;
       picker = begun schedule;
@@ -79,6 +80,7 @@ started tree net width schedule keeping =
 -- written, told are the trap and the sum of these outcomes, and kept is the trace so far
 pub record Executes (job : Job) (now : Outside) (e : Execution) : Type 0 where
   pub laws : Laws job.network
+  pub firings_is : e.firings ≡ job.network.firings
   pub fits : job.network.firings * most_of_input < 2 ^ 63
   pub few : recorded job.schedule < 2 ^ 63
   pub items : List (List ℤ)
@@ -137,8 +139,8 @@ pub record IsFinish (tree : Tree) (e : Execution) (f : Finish) : Type 0 where
   pub stopped : ready_list e.machine ≢ [] → f ≡ finish.Stopped e.machine.fired e.idle
 
 -- the numbers of an execution
-abbrev pub stats_at : ℕ → Execution → Stats
-stats_at firings e = record { items = e.machine.sent; fired = e.machine.fired; idle = e.idle; bound = e.machine.sent * firings }
+abbrev pub stats_at : Execution → Stats
+stats_at e = record { items = e.machine.sent; fired = e.machine.fired; idle = e.idle; bound = e.machine.sent * e.firings }
 
 -- the next pick is in range, and so are the counts with it
 pub record IsInRange (e : Execution) : Type 0 where
@@ -179,3 +181,7 @@ LeadsOn leaf before now old new = (job : Job) → job.network.leaf ≡ leaf → 
 abbrev pub RunsOut : Leaf → Outside → Outside → Execution → Execution → Result (Unit {0}) RunFault → Type 0
 RunsOut leaf before now old new (Ok done) = (job : Job) → job.network.leaf ≡ leaf → Executes job before old → AwaitsPick job now new × IsOver new
 RunsOut leaf before now old new (Err failed) = (job : Job) → job.network.leaf ≡ leaf → Executes job before old → Ends job now (Err failed)
+
+-- whatever job it executes, with these bodies of modules, an execution comes to the end of its run
+abbrev pub Completes : Leaf → Outside → Outside → Execution → Result Ran RunFault → Type 0
+Completes leaf before now e result = (job : Job) → job.network.leaf ≡ leaf → Executes job before e → Ends job now result

@@ -5,7 +5,7 @@ ghost use Rattle.p3l_net.specs.Machine.{can_step, ready_list};
 ghost use Rattle.p3l_net.specs.Typed.{IsTyped};
 ghost use Rattle.p3l_sched.specs.Picker.{HasPlace, HasProcesses};
 ghost use Rattle.p3l_skel.specs.Tree.{node_at};
-ghost use Rattle.p3l_run.specs.Execution.{FeedsOn, HasFired, IsFinish, IsInRange, IsUnderWay, MayPick, RunsOut, StepsOn, after_idle, outside, started, stats_at};
+ghost use Rattle.p3l_run.specs.Execution.{Completes, FeedsOn, HasFired, IsFinish, IsInRange, IsUnderWay, MayPick, RunsOut, StepsOn, after_idle, outside, started, stats_at};
 
 use crate::fault::RunFault;
 use crate::feed::{INPUT_LIMIT, feed};
@@ -27,6 +27,8 @@ use std::alloc::Global;
 /// A run under way.
 #[derive(Drop)]
 pub(crate) struct Execution<'t> {
+    /// How often the net can fire for one item.
+    firings: u64,
     machine: Machine<'t>,
     stream: Lines,
     picker: Picker,
@@ -45,15 +47,17 @@ impl<'t> Execution<'t> {
         alloc: Global,
         tree: &'t Tree,
         net: Net,
+        firings: u64,
         width: u32,
         schedule: Schedule,
         keeping: Keeping,
     ) -> Result<Execution<'t>, NoMemory>
         requires typed { IsTyped tree.now net }
         requires wide { 1 ≤ width }
-        ensures { IfOk result (λ execution. execution ≡ started tree.now net width schedule keeping) }
+        ensures { IfOk result (λ execution. execution ≡ started tree.now net firings width schedule keeping) }
     {
         Ok(Execution {
+            firings,
             machine: Machine::start(alloc, tree, net)?,
             stream: Lines::new(alloc, width, INPUT_LIMIT)?,
             picker: Picker::new(schedule),
@@ -64,9 +68,28 @@ impl<'t> Execution<'t> {
         })
     }
 
+    /// Makes all picks that are left, and says how the run ended.
+    pub(crate) fn complete<U: Units, S: Source, K: Sink>(
+        mut self,
+        alloc: Global,
+        tree: &Tree,
+        units: &U,
+        input: &mut S,
+        out: &mut K,
+    ) -> Result<Ran, RunFault>
+        requires tree { tree.now ≡ self.machine.tree }
+        requires units { U.tree units.now ≡ tree.now }
+        requires job { IsUnderWay (U.leaf units.now) (outside (S.rest input.old) (S.faults input.old) (K.taken out.old) (K.faults out.old)) self }
+        ensures { Completes (U.leaf units.now) (outside (S.rest input.old) (S.faults input.old) (K.taken out.old) (K.faults out.old))
+            (outside (S.rest input.new) (S.faults input.new) (K.taken out.new) (K.faults out.new)) self.entry result }
+    {
+        self.run_out(alloc, tree, units, input, out)?;
+        Ok(self.into_ran(alloc, tree)?)
+    }
+
     /// Makes one pick after another until none is left, and asks for an item before each where the
     /// machine wants one.
-    pub(crate) fn run_out<U: Units, S: Source, K: Sink>(
+    fn run_out<U: Units, S: Source, K: Sink>(
         &mut self,
         alloc: Global,
         tree: &Tree,
@@ -172,16 +195,16 @@ impl<'t> Execution<'t> {
     }
 
     /// How the run ended, where no pick is left, with its numbers and what was kept of it.
-    pub(crate) fn into_ran(self, alloc: Global, tree: &Tree, firings: u64) -> Result<Ran, NoMemory>
-        requires fits { self.machine.sent * firings < 2 ^ 64 }
+    fn into_ran(self, alloc: Global, tree: &Tree) -> Result<Ran, NoMemory>
+        requires fits { self.machine.sent * self.firings < 2 ^ 64 }
         requires ended { ready_list self.machine ≡ [] → IsNone self.told.trap → IsSome self.close }
         ensures finish { IfOk result (λ ran. IsFinish tree.now self.entry ran.finish) }
-        ensures stats { IfOk result (λ ran. ran.stats ≡ stats_at firings self.entry) }
+        ensures stats { IfOk result (λ ran. ran.stats ≡ stats_at self.entry) }
         ensures lines { IfOk result (λ ran. ran.lines ≡ self.entry.kept) }
         ensures sum { IfOk result (λ ran. ran.sum ≡ self.entry.told.sum) }
     {
         let finish = self.finish(alloc, tree)?;
-        let stats = stats_of(&self.machine, firings, self.idle);
+        let stats = stats_of(&self.machine, self.firings, self.idle);
         Ok(Ran {
             finish,
             stats,

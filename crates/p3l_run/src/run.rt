@@ -59,9 +59,14 @@ pub fn run<U: Units, S: Source, K: Sink>(
 {
     laws();
     a_stream_gives_its_items();
-    let mut execution = Execution::start(
-        alloc, plan.tree, plan.net, plan.width, schedule, keeping,
+    let execution = Execution::start(
+        alloc,
+        plan.tree,
+        plan.net,
+        plan.firings,
+        plan.width,
+        schedule,
+        keeping,
     )?;
-    execution.run_out(alloc, plan.tree, plan.units, input, out)?;
-    Ok(execution.into_ran(alloc, plan.tree, plan.firings)?)
+    execution.complete(alloc, plan.tree, plan.units, input, out)
 }

@@ -1,0 +1,28 @@
+use Rattle.std.proofs.Common.{◌∙◌}
+use Rattle.std.proofs.lemmas.Result.{err_from_is_err_and}
+use Rattle.p3l_run.specs.Execution.{outside}
+use Rattle.p3l_run.proofs.ExecutionSteps.{ends_early, ends_over, must_end, sent_fits}
+use Rattle.p3l_run.proofs.execution.Execution.complete.Goals as goal
+
+pub returns-in_err-run_out : goal.returns-in_err-run_out
+returns-in_err-run_out g c =
+    let p = err_from_is_err_and c.from_residual.result c.from_residual.ensures.1 in
+    rw (p.1, p.2) c.in_err-run_out.ensures
+
+pub into_ran-requires : goal.into_ran-requires
+into_ran-requires g c =
+    let way = c.requires.job in
+    let over = c.in_ok-run_out.ensures way.job way.leaf_is way.executes in
+    record { fits = sent_fits way.job (outside (g.S.Source.rest c.run_out.new.input) (g.S.Source.faults c.run_out.new.input) (g.K.Sink.taken c.run_out.new.out) (g.K.Sink.faults c.run_out.new.out)) c.run_out.new.self over.0.executes; ended = must_end way.job (outside (g.S.Source.rest c.run_out.new.input) (g.S.Source.faults c.run_out.new.input) (g.K.Sink.taken c.run_out.new.out) (g.K.Sink.faults c.run_out.new.out)) c.run_out.new.self over.0 }
+
+pub returns-in_err-into_ran : goal.returns-in_err-into_ran
+returns-in_err-into_ran g c =
+    let p = err_from_is_err_and c.from_residual-in_err-into_ran.result c.from_residual-in_err-into_ran.ensures.1 in
+    rw (p.1, p.2) (λ job leaf_is d. ends_early job (outside (g.S.Source.rest c.run_out.new.input) (g.S.Source.faults c.run_out.new.input) (g.K.Sink.taken c.run_out.new.out) (g.K.Sink.faults c.run_out.new.out)) c.run_out.new.self (c.in_ok-run_out.ensures job leaf_is d).0.executes)
+
+pub returns : goal.returns
+returns g c =
+    λ job leaf_is d.
+    let over = c.in_ok-run_out.ensures job leaf_is d in
+    let ran = c.in_ok-into_ran.ensures in
+    ends_over job (outside (g.S.Source.rest c.run_out.new.input) (g.S.Source.faults c.run_out.new.input) (g.K.Sink.taken c.run_out.new.out) (g.K.Sink.faults c.run_out.new.out)) c.run_out.new.self over.0 over.1 c.args.tree.now (c.requires.tree ∙ d.stands.runs.tree) _ ran.finish ran.stats ran.lines ran.sum
