@@ -20,7 +20,7 @@ cert = f"{folder}/m.cert"
 
 
 def call(form, name, parts):
-    """A module of this form whose stages are these modules, one behind the other."""
+    """A module of this form whose stages are these modules, one after the other."""
     places = ["x"] + [f"a{k}" for k in range(len(parts) - 1)] + ["y"]
     ends = [f"out(int {place})" for place in places[1:-1]] + ["out(y)"]
     calls = [f"  {part} in({place}) {end}" for part, place, end in zip(parts, places, ends)]

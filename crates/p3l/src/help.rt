@@ -187,7 +187,7 @@ fn help_of(command: &str) -> Option<&'static str> {
     }
 }
 
-/// The text that the words ask for: of the program by the first word, of a command right behind it.
+/// The text that the words ask for: of the program by the first word, of a command right after it.
 pub fn help_for(words: &[&str]) -> Option<&'static str> {
     match words {
         [first, ..] if is_help(first) => Some(PROGRAM),

@@ -20,7 +20,7 @@ use Rattle.p3l_model.specs.declared.cost.Sharing.{Sharing}
 use Rattle.p3l_model.specs.declared.cost.FoldCost.{FoldCost}
 use Rattle.p3l_model.specs.NodeCost.{never, node_cost}
 use Rattle.p3l_model.specs.Costed.{Costed, Leaf, Both, Workers, Segments, Loop, run_procs, IsLawfulRun, stages, costed, slowest}
-use Rattle.p3l_model.proofs.Rules.{joined_lawful, joined_run_procs, parted}
+use Rattle.p3l_model.proofs.Rules.{joined_lawful, joined_run_procs, separated}
 use Rattle.p3l_alloc.specs.Soonest.{IsRow, IsShared, HasPart, over_part}
 use Rattle.p3l_alloc.specs.Table.{row_in, AreRows, IsTableFrom}
 use Rattle.p3l_alloc.specs.Walk.{first_within, least_of, part_time, IsFirst, CanServe, IsFewest, AddsFirst, IsFirstCount, IsFirstSegments, IsWithin}
@@ -79,7 +79,7 @@ within_inside tree levels node some w = ((IsSubtree-step levels tree node w.next
 stages_room : (a b : Costed) (t p : ℕ) → CanServe (Both a b) t p → CanServe a t p × CanServe b t p
 unfolding run_procs
 stages_room a b t p can =
-    let o = parted a b t can.counts can.serves in
+    let o = separated a b t can.counts can.serves in
     let few = can.few in
     (record { counts = _; serves = o.0; few = omega arith }, record { counts = _; serves = o.1; few = omega arith })
 

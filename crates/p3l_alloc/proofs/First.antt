@@ -15,7 +15,7 @@ use Rattle.p3l_model.specs.NodeCost.{never, segments_service}
 use Rattle.p3l_model.specs.Costed.{Costed, Empty, Leaf, Both, Workers, Segments, Loop, IsIn, AreSegments, size, run_procs, run_service, IsLawfulRun, slowest}
 use Rattle.p3l_model.specs.Least.{Serves, IsCounted, part_bound}
 use Rattle.p3l_model.specs.Optimal.{IsNoLater}
-use Rattle.p3l_model.proofs.Rules.{joined, joined_run_procs, parted, lawful_length, le_times, times_le, some_process, workers_counted}
+use Rattle.p3l_model.proofs.Rules.{joined, joined_run_procs, separated, lawful_length, le_times, times_le, some_process, workers_counted}
 use Rattle.p3l_model.proofs.Timed.{bounded}
 use Rattle.p3l_alloc.specs.Soonest.{IsRow, IsShared}
 use Rattle.p3l_alloc.specs.Walk.{first_within, latest, part_time, IsFirst, CanServe, IsFewest, IsFirstCount, IsFirstSegments}
@@ -66,7 +66,7 @@ module _ (a b : Costed) (t p cap l : ℕ) (least : IsFewest b t cap l) (small : 
   pub both_room : CanServe (Both a b) t p → CanServe a t (p - l) × (l ≤ p)
   unfolding run_procs
   both_room can =
-      let o = parted a b t can.counts can.serves in
+      let o = separated a b t can.counts can.serves in
       let few = can.few in
       let one = least.below (drop (size a) can.counts) o.1 (omega arith) in
       (record { counts = take (size a) can.counts; serves = o.0; few = omega (arith, one) }, omega (arith, one))
@@ -79,7 +79,7 @@ module _ (a b : Costed) (t p cap l : ℕ) (least : IsFewest b t cap l) (small : 
   both_before : (xs ys zs : List ℕ) → IsFirst a t (p - l) xs → IsFirst b t (p - run_procs a xs) ys → Serves (Both a b) t zs → run_procs (Both a b) zs ≤ p → IsNoLater (xs ++ ys) zs
   unfolding run_procs
   both_before xs ys zs f g w few =
-      let o = parted a b t zs w in
+      let o = separated a b t zs w in
       let one = least.below (drop (size a) zs) o.1 (omega arith) in
       let same : length xs ≡ length (take (size a) zs) = lawful_length a xs f.serves.lawful ∙ sym (lawful_length a (take (size a) zs) o.0.lawful) in
       subst (λ z. IsNoLater (xs ++ ys) z) (take-append-drop (size a) zs)
@@ -98,7 +98,7 @@ pub both_fewest : (a b : Costed) (t cap u v : ℕ) → IsFewest a t cap u → Is
 unfolding run_procs
 both_fewest a b t cap u v p q = record {
   below = λ xs s few.
-      let o = parted a b t xs s in
+      let o = separated a b t xs s in
       let x = p.below (take (size a) xs) o.0 (omega arith) in
       let y = q.below (drop (size a) xs) o.1 (omega arith) in
       omega (arith, x, y);

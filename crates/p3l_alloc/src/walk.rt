@@ -177,7 +177,7 @@ pub fn first_counts(
     }
 }
 
-// The same for the stages of a pipe: each leaves what those behind it need at least.
+// The same for the stages of a pipe: each leaves what those after it need at least.
 #[cycle(walk)]
 fn stages_counts(
     tree: &Tree,

@@ -12,12 +12,12 @@ use Rattle.p3l_base.specs.Cut.{array_words, arrays_words, result_word, element_s
 use Rattle.p3l_base.specs.laws.Slice.{length-flat_map_same}
 use Rattle.p3l_base.proofs.Pieces.{map-flat_map, pieces_at, range_append, blocks_joined}
 
--- the first free index behind all dimensions, where a First place sets it to i
+-- the first free index after all dimensions, where a First place sets it to i
 abbrev pub last_first : List Dim → ℕ → ℕ → ℕ
 last_first [] i before = before
 last_first (d ∷ ds) i before = last_first ds i (next_first d.place i before)
 
--- the second free index behind all dimensions, where a Second place sets it to j
+-- the second free index after all dimensions, where a Second place sets it to j
 abbrev pub last_second : List Dim → ℕ → ℕ → ℕ
 last_second [] j before = before
 last_second (d ∷ ds) j before = last_second ds j (next_second d.place j before)
@@ -50,12 +50,12 @@ cut_of_array word (d ∷ ds) i j i₀ j₀ at start token front back free here p
     step_cut word d.place d.size ds i j i₀ j₀ at start token (All-head below d ds free) (λ k h.
     let split = pieces_at piece 0 k d.size k (d.size - suc k) (omega arith) (omega arith) in
     let before = flat_map piece (range_with_len 0 k) in
-    let behind = flat_map piece (range_with_len (k + 1) (d.size - suc k)) in
+    let after = flat_map piece (range_with_len (k + 1) (d.size - suc k)) in
     let size : length before ≡ k * array_size ds =
     length-flat_map_same piece (array_size ds) (λ x. length-array_words word ds _ _ _) (range_with_len 0 k) ∙ ap (λ n. n * array_size ds) (length-range_with_len 0 k) in
-    let whole : token ≡ (front ++ before) ++ (piece k ++ (behind ++ back)) =
+    let whole : token ≡ (front ++ before) ++ (piece k ++ (after ++ back)) =
     parts ∙ ap (λ xs. front ++ (xs ++ back)) split ∙ simp append_assoc in
-    cut_of_array word ds i j (next_first d.place k i₀) (next_second d.place k j₀) (next_place d.place k (cut_size ds) at) (start + k * array_size ds) token (front ++ before) (behind ++ back) (All-tail below d ds free) (omega (arith, length-append front before)) whole)
+    cut_of_array word ds i j (next_first d.place k i₀) (next_second d.place k j₀) (next_place d.place k (cut_size ds) at) (start + k * array_size ds) token (front ++ before) (after ++ back) (All-tail below d ds free) (omega (arith, length-append front before)) whole)
 
 -- so do the cuts of the arrays of slices that follow one another
 pub cuts_of_arrays : (results : List (List ℤ)) (second : ℕ) (slices : List Slice) (i j at start : ℕ) (token front : List ℤ) → All (λ (s : Slice). AreFreeIndices s.dims i j) slices → All (λ (s : Slice). last_first s.dims i 0 ≡ i) slices → All (λ (s : Slice). last_second s.dims j 0 ≡ j) slices → FollowOneAnother start slices → length front ≡ start → token ≡ front ++ arrays_words results second slices at → flat_map (λ s. cut_words s token i j) slices ≡ map (result_word results second i j) (range_with_len at (element_size slices))

@@ -27,7 +27,7 @@ pub map-flat_map : {X A B : Type 0} (f : A → B) (g : X → List A) (xs : List 
 map-flat_map f g [] = refl
 map-flat_map f g (x ∷ xs) = map-append f (g x) (flat_map g xs) ∙ ap (λ ys. map f (g x) ++ ys) (map-flat_map f g xs)
 
--- the pieces of some indices, parted at one of them
+-- the pieces of some indices, separated at one of them
 pub pieces_at : {A : Type 0} (f : ℕ → List A) (low k n at rest : ℕ) → low + k ≡ at → k + suc rest ≡ n → flat_map f (range_with_len low n) ≡ flat_map f (range_with_len low k) ++ (f at ++ flat_map f (range_with_len (at + 1) rest))
 pieces_at f low zero n at rest here whole =
     let e : low ≡ at = omega arith in
@@ -48,7 +48,7 @@ range_append low (suc m) n =
     let l : low + suc m ≡ low + 1 + m = omega arith in
     rw (e, l) (ap (λ xs. low ∷ xs) (range_append (low + 1) m n))
 
--- blocks of `size` values each, one behind the other
+-- blocks of `size` values each, one after the other
 pub blocks_joined : {A : Type 0} (f : ℕ → List A) (g : ℕ → A) (low size n : ℕ) → ((k : ℕ) → k < n → f k ≡ map g (range_with_len (low + k * size) size)) → flat_map f (range_with_len 0 n) ≡ map g (range_with_len low (n * size))
 blocks_joined f g low size zero same =
     let e : 0 * size ≡ 0 = omega arith in

@@ -101,7 +101,7 @@ joined_words_is cut results lawful count sizes = record {
       ∙ sym (fill_by_all (word result) result (element_size cut.outs) (pos 0) size (λ k h. refl));
 }
 
--- behind the last slice the token is whole
+-- after the last slice the token is whole
 pub filled_all : (results : List (List ℤ)) (second : ℕ) (slices : List Slice) (n at : ℕ) (token whole : List ℤ) → length slices ≤ n → token ++ arrays_words results second (drop n slices) at ≡ whole → token ≡ whole
 filled_all results second slices n at token whole h e =
     sym (append-nil token) ∙ ap (λ ss. token ++ arrays_words results second ss at) (sym (drop_all n slices h)) ∙ e

@@ -99,7 +99,7 @@ same_arrays first second a b (s ∷ ss) start some_first some_second fits once_f
     (λ inside.
     let word = same_array first second a b s.dims s.start some_first some_second (All-head (HasFreeSizes first second) s ss fits) (All-head (λ (x : Slice). first_count x.dims ≤ 1) s ss once_first) (All-head (λ (x : Slice). second_count x.dims ≤ 1) s ss once_second) (λ i j hi hj. (parts i j hi hj).0) p inside in
     rw follow.0 at word)
-    (λ behind.
+    (λ after.
     let q = p - array_size s.dims in
     let word = same_arrays first second a b ss (start + array_size s.dims) some_first some_second (All-tail (HasFreeSizes first second) s ss fits) (All-tail (λ (x : Slice). first_count x.dims ≤ 1) s ss once_first) (All-tail (λ (x : Slice). second_count x.dims ≤ 1) s ss once_second) follow.1 (λ i j hi hj. (parts i j hi hj).1) q (omega arith) in
     let place : start + array_size s.dims + q ≡ start + p = omega arith in

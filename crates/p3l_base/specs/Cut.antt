@@ -21,7 +21,7 @@ element_size (s ∷ ss) = cut_size s.dims + element_size ss
 abbrev pub element_count : Cut → ℕ
 element_count cut = cut.first * cut.second
 
--- the words that element e takes from the slices: one cut behind the other, with the free indices
+-- the words that element e takes from the slices: one cut after the other, with the free indices
 -- in row-major order
 abbrev pub element_words : List Slice → ℕ → List ℤ → ℕ → List ℤ
 element_words slices second words e = flat_map (λ s. cut_words s words (e / second) (e % second)) slices
@@ -99,19 +99,19 @@ pub record IsJoined (cut : Cut) (results : List (List ℤ)) (token : List ℤ) :
   pub whole : length token ≡ token_size cut.outs
   pub cuts : (e : ℕ) → e < element_count cut → element_words cut.outs cut.second token e ≡ slice_index_or results e []
 
--- the first free index behind a dimension's index k
+-- the first free index after a dimension's index k
 abbrev pub next_first : Place → ℕ → ℕ → ℕ
 next_first First k i = k
 next_first Rest k i = i
 next_first Second k i = i
 
--- the second free index behind a dimension's index k
+-- the second free index after a dimension's index k
 abbrev pub next_second : Place → ℕ → ℕ → ℕ
 next_second Second k j = k
 next_second Rest k j = j
 next_second First k j = j
 
--- the place in the cut behind a dimension's index k, where one index more is `stride` words further
+-- the place in the cut after a dimension's index k, where one index more is `stride` words further
 abbrev pub next_place : Place → ℕ → ℕ → ℕ → ℕ
 next_place Rest k stride at = at + k * stride
 next_place First k stride at = at

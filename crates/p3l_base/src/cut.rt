@@ -106,7 +106,7 @@ fn taken_len(dim: Dim) -> usize
     }
 }
 
-// Puts the words of an array behind `token`, each cut of which has `len` words.
+// Puts the words of an array after `token`, each cut of which has `len` words.
 fn fill_array(
     cut: &Cut,
     results: &[Words],

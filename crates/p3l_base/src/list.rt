@@ -54,7 +54,7 @@ impl<T> List<T> {
         self.items.is_empty()
     }
 
-    /// Puts an item behind the others; refused, it drops the item.
+    /// Puts an item after the others; refused, it drops the item.
     pub fn push(&mut self, item: T) -> Result<(), NoMemory>
     where
         T: Drop,

@@ -100,7 +100,7 @@ pub fn array_len(dims: &[Dim]) -> usize
     product
 }
 
-// Puts the words of a cut behind `cut`, of the array of `len` words from `start` on.
+// Puts the words of a cut after `cut`, of the array of `len` words from `start` on.
 fn copy_cut(
     words: &[i64],
     start: usize,

@@ -51,7 +51,7 @@ impl Words {
         self.items.is_empty()
     }
 
-    /// Puts a word behind the others.
+    /// Puts a word after the others.
     pub fn push(&mut self, word: i64) -> Result<(), NoMemory>
         ensures ok { OnOk result (self.new ≡ self.old ++ word ∷ []) }
         ensures err { OnErr result (self.new ≡ self.old) }

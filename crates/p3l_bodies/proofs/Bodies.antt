@@ -20,7 +20,7 @@ use Rattle.p3l_bodies.proofs.Passages.{InsideKeeps}
 use Rattle.p3l_bodies.proofs.Declared.{if_given, ok_if, keys, keys_named, keys_append, names_in, names_append, Declares, all_declared, declared_few, declared_arrays, declared_apart, declared_differ, differ_append, all_append}
 use Rattle.p3l_bodies.proofs.Fitting.{are_named, named_append, fits}
 
--- the ins, and the outs behind them
+-- the ins, and the outs after them
 record ArePorts (constants : Constants) (ports : Ports) : Type 0 where
   ins : Declares constants [] 0 ports.ins
   outs : Declares constants (names_in ports.ins) 0 ports.outs
@@ -91,19 +91,19 @@ body_compilable n constants home ports budget pos (body local_ports statements) 
         ∙ ap (λ front. front ++ keys (map (named false) ports.outs)) (keys_named true ports.ins)
         ∙ ap (λ back. names_in ports.ins ++ back) (keys_named false ports.outs)
         ∙ sym (names_append ports.ins ports.outs) in
-        let behind : Declares constants (names_in (ports.ins ++ ports.outs)) 0 locals = subst (λ names. Declares constants names 0 locals) before l.declares in
+        let after : Declares constants (names_in (ports.ins ++ ports.outs)) 0 locals = subst (λ names. Declares constants names 0 locals) before l.declares in
         let heads = differ_append constants ports.ins ports.outs
         (declared_differ constants [] 0 ports.ins are.ins) (declared_differ constants (names_in ports.ins) 0 ports.outs are.outs)
         (declared_apart constants (names_in ports.ins) 0 ports.outs are.outs) in
         let ins_few = declared_few constants [] 0 ports.ins are.ins in
         let outs_few = declared_few constants (names_in ports.ins) 0 ports.outs are.outs in
-        let locals_few = declared_few constants (names_in (ports.ins ++ ports.outs)) 0 locals behind in record {
+        let locals_few = declared_few constants (names_in (ports.ins ++ ports.outs)) 0 locals after in record {
           differ = differ_append constants (ports.ins ++ ports.outs) locals heads
-              (declared_differ constants (names_in (ports.ins ++ ports.outs)) 0 locals behind)
-              (declared_apart constants (names_in (ports.ins ++ ports.outs)) 0 locals behind);
+              (declared_differ constants (names_in (ports.ins ++ ports.outs)) 0 locals after)
+              (declared_apart constants (names_in (ports.ins ++ ports.outs)) 0 locals after);
           arrays = all_append _ (ports.ins ++ ports.outs) locals
               (all_append _ ports.ins ports.outs (declared_arrays constants [] 0 ports.ins are.ins) (declared_arrays constants (names_in ports.ins) 0 ports.outs are.outs))
-              (declared_arrays constants (names_in (ports.ins ++ ports.outs)) 0 locals behind);
+              (declared_arrays constants (names_in (ports.ins ++ ports.outs)) 0 locals after);
           few_ins = omega (arith, ins_few);
           few_outs = omega (arith, outs_few);
           few_locals = omega (arith, locals_few);

@@ -61,7 +61,7 @@ shape_some constants port =
     if_given (sizes_of constants 0 port.sizes) _ AreSome (λ (shape : Shape). AreSome shape.sizes) (sizes_some constants 0 port.sizes)
     (λ sizes some. ok_if (nat_le (product sizes) 65536) (record { sizes = sizes }) _ (λ (shape : Shape). AreSome shape.sizes) (λ e. some))
 
--- a variable behind others of so many words
+-- a variable after others of so many words
 record IsMeasured (words : ℕ) (port : Port) (var : Var) : Type 0 where
   called : var.name ≡ port.at.name
   some : AreSome var.shape.sizes
@@ -128,7 +128,7 @@ one_declared fault constants names words port =
       few = m.few;
     }
 
--- variables that are declared behind others, in their order
+-- variables that are declared after others, in their order
 abbrev pub Declares : Constants → List (List ℕ) → ℕ → List Var → Type 0
 Declares constants before words [] = words ≤ 65536
 Declares constants before words (var ∷ vars) =
@@ -141,10 +141,10 @@ all_declared fault is_fixed constants names words [] low = low
 all_declared fault is_fixed constants names words (port ∷ ports) low =
     if_given (declared_one fault constants names words port) _ (IsDeclared constants (keys names) words) (Declares constants (keys names) words) (one_declared fault constants names words port)
     (λ var one. let more = names ++ named is_fixed var ∷ [] in
-    let behind : keys more ≡ keys names ++ var.name ∷ [] = map-append (λ (p : List ℕ × Known). p.0) names (named is_fixed var ∷ []) in
+    let after : keys more ≡ keys names ++ var.name ∷ [] = map-append (λ (p : List ℕ × Known). p.0) names (named is_fixed var ∷ []) in
     if_given (declared fault is_fixed constants more (words + width var) ports) _ (Declares constants (keys more) (words + width var)) (Declares constants (keys names) words)
     (all_declared fault is_fixed constants more (words + width var) ports one.few)
-    (λ vars rest. (one, subst (λ before. Declares constants before (words + width var) vars) behind rest)))
+    (λ vars rest. (one, subst (λ before. Declares constants before (words + width var) vars) after rest)))
 
 -- the words of variables that are declared
 pub declared_few : (constants : Constants) (before : List (List ℕ)) (words : ℕ) (vars : List Var) → Declares constants before words vars → words + total vars ≤ 65536

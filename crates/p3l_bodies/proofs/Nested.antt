@@ -124,7 +124,7 @@ set_passed b w o x is e r h =
     let l = passed true b b w 0 refl e r k.1.1.1 in
     record { target = k.0; value = limited true b b w e r l; last = l.total; goes_on = l.goes_on }
 
--- a condition in parentheses, with a block behind it
+-- a condition in parentheses, with a block after it
 test_passed : (b : ℕ) (e : Formula) (r : List Symbol) → IsWithin (nest true b b 0 0) (sign marks.OpenParen ∷ spell e (sign marks.CloseParen ∷ sign marks.OpenBrace ∷ r)) →
     IsLimited (tree e) × IsWithin (at_statement (suc b)) r
 test_passed b e r h =

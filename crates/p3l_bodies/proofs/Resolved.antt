@@ -123,14 +123,14 @@ record AddsOne (checked next : Checked) (m : ModuleTree) (entries : List EntryTr
   first : (rest : List SeqTree) → kind_in kind ≡ module_kinds.Seq → IsSomeAnd (slice_get (seqs ++ rest) 0) (HasWordsOf w)
 
 module _ (checked next : Checked) (m : ModuleTree) (entries : List EntryTree) (p : Ports) (skeleton : Skeleton) (are_ports : ports_of checked.constants m.ins m.outs ≡ Ok p) where
-  behind : Option SeqTree → Checked
-  behind seq = with_checked checked (defined_as (info_of m) p skeleton) seq
+  after : Option SeqTree → Checked
+  after seq = with_checked checked (defined_as (info_of m) p skeleton) seq
 
   -- a module of another kind has no body
   bodiless : (kind : Kind) → ((rest : List SeqTree) → AreChecked checked.constants (length checked.modules.infos + 1) entries rest →
       checked_first kind (checked_seq checked.constants (length checked.modules.infos) m) (AreChecked checked.constants (length checked.modules.infos + 1) entries) rest) →
-      0 ≡ one_if_seq (kind_in kind) → (kind_in kind ≡ module_kinds.Seq → ⊥) → next ≡ behind None → AddsOne checked next m entries kind
-  unfolding behind
+      0 ≡ one_if_seq (kind_in kind) → (kind_in kind ≡ module_kinds.Seq → ⊥) → next ≡ after None → AddsOne checked next m entries kind
+  unfolding after
   bodiless kind are count other is = record {
     w = (defined_as (info_of m) p skeleton).wired;
     seqs = [];
@@ -143,8 +143,8 @@ module _ (checked next : Checked) (m : ModuleTree) (entries : List EntryTree) (p
     first = λ rest e. absurd (other e);
   }
 
-  bodied : (seq : SeqTree) → checked_seq checked.constants (length checked.modules.infos) m ≡ Ok seq → next ≡ behind (Some seq) → AddsOne checked next m entries kinds.Seq
-  unfolding behind
+  bodied : (seq : SeqTree) → checked_seq checked.constants (length checked.modules.infos) m ≡ Ok seq → next ≡ after (Some seq) → AddsOne checked next m entries kinds.Seq
+  unfolding after
   bodied seq e is =
       let own = seq_ports checked.constants (length checked.modules.infos) m p seq are_ports e in record {
         w = (defined_as (info_of m) p skeleton).wired;
@@ -161,20 +161,20 @@ module _ (checked next : Checked) (m : ModuleTree) (entries : List EntryTree) (p
         };
       }
 
-  one_more : (kind : Kind) (seq : Option SeqTree) → body_in kind checked.constants (length checked.modules.infos) m ≡ Ok seq → next ≡ behind seq → AddsOne checked next m entries kind
+  one_more : (kind : Kind) (seq : Option SeqTree) → body_in kind checked.constants (length checked.modules.infos) m ≡ Ok seq → next ≡ after seq → AddsOne checked next m entries kind
   one_more kinds.Seq seq e is =
       let g = given_of (checked_seq checked.constants (length checked.modules.infos) m) (λ s. Ok (Some s)) seq e in
-      bodied g.value g.is (is ∙ ap behind (sym (ok_same (Some g.value) seq g.then_is)))
-  one_more kinds.Comp seq e is = bodiless kinds.Comp (λ rest h. h) refl (λ k. absurd cc) (is ∙ ap behind (sym (ok_same None seq e)))
-  one_more kinds.Pipe seq e is = bodiless kinds.Pipe (λ rest h. h) refl (λ k. absurd cc) (is ∙ ap behind (sym (ok_same None seq e)))
-  one_more kinds.Farm seq e is = bodiless kinds.Farm (λ rest h. h) refl (λ k. absurd cc) (is ∙ ap behind (sym (ok_same None seq e)))
-  one_more kinds.Map seq e is = bodiless kinds.Map (λ rest h. h) refl (λ k. absurd cc) (is ∙ ap behind (sym (ok_same None seq e)))
-  one_more kinds.Reduce seq e is = bodiless kinds.Reduce (λ rest h. h) refl (λ k. absurd cc) (is ∙ ap behind (sym (ok_same None seq e)))
-  one_more kinds.Loop seq e is = bodiless kinds.Loop (λ rest h. h) refl (λ k. absurd cc) (is ∙ ap behind (sym (ok_same None seq e)))
+      bodied g.value g.is (is ∙ ap after (sym (ok_same (Some g.value) seq g.then_is)))
+  one_more kinds.Comp seq e is = bodiless kinds.Comp (λ rest h. h) refl (λ k. absurd cc) (is ∙ ap after (sym (ok_same None seq e)))
+  one_more kinds.Pipe seq e is = bodiless kinds.Pipe (λ rest h. h) refl (λ k. absurd cc) (is ∙ ap after (sym (ok_same None seq e)))
+  one_more kinds.Farm seq e is = bodiless kinds.Farm (λ rest h. h) refl (λ k. absurd cc) (is ∙ ap after (sym (ok_same None seq e)))
+  one_more kinds.Map seq e is = bodiless kinds.Map (λ rest h. h) refl (λ k. absurd cc) (is ∙ ap after (sym (ok_same None seq e)))
+  one_more kinds.Reduce seq e is = bodiless kinds.Reduce (λ rest h. h) refl (λ k. absurd cc) (is ∙ ap after (sym (ok_same None seq e)))
+  one_more kinds.Loop seq e is = bodiless kinds.Loop (λ rest h. h) refl (λ k. absurd cc) (is ∙ ap after (sym (ok_same None seq e)))
 
 -- a module by all its rules
 module_adds : (checked next : Checked) (is_ahead : List ℕ → Bool) (m : ModuleTree) (entries : List EntryTree) → checked_module checked is_ahead m ≡ Ok next → AddsOne checked next m entries m.kind
-unfolding behind
+unfolding after
 module_adds checked next is_ahead m entries e =
     let g = given_of _ _ next e in
     let h = given_of (ports_in checked.constants m) _ g.value g.is in
@@ -184,11 +184,11 @@ module_adds checked next is_ahead m entries e =
     let d : defined_as (info_of m) h.value i.value ≡ g.value = ok_same _ g.value i.then_is in
     one_more checked next m entries h.value i.value there.then_is m.kind j.value j.is (sym (ok_same _ next j.then_is) ∙ ap (λ (x : Defined). with_checked checked x j.value) (sym d))
 
--- what lies behind others
-get_behind : (front back : List SeqTree) (n k : ℕ) → k ≡ length front + n → slice_get (front ++ back) k ≡ slice_get back n
-get_behind [] back n k e = let f : k ≡ n = omega (arith, e) in ap (slice_get back) f
-get_behind (x ∷ front) back n zero e = absurd (omega (arith, e))
-get_behind (x ∷ front) back n (suc k) e = get_behind front back n k (omega (arith, e))
+-- what lies after others
+get_after : (front back : List SeqTree) (n k : ℕ) → k ≡ length front + n → slice_get (front ++ back) k ≡ slice_get back n
+get_after [] back n k e = let f : k ≡ n = omega (arith, e) in ap (slice_get back) f
+get_after (x ∷ front) back n zero e = absurd (omega (arith, e))
+get_after (x ∷ front) back n (suc k) e = get_after front back n k (omega (arith, e))
 
 have_more : (checked next : Checked) (m : ModuleTree) (entries : List EntryTree) (one : AddsOne checked next m entries m.kind) (infos : List ModuleInfo) (wired : List Wired) (seqs : List SeqTree) →
     HaveBodies infos wired seqs → HaveBodies (info_of m ∷ infos) (one.w ∷ wired) (one.seqs ++ seqs)
@@ -196,7 +196,7 @@ unfolding HaveBodies
 have_more checked next m entries one infos wired seqs have zero seq =
     subst (λ t. IsSomeAnd (cond (is_seq_kind t) (slice_get (one.seqs ++ seqs) 0) None) (HasWordsOf one.w)) (sym seq) (one.first seqs seq)
 have_more checked next m entries one infos wired seqs have (suc k) seq =
-    let at = get_behind one.seqs seqs (seqs_before infos k) (one_if_seq (kind_in m.kind) + seqs_before infos k) (omega (arith, one.count)) in
+    let at = get_after one.seqs seqs (seqs_before infos k) (one_if_seq (kind_in m.kind) + seqs_before infos k) (omega (arith, one.count)) in
     subst (λ o. IsSomeAnd (if_seq (slice_get infos k) o) (HasWordsOf (module_at wired k))) (sym at) (have k seq)
 
 adds : (checked last : Checked) (entries : List EntryTree) → checked_entries checked entries ≡ Ok last → Adds checked last entries

@@ -21,7 +21,7 @@ width var = product var.shape.sizes
 abbrev pub bound : Var → List ℤ → Binding
 bound var words = record { name = var.name; sizes = var.shape.sizes; words = words }
 
--- the ins hold the words of the item, one behind the other
+-- the ins hold the words of the item, one after the other
 abbrev pub holding : List Var → List ℤ → List Binding
 holding [] words = []
 holding (var ∷ vars) words = bound var (take (width var) words) ∷ holding vars (drop (width var) words)

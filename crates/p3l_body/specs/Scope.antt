@@ -37,7 +37,7 @@ abbrev pub fresh : Fault → Constants → Names → Spot → Verdict
 fresh fault constants names spot =
     broken_if (is_some (known_of constants names spot.name)) fault spot.pos
 
--- a variable behind others of so many words: its shape is lawful, and there are no more than 65,536
+-- a variable after others of so many words: its shape is lawful, and there are no more than 65,536
 -- words in all
 abbrev pub measured : Constants → ℕ → Port → Result Var SourceRefusal
 measured constants words port =
@@ -45,7 +45,7 @@ measured constants words port =
     (λ shape. if nat_lt 65536 (words + product shape.sizes) then Err (At TooWide port.at.pos)
     else Ok (record { name = port.at.name; shape = shape }))
 
--- a declaration of a variable behind others
+-- a declaration of a variable after others
 abbrev pub declared_one : Fault → Constants → Names → ℕ → Port → Result Var SourceRefusal
 declared_one fault constants names words port =
     given (measured constants words port) (λ var. given (fresh fault constants names port.at) (λ x. Ok var))

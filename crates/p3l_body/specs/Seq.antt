@@ -55,7 +55,7 @@ checked_locals constants names local_ports statements =
     given (declared DeclaredTwice false constants names 0 local_ports)
     (λ locals. given (mentions_rule constants (names ++ map (named false) locals) (code_mentions statements)) (λ x. Ok locals))
 
--- a body behind its module's head
+-- a body after its module's head
 abbrev pub checked_body : Constants → ℕ → Ports → ℕ → Pos → InsideTree → Result SeqTree SourceRefusal
 checked_body constants home ports budget pos (body local_ports statements) =
     given (checked_locals constants (port_names ports) local_ports statements)

@@ -76,7 +76,7 @@ impl Scope {
     }
 }
 
-/// A variable behind others of so many words.
+/// A variable after others of so many words.
 fn measured(alloc: Global, consts: &Consts, words: u64, port: &Port) -> Result<Var, SourceRefusal>
     requires { words ≤ 65536 }
     ensures var { Gives result (measured consts.now words port.now) }
@@ -111,7 +111,7 @@ fn check_fresh(
     }
 }
 
-/// A declaration of a variable behind others of so many words.
+/// A declaration of a variable after others of so many words.
 pub fn declare_one(
     alloc: Global,
     fault: Fault,
@@ -143,7 +143,7 @@ pub fn enter(alloc: Global, is_fixed: bool, scope: &mut Scope, var: &Var) -> Res
     scope.add(name, known)
 }
 
-/// Declares variables behind those of a scope; a name that is taken is refused with this fault, and
+/// Declares variables after those of a scope; a name that is taken is refused with this fault, and
 /// fixed ones may not be assigned to.
 pub fn declare(
     alloc: Global,

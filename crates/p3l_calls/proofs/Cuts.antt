@@ -33,7 +33,7 @@ use Rattle.p3l_calls.specs.Port.{total, IsSized, AreSized, has_shape}
 use Rattle.p3l_calls.specs.Index.{are_indices, has_indices, members_rule, sizes_rule, first_size, second_size}
 use Rattle.p3l_calls.specs.Located.{locations, located}
 use Rattle.p3l_calls.specs.Map.{dims_of, slice_of, leaves, map_out_rule, map_in_rule, map_out, map_outs, map_in, map_ins, indices_of, cut_of}
-use Rattle.p3l_calls.proofs.Kept.{given-taken, kept-true, kept-false, first_of-first, first_of-behind, both-left, both-right}
+use Rattle.p3l_calls.proofs.Kept.{given-taken, kept-true, kept-false, first_of-first, first_of-after, both-left, both-right}
 use Rattle.p3l_calls.proofs.Declares.{total-some}
 use Rattle.p3l_calls.proofs.Dims.{dims-free, dims-cut, dims-sizes, dims-length, out-dims, in-dims}
 use Rattle.p3l_calls.proofs.Slices.{array_size-dims}
@@ -74,10 +74,10 @@ out-slice : (indices : List Index) (start : ℕ) (var port : Var) (arg : Arg) (u
 out-slice indices start var port arg u sized e =
     let counts : Verdict = broken_if (not (length arg.subs == length var.shape.sizes)) TypeDiffers arg.at.pos in
     let names : Verdict = broken_if (not (are_indices indices && has_indices indices arg.subs)) FreeIndex arg.at.pos in
-    let one = first_of-behind (broken_if (not (bytes_eq var.name arg.at.name)) Wiring arg.at.pos) _ u e in
-    let two = first_of-behind counts _ u one in
-    let three = first_of-behind names _ u two in
-    let four = first_of-behind (sizes_rule indices arg.subs var.shape.sizes) _ u three in
+    let one = first_of-after (broken_if (not (bytes_eq var.name arg.at.name)) Wiring arg.at.pos) _ u e in
+    let two = first_of-after counts _ u one in
+    let three = first_of-after names _ u two in
+    let four = first_of-after (sizes_rule indices arg.subs var.shape.sizes) _ u three in
     let many : length arg.subs ≡ length var.shape.sizes =
     eqb-true (length arg.subs) (length var.shape.sizes) (kept-true _ TypeDiffers arg.at.pos u (first_of-first counts _ u one)) in
     let both : (are_indices indices && has_indices indices arg.subs) ≡ true = kept-true _ FreeIndex arg.at.pos u (first_of-first names _ u two) in
@@ -192,9 +192,9 @@ in-fits : (indices : List Index) (ins : ℕ) (array : Located) (port : Var) (arg
     IsSized array.shape → array.start + product array.shape.sizes ≤ ins → map_in_rule indices array (Some port) arg ≡ Ok u →
     FitsIn indices ins port (slice_of indices array.start arg array.shape)
 in-fits indices ins array port arg u good sized within e =
-    let one = first_of-behind (broken_if (not (is_some (sliced arg.subs array.shape))) TypeDiffers arg.at.pos) _ u e in
-    let two = first_of-behind (members_rule indices [] arg.subs) _ u one in
-    let three = first_of-behind (sizes_rule indices arg.subs array.shape.sizes) _ u two in
+    let one = first_of-after (broken_if (not (is_some (sliced arg.subs array.shape))) TypeDiffers arg.at.pos) _ u e in
+    let two = first_of-after (members_rule indices [] arg.subs) _ u one in
+    let three = first_of-after (sizes_rule indices arg.subs array.shape.sizes) _ u two in
     let members = first_of-first (members_rule indices [] arg.subs) _ u one in
     let sizes = first_of-first (sizes_rule indices arg.subs array.shape.sizes) _ u two in
     let left = left-of port arg.subs array.shape (kept-true _ TypeDiffers arg.at.pos u (first_of-first _ [] u three)) in

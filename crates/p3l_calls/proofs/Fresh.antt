@@ -10,11 +10,11 @@ use Rattle.p3l_types.specs.Shape.{product}
 use Rattle.p3l_body.specs.declared.var.Var.{Var}
 use Rattle.p3l_body.specs.Scope.{Names, named}
 use Rattle.p3l_calls.specs.Stage.{fresh_out, fresh_outs}
-use Rattle.p3l_calls.proofs.Orders.{first-drop, behind-drop}
+use Rattle.p3l_calls.proofs.Orders.{first-drop, after_first-drop}
 
 -- the ports that are declared, followed by those still to be declared
-abbrev pub fresh_behind : Constants → Names → ℕ → List Var → List Var → List OutArg → Result (List Var) SourceRefusal
-fresh_behind constants names words done ports outs =
+abbrev pub fresh_after : Constants → Names → ℕ → List Var → List Var → List OutArg → Result (List Var) SourceRefusal
+fresh_after constants names words done ports outs =
     given (fresh_outs constants names words ports outs) (λ rest. Ok (done ++ rest))
 
 given-ok : {A : Type 0} (r : Result A SourceRefusal) → given r (λ x. Ok x) ≡ r
@@ -26,31 +26,31 @@ joined : (done : List Var) (var : Var) (r : Result (List Var) SourceRefusal) →
 joined done var (Ok rest) = ap Ok (sym (append_assoc done (var ∷ []) rest))
 joined done var (Err e) = refl
 
-pub fresh_behind-none : (constants : Constants) (names : Names) (words : ℕ) (ports : List Var) (outs : List OutArg) →
-    fresh_behind constants names words [] ports outs ≡ fresh_outs constants names words ports outs
-fresh_behind-none constants names words ports outs = given-ok (fresh_outs constants names words ports outs)
+pub fresh_after-none : (constants : Constants) (names : Names) (words : ℕ) (ports : List Var) (outs : List OutArg) →
+    fresh_after constants names words [] ports outs ≡ fresh_outs constants names words ports outs
+fresh_after-none constants names words ports outs = given-ok (fresh_outs constants names words ports outs)
 
-pub fresh_behind-all : (constants : Constants) (names : Names) (words : ℕ) (done : List Var) (ports : List Var) →
-    fresh_behind constants names words done ports [] ≡ Ok done
-fresh_behind-all constants names words done ports = ap Ok (append-nil done)
+pub fresh_after-all : (constants : Constants) (names : Names) (words : ℕ) (done : List Var) (ports : List Var) →
+    fresh_after constants names words done ports [] ≡ Ok done
+fresh_after-all constants names words done ports = ap Ok (append-nil done)
 
 module _ (constants : Constants) (names : Names) (words : ℕ) (done : List Var) (ports : List Var) (outs : List OutArg) where
   fresh-step : (k : ℕ) (d : OutArg) → k < length outs →
       fresh_outs constants names words (drop k ports) (drop k outs)
       ≡ given (fresh_out constants names words (slice_get ports k) (get_or outs k d))
       (λ var. given (fresh_outs constants (names ++ named false var ∷ []) (words + product var.shape.sizes) (drop (k + 1) ports) (drop (k + 1) outs)) (λ vars. Ok (var ∷ vars)))
-  fresh-step k d h = rw (drop_more outs k d h, first-drop ports k, behind-drop ports k) refl
+  fresh-step k d h = rw (drop_more outs k d h, first-drop ports k, after_first-drop ports k) refl
 
-  pub fresh_behind-broken : (k : ℕ) (x : OutArg) (e : SourceRefusal) → k < length outs → x ≡ get_or outs k x →
+  pub fresh_after-broken : (k : ℕ) (x : OutArg) (e : SourceRefusal) → k < length outs → x ≡ get_or outs k x →
       fresh_out constants names words (slice_get ports k) x ≡ Err e →
-      fresh_behind constants names words done (drop k ports) (drop k outs) ≡ Err e
-  fresh_behind-broken k x e h is broken = rw (fresh-step k x h, sym is, broken) refl
+      fresh_after constants names words done (drop k ports) (drop k outs) ≡ Err e
+  fresh_after-broken k x e h is broken = rw (fresh-step k x h, sym is, broken) refl
 
-  pub fresh_behind-more : (k : ℕ) (x : OutArg) (var : Var) → k < length outs → x ≡ get_or outs k x →
+  pub fresh_after-more : (k : ℕ) (x : OutArg) (var : Var) → k < length outs → x ≡ get_or outs k x →
       fresh_out constants names words (slice_get ports k) x ≡ Ok var →
-      fresh_behind constants names words done (drop k ports) (drop k outs)
-      ≡ fresh_behind constants (names ++ named false var ∷ []) (words + product var.shape.sizes) (done ++ var ∷ []) (drop (k + 1) ports) (drop (k + 1) outs)
-  fresh_behind-more k x var h is found =
+      fresh_after constants names words done (drop k ports) (drop k outs)
+      ≡ fresh_after constants (names ++ named false var ∷ []) (words + product var.shape.sizes) (done ++ var ∷ []) (drop (k + 1) ports) (drop (k + 1) outs)
+  fresh_after-more k x var h is found =
       rw (fresh-step k x h, sym is, found)
       (joined done var (fresh_outs constants (names ++ named false var ∷ []) (words + product var.shape.sizes) (drop (k + 1) ports) (drop (k + 1) outs)))
 
@@ -60,4 +60,4 @@ pub names-more : (names : Names) (done : List Var) (var : Var) →
 names-more names done var =
     append_assoc names (map (named false) done) (named false var ∷ []) ∙ ap (λ more. names ++ more) (sym (map-append (named false) done (var ∷ [])))
 
-pub ruleset ports = (fresh_behind-none, fresh_behind-all, fresh_behind-broken, fresh_behind-more, names-more)
+pub ruleset ports = (fresh_after-none, fresh_after-all, fresh_after-broken, fresh_after-more, names-more)

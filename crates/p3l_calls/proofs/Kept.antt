@@ -35,9 +35,9 @@ pub first_of-first : (v : Verdict) (vs : List Verdict) (u : Unit {0}) → first_
 first_of-first (Ok x) vs u e = refl
 first_of-first (Err refusal) vs u e = absurd cc
 
-pub first_of-behind : (v : Verdict) (vs : List Verdict) (u : Unit {0}) → first_of (v ∷ vs) ≡ Ok u → first_of vs ≡ Ok u
-first_of-behind (Ok x) vs u e = e
-first_of-behind (Err refusal) vs u e = absurd cc
+pub first_of-after : (v : Verdict) (vs : List Verdict) (u : Unit {0}) → first_of (v ∷ vs) ≡ Ok u → first_of vs ≡ Ok u
+first_of-after (Ok x) vs u e = e
+first_of-after (Err refusal) vs u e = absurd cc
 
 -- both of two tests
 pub both-left : (a b : Bool) → (a && b) ≡ true → a ≡ true

@@ -12,14 +12,14 @@ use Rattle.p3l_body.specs.declared.ports.Ports.{Ports}
 use Rattle.p3l_calls.specs.declared.reduce.Elements.{Elements}
 use Rattle.p3l_calls.specs.Port.{total}
 use Rattle.p3l_calls.specs.Reduce.{rows_rule, result_rule, all_have, is_operator, reduce_rule, folded, reduced, elements_of}
-use Rattle.p3l_calls.proofs.Kept.{given-taken, kept-true, first_of-first, first_of-behind, both-left, both-right}
+use Rattle.p3l_calls.proofs.Kept.{given-taken, kept-true, first_of-first, first_of-after, both-left, both-right}
 
 -- the operator and the out fit the elements
 fitting : (array : Var) (element : List ℕ) (out : Var) (callee : Ports) (call : Call) (u : Unit {0}) →
     reduce_rule array element out callee call ≡ Ok u → (is_operator element callee && bytes_eq out.shape.sizes element) ≡ true
 fitting array element out callee call u e =
-    let rest = first_of-behind (rows_rule call.at.pos array call.ins) _ u e in
-    let last = first_of-behind (result_rule call.at.pos out call.outs) _ u rest in
+    let rest = first_of-after (rows_rule call.at.pos array call.ins) _ u e in
+    let last = first_of-after (result_rule call.at.pos out call.outs) _ u rest in
     let test : Bool = is_operator element callee && bytes_eq out.shape.sizes element in
     kept-true test BadOperator call.at.pos u (first_of-first _ [] u last)
 

@@ -6,7 +6,7 @@ use Rattle.p3l_ast.specs.declared.position.Pos.{Pos}
 use Rattle.p3l_ast.specs.declared.refusal.SourceRefusal.{SourceRefusal}
 use Rattle.p3l_types.specs.Verdict.{Verdict, given}
 use Rattle.p3l_body.specs.declared.var.Var.{Var}
-use Rattle.p3l_calls.specs.Plain.{first, behind, in_order}
+use Rattle.p3l_calls.specs.Plain.{first, after_first, in_order}
 
 -- what stands in place k
 pub first-drop : {A : Type 0} (xs : List A) (k : ℕ) → first (drop k xs) ≡ slice_get xs k
@@ -15,10 +15,10 @@ first-drop [] (suc k) = refl
 first-drop (x ∷ xs) zero = refl
 first-drop (x ∷ xs) (suc k) = first-drop xs k
 
-pub behind-drop : {A : Type 0} (xs : List A) (k : ℕ) → behind (drop k xs) ≡ drop (k + 1) xs
-behind-drop xs k = rw add-one (by xs k)
+pub after_first-drop : {A : Type 0} (xs : List A) (k : ℕ) → after_first (drop k xs) ≡ drop (k + 1) xs
+after_first-drop xs k = rw add-one (by xs k)
   where
-    by : {A : Type 0} (ys : List A) (i : ℕ) → behind (drop i ys) ≡ drop (suc i) ys
+    by : {A : Type 0} (ys : List A) (i : ℕ) → after_first (drop i ys) ≡ drop (suc i) ys
     by [] zero = refl
     by [] (suc i) = refl
     by (y ∷ ys) zero = refl
@@ -46,10 +46,10 @@ module _ {A : Type 0} (rule : Option Var → Option Var → A → Verdict) (plac
       ≡ given (rule (slice_get vars k) (slice_get ports k) (get_or xs k d)) (λ y. in_order rule place (drop (k + 1) vars) (drop (k + 1) ports) (drop (k + 1) xs))
   in_order-step k d h =
       rw (drop_more xs k d h)
-      (ap (λ v. given v (λ y. in_order rule place (behind (drop k vars)) (behind (drop k ports)) (drop (k + 1) xs)))
+      (ap (λ v. given v (λ y. in_order rule place (after_first (drop k vars)) (after_first (drop k ports)) (drop (k + 1) xs)))
       (ap (λ o. rule o (first (drop k ports)) (get_or xs k d)) (first-drop vars k) ∙ ap (λ o. rule (slice_get vars k) o (get_or xs k d)) (first-drop ports k))
-      ∙ ap (λ vs. given (rule (slice_get vars k) (slice_get ports k) (get_or xs k d)) (λ y. in_order rule place vs (behind (drop k ports)) (drop (k + 1) xs))) (behind-drop vars k)
-      ∙ ap (λ ps. given (rule (slice_get vars k) (slice_get ports k) (get_or xs k d)) (λ y. in_order rule place (drop (k + 1) vars) ps (drop (k + 1) xs))) (behind-drop ports k))
+      ∙ ap (λ vs. given (rule (slice_get vars k) (slice_get ports k) (get_or xs k d)) (λ y. in_order rule place vs (after_first (drop k ports)) (drop (k + 1) xs))) (after_first-drop vars k)
+      ∙ ap (λ ps. given (rule (slice_get vars k) (slice_get ports k) (get_or xs k d)) (λ y. in_order rule place (drop (k + 1) vars) ps (drop (k + 1) xs))) (after_first-drop ports k))
 
   -- where the rule of the next entry is broken, and where it is kept
   pub in_order-broken : (k : ℕ) (x : A) (e : SourceRefusal) → k < length xs → x ≡ get_or xs k x →

@@ -33,7 +33,7 @@ here q name port (x ∷ entries) rest e = by (bytes_eq q x.0) refl (bytes_eq nam
         let there : is_some (lookup (bytes_eq name) entries) ≡ true = sym (ap (λ b. is_some (cond b (Some x.1) (lookup (bytes_eq name) entries))) t) ∙ e in
         rw s (later there)
 
--- a port more, with those behind it
+-- a port more, with those after it
 pub added-lookup : (entries rest : Locations) (name : List ℕ) (port : Located) (q : List ℕ) →
     lookup (bytes_eq q) (added entries name port ++ rest) ≡ lookup (bytes_eq q) (entries ++ (name, port) ∷ rest)
 added-lookup entries rest name port q = by (is_some (lookup (bytes_eq name) entries)) refl

@@ -57,13 +57,13 @@ stands_in subs name = list_any (is_free_of name) subs
 abbrev pub has_indices : List Index → List Sub → Bool
 has_indices indices subs = free_count subs == length indices && list_all (λ (i : Index). stands_in subs i.name) indices
 
--- a free index in a bracket behind others is one of these, and does not stand in those others
+-- a free index in a bracket after others is one of these, and does not stand in those others
 abbrev pub member_rule : List Index → List Sub → Sub → Verdict
 member_rule indices before Whole = kept
 member_rule indices before (Free spot) =
     broken_if (not (is_index indices spot.name && not (stands_in before spot.name))) FreeIndex spot.pos
 
--- brackets behind others
+-- brackets after others
 abbrev pub members_rule : List Index → List Sub → List Sub → Verdict
 members_rule indices before [] = kept
 members_rule indices before (sub ∷ subs) =
@@ -80,7 +80,7 @@ sizes_rule indices subs [] = kept
 sizes_rule indices [] (size ∷ sizes) = kept
 sizes_rule indices (sub ∷ subs) (size ∷ sizes) = given (size_rule indices sub size) (λ x. sizes_rule indices subs sizes)
 
--- what a name is behind the first free index
+-- what a name is after the first free index
 abbrev pub second_place : List Index → List ℕ → Place
 second_place [] name = Rest
 second_place (j ∷ more) name = if bytes_eq j.name name then Second else Rest
@@ -90,7 +90,7 @@ abbrev pub place_named : List Index → List ℕ → Place
 place_named [] name = Rest
 place_named (i ∷ more) name = if bytes_eq i.name name then First else second_place more name
 
--- what a bracket makes of its dimension; behind a plain name there is none
+-- what a bracket makes of its dimension; after a plain name there is none
 abbrev pub place_in : List Index → Option Sub → Place
 place_in indices None = Rest
 place_in indices (Some Whole) = Rest

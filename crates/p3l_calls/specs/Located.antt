@@ -9,7 +9,7 @@ use Rattle.p3l_calls.specs.declared.located.Located.{Located}
 abbrev pub Locations : Type 0
 Locations = List (List ℕ × Located)
 
--- the ports behind so many words
+-- the ports after so many words
 abbrev pub locations : ℕ → List Var → Locations
 locations start [] = []
 locations start (var ∷ vars) =

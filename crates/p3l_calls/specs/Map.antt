@@ -22,15 +22,15 @@ use Rattle.p3l_body.specs.declared.ports.Ports.{Ports}
 use Rattle.p3l_calls.specs.declared.index.Index.{Index}
 use Rattle.p3l_calls.specs.declared.located.Located.{Located}
 use Rattle.p3l_calls.specs.Port.{has_shape}
-use Rattle.p3l_calls.specs.Plain.{first, behind}
+use Rattle.p3l_calls.specs.Plain.{first, after_first}
 use Rattle.p3l_calls.specs.Index.{indices_in, are_indices, has_indices, members_rule, sizes_rule, place_in, first_size, second_size}
 use Rattle.p3l_calls.specs.Located.{located}
 
--- the dimensions of an array under brackets; behind a plain name all of each are taken
+-- the dimensions of an array under brackets; after a plain name all of each are taken
 abbrev pub dims_of : List Index → List Sub → List ℕ → List Dim
 dims_of indices subs [] = []
 dims_of indices subs (size ∷ sizes) =
-    record { size = size; place = place_in indices (first subs) } ∷ dims_of indices (behind subs) sizes
+    record { size = size; place = place_in indices (first subs) } ∷ dims_of indices (after_first subs) sizes
 
 -- an array from the word `start` on, under brackets
 abbrev pub slice_of : List Index → ℕ → Arg → Shape → Slice
@@ -76,7 +76,7 @@ abbrev pub map_outs : List Index → Pos → ℕ → List Var → List Var → L
 map_outs indices place start vars ports [] = given (broken_if (nat_lt 0 (length vars)) Wiring place) (λ x. Ok [])
 map_outs indices place start vars ports (out ∷ outs) =
     given (map_out indices start (first vars) (first ports) out)
-    (λ slice. given (map_outs indices place (start + array_size slice.dims) (behind vars) (behind ports) outs)
+    (λ slice. given (map_outs indices place (start + array_size slice.dims) (after_first vars) (after_first ports) outs)
     (λ slices. Ok (slice ∷ slices)))
 
 -- an in argument's slice
@@ -90,7 +90,7 @@ abbrev pub map_ins : List Index → List Var → List Var → List Arg → Resul
 map_ins indices vars ports [] = Ok []
 map_ins indices vars ports (arg ∷ args) =
     given (map_in indices (located vars arg.at.name) (first ports) arg)
-    (λ slice. given (map_ins indices vars (behind ports) args) (λ slices. Ok (slice ∷ slices)))
+    (λ slice. given (map_ins indices vars (after_first ports) args) (λ slices. Ok (slice ∷ slices)))
 
 -- the free indices of a map, those of its first out argument
 abbrev pub indices_of : List Var → List OutArg → List Index

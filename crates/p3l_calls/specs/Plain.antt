@@ -17,10 +17,10 @@ abbrev pub first : {A : Type 0} → List A → Option A
 first [] = None
 first (x ∷ xs) = Some x
 
--- those behind the first
-abbrev pub behind : {A : Type 0} → List A → List A
-behind [] = []
-behind (x ∷ xs) = xs
+-- those after the first
+abbrev pub after_first : {A : Type 0} → List A → List A
+after_first [] = []
+after_first (x ∷ xs) = xs
 
 -- entries by their rule one after another, each with the next of the variables whose names are asked
 -- for and the next of the callee's ports. Where the entries end, so must the names, or the fault
@@ -28,7 +28,7 @@ behind (x ∷ xs) = xs
 abbrev pub in_order : {A : Type 0} → (Option Var → Option Var → A → Verdict) → Pos → List Var → List Var → List A → Verdict
 in_order rule place vars ports [] = broken_if (nat_lt 0 (length vars)) Wiring place
 in_order rule place vars ports (entry ∷ entries) =
-    given (rule (first vars) (first ports) entry) (λ x. in_order rule place (behind vars) (behind ports) entries)
+    given (rule (first vars) (first ports) entry) (λ x. in_order rule place (after_first vars) (after_first ports) entries)
 
 -- an argument is the name without brackets
 abbrev pub is_plain : List ℕ → Arg → Bool

@@ -13,9 +13,9 @@ use Rattle.p3l_body.specs.declared.var.Var.{Var}
 use Rattle.p3l_body.specs.declared.ports.Ports.{Ports}
 use Rattle.p3l_body.specs.Scope.{Names, named, declared_one}
 use Rattle.p3l_calls.specs.Port.{has_shape}
-use Rattle.p3l_calls.specs.Plain.{first, behind, plain_ins}
+use Rattle.p3l_calls.specs.Plain.{first, after_first, plain_ins}
 
--- a new port behind others of so many words in its list: it is declared, by the rules of ports, and
+-- a new port after others of so many words in its list: it is declared, by the rules of ports, and
 -- then it has the shape of the callee's port
 abbrev pub fresh_out : Constants → Names → ℕ → Option Var → OutArg → Result Var SourceRefusal
 fresh_out constants names words port (Old arg) = Err (At Wiring arg.at.pos)
@@ -28,7 +28,7 @@ abbrev pub fresh_outs : Constants → Names → ℕ → List Var → List OutArg
 fresh_outs constants names words ports [] = Ok []
 fresh_outs constants names words ports (out ∷ outs) =
     given (fresh_out constants names words (first ports) out)
-    (λ var. given (fresh_outs constants (names ++ named false var ∷ []) (words + product var.shape.sizes) (behind ports) outs)
+    (λ var. given (fresh_outs constants (names ++ named false var ∷ []) (words + product var.shape.sizes) (after_first ports) outs)
     (λ vars. Ok (var ∷ vars)))
 
 -- a call that is handed these variables and that another follows; what it hands on

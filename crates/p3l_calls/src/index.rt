@@ -16,7 +16,7 @@ pub struct Index {
     pub size: u32,
 }
 
-/// Puts the free index of a bracket behind others, if there is one.
+/// Puts the free index of a bracket after others, if there is one.
 fn push_index(
     alloc: Global,
     indices: &mut List<Index>,

@@ -15,7 +15,7 @@ use p3l_body::{Ports, Scope, Var, declare_one, enter};
 use p3l_types::{Consts, words_of};
 use std::alloc::Global;
 
-/// A new port in the place of the callee's port of this number, behind others of so many words.
+/// A new port in the place of the callee's port of this number, after others of so many words.
 fn fresh_out(
     alloc: Global,
     consts: &Consts,

@@ -54,20 +54,20 @@ rows_range item [] e i d inside = absurd (omega arith)
 rows_range item (row ∷ rows) e zero d inside = (row_from item row (first_true ((row_format item).fits row) (fits_from row_format next_row (next_row row) rows) e)).0
 rows_range item (row ∷ rows) e (suc i) d inside = rows_range (next_row row) rows (second_true ((row_format item).fits row) (fits_from row_format next_row (next_row row) rows) e) i d (omega arith)
 
--- a row comes before all of those behind it
-rows_behind : (first : Row) (rows : List Row) → fits_from row_format next_row (next_row first) rows ≡ true → (i : ℕ) (d : Row) → i < length rows → comes_before first (get_or rows i d) ≡ true
-rows_behind first [] e i d inside = absurd (omega arith)
-rows_behind first (row ∷ rows) e zero d inside = (row_from (next_row first) row (first_true ((row_format (next_row first)).fits row) (fits_from row_format next_row (next_row row) rows) e)).1
-rows_behind first (row ∷ rows) e (suc i) d inside =
+-- a row comes before all of those after it
+rows_after : (first : Row) (rows : List Row) → fits_from row_format next_row (next_row first) rows ≡ true → (i : ℕ) (d : Row) → i < length rows → comes_before first (get_or rows i d) ≡ true
+rows_after first [] e i d inside = absurd (omega arith)
+rows_after first (row ∷ rows) e zero d inside = (row_from (next_row first) row (first_true ((row_format (next_row first)).fits row) (fits_from row_format next_row (next_row row) rows) e)).1
+rows_after first (row ∷ rows) e (suc i) d inside =
     let here = (row_from (next_row first) row (first_true ((row_format (next_row first)).fits row) (fits_from row_format next_row (next_row row) rows) e)).1 in
-    let later = rows_behind row rows (second_true ((row_format (next_row first)).fits row) (fits_from row_format next_row (next_row row) rows) e) i d (omega arith) in
+    let later = rows_after row rows (second_true ((row_format (next_row first)).fits row) (fits_from row_format next_row (next_row row) rows) e) i d (omega arith) in
     let last = get_or rows i d in
     before_chain first.node first.bound first.cap row.node row.bound row.cap last.node last.bound last.cap here later
 
 rows_ascend : (item : RowItem) (rows : List Row) → fits_from row_format next_row item rows ≡ true → Ascend rows
 rows_ascend item [] e i j d f less inside = absurd (omega arith)
 rows_ascend item (row ∷ rows) e i zero d f less inside = absurd (omega arith)
-rows_ascend item (row ∷ rows) e zero (suc j) d f less inside = rows_behind row rows (second_true ((row_format item).fits row) (fits_from row_format next_row (next_row row) rows) e) j f (omega arith)
+rows_ascend item (row ∷ rows) e zero (suc j) d f less inside = rows_after row rows (second_true ((row_format item).fits row) (fits_from row_format next_row (next_row row) rows) e) j f (omega arith)
 rows_ascend item (row ∷ rows) e (suc i) (suc j) d f less inside = rows_ascend (next_row row) rows (second_true ((row_format item).fits row) (fits_from row_format next_row (next_row row) rows) e) i j d f (omega arith) (omega arith)
 
 rows_from : (rows : List Row) → rows_format.fits rows ≡ true → AreRows rows

@@ -32,7 +32,7 @@ pub false_unless : (b : Bool) → (b ≡ true → ⊥) → b ≡ false
 false_unless true never = absurd (never refl)
 false_unless false never = refl
 
--- rows behind one that isn't below a key aren't
+-- rows after one that isn't below a key aren't
 pub none_below : (rows : List Row) (k : Key) (middle : ℕ) (e : Row) → Ascend rows → middle < length rows → is_below (get_or rows middle e) k ≡ false → (i : ℕ) (d : Row) → middle ≤ i → i < length rows → is_below (get_or rows i d) k ≡ false
 none_below rows k middle e ascend inside here i d from within =
     false_unless (is_below (get_or rows i d) k) (λ yes.

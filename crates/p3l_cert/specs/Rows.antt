@@ -12,7 +12,7 @@ pub record IsInRange (row : Row) : Type 0 where
   pub some_least : 1 ≤ row.least
   pub least : row.least ≤ 513
 
--- each row comes before those behind it
+-- each row comes before those after it
 abbrev pub Ascend : List Row → Type 0
 Ascend rows = (i j : ℕ) (d e : Row) → i < j → j < length rows → comes_before (get_or rows i d) (get_or rows j e) ≡ true
 

@@ -28,7 +28,7 @@ fn is_next(rows: &[Row], key: Key) -> bool
     }
 }
 
-// Puts a row of a key behind others, if it is another than that of the last row.
+// Puts a row of a key after others, if it is another than that of the last row.
 fn add(rows: &mut Vec<Row>, key: Key) -> Result<(), NoMemory>
     ensures { OnOk result (rows.new.items ≡ with_key rows.old.items key) }
 {

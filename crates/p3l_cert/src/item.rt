@@ -37,7 +37,7 @@ impl Item for CountItem {
 
     ghost takes_some = { count_takes };
 
-    fn behind(_value: &u32) -> CountItem {
+    fn after(_value: &u32) -> CountItem {
         CountItem
     }
 
@@ -64,7 +64,7 @@ pub fn comes_before(first: Row, second: Row) -> bool
             && (first.bound < second.bound || first.bound == second.bound && first.cap < second.cap)
 }
 
-// Whether a row may come behind another, if there is one.
+// Whether a row may come after another, if there is one.
 fn is_above(above: Option<Row>, row: Row) -> bool
     ensures { result ≡ is_above above row }
 {
@@ -74,7 +74,7 @@ fn is_above(above: Option<Row>, row: Row) -> bool
     }
 }
 
-// The numbers of a row, and what is behind its line.
+// The numbers of a row, and what is after its line.
 #[tactic(auto, unfolding(crate::specs::Text::numbers_format, p3l_format::specs::Format::pair, p3l_format::specs::Format::as_form))]
 fn read_numbers(bytes: &[u8]) -> Result<(Row, &[u8]), ReadError>
     ensures { Gives (λ x. (x.0, x.1.now)) result (numbers_format.read bytes.now) }
@@ -107,7 +107,7 @@ fn read_row(above: Option<Row>, bytes: &[u8]) -> Result<(Row, &[u8]), ReadError>
     Err(fault_of(Cause::Range, numbers))
 }
 
-// Puts the numbers of a row behind others.
+// Puts the numbers of a row after others.
 #[tactic(auto, unfolding(crate::specs::Text::numbers_format, p3l_format::specs::Format::pair, p3l_format::specs::Format::as_form, p3l_format::specs::Format::within, p3l_format::specs::Decimal::number_then, p3l_format::specs::Text::then_text, p3l_format::specs::Decimal::number_text))]
 fn write_numbers(alloc: Global, row: Row, out: &mut Vec<u8>) -> Result<(), NoMemory>
     ensures { OnOk result (out.new.items ≡ out.old.items ++ numbers_format.spell row) }
@@ -127,7 +127,7 @@ impl Item for RowItem {
 
     ghost takes_some = { row_takes };
 
-    fn behind(value: &Row) -> RowItem {
+    fn after(value: &Row) -> RowItem {
         RowItem {
             above: Some(*value),
         }

@@ -27,7 +27,7 @@ fn read_counts(alloc: Global, bytes: &[u8]) -> Result<(List<u32>, &[u8]), ReadEr
     read_until(alloc, CountItem, b"\n", rest)
 }
 
-// The line of counts in front, and what is behind it.
+// The line of counts in front, and what is after it.
 #[tactic(auto, unfolding(crate::specs::Text::counts_format, p3l_format::specs::Line::line))]
 fn read_counts_line(alloc: Global, bytes: &[u8]) -> Result<(List<u32>, &[u8]), ReadError>
     ensures { Gives (λ x. (x.0, x.1.now)) result (counts_format.read bytes.now) }
@@ -38,7 +38,7 @@ fn read_counts_line(alloc: Global, bytes: &[u8]) -> Result<(List<u32>, &[u8]), R
     }
 }
 
-// Puts the line of counts behind others.
+// Puts the line of counts after others.
 #[tactic(auto, unfolding(crate::specs::Text::counts_format, p3l_format::specs::Line::line, p3l_format::specs::Text::text_then, p3l_format::specs::Series::until))]
 fn write_counts_line(alloc: Global, counts: &[u32], out: &mut Vec<u8>) -> Result<(), NoMemory>
     requires { counts_format.fits counts.now ≡ true }
@@ -50,7 +50,7 @@ fn write_counts_line(alloc: Global, counts: &[u32], out: &mut Vec<u8>) -> Result
     Ok(())
 }
 
-// The rows in front and the last line, and what is behind them.
+// The rows in front and the last line, and what is after them.
 #[tactic(auto, unfolding(crate::specs::Text::rows_format))]
 fn read_rows(alloc: Global, bytes: &[u8]) -> Result<(List<Row>, &[u8]), ReadError>
     ensures { Gives (λ x. (x.0, x.1.now)) result (rows_format.read bytes.now) }
@@ -58,7 +58,7 @@ fn read_rows(alloc: Global, bytes: &[u8]) -> Result<(List<Row>, &[u8]), ReadErro
     read_until(alloc, RowItem { above: None }, b"end\n", bytes)
 }
 
-// Puts rows and the last line behind others.
+// Puts rows and the last line after others.
 #[tactic(auto, unfolding(crate::specs::Text::rows_format, p3l_format::specs::Series::until))]
 fn write_rows(alloc: Global, rows: &[Row], out: &mut Vec<u8>) -> Result<(), NoMemory>
     requires { rows_format.fits rows.now ≡ true }
@@ -114,7 +114,7 @@ const USED: NumberLine = NumberLine {
     high: u32::MAX as u128,
 };
 
-// The lines behind the first.
+// The lines after the first.
 #[tactic(auto, unfolding(crate::specs::Text::body_format, p3l_format::specs::Format::pair, p3l_format::specs::Format::as_form))]
 fn read_body(alloc: Global, bytes: &[u8]) -> Result<(Cert, &[u8]), ReadError>
     ensures { Gives (λ x. (x.0, x.1.now)) result (body_format.read bytes.now) }
@@ -136,7 +136,7 @@ fn read_body(alloc: Global, bytes: &[u8]) -> Result<(Cert, &[u8]), ReadError>
     ))
 }
 
-// Puts the lines behind the first behind others.
+// Puts the lines after the first after others.
 #[tactic(auto, unfolding(crate::specs::Text::body_format, p3l_format::specs::Format::pair, p3l_format::specs::Format::as_form))]
 fn write_body(alloc: Global, cert: &Cert, out: &mut Vec<u8>) -> Result<(), NoMemory>
     requires { body_format.fits cert.now ≡ true }

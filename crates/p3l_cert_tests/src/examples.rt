@@ -18,7 +18,7 @@ fn empty(alloc: Global) -> Tree {
     }
 }
 
-// Puts a node of a module of its own behind the others.
+// Puts a node of a module of its own after the others.
 fn add(
     alloc: Global,
     tree: &mut Tree,

@@ -1,4 +1,4 @@
--- Names that are defined at a place or behind it.
+-- Names that are defined at a place or after it.
 use Rattle.std.proofs.Common.{◌≡◌, ℕ, ◌≤◌, Bool, true, false, ◌||◌, cond, List, [], ◌∷◌, ◌++◌, length, drop, Option, Some, refl, ap, sym, ◌∙◌, arith, length-append, ⊎_elim}
 use Rattle.std.specs.Prelude.{bytes_eq, nat_le}
 use Rattle.std.specs.List.{list_any}
@@ -21,9 +21,9 @@ past_case true t e = sym e
 past_case false t e = refl
 
 -- with one entry more, its name is defined up to its place, and all others where they were
-behind-more : (es : List EntryTree) (e : EntryTree) (from : ℕ) (name : List ℕ) →
+after-more : (es : List EntryTree) (e : EntryTree) (from : ℕ) (name : List ℕ) →
     defines (drop from (es ++ e ∷ [])) name ≡ cond (bytes_eq (entry_spot e).name name) (nat_le from (length es)) (defines (drop from es) name)
-behind-more es e from name =
+after-more es e from name =
     let test : EntryTree → Bool = λ entry. bytes_eq (entry_spot entry).name name in
     ⊎_elim
     (λ h. ap (list_any test) (drop-append-le from es (e ∷ []) h.1) ∙ (list_any-append test (drop from es) (e ∷ []) ∙ within_case (list_any test (drop from es)) (test e) (nat_le from (length es)) h.0))
@@ -45,7 +45,7 @@ places-more es e n old new n_is are step = λ from name.
     ∙ (table_case (bytes_eq (entry_spot e).name name) n (lookup (bytes_eq name) old) from
     ∙ (ap (λ x. cond (bytes_eq (entry_spot e).name name) (nat_le from n) x) (are from name)
     ∙ (ap (λ m. cond (bytes_eq (entry_spot e).name name) (nat_le from m) (defines (drop from es) name)) n_is
-    ∙ sym (behind-more es e from name))))
+    ∙ sym (after-more es e from name))))
 
 -- a table of no entries
 nothing_left : (from : ℕ) (name : List ℕ) → false ≡ defines (drop from []) name

@@ -16,7 +16,7 @@ use Rattle.p3l_unfold.specs.declared.wired.Wired.{Wired}
 use Rattle.p3l_unfold.specs.Wiring.{no_module, module_at, TakesAndGives, IsCallChain, IsSequentialModule, IsWiredMap, IsWiredReduce, IsWiredLoop, IsWiredForm, IsWiredModule}
 use Rattle.p3l_check.specs.Wired.{AreWired}
 
--- a module that may stand behind others: its calls are of them, and fit it
+-- a module that may stand after others: its calls are of them, and fit it
 pub record IsNext (wired : List Wired) (kind : ModuleKind) (m : Wired) : Type 0 where
   pub kind_is : kind ≡ kind_of m.form
   pub ins : IsSize m.ins
@@ -122,7 +122,7 @@ module _ (infos : List ModuleInfo) (wired : List Wired) (info : ModuleInfo) (m :
     sequential = next.sequential ∙ sequential-kept wired m m.form m.ins m.outs m.calls next.earlier next.form;
   }
 
-  -- modules and one that may stand behind them
+  -- modules and one that may stand after them
   pub wired-more : AreWired infos wired → IsNext wired info.kind m → AreWired (infos ++ info ∷ []) (wired ++ m ∷ [])
   wired-more wiring next = record {
     count = length-append wired (m ∷ []) ∙ (ap (λ n. n + 1) wiring.count ∙ sym (length-append infos (info ∷ [])));

@@ -11,9 +11,9 @@ numbered-more k (i ∷ infos) info =
     let e : (k + 1) + length infos ≡ k + length (i ∷ infos) = omega arith in
     ap (λ r. (i.name, k) ∷ r) (numbered-more (k + 1) infos info ∙ ap (λ n. numbered (k + 1) infos ++ (info.name, n) ∷ []) e)
 
--- one module more behind those before it
-pub numbered-behind : (infos : List ModuleInfo) (info : ModuleInfo) (n : ℕ) → n ≡ length infos → numbered 0 infos ++ (info.name, n) ∷ [] ≡ numbered 0 (infos ++ info ∷ [])
-numbered-behind infos info n e =
+-- one module more after those before it
+pub numbered-after : (infos : List ModuleInfo) (info : ModuleInfo) (n : ℕ) → n ≡ length infos → numbered 0 infos ++ (info.name, n) ∷ [] ≡ numbered 0 (infos ++ info ∷ [])
+numbered-after infos info n e =
     let zero_more : n ≡ 0 + length infos = omega arith in
     ap (λ m. numbered 0 infos ++ (info.name, m) ∷ []) zero_more ∙ sym (numbered-more 0 infos info)
 

@@ -41,7 +41,7 @@ pub record AreSound (modules : Modules) : Type 0 where
 pub none-sound : AreSound no_modules
 none-sound = record { wiring = none-wired; ported = refl; have = λ k inside. absurd (omega (arith, inside)) }
 
--- a module that may be defined behind others
+-- a module that may be defined after others
 pub record MayFollow (modules : Modules) (d : Defined) : Type 0 where
   pub next : IsNext modules.wired d.info.kind d.wired
   pub have : HasTotals d.ports d.wired.ins d.wired.outs

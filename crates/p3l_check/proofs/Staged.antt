@@ -77,6 +77,6 @@ module _ (in_process : Bool) (before : Before) (outs : List Var) (same : length 
       subst (λ b. handed_on before names taken outs b (ports_at before.modules callee.0) call ≡ Ok handed.0) others handed.1 in
       let rest = given-taken (staged in_process before (names ++ map (named false) handed.0) handed.0 outs (next ∷ more)) _ ks handed.2 in
       let is : callee.0 ∷ rest.0 ≡ ks = cc (rest.2) in
-      let behind = staged-are (next ∷ more) (names ++ map (named false) handed.0) handed.0 rest.0 (omega arith) rest.1 in
+      let after = staged-are (next ∷ more) (names ++ map (named false) handed.0) handed.0 rest.0 (omega arith) rest.1 in
       subst (AreStaged in_process before.modules (total taken) (total outs)) is
-      (more-staged call names taken handed.0 callee.0 rest.0 (called-is in_process before call callee.0 same callee.1) passed behind)
+      (more-staged call names taken handed.0 callee.0 rest.0 (called-is in_process before call callee.0 same callee.1) passed after)

@@ -9,6 +9,6 @@ use Rattle.p3l_check.specs.Environment.{Before}
 use Rattle.p3l_check.specs.Skeleton.{staged}
 
 -- the callees so far, followed by those of the calls still to be checked
-abbrev pub staged_behind : List ℕ → Bool → Before → Names → List Var → List Var → List Call → Result (List ℕ) SourceRefusal
-staged_behind done in_process before names taken outs calls =
+abbrev pub staged_after : List ℕ → Bool → Before → Names → List Var → List Var → List Call → Result (List ℕ) SourceRefusal
+staged_after done in_process before names taken outs calls =
     given (staged in_process before names taken outs calls) (λ rest. Ok (done ++ rest))

@@ -103,7 +103,7 @@ defined_as info ports skeleton = record {
   };
 }
 
--- a module as the entries behind it see it: its ports, and then its clauses and calls
+-- a module as the entries after it see it: its ports, and then its clauses and calls
 abbrev pub defined_in : Before → ModuleTree → Result Defined SourceRefusal
 defined_in before m =
     given (ports_in before.constants m)
@@ -136,7 +136,7 @@ with_constant checked name value = record {
   seqs = checked.seqs;
 }
 
--- an entry, where these names are defined by it or behind it
+-- an entry, where these names are defined by it or after it
 abbrev pub checked_entry : Checked → (List ℕ → Bool) → EntryTree → Result Checked SourceRefusal
 checked_entry checked is_ahead (constant at value) =
     given (new_name checked at) (λ x. Ok (with_constant checked at.name value))

@@ -5,7 +5,7 @@ use Rattle.p3l_check.specs.declared.environment.Environment.{Environment}
 use Rattle.p3l_check.specs.Modules.{Modules}
 use Rattle.p3l_check.specs.Places.{defined_from}
 
--- the constants and the modules before it, and which names are defined by it or behind it
+-- the constants and the modules before it, and which names are defined by it or after it
 pub record Before : Type 0 where
   pub constants : Constants
   pub modules : Modules

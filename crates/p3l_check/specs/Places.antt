@@ -15,10 +15,10 @@ entry_spot (defined m) = m.at
 abbrev pub defines : List EntryTree → List ℕ → Bool
 defines entries name = list_any (λ entry. bytes_eq (entry_spot entry).name name) entries
 
--- by a table of the last places of names, whether a name is defined at a place or behind it
+-- by a table of the last places of names, whether a name is defined at a place or after it
 abbrev pub defined_from : List (List ℕ × ℕ) → ℕ → List ℕ → Bool
 defined_from places from name = option_map_or (λ last. nat_le from last) (lookup (bytes_eq name) places) false
 
--- a table says of each place which names are defined there or behind it
+-- a table says of each place which names are defined there or after it
 abbrev pub ArePlaces : List EntryTree → List (List ℕ × ℕ) → Type 0
 ArePlaces entries places = (from : ℕ) (name : List ℕ) → defined_from places from name ≡ defines (drop from entries) name

@@ -73,7 +73,7 @@ resolved_as checked root = record {
   seqs = checked.seqs;
 }
 
--- the rules of the whole program, behind those of its entries
+-- the rules of the whole program, after those of its entries
 abbrev pub whole : ProgramTree → Checked → Result ResolvedTree SourceRefusal
 whole program checked =
     given (root_of program.end checked.modules)

@@ -121,7 +121,7 @@ loop_of before m ports =
       sequential = false;
     })))))))
 
--- a module by the rules of its kind behind those of its ports
+-- a module by the rules of its kind after those of its ports
 abbrev pub skeleton_of : Kind → Before → ModuleTree → Ports → Result Skeleton SourceRefusal
 skeleton_of kinds.Seq before m ports = Ok (record { form = forms.Seq; calls = []; sequential = true })
 skeleton_of kinds.Comp before m ports =

@@ -1,4 +1,4 @@
-// Modules as the entries behind them see them.
+// Modules as the entries after them see them.
 
 use p3l_body::Ports;
 use p3l_skel::ModuleInfo;

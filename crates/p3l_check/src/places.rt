@@ -47,7 +47,7 @@ impl Places {
         Ok(Places { last })
     }
 
-    /// Whether a name is defined at a place or behind it.
+    /// Whether a name is defined at a place or after it.
     pub fn is_defined_from(&self, from: usize, name: &Name) -> bool
         ensures { result ≡ defined_from self.now from name.now }
     {

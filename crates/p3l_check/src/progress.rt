@@ -132,7 +132,7 @@ fn defined_as(info: ModuleInfo, ports: Ports, skeleton: Skeleton) -> Defined
     Defined { info, ports, wired }
 }
 
-/// A module as the entries behind it see it: its ports, and then its clauses and calls.
+/// A module as the entries after it see it: its ports, and then its clauses and calls.
 fn defined_in(
     alloc: Global,
     env: Environment<'_>,

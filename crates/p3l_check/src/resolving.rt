@@ -71,7 +71,7 @@ fn limit_of(pos: Pos, refusal: UnfoldRefusal) -> SourceRefusal
     SourceRefusal::At { fault, pos }
 }
 
-/// The rules of the whole program, behind those of its entries.
+/// The rules of the whole program, after those of its entries.
 fn whole<'a>(
     alloc: Global,
     program: &Program,

@@ -103,12 +103,12 @@ fn check_lines(
     alloc: Global,
     table: &str,
     before: &str,
-    behind: &str,
+    after: &str,
 ) -> Result<(), Fail> {
     for line in table.lines() {
         let (body, case) = line.split_once(" : ").ok_or("no words")?;
         let (words, expected) = case.split_once(" : ").ok_or("no outcome")?;
-        let text = format!(in alloc; "seq main {before}{body}{behind} end seq")?;
+        let text = format!(in alloc; "seq main {before}{body}{after} end seq")?;
         let given = outcome(alloc, text.as_str(), &words_of(alloc, words)?)?;
         let given = written(alloc, &given)?;
         assert!(rt; given.as_str() == expected, "{given} for {line}");

@@ -16,7 +16,7 @@ fn is_safe(alloc: Global, instrs: &[Instr]) -> Result<bool, NoMemory> {
 #[test]
 fn codes_that_break_a_rule(rt: HostRuntime) -> Result<(), Fail> {
     let broken: [&[Instr]; 15] = [
-        // No instruction, and one that goes on behind the last place.
+        // No instruction, and one that goes on after the last place.
         &[],
         &[Instr::Turn],
         // A slot and an array outside the memory, an array without words, a size of 0.

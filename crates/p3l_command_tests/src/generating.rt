@@ -105,7 +105,7 @@ fn the_line_is_the_same_under_every_schedule(rt: HostRuntime) -> Result<(), Fail
     take_cases(&rt, rt.alloc(), &[UNDER_EVERY_SCHEDULE])
 }
 
-/// The first put of the output fails behind four bytes.
+/// The first put of the output fails after four bytes.
 const PART_OF_A_PUT: Faults = Faults {
     puts: &[PutFail { call: 1, prefix: 4 }],
     ..NONE
@@ -179,7 +179,7 @@ fn stream_of(alloc: Global, number: u64, items: u64) -> Result<String, Fail> {
     Ok(text)
 }
 
-/// Takes a number with the words behind its processors, and compares the line of so many items.
+/// Takes a number with the words after its processors, and compares the line of so many items.
 fn take_number(
     rt: &impl Abort,
     alloc: Global,

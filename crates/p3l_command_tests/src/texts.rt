@@ -16,7 +16,7 @@ pub const HUNDRED_FILES: &[Held] = &[Held("m.p3l", HUNDRED)];
 /// A name that is not declared.
 pub const UNDECLARED: &str = "seq main in(int x) out(int y)\n${ y = z; }$\nend seq\n";
 
-/// A body, and a farm of another behind it.
+/// A body, and a farm of another after it.
 pub const FARMED: &str =
     "seq f in(int x) out(int y)\n${ y = x + 1; }$\nend seq\n\nseq g in(int x) out(int y)\n${ y = x * 3; }$\nend seq\n\nfarm w in(int x) out(int y)\n  g in(x) out(y)\nend farm\n\npipe main in(int x) out(int y)\n  f in(x) out(int t)\n  w in(t) out(y)\nend pipe\n";
 

@@ -275,7 +275,7 @@ const EACH_ENDING: &[Course] = &[
     ),
 ];
 
-/// The first put of the output fails behind its first byte.
+/// The first put of the output fails after its first byte.
 const HALF_PUT: Faults = Faults {
     puts: &[PutFail { call: 1, prefix: 1 }],
     ..NONE

@@ -59,7 +59,7 @@ const OF_OTHER_PICKS: &[Told] = &[
         "1\n",
         "trace holds: 3 fired, 2 idle\n",
     ),
-    // It may stop before the run does, and go on behind its end.
+    // It may stop before the run does, and go on after its end.
     Told(
         "p3l-trace 1\n0 source\nend 1 0\n",
         "1\n2\n",
@@ -78,8 +78,8 @@ const OF_OTHER_PICKS: &[Told] = &[
     ),
 ];
 
-const BEHIND_A_TRAP: &[Told] = &[
-    // Nothing fires behind a trap.
+const AFTER_A_TRAP: &[Told] = &[
+    // Nothing fires after a trap.
     Told(
         "p3l-trace 1\n0 source\n2 run\n1 sink\n0 idle\nend 3 1\n",
         "0\n5\n",
@@ -174,7 +174,7 @@ const NO_TRACES: &[Told] = &[
     ),
 ];
 
-/// The trace holds, and reading the input fails behind its first item.
+/// The trace holds, and reading the input fails after its first item.
 const UNREAD: &[Told] = &[Told(TRACE, "1\n2\n", "read fault\n")];
 
 /// A line differs before the fault is told.
@@ -184,7 +184,7 @@ const ALL: &[Checked] = &[
     Checked(DOUBLE, NONE, 0, OF_WHOLE_RUNS),
     Checked(FARMED, NONE, 0, OF_A_WHOLE_FARM),
     Checked(DOUBLE, NONE, 0, OF_OTHER_PICKS),
-    Checked(HUNDRED, NONE, 0, BEHIND_A_TRAP),
+    Checked(HUNDRED, NONE, 0, AFTER_A_TRAP),
     Checked(DOUBLE, NONE, 13, IN_A_PICK),
     Checked(DOUBLE, NONE, 13, IN_A_COUNT),
     Checked(DOUBLE, NONE, 6, BY_THE_STREAM),

@@ -40,7 +40,7 @@ pub struct Program(pub &'static str, pub &'static str, pub Ends<'static>);
 #[derive(Clone, Copy)]
 pub struct Programs(pub &'static str, pub &'static [Program]);
 
-/// Files, the calls that fail, steps on these files one after another, and behind these the files that
+/// Files, the calls that fail, steps on these files one after another, and after these the files that
 /// hold a text, and the names that none has.
 #[derive(Clone, Copy)]
 pub struct Course(
@@ -84,7 +84,7 @@ pub const NO_TAKE: Faults = Faults {
     ..NONE
 };
 
-/// The third taking of the input fails: that behind an item of one digit.
+/// The third taking of the input fails: that after an item of one digit.
 pub const THIRD_TAKE: Faults = Faults {
     takes: &[3],
     ..NONE

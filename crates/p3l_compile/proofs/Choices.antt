@@ -34,7 +34,7 @@ pub for_tree : (s : Stmt) (t u : Target) (e w f : Expr) (v : Vec Stmt Global) (a
 for_tree s t u e w f v a h k =
     ap one h ∙ one_for t u e w f v ∙ ap (λ x. for_ t.at (phrases t.index.items) (phrase e) (phrase w) u.at (phrases u.index.items) (phrase f) (statements x) done) (sym k)
 
--- the turns of a `for` are those of a `while` whose body has the step behind it
+-- the turns of a `for` are those of a `while` whose body has the step after it
 pub turns_size : (t u : Target) (e w f : Expr) (a : List Stmt) → statement_size (for_ t.at (phrases t.index.items) (phrase e) (phrase w) u.at (phrases u.index.items) (phrase f) (statements a) done) ≡ assign_size (phrases t.index.items) (phrase e) + statement_size (while_ (phrase w) (join (statements a) (assign u.at (phrases u.index.items) (phrase f) done)) done)
 turns_size t u e w f a = let h = size_join (statements a) (assign u.at (phrases u.index.items) (phrase f) done) in omega arith
 

@@ -10,7 +10,7 @@ use Rattle.p3l_ast.specs.Tree.{Phrase, number, read, unary, binary, Phrases, non
 use Rattle.p3l_code.specs.declared.instr.Instr.{Instr}
 use Rattle.p3l_code.specs.declared.instr.Instr.TheVariants.{Push, Load, Step, LoadAt, Unary, Binary, Jump, JumpZero, JumpNonZero}
 use Rattle.p3l_code.specs.declared.instr.Code.{Code}
-use Rattle.p3l_code.specs.Safe.{pops, target_of, goes_on, IsWithin, Leads, depth_behind, next_of, Agrees, EndsAt, IsFine}
+use Rattle.p3l_code.specs.Safe.{pops, target_of, goes_on, IsWithin, Leads, depth_after, next_of, Agrees, EndsAt, IsFine}
 use Rattle.p3l_compile.specs.declared.scope.Slot.{Slot}
 use Rattle.p3l_compile.specs.Scope.{Names, found, constant_of, IsLaid}
 use Rattle.p3l_compile.specs.Phrase.{operator_size, read_size, phrase_size, index_size, scalar_code, sizes_in, read_code, operator_code, phrase_code, first_code, index_code, count_of, IsAccess, Fits, FitsAll}
@@ -49,30 +49,30 @@ module _ (code : Code) (table : List ℕ) where
   IsOne pc i = (d : ℕ) → slice_get table pc ≡ Some d → IsFine code table pc i d
 
   -- an instruction that goes on and does not jump
-  pub one_fine : (pc d next : ℕ) (i : Instr) → slice_get table pc ≡ Some d → IsWithin code.memory i → target_of i ≡ None → goes_on i ≡ true → ((n : ℕ) → EndsAt n i) → pops i ≤ d → depth_behind d i ≡ next → next ≤ 1024 → slice_get table (pc + 1) ≡ Some next → IsOne pc i
-  one_fine pc d next i at within still on ends enough behind small after e h =
+  pub one_fine : (pc d next : ℕ) (i : Instr) → slice_get table pc ≡ Some d → IsWithin code.memory i → target_of i ≡ None → goes_on i ≡ true → ((n : ℕ) → EndsAt n i) → pops i ≤ d → depth_after d i ≡ next → next ≤ 1024 → slice_get table (pc + 1) ≡ Some next → IsOne pc i
+  one_fine pc d next i at within still on ends enough leaves small after e h =
       let q : d ≡ e = same_Some d e (sym at ∙ h) in
       subst (IsFine code table pc i) q (record {
         within = within;
         leads = subst (Leads code.instrs pc) (sym still) tt;
         pops_enough = enough;
         shallow = omega arith;
-        next = subst (λ b. Agrees table (depth_behind d i) (next_of pc b)) (sym on) (after ∙ ap Some (sym behind));
-        jumps = subst (Agrees table (depth_behind d i)) (sym still) tt;
+        next = subst (λ b. Agrees table (depth_after d i) (next_of pc b)) (sym on) (after ∙ ap Some (sym leaves));
+        jumps = subst (Agrees table (depth_after d i)) (sym still) tt;
         ends = ends d;
       })
 
   -- a jump forward that goes on too
-  pub test_fine : (pc d to : ℕ) (i : Instr) → slice_get table pc ≡ Some (d + 1) → IsWithin code.memory i → target_of i ≡ Some to → goes_on i ≡ true → ((n : ℕ) → EndsAt n i) → pops i ≤ d + 1 → depth_behind (d + 1) i ≡ d → d ≤ 1024 → pc < to → to < length code.instrs → slice_get table (pc + 1) ≡ Some d → slice_get table to ≡ Some d → IsOne pc i
-  test_fine pc d to i at within jump on ends enough behind small forward inside after other e h =
+  pub test_fine : (pc d to : ℕ) (i : Instr) → slice_get table pc ≡ Some (d + 1) → IsWithin code.memory i → target_of i ≡ Some to → goes_on i ≡ true → ((n : ℕ) → EndsAt n i) → pops i ≤ d + 1 → depth_after (d + 1) i ≡ d → d ≤ 1024 → pc < to → to < length code.instrs → slice_get table (pc + 1) ≡ Some d → slice_get table to ≡ Some d → IsOne pc i
+  test_fine pc d to i at within jump on ends enough leaves small forward inside after other e h =
       let q : d + 1 ≡ e = same_Some (d + 1) e (sym at ∙ h) in
       subst (IsFine code table pc i) q (record {
         within = within;
         leads = subst (Leads code.instrs pc) (sym jump) (inside, λ back. absurd (omega arith));
         pops_enough = enough;
         shallow = omega arith;
-        next = subst (λ b. Agrees table (depth_behind (d + 1) i) (next_of pc b)) (sym on) (after ∙ ap Some (sym behind));
-        jumps = subst (Agrees table (depth_behind (d + 1) i)) (sym jump) (other ∙ ap Some (sym behind));
+        next = subst (λ b. Agrees table (depth_after (d + 1) i) (next_of pc b)) (sym on) (after ∙ ap Some (sym leaves));
+        jumps = subst (Agrees table (depth_after (d + 1) i)) (sym jump) (other ∙ ap Some (sym leaves));
         ends = ends (d + 1);
       })
 
@@ -97,14 +97,14 @@ module _ (code : Code) (table : List ℕ) where
       let own = depths_front table (pc + m) rs ((d + 2) ∷ []) tail in
       let last = (depths_back table (pc + m) n rs ((d + 2) ∷ []) lrs tail).0 in
       let place : pc + (m + n + 1) ≡ pc + m + n + 1 = omega arith in
-      let behind : d + 2 - 2 + 1 ≡ d + 1 = omega arith in
+      let leaves : d + 2 - 2 + 1 ≡ d + 1 = omega arith in
       fine_join code table pc m left (right ++ Binary op ∷ []) lm (L (depths_front table pc ls (rs ++ (d + 2) ∷ []) has) (first own))
       (fine_join code table (pc + m) n right (Binary op ∷ []) ln (R own last)
-      (one_fine (pc + m + n) (d + 2) (d + 1) (Binary op) last tt refl refl (λ n. tt) (omega arith) behind (omega arith) (subst (λ k. slice_get table k ≡ Some (d + 1)) place end), tt))
+      (one_fine (pc + m + n) (d + 2) (d + 1) (Binary op) last tt refl refl (λ n. tt) (omega arith) leaves (omega arith) (subst (λ k. slice_get table k ≡ Some (d + 1)) place end), tt))
 
   -- the short way: whichever jump decides, and whatever the other way gives
-  short_fine : (jump : Instr) (other : ℤ) (pc m n d : ℕ) (left right : List Instr) (ls rs : List ℕ) → target_of jump ≡ Some (pc + m + n + 4) → goes_on jump ≡ true → IsWithin code.memory jump → ((n : ℕ) → EndsAt n jump) → pops jump ≤ d + 1 → depth_behind (d + 1) jump ≡ d → length left ≡ m → length right ≡ n → length ls ≡ m → length rs ≡ n → d + 2 ≤ 1024 → pc + (m + n + 5) < length code.instrs → DepthsAt table pc (ls ++ ((d + 1) ∷ (rs ++ ((d + 1) ∷ (d + 2) ∷ (d + 1) ∷ d ∷ [])))) → slice_get table (pc + (m + n + 5)) ≡ Some (d + 1) → (DepthsAt table pc ls → slice_get table (pc + m) ≡ Some (d + 1) → FineAt code table pc left) → (DepthsAt table (pc + m + 1) rs → slice_get table (pc + m + 1 + n) ≡ Some (d + 1) → FineAt code table (pc + m + 1) right) → (DepthsAt table (pc + m + 1) rs → slice_get table (pc + m + 1) ≡ Some d) → FineAt code table pc (left ++ (jump ∷ (right ++ (Push (pos 0) ∷ Binary operators.Ne ∷ Jump (pc + m + n + 5) ∷ Push other ∷ []))))
-  short_fine jump other pc m n d left right ls rs target on within ends enough behind lm ln lls lrs small inside has end L R first =
+  short_fine : (jump : Instr) (other : ℤ) (pc m n d : ℕ) (left right : List Instr) (ls rs : List ℕ) → target_of jump ≡ Some (pc + m + n + 4) → goes_on jump ≡ true → IsWithin code.memory jump → ((n : ℕ) → EndsAt n jump) → pops jump ≤ d + 1 → depth_after (d + 1) jump ≡ d → length left ≡ m → length right ≡ n → length ls ≡ m → length rs ≡ n → d + 2 ≤ 1024 → pc + (m + n + 5) < length code.instrs → DepthsAt table pc (ls ++ ((d + 1) ∷ (rs ++ ((d + 1) ∷ (d + 2) ∷ (d + 1) ∷ d ∷ [])))) → slice_get table (pc + (m + n + 5)) ≡ Some (d + 1) → (DepthsAt table pc ls → slice_get table (pc + m) ≡ Some (d + 1) → FineAt code table pc left) → (DepthsAt table (pc + m + 1) rs → slice_get table (pc + m + 1 + n) ≡ Some (d + 1) → FineAt code table (pc + m + 1) right) → (DepthsAt table (pc + m + 1) rs → slice_get table (pc + m + 1) ≡ Some d) → FineAt code table pc (left ++ (jump ∷ (right ++ (Push (pos 0) ∷ Binary operators.Ne ∷ Jump (pc + m + n + 5) ∷ Push other ∷ []))))
+  short_fine jump other pc m n d left right ls rs target on within ends enough leaves lm ln lls lrs small inside has end L R first =
       let rest = (d + 1) ∷ (d + 2) ∷ (d + 1) ∷ d ∷ [] in
       let p = pc + m + 1 in
       let tail = depths_back table pc m ls ((d + 1) ∷ (rs ++ rest)) lls has in
@@ -117,7 +117,7 @@ module _ (code : Code) (table : List ℕ) where
       let b2 : d + 2 - 2 + 1 ≡ d + 1 = omega arith in
       let b3 : d - 0 + 1 ≡ d + 1 = omega arith in
       fine_join code table pc m left _ lm (L (depths_front table pc ls ((d + 1) ∷ (rs ++ rest)) has) tail.0) (
-        test_fine (pc + m) d (pc + m + n + 4) jump tail.0 within target on ends enough behind (omega arith) (omega arith) (omega arith) (first own) (subst (λ k. slice_get table k ≡ Some d) e4 back.1.1.1.0),
+        test_fine (pc + m) d (pc + m + n + 4) jump tail.0 within target on ends enough leaves (omega arith) (omega arith) (omega arith) (first own) (subst (λ k. slice_get table k ≡ Some d) e4 back.1.1.1.0),
         fine_join code table p n right _ ln (R own back.0) (
           one_fine (p + n) (d + 1) (d + 2) (Push (pos 0)) back.0 tt refl refl (λ n. tt) (omega arith) b1 small back.1.0,
           (

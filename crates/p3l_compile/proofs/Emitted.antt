@@ -1,4 +1,4 @@
--- What is put behind a code, step by step.
+-- What is put after a code, step by step.
 use Rattle.std.proofs.Common.{◌≢◌, ◌≡◌, ℕ, ℤ, zero, suc, pos, ◌+◌, ◌-◌, ◌<◌, ◌≤◌, List, [], ◌∷◌, ◌++◌, length, drop, get_or, refl, sym, ap, ◌∙◌, arith, append_assoc, add-one}
 use Rattle.std.specs.Prelude.{slice_set, slice_index, Bool, false, ◌==◌}
 use Rattle.std.proofs.lemmas.Bool.Decides.{nat_tests}
@@ -13,7 +13,7 @@ use Rattle.p3l_code.specs.declared.instr.Instr.TheVariants.{Push, Step, Binary, 
 use Rattle.p3l_compile.specs.Scope.{Names, found}
 use Rattle.p3l_compile.specs.Phrase.{operator_size, phrase_size, index_size, read_size, index_code, phrase_code, sizes_in, element_code, read_code}
 
--- an instruction that is written again behind what follows it
+-- an instruction that is written again after what follows it
 pub patched : (base left right rest : List Instr) (x i : Instr) (c1 c2 c3 c4 : List Instr) (n : ℕ) → c1 ≡ base ++ left → n ≡ length c1 → c2 ≡ c1 ++ x ∷ [] → c3 ≡ c2 ++ right → c4 ≡ c3 ++ rest → slice_set c4 n i ≡ base ++ (left ++ (i ∷ (right ++ rest)))
 patched base left right rest x i c1 c2 c3 c4 n e1 m e2 e3 e4 =
     let all : c4 ≡ ((c1 ++ x ∷ []) ++ right) ++ rest = cc in

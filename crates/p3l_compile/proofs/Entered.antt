@@ -1,4 +1,4 @@
--- The variables of a body, entered one list behind the other.
+-- The variables of a body, entered one list after the other.
 use Rattle.std.proofs.Common.{◌≡◌, ℕ, ◌+◌, List, [], ◌∷◌, ◌++◌, sym, ap, ◌∙◌, subst, refl, arith, append_assoc, append-nil}
 use Rattle.std.specs.List.{AllByRecursion}
 use Rattle.p3l_types.specs.Constants.{Constants}

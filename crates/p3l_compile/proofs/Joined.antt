@@ -1,4 +1,4 @@
--- Statements that are put behind a code, step by step.
+-- Statements that are put after a code, step by step.
 use Rattle.std.proofs.Common.{◌≡◌, ℕ, zero, suc, pos, ◌+◌, ◌<◌, ◌≤◌, List, [], ◌∷◌, ◌++◌, length, drop, get_or, refl, sym, ap, ◌∙◌, arith, append_assoc, add-one}
 use Rattle.std.specs.Prelude.{slice_set}
 use Rattle.std.proofs.Math.Seq.{set-append_seam, drop-cons}
@@ -134,7 +134,7 @@ choice_emitted base test one other m n r c1 c2 c3 c4 c5 c6 x y p q k z e1 l1 ep 
     ∙ ap (λ p. base ++ (test ++ (JumpZero (length base + m + 1 + n + 1) ∷ (one p ++ (Jump (length base + m + 1 + n + 1 + r) ∷ (b ++ [])))))) q2
     ∙ ap (λ p. base ++ (test ++ (JumpZero (length base + m + 1 + n + 1) ∷ (one (length base + m + 1) ++ (Jump (length base + m + 1 + n + 1 + r) ∷ (other p ++ [])))))) q5
 
--- a loop: a jump that is written later, the turn, the body, and the condition behind it
+-- a loop: a jump that is written later, the turn, the body, and the condition after it
 pub loop_emitted : (base : List Instr) (body : ℕ → List Instr) (test : ℕ → List Instr) (n m : ℕ) (c1 c2 c3 c4 c5 c6 : List Instr) (x : Instr) (p top k : ℕ) → p ≡ length base → c1 ≡ base ++ x ∷ [] → length c1 ≡ length base + 1 → top ≡ length c1 → c2 ≡ c1 ++ Turn ∷ [] → length c2 ≡ length c1 + 1 → c3 ≡ c2 ++ body (length c2) → length c3 ≡ length c2 + n → k ≡ length c3 → c4 ≡ slice_set c3 p (Jump k) → length c4 ≡ length c3 → c5 ≡ c4 ++ test (length c4) → length c5 ≡ length c4 + m → c6 ≡ c5 ++ JumpNonZero top ∷ [] → c6 ≡ base ++ (loop_code (length base) body n test ++ [])
 loop_emitted base body test n m c1 c2 c3 c4 c5 c6 x p top k ep e1 l1 et e2 l2 e3 l3 ek e4 l4 e5 l5 e6 =
     let q2 : length c2 ≡ length base + 2 = omega arith in
@@ -172,7 +172,7 @@ pub assign_sized : (items : List Expr) (e : Phrase) (base c1 c2 c3 c4 : ℕ) →
 assign_sized [] e base c1 c2 c3 c4 some e1 e2 e3 e4 = absurd (some refl)
 assign_sized (i ∷ items) e base c1 c2 c3 c4 some e1 e2 e3 e4 = omega arith
 
--- a body with an assignment behind it
+-- a body with an assignment after it
 pub stepped_emitted : (scope : Names) (body : Statements) (t : Target) (e : Phrase) (c1 c2 c3 : List Instr) → c2 ≡ c1 ++ statement_code scope (length c1) body → length c2 ≡ length c1 + statement_size body → c3 ≡ c2 ++ assign_code scope (length c2) t.at.name (phrases t.index.items) e → c3 ≡ c1 ++ statement_code scope (length c1) (join body (assign t.at (phrases t.index.items) e done))
 stepped_emitted scope body t e c1 c2 c3 e2 l2 e3 =
     let is = phrases t.index.items in

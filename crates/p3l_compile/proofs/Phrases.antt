@@ -1,4 +1,4 @@
--- The machine on the code of an expression: it goes on behind the code with the number on the stack, or traps.
+-- The machine on the code of an expression: it goes on after the code with the number on the stack, or traps.
 use Rattle.std.proofs.Common.{add-mul, mul-le-mul, mul_assoc, ltb-true, ◌≡◌, ℕ, ℤ, pos, negsuc, ◌+◌, ◌*◌, ◌≤◌, ◌<◌, ◌^◌, ◌*ℤ◌, ◌+ℤ◌, Bool, true, false, cond, List, [], ◌∷◌, ◌++◌, length, drop, Option, Some, None, Result, Ok, Err, refl, sym, ap, ◌∙◌, subst, arith, length-append}
 use Rattle.std.specs.Prelude.{slice_get, slice_index, nat_lt}
 use Rattle.std.specs.List.{AllByRecursion}
@@ -93,7 +93,7 @@ module _ (code : Code) (unrolls : Unrolls code) where
       ∙ after_given r (binary_of op x) K)
       ∙ after_given l (λ x. given r (binary_of op x)) K
 
-  -- the right operand's truth, and the jump behind the other way
+  -- the right operand's truth, and the jump after the other way
   tested_runs : (p n : ℕ) (other : ℤ) (right : List Instr) (stack memory : List ℤ) (turns : ℕ) (r : Result ℤ TrapKind) → HasAt code p (right ++ (Push (pos 0) ∷ Binary operators.Ne ∷ Jump (p + n + 4) ∷ Push other ∷ [])) → length right ≡ n → (HasAt code p right → Pushes p (p + n) stack memory turns r) → Pushes p (p + n + 4) stack memory turns (given r tested)
   tested_runs p n other right stack memory turns r has ln R K h =
       let tail = has_back code p n right (Push (pos 0) ∷ Binary operators.Ne ∷ Jump (p + n + 4) ∷ Push other ∷ []) ln has in
@@ -209,7 +209,7 @@ module _ (code : Code) (unrolls : Unrolls code) (scope : Names) (size : ℕ) (la
       ∙ ap (λ r. after r (λ k. present (slice_get memory (slot.base + k)) (λ v. machine code (pc + 1) (v ∷ stack) memory turns))) (below_size place slot.words h)
       ∙ ap (λ o. present o (λ v. machine code (pc + 1) (v ∷ stack) memory turns)) (word_found scope memory turns x slot place f inside h)
 
-  -- from a place on the machine goes on behind the indices with the place of the element on the stack, or traps
+  -- from a place on the machine goes on after the indices with the place of the element on the stack, or traps
   abbrev Indexes : Phrases → Type 0
   Indexes is =
       (pc : ℕ) (sizes : List ℕ) (place : ℕ) (stack : List ℤ) → HasAt code pc (index_code scope pc sizes is) → FitsAll scope is → count_of is ≡ length sizes → AllByRecursion (λ n. 1 ≤ n) sizes → (place + 1) * product sizes ≤ 65536 → (K : ℕ → Ending) → ((p : ℕ) → p < (place + 1) * product sizes → machine code (pc + index_size is) (pos p ∷ stack) memory turns ≡ K p) → machine code pc (pos place ∷ stack) memory turns ≡ after (place_of (state_of scope memory turns) is sizes place) K

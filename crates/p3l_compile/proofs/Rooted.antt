@@ -21,7 +21,7 @@ use Rattle.p3l_compile.proofs.Depths.{DepthsAt, depths_front, depths_back, depth
 use Rattle.p3l_compile.proofs.StatementDepths.{assign_depths, loop_depths, statement_depths, assign_depths_length, loop_depths_length, statement_depths_length, assign_first, statement_first, here}
 
 module _ (code : Code) (table : List ℕ) where
-  -- the places behind one, so many of them, are reached or have an empty stack
+  -- the places after one, so many of them, are reached or have an empty stack
   abbrev pub Rooted : ℕ → ℕ → Type 0
   Rooted pc n = (q : ℕ) → pc < q → q ≤ pc + n → IsReached code.instrs q ⊎ (slice_get table q ≡ Some 0)
 
@@ -213,9 +213,9 @@ module _ (code : Code) (table : List ℕ) where
       let ds = 0 ∷ (statement_depths f ++ statement_depths next) in
       let back = depths_back table pc m (phrase_depths 0 e) (1 ∷ (statement_depths t ++ ds)) (depths_length 0 e) has in
       let inner = depths_front table p (statement_depths t) ds back.1 in
-      let behind = depths_back table p a (statement_depths t) ds (statement_depths_length t) back.1 in
-      let other = depths_front table o (statement_depths f) (statement_depths next) behind.1 in
-      let rest = depths_back table o b (statement_depths f) (statement_depths next) (statement_depths_length f) behind.1 in
+      let after = depths_back table p a (statement_depths t) ds (statement_depths_length t) back.1 in
+      let other = depths_front table o (statement_depths f) (statement_depths next) after.1 in
+      let rest = depths_back table o b (statement_depths f) (statement_depths next) (statement_depths_length f) after.1 in
       let q : pc + (m + 1 + a + 1 + b + n) ≡ z + n = omega arith in
       let end' = here table (pc + (m + 1 + a + 1 + b + n)) (z + n) 0 q end in
       let at_next = statement_first table next z rest end' in
@@ -230,7 +230,7 @@ module _ (code : Code) (table : List ℕ) where
       resize pc (m + (a + (1 + (b + n)) + 1)) (m + 1 + a + 1 + b + n) (omega arith)
       (join pc m (a + (1 + (b + n)) + 1) (phrase_rooted scope e pc (has_front code pc test (JumpZero o ∷ (code_t ++ tail)) at))
       (then (pc + m) (a + (1 + (b + n))) (JumpZero o) at'.0 refl
-      (join p a (1 + (b + n)) (statement_rooted scope t p (has_front code p code_t tail at'.1) inner behind.0)
+      (join p a (1 + (b + n)) (statement_rooted scope t p (has_front code p code_t tail at'.1) inner after.0)
       (join (p + a) 1 (b + n) (emptied (p + a) at_other)
       (join o b n (statement_rooted scope f o (has_front code o code_f code_next at''.1) other at_next)
       (statement_rooted scope next z (has_back code o b code_f code_next (statement_length scope o f) at''.1) rest end'))))))

@@ -45,12 +45,12 @@ find_bound memory name (p ∷ slots) rest slot h =
         ap (λ x. Some (bound_at memory (x, p.1))) (sym n) ∙ ap (λ x. Some (bound_at memory (name, x))) q
     by go false t e = go e
 
--- another name is looked for behind them
-find_behind : (memory : List ℤ) (name : List ℕ) (slots : List Place) (rest : List Binding) → lookup (bytes_eq name) slots ≡ None → find (is_bound name) (map (bound_at memory) slots ++ rest) ≡ find (is_bound name) rest
-find_behind memory name [] rest h = refl
-find_behind memory name (p ∷ slots) rest h =
+-- another name is looked for after them
+find_after : (memory : List ℤ) (name : List ℕ) (slots : List Place) (rest : List Binding) → lookup (bytes_eq name) slots ≡ None → find (is_bound name) (map (bound_at memory) slots ++ rest) ≡ find (is_bound name) rest
+find_after memory name [] rest h = refl
+find_after memory name (p ∷ slots) rest h =
     ap (λ t. cond t (Some (bound_at memory p)) (find (is_bound name) (map (bound_at memory) slots ++ rest))) (eq_flip p.0 name)
-    ∙ by (find_behind memory name slots rest) (bytes_eq name p.0) h
+    ∙ by (find_after memory name slots rest) (bytes_eq name p.0) h
   where
     by : (lookup (bytes_eq name) slots ≡ None → find (is_bound name) (map (bound_at memory) slots ++ rest) ≡ find (is_bound name) rest) → (b : Bool) → cond b (Some p.1) (lookup (bytes_eq name) slots) ≡ None → cond b (Some (bound_at memory p)) (find (is_bound name) (map (bound_at memory) slots ++ rest)) ≡ find (is_bound name) rest
     by go true e = absurd cc
@@ -81,12 +81,12 @@ sizes_found names memory turns name slot h =
 
 pub sizes_none : (names : Names) (memory : List ℤ) (turns : ℕ) (name : List ℕ) → found names name ≡ None → sizes_of (state_of names memory turns) name ≡ []
 sizes_none names memory turns name h =
-    ap (λ o. option_map_or (λ (b : Binding). b.sizes) o []) (find_behind memory name names.slots (map constant names.constants) h)
+    ap (λ o. option_map_or (λ (b : Binding). b.sizes) o []) (find_after memory name names.slots (map constant names.constants) h)
     ∙ sizes_in_constants name names.constants
 
 pub word_none : (names : Names) (memory : List ℤ) (turns : ℕ) (name : List ℕ) → found names name ≡ None → word_of (state_of names memory turns) name 0 ≡ constant_of names name
 word_none names memory turns name h =
-    ap (λ o. option_map_or (λ (b : Binding). slice_index_or b.words 0 (pos 0)) o (pos 0)) (find_behind memory name names.slots (map constant names.constants) h)
+    ap (λ o. option_map_or (λ (b : Binding). slice_index_or b.words 0 (pos 0)) o (pos 0)) (find_after memory name names.slots (map constant names.constants) h)
     ∙ word_in_constants name names.constants
 
 -- the words of a variable
@@ -135,12 +135,12 @@ set_take (suc n) [] i x = refl
 set_take (suc n) (y ∷ l) zero x = refl
 set_take (suc n) (y ∷ l) (suc i) x = ap (λ r. y ∷ r) (set_take n l i x)
 
--- a word before an array, and one behind it, are none of its words
+-- a word before an array, and one after it, are none of its words
 before_words : (base words k : ℕ) (memory : List ℤ) (x : ℤ) → k < base → take words (drop base (slice_set memory k x)) ≡ take words (drop base memory)
 before_words base words k memory x h = ap (take words) (drop-set-lt base memory k x h)
 
-behind_words : (base words k : ℕ) (memory : List ℤ) (x : ℤ) → base + words ≤ k → take words (drop base (slice_set memory k x)) ≡ take words (drop base memory)
-behind_words base words k memory x h =
+after_words : (base words k : ℕ) (memory : List ℤ) (x : ℤ) → base + words ≤ k → take words (drop base (slice_set memory k x)) ≡ take words (drop base memory)
+after_words base words k memory x h =
     let e : k ≡ base + (k - base) = omega arith in
     ap (λ j. take words (drop base (slice_set memory j x))) e
     ∙ ap (take words) (drop-set-add base memory (k - base) x)
@@ -165,15 +165,15 @@ rebound_constant name place word (c ∷ constants) h =
 words_in : Place → List ℤ → Binding
 words_in p words = record { name = p.0; sizes = p.1.sizes; words = words }
 
--- the variables behind the one that is written
-rebound_behind : (name : List ℕ) (place k from size : ℕ) (word : ℤ) (memory : List ℤ) (slots : List Place) (constants : Constants) → LieFrom from slots constants size → k < from → AllByRecursion (λ (s : Place). s.0 ≢ name) slots → AllByRecursion (λ (c : List ℕ × ℤ). c.0 ≢ name) constants → map (rebound name place word) (map (bound_at memory) slots ++ map constant constants) ≡ map (bound_at (slice_set memory k word)) slots ++ map constant constants
+-- the variables after the one that is written
+rebound_after : (name : List ℕ) (place k from size : ℕ) (word : ℤ) (memory : List ℤ) (slots : List Place) (constants : Constants) → LieFrom from slots constants size → k < from → AllByRecursion (λ (s : Place). s.0 ≢ name) slots → AllByRecursion (λ (c : List ℕ × ℤ). c.0 ≢ name) constants → map (rebound name place word) (map (bound_at memory) slots ++ map constant constants) ≡ map (bound_at (slice_set memory k word)) slots ++ map constant constants
 unfolding words_in
-rebound_behind name place k from size word memory [] constants l h a b = rebound_constant name place word constants b
-rebound_behind name place k from size word memory (s ∷ slots) constants l h a b =
+rebound_after name place k from size word memory [] constants l h a b = rebound_constant name place word constants b
+rebound_after name place k from size word memory (s ∷ slots) constants l h a b =
     let before : k < s.1.base = omega (arith, l.0) in
     ap (λ x. x ∷ map (rebound name place word) (map (bound_at memory) slots ++ map constant constants))
     (unbound name place word (bound_at memory s) (no_match s.0 name a.0) ∙ ap (words_in s) (sym (before_words s.1.base s.1.words k memory word before)))
-    ∙ ap (λ x. bound_at (slice_set memory k word) s ∷ x) (rebound_behind name place k (from + s.1.words) size word memory slots constants l.5 (omega arith) a.1 b)
+    ∙ ap (λ x. bound_at (slice_set memory k word) s ∷ x) (rebound_after name place k (from + s.1.words) size word memory slots constants l.5 (omega arith) a.1 b)
 
 rebound_slot : (name : List ℕ) (place from size : ℕ) (word : ℤ) (memory : List ℤ) (slots : List Place) (constants : Constants) (slot : Slot) → LieFrom from slots constants size → lookup (bytes_eq name) slots ≡ Some slot → place < slot.words → map (rebound name place word) (map (bound_at memory) slots ++ map constant constants) ≡ map (bound_at (slice_set memory (slot.base + place) word)) slots ++ map constant constants
 unfolding words_in
@@ -195,13 +195,13 @@ rebound_slot name place from size word memory (s ∷ slots) constants slot l f h
         ap (λ t. cond t (record (bound_at memory s) { words = slice_set (take s.1.words (drop s.1.base memory)) place word }) (bound_at memory s) ∷ map (rebound name place word) rest) t
         ∙ ap (λ x. words_in s x ∷ map (rebound name place word) rest) (own_words s.1.base s.1.words place memory word ∙ ap (λ j. take s.1.words (drop s.1.base (slice_set memory j word))) here)
         ∙ ap (λ x. bound_at (slice_set memory k word) s ∷ x)
-        (rebound_behind name place k (from + s.1.words) size word memory slots constants l.5 ends (subst (λ n. AllByRecursion (λ (s : Place). s.0 ≢ n) slots) same l.4.0) (subst (λ n. AllByRecursion (λ (c : List ℕ × ℤ). c.0 ≢ n) constants) same l.4.1))
+        (rebound_after name place k (from + s.1.words) size word memory slots constants l.5 ends (subst (λ n. AllByRecursion (λ (s : Place). s.0 ≢ n) slots) same l.4.0) (subst (λ n. AllByRecursion (λ (c : List ℕ × ℤ). c.0 ≢ n) constants) same l.4.1))
     by go false t e =
         let a = lies (from + s.1.words) size name slots constants slot l.5 e in
         let k = slot.base + place in
         let ends : s.1.base + s.1.words ≤ k = omega (arith, l.0, a.above) in
         ap (λ x. x ∷ map (rebound name place word) rest)
-        (unbound name place word (bound_at memory s) t ∙ ap (words_in s) (sym (behind_words s.1.base s.1.words k memory word ends)))
+        (unbound name place word (bound_at memory s) t ∙ ap (words_in s) (sym (after_words s.1.base s.1.words k memory word ends)))
         ∙ ap (λ x. bound_at (slice_set memory k word) s ∷ x) (go e)
 
 with_bindings : ℕ → List Binding → State

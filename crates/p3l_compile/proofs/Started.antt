@@ -107,7 +107,7 @@ starts seq code words size fits =
     ∙ ap (λ l. (holding seq.ins words ++ map zeroed seq.outs) ++ l) locals in
     ap (λ l. with_bindings (l ++ map constant seq.constants)) variables
 
--- the variables lie one behind the other
+-- the variables lie one after the other
 alone_slots : (name : List ℕ) (vars : List Var) (base : ℕ) → AllByRecursion (λ (v : Var). v.name ≢ name) vars → AllByRecursion (λ (p : Place). p.0 ≢ name) (slots_from base vars)
 alone_slots name [] base h = tt
 alone_slots name (v ∷ vars) base h = (h.0, alone_slots name vars (base + width v) h.1)

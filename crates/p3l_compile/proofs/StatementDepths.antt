@@ -250,15 +250,15 @@ module _ (code : Code) (table : List ℕ) (scope : Names) (laid : IsLaid scope c
       let back = depths_back table pc m (phrase_depths 0 e) (1 ∷ (statement_depths t ++ ds)) (depths_length 0 e) has in
       let one : slice_get table (pc + m) ≡ Some (0 + 1) = back.0 in
       let inner = depths_front table p (statement_depths t) ds back.1 in
-      let behind = depths_back table p (statement_size t) (statement_depths t) ds (statement_depths_length t) back.1 in
-      let other = depths_front table o (statement_depths f) (statement_depths next) behind.1 in
-      let rest = depths_back table o (statement_size f) (statement_depths f) (statement_depths next) (statement_depths_length f) behind.1 in
+      let after = depths_back table p (statement_size t) (statement_depths t) ds (statement_depths_length t) back.1 in
+      let other = depths_front table o (statement_depths f) (statement_depths next) after.1 in
+      let rest = depths_back table o (statement_size f) (statement_depths f) (statement_depths next) (statement_depths_length f) after.1 in
       let whole = m + 1 + statement_size t + 1 + statement_size f + statement_size next in
       let q : pc + whole ≡ z + statement_size next = omega arith in
       let end' = here table (pc + whole) (z + statement_size next) 0 q end in
       let at_next = statement_first table next z rest end' in
       let at_other = statement_first table f o other at_next in
-      let at_t = statement_first table t p inner behind.0 in
+      let at_t = statement_first table t p inner after.0 in
       let code_t = statement_code scope p t in
       let code_f = statement_code scope o f in
       let code_next = statement_code scope z next in
@@ -269,8 +269,8 @@ module _ (code : Code) (table : List ℕ) (scope : Names) (laid : IsLaid scope c
       (phrase_fine code table scope laid e pc 0 fits.0 (omega arith) (omega arith) own one) (
         test_fine code table (pc + m) 0 o (JumpZero o) one tt refl refl (λ n. tt) (omega arith) b (omega arith) (omega arith) (omega arith) at_t at_other,
         fine_join code table p (statement_size t) code_t (Jump z ∷ (code_f ++ code_next)) (statement_length scope p t)
-            (statement_fine t p (has_front code p code_t (Jump z ∷ (code_f ++ code_next)) at') fits.1 limits.1 (omega arith) inner behind.0) (
-              jump_fine code table (p + statement_size t) 0 z behind.0 (omega arith) (omega arith) (omega arith) at_next,
+            (statement_fine t p (has_front code p code_t (Jump z ∷ (code_f ++ code_next)) at') fits.1 limits.1 (omega arith) inner after.0) (
+              jump_fine code table (p + statement_size t) 0 z after.0 (omega arith) (omega arith) (omega arith) at_next,
               fine_join code table o (statement_size f) code_f code_next (statement_length scope o f)
                   (statement_fine f o (has_front code o code_f code_next at'') fits.2 limits.2 (omega arith) other at_next)
                   (statement_fine next z (has_back code o (statement_size f) code_f code_next (statement_length scope o f) at'') fits.3 limits.3 (omega arith) rest end'),

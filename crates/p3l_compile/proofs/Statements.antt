@@ -1,4 +1,4 @@
--- The machine on the code of statements: it goes on behind the code with the memory of the state that they make, or
+-- The machine on the code of statements: it goes on after the code with the memory of the state that they make, or
 -- traps.
 use Rattle.std.proofs.Common.{◌≡◌, ℕ, ℤ, zero, suc, pos, ◌+◌, ◌*◌, ◌≤◌, ◌<◌, Bool, true, false, cond, List, [], ◌∷◌, ◌++◌, length, Option, Some, None, Result, Ok, Err, refl, sym, ap, ◌∙◌, subst, arith, length-append, ltb-true, length-set}
 use Rattle.std.specs.Prelude.{slice_get, slice_set, nat_lt}
@@ -118,7 +118,7 @@ module _ (code : Code) (unrolls : Unrolls code) (scope : Names) (size : ℕ) (la
   ends_at pc end other run e r memory turns whole K h =
       r memory turns whole K (λ m t l le. ap (λ p. machine code p [] m t) e ∙ h m t l le)
 
-  -- one behind the other
+  -- one after the other
   then_runs : (pc middle end : ℕ) (first next : State → Result State TrapKind) → Runs pc middle first → Runs middle end next → Runs pc end (λ s. given (first s) next)
   then_runs pc middle end first next a b memory turns whole K h =
       a memory turns whole (λ s. after (next s) K) (λ m t l le. b m t l K (λ n u k ge. h n u k (omega arith)))
@@ -252,7 +252,7 @@ module _ (code : Code) (unrolls : Unrolls code) (scope : Names) (size : ℕ) (la
   same_runs pc end run other e r memory turns whole K h =
       r memory turns whole K h ∙ ap (λ z. after z K) (e (state_of scope memory turns))
 
-  -- the body of a `for`, and the assignment behind it
+  -- the body of a `for`, and the assignment after it
   stepped_runs : (body : Statements) (y : Spot) (js : Phrases) (f : Phrase) (pc : ℕ) → HasAt code pc (statement_code scope pc body ++ assign_code scope (pc + statement_size body) y.name js f) → FitsAssign scope y.name js f → (HasAt code pc (statement_code scope pc body) → Runs pc (pc + statement_size body) (run_of code.budget body)) → Runs pc (pc + (statement_size body + assign_size js f)) (run_of code.budget (join body (assign y js f done)))
   unfolding run_of run_by
   stepped_runs body y js f pc has fits b =

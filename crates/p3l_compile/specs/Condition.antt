@@ -32,7 +32,7 @@ pub record IsArray (var : Var) : Type 0 where
   pub some : AllByRecursion (λ n. 1 ≤ n) var.shape.sizes
   pub few : width var ≤ 65536
 
--- variables that lie one behind the other from a slot on have names that no variable before them has
+-- variables that lie one after the other from a slot on have names that no variable before them has
 abbrev pub AreFresh : List (List ℕ × Slot) → ℕ → List Var → Type 0
 AreFresh slots base [] = Unit {0}
 AreFresh slots base (var ∷ vars) =

@@ -34,12 +34,12 @@ abbrev pub state_of : Names → List ℤ → ℕ → State
 state_of names memory turns =
     record { bindings = map (bound_at memory) names.slots ++ map constant names.constants; turns = turns }
 
--- no name of the variables behind one, and no constant, is its name
+-- no name of the variables after one, and no constant, is its name
 abbrev pub IsAlone : List ℕ → List (List ℕ × Slot) → Constants → Type 0
 IsAlone name slots constants =
     AllByRecursion (λ (p : List ℕ × Slot). p.0 ≢ name) slots × AllByRecursion (λ (c : List ℕ × ℤ). c.0 ≢ name) constants
 
--- the variables lie one behind the other, from a slot on, to the end of the memory
+-- the variables lie one after the other, from a slot on, to the end of the memory
 abbrev pub LieFrom : ℕ → List (List ℕ × Slot) → Constants → ℕ → Type 0
 LieFrom from [] constants size = from ≡ size
 LieFrom from (p ∷ slots) constants size =
@@ -53,7 +53,7 @@ IsLaid names size = LieFrom 0 names.slots names.constants size
 abbrev pub slot_at : ℕ → Var → Slot
 slot_at base var = record { sizes = var.shape.sizes; base = base; words = width var }
 
--- variables that lie one behind the other, from a slot on
+-- variables that lie one after the other, from a slot on
 abbrev pub slots_from : ℕ → List Var → List (List ℕ × Slot)
 slots_from base [] = []
 slots_from base (var ∷ vars) =

@@ -1,4 +1,4 @@
-// The code of expressions and statements, put behind the code so far.
+// The code of expressions and statements, put after the code so far.
 
 ghost use Rattle.std.specs.Prelude.{◌≡◌, ℕ, pos, ◌+◌, ◌<◌, ◌≤◌, [], ◌∷◌, ◌++◌, length, slice_index, OnOk};
 ghost use Rattle.p3l_ast.specs.Tree.{phrase, phrases, read, unary, binary};
@@ -10,7 +10,7 @@ use p3l_ast::{BinOp, Expr, Target, UnOp};
 use p3l_base::{Name, NoMemory};
 use p3l_code::Instr;
 
-/// Puts the code of an expression behind the code so far.
+/// Puts the code of an expression after the code so far.
 #[cycle(expression)]
 pub fn emit_expr(scope: &Scope<'_>, code: &mut Vec<Instr>, expr: &Expr) -> Result<(), NoMemory>
     requires { length code.old.items + phrase_size (phrase expr.now) ≤ 4194304 }
@@ -25,7 +25,7 @@ pub fn emit_expr(scope: &Scope<'_>, code: &mut Vec<Instr>, expr: &Expr) -> Resul
     }
 }
 
-// Puts the code of an operator before its operand behind the code so far.
+// Puts the code of an operator before its operand after the code so far.
 #[cycle(expression)]
 fn emit_unary(
     scope: &Scope<'_>,
@@ -41,7 +41,7 @@ fn emit_unary(
     put(code, Instr::Unary(op))
 }
 
-// Puts the code of an operator between its operands behind the code so far.
+// Puts the code of an operator between its operands after the code so far.
 #[cycle(expression)]
 fn emit_binary(
     scope: &Scope<'_>,
@@ -66,7 +66,7 @@ fn emit_binary(
     put(code, Instr::Binary(op))
 }
 
-// Puts the code of `left || right` or `left && right` behind the code so far.
+// Puts the code of `left || right` or `left && right` after the code so far.
 #[cycle(expression)]
 fn emit_short(
     scope: &Scope<'_>,
@@ -110,7 +110,7 @@ fn decided(op: BinOp) -> i64
     }
 }
 
-// Puts the code that reads a variable, an element or a constant behind the code so far.
+// Puts the code that reads a variable, an element or a constant after the code so far.
 #[cycle(expression)]
 fn emit_read(scope: &Scope<'_>, code: &mut Vec<Instr>, target: &Target) -> Result<(), NoMemory>
     requires { length code.old.items + phrase_size (read target.now.at (phrases target.now.index.items)) ≤ 4194304 }
@@ -130,7 +130,7 @@ fn emit_read(scope: &Scope<'_>, code: &mut Vec<Instr>, target: &Target) -> Resul
     put(code, element(scope, &target.at.name))
 }
 
-// Puts the code that reads an element by its one index, which is tested as it is read, behind the
+// Puts the code that reads an element by its one index, which is tested as it is read, after the
 // code so far.
 #[cycle(expression)]
 fn emit_only(
@@ -148,7 +148,7 @@ fn emit_only(
     put(code, element(scope, name))
 }
 
-// Puts the code of a target's indices behind the code so far, each with the test against its size.
+// Puts the code of a target's indices after the code so far, each with the test against its size.
 #[cycle(expression)]
 pub fn emit_index(scope: &Scope<'_>, code: &mut Vec<Instr>, target: &Target) -> Result<(), NoMemory>
     requires { length code.old.items + index_size (phrases target.now.index.items) ≤ 4194304 }
@@ -191,7 +191,7 @@ fn element(scope: &Scope<'_>, name: &Name) -> Instr
     }
 }
 
-// Puts the code behind a right operand of `||` or `&&`: its truth, and a jump past the other way,
+// Puts the code after a right operand of `||` or `&&`: its truth, and a jump past the other way,
 // which gives a number.
 fn put_truth(code: &mut Vec<Instr>, other: i64) -> Result<(), NoMemory>
     requires { length code.old.items + 4 ≤ 4194304 }
@@ -205,7 +205,7 @@ fn put_truth(code: &mut Vec<Instr>, other: i64) -> Result<(), NoMemory>
     put(code, Instr::Push(other))
 }
 
-// The place behind the code so far.
+// The place after the code so far.
 pub fn place(code: &Vec<Instr>) -> u32
     requires { length code.now.items ≤ 4194304 }
     ensures { result ≡ length code.now.items }
@@ -213,7 +213,7 @@ pub fn place(code: &Vec<Instr>) -> u32
     code.len() as u32
 }
 
-// Puts one more instruction behind the code so far.
+// Puts one more instruction after the code so far.
 pub fn put(code: &mut Vec<Instr>, instr: Instr) -> Result<(), NoMemory>
     ensures code { OnOk result (code.new.items ≡ code.old.items ++ instr ∷ []) }
     ensures size { OnOk result (length code.new.items ≡ length code.old.items + 1) }

@@ -60,13 +60,13 @@ impl<'c> Scope<'c> {
         Ok(())
     }
 
-    /// Adds variables that lie one behind the other from a slot on; gives the slot behind them.
+    /// Adds variables that lie one after the other from a slot on; gives the slot after them.
     pub fn enter(&mut self, alloc: Global, from: u32, vars: &[Var]) -> Result<u32, NoMemory>
         requires fresh { AreFresh self.old.slots from vars.now }
         requires arrays { AllByRecursion IsArray vars.now }
         requires room { from + total vars.now ≤ 196608 }
         ensures entered { OnOk result (self.new ≡ record self.old { slots = self.old.slots ++ slots_from from vars.now }) }
-        ensures behind { IfOk result (λ behind. behind ≡ from + total vars.now) }
+        ensures after { IfOk result (λ after. after ≡ from + total vars.now) }
     {
         let mut base = from;
         for var in vars {

@@ -1,4 +1,4 @@
-// The code of statements, put behind the code so far.
+// The code of statements, put after the code so far.
 
 ghost use Rattle.std.specs.Prelude.{◌≡◌, ℕ, ◌+◌, ◌≤◌, [], ◌++◌, length, OnOk};
 ghost use Rattle.p3l_ast.specs.Tree.{phrase, phrases, one, statements as tree_of, join, done, assign, if_, if_else, while_, for_};
@@ -12,7 +12,7 @@ use p3l_ast::{Expr, Stmt, Target};
 use p3l_base::{Name, NoMemory};
 use p3l_code::Instr;
 
-/// Puts the code of statements behind the code so far.
+/// Puts the code of statements after the code so far.
 #[cycle(statement)]
 pub fn emit_stmts(scope: &Scope<'_>, code: &mut Vec<Instr>, stmts: &[Stmt]) -> Result<(), NoMemory>
     requires { length code.old.items + statement_size (tree_of stmts.now) ≤ 4194304 }
@@ -25,7 +25,7 @@ pub fn emit_stmts(scope: &Scope<'_>, code: &mut Vec<Instr>, stmts: &[Stmt]) -> R
     Ok(())
 }
 
-// Puts the code of a statement behind the code so far.
+// Puts the code of a statement after the code so far.
 #[cycle(statement)]
 fn emit_stmt(scope: &Scope<'_>, code: &mut Vec<Instr>, stmt: &Stmt) -> Result<(), NoMemory>
     requires { length code.old.items + statement_size (one stmt.now) ≤ 4194304 }
@@ -46,7 +46,7 @@ fn emit_stmt(scope: &Scope<'_>, code: &mut Vec<Instr>, stmt: &Stmt) -> Result<()
     }
 }
 
-// Puts the code of an `if` with no `else` behind the code so far.
+// Puts the code of an `if` with no `else` after the code so far.
 #[cycle(statement)]
 fn emit_if(
     scope: &Scope<'_>,
@@ -66,7 +66,7 @@ fn emit_if(
     Ok(())
 }
 
-// Puts the code of an `if` with an `else` behind the code so far.
+// Puts the code of an `if` with an `else` after the code so far.
 #[cycle(statement)]
 fn emit_choice(
     scope: &Scope<'_>,
@@ -91,7 +91,7 @@ fn emit_choice(
     Ok(())
 }
 
-// Puts the code of a `while` behind the code so far: its condition stands behind its body.
+// Puts the code of a `while` after the code so far: its condition stands after its body.
 #[cycle(statement)]
 fn emit_while(
     scope: &Scope<'_>,
@@ -113,7 +113,7 @@ fn emit_while(
     put(code, Instr::JumpNonZero(top))
 }
 
-// Puts the code of the turns of a `for` behind the code so far.
+// Puts the code of the turns of a `for` after the code so far.
 #[cycle(statement)]
 fn emit_turns(
     scope: &Scope<'_>,
@@ -138,7 +138,7 @@ fn emit_turns(
     put(code, Instr::JumpNonZero(top))
 }
 
-// Puts the code of an assignment behind the code so far: first the indices of the target, then the
+// Puts the code of an assignment after the code so far: first the indices of the target, then the
 // right side.
 fn emit_assign(
     scope: &Scope<'_>,
@@ -161,7 +161,7 @@ fn emit_assign(
     put(code, store_at(scope, &target.at.name))
 }
 
-// Puts the code of an assignment to a scalar behind the code so far.
+// Puts the code of an assignment to a scalar after the code so far.
 fn emit_scalar(
     scope: &Scope<'_>,
     code: &mut Vec<Instr>,

@@ -18,35 +18,35 @@ limit_after section nodes limits home ms name =
     option_or (lookup (bytes_eq name) limits) (lookup (bytes_eq name) (spoken_of section nodes home ms))
 
 -- the ticks that were found, followed by those of the rest
-abbrev pub ticks_behind : Tree → Members → List ℕ → ℕ → List ModuleInfo → Result (List ℕ) CostRefusal
-ticks_behind tree document done home ms = given (all_ticks tree document home ms) (λ rest. Ok (done ++ rest))
+abbrev pub ticks_after : Tree → Members → List ℕ → ℕ → List ModuleInfo → Result (List ℕ) CostRefusal
+ticks_after tree document done home ms = given (all_ticks tree document home ms) (λ rest. Ok (done ++ rest))
 
 joined : (done : List ℕ) (n : ℕ) (r : Result (List ℕ) CostRefusal) → given (given r (λ ns. Ok (n ∷ ns))) (λ rest. Ok (done ++ rest)) ≡ given r (λ rest. Ok ((done ++ n ∷ []) ++ rest))
 joined done n (Ok rest) = ap Ok (sym (append_assoc done (n ∷ []) rest))
 joined done n (Err e) = refl
 
-pub ticks_behind-none : (tree : Tree) (document : Members) (home : ℕ) (ms : List ModuleInfo) → ticks_behind tree document [] home ms ≡ all_ticks tree document home ms
-ticks_behind-none tree document home ms = by (all_ticks tree document home ms)
+pub ticks_after-none : (tree : Tree) (document : Members) (home : ℕ) (ms : List ModuleInfo) → ticks_after tree document [] home ms ≡ all_ticks tree document home ms
+ticks_after-none tree document home ms = by (all_ticks tree document home ms)
   where
     by : (r : Result (List ℕ) CostRefusal) → given r (λ rest. Ok rest) ≡ r
     by (Ok x) = refl
     by (Err e) = refl
 
-pub ticks_behind-step : (tree : Tree) (document : Members) (done : List ℕ) (home n : ℕ) (modules : List ModuleInfo) (m : ModuleInfo) →
+pub ticks_after-step : (tree : Tree) (document : Members) (done : List ℕ) (home n : ℕ) (modules : List ModuleInfo) (m : ModuleInfo) →
     home < length modules → get_or modules home m ≡ m → ticks_of tree document home m ≡ Ok n →
-    ticks_behind tree document (done ++ n ∷ []) (home + 1) (drop (home + 1) modules) ≡ ticks_behind tree document done home (drop home modules)
-ticks_behind-step tree document done home n modules m inside here is =
+    ticks_after tree document (done ++ n ∷ []) (home + 1) (drop (home + 1) modules) ≡ ticks_after tree document done home (drop home modules)
+ticks_after-step tree document done home n modules m inside here is =
     rw (drop_more modules home m inside, here, is) (sym (joined done n (all_ticks tree document (home + 1) (drop (home + 1) modules))))
 
-pub ticks_behind-all : (tree : Tree) (document : Members) (done : List ℕ) (home : ℕ) → ticks_behind tree document done home [] ≡ Ok done
-ticks_behind-all tree document done home = ap Ok (append-nil done)
+pub ticks_after-all : (tree : Tree) (document : Members) (done : List ℕ) (home : ℕ) → ticks_after tree document done home [] ≡ Ok done
+ticks_after-all tree document done home = ap Ok (append-nil done)
 
 -- the turns that were found, followed by those of the rest
-abbrev pub turns_behind : Tree → Members → List ℕ → ℕ → List ModuleInfo → List ℕ
-turns_behind tree document done home ms = done ++ all_turns tree document home ms
+abbrev pub turns_after : Tree → Members → List ℕ → ℕ → List ModuleInfo → List ℕ
+turns_after tree document done home ms = done ++ all_turns tree document home ms
 
-pub turns_behind-step : (tree : Tree) (document : Members) (done : List ℕ) (home n : ℕ) (modules : List ModuleInfo) (m : ModuleInfo) →
+pub turns_after-step : (tree : Tree) (document : Members) (done : List ℕ) (home n : ℕ) (modules : List ModuleInfo) (m : ModuleInfo) →
     home < length modules → get_or modules home m ≡ m → n ≡ turns_of_module tree document home m →
-    turns_behind tree document (done ++ n ∷ []) (home + 1) (drop (home + 1) modules) ≡ turns_behind tree document done home (drop home modules)
-turns_behind-step tree document done home n modules m inside here is =
+    turns_after tree document (done ++ n ∷ []) (home + 1) (drop (home + 1) modules) ≡ turns_after tree document done home (drop home modules)
+turns_after-step tree document done home n modules m inside here is =
     rw (drop_more modules home m inside, here, is) (append_assoc done (turns_of_module tree document home m ∷ []) _)

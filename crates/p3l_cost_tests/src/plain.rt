@@ -45,7 +45,7 @@ struct Done {
     numbers: Numbers,
 }
 
-// Whether the parts have another one behind them.
+// Whether the parts have another one after them.
 fn with_part(parts: Option<Parts>, part: Numbers) -> Parts {
     match parts {
         None => Parts {

@@ -33,7 +33,7 @@ fn kind_name(form: &Form) -> &'static str
     }
 }
 
-/// Puts what a node says of its count behind a text, if it has one.
+/// Puts what a node says of its count after a text, if it has one.
 fn put_count(alloc: Global, text: &mut String, form: &Form, count: u32) -> Result<(), AllocError>
     ensures { OnOk result (string_bytes text.new ≡ string_bytes text.old ++ count_words form.now count) }
 {
@@ -46,7 +46,7 @@ fn put_count(alloc: Global, text: &mut String, form: &Form, count: u32) -> Resul
     }
 }
 
-/// Puts the line of a node outside units behind a text.
+/// Puts the line of a node outside units after a text.
 fn put_node(
     alloc: Global,
     text: &mut String,
@@ -83,7 +83,7 @@ fn name_of(tree: &Tree, number: u32) -> &str
     }
 }
 
-/// Puts the lines of a node outside units and of those outside units below it behind a text, down
+/// Puts the lines of a node outside units and of those outside units below it after a text, down
 /// to so many levels.
 fn put_nodes(
     alloc: Global,

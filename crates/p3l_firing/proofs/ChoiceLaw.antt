@@ -46,11 +46,11 @@ module _ (net : Net) (s : State) (c : ℕ) (cs : List ℕ) where
         first = λ k b. absurd (omega arith);
       }
 
-  behind : (o : Option ℕ) (f : Emptiest net s cs o) →
+  after : (o : Option ℕ) (f : Emptiest net s cs o) →
       (has_room net s c && nat_le (length (s.tokens c)) (length (s.tokens (slice_index cs f.at)))) ≡ false →
       Emptiest net s (c ∷ cs) (fewer net s c o)
   unfolding fewer
-  behind o f e =
+  after o f e =
       let more : has_room net s c ≡ true → length (s.tokens (slice_index cs f.at)) < length (s.tokens c) =
       λ r. elim (cases_Bool (nat_le (length (s.tokens c)) (length (s.tokens (slice_index cs f.at))))) [
         | inl y ↦ let z : true ≡ false = sym y ∙ and_left_true _ _ r e in cc
@@ -74,7 +74,7 @@ emptiest_is net s (c ∷ cs) =
       | inl f ↦
           elim (cases_Bool (has_room net s c && nat_le (length (s.tokens c)) (length (s.tokens (slice_index cs f.at))))) [
             | inl e ↦ inl (before net s c cs _ f e)
-            | inr e ↦ inl (behind net s c cs _ f e)
+            | inr e ↦ inl (after net s c cs _ f e)
           ]
       | inr f ↦ elim (cases_Bool (has_room net s c)) [
         | inl e ↦ inl (alone net s c cs _ f e)

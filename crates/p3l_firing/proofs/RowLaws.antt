@@ -1,5 +1,5 @@
 -- The rows as one table: what the condition of a process reads, that a firing keeps the words and tags of all tokens, and that it
--- leaves the items behind the next one as they are.
+-- leaves the items after the next one as they are.
 use Rattle.std.proofs.Common.{◌≡◌, ◌≢◌, ℕ, ℤ, ◌<◌, true, not, ◌&&◌, List, [], ◌∷◌, length, Option, Some, None, slice_get, slice_index, refl, sym, ap, ◌∙◌, subst, inl, inr, arith}
 use Rattle.std.specs.List.{AllByRecursion, find}
 use Rattle.std.proofs.lemmas.Bool.{and_parts, false≢true}

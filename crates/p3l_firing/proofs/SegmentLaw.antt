@@ -46,7 +46,7 @@ module _ {X : Type 0} where
   all-read P (xs ∷ xss) zero all = all.0
   all-read P (xs ∷ xss) (suc k) all = all-read P xss k all.1
 
--- elements of one length, one behind the other
+-- elements of one length, one after the other
 joined_length : (elem : ℕ) (xs : List (List ℤ)) → AllByRecursion (λ x. length x ≡ elem) xs → length (flat_map (λ x. x) xs) ≡ length xs * elem
 joined_length elem [] all = omega arith
 joined_length elem (x ∷ xs) all =

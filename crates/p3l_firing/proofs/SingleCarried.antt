@@ -32,7 +32,7 @@ use Rattle.p3l_firing.proofs.Rows.{front_split, no_first, moved-in, moved-out, r
 abbrev outcomes_of : List Token → List Outcome
 outcomes_of = map (λ (token : Token). token.body)
 
--- the outcomes emitted, then those of the tokens behind the run, then those to come: the root's of the tokens before the run and
+-- the outcomes emitted, then those of the tokens after the run, then those to come: the root's of the tokens before the run and
 -- of the items not yet sent
 unfoldable all_outcomes : Tree → Leaf → State → List Outcome
 all_outcomes tree leaf s =
@@ -57,10 +57,10 @@ module _ (tree : Tree) (leaf : Leaf) where
       let f = outcome_of tree leaf 0 in
       let x : List ℤ = first_or [] s.unsent in
       let before : at s.tokens 0 (s.tokens 0 ++ plain (Value x) ∷ []) 0 ≡ s.tokens 0 ++ plain (Value x) ∷ [] = at-same s.tokens 0 _ in
-      let behind : at s.tokens 0 (s.tokens 0 ++ plain (Value x) ∷ []) 1 ≡ s.tokens 1 = at-other s.tokens 0 _ 1 (λ e. omega (arith, e)) in
+      let after : at s.tokens 0 (s.tokens 0 ++ plain (Value x) ∷ []) 1 ≡ s.tokens 1 = at-other s.tokens 0 _ 1 (λ e. omega (arith, e)) in
       let split : map f (outcomes_of (s.tokens 0 ++ plain (Value x) ∷ [])) ≡ map f (outcomes_of (s.tokens 0)) ++ item tree leaf 0 x ∷ [] =
       ap (map f) (map-append (λ (t : Token). t.body) (s.tokens 0) (plain (Value x) ∷ [])) ∙ map-append f (outcomes_of (s.tokens 0)) (Value x ∷ []) in
-      ap₂ (λ b a. s.emitted ++ (outcomes_of b ++ (map f (outcomes_of a) ++ map (item tree leaf 0) (rest_of s.unsent)))) behind before
+      ap₂ (λ b a. s.emitted ++ (outcomes_of b ++ (map f (outcomes_of a) ++ map (item tree leaf 0) (rest_of s.unsent)))) after before
       ∙ ap (λ z. s.emitted ++ (outcomes_of (s.tokens 1) ++ z))
       (ap (λ z. z ++ map (item tree leaf 0) (rest_of s.unsent)) split
       ∙ append_assoc (map f (outcomes_of (s.tokens 0))) (item tree leaf 0 x ∷ []) _
@@ -70,9 +70,9 @@ module _ (tree : Tree) (leaf : Leaf) where
   unfolding all_outcomes takes pop
   take_outcomes s full =
       let f = outcome_of tree leaf 0 in
-      let behind : at s.tokens 1 (rest_of (s.tokens 1)) 1 ≡ rest_of (s.tokens 1) = at-same s.tokens 1 _ in
+      let after : at s.tokens 1 (rest_of (s.tokens 1)) 1 ≡ rest_of (s.tokens 1) = at-same s.tokens 1 _ in
       let before : at s.tokens 1 (rest_of (s.tokens 1)) 0 ≡ s.tokens 0 = at-other s.tokens 1 _ 0 (λ e. omega (arith, e)) in
-      ap₂ (λ b a. (s.emitted ++ (front s 1).body ∷ []) ++ (outcomes_of b ++ (map f (outcomes_of a) ++ map (item tree leaf 0) s.unsent))) behind before
+      ap₂ (λ b a. (s.emitted ++ (front s 1).body ∷ []) ++ (outcomes_of b ++ (map f (outcomes_of a) ++ map (item tree leaf 0) s.unsent))) after before
       ∙ append_assoc s.emitted ((front s 1).body ∷ []) _
       ∙ ap (λ ts. s.emitted ++ (outcomes_of ts ++ (map f (outcomes_of (s.tokens 0)) ++ map (item tree leaf 0) s.unsent))) (sym (front_split credit (s.tokens 1) full))
 
@@ -83,8 +83,8 @@ module _ (tree : Tree) (leaf : Leaf) where
       let t : Token = front s 0 in
       let u : List Outcome = map (item tree leaf 0) s.unsent in
       let before = moved-in s 0 1 (over f t) (λ e. omega (arith, e)) in
-      let behind = moved-out s 0 1 (over f t) (λ e. omega (arith, e)) in
-      ap₂ (λ b a. s.emitted ++ (outcomes_of b ++ (map f (outcomes_of a) ++ u))) behind before
+      let after = moved-out s 0 1 (over f t) (λ e. omega (arith, e)) in
+      ap₂ (λ b a. s.emitted ++ (outcomes_of b ++ (map f (outcomes_of a) ++ u))) after before
       ∙ ap (λ z. s.emitted ++ z)
       (ap (λ z. z ++ (map f (outcomes_of (rest_of (s.tokens 0))) ++ u)) (map-append (λ (x : Token). x.body) (s.tokens 1) (over f t ∷ []))
       ∙ append_assoc (outcomes_of (s.tokens 1)) (f t.body ∷ []) _
@@ -142,7 +142,7 @@ module _ (tree : Tree) (leaf : Leaf) (cap : ℕ) where
   unfolding Kept sends push
   sent s full =
       let before : length (at s.tokens 0 (s.tokens 0 ++ plain (Value (first_or [] s.unsent)) ∷ []) 0) ≡ length (s.tokens 0) + 1 = ap length (at-same s.tokens 0 _) ∙ length-append (s.tokens 0) _ in
-      let behind : length (at s.tokens 0 (s.tokens 0 ++ plain (Value (first_or [] s.unsent)) ∷ []) 1) ≡ length (s.tokens 1) = ap length (at-other s.tokens 0 _ 1 (λ e. omega (arith, e))) in
+      let after : length (at s.tokens 0 (s.tokens 0 ++ plain (Value (first_or [] s.unsent)) ∷ []) 1) ≡ length (s.tokens 1) = ap length (at-other s.tokens 0 _ 1 (λ e. omega (arith, e))) in
       let one_less : length s.unsent ≡ suc (length (rest_of s.unsent)) = ap length (front_split [] s.unsent full) in
       record { orderly = refl; same = same s (sends s) (send_outcomes tree leaf s full); emitted = λ e. e; items = omega arith; work = omega arith }
 
@@ -150,7 +150,7 @@ module _ (tree : Tree) (leaf : Leaf) (cap : ℕ) where
   unfolding Kept takes pop
   taken s calm full =
       let before : length (at s.tokens 1 (rest_of (s.tokens 1)) 0) ≡ length (s.tokens 0) = ap length (at-other s.tokens 1 _ 0 (λ e. omega (arith, e))) in
-      let behind : suc (length (at s.tokens 1 (rest_of (s.tokens 1)) 1)) ≡ length (s.tokens 1) = ap (λ ts. suc (length ts)) (at-same s.tokens 1 _) ∙ sym (ap length (front_split credit (s.tokens 1) full)) in
+      let after : suc (length (at s.tokens 1 (rest_of (s.tokens 1)) 1)) ≡ length (s.tokens 1) = ap (λ ts. suc (length ts)) (at-same s.tokens 1 _) ∙ sym (ap length (front_split credit (s.tokens 1) full)) in
       record { orderly = refl; same = same s (takes s) (take_outcomes tree leaf s full); emitted = λ e. emit_more s.emitted (front s 1).body calm; items = refl; work = omega arith }
 
   applied : (s : State) → has_first (s.tokens 0) ≡ true → Kept s (applies tree leaf s)
@@ -159,7 +159,7 @@ module _ (tree : Tree) (leaf : Leaf) (cap : ℕ) where
       let t : Token = over (outcome_of tree leaf 0) (front s 0) in
       let popped : ℕ → List Token = at s.tokens 0 (rest_of (s.tokens 0)) in
       let before : suc (length (at popped 1 (popped 1 ++ t ∷ []) 0)) ≡ length (s.tokens 0) = ap (λ ts. suc (length ts)) (moved-in s 0 1 t (λ e. omega (arith, e))) ∙ sym (ap length (front_split credit (s.tokens 0) full)) in
-      let behind : length (at popped 1 (popped 1 ++ t ∷ []) 1) ≡ length (s.tokens 1) + 1 = ap length (moved-out s 0 1 t (λ e. omega (arith, e))) ∙ length-append (s.tokens 1) _ in
+      let after : length (at popped 1 (popped 1 ++ t ∷ []) 1) ≡ length (s.tokens 1) + 1 = ap length (moved-out s 0 1 t (λ e. omega (arith, e))) ∙ length-append (s.tokens 1) _ in
       record { orderly = refl; same = same s (applies tree leaf s) (apply_outcomes tree leaf s full); emitted = λ e. e; items = refl; work = omega arith }
 
   step : (s : State) (p : ℕ) → can_fire tree (unit_net cap) s p ≡ true → Kept s (fire tree leaf (unit_net cap) s p)
@@ -179,17 +179,17 @@ module _ (tree : Tree) (leaf : Leaf) (cap : ℕ) where
     idle_at : (p : ℕ) → is_ready tree (unit_net cap) s p ≡ false
     idle_at p = not_ready tree (unit_net cap) s p calm (stuck p)
 
-    behind_empty : s.tokens 1 ≡ []
-    behind_empty = no_first _ (sym (sink_ready tree leaf cap s) ∙ idle_at 1)
+    after_empty : s.tokens 1 ≡ []
+    after_empty = no_first _ (sym (sink_ready tree leaf cap s) ∙ idle_at 1)
 
     before_empty : s.tokens 0 ≡ []
-    before_empty = no_first _ (and_right_true _ _ (room_when_empty (unit_net cap) s 1 behind_empty room) (sym (run_ready tree leaf cap s) ∙ idle_at 2))
+    before_empty = no_first _ (and_right_true _ _ (room_when_empty (unit_net cap) s 1 after_empty room) (sym (run_ready tree leaf cap s) ∙ idle_at 2))
 
     none_unsent : s.unsent ≡ []
     none_unsent = no_first _ (and_right_true _ _ (room_when_empty (unit_net cap) s 0 before_empty room) (sym (source_ready tree leaf cap s) ∙ idle_at 0))
 
     all_drained : IsDrained (unit_carry tree leaf) s
-    all_drained = record { unsent = none_unsent; to_come = ap₂ (λ b a. outcomes_of b ++ map (outcome_of tree leaf 0) (outcomes_of a)) behind_empty before_empty }
+    all_drained = record { unsent = none_unsent; to_come = ap₂ (λ b a. outcomes_of b ++ map (outcome_of tree leaf 0) (outcomes_of a)) after_empty before_empty }
 
   three_carried : 0 < cap → IsCarried tree leaf (unit_net cap) 3 (unit_carry tree leaf)
   unfolding Kept first_state at_first

@@ -82,7 +82,7 @@ unfoldable pub first_state : Net → List (List ℤ) → State
 first_state net items =
     record { tokens = at_first net; own = λ _. fresh; unsent = items; sent = 0; emitted = [] }
 
--- the state with these items put behind those not yet sent
+-- the state with these items put after those not yet sent
 unfoldable pub with_rest : State → List (List ℤ) → State
 with_rest s rest = record s { unsent = s.unsent ++ rest }
 

@@ -24,7 +24,7 @@ abbrev pub Begins : {A : Type 0} → Format ℕ A → List ℕ → Type 0
 Begins {A = A} format s = (v : A) × (rest : List ℕ) × (format.fits v ≡ true) × (format.spell v ≡ s ++ rest)
 
 -- The lines before it begin a spelling, and no spelling that goes on from them has this line. So a last line
--- with no line feed is itself at fault, and where a text ends early it is the line behind its last.
+-- with no line feed is itself at fault, and where a text ends early it is the line after its last.
 pub record IsFirstBadLine {A : Type 0} (format : Format ℕ A) (text : List ℕ) (line : ℕ) : Type 0 where
   -- the lines before it, and the others
   pub before : List ℕ

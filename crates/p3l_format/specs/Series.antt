@@ -3,7 +3,7 @@ use Rattle.std.specs.Prelude.{ℕ, zero, suc, Bool, true, ◌&&◌, List, [], �
 use Rattle.p3l_format.specs.declared.fault.Cause.TheVariants.{Range}
 use Rattle.p3l_format.specs.declared.fault.Fault.{Fault}
 use Rattle.p3l_format.specs.Format.{Format, fault_at, ◌>>=◌}
-use Rattle.p3l_format.specs.Text.{behind_text}
+use Rattle.p3l_format.specs.Text.{after_text}
 
 abbrev pub fits_from : {P A : Type 0} → (P → Format ℕ A) → (A → P) → P → List A → Bool
 fits_from item next p [] = true
@@ -20,9 +20,9 @@ ended_or None read = read
 
 -- at most so many values
 abbrev pub read_from : {P A : Type 0} → (P → Format ℕ A) → (A → P) → List ℕ → ℕ → P → List ℕ → Result (List A × List ℕ) Fault
-read_from item next stop zero p s = ended_or (behind_text stop s) (Err (fault_at Range s))
+read_from item next stop zero p s = ended_or (after_text stop s) (Err (fault_at Range s))
 read_from item next stop (suc n) p s =
-    ended_or (behind_text stop s) ((item p).read s >>= λ x. read_from item next stop n (next x.0) x.1 >>= λ y. Ok (x.0 ∷ y.0, y.1))
+    ended_or (after_text stop s) ((item p).read s >>= λ x. read_from item next stop n (next x.0) x.1 >>= λ y. Ok (x.0 ∷ y.0, y.1))
 
 unfoldable pub until : {P A : Type 0} → (P → Format ℕ A) → (A → P) → P → List ℕ → Format ℕ (List A)
 until item next p stop = record {

@@ -1,14 +1,14 @@
--- Texts that have to stand before or behind a value.
+-- Texts that have to stand before or after a value.
 use Rattle.std.specs.Prelude.{ℕ, List, [], ◌∷◌, ◌++◌, Option, Some, None, Result, Ok, Err, ◌==◌, if◌then◌else◌}
 use Rattle.p3l_format.specs.declared.fault.Cause.TheVariants.{Range}
 use Rattle.p3l_format.specs.declared.fault.Fault.{Fault}
 use Rattle.p3l_format.specs.Format.{Format, fault_at, ◌>>=◌}
 
--- what is behind a text that stands in front
-abbrev pub behind_text : List ℕ → List ℕ → Option (List ℕ)
-behind_text [] s = Some s
-behind_text (b ∷ bs) [] = None
-behind_text (b ∷ bs) (c ∷ s) = if b == c then behind_text bs s else None
+-- what is after a text that stands in front
+abbrev pub after_text : List ℕ → List ℕ → Option (List ℕ)
+after_text [] s = Some s
+after_text (b ∷ bs) [] = None
+after_text (b ∷ bs) (c ∷ s) = if b == c then after_text bs s else None
 
 abbrev pub go_on : {A : Type 0} → (List ℕ → Result A Fault) → List ℕ → Option (List ℕ) → Result A Fault
 go_on read s None = Err (fault_at Range s)
@@ -19,7 +19,7 @@ unfoldable pub text_then : {A : Type 0} → List ℕ → Format ℕ A → Format
 text_then text inner = record {
   fits = inner.fits;
   spell = λ v. text ++ inner.spell v;
-  read = λ s. go_on inner.read s (behind_text text s);
+  read = λ s. go_on inner.read s (after_text text s);
 }
 
 -- a value, and then a text
@@ -27,5 +27,5 @@ unfoldable pub then_text : {A : Type 0} → Format ℕ A → List ℕ → Format
 then_text inner text = record {
   fits = inner.fits;
   spell = λ v. inner.spell v ++ text;
-  read = λ s. inner.read s >>= λ x. go_on (λ rest. Ok (x.0, rest)) x.1 (behind_text text x.1);
+  read = λ s. inner.read s >>= λ x. go_on (λ rest. Ok (x.0, rest)) x.1 (after_text text x.1);
 }

@@ -55,7 +55,7 @@ fn number_of(digits: &[u8]) -> Option<u128>
     }
 }
 
-// The number in front, and what is behind it.
+// The number in front, and what is after it.
 #[tactic(auto, unfolding(crate::specs::Decimal::number_text))]
 fn read_number(bytes: &[u8]) -> Result<(u128, &[u8]), ReadError>
     ensures { Gives (λ x. (x.0, x.1.now)) result ((number_text (2 ^ 128)).read bytes.now) }
@@ -67,7 +67,7 @@ fn read_number(bytes: &[u8]) -> Result<(u128, &[u8]), ReadError>
     }
 }
 
-/// The number from `low` to `high` in front, in decimal without leading zeros, and what is behind
+/// The number from `low` to `high` in front, in decimal without leading zeros, and what is after
 /// it.
 #[tactic(auto, unfolding(crate::specs::Format::within))]
 pub fn read_number_in(low: u128, high: u128, bytes: &[u8]) -> Result<(u128, &[u8]), ReadError>
@@ -81,7 +81,7 @@ pub fn read_number_in(low: u128, high: u128, bytes: &[u8]) -> Result<(u128, &[u8
     Err(fault_of(Cause::Range, bytes))
 }
 
-/// The number from `low` to `high` in front, and what is behind it and a text that has to follow.
+/// The number from `low` to `high` in front, and what is after it and a text that has to follow.
 #[tactic(auto, unfolding(crate::specs::Decimal::number_then, crate::specs::Text::then_text, crate::specs::Format::within))]
 pub fn read_number_then<'a>(
     low: u128,
@@ -97,7 +97,7 @@ pub fn read_number_then<'a>(
     Ok((number, rest))
 }
 
-/// Puts a number behind others, in decimal.
+/// Puts a number after others, in decimal.
 pub fn write_number(alloc: Global, number: u128, out: &mut Vec<u8>) -> Result<(), NoMemory>
     ensures { OnOk result (out.new.items ≡ out.old.items ++ decimal number) }
 {
@@ -106,7 +106,7 @@ pub fn write_number(alloc: Global, number: u128, out: &mut Vec<u8>) -> Result<()
     Ok(())
 }
 
-/// Puts a number in decimal behind others, and then a text.
+/// Puts a number in decimal after others, and then a text.
 pub fn write_number_then(
     alloc: Global,
     number: u128,

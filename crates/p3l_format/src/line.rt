@@ -40,7 +40,7 @@ pub struct NumberLine<'w> {
 }
 
 impl<'w> NumberLine<'w> {
-    /// The number of the line in front, and what is behind the line.
+    /// The number of the line in front, and what is after the line.
     #[tactic(auto, unfolding(crate::specs::Line::number_line, crate::specs::Line::line))]
     pub fn read<'a>(&self, bytes: &'a [u8]) -> Result<(u128, &'a [u8]), ReadError>
         ensures read { Gives (λ x. (x.0, x.1.now)) result ((number_line self.now.word.now self.now.low self.now.high).read bytes.now) }
@@ -63,7 +63,7 @@ impl<'w> NumberLine<'w> {
         Ok((number, rest))
     }
 
-    /// Puts the line of a number behind others.
+    /// Puts the line of a number after others.
     #[tactic(auto, unfolding(crate::specs::Line::number_line, crate::specs::Line::line, crate::specs::Text::text_then, crate::specs::Decimal::number_then, crate::specs::Text::then_text, crate::specs::Format::within, crate::specs::Decimal::number_text))]
     pub fn write(&self, alloc: Global, number: u128, out: &mut Vec<u8>) -> Result<(), NoMemory>
         ensures { OnOk result (out.new.items ≡ out.old.items ++ (number_line self.now.word.now self.now.low self.now.high).spell number) }

@@ -19,15 +19,15 @@ pub trait Item: Copy + Drop {
 
     ghost next: { Self.Value → Self };
 
-    /// The kind of the item behind a value.
-    fn behind(value: &Self::Value) -> Self
+    /// The kind of the item after a value.
+    fn after(value: &Self::Value) -> Self
         ensures { result ≡ next value.now };
 
-    /// The value at the front, and the bytes behind it.
+    /// The value at the front, and the bytes after it.
     fn read<'a>(&self, alloc: Global, bytes: &'a [u8]) -> Result<(Self::Value, &'a [u8]), ReadError>
         ensures { Gives (λ x. (x.0, x.1.now)) result ((format self.now).read bytes.now) };
 
-    /// Puts the value's spelling behind others.
+    /// Puts the value's spelling after others.
     fn write(&self, alloc: Global, value: &Self::Value, out: &mut Vec<u8>) -> Result<(), NoMemory>
         requires { (format self.now).fits value.now ≡ true }
         ensures { OnOk result (out.new.items ≡ out.old.items ++ (format self.now).spell value.now) };
@@ -36,7 +36,7 @@ pub trait Item: Copy + Drop {
 }
 
 /// The values in front of a text, each read as the kind that its forerunner makes it, and what is
-/// behind the text.
+/// after the text.
 #[tactic(auto, unfolding(crate::specs::Series::until))]
 pub fn read_until<'a, I: Item>(
     alloc: Global,
@@ -56,13 +56,13 @@ where
             return Ok((values, after));
         }
         let (value, after) = kind.read(alloc, rest)?;
-        kind = I::behind(&value);
+        kind = I::after(&value);
         values.push(value)?;
         rest = after;
     }
 }
 
-/// Puts the spellings of values behind others, in order, each as the kind that its forerunner
+/// Puts the spellings of values after others, in order, each as the kind that its forerunner
 /// makes it.
 pub fn write_series<I: Item>(
     alloc: Global,
@@ -76,7 +76,7 @@ pub fn write_series<I: Item>(
     let mut kind = first;
     for value in values {
         kind.write(alloc, value, out)?;
-        kind = I::behind(value);
+        kind = I::after(value);
     }
     Ok(())
 }

@@ -3,21 +3,21 @@
 ghost use Rattle.std.specs.Prelude.{◌≡◌, Ok};
 ghost use Rattle.std.specs.Option.{option_map};
 ghost use Rattle.p3l_format.specs.Format.{Gives};
-ghost use Rattle.p3l_format.specs.Text.{behind_text, go_on};
+ghost use Rattle.p3l_format.specs.Text.{after_text, go_on};
 
 use crate::fault::{Cause, ReadError};
 use crate::number::fault_of;
 
-/// What is behind a text that stands in front.
+/// What is after a text that stands in front.
 pub fn strip<'a>(text: &[u8], bytes: &'a [u8]) -> Option<&'a [u8]>
-    ensures { option_map (λ rest. rest.now) result ≡ behind_text text.now bytes.now }
+    ensures { option_map (λ rest. rest.now) result ≡ after_text text.now bytes.now }
 {
     bytes.strip_prefix(text)
 }
 
-/// What is behind a text that has to stand in front.
+/// What is after a text that has to stand in front.
 pub fn read_text<'a>(text: &[u8], bytes: &'a [u8]) -> Result<&'a [u8], ReadError>
-    ensures { Gives (λ rest. rest.now) result (go_on (λ rest. Ok rest) bytes.now (behind_text text.now bytes.now)) }
+    ensures { Gives (λ rest. rest.now) result (go_on (λ rest. Ok rest) bytes.now (after_text text.now bytes.now)) }
 {
     match strip(text, bytes) {
         Some(rest) => Ok(rest),

@@ -5,7 +5,7 @@ use Rattle.std.proofs.lemmas.List.{append-nil}
 use Rattle.std.proofs.lemmas.List.Concat.{flat_map-append}
 use Rattle.p3l_base.proofs.Pieces.{range_append}
 
--- a text with the texts of a row behind it, and one number more
+-- a text with the texts of a row after it, and one number more
 pub row_more : (f : ℕ → List ℕ) (low n : ℕ) (text : List ℕ) →
     (text ++ flat_map f (range_with_len low n)) ++ f (low + n) ≡ text ++ flat_map f (range_with_len low (n + 1))
 row_more f low n text =

@@ -7,7 +7,7 @@ use Rattle.std.specs.List.{flat_map, range_with_len}
 abbrev pub program_head : List ℕ
 program_head = codes "const N = 16;\n\nseq scale in(int a[N]) out(int b[N])\n${\n  int i;\n  for (i = 0; i < N; i = i + 1) {\n    b[i] = a[i] * "
 
--- and behind it: a filter, which a farm applies, a sum, and the pipe of the three
+-- and after it: a filter, which a farm applies, a sum, and the pipe of the three
 abbrev pub program_tail : List ℕ
 program_tail = codes ";\n  }\n}$\nend seq\n\nseq filter in(int a[N]) out(int b[N])\n${\n  int i;\n  int j;\n  for (i = 0; i < N; i = i + 1) {\n    for (j = 0; j < N; j = j + 1) {\n      b[i] = b[i] + (j + 1) * a[(i + j) % N];\n    }\n  }\n}$\nend seq\n\nfarm filters in(int a[N]) out(int b[N])\n  filter in(a) out(b)\nend farm\n\nseq add in(int x, int y) out(int z)\n${\n  z = x + y;\n}$\nend seq\n\nreduce total in(int a[N]) out(int s)\n  add in(a[*i]) out(s)\nend reduce\n\npipe main in(int a[N]) out(int s)\n  scale in(a) out(int b[N])\n  filters in(b) out(int c[N])\n  total in(c) out(s)\nend pipe\n"
 

@@ -27,7 +27,7 @@ fn program_head() -> &'static str
     "const N = 16;\n\nseq scale in(int a[N]) out(int b[N])\n${\n  int i;\n  for (i = 0; i < N; i = i + 1) {\n    b[i] = a[i] * "
 }
 
-/// The program behind the factor.
+/// The program after the factor.
 fn program_tail() -> &'static str
     ensures { result.now ≡ program_tail }
 {
@@ -57,7 +57,7 @@ fn costs_text(alloc: Global) -> Result<List<u8>, NoMemory>
     Ok(List::from_vec(text.into_bytes()))
 }
 
-/// Puts word `i` of a line behind a text.
+/// Puts word `i` of a line after a text.
 fn put_word(alloc: Global, text: &mut String, first: u64, i: u64) -> Result<(), AllocError>
     requires { first + i < 2 ^ 64 }
     ensures { OnOk result (string_bytes text.new ≡ string_bytes text.old ++ word_text first i) }
@@ -70,7 +70,7 @@ fn put_word(alloc: Global, text: &mut String, first: u64, i: u64) -> Result<(), 
     text.push_str(digits.as_str())
 }
 
-/// Puts a line behind a text, which begins with a number.
+/// Puts a line after a text, which begins with a number.
 fn put_line(alloc: Global, text: &mut String, first: u64) -> Result<(), AllocError>
     requires { first ≤ 2 ^ 63 }
     ensures { OnOk result (string_bytes text.new ≡ string_bytes text.old ++ line_text first) }

@@ -8,7 +8,7 @@ use Rattle.p3l_format.specs.declared.fault.Fault.{Fault}
 use Rattle.p3l_format.specs.declared.fault.Cause.{Cause}
 use Rattle.p3l_format.specs.declared.fault.Cause.TheVariants.{Short, Range, More}
 
--- the number in the four bytes behind the magic number
+-- the number in the four bytes after the magic number
 abbrev pub version_at : List ℕ → ℕ
 version_at bytes = from_be_bytes w32 (slice_index bytes 4 ∷ slice_index bytes 5 ∷ slice_index bytes 6 ∷ slice_index bytes 7 ∷ [])
 

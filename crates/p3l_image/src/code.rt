@@ -156,7 +156,7 @@ fn read_operands(kind: InstrKind, bytes: &[u8]) -> Result<(Instr, &[u8]), ReadEr
     }
 }
 
-// Puts the operands of an instruction behind others.
+// Puts the operands of an instruction after others.
 #[tactic(auto, unfolding(crate::specs::Instr::operands, p3l_format::specs::Format::pair, p3l_format::specs::Format::as_form, p3l_format::specs::Format::nothing))]
 fn write_operands(instr: Instr, out: &mut Vec<u8>) -> Result<(), NoMemory>
     ensures { OnOk result (out.new.items ≡ out.old.items ++ (operands (kind_of instr)).spell instr) }
@@ -184,7 +184,7 @@ fn write_operands(instr: Instr, out: &mut Vec<u8>) -> Result<(), NoMemory>
     }
 }
 
-// Puts the byte of a value behind others.
+// Puts the byte of a value after others.
 #[tactic(auto, unfolding(p3l_format::specs::Numbers::one_of, p3l_format::specs::Numbers::u8_format, p3l_format::specs::Format::coded))]
 fn write_unary(value: UnOp, out: &mut Vec<u8>) -> Result<(), NoMemory>
     ensures { OnOk result (out.new.items ≡ out.old.items ++ unary_format.spell value) }
@@ -203,7 +203,7 @@ fn unary_number(value: UnOp) -> u8
     }
 }
 
-// Puts the byte of a value behind others.
+// Puts the byte of a value after others.
 #[tactic(auto, unfolding(p3l_format::specs::Numbers::one_of, p3l_format::specs::Numbers::u8_format, p3l_format::specs::Format::coded))]
 fn write_binary(value: BinOp, out: &mut Vec<u8>) -> Result<(), NoMemory>
     ensures { OnOk result (out.new.items ≡ out.old.items ++ binary_format.spell value) }
@@ -237,7 +237,7 @@ fn binary_number(value: BinOp) -> u8
     }
 }
 
-// Puts the byte of a value behind others.
+// Puts the byte of a value after others.
 #[tactic(auto, unfolding(p3l_format::specs::Numbers::one_of, p3l_format::specs::Numbers::u8_format, p3l_format::specs::Format::coded))]
 fn write_kind(value: InstrKind, out: &mut Vec<u8>) -> Result<(), NoMemory>
     ensures { OnOk result (out.new.items ≡ out.old.items ++ (one_of instr_kinds instr_number).spell value) }
@@ -266,21 +266,21 @@ fn kind_number(value: InstrKind) -> u8
     }
 }
 
-// The kind at the front, and what is behind it.
+// The kind at the front, and what is after it.
 fn read_kind(bytes: &[u8]) -> Result<(InstrKind, &[u8]), ReadError>
     ensures { Gives (λ x. (x.0, x.1.now)) result ((one_of instr_kinds instr_number).read bytes.now) }
 {
     read_one_of(&KINDS, bytes)
 }
 
-// The operator at the front, and what is behind it.
+// The operator at the front, and what is after it.
 fn read_unary(bytes: &[u8]) -> Result<(UnOp, &[u8]), ReadError>
     ensures { Gives (λ x. (x.0, x.1.now)) result (unary_format.read bytes.now) }
 {
     read_one_of(&UNARIES, bytes)
 }
 
-// The operator at the front, and what is behind it.
+// The operator at the front, and what is after it.
 fn read_binary(bytes: &[u8]) -> Result<(BinOp, &[u8]), ReadError>
     ensures { Gives (λ x. (x.0, x.1.now)) result (binary_format.read bytes.now) }
 {

@@ -20,7 +20,7 @@ const MAGIC: u32 = 0x5033_4c49;
 
 const VERSION: u32 = 1;
 
-// What stands behind the magic number and the version.
+// What stands after the magic number and the version.
 #[derive(Clone, Copy, Drop)]
 struct BodyField;
 
@@ -77,14 +77,14 @@ impl Field for ImageField {
 
     ghost lawful = { λ _. lawful_image };
 
-    #[tactic(auto, unfolding(crate::specs::Image::image_format, p3l_format::specs::Format::behind))]
+    #[tactic(auto, unfolding(crate::specs::Image::image_format, p3l_format::specs::Format::after))]
     fn read<'a>(&self, alloc: Global, bytes: &'a [u8]) -> Result<(Image, &'a [u8]), ReadError> {
         let rest = read_exact(MAGIC, bytes)?;
         let rest = read_exact(VERSION, rest)?;
         BodyField.read(alloc, rest)
     }
 
-    #[tactic(auto, unfolding(crate::specs::Image::image_format, p3l_format::specs::Format::behind, p3l_format::specs::Format::within))]
+    #[tactic(auto, unfolding(crate::specs::Image::image_format, p3l_format::specs::Format::after, p3l_format::specs::Format::within))]
     fn write(&self, value: &Image, out: &mut Vec<u8>) -> Result<(), NoMemory> {
         write_u32(MAGIC, out)?;
         write_u32(VERSION, out)?;
@@ -141,7 +141,7 @@ fn refusal(bytes: &[u8], fault: Fault) -> ImageRefusal
     }
 }
 
-// The number in the four bytes behind the magic number, where bytes past the end count as 0.
+// The number in the four bytes after the magic number, where bytes past the end count as 0.
 fn version_in(bytes: &[u8]) -> u32
     ensures { result ≡ version_at bytes.now }
 {

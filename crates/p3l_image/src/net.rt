@@ -60,14 +60,14 @@ const KINDS: [ProcKind; 12] = [
     ProcKind::Tail,
 ];
 
-// The kind at the front, and what is behind it.
+// The kind at the front, and what is after it.
 fn read_kind(bytes: &[u8]) -> Result<(ProcKind, &[u8]), ReadError>
     ensures { Gives (λ x. (x.0, x.1.now)) result (proc_kind_format.read bytes.now) }
 {
     read_one_of(&KINDS, bytes)
 }
 
-// Puts a kind behind others.
+// Puts a kind after others.
 #[tactic(auto, unfolding(p3l_format::specs::Numbers::one_of, p3l_format::specs::Numbers::u8_format, p3l_format::specs::Format::coded))]
 fn write_kind(kind: ProcKind, out: &mut Vec<u8>) -> Result<(), NoMemory>
     ensures { OnOk result (out.new.items ≡ out.old.items ++ proc_kind_format.spell kind) }

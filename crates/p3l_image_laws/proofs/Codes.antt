@@ -16,7 +16,7 @@ use Rattle.p3l_format.specs.Numbers.{number, u8_format, u32_format, u64_format, 
 use Rattle.p3l_format.specs.laws.Parts.{both_true}
 use Rattle.p3l_image.specs.Instr.{unary_format, binary_format, operands, instr_format, instrs_format, code_format}
 use Rattle.p3l_image_laws.specs.Written.{HasAllOperands, HasOperands}
-use Rattle.p3l_image_laws.proofs.Ranges.{behind_first, first_of, list_fits, u32_fits}
+use Rattle.p3l_image_laws.proofs.Ranges.{after_first, first_of, list_fits, u32_fits}
 
 unary_fits : (op : UnOp) → unary_format.fits op ≡ true
 unfolding one_of coded u8_format
@@ -56,7 +56,7 @@ instr_fits End has = refl
 instrs_fit : (is : List Instr) → All HasOperands is → list_all instr_format.fits is ≡ true
 instrs_fit [] has = refl
 instrs_fit (i ∷ is) has =
-    both_true (instr_format.fits i) (list_all instr_format.fits is) (instr_fits i (first_of HasOperands i is has)) (instrs_fit is (behind_first HasOperands i is has))
+    both_true (instr_format.fits i) (list_all instr_format.fits is) (instr_fits i (first_of HasOperands i is has)) (instrs_fit is (after_first HasOperands i is has))
 
 code_fits : (code : Code) → IsSafe code → HasAllOperands code → code_format.fits code ≡ true
 unfolding code_format as_form pair
@@ -73,4 +73,4 @@ codes_fit [] safe has = refl
 codes_fit (code ∷ codes) safe has =
     both_true (code_format.fits code) (list_all code_format.fits codes)
     (code_fits code (first_of IsSafe code codes safe) (first_of HasAllOperands code codes has))
-    (codes_fit codes (behind_first IsSafe code codes safe) (behind_first HasAllOperands code codes has))
+    (codes_fit codes (after_first IsSafe code codes safe) (after_first HasAllOperands code codes has))

@@ -24,7 +24,7 @@ use Rattle.p3l_tree_format.specs.Module.{is_name, kind_format, name_format, modu
 use Rattle.p3l_tree_format.specs.Form.{clause_format, form_format}
 use Rattle.p3l_tree_format.specs.Tree.{indices_format, kind_at, kind_in, modules_format, node_format, nodes_format, tree_format}
 use Rattle.p3l_image_laws.specs.Written.{HasName}
-use Rattle.p3l_image_laws.proofs.Ranges.{first_of, behind_first, fits_below, fits_byte, fits_in, list_fits}
+use Rattle.p3l_image_laws.proofs.Ranges.{first_of, after_first, fits_below, fits_byte, fits_in, list_fits}
 use Rattle.p3l_image_laws.proofs.Slices.{cut_fits}
 use Rattle.p3l_image_laws.proofs.Below.{count_range, parts_fit}
 
@@ -156,7 +156,7 @@ modules_fit : (modules : List ModuleInfo) → All HasName modules → list_all m
 modules_fit [] has = refl
 modules_fit (info ∷ modules) has =
     both_true (module_format.fits info) (list_all module_format.fits modules) (module_fits info (first_of HasName info modules has))
-    (modules_fit modules (behind_first HasName info modules has))
+    (modules_fit modules (after_first HasName info modules has))
 
 pub tree_fits : (tree : Tree) → IsLawfulTree tree → All HasName tree.modules → tree_format.fits tree ≡ true
 unfolding tree_format as_form pair

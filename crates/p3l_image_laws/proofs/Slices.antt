@@ -14,7 +14,7 @@ use Rattle.p3l_format.specs.Format.{as_form, pair, counted, coded}
 use Rattle.p3l_format.specs.Numbers.{u8_format, u8_in, u32_in, one_of}
 use Rattle.p3l_format.specs.laws.Parts.{both_true}
 use Rattle.p3l_tree_format.specs.Slice.{place_format, dim_format, slice_format, slices_format, cut_format}
-use Rattle.p3l_image_laws.proofs.Ranges.{behind_first, first_of, fits_byte, fits_in, list_fits}
+use Rattle.p3l_image_laws.proofs.Ranges.{after_first, first_of, fits_byte, fits_in, list_fits}
 
 abbrev AreSizes : List Dim → Type 0
 AreSizes dims = All (λ (d : Dim). IsSize d.size) dims
@@ -23,7 +23,7 @@ array_some : (dims : List Dim) → AreSizes dims → 0 < array_size dims
 array_some [] sizes = omega arith
 array_some (d ∷ ds) sizes =
     let here : 0 < d.size = omega (arith, (first_of (λ (d : Dim). IsSize d.size) d ds sizes).0) in
-    mul-pos here (array_some ds (behind_first (λ (d : Dim). IsSize d.size) d ds sizes))
+    mul-pos here (array_some ds (after_first (λ (d : Dim). IsSize d.size) d ds sizes))
 
 taken_some : (place : Place) (n : ℕ) → 0 < n → 0 < taken_size place n
 taken_some Rest n some = some
@@ -34,7 +34,7 @@ cut_some : (dims : List Dim) → AreSizes dims → 0 < cut_size dims
 cut_some [] sizes = omega arith
 cut_some (d ∷ ds) sizes =
     let here : 0 < d.size = omega (arith, (first_of (λ (d : Dim). IsSize d.size) d ds sizes).0) in
-    mul-pos (taken_some d.place d.size here) (cut_some ds (behind_first (λ (d : Dim). IsSize d.size) d ds sizes))
+    mul-pos (taken_some d.place d.size here) (cut_some ds (after_first (λ (d : Dim). IsSize d.size) d ds sizes))
 
 place_fits : (place : Place) → place_format.fits place ≡ true
 unfolding one_of coded u8_format
@@ -50,7 +50,7 @@ dims_fit : (dims : List Dim) → AreSizes dims → list_all dim_format.fits dims
 dims_fit [] sizes = refl
 dims_fit (d ∷ ds) sizes =
     both_true (dim_format.fits d) (list_all dim_format.fits ds) (dim_fits d (first_of (λ (d : Dim). IsSize d.size) d ds sizes))
-    (dims_fit ds (behind_first (λ (d : Dim). IsSize d.size) d ds sizes))
+    (dims_fit ds (after_first (λ (d : Dim). IsSize d.size) d ds sizes))
 
 slice_fits : (s : Slice) → s.start ≤ 65535 → HasSizes s → slice_format.fits s ≡ true
 unfolding slice_format as_form pair counted
@@ -63,7 +63,7 @@ slices_few : (ss : List Slice) → All HasSizes ss → length ss ≤ element_siz
 slices_few [] sizes = omega arith
 slices_few (s ∷ ss) sizes =
     let some = cut_some s.dims (first_of HasSizes s ss sizes).1 in
-    let rest = slices_few ss (behind_first HasSizes s ss sizes) in
+    let rest = slices_few ss (after_first HasSizes s ss sizes) in
     omega (arith, some, rest)
 
 ins_fit : (ins : ℕ) (ss : List Slice) → ins ≤ 65536 → All HasSizes ss → All (λ (s : Slice). LiesWithin s ins) ss → list_all slice_format.fits ss ≡ true
@@ -73,7 +73,7 @@ ins_fit ins (s ∷ ss) low sizes within =
     let some = array_some s.dims own.1 in
     let here = first_of (λ (s : Slice). LiesWithin s ins) s ss within in
     both_true (slice_format.fits s) (list_all slice_format.fits ss) (slice_fits s (omega (arith, some, here, low)) own)
-    (ins_fit ins ss low (behind_first HasSizes s ss sizes) (behind_first (λ (s : Slice). LiesWithin s ins) s ss within))
+    (ins_fit ins ss low (after_first HasSizes s ss sizes) (after_first (λ (s : Slice). LiesWithin s ins) s ss within))
 
 outs_fit : (start : ℕ) (ss : List Slice) → start + token_size ss ≤ 65536 → All HasSizes ss → FollowOneAnother start ss → list_all slice_format.fits ss ≡ true
 outs_fit start [] low sizes follow = refl
@@ -81,7 +81,7 @@ outs_fit start (s ∷ ss) low sizes follow =
     let own = first_of HasSizes s ss sizes in
     let some = array_some s.dims own.1 in
     both_true (slice_format.fits s) (list_all slice_format.fits ss) (slice_fits s (omega (arith, some, follow.0, low)) own)
-    (outs_fit (start + array_size s.dims) ss (omega (arith, low)) (behind_first HasSizes s ss sizes) follow.1)
+    (outs_fit (start + array_size s.dims) ss (omega (arith, low)) (after_first HasSizes s ss sizes) follow.1)
 
 -- the first free index has the size of the dimension that it stands at
 first_here : (first second n more : ℕ) (p : Place) → HasIndexSize first second p n → IsSize n → one_at_first p + more ≡ 1 → (more ≡ 1 → first ≤ 65536) → first ≤ 65536
@@ -102,13 +102,13 @@ module _ (first second : ℕ) where
   first_small [] free sizes once = absurd (omega (arith, once))
   first_small (d ∷ ds) free sizes once =
       first_here first second d.size (first_count ds) d.place (first_of IsFree d ds free) (first_of (λ (d : Dim). IsSize d.size) d ds sizes) once
-      (first_small ds (behind_first IsFree d ds free) (behind_first (λ (d : Dim). IsSize d.size) d ds sizes))
+      (first_small ds (after_first IsFree d ds free) (after_first (λ (d : Dim). IsSize d.size) d ds sizes))
 
   second_small : (dims : List Dim) → All IsFree dims → AreSizes dims → second_count dims ≡ 1 → second ≤ 65536
   second_small [] free sizes once = absurd (omega (arith, once))
   second_small (d ∷ ds) free sizes once =
       second_here first second d.size (second_count ds) d.place (first_of IsFree d ds free) (first_of (λ (d : Dim). IsSize d.size) d ds sizes) once
-      (second_small ds (behind_first IsFree d ds free) (behind_first (λ (d : Dim). IsSize d.size) d ds sizes))
+      (second_small ds (after_first IsFree d ds free) (after_first (λ (d : Dim). IsSize d.size) d ds sizes))
 
   abbrev AreFree : Slice → Type 0
   AreFree s = HasFreeSizes first second s

@@ -24,7 +24,7 @@ const PART: Change = (11, b"\x00\x00\x00\x01\x00\x00\x00\x00");
 const COUNT: Change = (12, b"\x00\x00\x00\x01\x00\x00\x00\x01");
 // The budget of the code is 0.
 const BUDGET: Change = (14, b"\x00\x00\x00\x00");
-// It loads a word behind its memory.
+// It loads a word after its memory.
 const SLOT: Change = (20, b"\x00\x00\x00\x02");
 // The unit writes channel 0.
 const CHANNEL: Change = (56, b"\x00\x00\x00\x00");

@@ -30,22 +30,22 @@ use Rattle.p3l_link.proofs.RoleLaw.{role_means, role_fires}
 use Rattle.p3l_link.proofs.Round.{sends, takes, long_all, send_keeps, take_keeps, inner_keeps}
 use Rattle.p3l_link.proofs.Sound.{sound}
 
-get_behind : (xs : List Proc) (y : Proc) (ys : List Proc) → slice_get (xs ++ y ∷ ys) (length xs) ≡ Some y
-get_behind [] y ys = refl
-get_behind (x ∷ xs) y ys = get_behind xs y ys
+get_after : (xs : List Proc) (y : Proc) (ys : List Proc) → slice_get (xs ++ y ∷ ys) (length xs) ≡ Some y
+get_after [] y ys = refl
+get_after (x ∷ xs) y ys = get_after xs y ys
 
 get_past : (xs : List Proc) (p : ℕ) → length xs ≤ p → slice_get xs p ≡ None
 get_past [] p h = refl
 get_past (x ∷ xs) zero h = absurd (omega arith)
 get_past (x ∷ xs) (suc p) h = get_past xs p (omega arith)
 
-standing_behind : (net : Net) (xs ys : List Proc) → net.procs ≡ xs ++ ys → AreStanding net (length xs) ys
+standing_after : (net : Net) (xs ys : List Proc) → net.procs ≡ xs ++ ys → AreStanding net (length xs) ys
 unfolding AreStanding
-standing_behind net xs [] h = tt
-standing_behind net xs (y ∷ ys) h = (
-  ap (λ z. slice_get z (length xs)) h ∙ get_behind xs y ys,
+standing_after net xs [] h = tt
+standing_after net xs (y ∷ ys) h = (
+  ap (λ z. slice_get z (length xs)) h ∙ get_after xs y ys,
   subst (λ n. AreStanding net n ys) (length-append xs (y ∷ []) ∙ omega arith)
-      (standing_behind net (xs ++ y ∷ []) ys (h ∙ sym (append_assoc xs (y ∷ []) ys))),
+      (standing_after net (xs ++ y ∷ []) ys (h ∙ sym (append_assoc xs (y ∷ []) ys))),
 )
 
 bounded : (f o a b i p t : ℕ) → o ≤ f * i → p ≤ i → (a + b) + i ≤ t → o + ((f + 1) * a + (p + b)) ≤ (f + 2) * t
@@ -77,7 +77,7 @@ module _ (units : Units) (counts : List ℕ) (cap : ℕ) (lawful : IsLawfulTree 
   net_room (suc zero) l = pos
   net_room (suc (suc c)) l = absurd (omega arith)
 
-  -- the channels behind the source and before the sink begin empty
+  -- the channels after the source and before the sink begin empty
   net_first : (c : ℕ) → c < 2 → at_first net c ≡ []
   unfolding linked_net at_first
   net_first zero l = refl
@@ -86,7 +86,7 @@ module _ (units : Units) (counts : List ℕ) (cap : ℕ) (lawful : IsLawfulTree 
 
   root_stands : AreStanding net 2 piece.procs
   unfolding linked_net
-  root_stands = standing_behind net (the_source ∷ (the_sink ∷ [])) piece.procs refl
+  root_stands = standing_after net (the_source ∷ (the_sink ∷ [])) piece.procs refl
 
   root_laid : AreLaid net 2 piece.chans
   unfolding linked_net
@@ -163,18 +163,18 @@ module _ (units : Units) (counts : List ℕ) (cap : ℕ) (lawful : IsLawfulTree 
         inner_keeps units net P root_sound.lawful root_sound.input root_sound.output root_sound.chan_from (root_means gives)
         (firings units.tree counts) root_fires s (suc (suc q)) (inside_can s q can) can orderly
 
-  -- nothing before the part, in it and behind it
+  -- nothing before the part, in it and after it
   line_empty : (s : State) → s.tokens 0 ≡ [] → P.pending s ≡ [] → s.tokens 1 ≡ [] → line P s ≡ []
   unfolding line
-  line_empty s before inner behind =
-      ap₂ (λ a b. a ++ b) (ap s.tokens root_sound.output ∙ behind)
+  line_empty s before inner after =
+      ap₂ (λ a b. a ++ b) (ap s.tokens root_sound.output ∙ after)
       (ap₂ (λ a b. a ++ map (over P.meaning) b) inner (ap s.tokens root_sound.input ∙ before))
 
   owed_none : (s : State) → s.tokens 0 ≡ [] → P.pending s ≡ [] → s.tokens 1 ≡ [] → P.owed s ≡ 0 → owed_round P s ≡ 0
   unfolding owed_round
-  owed_none s before inner behind owed =
+  owed_none s before inner after owed =
       let a : length (s.tokens P.input) ≡ 0 = ap (λ c. length (s.tokens c)) root_sound.input ∙ ap length before in
-      let b : length (s.tokens P.output) ≡ 0 = ap (λ c. length (s.tokens c)) root_sound.output ∙ ap length behind in
+      let b : length (s.tokens P.output) ≡ 0 = ap (λ c. length (s.tokens c)) root_sound.output ∙ ap length after in
       let c : length (P.pending s) ≡ 0 = ap length inner in
       let d : (P.firings + 1) * length (s.tokens P.input) ≡ (P.firings + 1) * 0 = ap (λ k. (P.firings + 1) * k) a in
       omega (arith, b, c, d, owed)

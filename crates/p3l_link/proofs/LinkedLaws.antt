@@ -88,7 +88,7 @@ run_begins units counts cap items picks l long =
 pub stuck_empty : StuckMeansEmpty
 stuck_empty units counts cap s l o stuck calm =
     let d = linked_drained units counts cap l.lawful l.fit l.room s o.root calm stuck in
-    record { unsent = d.0; before = d.1; pending = d.2; behind = d.3 }
+    record { unsent = d.0; before = d.1; pending = d.2; after = d.3 }
 
 pub run_finished : StuckMeansFinished
 run_finished units counts cap items picks l long stuck =

@@ -1,4 +1,4 @@
--- What is built, with the pieces that are left behind it, is the whole. The walk over the seats
+-- What is built, with the pieces that are left after it, is the whole. The walk over the seats
 -- begins so (`init_built`), each part that was placed keeps it (`next_built`), and with no seat
 -- left the whole is built (`end_built`). There is room for each part where there is for all
 -- (`room_built`).
@@ -21,7 +21,7 @@ piece_step tree count cap (suc d) k base some =
     let e : d ≡ suc d - 1 = omega arith in
     ap (λ z. whole_piece (shape_at tree count k) cap (λ v. piece_of tree count cap z (part_at tree k v)) base) e
 
--- a piece behind another
+-- a piece after another
 with_followed : (b : Net) (F G : Piece) → with_piece b (followed F G) ≡ with_piece (with_piece b F) G
 with_followed b F G =
     ap₂ (λ x y. record { procs = x; chans = y }) (sym (append_assoc b.procs F.procs G.procs))
@@ -30,12 +30,12 @@ with_followed b F G =
 with_none : (b : Net) → with_piece b no_piece ≡ b
 with_none b = ap₂ (λ x y. record { procs = x; chans = y }) (append-nil b.procs) (append-nil b.chans)
 
--- inner parts that stand behind a piece begin where it ends
-behind : (f : ℕ → Base → Piece) (seats : List Seat) (b b' : Net) (F : Piece) → b' ≡ with_piece b F →
+-- inner parts that stand after a piece begin where it ends
+after : (f : ℕ → Base → Piece) (seats : List Seat) (b b' : Net) (F : Piece) → b' ≡ with_piece b F →
     with_piece b' (inner_pieces f seats (length b'.procs) (length b'.chans))
     ≡ with_piece b
     (followed F (inner_pieces f seats (length b.procs + length F.procs) (length b.chans + length F.chans)))
-behind f seats b b' F e =
+after f seats b b' F e =
     ap (λ z. with_piece z (inner_pieces f seats (length z.procs) (length z.chans))) e
     ∙ ap₂ (λ p c. with_piece (with_piece b F) (inner_pieces f seats p c)) (length-append b.procs F.procs)
     (length-append b.chans F.chans) ∙ sym (with_followed b F _)
@@ -46,13 +46,13 @@ pub init_built : (f : ℕ → Base → Piece) (shape : Shape) (cap : ℕ) (at : 
     with_piece b' (inner_pieces f (shape.seats (base_of at b)) (length b'.procs) (length b'.chans))
     ≡ with_piece b (whole_piece shape cap f (base_of at b))
 init_built f shape cap at b b' laid e =
-    behind f (shape.seats (base_of at b)) b b' (own_piece shape cap (base_of at b)) e
+    after f (shape.seats (base_of at b)) b b' (own_piece shape cap (base_of at b)) e
     ∙ ap (λ n. with_piece b
     (followed (own_piece shape cap (base_of at b))
     (inner_pieces f (shape.seats (base_of at b)) (length b.procs + length (shape.procs (base_of at b)))
     (length b.chans + n)))) laid
 
--- the piece of the first seat that is left, and those behind it
+-- the piece of the first seat that is left, and those after it
 seat_step : (f : ℕ → Base → Piece) (seats : List Seat) (i p c : ℕ) → i < length seats →
     inner_pieces f (drop i seats) p c
     ≡ (let here : Piece = f (get_or seats i no_seat).part (base_at (get_or seats i no_seat) p c) in
@@ -80,7 +80,7 @@ module _ (f : ℕ → Base → Piece) (seats : List Seat) (b : Net) (whole : Net
       b' ≡ with_piece b (f (get_or seats i no_seat).part (base_at (get_or seats i no_seat) (length b.procs) (length b.chans))) →
       with_piece b' (inner_pieces f (drop (i + 1) seats) (length b'.procs) (length b'.chans)) ≡ whole
   unfolding here
-  next_built b' l e = behind f (drop (i + 1) seats) b b' here e ∙ split l
+  next_built b' l e = after f (drop (i + 1) seats) b b' here e ∙ split l
 
   pub end_built : length seats ≤ i → b ≡ whole
   unfolding inner_pieces

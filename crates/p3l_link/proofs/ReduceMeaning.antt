@@ -83,7 +83,7 @@ pieces_long (suc k) size words fits =
     let more = pieces_long k size (drop size words) rest in
     (ap suc more.0, (first, more.1))
 
--- elements of one length, one behind the other, and cut again
+-- elements of one length, one after the other, and cut again
 joined_long : (size : ℕ) (xs : List (List ℤ)) → AllByRecursion (IsLong size) xs → length (flat_map (λ x. x) xs) ≡ length xs * size
 joined_long size [] all = omega arith
 joined_long size (x ∷ xs) all =

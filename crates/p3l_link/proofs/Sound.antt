@@ -28,7 +28,7 @@ get_right [] ys k = ap (λ z. get_or ys z no_chan) (omega arith)
 get_right (x ∷ xs) ys k = let e : length (x ∷ xs) + k ≡ suc (length xs + k) = omega arith in
     ap (λ z. get_or ((x ∷ xs) ++ ys) z no_chan) e ∙ get_right xs ys k
 
--- channels that are laid one behind the other
+-- channels that are laid one after the other
 laid_split : (net : Net) (c : ℕ) (xs ys : List Chan) → AreLaid net c (xs ++ ys) → AreLaid net c xs × AreLaid net (c + length xs) ys
 laid_split net c xs ys h =
     let len = length-append xs ys in (

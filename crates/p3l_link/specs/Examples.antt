@@ -27,7 +27,7 @@ farm_tree = record {
 }
 
 -- channel 2 lies between the two stages; the five workers have channels 3 to 7 before them and 8 to
--- 12 behind
+-- 12 after
 abbrev pub farm_net : Net
 farm_net = record {
   procs = record { kind = Source; node = 0; arg = 0; ins = []; outs = 0 ∷ [] }

@@ -79,12 +79,12 @@ pub record IsOrderly (units : Units) (counts : List ℕ) (s : State) : Type 0 wh
   pub root : (root_part units counts).orderly s ≡ true
   pub items : HaveInWords units.tree s.unsent
 
--- nothing is left to be sent, before the root, in it or behind it
+-- nothing is left to be sent, before the root, in it or after it
 pub record IsFinished (units : Units) (counts : List ℕ) (s : State) : Type 0 where
   pub unsent : s.unsent ≡ []
   pub before : s.tokens 0 ≡ []
   pub pending : (root_part units counts).pending s ≡ []
-  pub behind : s.tokens 1 ≡ []
+  pub after : s.tokens 1 ≡ []
 
 -- before anything has fired the state is orderly, and the whole list is what the root makes of the items
 pub record IsBegun (units : Units) (counts : List ℕ) (cap : ℕ) (items : List (List ℤ)) : Type 0 where
@@ -92,7 +92,7 @@ pub record IsBegun (units : Units) (counts : List ℕ) (cap : ℕ) (items : List
   pub whole : whole (root_carry units counts) (item units.tree units.leaf 0) (first_state (net_of units counts cap) items)
       ≡ map (item units.tree units.leaf 0) items
 
--- a firing from s to t keeps the order and the whole list: the outcomes emitted, those of the tokens behind the root, in it and
+-- a firing from s to t keeps the order and the whole list: the outcomes emitted, those of the tokens after the root, in it and
 -- before it, and those of the items not yet sent; and it takes from what is owed
 pub record IsStep (units : Units) (counts : List ℕ) (s t : State) : Type 0 where
   pub orderly : IsOrderly units counts t

@@ -11,7 +11,7 @@ use Rattle.p3l_template.specs.Shape.{Base, Seat, Shape, HasRoomFor, added, empty
 use Rattle.p3l_template.specs.Run.{run_shape}
 use Rattle.p3l_link.specs.Shape.{shape_at}
 
--- processes and channels that stand one behind the other in a net
+-- processes and channels that stand one after the other in a net
 pub record Piece : Type 0 where
   pub procs : List Proc
   pub chans : List Chan
@@ -19,7 +19,7 @@ pub record Piece : Type 0 where
 abbrev pub no_piece : Piece
 no_piece = record { procs = []; chans = [] }
 
--- a piece with another one behind it
+-- a piece with another one after it
 abbrev pub followed : Piece → Piece → Piece
 followed one other = record { procs = one.procs ++ other.procs; chans = one.chans ++ other.chans }
 
@@ -27,7 +27,7 @@ followed one other = record { procs = one.procs ++ other.procs; chans = one.chan
 abbrev pub base_at : Seat → (p c : ℕ) → Base
 base_at seat p c = record { input = seat.input; output = seat.output; proc = p; chan = c }
 
--- what is built, with a piece behind it
+-- what is built, with a piece after it
 abbrev pub with_piece : Net → Piece → Net
 with_piece built piece = added built piece.procs piece.chans
 
@@ -35,7 +35,7 @@ with_piece built piece = added built piece.procs piece.chans
 abbrev pub HasRoom : Net → Piece → Type 0
 HasRoom built piece = HasRoomFor built (length piece.procs) (length piece.chans)
 
--- the inner parts at these seats, one behind the other, from process p and channel c on
+-- the inner parts at these seats, one after the other, from process p and channel c on
 unfoldable pub inner_pieces : (ℕ → Base → Piece) → List Seat → (p c : ℕ) → Piece
 inner_pieces piece [] p c = no_piece
 inner_pieces piece (seat ∷ seats) p c =

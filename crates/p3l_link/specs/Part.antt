@@ -21,7 +21,7 @@ role_of units count (suc d) k =
       firings = (shape_at units.tree count k).firings units roles;
     }
 
--- the inner parts at these seats, one behind the other, from process p and channel c on
+-- the inner parts at these seats, one after the other, from process p and channel c on
 unfoldable pub inner_parts : (ℕ → Base → Part) → List Seat → (p c : ℕ) → List Part
 inner_parts part [] p c = []
 inner_parts part (seat ∷ seats) p c =

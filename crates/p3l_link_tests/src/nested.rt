@@ -59,7 +59,7 @@ fn a_farm_is_the_body_of_a_loop(rt: HostRuntime) -> Result<(), Fail> {
 }
 
 #[test]
-fn copies_of_a_part_stand_one_behind_the_other(rt: HostRuntime) -> Result<(), Fail> {
+fn copies_of_a_part_stand_one_after_the_other(rt: HostRuntime) -> Result<(), Fail> {
     let alloc = rt.alloc();
     let mut tree = empty_tree(alloc);
     let form = map_of_four(alloc, 2)?;

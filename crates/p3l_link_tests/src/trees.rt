@@ -27,7 +27,7 @@ pub(crate) fn empty_tree(alloc: Global) -> Tree {
     }
 }
 
-/// Puts a node of a new module behind the others.
+/// Puts a node of a new module after the others.
 pub(crate) fn add(
     alloc: Global,
     tree: &mut Tree,
@@ -51,7 +51,7 @@ pub(crate) fn add(
     })
 }
 
-/// Puts a `seq` node behind the others.
+/// Puts a `seq` node after the others.
 pub(crate) fn add_seq(alloc: Global, tree: &mut Tree, words: (u32, u32)) -> Result<(), NoMemory> {
     let none: [u32; 0] = [];
     add(alloc, tree, Form::Seq, words, &none)

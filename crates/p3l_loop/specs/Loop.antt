@@ -75,7 +75,7 @@ well_kept l tokens v =
     nat_eq (v.least + length (bag l v)) v.next
     && (nat_eq (v.credits + length (bag l v)) tokens && (in_turns l.turns v.ring && numbered (bag l v) v.least))
 
--- the firings that the tokens behind the body still need, where the body needs f for each token
+-- the firings that the tokens after the body still need, where the body needs f for each token
 unfoldable pub ring_due : ℕ → ℕ → List Token → ℕ
 ring_due turns f [] = 0
 ring_due turns f (x ∷ xs) = ((turns - newest_tag x) * (f + 2) + 2) + ring_due turns f xs

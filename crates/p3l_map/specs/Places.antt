@@ -23,7 +23,7 @@ unfoldable pub total : (ℕ → List Token) → ℕ → ℕ
 total L zero = 0
 total L (suc n) = length (L n) + total L n
 
--- pieces cut into groups of n, behind those of the group so far
+-- pieces cut into groups of n, after those of the group so far
 unfoldable pub groups : ℕ → List Token → List Token → List (List Token)
 groups n acc [] = []
 groups n acc (x ∷ xs) =

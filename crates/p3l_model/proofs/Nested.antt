@@ -25,7 +25,7 @@ siblings_end Is ends (p ∷ ps) from next h =
     let rest = siblings_end Is ends ps h.1.0 next h.1.2 in
     omega (arith, h.0)
 
--- a subtree ends behind its root
+-- a subtree ends after its root
 pub subtree_end : (d : ℕ) (tree : Tree) (k next : ℕ) → IsSubtree d tree k next → k < next
 unfolding IsSubtree
 subtree_end zero tree k next h = absurd h

@@ -205,9 +205,9 @@ joined a b t xs ys p q = record {
   soon = let x = p.soon in let y = q.soon in omega (arith, joined_service a b xs ys p.lawful);
 }
 
-pub parted : (a b : Costed) (t : ℕ) (zs : List ℕ) → Serves (Both a b) t zs → Serves a t (take (size a) zs) × Serves b t (drop (size a) zs)
+pub separated : (a b : Costed) (t : ℕ) (zs : List ℕ) → Serves (Both a b) t zs → Serves a t (take (size a) zs) × Serves b t (drop (size a) zs)
 unfolding IsLawfulRun run_service
-parted a b t zs s = let l = s.soon in (record { lawful = s.lawful.0; soon = omega arith }, record { lawful = s.lawful.1; soon = omega arith })
+separated a b t zs s = let l = s.soon in (record { lawful = s.lawful.0; soon = omega arith }, record { lawful = s.lawful.1; soon = omega arith })
 
 both_reached : (a b : Costed) (t cap u v : ℕ) → IsLeast a t cap u → IsLeast b t cap v → capped cap (u + v) ≤ cap → (xs : List ℕ) × Serves (Both a b) t xs × (run_procs (Both a b) xs ≡ capped cap (u + v))
 both_reached a b t cap u v p q l =
@@ -218,7 +218,7 @@ both_reached a b t cap u v p q l =
 both_below : (a b : Costed) (t cap u v : ℕ) → IsLeast a t cap u → IsLeast b t cap v → (xs : List ℕ) → Serves (Both a b) t xs → run_procs (Both a b) xs ≤ cap → capped cap (u + v) ≤ run_procs (Both a b) xs
 unfolding run_procs
 both_below a b t cap u v p q xs s few =
-    let o = parted a b t xs s in
+    let o = separated a b t xs s in
     let x = p.below (take (size a) xs) o.0 (omega arith) in
     let y = q.below (drop (size a) xs) o.1 (omega arith) in
     omega (arith, x, y)

@@ -10,13 +10,13 @@ use Rattle.p3l_skel.specs.Counts.{TakesLawful, count_in}
 use Rattle.p3l_skel.proofs.Taken.{TakesLawful-append, TakesLawful-split}
 use Rattle.p3l_model.proofs.Members.{Contains-cons_cases, Contains-nil, Contains-head, Contains-tail}
 
--- the first counts are lawful alone, and the rest is behind them
+-- the first counts are lawful alone, and the rest is after them
 pub takes-front : (tree : Tree) (ks ns rest : List ℕ) → TakesLawful tree ks ns rest → TakesLawful tree ks (take (length ks) ns) [] × (drop (length ks) ns ≡ rest)
 takes-front tree [] ns rest h = (refl, h)
 takes-front tree (k ∷ ks) [] rest h = absurd h
 takes-front tree (k ∷ ks) (n ∷ ns) rest h = let p = takes-front tree ks ns rest h.1 in ((h.0, p.0), p.1)
 
--- lawful counts with more behind them
+-- lawful counts with more after them
 takes-more : (tree : Tree) (ks xs rest ys : List ℕ) → TakesLawful tree ks xs rest → TakesLawful tree ks (xs ++ ys) (rest ++ ys)
 takes-more tree [] xs rest ys h = subst (λ zs. xs ++ ys ≡ zs ++ ys) h refl
 takes-more tree (k ∷ ks) [] rest ys h = absurd h
@@ -49,7 +49,7 @@ none : (ms : List ℕ) (x : ℕ) → count_in ms [] x ≡ 0
 none [] x = refl
 none (m ∷ ms) x = refl
 
--- and those of the others behind
+-- and those of the others after
 pub count_in-back : (ks ms ns : List ℕ) (x : ℕ) → (Contains ks x → ⊥) → count_in (ks ++ ms) ns x ≡ count_in ms (drop (length ks) ns) x
 count_in-back [] ms ns x apart = refl
 count_in-back (k ∷ ks) ms [] x apart = sym (none ms x)

@@ -13,8 +13,8 @@ use p3l_skel::{Counts, Form, Tree};
 pub enum SearchResult {
     /// The count of the node that was looked for; 0 where the counts end before it.
     Found(u32),
-    /// The place in the counts behind those of the nodes, none of which was looked for.
-    Behind(usize),
+    /// The place in the counts after those of the nodes, none of which was looked for.
+    After(usize),
 }
 
 /// The number of workers that the counts give a node, and 0 where the node has none.
@@ -23,7 +23,7 @@ pub fn workers(tree: &Tree, counts: &Counts, node: u32) -> u32
 {
     match search(tree, NESTING, 0, counts.list.as_slice(), 0, node) {
         SearchResult::Found(count) => count,
-        SearchResult::Behind(_) => 0,
+        SearchResult::After(_) => 0,
     }
 }
 
@@ -40,22 +40,22 @@ fn search(
         ≡ count_in (counted_from tree.now levels number ++ more) (drop from counts.now) wanted }
 {
     if levels == 0 {
-        return SearchResult::Behind(from);
+        return SearchResult::After(from);
     }
     let Some(node) = tree.node(number) else {
-        return SearchResult::Behind(from);
+        return SearchResult::After(from);
     };
     let mut next = match search_own(&node.form, number, counts, from, wanted) {
         SearchResult::Found(count) => return SearchResult::Found(count),
-        SearchResult::Behind(next) => next,
+        SearchResult::After(next) => next,
     };
     for part in outside_parts(node) {
         match search(tree, levels - 1, *part, counts, next, wanted) {
             SearchResult::Found(count) => return SearchResult::Found(count),
-            SearchResult::Behind(after) => next = after,
+            SearchResult::After(after) => next = after,
         }
     }
-    SearchResult::Behind(next)
+    SearchResult::After(next)
 }
 
 // Looks for a node's count in that of the node `number` itself, if it has one, at a place.
@@ -65,10 +65,10 @@ fn search_own(form: &Form, number: u32, counts: &[u32], at: usize, wanted: u32) 
 {
     match form {
         Form::Farm { .. } | Form::Map { .. } | Form::Reduce { .. } => match counts.get(at) {
-            Some(_) if number != wanted => SearchResult::Behind(at + 1),
+            Some(_) if number != wanted => SearchResult::After(at + 1),
             Some(count) => SearchResult::Found(*count),
             None => SearchResult::Found(0),
         },
-        Form::Seq | Form::Comp | Form::Pipe | Form::Loop { .. } => SearchResult::Behind(at),
+        Form::Seq | Form::Comp | Form::Pipe | Form::Loop { .. } => SearchResult::After(at),
     }
 }

@@ -28,7 +28,7 @@ const LESS_A: &[Instr] = &[
     Instr::Binary(BinOp::Sub),
 ];
 
-/// Takes off `b`, behind `2` and the last word.
+/// Takes off `b`, after `2` and the last word.
 const LESS_B: &[Instr] = &[
     Instr::Push(2),
     Instr::Binary(BinOp::Eq),

@@ -58,7 +58,7 @@ fn map_of(
     })
 }
 
-// Puts the node of a row behind the others, with a module of its own.
+// Puts the node of a row after the others, with a module of its own.
 fn add(alloc: Global, tree: &mut Tree, row: Row) -> Result<(), NoMemory> {
     let module = u32::try_from(tree.modules.len()).unwrap_or(0);
     let form = form_of(alloc, row.0)?;

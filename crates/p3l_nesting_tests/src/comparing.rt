@@ -37,7 +37,7 @@ fn due(cases: &[Case]) -> usize {
     }
 }
 
-// Compares one run; gives the items behind those that it had outcomes of.
+// Compares one run; gives the items after those that it had outcomes of.
 fn compare_run<'c>(
     rt: &impl Abort,
     alloc: Global,
@@ -56,7 +56,7 @@ fn compare_run<'c>(
     Ok(cases.split_at(due).1)
 }
 
-// Compares the runs on these items, each but the first begun behind the trap that ended the one
+// Compares the runs on these items, each but the first begun after the trap that ended the one
 // before.
 fn compare_runs(
     rt: &impl Abort,

@@ -10,7 +10,7 @@ use p3l_units::UnitTable;
 use std::alloc::Global;
 use std::process::Abort;
 
-/// The words of all items, one behind the other: odd ones, on which no body traps by itself, and a
+/// The words of all items, one after the other: odd ones, on which no body traps by itself, and a
 /// 0 or a 2 at times, in the middle and at places of each kind in items of several words.
 const WORDS: [i64; 96] = [
     1, 3, 5, 7, -1, 9, 11, -5, 13, 15, 17, 3, 19, 0, 21, -7, 23, 25, -9, 27, 29, 31, 33, 2, 35,

@@ -168,11 +168,11 @@ fn compare_nets(rt: &impl Abort, alloc: Global, table: &[Expected]) -> Result<()
 }
 
 #[test]
-fn copies_stand_one_behind_the_other(rt: HostRuntime) -> Result<(), Fail> {
+fn copies_stand_one_after_the_other(rt: HostRuntime) -> Result<(), Fail> {
     compare_nets(&rt, rt.alloc(), &COPIES)
 }
 
 #[test]
-fn parts_stand_behind_their_node(rt: HostRuntime) -> Result<(), Fail> {
+fn parts_stand_after_their_node(rt: HostRuntime) -> Result<(), Fail> {
     compare_nets(&rt, rt.alloc(), &PARTS)
 }

@@ -136,7 +136,7 @@ module _ (m : Seen) (flags : List Bool) (agrees : AgreesBut m flags []) where
         ∙ kth (can_step m) 0 x (length m.net.procs) (omega (arith, inside, long)) pass
         ∙ ap Some (let e : 0 + x ≡ x = omega arith in e)
 
--- behind a trap nothing can fire
+-- after a trap nothing can fire
 module _ (m : Seen) (trapped : m.trapped ≡ true) where
   pub trapped_steps : (p : ℕ) → can_step m p ≡ false
   trapped_steps p = ap (λ b. not b && ready_at m p) trapped

@@ -15,7 +15,7 @@ use Rattle.p3l_skel.specs.declared.tree.ModuleKind.TheVariants as kind
 use Rattle.p3l_skel.specs.declared.tree.ModuleInfo.{ModuleInfo}
 use Rattle.p3l_skel.specs.declared.tree.Node.{Node}
 use Rattle.p3l_skel.specs.declared.tree.Tree.{Tree}
-use Rattle.p3l_network_tests.specs.Parted.{two_modules, parted, four_map, five_reduce, three_reduce, checks, subtracts}
+use Rattle.p3l_network_tests.specs.WithPart.{two_modules, with_part, four_map, five_reduce, three_reduce, checks, subtracts}
 use Rattle.p3l_network_tests.specs.Refusing.{refusing}
 
 pub modules_are : (of_root : ModuleKind) (none one two : List ModuleInfo) (main part : List ℕ) →
@@ -28,12 +28,12 @@ pub tree_is : (form : Form) (of_root : ModuleKind) (ins outs part_ins part_outs 
     none ≡ [] → parts ≡ 1 ∷ [] → no_parts ≡ [] →
     one ≡ none ++ record { form = form; «module» = 0; ins = ins; outs = outs; parts = parts } ∷ [] →
     two ≡ one ++ record { form = Seq; «module» = 1; ins = part_ins; outs = part_outs; parts = no_parts } ∷ [] →
-    modules ≡ two_modules of_root → let tree : Tree = record { nodes = two; modules = modules } in tree ≡ parted form of_root ins outs part_ins part_outs
-unfolding parted
+    modules ≡ two_modules of_root → let tree : Tree = record { nodes = two; modules = modules } in tree ≡ with_part form of_root ins outs part_ins part_outs
+unfolding with_part
 tree_is form of_root ins outs part_ins part_outs none one two parts no_parts modules a b c d e f = cc
 
 one_word : (words : List ℤ) (r : Result Outcome NoMemory) → length words ≡ 1 → IfOk r (λ o. o ≡ checked (get_or words 0 (pos 0) ∷ [])) → IfOk r (λ o. o ≡ item four_map checks 1 words)
-unfolding item_to by_parts parted
+unfolding item_to by_parts with_part
 one_word [] r e made = absurd (omega (arith, e))
 one_word (x ∷ []) r e made = made
 one_word (x ∷ (y ∷ words)) r e made = absurd (omega (arith, e))
@@ -42,7 +42,7 @@ pub checks_is : (node : ℕ) (words : List ℤ) (r : Result Outcome NoMemory) �
 checks_is node words r is long made = subst (λ n. IfOk r (λ o. o ≡ item four_map checks n words)) (sym is) (one_word words r long made)
 
 pub pair_is : (node : ℕ) (words : List ℤ) (r : Result Outcome NoMemory) → IsUnit five_reduce node → length words ≡ 2 → IfOk r (λ o. o ≡ Value ((get_or words 0 (pos 0) -ℤ get_or words 1 (pos 0)) ∷ [])) → IfOk r (λ o. o ≡ item five_reduce subtracts node words)
-unfolding item_to by_parts parted fold_of_up_to
+unfolding item_to by_parts with_part fold_of_up_to
 pair_is node [] r unit e made = absurd (omega (arith, e))
 pair_is node (x ∷ []) r unit e made = absurd (omega (arith, e))
 pair_is zero (x ∷ (y ∷ [])) r unit e made = made
@@ -51,7 +51,7 @@ pair_is (suc (suc node)) (x ∷ (y ∷ [])) r unit e made = absurd (omega (arith
 pair_is node (x ∷ (y ∷ (z ∷ words))) r unit e made = absurd (omega (arith, e))
 
 three_words : (words : List ℤ) (r : Result Outcome NoMemory) → length words ≡ 3 → IfOk r (λ o. o ≡ Value ((get_or words 0 (pos 0) -ℤ (get_or words 1 (pos 0) -ℤ get_or words 2 (pos 0))) ∷ [])) → IfOk r (λ o. o ≡ item five_reduce subtracts 0 words)
-unfolding item_to by_parts parted fold_of_up_to
+unfolding item_to by_parts with_part fold_of_up_to
 three_words [] r e made = absurd (omega (arith, e))
 three_words (x ∷ []) r e made = absurd (omega (arith, e))
 three_words (x ∷ (y ∷ [])) r e made = absurd (omega (arith, e))
@@ -63,7 +63,7 @@ triple_is node words r is long made = subst (λ n. IfOk r (λ o. o ≡ item five
 
 -- a part that traps
 pub refused_pair : (node : ℕ) (words : List ℤ) → IsUnit three_reduce node → length words ≡ 2 → Trapped (record { kind = DivZero; «module» = 0 }) ≡ item three_reduce refusing node words
-unfolding item_to by_parts parted fold_of_up_to
+unfolding item_to by_parts with_part fold_of_up_to
 refused_pair node [] unit e = absurd (omega (arith, e))
 refused_pair node (x ∷ []) unit e = absurd (omega (arith, e))
 refused_pair zero (x ∷ (y ∷ [])) unit e = refl
@@ -72,7 +72,7 @@ refused_pair (suc (suc node)) (x ∷ (y ∷ [])) unit e = absurd (omega (arith, 
 refused_pair node (x ∷ (y ∷ (z ∷ words))) unit e = absurd (omega (arith, e))
 
 alone : (words : List ℤ) (r : Result Outcome NoMemory) → length words ≡ 1 → IfOk r (λ o. o ≡ Value (get_or words 0 (pos 0) ∷ [])) → IfOk r (λ o. o ≡ item three_reduce refusing 0 words)
-unfolding item_to by_parts parted fold_of_up_to
+unfolding item_to by_parts with_part fold_of_up_to
 alone [] r e made = absurd (omega (arith, e))
 alone (x ∷ []) r e made = made
 alone (x ∷ (y ∷ words)) r e made = absurd (omega (arith, e))

@@ -3,5 +3,5 @@ pub mod OneNodeLaws
 pub mod Refusing
 pub mod Looped
 pub mod LoopedLaws
-pub mod Parted
-pub mod PartedLaws
+pub mod WithPart
+pub mod WithPartLaws

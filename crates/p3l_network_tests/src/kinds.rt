@@ -1,8 +1,8 @@
 // Kinds of processes by hand: the firings of a net, and what can fire after each.
 
 use crate::looped::{CountsDown, tree_of_loop};
-use crate::parted::{Checks, Refuses, Subtracts, tree_of_map, tree_of_reduce};
 use crate::stepping::{outcome_of, outcomes_of};
+use crate::with_part::{Checks, Refuses, Subtracts, tree_of_map, tree_of_reduce};
 use p3l_base::{Outcome, TrapKind};
 use std::test::Fail;
 

@@ -7,10 +7,10 @@ mod kinds;
 #[cfg(test)]
 mod looped;
 #[cfg(test)]
-mod parted;
-#[cfg(test)]
 mod pieces;
 #[cfg(test)]
 mod running;
 #[cfg(test)]
 mod stepping;
+#[cfg(test)]
+mod with_part;

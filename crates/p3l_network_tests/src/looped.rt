@@ -5,7 +5,7 @@ ghost use Rattle.p3l_base.specs.declared.outcome.Outcome.TheVariants.{Value};
 ghost use Rattle.p3l_skel.specs.declared.tree.Form.TheVariants.{Seq};
 ghost use Rattle.p3l_network_tests.specs.Looped.{counting_loop, counts_down, loop_modules};
 
-use crate::parted::{first_value, minus, word};
+use crate::with_part::{first_value, minus, word};
 use p3l_base::{List, Name, NoMemory, Outcome, Words};
 use p3l_skel::{Form, ModuleInfo, ModuleKind, Node, Tree, Units};
 use std::alloc::Global;

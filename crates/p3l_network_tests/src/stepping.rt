@@ -137,7 +137,7 @@ pub fn outcomes_of<U: Units>(
     Ok(outcomes)
 }
 
-/// What the network of a tree makes of an item under these picks. Behind each of them stands the set
+/// What the network of a tree makes of an item under these picks. After each of them stands the set
 /// of the processes that can fire after it, as bits.
 pub fn outcome_of<U: Units>(
     rt: &impl Abort,

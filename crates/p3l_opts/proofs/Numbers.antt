@@ -12,7 +12,7 @@ use Rattle.std.proofs.lemmas.Fmt.{parse-decimal, first_decimal, digits_decimal, 
 digits : IsNumeralModel (AllDigits 10) (digits_value 10)
 digits = numerals_by_value (AllDigits 10) tells_digits
 
--- what is parsed behind a first digit from 1 to 9 is spelled in decimal
+-- what is parsed after a first digit from 1 to 9 is spelled in decimal
 spelled : (x : ℕ) (ds : List ℕ) → AllDigits 10 ds → 0 < length ds → 48 < get_or ds 0 0 → digits_value 10 ds < 2 ^ 64 → x ≡ digits_value 10 ds → (1 ≤ x) × (x < 2 ^ 64) × (ds ≡ decimal x)
 spelled x ds all some first fits e =
     let back : decimal (digits_value 10 ds) ≡ ds = decimal-digits_value digits ds all some (λ z. absurd (omega arith)) (omega arith) in

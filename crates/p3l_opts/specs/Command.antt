@@ -110,7 +110,7 @@ HasValues found (command.VerifyCert program cert costs) =
 HasValues found (command.CheckTrace build trace) = HasBuild found (first_of (codes "capacity") found) build × (first_of (codes "trace") found ≡ Some trace)
 HasValues found (command.Gen number processors items schedule save) = HasGen found number processors items schedule save
 
--- the first word names the command, `clap` takes those behind it, and its values are what they spell
+-- the first word names the command, `clap` takes those after it, and its values are what they spell
 pub record Spells (words : List Text) (command : Command) : Type 0 where
   pub named : slice_get words 0 ≡ Some (name_of (verb_of command))
   pub taken : faults (verb_of command) words ≡ []

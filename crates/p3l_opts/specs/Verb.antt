@@ -1,4 +1,4 @@
--- The first words of commands, and how `clap` reads the words behind them.
+-- The first words of commands, and how `clap` reads the words after them.
 use Rattle.std.specs.Prelude.{List, [], ◌∷◌, codes, fold}
 use Rattle.clap.specs.Words.{App, Kinds, Row, Rule, Text, fault_of, matches_of, new_app, with_rule}
 use Rattle.p3l_opts.specs.Table.{rule_for}
@@ -18,7 +18,7 @@ name_of verb.VerifyCert = codes "verify-cert"
 name_of verb.CheckTrace = codes "check-trace"
 name_of verb.Gen = codes "gen"
 
--- the words that may stand behind it
+-- the words that may stand after it
 abbrev pub rules_of : Verb → List Rule
 rules_of verb.Check = rule_for (codes "program") Positional ∷ []
 rules_of verb.Fmt = rule_for (codes "program") Positional ∷ []

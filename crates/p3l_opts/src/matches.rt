@@ -29,7 +29,7 @@ const MOST_ITEMS: u32 = 100_000;
 /// How many items are generated where the words don't say it.
 const DEFAULT_ITEMS: u32 = 1000;
 
-/// What `clap` finds in the words, if it takes those behind the first as words of this verb.
+/// What `clap` finds in the words, if it takes those after the first as words of this verb.
 pub(crate) fn matches_of<'a>(
     alloc: Global,
     verb: Verb,

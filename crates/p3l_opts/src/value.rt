@@ -67,7 +67,7 @@ pub(crate) fn number_in(word: &str) -> Option<u32>
 }
 
 /// What follows a front in a word, if it begins with it.
-fn behind<'a>(word: &'a str, front: &str) -> Option<&'a str>
+fn after<'a>(word: &'a str, front: &str) -> Option<&'a str>
     ensures some { IfSome result (λ rest. word.entry.now ≡ front.now ++ rest.now) }
     ensures none { IfNone result ((rest : List ℕ) → word.entry.now ≡ front.now ++ rest → ⊥) }
 {
@@ -82,10 +82,10 @@ pub(crate) fn schedule_of(alloc: Global, word: &str) -> Result<Sched, OptsRefusa
     if word == "rr" {
         return Ok(Sched::RoundRobin);
     }
-    if let Some(name) = behind(word, "file:") {
+    if let Some(name) = after(word, "file:") {
         return Ok(Sched::File(Name::from_text(alloc, name)?));
     }
-    match behind(word, "seed:") {
+    match after(word, "seed:") {
         Some(number) => match seed_of(number) {
             Some(seed) => Ok(Sched::Seeded(seed)),
             None => Err(OptsRefusal::Usage),

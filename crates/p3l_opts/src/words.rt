@@ -21,7 +21,7 @@ pub fn parse(alloc: Global, words: &[&str]) -> Result<Command, OptsRefusal>
 {
     match words.first() {
         Some(first) => match verb_of(first) {
-            Some(verb) => parse_behind(alloc, verb, words),
+            Some(verb) => parse_after(alloc, verb, words),
             None => Err(OptsRefusal::Usage),
         },
         None => Err(OptsRefusal::Usage),
@@ -29,7 +29,7 @@ pub fn parse(alloc: Global, words: &[&str]) -> Result<Command, OptsRefusal>
 }
 
 /// The command that the words spell, of which the first names this verb.
-fn parse_behind(alloc: Global, verb: Verb, words: &[&str]) -> Result<Command, OptsRefusal>
+fn parse_after(alloc: Global, verb: Verb, words: &[&str]) -> Result<Command, OptsRefusal>
     requires { slice_get (texts_of words.now) 0 ≡ Some (name_of verb) }
     ensures spelled { IfOk result (Spells (texts_of words.now)) }
     ensures usage { IsErrOf result OptsRefusal.Usage → (command : Command) → Spells (texts_of words.now) command → ⊥ }

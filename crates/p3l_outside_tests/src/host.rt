@@ -101,7 +101,7 @@ fn interrupted_calls_are_made_again_and_faults_are_told(rt: HostRuntime) -> Resu
 }
 
 #[test]
-fn faults_behind_the_opening_of_a_file_are_told(rt: HostRuntime) -> Result<(), Fail> {
+fn faults_after_the_opening_of_a_file_are_told(rt: HostRuntime) -> Result<(), Fail> {
     let alloc = rt.alloc();
     let mut files = HostFiles::new(&rt);
     assert_eq!(rt; files.read(alloc, ".", 9).err(), Some(FileFault::Failed));

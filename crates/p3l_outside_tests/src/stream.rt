@@ -50,7 +50,7 @@ fn answers(alloc: Global, source: &mut MemSource, width: u32, limit: u64) -> Res
     Ok(shown)
 }
 
-/// Puts an answer behind a text: an item as it is written, and else its name and numbers.
+/// Puts an answer after a text: an item as it is written, and else its name and numbers.
 fn show(alloc: Global, shown: &mut String, next: &Next) -> Result<(), Fail> {
     let line = match next {
         Next::Item(words) => {

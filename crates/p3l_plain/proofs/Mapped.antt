@@ -26,7 +26,7 @@ pub gathered-values : (join : List (List ℤ) → List ℤ) (results : List (Lis
 gathered-values join [] = refl
 gathered-values join (r ∷ rs) = gathered-values (λ results. join (r ∷ results)) rs
 
--- the first trap behind values is what is gathered
+-- the first trap after values is what is gathered
 gathered-trap : (join : List (List ℤ) → List ℤ) (results : List (List ℤ)) (trap : Trap) (more : List Outcome) → gathered join (map (λ result. Value result) results ++ (Trapped trap ∷ more)) ≡ Trapped trap
 gathered-trap join [] trap more = refl
 gathered-trap join (r ∷ rs) trap more = gathered-trap (λ results. join (r ∷ results)) rs trap more

@@ -10,7 +10,7 @@ ghost use Rattle.std.specs.Prelude.{◌≡◌, ◌<◌, length, IfOk};
 use p3l_base::{Cut, List, NoMemory, Words, cut_at};
 use std::alloc::Global;
 
-/// The words that a map's element takes: its cut of each slice, one behind the other.
+/// The words that a map's element takes: its cut of each slice, one after the other.
 pub fn gather(alloc: Global, cut: &Cut, words: &Words, element: u64) -> Result<Words, NoMemory>
     requires there { element < element_count cut.now }
     requires sizes { All (HasFreeSizes cut.now.first cut.now.second) cut.now.ins }

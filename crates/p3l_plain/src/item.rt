@@ -68,7 +68,7 @@ fn next_outcome<U: Units>(
     }
 }
 
-/// What the stages of a comp or a pipe make of words, one behind the other.
+/// What the stages of a comp or a pipe make of words, one after the other.
 #[cycle(item)]
 fn stages_outcome<U: Units>(
     alloc: Global,

@@ -66,21 +66,21 @@ use Rattle.p3l_program.proofs.SeenSteps.{at_end_left, seen_status, still_of, str
 use Rattle.p3l_program.proofs.StageSteps.{not_longer, passed_all, refused_once}
 use Rattle.p3l_program.proofs.TraceSteps.{check_calm, check_read, check_status, check_whole}
 
--- the stages of a build behind the reading of its program
-abbrev behind_read : Build → List Stage
-behind_read build = resolved build.program ∷ (stage.cost_stages build.program build.costs ++ stage.fitting build ∷ [])
+-- the stages of a build after the reading of its program
+abbrev after_read : Build → List Stage
+after_read build = resolved build.program ∷ (stage.cost_stages build.program build.costs ++ stage.fitting build ∷ [])
 
--- those of a certificate behind the same
-abbrev behind_program : List ℕ → List ℕ → Option (List ℕ) → List Stage
-behind_program program cert costs = resolved program ∷ (stage.cost_stages program costs ++ stage.cert_stages program costs cert)
+-- those of a certificate after the same
+abbrev after_program : List ℕ → List ℕ → Option (List ℕ) → List Stage
+after_program program cert costs = resolved program ∷ (stage.cost_stages program costs ++ stage.cert_stages program costs cert)
 
--- the stages of an image behind its reading
-abbrev behind_image : List ℕ → List Stage
-behind_image name = stage.decoded name ∷ (stage.loaded name ∷ [])
+-- the stages of an image after its reading
+abbrev after_image : List ℕ → List Stage
+after_image name = stage.decoded name ∷ (stage.loaded name ∷ [])
 
--- and those of the check of a trace behind those of its build
-abbrev behind_build : List ℕ → List Stage
-behind_build name = readable trace_limit name ∷ (stage.traced name ∷ [])
+-- and those of the check of a trace after those of its build
+abbrev after_build : List ℕ → List Stage
+after_build name = readable trace_limit name ∷ (stage.traced name ∷ [])
 
 module _ (words : List Text) (w : World) where
   -- what was written begins what the command writes
@@ -157,23 +157,23 @@ module _ (words : List Text) (w : World) where
       not_read : (k : Command) → file_of k ≡ Some name → IsTooLong w.files.old (limit_of k) name → AllPass w.files (stages_of k) → ⊥
       not_read (command.Check n) e l p = never_read text_limit n (resolved n ∷ []) e l p
       not_read (command.Fmt n) e l p = never_read text_limit n (stage.spelled n ∷ []) e l p
-      not_read (command.Explain build cert) e l p = never_read text_limit build.program (behind_read build) e l p
-      not_read (command.Compile build n) e l p = never_read text_limit build.program (behind_read build) e l p
-      not_read (command.Run build schedule trace reported) e l p = never_read text_limit build.program (behind_read build ++ stage.schedule_stages (built build) schedule) e l p
-      not_read (command.Exec n schedule trace reported) e l p = never_read image_limit n (behind_image n ++ stage.schedule_stages (imaged n) schedule) e l p
-      not_read (command.VerifyCert program cert costs) e l p = never_read text_limit program (behind_program program cert costs) e l p
-      not_read (command.CheckTrace build n) e l p = never_read text_limit build.program (behind_read build ++ behind_build n) e l p
+      not_read (command.Explain build cert) e l p = never_read text_limit build.program (after_read build) e l p
+      not_read (command.Compile build n) e l p = never_read text_limit build.program (after_read build) e l p
+      not_read (command.Run build schedule trace reported) e l p = never_read text_limit build.program (after_read build ++ stage.schedule_stages (built build) schedule) e l p
+      not_read (command.Exec n schedule trace reported) e l p = never_read image_limit n (after_image n ++ stage.schedule_stages (imaged n) schedule) e l p
+      not_read (command.VerifyCert program cert costs) e l p = never_read text_limit program (after_program program cert costs) e l p
+      not_read (command.CheckTrace build n) e l p = never_read text_limit build.program (after_read build ++ after_build n) e l p
       not_read _ e l p = absurd cc
 
       file_refused : (k : Command) (r : Refusal) → file_of k ≡ Some name → IsTooLong w.files.old (limit_of k) name → IsRefusedBy w.files (stages_of k) r → refusal_status r ≡ status.file
       file_refused (command.Check n) r e l by = read_refused text_limit n (resolved n ∷ []) r e l by
       file_refused (command.Fmt n) r e l by = read_refused text_limit n (stage.spelled n ∷ []) r e l by
-      file_refused (command.Explain build cert) r e l by = read_refused text_limit build.program (behind_read build) r e l by
-      file_refused (command.Compile build n) r e l by = read_refused text_limit build.program (behind_read build) r e l by
-      file_refused (command.Run build schedule trace reported) r e l by = read_refused text_limit build.program (behind_read build ++ stage.schedule_stages (built build) schedule) r e l by
-      file_refused (command.Exec n schedule trace reported) r e l by = read_refused image_limit n (behind_image n ++ stage.schedule_stages (imaged n) schedule) r e l by
-      file_refused (command.VerifyCert program cert costs) r e l by = read_refused text_limit program (behind_program program cert costs) r e l by
-      file_refused (command.CheckTrace build n) r e l by = read_refused text_limit build.program (behind_read build ++ behind_build n) r e l by
+      file_refused (command.Explain build cert) r e l by = read_refused text_limit build.program (after_read build) r e l by
+      file_refused (command.Compile build n) r e l by = read_refused text_limit build.program (after_read build) r e l by
+      file_refused (command.Run build schedule trace reported) r e l by = read_refused text_limit build.program (after_read build ++ stage.schedule_stages (built build) schedule) r e l by
+      file_refused (command.Exec n schedule trace reported) r e l by = read_refused image_limit n (after_image n ++ stage.schedule_stages (imaged n) schedule) r e l by
+      file_refused (command.VerifyCert program cert costs) r e l by = read_refused text_limit program (after_program program cert costs) r e l by
+      file_refused (command.CheckTrace build n) r e l by = read_refused text_limit build.program (after_read build ++ after_build n) r e l by
       file_refused _ r e l by = absurd cc
 
       long_by : file_of c ≡ Some name → IsTooLong w.files.old (limit_of c) name → (v : Verdict) → IsDueOf w c v → (status_of v ≡ status.file) ⊎ (status_of v ≡ status.no_memory)
@@ -352,7 +352,7 @@ text_whole w IsText rest taken finish stats input out e = record {
   taken_is = put_told w.out.old w.out.new taken e.text out e.put;
 }
 
--- and so is one behind a file
+-- and so is one after a file
 saving_whole : (w : World) (IsText : List ℕ → Type 0) (name : List ℕ) (IsBytes : List ℕ → Type 0) (rest taken : List ℕ) (finish : Finish) (stats : Option Stats) → w.input.old ≡ Some rest → w.out.old ≡ Some taken →
     EndsSaving w IsText name IsBytes finish stats → SavesWhole w IsText name IsBytes rest taken
 saving_whole w IsText name IsBytes rest taken finish stats input out e = record {

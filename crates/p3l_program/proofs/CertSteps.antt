@@ -33,7 +33,7 @@ use Rattle.p3l_program.specs.Verify.{IsVerified, holds_line}
 use Rattle.p3l_program.specs.World.{Change, IsCalm}
 use Rattle.p3l_program.proofs.LoadSteps.{costs_pass, priced_here, program_passes}
 use Rattle.p3l_program.proofs.OnceSteps.{said_alike}
-use Rattle.p3l_program.proofs.StageSteps.{passed_both, refused_behind}
+use Rattle.p3l_program.proofs.StageSteps.{passed_both, refused_after}
 
 -- a text that the reader refuses spells no certificate
 pub cert_unread : (tree : Tree) (costs : Costs) (text : List ℕ) (r : CertRefusal) → ((cert : Cert) → cert_format.fits cert ≡ true → text ≡ cert_format.spell cert → Answers text (Err r) (Ok cert)) →
@@ -96,8 +96,8 @@ cert_unheld files name tree costs written refusals.NoMemory held refuted calm = 
 module _ (files : Change Held) (name : List ℕ) (costs : Option (List ℕ)) (cert_file : List ℕ) (r : ResolvedTree) (program : Accepted) (text : List ℕ) (has : HasText files.old text_limit name text) (comes : ComesTo text r program) (said : Option (List ℕ)) (says : HasCostText files.old costs said) (cs : Costs) (are : AreSaid program.tree said cs) where
   front_refused : (more : List Stage) (refused : Refusal) → IsRefusedBy files more refused → IsRefusedBy files (program_stages name ++ (cost_stages name costs ++ more)) refused
   front_refused more refused by =
-      refused_behind files (program_stages name) (cost_stages name costs ++ more) refused (program_passes files name r program text has comes)
-      (refused_behind files (cost_stages name costs) more refused (costs_pass files name r program text has comes costs said cs says are) by)
+      refused_after files (program_stages name) (cost_stages name costs ++ more) refused (program_passes files name r program text has comes)
+      (refused_after files (cost_stages name costs) more refused (costs_pass files name r program text has comes costs said cs says are) by)
 
   -- the tree and the costs of the texts are one
   cert_here : (written : List ℕ) (other : ResolvedTree) (others : Costs) (cert : Cert) → IsCertified text said written other others cert → IsCertOf program.tree cs written cert

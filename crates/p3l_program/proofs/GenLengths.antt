@@ -37,5 +37,5 @@ pub program_short : (number : ℕ) → length (program_text number) ≤ 1048576
 program_short number =
     let digits = length-decimal-le 2 (factor_of number) (omega arith) (omega arith) (omega arith) in
     let whole = length-append program_head (decimal (factor_of number) ++ program_tail) in
-    let behind = length-append (decimal (factor_of number)) program_tail in
+    let after = length-append (decimal (factor_of number)) program_tail in
     omega arith

@@ -35,7 +35,7 @@ use Rattle.p3l_program.specs.Load.{IsCostless, IsLoaded, IsNotLoaded, cost_verdi
 use Rattle.p3l_program.specs.Network.{IsBuilt, network_of}
 use Rattle.p3l_program.specs.Stage.{AllPass, FilesCause, IsRefusedBy, Stage, build_stages, cost_stages, fitting, program_stages}
 use Rattle.p3l_program.specs.World.{Change, IsCalm}
-use Rattle.p3l_program.proofs.StageSteps.{passed_both, refused_behind, refused_front}
+use Rattle.p3l_program.proofs.StageSteps.{passed_both, refused_after, refused_front}
 
 -- files that tell the same at the beginning
 pub same_change : (old old' new : Option Held) (before before' now : ℕ) → old ≡ old' → before ≡ before' →
@@ -43,7 +43,7 @@ pub same_change : (old old' new : Option Held) (before before' now : ℕ) → ol
     let b : Change Held = record { old = old'; new = new; before = before'; now = now } in a ≡ b
 same_change old old' new before before' now a b = cc
 
--- what doesn't load is not loaded, whatever stages come behind
+-- what doesn't load is not loaded, whatever stages come after
 pub not_loaded_front : (files : Change Held) (stages more : List Stage) (v : Verdict) → IsNotLoaded files stages v → IsNotLoaded files (stages ++ more) v
 not_loaded_front files stages more (verdict.Refused r) h = (refused_front files stages more r h.0, h.1)
 not_loaded_front files stages more verdict.NoMemory h = h
@@ -113,12 +113,12 @@ module _ (files : Change Held) (name : List ℕ) (r : ResolvedTree) (program : A
       here = subst (λ t. IsRead t h.said (Err (refusal_of f))) comes.compiled.tree_is h.no_costs
   costless_some costs more refused (inr h) = absurd (h.no_costs)
 
-  -- where no costs are loaded their stages don't pass, whatever stages come behind
+  -- where no costs are loaded their stages don't pass, whatever stages come after
   pub costless : (costs : Option (List ℕ)) (more : List Stage) (v : Verdict) → IsCostless files costs program.tree v → IsNotLoaded files (program_stages name ++ (cost_stages name costs ++ more)) v
   costless None more (verdict.Refused refused) h = absurd h
   costless (Some costs) more (verdict.Refused refused) h =
       let s = costless_some costs more refused h in
-      (refused_behind files (program_stages name) (cost_stages name (Some costs) ++ more) refused program_passes s.0, s.1)
+      (refused_after files (program_stages name) (cost_stages name (Some costs) ++ more) refused program_passes s.0, s.1)
   costless None more verdict.NoMemory h = h
   costless (Some costs) more verdict.NoMemory h = h
   costless None more (verdict.Ended finish stats) h = absurd h
@@ -141,8 +141,8 @@ module _ (files : Change Held) (build : Build) (r : ResolvedTree) (program : Acc
     pub too_few : (need : ℕ) → IsShort program.tree build.processors need → IsCalm files → IsNotLoaded files (build_stages build) (verdict.Refused (refusal.TooFew need))
     too_few need short calm =
         let here : IsShort r.tree build.processors need = subst (λ t. IsShort t build.processors need) comes.compiled.tree_is short in (
-          refused_behind files (program_stages build.program) (cost_stages build.program build.costs ++ fitting build ∷ []) (refusal.TooFew need) (program_passes files build.program r program text has comes)
-              (refused_behind files (cost_stages build.program build.costs) (fitting build ∷ []) (refusal.TooFew need) (costs_pass files build.program r program text has comes build.costs said cs says are)
+          refused_after files (program_stages build.program) (cost_stages build.program build.costs ++ fitting build ∷ []) (refusal.TooFew need) (program_passes files build.program r program text has comes)
+              (refused_after files (cost_stages build.program build.costs) (fitting build ∷ []) (refusal.TooFew need) (costs_pass files build.program r program text has comes build.costs said cs says are)
               (inl (record {
                 text = text;
                 has = has;

@@ -23,15 +23,15 @@ use Rattle.p3l_program.specs.TraceFile.{HasTrace, trace_limit}
 use Rattle.p3l_program.proofs.SeenSteps.{seen_goes_on}
 
 -- of lines that all agree, each agrees with the state that the picks before it lead to
-agrees_at : (tree : Tree) (leaf : ℕ → List ℤ → Outcome) (net : Net) (c : Course) (front : List TraceLine) (line : TraceLine) (behind : List TraceLine)
-    → AgreeFrom tree leaf net c (front ++ line ∷ behind) → AgreesIn tree net (after_picks tree leaf net c (picks_of front)).state line
+agrees_at : (tree : Tree) (leaf : ℕ → List ℤ → Outcome) (net : Net) (c : Course) (front : List TraceLine) (line : TraceLine) (after : List TraceLine)
+    → AgreeFrom tree leaf net c (front ++ line ∷ after) → AgreesIn tree net (after_picks tree leaf net c (picks_of front)).state line
 unfolding AgreeFrom after_picks
-agrees_at tree leaf net c [] line behind agree = agree.0
-agrees_at tree leaf net c (first ∷ front) line behind agree = agrees_at tree leaf net (picked tree leaf net c first.pick) front line behind agree.1
+agrees_at tree leaf net c [] line after agree = agree.0
+agrees_at tree leaf net c (first ∷ front) line after agree = agrees_at tree leaf net (picked tree leaf net c first.pick) front line after agree.1
 
 -- a trace that agrees has no line that differs
 never_differs : (tree : Tree) (leaf : ℕ → List ℤ → Outcome) (net : Net) (items : List (List ℤ)) (t : Traced) (line : ℕ) → Agrees tree leaf net items t → DiffersAt tree leaf net items t line → ⊥
-never_differs tree leaf net items t line agrees (inl d) = d.other (agrees_at tree leaf net (course_from (first_state net items)) d.front d.line d.behind (subst (λ lines. AllAgree tree leaf net items lines) d.lines_are agrees.lines))
+never_differs tree leaf net items t line agrees (inl d) = d.other (agrees_at tree leaf net (course_from (first_state net items)) d.front d.line d.after (subst (λ lines. AllAgree tree leaf net items lines) d.lines_are agrees.lines))
 never_differs tree leaf net items t line agrees (inr d) = d.other agrees.counts
 
 abbrev pub BeginsNoOtherTrace : Type 0

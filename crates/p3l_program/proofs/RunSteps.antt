@@ -30,7 +30,7 @@ use Rattle.p3l_program.specs.Stage.{AllPass, FilesCause, IsRefusedBy, Refuses, o
 use Rattle.p3l_program.specs.World.{Change, IsStill, world}
 use Rattle.p3l_program.proofs.PickSteps.{read_or_refused}
 use Rattle.p3l_program.proofs.LoadSteps.{not_loaded_front}
-use Rattle.p3l_program.proofs.StageSteps.{passed_both, refused_behind}
+use Rattle.p3l_program.proofs.StageSteps.{passed_both, refused_after}
 use Rattle.p3l_program.proofs.TextSteps.{not_loaded}
 
 -- a run that came to its end was begun
@@ -102,9 +102,9 @@ module _ (files : Change Held) (input out : Change (List ℕ)) (origin : Origin)
     refused_by : (asked : Sched) (r : Refusal) → IsUnasked files (size_of n) asked (verdict.Refused r) → IsRefusedBy files (run_stages origin asked) r × FilesCause r files
     refused_by sched.RoundRobin r h = absurd h
     refused_by (sched.Seeded seed) r h = absurd h
-    refused_by (sched.File name) r (inl h) = (refused_behind files (origin_stages origin) (schedule_stages origin (sched.File name)) r passed (inl h.0), h.1)
+    refused_by (sched.File name) r (inl h) = (refused_after files (origin_stages origin) (schedule_stages origin (sched.File name)) r passed (inl h.0), h.1)
     refused_by (sched.File name) r (inr h) =
-        (refused_behind files (origin_stages origin) (schedule_stages origin (sched.File name)) r passed (inr ((h.text, h.has), inl (bad_picks name r h))), files_cause r name h)
+        (refused_after files (origin_stages origin) (schedule_stages origin (sched.File name)) r passed (inr ((h.text, h.has), inl (bad_picks name r h))), files_cause r name h)
 
     begins_run : (asked : Sched) → IsRunSome n files input out asked → BeginsRun (world files input out) origin asked
     begins_run asked h = record { n = n; s = h.s; has = record { network = has; schedule = h.schedule }; starts = h.starts }

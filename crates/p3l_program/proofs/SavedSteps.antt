@@ -62,7 +62,7 @@ module _ (files : Change Held) (out : Change (List ℕ)) (stages : List Stage) (
     }
     saving_failed verdict.NoMemory still h input quiet = inl (record { input = quiet; out = still })
 
-    -- a text that was written behind it
+    -- a text that was written after it
     pub saving_due : (v : Verdict) → IsSaved files name bytes → IsCalm files → IsWritten out text v → IsSavingDue files out stages IsText name IsBytes v
     saving_due (verdict.Refused r) saved calm h input still = absurd h
     saving_due (verdict.Ended finish stats) saved calm h input still = record {

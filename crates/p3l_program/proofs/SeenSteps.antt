@@ -60,7 +60,7 @@ module _ (n : Network) (rest : List ℕ) (s : Seen) (items : List (List ℤ)) (b
   few : length bytes ≤ input_limit
   few = let a = given.counted in let b = given.within in omega arith
 
-  -- the bytes that are seen behind those taken
+  -- the bytes that are seen after those taken
   abbrev more : List ℕ
   more = take (input_limit - length bytes) left
 

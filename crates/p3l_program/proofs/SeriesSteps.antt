@@ -13,7 +13,7 @@ kept_holds : (files : Change Held) (names : List (List ℕ)) → KeepsBut files 
 kept_holds files [] kept held told = subst (λ f. HoldsBut held f []) (sym (kept ∙ told)) (λ other out. refl)
 kept_holds files (name ∷ names) kept held told = kept held told
 
--- whatever names come behind one
+-- whatever names come after one
 holds_wider : (held : Held) (new : Option Held) (name : List ℕ) (names : List (List ℕ)) → HoldsBut held new (name ∷ []) → HoldsBut held new (name ∷ names)
 holds_wider held None name names h = absurd h
 holds_wider held (Some new) name names h = λ other out. h other (out.0, tt)
@@ -39,16 +39,16 @@ module _ (old mid new : Option Held) (before between now : ℕ) where
   abbrev both : Change Held
   both = record { old = old; new = new; before = before; now = now }
 
-  saved_behind : (written name bytes : List ℕ) → KeepsBut first (written ∷ []) → IsSaved second name bytes → IsSaved both name bytes
-  saved_behind written name bytes kept saved = λ held told. by held mid refl (kept held told)
+  saved_after : (written name bytes : List ℕ) → KeepsBut first (written ∷ []) → IsSaved second name bytes → IsSaved both name bytes
+  saved_after written name bytes kept saved = λ held told. by held mid refl (kept held told)
     where
       by : (held : Held) (m : Option Held) → mid ≡ m → HoldsBut held m (written ∷ []) → Stands new name bytes
       by held None is k = absurd k
       by held (Some h) is k = saved h is
 
-  all_behind : (written : List ℕ) (saves : List (List ℕ × List ℕ)) → KeepsBut first (written ∷ []) → AreSaved second saves → AreSaved both saves
-  all_behind written [] kept saved = tt
-  all_behind written (save ∷ saves) kept saved = (saved_behind written save.0 save.1 kept saved.0, all_behind written saves kept saved.1)
+  all_after : (written : List ℕ) (saves : List (List ℕ × List ℕ)) → KeepsBut first (written ∷ []) → AreSaved second saves → AreSaved both saves
+  all_after written [] kept saved = tt
+  all_after written (save ∷ saves) kept saved = (saved_after written save.0 save.1 kept saved.0, all_after written saves kept saved.1)
 
   module _ (name bytes : List ℕ) (saves : List (List ℕ × List ℕ)) (other : IsOther name (names_of saves)) (one : HasSave first name bytes (Ok tt)) where
     kept_then : KeepsBut second (names_of saves) → KeepsBut both (name ∷ names_of saves)
@@ -56,7 +56,7 @@ module _ (old mid new : Option Held) (before between now : ℕ) where
 
     cause_then : (result : Result (Unit {0}) Verdict) → KeepsBut second (names_of saves) → SavesCause second saves result → SavesCause both ((name, bytes) ∷ saves) result
     cause_then (Ok done) kept by = (
-      (λ held told. stands_then mid new name bytes (names_of saves) (one.by.0 held told) (kept_holds second (names_of saves) kept) other, all_behind name saves one.kept by.0),
+      (λ held told. stands_then mid new name bytes (names_of saves) (one.by.0 held told) (kept_holds second (names_of saves) kept) other, all_after name saves one.kept by.0),
       by.1 ∙ one.by.1,
     )
     cause_then (Err verdict.WriteFault) kept by = (λ none. absurd cc, subst (λ n. HasRisen (record { old = old; new = new; before = n; now = now })) one.by.1 by.1)
@@ -86,16 +86,16 @@ last_cause files name bytes (Err v) h = cause_of files name bytes [] v h
 pub saves_last : (files : Change Held) (name bytes : List ℕ) (result : Result (Unit {0}) Verdict) → HasSave files name bytes result → HasSaves files ((name, bytes) ∷ []) result
 saves_last files name bytes result h = record { kept = h.kept; by = last_cause files name bytes result h.by }
 
--- the names of the three are parted
-parted : (prefix one two : List ℕ) → (one ≡ two → ⊥) → prefix ++ one ≡ prefix ++ two → ⊥
-parted [] one two other same = other same
-parted (byte ∷ bytes) one two other same = parted bytes one two other (let tails : bytes ++ one ≡ bytes ++ two = cc in tails)
+-- the names of the three are separated
+separated : (prefix one two : List ℕ) → (one ≡ two → ⊥) → prefix ++ one ≡ prefix ++ two → ⊥
+separated [] one two other same = other same
+separated (byte ∷ bytes) one two other same = separated bytes one two other (let tails : bytes ++ one ≡ bytes ++ two = cc in tails)
 
-pub program_parted : (prefix : List ℕ) → IsOther (prefix ++ codes ".p3l") ((prefix ++ codes ".toml") ∷ ((prefix ++ codes ".txt") ∷ []))
-program_parted prefix = (
-  parted prefix (codes ".p3l") (codes ".toml") (λ e. let second : 112 ≡ 116 = ap (λ (s : List ℕ). get_or s 1 0) e in absurd (omega arith)),
-  (parted prefix (codes ".p3l") (codes ".txt") (λ e. let second : 112 ≡ 116 = ap (λ (s : List ℕ). get_or s 1 0) e in absurd (omega arith)), tt),
+pub program_separated : (prefix : List ℕ) → IsOther (prefix ++ codes ".p3l") ((prefix ++ codes ".toml") ∷ ((prefix ++ codes ".txt") ∷ []))
+program_separated prefix = (
+  separated prefix (codes ".p3l") (codes ".toml") (λ e. let second : 112 ≡ 116 = ap (λ (s : List ℕ). get_or s 1 0) e in absurd (omega arith)),
+  (separated prefix (codes ".p3l") (codes ".txt") (λ e. let second : 112 ≡ 116 = ap (λ (s : List ℕ). get_or s 1 0) e in absurd (omega arith)), tt),
 )
 
-pub costs_parted : (prefix : List ℕ) → IsOther (prefix ++ codes ".toml") ((prefix ++ codes ".txt") ∷ [])
-costs_parted prefix = (parted prefix (codes ".toml") (codes ".txt") (λ e. let third : 111 ≡ 120 = ap (λ (s : List ℕ). get_or s 2 0) e in absurd (omega arith)), tt)
+pub costs_separated : (prefix : List ℕ) → IsOther (prefix ++ codes ".toml") ((prefix ++ codes ".txt") ∷ [])
+costs_separated prefix = (separated prefix (codes ".toml") (codes ".txt") (λ e. let third : 111 ≡ 120 = ap (λ (s : List ℕ). get_or s 2 0) e in absurd (omega arith)), tt)

@@ -35,18 +35,18 @@ use Rattle.p3l_program.specs.Stage.{AllPass, IsRefusedBy, Passes, Refuses, Stage
 use Rattle.p3l_program.specs.TraceFile.{HasNoTrace, HasTrace}
 use Rattle.p3l_program.specs.World.{Change, HasRisen}
 
--- a stage that refuses, whatever stages come behind it
+-- a stage that refuses, whatever stages come after it
 pub refused_front : (files : Change Held) (stages more : List Stage) (r : Refusal) → IsRefusedBy files stages r → IsRefusedBy files (stages ++ more) r
 refused_front files [] more r h = absurd h
 refused_front files (stage ∷ stages) more r (inl h) = inl h
 refused_front files (stage ∷ stages) more r (inr h) = inr (h.0, refused_front files stages more r h.1)
 
--- one that refuses behind others that pass
-pub refused_behind : (files : Change Held) (stages more : List Stage) (r : Refusal) → AllPass files stages → IsRefusedBy files more r → IsRefusedBy files (stages ++ more) r
-refused_behind files [] more r p h = h
-refused_behind files (stage ∷ stages) more r p h = inr (p.0, refused_behind files stages more r p.1 h)
+-- one that refuses after others that pass
+pub refused_after : (files : Change Held) (stages more : List Stage) (r : Refusal) → AllPass files stages → IsRefusedBy files more r → IsRefusedBy files (stages ++ more) r
+refused_after files [] more r p h = h
+refused_after files (stage ∷ stages) more r p h = inr (p.0, refused_after files stages more r p.1 h)
 
--- stages that pass, one list behind the other
+-- stages that pass, one list after the other
 pub passed_both : (files : Change Held) (stages more : List Stage) → AllPass files stages → AllPass files more → AllPass files (stages ++ more)
 passed_both files [] more p q = q
 passed_both files (stage ∷ stages) more p q = (p.0, passed_both files stages more p.1 q)

@@ -46,7 +46,7 @@ module _ (files : Change Held) (out : Change (List ℕ)) (stages : List Stage) (
   pub text_refused : (v : Verdict) → IsStill out → IsNotLoaded files stages v → IsTextDue files out stages IsText v
   text_refused v still h input quiet = not_loaded (world files input out) stages (EndsText (world files input out) IsText) (BeginsText (world files input out) IsText) ⊥ v quiet still h
 
-  -- a text that was written behind stages that pass
+  -- a text that was written after stages that pass
   pub text_due : (text : List ℕ) (v : Verdict) → IsCalm files → AllPass files stages → IsText text → IsWritten out text v → IsTextDue files out stages IsText v
   text_due text (verdict.Refused r) calm passed is h input still = absurd h
   text_due text (verdict.Ended finish stats) calm passed is h input still = record {

@@ -45,7 +45,7 @@ use Rattle.p3l_program.specs.File.{HasText}
 use Rattle.p3l_program.specs.TraceFile.{HasTrace, SpellsNoTrace, trace_limit}
 use Rattle.p3l_program.specs.World.{Change, HasNoFault, HasRisen, IsCalm, World, world}
 use Rattle.p3l_program.proofs.SeenSteps.{at_end_left, seen_goes_on, wide_tail}
-use Rattle.p3l_program.proofs.StageSteps.{passed_both, refused_behind}
+use Rattle.p3l_program.proofs.StageSteps.{passed_both, refused_after}
 
 -- a text that is read as no trace
 unspelled : (text : List ℕ) (line : ℕ) → ((t : Traced) → trace_format.fits t ≡ true → text ≡ trace_format.spell t → Answers text (Err (refusals.BadLine line)) (Ok t)) →
@@ -67,10 +67,10 @@ module _ (files : Change Held) (input out : Change (List ℕ)) (build : Build) (
   bad_trace r h = subst (λ k. Refuses files (traced name) k × FilesCause k files) (sym h.is) (h.none, h.calm)
 
   refused_by : (r : Refusal) → IsUntraced files name (verdict.Refused r) → IsRefusedBy files (check_stages build name) r × FilesCause r files
-  refused_by r (inl h) = (refused_behind files (build_stages build) (readable trace_limit name ∷ (traced name ∷ [])) r passed (inl h.0), h.1)
+  refused_by r (inl h) = (refused_after files (build_stages build) (readable trace_limit name ∷ (traced name ∷ [])) r passed (inl h.0), h.1)
   refused_by r (inr h) =
       let bad = bad_trace r h in
-      (refused_behind files (build_stages build) (readable trace_limit name ∷ (traced name ∷ [])) r passed (inr ((h.none.text, h.none.has), inl bad.0)), bad.1)
+      (refused_after files (build_stages build) (readable trace_limit name ∷ (traced name ∷ [])) r passed (inr ((h.none.text, h.none.has), inl bad.0)), bad.1)
 
   begins_check : IsCheckSome n files input out name → BeginsTrace (world files input out) build name
   begins_check h = record { n = n; t = h.t; has = record { network = has; trace = h.trace }; begun = h.begun }

@@ -23,7 +23,7 @@ pub record IsRecordOf (n : Network) (s : Schedule) (items : List (List ℤ)) (t 
   pub fired : t.fired ≡ (course_of n s items).fired
   pub idle : t.idle ≡ (course_of n s items).idle
 
--- the same of the items that a stream gave, whatever may still come behind them
+-- the same of the items that a stream gave, whatever may still come after them
 abbrev pub IsRecordOn : Network → Schedule → List (List ℤ) → Option Ending → Traced → Type 0
 IsRecordOn n s items close t = (later : List (List ℤ)) → MayCome n close later → IsRecordOf n s (items ++ later) t
 

@@ -67,7 +67,7 @@ module _ (f : ℕ → Bool) where
       left None y e = refl
       left (Some x) y e = cc
 
-  -- two searches that find nothing, one behind the other
+  -- two searches that find nothing, one after the other
   pub none-joined : (a n k : ℕ) → find f (range_with_len a n) ≡ None → find f (range_with_len (a + n) k) ≡ None → find f (range_with_len a (n + k)) ≡ None
   none-joined a n k h g = ap (find f) (range-split a n k) ∙ find-append f (range_with_len a n) (range_with_len (a + n) k) ∙ ap₂ option_or h g
 

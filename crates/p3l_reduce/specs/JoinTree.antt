@@ -42,14 +42,14 @@ pairwise g (x ∷ xs) [] = []
 pairwise g (x ∷ xs) (y ∷ ys) = paired_by g.operator x y ∷ pairwise g xs ys
 
 -- the tokens still to come to the channel of place r
-unfoldable pub behind : Folding → View → ℕ → ℕ → List Token
-behind g v zero r = map (over g.fold) (v.segs (r - g.count)) ++ unsent g v.sending v.sent (r - g.count)
-behind g v (suc d) r =
-    pairwise g (v.tees (r + r) ++ behind g v d (r + r)) (v.tees (suc (r + r)) ++ behind g v d (suc (r + r)))
+unfoldable pub after_node : Folding → View → ℕ → ℕ → List Token
+after_node g v zero r = map (over g.fold) (v.segs (r - g.count)) ++ unsent g v.sending v.sent (r - g.count)
+after_node g v (suc d) r =
+    pairwise g (v.tees (r + r) ++ after_node g v d (r + r)) (v.tees (suc (r + r)) ++ after_node g v d (suc (r + r)))
 
 -- those in it, then those still to come
 abbrev pub flow : Folding → View → ℕ → ℕ → List Token
-flow g v d r = v.tees r ++ behind g v d r
+flow g v d r = v.tees r ++ after_node g v d r
 
 unfoldable pub same_tags : List ℕ → List ℕ → Bool
 same_tags [] [] = true

@@ -8,7 +8,7 @@ use Rattle.p3l_firing.specs.Segments.{segment_lengths}
 use Rattle.p3l_firing.specs.State.{State}
 use Rattle.p3l_firing.specs.declared.process.Proc.{Proc}
 use Rattle.p3l_firing.specs.declared.process.ProcKind.TheVariants.{Run, Split, Join}
-use Rattle.p3l_reduce.specs.JoinTree.{Folding, View, joined, behind, well_kept, owed_in}
+use Rattle.p3l_reduce.specs.JoinTree.{Folding, View, joined, after_node, well_kept, owed_in}
 use Rattle.p3l_template.specs.Part.{Part}
 use Rattle.p3l_template.specs.Run.{run_shape}
 use Rattle.p3l_template.specs.Shape.{empty_chan, Shape, Base, numbers_from}
@@ -19,7 +19,7 @@ use Rattle.p3l_firing.specs.Nodes.{segment_of, operator_of}
 abbrev pub seg : Base → ℕ → ℕ
 seg base s = base.chan + s
 
--- the channels T, by place: behind those of the m segments, but for the out channel
+-- the channels T, by place: after those of the m segments, but for the out channel
 unfoldable pub tee_by : ℕ → ℕ → ℕ → ℕ
 tee_by output from zero = output
 tee_by output from (suc zero) = output
@@ -88,7 +88,7 @@ tree_part units node m d base =
       chan_from = base.chan;
       chan_to = base.chan + (m + (m + m - 2));
       meaning = joined (folding_of units node m) (suc d) 1;
-      pending = λ s. behind (folding_of units node m) (view_of base m s) (suc d) 1;
+      pending = λ s. after_node (folding_of units node m) (view_of base m s) (suc d) 1;
       orderly = λ s. well_kept (folding_of units node m) (suc d) (view_of base m s);
       firings = 3 * m;
       owed = λ s. owed_in (folding_of units node m) (suc d) (view_of base m s);

@@ -54,7 +54,7 @@ pub enum Evidence {
     Short(u64),
     /// The field at this place of an image is out of its range.
     BadField(u64),
-    /// An image goes on at this place, behind its last field.
+    /// An image goes on at this place, after its last field.
     TrailingBytes(u64),
     /// The code of this number breaks the rules of safe code.
     CodeUnsafe(u32),

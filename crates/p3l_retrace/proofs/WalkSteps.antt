@@ -146,8 +146,8 @@ module _ (n : Network) (laws : Laws n) where
           at_network m d.stands.runs (λ t k. can_fire t k (course later).state line.pick ≡ can_step m line.pick) (laws.can_fires m d.outcomes later (course later) line.pick (d.stands.at later may).follows (filled later may))
 
       -- a line differs
-      pub differs_on : (traced : Traced) (behind : List TraceLine) (number : ℕ) → traced.lines ≡ walked ++ line ∷ behind → (AgreesWith m line → ⊥) → number ≡ length walked + 2 → DiffersOn n traced rest left before now number
-      differs_on traced behind number are other is = (
+      pub differs_on : (traced : Traced) (after : List TraceLine) (number : ℕ) → traced.lines ≡ walked ++ line ∷ after → (AgreesWith m line → ⊥) → number ≡ length walked + 2 → DiffersOn n traced rest left before now number
+      differs_on traced after number are other is = (
         close,
         record {
           stream = s;
@@ -156,7 +156,7 @@ module _ (n : Network) (laws : Laws n) where
           holds = λ later may. inl (record {
             front = walked;
             line = line;
-            behind = behind;
+            after = after;
             lines_are = are;
             agree = (d.stands.at later may).agree;
             other = λ agrees. other (same_line _ _ n.net m.net line (can_same later may) (sym d.stands.runs.net) agrees);

@@ -11,7 +11,7 @@ use Rattle.p3l_trace.specs.Agreement.{Agrees, DiffersAt}
 use Rattle.p3l_retrace.specs.declared.retrace.Retraced.{Retraced}
 use Rattle.p3l_retrace.specs.declared.retrace.Retraced.TheVariants as retraced
 
--- the stream gave these items and then ended so, if it did; and this holds of them and whatever may still come behind them
+-- the stream gave these items and then ended so, if it did; and this holds of them and whatever may still come after them
 pub record HoldsOn (n : Network) (rest left : Option (List ℕ)) (before now : ℕ) (close : Option Ending) (P : List (List ℤ) → Type 0) : Type 0 where
   pub stream : Seen
   pub items : List (List ℤ)

@@ -18,7 +18,7 @@ pub record IsAt (n : Network) (m : Seen) (items later : List (List ℤ)) (outcom
   pub follows : Follows m outcomes later (course_under n items (picks_of walked))
   pub agree : AllAgree n.tree n.leaf n.net items walked
 
--- the same, whatever may still come behind the items given
+-- the same, whatever may still come after the items given
 pub record Stands (n : Network) (m : Seen) (given : List (List ℤ)) (close : Option Ending) (outcomes : List Outcome) (walked : List TraceLine) : Type 0 where
   pub runs : Runs n m
   pub wide : HaveInWords n.tree given

@@ -8,7 +8,7 @@ use std::alloc::{AllocError, Global};
 use std::process::Abort;
 use std::test::Fail;
 
-/// Checks the first module behind its constants.
+/// Checks the first module after its constants.
 fn check(alloc: Global, program: &Program) -> Result<(), SourceRefusal> {
     let mut consts = Consts::new(alloc)?;
     for entry in program.entries.as_slice() {
@@ -100,7 +100,7 @@ const BODIES: &str = "0 | ${ y = x; b[x] = a[0][x]; }$
 43 2:4 | ${ b[0][z] = 1; }$
 43 2:6 | ${ b[b] = 1; }$";
 
-/// What a body stands behind.
+/// What a body stands after.
 const HEAD: &str = "const K = 3; seq main in(int x, int a[2][3]) out(int y, int b[4])";
 
 /// Each program of a table must have its fault.
@@ -113,7 +113,7 @@ fn check_programs(rt: &impl Abort, alloc: Global, table: &str) -> Result<(), Fai
     Ok(())
 }
 
-/// Each body of a table must have its fault behind a head.
+/// Each body of a table must have its fault after a head.
 fn check_bodies(rt: &impl Abort, alloc: Global, head: &str, table: &str) -> Result<(), Fail> {
     for line in table.lines() {
         let (found, body) = line.split_once(" | ").ok_or("no fault")?;

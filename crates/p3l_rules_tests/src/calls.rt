@@ -10,7 +10,7 @@ use std::alloc::{AllocError, Global};
 use std::process::Abort;
 use std::test::Fail;
 
-/// What the callers stand behind.
+/// What the callers stand after.
 const HEAD: &str = "const N = 3; \
 seq one in(int x) out(int y) ${ y = x; }$ end seq \
 seq two in(int x, int y) out(int z) ${ z = x + y; }$ end seq \

@@ -184,7 +184,7 @@ ok 6 5 | loop l in(int a) out(int b) turns 408 w in(a) out(b) while f in(b) out(
 32 2:476 | pipe p in(int a) out(int b) f in(a) out(int c) f in(c) out(int d) f in(d) out(int e) f in(e) out(int g) f in(g) out(b) end pipe farm w2 in(int a) out(int b) w in(a) out(b) end farm farm w3 in(int a) out(int b) w2 in(a) out(b) end farm farm w4 in(int a) out(int b) w3 in(a) out(b) end farm farm v in(int a) out(int b) w4 in(a) out(b) end farm pipe q in(int a) out(int b) p in(a) out(int c) p in(c) out(int d) p in(d) out(int e) p in(e) out(int g) p in(g) out(b) end pipe pipe main in(int a) out(int b) q in(a) out(int c) q in(c) out(int d) q in(d) out(int e) q in(e) out(int g) q in(g) out(int h) v in(h) out(b) end pipe
 31 2:440 | pipe p in(int a) out(int b) f in(a) out(int c) f in(c) out(int d) f in(d) out(int e) f in(e) out(int g) f in(g) out(b) end pipe loop l in(int a) out(int b) turns 65536 f in(a) out(b) while f in(b) out(int c) end loop loop m in(int a) out(int b) turns 65536 l in(a) out(b) while f in(b) out(int c) end loop pipe q in(int a) out(int b) p in(a) out(int c) p in(c) out(int d) p in(d) out(int e) p in(e) out(int g) p in(g) out(b) end pipe pipe main in(int a) out(int b) q in(a) out(int c) q in(c) out(int d) q in(d) out(int e) q in(e) out(int g) q in(g) out(int h) m in(h) out(b) end pipe";
 
-/// Each program of a table must have its answer behind a head.
+/// Each program of a table must have its answer after a head.
 fn check_programs(rt: &impl Abort, alloc: Global, head: &str, table: &str) -> Result<(), Fail> {
     for line in table.lines() {
         let (found, program) = line.split_once(" | ").ok_or("no answer")?;

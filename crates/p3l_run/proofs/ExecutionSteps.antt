@@ -219,7 +219,7 @@ module _ (job : Job) where
           by (inl stuck) = steps.over_stuck n d.laws job.schedule e.machine e.picker d.items e.close d.outcomes e.idle d.walked d.stands filled stuck
           by (inr ended) = steps.over_ended n d.laws job.schedule e.machine e.picker d.items e.close d.outcomes e.idle d.walked d.stands filled ended
 
-      -- the run on the items, and whatever may still come behind them, goes on just where a process can fire
+      -- the run on the items, and whatever may still come after them, goes on just where a process can fire
       goes : (later : List (List ℤ)) → MayCome n e.close later → goes_on n (course_of n job.schedule (d.items ++ later)) ≡ is_some (ready_list e.machine)
       goes = steps.goes_same n d.laws job.schedule e.machine e.picker d.items e.close d.outcomes e.idle d.walked d.stands filled none_left
 

@@ -44,7 +44,7 @@ use Rattle.p3l_run.specs.Write.{HasBegun, HasPut}
 use Rattle.p3l_run.proofs.TraceSteps.{agree_more, counts_fired, counts_idle, picks_more, same_line}
 use Rattle.p3l_run.proofs.WriteSteps.{begun_longer, begun_more, begun_whole, text_begins, text_more}
 
--- items behind others, each of so many words
+-- items after others, each of so many words
 pub wide_append : (width : ℕ) (xs ys : List (List ℤ)) → AllByRecursion (λ (w : List ℤ). length w ≡ width) xs → AllByRecursion (λ (w : List ℤ). length w ≡ width) ys → AllByRecursion (λ (w : List ℤ). length w ≡ width) (xs ++ ys)
 wide_append width [] ys all more = more
 wide_append width (x ∷ xs) ys all more = (all.0, wide_append width xs ys all.1 more)
@@ -86,7 +86,7 @@ room_first schedules.RoundRobin = omega arith
 room_first (schedules.Seeded seed) = omega arith
 room_first (schedules.Recorded picks) = omega arith
 
--- behind a pick the cursor is a process
+-- after a pick the cursor is a process
 place_after : (size : ℕ) (w : Way) (p : ℕ) → 0 < size → HasPlace size (after_pick size w p)
 place_after size (way.Turns cursor) p some = mod_below (p + 1) size some
 place_after size (way.Draws generator) p some = tt

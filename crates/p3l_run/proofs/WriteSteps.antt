@@ -38,7 +38,7 @@ put_failed (Some taken) new piece failed p = record { written = take p.0 piece; 
 pub begun_whole : (old new : Option (List ℕ)) (text more whole : List ℕ) → HasPut old new text → text ++ more ≡ whole → HasBegun old new whole
 begun_whole old new text more whole p e = record { written = text; more = more; put = p; text_is = e }
 
--- a text that was begun behind another
+-- a text that was begun after another
 pub begun_more : (old mid new : Option (List ℕ)) (first second : List ℕ) → HasPut old mid first → HasBegun mid new second → HasBegun old new (first ++ second)
 begun_more old mid new first second a b = record {
   written = first ++ b.written;

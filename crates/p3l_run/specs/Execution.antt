@@ -118,15 +118,15 @@ abbrev pub MayPick : Execution → Execution → Option ℕ → Type 0
 MayPick old new None = (new ≡ old) × IsOver old
 MayPick old new (Some p) = Picks old new p
 
--- the line of a pick, behind those that are kept
+-- the line of a pick, after those that are kept
 abbrev pub kept_with : ℕ → Option ProcKind → Option (List TraceLine) → Option (List TraceLine)
 kept_with p kind kept = option_map (λ lines. lines ++ record { pick = p; kind = kind } ∷ []) kept
 
--- behind an idle pick
+-- after an idle pick
 abbrev pub after_idle : ℕ → Execution → Execution
 after_idle p e = record e { idle = e.idle + 1; kept = kept_with p None e.kept }
 
--- behind a firing, which handed out this outcome
+-- after a firing, which handed out this outcome
 pub record HasFired (leaf : Leaf) (p : ℕ) (old new : Execution) (handed : Option Outcome) : Type 0 where
   pub kind : ProcKind
   pub kind_is : kind_at old.machine.net p ≡ Some kind

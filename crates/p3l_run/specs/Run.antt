@@ -45,7 +45,7 @@ abbrev pub finish_of : Network → Course → Ending → Finish
 finish_of n c close =
     cond (goes_on n c) (finish.Stopped c.fired c.idle) (end_of n.tree (trap_of c.state.emitted) (length c.state.emitted) close)
 
--- these items may still come behind those given, none where the stream ended
+-- these items may still come after those given, none where the stream ended
 pub record MayCome (n : Network) (close : Option Ending) (later : List (List ℤ)) : Type 0 where
   pub wide : HaveInWords n.tree later
   pub none : (e : Ending) → close ≡ Some e → later ≡ []
@@ -62,7 +62,7 @@ pub record IsTraceOf (n : Network) (schedule : Schedule) (items : List (List ℤ
   pub agrees : trace.Agrees n.tree n.leaf n.net items (record { lines = lines; fired = stats.fired; idle = stats.idle })
 
 -- a run came to its end: the text of what the network emits was written, on the items that the stream gave and whatever may
--- still come behind them, and it ended as that run does; its lines are that run's trace, where they were to be kept, and its sum
+-- still come after them, and it ended as that run does; its lines are that run's trace, where they were to be kept, and its sum
 -- is that of the words that were emitted
 pub record Finishes (n : Network) (schedule : Schedule) (keeping : Keeping) (rest left : Option (List ℕ)) (before now : ℕ) (taken taken' : Option (List ℕ)) (end : Ran) : Type 0 where
   pub stream : Seen

@@ -39,7 +39,7 @@ unread w = 0
 abbrev pub HasRoom : Schedule → Way → ℕ → Type 0
 HasRoom schedule w idle = idle + unread w ≤ recorded schedule
 
--- the machine runs the network on the items given, and whatever may still come behind them, and this is the trace so far
+-- the machine runs the network on the items given, and whatever may still come after them, and this is the trace so far
 pub record Stands (n : Network) (schedule : Schedule) (m : Seen) (way : Way) (given : List (List ℤ)) (close : Option Ending) (outcomes : List Outcome) (idle : ℕ) (walked : List TraceLine) : Type 0 where
   pub runs : Runs n m
   pub wide : HaveInWords n.tree given

@@ -27,7 +27,7 @@ pub(crate) fn no_lines(alloc: Global, keeping: Keeping) -> Option<List<TraceLine
     }
 }
 
-/// Keeps a pick, and the kind of what it fired as, or none for an idle pick, behind the lines that
+/// Keeps a pick, and the kind of what it fired as, or none for an idle pick, after the lines that
 /// are kept, where lines are.
 pub(crate) fn keep(
     kept: &mut Option<List<TraceLine>>,

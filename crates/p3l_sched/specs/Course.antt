@@ -11,7 +11,7 @@ use Rattle.p3l_sched.specs.declared.schedule.Schedule.{Schedule}
 use Rattle.p3l_sched.specs.declared.schedule.Schedule.TheVariants as schedule
 use Rattle.p3l_sched.specs.Picker.{after_pick, begun, pick_of, ready_of}
 
--- a pick and those behind it, where some of these can fire and there is a pick
+-- a pick and those after it, where some of these can fire and there is a pick
 abbrev pub pick_before : List ℕ → Option ℕ → (ℕ → List ℕ) → List ℕ
 pick_before [] pick later = []
 pick_before (p ∷ ps) None later = []

@@ -26,7 +26,7 @@ pick_of can size (way.Turns cursor) = find can (in_turn size cursor)
 pick_of can size (way.Draws generator) = slice_get (ready_of can size) ((pcg32 generator).0 % length (ready_of can size))
 pick_of can size (way.Reads picks) = slice_get picks 0
 
--- what the pick behind a pick is made by: the cursor moves behind what was picked, cyclically; a word was drawn; a pick was read
+-- what the pick after a pick is made by: the cursor moves after what was picked, cyclically; a word was drawn; a pick was read
 abbrev pub after_pick : ℕ → Way → ℕ → Way
 after_pick size (way.Turns cursor) p = way.Turns ((p + 1) % size)
 after_pick size (way.Draws generator) p = way.Draws (pcg32 generator).1

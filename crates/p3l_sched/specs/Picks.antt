@@ -38,14 +38,14 @@ abbrev pub EndsWord : List ℕ → Type 0
 EndsWord [] = Unit {0}
 EndsWord (byte ∷ bytes) = is_gap byte ≡ true
 
--- the text is a gap, a word and what is behind it
+-- the text is a gap, a word and what is after it
 pub record IsAtWord (text gap word after : List ℕ) : Type 0 where
   pub text_is : text ≡ gap ++ (word ++ after)
   pub are_gap : AreGap gap
   pub is_word : IsWord word
   pub ends : EndsWord after
 
--- the first word with what stands before and behind it, or there is none
+-- the first word with what stands before and after it, or there is none
 abbrev pub IsNextWord : List ℕ → Option (List ℕ × List ℕ × List ℕ) → Type 0
 IsNextWord text None = AreGap text
 IsNextWord text (Some (gap, word, after)) = IsAtWord text gap word after
@@ -63,7 +63,7 @@ pick_from count line (Some pick) = if nat_lt pick count then Ok pick else Err (r
 abbrev pub pick_of : ℕ → ℕ → List ℕ → Result ℕ PickRefusal
 pick_of count line word = pick_from count line (number_of word)
 
--- the picks of the first words of a text that begins at line `line`; behind them this rest begins, at line `last`
+-- the picks of the first words of a text that begins at line `line`; after them this rest begins, at line `last`
 abbrev pub AreRead : ℕ → ℕ → List ℕ → List ℕ → ℕ → List ℕ → Type 0
 AreRead count line text [] last rest = (line ≡ last) × (text ≡ rest)
 AreRead count line text (pick ∷ picks) last rest =

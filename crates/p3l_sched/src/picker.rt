@@ -74,7 +74,7 @@ impl Picker {
     }
 }
 
-/// The first process at or after the cursor, cyclically, that can fire; the cursor moves behind it.
+/// The first process at or after the cursor, cyclically, that can fire; the cursor moves after it.
 fn take_turn(cursor: &mut u32, machine: &Machine<'_>) -> Option<u32>
     requires { cursor.old < length machine.now.net.procs }
     ensures pick { result ≡ find (can_step machine.now) (in_turn (length machine.now.net.procs) cursor.old) }

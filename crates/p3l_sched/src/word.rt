@@ -29,7 +29,7 @@ fn first_of_word(bytes: &[u8]) -> Option<usize>
     bytes.iter().position(|byte| !separates(*byte))
 }
 
-/// What stands before the first word, the word, and what is behind it.
+/// What stands before the first word, the word, and what is after it.
 pub(crate) fn next_word(text: &[u8]) -> Option<(&[u8], &[u8], &[u8])>
     ensures { IsNextWord text.now (option_map (λ found. (found.0.now, found.1.now, found.2.now)) result) }
 {

@@ -13,7 +13,7 @@ TakesLawful-append tree (k ∷ ks) more [] middle rest front back = front
 TakesLawful-append tree (k ∷ ks) more (n ∷ ns) middle rest front back =
     (front.0, TakesLawful-append tree ks more ns middle rest front.1 back)
 
--- what is left over behind the first nodes' counts
+-- what is left over after the first nodes' counts
 pub TakesLawful-split : (tree : Tree) (ks more ns rest : List ℕ) → TakesLawful tree (ks ++ more) ns rest → (middle : List ℕ) × TakesLawful tree ks ns middle × TakesLawful tree more middle rest
 TakesLawful-split tree [] more ns rest all = (ns, refl, all)
 TakesLawful-split tree (k ∷ ks) more [] rest all = absurd all
@@ -26,7 +26,7 @@ TakesLawful-unique tree (k ∷ ks) [] rest other one two = absurd one
 TakesLawful-unique tree (k ∷ ks) (n ∷ ns) rest other one two =
     TakesLawful-unique tree ks ns rest other one.1 two.1
 
--- a whole list by what stands before an item, at it and behind it
+-- a whole list by what stands before an item, at it and after it
 flat_map-at : (f : ℕ → List ℕ) (items : List ℕ) (i d : ℕ) → i < length items → flat_map f items ≡ flat_map f (take i items) ++ (f (get_or items i d) ++ flat_map f (drop (suc i) items))
 flat_map-at f items i d inside =
     subst (λ xs. flat_map f items ≡ flat_map f (take i items) ++ flat_map f xs) (drop-cons items i d inside)
@@ -42,8 +42,8 @@ TakesLawful-more tree own f items i d ns middle rest inside front back =
 -- where the counts of one part are not lawful, nor are the whole
 pub TakesLawful-stops : (tree : Tree) (own : List ℕ) (f : ℕ → List ℕ) (items : List ℕ) (i d : ℕ) (ns middle rest : List ℕ) → i < length items → TakesLawful tree (own ++ flat_map f (take i items)) ns middle → ((after : List ℕ) → TakesLawful tree (f (get_or items i d)) middle after → ⊥) → TakesLawful tree (own ++ flat_map f items) ns rest → ⊥
 TakesLawful-stops tree own f items i d ns middle rest inside front wrong whole =
-    let parted : TakesLawful tree ((own ++ flat_map f (take i items)) ++ (f (get_or items i d) ++ flat_map f (drop (suc i) items))) ns rest =
+    let separated : TakesLawful tree ((own ++ flat_map f (take i items)) ++ (f (get_or items i d) ++ flat_map f (drop (suc i) items))) ns rest =
     rw (append_assoc own (flat_map f (take i items)), ← flat_map-at f items i d inside) whole in
-    let first = TakesLawful-split tree (own ++ flat_map f (take i items)) _ ns rest parted in
+    let first = TakesLawful-split tree (own ++ flat_map f (take i items)) _ ns rest separated in
     let second = TakesLawful-split tree (f (get_or items i d)) _ first.0 rest first.2 in
     wrong second.0 (subst (λ ms. TakesLawful tree (f (get_or items i d)) ms second.0) (TakesLawful-unique tree (own ++ flat_map f (take i items)) ns first.0 middle first.1 front) second.1)

@@ -16,7 +16,7 @@ use Rattle.p3l_skel.specs.Tree.{node_at, is_sequential, nesting}
 use Rattle.p3l_skel.specs.Counts.{IsCountInRange, workers_of}
 use Rattle.p3l_skel.specs.Work.{IsLight}
 
--- the subtrees at these nodes follow one another, the first at `from`, with `next` behind the last
+-- the subtrees at these nodes follow one another, the first at `from`, with `next` after the last
 abbrev pub AreSubtrees : (ℕ → ℕ → Type 0) → List ℕ → ℕ → ℕ → Type 0
 AreSubtrees Is [] from next = from ≡ next
 AreSubtrees Is (p ∷ ps) from next = (p ≡ from) × ((middle : ℕ) × Is p middle × AreSubtrees Is ps middle next)

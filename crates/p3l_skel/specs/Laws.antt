@@ -18,7 +18,7 @@ FoldsBySegments =
     (operator : List ℤ → Outcome) (level : ℕ) (outcomes : List Outcome) → 2 ^ level ≤ length outcomes →
     tree_fold operator (map (tree_fold operator) (segments level outcomes)) ≡ tree_fold operator outcomes
 
--- there are as many segments at a level as its power of two, and one behind the other they are the
+-- there are as many segments at a level as its power of two, and one after the other they are the
 -- whole
 pub record CutsIntoSegments (level : ℕ) (outcomes : List Outcome) : Type 0 where
   pub count : length (segments level outcomes) ≡ 2 ^ level

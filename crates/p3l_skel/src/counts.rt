@@ -70,9 +70,9 @@ pub fn outside_parts(node: &Node) -> &[u32]
     }
 }
 
-/// The place behind a node's own number in the counts, from a place on; none where the number is
+/// The place after a node's own number in the counts, from a place on; none where the number is
 /// wanting or not lawful.
-fn behind_own(tree: &Tree, number: u32, counts: &[u32], from: usize) -> Option<usize>
+fn after_own(tree: &Tree, number: u32, counts: &[u32], from: usize) -> Option<usize>
     ensures ok { IfSome result (λ next. TakesLawful tree.now (own_counted (node_at tree.now number).form number) (drop from counts.now) (drop next counts.now)) }
     ensures none { IfNone result ((rest : List ℕ) → ¬ TakesLawful tree.now (own_counted (node_at tree.now number).form number) (drop from counts.now) rest) }
 {
@@ -91,9 +91,9 @@ fn behind_own(tree: &Tree, number: u32, counts: &[u32], from: usize) -> Option<u
     }
 }
 
-/// The place behind the counts of a node outside units and of the nodes below it, from a place on;
+/// The place after the counts of a node outside units and of the nodes below it, from a place on;
 /// none where one is wanting or not lawful.
-fn behind(tree: &Tree, levels: u32, number: u32, counts: &[u32], from: usize) -> Option<usize>
+fn after(tree: &Tree, levels: u32, number: u32, counts: &[u32], from: usize) -> Option<usize>
     ensures ok { IfSome result (λ next. TakesLawful tree.now (counted_from tree.now levels number) (drop from counts.now) (drop next counts.now)) }
     ensures none { IfNone result ((rest : List ℕ) → ¬ TakesLawful tree.now (counted_from tree.now levels number) (drop from counts.now) rest) }
 {
@@ -103,9 +103,9 @@ fn behind(tree: &Tree, levels: u32, number: u32, counts: &[u32], from: usize) ->
     if levels == 0 {
         return Some(from);
     }
-    let mut next = behind_own(tree, number, counts, from)?;
+    let mut next = after_own(tree, number, counts, from)?;
     for part in outside_parts(node) {
-        next = behind(tree, levels - 1, *part, counts, next)?;
+        next = after(tree, levels - 1, *part, counts, next)?;
     }
     Some(next)
 }
@@ -116,7 +116,7 @@ pub fn lawful_counts(tree: &Tree, counts: &Counts) -> bool
     ensures { IsTrue result ↔ HasLawfulCounts tree.now counts.now.list }
 {
     let counts = counts.list.as_slice();
-    match behind(tree, NESTING, 0, counts, 0) {
+    match after(tree, NESTING, 0, counts, 0) {
         Some(next) => next >= counts.len(),
         None => false,
     }

@@ -6,7 +6,7 @@ ghost use Rattle.p3l_skel.specs.Lawful.{IsSubtree};
 
 use crate::tree::{Form, Tree};
 
-/// The number behind the last node of the subtree at a node, where its nodes are numbered in
+/// The number after the last node of the subtree at a node, where its nodes are numbered in
 /// preorder and nested at most so deep.
 pub fn subtree_end(tree: &Tree, levels: u32, number: u32) -> Option<u32>
     requires { length tree.now.nodes ≤ 128 }

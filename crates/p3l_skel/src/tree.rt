@@ -14,9 +14,9 @@ pub const NESTING: u32 = 6;
 pub enum Form {
     /// Runs the body of a `seq` module.
     Seq,
-    /// Runs its parts one behind the other, all in one process.
+    /// Runs its parts one after the other, all in one process.
     Comp,
-    /// Runs its parts one behind the other, each on its own processes.
+    /// Runs its parts one after the other, each on its own processes.
     Pipe,
     /// Runs its part on one of many workers.
     Farm {

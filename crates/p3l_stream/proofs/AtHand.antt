@@ -10,8 +10,8 @@ use Rattle.p3l_stream.specs.Ended.{AreBlank, HasLine, IsLine, ended, held_by}
 use Rattle.p3l_stream.specs.Lines.{is_feed}
 use Rattle.p3l_stream.specs.Passing.{PassedBlanks, PassesFilled}
 use Rattle.p3l_stream.specs.Seen.{Seen}
-use Rattle.p3l_stream.proofs.Blanks.{blank-append, bytes-behind}
-use Rattle.p3l_stream.proofs.Feeds.{fewer_behind, front_of_line, place, place-line}
+use Rattle.p3l_stream.proofs.Blanks.{blank-append, bytes-after}
+use Rattle.p3l_stream.proofs.Feeds.{fewer_after, front_of_line, place, place-line}
 use Rattle.p3l_stream.proofs.Reading.{answers_line, passes_only, takes_none, takes_passing}
 
 -- a line with words is at hand
@@ -22,7 +22,7 @@ finds_at_hand old new rest holds answer within below passed is = record {
   answer = answers_line old new _ holds answer passed.has_words (record {
     blanks = passed.blanks;
     first = passed.first;
-    behind = passed.first ++ 10 ∷ new.held;
+    after_blanks = passed.first ++ 10 ∷ new.held;
     are_blank = passed.are_blank;
     is_line = passed.is_line;
     holds_it = passed.holds_it;
@@ -33,55 +33,55 @@ finds_at_hand old new rest holds answer within below passed is = record {
 }
 
 -- lines without words stand before a line that is found
-finds_behind : (old mid new : Seen) (got : List ℕ) (holds : Line) → PassedBlanks old mid → FindsLine mid new (mid.held ++ got) holds → FindsLine old new (old.held ++ got) holds
-finds_behind old mid new got holds passed found =
+finds_after : (old mid new : Seen) (got : List ℕ) (holds : Line) → PassedBlanks old mid → FindsLine mid new (mid.held ++ got) holds → FindsLine old new (old.held ++ got) holds
+finds_after old mid new got holds passed found =
     let words_are : mid.words ≡ old.words = ap (λ (s : Seen). s.words) passed.after in
     let before : mid.passed ≡ old.passed + length passed.blanks = ap (λ (s : Seen). s.passed) passed.after in
     record {
       blanks = passed.blanks ++ found.blanks;
       first = found.first;
-      behind = found.behind;
+      after_blanks = found.after_blanks;
       are_blank = blank-append old.words passed.blanks found.blanks passed.are_blank (rw (← words_are) found.are_blank);
       is_line = found.is_line;
       holds_it = ap (λ (w : ℕ). held_by w found.first) (sym words_are) ∙ found.holds_it;
-      bytes_are = bytes-behind passed.blanks found.blanks old.held mid.held _ got found.behind passed.bytes_are found.bytes_are refl;
+      bytes_are = bytes-after passed.blanks found.blanks old.held mid.held _ got found.after_blanks passed.bytes_are found.bytes_are refl;
       stands = found.stands;
       counted = omega (arith, length-append passed.blanks found.blanks, found.counted);
     }
 
-runs_behind : (old mid : Seen) (now count : ℕ) (got part : List ℕ) → PassedBlanks old mid → RunsOut mid.words mid.passed now count (mid.held ++ got) part → RunsOut old.words old.passed now count (old.held ++ got) part
-runs_behind old mid now count got part passed out =
+runs_after : (old mid : Seen) (now count : ℕ) (got part : List ℕ) → PassedBlanks old mid → RunsOut mid.words mid.passed now count (mid.held ++ got) part → RunsOut old.words old.passed now count (old.held ++ got) part
+runs_after old mid now count got part passed out =
     let words_are : mid.words ≡ old.words = ap (λ (s : Seen). s.words) passed.after in
     let before : mid.passed ≡ old.passed + length passed.blanks = ap (λ (s : Seen). s.passed) passed.after in
     record {
       blanks = passed.blanks ++ out.blanks;
       are_blank = blank-append old.words passed.blanks out.blanks passed.are_blank (rw (← words_are) out.are_blank);
       is_line = out.is_line;
-      bytes_are = bytes-behind passed.blanks out.blanks old.held mid.held _ got part passed.bytes_are out.bytes_are refl;
+      bytes_are = bytes-after passed.blanks out.blanks old.held mid.held _ got part passed.bytes_are out.bytes_are refl;
       counted = omega (arith, length-append passed.blanks out.blanks, out.counted);
     }
 
-answer_behind : (old mid new : Seen) (got : List ℕ) (result : Result Next NoMemory) → PassedBlanks old mid → AnswerOf mid new (mid.held ++ got) result → AnswerOf old new (old.held ++ got) result
-answer_behind old mid new got (Ok (next.Item words)) passed found = finds_behind old mid new got _ passed found
-answer_behind old mid new got (Ok next.End) passed found = (
+answer_after : (old mid new : Seen) (got : List ℕ) (result : Result Next NoMemory) → PassedBlanks old mid → AnswerOf mid new (mid.held ++ got) result → AnswerOf old new (old.held ++ got) result
+answer_after old mid new got (Ok (next.Item words)) passed found = finds_after old mid new got _ passed found
+answer_after old mid new got (Ok next.End) passed found = (
   (
     found.0.0,
-    runs_behind old mid new.passed _ got found.0.0 passed found.0.1,
+    runs_after old mid new.passed _ got found.0.0 passed found.0.1,
     ap (λ (w : ℕ). held_by w found.0.0) (sym (ap (λ (s : Seen). s.words) passed.after)) ∙ found.0.2,
     found.0.3,
   ),
   found.1,
 )
-answer_behind old mid new got (Ok (next.BadWord number)) passed found = (finds_behind old mid new got _ passed found.0, found.1)
-answer_behind old mid new got (Ok (next.WrongCount number had)) passed found = (finds_behind old mid new got _ passed found.0, found.1)
-answer_behind old mid new got (Ok (next.OutOfRange number)) passed found = (finds_behind old mid new got _ passed found.0, found.1)
-answer_behind old mid new got (Ok next.ReadFault) passed found = ((found.0.0, runs_behind old mid new.passed 0 got found.0.0 passed found.0.1, found.0.2), found.1, found.2)
-answer_behind old mid new got (Ok next.TooLong) passed found = ((found.0.0, runs_behind old mid new.passed 0 got found.0.0 passed found.0.1, found.0.2), found.1)
-answer_behind old mid new got (Err e) passed found = tt
+answer_after old mid new got (Ok (next.BadWord number)) passed found = (finds_after old mid new got _ passed found.0, found.1)
+answer_after old mid new got (Ok (next.WrongCount number had)) passed found = (finds_after old mid new got _ passed found.0, found.1)
+answer_after old mid new got (Ok (next.OutOfRange number)) passed found = (finds_after old mid new got _ passed found.0, found.1)
+answer_after old mid new got (Ok next.ReadFault) passed found = ((found.0.0, runs_after old mid new.passed 0 got found.0.0 passed found.0.1, found.0.2), found.1, found.2)
+answer_after old mid new got (Ok next.TooLong) passed found = ((found.0.0, runs_after old mid new.passed 0 got found.0.0 passed found.0.1, found.0.2), found.1)
+answer_after old mid new got (Err e) passed found = tt
 
--- an answer behind lines without words at hand
-pub answers_behind : (old mid new : Seen) (rest left : Option (List ℕ)) (result : Result Next NoMemory) → PassedBlanks old mid → Answers mid new rest left result → Answers old new rest left result
-answers_behind old mid new rest left result passed is =
+-- an answer after lines without words at hand
+pub answers_after : (old mid new : Seen) (rest left : Option (List ℕ)) (result : Result Next NoMemory) → PassedBlanks old mid → Answers mid new rest left result → Answers old new rest left result
+answers_after old mid new rest left result passed is =
     let taken_is : mid.taken ≡ old.taken = ap (λ (s : Seen). s.taken) passed.after in
     let end_is : mid.at_end ≡ old.at_end = ap (λ (s : Seen). s.at_end) passed.after in
     record {
@@ -96,7 +96,7 @@ answers_behind old mid new rest left result passed is =
         once = λ ends. is.takes.once (end_is ∙ ends);
         all = λ begins ends. is.takes.all (end_is ∙ begins) ends;
       };
-      answer = answer_behind old mid new is.got result passed is.answer;
+      answer = answer_after old mid new is.got result passed is.answer;
     }
 
 -- bytes have one first line
@@ -119,7 +119,7 @@ one_first (a ∷ x) (b ∷ y) u v px py e =
 -- bytes whose ended lines have no words have no ended line with words
 none_among : (width : ℕ) (bs cs : List (List ℕ)) (part first after : List ℕ) → AreBlank width bs → AreBlank width cs → IsLine part → IsLine first → held_by width first ≢ line.Blank → ended bs ++ part ≡ ended cs ++ (first ++ 10 ∷ after) → ⊥
 none_among width [] cs part first after bb cb lp lf filled e =
-    let few : length after < 0 = fewer_behind part [] (ended cs ++ first) after (place-line part lp) (append-nil part ∙ e ∙ sym (append_assoc (ended cs) first (10 ∷ after))) in
+    let few : length after < 0 = fewer_after part [] (ended cs ++ first) after (place-line part lp) (append-nil part ∙ e ∙ sym (append_assoc (ended cs) first (10 ∷ after))) in
     absurd (omega arith)
 none_among width (b ∷ bs) [] part first after bb cb lp lf filled e =
     let same : (b ≡ first) × (ended bs ++ part ≡ after) = one_first b first _ after (place-line b bb.0) (place-line first lf) (sym (append_assoc b (10 ∷ ended bs) part) ∙ e) in

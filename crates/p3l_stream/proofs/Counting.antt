@@ -16,20 +16,20 @@ has_byte : (width : ℕ) (first : List ℕ) (holds : Line) → held_by width fir
 has_byte width [] holds is filled = absurd (filled (sym is))
 has_byte width (byte ∷ bytes) holds is filled = omega arith
 
--- an item has its bytes: two, or one at the end of the input with nothing behind it
+-- an item has its bytes: two, or one at the end of the input with nothing after it
 has_bytes : (old new : Seen) (bytes : List ℕ) (holds : Line) → holds ≢ line.Blank → FindsLine old new bytes holds
     → (length new.held + 2 ≤ length bytes) ⊎ ((new.at_end ≡ true) × (length new.held ≡ 0) × (1 ≤ length bytes))
-has_bytes old new bytes holds filled found = by_stand found.behind found.bytes_are found.stands
+has_bytes old new bytes holds filled found = by_stand found.after_blanks found.bytes_are found.stands
   where
     one : 1 ≤ length found.first
     one = has_byte old.words found.first holds found.holds_it filled
 
-    by_stand : (behind : List ℕ) → bytes ≡ ended found.blanks ++ behind → IsBefore new.at_end behind found.first new.held
+    by_stand : (after_blanks : List ℕ) → bytes ≡ ended found.blanks ++ after_blanks → IsBefore new.at_end after_blanks found.first new.held
         → (length new.held + 2 ≤ length bytes) ⊎ ((new.at_end ≡ true) × (length new.held ≡ 0) × (1 ≤ length bytes))
-    by_stand behind are (inl e) =
-        inl (omega (arith, one, ap length are, ap length e, length-append (ended found.blanks) behind, length-append found.first (10 ∷ new.held)))
-    by_stand behind are (inr e) =
-        inr (e.0, ap length e.2, omega (arith, one, ap length are, ap length e.1, length-append (ended found.blanks) behind))
+    by_stand after_blanks are (inl e) =
+        inl (omega (arith, one, ap length are, ap length e, length-append (ended found.blanks) after_blanks, length-append found.first (10 ∷ new.held)))
+    by_stand after_blanks are (inr e) =
+        inr (e.0, ap length e.2, omega (arith, one, ap length are, ap length e.1, length-append (ended found.blanks) after_blanks))
 
 -- one item less
 one_less : (old new : Seen) (got : List ℕ) (rest left : Option (List ℕ)) (a b : Bool) → old.at_end ≡ a → new.at_end ≡ b → Takes old new rest left got

@@ -27,7 +27,7 @@ position-missed bytes all = missed_at _ _ all
 pub place-line : (bytes : List ℕ) → IsLine bytes → place bytes ≡ length bytes
 place-line bytes none = position-none is_feed bytes none
 
--- the first byte of a line is no line feed, and those behind it are a line
+-- the first byte of a line is no line feed, and those after it are a line
 pub front_of_line : (byte : ℕ) (bytes : List ℕ) → place (byte ∷ bytes) ≡ suc (length bytes) → (is_feed byte ≡ false) × (place bytes ≡ length bytes)
 front_of_line byte bytes all =
     elim (is_feed byte) as (λ b. cond (not b) (1 + place bytes) 0 ≡ suc (length bytes) → (b ≡ false) × (place bytes ≡ length bytes)) [
@@ -35,12 +35,12 @@ front_of_line byte bytes all =
       | false ↦ λ e. (refl, omega arith)
     ] all
 
--- behind a line the first line feed is that of the other bytes
-pub place-behind : (bytes more : List ℕ) → place bytes ≡ length bytes → place (bytes ++ more) ≡ length bytes + place more
-place-behind [] more all = grind arith
-place-behind (byte ∷ bytes) more all =
+-- after a line the first line feed is that of the other bytes
+pub place-after : (bytes more : List ℕ) → place bytes ≡ length bytes → place (bytes ++ more) ≡ length bytes + place more
+place-after [] more all = grind arith
+place-after (byte ∷ bytes) more all =
     let front : (is_feed byte ≡ false) × (place bytes ≡ length bytes) = front_of_line byte bytes all in
-    let rest : place (bytes ++ more) ≡ length bytes + place more = place-behind bytes more front.1 in
+    let rest : place (bytes ++ more) ≡ length bytes + place more = place-after bytes more front.1 in
     ap (λ b. cond (not b) (1 + place (bytes ++ more)) 0) front.0 ∙ omega arith
 
 -- what stands before the first line feed is a line
@@ -56,53 +56,53 @@ place-take (byte ∷ bytes) (suc n) low high =
 feed_is : (byte : ℕ) → is_feed byte ≡ true → byte ≡ 10
 feed_is byte e = eqb-true byte 10 e
 
--- the bytes, parted at a line feed of this place
-abbrev Parted : List ℕ → ℕ → Type 0
-Parted bytes n = bytes ≡ take n bytes ++ 10 ∷ drop (n + 1) bytes
+-- the bytes, separated at a line feed of this place
+abbrev Separated : List ℕ → ℕ → Type 0
+Separated bytes n = bytes ≡ take n bytes ++ 10 ∷ drop (n + 1) bytes
 
-parted_first : (byte : ℕ) (bytes : List ℕ) (n : ℕ) → is_feed byte ≡ true → n ≡ 0 → Parted (byte ∷ bytes) n
-parted_first byte bytes n feed none = rw none (ap (λ (x : ℕ). x ∷ bytes) (feed_is byte feed))
+separated_first : (byte : ℕ) (bytes : List ℕ) (n : ℕ) → is_feed byte ≡ true → n ≡ 0 → Separated (byte ∷ bytes) n
+separated_first byte bytes n feed none = rw none (ap (λ (x : ℕ). x ∷ bytes) (feed_is byte feed))
 
-parted_later : (byte : ℕ) (bytes : List ℕ) (m n : ℕ) → n ≡ suc m → Parted bytes m → Parted (byte ∷ bytes) n
-parted_later byte bytes m n more tail =
+separated_later : (byte : ℕ) (bytes : List ℕ) (m n : ℕ) → n ≡ suc m → Separated bytes m → Separated (byte ∷ bytes) n
+separated_later byte bytes m n more tail =
     let next : suc m + 1 ≡ suc (m + 1) = omega arith in
     rw (more, next) (ap (λ (l : List ℕ). byte ∷ l) tail)
 
-parted_by : (byte : ℕ) (bytes : List ℕ) (n : ℕ) (b : Bool) → is_feed byte ≡ b → cond (not b) (1 + place bytes) 0 ≡ n → n < suc (length bytes) → (place bytes < length bytes → Parted bytes (place bytes)) → Parted (byte ∷ bytes) n
-parted_by byte bytes n true feed is below tail = parted_first byte bytes n feed (omega arith)
-parted_by byte bytes n false feed is below tail = parted_later byte bytes (place bytes) n (omega arith) (tail (omega arith))
+separated_by : (byte : ℕ) (bytes : List ℕ) (n : ℕ) (b : Bool) → is_feed byte ≡ b → cond (not b) (1 + place bytes) 0 ≡ n → n < suc (length bytes) → (place bytes < length bytes → Separated bytes (place bytes)) → Separated (byte ∷ bytes) n
+separated_by byte bytes n true feed is below tail = separated_first byte bytes n feed (omega arith)
+separated_by byte bytes n false feed is below tail = separated_later byte bytes (place bytes) n (omega arith) (tail (omega arith))
 
 -- a line feed stands at its place
-pub bytes-at_place : (bytes : List ℕ) (n : ℕ) → place bytes ≡ n → n < length bytes → Parted bytes n
+pub bytes-at_place : (bytes : List ℕ) (n : ℕ) → place bytes ≡ n → n < length bytes → Separated bytes n
 bytes-at_place [] n is below = absurd (omega arith)
 bytes-at_place (byte ∷ bytes) n is below =
-    parted_by byte bytes n (is_feed byte) refl is (omega arith) (λ l. bytes-at_place bytes (place bytes) refl l)
+    separated_by byte bytes n (is_feed byte) refl is (omega arith) (λ l. bytes-at_place bytes (place bytes) refl l)
 
--- bytes in which a line feed stands behind a line have fewer behind it than stand behind the line
-pub fewer_behind : (xs ys zs ws : List ℕ) → place xs ≡ length xs → xs ++ ys ≡ zs ++ 10 ∷ ws → length ws < length ys
-fewer_behind [] ys zs ws all e = omega (arith, ap length e, length-append {A = ℕ})
-fewer_behind (x ∷ xs) ys [] ws all e =
+-- bytes in which a line feed stands after a line have fewer after it than stand after the line
+pub fewer_after : (xs ys zs ws : List ℕ) → place xs ≡ length xs → xs ++ ys ≡ zs ++ 10 ∷ ws → length ws < length ys
+fewer_after [] ys zs ws all e = omega (arith, ap length e, length-append {A = ℕ})
+fewer_after (x ∷ xs) ys [] ws all e =
     let front : (is_feed x ≡ false) × (place xs ≡ length xs) = front_of_line x xs all in
     absurd (let ten : x ≡ 10 = cc in let no : is_feed 10 ≡ false = ap is_feed (sym ten) ∙ front.0 in cc)
-fewer_behind (x ∷ xs) ys (z ∷ zs) ws all e =
+fewer_after (x ∷ xs) ys (z ∷ zs) ws all e =
     let front : (is_feed x ≡ false) × (place xs ≡ length xs) = front_of_line x xs all in
     let rest : xs ++ ys ≡ zs ++ 10 ∷ ws = cc in
-    fewer_behind xs ys zs ws front.1 rest
+    fewer_after xs ys zs ws front.1 rest
 
--- a line and a line behind it are one
+-- a line and a line after it are one
 pub line_by_halves : (bytes : List ℕ) (n : ℕ) → IsLine (take n bytes) → IsLine (drop n bytes) → IsLine bytes
 line_by_halves bytes n front back =
     let whole : take n bytes ++ drop n bytes ≡ bytes = take-append-drop n bytes in
-    let all : place (take n bytes ++ drop n bytes) ≡ length (take n bytes) + place (drop n bytes) = place-behind _ _ (place-line _ front) in
+    let all : place (take n bytes ++ drop n bytes) ≡ length (take n bytes) + place (drop n bytes) = place-after _ _ (place-line _ front) in
     let rest : place (drop n bytes) ≡ length (drop n bytes) = place-line _ back in
     position-missed bytes (sym (ap place whole) ∙ all ∙ ap (λ m. length (take n bytes) + m) rest ∙ sym (length-append (take n bytes) (drop n bytes)) ∙ ap length whole)
 
--- behind a line the first line feed of the rest is the first of all
-pub feed_behind : (bytes : List ℕ) (n i : ℕ) → n ≤ length bytes → IsLine (take n bytes) → Some i ≡ position is_feed (drop n bytes) → Some (n + i) ≡ position is_feed bytes
-feed_behind bytes n i within front found =
+-- after a line the first line feed of the rest is the first of all
+pub feed_after : (bytes : List ℕ) (n i : ℕ) → n ≤ length bytes → IsLine (take n bytes) → Some i ≡ position is_feed (drop n bytes) → Some (n + i) ≡ position is_feed bytes
+feed_after bytes n i within front found =
     let at : (place (drop n bytes) ≡ i) × (place (drop n bytes) < length (drop n bytes)) = position-some is_feed (drop n bytes) i (sym found) in
     let whole : take n bytes ++ drop n bytes ≡ bytes = take-append-drop n bytes in
-    let all : place (take n bytes ++ drop n bytes) ≡ length (take n bytes) + place (drop n bytes) = place-behind _ _ (place-line _ front) in
+    let all : place (take n bytes ++ drop n bytes) ≡ length (take n bytes) + place (drop n bytes) = place-after _ _ (place-line _ front) in
     let here : place bytes ≡ n + i = sym (ap place whole) ∙ all ∙ omega (arith, at.0, length-take n bytes) in
     let size : length (drop n bytes) ≡ length bytes - n = length-drop n bytes in
     let below : place bytes < length bytes = omega (arith, at.0, at.1) in

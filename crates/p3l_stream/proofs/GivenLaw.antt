@@ -20,7 +20,7 @@ use Rattle.p3l_stream.specs.Lines.{last_line}
 use Rattle.p3l_stream.specs.Seen.{Seen, closed_by, started}
 use Rattle.p3l_stream.specs.Words.{numbers_of, words_of}
 use Rattle.p3l_stream.proofs.Endings.{IsWide, line_wide}
-use Rattle.p3l_stream.proofs.LinesBehind.{items_behind, items_dropped, items_ended, items_from, items_last, items_none}
+use Rattle.p3l_stream.proofs.LinesAfter.{items_after, items_dropped, items_ended, items_from, items_last, items_none}
 use Rattle.p3l_stream.proofs.Pieces.{not_both}
 
 -- a stream from which nothing was asked
@@ -40,14 +40,14 @@ wide_more : (width : ℕ) (items : List (List ℤ)) (words : List ℤ) → AllBy
 wide_more width [] words all one = (one, tt)
 wide_more width (first ∷ items) words all one = (all.0, wide_more width items words all.1 one)
 
--- what an answer says of the items behind those answered before
+-- what an answer says of the items after those answered before
 module _ (width : ℕ) (old new : Seen) (rest left : Option (List ℕ)) (bytes : List ℕ) (items : List (List ℤ)) (result : Result Next NoMemory) (was : HasGiven width old bytes items) (is_open : old.closed ≡ None)
     (answers : Answers old new rest left result) where
   abbrev got : List ℕ
   got = answers.got
 
-  behind : Closes width old bytes items None
-  behind = subst (Closes width old bytes items) is_open was.closes
+  later : Closes width old bytes items None
+  later = subst (Closes width old bytes items) is_open was.closes
 
   goes_on : (how : Cutoff) (more : List ℕ) → GoesOn new.at_end how more → GoesOn old.at_end how (got ++ more)
   goes_on how more on ends =
@@ -59,13 +59,13 @@ module _ (width : ℕ) (old new : Seen) (rest left : Option (List ℕ)) (bytes :
   on_from : (how : Cutoff) (more : List ℕ) → GoesOn old.at_end how (got ++ more) → items_taken width how ((bytes ++ got) ++ more) ≡ before_items items (items_from width (old.passed + 1) (closing how) how ((old.held ++ got) ++ more))
   on_from how more on =
       ap (items_taken width how) (append_assoc bytes got more)
-      ∙ behind how (got ++ more) on
+      ∙ later how (got ++ more) on
       ∙ ap (λ (l : List ℕ). before_items items (items_from width (old.passed + 1) (closing how) how l)) (sym (append_assoc old.held got more))
 
   first_of : AreFirst width new.at_end (bytes ++ got) items
   first_of how more on = (items_from width (old.passed + 1) (closing how) how ((old.held ++ got) ++ more), on_from how more (goes_on how more on))
 
-  -- a line that was found, before those behind it
+  -- a line that was found, before those after it
   module _ (holds : Line) (filled : holds ≢ line.Blank) (found : FindsLine old new (old.held ++ got) holds) where
     held_it : held_by width found.first ≡ holds
     held_it = ap (λ (w : ℕ). held_by w found.first) (sym was.width_is) ∙ found.holds_it
@@ -73,15 +73,15 @@ module _ (width : ℕ) (old new : Seen) (rest left : Option (List ℕ)) (bytes :
     number : old.passed + 1 + length found.blanks ≡ new.passed
     number = (let count = found.counted in omega arith)
 
-    stands_before : (how : Cutoff) (more : List ℕ) → GoesOn new.at_end how more → IsBefore new.at_end found.behind found.first new.held →
-        items_from width new.passed (closing how) how (found.behind ++ more) ≡ put_line holds new.passed (items_from width (new.passed + 1) (closing how) how (new.held ++ more))
+    stands_before : (how : Cutoff) (more : List ℕ) → GoesOn new.at_end how more → IsBefore new.at_end found.after_blanks found.first new.held →
+        items_from width new.passed (closing how) how (found.after_blanks ++ more) ≡ put_line holds new.passed (items_from width (new.passed + 1) (closing how) how (new.held ++ more))
     stands_before how more on (inl at) =
         ap (λ (l : List ℕ). items_from width new.passed (closing how) how (l ++ more)) at
         ∙ ap (items_from width new.passed (closing how) how) (append_assoc found.first (10 ∷ new.held) more)
         ∙ items_ended width new.passed (closing how) how found.first (new.held ++ more) holds found.is_line held_it
     stands_before how more on (inr at) =
         let now = on at.0 in
-        let bare : found.behind ++ more ≡ found.first = ap (λ (l : List ℕ). found.behind ++ l) now.1 ∙ append-nil found.behind ∙ at.1 in
+        let bare : found.after_blanks ++ more ≡ found.first = ap (λ (l : List ℕ). found.after_blanks ++ l) now.1 ∙ append-nil found.after_blanks ∙ at.1 in
         let none : new.held ++ more ≡ [] = ap (λ (l : List ℕ). l ++ more) at.2 ∙ now.1 in
         let last = items_last width new.passed (closing stop.End) found.first holds found.is_line held_it filled in
         ap (λ (l : List ℕ). items_from width new.passed (closing how) how l) bare
@@ -94,9 +94,9 @@ module _ (width : ℕ) (old new : Seen) (rest left : Option (List ℕ)) (bytes :
         items_taken width how ((bytes ++ got) ++ more) ≡ before_items items (put_line holds new.passed (items_from width (new.passed + 1) (closing how) how (new.held ++ more)))
     on_line how more on =
         on_from how more (goes_on how more on)
-        ∙ ap (λ (l : List ℕ). before_items items (items_from width (old.passed + 1) (closing how) how l)) (ap (λ (l : List ℕ). l ++ more) found.bytes_are ∙ append_assoc (ended found.blanks) found.behind more)
-        ∙ ap (before_items items) (items_behind width (old.passed + 1) (closing how) how found.blanks (found.behind ++ more) (subst (λ w. AreBlank w found.blanks) was.width_is found.are_blank))
-        ∙ ap (λ (k : ℕ). before_items items (items_from width k (closing how) how (found.behind ++ more))) number
+        ∙ ap (λ (l : List ℕ). before_items items (items_from width (old.passed + 1) (closing how) how l)) (ap (λ (l : List ℕ). l ++ more) found.bytes_are ∙ append_assoc (ended found.blanks) found.after_blanks more)
+        ∙ ap (before_items items) (items_after width (old.passed + 1) (closing how) how found.blanks (found.after_blanks ++ more) (subst (λ w. AreBlank w found.blanks) was.width_is found.are_blank))
+        ∙ ap (λ (k : ℕ). before_items items (items_from width k (closing how) how (found.after_blanks ++ more))) number
         ∙ ap (before_items items) (stands_before how more on found.stands)
 
   -- a line that is refused
@@ -111,7 +111,7 @@ module _ (width : ℕ) (old new : Seen) (rest left : Option (List ℕ)) (bytes :
       ap (items_taken width how) (sym (append-nil (bytes ++ got)))
       ∙ on_from how [] (goes_on how [] (λ ends. absurd (not_both new.at_end ends not_ended)))
       ∙ ap (λ (l : List ℕ). before_items items (items_from width (old.passed + 1) (closing how) how l)) (append-nil (old.held ++ got) ∙ out.bytes_are)
-      ∙ ap (before_items items) (items_behind width (old.passed + 1) (closing how) how out.blanks none.0 (subst (λ w. AreBlank w out.blanks) was.width_is out.are_blank))
+      ∙ ap (before_items items) (items_after width (old.passed + 1) (closing how) how out.blanks none.0 (subst (λ w. AreBlank w out.blanks) was.width_is out.are_blank))
       ∙ ap (before_items items) (items_dropped width _ (closing how) how none.0 out.is_line (drops none.0))
       ∙ ap (λ (i : List (List ℤ)). ended_by i (closing how)) (append-nil items)
 
@@ -121,7 +121,7 @@ module _ (width : ℕ) (old new : Seen) (rest left : Option (List ℕ)) (bytes :
       ap (items_taken width stop.End) (sym (append-nil (bytes ++ got)))
       ∙ on_from stop.End [] (goes_on stop.End [] (λ e. (refl, refl)))
       ∙ ap (λ (l : List ℕ). before_items items (items_from width (old.passed + 1) ending.End stop.End l)) (append-nil (old.held ++ got) ∙ out.bytes_are)
-      ∙ ap (before_items items) (items_behind width (old.passed + 1) ending.End stop.End out.blanks part (subst (λ w. AreBlank w out.blanks) was.width_is out.are_blank))
+      ∙ ap (before_items items) (items_after width (old.passed + 1) ending.End stop.End out.blanks part (subst (λ w. AreBlank w out.blanks) was.width_is out.are_blank))
       ∙ ap (before_items items) (items_none width _ ending.End part out.is_line (ap (λ (w : ℕ). held_by w part) (sym was.width_is) ∙ blank))
       ∙ ap (λ (i : List (List ℤ)). ended_by i ending.End) (append-nil items)
 

@@ -13,5 +13,5 @@ pub mod Reading
 pub mod Asking
 pub mod AtHand
 pub mod Counting
-pub mod LinesBehind
+pub mod LinesAfter
 pub mod GivenLaw

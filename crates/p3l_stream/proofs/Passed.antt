@@ -3,7 +3,7 @@ use Rattle.std.proofs.Common.{◌≡◌, ℕ, ◌+◌, ◌<◌, List, [], ◌∷
 use Rattle.p3l_stream.specs.declared.line.Line.{Line}
 use Rattle.p3l_stream.specs.declared.line.Line.TheVariants as line
 use Rattle.p3l_stream.specs.Ended.{IsLine, ended, held_by}
-use Rattle.p3l_stream.specs.Passing.{MayPassLine, OnlyPasses, PassedBlanks, PassesFilled, PassesLine, behind}
+use Rattle.p3l_stream.specs.Passing.{MayPassLine, OnlyPasses, PassedBlanks, PassesFilled, PassesLine, moved_past}
 use Rattle.p3l_stream.specs.Seen.{Seen}
 use Rattle.p3l_stream.proofs.Blanks.{blank-append, ended-append}
 
@@ -12,13 +12,13 @@ pub passed_none : (s : Seen) → PassedBlanks s s
 passed_none s = record { blanks = []; are_blank = tt; bytes_are = refl; after = ap (λ n. record s { passed = n }) (omega arith) }
 
 -- lines after lines were passed
-pub behind-behind : (s now new : Seen) (m n k : ℕ) → now ≡ behind s m now.held → new ≡ behind now n new.held → m + n ≡ k → new ≡ behind s k new.held
-behind-behind s now new m n k was is sum =
+pub moved_past-moved_past : (s now new : Seen) (m n k : ℕ) → now ≡ moved_past s m now.held → new ≡ moved_past now n new.held → m + n ≡ k → new ≡ moved_past s k new.held
+moved_past-moved_past s now new m n k was is sum =
     let count : s.passed + m + n ≡ s.passed + k = omega arith in
-    is ∙ ap (λ (x : Seen). behind x n new.held) was ∙ ap (λ (p : ℕ). record s { held = new.held; passed = p }) count
+    is ∙ ap (λ (x : Seen). moved_past x n new.held) was ∙ ap (λ (p : ℕ). record s { held = new.held; passed = p }) count
 
 -- the width stays
-pub same_words : (s now : Seen) (n : ℕ) → now ≡ behind s n now.held → now.words ≡ s.words
+pub same_words : (s now : Seen) (n : ℕ) → now ≡ moved_past s n now.held → now.words ≡ s.words
 same_words s now n is = ap (λ (x : Seen). x.words) is
 
 -- the first line of what is left was passed, which has no words
@@ -31,7 +31,7 @@ passed_blank old now new holds was is blank = record {
       ∙ ap (λ (t : List ℕ). ended was.blanks ++ t) (is.bytes_are ∙ sym (append_assoc is.first (10 ∷ []) new.held))
       ∙ sym (append_assoc (ended was.blanks) (is.first ++ 10 ∷ []) new.held)
       ∙ ap (λ (t : List ℕ). t ++ new.held) (sym (ended-append was.blanks (is.first ∷ [])));
-  after = behind-behind old now new (length was.blanks) 1 _ was.after is.after (sym (length-append was.blanks (is.first ∷ [])));
+  after = moved_past-moved_past old now new (length was.blanks) 1 _ was.after is.after (sym (length-append was.blanks (is.first ∷ [])));
 }
 
 -- the first line of what is left was passed, which has words
@@ -44,7 +44,7 @@ passed_filled old now new holds was is filled = record {
   holds_it = ap (λ (w : ℕ). held_by w is.first) (sym (same_words old now _ was.after)) ∙ is.holds_it;
   has_words = filled;
   bytes_are = was.bytes_are ∙ ap (λ (t : List ℕ). ended was.blanks ++ t) is.bytes_are;
-  after = behind-behind old now new (length was.blanks) 1 _ was.after is.after refl;
+  after = moved_past-moved_past old now new (length was.blanks) 1 _ was.after is.after refl;
 }
 
 -- a line that was passed is one

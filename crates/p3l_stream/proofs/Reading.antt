@@ -10,11 +10,11 @@ use Rattle.p3l_stream.specs.declared.taken.Cutoff.TheVariants as stop
 use Rattle.p3l_stream.specs.Answers.{AnswerOf, Answers, FindsLine, FindsNone, Takes, answer_for}
 use Rattle.p3l_stream.specs.Ended.{AreBlank, IsLine, ended, held_by}
 use Rattle.p3l_stream.specs.Lines.{last_line}
-use Rattle.p3l_stream.specs.Passing.{OnlyPasses, PassedBlanks, PassesFilled, PassesLast, TakesPiece, behind}
+use Rattle.p3l_stream.specs.Passing.{OnlyPasses, PassedBlanks, PassesFilled, PassesLast, TakesPiece, moved_past}
 use Rattle.p3l_stream.specs.Seen.{Seen}
 use Rattle.p3l_stream.specs.Taken.{IsTaken}
-use Rattle.p3l_stream.proofs.Blanks.{blank-append, bytes-behind}
-use Rattle.p3l_stream.proofs.Feeds.{fewer_behind, place-line}
+use Rattle.p3l_stream.proofs.Blanks.{blank-append, bytes-after}
+use Rattle.p3l_stream.proofs.Feeds.{fewer_after, place-line}
 use Rattle.p3l_stream.proofs.Pieces.{not_both}
 
 -- nothing was taken
@@ -80,7 +80,7 @@ takes_passing old now new rest left got was is =
     }
 
 -- the same of lines that are counted
-pub passes_only : (now new : Seen) (n : ℕ) (held : List ℕ) → new ≡ behind now n held → OnlyPasses now new
+pub passes_only : (now new : Seen) (n : ℕ) (held : List ℕ) → new ≡ moved_past now n held → OnlyPasses now new
 passes_only now new n held is = is ∙ sym (ap (λ (s : Seen). record now { held = s.held; passed = s.passed }) is)
 
 -- bytes were taken, of which lines without words were passed, and what is left is no ended line
@@ -118,7 +118,7 @@ goes_on old now mid new rest was_left left piece way is_open took passed is_line
       takes = takes_passing _ mid new _ _ _ (takes_more _ _ _ _ _ _ _ _ _ way.takes is_open took) (passes_only mid new _ _ passed.after);
       are_blank = blank-append old.words way.blanks passed.blanks way.are_blank (rw (← words_are) passed.are_blank);
       is_line = is_line;
-      bytes_are = bytes-behind way.blanks passed.blanks (old.held ++ way.got) now.held _ piece new.held way.bytes_are (sym held_is ∙ passed.bytes_are) (sym (append_assoc old.held way.got piece));
+      bytes_are = bytes-after way.blanks passed.blanks (old.held ++ way.got) now.held _ piece new.held way.bytes_are (sym held_is ∙ passed.bytes_are) (sym (append_assoc old.held way.got piece));
       passed = omega (arith, length-append way.blanks passed.blanks, way.passed);
     }
 
@@ -147,22 +147,22 @@ finds_in_piece old now mid new rest was_left left piece holds answer way is_open
       answer = answers_line old new _ holds answer passed.has_words (record {
         blanks = way.blanks ++ passed.blanks;
         first = passed.first;
-        behind = passed.first ++ 10 ∷ new.held;
+        after_blanks = passed.first ++ 10 ∷ new.held;
         are_blank = blank-append old.words way.blanks passed.blanks way.are_blank (rw (← words_are) passed.are_blank);
         is_line = passed.is_line;
         holds_it = ap (λ (w : ℕ). held_by w passed.first) (sym words_are) ∙ passed.holds_it;
-        bytes_are = bytes-behind way.blanks passed.blanks (old.held ++ way.got) now.held _ piece _ way.bytes_are (sym held_is ∙ passed.bytes_are) (sym (append_assoc old.held way.got piece));
+        bytes_are = bytes-after way.blanks passed.blanks (old.held ++ way.got) now.held _ piece _ way.bytes_are (sym held_is ∙ passed.bytes_are) (sym (append_assoc old.held way.got piece));
         stands = inl refl;
         counted = omega (arith, length-append way.blanks passed.blanks, way.passed);
       }) is;
     }
 
--- less than the piece is left behind it
+-- less than the piece is left after it
 pub few_left : (now mid new : Seen) (left was_left : Option (List ℕ)) (piece : List ℕ) (holds : Line) → IsLine now.held → TakesPiece now mid was_left left piece (now.held ++ piece) → PassesFilled mid new holds → length new.held < 4096
 few_left now mid new left was_left piece holds is_line took passed =
     let held_is : mid.held ≡ now.held ++ piece = ap (λ (s : Seen). s.held) took.after in
     let all : now.held ++ piece ≡ (ended passed.blanks ++ passed.first) ++ 10 ∷ new.held = sym held_is ∙ passed.bytes_are ∙ sym (append_assoc (ended passed.blanks) passed.first (10 ∷ new.held)) in
-    let fewer : length new.held < length piece = fewer_behind now.held piece _ new.held (place-line now.held is_line) all in
+    let fewer : length new.held < length piece = fewer_after now.held piece _ new.held (place-line now.held is_line) all in
     omega (arith, took.short)
 
 -- no line with words is ended, and the rest of a line is dropped
@@ -226,7 +226,7 @@ answers_last old now new rest left holds answer way ends passed is =
     found holds filled holds_it count held_is end_is = record {
       blanks = way.blanks;
       first = now.held;
-      behind = now.held;
+      after_blanks = now.held;
       are_blank = way.are_blank;
       is_line = way.is_line;
       holds_it = holds_it;

@@ -29,23 +29,23 @@ pub record Takes (old new : Seen) (rest left : Option (List ℕ)) (got : List �
   pub once : old.at_end ≡ true → (got ≡ []) × (new.at_end ≡ true)
   pub all : old.at_end ≡ false → new.at_end ≡ true → IsAtEnd left
 
--- a line stands before other bytes, ended by a line feed, or by the end of the input with nothing behind it
+-- a line stands before other bytes, ended by a line feed, or by the end of the input with nothing after it
 abbrev pub IsBefore : Bool → List ℕ → List ℕ → List ℕ → Type 0
 IsBefore at_end bytes first after = (bytes ≡ first ++ 10 ∷ after) ⊎ ((at_end ≡ true) × (bytes ≡ first) × (after ≡ []))
 
--- the bytes have some lines without words, then one that holds this, and behind them what is held; `before` lines were passed, and `now` are
+-- the bytes have some lines without words, then one that holds this, and after them what is held; `before` lines were passed, and `now` are
 pub record Finds (width before now : ℕ) (at_end : Bool) (bytes held : List ℕ) (holds : Line) : Type 0 where
   pub blanks : List (List ℕ)
   pub first : List ℕ
-  pub behind : List ℕ
+  pub after_blanks : List ℕ
   pub are_blank : AreBlank width blanks
   pub is_line : IsLine first
   pub holds_it : held_by width first ≡ holds
-  pub bytes_are : bytes ≡ ended blanks ++ behind
-  pub stands : IsBefore at_end behind first held
+  pub bytes_are : bytes ≡ ended blanks ++ after_blanks
+  pub stands : IsBefore at_end after_blanks first held
   pub counted : now ≡ before + (length blanks + 1)
 
--- the bytes have lines without words alone, and behind them this part of a line, which counts as so many
+-- the bytes have lines without words alone, and after them this part of a line, which counts as so many
 pub record RunsOut (width before now count : ℕ) (bytes part : List ℕ) : Type 0 where
   pub blanks : List (List ℕ)
   pub are_blank : AreBlank width blanks

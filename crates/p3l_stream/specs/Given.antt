@@ -22,7 +22,7 @@ before_items items rest = record rest { items = items ++ rest.items }
 abbrev pub ended_by : List (List ℤ) → Ending → Items
 ended_by items close = record { items = items; ending = close }
 
--- how the input goes on behind the bytes taken, and stops: it doesn't where it was at its end
+-- how the input goes on after the bytes taken, and stops: it doesn't where it was at its end
 abbrev pub GoesOn : Bool → Cutoff → List ℕ → Type 0
 GoesOn at_end how more = at_end ≡ true → (how ≡ stop.End) × (more ≡ [])
 
@@ -40,7 +40,7 @@ AreRefused width at_end bytes items close = TakesOn at_end (λ how more. items_t
 
 -- what ended the stream, or did not
 abbrev pub Closes : ℕ → Seen → List ℕ → List (List ℤ) → Option (Result Ending NoMemory) → Type 0
--- nothing: behind the items answered come those of the bytes still held
+-- nothing: after the items answered come those of the bytes still held
 Closes width s bytes items None =
     TakesOn s.at_end (λ how more. items_taken width how (bytes ++ more) ≡ before_items items (items_of_lines width (s.passed + 1) (closing how) (lines_of how (s.held ++ more))))
 -- the end of the input: the items are those of all its bytes

@@ -14,7 +14,7 @@ use Rattle.p3l_stream.specs.Words.{numbers_of, words_of}
 abbrev pub is_feed : ℕ → Bool
 is_feed byte = byte == 10
 
--- the part behind the last line feed is a line where the input is at its end, if there are bytes; else it is dropped
+-- the part after the last line feed is a line where the input is at its end, if there are bytes; else it is dropped
 abbrev pub last_line : Cutoff → List ℕ → List (List ℕ)
 last_line stop.End [] = []
 last_line stop.End (byte ∷ bytes) = strip_carriage_return (byte ∷ bytes) ∷ []

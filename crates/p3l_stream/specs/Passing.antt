@@ -12,8 +12,8 @@ use Rattle.p3l_stream.specs.Seen.{Seen}
 use Rattle.p3l_stream.specs.Taken.{IsTaken}
 
 -- so many lines were passed, and these bytes are still held
-abbrev pub behind : Seen → ℕ → List ℕ → Seen
-behind s count held = record s { held = held; passed = s.passed + count }
+abbrev pub moved_past : Seen → ℕ → List ℕ → Seen
+moved_past s count held = record s { held = held; passed = s.passed + count }
 
 -- the first line was passed, which holds this
 pub record PassesLine (old new : Seen) (holds : Line) : Type 0 where
@@ -21,7 +21,7 @@ pub record PassesLine (old new : Seen) (holds : Line) : Type 0 where
   pub is_line : IsLine first
   pub holds_it : held_by old.words first ≡ holds
   pub bytes_are : old.held ≡ first ++ 10 ∷ new.held
-  pub after : new ≡ behind old 1 new.held
+  pub after : new ≡ moved_past old 1 new.held
 
 -- the first line was passed if it is ended
 abbrev pub MayPassLine : Seen → Seen → Option Line → Type 0
@@ -37,14 +37,14 @@ pub record PassesFilled (old new : Seen) (holds : Line) : Type 0 where
   pub holds_it : held_by old.words first ≡ holds
   pub has_words : holds ≢ line.Blank
   pub bytes_are : old.held ≡ ended blanks ++ (first ++ 10 ∷ new.held)
-  pub after : new ≡ behind old (length blanks + 1) new.held
+  pub after : new ≡ moved_past old (length blanks + 1) new.held
 
 -- ended lines without words were passed
 pub record PassedBlanks (old new : Seen) : Type 0 where
   pub blanks : List (List ℕ)
   pub are_blank : AreBlank old.words blanks
   pub bytes_are : old.held ≡ ended blanks ++ new.held
-  pub after : new ≡ behind old (length blanks) new.held
+  pub after : new ≡ moved_past old (length blanks) new.held
 
 -- ended lines were passed up to the first that has words, if there is one
 abbrev pub MayPassFilled : Seen → Seen → Option Line → Type 0
@@ -58,7 +58,7 @@ OnlyPasses old new = new ≡ record old { held = new.held; passed = new.passed }
 -- the line that the end of the input ends was passed
 pub record PassesLast (old new : Seen) (holds : Line) : Type 0 where
   pub holds_it : held_by old.words old.held ≡ holds
-  pub after : new ≡ behind old (length (last_line stop.End old.held)) []
+  pub after : new ≡ moved_past old (length (last_line stop.End old.held)) []
 
 -- a piece was taken, or the end was met; by want of memory a piece is lost
 pub record TakesPiece (old new : Seen) (rest left : Option (List ℕ)) (piece held : List ℕ) : Type 0 where

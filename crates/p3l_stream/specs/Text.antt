@@ -5,12 +5,12 @@ use Rattle.std.specs.Fmt.{signed_decimal}
 use Rattle.p3l_base.specs.declared.outcome.Outcome.{Outcome}
 use Rattle.p3l_base.specs.declared.outcome.Outcome.TheVariants.{Value, Trapped}
 
--- a word behind so many others: in decimal without leading zeros, and behind a space if it is not the first
+-- a word after so many others: in decimal without leading zeros, and after a space if it is not the first
 abbrev pub word_text : ℕ → ℤ → List ℕ
 word_text zero word = signed_decimal word
 word_text (suc index) word = 32 ∷ signed_decimal word
 
--- words in decimal without leading zeros, parted by one space
+-- words in decimal without leading zeros, separated by one space
 abbrev pub words_text : List ℤ → List ℕ
 words_text words = join_with_byte 32 (map signed_decimal words)
 

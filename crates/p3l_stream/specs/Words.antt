@@ -28,7 +28,7 @@ abbrev pub IsFirstWord : List ℕ → Option (List ℕ × List ℕ) → Type 0
 IsFirstWord bytes None = words_of bytes ≡ []
 IsFirstWord bytes (Some (word, after)) = (words_of bytes ≡ word ∷ words_of after) × (length after < length bytes)
 
--- a word behind its minus sign, if it has one
+-- a word after its minus sign, if it has one
 abbrev pub digits_of : List ℕ → List ℕ
 digits_of word = if starts_with_minus word then drop 1 word else word
 

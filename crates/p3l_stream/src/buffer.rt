@@ -92,7 +92,7 @@ impl Buffer {
         self.searched = 0;
     }
 
-    /// Puts a piece behind the bytes.
+    /// Puts a piece after the bytes.
     pub(crate) fn push(&mut self, piece: &[u8]) -> Result<(), NoMemory>
         ensures ok { OnOk result (self.new ≡ self.old ++ piece.now) }
         ensures err { OnErr result (self.new ≡ self.old) }

@@ -76,7 +76,7 @@ impl Lines {
         ensures again { (close : Result Ending NoMemory) → self.old.closed ≡ Some close → result ≡ answer_of close }
         ensures same { (close : Result Ending NoMemory) → self.old.closed ≡ Some close → (self.new ≡ self.old) × (source.new ≡ source.old) }
 
-        // The source is asked for nothing where there is a line to answer, and nothing behind its end.
+        // The source is asked for nothing where there is a line to answer, and nothing after its end.
         ensures ready { HasLine self.old.words self.old.held → source.new ≡ source.old }
         ensures at_end { self.old.at_end ≡ true → source.new ≡ source.old }
 

@@ -6,7 +6,7 @@ ghost use Rattle.p3l_stream.specs.Text as as_text;
 use p3l_base::{List, NoMemory, Outcome, Words};
 use std::alloc::{AllocError, Global};
 
-/// The line of an item: its words in decimal without leading zeros, parted by one space, and a line
+/// The line of an item: its words in decimal without leading zeros, separated by one space, and a line
 /// feed.
 pub fn item_text(alloc: Global, words: &Words) -> Result<List<u8>, NoMemory>
     ensures { IfOk result (λ text. text ≡ as_text.item_text words.now) }
@@ -29,7 +29,7 @@ pub fn text_of(alloc: Global, outcomes: &[Outcome]) -> Result<List<u8>, NoMemory
     Ok(List::from_vec(text.into_bytes()))
 }
 
-/// Puts the line of an item behind a text.
+/// Puts the line of an item after a text.
 fn write_item(alloc: Global, text: &mut String, words: &Words) -> Result<(), AllocError>
     ensures { OnOk result (string_bytes text.new ≡ string_bytes text.old ++ as_text.item_text words.now) }
 {
@@ -37,7 +37,7 @@ fn write_item(alloc: Global, text: &mut String, words: &Words) -> Result<(), All
     text.push('\n')
 }
 
-/// Puts words in decimal behind a text, parted by one space.
+/// Puts words in decimal after a text, separated by one space.
 fn write_words(alloc: Global, text: &mut String, words: &[i64]) -> Result<(), AllocError>
     ensures { OnOk result (string_bytes text.new ≡ string_bytes text.old ++ as_text.words_text words.now) }
 {
@@ -47,7 +47,7 @@ fn write_words(alloc: Global, text: &mut String, words: &[i64]) -> Result<(), Al
     Ok(())
 }
 
-/// Puts a word behind a text that has so many of the item's words.
+/// Puts a word after a text that has so many of the item's words.
 fn write_word(alloc: Global, text: &mut String, index: usize, word: i64) -> Result<(), AllocError>
     ensures { OnOk result (string_bytes text.new ≡ string_bytes text.old ++ as_text.word_text index word) }
 {

@@ -39,7 +39,7 @@ fn first_of_word(bytes: &[u8]) -> Option<usize>
     bytes.iter().position(|byte| !parts_words(*byte))
 }
 
-/// The first word of the bytes, and what is behind it.
+/// The first word of the bytes, and what is after it.
 fn next_word(bytes: &[u8]) -> Option<(&[u8], &[u8])>
     ensures { IsFirstWord bytes.now (option_map (λ found. (found.0.now, found.1.now)) result) }
 {
@@ -48,7 +48,7 @@ fn next_word(bytes: &[u8]) -> Option<(&[u8], &[u8])>
     Some(rest.split_at(first_blank(rest).unwrap_or(rest.len())))
 }
 
-/// A word behind its minus sign, if it has one.
+/// A word after its minus sign, if it has one.
 fn without_minus(word: &[u8]) -> &[u8]
     ensures { result.now ≡ digits_of word.now }
 {

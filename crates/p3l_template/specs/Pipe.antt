@@ -14,12 +14,12 @@ unfoldable pub stage_seats : ℕ → ℕ → ℕ → ℕ → ℕ → List Seat
 stage_seats v x c y zero = record { input = x; output = y; part = v } ∷ []
 stage_seats v x c y (suc k) = record { input = x; output = c; part = v } ∷ stage_seats (suc v) c (suc c) y k
 
--- what part v and the k parts behind it make of an outcome, one after the other
+-- what part v and the k parts after it make of an outcome, one after the other
 unfoldable pub meaning_from : (ℕ → Role) → ℕ → ℕ → Outcome → Outcome
 meaning_from roles v zero outcome = (roles v).meaning outcome
 meaning_from roles v (suc k) outcome = meaning_from roles (suc v) k ((roles v).meaning outcome)
 
--- the firings of part v and of the k parts behind it
+-- the firings of part v and of the k parts after it
 unfoldable pub firings_from : (ℕ → Role) → ℕ → ℕ → ℕ
 firings_from roles v zero = (roles v).firings + 0
 firings_from roles v (suc k) = (roles v).firings + firings_from roles (suc v) k
@@ -36,7 +36,7 @@ unfoldable pub through : List Part → Outcome → Outcome
 through [] outcome = outcome
 through (P ∷ Ps) outcome = through Ps (P.meaning outcome)
 
--- the tokens still to leave the last stage, where q are to enter the first one behind those in its in channel
+-- the tokens still to leave the last stage, where q are to enter the first one after those in its in channel
 unfoldable pub stages_pending : State → List Token → List Part → List Token
 stages_pending s q [] = q
 stages_pending s q (P ∷ Ps) = stages_pending s (P.pending s ++ map (over P.meaning) (s.tokens P.input ++ q)) Ps

@@ -31,7 +31,7 @@ pub record IsSeated (net : Net) (units : Units) (roles : ℕ → Role) (p c : �
   pub firings : P.firings ≡ (roles seat.part).firings
   pub lawful : IsLawfulPart net units P
 
--- lawful parts stand at these seats, one behind the other
+-- lawful parts stand at these seats, one after the other
 unfoldable pub AreChained : Net → Units → (ℕ → Role) → ℕ → ℕ → List Seat → List Part → Type 0
 AreChained net units roles p c [] [] = Unit {0}
 AreChained net units roles p c (x ∷ xs) (P ∷ Ps) =
@@ -39,7 +39,7 @@ AreChained net units roles p c (x ∷ xs) (P ∷ Ps) =
 AreChained net units roles p c [] (P ∷ Ps) = ⊥
 AreChained net units roles p c (x ∷ xs) [] = ⊥
 
--- the process and the channel behind the last of these parts
+-- the process and the channel after the last of these parts
 unfoldable pub proc_end : ℕ → List Part → ℕ
 proc_end p [] = p
 proc_end p (P ∷ Ps) = proc_end P.proc_to Ps

@@ -52,11 +52,11 @@ pub record Shape : Type 0 where
   -- the whole part, over its inner parts
   pub part : Units → (ℕ → Role) → Base → List Part → Part
 
--- the place at these ports, behind what is built so far
+-- the place at these ports, after what is built so far
 abbrev pub base_of : Ports → Net → Base
 base_of at built = record { input = at.input; output = at.output; proc = length built.procs; chan = length built.chans }
 
--- what is built, with these processes and channels behind it
+-- what is built, with these processes and channels after it
 abbrev pub added : Net → List Proc → List Chan → Net
 added built procs chans = record { procs = built.procs ++ procs; chans = built.chans ++ chans }
 

@@ -12,7 +12,7 @@ use p3l_base::{List, NoMemory};
 use p3l_firing::{Proc, ProcKind};
 use std::alloc::Global;
 
-/// Workers side by side, a process of their node before them and one behind them.
+/// Workers side by side, a process of their node before them and one after them.
 #[derive(Clone, Copy, Debug, Drop)]
 pub struct Fan {
     pub node: u32,

@@ -11,7 +11,7 @@ use crate::template::{Ports, Template};
 use p3l_base::{List, NoMemory};
 use std::alloc::Global;
 
-/// Stages one behind the other, each on processes of its own.
+/// Stages one after the other, each on processes of its own.
 #[derive(Clone, Copy, Debug, Drop)]
 pub struct PipeTemplate {
     pub stages: u32,

@@ -9,7 +9,7 @@ use p3l_base::{List, NoMemory};
 use std::alloc::Global;
 
 // The ports of so many workers: their in channels are those from `first` on, and their out channels
-// stand behind them.
+// stand after them.
 pub(crate) fn worker_ports(alloc: Global, first: u32, workers: u32) -> Result<List<Ports>, NoMemory>
     requires { (first + workers) + workers ≤ 1048576 }
     ensures { IfOk result (λ ports. ports ≡ all_ports (fan_seats first (first + workers) workers)) }

@@ -68,8 +68,8 @@ pub record Agrees (tree : Tree) (leaf : ℕ → List ℤ → Outcome) (net : Net
 pub record DiffersInPick (tree : Tree) (leaf : ℕ → List ℤ → Outcome) (net : Net) (items : List (List ℤ)) (traced : Traced) (number : ℕ) : Type 0 where
   pub front : List TraceLine
   pub line : TraceLine
-  pub behind : List TraceLine
-  pub lines_are : traced.lines ≡ front ++ line ∷ behind
+  pub after : List TraceLine
+  pub lines_are : traced.lines ≡ front ++ line ∷ after
   pub agree : AllAgree tree leaf net items front
   pub other : AgreesIn tree net (run tree leaf net items (picks_of front)).state line → ⊥
   pub number_is : number ≡ length front + 2

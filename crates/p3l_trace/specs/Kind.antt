@@ -5,7 +5,7 @@ use Rattle.p3l_firing.specs.declared.process.ProcKind.TheVariants.{Source, Sink,
 use Rattle.p3l_format.specs.declared.fault.Cause.TheVariants.{Range}
 use Rattle.p3l_format.specs.declared.fault.Fault.{Fault}
 use Rattle.p3l_format.specs.Format.{Format, always, fault_at}
-use Rattle.p3l_format.specs.Text.{behind_text}
+use Rattle.p3l_format.specs.Text.{after_text}
 
 -- the words: source, sink, run, emit, collect, scatter, gather, split, fold-gather, join, head, tail, and idle
 abbrev pub word_of : Option ProcKind → List ℕ
@@ -33,10 +33,10 @@ abbrev pub said_or : Option ProcKind → Option (List ℕ) → Result (Option Pr
 said_or said (Some rest) read = Ok (said, rest)
 said_or said None read = read
 
--- the first of these whose word stands in front, and what is behind it
+-- the first of these whose word stands in front, and what is after it
 abbrev pub first_said : List (Option ProcKind) → List ℕ → Result (Option ProcKind × List ℕ) Fault
 first_said [] s = Err (fault_at Range s)
-first_said (said ∷ more) s = said_or said (behind_text (word_of said) s) (first_said more s)
+first_said (said ∷ more) s = said_or said (after_text (word_of said) s) (first_said more s)
 
 unfoldable pub said_format : Format ℕ (Option ProcKind)
 said_format = record {

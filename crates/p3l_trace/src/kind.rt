@@ -48,7 +48,7 @@ fn word_of(said: Option<ProcKind>) -> &'static [u8]
     }
 }
 
-// The first of these whose word stands in front, and what is behind it.
+// The first of these whose word stands in front, and what is after it.
 fn read_first<'a>(
     all: &[Option<ProcKind>],
     bytes: &'a [u8],
@@ -63,7 +63,7 @@ fn read_first<'a>(
     Err(fault_of(Cause::Range, bytes))
 }
 
-/// What is said in front, and what is behind it.
+/// What is said in front, and what is after it.
 #[tactic(auto, unfolding(crate::specs::Kind::said_format))]
 pub(crate) fn read_said(bytes: &[u8]) -> Result<(Option<ProcKind>, &[u8]), ReadError>
     ensures { Gives (λ x. (x.0, x.1.now)) result (said_format.read bytes.now) }
@@ -71,7 +71,7 @@ pub(crate) fn read_said(bytes: &[u8]) -> Result<(Option<ProcKind>, &[u8]), ReadE
     read_first(&SAID, bytes)
 }
 
-/// Puts a word behind others.
+/// Puts a word after others.
 #[tactic(auto, unfolding(crate::specs::Kind::said_format))]
 pub(crate) fn write_said(said: Option<ProcKind>, out: &mut Vec<u8>) -> Result<(), NoMemory>
     ensures { OnOk result (out.new.items ≡ out.old.items ++ said_format.spell said) }

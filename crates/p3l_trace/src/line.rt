@@ -32,7 +32,7 @@ fn read_pick(bytes: &[u8]) -> Result<(TraceLine, &[u8]), ReadError>
     ))
 }
 
-/// Puts the line of a pick behind others.
+/// Puts the line of a pick after others.
 #[tactic(auto, using(crate::specs::laws::Text::pick_fits), unfolding(crate::specs::Text::pick_format, p3l_format::specs::Format::pair, p3l_format::specs::Format::as_form, p3l_format::specs::Format::within, p3l_format::specs::Decimal::number_then, p3l_format::specs::Text::then_text, p3l_format::specs::Decimal::number_text))]
 pub(crate) fn write_pick(alloc: Global, line: TraceLine, out: &mut Vec<u8>) -> Result<(), NoMemory>
     ensures fits { pick_format.fits line ≡ true }
@@ -53,7 +53,7 @@ impl Item for LineItem {
 
     ghost takes_some = { line_takes };
 
-    fn behind(_value: &TraceLine) -> LineItem {
+    fn after(_value: &TraceLine) -> LineItem {
         LineItem
     }
 

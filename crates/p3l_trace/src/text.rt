@@ -16,7 +16,7 @@ use p3l_format::{
 };
 use std::alloc::Global;
 
-// The lines of picks in front, and what is behind the first word of the last line.
+// The lines of picks in front, and what is after the first word of the last line.
 #[tactic(auto, unfolding(crate::specs::Text::lines_format))]
 fn read_lines(alloc: Global, bytes: &[u8]) -> Result<(List<TraceLine>, &[u8]), ReadError>
     ensures { Gives (λ x. (x.0, x.1.now)) result (lines_format.read bytes.now) }
@@ -24,7 +24,7 @@ fn read_lines(alloc: Global, bytes: &[u8]) -> Result<(List<TraceLine>, &[u8]), R
     read_until(alloc, LineItem, b"end ", bytes)
 }
 
-// Puts the lines of picks behind others.
+// Puts the lines of picks after others.
 #[tactic(auto, unfolding(crate::specs::Text::line_format, p3l_format::specs::Line::line))]
 fn write_lines(alloc: Global, lines: &[TraceLine], out: &mut Vec<u8>) -> Result<(), NoMemory>
     ensures fits { OnOk result (fits_from line_format next_line first_line lines.now ≡ true) }
@@ -36,7 +36,7 @@ fn write_lines(alloc: Global, lines: &[TraceLine], out: &mut Vec<u8>) -> Result<
     Ok(())
 }
 
-// The counts of the last line, and what is behind them.
+// The counts of the last line, and what is after them.
 #[tactic(auto, unfolding(crate::specs::Text::counts_format, p3l_format::specs::Format::pair))]
 fn read_counts(bytes: &[u8]) -> Result<((u64, u64), &[u8]), ReadError>
     ensures { Gives (λ x. (x.0, x.1.now)) result (counts_format.read bytes.now) }
@@ -46,7 +46,7 @@ fn read_counts(bytes: &[u8]) -> Result<((u64, u64), &[u8]), ReadError>
     Ok(((fired as u64, idle as u64), rest))
 }
 
-// Puts the counts of the last line behind others.
+// Puts the counts of the last line after others.
 #[tactic(auto, using(crate::specs::laws::Text::counts_fit), unfolding(crate::specs::Text::counts_format, p3l_format::specs::Format::pair, p3l_format::specs::Format::within, p3l_format::specs::Decimal::number_then, p3l_format::specs::Text::then_text, p3l_format::specs::Decimal::number_text))]
 fn write_counts(alloc: Global, fired: u64, idle: u64, out: &mut Vec<u8>) -> Result<(), NoMemory>
     ensures fits { counts_format.fits (fired, idle) ≡ true }
@@ -56,7 +56,7 @@ fn write_counts(alloc: Global, fired: u64, idle: u64, out: &mut Vec<u8>) -> Resu
     write_number_then(alloc, idle as u128, b"\n", out)
 }
 
-// What is behind the first line.
+// What is after the first line.
 #[tactic(auto, unfolding(crate::specs::Text::body_format, p3l_format::specs::Format::pair, p3l_format::specs::Format::as_form))]
 fn read_body(alloc: Global, bytes: &[u8]) -> Result<(Traced, &[u8]), ReadError>
     ensures { Gives (λ x. (x.0, x.1.now)) result (body_format.read bytes.now) }
@@ -73,7 +73,7 @@ fn read_body(alloc: Global, bytes: &[u8]) -> Result<(Traced, &[u8]), ReadError>
     ))
 }
 
-// Puts a whole trace behind others.
+// Puts a whole trace after others.
 #[tactic(auto, unfolding(crate::specs::Text::trace_format, crate::specs::Text::body_format, crate::specs::Text::lines_format, p3l_format::specs::Series::until, p3l_format::specs::Text::text_then, p3l_format::specs::Format::pair, p3l_format::specs::Format::as_form))]
 fn write_trace(alloc: Global, traced: &Traced, out: &mut Vec<u8>) -> Result<(), NoMemory>
     ensures fits { OnOk result (trace_format.fits traced.now ≡ true) }

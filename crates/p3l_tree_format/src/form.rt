@@ -11,7 +11,7 @@ use p3l_format::{Field, ReadError, read_u32_in, write_u32};
 use p3l_skel::{Form, ModuleKind};
 use std::alloc::Global;
 
-// The number of a clause, at most 512, and what is behind it.
+// The number of a clause, at most 512, and what is after it.
 #[tactic(auto, unfolding(crate::specs::Form::clause_format, p3l_format::specs::Format::as_form))]
 fn read_clause(bytes: &[u8]) -> Result<(Option<u32>, &[u8]), ReadError>
     ensures { Gives (λ x. (x.0, x.1.now)) result (clause_format.read bytes.now) }
@@ -30,7 +30,7 @@ fn clause(number: u32) -> Option<u32>
     Some(number)
 }
 
-// Puts the number of a clause behind others.
+// Puts the number of a clause after others.
 #[tactic(auto, unfolding(crate::specs::Form::clause_format, p3l_format::specs::Format::as_form, p3l_format::specs::Format::within))]
 fn write_clause(clause: Option<u32>, out: &mut Vec<u8>) -> Result<(), NoMemory>
     ensures { OnOk result (out.new.items ≡ out.old.items ++ clause_format.spell clause) }

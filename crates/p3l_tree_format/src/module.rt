@@ -16,7 +16,7 @@ use p3l_lexer::mark::keyword;
 use p3l_skel::{ModuleInfo, ModuleKind};
 use std::alloc::Global;
 
-/// A name behind its length.
+/// A name after its length.
 #[derive(Clone, Copy, Drop)]
 pub struct NameField;
 
@@ -112,14 +112,14 @@ const KINDS: [ModuleKind; 7] = [
     ModuleKind::Loop,
 ];
 
-// The kind at the front, and what is behind it.
+// The kind at the front, and what is after it.
 fn read_kind(bytes: &[u8]) -> Result<(ModuleKind, &[u8]), ReadError>
     ensures { Gives (λ x. (x.0, x.1.now)) result (kind_format.read bytes.now) }
 {
     read_one_of(&KINDS, bytes)
 }
 
-// Puts a kind behind others.
+// Puts a kind after others.
 #[tactic(auto, unfolding(p3l_format::specs::Numbers::one_of, p3l_format::specs::Numbers::u8_format, p3l_format::specs::Format::coded))]
 fn write_kind(kind: ModuleKind, out: &mut Vec<u8>) -> Result<(), NoMemory>
     ensures { OnOk result (out.new.items ≡ out.old.items ++ kind_format.spell kind) }

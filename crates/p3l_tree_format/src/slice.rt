@@ -37,14 +37,14 @@ impl Field for DimField {
     }
 }
 
-// The place at the front, and what is behind it.
+// The place at the front, and what is after it.
 fn read_place(bytes: &[u8]) -> Result<(Place, &[u8]), ReadError>
     ensures { Gives (λ x. (x.0, x.1.now)) result (place_format.read bytes.now) }
 {
     read_one_of(&[Place::Rest, Place::First, Place::Second], bytes)
 }
 
-// Puts a place behind others.
+// Puts a place after others.
 #[tactic(auto, unfolding(p3l_format::specs::Numbers::one_of, p3l_format::specs::Numbers::u8_format, p3l_format::specs::Format::coded))]
 fn write_place(place: Place, out: &mut Vec<u8>) -> Result<(), NoMemory>
     ensures { OnOk result (out.new.items ≡ out.old.items ++ place_format.spell place) }

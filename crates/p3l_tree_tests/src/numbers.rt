@@ -23,7 +23,7 @@ fn kind_of(form: &Form) -> ModuleKind {
     }
 }
 
-// Puts a node of a new module behind the others.
+// Puts a node of a new module after the others.
 fn add(
     alloc: Global,
     tree: &mut Tree,

@@ -61,16 +61,16 @@ module _ (test : List ℕ → Bool) where
           ap (λ b. cond b (Some c.1) (lookup test (take n cs))) t ∙ rest (omega arith) ∙ sym (ap (λ b. cond b (Some c.1) (lookup test cs)) t)
 
   none_in_front : (constants : Constants) (n : ℕ) → n ≤ position_or_len test (keys_of constants) → lookup test (take n constants) ≡ None
-  none_in_front constants zero behind = refl
-  none_in_front [] (suc n) behind = refl
-  none_in_front (c ∷ cs) (suc n) behind = by (test c.0) refl (none_in_front cs n)
+  none_in_front constants zero after = refl
+  none_in_front [] (suc n) after = refl
+  none_in_front (c ∷ cs) (suc n) after = by (test c.0) refl (none_in_front cs n)
     where
       by : (b : Bool) → test c.0 ≡ b → (n ≤ position_or_len test (keys_of cs) → lookup test (take n cs) ≡ None) → lookup test (take (suc n) (c ∷ cs)) ≡ None
       by true t rest =
-          let none : suc n ≤ 0 = subst (λ b. suc n ≤ cond (not b) (1 + position_or_len test (keys_of cs)) 0) t behind in
+          let none : suc n ≤ 0 = subst (λ b. suc n ≤ cond (not b) (1 + position_or_len test (keys_of cs)) 0) t after in
           absurd (omega arith)
       by false t rest =
-          let next : suc n ≤ 1 + position_or_len test (keys_of cs) = subst (λ b. suc n ≤ cond (not b) (1 + position_or_len test (keys_of cs)) 0) t behind in
+          let next : suc n ≤ 1 + position_or_len test (keys_of cs) = subst (λ b. suc n ≤ cond (not b) (1 + position_or_len test (keys_of cs)) 0) t after in
           ap (λ b. cond b (Some c.1) (lookup test (take n cs))) t ∙ rest (omega arith)
 
   module _ (constants : Constants) (n i : ℕ) (at : position test (keys_of constants) ≡ Some i) where
@@ -80,8 +80,8 @@ module _ (test : List ℕ → Bool) where
         let first : position_or_len test (keys_of constants) ≡ i = (Found-position test constants i at).or_len in
         first_in_front constants n (omega arith)
 
-    -- and one behind it is not
-    pub behind_front : n ≤ i → lookup test (take n constants) ≡ None
-    behind_front behind =
+    -- and one after it is not
+    pub after_front : n ≤ i → lookup test (take n constants) ≡ None
+    after_front after =
         let first : position_or_len test (keys_of constants) ≡ i = (Found-position test constants i at).or_len in
         none_in_front constants n (omega arith)

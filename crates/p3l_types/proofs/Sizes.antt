@@ -12,28 +12,28 @@ use Rattle.p3l_types.specs.Constants.{Constants}
 use Rattle.p3l_types.specs.Shape.{product, size_of, sizes_of, whole_sizes}
 
 -- the sizes that were found, followed by those still to be checked
-abbrev pub sizes_behind : Constants → List ℕ → ℕ → List Num → Result (List ℕ) SourceRefusal
-sizes_behind constants done k nums = given (sizes_of constants k nums) (λ rest. Ok (done ++ rest))
+abbrev pub sizes_after : Constants → List ℕ → ℕ → List Num → Result (List ℕ) SourceRefusal
+sizes_after constants done k nums = given (sizes_of constants k nums) (λ rest. Ok (done ++ rest))
 
 pub given-ok : {A : Type 0} (r : Result A SourceRefusal) → given r (λ x. Ok x) ≡ r
 given-ok (Ok x) = refl
 given-ok (Err e) = refl
 
-pub sizes_behind-none : (constants : Constants) (k : ℕ) (nums : List Num) → sizes_behind constants [] k nums ≡ sizes_of constants k nums
-sizes_behind-none constants k nums = given-ok (sizes_of constants k nums)
+pub sizes_after-none : (constants : Constants) (k : ℕ) (nums : List Num) → sizes_after constants [] k nums ≡ sizes_of constants k nums
+sizes_after-none constants k nums = given-ok (sizes_of constants k nums)
 
 joined : (done : List ℕ) (size : ℕ) (r : Result (List ℕ) SourceRefusal) → given (given r (λ sizes. Ok (size ∷ sizes))) (λ rest. Ok (done ++ rest)) ≡ given r (λ rest. Ok ((done ++ size ∷ []) ++ rest))
 joined done size (Ok rest) = ap Ok (sym (append_assoc done (size ∷ []) rest))
 joined done size (Err e) = refl
 
-pub sizes_behind-more : (constants : Constants) (done : List ℕ) (k size : ℕ) (num : Num) (nums : List Num) → size_of constants k num ≡ Ok size → sizes_behind constants done k (num ∷ nums) ≡ sizes_behind constants (done ++ size ∷ []) (k + 1) nums
-sizes_behind-more constants done k size num nums e = rw e (joined done size (sizes_of constants (k + 1) nums))
+pub sizes_after-more : (constants : Constants) (done : List ℕ) (k size : ℕ) (num : Num) (nums : List Num) → size_of constants k num ≡ Ok size → sizes_after constants done k (num ∷ nums) ≡ sizes_after constants (done ++ size ∷ []) (k + 1) nums
+sizes_after-more constants done k size num nums e = rw e (joined done size (sizes_of constants (k + 1) nums))
 
-pub sizes_behind-refused : (constants : Constants) (done : List ℕ) (k : ℕ) (num : Num) (nums : List Num) (e : SourceRefusal) → size_of constants k num ≡ Err e → sizes_behind constants done k (num ∷ nums) ≡ Err e
-sizes_behind-refused constants done k num nums e h = rw h refl
+pub sizes_after-refused : (constants : Constants) (done : List ℕ) (k : ℕ) (num : Num) (nums : List Num) (e : SourceRefusal) → size_of constants k num ≡ Err e → sizes_after constants done k (num ∷ nums) ≡ Err e
+sizes_after-refused constants done k num nums e h = rw h refl
 
-pub sizes_behind-all : (constants : Constants) (done : List ℕ) (k : ℕ) → sizes_behind constants done k [] ≡ Ok done
-sizes_behind-all constants done k = ap Ok (append-nil done)
+pub sizes_after-all : (constants : Constants) (done : List ℕ) (k : ℕ) → sizes_after constants done k [] ≡ Ok done
+sizes_after-all constants done k = ap Ok (append-nil done)
 
 -- a product up to a limit, with the product of the rest up to that limit
 pub min-mul-min : (s r m : ℕ) → min (s * min r m) m ≡ min (s * r) m

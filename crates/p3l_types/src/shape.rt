@@ -40,7 +40,7 @@ pub fn words_of(shape: &Shape) -> u32
     product(shape.sizes.as_slice()) as u32
 }
 
-/// The size that stands behind `k` others.
+/// The size that stands after `k` others.
 fn size_of(num: &Num, k: usize, consts: &Consts) -> Result<u32, SourceRefusal>
     ensures { result ≡ size_of consts.now k num.now }
 {
@@ -96,7 +96,7 @@ fn whole_sizes(alloc: Global, subs: &[Sub], sizes: &[u32]) -> Result<List<u32>, 
 }
 
 /// What the brackets of an argument leave of a shape: the sizes at the empty ones, and the whole
-/// shape behind a plain name. Nothing where there are as many brackets neither as none nor as sizes.
+/// shape after a plain name. Nothing where there are as many brackets neither as none nor as sizes.
 pub fn sliced(alloc: Global, arg: &Arg, shape: &Shape) -> Result<Option<Shape>, NoMemory>
     ensures { IfOk result (λ left. left ≡ sliced arg.now.subs shape.now) }
 {

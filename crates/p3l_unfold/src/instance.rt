@@ -47,7 +47,7 @@ fn with_parts(
     Ok(nodes)
 }
 
-/// Puts nodes behind others.
+/// Puts nodes after others.
 fn extend(nodes: &mut Vec<Node>, more: Vec<Node>) -> Result<(), NoMemory>
     ensures { OnOk result (nodes.new.items ≡ nodes.old.items ++ more.items) }
 {

@@ -45,7 +45,7 @@ placed_more f places x i m long is so_far low =
     ap (slice_get (places ++ x ∷ [])) e ∙ (get_last places x ∙ ap Some (is ∙ ap f same)))
     (cases_lt m i)
 
--- the number of places behind one module more
+-- the number of places after one module more
 pub counted_more : (modules items : List ModuleInfo) (i : ℕ) (info : ModuleInfo) (before one : ℕ) → items ≡ modules → i < length items → info ≡ get_or items i info → before ≡ seqs_before modules i → one ≡ one_if_seq info.kind → before + one ≡ seqs_before modules (i + 1)
 counted_more modules items i info before one same inside is count own =
     let there : info ≡ get_or modules i info = is ∙ ap (λ xs. get_or xs i info) same in

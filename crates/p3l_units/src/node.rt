@@ -69,7 +69,7 @@ fn next_outcome(
     }
 }
 
-/// What the stages of a comp make of words, one behind the other.
+/// What the stages of a comp make of words, one after the other.
 #[cycle(node)]
 fn stages_outcome(
     alloc: Global,

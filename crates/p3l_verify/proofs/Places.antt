@@ -8,7 +8,7 @@ use Rattle.std.proofs.lemmas.Option.{slice_get_within, slice_get-get_or, slice_g
 use Rattle.p3l_code.specs.declared.instr.Instr.{Instr}
 use Rattle.p3l_code.specs.declared.instr.Instr.TheVariants.{End}
 use Rattle.p3l_code.specs.declared.instr.Code.{Code}
-use Rattle.p3l_code.specs.Safe.{Agrees, depth_behind, target_of, goes_on, next_of, IsFine, AreDepths, IsReached}
+use Rattle.p3l_code.specs.Safe.{Agrees, depth_after, target_of, goes_on, next_of, IsFine, AreDepths, IsReached}
 use Rattle.p3l_verify.specs.Known.{HasDepths, IsLocal, IsFree, Knows, CanNote, KnowsAt, CanNoteAt, noted_at, IsSettled, IsSound}
 use Rattle.p3l_verify.proofs.Notes.{unknown_or_same, knows_kept, knows_new, knows_at_kept, at_same, at_kept, at_at_kept}
 
@@ -46,10 +46,10 @@ reached_known : (code : Code) (known : List (Option ℕ)) (place : ℕ) → IsSo
 reached_known code known place s (inl r) =
     let below : r.0 < place = omega (arith, r.2) in
     let x = s.settled r.0 r.1 below r.3 in
-    (_, subst (λ n. Knows known n (depth_behind x.0 r.1)) (sym r.2) (subst (λ b. KnowsAt known (depth_behind x.0 r.1) (next_of r.0 b)) r.4 x.2.next))
+    (_, subst (λ n. Knows known n (depth_after x.0 r.1)) (sym r.2) (subst (λ b. KnowsAt known (depth_after x.0 r.1) (next_of r.0 b)) r.4 x.2.next))
 reached_known code known place s (inr r) =
     let x = s.settled r.0 r.1 r.2 r.3 in
-    (_, subst (λ o. KnowsAt known (depth_behind x.0 r.1) o) r.4 x.2.jumps)
+    (_, subst (λ o. KnowsAt known (depth_after x.0 r.1) o) r.4 x.2.jumps)
 
 must_be_zero : (code : Code) (known : List (Option ℕ)) (place d : ℕ) → IsSound code known place → place < length code.instrs → slice_get known place ≡ Some None → d ≡ 0 → MustBe code place d
 must_be_zero code known place d s inside unknown zero_d depths are =
@@ -113,32 +113,32 @@ module _ (code : Code) (known : List (Option ℕ)) (place d : ℕ) (i : Instr) (
       let f = fine h.0 h.1 in
       record { within = f.within; leads = f.leads; room = record { pops_enough = f.pops_enough; shallow = f.shallow }; ends = f.ends }
 
-  pub can_note_next : HasDepths code → CanNoteAt known (next_of place (goes_on i)) (depth_behind d i)
+  pub can_note_next : HasDepths code → CanNoteAt known (next_of place (goes_on i)) (depth_after d i)
   unfolding fine
-  can_note_next h = can_note code known place s h.0 h.1 (next_of place (goes_on i)) (depth_behind d i) (fine h.0 h.1).next
+  can_note_next h = can_note code known place s h.0 h.1 (next_of place (goes_on i)) (depth_after d i) (fine h.0 h.1).next
 
-  pub can_note_jump : HasDepths code → CanNoteAt known (target_of i) (depth_behind d i)
+  pub can_note_jump : HasDepths code → CanNoteAt known (target_of i) (depth_after d i)
   unfolding fine
-  can_note_jump h = can_note code known place s h.0 h.1 (target_of i) (depth_behind d i) (fine h.0 h.1).jumps
+  can_note_jump h = can_note code known place s h.0 h.1 (target_of i) (depth_after d i) (fine h.0 h.1).jumps
 
-  next_rooted : (b : Bool) → goes_on i ≡ b → (p : ℕ) → next_of place b ≡ Some p → (depth_behind d i ≡ 0) ⊎ IsReached code.instrs p
+  next_rooted : (b : Bool) → goes_on i ≡ b → (p : ℕ) → next_of place b ≡ Some p → (depth_after d i ≡ 0) ⊎ IsReached code.instrs p
   next_rooted true g p e = let same : p ≡ place + 1 = cc in inr (inl (place, i, same, at, g))
   next_rooted false g p e = absurd cc
 
-  pub notes_next : CanNoteAt known (next_of place (goes_on i)) (depth_behind d i) → IsSound code (noted_at known (next_of place (goes_on i)) (depth_behind d i)) place
+  pub notes_next : CanNoteAt known (next_of place (goes_on i)) (depth_after d i) → IsSound code (noted_at known (next_of place (goes_on i)) (depth_after d i)) place
   unfolding fine next_rooted
   notes_next can =
-      leads_on code known place (next_of place (goes_on i)) (depth_behind d i) s can (next_rooted (goes_on i) refl) (λ depths are. (fine depths are).next)
+      leads_on code known place (next_of place (goes_on i)) (depth_after d i) s can (next_rooted (goes_on i) refl) (λ depths are. (fine depths are).next)
 
-  jump_rooted : (to : Option ℕ) → target_of i ≡ to → CanNoteAt known to (depth_behind d i) → (p : ℕ) → to ≡ Some p → (depth_behind d i ≡ 0) ⊎ IsReached code.instrs p
+  jump_rooted : (to : Option ℕ) → target_of i ≡ to → CanNoteAt known to (depth_after d i) → (p : ℕ) → to ≡ Some p → (depth_after d i ≡ 0) ⊎ IsReached code.instrs p
   jump_rooted None t can p e = absurd cc
   jump_rooted (Some to) t can p e =
       let same : to ≡ p = cc in
       ⊎_elim
       (λ h. let there : target_of i ≡ Some p = t ∙ e in inr (inr (place, i, omega (arith, h, same), at, there)))
       (λ h. let k : (n : ℕ) × Knows known to n = known_before to h in
-      let free : Knows known to (depth_behind d i) = ⊎_elim (λ u. absurd (let v = k.1 in cc)) (λ x. x) (unknown_or_same known to (depth_behind d i) can) in
-      subst (λ n. (depth_behind d i ≡ 0) ⊎ IsReached code.instrs n) same (s.rooted to (depth_behind d i) free))
+      let free : Knows known to (depth_after d i) = ⊎_elim (λ u. absurd (let v = k.1 in cc)) (λ x. x) (unknown_or_same known to (depth_after d i) can) in
+      subst (λ n. (depth_after d i ≡ 0) ⊎ IsReached code.instrs n) same (s.rooted to (depth_after d i) free))
       (cases_lt place to)
     where
       known_before : (to : ℕ) → to ≤ place → (n : ℕ) × Knows known to n
@@ -149,59 +149,59 @@ module _ (code : Code) (known : List (Option ℕ)) (place d : ℕ) (i : Instr) (
           (λ h'. let e : to ≡ place = omega arith in (d, subst (λ n. Knows known n d) (sym e) own))
           (cases_lt to place)
 
-  pub notes_jump : CanNoteAt known (target_of i) (depth_behind d i) → IsSound code (noted_at known (target_of i) (depth_behind d i)) place
+  pub notes_jump : CanNoteAt known (target_of i) (depth_after d i) → IsSound code (noted_at known (target_of i) (depth_after d i)) place
   unfolding fine jump_rooted
   notes_jump can =
-      leads_on code known place (target_of i) (depth_behind d i) s can (jump_rooted (target_of i) refl can) (λ depths are. (fine depths are).jumps)
+      leads_on code known place (target_of i) (depth_after d i) s can (jump_rooted (target_of i) refl can) (λ depths are. (fine depths are).jumps)
 
-module _ (code : Code) (known : List (Option ℕ)) (place d : ℕ) (i : Instr) (at : slice_get code.instrs place ≡ Some i) (s : IsSound code known place) (own : Knows known place d) (must : MustBe code place d) (next jump : Option ℕ) (behind : ℕ) (en : next ≡ next_of place (goes_on i)) (ej : jump ≡ target_of i) (eb : behind ≡ depth_behind d i) where
-  -- the depth behind an instruction can be noted at the next place
-  pub next_can : HasDepths code → CanNoteAt known next behind
+module _ (code : Code) (known : List (Option ℕ)) (place d : ℕ) (i : Instr) (at : slice_get code.instrs place ≡ Some i) (s : IsSound code known place) (own : Knows known place d) (must : MustBe code place d) (next jump : Option ℕ) (after : ℕ) (en : next ≡ next_of place (goes_on i)) (ej : jump ≡ target_of i) (eb : after ≡ depth_after d i) where
+  -- the depth after an instruction can be noted at the next place
+  pub next_can : HasDepths code → CanNoteAt known next after
   next_can h =
-      subst (λ o. CanNoteAt known o behind) (sym en)
+      subst (λ o. CanNoteAt known o after) (sym en)
       (subst (λ x. CanNoteAt known (next_of place (goes_on i)) x) (sym eb) (can_note_next code known place d i at s own must h))
 
-  can_next : CanNoteAt known next behind → CanNoteAt known (next_of place (goes_on i)) (depth_behind d i)
-  can_next can = subst (λ x. CanNoteAt known (next_of place (goes_on i)) x) eb (subst (λ o. CanNoteAt known o behind) en can)
+  can_next : CanNoteAt known next after → CanNoteAt known (next_of place (goes_on i)) (depth_after d i)
+  can_next can = subst (λ x. CanNoteAt known (next_of place (goes_on i)) x) eb (subst (λ o. CanNoteAt known o after) en can)
 
-  known_next : (known' : List (Option ℕ)) → known' ≡ noted_at known next behind → known' ≡ noted_at known (next_of place (goes_on i)) (depth_behind d i)
-  known_next known' e = e ∙ ap (λ o. noted_at known o behind) en ∙ ap (λ x. noted_at known (next_of place (goes_on i)) x) eb
+  known_next : (known' : List (Option ℕ)) → known' ≡ noted_at known next after → known' ≡ noted_at known (next_of place (goes_on i)) (depth_after d i)
+  known_next known' e = e ∙ ap (λ o. noted_at known o after) en ∙ ap (λ x. noted_at known (next_of place (goes_on i)) x) eb
 
-  sound_next : (known' : List (Option ℕ)) → CanNoteAt known next behind → known' ≡ noted_at known next behind → IsSound code known' place
+  sound_next : (known' : List (Option ℕ)) → CanNoteAt known next after → known' ≡ noted_at known next after → IsSound code known' place
   sound_next known' can e =
       subst (λ k. IsSound code k place) (sym (known_next known' e)) (notes_next code known place d i at s own must (can_next can))
 
-  own_next : (known' : List (Option ℕ)) → CanNoteAt known next behind → known' ≡ noted_at known next behind → Knows known' place d
-  own_next known' can e = subst (λ k. Knows k place d) (sym e) (at_kept known next behind place d can own)
+  own_next : (known' : List (Option ℕ)) → CanNoteAt known next after → known' ≡ noted_at known next after → Knows known' place d
+  own_next known' can e = subst (λ k. Knows k place d) (sym e) (at_kept known next after place d can own)
 
   -- and where the instruction jumps
-  pub jump_can : (known' : List (Option ℕ)) → CanNoteAt known next behind → known' ≡ noted_at known next behind → HasDepths code → CanNoteAt known' jump behind
+  pub jump_can : (known' : List (Option ℕ)) → CanNoteAt known next after → known' ≡ noted_at known next after → HasDepths code → CanNoteAt known' jump after
   jump_can known' can e h =
-      subst (λ o. CanNoteAt known' o behind) (sym ej)
+      subst (λ o. CanNoteAt known' o after) (sym ej)
       (subst (λ x. CanNoteAt known' (target_of i) x) (sym eb)
       (can_note_jump code known' place d i at (sound_next known' can e) (own_next known' can e) must h))
 
   -- then the place was gone over
-  pub visited : (known' known'' : List (Option ℕ)) → IsLocal code place i d → CanNoteAt known next behind → known' ≡ noted_at known next behind → CanNoteAt known' jump behind → known'' ≡ noted_at known' jump behind → IsSound code known'' (place + 1)
+  pub visited : (known' known'' : List (Option ℕ)) → IsLocal code place i d → CanNoteAt known next after → known' ≡ noted_at known next after → CanNoteAt known' jump after → known'' ≡ noted_at known' jump after → IsSound code known'' (place + 1)
   visited known' known'' local can e can' e' =
       let s' = sound_next known' can e in
       let own' = own_next known' can e in
-      let jumps : CanNoteAt known' (target_of i) (depth_behind d i) =
-      subst (λ x. CanNoteAt known' (target_of i) x) eb (subst (λ o. CanNoteAt known' o behind) ej can') in
-      let noted' : known'' ≡ noted_at known' (target_of i) (depth_behind d i) =
-      e' ∙ ap (λ o. noted_at known' o behind) ej ∙ ap (λ x. noted_at known' (target_of i) x) eb in
-      let at_next : KnowsAt known' behind next = subst (λ k. KnowsAt k behind next) (sym e) (at_same known next behind can) in
-      let at_next' : KnowsAt known'' behind next = subst (λ k. KnowsAt k behind next) (sym e') (at_at_kept known' jump behind behind next can' at_next) in
-      let at_jump : KnowsAt known'' behind jump = subst (λ k. KnowsAt k behind jump) (sym e') (at_same known' jump behind can') in
-      let own'' : Knows known'' place d = subst (λ k. Knows k place d) (sym e') (at_kept known' jump behind place d can' own') in
+      let jumps : CanNoteAt known' (target_of i) (depth_after d i) =
+      subst (λ x. CanNoteAt known' (target_of i) x) eb (subst (λ o. CanNoteAt known' o after) ej can') in
+      let noted' : known'' ≡ noted_at known' (target_of i) (depth_after d i) =
+      e' ∙ ap (λ o. noted_at known' o after) ej ∙ ap (λ x. noted_at known' (target_of i) x) eb in
+      let at_next : KnowsAt known' after next = subst (λ k. KnowsAt k after next) (sym e) (at_same known next after can) in
+      let at_next' : KnowsAt known'' after next = subst (λ k. KnowsAt k after next) (sym e') (at_at_kept known' jump after after next can' at_next) in
+      let at_jump : KnowsAt known'' after jump = subst (λ k. KnowsAt k after jump) (sym e') (at_same known' jump after can') in
+      let own'' : Knows known'' place d = subst (λ k. Knows k place d) (sym e') (at_kept known' jump after place d can' own') in
       let s'' = subst (λ k. IsSound code k place) (sym noted') (notes_jump code known' place d i at s' own' must jumps) in
       goes_over code known'' place i at s'' (
         d,
         own'',
         record {
           own = local;
-          next = subst (λ o. KnowsAt known'' (depth_behind d i) o) en (subst (λ x. KnowsAt known'' x next) eb at_next');
-          jumps = subst (λ o. KnowsAt known'' (depth_behind d i) o) ej (subst (λ x. KnowsAt known'' x jump) eb at_jump);
+          next = subst (λ o. KnowsAt known'' (depth_after d i) o) en (subst (λ x. KnowsAt known'' x next) eb at_next');
+          jumps = subst (λ o. KnowsAt known'' (depth_after d i) o) ej (subst (λ x. KnowsAt known'' x jump) eb at_jump);
         },
       )
 

@@ -2,7 +2,7 @@
 use Rattle.std.specs.Prelude.{◌≡◌, ℕ, ◌+◌, ◌<◌, ◌≤◌, ◌⊎◌, List, length, Option, Some, None, slice_get, slice_set, IsSomeAnd}
 use Rattle.p3l_code.specs.declared.instr.Instr.{Instr}
 use Rattle.p3l_code.specs.declared.instr.Code.{Code}
-use Rattle.p3l_code.specs.Safe.{IsWithin, Leads, EndsAt, pops, depth_behind, target_of, goes_on, next_of, AreDepths, IsReached}
+use Rattle.p3l_code.specs.Safe.{IsWithin, Leads, EndsAt, pops, depth_after, target_of, goes_on, next_of, AreDepths, IsReached}
 
 -- the rules on the numbers of a code
 pub record HasSizes (code : Code) : Type 0 where
@@ -19,7 +19,7 @@ HasDepths code = (depths : List ℕ) × AreDepths code depths
 -- the stack has the words that an instruction pops, and room for those that it pushes
 pub record HasRoom (i : Instr) (depth : ℕ) : Type 0 where
   pub pops_enough : pops i ≤ depth
-  pub shallow : depth_behind depth i ≤ 1024
+  pub shallow : depth_after depth i ≤ 1024
 
 -- the rules on one instruction at a place with so many words on the stack
 pub record IsLocal (code : Code) (place : ℕ) (i : Instr) (depth : ℕ) : Type 0 where
@@ -50,7 +50,7 @@ abbrev pub noted_at : List (Option ℕ) → Option ℕ → ℕ → List (Option 
 noted_at known None depth = known
 noted_at known (Some to) depth = slice_set known to (Some depth)
 
--- where an instruction leads to, the depth is known to be the one behind it
+-- where an instruction leads to, the depth is known to be the one after it
 abbrev pub KnowsAt : List (Option ℕ) → ℕ → Option ℕ → Type 0
 KnowsAt known depth None = Unit {0}
 KnowsAt known depth (Some to) = Knows known to depth
@@ -58,8 +58,8 @@ KnowsAt known depth (Some to) = Knows known to depth
 -- an instruction keeps the rules, as far as depths are known
 pub record IsFineSoFar (code : Code) (known : List (Option ℕ)) (place : ℕ) (i : Instr) (depth : ℕ) : Type 0 where
   pub own : IsLocal code place i depth
-  pub next : KnowsAt known (depth_behind depth i) (next_of place (goes_on i))
-  pub jumps : KnowsAt known (depth_behind depth i) (target_of i)
+  pub next : KnowsAt known (depth_after depth i) (next_of place (goes_on i))
+  pub jumps : KnowsAt known (depth_after depth i) (target_of i)
 
 -- a place's depth is known, and its instruction keeps the rules as far as depths are known
 abbrev pub IsSettled : Code → List (Option ℕ) → ℕ → Instr → Type 0

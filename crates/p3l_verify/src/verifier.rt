@@ -51,7 +51,7 @@ fn has_depths(alloc: Global, code: &Code) -> Result<bool, NoMemory>
     Ok(true)
 }
 
-// Settles the depth of a place, and notes the depth behind its instruction wherever that leads.
+// Settles the depth of a place, and notes the depth after its instruction wherever that leads.
 fn visit(code: &Code, known: &mut [Option<u32>], place: usize, instr: Instr) -> bool
     requires few { length code.now.instrs ≤ 4194304 }
     requires at { slice_get code.now.instrs place ≡ Some instr }
@@ -63,6 +63,6 @@ fn visit(code: &Code, known: &mut [Option<u32>], place: usize, instr: Instr) -> 
     if !is_local(code, place, instr, depth) {
         return false;
     }
-    let behind = depth - pops(instr) + pushes(instr);
-    note_at(known, next_of(place, instr), behind) && note_at(known, target_of(instr), behind)
+    let after = depth - pops(instr) + pushes(instr);
+    note_at(known, next_of(place, instr), after) && note_at(known, target_of(instr), after)
 }

@@ -18,22 +18,22 @@ change w f [] = []
 change zero f (l ∷ ls) = f l ∷ ls
 change (suc w) f (l ∷ ls) = l ∷ change w f ls
 
--- what is before and behind line w
+-- what is before and after line w
 pub record Split (w : ℕ) (ls : List (List Token)) : Type 0 where
   pub before : List Token
-  pub behind : List Token
-  pub whole : joined ls ≡ before ++ (get_or ls w [] ++ behind)
-  pub changed : (f : List Token → List Token) → joined (change w f ls) ≡ before ++ (f (get_or ls w []) ++ behind)
+  pub after : List Token
+  pub whole : joined ls ≡ before ++ (get_or ls w [] ++ after)
+  pub changed : (f : List Token → List Token) → joined (change w f ls) ≡ before ++ (f (get_or ls w []) ++ after)
 
 pub split : (w : ℕ) (ls : List (List Token)) → w < length ls → Split w ls
 unfolding joined change
 split w [] l = absurd (omega arith)
-split zero (x ∷ ls) l = record { before = []; behind = joined ls; whole = refl; changed = λ f. refl }
+split zero (x ∷ ls) l = record { before = []; after = joined ls; whole = refl; changed = λ f. refl }
 split (suc w) (x ∷ ls) l =
     let r = split w ls (omega arith) in
     record {
       before = x ++ r.before;
-      behind = r.behind;
+      after = r.after;
       whole = ap (λ z. x ++ z) r.whole ∙ sym (append_assoc x _ _);
       changed = λ f. ap (λ z. x ++ z) (r.changed f) ∙ sym (append_assoc x _ _);
     }
@@ -183,19 +183,19 @@ module _ (m : Outcome → Outcome) (v : View) (k : Kept v) where
     abbrev here : List Token
     here = get_or v.lines w []
 
-    bag_now : joined v.lines ≡ (s.before ++ here) ++ s.behind
-    bag_now = s.whole ∙ sym (append_assoc s.before here s.behind)
+    bag_now : joined v.lines ≡ (s.before ++ here) ++ s.after
+    bag_now = s.whole ∙ sym (append_assoc s.before here s.after)
 
-    emit_bag : (y : Token) → joined (change w (λ l. l ++ y ∷ []) v.lines) ≡ (s.before ++ here) ++ y ∷ s.behind
+    emit_bag : (y : Token) → joined (change w (λ l. l ++ y ∷ []) v.lines) ≡ (s.before ++ here) ++ y ∷ s.after
     emit_bag y =
-        s.changed (λ l. l ++ y ∷ []) ∙ ap (λ z. s.before ++ z) (append_assoc here (y ∷ []) s.behind)
-        ∙ sym (append_assoc s.before here (y ∷ s.behind))
+        s.changed (λ l. l ++ y ∷ []) ∙ ap (λ z. s.before ++ z) (append_assoc here (y ∷ []) s.after)
+        ∙ sym (append_assoc s.before here (y ∷ s.after))
 
     -- no number in the line is next or above it
     all_lower : (j : ℕ) → v.next ≤ j → length (look j here) ≡ 0
     all_lower j l =
         (none_two j s.before here
-        (none_two j (s.before ++ here) s.behind
+        (none_two j (s.before ++ here) s.after
         (ap (λ z. length (look j z)) (sym bag_now) ∙ k.numbered.none j (λ _. omega (arith, k.count, l)))).0).1
 
     emit_split : (x : Token) (xs : List Token) → v.input ≡ x ∷ xs → Goes m v (emit_view w x xs)
@@ -204,15 +204,15 @@ module _ (m : Outcome → Outcome) (v : View) (k : Kept v) where
         let b = emit_bag (over m (tagged v.next x)) in
         let n = subst (λ z. IsNumbered z v.least) bag_now k.numbered in
         let len = ap length bag_now in
-        let t : newest_tag (over m (tagged v.next x)) ≡ v.least + length ((s.before ++ here) ++ s.behind) =
+        let t : newest_tag (over m (tagged v.next x)) ≡ v.least + length ((s.before ++ here) ++ s.after) =
         omega (arith, new_turn x, k.count, len) in
-        let more = ap length b ∙ without_count (s.before ++ here) (over m (tagged v.next x)) s.behind in
+        let more = ap length b ∙ without_count (s.before ++ here) (over m (tagged v.next x)) s.after in
         record {
           kept = record {
             count = omega (arith, more, len, k.count);
             numbered =
                 subst (λ z. IsNumbered z v.least) (sym b)
-                (insert_numbered (s.before ++ here) (over m (tagged v.next x)) s.behind v.least n t);
+                (insert_numbered (s.before ++ here) (over m (tagged v.next x)) s.after v.least n t);
             rising =
                 rising_change w _ v.lines k.rising
                 (rising_append here (over m (tagged v.next x)) (rising_at w v.lines k.rising)
@@ -221,7 +221,7 @@ module _ (m : Outcome → Outcome) (v : View) (k : Kept v) where
           line =
               ap (λ z. v.output ++ (read z v.least (length z) ++ map (over m) xs)) b
               ∙ ap (λ z. v.output ++ (z ++ map (over m) xs))
-              (insert_read (s.before ++ here) (over m (tagged v.next x)) s.behind v.least n t
+              (insert_read (s.before ++ here) (over m (tagged v.next x)) s.after v.least n t
               ∙ ap₂ (λ y z. read y v.least (length y) ++ z ∷ []) (sym bag_now) (new_peeled x))
               ∙ ap (λ z. v.output ++ z) (append_assoc (read (joined v.lines) v.least (length (joined v.lines))) _ _)
               ∙ ap (λ z. v.output
@@ -238,18 +238,18 @@ module _ (m : Outcome → Outcome) (v : View) (k : Kept v) where
 
   module _ (w : ℕ) (s : Split w v.lines) (x : Token) (xs : List Token) (e : get_or v.lines w [] ≡ x ∷ xs)
       (d : newest_tag x ≡ v.least) where
-    bag_from : joined v.lines ≡ s.before ++ x ∷ (xs ++ s.behind)
-    bag_from = s.whole ∙ ap (λ z. s.before ++ (z ++ s.behind)) e
+    bag_from : joined v.lines ≡ s.before ++ x ∷ (xs ++ s.after)
+    bag_from = s.whole ∙ ap (λ z. s.before ++ (z ++ s.after)) e
 
-    bag_to : joined (change w rest_of v.lines) ≡ s.before ++ (xs ++ s.behind)
-    bag_to = s.changed rest_of ∙ ap (λ z. s.before ++ (rest_of z ++ s.behind)) e
+    bag_to : joined (change w rest_of v.lines) ≡ s.before ++ (xs ++ s.after)
+    bag_to = s.changed rest_of ∙ ap (λ z. s.before ++ (rest_of z ++ s.after)) e
 
     collect_split : Goes m v (collect_view w x)
     unfolding view_line to_come
     collect_split =
         let n = subst (λ z. IsNumbered z v.least) bag_from k.numbered in
         let len : length (joined v.lines) ≡ suc (length (joined (change w rest_of v.lines))) =
-        ap length bag_from ∙ without_count s.before x (xs ++ s.behind) ∙ ap (λ z. suc (length z)) (sym bag_to) in
+        ap length bag_from ∙ without_count s.before x (xs ++ s.after) ∙ ap (λ z. suc (length z)) (sym bag_to) in
         let up : v.least + 1 ≡ suc v.least = omega arith in
         record {
           kept = record {
@@ -257,14 +257,14 @@ module _ (m : Outcome → Outcome) (v : View) (k : Kept v) where
             numbered =
                 subst (λ z. IsNumbered (joined (change w rest_of v.lines)) z) (sym up)
                 (subst (λ z. IsNumbered z (suc v.least)) (sym bag_to)
-                (release_numbered s.before x (xs ++ s.behind) v.least n d));
+                (release_numbered s.before x (xs ++ s.after) v.least n d));
             rising = rising_change w rest_of v.lines k.rising (rising_rest _ (rising_at w v.lines k.rising));
           };
           line =
               ap₂ (λ y z. (v.output ++ peeled x ∷ []) ++ (read y z (length y) ++ map (over m) v.input)) bag_to up
               ∙ append_assoc v.output _ _
               ∙ ap (λ z. v.output ++ (z ++ map (over m) v.input))
-              (sym (release_read s.before x (xs ++ s.behind) v.least n d))
+              (sym (release_read s.before x (xs ++ s.after) v.least n d))
               ∙ ap (λ z. v.output ++ (read z v.least (length z) ++ map (over m) v.input)) (sym bag_from);
         }
 

@@ -78,9 +78,9 @@ pub emptiest-same : (net : Net) (s t : State) (cs : List ℕ) → SameIn s t cs 
 unfolding emptiest
 emptiest-same net s t [] same = refl
 emptiest-same net s t (c ∷ cs) same =
-    let behind = emptiest-same net s t cs same.1 in
-    chosen-same net s t cs same.1 (emptiest net s cs) refl (sym behind) c same.0 (λ d e. all-has (λ x. s.tokens x ≡ t.tokens x) cs same.1 d (chosen_among net s t cs d e))
-    ∙ ap (fewer net t c) behind
+    let after = emptiest-same net s t cs same.1 in
+    chosen-same net s t cs same.1 (emptiest net s cs) refl (sym after) c same.0 (λ d e. all-has (λ x. s.tokens x ≡ t.tokens x) cs same.1 d (chosen_among net s t cs d e))
+    ∙ ap (fewer net t c) after
 
 pub own_reads : (tree : Tree) (widths : Widths) (q : Proc) → Fits tree widths q → AllByRecursion (IsAt (Some q)) (reads q)
 own_reads tree widths q fits = (inl (first_in q.ins fits.ins), has-each q.outs q.outs (λ c h. h) (IsAt (Some q)) (λ c h. inr h))

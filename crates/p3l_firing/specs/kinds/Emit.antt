@@ -12,7 +12,7 @@ use Rattle.p3l_firing.specs.State.{Own, State, front, pop, push, set_own, counte
 use Rattle.p3l_firing.specs.Process.{in_of}
 use Rattle.p3l_firing.specs.Widths.{Widths, AllCarry}
 
--- of channel c and one chosen behind it: c, if it has room and no more tokens
+-- of channel c and one chosen after it: c, if it has room and no more tokens
 unfoldable pub fewer : Net → State → ℕ → Option ℕ → Option ℕ
 fewer net s c None = cond (has_room net s c) (Some c) None
 fewer net s c (Some d) = cond (has_room net s c && nat_le (length (s.tokens c)) (length (s.tokens d))) (Some c) (Some d)

@@ -15,13 +15,13 @@ use Rattle.p3l_format.specs.declared.fault.Fault.{Fault}
 use Rattle.p3l_format.specs.declared.fault.Cause.TheVariants.{Range, More}
 use Rattle.p3l_format.specs.Format.{Format, fault_at, ◌>>=◌, both, pair, within, as_form, record_of, read_all, ended, tested}
 use Rattle.p3l_format.specs.Lawful.{IsLawful}
-use Rattle.p3l_format.specs.Text.{behind_text, go_on, text_then, then_text}
+use Rattle.p3l_format.specs.Text.{after_text, go_on, text_then, then_text}
 use Rattle.p3l_format.specs.Line.{at_line, line, line_number, number_line}
 use Rattle.p3l_format.specs.Series.{fits_from, spell_from, ended_or, read_from, until}
 use Rattle.p3l_format.specs.FirstLine.{feeds, IsWhole, BeginAlike, Begins, IsFirstBadLine}
 use Rattle.p3l_format.specs.laws.Parts.{ok_is, both_true, first_true, second_true}
 use Rattle.p3l_format.specs.laws.Formats.{taken, lawful_both, lawful_record, one_spelling}
-use Rattle.p3l_format.specs.laws.Text.{behind_again, behind_is, taken_before, lawful_text_then}
+use Rattle.p3l_format.specs.laws.Text.{after_again, after_is, taken_before, lawful_text_then}
 
 -- ---- line feeds
 
@@ -33,8 +33,8 @@ some_feed b s is none =
     let one : feeds (b ∷ []) ≡ 1 = subst (λ (c : ℕ). feeds (c ∷ []) ≡ 1) (sym is) refl in
     omega (arith, feeds-append (b ∷ []) s)
 
-feeds_behind : (b : ℕ) (s : List ℕ) → feeds (b ∷ s) ≡ 0 → feeds s ≡ 0
-feeds_behind b s none = omega (arith, feeds-append (b ∷ []) s)
+feeds_after : (b : ℕ) (s : List ℕ) → feeds (b ∷ s) ≡ 0 → feeds s ≡ 0
+feeds_after b s none = omega (arith, feeds-append (b ∷ []) s)
 
 -- where two first lines end is one place
 pub same_line : (a b s t : List ℕ) → feeds a ≡ 0 → feeds b ≡ 0 → a ++ 10 ∷ s ≡ b ++ 10 ∷ t → (a ≡ b) × (s ≡ t)
@@ -48,7 +48,7 @@ same_line (c ∷ a) [] s t p q e =
 same_line (c ∷ a) (d ∷ b) s t p q e =
     let head : c ≡ d = cc in
     let more : a ++ 10 ∷ s ≡ b ++ 10 ∷ t = cc in
-    let h = same_line a b s t (feeds_behind c a p) (feeds_behind d b q) more in
+    let h = same_line a b s t (feeds_after c a p) (feeds_after d b q) more in
     let front : a ≡ b = h.0 in
     (cc, h.1)
 
@@ -61,7 +61,7 @@ in_first_line (c ∷ part) s [] r none e =
 in_first_line (c ∷ part) s (d ∷ l) r none e =
     let head : c ≡ d = cc in
     let more : part ++ s ≡ l ++ 10 ∷ r = cc in
-    let h = in_first_line part s l r (feeds_behind c part none) more in
+    let h = in_first_line part s l r (feeds_after c part none) more in
     let front : l ≡ part ++ h.0 = h.1 in
     (h.0, cc, h.2)
 
@@ -169,7 +169,7 @@ number_ends_line low high = each_then_text IsInLine IsOneLine IsOneLine (number_
 
 -- ---- faults
 
--- what is before the line that has the fault, and that no spelling has that line there, whatever is behind it
+-- what is before the line that has the fault, and that no spelling has that line there, whatever is after it
 pub record IsBadAt {A : Type 0} (format : Format ℕ A) (s : List ℕ) (left : ℕ) : Type 0 where
   pub before : List ℕ
   -- what of the line is before the place of the fault
@@ -278,12 +278,12 @@ low_fits word low high le lt = rw (lt-ltb low (2 ^ 128) lt, le-leb low low (omeg
 pub number_line_tells : (word : List ℕ) (low high : ℕ) → IsInLine word → low ≤ high → low < 2 ^ 128 → TellsLine (number_line word low high)
 number_line_tells word low high none le lt = tells_line _ (number_line_is word low high none) low (low_fits word low high le lt)
 
--- a fault behind whole lines that are of the form
-behind_lines : {A B : Type 0} (inner : Format ℕ A) (outer : Format ℕ B) (front s t : List ℕ) (left : ℕ) → IsWhole front → t ≡ front ++ s
+-- a fault after whole lines that are of the form
+after_lines : {A B : Type 0} (inner : Format ℕ A) (outer : Format ℕ B) (front s t : List ℕ) (left : ℕ) → IsWhole front → t ≡ front ++ s
     → ((a : List ℕ) → Begins inner a → Begins outer (front ++ a))
     → ((v : B) (rest more : List ℕ) → outer.fits v ≡ true → outer.spell v ++ rest ≡ front ++ more → (w : A) × (inner.fits w ≡ true) × (inner.spell w ++ rest ≡ more))
     → IsBadAt inner s left → IsBadAt outer t left
-behind_lines inner outer front s t left whole is begins peel b = record {
+after_lines inner outer front s t left whole is begins peel b = record {
   before = front ++ b.before;
   part = b.part;
   place = b.place;
@@ -345,7 +345,7 @@ both_fault first second t whole u s f e =
           elim (step_failed (second.read h.0.1) (λ y. Ok ((h.0.0, y.0), y.1)) f h.2) [
             | inl no_second ↦
                 let is = taken first t.law s h.0 h.1 in
-                behind_lines second (both first second) (first.spell h.0.0) h.0.1 s f.left (whole h.0.0 is.fits) is.is
+                after_lines second (both first second) (first.spell h.0.0) h.0.1 s f.left (whole h.0.0 is.fits) is.is
                 (both_begin first second h.0.0 is.fits) (both_peel first second t.law h.0.0 is.fits) (u.fault h.0.1 f no_second)
             | inr k ↦ let never = k.2 in absurd cc
           ]
@@ -366,22 +366,22 @@ text_fault read s None f e = let is : fault_at Range s ≡ f = cc in inl (refl, 
 text_fault read s (Some rest) f e = inr (rest, refl, e)
 
 -- no spelling has a line that isn't the text's
-text_refused : (text s : List ℕ) → IsWithinLine text → behind_text text s ≡ None → (rest more : List ℕ) → text ++ rest ≡ more → BeginAlike more s → ⊥
+text_refused : (text s : List ℕ) → IsWithinLine text → after_text text s ≡ None → (rest more : List ℕ) → text ++ rest ≡ more → BeginAlike more s → ⊥
 text_refused text s within none rest more is alike =
     let h = within rest s (subst (λ (m : List ℕ). BeginAlike m s) (sym is) alike) in
-    let some : behind_text text s ≡ Some h.0 = ap (behind_text text) h.1 ∙ behind_again text h.0 in
+    let some : after_text text s ≡ Some h.0 = ap (after_text text) h.1 ∙ after_again text h.0 in
     let no_text = sym none ∙ some in
     absurd cc
 
 text_then_fault : {A : Type 0} (text : List ℕ) (inner : Format ℕ A) → IsOneLine text → TellsLine inner → (s : List ℕ) (f : Fault) → (text_then text inner).read s ≡ Err f → IsBadAt (text_then text inner) s f.left
 unfolding text_then
 text_then_fault text inner one t s f e =
-    elim (text_fault inner.read s (behind_text text s) f e) [
+    elim (text_fault inner.read s (after_text text s) f e) [
       | inl no_text ↦
           bad_front (text_then text inner) s f.left (at_front s f.left no_text.1) (t.some.0, text ++ inner.spell t.some.0, t.some.1, refl)
           (λ v rest more fits is alike. text_refused text s (line_is_within text one) no_text.0 (inner.spell v ++ rest) more (sym (append_assoc text (inner.spell v) rest) ∙ is) alike)
       | inr h ↦
-          behind_lines inner (text_then text inner) text h.0 s f.left (whole_line text one) (behind_is text s h.0 h.1)
+          after_lines inner (text_then text inner) text h.0 s f.left (whole_line text one) (after_is text s h.0 h.1)
           (λ a good. (good.0, good.1, good.2, ap (λ (r : List ℕ). text ++ r) good.3 ∙ sym (append_assoc text a good.1)))
           (λ v rest more fits is. (v, fits, append_cancel_left text (inner.spell v ++ rest) more (sym (append_assoc text (inner.spell v) rest) ∙ is)))
           (t.fault h.0 f h.2)
@@ -402,7 +402,7 @@ unfolding as_form
 record_fault {A = A} make parts inner back t s f e =
     elim (step_failed (inner.read s) (λ x. Ok (make x.0, x.1)) f e) [
       | inl no_inner ↦
-          behind_lines inner (record_of make parts inner) [] s s f.left (inl refl) refl
+          after_lines inner (record_of make parts inner) [] s s f.left (inl refl) refl
           (λ a good. (make good.0, good.1, rw (back good.0) good.2, rw (back good.0) good.3))
           (λ v rest more fits is. (parts v, fits, is))
           (t.fault s f no_inner)
@@ -438,11 +438,11 @@ number_failed low high s f e =
 pub number_then_tells : (low high : ℕ) (text : List ℕ) → TellsInFront (number_then low high text)
 unfolding number_then then_text
 number_then_tells low high text s f e =
-    elim (step_failed ((number_in low high).read s) (λ x. go_on (λ rest. Ok (x.0, rest)) x.1 (behind_text text x.1)) f e) [
+    elim (step_failed ((number_in low high).read s) (λ x. go_on (λ rest. Ok (x.0, rest)) x.1 (after_text text x.1)) f e) [
       | inl no_number ↦ at_front s f.left (number_failed low high s f no_number)
       | inr h ↦
           let is = taken_before no_digit_first (number_in low high) (number_in_before low high) s h.0 h.1 in
-          elim (text_fault (λ rest. Ok (h.0.0, rest)) h.0.1 (behind_text text h.0.1) f h.2) [
+          elim (text_fault (λ rest. Ok (h.0.0, rest)) h.0.1 (after_text text h.0.1) f h.2) [
             | inl no_text ↦ record { part = (number_in low high).spell h.0.0; place = h.0.1; is = is.is; left_is = sym no_text.1; inside = number_in_line low high h.0.0 is.fits }
             | inr k ↦ let never = k.2 in absurd cc
           ]
@@ -481,7 +481,7 @@ item_apart : {P A : Type 0} (item : P → Format ℕ A) (next : A → P) (stop :
 item_apart item next stop p v vs rest =
     ap (λ (t : List ℕ). t ++ rest) (append_assoc ((item p).spell v) (spell_from item next (next v) vs) stop) ∙ append_assoc ((item p).spell v) (spell_from item next (next v) vs ++ stop) rest
 
-item_bad : {P A : Type 0} (item : P → Format ℕ A) (next : A → P) (stop : List ℕ) → ((p : P) → IsLine (item p)) → IsWithinLine stop → (p : P) (s : List ℕ) (f : Fault) → behind_text stop s ≡ None → (item p).read s ≡ Err f
+item_bad : {P A : Type 0} (item : P → Format ℕ A) (next : A → P) (stop : List ℕ) → ((p : P) → IsLine (item p)) → IsWithinLine stop → (p : P) (s : List ℕ) (f : Fault) → after_text stop s ≡ None → (item p).read s ≡ Err f
     → (vs : List A) (rest more : List ℕ) → fits_from item next p vs ≡ true → ((spell_from item next p vs ++ stop) ++ rest) ≡ more → BeginAlike more s → ⊥
 item_bad item next stop lines within p s f none e [] rest more fits is alike = text_refused stop s within none rest more is alike
 item_bad item next stop lines within p s f none e (v ∷ vs) rest more fits is alike =
@@ -497,12 +497,12 @@ item_begins item next stop p v fits a good = (
   append_assoc ((item p).spell v) (spell_from item next (next v) good.0) stop ∙ ap (λ (r : List ℕ). (item p).spell v ++ r) good.3 ∙ sym (append_assoc ((item p).spell v) a good.1),
 )
 
-item_peel : {P A : Type 0} (item : P → Format ℕ A) (next : A → P) (stop : List ℕ) → ((p : P) → IsLine (item p)) → ((p : P) (v : A) (rest : List ℕ) → behind_text stop ((item p).spell v ++ rest) ≡ None)
+item_peel : {P A : Type 0} (item : P → Format ℕ A) (next : A → P) (stop : List ℕ) → ((p : P) → IsLine (item p)) → ((p : P) (v : A) (rest : List ℕ) → after_text stop ((item p).spell v ++ rest) ≡ None)
     → (p : P) (x : A) → (item p).fits x ≡ true → (vs : List A) (rest more : List ℕ) → fits_from item next p vs ≡ true → ((spell_from item next p vs ++ stop) ++ rest) ≡ (item p).spell x ++ more
     → (ws : List A) × (fits_from item next (next x) ws ≡ true) × (((spell_from item next (next x) ws ++ stop) ++ rest) ≡ more)
 item_peel item next stop lines differs p x fitting [] rest more fits is =
-    let none : behind_text stop (stop ++ rest) ≡ None = ap (behind_text stop) is ∙ differs p x more in
-    let no_text = sym none ∙ behind_again stop rest in
+    let none : after_text stop (stop ++ rest) ≡ None = ap (after_text stop) is ∙ differs p x more in
+    let no_text = sym none ∙ after_again stop rest in
     absurd cc
 item_peel {A = A} item next stop lines differs p x fitting (v ∷ vs) rest more fits is =
     let tail : List ℕ = (spell_from item next (next v) vs ++ stop) ++ rest in
@@ -515,12 +515,12 @@ item_peel {A = A} item next stop lines differs p x fitting (v ∷ vs) rest more 
 one_some : (s : List ℕ) → IsOneLine s → 0 < length s
 one_some s one = omega (arith, ap length one.2, length-append one.0 (10 ∷ []))
 
-series_fault : {P A : Type 0} (item : P → Format ℕ A) (next : A → P) (stop : List ℕ) → ((p : P) → IsLine (item p)) → ((p : P) (v : A) (rest : List ℕ) → behind_text stop ((item p).spell v ++ rest) ≡ None) → IsWithinLine stop
+series_fault : {P A : Type 0} (item : P → Format ℕ A) (next : A → P) (stop : List ℕ) → ((p : P) → IsLine (item p)) → ((p : P) (v : A) (rest : List ℕ) → after_text stop ((item p).spell v ++ rest) ≡ None) → IsWithinLine stop
     → (n : ℕ) (p : P) (s : List ℕ) (f : Fault) → length s < n → read_from item next stop n p s ≡ Err f → IsBadAt (until item next p stop) s f.left
 unfolding until
 series_fault item next stop lines differs within zero p s f lt e = absurd (omega arith)
 series_fault item next stop lines differs within (suc n) p s f lt e =
-    let a = ended_failed (behind_text stop s) ((item p).read s >>= λ x. read_from item next stop n (next x.0) x.1 >>= λ y. Ok (x.0 ∷ y.0, y.1)) f e in
+    let a = ended_failed (after_text stop s) ((item p).read s >>= λ x. read_from item next stop n (next x.0) x.1 >>= λ y. Ok (x.0 ∷ y.0, y.1)) f e in
     elim (step_failed ((item p).read s) (λ x. read_from item next stop n (next x.0) x.1 >>= λ y. Ok (x.0 ∷ y.0, y.1)) f a.1) [
       | inl no_item ↦ bad_front (until item next p stop) s f.left ((lines p).tells s f no_item) ([], stop, refl, refl) (item_bad item next stop lines within p s f a.0 no_item)
       | inr h ↦
@@ -530,7 +530,7 @@ series_fault item next stop lines differs within (suc n) p s f lt e =
                 let one = (lines p).one h.0.0 is.fits in
                 let some = one_some ((item p).spell h.0.0) one in
                 let less : length h.0.1 < n = omega (arith, ap length is.is, length-append ((item p).spell h.0.0) h.0.1) in
-                behind_lines (until item next (next h.0.0) stop) (until item next p stop) ((item p).spell h.0.0) h.0.1 s f.left (whole_line _ one) is.is
+                after_lines (until item next (next h.0.0) stop) (until item next p stop) ((item p).spell h.0.0) h.0.1 s f.left (whole_line _ one) is.is
                 (item_begins item next stop p h.0.0 is.fits)
                 (item_peel item next stop lines differs p h.0.0 is.fits)
                 (series_fault item next stop lines differs within n (next h.0.0) h.0.1 f less no_more)
@@ -538,7 +538,7 @@ series_fault item next stop lines differs within (suc n) p s f lt e =
           ]
     ]
 
-pub tells_until : {P A : Type 0} (item : P → Format ℕ A) (next : A → P) (p : P) (stop : List ℕ) → ((p : P) → IsLine (item p)) → ((p : P) (v : A) (rest : List ℕ) → behind_text stop ((item p).spell v ++ rest) ≡ None) → IsWithinLine stop
+pub tells_until : {P A : Type 0} (item : P → Format ℕ A) (next : A → P) (p : P) (stop : List ℕ) → ((p : P) → IsLine (item p)) → ((p : P) (v : A) (rest : List ℕ) → after_text stop ((item p).spell v ++ rest) ≡ None) → IsWithinLine stop
     → IsLawful (until item next p stop) → TellsLine (until item next p stop)
 unfolding until
 tells_until item next p stop lines differs within law = record {
@@ -564,13 +564,13 @@ rest_bad : {A B : Type 0} (first : Format ℕ A) (second : Format ℕ B) → IsL
 unfolding pair
 rest_bad first second law l x s f fitting e lines part cut inside v rest more fits is alike =
     let m = in_first_line part s alike.first alike.t_rest inside alike.t_is in
-    let behind : List ℕ = m.0 ++ 10 ∷ alike.s_rest in
-    let more_is : more ≡ part ++ behind = alike.s_is ∙ ap (λ (r : List ℕ). r ++ 10 ∷ alike.s_rest) m.1 ∙ append_assoc part m.0 (10 ∷ alike.s_rest) in
-    let fronts : first.spell v.0 ++ (second.spell v.1 ++ rest) ≡ first.spell x ++ behind =
-    sym (append_assoc (first.spell v.0) (second.spell v.1) rest) ∙ is ∙ ap (λ (r : List ℕ). lines ++ r) more_is ∙ sym (append_assoc lines part behind) ∙ ap (λ (r : List ℕ). r ++ behind) (sym cut) in
-    let same = same_front first law v.0 x (second.spell v.1 ++ rest) behind (first_true (first.fits v.0) (second.fits v.1) fits) fitting fronts in
+    let after : List ℕ = m.0 ++ 10 ∷ alike.s_rest in
+    let more_is : more ≡ part ++ after = alike.s_is ∙ ap (λ (r : List ℕ). r ++ 10 ∷ alike.s_rest) m.1 ∙ append_assoc part m.0 (10 ∷ alike.s_rest) in
+    let fronts : first.spell v.0 ++ (second.spell v.1 ++ rest) ≡ first.spell x ++ after =
+    sym (append_assoc (first.spell v.0) (second.spell v.1) rest) ∙ is ∙ ap (λ (r : List ℕ). lines ++ r) more_is ∙ sym (append_assoc lines part after) ∙ ap (λ (r : List ℕ). r ++ after) (sym cut) in
+    let same = same_front first law v.0 x (second.spell v.1 ++ rest) after (first_true (first.fits v.0) (second.fits v.1) fits) fitting fronts in
     let none : feeds m.0 ≡ 0 = omega (arith, alike.one, ap feeds m.1, feeds-append part m.0) in
-    line_refused second l s f e v.1 rest behind (second_true (first.fits v.0) (second.fits v.1) fits) same.1
+    line_refused second l s f e v.1 rest after (second_true (first.fits v.0) (second.fits v.1) fits) same.1
     (record { first = m.0; one = none; s_rest = alike.s_rest; s_is = refl; t_rest = alike.t_rest; t_is = m.2 })
 
 rest_fault : {A B : Type 0} (first : Format ℕ A) (second : Format ℕ B) → TellsLine first → Each IsCut first → IsLine second → (w : B) → second.fits w ≡ true → (s : List ℕ) (f : Fault) → (both first second).read s ≡ Err f → IsBadAt (both first second) s f.left
@@ -680,15 +680,15 @@ fronts (c ∷ a) (d ∷ b) s t e =
       | inr h ↦ let is : a ≡ b ++ h.0 = h.1 in inr (h.0, cc, h.2)
     ]
 
-none_behind : (a m : List ℕ) → a ++ m ≡ [] → m ≡ []
-none_behind [] m e = e
-none_behind (c ∷ a) m e = absurd cc
+none_after : (a m : List ℕ) → a ++ m ≡ [] → m ≡ []
+none_after [] m e = e
+none_after (c ∷ a) m e = absurd cc
 
 ended_by_feed : (a m front : List ℕ) → a ++ m ≡ front ++ 10 ∷ [] → (m ≡ []) ⊎ ((rest : List ℕ) × (m ≡ rest ++ 10 ∷ []))
 ended_by_feed [] m front e = inr (front, e)
 ended_by_feed (c ∷ a) m [] e =
     let none : a ++ m ≡ [] = cc in
-    inl (none_behind a m none)
+    inl (none_after a m none)
 ended_by_feed (c ∷ a) m (d ∷ front) e =
     let more : a ++ m ≡ front ++ 10 ∷ [] = cc in
     ended_by_feed a m front more
@@ -704,11 +704,11 @@ first_line (c ∷ front) =
           (c ∷ h.0, h.1, feeds-append (c ∷ []) h.0 ∙ omega (arith, h.2), ap (λ (t : List ℕ). c ∷ t) h.3)
     ]
 
--- no such line is behind another
-not_behind : {A : Type 0} (format : Format ℕ A) (text : List ℕ) (line other : ℕ) (a : IsFirstBadLine format text line) (b : IsFirstBadLine format text other) (m : List ℕ) → b.before ≡ a.before ++ m → a.others ≡ m ++ b.others → m ≡ []
-not_behind format text line other a b m is rest =
+-- no such line is after another
+not_after : {A : Type 0} (format : Format ℕ A) (text : List ℕ) (line other : ℕ) (a : IsFirstBadLine format text line) (b : IsFirstBadLine format text other) (m : List ℕ) → b.before ≡ a.before ++ m → a.others ≡ m ++ b.others → m ≡ []
+not_after format text line other a b m is rest =
     elim b.whole [
-      | inl none ↦ none_behind a.before m (sym is ∙ none)
+      | inl none ↦ none_after a.before m (sym is ∙ none)
       | inr w ↦
           elim (ended_by_feed a.before m w.0 (sym is ∙ w.1)) [
             | inl none ↦ none
@@ -728,7 +728,7 @@ not_behind format text line other a b m is rest =
 
 one_before : {A : Type 0} (format : Format ℕ A) (text : List ℕ) (line other : ℕ) (a : IsFirstBadLine format text line) (b : IsFirstBadLine format text other) (m : List ℕ) → b.before ≡ a.before ++ m → a.others ≡ m ++ b.others → line ≡ other
 one_before format text line other a b m is rest =
-    let same : b.before ≡ a.before = is ∙ ap (λ (r : List ℕ). a.before ++ r) (not_behind format text line other a b m is rest) ∙ append-nil a.before in
+    let same : b.before ≡ a.before = is ∙ ap (λ (r : List ℕ). a.before ++ r) (not_after format text line other a b m is rest) ∙ append-nil a.before in
     a.number ∙ ap (λ (r : List ℕ). feeds r + 1) (sym same) ∙ sym b.number
 
 pub one_first_bad : {A : Type 0} (format : Format ℕ A) (text : List ℕ) (line other : ℕ) → IsFirstBadLine format text line → IsFirstBadLine format text other → line ≡ other

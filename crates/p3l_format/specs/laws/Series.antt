@@ -5,11 +5,11 @@ use Rattle.p3l_format.specs.declared.fault.Fault.{Fault}
 use Rattle.p3l_format.specs.declared.fault.Cause.TheVariants.{Range}
 use Rattle.p3l_format.specs.Format.{Format, fault_at, ◌>>=◌}
 use Rattle.p3l_format.specs.Lawful.{IsLawful, IsLawfulBefore}
-use Rattle.p3l_format.specs.Text.{behind_text}
+use Rattle.p3l_format.specs.Text.{after_text}
 use Rattle.p3l_format.specs.Series.{fits_from, spell_from, ended_or, read_from, until}
 use Rattle.p3l_format.specs.laws.Parts.{bind_ok, ok_is, both_true, first_true, second_true}
 use Rattle.p3l_format.specs.laws.Formats.{lawful_from, joined}
-use Rattle.p3l_format.specs.laws.Text.{behind_again, behind_is, taken_before}
+use Rattle.p3l_format.specs.laws.Text.{after_again, after_is, taken_before}
 
 -- what the laws of such values ask
 pub record IsSeries {P A : Type 0} (fine : List ℕ → Bool) (item : P → Format ℕ A) (stop : List ℕ) : Type 0 where
@@ -18,7 +18,7 @@ pub record IsSeries {P A : Type 0} (fine : List ℕ → Bool) (item : P → Form
   pub starts : (p : P) (v : A) (rest : List ℕ) → fine ((item p).spell v ++ rest) ≡ true
   pub stops : (rest : List ℕ) → fine (stop ++ rest) ≡ true
   -- no item begins as the end does, and none is empty
-  pub differs : (p : P) (v : A) (rest : List ℕ) → behind_text stop ((item p).spell v ++ rest) ≡ None
+  pub differs : (p : P) (v : A) (rest : List ℕ) → after_text stop ((item p).spell v ++ rest) ≡ None
   pub some : (p : P) (v : A) → 0 < length ((item p).spell v)
 
 spelled_fine : {P A : Type 0} (fine : List ℕ → Bool) (item : P → Format ℕ A) (next : A → P) (stop : List ℕ) → IsSeries fine item stop → (p : P) (vs : List A) (rest : List ℕ) → fine ((spell_from item next p vs ++ stop) ++ rest) ≡ true
@@ -30,8 +30,8 @@ spelled_fine fine item next stop series p (v ∷ vs) rest =
 
 from_again : {P A : Type 0} (fine : List ℕ → Bool) (item : P → Format ℕ A) (next : A → P) (stop : List ℕ) → IsSeries fine item stop → (n : ℕ) (p : P) (vs : List A) (rest : List ℕ) → length vs ≤ n → fits_from item next p vs ≡ true
     → read_from item next stop n p ((spell_from item next p vs ++ stop) ++ rest) ≡ Ok (vs, rest)
-from_again fine item next stop series zero p [] rest le fits = rw (behind_again stop rest) refl
-from_again fine item next stop series (suc n) p [] rest le fits = rw (behind_again stop rest) refl
+from_again fine item next stop series zero p [] rest le fits = rw (after_again stop rest) refl
+from_again fine item next stop series (suc n) p [] rest le fits = rw (after_again stop rest) refl
 from_again fine item next stop series zero p (v ∷ vs) rest le fits = absurd (omega arith)
 from_again {A = A} fine item next stop series (suc n) p (v ∷ vs) rest le fits =
     let tail : List ℕ = (spell_from item next (next v) vs ++ stop) ++ rest in
@@ -51,16 +51,16 @@ pub record IsTaken {P A : Type 0} (item : P → Format ℕ A) (next : A → P) (
   pub fits : fits_from item next p x.0 ≡ true
   pub is : s ≡ (spell_from item next p x.0 ++ stop) ++ x.1
 
-from_done : {P A : Type 0} (item : P → Format ℕ A) (next : A → P) (stop : List ℕ) (p : P) (s : List ℕ) (x : List A × List ℕ) (rest : List ℕ) → behind_text stop s ≡ Some rest → ◌≡◌ {A = List A × List ℕ} ([], rest) x → IsTaken item next stop p s x
-from_done item next stop p s x rest o e = subst (λ y. IsTaken item next stop p s y) e (record { fits = refl; is = behind_is stop s rest o })
+from_done : {P A : Type 0} (item : P → Format ℕ A) (next : A → P) (stop : List ℕ) (p : P) (s : List ℕ) (x : List A × List ℕ) (rest : List ℕ) → after_text stop s ≡ Some rest → ◌≡◌ {A = List A × List ℕ} ([], rest) x → IsTaken item next stop p s x
+from_done item next stop p s x rest o e = subst (λ y. IsTaken item next stop p s y) e (record { fits = refl; is = after_is stop s rest o })
 
 from_takes : {P A : Type 0} (fine : List ℕ → Bool) (item : P → Format ℕ A) (next : A → P) (stop : List ℕ) → IsSeries fine item stop → (n : ℕ) (p : P) (s : List ℕ) (x : List A × List ℕ) → read_from item next stop n p s ≡ Ok x → IsTaken item next stop p s x
 from_takes fine item next stop series zero p s x e =
-    ended_some (behind_text stop s) (Err (fault_at Range s)) x (IsTaken item next stop p s x) e
+    ended_some (after_text stop s) (Err (fault_at Range s)) x (IsTaken item next stop p s x) e
     (λ rest o done. from_done item next stop p s x rest o done)
     (λ o goes. absurd cc)
 from_takes {A = A} fine item next stop series (suc n) p s x e =
-    ended_some (behind_text stop s) ((item p).read s >>= λ y. read_from item next stop n (next y.0) y.1 >>= λ z. Ok (y.0 ∷ z.0, z.1)) x (IsTaken item next stop p s x) e
+    ended_some (after_text stop s) ((item p).read s >>= λ y. read_from item next stop n (next y.0) y.1 >>= λ z. Ok (y.0 ∷ z.0, z.1)) x (IsTaken item next stop p s x) e
     (λ rest o done. from_done item next stop p s x rest o done)
     (λ o goes.
     let a = bind_ok ((item p).read s) (λ y. read_from item next stop n (next y.0) y.1 >>= λ z. Ok (y.0 ∷ z.0, z.1)) x goes in

@@ -2,11 +2,11 @@
 use Rattle.std.proofs.Common.{◌≡◌, ◌≤◌, true, ◌&&◌, leb, length, refl}
 use Rattle.std.proofs.lemmas.Bool.{leb-true}
 use Rattle.p3l_image.specs.declared.image.Image.{Image}
-use Rattle.p3l_format.specs.Format.{behind, as_form, pair, within}
+use Rattle.p3l_format.specs.Format.{after, as_form, pair, within}
 use Rattle.p3l_format.specs.Numbers.{u32_in, u32_format}
 use Rattle.p3l_format.specs.Lawful.{IsLawful}
 use Rattle.p3l_format.specs.laws.Parts.{first_true, second_true}
-use Rattle.p3l_format.specs.laws.Formats.{lawful_pair, lawful_both, lawful_record, lawful_behind}
+use Rattle.p3l_format.specs.laws.Formats.{lawful_pair, lawful_both, lawful_record, lawful_after}
 use Rattle.p3l_format.specs.laws.Numbers.{lawful_u32_in, is_exact}
 use Rattle.p3l_tree_format.specs.laws.Tree.{lawful_tree, lawful_counts}
 use Rattle.p3l_image.specs.Image.{magic, version, body_format, image_format}
@@ -20,15 +20,15 @@ lawful_body = lawful_record _ _ _ (λ _. refl) (λ _. refl)
 
 pub lawful_image : IsLawful image_format
 unfolding image_format
-lawful_image = lawful_behind _ _ _ (is_exact magic) (lawful_u32_in magic magic) (lawful_behind _ _ _ (is_exact version) (lawful_u32_in version version) lawful_body)
+lawful_image = lawful_after _ _ _ (is_exact magic) (lawful_u32_in magic magic) (lawful_after _ _ _ (is_exact version) (lawful_u32_in version version) lawful_body)
 
 -- the capacity of an image is in its range
 pub capacity_in_range : (image : Image) → image_format.fits image ≡ true → (1 ≤ image.cap) × (image.cap ≤ 1024)
-unfolding image_format body_format behind as_form pair within
+unfolding image_format body_format after as_form pair within
 capacity_in_range image fits =
-    let behind_magic : ((u32_in version version).fits version && body_format.fits image) ≡ true =
+    let after_magic : ((u32_in version version).fits version && body_format.fits image) ≡ true =
     second_true ((u32_in magic magic).fits magic) ((u32_in version version).fits version && body_format.fits image) fits in
-    let body : body_format.fits image ≡ true = second_true ((u32_in version version).fits version) (body_format.fits image) behind_magic in
+    let body : body_format.fits image ≡ true = second_true ((u32_in version version).fits version) (body_format.fits image) after_magic in
     let cap : (u32_in 1 1024).fits image.cap ≡ true = first_true ((u32_in 1 1024).fits image.cap) _ body in
     let range : (leb 1 image.cap && leb image.cap 1024) ≡ true = second_true (u32_format.fits image.cap) (leb 1 image.cap && leb image.cap 1024) cap in
     (leb-true 1 image.cap (first_true (leb 1 image.cap) (leb image.cap 1024) range), leb-true image.cap 1024 (second_true (leb 1 image.cap) (leb image.cap 1024) range))

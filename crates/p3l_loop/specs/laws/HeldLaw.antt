@@ -11,9 +11,9 @@ use Rattle.p3l_template.specs.laws.BagLaw.{look_there, look_empty}
 
 pub record Found (n : ℕ) (held : List Token) : Type 0 where
   pub before : List Token
-  pub behind : List Token
-  pub whole : held ≡ before ++ pick_number n held ∷ behind
-  pub others : drop_number n held ≡ before ++ behind
+  pub after : List Token
+  pub whole : held ≡ before ++ pick_number n held ∷ after
+  pub others : drop_number n held ≡ before ++ after
   pub right : second_tag (pick_number n held) ≡ n
 
 pub found : (n : ℕ) (held : List Token) → has_number n held ≡ true → Found n held
@@ -25,7 +25,7 @@ found n (x ∷ xs) h =
           let p : cond (nat_eq (second_tag x) n) x (pick_number n xs) ≡ x = cond-true _ _ _ e in
           record {
             before = [];
-            behind = xs;
+            after = xs;
             whole = ap (λ z. z ∷ xs) (sym p);
             others = cond-true _ _ _ e;
             right = ap second_tag p ∙ eqb-true _ _ e;
@@ -35,8 +35,8 @@ found n (x ∷ xs) h =
           let p : cond (nat_eq (second_tag x) n) x (pick_number n xs) ≡ pick_number n xs = cond-false _ _ _ e in
           record {
             before = x ∷ r.before;
-            behind = r.behind;
-            whole = ap (λ z. x ∷ z) (r.whole ∙ ap (λ z. r.before ++ z ∷ r.behind) (sym p));
+            after = r.after;
+            whole = ap (λ z. x ∷ z) (r.whole ∙ ap (λ z. r.before ++ z ∷ r.after) (sym p));
             others = cond-false _ _ _ e ∙ ap (λ z. x ∷ z) r.others;
             right = ap second_tag p ∙ r.right;
           }

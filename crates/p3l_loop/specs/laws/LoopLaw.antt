@@ -611,7 +611,7 @@ module _ (net : Net) (units : Units) (roles : ℕ → Role) (node tokens : ℕ) 
         ≡ suc (length (drop_number (s.own (base.proc + 1)).number (s.own (base.proc + 1)).held))
     dropped_length h =
         let f = found (s.own (base.proc + 1)).number (s.own (base.proc + 1)).held h in
-        ap length f.whole ∙ without_count f.before _ f.behind ∙ ap (λ z. suc (length z)) (sym f.others)
+        ap length f.whole ∙ without_count f.before _ f.after ∙ ap (λ z. suc (length z)) (sym f.others)
 
     release_right : has_number (s.own (base.proc + 1)).number (s.own (base.proc + 1)).held ≡ true →
         Right s (release_state base s)

@@ -280,18 +280,18 @@ module _ (l : Laps) (tokens : ℕ) (v : View) (k : Kept l tokens v) where
 
   module _ (f : Found v.least v.held) where
     bag_before : bag l v
-        ≡ map peeled f.before ++ peeled (pick_number v.least v.held) ∷ (map peeled f.behind ++ map (settled l) v.ring)
+        ≡ map peeled f.before ++ peeled (pick_number v.least v.held) ∷ (map peeled f.after ++ map (settled l) v.ring)
     unfolding bag
     bag_before =
         ap (λ z. map peeled z ++ map (settled l) v.ring) f.whole
         ∙ ap (λ z. z ++ map (settled l) v.ring) (map-append peeled f.before _)
         ∙ append_assoc (map peeled f.before) _ _
 
-    bag_behind : bag l release_view ≡ map peeled f.before ++ (map peeled f.behind ++ map (settled l) v.ring)
+    bag_after : bag l release_view ≡ map peeled f.before ++ (map peeled f.after ++ map (settled l) v.ring)
     unfolding bag
-    bag_behind =
+    bag_after =
         ap (λ z. map peeled z ++ map (settled l) v.ring) f.others
-        ∙ ap (λ z. z ++ map (settled l) v.ring) (map-append peeled f.before f.behind)
+        ∙ ap (λ z. z ++ map (settled l) v.ring) (map-append peeled f.before f.after)
         ∙ append_assoc (map peeled f.before) _ _
 
     found_goes : Goes l tokens v release_view
@@ -299,7 +299,7 @@ module _ (l : Laps) (tokens : ℕ) (v : View) (k : Kept l tokens v) where
     found_goes =
         let n = subst (λ z. IsNumbered z v.least) bag_before k.numbered in
         let len : length (bag l v) ≡ suc (length (bag l release_view)) =
-        ap length bag_before ∙ without_count (map peeled f.before) _ _ ∙ ap (λ z. suc (length z)) (sym bag_behind) in
+        ap length bag_before ∙ without_count (map peeled f.before) _ _ ∙ ap (λ z. suc (length z)) (sym bag_after) in
         let up : v.least + 1 ≡ suc v.least = omega arith in
         record {
           kept = record {
@@ -308,16 +308,16 @@ module _ (l : Laps) (tokens : ℕ) (v : View) (k : Kept l tokens v) where
             turns = k.turns;
             numbered =
                 subst (λ z. IsNumbered (bag l release_view) z) (sym up)
-                (subst (λ z. IsNumbered z (suc v.least)) (sym bag_behind)
+                (subst (λ z. IsNumbered z (suc v.least)) (sym bag_after)
                 (release_numbered (map peeled f.before) _ _ v.least n f.right));
           };
           line =
               ap₂ (λ y z. (v.output ++ peeled (peeled (pick_number v.least v.held)) ∷ [])
-              ++ (read y z (length y) ++ map (over (rounds l)) v.input)) bag_behind up
+              ++ (read y z (length y) ++ map (over (rounds l)) v.input)) bag_after up
               ∙ append_assoc v.output _ _
               ∙ ap (λ z. v.output ++ (z ++ map (over (rounds l)) v.input))
               (sym (release_read (map peeled f.before) (peeled (pick_number v.least v.held))
-              (map peeled f.behind ++ map (settled l) v.ring) v.least n f.right))
+              (map peeled f.after ++ map (settled l) v.ring) v.least n f.right))
               ∙ ap (λ z. v.output ++ (read z v.least (length z) ++ map (over (rounds l)) v.input)) (sym bag_before);
         }
 

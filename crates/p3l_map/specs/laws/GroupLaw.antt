@@ -1,5 +1,5 @@
 -- Pieces cut into groups of n, by one walk with the group so far, and no division. The groups of two lists are those of
--- the first and those of the second behind what the first leaves (`groups_append`, `left_append`).
+-- the first and those of the second after what the first leaves (`groups_append`, `left_append`).
 -- Pieces that fill the group so far are one group, and leave none (`one_group`).
 use Rattle.std.proofs.Common.{◌≡◌, ℕ, suc, ◌+◌, ◌<◌, inl, inr, cond, nat_eq, true, false, List, [], ◌∷◌, ◌++◌, length, refl, sym, ap, ◌∙◌, subst, arith, append_assoc, length-append, eq-eqb, ne_eqb}
 use Rattle.std.proofs.lemmas.Bool.{cases_Bool, cond-true, cond-false}

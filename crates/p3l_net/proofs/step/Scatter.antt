@@ -96,7 +96,7 @@ module _ {m : Seen} {p : ℕ} {q : Proc} (may : MayFire m p Scatter) (stands : s
         can_put h (line_of (own_at m.owns p) q) (line_among (own_at m.owns p) q (fits_scatter h kind))
         (sym (room-seen m h.sound (line_of (own_at m.owns p) q)) ∙ sym (cond-true _ _ _ holds) ∙ sym (is_ready h kind) ∙ may.ready)
 
-    -- the element that is sent, and what is kept behind it
+    -- the element that is sent, and what is kept after it
     abbrev pub sent : Token
     sent = over (element_of m.tree q.node (own_at m.owns p).number) (first_or credit (own_at m.owns p).held)
 

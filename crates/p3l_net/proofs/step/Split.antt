@@ -114,7 +114,7 @@ module _ {m : Seen} {p : ℕ} {q : Proc} (may : MayFire m p Split) (stands : sli
         can_put h (out_of q (own_at m.owns p).number) (has-nth q.outs (own_at m.owns p).number (segment_there h kind holds))
         (sym (room-seen m h.sound (out_of q (own_at m.owns p).number)) ∙ sym (is_ready_held h kind holds) ∙ may.ready)
 
-    -- the segment that is sent, and what is kept behind it
+    -- the segment that is sent, and what is kept after it
     abbrev pub sent : Token
     sent = over (segment_of m.tree q.node (length q.outs) (own_at m.owns p).number) (first_or credit (own_at m.owns p).held)
 

@@ -7,7 +7,7 @@ use Rattle.std.proofs.lemmas.List.{map-append, length-map}
 use Rattle.p3l_firing.specs.Token.{over}
 use Rattle.p3l_firing.specs.declared.token.Token.{Token}
 use Rattle.p3l_firing.specs.kinds.Join.{paired_by}
-use Rattle.p3l_reduce.specs.JoinTree.{Folding, View, leaf_of, joined, unsent, pairwise, behind, flow, same_tags, matched, even, left_flows, held_count}
+use Rattle.p3l_reduce.specs.JoinTree.{Folding, View, leaf_of, joined, unsent, pairwise, after_node, flow, same_tags, matched, even, left_flows, held_count}
 use Rattle.p3l_reduce.specs.laws.Heap.{Deep, Below, join_count}
 
 -- LISTS COMBINED PAIRWISE
@@ -62,15 +62,15 @@ module _ (g : Folding) where
   module _ (v w : View) (inner : (q : ℕ) → 1 < q → q < g.count → w.tees q ≡ v.tees q)
       (leafs : (q : ℕ) → 1 < q → g.count ≤ q → q < g.count + g.count → flow g w 0 q ≡ flow g v 0 q) where
     pub flow_same : (d r : ℕ) → Deep g.count d r → 1 < r → flow g w d r ≡ flow g v d r
-    unfolding Deep behind
+    unfolding Deep after_node
     flow_same zero r deep big = leafs r big deep.0 deep.1
     flow_same (suc d) r deep big =
         ap₂ (λ x y. x ++ y) (inner r big deep.1)
         (ap₂ (pairwise g) (flow_same d (r + r) deep.2 (omega arith)) (flow_same d (suc (r + r)) deep.3 (omega arith)))
 
-    pub behind_same : (d r : ℕ) → Deep g.count (suc d) r → behind g w (suc d) r ≡ behind g v (suc d) r
-    unfolding Deep behind
-    behind_same d r deep =
+    pub after_same : (d r : ℕ) → Deep g.count (suc d) r → after_node g w (suc d) r ≡ after_node g v (suc d) r
+    unfolding Deep after_node
+    after_same d r deep =
         ap₂ (pairwise g) (flow_same d (r + r) deep.2 (omega (arith, deep.0)))
         (flow_same d (suc (r + r)) deep.3 (omega (arith, deep.0)))
 
@@ -102,19 +102,19 @@ pub record Joins (g : Folding) (v w : View) (q : ℕ) (x y : Token) : Type 0 whe
 
 module _ (g : Folding) (v w : View) (q : ℕ) (x y : Token) (pos : 0 < q) (low : q < g.count)
     (j : Joins g v w q x y) where
-  -- the join's own flow stays, where what stands behind its two channels does
-  join_here : (d : ℕ) → behind g w d (q + q) ≡ behind g v d (q + q) →
-      behind g w d (suc (q + q)) ≡ behind g v d (suc (q + q)) → flow g w (suc d) q ≡ flow g v (suc d) q
-  unfolding behind pairwise
+  -- the join's own flow stays, where what stands after its two channels does
+  join_here : (d : ℕ) → after_node g w d (q + q) ≡ after_node g v d (q + q) →
+      after_node g w d (suc (q + q)) ≡ after_node g v d (suc (q + q)) → flow g w (suc d) q ≡ flow g v (suc d) q
+  unfolding after_node pairwise
   join_here d a b =
       ap₂ (λ z u. z ++ u) j.out (ap₂ (λ z u. pairwise g (w.tees (q + q) ++ z) (w.tees (suc (q + q)) ++ u)) a b)
       ∙ append_assoc (v.tees q) _ _
       ∙ ap (λ z. v.tees q ++ z)
-      (sym (ap₂ (λ z u. pairwise g (z ++ behind g v d (q + q)) (u ++ behind g v d (suc (q + q)))) j.left j.right))
+      (sym (ap₂ (λ z u. pairwise g (z ++ after_node g v d (q + q)) (u ++ after_node g v d (suc (q + q)))) j.left j.right))
 
   join_both : (d r : ℕ) → Deep g.count d r →
-      (r ≢ q → behind g w d r ≡ behind g v d r) × (r ≢ q + q → r ≢ suc (q + q) → flow g w d r ≡ flow g v d r)
-  unfolding Deep behind
+      (r ≢ q → after_node g w d r ≡ after_node g v d r) × (r ≢ q + q → r ≢ suc (q + q) → flow g w d r ≡ flow g v d r)
+  unfolding Deep after_node
   join_both zero r deep =
       let rest : map (over g.fold) (w.segs (r - g.count)) ++ unsent g w.sending w.sent (r - g.count)
       ≡ map (over g.fold) (v.segs (r - g.count)) ++ unsent g v.sending v.sent (r - g.count) =
@@ -136,8 +136,8 @@ module _ (g : Folding) (v w : View) (q : ℕ) (x y : Token) (pos : 0 < q) (low :
               | inl e ↦
                   subst (λ z. flow g w (suc d) z ≡ flow g v (suc d) z) (sym e)
                   (join_here d
-                  (subst (λ z. behind g w d (z + z) ≡ behind g v d (z + z)) e (left.0 (omega (arith, e, pos))))
-                  (subst (λ z. behind g w d (suc (z + z)) ≡ behind g v d (suc (z + z))) e
+                  (subst (λ z. after_node g w d (z + z) ≡ after_node g v d (z + z)) e (left.0 (omega (arith, e, pos))))
+                  (subst (λ z. after_node g w d (suc (z + z)) ≡ after_node g v d (suc (z + z))) e
                   (right.0 (omega (arith, e, pos)))))
             ],
       )
@@ -225,7 +225,7 @@ module _ (g : Folding) (v w : View) (x : Token) (t : Takes g v w x) where
   -- the flow of a place gets its meaning of x
   pub take_flow : (d r : ℕ) → Deep g.count d r → 1 < r → even g v d r ≡ true →
       flow g w d r ≡ flow g v d r ++ over (joined g d r) x ∷ []
-  unfolding Deep behind joined even paired_by
+  unfolding Deep after_node joined even paired_by
   take_flow zero r deep big h =
       ap₂ (λ z u. z ++ u) (t.tees r big deep.1)
       (ap₂ (λ z u. map (over g.fold) z ++ u) (t.segs (r - g.count) (omega (arith, deep.0, deep.1)))
@@ -244,10 +244,10 @@ module _ (g : Folding) (v w : View) (x : Token) (t : Takes g v w x) where
       (over (joined g d (suc (r + r))) x) (matched_length _ _ a.0))
       ∙ sym (append_assoc (v.tees r) _ _)
 
-  pub take_behind : (d r : ℕ) → Deep g.count (suc d) r → even g v (suc d) r ≡ true →
-      behind g w (suc d) r ≡ behind g v (suc d) r ++ over (joined g (suc d) r) x ∷ []
-  unfolding Deep behind joined even paired_by
-  take_behind d r deep h =
+  pub take_after : (d r : ℕ) → Deep g.count (suc d) r → even g v (suc d) r ≡ true →
+      after_node g w (suc d) r ≡ after_node g v (suc d) r ++ over (joined g (suc d) r) x ∷ []
+  unfolding Deep after_node joined even paired_by
+  take_after d r deep h =
       let a = even_parts g v d r h in
       ap₂ (pairwise g) (take_flow d (r + r) deep.2 (omega (arith, deep.0)) a.1)
       (take_flow d (suc (r + r)) deep.3 (omega (arith, deep.0)) a.2)
@@ -333,7 +333,7 @@ module _ (g : Folding) (v w : View) (k : ℕ) (x : Token) (xs : List Token) (low
       ]
 
   pub send_leaf : (q : ℕ) → 1 < q → g.count ≤ q → q < g.count + g.count → flow g w 0 q ≡ flow g v 0 q
-  unfolding behind
+  unfolding after_node
   send_leaf q big a b = ap₂ (λ z u. z ++ u) (n.tees q big b) (send_rest (q - g.count) (omega arith))
 
 -- RUN s folds x
@@ -347,7 +347,7 @@ pub record Folds (g : Folding) (v w : View) (s : ℕ) (x : Token) : Type 0 where
 
 module _ (g : Folding) (v w : View) (s : ℕ) (x : Token) (low : s < g.count) (n : Folds g v w s x) where
   fold_here : flow g w 0 (g.count + s) ≡ flow g v 0 (g.count + s)
-  unfolding behind
+  unfolding after_node
   fold_here =
       let e : g.count + s - g.count ≡ s = omega arith in
       subst (λ z. w.tees (g.count + s) ++ (map (over g.fold) (w.segs z) ++ unsent g w.sending w.sent z)
@@ -357,7 +357,7 @@ module _ (g : Folding) (v w : View) (s : ℕ) (x : Token) (low : s < g.count) (n
       ∙ ap (λ z. v.tees (g.count + s) ++ (map (over g.fold) z ++ unsent g v.sending v.sent s)) (sym n.seg))
 
   pub fold_leaf : (q : ℕ) → 1 < q → g.count ≤ q → q < g.count + g.count → flow g w 0 q ≡ flow g v 0 q
-  unfolding behind
+  unfolding after_node
   fold_leaf q big a b =
       elim (cases_eq q (g.count + s)) [
         | inl e ↦ subst (λ z. flow g w 0 z ≡ flow g v 0 z) (sym e) fold_here
@@ -386,10 +386,10 @@ pub record Stuck (g : Folding) (v : View) : Type 0 where
   pub split : (x : Token) (xs : List Token) → v.sending ≡ x ∷ xs → (v.sent < g.count) × (0 < length (v.segs v.sent))
 
 module _ (g : Folding) (v : View) (z : Stuck g v) where
-  -- behind an empty channel there is at most the token that Split holds
+  -- after an empty channel there is at most the token that Split holds
   dry : (d r : ℕ) → Deep g.count d r → 1 < r → even g v d r ≡ true → v.tees r ≡ [] →
       length (flow g v d r) ≤ held_count v.sending
-  unfolding Deep behind even
+  unfolding Deep after_node even
   dry zero r deep big h e =
       let s : ℕ = r - g.count in
       let back : g.count + s ≡ r = omega (arith, deep.0) in
@@ -408,12 +408,12 @@ module _ (g : Folding) (v : View) (z : Stuck g v) where
       ]
 
   dry_top : (d : ℕ) → Deep g.count (suc d) 1 → even g v (suc d) 1 ≡ true →
-      length (behind g v (suc d) 1) ≤ held_count v.sending
-  unfolding Deep behind even
+      length (after_node g v (suc d) 1) ≤ held_count v.sending
+  unfolding Deep after_node even
   dry_top d deep h =
       let a = even_parts g v d 1 h in
       let l = matched_length _ _ a.0 in
-      let p : length (behind g v (suc d) 1) ≡ length (flow g v d 2) =
+      let p : length (after_node g v (suc d) 1) ≡ length (flow g v d 2) =
       pairwise_length g (flow g v d 2) (flow g v d 3) l in
       elim z.top [
         | inl f ↦ omega (arith, p, dry d 2 deep.2 (omega arith) a.1 f)
@@ -423,7 +423,7 @@ module _ (g : Folding) (v : View) (z : Stuck g v) where
   -- the flow of a segment is no longer than that of a place above it
   wide : (d r : ℕ) → Deep g.count d r → even g v d r ≡ true → (q : ℕ) → g.count ≤ q → Below d r q →
       length (flow g v 0 q) ≤ length (flow g v d r)
-  unfolding Deep Below behind even
+  unfolding Deep Below after_node even
   wide zero r deep h q a e = subst (λ y. length (flow g v 0 y) ≤ length (flow g v 0 r)) (sym e) (le_refl _)
   wide (suc d) r deep h q a (inl e) = absurd (omega (arith, deep.1, e))
   wide (suc d) r deep h q a (inr (inl b)) =
@@ -448,8 +448,8 @@ module _ (g : Folding) (v : View) (z : Stuck g v) where
       )
 
   wide_top : (d : ℕ) → Deep g.count (suc d) 1 → even g v (suc d) 1 ≡ true → (q : ℕ) → g.count ≤ q → Below (suc d) 1 q →
-      length (flow g v 0 q) ≤ length (behind g v (suc d) 1)
-  unfolding Deep Below behind even
+      length (flow g v 0 q) ≤ length (after_node g v (suc d) 1)
+  unfolding Deep Below after_node even
   wide_top d deep h q a (inl e) = absurd (omega (arith, deep.1, e))
   wide_top d deep h q a (inr (inl b)) =
       let c = even_parts g v d 1 h in
@@ -469,11 +469,11 @@ module _ (g : Folding) (v : View) (z : Stuck g v) where
 
   pub all_dry : (d : ℕ) → Deep g.count (suc d) 1 → even g v (suc d) 1 ≡ true →
       ((q : ℕ) → g.count ≤ q → q < g.count + g.count → Below (suc d) 1 q) →
-      (v.sending ≡ []) × (behind g v (suc d) 1 ≡ [])
-  unfolding held_count behind unsent
+      (v.sending ≡ []) × (after_node g v (suc d) 1 ≡ [])
+  unfolding held_count after_node unsent
   all_dry d deep h all = go v.sending refl
     where
-      go : (ts : List Token) → v.sending ≡ ts → (v.sending ≡ []) × (behind g v (suc d) 1 ≡ [])
+      go : (ts : List Token) → v.sending ≡ ts → (v.sending ≡ []) × (after_node g v (suc d) 1 ≡ [])
       go [] e = (e, length_zero _ (omega (arith, dry_top d deep h, ap held_count e)))
       go (x ∷ xs) e =
           let s = z.split x xs e in
@@ -495,7 +495,7 @@ module _ (g : Folding) (v : View) (z : Stuck g v) where
 module _ (g : Folding) (v : View) (tees : (q : ℕ) → 1 < q → q < g.count + g.count → v.tees q ≡ [])
     (segs : (s : ℕ) → s < g.count → v.segs s ≡ []) (none : v.sending ≡ []) where
   empty_flow : (d r : ℕ) → Deep g.count d r → 1 < r → flow g v d r ≡ []
-  unfolding Deep behind unsent pairwise
+  unfolding Deep after_node unsent pairwise
   empty_flow zero r deep big =
       ap₂ (λ x y. x ++ y) (tees r big deep.1)
       (ap₂ (λ x y. map (over g.fold) x ++ unsent g y v.sent (r - g.count))
@@ -504,9 +504,9 @@ module _ (g : Folding) (v : View) (tees : (q : ℕ) → 1 < q → q < g.count + 
       ap₂ (λ x y. x ++ pairwise g y (flow g v d (suc (r + r)))) (tees r big (omega (arith, deep.1)))
       (empty_flow d (r + r) deep.2 (omega arith))
 
-  pub empty_behind : (d r : ℕ) → Deep g.count (suc d) r → behind g v (suc d) r ≡ []
-  unfolding Deep behind pairwise
-  empty_behind d r deep =
+  pub empty_after : (d r : ℕ) → Deep g.count (suc d) r → after_node g v (suc d) r ≡ []
+  unfolding Deep after_node pairwise
+  empty_after d r deep =
       ap (λ y. pairwise g y (flow g v d (suc (r + r)))) (empty_flow d (r + r) deep.2 (omega (arith, deep.0)))
 
   pub empty_even : (d r : ℕ) → Deep g.count d r → even g v d r ≡ true

@@ -14,11 +14,11 @@ use Rattle.p3l_firing.specs.declared.net.Net.{Net}
 use Rattle.p3l_firing.specs.declared.token.Token.{Token}
 use Rattle.p3l_firing.specs.kinds.Join.{paired_by}
 use Rattle.p3l_firing.specs.kinds.Split.{after_segment}
-use Rattle.p3l_reduce.specs.JoinTree.{Folding, View, joined, unsent, behind, flow, split_ok, well_kept, left_flows, to_send, owed_in, inside_in}
+use Rattle.p3l_reduce.specs.JoinTree.{Folding, View, joined, unsent, after_node, flow, split_ok, well_kept, left_flows, to_send, owed_in, inside_in}
 use Rattle.p3l_firing.specs.Segments.{halved, segment_lengths}
 use Rattle.p3l_reduce.specs.Reduce.{seg, tee_by, tee, split_proc, join_proc, fold_proc, join_procs, fold_procs, folding_of, view_of, tree_part, tree_shape, reduce_shape}
 use Rattle.p3l_reduce.specs.laws.Heap.{Deep, Below, deep_from, reach, join_count, join_count_is}
-use Rattle.p3l_reduce.specs.laws.JoinView.{behind_same, even_same, left_same, Joins, join_flow, join_even, join_works, Takes, take_behind, take_even, take_left, Sends, send_leaf, Folds, fold_leaf, Stuck, all_dry, empty_behind, empty_even, empty_left}
+use Rattle.p3l_reduce.specs.laws.JoinView.{after_same, even_same, left_same, Joins, join_flow, join_even, join_works, Takes, take_after, take_even, take_left, Sends, send_leaf, Folds, fold_leaf, Stuck, all_dry, empty_after, empty_even, empty_left}
 use Rattle.p3l_reduce.specs.laws.SizeLaw.{held_few, come_few, owed_few}
 use Rattle.p3l_template.specs.Part.{Part, IsLawfulPart, line, IsInside, IsSameInside, IsAlike, Moves, Keeps, IsFresh, Begins, IsDrained, due, IsSized, in_hands, inside, in_channels}
 use Rattle.p3l_template.specs.Placed.{IsLawfulShape, LiesAt, IsPlaced, AreStanding, AreChained, proc_end, chan_end}
@@ -210,7 +210,7 @@ module _ (net : Net) (units : Units) (roles : ℕ → Role) (node m d len : ℕ)
     orderly = and_from _ _ (even_same G (seen s) (seen t) z.inner z.leafs (suc d) 1 deep ∙ (and_parts _ _ h).0) k;
     line = ap₂ (λ x y. x ++ y) z.output
         (ap₂ (λ x y. x ++ map (over (joined G (suc d) 1)) y)
-        (behind_same G (seen s) (seen t) z.inner z.leafs d 1 deep) z.input);
+        (after_same G (seen s) (seen t) z.inner z.leafs d 1 deep) z.input);
   }
 
   quiet_left : (s t : State) → Quiet s t → left_flows G (seen t) (suc d) 1 ≡ left_flows G (seen s) (suc d) 1
@@ -552,9 +552,9 @@ module _ (net : Net) (units : Units) (roles : ℕ → Role) (node m d len : ℕ)
           line =
               ap₂ (λ x y. x ++ y) take_output
               (ap₂ (λ x y. x ++ map (over (joined G (suc d) 1)) y)
-              (take_behind G (seen s) (seen (take_state s)) _ t d 1 deep k.0) take_in
-              ∙ append_assoc (behind G (seen s) (suc d) 1) _ _
-              ∙ ap (λ y. behind G (seen s) (suc d) 1 ++ map (over (joined G (suc d) 1)) y) (sym (front _ full)));
+              (take_after G (seen s) (seen (take_state s)) _ t d 1 deep k.0) take_in
+              ∙ append_assoc (after_node G (seen s) (suc d) 1) _ _
+              ∙ ap (λ y. after_node G (seen s) (suc d) 1 ++ map (over (joined G (suc d) 1)) y) (sym (front _ full)));
         }
 
     take_needs : has_first (s.own base.proc).held ≡ false → has_first (s.tokens base.input) ≡ true →
@@ -824,7 +824,7 @@ module _ (net : Net) (units : Units) (roles : ℕ → Role) (node m d len : ℕ)
   leaf_same : (s t : State) → ((q : ℕ) → 1 < q → q < m + m → t.tokens (tee base m q) ≡ s.tokens (tee base m q)) →
       ((u : ℕ) → u < m → t.tokens (base.chan + u) ≡ s.tokens (base.chan + u)) → t.own base.proc ≡ s.own base.proc →
       (q : ℕ) → 1 < q → m ≤ q → q < m + m → flow G (seen t) 0 q ≡ flow G (seen s) 0 q
-  unfolding behind
+  unfolding after_node
   leaf_same s t tees segs o q b a l =
       ap₂ (λ x y. x ++ y) (tees q b l)
       (ap₂ (λ x y. map (over (outcome_at units node)) x ++ unsent G y.held y.number (q - m)) (segs (q - m) (omega arith)) o)
@@ -842,7 +842,7 @@ module _ (net : Net) (units : Units) (roles : ℕ → Role) (node m d len : ℕ)
       let leafs : (q : ℕ) → 1 < q → m ≤ q → q < m + m → flow G (seen t) 0 q ≡ flow G (seen s) 0 q = λ q b a l.
       leaf_same s t tees segs o q b a l in
       record {
-        pending = behind_same G (seen s) (seen t) inner leafs d 1 deep;
+        pending = after_same G (seen s) (seen t) inner leafs d 1 deep;
         orderly =
             ap₂ (λ x y. x && y) (even_same G (seen s) (seen t) inner leafs (suc d) 1 deep)
             (ap (λ z. split_ok G z.held z.number) o);
@@ -871,7 +871,7 @@ module _ (net : Net) (units : Units) (roles : ℕ → Role) (node m d len : ℕ)
         orderly =
             and_from _ _ (empty_even G (seen s) tees segs held (suc d) 1 deep)
             (ap (λ z. split_ok G z (s.own base.proc).number) held);
-        pending = empty_behind G (seen s) tees segs held d 1 deep;
+        pending = empty_after G (seen s) tees segs held d 1 deep;
         owed = ap₂ (λ x y. x + y)
             (sum_none (λ w. length (s.tokens (seg base w))) m (λ w l. ap length (segs w l)))
             (ap₂ (λ x y. x + y) (ap (λ z. to_send G z (s.own base.proc).number) held)

@@ -5,7 +5,7 @@ use Rattle.std.proofs.Common.{◌≡◌, ℕ, zero, suc, ◌+◌, ◌-◌, ◌*�
 use Rattle.std.proofs.lemmas.List.{length-map}
 use Rattle.p3l_firing.specs.Token.{over}
 use Rattle.p3l_firing.specs.declared.token.Token.{Token}
-use Rattle.p3l_reduce.specs.JoinTree.{Folding, View, unsent, pairwise, behind, flow, left_flows, to_send, owed_in, held_count, inside_in}
+use Rattle.p3l_reduce.specs.JoinTree.{Folding, View, unsent, pairwise, after_node, flow, left_flows, to_send, owed_in, held_count, inside_in}
 use Rattle.p3l_reduce.specs.laws.Heap.{Deep, join_count}
 use Rattle.p3l_reduce.specs.laws.JoinView.{unsent_few}
 use Rattle.p3l_template.specs.Sum.{sum_of}
@@ -35,7 +35,7 @@ module _ (g : Folding) (v : View) where
   -- a flow goes down the left, to places that are greater each time
   flow_few : (d r : ℕ) → Deep g.count d r → 1 < r →
       length (flow g v d r) + sum_of in_tee (r - 2) ≤ sum_of in_tee (g.count + g.count - 2) + before
-  unfolding Deep behind
+  unfolding Deep after_node
   flow_few zero r deep big =
       let at_r : length (v.tees (r - 2 + 2)) ≡ length (v.tees r) = ap (λ z. length (v.tees z)) (omega arith) in
       let a = sum_split in_tee (g.count + g.count - 2) (r - 2) (omega (arith, deep.1)) in
@@ -72,8 +72,8 @@ module _ (g : Folding) (v : View) where
   send_few (x ∷ xs) k = omega arith
 
   -- what is to come to the out channel, and what is owed, by the tokens inside
-  pub come_few : (d : ℕ) → Deep g.count (suc d) 1 → length (behind g v (suc d) 1) ≤ inside_in g v
-  unfolding Deep behind inside_in
+  pub come_few : (d : ℕ) → Deep g.count (suc d) 1 → length (after_node g v (suc d) 1) ≤ inside_in g v
+  unfolding Deep after_node inside_in
   come_few d deep = omega (arith, pairwise_few (flow g v d 2) (flow g v d 3), flow_few d 2 deep.2 (omega arith))
 
   pub owed_few : (d : ℕ) → Deep g.count d 1 → g.count ≡ suc (join_count d) → owed_in g d v ≤ 3 * g.count * inside_in g v

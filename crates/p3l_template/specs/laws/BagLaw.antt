@@ -29,7 +29,7 @@ look_append k (x ∷ xs) ys =
       | inr e ↦ look_there k x (xs ++ ys) e ∙ look_append k xs ys ∙ ap (λ z. z ++ look k ys) (sym (look_there k x xs e))
     ]
 
--- what is before, at and behind x
+-- what is before, at and after x
 look_mid : (k : ℕ) (xs : List Token) (x : Token) (ys : List Token) →
     look k (xs ++ x ∷ ys) ≡ look k xs ++ (look k (x ∷ []) ++ look k ys)
 look_mid k xs x ys = look_append k xs (x ∷ ys) ∙ ap (λ z. look k xs ++ z) (look_append k (x ∷ []) ys)

@@ -1,4 +1,4 @@
--- Inner parts that stand one behind the other from process p and channel c on. Part v stands at ports v, is lawful and
+-- Inner parts that stand one after the other from process p and channel c on. Part v stands at ports v, is lawful and
 -- means what they say (`chain_input` to `chain_lawful`), and lies between p, c and the ends (`chain_lies`).
 -- A firing between p and the end is one of one part, and the others cannot tell it (`chain_fires`).
 use Rattle.std.proofs.Common.{◌≡◌, ℕ, zero, suc, ◌≤◌, ◌<◌, inl, inr, true, List, [], ◌∷◌, length, get_or, ◌&&◌, refl, sym, ap, ap₂, ◌∙◌, subst, arith, le_refl}
@@ -11,7 +11,7 @@ use Rattle.p3l_template.specs.Placed.{AreChained, proc_end, chan_end, AreBelow}
 use Rattle.p3l_template.specs.Shape.{Role, Seat, no_seat}
 use Rattle.p3l_template.specs.Units.{Units}
 
--- part v lies behind p and c, and before the ends
+-- part v lies after p and c, and before the ends
 pub record Lies (p c pe ce : ℕ) (P : Part) : Type 0 where
   pub proc_from : p ≤ P.proc_from
   pub proc_to : P.proc_to ≤ pe

@@ -338,7 +338,7 @@ module _ (net : Net) (units : Units) (roles : ℕ → Role) (n : ℕ) (base : Ba
         ]
       ]
 
-  -- where nothing inside can fire, nothing is left in a worker that has room behind it
+  -- where nothing inside can fire, nothing is left in a worker that has room after it
   pub fan_drained : (s : State) → HaveRoom net base.chan (n + n) → all_orderly Ps s ≡ true →
       ((p : ℕ) → IsInside P p → can_fire units.tree net s p ≡ false) → has_trap s.emitted ≡ false → (w : ℕ) → w < n →
       s.tokens (base.chan + n + w) ≡ [] → IsDrained (get_or Ps w no_part) s

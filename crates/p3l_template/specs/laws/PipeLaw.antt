@@ -376,7 +376,7 @@ pending_bound s q (P ∷ Ps) h =
     let c = length-append (s.tokens P.input) q in
     omega (arith, r, a, b, c, (h 0 (omega arith)).pending)
 
--- b tokens are to pass the first stage behind those in its channel x
+-- b tokens are to pass the first stage after those in its channel x
 due_bound : (s : State) (x b : ℕ) (Ps : List Part) → Linked x Ps →
     ((v : ℕ) → v < length Ps → IsSized (get_or Ps v no_part) s) →
     stages_due s (length (s.tokens x) + b) Ps ≤ all_firings Ps * (b + entered s Ps)

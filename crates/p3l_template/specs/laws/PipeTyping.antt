@@ -1,4 +1,4 @@
--- The typing law of a pipe: the channel behind a stage carries the words that the stage gives.
+-- The typing law of a pipe: the channel after a stage carries the words that the stage gives.
 use Rattle.std.proofs.Common.{◌≡◌, ℕ, zero, suc, ◌+◌, ◌-◌, ◌<◌, ◌≤◌, List, [], ◌∷◌, ◌++◌, length, get_or, refl, sym, ap, ◌∙◌, subst, arith}
 use Rattle.p3l_skel.specs.declared.tree.Tree.{Tree}
 use Rattle.p3l_skel.specs.Tree.{node_at, part_at}
@@ -11,7 +11,7 @@ use Rattle.p3l_template.specs.Typing.{IsTypedShape, IsPipeNode, Width, no_width,
 use Rattle.p3l_template.specs.laws.Plain.{plain_credits}
 use Rattle.p3l_template.specs.laws.TimesLaw.{times_append, times_cons}
 
--- the widths of the channels behind all these stages but the last
+-- the widths of the channels after all these stages but the last
 unfoldable stage_widths : Tree → ℕ → List ℕ → List Width
 stage_widths tree t [] = []
 stage_widths tree t (p ∷ []) = []

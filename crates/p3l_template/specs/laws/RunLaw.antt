@@ -1,5 +1,5 @@
 -- THE LAW OF RUN (`run_lawful`): a node of one process is a lawful template. Each firing takes the first token of
--- the in channel and puts its meaning behind those of the out channel, so the line stays.
+-- the in channel and puts its meaning after those of the out channel, so the line stays.
 -- Nothing is ever pending inside, and where it cannot fire and the out channel has room, nothing waits.
 use Rattle.std.proofs.Common.{◌≡◌, ℕ, ◌<◌, ◌≢◌, true, false, List, [], ◌∷◌, ◌++◌, map, length, refl, sym, ap, ◌∙◌, subst, arith, append_assoc, le_refl, slice_get, Some}
 use Rattle.std.proofs.lemmas.Bool.{and_parts}

@@ -3,10 +3,10 @@ use Rattle.std.proofs.Common.{◌≡◌, ℕ, List, [], ◌∷◌, ◌++◌, Opt
 use Rattle.p3l_firing.specs.declared.process.ProcKind.{ProcKind}
 use Rattle.p3l_firing.specs.declared.process.ProcKind.TheVariants.{Source, Sink, Run, Emit, Collect, Scatter, Gather, Split, FoldGather, Join, Head, Tail}
 use Rattle.p3l_format.specs.Lawful.{IsLawful}
-use Rattle.p3l_format.specs.Text.{behind_text}
+use Rattle.p3l_format.specs.Text.{after_text}
 use Rattle.p3l_format.specs.laws.Formats.{lawful_from}
 use Rattle.p3l_format.specs.laws.Parts.{ok_is}
-use Rattle.p3l_format.specs.laws.Text.{behind_is}
+use Rattle.p3l_format.specs.laws.Text.{after_is}
 use Rattle.p3l_trace.specs.Kind.{word_of, all_said, said_or, first_said, said_format}
 
 said_again : (said : Option ProcKind) (rest : List ℕ) → first_said all_said (word_of said ++ rest) ≡ Ok (said, rest)
@@ -27,7 +27,7 @@ said_again None rest = refl
 -- what was read is spelled so
 said_takes : (all : List (Option ProcKind)) (s : List ℕ) (x : Option ProcKind × List ℕ) → first_said all s ≡ Ok x → s ≡ word_of x.0 ++ x.1
 said_takes [] s x e = absurd cc
-said_takes (said ∷ more) s x e = by_front (behind_text (word_of said) s) (λ rest is. behind_is (word_of said) s rest is) (λ later. said_takes more s x later) e
+said_takes (said ∷ more) s x e = by_front (after_text (word_of said) s) (λ rest is. after_is (word_of said) s rest is) (λ later. said_takes more s x later) e
   where
     by_front : (o : Option (List ℕ)) → ((rest : List ℕ) → o ≡ Some rest → s ≡ word_of said ++ rest) → (first_said more s ≡ Ok x → s ≡ word_of x.0 ++ x.1) → said_or said o (first_said more s) ≡ Ok x → s ≡ word_of x.0 ++ x.1
     by_front None is later e = later e

@@ -8,7 +8,7 @@ use Rattle.p3l_trace.specs.declared.line.LineItem.{LineItem}
 use Rattle.p3l_trace.specs.Kind.{said_format}
 use Rattle.p3l_trace.specs.Text.{header, end_word, space, feed, most_pick, most_count, pick_format, line_format, next_line, first_line, lines_format, counts_format, body_format, trace_format}
 use Rattle.p3l_trace.specs.laws.Kind.{lawful_said}
-use Rattle.p3l_format.specs.Text.{behind_text, then_text}
+use Rattle.p3l_format.specs.Text.{after_text, then_text}
 use Rattle.p3l_format.specs.Decimal.{number_text, number_then}
 use Rattle.p3l_format.specs.Format.{as_form, pair, within}
 use Rattle.p3l_format.specs.Line.{line}
@@ -61,7 +61,7 @@ front_plain [] t plain = absurd plain
 front_plain (d ∷ ds) t plain = plain
 
 -- so it doesn't begin as the last line does
-no_end : (s : List ℕ) → BeginsPlain s → behind_text end_word s ≡ None
+no_end : (s : List ℕ) → BeginsPlain s → after_text end_word s ≡ None
 no_end [] plain = absurd plain
 no_end (d ∷ ds) plain = rw (ne_eqb 101 d (λ same. omega arith)) refl
 

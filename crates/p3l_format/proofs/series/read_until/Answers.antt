@@ -24,7 +24,7 @@ loop-after-preserved g c =
     let pushed = c.in_ok-push.ensures.ok in
     let len : length (c.loop-after.values ++ c.in_ok-value.value ∷ []) ≡ length c.loop-after.values + 1 = length_push c.loop-after.values c.in_ok-value.value in
     record {
-      so_far = rw (pushed, c.behind-kind.ensures) (until_goes_on g.I.Item.format g.I.Item.next c.args.stop.now (suc (length c.args.bytes.now) - length c.loop-after.values) (suc (length c.args.bytes.now) - length (c.loop-after.values ++ c.in_ok-value.value ∷ [])) c.loop-after.kind c.loop-after.rest.now c.in_ok-value.after.now c.in_ok-value.value c.loop-after.values total
+      so_far = rw (pushed, c.after-kind.ensures) (until_goes_on g.I.Item.format g.I.Item.next c.args.stop.now (suc (length c.args.bytes.now) - length c.loop-after.values) (suc (length c.args.bytes.now) - length (c.loop-after.values ++ c.in_ok-value.value ∷ [])) c.loop-after.kind c.loop-after.rest.now c.in_ok-value.after.now c.in_ok-value.value c.loop-after.values total
           (omega arith) (sym c.in_default.ensures) c.in_ok-value.ensures c.loop-after.invariant.so_far);
       room = rw pushed (omega arith);
     }

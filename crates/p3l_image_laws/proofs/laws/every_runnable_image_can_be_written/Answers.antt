@@ -4,7 +4,7 @@ use Rattle.std.proofs.lemmas.List.Sums.{count_by-le-length}
 use Rattle.p3l_skel.specs.declared.tree.ModuleInfo.{ModuleInfo}
 use Rattle.p3l_skel.specs.Counts.{counted}
 use Rattle.p3l_firing.specs.declared.net.Net.{Net}
-use Rattle.p3l_format.specs.Format.{as_form, behind, pair}
+use Rattle.p3l_format.specs.Format.{as_form, after, pair}
 use Rattle.p3l_format.specs.Numbers.{u32_in}
 use Rattle.p3l_format.specs.laws.Parts.{both_true}
 use Rattle.p3l_tree_format.specs.Tree.{counts_format, tree_format}
@@ -42,7 +42,7 @@ body_fits image is some few names operands =
     (net_fits tree image.net (some_nodes tree lawful) is.typed fine))))
 
 image_fits : EveryRunnableImageCanBeWritten
-unfolding image_format behind
+unfolding image_format after
 image_fits image is some few names operands =
     both_true ((u32_in magic magic).fits magic) _ (fits_in magic magic magic (omega arith) (omega arith) (omega arith))
     (both_true ((u32_in version version).fits version) (body_format.fits image) (fits_in version version version (omega arith) (omega arith) (omega arith))

@@ -1,4 +1,4 @@
--- The ends with the root's piece behind them are the linked net.
+-- The ends with the root's piece after them are the linked net.
 use Rattle.std.proofs.Common.{◌≡◌, ℕ, List, sym, ap, ◌∙◌, subst}
 use Rattle.p3l_skel.specs.declared.tree.Tree.{Tree}
 use Rattle.p3l_skel.specs.Counts.{count_of}

@@ -23,4 +23,4 @@ loop-part-init t c = λ more.
     let some : 0 < c.args.levels = omega arith in
     let node = c.in-Some.node.now in
     let rest : List ℕ = flat_map (counted_from c.args.tree.now (c.args.levels - 1)) (outside_parts node.form node.parts) in
-    rw (counted_from-parts c.args.tree.now c.args.levels c.args.number more some, ← c.in-Some.ensures.found, c.outside_parts-part-items.ensures) (c.in-Behind.ensures (rest ++ more))
+    rw (counted_from-parts c.args.tree.now c.args.levels c.args.number more some, ← c.in-Some.ensures.found, c.outside_parts-part-items.ensures) (c.in-After.ensures (rest ++ more))

@@ -6,7 +6,7 @@ use Rattle.p3l_model.proofs.workers.+search.Given as goal
 abbrev pub decreases-search : goal.decreases-search
 decreases-search l = l.levels
 
--- the counts behind `next` are those of the parts that are left
+-- the counts after `next` are those of the parts that are left
 abbrev pub invariant-loop-part : goal.invariant-loop-part
 invariant-loop-part l =
     (more : List ℕ) → count_in (flat_map (counted_from l.tree (l.levels - 1)) (drop l.part-index l.part-items) ++ more) (drop l.next l.counts) l.wanted

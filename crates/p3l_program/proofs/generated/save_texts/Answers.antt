@@ -3,7 +3,7 @@ use Rattle.std.proofs.lemmas.Result.{err_from_is_err_and}
 use Rattle.std.specs.declared.result.Result.TheVariants.{Ok, Err}
 use Rattle.p3l_program.specs.Saved.{HasSave}
 use Rattle.p3l_program.specs.World.{change}
-use Rattle.p3l_program.proofs.SeriesSteps.{costs_parted, program_parted, saves_failed, saves_last, saves_then}
+use Rattle.p3l_program.proofs.SeriesSteps.{costs_separated, program_separated, saves_failed, saves_last, saves_then}
 use Rattle.p3l_program.proofs.generated.save_texts.Goals as goal
 
 pub returns-in_err-save_as : goal.returns-in_err-save_as
@@ -31,7 +31,7 @@ returns-in_err-save_as-2 g c =
     let failed = subst (λ b. HasSave (change held faults mid end) (prefix ++ codes ".toml") b (Err v)) c.as_slice-2.ensures c.in_err-save_as-2.ensures in
     let more = saves_failed (change held faults mid end) (prefix ++ codes ".toml") texts.costs ((prefix ++ codes ".txt", texts.stream) ∷ []) v failed in
     rw (p.1, p.2) (saves_then (held old) (held mid) (held end) (faults old) (faults mid) (faults end) (prefix ++ codes ".p3l") texts.program
-    ((prefix ++ codes ".toml", texts.costs) ∷ ((prefix ++ codes ".txt", texts.stream) ∷ [])) (program_parted prefix) first (Err v) more)
+    ((prefix ++ codes ".toml", texts.costs) ∷ ((prefix ++ codes ".txt", texts.stream) ∷ [])) (program_separated prefix) first (Err v) more)
 
 pub returns : goal.returns
 returns g c =
@@ -48,6 +48,6 @@ returns g c =
     let second = subst (λ b. HasSave (change held faults mid late) (prefix ++ codes ".toml") b (Ok tt)) c.as_slice-2.ensures c.in_ok-save_as-2.ensures in
     let third = subst (λ b. HasSave (change held faults late end) (prefix ++ codes ".txt") b result) c.as_slice-3.ensures c.save_as-3.ensures in
     let last = saves_last (change held faults late end) (prefix ++ codes ".txt") texts.stream result third in
-    let more = saves_then (held mid) (held late) (held end) (faults mid) (faults late) (faults end) (prefix ++ codes ".toml") texts.costs ((prefix ++ codes ".txt", texts.stream) ∷ []) (costs_parted prefix) second result last in
+    let more = saves_then (held mid) (held late) (held end) (faults mid) (faults late) (faults end) (prefix ++ codes ".toml") texts.costs ((prefix ++ codes ".txt", texts.stream) ∷ []) (costs_separated prefix) second result last in
     saves_then (held old) (held mid) (held end) (faults old) (faults mid) (faults end) (prefix ++ codes ".p3l") texts.program
-    ((prefix ++ codes ".toml", texts.costs) ∷ ((prefix ++ codes ".txt", texts.stream) ∷ [])) (program_parted prefix) first result more
+    ((prefix ++ codes ".toml", texts.costs) ∷ ((prefix ++ codes ".txt", texts.stream) ∷ [])) (program_separated prefix) first result more

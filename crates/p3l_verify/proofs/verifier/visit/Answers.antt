@@ -1,7 +1,7 @@
 use Rattle.std.proofs.Common.{◌≡◌, ℕ, ◌+◌, ◌-◌, IsTrue, List, Option, Some, None, refl, sym, ap, ◌∙◌, subst}
 use Rattle.std.specs.Prelude.{slice_get, slice_set}
 use Rattle.std.proofs.lemmas.Option.{slice_get_within}
-use Rattle.p3l_code.specs.Safe.{depth_behind, pops, pushes, target_of}
+use Rattle.p3l_code.specs.Safe.{depth_after, pops, pushes, target_of}
 use Rattle.p3l_code.specs.declared.instr.Code.{Code}
 use Rattle.p3l_code.specs.declared.instr.Instr.{Instr}
 use Rattle.p3l_verify.specs.Known.{IsSound, IsLocal, Knows, CanNote}
@@ -9,9 +9,9 @@ use Rattle.p3l_verify.proofs.Notes.{knows_same}
 use Rattle.p3l_verify.proofs.Places.{MustBe, settles, is_local, next_can, jump_can, visited}
 use Rattle.p3l_verify.proofs.verifier.visit.Goals as goal
 
--- the depth behind an instruction
-behind_is : (d p q : ℕ) (i : Instr) → p ≡ pops i → q ≡ pushes i → d - p + q ≡ depth_behind d i
-behind_is d p q i ep eq = ap (λ n. d - n + q) ep ∙ ap (λ n. d - pops i + n) eq
+-- the depth after an instruction
+after_is : (d p q : ℕ) (i : Instr) → p ≡ pops i → q ≡ pushes i → d - p + q ≡ depth_after d i
+after_is d p q i ep eq = ap (λ n. d - n + q) ep ∙ ap (λ n. d - pops i + n) eq
 
 -- what a settled depth comes with
 record Settled (code : Code) (known : List (Option ℕ)) (place d : ℕ) : Type 0 where
@@ -39,14 +39,14 @@ pub returns-else-note_at-clause-fails : goal.returns-else-note_at-clause-fails
 returns-else-note_at-clause-fails c =
     let e = c.settle-depth.ensures in
     let t = settled c.args.code.now c.args.known.now c.settle-depth.new.known c.args.place c.settle-depth.result c.args.instr c.requires.at c.requires.sound e.depth e.unreached e.known in
-    let b = behind_is c.settle-depth.result c.pops.result c.pushes.result c.args.instr c.pops.ensures c.pushes.ensures in
+    let b = after_is c.settle-depth.result c.pops.result c.pushes.result c.args.instr c.pops.ensures c.pushes.ensures in
     λ h. c.note_at.ensures.can.1 (next_can c.args.code.now c.settle-depth.new.known c.args.place c.settle-depth.result c.args.instr c.requires.at t.sound t.own t.must c.next_of.result (target_of c.args.instr) _ c.next_of.ensures refl b h)
 
 pub returns-then-note_at-clause-fails : goal.returns-then-note_at-clause-fails
 returns-then-note_at-clause-fails c =
     let e = c.settle-depth.ensures in
     let t = settled c.args.code.now c.args.known.now c.settle-depth.new.known c.args.place c.settle-depth.result c.args.instr c.requires.at c.requires.sound e.depth e.unreached e.known in
-    let b = behind_is c.settle-depth.result c.pops.result c.pushes.result c.args.instr c.pops.ensures c.pushes.ensures in
+    let b = after_is c.settle-depth.result c.pops.result c.pushes.result c.args.instr c.pops.ensures c.pushes.ensures in
     let n = c.note_at.ensures in
     λ h. c.note_at-then-note_at.ensures.can.1 (jump_can c.args.code.now c.settle-depth.new.known c.args.place c.settle-depth.result c.args.instr c.requires.at t.sound t.own t.must c.next_of.result c.target_of.result _ c.next_of.ensures c.target_of.ensures b c.note_at.new.known (n.can.0 c.if-note_at.true) (n.known c.if-note_at.true) h)
 
@@ -54,7 +54,7 @@ pub returns-then-note_at-clause-goes : goal.returns-then-note_at-clause-goes
 returns-then-note_at-clause-goes c =
     let e = c.settle-depth.ensures in
     let t = settled c.args.code.now c.args.known.now c.settle-depth.new.known c.args.place c.settle-depth.result c.args.instr c.requires.at c.requires.sound e.depth e.unreached e.known in
-    let b = behind_is c.settle-depth.result c.pops.result c.pushes.result c.args.instr c.pops.ensures c.pushes.ensures in
+    let b = after_is c.settle-depth.result c.pops.result c.pushes.result c.args.instr c.pops.ensures c.pushes.ensures in
     let n = c.note_at.ensures in
     let m = c.note_at-then-note_at.ensures in
     let local : IsLocal c.args.code.now c.args.place c.args.instr c.settle-depth.result = c.is_local.ensures.0 c.if-not-is_local.false in

@@ -2,7 +2,7 @@ use Rattle.std.proofs.Common.{◌∙◌, ap}
 use Rattle.p3l_stream.specs.Answers.{answer_for}
 use Rattle.p3l_stream.specs.Seen.{Seen}
 use Rattle.p3l_stream.proofs.Asking.{are_passed, is_filled}
-use Rattle.p3l_stream.proofs.AtHand.{answers_behind, finds_at_hand, no_line}
+use Rattle.p3l_stream.proofs.AtHand.{answers_after, finds_at_hand, no_line}
 use Rattle.p3l_stream.proofs.lines.Lines.answer.Goals as goal
 
 pub returns-in-Some-clause-answers : goal.returns-in-Some-clause-answers
@@ -13,7 +13,7 @@ returns-in-Some-clause-answers g c =
 
 pub returns-in-None-clause-answers : goal.returns-in-None-clause-answers
 returns-in-None-clause-answers g c =
-    answers_behind _ _ _ _ _ _ (are_passed _ _ _ c.in_ok-line.ensures.ok c.in-None.is).0 c.read_on.ensures.answers
+    answers_after _ _ _ _ _ _ (are_passed _ _ _ c.in_ok-line.ensures.ok c.in-None.is).0 c.read_on.ensures.answers
 
 pub returns-in-None-clause-ready : goal.returns-in-None-clause-ready
 returns-in-None-clause-ready g c has =

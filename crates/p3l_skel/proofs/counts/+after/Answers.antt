@@ -5,7 +5,7 @@ use Rattle.p3l_skel.specs.Tree.{node_at}
 use Rattle.p3l_skel.specs.Counts.{own_counted, outside_parts, counted_from}
 use Rattle.p3l_skel.proofs.Below.{counted_from-zero, counted_from-step, counted_from-past}
 use Rattle.p3l_skel.proofs.Taken.{TakesLawful-split, TakesLawful-more, TakesLawful-stops}
-use Rattle.p3l_skel.proofs.counts.+behind.Goals as goal
+use Rattle.p3l_skel.proofs.counts.+after.Goals as goal
 
 pub returns-in_default-clause-ok : goal.returns-in_default-clause-ok
 returns-in_default-clause-ok t c =
@@ -17,8 +17,8 @@ returns-then-levels-eq0-clause-ok t c = rw (c.if-levels-eq0.true, counted_from-z
 pub returns-in_err-next-clause-none : goal.returns-in_err-next-clause-none
 returns-in_err-next-clause-none t c =
     rw c.from_residual.ensures (λ rest all. let some : 0 < c.args.levels = omega arith in
-    let parted = TakesLawful-split c.args.tree.now _ _ _ rest (rw (counted_from-step c.args.tree.now c.args.levels c.args.number some) at all) in
-    c.in_err-next.ensures.none parted.0 parted.1)
+    let separated = TakesLawful-split c.args.tree.now _ _ _ rest (rw (counted_from-step c.args.tree.now c.args.levels c.args.number some) at all) in
+    c.in_err-next.ensures.none separated.0 separated.1)
 
 pub returns-in_err-next-2-clause-none : goal.returns-in_err-next-2-clause-none
 returns-in_err-next-2-clause-none t c =

@@ -14,19 +14,19 @@ unfoldable pub two_modules : ModuleKind → List ModuleInfo
 two_modules of_root = record { name = codes "main"; kind = of_root } ∷ (record { name = codes "part"; kind = kind.Seq } ∷ [])
 
 -- a root of this form with a part, and the words that both take and give
-unfoldable pub parted : Form → ModuleKind → ℕ → ℕ → ℕ → ℕ → Tree
-parted form of_root ins outs part_ins part_outs = record {
+unfoldable pub with_part : Form → ModuleKind → ℕ → ℕ → ℕ → ℕ → Tree
+with_part form of_root ins outs part_ins part_outs = record {
   nodes = record { form = form; «module» = 0; ins = ins; outs = outs; parts = 1 ∷ [] }
       ∷ (record { form = Seq; «module» = 1; ins = part_ins; outs = part_outs; parts = [] } ∷ []);
   modules = two_modules of_root;
 }
 
 abbrev pub four_map : Tree
-four_map = parted (Map None four_cut) kind.Map 4 4 1 1
+four_map = with_part (Map None four_cut) kind.Map 4 4 1 1
 
 -- a reduce of so many words
 abbrev pub reduce_of : ℕ → Tree
-reduce_of len = parted (Reduce None len 1) kind.Reduce len 1 2 1
+reduce_of len = with_part (Reduce None len 1) kind.Reduce len 1 2 1
 
 abbrev pub five_reduce : Tree
 five_reduce = reduce_of 5

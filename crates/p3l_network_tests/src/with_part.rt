@@ -4,7 +4,7 @@ ghost use Rattle.std.specs.Prelude.{◌≡◌, ◌<◌, pos, [], ◌∷◌, ◌-
 ghost use Rattle.p3l_base.specs.declared.outcome.Outcome.TheVariants.{Value};
 ghost use Rattle.p3l_base.specs.declared.slice.Place.TheVariants as places;
 ghost use Rattle.p3l_skel.specs.Examples.{checked, four_cut};
-ghost use Rattle.p3l_network_tests.specs.Parted.{two_modules, four_map, reduce_of};
+ghost use Rattle.p3l_network_tests.specs.WithPart.{two_modules, four_map, reduce_of};
 
 use p3l_base::{Cut, Dim, List, Name, NoMemory, Outcome, Place, Slice, Trap, TrapKind, Words};
 use p3l_skel::{Form, ModuleInfo, ModuleKind, Node, Tree, Units};
@@ -171,8 +171,8 @@ fn checked_word(alloc: Global, words: &Words) -> Result<Outcome, NoMemory>
 pub struct Checks;
 
 impl Units for Checks {
-    ghost use Rattle.p3l_network_tests.specs.Parted.{four_map, checks};
-    ghost use Rattle.p3l_network_tests.specs.PartedLaws.{checks_give};
+    ghost use Rattle.p3l_network_tests.specs.WithPart.{four_map, checks};
+    ghost use Rattle.p3l_network_tests.specs.WithPartLaws.{checks_give};
 
     ghost tree = { λ _. four_map };
 
@@ -226,8 +226,8 @@ fn difference_of_three(alloc: Global, words: &Words) -> Result<Outcome, NoMemory
 pub struct Subtracts;
 
 impl Units for Subtracts {
-    ghost use Rattle.p3l_network_tests.specs.Parted.{five_reduce, subtracts};
-    ghost use Rattle.p3l_network_tests.specs.PartedLaws.{subtracts_give};
+    ghost use Rattle.p3l_network_tests.specs.WithPart.{five_reduce, subtracts};
+    ghost use Rattle.p3l_network_tests.specs.WithPartLaws.{subtracts_give};
 
     ghost tree = { λ _. five_reduce };
 
@@ -251,8 +251,8 @@ impl Units for Subtracts {
 pub struct Refuses;
 
 impl Units for Refuses {
-    ghost use Rattle.p3l_network_tests.specs.Parted.{three_reduce};
-    ghost use Rattle.p3l_network_tests.specs.PartedLaws.{refusing_gives};
+    ghost use Rattle.p3l_network_tests.specs.WithPart.{three_reduce};
+    ghost use Rattle.p3l_network_tests.specs.WithPartLaws.{refusing_gives};
     ghost use Rattle.p3l_network_tests.specs.Refusing.{refusing};
 
     ghost tree = { λ _. three_reduce };

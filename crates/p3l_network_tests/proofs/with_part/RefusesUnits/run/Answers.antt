@@ -1,6 +1,6 @@
 use Rattle.std.proofs.Common.{sym, ◌∙◌}
 use Rattle.p3l_network_tests.proofs.Parts.{refused_pair, alone_is}
-use Rattle.p3l_network_tests.proofs.parted.RefusesUnits.run.Goals as goal
+use Rattle.p3l_network_tests.proofs.with_part.RefusesUnits.run.Goals as goal
 
 pub returns-then-len-eq2 : goal.returns-then-len-eq2
 returns-then-len-eq2 c = refused_pair c.args.node c.args.words.now c.requires.sequential (sym c.len.ensures ∙ c.if-len-eq2.true)

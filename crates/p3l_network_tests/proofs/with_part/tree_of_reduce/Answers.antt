@@ -2,7 +2,7 @@ use Rattle.std.proofs.Common.{None}
 use Rattle.p3l_skel.specs.declared.tree.Form.TheVariants.{Reduce}
 use Rattle.p3l_skel.specs.declared.tree.ModuleKind.TheVariants as kind
 use Rattle.p3l_network_tests.proofs.Parts.{tree_is}
-use Rattle.p3l_network_tests.proofs.parted.tree_of_reduce.Goals as goal
+use Rattle.p3l_network_tests.proofs.with_part.tree_of_reduce.Goals as goal
 
 pub returns : goal.returns
 returns c =

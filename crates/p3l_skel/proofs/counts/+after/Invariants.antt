@@ -2,10 +2,10 @@ use Rattle.std.proofs.Common.{◌-◌, ◌++◌, take, drop}
 use Rattle.std.specs.List.{flat_map}
 use Rattle.p3l_skel.specs.Tree.{node_at}
 use Rattle.p3l_skel.specs.Counts.{TakesLawful, own_counted, counted_from}
-use Rattle.p3l_skel.proofs.counts.+behind.Given as goal
+use Rattle.p3l_skel.proofs.counts.+after.Given as goal
 
-abbrev pub decreases-behind : goal.decreases-behind
-decreases-behind l = l.levels
+abbrev pub decreases-after : goal.decreases-after
+decreases-after l = l.levels
 
 -- the counts of the node and of its parts so far are lawful, and end at `next`
 abbrev pub invariant-loop-part : goal.invariant-loop-part

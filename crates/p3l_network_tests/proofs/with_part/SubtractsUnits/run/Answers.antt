@@ -1,6 +1,6 @@
 use Rattle.std.proofs.Common.{sym, ◌∙◌}
 use Rattle.p3l_network_tests.proofs.Parts.{pair_is, triple_is}
-use Rattle.p3l_network_tests.proofs.parted.SubtractsUnits.run.Goals as goal
+use Rattle.p3l_network_tests.proofs.with_part.SubtractsUnits.run.Goals as goal
 
 pub returns-then-len-eq2 : goal.returns-then-len-eq2
 returns-then-len-eq2 c = pair_is c.args.node c.args.words.now c.difference.result c.requires.sequential (sym c.len.ensures ∙ c.if-len-eq2.true) c.difference.ensures

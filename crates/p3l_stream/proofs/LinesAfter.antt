@@ -1,4 +1,4 @@
--- The items of lines that stand behind one another.
+-- The items of lines that stand after one another.
 use Rattle.std.proofs.Common.{◌≡◌, ◌≢◌, ℕ, suc, ◌+◌, List, [], ◌∷◌, ◌++◌, length, take, drop, Some, position, refl, ap, sym, ◌∙◌, arith, append_assoc}
 use Rattle.std.specs.Str.Lines.{strip_carriage_return}
 use Rattle.p3l_stream.specs.declared.items.Ending.{Ending}
@@ -10,7 +10,7 @@ use Rattle.p3l_stream.specs.declared.items.Items.{Items}
 use Rattle.p3l_stream.specs.Ended.{AreBlank, IsLine, ended, held_by}
 use Rattle.p3l_stream.specs.Items.{items_of_lines, put_line}
 use Rattle.p3l_stream.specs.Lines.{is_feed, last_line, lines_of}
-use Rattle.p3l_stream.proofs.Feeds.{place, place-behind, place-line, position-at}
+use Rattle.p3l_stream.proofs.Feeds.{place, place-after, place-line, position-at}
 use Rattle.p3l_stream.proofs.LinesApart.{lines_of-feed, lines_of-last}
 
 take-front : (first more : List ℕ) → take (length first) (first ++ more) ≡ first
@@ -27,11 +27,11 @@ longer : (first after : List ℕ) → length (first ++ 10 ∷ after) ≡ length 
 longer [] after = omega arith
 longer (byte ∷ first) after = (let rest = longer first after in omega arith)
 
--- an ended line comes before the lines behind it
+-- an ended line comes before the lines after it
 pub lines_of-ended : (how : Cutoff) (first after : List ℕ) → IsLine first → lines_of how (first ++ 10 ∷ after) ≡ strip_carriage_return first ∷ lines_of how after
 lines_of-ended how first after is_line =
     let bytes : List ℕ = first ++ 10 ∷ after in
-    let at : place bytes ≡ length first = place-behind first (10 ∷ after) (place-line first is_line) ∙ omega arith in
+    let at : place bytes ≡ length first = place-after first (10 ∷ after) (place-line first is_line) ∙ omega arith in
     let size : length bytes ≡ length first + (length after + 1) = longer first after in
     let found : position is_feed bytes ≡ Some (place bytes) = position-at bytes (omega arith) in
     lines_of-feed how bytes (length first) (sym (found ∙ ap (λ (n : ℕ). Some n) at))
@@ -49,14 +49,14 @@ items_ended width number close how first after holds is_line is =
     ap (items_of_lines width number close) (lines_of-ended how first after is_line) ∙ ap (λ (l : Line). put_line l number (items_from width (number + 1) close how after)) is
 
 -- lines without words give no item
-pub items_behind : (width number : ℕ) (close : Ending) (how : Cutoff) (blanks : List (List ℕ)) (rest : List ℕ) → AreBlank width blanks →
+pub items_after : (width number : ℕ) (close : Ending) (how : Cutoff) (blanks : List (List ℕ)) (rest : List ℕ) → AreBlank width blanks →
     items_from width number close how (ended blanks ++ rest) ≡ items_from width (number + length blanks) close how rest
-items_behind width number close how [] rest blank = ap (λ (k : ℕ). items_from width k close how rest) (omega arith)
-items_behind width number close how (b ∷ bs) rest blank =
+items_after width number close how [] rest blank = ap (λ (k : ℕ). items_from width k close how rest) (omega arith)
+items_after width number close how (b ∷ bs) rest blank =
     let same : number + 1 + length bs ≡ number + suc (length bs) = omega arith in
     ap (items_from width number close how) (append_assoc b (10 ∷ ended bs) rest)
     ∙ items_ended width number close how b (ended bs ++ rest) line.Blank blank.0 blank.1
-    ∙ items_behind width (number + 1) close how bs rest blank.2
+    ∙ items_after width (number + 1) close how bs rest blank.2
     ∙ ap (λ (k : ℕ). items_from width k close how rest) same
 
 nothing : (how : Cutoff) → lines_of how [] ≡ []

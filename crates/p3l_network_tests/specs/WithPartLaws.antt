@@ -2,11 +2,11 @@
 use Rattle.std.proofs.Common.{◌≡◌, ℕ, ℤ, pos, negsuc, zero, suc, ◌<◌, List, [], ◌∷◌, length, refl, arith}
 use Rattle.p3l_skel.specs.declared.tree.Form.TheVariants.{Seq}
 use Rattle.p3l_skel.specs.Tree.{GivesOuts, HasLength, node_at}
-use Rattle.p3l_network_tests.specs.Parted.{parted, four_map, five_reduce, three_reduce, checks, subtracts}
+use Rattle.p3l_network_tests.specs.WithPart.{with_part, four_map, five_reduce, three_reduce, checks, subtracts}
 use Rattle.p3l_network_tests.specs.Refusing.{refusing}
 
 pub checks_give : GivesOuts four_map checks
-unfolding parted
+unfolding with_part
 checks_give = at_node
   where
     one_word : (words : List ℤ) → length words ≡ 1 → HasLength 1 (checks 1 words)
@@ -21,7 +21,7 @@ checks_give = at_node
     at_node (suc (suc node)) words low form long = absurd (omega (arith, low))
 
 pub subtracts_give : GivesOuts five_reduce subtracts
-unfolding parted
+unfolding with_part
 subtracts_give = at_node
   where
     two_words : (words : List ℤ) → length words ≡ 2 → HasLength 1 (subtracts 1 words)
