@@ -4,8 +4,8 @@ use Rattle.std.specs.Int.{int_wrap}
 use Rattle.p3l_base.specs.declared.outcome.TrapKind.TheVariants.{DivZero, Index, Budget}
 use Rattle.p3l_ast.specs.declared.position.Spot.{Spot}
 use Rattle.p3l_ast.specs.declared.expression.BinOp.TheVariants.{Or, Lt, Add, Div}
-use Rattle.p3l_ast.specs.declared.meaning.state.Binding.{Binding}
-use Rattle.p3l_ast.specs.declared.meaning.state.State.{State}
+use Rattle.p3l_ast.specs.declared.meaning.valuation.Binding.{Binding}
+use Rattle.p3l_ast.specs.declared.meaning.valuation.Valuation.{Valuation}
 use Rattle.p3l_ast.specs.Tree.{Phrase, number, read, binary, none, more, Statements, done, assign, while_, for_}
 use Rattle.p3l_ast.specs.Unplaced.{nowhere}
 use Rattle.p3l_ast.specs.Meaning.Expression.{value_of, place_of}
@@ -18,7 +18,7 @@ named name = record { name = name; pos = nowhere }
 abbrev scalar : List ℕ → ℤ → Binding
 scalar name word = record { name = name; sizes = []; words = word ∷ [] }
 
-abbrev holding : ℤ → ℤ → ℕ → State
+abbrev holding : ℤ → ℤ → ℕ → Valuation
 holding i s turns = record {
   bindings = scalar (codes "i") i ∷ scalar (codes "s") s ∷ record { name = codes "a"; sizes = 2 ∷ []; words = pos 7 ∷ pos 8 ∷ [] } ∷ [];
   turns = turns;

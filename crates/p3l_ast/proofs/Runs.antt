@@ -1,4 +1,4 @@
--- What statements and loops make of states, one step at a time.
+-- What statements and loops make of valuations, one step at a time.
 use Rattle.std.proofs.Common.{◌≡◌, ℕ, ℤ, ◌+◌, ◌-◌, ◌<◌, ◌≤◌, Bool, true, false, cond, List, [], ◌∷◌, Option, Some, None, Result, Ok, Err, IsErrAnd, drop, get_or, length, refl, arith, ap, sym, ◌∙◌, subst}
 use Rattle.std.specs.Prelude.{nat_lt}
 use Rattle.std.specs.declared.vec.Vec.{Vec}
@@ -10,10 +10,10 @@ use Rattle.p3l_ast.specs.declared.expression.Expr.{Expr}
 use Rattle.p3l_ast.specs.declared.expression.Target.{Target}
 use Rattle.p3l_ast.specs.declared.statement.Stmt.{Stmt}
 use Rattle.p3l_ast.specs.declared.statement.Stmt.TheVariants.{Assign, If, While, For}
-use Rattle.p3l_ast.specs.declared.meaning.state.State.{State}
+use Rattle.p3l_ast.specs.declared.meaning.valuation.Valuation.{Valuation}
 use Rattle.p3l_ast.specs.Tree.{Phrase, Statements, done, assign, join, phrase, phrases, one, statements}
 use Rattle.p3l_ast.specs.Meaning.Operator.{holds}
-use Rattle.p3l_ast.specs.Meaning.State.{turned, HasSizes}
+use Rattle.p3l_ast.specs.Meaning.Valuation.{turned, HasSizes}
 use Rattle.p3l_ast.specs.Meaning.Expression.{given, value_of}
 use Rattle.p3l_ast.specs.Meaning.Statement.{assigned, chosen, run_by, loop_of, run_of}
 use Rattle.p3l_ast.proofs.Trees.{one_assign, one_if, one_if_else, one_while, one_for}
@@ -28,14 +28,14 @@ stop_given (Trapped trap) r go h = ap (λ x. given x go) h
 stop_given NoMemory r go h = tt
 
 -- a trap and a stop that are handed on
-pub trap_handed : (answer : Result State Stop) (trap : TrapKind) (meant : Result State TrapKind) → IsErrAnd answer (λ stop. stop ≡ Trapped trap) → Err trap ≡ meant → Gives answer meant
+pub trap_handed : (answer : Result Valuation Stop) (trap : TrapKind) (meant : Result Valuation TrapKind) → IsErrAnd answer (λ stop. stop ≡ Trapped trap) → Err trap ≡ meant → Gives answer meant
 trap_handed (Ok s) trap meant is h = absurd is
-trap_handed (Err stop) trap meant is h = subst (λ (x : Stop). Gives {A = State} (Err x) meant) (sym is) h
+trap_handed (Err stop) trap meant is h = subst (λ (x : Stop). Gives {A = Valuation} (Err x) meant) (sym is) h
 
-pub stop_handed : (answer : Result State Stop) (stop : Stop) (r meant : Result State TrapKind) → IsErrAnd answer (λ other. other ≡ stop) → r ≡ meant → Gives {A = State} (Err stop) r → Gives answer meant
+pub stop_handed : (answer : Result Valuation Stop) (stop : Stop) (r meant : Result Valuation TrapKind) → IsErrAnd answer (λ other. other ≡ stop) → r ≡ meant → Gives {A = Valuation} (Err stop) r → Gives answer meant
 stop_handed (Ok s) stop r meant is same h = absurd is
 stop_handed (Err other) stop r meant is same h =
-    subst (λ (x : Stop). Gives {A = State} (Err x) meant) (sym is) (subst (λ (x : Result State TrapKind). Gives {A = State} (Err stop) x) same h)
+    subst (λ (x : Stop). Gives {A = Valuation} (Err x) meant) (sym is) (subst (λ (x : Result Valuation TrapKind). Gives {A = Valuation} (Err stop) x) same h)
 
 -- a step that is known goes on
 pub ok_given : {A B : Type 0} (x : A) (r : Result A TrapKind) (go : A → Result B TrapKind) → Ok x ≡ r → given r go ≡ go x
@@ -46,41 +46,41 @@ pub gives_same : {A : Type 0} (answer : Result A Stop) (r q : Result A TrapKind)
 gives_same {A = A} answer r q same h = subst (λ (x : Result A TrapKind). Gives answer x) same h
 
 -- nothing follows
-run_done : (loop : Phrase → Statements → State → Result State TrapKind) (r : Result State TrapKind) → given r (run_by loop done) ≡ r
+run_done : (loop : Phrase → Statements → Valuation → Result Valuation TrapKind) (r : Result Valuation TrapKind) → given r (run_by loop done) ≡ r
 unfolding run_by
 run_done loop (Ok s) = refl
 run_done loop (Err trap) = refl
 
-pub run_none : (budget : ℕ) (s : State) → run_of budget (statements []) s ≡ Ok s
+pub run_none : (budget : ℕ) (s : Valuation) → run_of budget (statements []) s ≡ Ok s
 unfolding run_of run_by
 run_none budget s = refl
 
-pub run_first : (budget : ℕ) (c d : Statements) (s : State) → run_of budget (join c d) s ≡ given (run_of budget c s) (run_of budget d)
+pub run_first : (budget : ℕ) (c d : Statements) (s : Valuation) → run_of budget (join c d) s ≡ given (run_of budget c s) (run_of budget d)
 unfolding run_of
 run_first budget c d s = run_join (loop_of budget) c d s
 
 -- the next statement
-pub run_next : (budget : ℕ) (stmts : List Stmt) (i : ℕ) (stmt : Stmt) (s : State) → i < length stmts → stmt ≡ get_or stmts i stmt → run_of budget (statements (drop i stmts)) s ≡ given (run_of budget (one stmt) s) (run_of budget (statements (drop (i + 1) stmts)))
+pub run_next : (budget : ℕ) (stmts : List Stmt) (i : ℕ) (stmt : Stmt) (s : Valuation) → i < length stmts → stmt ≡ get_or stmts i stmt → run_of budget (statements (drop i stmts)) s ≡ given (run_of budget (one stmt) s) (run_of budget (statements (drop (i + 1) stmts)))
 run_next budget stmts i stmt s inside is =
     let here : drop i stmts ≡ stmt ∷ drop (i + 1) stmts = drop_more stmts i stmt inside ∙ ap (λ x. x ∷ drop (i + 1) stmts) (sym is) in
     ap (λ x. run_of budget (statements x) s) here ∙ run_first budget (one stmt) (statements (drop (i + 1) stmts)) s
 
-pub run_assign : (budget : ℕ) (t : Target) (e : Expr) (s : State) → run_of budget (one (Assign t e)) s ≡ assigned t.at.name (phrases t.index.items) (phrase e) s
+pub run_assign : (budget : ℕ) (t : Target) (e : Expr) (s : Valuation) → run_of budget (one (Assign t e)) s ≡ assigned t.at.name (phrases t.index.items) (phrase e) s
 unfolding run_of run_by
 run_assign budget t e s =
     ap (λ c. run_of budget c s) (one_assign t e) ∙ run_done (loop_of budget) (assigned t.at.name (phrases t.index.items) (phrase e) s)
 
-pub run_if : (budget : ℕ) (e : Expr) (v : Vec Stmt Global) (s : State) → run_of budget (one (If e v None)) s ≡ chosen (phrase e) (run_of budget (statements v.items)) Ok s
+pub run_if : (budget : ℕ) (e : Expr) (v : Vec Stmt Global) (s : Valuation) → run_of budget (one (If e v None)) s ≡ chosen (phrase e) (run_of budget (statements v.items)) Ok s
 unfolding run_of run_by
 run_if budget e v s =
     ap (λ c. run_of budget c s) (one_if e v) ∙ run_done (loop_of budget) (chosen (phrase e) (run_of budget (statements v.items)) Ok s)
 
-pub run_if_else : (budget : ℕ) (e : Expr) (v w : Vec Stmt Global) (s : State) → run_of budget (one (If e v (Some w))) s ≡ chosen (phrase e) (run_of budget (statements v.items)) (run_of budget (statements w.items)) s
+pub run_if_else : (budget : ℕ) (e : Expr) (v w : Vec Stmt Global) (s : Valuation) → run_of budget (one (If e v (Some w))) s ≡ chosen (phrase e) (run_of budget (statements v.items)) (run_of budget (statements w.items)) s
 unfolding run_of run_by
 run_if_else budget e v w s =
     ap (λ c. run_of budget c s) (one_if_else e v w) ∙ run_done (loop_of budget) (chosen (phrase e) (run_of budget (statements v.items)) (run_of budget (statements w.items)) s)
 
-pub run_while : (budget : ℕ) (e : Expr) (v : Vec Stmt Global) (s : State) → run_of budget (one (While e v)) s ≡ loop_of budget (phrase e) (statements v.items) s
+pub run_while : (budget : ℕ) (e : Expr) (v : Vec Stmt Global) (s : Valuation) → run_of budget (one (While e v)) s ≡ loop_of budget (phrase e) (statements v.items) s
 unfolding run_of run_by
 run_while budget e v s =
     ap (λ c. run_of budget c s) (one_while e v) ∙ run_done (loop_of budget) (loop_of budget (phrase e) (statements v.items) s)
@@ -89,33 +89,33 @@ run_while budget e v s =
 abbrev pub stepped : List Stmt → Target → Expr → Statements
 stepped body u f = join (statements body) (assign u.at (phrases u.index.items) (phrase f) done)
 
-pub run_for : (budget : ℕ) (t u : Target) (e w f : Expr) (v : Vec Stmt Global) (s : State) → run_of budget (one (For t e w u f v)) s ≡ given (assigned t.at.name (phrases t.index.items) (phrase e) s) (loop_of budget (phrase w) (stepped v.items u f))
+pub run_for : (budget : ℕ) (t u : Target) (e w f : Expr) (v : Vec Stmt Global) (s : Valuation) → run_of budget (one (For t e w u f v)) s ≡ given (assigned t.at.name (phrases t.index.items) (phrase e) s) (loop_of budget (phrase w) (stepped v.items u f))
 unfolding run_of run_by
 run_for budget t u e w f v s =
     ap (λ c. run_of budget c s) (one_for t u e w f v)
     ∙ run_done (loop_of budget) (given (assigned t.at.name (phrases t.index.items) (phrase e) s) (loop_of budget (phrase w) (stepped v.items u f)))
 
-pub run_stepped : (budget : ℕ) (body : List Stmt) (u : Target) (f : Expr) (s : State) → run_of budget (stepped body u f) s ≡ given (run_of budget (statements body) s) (assigned u.at.name (phrases u.index.items) (phrase f))
+pub run_stepped : (budget : ℕ) (body : List Stmt) (u : Target) (f : Expr) (s : Valuation) → run_of budget (stepped body u f) s ≡ given (run_of budget (statements body) s) (assigned u.at.name (phrases u.index.items) (phrase f))
 unfolding run_of run_by
 run_stepped budget body u f s = run_first budget (statements body) (assign u.at (phrases u.index.items) (phrase f) done) s ∙ by (run_of budget (statements body) s)
   where
-    by : (r : Result State TrapKind) → given r (run_by (loop_of budget) (assign u.at (phrases u.index.items) (phrase f) done)) ≡ given r (assigned u.at.name (phrases u.index.items) (phrase f))
+    by : (r : Result Valuation TrapKind) → given r (run_by (loop_of budget) (assign u.at (phrases u.index.items) (phrase f) done)) ≡ given r (assigned u.at.name (phrases u.index.items) (phrase f))
     by (Ok m) = run_done (loop_of budget) (assigned u.at.name (phrases u.index.items) (phrase f) m)
     by (Err trap) = refl
 
 -- whether a condition holds
-abbrev pub holding : Phrase → State → Result Bool TrapKind
+abbrev pub holding : Phrase → Valuation → Result Bool TrapKind
 holding e s = given (value_of s e) (λ word. Ok (holds word))
 
 -- the way that the condition chooses
-pub chosen_by : (e : Phrase) (if_so if_not : State → Result State TrapKind) (s : State) (b : Bool) → Ok b ≡ holding e s → chosen e if_so if_not s ≡ (cond b if_so if_not) s
+pub chosen_by : (e : Phrase) (if_so if_not : Valuation → Result Valuation TrapKind) (s : Valuation) (b : Bool) → Ok b ≡ holding e s → chosen e if_so if_not s ≡ (cond b if_so if_not) s
 chosen_by e if_so if_not s b is = by (value_of s e) is
   where
     by : (r : Result ℤ TrapKind) → Ok b ≡ given r (λ word. Ok (holds word)) → given r (λ x. (cond (holds x) if_so if_not) s) ≡ (cond b if_so if_not) s
     by (Ok x) h = let q : b ≡ holds x = cc in ap (λ b. (cond b if_so if_not) s) (sym q)
     by (Err trap) h = absurd cc
 
-pub chosen_trap : (e : Phrase) (if_so if_not : State → Result State TrapKind) (s : State) (trap : TrapKind) → Err trap ≡ holding e s → Err trap ≡ chosen e if_so if_not s
+pub chosen_trap : (e : Phrase) (if_so if_not : Valuation → Result Valuation TrapKind) (s : Valuation) (trap : TrapKind) → Err trap ≡ holding e s → Err trap ≡ chosen e if_so if_not s
 chosen_trap e if_so if_not s trap is = by (value_of s e) is
   where
     by : (r : Result ℤ TrapKind) → Err trap ≡ given r (λ word. Ok (holds word)) → Err trap ≡ given r (λ x. (cond (holds x) if_so if_not) s)
@@ -123,18 +123,18 @@ chosen_trap e if_so if_not s trap is = by (value_of s e) is
     by (Err other) h = let q : trap ≡ other = cc in ap Err q
 
 -- a turn changes no sizes
-pub turned-sizes : (budget : ℕ) (s t : State) → Ok t ≡ turned budget s → HasSizes s → HasSizes t
+pub turned-sizes : (budget : ℕ) (s t : Valuation) → Ok t ≡ turned budget s → HasSizes s → HasSizes t
 turned-sizes budget s t h sized = by (nat_lt s.turns budget) h
   where
     by : (b : Bool) → Ok t ≡ cond b (Ok (record s { turns = s.turns + 1 })) (Err Budget) → HasSizes t
     by true k =
         let q : t ≡ record s { turns = s.turns + 1 } = cc in
         let same : HasSizes (record s { turns = s.turns + 1 }) = record { few = sized.few; small = sized.small } in
-        subst (λ (x : State). HasSizes x) (sym q) same
+        subst (λ (x : Valuation). HasSizes x) (sym q) same
     by false k = absurd cc
 
-module _ (budget : ℕ) (e : Phrase) (body : Statements) (s : State) where
-  turn : State → Result State TrapKind
+module _ (budget : ℕ) (e : Phrase) (body : Statements) (s : Valuation) where
+  turn : Valuation → Result Valuation TrapKind
   turn t = given (given (turned budget t) (run_of budget body)) (loop_of budget e body)
 
   pub loop_trap : (trap : TrapKind) → Err trap ≡ holding e s → Err trap ≡ loop_of budget e body s
@@ -154,17 +154,17 @@ module _ (budget : ℕ) (e : Phrase) (body : Statements) (s : State) where
   loop_spent trap is spent =
       ap (λ r. given (given r (run_of budget body)) (loop_of budget e body)) spent ∙ sym (loop_turn is)
 
-  pub loop_stop : (m : State) (stop : Stop) → Ok true ≡ holding e s → Ok m ≡ turned budget s → Gives {A = State} (Err stop) (run_of budget body m) → Gives {A = State} (Err stop) (loop_of budget e body s)
+  pub loop_stop : (m : Valuation) (stop : Stop) → Ok true ≡ holding e s → Ok m ≡ turned budget s → Gives {A = Valuation} (Err stop) (run_of budget body m) → Gives {A = Valuation} (Err stop) (loop_of budget e body s)
   loop_stop m stop is begun stops =
       gives_same (Err stop) _ (loop_of budget e body s) (sym (loop_turn is))
       (stop_given stop (given (turned budget s) (run_of budget body)) (loop_of budget e body)
       (gives_same (Err stop) (run_of budget body m) _ (sym (ok_given m (turned budget s) (run_of budget body) begun)) stops))
 
-  pub loop_again : (m n : State) → Ok true ≡ holding e s → Ok m ≡ turned budget s → Ok n ≡ run_of budget body m → loop_of budget e body n ≡ loop_of budget e body s
+  pub loop_again : (m n : Valuation) → Ok true ≡ holding e s → Ok m ≡ turned budget s → Ok n ≡ run_of budget body m → loop_of budget e body n ≡ loop_of budget e body s
   loop_again m n is begun goes =
       sym (loop_turn is ∙ ok_given n (given (turned budget s) (run_of budget body)) (loop_of budget e body) (goes ∙ sym (ok_given m (turned budget s) (run_of budget body) begun)))
 
-  pub loop_falls : (m n : State) → Ok m ≡ turned budget s → Ok n ≡ run_of budget body m → budget - n.turns < budget - s.turns
+  pub loop_falls : (m n : Valuation) → Ok m ≡ turned budget s → Ok n ≡ run_of budget body m → budget - n.turns < budget - s.turns
   unfolding run_of loop_of
   loop_falls m n begun goes =
       let t = turned_ok budget s m (sym begun) in
@@ -172,24 +172,24 @@ module _ (budget : ℕ) (e : Phrase) (body : Statements) (s : State) where
       omega (arith, t.0, t.1)
 
 -- a turn of a `for` that stops in its body or in the assignment after it, or goes through both
-module _ (budget : ℕ) (body : List Stmt) (u : Target) (f : Expr) (m : State) where
-  pub body_stops : (stop : Stop) → Gives {A = State} (Err stop) (run_of budget (statements body) m) → Gives {A = State} (Err stop) (run_of budget (stepped body u f) m)
+module _ (budget : ℕ) (body : List Stmt) (u : Target) (f : Expr) (m : Valuation) where
+  pub body_stops : (stop : Stop) → Gives {A = Valuation} (Err stop) (run_of budget (statements body) m) → Gives {A = Valuation} (Err stop) (run_of budget (stepped body u f) m)
   body_stops stop h =
       gives_same (Err stop) _ (run_of budget (stepped body u f) m) (sym (run_stepped budget body u f m))
       (stop_given stop (run_of budget (statements body) m) (assigned u.at.name (phrases u.index.items) (phrase f)) h)
 
-  through : (n : State) → Ok n ≡ run_of budget (statements body) m → run_of budget (stepped body u f) m ≡ assigned u.at.name (phrases u.index.items) (phrase f) n
+  through : (n : Valuation) → Ok n ≡ run_of budget (statements body) m → run_of budget (stepped body u f) m ≡ assigned u.at.name (phrases u.index.items) (phrase f) n
   through n goes =
       run_stepped budget body u f m ∙ ok_given n (run_of budget (statements body) m) (assigned u.at.name (phrases u.index.items) (phrase f)) goes
 
-  pub step_stops : (n : State) (stop : Stop) → Ok n ≡ run_of budget (statements body) m → Gives {A = State} (Err stop) (assigned u.at.name (phrases u.index.items) (phrase f) n) → Gives {A = State} (Err stop) (run_of budget (stepped body u f) m)
+  pub step_stops : (n : Valuation) (stop : Stop) → Ok n ≡ run_of budget (statements body) m → Gives {A = Valuation} (Err stop) (assigned u.at.name (phrases u.index.items) (phrase f) n) → Gives {A = Valuation} (Err stop) (run_of budget (stepped body u f) m)
   step_stops n stop goes h = gives_same (Err stop) _ (run_of budget (stepped body u f) m) (sym (through n goes)) h
 
-  pub step_goes : (n k : State) → Ok n ≡ run_of budget (statements body) m → Ok k ≡ assigned u.at.name (phrases u.index.items) (phrase f) n → Ok k ≡ run_of budget (stepped body u f) m
+  pub step_goes : (n k : Valuation) → Ok n ≡ run_of budget (statements body) m → Ok k ≡ assigned u.at.name (phrases u.index.items) (phrase f) n → Ok k ≡ run_of budget (stepped body u f) m
   step_goes n k goes h = h ∙ sym (through n goes)
 
 -- an `if`, with or without its `else`
-module _ (budget : ℕ) (e : Expr) (v : Vec Stmt Global) (s : State) where
+module _ (budget : ℕ) (e : Expr) (v : Vec Stmt Global) (s : Valuation) where
   pub if_trap : (o : Option (Vec Stmt Global)) (trap : TrapKind) → Err trap ≡ holding (phrase e) s → Err trap ≡ run_of budget (one (If e v o)) s
   if_trap None trap is =
       chosen_trap (phrase e) (run_of budget (statements v.items)) Ok s trap is ∙ sym (run_if budget e v s)

@@ -7,9 +7,9 @@ use Rattle.std.proofs.lemmas.Bool.{cases_lt}
 use Rattle.std.proofs.lemmas.List.{get_or_past}
 use Rattle.std.proofs.lemmas.List.Elements.{All-nil, All-head, All-tail, All-get_or, All-from_get_or}
 use Rattle.std.proofs.lemmas.Slice.Eq.{bytes_eq-Decides}
-use Rattle.p3l_ast.specs.declared.meaning.state.Binding.{Binding}
-use Rattle.p3l_ast.specs.declared.meaning.state.State.{State}
-use Rattle.p3l_ast.specs.Meaning.State.{binding_of, sizes_of, rebound, with_word, HasSizes}
+use Rattle.p3l_ast.specs.declared.meaning.valuation.Binding.{Binding}
+use Rattle.p3l_ast.specs.declared.meaning.valuation.Valuation.{Valuation}
+use Rattle.p3l_ast.specs.Meaning.Valuation.{binding_of, sizes_of, rebound, with_word, HasSizes}
 
 -- at most three sizes, each at most 65,536
 abbrev pub AreSizes : List ℕ → Type 0
@@ -37,14 +37,14 @@ small_at sizes k all =
     ]
 
 -- every binding has such sizes where every name has
-pub sizes_at : (s : State) (name : List ℕ) → HasSizes s → AreSizes (sizes_of s name)
+pub sizes_at : (s : Valuation) (name : List ℕ) → HasSizes s → AreSizes (sizes_of s name)
 sizes_at s name h = (h.few name, All-from_get_or (λ (size : ℕ). size ≤ 65536) (sizes_of s name) 0 (λ k inside. h.small name k))
 
 none_are_sizes : AreSizes []
 none_are_sizes = (let few : length {A = ℕ} [] ≤ 3 = omega arith in few, All-nil (λ (size : ℕ). size ≤ 65536))
 
 -- every name has such sizes where the bindings have
-pub sizes_everywhere : (s : State) → All (λ (b : Binding). AreSizes (sizes_of s b.name)) s.bindings → HasSizes s
+pub sizes_everywhere : (s : Valuation) → All (λ (b : Binding). AreSizes (sizes_of s b.name)) s.bindings → HasSizes s
 sizes_everywhere s all = record { few = λ name. (at name).0; small = λ name k. small_at (sizes_of s name) k (at name).1 }
   where
     by : (name : List ℕ) (o : Option Binding) → Found (λ (b : Binding). AreSizes (sizes_of s b.name)) (λ (b : Binding). bytes_eq b.name name) o → o ≡ binding_of s name → AreSizes (sizes_of s name)
@@ -69,7 +69,7 @@ sizes_kept (x ∷ xs) name place word other = by (sizes_kept xs name place word 
     by later true = go later true (bytes_eq x.name other)
     by later false = go later false (bytes_eq x.name other)
 
-pub with_word-sizes : (s : State) (name : List ℕ) (place : ℕ) (word : ℤ) → HasSizes s → HasSizes (with_word s name place word)
+pub with_word-sizes : (s : Valuation) (name : List ℕ) (place : ℕ) (word : ℤ) → HasSizes s → HasSizes (with_word s name place word)
 with_word-sizes s name place word h = record {
   few = λ other. let same = sizes_kept s.bindings name place word other in subst (λ (sizes : List ℕ). length sizes ≤ 3) (sym same) (h.few other);
   small = λ other k. let same = sizes_kept s.bindings name place word other in subst (λ (sizes : List ℕ). get_or sizes k 0 ≤ 65536) (sym same) (h.small other k);

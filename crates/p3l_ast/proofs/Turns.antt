@@ -4,10 +4,10 @@ use Rattle.std.specs.Prelude.{nat_lt}
 use Rattle.std.proofs.lemmas.Bool.Decides.{nat_tests}
 use Rattle.p3l_base.specs.declared.outcome.TrapKind.{TrapKind}
 use Rattle.p3l_base.specs.declared.outcome.TrapKind.TheVariants.{Budget}
-use Rattle.p3l_ast.specs.declared.meaning.state.State.{State}
+use Rattle.p3l_ast.specs.declared.meaning.valuation.Valuation.{Valuation}
 use Rattle.p3l_ast.specs.Tree.{Phrase, Phrases, Statements, done, assign, if_, if_else, while_, for_, join}
 use Rattle.p3l_ast.specs.Meaning.Operator.{holds}
-use Rattle.p3l_ast.specs.Meaning.State.{sizes_of, with_word, turned}
+use Rattle.p3l_ast.specs.Meaning.Valuation.{sizes_of, with_word, turned}
 use Rattle.p3l_ast.specs.Meaning.Expression.{given, value_of, place_of}
 use Rattle.p3l_ast.specs.Meaning.Statement.{assigned, chosen, run_by, loop_by, loop_of, run_of}
 
@@ -29,18 +29,18 @@ given_done (Ok x) = refl
 given_done (Err trap) = refl
 
 -- an assignment counts no turn
-assigned_turns : (name : List ℕ) (index : Phrases) (e : Phrase) (s t : State) → assigned name index e s ≡ Ok t → s.turns ≡ t.turns
+assigned_turns : (name : List ℕ) (index : Phrases) (e : Phrase) (s t : Valuation) → assigned name index e s ≡ Ok t → s.turns ≡ t.turns
 assigned_turns name index e s t h =
     given_ok (s.turns ≡ t.turns) (place_of s index (sizes_of s name) 0) (λ place. given (value_of s e) (λ word. Ok (with_word s name place word))) t h
     (λ place p k. given_ok (s.turns ≡ t.turns) (value_of s e) (λ word. Ok (with_word s name place word)) t k
     (λ word q w. ap (λ r. turns_in r s) w))
   where
-    turns_in : Result State TrapKind → State → ℕ
+    turns_in : Result Valuation TrapKind → Valuation → ℕ
     turns_in (Ok x) s = x.turns
     turns_in (Err trap) s = s.turns
 
 -- a way that is chosen counts what it counts
-chosen_grows : (e : Phrase) (one other : State → Result State TrapKind) (s t : State) → chosen e one other s ≡ Ok t → (one s ≡ Ok t → s.turns ≤ t.turns) → (other s ≡ Ok t → s.turns ≤ t.turns) → s.turns ≤ t.turns
+chosen_grows : (e : Phrase) (one other : Valuation → Result Valuation TrapKind) (s t : Valuation) → chosen e one other s ≡ Ok t → (one s ≡ Ok t → s.turns ≤ t.turns) → (other s ≡ Ok t → s.turns ≤ t.turns) → s.turns ≤ t.turns
 chosen_grows e one other s t h p q =
     given_ok (s.turns ≤ t.turns) (value_of s e) (λ x. (cond (holds x) one other) s) t h (λ x v k. by (holds x) k)
   where
@@ -48,7 +48,7 @@ chosen_grows e one other s t h p q =
     by true k = p k
     by false k = q k
 
-chosen_same : (e : Phrase) (one other first second : State → Result State TrapKind) (s : State) → one s ≡ first s → other s ≡ second s → chosen e one other s ≡ chosen e first second s
+chosen_same : (e : Phrase) (one other first second : Valuation → Result Valuation TrapKind) (s : Valuation) → one s ≡ first s → other s ≡ second s → chosen e one other s ≡ chosen e first second s
 chosen_same e one other first second s p q = given_same (value_of s e) (λ x. (cond (holds x) one other) s) (λ x. (cond (holds x) first second) s) (λ x v. by (holds x))
   where
     by : (b : Bool) → (cond b one other) s ≡ (cond b first second) s
@@ -56,25 +56,25 @@ chosen_same e one other first second s p q = given_same (value_of s e) (λ x. (c
     by false = q
 
 -- a loop never counts back
-abbrev Grows : (Phrase → Statements → State → Result State TrapKind) → Type 0
-Grows loop = (e : Phrase) (body : Statements) (s t : State) → loop e body s ≡ Ok t → s.turns ≤ t.turns
+abbrev Grows : (Phrase → Statements → Valuation → Result Valuation TrapKind) → Type 0
+Grows loop = (e : Phrase) (body : Statements) (s t : Valuation) → loop e body s ≡ Ok t → s.turns ≤ t.turns
 
 -- from so many turns on two loops do the same
-abbrev Agree : ℕ → (Phrase → Statements → State → Result State TrapKind) → (Phrase → Statements → State → Result State TrapKind) → Type 0
-Agree n loop other = (e : Phrase) (body : Statements) (s : State) → n ≤ s.turns → loop e body s ≡ other e body s
+abbrev Agree : ℕ → (Phrase → Statements → Valuation → Result Valuation TrapKind) → (Phrase → Statements → Valuation → Result Valuation TrapKind) → Type 0
+Agree n loop other = (e : Phrase) (body : Statements) (s : Valuation) → n ≤ s.turns → loop e body s ≡ other e body s
 
 -- one after another
-then_grows : (r : Result State TrapKind) (go : State → Result State TrapKind) (s t : State) → given r go ≡ Ok t → ((m : State) → r ≡ Ok m → s.turns ≤ m.turns) → ((m : State) → go m ≡ Ok t → m.turns ≤ t.turns) → s.turns ≤ t.turns
+then_grows : (r : Result Valuation TrapKind) (go : Valuation → Result Valuation TrapKind) (s t : Valuation) → given r go ≡ Ok t → ((m : Valuation) → r ≡ Ok m → s.turns ≤ m.turns) → ((m : Valuation) → go m ≡ Ok t → m.turns ≤ t.turns) → s.turns ≤ t.turns
 then_grows r go s t h p q = given_ok (s.turns ≤ t.turns) r go t h (λ m k l. let a = p m k in let b = q m l in omega arith)
 
-kept : State → Result State TrapKind
+kept : Valuation → Result Valuation TrapKind
 kept s = Ok s
 
-ok_same : (s t : State) → kept s ≡ Ok t → s.turns ≤ t.turns
+ok_same : (s t : Valuation) → kept s ≡ Ok t → s.turns ≤ t.turns
 unfolding kept
 ok_same s t h = let q : s ≡ t = cc in let e : s.turns ≡ t.turns = ap (λ x. x.turns) q in omega arith
 
-pub run_grows : (loop : Phrase → Statements → State → Result State TrapKind) → Grows loop → (statements : Statements) (s t : State) → run_by loop statements s ≡ Ok t → s.turns ≤ t.turns
+pub run_grows : (loop : Phrase → Statements → Valuation → Result Valuation TrapKind) → Grows loop → (statements : Statements) (s t : Valuation) → run_by loop statements s ≡ Ok t → s.turns ≤ t.turns
 unfolding run_by kept
 run_grows loop g done s t h = ok_same s t h
 run_grows loop g (assign x index e next) s t h =
@@ -99,10 +99,10 @@ run_grows loop g (for_ x index e w y indices f body next) s t h =
     (λ m k. run_grows loop g next m t k)
 
 -- the same first step, and the same after it
-then_same : (r q : Result State TrapKind) (go other : State → Result State TrapKind) → r ≡ q → ((m : State) → r ≡ Ok m → go m ≡ other m) → given r go ≡ given q other
+then_same : (r q : Result Valuation TrapKind) (go other : Valuation → Result Valuation TrapKind) → r ≡ q → ((m : Valuation) → r ≡ Ok m → go m ≡ other m) → given r go ≡ given q other
 then_same r q go other p h = given_same r go other h ∙ ap (λ x. given x other) p
 
-pub run_same : (n : ℕ) (loop other : Phrase → Statements → State → Result State TrapKind) → Agree n loop other → Grows loop → (statements : Statements) (s : State) → n ≤ s.turns → run_by loop statements s ≡ run_by other statements s
+pub run_same : (n : ℕ) (loop other : Phrase → Statements → Valuation → Result Valuation TrapKind) → Agree n loop other → Grows loop → (statements : Statements) (s : Valuation) → n ≤ s.turns → run_by loop statements s ≡ run_by other statements s
 unfolding run_by kept
 run_same n loop other a g done s h = refl
 run_same n loop other a g (assign x index e next) s h =
@@ -127,21 +127,21 @@ run_same n loop other a g (for_ x index e w y indices f body next) s h =
     (let q = then_grows (assigned x.name index e s) (loop w all) s m k (λ n l. let q = assigned_turns x.name index e s n l in omega arith) (λ n l. g w all n m l) in omega arith))
 
 -- one turn more
-pub turned_ok : (budget : ℕ) (s t : State) → turned budget s ≡ Ok t → (s.turns < budget) × (t.turns ≡ s.turns + 1)
+pub turned_ok : (budget : ℕ) (s t : Valuation) → turned budget s ≡ Ok t → (s.turns < budget) × (t.turns ≡ s.turns + 1)
 turned_ok budget s t h = by (nat_lt s.turns budget) refl h
   where
     by : (b : Bool) → nat_lt s.turns budget ≡ b → cond b (Ok (record s { turns = s.turns + 1 })) (Err Budget) ≡ Ok t → (s.turns < budget) × (t.turns ≡ s.turns + 1)
     by true e k = (grind (arith, nat_tests), (let q : record s { turns = s.turns + 1 } ≡ t = cc in sym (ap (λ x. x.turns) q)))
     by false e k = absurd cc
 
-turned_over : (budget : ℕ) (s : State) → budget ≤ s.turns → turned budget s ≡ Err Budget
+turned_over : (budget : ℕ) (s : Valuation) → budget ≤ s.turns → turned budget s ≡ Err Budget
 turned_over budget s h = let e : nat_lt s.turns budget ≡ false = grind (arith, nat_tests) in rw e refl
 
 -- one turn of a loop, and what comes after it
-abbrev turn_by : (State → Result State TrapKind) → (State → Result State TrapKind) → ℕ → State → Result State TrapKind
+abbrev turn_by : (Valuation → Result Valuation TrapKind) → (Valuation → Result Valuation TrapKind) → ℕ → Valuation → Result Valuation TrapKind
 turn_by body again budget s = given (given (turned budget s) body) again
 
-turn_grows : (body again : State → Result State TrapKind) (budget : ℕ) (s t : State) → ((m n : State) → body m ≡ Ok n → m.turns ≤ n.turns) → ((m n : State) → again m ≡ Ok n → m.turns ≤ n.turns) → turn_by body again budget s ≡ Ok t → s.turns ≤ t.turns
+turn_grows : (body again : Valuation → Result Valuation TrapKind) (budget : ℕ) (s t : Valuation) → ((m n : Valuation) → body m ≡ Ok n → m.turns ≤ n.turns) → ((m n : Valuation) → again m ≡ Ok n → m.turns ≤ n.turns) → turn_by body again budget s ≡ Ok t → s.turns ≤ t.turns
 turn_grows body again budget s t p q h =
     then_grows (given (turned budget s) body) again s t h
     (λ m k. then_grows (turned budget s) body s m k (λ n l. let r = (turned_ok budget s n l).1 in omega arith) (λ n l. p n m l))
@@ -156,7 +156,7 @@ loop_grows budget (suc f) e body s t h =
     (ok_same s t)
 
 -- the turns that are left suffice
-pub loop_same : (budget f g : ℕ) (e : Phrase) (body : Statements) (s : State) → budget ≤ s.turns + f → budget ≤ s.turns + g → loop_by budget f e body s ≡ loop_by budget g e body s
+pub loop_same : (budget f g : ℕ) (e : Phrase) (body : Statements) (s : Valuation) → budget ≤ s.turns + f → budget ≤ s.turns + g → loop_by budget f e body s ≡ loop_by budget g e body s
 unfolding loop_by
 loop_same budget zero zero e body s p q = refl
 loop_same budget zero (suc g) e body s p q =
@@ -177,7 +177,7 @@ loop_same budget (suc f) (suc g) e body s p q =
     refl
 
 -- a loop is a turn and the loop again, as long as the condition holds
-pub loop_unrolls : (budget : ℕ) (e : Phrase) (body : Statements) (s : State) → loop_of budget e body s ≡ chosen e (λ t. given (given (turned budget t) (run_of budget body)) (loop_of budget e body)) Ok s
+pub loop_unrolls : (budget : ℕ) (e : Phrase) (body : Statements) (s : Valuation) → loop_of budget e body s ≡ chosen e (λ t. given (given (turned budget t) (run_of budget body)) (loop_of budget e body)) Ok s
 unfolding loop_of run_of loop_by
 loop_unrolls zero e body s =
     chosen_same e (λ t. Err Budget) Ok (turn_by (run_of zero body) (loop_of zero e body) zero) Ok s
@@ -194,7 +194,7 @@ loop_unrolls (suc f) e body s =
     refl
 
 -- statements one after another
-pub run_join : (loop : Phrase → Statements → State → Result State TrapKind) (first next : Statements) (s : State) → run_by loop (join first next) s ≡ given (run_by loop first s) (run_by loop next)
+pub run_join : (loop : Phrase → Statements → Valuation → Result Valuation TrapKind) (first next : Statements) (s : Valuation) → run_by loop (join first next) s ≡ given (run_by loop first s) (run_by loop next)
 unfolding run_by
 run_join loop done next s = refl
 run_join loop (assign x index e rest) next s =

@@ -14,26 +14,26 @@ use Rattle.p3l_ast.specs.declared.expression.BinOp.TheVariants as operators
 use Rattle.p3l_ast.specs.declared.expression.Expr.{Expr}
 use Rattle.p3l_ast.specs.declared.expression.Expr.TheVariants.{Number, Read, Unary, Binary}
 use Rattle.p3l_ast.specs.declared.expression.Target.{Target}
-use Rattle.p3l_ast.specs.declared.meaning.state.State.{State}
+use Rattle.p3l_ast.specs.declared.meaning.valuation.Valuation.{Valuation}
 use Rattle.p3l_ast.specs.Tree.{phrase, phrases}
 use Rattle.p3l_ast.specs.Meaning.Operator.{unary_of}
-use Rattle.p3l_ast.specs.Meaning.State.{sizes_of, word_of}
+use Rattle.p3l_ast.specs.Meaning.Valuation.{sizes_of, word_of}
 use Rattle.p3l_ast.specs.Meaning.Expression.{given, combined, indexed, value_of, place_of}
 use Rattle.p3l_ast.proofs.Trees.{phrase_number, phrase_read, phrase_unary, phrase_binary}
 
-pub value_number : (s : State) (v : ℤ) → value_of s (phrase (Number v)) ≡ Ok v
+pub value_number : (s : Valuation) (v : ℤ) → value_of s (phrase (Number v)) ≡ Ok v
 unfolding value_of
 value_number s v = ap (value_of s) (phrase_number v)
 
-pub value_read : (s : State) (t : Target) → value_of s (phrase (Read t)) ≡ given (place_of s (phrases t.index.items) (sizes_of s t.at.name) 0) (λ place. Ok (word_of s t.at.name place))
+pub value_read : (s : Valuation) (t : Target) → value_of s (phrase (Read t)) ≡ given (place_of s (phrases t.index.items) (sizes_of s t.at.name) 0) (λ place. Ok (word_of s t.at.name place))
 unfolding value_of
 value_read s t = ap (value_of s) (phrase_read t.at t.index)
 
-pub value_unary : (s : State) (o : UnOp) (e : Box Expr Global) → value_of s (phrase (Unary o e)) ≡ given (value_of s (phrase e.value)) (λ x. Ok (unary_of o x))
+pub value_unary : (s : Valuation) (o : UnOp) (e : Box Expr Global) → value_of s (phrase (Unary o e)) ≡ given (value_of s (phrase e.value)) (λ x. Ok (unary_of o x))
 unfolding value_of
 value_unary s o e = ap (value_of s) (phrase_unary o e)
 
-pub value_binary : (s : State) (o : BinOp) (a b : Box Expr Global) → value_of s (phrase (Binary o a b)) ≡ combined o (value_of s (phrase a.value)) (value_of s (phrase b.value))
+pub value_binary : (s : Valuation) (o : BinOp) (a b : Box Expr Global) → value_of s (phrase (Binary o a b)) ≡ combined o (value_of s (phrase a.value)) (value_of s (phrase b.value))
 unfolding value_of
 value_binary s o a b = ap (value_of s) (phrase_binary o a b)
 
@@ -44,17 +44,17 @@ exit_given r go trap v h t = ap (λ x. given x go) h ∙ sym t
 pub pass_given : {A B : Type 0} (r : Result A TrapKind) (go : A → Result B TrapKind) (x : A) (v : Result B TrapKind) → Ok x ≡ r → v ≡ given r go → go x ≡ v
 pass_given r go x v h t = ap (λ z. given z go) h ∙ sym t
 
-pub number_value : (s : State) (e : Expr) (v : ℤ) → e ≡ Number v → value_of s (phrase e) ≡ Ok v
+pub number_value : (s : Valuation) (e : Expr) (v : ℤ) → e ≡ Number v → value_of s (phrase e) ≡ Ok v
 number_value s e v h = ap (λ x. value_of s (phrase x)) h ∙ value_number s v
 
-pub read_value : (s : State) (e : Expr) (t : Target) → e ≡ Read t → value_of s (phrase e) ≡ given (place_of s (phrases t.index.items) (sizes_of s t.at.name) 0) (λ place. Ok (word_of s t.at.name place))
+pub read_value : (s : Valuation) (e : Expr) (t : Target) → e ≡ Read t → value_of s (phrase e) ≡ given (place_of s (phrases t.index.items) (sizes_of s t.at.name) 0) (λ place. Ok (word_of s t.at.name place))
 read_value s e t h = ap (λ x. value_of s (phrase x)) h ∙ value_read s t
 
-pub unary_value : (s : State) (e inner : Expr) (o : UnOp) (b : Box Expr Global) → e ≡ Unary o b → inner ≡ b.value → value_of s (phrase e) ≡ given (value_of s (phrase inner)) (λ x. Ok (unary_of o x))
+pub unary_value : (s : Valuation) (e inner : Expr) (o : UnOp) (b : Box Expr Global) → e ≡ Unary o b → inner ≡ b.value → value_of s (phrase e) ≡ given (value_of s (phrase inner)) (λ x. Ok (unary_of o x))
 unary_value s e inner o b h k =
     ap (λ x. value_of s (phrase x)) h ∙ value_unary s o b ∙ ap (λ x. given (value_of s (phrase x)) (λ x. Ok (unary_of o x))) (sym k)
 
-pub binary_value : (s : State) (e left right : Expr) (o : BinOp) (a b : Box Expr Global) → e ≡ Binary o a b → left ≡ a.value → right ≡ b.value → value_of s (phrase e) ≡ combined o (value_of s (phrase left)) (value_of s (phrase right))
+pub binary_value : (s : Valuation) (e left right : Expr) (o : BinOp) (a b : Box Expr Global) → e ≡ Binary o a b → left ≡ a.value → right ≡ b.value → value_of s (phrase e) ≡ combined o (value_of s (phrase left)) (value_of s (phrase right))
 binary_value s e left right o a b h k l =
     ap (λ x. value_of s (phrase x)) h ∙ value_binary s o a b ∙ ap (λ x. combined o (value_of s (phrase x)) (value_of s (phrase b.value))) (sym k) ∙ ap (λ x. combined o (value_of s (phrase left)) (value_of s (phrase x))) (sym l)
 
@@ -70,11 +70,11 @@ combined_exit o left right trap v h t = go o ∙ ap (λ x. combined o x right) h
 pub combined_pass : (o : BinOp) (left right : Result ℤ TrapKind) (x : ℤ) (r v : Result ℤ TrapKind) → Ok x ≡ left → r ≡ combined o (Ok x) right → v ≡ combined o left right → r ≡ v
 combined_pass o left right x r v h k t = k ∙ ap (λ l. combined o l right) h ∙ sym t
 
-pub same_place : (s : State) (a b : List Expr) (x y : List ℕ) → a ≡ b → x ≡ y → place_of s (phrases a) x 0 ≡ place_of s (phrases b) y 0
+pub same_place : (s : Valuation) (a b : List Expr) (x y : List ℕ) → a ≡ b → x ≡ y → place_of s (phrases a) x 0 ≡ place_of s (phrases b) y 0
 same_place s a b x y p q = ap (λ a. place_of s (phrases a) x 0) p ∙ ap (λ x. place_of s (phrases b) x 0) q
 
 -- the next index of a target
-pub place_step : (s : State) (items : List Expr) (sizes : List ℕ) (d place : ℕ) (e : Expr) → d < length items → e ≡ get_or items d e → place_of s (phrases (drop d items)) sizes place ≡ given (value_of s (phrase e)) (indexed sizes place (place_of s (phrases (drop (d + 1) items))))
+pub place_step : (s : Valuation) (items : List Expr) (sizes : List ℕ) (d place : ℕ) (e : Expr) → d < length items → e ≡ get_or items d e → place_of s (phrases (drop d items)) sizes place ≡ given (value_of s (phrase e)) (indexed sizes place (place_of s (phrases (drop (d + 1) items))))
 unfolding place_of
 place_step s items sizes d place e h k =
     let next : drop d items ≡ e ∷ drop (d + 1) items = rw add-one (drop-cons items d e h ∙ ap (λ x. x ∷ drop (suc d) items) (sym k)) in
@@ -120,6 +120,6 @@ pub drop_next : (xs : List ℕ) (d : ℕ) → drop 1 (drop d xs) ≡ drop (d + 1
 drop_next xs d = rw add-one (drop_suc xs d)
 
 -- after the last index
-pub place_end : (s : State) (items : List Expr) (sizes : List ℕ) (d place : ℕ) → length items ≤ d → place_of s (phrases (drop d items)) sizes place ≡ Ok place
+pub place_end : (s : Valuation) (items : List Expr) (sizes : List ℕ) (d place : ℕ) → length items ≤ d → place_of s (phrases (drop d items)) sizes place ≡ Ok place
 unfolding place_of
 place_end s items sizes d place h = ap (λ x. place_of s (phrases x) sizes place) (drop_all d items h)

@@ -1,6 +1,6 @@
 -- What bodies mean.
 pub mod Operator
-pub mod State
+pub mod Valuation
 pub mod Expression
 pub mod Statement
 pub mod Run

@@ -18,7 +18,7 @@ use Rattle.p3l_lexer.specs.Position.{position_after}
 use Rattle.p3l_lexer.specs.Token.{Chunk, IsCutInto, token_at, tokens_after, IsTokens}
 use Rattle.p3l_lexer.proofs.Lexing.{not_empty}
 use Rattle.p3l_grammar.specs.Symbol.{Symbol, sign, symbols}
-use Rattle.p3l_grammar.specs.Written.{Formula, numeral, place, prefix, infix_, paren, Formulas, no_index, index, Script, stop, set, if_, if_else, while_, for_, Head, Passage, fixed, bodied, chained, spread, turned, each, after_comma, separated, num_symbol, spell_size, spell_port, spell_sub, spell_arg, spell_out, spell_call, spell, spell_index, spell_set, spell_script, spell_head, spell_clause, spell_local, spell_end, spell_passage, tree, trees, script_tree}
+use Rattle.p3l_grammar.specs.Written.{Formula, numeral, place, prefix, infix_, paren, Formulas, no_index, index, Script, stop, set, if_, if_else, while_, for_, Signature, Passage, fixed, bodied, chained, spread, turned, each, after_comma, separated, num_symbol, spell_size, spell_port, spell_sub, spell_arg, spell_out, spell_call, spell, spell_index, spell_set, spell_script, spell_signature, spell_clause, spell_local, spell_end, spell_passage, tree, trees, script_tree}
 use Rattle.p3l_compile.specs.Limits.{items, index_items, code_items}
 
 -- what an expression holds, and what follows it
@@ -98,8 +98,8 @@ call_longer c r =
     let ins = sign marks.CloseParen ∷ sign marks.Out ∷ sign marks.OpenParen ∷ separated spell_out c.outs outs in
     omega (arith, separated_longer spell_arg arg_longer c.ins ins, separated_longer spell_out out_longer c.outs outs)
 
-head_longer : (h : Head) → Lengthens (spell_head h)
-head_longer h r =
+signature_longer : (h : Signature) → Lengthens (spell_signature h)
+signature_longer h r =
     let outs = sign marks.CloseParen ∷ r in
     let ins = sign marks.CloseParen ∷ sign marks.Out ∷ sign marks.OpenParen ∷ separated spell_port h.outs outs in
     omega (arith, separated_longer spell_port port_longer h.ins ins, separated_longer spell_port port_longer h.outs outs)
@@ -109,29 +109,29 @@ clause_longer m None r = omega arith
 clause_longer m (Some n) r = omega arith
 
 -- a body has fewer items than its module has symbols
-pub body_longer : (h : Head) (b : Option Num) (ls : List Port) (c : Script) (r : List Symbol) →
+pub body_longer : (h : Signature) (b : Option Num) (ls : List Port) (c : Script) (r : List Symbol) →
     code_items (script_tree c) + length r < length (spell_passage (bodied h b ls c) r)
 body_longer h b ls c r =
     let r1 = sign marks.CloseBody ∷ sign marks.End ∷ sign marks.Seq ∷ r in
     let r2 = spell_script c r1 in
     let r3 = sign marks.OpenBody ∷ each spell_local ls r2 in
     let local : (p : Port) → Lengthens (spell_local p) = λ p s. omega (arith, port_longer p (sign marks.Semicolon ∷ s)) in
-    omega (arith, script_long c r1, each_longer spell_local local ls r2, clause_longer marks.Budget b r3, head_longer h (spell_clause marks.Budget b r3))
+    omega (arith, script_long c r1, each_longer spell_local local ls r2, clause_longer marks.Budget b r3, signature_longer h (spell_clause marks.Budget b r3))
 
 pub passage_longer : (i : Passage) → Lengthens (spell_passage i)
 passage_longer (fixed x v p) r = omega arith
 passage_longer (bodied h b ls c) r = omega (arith, body_longer h b ls c r)
 passage_longer (chained k h cs) r =
-    omega (arith, each_longer spell_call call_longer cs (spell_end k r), head_longer h (each spell_call cs (spell_end k r)))
+    omega (arith, each_longer spell_call call_longer cs (spell_end k r), signature_longer h (each spell_call cs (spell_end k r)))
 passage_longer (spread k h w c) r =
     let r1 = spell_call c (spell_end k r) in
-    omega (arith, call_longer c (spell_end k r), clause_longer marks.Workers w r1, head_longer h (spell_clause marks.Workers w r1))
+    omega (arith, call_longer c (spell_end k r), clause_longer marks.Workers w r1, signature_longer h (spell_clause marks.Workers w r1))
 passage_longer (turned h t n b c) r =
     let r1 = sign marks.End ∷ sign marks.Loop ∷ r in
     let r2 = sign marks.While ∷ spell_call c r1 in
     let r3 = spell_call b r2 in
     let r4 = sign marks.Turns ∷ num_symbol t ∷ spell_clause marks.Tokens n r3 in
-    omega (arith, call_longer c r1, call_longer b r2, clause_longer marks.Tokens n r3, head_longer h r4)
+    omega (arith, call_longer c r1, call_longer b r2, clause_longer marks.Tokens n r3, signature_longer h r4)
 
 -- each token has a byte
 one_token : (at : Pos) (piece : Piece) → length (token_at at piece) ≤ 1

@@ -18,7 +18,7 @@ use Rattle.p3l_lexer.specs.declared.mark.Mark.TheVariants as marks
 use Rattle.p3l_grammar.specs.Symbol.{Symbol, sign, symbols, kind_mark}
 use Rattle.p3l_grammar.specs.Limits.{at_rest, at_statement, after_symbol, IsWithin}
 use Rattle.p3l_grammar.specs.Grammar.{Spells}
-use Rattle.p3l_grammar.specs.Written.{Script, Head, Passage, fixed, bodied, chained, spread, turned, each, after_comma, separated, num_symbol, spell_size, spell_port, spell_sub, spell_arg, spell_out, spell_call, spell_script, spell_head, spell_clause, spell_local, spell_end, spell_passage, spell_text, script_tree, passage_tree, text_tree}
+use Rattle.p3l_grammar.specs.Written.{Script, Signature, Passage, fixed, bodied, chained, spread, turned, each, after_comma, separated, num_symbol, spell_size, spell_port, spell_sub, spell_arg, spell_out, spell_call, spell_script, spell_signature, spell_clause, spell_local, spell_end, spell_passage, spell_text, script_tree, passage_tree, text_tree}
 use Rattle.p3l_compile.specs.Limits.{KeepsLimits, code_items}
 use Rattle.p3l_bodies.proofs.Nested.{nest, script_limited}
 use Rattle.p3l_bodies.proofs.Lengths.{body_longer, passage_longer, symbols_few}
@@ -62,8 +62,8 @@ call_rests c r h =
     let l = separated_rests spell_out out_rests c.outs outs k.1.1.1 in
     l.1
 
-head_rests : (h : Head) → Rests (spell_head h)
-head_rests g r h =
+signature_rests : (h : Signature) → Rests (spell_signature h)
+signature_rests g r h =
     let outs = sign marks.CloseParen ∷ r in
     let ins = sign marks.CloseParen ∷ sign marks.Out ∷ sign marks.OpenParen ∷ separated spell_port g.outs outs in
     let k = separated_rests spell_port port_rests g.ins ins h.1.1.1 in
@@ -112,12 +112,12 @@ EntryKeeps n (constant x value) = Unit {0}
 EntryKeeps n (defined m) = InsideKeeps n m.inside
 
 -- an entry, and what follows it
-body_keeps : (n : ℕ) (g : Head) (b : Option Num) (ls : List Port) (c : Script) (r : List Symbol) → length (spell_passage (bodied g b ls c) r) ≤ n →
+body_keeps : (n : ℕ) (g : Signature) (b : Option Num) (ls : List Port) (c : Script) (r : List Symbol) → length (spell_passage (bodied g b ls c) r) ≤ n →
     IsWithin at_rest (spell_passage (bodied g b ls c) r) → (KeepsLimits (script_tree c) × (code_items (script_tree c) < n)) × IsWithin at_rest r
 body_keeps n g b ls c r short h =
     let r1 = sign marks.CloseBody ∷ spell_end kinds.Seq r in
     let r2 = sign marks.OpenBody ∷ each spell_local ls (spell_script c r1) in
-    let head = head_rests g (spell_clause marks.Budget b r2) h.1 in
+    let head = signature_rests g (spell_clause marks.Budget b r2) h.1 in
     let inner = clause_rests marks.Budget refl b r2 head in
     let k = script_limited c 0 r1 (locals_pass ls (spell_script c r1) inner.1) in
     ((k.0, omega (arith, body_longer g b ls c r)), end_rests kinds.Seq r k.1.1)
@@ -127,19 +127,19 @@ entry_keeps : (n : ℕ) (i : Passage) (r : List Symbol) → length (spell_passag
 entry_keeps n (fixed x v p) r short h = (tt, h.1.1.1.1.1)
 entry_keeps n (bodied g b ls c) r short h = body_keeps n g b ls c r short h
 entry_keeps n (chained k g cs) r short h =
-    let a = mark_rests k (spell_head g (each spell_call cs (spell_end k r))) h in
-    let b = head_rests g (each spell_call cs (spell_end k r)) a in
+    let a = mark_rests k (spell_signature g (each spell_call cs (spell_end k r))) h in
+    let b = signature_rests g (each spell_call cs (spell_end k r)) a in
     (tt, end_rests k r (each_rests spell_call call_rests cs (spell_end k r) b))
 entry_keeps n (spread k g w c) r short h =
     let r1 = spell_call c (spell_end k r) in
-    let a = mark_rests k (spell_head g (spell_clause marks.Workers w r1)) h in
-    let b = head_rests g (spell_clause marks.Workers w r1) a in
+    let a = mark_rests k (spell_signature g (spell_clause marks.Workers w r1)) h in
+    let b = signature_rests g (spell_clause marks.Workers w r1) a in
     (tt, end_rests k r (call_rests c (spell_end k r) (clause_rests marks.Workers refl w r1 b)))
 entry_keeps n (turned g t m b c) r short h =
     let r1 = sign marks.End ∷ sign marks.Loop ∷ r in
     let r2 = sign marks.While ∷ spell_call c r1 in
     let r3 = spell_clause marks.Tokens m (spell_call b r2) in
-    let head = head_rests g (sign marks.Turns ∷ num_symbol t ∷ r3) h.1 in
+    let head = signature_rests g (sign marks.Turns ∷ num_symbol t ∷ r3) h.1 in
     let clauses = clause_rests marks.Tokens refl m (spell_call b r2) (num_rests t r3 head.1) in
     let condition = call_rests b r2 clauses in
     (tt, (call_rests c r1 condition.1).1.1)

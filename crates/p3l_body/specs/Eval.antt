@@ -5,9 +5,9 @@ use Rattle.std.specs.Option.{option_map_or}
 use Rattle.p3l_base.specs.declared.outcome.Outcome.{Outcome}
 use Rattle.p3l_base.specs.declared.outcome.Outcome.TheVariants.{Value, Trapped}
 use Rattle.p3l_base.specs.declared.outcome.TrapKind.{TrapKind}
-use Rattle.p3l_ast.specs.declared.meaning.state.Binding.{Binding}
-use Rattle.p3l_ast.specs.declared.meaning.state.State.{State}
-use Rattle.p3l_ast.specs.Meaning.State.{binding_of}
+use Rattle.p3l_ast.specs.declared.meaning.valuation.Binding.{Binding}
+use Rattle.p3l_ast.specs.declared.meaning.valuation.Valuation.{Valuation}
+use Rattle.p3l_ast.specs.Meaning.Valuation.{binding_of}
 use Rattle.p3l_ast.specs.Meaning.Statement.{run_of}
 use Rattle.p3l_types.specs.Shape.{product}
 use Rattle.p3l_body.specs.declared.var.Var.{Var}
@@ -34,20 +34,20 @@ zeroed var = bound var (replicate (width var) (pos 0))
 abbrev pub constant : List ℕ × ℤ → Binding
 constant c = record { name = c.0; sizes = []; words = c.1 ∷ [] }
 
--- the state in which a body starts
-abbrev pub start_of : SeqTree → List ℤ → State
+-- the valuation in which a body starts
+abbrev pub start_of : SeqTree → List ℤ → Valuation
 start_of seq words = record {
   bindings = ((holding seq.ins words ++ map zeroed seq.outs) ++ map zeroed seq.locals) ++ map constant seq.constants;
   turns = 0;
 }
 
 -- the words of a variable
-abbrev pub words_in : State → Var → List ℤ
-words_in state var = option_map_or (λ (binding : Binding). binding.words) (binding_of state var.name) []
+abbrev pub words_in : Valuation → Var → List ℤ
+words_in valuation var = option_map_or (λ (binding : Binding). binding.words) (binding_of valuation var.name) []
 
 -- what a module's run comes to: the words of the outs in order, or its trap
-abbrev pub outcome_of : ℕ → List Var → Result State TrapKind → Outcome
-outcome_of home outs (Ok state) = Value (flat_map (words_in state) outs)
+abbrev pub outcome_of : ℕ → List Var → Result Valuation TrapKind → Outcome
+outcome_of home outs (Ok valuation) = Value (flat_map (words_in valuation) outs)
 outcome_of home outs (Err trap) = Trapped (record { kind = trap; «module» = home })
 
 -- the outcome of a module on the words of an item

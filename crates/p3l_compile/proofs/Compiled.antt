@@ -3,7 +3,7 @@ use Rattle.std.proofs.Common.{◌≡◌, ℕ, ℤ, pos, ◌+◌, ◌-◌, ◌≤
 use Rattle.std.specs.List.{flat_map}
 use Rattle.std.proofs.lemmas.List.{length-replicate}
 use Rattle.p3l_base.specs.declared.outcome.TrapKind.{TrapKind}
-use Rattle.p3l_ast.specs.declared.meaning.state.State.{State}
+use Rattle.p3l_ast.specs.declared.meaning.valuation.Valuation.{Valuation}
 use Rattle.p3l_ast.specs.Meaning.Statement.{run_of}
 use Rattle.p3l_body.specs.declared.var.Var.{Var}
 use Rattle.p3l_body.specs.Eval.{words_in, start_of, outcome_of as outcome_in, eval}
@@ -21,7 +21,7 @@ use Rattle.p3l_compile.proofs.Started.{total_append, starts, outs_taken}
 use Rattle.p3l_compile.proofs.Entered.{laid}
 
 -- an ending of the machine is an outcome of the body
-ended : (home : ℕ) (outs : List Var) (r : Result State TrapKind) → outcome_of home (after r (λ s. Some (Ok (flat_map (words_in s) outs)))) ≡ outcome_in home outs r
+ended : (home : ℕ) (outs : List Var) (r : Result Valuation TrapKind) → outcome_of home (after r (λ s. Some (Ok (flat_map (words_in s) outs)))) ≡ outcome_in home outs r
 ended home outs (Ok s) = refl
 ended home outs (Err trap) = refl
 
@@ -44,7 +44,7 @@ module _ (seq : SeqTree) (code : Code) (can : IsCompilable seq) (budget : code.b
       let ends = compiled_means (names_of seq) seq.body code (λ s. flat_map (words_in s) seq.outs) (unrolls code (leads_all code is_safe)) place can.fits whole
       (λ m t l. outs_taken seq code m t place ins outs l ports) words full in
       ap (outcome_of seq.home) ends
-      ∙ ap (λ (s : State). outcome_of seq.home (after (run_of code.budget seq.body s) (λ s. Some (Ok (flat_map (words_in s) seq.outs))))) (starts seq code words memory fits)
+      ∙ ap (λ (s : Valuation). outcome_of seq.home (after (run_of code.budget seq.body s) (λ s. Some (Ok (flat_map (words_in s) seq.outs))))) (starts seq code words memory fits)
       ∙ ap (λ n. outcome_of seq.home (after (run_of n seq.body (start_of seq words)) (λ s. Some (Ok (flat_map (words_in s) seq.outs))))) budget
       ∙ ended seq.home seq.outs (run_of seq.budget seq.body (start_of seq words))
 

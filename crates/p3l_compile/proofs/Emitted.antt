@@ -13,7 +13,7 @@ use Rattle.p3l_code.specs.declared.instr.Instr.TheVariants.{Push, Step, Binary, 
 use Rattle.p3l_compile.specs.Scope.{Names, found}
 use Rattle.p3l_compile.specs.Phrase.{operator_size, phrase_size, index_size, read_size, index_code, phrase_code, sizes_in, element_code, read_code}
 
--- an instruction that is written again after what follows it
+-- an instruction that is written anew once what follows it stands
 pub patched : (base left right rest : List Instr) (x i : Instr) (c1 c2 c3 c4 : List Instr) (n : ℕ) → c1 ≡ base ++ left → n ≡ length c1 → c2 ≡ c1 ++ x ∷ [] → c3 ≡ c2 ++ right → c4 ≡ c3 ++ rest → slice_set c4 n i ≡ base ++ (left ++ (i ∷ (right ++ rest)))
 patched base left right rest x i c1 c2 c3 c4 n e1 m e2 e3 e4 =
     let all : c4 ≡ ((c1 ++ x ∷ []) ++ right) ++ rest = cc in

@@ -1,4 +1,4 @@
--- The machine on the code of an expression: it goes on after the code with the number on the stack, or traps.
+-- The machine on the code of an expression: it goes on at the end of the code, with the number on the stack, or traps.
 use Rattle.std.proofs.Common.{add-mul, mul-le-mul, mul_assoc, ltb-true, ◌≡◌, ℕ, ℤ, pos, negsuc, ◌+◌, ◌*◌, ◌≤◌, ◌<◌, ◌^◌, ◌*ℤ◌, ◌+ℤ◌, Bool, true, false, cond, List, [], ◌∷◌, ◌++◌, length, drop, Option, Some, None, Result, Ok, Err, refl, sym, ap, ◌∙◌, subst, arith, length-append}
 use Rattle.std.specs.Prelude.{slice_get, slice_index, nat_lt}
 use Rattle.std.specs.List.{AllByRecursion}
@@ -12,14 +12,14 @@ use Rattle.p3l_ast.specs.declared.expression.BinOp.TheVariants as operators
 use Rattle.p3l_ast.specs.declared.position.Spot.{Spot}
 use Rattle.p3l_ast.specs.Tree.{Phrase, number, read, unary, binary, Phrases, none, more}
 use Rattle.p3l_ast.specs.Meaning.Operator.{truth, holds, unary_of, binary_of}
-use Rattle.p3l_ast.specs.Meaning.State.{sizes_of, word_of}
+use Rattle.p3l_ast.specs.Meaning.Valuation.{sizes_of, word_of}
 use Rattle.p3l_ast.specs.Meaning.Expression.{given, tested, combined, indexed, value_of, place_of}
 use Rattle.p3l_code.specs.declared.instr.Instr.{Instr}
 use Rattle.p3l_code.specs.declared.instr.Instr.TheVariants.{Push, Load, Step, LoadAt, Unary, Binary, Jump, JumpZero, JumpNonZero}
 use Rattle.p3l_code.specs.declared.instr.Code.{Code}
 use Rattle.p3l_code.specs.Machine.{Ending, present, after, index_of, machine, Unrolls}
 use Rattle.p3l_compile.specs.declared.scope.Slot.{Slot}
-use Rattle.p3l_compile.specs.Scope.{Names, found, constant_of, state_of, IsLaid}
+use Rattle.p3l_compile.specs.Scope.{Names, found, constant_of, valuation_of, IsLaid}
 use Rattle.p3l_compile.specs.Phrase.{operator_size, read_size, phrase_size, index_size, scalar_code, sizes_in, element_code, read_code, operator_code, phrase_code, first_code, index_code, count_of, IsAccess, Fits, FitsAll}
 use Rattle.p3l_compile.proofs.Steps.{HasAt, has_front, has_back, step, after_given, after_same}
 use Rattle.p3l_compile.proofs.Scopes.{sizes_found, word_none, lies_within, word_found}
@@ -93,7 +93,7 @@ module _ (code : Code) (unrolls : Unrolls code) where
       ∙ after_given r (binary_of op x) K)
       ∙ after_given l (λ x. given r (binary_of op x)) K
 
-  -- the right operand's truth, and the jump after the other way
+  -- the right operand's truth, and the jump past the other way
   tested_runs : (p n : ℕ) (other : ℤ) (right : List Instr) (stack memory : List ℤ) (turns : ℕ) (r : Result ℤ TrapKind) → HasAt code p (right ++ (Push (pos 0) ∷ Binary operators.Ne ∷ Jump (p + n + 4) ∷ Push other ∷ [])) → length right ≡ n → (HasAt code p right → Pushes p (p + n) stack memory turns r) → Pushes p (p + n + 4) stack memory turns (given r tested)
   tested_runs p n other right stack memory turns r has ln R K h =
       let tail = has_back code p n right (Push (pos 0) ∷ Binary operators.Ne ∷ Jump (p + n + 4) ∷ Push other ∷ []) ln has in
@@ -186,7 +186,7 @@ below_size i size h = by (nat_lt i size) refl
 
 module _ (code : Code) (unrolls : Unrolls code) (scope : Names) (size : ℕ) (laid : IsLaid scope size) (memory : List ℤ) (turns : ℕ) (whole : length memory ≡ size) where
   -- a scalar or a constant
-  scalar_runs : (x : List ℕ) (pc : ℕ) (stack : List ℤ) (o : Option Slot) → found scope x ≡ o → slice_get code.instrs pc ≡ Some (scalar_code o (constant_of scope x)) → IsAccess o 0 → machine code pc stack memory turns ≡ machine code (pc + 1) (word_of (state_of scope memory turns) x 0 ∷ stack) memory turns
+  scalar_runs : (x : List ℕ) (pc : ℕ) (stack : List ℤ) (o : Option Slot) → found scope x ≡ o → slice_get code.instrs pc ≡ Some (scalar_code o (constant_of scope x)) → IsAccess o 0 → machine code pc stack memory turns ≡ machine code (pc + 1) (word_of (valuation_of scope memory turns) x 0 ∷ stack) memory turns
   scalar_runs x pc stack None f at a =
       step code unrolls pc stack memory turns (Push (constant_of scope x)) at
       ∙ ap (λ v. machine code (pc + 1) (v ∷ stack) memory turns) (sym (word_none scope memory turns x f))
@@ -196,12 +196,12 @@ module _ (code : Code) (unrolls : Unrolls code) (scope : Names) (size : ℕ) (la
       let inside : slot.base + 0 < length memory = omega (arith, l.below, l.words, w) in
       let word = word_found scope memory turns x slot 0 f inside (omega (arith, l.words, w)) in
       let zero_more : slot.base + 0 ≡ slot.base = omega arith in
-      let word' : slice_get memory slot.base ≡ Some (word_of (state_of scope memory turns) x 0) = subst (λ k. slice_get memory k ≡ Some (word_of (state_of scope memory turns) x 0)) zero_more word in
+      let word' : slice_get memory slot.base ≡ Some (word_of (valuation_of scope memory turns) x 0) = subst (λ k. slice_get memory k ≡ Some (word_of (valuation_of scope memory turns) x 0)) zero_more word in
       step code unrolls pc stack memory turns (Load slot.base) at
       ∙ ap (λ o. present o (λ v. machine code (pc + 1) (v ∷ stack) memory turns)) word'
 
   -- an element
-  element_runs : (x : List ℕ) (slot : Slot) (pc place : ℕ) (stack : List ℤ) → found scope x ≡ Some slot → slice_get code.instrs pc ≡ Some (LoadAt slot.base slot.words) → place < slot.words → machine code pc (pos place ∷ stack) memory turns ≡ machine code (pc + 1) (word_of (state_of scope memory turns) x place ∷ stack) memory turns
+  element_runs : (x : List ℕ) (slot : Slot) (pc place : ℕ) (stack : List ℤ) → found scope x ≡ Some slot → slice_get code.instrs pc ≡ Some (LoadAt slot.base slot.words) → place < slot.words → machine code pc (pos place ∷ stack) memory turns ≡ machine code (pc + 1) (word_of (valuation_of scope memory turns) x place ∷ stack) memory turns
   element_runs x slot pc place stack f at h =
       let l = lies_within scope size x slot laid f in
       let inside : slot.base + place < length memory = omega (arith, l.below) in
@@ -212,21 +212,21 @@ module _ (code : Code) (unrolls : Unrolls code) (scope : Names) (size : ℕ) (la
   -- from a place on the machine goes on after the indices with the place of the element on the stack, or traps
   abbrev Indexes : Phrases → Type 0
   Indexes is =
-      (pc : ℕ) (sizes : List ℕ) (place : ℕ) (stack : List ℤ) → HasAt code pc (index_code scope pc sizes is) → FitsAll scope is → count_of is ≡ length sizes → AllByRecursion (λ n. 1 ≤ n) sizes → (place + 1) * product sizes ≤ 65536 → (K : ℕ → Ending) → ((p : ℕ) → p < (place + 1) * product sizes → machine code (pc + index_size is) (pos p ∷ stack) memory turns ≡ K p) → machine code pc (pos place ∷ stack) memory turns ≡ after (place_of (state_of scope memory turns) is sizes place) K
+      (pc : ℕ) (sizes : List ℕ) (place : ℕ) (stack : List ℤ) → HasAt code pc (index_code scope pc sizes is) → FitsAll scope is → count_of is ≡ length sizes → AllByRecursion (λ n. 1 ≤ n) sizes → (place + 1) * product sizes ≤ 65536 → (K : ℕ → Ending) → ((p : ℕ) → p < (place + 1) * product sizes → machine code (pc + index_size is) (pos p ∷ stack) memory turns ≡ K p) → machine code pc (pos place ∷ stack) memory turns ≡ after (place_of (valuation_of scope memory turns) is sizes place) K
 
   -- the same of the first index alone: its number is on the stack
   abbrev First : Phrases → Type 0
   First none = Unit {0}
   First (more e is) =
-      (pc : ℕ) (stack : List ℤ) → HasAt code pc (phrase_code scope pc e) → Fits scope e → Pushes code unrolls pc (pc + phrase_size e) stack memory turns (value_of (state_of scope memory turns) e)
+      (pc : ℕ) (stack : List ℤ) → HasAt code pc (phrase_code scope pc e) → Fits scope e → Pushes code unrolls pc (pc + phrase_size e) stack memory turns (value_of (valuation_of scope memory turns) e)
 
   -- an element of an array of one size is tested where it is read
   one_runs : (x : List ℕ) (e : Phrase) (slot : Slot) (n pc : ℕ) (stack : List ℤ) → found scope x ≡ Some slot → slot.sizes ≡ n ∷ [] → First (more e none) →
       HasAt code pc (phrase_code scope pc e ++ LoadAt slot.base slot.words ∷ []) → Fits scope e →
-      Pushes code unrolls pc (pc + (phrase_size e + 1 + 0)) stack memory turns (given (place_of (state_of scope memory turns) (more e none) (n ∷ []) 0) (λ place. Ok (word_of (state_of scope memory turns) x place)))
+      Pushes code unrolls pc (pc + (phrase_size e + 1 + 0)) stack memory turns (given (place_of (valuation_of scope memory turns) (more e none) (n ∷ []) 0) (λ place. Ok (word_of (valuation_of scope memory turns) x place)))
   unfolding place_of
   one_runs x e slot n pc stack f sized first has fits K h =
-      let s = state_of scope memory turns in
+      let s = valuation_of scope memory turns in
       let m = phrase_size e in
       let l = lies_within scope size x slot laid f in
       let words : slot.words ≡ n = let p = ap product sized in omega (arith, l.words, p) in
@@ -246,25 +246,25 @@ module _ (code : Code) (unrolls : Unrolls code) (scope : Names) (size : ℕ) (la
       ∙ after_given (value_of s e) (indexed (n ∷ []) 0 (place_of s none)) K'
       ∙ after_given (place_of s (more e none) (n ∷ []) 0) (λ p. Ok (word_of s x p)) K
 
-  read_runs : (x : Spot) (is : Phrases) → First is → Indexes is → (pc : ℕ) (stack : List ℤ) (o : Option Slot) → found scope x.name ≡ o → HasAt code pc (read_code o (constant_of scope x.name) is (first_code scope pc is) (index_code scope (pc + 1) (sizes_in o) is)) → IsAccess o (count_of is) → FitsAll scope is → Pushes code unrolls pc (pc + read_size is (index_size is)) stack memory turns (given (place_of (state_of scope memory turns) is (sizes_of (state_of scope memory turns) x.name) 0) (λ place. Ok (word_of (state_of scope memory turns) x.name place)))
+  read_runs : (x : Spot) (is : Phrases) → First is → Indexes is → (pc : ℕ) (stack : List ℤ) (o : Option Slot) → found scope x.name ≡ o → HasAt code pc (read_code o (constant_of scope x.name) is (first_code scope pc is) (index_code scope (pc + 1) (sizes_in o) is)) → IsAccess o (count_of is) → FitsAll scope is → Pushes code unrolls pc (pc + read_size is (index_size is)) stack memory turns (given (place_of (valuation_of scope memory turns) is (sizes_of (valuation_of scope memory turns) x.name) 0) (λ place. Ok (word_of (valuation_of scope memory turns) x.name place)))
   unfolding place_of
   read_runs x none first index pc stack o f has access fits K h =
-      scalar_runs x.name pc stack o f has.0 access ∙ h (word_of (state_of scope memory turns) x.name 0)
+      scalar_runs x.name pc stack o f has.0 access ∙ h (word_of (valuation_of scope memory turns) x.name 0)
   read_runs x (more e none) first index pc stack None f has access fits K h = absurd (let q : 0 + 1 ≡ 0 = access in omega arith)
   read_runs x (more e none) first index pc stack (Some slot) f has access fits K h =
-      let s = state_of scope memory turns in
+      let s = valuation_of scope memory turns in
       by slot.sizes refl access
       ∙ ap (λ z. after (given (place_of s (more e none) z 0) (λ p. Ok (word_of s x.name p))) K) (sym (sizes_found scope memory turns x.name slot f))
     where
-      by : (sizes : List ℕ) → slot.sizes ≡ sizes → 0 + 1 ≡ length sizes → machine code pc stack memory turns ≡ after (given (place_of (state_of scope memory turns) (more e none) slot.sizes 0) (λ p. Ok (word_of (state_of scope memory turns) x.name p))) K
+      by : (sizes : List ℕ) → slot.sizes ≡ sizes → 0 + 1 ≡ length sizes → machine code pc stack memory turns ≡ after (given (place_of (valuation_of scope memory turns) (more e none) slot.sizes 0) (λ p. Ok (word_of (valuation_of scope memory turns) x.name p))) K
       by [] sized count = absurd (omega (arith, count))
       by (n ∷ []) sized count =
           one_runs x.name e slot n pc stack f sized first has fits.0 K h
-          ∙ ap (λ z. after (given (place_of (state_of scope memory turns) (more e none) z 0) (λ p. Ok (word_of (state_of scope memory turns) x.name p))) K) (sym sized)
+          ∙ ap (λ z. after (given (place_of (valuation_of scope memory turns) (more e none) z 0) (λ p. Ok (word_of (valuation_of scope memory turns) x.name p))) K) (sym sized)
       by (n ∷ (k ∷ sizes)) sized count = absurd (omega (arith, count))
   read_runs x (more e (more d is)) first index pc stack None f has access fits K h = absurd (let q : count_of is + 1 + 1 ≡ 0 = access in omega arith)
   read_runs x (more e (more d is)) first index pc stack (Some slot) f has access fits K h =
-      let s = state_of scope memory turns in
+      let s = valuation_of scope memory turns in
       let n = index_size (more e (more d is)) in
       let l = lies_within scope size x.name slot laid f in
       let code_of = index_code scope (pc + 1) slot.sizes (more e (more d is)) in
@@ -282,7 +282,7 @@ module _ (code : Code) (unrolls : Unrolls code) (scope : Names) (size : ℕ) (la
   mutual
     unfolding value_of place_of
 
-    pub phrase_runs : (e : Phrase) (pc : ℕ) (stack : List ℤ) → HasAt code pc (phrase_code scope pc e) → Fits scope e → Pushes code unrolls pc (pc + phrase_size e) stack memory turns (value_of (state_of scope memory turns) e)
+    pub phrase_runs : (e : Phrase) (pc : ℕ) (stack : List ℤ) → HasAt code pc (phrase_code scope pc e) → Fits scope e → Pushes code unrolls pc (pc + phrase_size e) stack memory turns (value_of (valuation_of scope memory turns) e)
     phrase_runs (number v) pc stack has fits K h = step code unrolls pc stack memory turns (Push v) has.0 ∙ h v
     phrase_runs (read x is) pc stack has fits K h =
         read_runs x is (first_runs is) (index_runs is) pc stack (found scope x.name) refl has fits.0 fits.1 K h
@@ -292,9 +292,9 @@ module _ (code : Code) (unrolls : Unrolls code) (scope : Names) (size : ℕ) (la
         let place : pc + n + 1 ≡ pc + (n + 1) = omega arith in
         phrase_runs e pc stack (has_front code pc (phrase_code scope pc e) _ has) fits (λ x. K (unary_of op x))
         (λ x. step code unrolls (pc + n) (x ∷ stack) memory turns (Unary op) here ∙ (ap (λ p. machine code p (unary_of op x ∷ stack) memory turns) place ∙ h (unary_of op x)))
-        ∙ after_given (value_of (state_of scope memory turns) e) (λ x. Ok (unary_of op x)) K
+        ∙ after_given (value_of (valuation_of scope memory turns) e) (λ x. Ok (unary_of op x)) K
     phrase_runs (binary op a b) pc stack has fits K h =
-        operator_runs code unrolls op pc (phrase_size a) (phrase_size b) (phrase_code scope pc a) (λ p. phrase_code scope p b) stack memory turns (value_of (state_of scope memory turns) a) (value_of (state_of scope memory turns) b) has (phrase_length scope pc a) (λ p. phrase_length scope p b)
+        operator_runs code unrolls op pc (phrase_size a) (phrase_size b) (phrase_code scope pc a) (λ p. phrase_code scope p b) stack memory turns (value_of (valuation_of scope memory turns) a) (value_of (valuation_of scope memory turns) b) has (phrase_length scope pc a) (λ p. phrase_length scope p b)
         (λ l. phrase_runs a pc stack l fits.0) (λ p s r. phrase_runs b p s r fits.1) K h
 
     first_runs : (is : Phrases) → First is
@@ -308,7 +308,7 @@ module _ (code : Code) (unrolls : Unrolls code) (scope : Names) (size : ℕ) (la
     index_runs none pc (n ∷ sizes) place stack has fits count some small K h = absurd (omega arith)
     index_runs (more e is) pc [] place stack has fits count some small K h = absurd (omega arith)
     index_runs (more e is) pc (n ∷ sizes) place stack has fits count some small K h =
-        let s = state_of scope memory turns in
+        let s = valuation_of scope memory turns in
         let m = phrase_size e in
         let rest = Step n ∷ index_code scope (pc + m + 1) sizes is in
         let tail = has_back code pc m (phrase_code scope pc e) rest (phrase_length scope pc e) has in

@@ -1,4 +1,4 @@
--- What the state that a memory stands for says of names.
+-- What the valuation that a memory stands for says of names.
 use Rattle.std.proofs.Common.{◌≡◌, ◌≢◌, ℕ, ℤ, zero, suc, pos, ◌+◌, ◌-◌, ◌≤◌, ◌<◌, Bool, true, false, cond, List, [], ◌∷◌, ◌++◌, length, take, drop, map, Some, None, refl, sym, ap, ◌∙◌, subst, arith}
 use Rattle.std.specs.Prelude.{find, bytes_eq, slice_get, slice_set, slice_index_or}
 use Rattle.std.specs.List.{AllByRecursion}
@@ -7,15 +7,15 @@ use Rattle.std.proofs.lemmas.Option.{slice_get-get_or}
 use Rattle.std.proofs.lemmas.List.{take-set-le, drop-set-lt, drop-set-add, get_or-take, get_or-drop}
 use Rattle.std.proofs.lemmas.Slice.Eq.{bytes_eq-Decides}
 use Rattle.std.proofs.lemmas.Bool.{false_from_ne_true}
-use Rattle.p3l_ast.specs.declared.meaning.state.Binding.{Binding}
-use Rattle.p3l_ast.specs.declared.meaning.state.State.{State}
-use Rattle.p3l_ast.specs.Meaning.State.{binding_of, sizes_of, word_of, rebound, with_word}
+use Rattle.p3l_ast.specs.declared.meaning.valuation.Binding.{Binding}
+use Rattle.p3l_ast.specs.declared.meaning.valuation.Valuation.{Valuation}
+use Rattle.p3l_ast.specs.Meaning.Valuation.{binding_of, sizes_of, word_of, rebound, with_word}
 use Rattle.std.specs.Map.{lookup}
 use Rattle.p3l_types.specs.Constants.{Constants}
 use Rattle.p3l_types.specs.Shape.{product}
 use Rattle.p3l_body.specs.Eval.{constant}
 use Rattle.p3l_compile.specs.declared.scope.Slot.{Slot}
-use Rattle.p3l_compile.specs.Scope.{Names, found, constant_of, bound_at, state_of, LieFrom, IsLaid}
+use Rattle.p3l_compile.specs.Scope.{Names, found, constant_of, bound_at, valuation_of, LieFrom, IsLaid}
 
 -- equality of names does not hang on their order
 pub eq_flip : (a b : List ℕ) → bytes_eq a b ≡ bytes_eq b a
@@ -75,22 +75,22 @@ word_in_constants name (c ∷ constants) =
     by go false = go
 
 -- the sizes of a variable, and of what is none
-pub sizes_found : (names : Names) (memory : List ℤ) (turns : ℕ) (name : List ℕ) (slot : Slot) → found names name ≡ Some slot → sizes_of (state_of names memory turns) name ≡ slot.sizes
+pub sizes_found : (names : Names) (memory : List ℤ) (turns : ℕ) (name : List ℕ) (slot : Slot) → found names name ≡ Some slot → sizes_of (valuation_of names memory turns) name ≡ slot.sizes
 sizes_found names memory turns name slot h =
     ap (λ o. option_map_or (λ (b : Binding). b.sizes) o []) (find_bound memory name names.slots (map constant names.constants) slot h)
 
-pub sizes_none : (names : Names) (memory : List ℤ) (turns : ℕ) (name : List ℕ) → found names name ≡ None → sizes_of (state_of names memory turns) name ≡ []
+pub sizes_none : (names : Names) (memory : List ℤ) (turns : ℕ) (name : List ℕ) → found names name ≡ None → sizes_of (valuation_of names memory turns) name ≡ []
 sizes_none names memory turns name h =
     ap (λ o. option_map_or (λ (b : Binding). b.sizes) o []) (find_after memory name names.slots (map constant names.constants) h)
     ∙ sizes_in_constants name names.constants
 
-pub word_none : (names : Names) (memory : List ℤ) (turns : ℕ) (name : List ℕ) → found names name ≡ None → word_of (state_of names memory turns) name 0 ≡ constant_of names name
+pub word_none : (names : Names) (memory : List ℤ) (turns : ℕ) (name : List ℕ) → found names name ≡ None → word_of (valuation_of names memory turns) name 0 ≡ constant_of names name
 word_none names memory turns name h =
     ap (λ o. option_map_or (λ (b : Binding). slice_index_or b.words 0 (pos 0)) o (pos 0)) (find_after memory name names.slots (map constant names.constants) h)
     ∙ word_in_constants name names.constants
 
 -- the words of a variable
-pub words_found : (names : Names) (memory : List ℤ) (turns : ℕ) (name : List ℕ) (slot : Slot) → found names name ≡ Some slot → option_map_or (λ (b : Binding). b.words) (binding_of (state_of names memory turns) name) [] ≡ take slot.words (drop slot.base memory)
+pub words_found : (names : Names) (memory : List ℤ) (turns : ℕ) (name : List ℕ) (slot : Slot) → found names name ≡ Some slot → option_map_or (λ (b : Binding). b.words) (binding_of (valuation_of names memory turns) name) [] ≡ take slot.words (drop slot.base memory)
 words_found names memory turns name slot h =
     ap (λ o. option_map_or (λ (b : Binding). b.words) o []) (find_bound memory name names.slots (map constant names.constants) slot h)
 
@@ -123,7 +123,7 @@ pub lies_within : (names : Names) (size : ℕ) (name : List ℕ) (slot : Slot) �
 lies_within names size name slot h f = lies 0 size name names.slots names.constants slot h f
 
 -- the word of a variable at a place
-pub word_found : (names : Names) (memory : List ℤ) (turns : ℕ) (name : List ℕ) (slot : Slot) (place : ℕ) → found names name ≡ Some slot → slot.base + place < length memory → place < slot.words → slice_get memory (slot.base + place) ≡ Some (word_of (state_of names memory turns) name place)
+pub word_found : (names : Names) (memory : List ℤ) (turns : ℕ) (name : List ℕ) (slot : Slot) (place : ℕ) → found names name ≡ Some slot → slot.base + place < length memory → place < slot.words → slice_get memory (slot.base + place) ≡ Some (word_of (valuation_of names memory turns) name place)
 word_found names memory turns name slot place h l w =
     let e = ap (λ o. option_map_or (λ (b : Binding). slice_index_or b.words place (pos 0)) o (pos 0)) (find_bound memory name names.slots (map constant names.constants) slot h) in
     let r : slice_index_or (take slot.words (drop slot.base memory)) place (pos 0) ≡ slice_index_or memory (slot.base + place) (pos 0) = rw (get_or-take, get_or-drop) refl in
@@ -204,11 +204,11 @@ rebound_slot name place from size word memory (s ∷ slots) constants slot l f h
         (unbound name place word (bound_at memory s) t ∙ ap (words_in s) (sym (after_words s.1.base s.1.words k memory word ends)))
         ∙ ap (λ x. bound_at (slice_set memory k word) s ∷ x) (go e)
 
-with_bindings : ℕ → List Binding → State
+with_bindings : ℕ → List Binding → Valuation
 with_bindings turns bindings = record { bindings = bindings; turns = turns }
 
 -- a word that is written
-pub set_found : (names : Names) (size : ℕ) (memory : List ℤ) (turns : ℕ) (name : List ℕ) (slot : Slot) (place : ℕ) (word : ℤ) → IsLaid names size → found names name ≡ Some slot → place < slot.words → with_word (state_of names memory turns) name place word ≡ state_of names (slice_set memory (slot.base + place) word) turns
+pub set_found : (names : Names) (size : ℕ) (memory : List ℤ) (turns : ℕ) (name : List ℕ) (slot : Slot) (place : ℕ) (word : ℤ) → IsLaid names size → found names name ≡ Some slot → place < slot.words → with_word (valuation_of names memory turns) name place word ≡ valuation_of names (slice_set memory (slot.base + place) word) turns
 unfolding with_bindings
 set_found names size memory turns name slot place word l f h =
     ap (with_bindings turns) (rebound_slot name place 0 size word memory names.slots names.constants slot l f h)

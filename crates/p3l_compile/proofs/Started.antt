@@ -1,4 +1,4 @@
--- The memory at the start of a run stands for the state in which the body starts, and its out words
+-- The memory at the start of a run stands for the valuation in which the body starts, and its out words
 -- are the words of the outs.
 use Rattle.std.proofs.Common.{◌≡◌, ◌≢◌, ℕ, ℤ, zero, suc, pos, ◌+◌, ◌-◌, ◌≤◌, cond, List, [], ◌∷◌, ◌++◌, length, take, drop, map, replicate, Some, None, refl, sym, ap, ◌∙◌, subst, arith, append_assoc, length-drop}
 use Rattle.std.specs.Prelude.{bytes_eq}
@@ -7,8 +7,8 @@ use Rattle.std.specs.Map.{lookup}
 use Rattle.std.proofs.Math.Seq.{drop-append_seam}
 use Rattle.std.proofs.lemmas.List.{take-append-le, drop-append-le, take-replicate, map-append}
 use Rattle.std.proofs.lemmas.Slice.Eq.{bytes_eq-Decides}
-use Rattle.p3l_ast.specs.declared.meaning.state.Binding.{Binding}
-use Rattle.p3l_ast.specs.declared.meaning.state.State.{State}
+use Rattle.p3l_ast.specs.declared.meaning.valuation.Binding.{Binding}
+use Rattle.p3l_ast.specs.declared.meaning.valuation.Valuation.{Valuation}
 use Rattle.p3l_types.specs.Constants.{Constants}
 use Rattle.p3l_code.specs.declared.instr.Code.{Code}
 use Rattle.p3l_code.specs.Machine.{started, outs_of}
@@ -16,7 +16,7 @@ use Rattle.p3l_body.specs.declared.var.Var.{Var}
 use Rattle.p3l_body.specs.Eval.{width, bound, holding, zeroed, constant, start_of, words_in}
 use Rattle.p3l_body.specs.Seq.{SeqTree}
 use Rattle.p3l_compile.specs.declared.scope.Slot.{Slot}
-use Rattle.p3l_compile.specs.Scope.{Names, found, bound_at, state_of, LieFrom, IsLaid, slot_at, slots_from, names_of}
+use Rattle.p3l_compile.specs.Scope.{Names, found, bound_at, valuation_of, LieFrom, IsLaid, slot_at, slots_from, names_of}
 use Rattle.p3l_compile.specs.Condition.{total, Differ, IsArray}
 use Rattle.p3l_compile.proofs.Scopes.{no_match, words_found}
 
@@ -77,11 +77,11 @@ zeros (v ∷ vars) memory base n e long =
     ap (λ x. bound v x ∷ map (bound_at memory) (slots_from (base + w) vars)) own
     ∙ ap (λ l. zeroed v ∷ l) (zeros vars memory (base + w) (n - w) rest (omega arith))
 
-with_bindings : List Binding → State
+with_bindings : List Binding → Valuation
 with_bindings bindings = record { bindings = bindings; turns = 0 }
 
--- the state at the start
-pub starts : (seq : SeqTree) (code : Code) (words : List ℤ) → code.memory ≡ total ((seq.ins ++ seq.outs) ++ seq.locals) → length words ≡ total seq.ins → state_of (names_of seq) (started code words) 0 ≡ start_of seq words
+-- the valuation at the start
+pub starts : (seq : SeqTree) (code : Code) (words : List ℤ) → code.memory ≡ total ((seq.ins ++ seq.outs) ++ seq.locals) → length words ≡ total seq.ins → valuation_of (names_of seq) (started code words) 0 ≡ start_of seq words
 unfolding with_bindings
 starts seq code words size fits =
     let memory = started code words in
@@ -146,7 +146,7 @@ lookup_here name (q ∷ front) back slot h =
     ap (λ b. cond b (Some q.1) (lookup (bytes_eq name) (front ++ (name, slot) ∷ back))) (no_match name q.0 (λ e. h.0 (sym e))) ∙ lookup_here name front back slot h.1
 
 -- the words of variables that lie somewhere
-pub words_taken : (names : Names) (memory : List ℤ) (turns : ℕ) (front back : List Place) (vars : List Var) (base size : ℕ) → names.slots ≡ front ++ (slots_from base vars ++ back) → IsLaid names size → base + total vars ≤ length memory → flat_map (words_in (state_of names memory turns)) vars ≡ take (total vars) (drop base memory)
+pub words_taken : (names : Names) (memory : List ℤ) (turns : ℕ) (front back : List Place) (vars : List Var) (base size : ℕ) → names.slots ≡ front ++ (slots_from base vars ++ back) → IsLaid names size → base + total vars ≤ length memory → flat_map (words_in (valuation_of names memory turns)) vars ≡ take (total vars) (drop base memory)
 words_taken names memory turns front back [] base size lie laid within = refl
 words_taken names memory turns front back (v ∷ vars) base size lie laid within =
     let w = width v in
@@ -156,7 +156,7 @@ words_taken names memory turns front back (v ∷ vars) base size lie laid within
     let there : found names v.name ≡ Some (slot_at base v) = ap (lookup (bytes_eq v.name)) lie ∙ lookup_here v.name front rest (slot_at base v) free in
     let own = words_found names memory turns v.name (slot_at base v) there in
     let more = words_taken names memory turns (front ++ p ∷ []) back vars (base + w) size (lie ∙ sym (append_assoc front (p ∷ []) rest)) laid (omega arith) in
-    ap (λ l. l ++ flat_map (words_in (state_of names memory turns)) vars) own
+    ap (λ l. l ++ flat_map (words_in (valuation_of names memory turns)) vars) own
     ∙ ap (λ l. take w (drop base memory) ++ l) (more ∙ ap (take (total vars)) (drop_more base w memory))
     ∙ sym (take_more w (total vars) (drop base memory))
   where
@@ -166,7 +166,7 @@ words_taken names memory turns front back (v ∷ vars) base size lie laid within
     take_more (suc n) m (x ∷ l) = let e : suc n + m ≡ suc (n + m) = omega arith in ap (λ k. take k (x ∷ l)) e ∙ ap (λ t. x ∷ t) (take_more n m l)
 
 -- the out words are the words of the outs
-pub outs_taken : (seq : SeqTree) (code : Code) (memory : List ℤ) (turns : ℕ) → IsLaid (names_of seq) code.memory → code.ins ≡ total seq.ins → code.outs ≡ total seq.outs → length memory ≡ code.memory → code.ins + code.outs ≤ code.memory → flat_map (words_in (state_of (names_of seq) memory turns)) seq.outs ≡ outs_of code memory
+pub outs_taken : (seq : SeqTree) (code : Code) (memory : List ℤ) (turns : ℕ) → IsLaid (names_of seq) code.memory → code.ins ≡ total seq.ins → code.outs ≡ total seq.outs → length memory ≡ code.memory → code.ins + code.outs ≤ code.memory → flat_map (words_in (valuation_of (names_of seq) memory turns)) seq.outs ≡ outs_of code memory
 outs_taken seq code memory turns laid ins outs whole ports =
     let slots : slots_from 0 ((seq.ins ++ seq.outs) ++ seq.locals) ≡ slots_from 0 seq.ins ++ (slots_from (0 + total seq.ins) seq.outs ++ slots_from (0 + total (seq.ins ++ seq.outs)) seq.locals) =
     slots_append (seq.ins ++ seq.outs) seq.locals 0 ∙ ap (λ l. l ++ slots_from (0 + total (seq.ins ++ seq.outs)) seq.locals) (slots_append seq.ins seq.outs 0)

@@ -1,4 +1,4 @@
--- The machine on the code of statements: it goes on after the code with the memory of the state that they make, or
+-- The machine on the code of statements: it goes on at the end of the code, with the memory of the valuation that they make, or
 -- traps.
 use Rattle.std.proofs.Common.{◌≡◌, ℕ, ℤ, zero, suc, pos, ◌+◌, ◌*◌, ◌≤◌, ◌<◌, Bool, true, false, cond, List, [], ◌∷◌, ◌++◌, length, Option, Some, None, Result, Ok, Err, refl, sym, ap, ◌∙◌, subst, arith, length-append, ltb-true, length-set}
 use Rattle.std.specs.Prelude.{slice_get, slice_set, nat_lt}
@@ -6,10 +6,10 @@ use Rattle.std.proofs.lemmas.Bool.Decides.{nat_tests}
 use Rattle.p3l_base.specs.declared.outcome.TrapKind.{TrapKind}
 use Rattle.p3l_base.specs.declared.outcome.TrapKind.TheVariants.{Budget}
 use Rattle.p3l_ast.specs.declared.position.Spot.{Spot}
-use Rattle.p3l_ast.specs.declared.meaning.state.State.{State}
+use Rattle.p3l_ast.specs.declared.meaning.valuation.Valuation.{Valuation}
 use Rattle.p3l_ast.specs.Tree.{Phrase, Phrases, none, more, Statements, done, assign, if_, if_else, while_, for_, join}
 use Rattle.p3l_ast.specs.Meaning.Operator.{holds}
-use Rattle.p3l_ast.specs.Meaning.State.{with_word, turned}
+use Rattle.p3l_ast.specs.Meaning.Valuation.{with_word, turned}
 use Rattle.p3l_ast.specs.Meaning.Expression.{given, value_of, place_of}
 use Rattle.p3l_ast.specs.Meaning.Statement.{assigned, chosen, run_by, loop_of, run_of}
 use Rattle.p3l_ast.proofs.Turns.{loop_unrolls, run_join, given_same, given_done}
@@ -18,7 +18,7 @@ use Rattle.p3l_code.specs.declared.instr.Instr.TheVariants.{Push, Store, StoreAt
 use Rattle.p3l_code.specs.declared.instr.Code.{Code}
 use Rattle.p3l_code.specs.Machine.{Ending, present, after, written, machine, Unrolls}
 use Rattle.p3l_compile.specs.declared.scope.Slot.{Slot}
-use Rattle.p3l_compile.specs.Scope.{Names, found, state_of, IsLaid}
+use Rattle.p3l_compile.specs.Scope.{Names, found, valuation_of, IsLaid}
 use Rattle.p3l_compile.specs.Phrase.{phrase_size, index_size, phrase_code, index_code, sizes_in, count_of, Fits}
 use Rattle.p3l_compile.specs.Statement.{assign_size, loop_size, statement_size, store_code, store_at_code, assign_code, loop_code, statement_code, IsTarget, FitsAssign, FitsCode}
 use Rattle.p3l_compile.proofs.Steps.{HasAt, has_front, has_back, step, after_given}
@@ -106,26 +106,26 @@ target_slot None n h = absurd h
 target_slot (Some slot) n h = (slot, refl, h)
 
 module _ (code : Code) (unrolls : Unrolls code) (scope : Names) (size : ℕ) (laid : IsLaid scope size) where
-  -- from a place on the machine goes on at the end with the memory of the state that comes of its own, or traps; it
+  -- from a place on the machine goes on at the end with the memory of the valuation that comes of its own, or traps; it
   -- counts no turn back
-  abbrev Runs : ℕ → ℕ → (State → Result State TrapKind) → Type 0
+  abbrev Runs : ℕ → ℕ → (Valuation → Result Valuation TrapKind) → Type 0
   Runs pc end run =
-      (memory : List ℤ) (turns : ℕ) → length memory ≡ size → (K : State → Ending)
-      → ((m : List ℤ) (t : ℕ) → length m ≡ size → turns ≤ t → machine code end [] m t ≡ K (state_of scope m t))
-      → machine code pc [] memory turns ≡ after (run (state_of scope memory turns)) K
+      (memory : List ℤ) (turns : ℕ) → length memory ≡ size → (K : Valuation → Ending)
+      → ((m : List ℤ) (t : ℕ) → length m ≡ size → turns ≤ t → machine code end [] m t ≡ K (valuation_of scope m t))
+      → machine code pc [] memory turns ≡ after (run (valuation_of scope memory turns)) K
 
-  ends_at : (pc end other : ℕ) (run : State → Result State TrapKind) → end ≡ other → Runs pc end run → Runs pc other run
+  ends_at : (pc end other : ℕ) (run : Valuation → Result Valuation TrapKind) → end ≡ other → Runs pc end run → Runs pc other run
   ends_at pc end other run e r memory turns whole K h =
       r memory turns whole K (λ m t l le. ap (λ p. machine code p [] m t) e ∙ h m t l le)
 
   -- one after the other
-  then_runs : (pc middle end : ℕ) (first next : State → Result State TrapKind) → Runs pc middle first → Runs middle end next → Runs pc end (λ s. given (first s) next)
+  then_runs : (pc middle end : ℕ) (first next : Valuation → Result Valuation TrapKind) → Runs pc middle first → Runs middle end next → Runs pc end (λ s. given (first s) next)
   then_runs pc middle end first next a b memory turns whole K h =
       a memory turns whole (λ s. after (next s) K) (λ m t l le. b m t l K (λ n u k ge. h n u k (omega arith)))
-      ∙ after_given (first (state_of scope memory turns)) next K
+      ∙ after_given (first (valuation_of scope memory turns)) next K
 
   -- the machine stores a word, and is where it was otherwise
-  store_runs : (x : List ℕ) (slot : Slot) (pc : ℕ) (memory : List ℤ) (turns : ℕ) (v : ℤ) → length memory ≡ size → found scope x ≡ Some slot → slice_get code.instrs pc ≡ Some (Store slot.base) → 0 ≡ length slot.sizes → (K : State → Ending) → ((m : List ℤ) (t : ℕ) → length m ≡ size → turns ≤ t → machine code (pc + 1) [] m t ≡ K (state_of scope m t)) → machine code pc (v ∷ []) memory turns ≡ K (with_word (state_of scope memory turns) x 0 v)
+  store_runs : (x : List ℕ) (slot : Slot) (pc : ℕ) (memory : List ℤ) (turns : ℕ) (v : ℤ) → length memory ≡ size → found scope x ≡ Some slot → slice_get code.instrs pc ≡ Some (Store slot.base) → 0 ≡ length slot.sizes → (K : Valuation → Ending) → ((m : List ℤ) (t : ℕ) → length m ≡ size → turns ≤ t → machine code (pc + 1) [] m t ≡ K (valuation_of scope m t)) → machine code pc (v ∷ []) memory turns ≡ K (with_word (valuation_of scope memory turns) x 0 v)
   store_runs x slot pc memory turns v whole f at scalar K h =
       let l = lies_within scope size x slot laid f in
       let w = some_words slot.sizes l.sizes in
@@ -134,9 +134,9 @@ module _ (code : Code) (unrolls : Unrolls code) (scope : Names) (size : ℕ) (la
       step code unrolls pc (v ∷ []) memory turns (Store slot.base) at
       ∙ ap (λ o. present o (λ m. machine code (pc + 1) [] m turns)) (written_within memory slot.base v inside)
       ∙ h (slice_set memory slot.base v) turns (length-set memory slot.base v ∙ whole) (omega arith)
-      ∙ ap K (ap (λ k. state_of scope (slice_set memory k v) turns) (sym zero_more) ∙ sym (set_found scope size memory turns x slot 0 v laid f (omega (arith, l.words, w))))
+      ∙ ap K (ap (λ k. valuation_of scope (slice_set memory k v) turns) (sym zero_more) ∙ sym (set_found scope size memory turns x slot 0 v laid f (omega (arith, l.words, w))))
 
-  store_at_runs : (x : List ℕ) (slot : Slot) (pc place : ℕ) (memory : List ℤ) (turns : ℕ) (v : ℤ) → length memory ≡ size → found scope x ≡ Some slot → slice_get code.instrs pc ≡ Some (StoreAt slot.base slot.words) → place < slot.words → (K : State → Ending) → ((m : List ℤ) (t : ℕ) → length m ≡ size → turns ≤ t → machine code (pc + 1) [] m t ≡ K (state_of scope m t)) → machine code pc (v ∷ pos place ∷ []) memory turns ≡ K (with_word (state_of scope memory turns) x place v)
+  store_at_runs : (x : List ℕ) (slot : Slot) (pc place : ℕ) (memory : List ℤ) (turns : ℕ) (v : ℤ) → length memory ≡ size → found scope x ≡ Some slot → slice_get code.instrs pc ≡ Some (StoreAt slot.base slot.words) → place < slot.words → (K : Valuation → Ending) → ((m : List ℤ) (t : ℕ) → length m ≡ size → turns ≤ t → machine code (pc + 1) [] m t ≡ K (valuation_of scope m t)) → machine code pc (v ∷ pos place ∷ []) memory turns ≡ K (with_word (valuation_of scope memory turns) x place v)
   store_at_runs x slot pc place memory turns v whole f at lt K h =
       let l = lies_within scope size x slot laid f in
       let inside : slot.base + place < length memory = omega (arith, l.below) in
@@ -149,7 +149,7 @@ module _ (code : Code) (unrolls : Unrolls code) (scope : Names) (size : ℕ) (la
   assign_runs : (x : List ℕ) (is : Phrases) (e : Phrase) (pc : ℕ) → HasAt code pc (assign_code scope pc x is e) → FitsAssign scope x is e → Runs pc (pc + assign_size is e) (assigned x is e)
   unfolding place_of
   assign_runs x none e pc has fits memory turns whole K h =
-      let s = state_of scope memory turns in
+      let s = valuation_of scope memory turns in
       let n = phrase_size e in
       let t = target_slot (found scope x) 0 fits.0 in
       let last = (has_back code pc n (phrase_code scope pc e) (store_code (found scope x) ∷ []) (phrase_length scope pc e) has).0 ∙ ap (λ o. Some (store_code o)) t.1 in
@@ -159,7 +159,7 @@ module _ (code : Code) (unrolls : Unrolls code) (scope : Names) (size : ℕ) (la
       (λ v. store_runs x t.0 (pc + n) memory turns v whole t.1 last t.2 K (λ m u l le. ap (λ p. machine code p [] m u) place ∙ h m u l le))
       ∙ after_given (value_of s e) (λ word. Ok (with_word s x 0 word)) K
   assign_runs x (more d is) e pc has fits memory turns whole K h =
-      let s = state_of scope memory turns in
+      let s = valuation_of scope memory turns in
       let n = index_size (more d is) in
       let m = phrase_size e in
       let t = target_slot (found scope x) (count_of (more d is)) fits.0 in
@@ -183,9 +183,9 @@ module _ (code : Code) (unrolls : Unrolls code) (scope : Names) (size : ℕ) (la
       ∙ ap (λ z. after (given (place_of s (more d is) z 0) (λ p. given (value_of s e) (λ word. Ok (with_word s x p word)))) K) (sym (sizes_found scope memory turns x slot t.1)))
 
   -- a condition, and a jump where it does not hold
-  chosen_runs : (pc : ℕ) (e : Phrase) (other end : ℕ) (one two : State → Result State TrapKind) → HasAt code pc (phrase_code scope pc e) → slice_get code.instrs (pc + phrase_size e) ≡ Some (JumpZero other) → Fits scope e → Runs (pc + phrase_size e + 1) end one → Runs other end two → Runs pc end (chosen e one two)
+  chosen_runs : (pc : ℕ) (e : Phrase) (other end : ℕ) (one two : Valuation → Result Valuation TrapKind) → HasAt code pc (phrase_code scope pc e) → slice_get code.instrs (pc + phrase_size e) ≡ Some (JumpZero other) → Fits scope e → Runs (pc + phrase_size e + 1) end one → Runs other end two → Runs pc end (chosen e one two)
   chosen_runs pc e other end one two has at fits a b memory turns whole K h =
-      let s = state_of scope memory turns in
+      let s = valuation_of scope memory turns in
       let n = phrase_size e in
       let by : (t : Bool) → machine code (cond t (pc + n + 1) other) [] memory turns ≡ after ((cond t one two) s) K =
       λ t. elim t as (λ t. machine code (cond t (pc + n + 1) other) [] memory turns ≡ after ((cond t one two) s) K)
@@ -197,23 +197,23 @@ module _ (code : Code) (unrolls : Unrolls code) (scope : Names) (size : ℕ) (la
   skip_runs : (pc : ℕ) → Runs pc pc Ok
   skip_runs pc memory turns whole K h = h memory turns whole (omega arith)
 
-  jump_runs : (pc middle end : ℕ) (run : State → Result State TrapKind) → slice_get code.instrs middle ≡ Some (Jump end) → Runs pc middle run → Runs pc end run
+  jump_runs : (pc middle end : ℕ) (run : Valuation → Result Valuation TrapKind) → slice_get code.instrs middle ≡ Some (Jump end) → Runs pc middle run → Runs pc end run
   jump_runs pc middle end run at a memory turns whole K h =
       a memory turns whole K (λ m t l le. step code unrolls middle [] m t (Jump end) at ∙ h m t l le)
 
   -- a loop from its condition on, if it goes well from there after each turn
-  once_runs : (e : Phrase) (body : Statements) (top test end : ℕ) → HasAt code test (phrase_code scope test e) → slice_get code.instrs (test + phrase_size e) ≡ Some (JumpNonZero top) → slice_get code.instrs top ≡ Some Turn → test + phrase_size e + 1 ≡ end → Fits scope e → Runs (top + 1) test (run_of code.budget body) → (memory : List ℤ) (turns : ℕ) → length memory ≡ size → (K : State → Ending) → ((m : List ℤ) (t : ℕ) → length m ≡ size → turns ≤ t → machine code end [] m t ≡ K (state_of scope m t)) → (turns < code.budget → (m : List ℤ) (t : ℕ) → length m ≡ size → turns + 1 ≤ t → machine code test [] m t ≡ after (loop_of code.budget e body (state_of scope m t)) K) → machine code test [] memory turns ≡ after (loop_of code.budget e body (state_of scope memory turns)) K
+  once_runs : (e : Phrase) (body : Statements) (top test end : ℕ) → HasAt code test (phrase_code scope test e) → slice_get code.instrs (test + phrase_size e) ≡ Some (JumpNonZero top) → slice_get code.instrs top ≡ Some Turn → test + phrase_size e + 1 ≡ end → Fits scope e → Runs (top + 1) test (run_of code.budget body) → (memory : List ℤ) (turns : ℕ) → length memory ≡ size → (K : Valuation → Ending) → ((m : List ℤ) (t : ℕ) → length m ≡ size → turns ≤ t → machine code end [] m t ≡ K (valuation_of scope m t)) → (turns < code.budget → (m : List ℤ) (t : ℕ) → length m ≡ size → turns + 1 ≤ t → machine code test [] m t ≡ after (loop_of code.budget e body (valuation_of scope m t)) K) → machine code test [] memory turns ≡ after (loop_of code.budget e body (valuation_of scope memory turns)) K
   once_runs e body top test end has at turn place fits b memory turns whole K h again =
-      let s = state_of scope memory turns in
+      let s = valuation_of scope memory turns in
       let n = phrase_size e in
       let run = run_of code.budget body in
       let loop = loop_of code.budget e body in
-      let go = λ (s : State). given (given (turned code.budget s) run) loop in
-      let more : (t : Bool) → nat_lt turns code.budget ≡ t → cond t (machine code (top + 1) [] memory (turns + 1)) (Some (Err Budget)) ≡ after (given (given (cond t (Ok (state_of scope memory (turns + 1))) (Err Budget)) run) loop) K =
-      λ t. elim t as (λ t. nat_lt turns code.budget ≡ t → cond t (machine code (top + 1) [] memory (turns + 1)) (Some (Err Budget)) ≡ after (given (given (cond t (Ok (state_of scope memory (turns + 1))) (Err Budget)) run) loop) K) [
+      let go = λ (s : Valuation). given (given (turned code.budget s) run) loop in
+      let more : (t : Bool) → nat_lt turns code.budget ≡ t → cond t (machine code (top + 1) [] memory (turns + 1)) (Some (Err Budget)) ≡ after (given (given (cond t (Ok (valuation_of scope memory (turns + 1))) (Err Budget)) run) loop) K =
+      λ t. elim t as (λ t. nat_lt turns code.budget ≡ t → cond t (machine code (top + 1) [] memory (turns + 1)) (Some (Err Budget)) ≡ after (given (given (cond t (Ok (valuation_of scope memory (turns + 1))) (Err Budget)) run) loop) K) [
         | true ↦ λ q.
             b memory (turns + 1) whole (λ s. after (loop s) K) (λ m u l le. again (ltb-true turns code.budget q) m u l le)
-            ∙ after_given (run (state_of scope memory (turns + 1))) loop K
+            ∙ after_given (run (valuation_of scope memory (turns + 1))) loop K
         | false ↦ λ q. refl
       ] in
       let by : (t : Bool) → machine code (cond t top (test + n + 1)) [] memory turns ≡ after ((cond t go Ok) s) K =
@@ -227,7 +227,7 @@ module _ (code : Code) (unrolls : Unrolls code) (scope : Names) (size : ℕ) (la
       ∙ ap (λ r. after r K) (sym (loop_unrolls code.budget e body s))
 
   -- a loop from its condition on, as long as so many turns are left
-  turns_run : (e : Phrase) (body : Statements) (top test end : ℕ) → HasAt code test (phrase_code scope test e) → slice_get code.instrs (test + phrase_size e) ≡ Some (JumpNonZero top) → slice_get code.instrs top ≡ Some Turn → test + phrase_size e + 1 ≡ end → Fits scope e → Runs (top + 1) test (run_of code.budget body) → (left : ℕ) (memory : List ℤ) (turns : ℕ) → code.budget ≤ turns + left → length memory ≡ size → (K : State → Ending) → ((m : List ℤ) (t : ℕ) → length m ≡ size → turns ≤ t → machine code end [] m t ≡ K (state_of scope m t)) → machine code test [] memory turns ≡ after (loop_of code.budget e body (state_of scope memory turns)) K
+  turns_run : (e : Phrase) (body : Statements) (top test end : ℕ) → HasAt code test (phrase_code scope test e) → slice_get code.instrs (test + phrase_size e) ≡ Some (JumpNonZero top) → slice_get code.instrs top ≡ Some Turn → test + phrase_size e + 1 ≡ end → Fits scope e → Runs (top + 1) test (run_of code.budget body) → (left : ℕ) (memory : List ℤ) (turns : ℕ) → code.budget ≤ turns + left → length memory ≡ size → (K : Valuation → Ending) → ((m : List ℤ) (t : ℕ) → length m ≡ size → turns ≤ t → machine code end [] m t ≡ K (valuation_of scope m t)) → machine code test [] memory turns ≡ after (loop_of code.budget e body (valuation_of scope memory turns)) K
   turns_run e body top test end has at turn place fits b zero memory turns few whole K h =
       once_runs e body top test end has at turn place fits b memory turns whole K h (λ q. absurd (omega arith))
   turns_run e body top test end has at turn place fits b (suc left) memory turns few whole K h =
@@ -248,9 +248,9 @@ module _ (code : Code) (unrolls : Unrolls code) (scope : Names) (size : ℕ) (la
       step code unrolls pc [] memory turns (Jump test) has.0
       ∙ turns_run e body (pc + 1) test (pc + loop_size n m) (has_front code test (phrase_code scope test e) last tail) at has.1.0 end fits body_runs code.budget memory turns (omega arith) whole K h
 
-  same_runs : (pc end : ℕ) (run other : State → Result State TrapKind) → ((s : State) → run s ≡ other s) → Runs pc end run → Runs pc end other
+  same_runs : (pc end : ℕ) (run other : Valuation → Result Valuation TrapKind) → ((s : Valuation) → run s ≡ other s) → Runs pc end run → Runs pc end other
   same_runs pc end run other e r memory turns whole K h =
-      r memory turns whole K h ∙ ap (λ z. after z K) (e (state_of scope memory turns))
+      r memory turns whole K h ∙ ap (λ z. after z K) (e (valuation_of scope memory turns))
 
   -- the body of a `for`, and the assignment after it
   stepped_runs : (body : Statements) (y : Spot) (js : Phrases) (f : Phrase) (pc : ℕ) → HasAt code pc (statement_code scope pc body ++ assign_code scope (pc + statement_size body) y.name js f) → FitsAssign scope y.name js f → (HasAt code pc (statement_code scope pc body) → Runs pc (pc + statement_size body) (run_of code.budget body)) → Runs pc (pc + (statement_size body + assign_size js f)) (run_of code.budget (join body (assign y js f done)))

@@ -3,8 +3,8 @@ use Rattle.std.specs.Prelude.{◌≡◌, ◌≢◌, ℕ, ℤ, pos, ◌+◌, ◌�
 use Rattle.std.specs.List.{AllByRecursion}
 use Rattle.std.specs.Map.{lookup}
 use Rattle.std.specs.Option.{option_map_or}
-use Rattle.p3l_ast.specs.declared.meaning.state.Binding.{Binding}
-use Rattle.p3l_ast.specs.declared.meaning.state.State.{State}
+use Rattle.p3l_ast.specs.declared.meaning.valuation.Binding.{Binding}
+use Rattle.p3l_ast.specs.declared.meaning.valuation.Valuation.{Valuation}
 use Rattle.p3l_types.specs.Constants.{Constants}
 use Rattle.p3l_types.specs.Shape.{product}
 use Rattle.p3l_body.specs.declared.var.Var.{Var}
@@ -29,9 +29,9 @@ constant_of names name = option_map_or (λ value. value) (lookup (bytes_eq name)
 abbrev pub bound_at : List ℤ → List ℕ × Slot → Binding
 bound_at memory p = record { name = p.0; sizes = p.1.sizes; words = take p.1.words (drop p.1.base memory) }
 
--- the state that a memory stands for
-abbrev pub state_of : Names → List ℤ → ℕ → State
-state_of names memory turns =
+-- the valuation that a memory stands for
+abbrev pub valuation_of : Names → List ℤ → ℕ → Valuation
+valuation_of names memory turns =
     record { bindings = map (bound_at memory) names.slots ++ map constant names.constants; turns = turns }
 
 -- no name of the variables after one, and no constant, is its name

@@ -16,7 +16,7 @@ use p3l_model::{procs, service};
 use p3l_skel::counts::outside_parts;
 use p3l_skel::tree::NESTING;
 use p3l_skel::{Counts, Form, Node, Tree};
-use std::alloc::{AllocError, Global};
+use std::alloc::Global;
 
 /// How the skeleton of a form is written.
 fn kind_name(form: &Form) -> &'static str
@@ -34,13 +34,14 @@ fn kind_name(form: &Form) -> &'static str
 }
 
 /// Puts what a node says of its count after a text, if it has one.
-fn put_count(alloc: Global, text: &mut String, form: &Form, count: u32) -> Result<(), AllocError>
+fn put_count(alloc: Global, text: &mut String, form: &Form, count: u32) -> Result<(), NoMemory>
     ensures { OnOk result (string_bytes text.new ≡ string_bytes text.old ++ count_words form.now count) }
 {
     match form {
         Form::Farm { .. } | Form::Map { .. } | Form::Reduce { .. } => {
             let words = format!(in alloc; " count {count}")?;
-            text.push_str(words.as_str())
+            text.push_str(words.as_str())?;
+            Ok(())
         }
         Form::Seq | Form::Comp | Form::Pipe | Form::Loop { .. } => Ok(()),
     }
@@ -55,7 +56,7 @@ fn put_node(
     counts: &Counts,
     number: u32,
     node: &Node,
-) -> Result<(), AllocError>
+) -> Result<(), NoMemory>
     requires tree { IsLawfulTree tree.now }
     requires costs { AreCostsOf tree.now costs.now }
     requires counts { HasLawfulCounts tree.now counts.now.list }
@@ -70,7 +71,8 @@ fn put_node(
     let words = format!(in alloc; "{number} {kind} {name} procs {used} service {time}")?;
     text.push_str(words.as_str())?;
     put_count(alloc, text, &node.form, workers(tree, counts, number))?;
-    text.push('\n')
+    text.push('\n')?;
+    Ok(())
 }
 
 /// The name of the module of a number, and none where there are not so many.
@@ -93,7 +95,7 @@ fn put_nodes(
     counts: &Counts,
     levels: u32,
     number: u32,
-) -> Result<(), AllocError>
+) -> Result<(), NoMemory>
     requires tree { IsLawfulTree tree.now }
     requires costs { AreCostsOf tree.now costs.now }
     requires counts { HasLawfulCounts tree.now counts.now.list }

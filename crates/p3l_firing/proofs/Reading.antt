@@ -20,7 +20,7 @@ room-same net s t c e = ap (λ ts. nat_lt (length ts) (chan_at net c).cap) e
 pub some_same : {A : Type 0} (x y : A) → Some x ≡ Some y → x ≡ y
 some_same x y e = cc
 
--- the rest of the items is put after, in either case
+-- the rest of the items is put after them in either case
 pub with_rest-cond : (b : Bool) (x y : State) (rest : List (List ℤ)) → cond b (with_rest x rest) (with_rest y rest) ≡ with_rest (cond b x y) rest
 with_rest-cond true x y rest = refl
 with_rest-cond false x y rest = refl

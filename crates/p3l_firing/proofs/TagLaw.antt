@@ -20,7 +20,7 @@ unfolding first_tag
 first-none [] h = refl
 first-none (x ∷ xs) h = absurd (omega (arith, h))
 
--- the tag after the newest
+-- the second newest tag
 second_is : (tags : List ℕ) → first_tag (later_tags tags) ≡ get_or tags 1 0
 unfolding first_tag later_tags
 second_is [] = refl

@@ -47,7 +47,7 @@ newest_tag token = first_tag token.tags
 abbrev pub peeled : Token → Token
 peeled token = record { tags = later_tags token.tags; body = token.body }
 
--- the tag after the newest: in a loop the number of a token
+-- the second newest tag: in a loop the number of a token
 abbrev pub second_tag : Token → ℕ
 second_tag token = newest_tag (peeled token)
 

@@ -65,7 +65,7 @@ impl Tags {
         }
     }
 
-    /// The tag after the newest, 0 if there is none.
+    /// The second newest tag, 0 if there is none.
     pub fn second(&self) -> u64
         ensures { result ≡ first_tag (later_tags self.now) }
     {

@@ -58,7 +58,7 @@ impl Token {
         self.tags.newest()
     }
 
-    /// The tag after the newest, 0 if there is none.
+    /// The second newest tag, 0 if there is none.
     pub fn second_tag(&self) -> u64
         ensures { result ≡ second_tag self.now }
     {

@@ -4,7 +4,7 @@ ghost use Rattle.std.specs.Prelude.{◌≡◌, ◌+◌, ◌≤◌, ◌<◌, ◌^
 ghost use Rattle.p3l_gen.specs.Texts.{costs_text, factor_of, line_text, program_head, program_tail, program_text, stream_text, word_text};
 
 use p3l_base::{List, NoMemory};
-use std::alloc::{AllocError, Global};
+use std::alloc::Global;
 
 /// How many words an item has.
 const WORDS: u64 = 16;
@@ -58,7 +58,7 @@ fn costs_text(alloc: Global) -> Result<List<u8>, NoMemory>
 }
 
 /// Puts word `i` of a line after a text.
-fn put_word(alloc: Global, text: &mut String, first: u64, i: u64) -> Result<(), AllocError>
+fn put_word(alloc: Global, text: &mut String, first: u64, i: u64) -> Result<(), NoMemory>
     requires { first + i < 2 ^ 64 }
     ensures { OnOk result (string_bytes text.new ≡ string_bytes text.old ++ word_text first i) }
 {
@@ -67,18 +67,20 @@ fn put_word(alloc: Global, text: &mut String, first: u64, i: u64) -> Result<(), 
     }
     let word = first + i;
     let digits = format!(in alloc; "{word}")?;
-    text.push_str(digits.as_str())
+    text.push_str(digits.as_str())?;
+    Ok(())
 }
 
 /// Puts a line after a text, which begins with a number.
-fn put_line(alloc: Global, text: &mut String, first: u64) -> Result<(), AllocError>
+fn put_line(alloc: Global, text: &mut String, first: u64) -> Result<(), NoMemory>
     requires { first ≤ 2 ^ 63 }
     ensures { OnOk result (string_bytes text.new ≡ string_bytes text.old ++ line_text first) }
 {
     for i in 0..WORDS {
         put_word(alloc, text, first, i)?;
     }
-    text.push('\n')
+    text.push('\n')?;
+    Ok(())
 }
 
 /// The stream of a number with so many items.

@@ -19,10 +19,10 @@ use Rattle.p3l_lexer.specs.declared.mark.Mark.TheVariants as marks
 use Rattle.p3l_ast.specs.Notation.{level}
 use Rattle.p3l_grammar.specs.Symbol.{Symbol, sign, unary_mark, kind_mark}
 use Rattle.p3l_grammar.specs.Written as written
-use Rattle.p3l_grammar.specs.Written.{Formula, numeral, place, prefix, infix_, paren, Formulas, no_index, index, Script, stop, set, Head, Passage, fixed, bodied, chained, spread, turned, tight, IsGrouped, AreGrouped, IsScript, HasOne, IsHead, IsCall, AreCalls, IsChain, IsPassage, IsText, each, num_symbol, spell_call, spell, spell_index, spell_set, spell_script, spell_head, spell_clause, spell_local, spell_end, spell_passage, spell_text, tree, trees, script_tree, passage_tree, text_tree}
+use Rattle.p3l_grammar.specs.Written.{Formula, numeral, place, prefix, infix_, paren, Formulas, no_index, index, Script, stop, set, Signature, Passage, fixed, bodied, chained, spread, turned, tight, IsGrouped, AreGrouped, IsScript, HasOne, IsSignature, IsCall, AreCalls, IsChain, IsPassage, IsText, each, num_symbol, spell_call, spell, spell_index, spell_set, spell_script, spell_signature, spell_clause, spell_local, spell_end, spell_passage, spell_text, tree, trees, script_tree, passage_tree, text_tree}
 use Rattle.p3l_grammar.specs.Parser.{need, Parser, entries, await, any_num, clause, another_call, another_local, operand, another_index, value, another_stmt, maybe_else, Hole, whole, after_unary, after_binary, expression, call, block, setting_from, setting, end_of, otherwise, operand_step, infix_of, level_of, operator_step, step, value_step}
 use Rattle.p3l_grammar.proofs.Runs.{bind, run}
-use Rattle.p3l_grammar.proofs.Heads.{bodied_tree, chained_tree, spread_tree, turned_tree, bodied_from, chained_from, spread_from, turned_from, PassesLocal, locals_run, head_runs, call_from_runs, more_calls_run, num_runs}
+use Rattle.p3l_grammar.proofs.Signatures.{bodied_tree, chained_tree, spread_tree, turned_tree, bodied_from, chained_from, spread_from, turned_from, PassesLocal, locals_run, signature_runs, call_from_runs, more_calls_run, num_runs}
 
 pub level_small : (o : BinOp) → level o ≤ 9
 level_small ops.Or = omega arith
@@ -197,11 +197,11 @@ tokens_run : (w : Option Num) (go : Option Num → Parser) (c : Call) (r : List 
 tokens_run None go c r = refl
 tokens_run (Some n) go c r = num_runs n (λ m. go (Some m)) (spell_call c r)
 
-chained_runs : (k : Kind) (h : Head) (cs : List Call) (go : EntryTree → Parser) (r : List Symbol) → IsChain k → IsHead h → HasOne cs → AreCalls cs → run (chained_from k go) (spell_head h (each spell_call cs (spell_end k r))) ≡ run (end_of k (go (chained_tree k h cs))) (spell_end k r)
+chained_runs : (k : Kind) (h : Signature) (cs : List Call) (go : EntryTree → Parser) (r : List Symbol) → IsChain k → IsSignature h → HasOne cs → AreCalls cs → run (chained_from k go) (spell_signature h (each spell_call cs (spell_end k r))) ≡ run (end_of k (go (chained_tree k h cs))) (spell_end k r)
 chained_runs k h [] go r i j l m = absurd l
 chained_runs k h (c ∷ cs) go r i j l m =
-    let after = λ (h' : Head) (ds : List Call). end_of k (go (chained_tree k h' ds)) in
-    head_runs h (λ h'. call (λ d. another_call (d ∷ []) (after h'))) (each spell_call (c ∷ cs) (spell_end k r)) j
+    let after = λ (h' : Signature) (ds : List Call). end_of k (go (chained_tree k h' ds)) in
+    signature_runs h (λ h'. call (λ d. another_call (d ∷ []) (after h'))) (each spell_call (c ∷ cs) (spell_end k r)) j
     ∙ call_from_runs c (λ d. another_call (d ∷ []) (after h)) (each spell_call cs (spell_end k r)) m.0
     ∙ more_calls_run cs (c ∷ []) (after h) marks.End (sign (kind_mark k) ∷ r) m.1
 
@@ -214,31 +214,31 @@ kind_ends kinds.Map s r = refl
 kind_ends kinds.Reduce s r = refl
 kind_ends kinds.Loop s r = refl
 
-spread_runs : (k : Kind) (h : Head) (w : Option Num) (c : Call) (go : EntryTree → Parser) (r : List Symbol) → IsHead h → IsCall c → run (spread_from k go) (spell_head h (spell_clause marks.Workers w (spell_call c (spell_end k r)))) ≡ run (go (spread_tree k h w c)) r
+spread_runs : (k : Kind) (h : Signature) (w : Option Num) (c : Call) (go : EntryTree → Parser) (r : List Symbol) → IsSignature h → IsCall c → run (spread_from k go) (spell_signature h (spell_clause marks.Workers w (spell_call c (spell_end k r)))) ≡ run (go (spread_tree k h w c)) r
 spread_runs k h w c go r i j =
-    let last = λ (h' : Head) (w' : Option Num) (d : Call). end_of k (go (spread_tree k h' w' d)) in
-    head_runs h (λ h'. clause marks.Workers (λ w'. call (last h' w'))) (spell_clause marks.Workers w (spell_call c (spell_end k r))) i
+    let last = λ (h' : Signature) (w' : Option Num) (d : Call). end_of k (go (spread_tree k h' w' d)) in
+    signature_runs h (λ h'. clause marks.Workers (λ w'. call (last h' w'))) (spell_clause marks.Workers w (spell_call c (spell_end k r))) i
     ∙ workers_run w (λ w'. call (last h w')) c (spell_end k r)
     ∙ call_from_runs c (last h w) (spell_end k r) j
     ∙ kind_ends k (go (spread_tree k h w c)) r
 
-turned_runs : (h : Head) (t : Num) (n : Option Num) (b c : Call) (go : EntryTree → Parser) (r : List Symbol) → IsHead h → IsCall b → IsCall c → run (turned_from go) (spell_head h (sign marks.Turns ∷ num_symbol t ∷ spell_clause marks.Tokens n (spell_call b (sign marks.While ∷ spell_call c (spell_end kinds.Loop r))))) ≡ run (go (turned_tree h t n b c)) r
+turned_runs : (h : Signature) (t : Num) (n : Option Num) (b c : Call) (go : EntryTree → Parser) (r : List Symbol) → IsSignature h → IsCall b → IsCall c → run (turned_from go) (spell_signature h (sign marks.Turns ∷ num_symbol t ∷ spell_clause marks.Tokens n (spell_call b (sign marks.While ∷ spell_call c (spell_end kinds.Loop r))))) ≡ run (go (turned_tree h t n b c)) r
 turned_runs h t n b c go r i j l =
-    let last = λ (h' : Head) (t' : Num) (n' : Option Num) (b' c' : Call). end_of kinds.Loop (go (turned_tree h' t' n' b' c')) in
-    let bodies = λ (h' : Head) (t' : Num) (n' : Option Num). call (λ b'. await marks.While (call (last h' t' n' b'))) in
+    let last = λ (h' : Signature) (t' : Num) (n' : Option Num) (b' c' : Call). end_of kinds.Loop (go (turned_tree h' t' n' b' c')) in
+    let bodies = λ (h' : Signature) (t' : Num) (n' : Option Num). call (λ b'. await marks.While (call (last h' t' n' b'))) in
     let rest = spell_call b (sign marks.While ∷ spell_call c (spell_end kinds.Loop r)) in
-    head_runs h (λ h'. await marks.Turns (any_num (λ t'. clause marks.Tokens (bodies h' t')))) (sign marks.Turns ∷ num_symbol t ∷ spell_clause marks.Tokens n rest) i
+    signature_runs h (λ h'. await marks.Turns (any_num (λ t'. clause marks.Tokens (bodies h' t')))) (sign marks.Turns ∷ num_symbol t ∷ spell_clause marks.Tokens n rest) i
     ∙ num_runs t (λ t'. clause marks.Tokens (bodies h t')) (spell_clause marks.Tokens n rest)
     ∙ tokens_run n (bodies h t) b (sign marks.While ∷ spell_call c (spell_end kinds.Loop r))
     ∙ call_from_runs b (λ b'. await marks.While (call (last h t n b'))) (sign marks.While ∷ spell_call c (spell_end kinds.Loop r)) j
     ∙ call_from_runs c (last h t n b) (spell_end kinds.Loop r) l
 
-bodied_runs : (h : Head) (b : Option Num) (ls : List Port) (c : Script) (go : EntryTree → Parser) (r : List Symbol) → IsHead h → IsScript c → run (bodied_from go) (spell_head h (spell_clause marks.Budget b (sign marks.OpenBody ∷ each spell_local ls (spell_script c (sign marks.CloseBody ∷ spell_end kinds.Seq r))))) ≡ run (go (bodied_tree h b ls (script_tree c))) r
+bodied_runs : (h : Signature) (b : Option Num) (ls : List Port) (c : Script) (go : EntryTree → Parser) (r : List Symbol) → IsSignature h → IsScript c → run (bodied_from go) (spell_signature h (spell_clause marks.Budget b (sign marks.OpenBody ∷ each spell_local ls (spell_script c (sign marks.CloseBody ∷ spell_end kinds.Seq r))))) ≡ run (go (bodied_tree h b ls (script_tree c))) r
 bodied_runs h b ls c go r i j =
-    let last = λ (h' : Head) (b' : Option Num) (ls' : List Port) (c' : Statements). await marks.CloseBody (end_of kinds.Seq (go (bodied_tree h' b' ls' c'))) in
-    let inside = λ (h' : Head) (b' : Option Num). another_local [] (λ ls'. another_stmt done (last h' b' ls')) in
+    let last = λ (h' : Signature) (b' : Option Num) (ls' : List Port) (c' : Statements). await marks.CloseBody (end_of kinds.Seq (go (bodied_tree h' b' ls' c'))) in
+    let inside = λ (h' : Signature) (b' : Option Num). another_local [] (λ ls'. another_stmt done (last h' b' ls')) in
     let rest = spell_script c (sign marks.CloseBody ∷ spell_end kinds.Seq r) in
-    head_runs h (λ h'. clause marks.Budget (λ b'. await marks.OpenBody (inside h' b'))) (spell_clause marks.Budget b (sign marks.OpenBody ∷ each spell_local ls rest)) i
+    signature_runs h (λ h'. clause marks.Budget (λ b'. await marks.OpenBody (inside h' b'))) (spell_clause marks.Budget b (sign marks.OpenBody ∷ each spell_local ls rest)) i
     ∙ budget_runs b (λ b'. await marks.OpenBody (inside h b')) (each spell_local ls rest)
     ∙ locals_run ls [] (λ ls'. another_stmt done (last h b ls')) rest (script_no_local c (spell_end kinds.Seq r))
     ∙ script_runs c done (last h b ls) (sign marks.CloseBody ∷ spell_end kinds.Seq r) j (λ d go'. refl) (λ d t e go'. refl)

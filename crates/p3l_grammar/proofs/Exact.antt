@@ -197,7 +197,7 @@ Stopped s [] = (es : List EntryTree) → s ≡ entries es → ⊥
 Stopped s (t ∷ ts) = step s (symbol t) ≡ None
 
 -- the parser stops here
-record Stop (s : Parser) (ts : List Token) (left : ℕ) : Type 0 where
+record StopsAt (s : Parser) (ts : List Token) (left : ℕ) : Type 0 where
   before : List Token
   after : List Token
   state : Parser
@@ -206,12 +206,12 @@ record Stop (s : Parser) (ts : List Token) (left : ℕ) : Type 0 where
   runs : run s (symbols before) ≡ Some state
   stopped : Stopped state after
 
-stops_at : (ts : List Token) (s : Parser) (left : ℕ) → all s ts ≡ Err left → Stop s ts left
+stops_at : (ts : List Token) (s : Parser) (left : ℕ) → all s ts ≡ Err left → StopsAt s ts left
 stops_at [] s left h =
     record { before = []; after = []; state = s; whole = refl; left_is = finish_left s left h; runs = refl; stopped = λ es e. (let p = ap finish e in cc) }
 stops_at (t ∷ ts) s left h = at (step s (symbol t)) refl (stops_at ts) h
   where
-    at : (o : Option Parser) → step s (symbol t) ≡ o → ((s' : Parser) (left : ℕ) → all s' ts ≡ Err left → Stop s' ts left) → next o (suc (length ts)) (λ s'. all s' ts) ≡ Err left → Stop s (t ∷ ts) left
+    at : (o : Option Parser) → step s (symbol t) ≡ o → ((s' : Parser) (left : ℕ) → all s' ts ≡ Err left → StopsAt s' ts left) → next o (suc (length ts)) (λ s'. all s' ts) ≡ Err left → StopsAt s (t ∷ ts) left
     at None p ih h = record { before = []; after = t ∷ ts; state = s; whole = refl; left_is = cc; runs = refl; stopped = p }
     at (Some s') p ih h =
         let r = ih s' left h in

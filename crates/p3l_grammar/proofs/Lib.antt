@@ -1,5 +1,5 @@
 pub mod Runs
-pub mod Heads
+pub mod Signatures
 pub mod Complete
 pub mod Sound
 pub mod Exact

@@ -24,7 +24,7 @@ use Rattle.p3l_lexer.specs.declared.mark.Mark.TheVariants as marks
 use Rattle.p3l_ast.specs.Notation.{level}
 use Rattle.p3l_grammar.specs.Symbol.{Symbol, word, digits, sign, faulty, unary_mark, kind_mark}
 use Rattle.p3l_grammar.specs.Written as written
-use Rattle.p3l_grammar.specs.Written.{Formula, numeral, place, prefix, infix_, paren, Formulas, no_index, index, Script, stop, set, Head, Passage, fixed, bodied, chained, spread, turned, tight, IsGrouped, AreGrouped, IsScript, HasOne, IsHead, IsCall, AreCalls, IsChain, IsSpread, IsPassage, IsText, each, after_comma, separated, num_symbol, spell_size, spell_port, in_brackets, spell_sub, spell_arg, spell_out, spell_call, spell, spell_index, spell_script, spell_head, spell_clause, spell_local, spell_passage, spell_text, tree, trees, script_tree, passage_tree, text_tree}
+use Rattle.p3l_grammar.specs.Written.{Formula, numeral, place, prefix, infix_, paren, Formulas, no_index, index, Script, stop, set, Signature, Passage, fixed, bodied, chained, spread, turned, tight, IsGrouped, AreGrouped, IsScript, HasOne, IsSignature, IsCall, AreCalls, IsChain, IsSpread, IsPassage, IsText, each, after_comma, separated, num_symbol, spell_size, spell_port, in_brackets, spell_sub, spell_arg, spell_out, spell_call, spell, spell_index, spell_script, spell_signature, spell_clause, spell_local, spell_passage, spell_text, tree, trees, script_tree, passage_tree, text_tree}
 use Rattle.p3l_grammar.specs.Parser.{need, Parser, entries, await, any_word, any_digits, any_num, clause, another_size, any_sub, another_sub, another_port, another_arg, any_out, another_out, another_call, another_local, operand, another_index, value, another_stmt, maybe_else, Hole, whole, after_unary, after_binary, ports, args, out_args, call_from, call, head, end_of, otherwise, same_mark, entries_step, await_step, clause_step, size_step, sub_step, subs_step, port_step, arg_step, any_out_step, out_step, call_step, local_step, operand_step, index_step, infix_of, level_of, operator_step, stmt_step, else_step, step, value_step}
 use Rattle.p3l_grammar.proofs.Runs.{bind, run}
 use Rattle.std.proofs.lemmas.Slice.Eq.{bytes_eq-Decides}
@@ -34,7 +34,7 @@ use Rattle.p3l_lexer.specs.Mark.{mark_text}
 use Rattle.p3l_lexer.specs.Piece.{piece_of}
 use Rattle.p3l_lexer.proofs.Spelling.{piece_of-mark}
 use Rattle.p3l_grammar.specs.Grammar.{Derives}
-use Rattle.p3l_grammar.proofs.Heads.{bodied_tree, chained_tree, spread_tree, turned_tree, bodied_from, chained_from, spread_from, turned_from}
+use Rattle.p3l_grammar.proofs.Signatures.{bodied_tree, chained_tree, spread_tree, turned_tree, bodied_from, chained_from, spread_from, turned_from}
 use Rattle.p3l_grammar.proofs.Complete.{level_small, adds, adds_none, adds_snoc}
 
 -- After the symbols that f puts before its argument the parser is in this state. Whatever may come next,
@@ -152,8 +152,8 @@ call_from_read x go f h =
 call_read : (go : Call → Parser) (f : List Symbol → List Symbol) → ((c : Call) → IsCall c → IsRead (go c) (λ r. f (spell_call c r))) → IsRead (call go) f
 call_read go f h = λ x. call_from_read x go (λ r. f (word x ∷ r)) (λ is os i j. h (record { at = x; ins = is; outs = os }) (i, j))
 
-head_read : (go : Head → Parser) (f : List Symbol → List Symbol) → ((h : Head) → IsHead h → IsRead (go h) (λ r. f (spell_head h r))) → IsRead (head go) f
-head_read go f h =
+signature_read : (go : Signature → Parser) (f : List Symbol → List Symbol) → ((h : Signature) → IsSignature h → IsRead (go h) (λ r. f (spell_signature h r))) → IsRead (head go) f
+signature_read go f h =
     λ x. ports_read (λ is. await marks.Out (ports (λ os. go (record { at = x; ins = is; outs = os })))) (λ r. f (word x ∷ sign marks.In ∷ r))
     (λ is i. ports_read (λ os. go (record { at = x; ins = is; outs = os })) (λ r. f (word x ∷ sign marks.In ∷ sign marks.OpenParen ∷ separated spell_port is (sign marks.CloseParen ∷ sign marks.Out ∷ r)))
     (λ os j. h (record { at = x; ins = is; outs = os }) (i, j)))
@@ -164,27 +164,27 @@ Goes go f = (i : Passage) → IsPassage i → IsRead (go (passage_tree i)) (λ r
 
 bodied_read : (go : EntryTree → Parser) (f : List Symbol → List Symbol) → Goes go f → IsRead (bodied_from go) (Then f (sign marks.Seq))
 bodied_read go f h =
-    head_read (λ h'. clause marks.Budget (λ b. await marks.OpenBody (another_local [] (λ ls. another_stmt done (λ c. await marks.CloseBody (end_of kinds.Seq (go (bodied_tree h' b ls c)))))))) (Then f (sign marks.Seq))
+    signature_read (λ h'. clause marks.Budget (λ b. await marks.OpenBody (another_local [] (λ ls. another_stmt done (λ c. await marks.CloseBody (end_of kinds.Seq (go (bodied_tree h' b ls c)))))))) (Then f (sign marks.Seq))
     (λ h' i b ls c j. h (bodied h' b ls c) (i, j))
 
 chained_read : (k : Kind) (go : EntryTree → Parser) (f : List Symbol → List Symbol) → IsChain k → Goes go f → IsRead (chained_from k go) (Then f (sign (kind_mark k)))
 chained_read k go f c h =
-    head_read (λ h'. call (λ d. another_call (d ∷ []) (λ cs. end_of k (go (chained_tree k h' cs))))) (Then f (sign (kind_mark k)))
-    (λ h' i. call_read (λ d. another_call (d ∷ []) (λ cs. end_of k (go (chained_tree k h' cs)))) (λ r. f (sign (kind_mark k) ∷ spell_head h' r))
+    signature_read (λ h'. call (λ d. another_call (d ∷ []) (λ cs. end_of k (go (chained_tree k h' cs))))) (Then f (sign (kind_mark k)))
+    (λ h' i. call_read (λ d. another_call (d ∷ []) (λ cs. end_of k (go (chained_tree k h' cs)))) (λ r. f (sign (kind_mark k) ∷ spell_signature h' r))
     (λ d j ds l. h (chained k h' (d ∷ ds)) (c, i, tt, (j, l))))
 
 spread_read : (k : Kind) (go : EntryTree → Parser) (f : List Symbol → List Symbol) → IsSpread k → Goes go f → IsRead (spread_from k go) (Then f (sign (kind_mark k)))
 spread_read k go f s h =
-    head_read (λ h'. clause marks.Workers (λ w. call (λ c. end_of k (go (spread_tree k h' w c))))) (Then f (sign (kind_mark k)))
-    (λ h' i w. call_read (λ c. end_of k (go (spread_tree k h' w c))) (λ r. f (sign (kind_mark k) ∷ spell_head h' (spell_clause marks.Workers w r)))
+    signature_read (λ h'. clause marks.Workers (λ w. call (λ c. end_of k (go (spread_tree k h' w c))))) (Then f (sign (kind_mark k)))
+    (λ h' i w. call_read (λ c. end_of k (go (spread_tree k h' w c))) (λ r. f (sign (kind_mark k) ∷ spell_signature h' (spell_clause marks.Workers w r)))
     (λ c j. h (spread k h' w c) (s, i, j)))
 
 turned_read : (go : EntryTree → Parser) (f : List Symbol → List Symbol) → Goes go f → IsRead (turned_from go) (Then f (sign marks.Loop))
 turned_read go f h =
-    head_read (λ h'. await marks.Turns (any_num (λ t. clause marks.Tokens (λ n. call (λ b. await marks.While (call (λ c. end_of kinds.Loop (go (turned_tree h' t n b c)))))))))
+    signature_read (λ h'. await marks.Turns (any_num (λ t. clause marks.Tokens (λ n. call (λ b. await marks.While (call (λ c. end_of kinds.Loop (go (turned_tree h' t n b c)))))))))
     (Then f (sign marks.Loop))
-    (λ h' i t n. call_read (λ b. await marks.While (call (λ c. end_of kinds.Loop (go (turned_tree h' t n b c))))) (λ r. f (sign marks.Loop ∷ spell_head h' (sign marks.Turns ∷ num_symbol t ∷ spell_clause marks.Tokens n r)))
-    (λ b j. call_read (λ c. end_of kinds.Loop (go (turned_tree h' t n b c))) (λ r. f (sign marks.Loop ∷ spell_head h' (sign marks.Turns ∷ num_symbol t ∷ spell_clause marks.Tokens n (spell_call b (sign marks.While ∷ r)))))
+    (λ h' i t n. call_read (λ b. await marks.While (call (λ c. end_of kinds.Loop (go (turned_tree h' t n b c))))) (λ r. f (sign marks.Loop ∷ spell_signature h' (sign marks.Turns ∷ num_symbol t ∷ spell_clause marks.Tokens n r)))
+    (λ b j. call_read (λ c. end_of kinds.Loop (go (turned_tree h' t n b c))) (λ r. f (sign marks.Loop ∷ spell_signature h' (sign marks.Turns ∷ num_symbol t ∷ spell_clause marks.Tokens n (spell_call b (sign marks.While ∷ r)))))
     (λ c l. h (turned h' t n b c) (i, j, l))))
 
 entries_read : (t : Symbol) (es : List EntryTree) (f : List Symbol → List Symbol) → IsRead (entries es) f → IfRead (entries_step t es) (Then f t)

@@ -25,7 +25,7 @@ use Rattle.p3l_lexer.specs.declared.token.Token.{Token}
 use Rattle.p3l_ast.specs.Notation.{level}
 use Rattle.p3l_lexer.specs.Mark.{mark_text}
 use Rattle.p3l_grammar.specs.Symbol.{symbol, Symbol, word, digits, sign, kind_mark}
-use Rattle.p3l_grammar.specs.Written.{Head, Filling, body_filling, chain_filling, spread_filling, turning_filling, module_of}
+use Rattle.p3l_grammar.specs.Written.{Signature, Filling, body_filling, chain_filling, spread_filling, turning_filling, module_of}
 
 mutual
   -- What comes next. `another` means: one more of these, or what stands after them.
@@ -119,14 +119,14 @@ call go = any_word (λ x. call_from x go)
 abbrev pub call_list : (List Call → Parser) → Parser
 call_list go = call (λ c. another_call (c ∷ []) go)
 
-abbrev pub head_outs : Spot → List Port → (Head → Parser) → Parser
-head_outs x is go = await marks.Out (ports (λ os. go (record { at = x; ins = is; outs = os })))
+abbrev pub signature_outs : Spot → List Port → (Signature → Parser) → Parser
+signature_outs x is go = await marks.Out (ports (λ os. go (record { at = x; ins = is; outs = os })))
 
-abbrev pub head_from : Spot → (Head → Parser) → Parser
-head_from x go = await marks.In (ports (λ is. head_outs x is go))
+abbrev pub signature_from : Spot → (Signature → Parser) → Parser
+signature_from x go = await marks.In (ports (λ is. signature_outs x is go))
 
-abbrev pub head : (Head → Parser) → Parser
-head go = any_word (λ x. head_from x go)
+abbrev pub head : (Signature → Parser) → Parser
+head go = any_word (λ x. signature_from x go)
 
 abbrev pub local_from : (Port → Parser) → Parser
 local_from go = port_from (λ p. await marks.Semicolon (go p))

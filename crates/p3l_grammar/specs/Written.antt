@@ -48,7 +48,7 @@ pub data Script : Type 0 where
   for_ : Spot → Formulas → Formula → Formula → Spot → Formulas → Formula → Script → Script → Script
 
 -- the name and the ports of a module
-pub record Head : Type 0 where
+pub record Signature : Type 0 where
   pub at : Spot
   pub ins : List Port
   pub outs : List Port
@@ -57,10 +57,10 @@ pub record Head : Type 0 where
 -- `comp`, a `farm`, `map` or `reduce` with its workers, or a `loop` with its turns, tokens, body and condition
 pub data Passage : Type 0 where
   fixed : Spot → ℤ → Pos → Passage
-  bodied : Head → Option Num → List Port → Script → Passage
-  chained : Kind → Head → List Call → Passage
-  spread : Kind → Head → Option Num → Call → Passage
-  turned : Head → Num → Option Num → Call → Call → Passage
+  bodied : Signature → Option Num → List Port → Script → Passage
+  chained : Kind → Signature → List Call → Passage
+  spread : Kind → Signature → Option Num → Call → Passage
+  turned : Signature → Num → Option Num → Call → Call → Passage
 
 -- Which of these are texts of the language.
 
@@ -99,8 +99,8 @@ abbrev pub HasOne : {A : Type 0} → List A → Type 0
 HasOne [] = ⊥
 HasOne (x ∷ xs) = Unit {0}
 
-abbrev pub IsHead : Head → Type 0
-IsHead h = HasOne h.ins × HasOne h.outs
+abbrev pub IsSignature : Signature → Type 0
+IsSignature h = HasOne h.ins × HasOne h.outs
 
 abbrev pub IsCall : Call → Type 0
 IsCall c = HasOne c.ins × HasOne c.outs
@@ -122,10 +122,10 @@ IsSpread _ = ⊥
 
 abbrev pub IsPassage : Passage → Type 0
 IsPassage (fixed x v p) = Unit {0}
-IsPassage (bodied h b ls c) = IsHead h × IsScript c
-IsPassage (chained k h cs) = IsChain k × IsHead h × HasOne cs × AreCalls cs
-IsPassage (spread k h w c) = IsSpread k × IsHead h × IsCall c
-IsPassage (turned h t n b c) = IsHead h × IsCall b × IsCall c
+IsPassage (bodied h b ls c) = IsSignature h × IsScript c
+IsPassage (chained k h cs) = IsChain k × IsSignature h × HasOne cs × AreCalls cs
+IsPassage (spread k h w c) = IsSpread k × IsSignature h × IsCall c
+IsPassage (turned h t n b c) = IsSignature h × IsCall b × IsCall c
 
 abbrev pub IsText : List Passage → Type 0
 IsText [] = Unit {0}
@@ -209,8 +209,8 @@ spell_script (for_ x is e w y js f b c) r =
     ∷ spell w (sign marks.Semicolon ∷ spell_set y js f (sign marks.CloseParen
     ∷ sign marks.OpenBrace ∷ spell_script b (sign marks.CloseBrace ∷ spell_script c r))))
 
-abbrev pub spell_head : Head → List Symbol → List Symbol
-spell_head h r =
+abbrev pub spell_signature : Signature → List Symbol → List Symbol
+spell_signature h r =
     word h.at ∷ sign marks.In ∷ sign marks.OpenParen ∷ separated spell_port h.ins (sign marks.CloseParen
     ∷ sign marks.Out ∷ sign marks.OpenParen ∷ separated spell_port h.outs (sign marks.CloseParen ∷ r))
 
@@ -228,12 +228,12 @@ spell_end k r = sign marks.End ∷ sign (kind_mark k) ∷ r
 abbrev pub spell_passage : Passage → List Symbol → List Symbol
 spell_passage (fixed x v p) r = sign marks.Const ∷ word x ∷ sign marks.Assign ∷ digits v p ∷ sign marks.Semicolon ∷ r
 spell_passage (bodied h b ls c) r =
-    sign marks.Seq ∷ spell_head h (spell_clause marks.Budget b (sign marks.OpenBody
+    sign marks.Seq ∷ spell_signature h (spell_clause marks.Budget b (sign marks.OpenBody
     ∷ each spell_local ls (spell_script c (sign marks.CloseBody ∷ spell_end Seq r))))
-spell_passage (chained k h cs) r = sign (kind_mark k) ∷ spell_head h (each spell_call cs (spell_end k r))
-spell_passage (spread k h w c) r = sign (kind_mark k) ∷ spell_head h (spell_clause marks.Workers w (spell_call c (spell_end k r)))
+spell_passage (chained k h cs) r = sign (kind_mark k) ∷ spell_signature h (each spell_call cs (spell_end k r))
+spell_passage (spread k h w c) r = sign (kind_mark k) ∷ spell_signature h (spell_clause marks.Workers w (spell_call c (spell_end k r)))
 spell_passage (turned h t n b c) r =
-    sign marks.Loop ∷ spell_head h (sign marks.Turns ∷ num_symbol t ∷ spell_clause marks.Tokens n (spell_call b (sign marks.While
+    sign marks.Loop ∷ spell_signature h (sign marks.Turns ∷ num_symbol t ∷ spell_clause marks.Tokens n (spell_call b (sign marks.While
     ∷ spell_call c (spell_end Loop r))))
 
 abbrev pub spell_text : List Passage → List Symbol → List Symbol
@@ -285,7 +285,7 @@ spread_filling w c = record {
 abbrev pub turning_filling : Num → Option Num → InsideTree → Filling
 turning_filling t n i = record { clauses = record { workers = None; turns = Some t; tokens = n; budget = None }; inside = i }
 
-abbrev pub module_of : Kind → Head → Filling → EntryTree
+abbrev pub module_of : Kind → Signature → Filling → EntryTree
 module_of k h f =
     defined (record { kind = k; at = h.at; ins = h.ins; outs = h.outs; clauses = f.clauses; inside = f.inside })
 

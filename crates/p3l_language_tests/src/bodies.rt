@@ -1,6 +1,6 @@
 // Small bodies whose ends are known by hand.
 
-use p3l_ast::meaning::{Binding, State, Stop, has_sizes, run_statements};
+use p3l_ast::meaning::{Binding, Stop, Valuation, has_sizes, run_statements};
 use p3l_ast::{BinOp, Expr, Pos, Spot, Stmt, Target};
 use p3l_base::{List, Name, NoMemory, TrapKind, Words};
 use std::alloc::Global;
@@ -9,7 +9,7 @@ use std::test::*;
 /// What a body comes to: its `s` and how many turns its loops began, or the trap.
 type End = Result<(i64, u32), TrapKind>;
 
-/// Makes statements and the states that they start in.
+/// Makes statements and the valuations that they start in.
 #[derive(Clone, Copy)]
 struct Maker {
     alloc: Global,
@@ -80,13 +80,13 @@ impl Maker {
     }
 
     /// The scalars i, j and s, which are 0, and a[4], which is 1, 2, 3, 4.
-    fn start(&self) -> Result<State, NoMemory> {
+    fn start(&self) -> Result<Valuation, NoMemory> {
         let mut bindings = List::new(self.alloc);
         for name in ["i", "j", "s"] {
             bindings.push(self.binding(name, &[], &[0])?)?;
         }
         bindings.push(self.binding("a", &[4], &[1, 2, 3, 4])?)?;
-        Ok(State { bindings, turns: 0 })
+        Ok(Valuation { bindings, turns: 0 })
     }
 
     /// while (i < 10) { i = i + 1; s = s + i; }
@@ -148,13 +148,13 @@ impl Maker {
 
     /// Whether statements come to this end within a budget of turns.
     fn ends(&self, stmts: &[Stmt], budget: u32, end: End) -> Result<bool, NoMemory> {
-        let state = self.start()?;
-        if !has_sizes(&state) {
+        let valuation = self.start()?;
+        if !has_sizes(&valuation) {
             return Ok(false);
         }
         let name = Name::from_text(self.alloc, "s")?;
-        match run_statements(self.alloc, budget, stmts, state) {
-            Ok(state) => Ok(end == Ok((state.word(&name, 0), state.turns))),
+        match run_statements(self.alloc, budget, stmts, valuation) {
+            Ok(valuation) => Ok(end == Ok((valuation.word(&name, 0), valuation.turns))),
             Err(Stop::Trapped(trap)) => Ok(end == Err(trap)),
             Err(Stop::NoMemory) => Err(NoMemory),
         }
@@ -207,12 +207,12 @@ fn bodies_end_as_known(rt: HostRuntime) -> Result<(), Fail> {
 fn an_array_is_reversed(rt: HostRuntime) -> Result<(), Fail> {
     let maker = Maker { alloc: rt.alloc() };
     let reverse = vec![in rt.alloc(); maker.count("i", 2, maker.swap()?)?]?;
-    let state = maker.start()?;
-    assert!(rt; has_sizes(&state));
+    let valuation = maker.start()?;
+    assert!(rt; has_sizes(&valuation));
     let name = Name::from_text(rt.alloc(), "a")?;
-    match run_statements(rt.alloc(), 2, &reverse, state) {
-        Ok(state) => {
-            let words = [0, 1, 2, 3].map(|place| state.word(&name, place));
+    match run_statements(rt.alloc(), 2, &reverse, valuation) {
+        Ok(valuation) => {
+            let words = [0, 1, 2, 3].map(|place| valuation.word(&name, place));
             assert!(rt; words == [4, 3, 2, 1]);
         }
         Err(stop) => panic!(rt; "{stop:?}"),

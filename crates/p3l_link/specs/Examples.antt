@@ -26,8 +26,8 @@ farm_tree = record {
   modules = [];
 }
 
--- channel 2 lies between the two stages; the five workers have channels 3 to 7 before them and 8 to
--- 12 after
+-- channel 2 lies between the two stages; the five workers read channels 3 to 7 and write channels
+-- 8 to 12
 abbrev pub farm_net : Net
 farm_net = record {
   procs = record { kind = Source; node = 0; arg = 0; ins = []; outs = 0 ∷ [] }

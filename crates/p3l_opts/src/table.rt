@@ -5,7 +5,8 @@ ghost use Rattle.clap.specs.Words.{app_of, new_app, rule_of};
 ghost use Rattle.p3l_opts.specs.Table.{app_with, rule_for};
 
 use clap::{Arg, ArgAction, Command};
-use std::alloc::{AllocError, Global};
+use p3l_base::NoMemory;
+use std::alloc::Global;
 
 /// How a word of a command is spelled, and whether it has to be there.
 #[derive(Clone, Copy)]
@@ -39,7 +40,7 @@ pub(crate) fn command_with<'a>(
     alloc: Global,
     name: &'a str,
     words: &[(&'a str, Spelling)],
-) -> Result<Command<'a>, AllocError>
+) -> Result<Command<'a>, NoMemory>
     ensures { IfOk result (λ c. app_of c ≡ app_with (new_app name.entry.now) words.now) }
 {
     let mut command = Command::new(alloc, name);

@@ -6,7 +6,8 @@ ghost use Rattle.p3l_opts.specs.Verb.{app_for, name_of};
 
 use crate::table::{Spelling, command_with};
 use clap::Command;
-use std::alloc::{AllocError, Global};
+use p3l_base::NoMemory;
+use std::alloc::Global;
 
 /// What a command does, as its first word says.
 #[derive(Clone, Copy, Debug, Drop, PartialEq, Eq)]
@@ -65,7 +66,7 @@ pub fn verb_of(word: &str) -> Option<Verb>
 }
 
 /// The command of `clap` that reads the words of a verb.
-pub(crate) fn clap_command<'a>(alloc: Global, verb: Verb) -> Result<Command<'a>, AllocError>
+pub(crate) fn clap_command<'a>(alloc: Global, verb: Verb) -> Result<Command<'a>, NoMemory>
     ensures { IfOk result (λ command. app_of command ≡ app_for verb) }
 {
     match verb {

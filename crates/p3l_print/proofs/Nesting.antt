@@ -24,7 +24,7 @@ use Rattle.p3l_ast.specs.Notation.{level}
 use Rattle.p3l_grammar.specs.Symbol.{Symbol, word, digits, sign, unary_mark, kind_mark}
 use Rattle.p3l_grammar.specs.declared.nest.Nest.{Nest}
 use Rattle.p3l_grammar.specs.Limits.{at_rest, at_statement, after_symbol, IsKept, IsWithin}
-use Rattle.p3l_grammar.specs.Written.{Formula, numeral, place, prefix, infix_, paren, Formulas, no_index, index, Script, stop, set, if_, if_else, while_, for_, Head, Passage, fixed, bodied, chained, spread, turned, tight, IsGrouped, AreGrouped, IsScript, IsPassage, IsText, each, after_comma, separated, num_symbol, spell_size, spell_port, spell_sub, spell_arg, spell_out, spell_call, spell, spell_index, spell_set, spell_script, spell_head, spell_clause, spell_local, spell_end, spell_passage, spell_text}
+use Rattle.p3l_grammar.specs.Written.{Formula, numeral, place, prefix, infix_, paren, Formulas, no_index, index, Script, stop, set, if_, if_else, while_, for_, Signature, Passage, fixed, bodied, chained, spread, turned, tight, IsGrouped, AreGrouped, IsScript, IsPassage, IsText, each, after_comma, separated, num_symbol, spell_size, spell_port, spell_sub, spell_arg, spell_out, spell_call, spell, spell_index, spell_set, spell_script, spell_signature, spell_clause, spell_local, spell_end, spell_passage, spell_text}
 use Rattle.p3l_grammar.proofs.Complete.{le_true}
 use Rattle.p3l_print.proofs.Canonical.{around, canonical_formula, canonical_formulas, canonical_script, canonical_passage, canonical_passages}
 
@@ -538,8 +538,8 @@ rest_sides f g k l x is os =
 rest_call : (c : Call) → IsSteady at_rest (spell_call c)
 rest_call c = rest_sides spell_arg spell_out rest_arg rest_out c.at c.ins c.outs
 
-rest_head : (h : Head) → IsSteady at_rest (spell_head h)
-rest_head h = rest_sides spell_port spell_port rest_port rest_port h.at h.ins h.outs
+rest_signature : (h : Signature) → IsSteady at_rest (spell_signature h)
+rest_signature h = rest_sides spell_port spell_port rest_port rest_port h.at h.ins h.outs
 
 rest_clause : (m : Mark) (n : Option Num) → after_symbol at_rest (sign m) ≡ at_rest → IsSteady at_rest (spell_clause m n)
 rest_clause m None e = none_steady at_rest
@@ -579,10 +579,10 @@ rest_end : (k : Kind) → IsSteady at_rest (spell_end k)
 rest_end k = both_steady at_rest (λ r. sign marks.End ∷ r) (λ r. sign (kind_mark k) ∷ r) (at_rest_sign marks.End refl) (rest_kind k)
 
 -- what stands before the body of a `seq`
-before_body_rests : (h : Head) (b : Option Num) → IsSteady at_rest (λ r. sign marks.Seq ∷ spell_head h (spell_clause marks.Budget b r))
+before_body_rests : (h : Signature) (b : Option Num) → IsSteady at_rest (λ r. sign marks.Seq ∷ spell_signature h (spell_clause marks.Budget b r))
 before_body_rests h b =
-    both_steady at_rest (λ r. sign marks.Seq ∷ r) (λ r. spell_head h (spell_clause marks.Budget b r)) (at_rest_sign marks.Seq refl)
-    (both_steady at_rest (spell_head h) (spell_clause marks.Budget b) (rest_head h) (rest_clause marks.Budget b refl))
+    both_steady at_rest (λ r. sign marks.Seq ∷ r) (λ r. spell_signature h (spell_clause marks.Budget b r)) (at_rest_sign marks.Seq refl)
+    (both_steady at_rest (spell_signature h) (spell_clause marks.Budget b) (rest_signature h) (rest_clause marks.Budget b refl))
 
 rest_fixed : (i : Spot) (t : Symbol) → after_symbol at_rest t ≡ at_rest → IsSteady at_rest (λ r. sign marks.Const ∷ word i ∷ sign marks.Assign ∷ t ∷ sign marks.Semicolon ∷ r)
 rest_fixed x t e =
@@ -591,20 +591,20 @@ rest_fixed x t e =
     (both_steady at_rest (λ r. sign marks.Assign ∷ r) (λ r. t ∷ sign marks.Semicolon ∷ r) (at_rest_sign marks.Assign refl)
     (both_steady at_rest (λ r. t ∷ r) (λ r. sign marks.Semicolon ∷ r) (one_steady at_rest t resting e) (at_rest_sign marks.Semicolon refl))))
 
-rest_chained : (k : Kind) (h : Head) (cs : List Call) → IsSteady at_rest (λ r. sign (kind_mark k) ∷ spell_head h (each spell_call cs (spell_end k r)))
+rest_chained : (k : Kind) (h : Signature) (cs : List Call) → IsSteady at_rest (λ r. sign (kind_mark k) ∷ spell_signature h (each spell_call cs (spell_end k r)))
 rest_chained k h cs =
-    both_steady at_rest (λ r. sign (kind_mark k) ∷ r) (λ r. spell_head h (each spell_call cs (spell_end k r))) (rest_kind k)
-    (both_steady at_rest (spell_head h) (λ r. each spell_call cs (spell_end k r)) (rest_head h)
+    both_steady at_rest (λ r. sign (kind_mark k) ∷ r) (λ r. spell_signature h (each spell_call cs (spell_end k r))) (rest_kind k)
+    (both_steady at_rest (spell_signature h) (λ r. each spell_call cs (spell_end k r)) (rest_signature h)
     (both_steady at_rest (each spell_call cs) (spell_end k) (each_steady at_rest spell_call rest_call cs) (rest_end k)))
 
-rest_spread : (k : Kind) (h : Head) (w : Option Num) (c : Call) → IsSteady at_rest (λ r. sign (kind_mark k) ∷ spell_head h (spell_clause marks.Workers w (spell_call c (spell_end k r))))
+rest_spread : (k : Kind) (h : Signature) (w : Option Num) (c : Call) → IsSteady at_rest (λ r. sign (kind_mark k) ∷ spell_signature h (spell_clause marks.Workers w (spell_call c (spell_end k r))))
 rest_spread k h w c =
-    both_steady at_rest (λ r. sign (kind_mark k) ∷ r) (λ r. spell_head h (spell_clause marks.Workers w (spell_call c (spell_end k r)))) (rest_kind k)
-    (both_steady at_rest (spell_head h) (λ r. spell_clause marks.Workers w (spell_call c (spell_end k r))) (rest_head h)
+    both_steady at_rest (λ r. sign (kind_mark k) ∷ r) (λ r. spell_signature h (spell_clause marks.Workers w (spell_call c (spell_end k r)))) (rest_kind k)
+    (both_steady at_rest (spell_signature h) (λ r. spell_clause marks.Workers w (spell_call c (spell_end k r))) (rest_signature h)
     (both_steady at_rest (spell_clause marks.Workers w) (λ r. spell_call c (spell_end k r)) (rest_clause marks.Workers w refl)
     (both_steady at_rest (spell_call c) (spell_end k) (rest_call c) (rest_end k))))
 
-rest_turned : (h : Head) (t : Num) (n : Option Num) (b c : Call) → IsSteady at_rest (spell_passage (turned h t n b c))
+rest_turned : (h : Signature) (t : Num) (n : Option Num) (b c : Call) → IsSteady at_rest (spell_passage (turned h t n b c))
 rest_turned h t n b c =
     let a1 = both_steady at_rest (spell_call c) (spell_end kinds.Loop) (rest_call c) (rest_end kinds.Loop) in
     let a2 = both_steady at_rest (λ r. sign marks.While ∷ r) (λ r. spell_call c (spell_end kinds.Loop r)) (at_rest_sign marks.While refl) a1 in
@@ -612,8 +612,8 @@ rest_turned h t n b c =
     let a4 = both_steady at_rest (spell_clause marks.Tokens n) (λ r. spell_call b (sign marks.While ∷ spell_call c (spell_end kinds.Loop r))) (rest_clause marks.Tokens n refl) a3 in
     let a5 = both_steady at_rest (λ r. num_symbol t ∷ r) (λ r. spell_clause marks.Tokens n (spell_call b (sign marks.While ∷ spell_call c (spell_end kinds.Loop r)))) (rest_num t) a4 in
     let a6 = both_steady at_rest (λ r. sign marks.Turns ∷ r) (λ r. num_symbol t ∷ spell_clause marks.Tokens n (spell_call b (sign marks.While ∷ spell_call c (spell_end kinds.Loop r)))) (at_rest_sign marks.Turns refl) a5 in
-    let a7 = both_steady at_rest (spell_head h) (λ r. sign marks.Turns ∷ num_symbol t ∷ spell_clause marks.Tokens n (spell_call b (sign marks.While ∷ spell_call c (spell_end kinds.Loop r)))) (rest_head h) a6 in
-    both_steady at_rest (λ r. sign marks.Loop ∷ r) (λ r. spell_head h (sign marks.Turns ∷ num_symbol t ∷ spell_clause marks.Tokens n (spell_call b (sign marks.While ∷ spell_call c (spell_end kinds.Loop r))))) (at_rest_sign marks.Loop refl) a7
+    let a7 = both_steady at_rest (spell_signature h) (λ r. sign marks.Turns ∷ num_symbol t ∷ spell_clause marks.Tokens n (spell_call b (sign marks.While ∷ spell_call c (spell_end kinds.Loop r)))) (rest_signature h) a6 in
+    both_steady at_rest (λ r. sign marks.Loop ∷ r) (λ r. spell_signature h (sign marks.Turns ∷ num_symbol t ∷ spell_clause marks.Tokens n (spell_call b (sign marks.While ∷ spell_call c (spell_end kinds.Loop r))))) (at_rest_sign marks.Loop refl) a7
 
 -- an entry passes no limit, and in its canonical form neither
 record PassageKeeps (i : Passage) (r : List Symbol) : Type 0 where
@@ -623,7 +623,7 @@ record PassageKeeps (i : Passage) (r : List Symbol) : Type 0 where
 steady_keeps : (i : Passage) (r : List Symbol) → IsSteady at_rest (spell_passage i) → canonical_passage i ≡ i → IsWithin at_rest (spell_passage i r) → PassageKeeps i r
 steady_keeps i r k same h = record { leaves = k.leaves r h; enters = λ s l. subst (λ j. IsWithin at_rest (spell_passage j s)) (sym same) (k.enters s l) }
 
-bodied_keeps : (g : Head) (b : Option Num) (ls : List Port) (c : Script) (r : List Symbol) → IsScript c → IsWithin at_rest (spell_passage (bodied g b ls c) r) → PassageKeeps (bodied g b ls c) r
+bodied_keeps : (g : Signature) (b : Option Num) (ls : List Port) (c : Script) (r : List Symbol) → IsScript c → IsWithin at_rest (spell_passage (bodied g b ls c) r) → PassageKeeps (bodied g b ls c) r
 bodied_keeps g b ls c r proper h =
     let inner = (before_body_rests g b).leaves (sign marks.OpenBody ∷ each spell_local ls (spell_script c (sign marks.CloseBody ∷ spell_end kinds.Seq r))) h in
     let statements = (each_steady (at_statement 0) spell_local local_steady ls).leaves (spell_script c (sign marks.CloseBody ∷ spell_end kinds.Seq r)) inner.1 in

@@ -24,7 +24,7 @@ use Rattle.p3l_lexer.specs.declared.mark.Mark.TheVariants as marks
 use Rattle.p3l_ast.specs.Notation.{level}
 use Rattle.p3l_grammar.specs.Symbol.{Symbol, word, digits, sign, faulty, unary_mark, kind_mark}
 use Rattle.p3l_grammar.specs.Grammar.{Derives}
-use Rattle.p3l_grammar.specs.Written.{Formula, numeral, place, prefix, infix_, paren, Formulas, no_index, index, Script, stop, set, if_, if_else, while_, for_, Head, Passage, fixed, bodied, chained, spread, turned, tight, IsGrouped, AreGrouped, IsScript, HasOne, IsHead, IsCall, AreCalls, IsPassage, IsText, each, after_comma, separated, num_symbol, spell_size, spell_port, spell_sub, spell_arg, spell_out, spell_call, spell, spell_index, spell_set, spell_script, spell_head, spell_clause, spell_local, spell_end, spell_passage, spell_text, tree, trees, script_tree, passage_tree, text_tree}
+use Rattle.p3l_grammar.specs.Written.{Formula, numeral, place, prefix, infix_, paren, Formulas, no_index, index, Script, stop, set, if_, if_else, while_, for_, Signature, Passage, fixed, bodied, chained, spread, turned, tight, IsGrouped, AreGrouped, IsScript, HasOne, IsSignature, IsCall, AreCalls, IsPassage, IsText, each, after_comma, separated, num_symbol, spell_size, spell_port, spell_sub, spell_arg, spell_out, spell_call, spell, spell_index, spell_set, spell_script, spell_signature, spell_clause, spell_local, spell_end, spell_passage, spell_text, tree, trees, script_tree, passage_tree, text_tree}
 
 -- symbols that are the same but for positions
 abbrev pub Same : Symbol → Symbol → Type 0
@@ -492,16 +492,16 @@ find_script (for_ x is e w y js u t c) r ts h =
 
 -- entries
 
-record HeadAlike (h g : Head) : Type 0 where
+record SignatureAlike (h g : Signature) : Type 0 where
   at : spot_unplaced g.at ≡ spot_unplaced h.at
   ins : map port_unplaced g.ins ≡ map port_unplaced h.ins
   outs : map port_unplaced g.outs ≡ map port_unplaced h.outs
 
-head_alike : (h g : Head) → HeadAlike h g → IsHead h → IsHead g
-head_alike h g a k = (one_alike port_unplaced g.ins h.ins a.ins k.0, one_alike port_unplaced g.outs h.outs a.outs k.1)
+signature_alike : (h g : Signature) → SignatureAlike h g → IsSignature h → IsSignature g
+signature_alike h g a k = (one_alike port_unplaced g.ins h.ins a.ins k.0, one_alike port_unplaced g.outs h.outs a.outs k.1)
 
-find_head : (g : Head) (r ts : List Symbol) → AreSame (spell_head g r) ts → Found (HeadAlike g) spell_head r ts
-find_head g r ts h =
+find_signature : (g : Signature) (r ts : List Symbol) → AreSame (spell_signature g r) ts → Found (SignatureAlike g) spell_signature r ts
+find_signature g r ts h =
     let s : Sides Port Port = record { ins = g.ins; outs = g.outs } in
     let a = find_word g.at (spell_sides spell_port spell_port s r) ts h in
     let b = find_sides spell_port port_unplaced spell_port port_unplaced find_port find_port s r a.rest a.left in record {
@@ -535,30 +535,30 @@ record PassageAlike (i j : Passage) : Type 0 where
   proper : IsPassage i → IsPassage j
   same : entry_unplaced (passage_tree j) ≡ entry_unplaced (passage_tree i)
 
-bodied_alike : (h g : Head) (b d : Option Num) (ls ms : List Port) (c k : Script) → HeadAlike h g → option_map num_unplaced d ≡ option_map num_unplaced b → map port_unplaced ms ≡ map port_unplaced ls → ScriptAlike c k
+bodied_alike : (h g : Signature) (b d : Option Num) (ls ms : List Port) (c k : Script) → SignatureAlike h g → option_map num_unplaced d ≡ option_map num_unplaced b → map port_unplaced ms ≡ map port_unplaced ls → ScriptAlike c k
     → PassageAlike (bodied h b ls c) (bodied g d ms k)
 bodied_alike h g b d ls ms c k x p q y = record {
-  proper = λ n. (head_alike h g x n.0, y.proper n.1);
+  proper = λ n. (signature_alike h g x n.0, y.proper n.1);
   same = (let a1 = x.at in let a2 = x.ins in let a3 = x.outs in let a4 = y.same in cc);
 }
 
-chained_alike : (k : Kind) (h g : Head) (cs ds : List Call) → HeadAlike h g → map call_unplaced ds ≡ map call_unplaced cs → PassageAlike (chained k h cs) (chained k g ds)
+chained_alike : (k : Kind) (h g : Signature) (cs ds : List Call) → SignatureAlike h g → map call_unplaced ds ≡ map call_unplaced cs → PassageAlike (chained k h cs) (chained k g ds)
 chained_alike k h g cs ds x p = record {
-  proper = λ n. (n.0, head_alike h g x n.1, one_alike call_unplaced ds cs p n.2, calls_alike cs ds p n.3);
+  proper = λ n. (n.0, signature_alike h g x n.1, one_alike call_unplaced ds cs p n.2, calls_alike cs ds p n.3);
   same = (let a1 = x.at in let a2 = x.ins in let a3 = x.outs in cc);
 }
 
-spread_alike : (k : Kind) (h g : Head) (w v : Option Num) (c d : Call) → HeadAlike h g → option_map num_unplaced v ≡ option_map num_unplaced w → call_unplaced d ≡ call_unplaced c
+spread_alike : (k : Kind) (h g : Signature) (w v : Option Num) (c d : Call) → SignatureAlike h g → option_map num_unplaced v ≡ option_map num_unplaced w → call_unplaced d ≡ call_unplaced c
     → PassageAlike (spread k h w c) (spread k g v d)
 spread_alike k h g w v c d x p q = record {
-  proper = λ n. (n.0, head_alike h g x n.1, call_alike c d q n.2);
+  proper = λ n. (n.0, signature_alike h g x n.1, call_alike c d q n.2);
   same = (let a1 = x.at in let a2 = x.ins in let a3 = x.outs in cc);
 }
 
-turned_alike : (h g : Head) (t u : Num) (n o : Option Num) (b d c k : Call) → HeadAlike h g → num_unplaced u ≡ num_unplaced t → option_map num_unplaced o ≡ option_map num_unplaced n
+turned_alike : (h g : Signature) (t u : Num) (n o : Option Num) (b d c k : Call) → SignatureAlike h g → num_unplaced u ≡ num_unplaced t → option_map num_unplaced o ≡ option_map num_unplaced n
     → call_unplaced d ≡ call_unplaced b → call_unplaced k ≡ call_unplaced c → PassageAlike (turned h t n b c) (turned g u o d k)
 turned_alike h g t u n o b d c k x p q y z = record {
-  proper = λ m. (head_alike h g x m.0, call_alike b d y m.1, call_alike c k z m.2);
+  proper = λ m. (signature_alike h g x m.0, call_alike b d y m.1, call_alike c k z m.2);
   same = (let a1 = x.at in let a2 = x.ins in let a3 = x.outs in cc);
 }
 
@@ -579,8 +579,8 @@ find_passage (bodied g b ls c) r ts h =
     let r1 = spell_end kinds.Seq r in
     let r2 = spell_script c (sign marks.CloseBody ∷ r1) in
     let r3 = sign marks.OpenBody ∷ each spell_local ls r2 in
-    let a = find_sign marks.Seq (spell_head g (spell_clause marks.Budget b r3)) ts h in
-    let d = find_head g (spell_clause marks.Budget b r3) a.rest a.left in
+    let a = find_sign marks.Seq (spell_signature g (spell_clause marks.Budget b r3)) ts h in
+    let d = find_signature g (spell_clause marks.Budget b r3) a.rest a.left in
     let e = find_clause marks.Budget b r3 d.rest d.left in
     let f = find_sign marks.OpenBody (each spell_local ls r2) e.rest e.left in
     let i = find_each spell_local port_unplaced find_local ls r2 f.rest f.left in
@@ -590,34 +590,34 @@ find_passage (bodied g b ls c) r ts h =
       it = bodied d.it e.it i.it j.it;
       alike = bodied_alike g d.it b e.it ls i.it c j.it d.alike e.alike i.alike j.alike;
       rest = l.rest;
-      whole = a.whole ∙ ap (mark_then marks.Seq) (d.whole ∙ ap (spell_head d.it) (e.whole ∙ ap (spell_clause marks.Budget e.it) (f.whole ∙ ap (mark_then marks.OpenBody)
+      whole = a.whole ∙ ap (mark_then marks.Seq) (d.whole ∙ ap (spell_signature d.it) (e.whole ∙ ap (spell_clause marks.Budget e.it) (f.whole ∙ ap (mark_then marks.OpenBody)
           (i.whole ∙ ap (each spell_local i.it) (j.whole ∙ ap (spell_script j.it) (k.whole ∙ ap (mark_then marks.CloseBody) l.whole))))));
       left = l.left;
     }
 find_passage (chained k g cs) r ts h =
     let r1 = spell_end k r in
-    let a = find_sign (kind_mark k) (spell_head g (each spell_call cs r1)) ts h in
-    let b = find_head g (each spell_call cs r1) a.rest a.left in
+    let a = find_sign (kind_mark k) (spell_signature g (each spell_call cs r1)) ts h in
+    let b = find_signature g (each spell_call cs r1) a.rest a.left in
     let c = find_each spell_call call_unplaced find_call cs r1 b.rest b.left in
     let d = find_end k r c.rest c.left in record {
       it = chained k b.it c.it;
       alike = chained_alike k g b.it cs c.it b.alike c.alike;
       rest = d.rest;
-      whole = a.whole ∙ ap (mark_then (kind_mark k)) (b.whole ∙ ap (spell_head b.it) (c.whole ∙ ap (each spell_call c.it) d.whole));
+      whole = a.whole ∙ ap (mark_then (kind_mark k)) (b.whole ∙ ap (spell_signature b.it) (c.whole ∙ ap (each spell_call c.it) d.whole));
       left = d.left;
     }
 find_passage (spread k g w c) r ts h =
     let r1 = spell_end k r in
     let r2 = spell_call c r1 in
-    let a = find_sign (kind_mark k) (spell_head g (spell_clause marks.Workers w r2)) ts h in
-    let b = find_head g (spell_clause marks.Workers w r2) a.rest a.left in
+    let a = find_sign (kind_mark k) (spell_signature g (spell_clause marks.Workers w r2)) ts h in
+    let b = find_signature g (spell_clause marks.Workers w r2) a.rest a.left in
     let d = find_clause marks.Workers w r2 b.rest b.left in
     let e = find_call c r1 d.rest d.left in
     let f = find_end k r e.rest e.left in record {
       it = spread k b.it d.it e.it;
       alike = spread_alike k g b.it w d.it c e.it b.alike d.alike e.alike;
       rest = f.rest;
-      whole = a.whole ∙ ap (mark_then (kind_mark k)) (b.whole ∙ ap (spell_head b.it) (d.whole ∙ ap (spell_clause marks.Workers d.it) (e.whole ∙ ap (spell_call e.it) f.whole)));
+      whole = a.whole ∙ ap (mark_then (kind_mark k)) (b.whole ∙ ap (spell_signature b.it) (d.whole ∙ ap (spell_clause marks.Workers d.it) (e.whole ∙ ap (spell_call e.it) f.whole)));
       left = f.left;
     }
 find_passage (turned g t n b c) r ts h =
@@ -625,8 +625,8 @@ find_passage (turned g t n b c) r ts h =
     let r2 = sign marks.While ∷ spell_call c r1 in
     let r3 = spell_clause marks.Tokens n (spell_call b r2) in
     let r4 = sign marks.Turns ∷ num_symbol t ∷ r3 in
-    let a = find_sign marks.Loop (spell_head g r4) ts h in
-    let d = find_head g r4 a.rest a.left in
+    let a = find_sign marks.Loop (spell_signature g r4) ts h in
+    let d = find_signature g r4 a.rest a.left in
     let e = find_sign marks.Turns (num_symbol t ∷ r3) d.rest d.left in
     let f = find_num t r3 e.rest e.left in
     let i = find_clause marks.Tokens n (spell_call b r2) f.rest f.left in
@@ -637,7 +637,7 @@ find_passage (turned g t n b c) r ts h =
       it = turned d.it f.it i.it j.it l.it;
       alike = turned_alike g d.it t f.it n i.it b j.it c l.it d.alike f.alike i.alike j.alike l.alike;
       rest = m.rest;
-      whole = a.whole ∙ ap (mark_then marks.Loop) (d.whole ∙ ap (spell_head d.it) (e.whole ∙ ap (mark_then marks.Turns) (f.whole ∙ ap (λ q. num_symbol f.it ∷ q)
+      whole = a.whole ∙ ap (mark_then marks.Loop) (d.whole ∙ ap (spell_signature d.it) (e.whole ∙ ap (mark_then marks.Turns) (f.whole ∙ ap (λ q. num_symbol f.it ∷ q)
           (i.whole ∙ ap (spell_clause marks.Tokens i.it) (j.whole ∙ ap (spell_call j.it) (k.whole ∙ ap (mark_then marks.While) (l.whole ∙ ap (spell_call l.it) m.whole)))))));
       left = m.left;
     }

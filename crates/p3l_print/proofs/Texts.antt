@@ -26,7 +26,7 @@ use Rattle.p3l_lexer.specs.Spelling.{goes_on}
 use Rattle.p3l_lexer.proofs.Spelling.{no_lexemes}
 use Rattle.p3l_lexer.proofs.Writing.{word_again, digits_are}
 use Rattle.p3l_grammar.specs.Symbol.{Symbol, word, digits, sign, symbol_at, symbols, kind_mark}
-use Rattle.p3l_grammar.specs.Written.{Script, Head, Passage, fixed, bodied, chained, spread, turned, each, num_symbol, spell_port, spell_call, spell_script, spell_head, spell_clause, spell_local, spell_end, spell_passage, spell_text, script_tree, passage_tree, text_tree}
+use Rattle.p3l_grammar.specs.Written.{Script, Signature, Passage, fixed, bodied, chained, spread, turned, each, num_symbol, spell_port, spell_call, spell_script, spell_signature, spell_clause, spell_local, spell_end, spell_passage, spell_text, script_tree, passage_tree, text_tree}
 use Rattle.p3l_print.specs.Printer.{interface_text}
 use Rattle.p3l_print.specs.Port.{num_text, port_text}
 use Rattle.p3l_print.specs.Call.{call_text}
@@ -119,9 +119,9 @@ clause_begins : (m : Mark) (n : Option Num) (rest : List ℕ) → EndsWord rest 
 clause_begins m None rest h = h
 clause_begins m (Some n) rest h = refl
 
-head_writes : (k : Kind) (h : Head) (clauses : List ℕ) (r s : List Symbol) (rest : List ℕ) → AreWritable (spell_head h r) → Writes (clauses ++ 10 ∷ rest) s
-    → Writes (kind_text k ++ codes " " ++ h.at.name ++ interface_text port_text h.ins port_text h.outs ++ clauses ++ codes "\n" ++ rest) (sign (kind_mark k) ∷ spell_head h s)
-head_writes k h clauses r s rest p w =
+signature_writes : (k : Kind) (h : Signature) (clauses : List ℕ) (r s : List Symbol) (rest : List ℕ) → AreWritable (spell_signature h r) → Writes (clauses ++ 10 ∷ rest) s
+    → Writes (kind_text k ++ codes " " ++ h.at.name ++ interface_text port_text h.ins port_text h.outs ++ clauses ++ codes "\n" ++ rest) (sign (kind_mark k) ∷ spell_signature h s)
+signature_writes k h clauses r s rest p w =
     let t1 = interface_text port_text h.ins port_text h.outs ++ (clauses ++ 10 ∷ rest) in
     let s1 = spell_interface spell_port h.ins spell_port h.outs s in
     let w1 : Writes t1 s1 = interface_writes port_text spell_port port_text spell_port port_spelling port_spelling h.ins h.outs r s (clauses ++ 10 ∷ rest) p.1 w in
@@ -130,20 +130,20 @@ head_writes k h clauses r s rest p w =
     let w3 : Writes (kind_text k ++ (32 ∷ t2)) (sign (kind_mark k) ∷ word h.at ∷ s1) = put_mark (kind_mark k) (32 ∷ t2) (word h.at ∷ s1) (kind_space k) (put_space t2 (word h.at ∷ s1) w2) in
     simp append_assoc w3
 
-head_passes : (h : Head) (r : List Symbol) → AreWritable (spell_head h r) → AreWritable r
-head_passes h r p = interface_passes port_text spell_port port_text spell_port port_spelling port_spelling h.ins h.outs r p.1
+signature_passes : (h : Signature) (r : List Symbol) → AreWritable (spell_signature h r) → AreWritable r
+signature_passes h r p = interface_passes port_text spell_port port_text spell_port port_spelling port_spelling h.ins h.outs r p.1
 
 -- a module, by its clauses and what stands inside
-module_writes : (k : Kind) (h : Head) (clauses : Clauses) (inside : InsideTree) (r s1 s2 s : List Symbol) (rest : List ℕ) → AreWritable (spell_head h r)
+module_writes : (k : Kind) (h : Signature) (clauses : Clauses) (inside : InsideTree) (r s1 s2 s : List Symbol) (rest : List ℕ) → AreWritable (spell_signature h r)
     → ((t : List ℕ) → Writes t s2 → Writes (clauses_text clauses ++ 10 ∷ t) s1) → ((t : List ℕ) → Writes t (spell_end k s) → Writes (inside_text inside ++ t) s2) → Writes rest s
-    → Writes (module_text (record { kind = k; at = h.at; ins = h.ins; outs = h.outs; clauses = clauses; inside = inside }) ++ rest) (sign (kind_mark k) ∷ spell_head h s1)
+    → Writes (module_text (record { kind = k; at = h.at; ins = h.ins; outs = h.outs; clauses = clauses; inside = inside }) ++ rest) (sign (kind_mark k) ∷ spell_signature h s1)
 module_writes k h clauses inside r s1 s2 s rest p c i w =
     let t3 = codes "end " ++ (kind_text k ++ 10 ∷ rest) in
     let w3 : Writes t3 (spell_end k s) = end_writes k s rest w in
     let t2 = inside_text inside ++ t3 in
     let w2 : Writes t2 s2 = i t3 w3 in
     let w1 : Writes (clauses_text clauses ++ 10 ∷ t2) s1 = c t2 w2 in
-    let w0 = head_writes k h (clauses_text clauses) r s1 t2 p w1 in
+    let w0 = signature_writes k h (clauses_text clauses) r s1 t2 p w1 in
     simp append_assoc (simp append_assoc at w0)
 
 budget_space : goes_on (mark_text marks.Budget) 32 ≡ false
@@ -258,7 +258,7 @@ passage_writes (bodied g b ls c) r s rest h w =
     let r2 = each spell_local ls (spell_script c (sign marks.CloseBody ∷ r3)) in
     let r1 = spell_clause marks.Budget b (sign marks.OpenBody ∷ r2) in
     let s2 = sign marks.OpenBody ∷ each spell_local ls (spell_script (canonical_script c) (sign marks.CloseBody ∷ spell_end kinds.Seq s)) in
-    let p = head_passes g r1 h.1 in
+    let p = signature_passes g r1 h.1 in
     module_writes kinds.Seq g (only_budget b) (body ls (script_tree c)) r1 (spell_clause marks.Budget b s2) s2 s rest h.1
     (λ t z. budget_writes b (sign marks.OpenBody ∷ r2) s2 t p z)
     (λ t z. body_writes ls c (sign marks.CloseBody ∷ r3) (spell_end kinds.Seq s) t (clause_passes marks.Budget b (sign marks.OpenBody ∷ r2) p).1 z) w
@@ -267,12 +267,12 @@ passage_writes (chained k g cs) r s rest h w =
     let s1 = each spell_call cs (spell_end k s) in
     module_writes k g (only_workers None) (calls cs) r1 s1 s1 s rest h.1
     (λ t z. workers_writes None [] s1 t tt z)
-    (λ t z. calls_write cs (spell_end k r) (spell_end k s) t (head_passes g r1 h.1) z) w
+    (λ t z. calls_write cs (spell_end k r) (spell_end k s) t (signature_passes g r1 h.1) z) w
 passage_writes (spread k g v c) r s rest h w =
     let r2 = spell_call c (spell_end k r) in
     let r1 = spell_clause marks.Workers v r2 in
     let s2 = spell_call c (spell_end k s) in
-    let p = head_passes g r1 h.1 in
+    let p = signature_passes g r1 h.1 in
     module_writes k g (only_workers v) (calls (c ∷ [])) r1 (spell_clause marks.Workers v s2) s2 s rest h.1
     (λ t z. workers_writes v r2 s2 t p z)
     (λ t z. calls_write (c ∷ []) (spell_end k r) (spell_end k s) t (clause_passes marks.Workers v r2 p) z) w
@@ -280,7 +280,7 @@ passage_writes (turned g u n b c) r s rest h w =
     let r3 = spell_call b (sign marks.While ∷ spell_call c (spell_end kinds.Loop r)) in
     let r1 = sign marks.Turns ∷ num_symbol u ∷ spell_clause marks.Tokens n r3 in
     let s3 = spell_call b (sign marks.While ∷ spell_call c (spell_end kinds.Loop s)) in
-    let p = head_passes g r1 h.1 in
+    let p = signature_passes g r1 h.1 in
     module_writes kinds.Loop g (only_turns u n) (turning b c) r1 (sign marks.Turns ∷ num_symbol u ∷ spell_clause marks.Tokens n s3) s3 s rest h.1
     (λ t z. turns_writes u n r3 s3 t p z)
     (λ t z. turning_writes b c (spell_end kinds.Loop r) (spell_end kinds.Loop s) t (clause_passes marks.Tokens n r3 p.1.1) z) w
@@ -290,16 +290,16 @@ passage_passes (fixed x v p) r h = h.1.1.1.1.1
 passage_passes (bodied g b ls c) r h =
     let r3 = sign marks.CloseBody ∷ spell_end kinds.Seq r in
     let r2 = sign marks.OpenBody ∷ each spell_local ls (spell_script c r3) in
-    let inner = (clause_passes marks.Budget b r2 (head_passes g (spell_clause marks.Budget b r2) h.1)).1 in
+    let inner = (clause_passes marks.Budget b r2 (signature_passes g (spell_clause marks.Budget b r2) h.1)).1 in
     (script_passes c r3 (lines_pass local_line spell_local local_is_line ls (spell_script c r3) inner)).1.1.1
-passage_passes (chained k g cs) r h = (lines_pass call_line spell_call call_is_line cs (spell_end k r) (head_passes g (each spell_call cs (spell_end k r)) h.1)).1.1
+passage_passes (chained k g cs) r h = (lines_pass call_line spell_call call_is_line cs (spell_end k r) (signature_passes g (each spell_call cs (spell_end k r)) h.1)).1.1
 passage_passes (spread k g v c) r h =
     let r2 = spell_call c (spell_end k r) in
-    (call_passes c (spell_end k r) (clause_passes marks.Workers v r2 (head_passes g (spell_clause marks.Workers v r2) h.1))).1.1
+    (call_passes c (spell_end k r) (clause_passes marks.Workers v r2 (signature_passes g (spell_clause marks.Workers v r2) h.1))).1.1
 passage_passes (turned g u n b c) r h =
     let r4 = spell_end kinds.Loop r in
     let r3 = spell_call b (sign marks.While ∷ spell_call c r4) in
-    let inner = clause_passes marks.Tokens n r3 (head_passes g (sign marks.Turns ∷ num_symbol u ∷ spell_clause marks.Tokens n r3) h.1).1.1 in
+    let inner = clause_passes marks.Tokens n r3 (signature_passes g (sign marks.Turns ∷ num_symbol u ∷ spell_clause marks.Tokens n r3) h.1).1.1 in
     (call_passes c r4 (call_passes b (sign marks.While ∷ spell_call c r4) inner).1).1.1
 
 more_items : (is : List Passage) → AreWritable (spell_text is []) → Writes (flat_map (λ e. codes "\n" ++ entry_text e) (text_tree is)) (spell_text (canonical_passages is) [])

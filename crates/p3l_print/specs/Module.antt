@@ -28,8 +28,8 @@ clauses_text clauses =
     ++ clause_text (codes "tokens") clauses.tokens
 
 -- a module's first line
-abbrev pub head_text : ModuleTree → List ℕ
-head_text tree =
+abbrev pub signature_text : ModuleTree → List ℕ
+signature_text tree =
     kind_text tree.kind ++ codes " " ++ tree.at.name ++ interface_text port_text tree.ins port_text tree.outs ++ clauses_text tree.clauses ++ codes "\n"
 
 abbrev pub local_line : Port → List ℕ
@@ -44,4 +44,4 @@ inside_text (calls list) = flat_map call_line list
 inside_text (turning turn condition) = call_line turn ++ codes "  while " ++ call_text condition ++ codes "\n"
 
 abbrev pub module_text : ModuleTree → List ℕ
-module_text tree = head_text tree ++ inside_text tree.inside ++ codes "end " ++ kind_text tree.kind ++ codes "\n"
+module_text tree = signature_text tree ++ inside_text tree.inside ++ codes "end " ++ kind_text tree.kind ++ codes "\n"

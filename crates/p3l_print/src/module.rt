@@ -3,7 +3,7 @@
 ghost use Rattle.std.specs.Prelude.{◌≡◌, ◌++◌, OnOk, flat_map};
 ghost use Rattle.p3l_ast.specs.Tree.{statements, inside_tree, module_tree, turning};
 ghost use Rattle.p3l_ast.specs.Tree.{body as body_tree};
-ghost use Rattle.p3l_print.specs.Module.{clause_text, clauses_text, head_text, local_line, call_line, inside_text, module_text};
+ghost use Rattle.p3l_print.specs.Module.{clause_text, clauses_text, signature_text, local_line, call_line, inside_text, module_text};
 
 use crate::printer::Printer;
 use p3l_ast::{Block, Call, Clauses, Inside, Module, Num, Port};
@@ -23,7 +23,7 @@ impl Printer {
 
     /// The first line.
     fn head(&mut self, tree: &Module) -> Result<(), NoMemory>
-        ensures { OnOk result (self.new ≡ self.old ++ head_text (module_tree tree.now)) }
+        ensures { OnOk result (self.new ≡ self.old ++ signature_text (module_tree tree.now)) }
     {
         self.put(mark_of_kind(tree.kind).text().as_bytes())?;
         self.put(b" ")?;

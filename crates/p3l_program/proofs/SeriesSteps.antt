@@ -86,7 +86,7 @@ last_cause files name bytes (Err v) h = cause_of files name bytes [] v h
 pub saves_last : (files : Change Held) (name bytes : List ℕ) (result : Result (Unit {0}) Verdict) → HasSave files name bytes result → HasSaves files ((name, bytes) ∷ []) result
 saves_last files name bytes result h = record { kept = h.kept; by = last_cause files name bytes result h.by }
 
--- the names of the three are separated
+-- the names of the three differ
 separated : (prefix one two : List ℕ) → (one ≡ two → ⊥) → prefix ++ one ≡ prefix ++ two → ⊥
 separated [] one two other same = other same
 separated (byte ∷ bytes) one two other same = separated bytes one two other (let tails : bytes ++ one ≡ bytes ++ two = cc in tails)

@@ -2,6 +2,7 @@
 
 ghost use Rattle.std.specs.Prelude.{◌≡◌, ◌≤◌, length, IfOk, IfErr};
 ghost use Rattle.p3l_program.specs.Accepted.{IsTextRefused};
+ghost use Rattle.p3l_program.specs.File.{text_limit};
 ghost use Rattle.p3l_program.specs.Load.{AcceptsText};
 
 use p3l_ast::SourceRefusal;
@@ -23,7 +24,7 @@ pub struct Accepted {
 
 /// The program that a text spells, if it keeps all rules; else the first fault.
 pub fn accept(alloc: Global, text: &[u8]) -> Result<Accepted, SourceRefusal>
-    requires { length text.now ≤ 1048576 }
+    requires { length text.now ≤ text_limit }
     ensures accepted { IfOk result (AcceptsText text.now) }
     ensures refused { IfErr result (IsTextRefused text.now) }
 {

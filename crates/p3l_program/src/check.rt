@@ -8,19 +8,19 @@ ghost use Rattle.p3l_program.specs.World.{change};
 
 use crate::load::load_program;
 use crate::text::write_text;
-use p3l_base::Name;
+use p3l_base::{Name, NoMemory};
 use p3l_io::{Files, Sink};
 use p3l_report::Verdict;
 use p3l_skel::Tree;
-use std::alloc::{AllocError, Global};
+use std::alloc::Global;
 
 /// The line of a program that keeps all rules.
-fn ok_line(alloc: Global, tree: &Tree) -> Result<String, AllocError>
+fn ok_line(alloc: Global, tree: &Tree) -> Result<String, NoMemory>
     ensures { IfOk result (λ line. string_bytes line ≡ ok_line (length tree.now.modules) (length tree.now.nodes)) }
 {
     let modules = tree.modules.len();
     let instances = tree.nodes.len();
-    format!(in alloc; "ok: {modules} modules, {instances} instances\n")
+    Ok(format!(in alloc; "ok: {modules} modules, {instances} instances\n")?)
 }
 
 /// Writes how many modules and instances the program of the file of this name has.

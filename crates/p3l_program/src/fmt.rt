@@ -2,6 +2,7 @@
 
 ghost use Rattle.std.specs.Prelude.{◌≡◌, ◌≤◌, length, IfOk, IfErr};
 ghost use Rattle.p3l_program.specs.Command.{IsTextDue};
+ghost use Rattle.p3l_program.specs.File.{text_limit};
 ghost use Rattle.p3l_program.specs.Fmt.{HasNoCanonical, IsCanonicalOf, IsFormatted, fmt_stages};
 ghost use Rattle.p3l_program.specs.World.{change};
 
@@ -17,7 +18,7 @@ use std::alloc::Global;
 
 /// The canonical text of the program that a text spells.
 fn canonical_of(alloc: Global, text: &[u8]) -> Result<List<u8>, SourceRefusal>
-    requires { length text.now ≤ 1048576 }
+    requires { length text.now ≤ text_limit }
     ensures ok { IfOk result (λ canonical. IsCanonicalOf text.now canonical) }
     ensures refused { IfErr result (λ refusal. HasNoCanonical text.now refusal) }
 {

@@ -5,6 +5,7 @@ ghost use Rattle.p3l_check.specs.Resolving.{ResolvedTree};
 ghost use Rattle.p3l_opts.specs.Command.{IsMade};
 ghost use Rattle.p3l_report.specs.declared.verdict.Verdict.TheVariants as verdict;
 ghost use Rattle.p3l_program.specs.Accepted.{IsCompiled};
+ghost use Rattle.p3l_program.specs.File.{text_limit};
 ghost use Rattle.p3l_program.specs.Generated.{AreNotLoaded, AreTextsOf, Gen, IsGenDue, IsGenRun, IsGenUnsaved, IsPicked, IsRanUnder, IsToldOf, LoadsTexts, comes_whole, due_at, gen_capacity, gen_of, numbers_text, saves_for, saves_with, summary_line};
 ghost use Rattle.p3l_program.specs.Load.{IsReady};
 ghost use Rattle.p3l_program.specs.Network.{network_of};
@@ -34,7 +35,7 @@ use p3l_run::write::write;
 use p3l_run::{Keeping, Plan, Ran};
 use p3l_sched::Schedule;
 use p3l_stream::Ending;
-use std::alloc::{AllocError, Global};
+use std::alloc::Global;
 
 /// How many tokens a channel of the network holds at most.
 const CAPACITY: u32 = 4;
@@ -101,7 +102,7 @@ fn load_texts(
     costs: &[u8],
     processors: u32,
 ) -> Result<Loaded, Verdict>
-    requires within { length program.now ≤ 1048576 }
+    requires within { length program.now ≤ text_limit }
     requires some { 1 ≤ processors }
     requires few { processors ≤ 512 }
     ensures loaded { IfOk result (LoadsTexts program.now costs.now processors) }
@@ -185,14 +186,14 @@ fn run_text(alloc: Global, loaded: Loaded, asked: Sched, text: List<u8>) -> Resu
 }
 
 /// The numbers of a run, as the line has them.
-fn numbers_text(alloc: Global, numbers: &Stats) -> Result<String, AllocError>
+fn numbers_text(alloc: Global, numbers: &Stats) -> Result<String, NoMemory>
     ensures { IfOk result (λ text. string_bytes text ≡ numbers_text numbers.now) }
 {
     let items = numbers.items;
     let fired = numbers.fired;
     let idle = numbers.idle;
     let bound = numbers.bound;
-    format!(in alloc; "items {items}, fired {fired}, idle {idle}, bound {bound}")
+    Ok(format!(in alloc; "items {items}, fired {fired}, idle {idle}, bound {bound}")?)
 }
 
 /// The line of a run of the texts of a number, with the service time and the processes of the counts.
@@ -202,13 +203,13 @@ fn summary_line(
     ran: &Ran,
     service: u128,
     used: u32,
-) -> Result<String, AllocError>
+) -> Result<String, NoMemory>
     ensures { IfOk result (λ line. string_bytes line ≡ summary_line number ran.now.stats service used ran.now.sum) }
 {
     let text = numbers_text(alloc, &ran.stats)?;
     let numbers = text.as_str();
     let sum = ran.sum;
-    format!(in alloc; "gen {number}: {numbers}, service {service}, used {used}, sum {sum}\n")
+    Ok(format!(in alloc; "gen {number}: {numbers}, service {service}, used {used}, sum {sum}\n")?)
 }
 
 /// Whether a run came to the end of its items without a trap.
@@ -252,7 +253,7 @@ fn run_texts<K: Sink>(
 ) -> Verdict
     requires processors { (1 ≤ processors) × (processors ≤ 512) }
     requires made { IsMade asked }
-    requires within { length texts.program ≤ 1048576 }
+    requires within { length texts.program ≤ text_limit }
     requires short { length texts.stream < 2 ^ 36 }
     ensures { (g : Gen) → AreTextsOf g texts → g.number ≡ number → g.processors ≡ processors → g.asked ≡ asked → IsGenRun (change K.taken K.faults out.old out.new) g result }
 {

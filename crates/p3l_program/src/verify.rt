@@ -8,20 +8,22 @@ ghost use Rattle.p3l_program.specs.World.{change};
 
 use crate::cert::load_cert;
 use crate::text::write_text;
-use p3l_base::Name;
+use p3l_base::{Name, NoMemory};
 use p3l_cert::Cert;
 use p3l_io::{Files, Sink};
 use p3l_report::Verdict;
-use std::alloc::{AllocError, Global};
+use std::alloc::Global;
 
 /// The line of a certificate that holds.
-fn holds_line(alloc: Global, cert: &Cert) -> Result<String, AllocError>
+fn holds_line(alloc: Global, cert: &Cert) -> Result<String, NoMemory>
     ensures { IfOk result (λ line. string_bytes line ≡ holds_line cert.now.processors cert.now.used cert.now.service) }
 {
     let processors = cert.processors;
     let used = cert.used;
     let service = cert.service;
-    format!(in alloc; "certificate holds: processors {processors} used {used} service {service}\n")
+    Ok(format!(in alloc;
+        "certificate holds: processors {processors} used {used} service {service}\n"
+    )?)
 }
 
 /// Writes what the certificate of a file says, if it holds for the program and the costs of others:

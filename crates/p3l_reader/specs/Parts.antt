@@ -4,8 +4,8 @@ use Rattle.p3l_grammar.specs.Written as written
 use Rattle.p3l_reader.specs.declared.module.Heading.{Heading}
 use Rattle.p3l_reader.specs.declared.module.Contents.{Contents}
 
-abbrev pub head_of : Heading → written.Head
-head_of h = record { at = h.at; ins = h.ins; outs = h.outs }
+abbrev pub signature_of : Heading → written.Signature
+signature_of h = record { at = h.at; ins = h.ins; outs = h.outs }
 
 abbrev pub filling_of : Contents → written.Filling
 filling_of f = record { clauses = f.clauses; inside = inside_tree f.inside }

@@ -4,7 +4,7 @@ ghost use Rattle.std.specs.Prelude.{◌<◌, ◌≤◌, length, IfOk, IfErr};
 ghost use Rattle.p3l_ast.specs.Tree.{inside_tree, entry_tree};
 ghost use Rattle.p3l_grammar.specs.Parser.{clause, body_from, loop_calls, filling, head, fixed_from, module_from};
 ghost use Rattle.p3l_reader.specs.Reading.{Reads, Fails, Closes, FailsEnd};
-ghost use Rattle.p3l_reader.specs.Parts.{head_of, filling_of};
+ghost use Rattle.p3l_reader.specs.Parts.{signature_of, filling_of};
 
 use crate::call::{call, call_list};
 use crate::mark::{digits, expect, num, skip, spot};
@@ -48,8 +48,8 @@ fn clause(alloc: Global, tokens: &[Token], mark: Mark) -> Result<(Option<Num>, &
 }
 
 /// The name and the ports of a module.
-fn whole_head(alloc: Global, tokens: &[Token]) -> Result<(Heading, &[Token]), Refusal>
-    ensures ok { IfOk result (λ x. Reads head tokens.now (head_of x.0) x.1.now) }
+fn whole_signature(alloc: Global, tokens: &[Token]) -> Result<(Heading, &[Token]), Refusal>
+    ensures ok { IfOk result (λ x. Reads head tokens.now (signature_of x.0) x.1.now) }
     ensures shorter { IfOk result (λ x. length x.1.now < length tokens.now) }
     ensures err { IfErr result (λ e. Fails head tokens.now e) }
 {
@@ -197,7 +197,7 @@ pub fn module(alloc: Global, kind: Kind, tokens: &[Token]) -> Result<(Entry, &[T
     ensures shorter { IfOk result (λ x. length x.1.now < length tokens.now) }
     ensures err { IfErr result (λ e. Fails (module_from kind) tokens.now e) }
 {
-    let (Heading { at, ins, outs }, rest) = whole_head(alloc, tokens)?;
+    let (Heading { at, ins, outs }, rest) = whole_signature(alloc, tokens)?;
     let (Contents { clauses, inside }, rest) = whole_filling(alloc, kind, rest)?;
     let rest = module_end(rest, kind)?;
     let module = Module {

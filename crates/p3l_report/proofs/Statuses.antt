@@ -1,9 +1,11 @@
 -- Which verdicts have a status.
-use Rattle.std.proofs.Common.{◌≡◌, ◌⊎◌, ◌==◌, ℕ, Bool, true, false, Option, inl, inr, refl, sym, ap, ◌∙◌, arith}
+use Rattle.std.proofs.Common.{◌≡◌, ◌⊎◌, ◌==◌, ℕ, Bool, true, false, List, Option, inl, inr, refl, sym, ap, ◌∙◌, arith}
+use Rattle.p3l_base.specs.declared.outcome.TrapKind.{TrapKind}
 use Rattle.p3l_ast.specs.declared.position.Pos.{Pos}
 use Rattle.p3l_ast.specs.declared.refusal.Fault.{Fault}
 use Rattle.p3l_stream.specs.declared.items.Ending.{Ending}
 use Rattle.p3l_stream.specs.declared.items.Ending.TheVariants as ending
+use Rattle.p3l_report.specs.declared.cost_fault.CostFault.{CostFault}
 use Rattle.p3l_report.specs.declared.stats.Stats.{Stats}
 use Rattle.p3l_report.specs.declared.verdict.Refusal.{Refusal}
 use Rattle.p3l_report.specs.declared.verdict.Refusal.TheVariants as refusal
@@ -36,6 +38,37 @@ ending_no_evidence _ = refl
 finish_no_write : (f : Finish) → is_write (finish_status f) ≡ false
 finish_no_write (finish.Stream e) = ending_no_write e
 finish_no_write _ = refl
+
+-- nor is one of them want of memory
+abbrev is_no_memory : ℕ → Bool
+is_no_memory n = n == status.no_memory
+
+refusal_no_memory : (r : Refusal) → is_no_memory (refusal_status r) ≡ false
+refusal_no_memory refusal.Usage = refl
+refusal_no_memory _ = refl
+
+ending_no_memory : (e : Ending) → is_no_memory (ending_status e) ≡ false
+ending_no_memory ending.End = refl
+ending_no_memory _ = refl
+
+finish_no_memory : (f : Finish) → is_no_memory (finish_status f) ≡ false
+finish_no_memory (finish.Stream e) = ending_no_memory e
+finish_no_memory _ = refl
+
+-- no ending of a stream is a stop or a trap
+abbrev is_stopped : ℕ → Bool
+is_stopped n = n == status.stopped
+
+ending_no_stop : (e : Ending) → is_stopped (ending_status e) ≡ false
+ending_no_stop ending.End = refl
+ending_no_stop _ = refl
+
+abbrev is_trap : ℕ → Bool
+is_trap n = n == status.trap
+
+ending_no_trap : (e : Ending) → is_trap (ending_status e) ≡ false
+ending_no_trap ending.End = refl
+ending_no_trap _ = refl
 
 -- the two kinds of statuses are apart
 ending_other : (e : Ending) → status.is_refusal (ending_status e) ≡ false
@@ -110,6 +143,53 @@ usage_is _ h = absurd (omega arith)
 pub source_is : (r : Refusal) → refusal_status r ≡ status.source → (fault : Fault) × ((pos : Pos) × (r ≡ refusal.Source fault pos))
 source_is (refusal.Source fault pos) h = (fault, (pos, refl))
 source_is _ h = absurd (omega arith)
+
+-- 4 is a refused file of costs alone
+pub costs_is : (r : Refusal) → refusal_status r ≡ status.costs → (fault : CostFault) × (r ≡ refusal.Costs fault)
+costs_is (refusal.Costs fault) h = (fault, refl)
+costs_is _ h = absurd (omega arith)
+
+-- 5 is too few processors alone
+pub too_few_is : (r : Refusal) → refusal_status r ≡ status.too_few → (need : ℕ) × (r ≡ refusal.TooFew need)
+too_few_is (refusal.TooFew need) h = (need, refl)
+too_few_is _ h = absurd (omega arith)
+
+-- 9 is a file that could not be read or is too long alone
+pub file_is : (r : Refusal) → refusal_status r ≡ status.file → (name : List ℕ) × ((r ≡ refusal.FileFault name) ⊎ (r ≡ refusal.FileTooLong name))
+file_is (refusal.FileFault name) h = (name, inl refl)
+file_is (refusal.FileTooLong name) h = (name, inr refl)
+file_is _ h = absurd (omega arith)
+
+-- 12 is a refused file of picks alone
+pub schedule_is : (r : Refusal) → refusal_status r ≡ status.schedule → (line : ℕ) × ((r ≡ refusal.BadPick line) ⊎ ((pick : ℕ) × ((count : ℕ) × (r ≡ refusal.NoSuchProcess line pick count))))
+schedule_is (refusal.BadPick line) h = (line, inl refl)
+schedule_is (refusal.NoSuchProcess line pick count) h = (line, inr (pick, (count, refl)))
+schedule_is _ h = absurd (omega arith)
+
+-- 11 is want of memory alone
+pub no_memory_is : (v : Verdict) → status_of v ≡ status.no_memory → v ≡ verdict.NoMemory
+no_memory_is (verdict.Refused r) h = absurd (let z = sym (refusal_no_memory r) ∙ ap is_no_memory h in cc)
+no_memory_is (verdict.Ended f s) h = absurd (let z = sym (finish_no_memory f) ∙ ap is_no_memory h in cc)
+no_memory_is verdict.WriteFault h = absurd (omega arith)
+no_memory_is verdict.NoMemory h = refl
+
+-- 1 is a stopped run alone, and 7 a trap
+pub stopped_is : (f : Finish) → finish_status f ≡ status.stopped → (fired : ℕ) × ((idle : ℕ) × (f ≡ finish.Stopped fired idle))
+stopped_is (finish.Stopped fired idle) h = (fired, (idle, refl))
+stopped_is (finish.Stream e) h = absurd (let z = sym (ending_no_stop e) ∙ ap is_stopped h in cc)
+stopped_is _ h = absurd (omega arith)
+
+pub trap_is : (f : Finish) → finish_status f ≡ status.trap → (item : ℕ) × ((kind : TrapKind) × ((home : List ℕ) × (f ≡ finish.Trapped item kind home)))
+trap_is (finish.Trapped item kind home) h = (item, (kind, (home, refl)))
+trap_is (finish.Stream e) h = absurd (let z = sym (ending_no_trap e) ∙ ap is_trap h in cc)
+trap_is _ h = absurd (omega arith)
+
+-- 6 is a line that is no item alone
+pub stream_is : (e : Ending) → ending_status e ≡ status.stream → (line : ℕ) × ((e ≡ ending.BadWord line) ⊎ (((had : ℕ) × (e ≡ ending.WrongCount line had)) ⊎ (e ≡ ending.OutOfRange line)))
+stream_is (ending.BadWord line) h = (line, inl refl)
+stream_is (ending.WrongCount line had) h = (line, inr (inl (had, refl)))
+stream_is (ending.OutOfRange line) h = (line, inr (inr refl))
+stream_is _ h = absurd (omega arith)
 
 -- each other status of an end is that of its stream's ending
 pub done_is : (e : Ending) → ending_status e ≡ status.done → e ≡ ending.End

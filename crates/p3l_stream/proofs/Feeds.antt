@@ -56,7 +56,7 @@ place-take (byte ∷ bytes) (suc n) low high =
 feed_is : (byte : ℕ) → is_feed byte ≡ true → byte ≡ 10
 feed_is byte e = eqb-true byte 10 e
 
--- the bytes, separated at a line feed of this place
+-- the bytes, split at a line feed of this place
 abbrev Separated : List ℕ → ℕ → Type 0
 Separated bytes n = bytes ≡ take n bytes ++ 10 ∷ drop (n + 1) bytes
 

@@ -6,7 +6,7 @@ use Rattle.std.specs.Str.Parse.{digits_value, starts_with_minus}
 use Rattle.p3l_stream.specs.declared.word.WordFault.{WordFault}
 use Rattle.p3l_stream.specs.declared.word.WordFault.TheVariants as fault
 
--- spaces and tabs part words
+-- spaces and tabs separate words
 abbrev pub is_blank : ℕ → Bool
 is_blank byte = byte == 32 || byte == 9
 

@@ -4,7 +4,7 @@ ghost use Rattle.std.specs.Prelude.{◌≡◌, ◌++◌, IfOk, OnOk, string_byte
 ghost use Rattle.p3l_stream.specs.Text as as_text;
 
 use p3l_base::{List, NoMemory, Outcome, Words};
-use std::alloc::{AllocError, Global};
+use std::alloc::Global;
 
 /// The line of an item: its words in decimal without leading zeros, separated by one space, and a line
 /// feed.
@@ -30,15 +30,16 @@ pub fn text_of(alloc: Global, outcomes: &[Outcome]) -> Result<List<u8>, NoMemory
 }
 
 /// Puts the line of an item after a text.
-fn write_item(alloc: Global, text: &mut String, words: &Words) -> Result<(), AllocError>
+fn write_item(alloc: Global, text: &mut String, words: &Words) -> Result<(), NoMemory>
     ensures { OnOk result (string_bytes text.new ≡ string_bytes text.old ++ as_text.item_text words.now) }
 {
     write_words(alloc, text, words.as_slice())?;
-    text.push('\n')
+    text.push('\n')?;
+    Ok(())
 }
 
 /// Puts words in decimal after a text, separated by one space.
-fn write_words(alloc: Global, text: &mut String, words: &[i64]) -> Result<(), AllocError>
+fn write_words(alloc: Global, text: &mut String, words: &[i64]) -> Result<(), NoMemory>
     ensures { OnOk result (string_bytes text.new ≡ string_bytes text.old ++ as_text.words_text words.now) }
 {
     for (index, word) in words.iter().enumerate() {
@@ -48,12 +49,13 @@ fn write_words(alloc: Global, text: &mut String, words: &[i64]) -> Result<(), Al
 }
 
 /// Puts a word after a text that has so many of the item's words.
-fn write_word(alloc: Global, text: &mut String, index: usize, word: i64) -> Result<(), AllocError>
+fn write_word(alloc: Global, text: &mut String, index: usize, word: i64) -> Result<(), NoMemory>
     ensures { OnOk result (string_bytes text.new ≡ string_bytes text.old ++ as_text.word_text index word) }
 {
     if index > 0 {
         text.push(' ')?;
     }
     let digits = word.to_string(alloc)?;
-    text.push_str(digits.as_str())
+    text.push_str(digits.as_str())?;
+    Ok(())
 }

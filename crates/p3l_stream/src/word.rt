@@ -18,25 +18,25 @@ pub enum WordFault {
     Range,
 }
 
-/// Whether a byte parts words.
-fn parts_words(byte: u8) -> bool
+/// Whether a byte separates words.
+fn separates_words(byte: u8) -> bool
     ensures { result ≡ is_blank byte }
 {
     byte == b' ' || byte == b'\t'
 }
 
-/// Where the first byte stands that parts words.
+/// Where the first byte stands that separates words.
 fn first_blank(bytes: &[u8]) -> Option<usize>
     ensures { result ≡ position is_blank bytes.now }
 {
-    bytes.iter().position(|byte| parts_words(*byte))
+    bytes.iter().position(|byte| separates_words(*byte))
 }
 
 /// Where the first byte of a word stands.
 fn first_of_word(bytes: &[u8]) -> Option<usize>
     ensures { result ≡ position is_of_word bytes.now }
 {
-    bytes.iter().position(|byte| !parts_words(*byte))
+    bytes.iter().position(|byte| !separates_words(*byte))
 }
 
 /// The first word of the bytes, and what is after it.

@@ -1,13 +1,13 @@
--- What expressions give in a state, or the first trap. Operands are evaluated from left to right.
+-- What expressions give in a valuation, or the first trap. Operands are evaluated from left to right.
 use Rattle.std.specs.Prelude.{ℕ, ℤ, ◌+◌, ◌*◌, pos, List, ◌∷◌, Result, Ok, Err, nat_lt, if◌then◌else◌}
 use Rattle.p3l_base.specs.declared.outcome.TrapKind.{TrapKind}
 use Rattle.p3l_base.specs.declared.outcome.TrapKind.TheVariants.{Index}
 use Rattle.p3l_ast.specs.declared.expression.BinOp.{BinOp}
 use Rattle.p3l_ast.specs.declared.expression.BinOp.TheVariants as operators
-use Rattle.p3l_ast.specs.declared.meaning.state.State.{State}
+use Rattle.p3l_ast.specs.declared.meaning.valuation.Valuation.{Valuation}
 use Rattle.p3l_ast.specs.Tree.{Phrase, number, read, unary, binary, Phrases, none, more}
 use Rattle.p3l_ast.specs.Meaning.Operator.{truth, holds, unary_of, binary_of}
-use Rattle.p3l_ast.specs.Meaning.State.{sizes_of, word_of}
+use Rattle.p3l_ast.specs.Meaning.Valuation.{sizes_of, word_of}
 
 -- what comes of a result, if it is no trap
 abbrev pub given : {A B : Type 0} → Result A TrapKind → (A → Result B TrapKind) → Result B TrapKind
@@ -31,13 +31,13 @@ indexed sizes place go i = Err Index
 
 unfoldable mutual
   -- the number of an expression
-  pub value_of : State → Phrase → Result ℤ TrapKind
-  value_of state (number v) = Ok v
-  value_of state (read x index) = given (place_of state index (sizes_of state x.name) 0) (λ place. Ok (word_of state x.name place))
-  value_of state (unary op e) = given (value_of state e) (λ x. Ok (unary_of op x))
-  value_of state (binary op a b) = combined op (value_of state a) (value_of state b)
+  pub value_of : Valuation → Phrase → Result ℤ TrapKind
+  value_of valuation (number v) = Ok v
+  value_of valuation (read x index) = given (place_of valuation index (sizes_of valuation x.name) 0) (λ place. Ok (word_of valuation x.name place))
+  value_of valuation (unary op e) = given (value_of valuation e) (λ x. Ok (unary_of op x))
+  value_of valuation (binary op a b) = combined op (value_of valuation a) (value_of valuation b)
 
   -- the place that indices lead to, in row-major order
-  pub place_of : State → Phrases → List ℕ → ℕ → Result ℕ TrapKind
-  place_of state none sizes place = Ok place
-  place_of state (more e index) sizes place = given (value_of state e) (indexed sizes place (place_of state index))
+  pub place_of : Valuation → Phrases → List ℕ → ℕ → Result ℕ TrapKind
+  place_of valuation none sizes place = Ok place
+  place_of valuation (more e index) sizes place = given (value_of valuation e) (indexed sizes place (place_of valuation index))

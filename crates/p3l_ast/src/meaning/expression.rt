@@ -1,43 +1,43 @@
-// What expressions give in a state.
+// What expressions give in a valuation.
 
 ghost use Rattle.std.specs.Prelude.{◌≡◌, ◌+◌, ◌*◌, ◌<◌, ◌^◌, Result, Ok, IfOk, drop, length, slice_index};
 ghost use Rattle.p3l_ast.specs.Tree.{phrase, phrases};
-ghost use Rattle.p3l_ast.specs.Meaning.State.{sizes_of, HasSizes};
+ghost use Rattle.p3l_ast.specs.Meaning.Valuation.{sizes_of, HasSizes};
 ghost use Rattle.p3l_ast.specs.Meaning.Expression.{combined, indexed, value_of, place_of};
 
 use crate::expression::{BinOp, Expr, Target};
 use crate::meaning::operator::{binary, unary};
-use crate::meaning::state::State;
+use crate::meaning::valuation::Valuation;
 use p3l_base::{Name, TrapKind};
 
 /// The number of an expression, or the first trap.
 #[cycle(meaning)]
-pub fn value(state: &State, expr: &Expr) -> Result<i64, TrapKind>
-    requires { HasSizes state.now }
-    ensures { result ≡ value_of state.now (phrase expr.now) }
+pub fn value(valuation: &Valuation, expr: &Expr) -> Result<i64, TrapKind>
+    requires { HasSizes valuation.now }
+    ensures { result ≡ value_of valuation.now (phrase expr.now) }
 {
     match expr {
         Expr::Number(number) => Ok(*number),
         Expr::Read(target) => {
-            let place = place(state, target)?;
-            Ok(state.word(&target.at.name, place))
+            let place = place(valuation, target)?;
+            Ok(valuation.word(&target.at.name, place))
         }
         Expr::Unary(op, operand) => {
-            let operand = value(state, operand)?;
+            let operand = value(valuation, operand)?;
             Ok(unary(*op, operand))
         }
         Expr::Binary(op, left, right) => {
-            let left = value(state, left)?;
-            both(state, *op, left, right)
+            let left = value(valuation, left)?;
+            both(valuation, *op, left, right)
         }
     }
 }
 
 /// The number of an expression whose left operand is known.
 #[cycle(meaning)]
-fn both(state: &State, op: BinOp, left: i64, right: &Expr) -> Result<i64, TrapKind>
-    requires { HasSizes state.now }
-    ensures { result ≡ combined op (Ok left) (value_of state.now (phrase right.now)) }
+fn both(valuation: &Valuation, op: BinOp, left: i64, right: &Expr) -> Result<i64, TrapKind>
+    requires { HasSizes valuation.now }
+    ensures { result ≡ combined op (Ok left) (value_of valuation.now (phrase right.now)) }
 {
     if op == BinOp::Or && left != 0 {
         return Ok(1);
@@ -45,20 +45,20 @@ fn both(state: &State, op: BinOp, left: i64, right: &Expr) -> Result<i64, TrapKi
     if op == BinOp::And && left == 0 {
         return Ok(0);
     }
-    let right = value(state, right)?;
+    let right = value(valuation, right)?;
     binary(op, left, right)
 }
 
 /// The place that the indices of a target lead to, in row-major order, or the first trap.
 #[cycle(meaning)]
-pub fn place(state: &State, target: &Target) -> Result<usize, TrapKind>
-    requires { HasSizes state.now }
-    ensures { result ≡ place_of state.now (phrases target.now.index.items) (sizes_of state.now target.now.at.name) 0 }
+pub fn place(valuation: &Valuation, target: &Target) -> Result<usize, TrapKind>
+    requires { HasSizes valuation.now }
+    ensures { result ≡ place_of valuation.now (phrases target.now.index.items) (sizes_of valuation.now target.now.at.name) 0 }
 {
-    let sizes = state.sizes(&target.at.name);
+    let sizes = valuation.sizes(&target.at.name);
     let mut place = 0;
     for (dimension, index) in target.index.iter().enumerate() {
-        let index = value(state, index)?;
+        let index = value(valuation, index)?;
         place = element(sizes, dimension, place, index)?;
     }
     Ok(place)

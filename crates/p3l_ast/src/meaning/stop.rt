@@ -1,8 +1,8 @@
-// Why statements may give no state.
+// Why statements may give no valuation.
 
 use p3l_base::TrapKind;
 
-/// Why a run of statements ended with no state: its first trap, or want of memory, which is no part
+/// Why a run of statements ended with no valuation: its first trap, or want of memory, which is no part
 /// of what the statements mean.
 #[derive(Clone, Copy, Debug, Drop, PartialEq, Eq)]
 pub enum Stop {

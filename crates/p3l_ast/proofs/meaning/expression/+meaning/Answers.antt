@@ -43,7 +43,7 @@ value-returns-in_ok-operand-in-Unary t c =
 pub value-returns-in_ok-left-in-Binary : goal.value-returns-in_ok-left-in-Binary
 value-returns-in_ok-left-in-Binary t c =
     let fits : FitsSigned w64 c.in_ok-left-in-Binary.left = search rules in
-    let both = c.both.ensures ∙ ap (λ x. combined c.in-Binary.op (Ok x) (value_of c.args.state.now (phrase c.deref-in-Binary-2.result.now))) (to_z-of_z w64 c.in_ok-left-in-Binary.left fits) in
+    let both = c.both.ensures ∙ ap (λ x. combined c.in-Binary.op (Ok x) (value_of c.args.valuation.now (phrase c.deref-in-Binary-2.result.now))) (to_z-of_z w64 c.in_ok-left-in-Binary.left fits) in
     combined_pass _ _ _ _ _ _ c.in_ok-left-in-Binary.ensures both (binary_value _ _ _ _ _ _ _ c.in-Binary.is c.deref-in-Binary.ensures c.deref-in-Binary-2.ensures)
 
 pub place-element-requires : goal.place-element-requires
@@ -55,34 +55,34 @@ place-element-requires t c =
 pub place-returns-in_err-index : goal.place-returns-in_err-index
 place-returns-in_err-index t c =
     let p = err_from_is_err_and c.from_residual.result c.from_residual.ensures.1 in
-    let whole = same_place c.args.state.now _ _ _ _ c.deref-index-items.ensures.value c.sizes-sizes.ensures in
-    let step = place_step c.args.state.now c.deref-index-items.result.now (drop c.loop-dimension.dimension c.sizes-sizes.result.now) c.loop-dimension.dimension c.loop-dimension.place c.index-item.result c.loop-dimension-test.true c.index-item.is in
+    let whole = same_place c.args.valuation.now _ _ _ _ c.deref-index-items.ensures.value c.sizes-sizes.ensures in
+    let step = place_step c.args.valuation.now c.deref-index-items.result.now (drop c.loop-dimension.dimension c.sizes-sizes.result.now) c.loop-dimension.dimension c.loop-dimension.place c.index-item.result c.loop-dimension-test.true c.index-item.is in
     rw (p.1, p.2) (exit_given _ _ _ _ c.in_err-index.ensures (sym whole ∙ c.loop-dimension.invariant.same ∙ step))
 
 pub place-returns-in_err-place : goal.place-returns-in_err-place
 place-returns-in_err-place t c =
     let p = err_from_is_err_and c.from_residual-in_err-place.result c.from_residual-in_err-place.ensures.1 in
     let fits : FitsSigned w64 c.in_ok-index.index = search rules in
-    let whole = same_place c.args.state.now _ _ _ _ c.deref-index-items.ensures.value c.sizes-sizes.ensures in
-    let step = place_step c.args.state.now c.deref-index-items.result.now (drop c.loop-dimension.dimension c.sizes-sizes.result.now) c.loop-dimension.dimension c.loop-dimension.place c.index-item.result c.loop-dimension-test.true c.index-item.is in
+    let whole = same_place c.args.valuation.now _ _ _ _ c.deref-index-items.ensures.value c.sizes-sizes.ensures in
+    let step = place_step c.args.valuation.now c.deref-index-items.result.now (drop c.loop-dimension.dimension c.sizes-sizes.result.now) c.loop-dimension.dimension c.loop-dimension.place c.index-item.result c.loop-dimension-test.true c.index-item.is in
     let found = c.in_err-place.ensures.value ∙ ap (indexed (drop c.loop-dimension.dimension c.sizes-sizes.result.now) c.loop-dimension.place (λ rest next. Ok next)) (to_z-of_z w64 c.in_ok-index.index fits) in
-    rw (p.1, p.2) (indexed_exit (drop c.loop-dimension.dimension c.sizes-sizes.result.now) c.loop-dimension.place (place_of c.args.state.now (phrases (drop (c.loop-dimension.dimension + 1) c.deref-index-items.result.now))) c.in_ok-index.index _ found ∙ pass_given _ _ _ _ c.in_ok-index.ensures (sym whole ∙ c.loop-dimension.invariant.same ∙ step))
+    rw (p.1, p.2) (indexed_exit (drop c.loop-dimension.dimension c.sizes-sizes.result.now) c.loop-dimension.place (place_of c.args.valuation.now (phrases (drop (c.loop-dimension.dimension + 1) c.deref-index-items.result.now))) c.in_ok-index.index _ found ∙ pass_given _ _ _ _ c.in_ok-index.ensures (sym whole ∙ c.loop-dimension.invariant.same ∙ step))
 
 pub place-loop-dimension-preserved : goal.place-loop-dimension-preserved
 place-loop-dimension-preserved t c =
     let fits : FitsSigned w64 c.in_ok-index.index = search rules in
-    let step = place_step c.args.state.now c.deref-index-items.result.now (drop c.loop-dimension.dimension c.sizes-sizes.result.now) c.loop-dimension.dimension c.loop-dimension.place c.index-item.result c.loop-dimension-test.true c.index-item.is in
+    let step = place_step c.args.valuation.now c.deref-index-items.result.now (drop c.loop-dimension.dimension c.sizes-sizes.result.now) c.loop-dimension.dimension c.loop-dimension.place c.index-item.result c.loop-dimension-test.true c.index-item.is in
     let found = c.in_ok-place.ensures.value ∙ ap (indexed (drop c.loop-dimension.dimension c.sizes-sizes.result.now) c.loop-dimension.place (λ rest next. Ok next)) (to_z-of_z w64 c.in_ok-index.index fits) in
     let size : get_or c.sizes-sizes.result.now c.loop-dimension.dimension 0 ≤ 65536 = rw c.sizes-sizes.ensures (c.requires.small c.args.target.now.at.name c.loop-dimension.dimension) in
     record {
       dimensions = omega (arith, c.in_ok-place.ensures.within);
       small = small_step c.loop-dimension.dimension c.loop-dimension.place (get_or c.sizes-sizes.result.now c.loop-dimension.dimension 0) c.in_ok-place.place c.loop-dimension.invariant.small size c.in_ok-place.ensures.below;
       same =
-          c.loop-dimension.invariant.same ∙ sym (pass_given _ _ _ _ c.in_ok-index.ensures step) ∙ indexed_pass (drop c.loop-dimension.dimension c.sizes-sizes.result.now) c.loop-dimension.place c.in_ok-place.place (place_of c.args.state.now (phrases (drop (c.loop-dimension.dimension + 1) c.deref-index-items.result.now))) c.in_ok-index.index found
-          ∙ ap (λ z. place_of c.args.state.now (phrases (drop (c.loop-dimension.dimension + 1) c.deref-index-items.result.now)) z c.in_ok-place.place) (drop_next c.sizes-sizes.result.now c.loop-dimension.dimension);
+          c.loop-dimension.invariant.same ∙ sym (pass_given _ _ _ _ c.in_ok-index.ensures step) ∙ indexed_pass (drop c.loop-dimension.dimension c.sizes-sizes.result.now) c.loop-dimension.place c.in_ok-place.place (place_of c.args.valuation.now (phrases (drop (c.loop-dimension.dimension + 1) c.deref-index-items.result.now))) c.in_ok-index.index found
+          ∙ ap (λ z. place_of c.args.valuation.now (phrases (drop (c.loop-dimension.dimension + 1) c.deref-index-items.result.now)) z c.in_ok-place.place) (drop_next c.sizes-sizes.result.now c.loop-dimension.dimension);
     }
 
 pub place-returns : goal.place-returns
 place-returns t c =
-    let whole = same_place c.args.state.now _ _ _ _ c.deref-index-items.ensures.value c.sizes-sizes.ensures in
-    sym (place_end c.args.state.now c.deref-index-items.result.now (drop c.loop-dimension.dimension c.sizes-sizes.result.now) c.loop-dimension.dimension c.loop-dimension.place c.loop-dimension-test.false) ∙ sym c.loop-dimension.invariant.same ∙ whole
+    let whole = same_place c.args.valuation.now _ _ _ _ c.deref-index-items.ensures.value c.sizes-sizes.ensures in
+    sym (place_end c.args.valuation.now c.deref-index-items.result.now (drop c.loop-dimension.dimension c.sizes-sizes.result.now) c.loop-dimension.dimension c.loop-dimension.place c.loop-dimension-test.false) ∙ sym c.loop-dimension.invariant.same ∙ whole

@@ -13,114 +13,114 @@ use Rattle.p3l_ast.proofs.meaning.statement.+statement.Goals as goal
 pub run_while-returns-in_err-holds-clause-run : goal.run_while-returns-in_err-holds-clause-run
 run_while-returns-in_err-holds-clause-run t c =
     trap_handed _ _ _ c.from_residual.ensures.1
-    (loop_trap c.args.budget (phrase c.args.condition.now) (statements c.args.body.now) c.loop-state.state _ c.in_err-holds.ensures ∙ c.loop-state.invariant.so_far)
+    (loop_trap c.args.budget (phrase c.args.condition.now) (statements c.args.body.now) c.loop-valuation.valuation _ c.in_err-holds.ensures ∙ c.loop-valuation.invariant.so_far)
 
-pub run_while-returns-in_err-state-clause-run : goal.run_while-returns-in_err-state-clause-run
-run_while-returns-in_err-state-clause-run t c =
+pub run_while-returns-in_err-valuation-clause-run : goal.run_while-returns-in_err-valuation-clause-run
+run_while-returns-in_err-valuation-clause-run t c =
     let e = phrase c.args.condition.now in
-    let so : Ok true ≡ holding e c.loop-state.state = ap (λ b. Ok b) (sym c.if-branch.true) ∙ c.in_ok-holds.ensures in
-    trap_handed _ _ _ c.from_residual-in_err-state.ensures.1
-    (loop_spent c.args.budget e (statements c.args.body.now) c.loop-state.state _ so c.in_err-state.ensures ∙ c.loop-state.invariant.so_far)
+    let so : Ok true ≡ holding e c.loop-valuation.valuation = ap (λ b. Ok b) (sym c.if-branch.true) ∙ c.in_ok-holds.ensures in
+    trap_handed _ _ _ c.from_residual-in_err-valuation.ensures.1
+    (loop_spent c.args.budget e (statements c.args.body.now) c.loop-valuation.valuation _ so c.in_err-valuation.ensures ∙ c.loop-valuation.invariant.so_far)
 
 pub run_while-run_statements-requires : goal.run_while-run_statements-requires
 run_while-run_statements-requires t c =
-    (omega arith, turned-sizes c.args.budget c.loop-state.state c.in_ok-state.state c.in_ok-state.ensures c.loop-state.invariant.sizes)
+    (omega arith, turned-sizes c.args.budget c.loop-valuation.valuation c.in_ok-valuation.valuation c.in_ok-valuation.ensures c.loop-valuation.invariant.sizes)
 
-pub run_while-returns-in_err-state-2-clause-run : goal.run_while-returns-in_err-state-2-clause-run
-run_while-returns-in_err-state-2-clause-run t c =
+pub run_while-returns-in_err-valuation-2-clause-run : goal.run_while-returns-in_err-valuation-2-clause-run
+run_while-returns-in_err-valuation-2-clause-run t c =
     let e = phrase c.args.condition.now in
-    let so : Ok true ≡ holding e c.loop-state.state = ap (λ b. Ok b) (sym c.if-branch.true) ∙ c.in_ok-holds.ensures in
-    stop_handed _ _ _ _ c.from_residual-in_err-state-2.ensures.1 c.loop-state.invariant.so_far
-    (loop_stop c.args.budget e (statements c.args.body.now) c.loop-state.state c.in_ok-state.state _ so c.in_ok-state.ensures c.in_err-state-2.ensures.run)
+    let so : Ok true ≡ holding e c.loop-valuation.valuation = ap (λ b. Ok b) (sym c.if-branch.true) ∙ c.in_ok-holds.ensures in
+    stop_handed _ _ _ _ c.from_residual-in_err-valuation-2.ensures.1 c.loop-valuation.invariant.so_far
+    (loop_stop c.args.budget e (statements c.args.body.now) c.loop-valuation.valuation c.in_ok-valuation.valuation _ so c.in_ok-valuation.ensures c.in_err-valuation-2.ensures.run)
 
-pub run_while-loop-state-smaller : goal.run_while-loop-state-smaller
-run_while-loop-state-smaller t c =
-    loop_falls c.args.budget (phrase c.args.condition.now) (statements c.args.body.now) c.loop-state.state c.in_ok-state.state c.in_ok-state-2.state c.in_ok-state.ensures c.in_ok-state-2.ensures.run
+pub run_while-loop-valuation-smaller : goal.run_while-loop-valuation-smaller
+run_while-loop-valuation-smaller t c =
+    loop_falls c.args.budget (phrase c.args.condition.now) (statements c.args.body.now) c.loop-valuation.valuation c.in_ok-valuation.valuation c.in_ok-valuation-2.valuation c.in_ok-valuation.ensures c.in_ok-valuation-2.ensures.run
 
-pub run_while-loop-state-preserved : goal.run_while-loop-state-preserved
-run_while-loop-state-preserved t c =
+pub run_while-loop-valuation-preserved : goal.run_while-loop-valuation-preserved
+run_while-loop-valuation-preserved t c =
     let e = phrase c.args.condition.now in
-    let so : Ok true ≡ holding e c.loop-state.state = ap (λ b. Ok b) (sym c.if-branch.true) ∙ c.in_ok-holds.ensures in
+    let so : Ok true ≡ holding e c.loop-valuation.valuation = ap (λ b. Ok b) (sym c.if-branch.true) ∙ c.in_ok-holds.ensures in
     record {
-      so_far = loop_again c.args.budget e (statements c.args.body.now) c.loop-state.state c.in_ok-state.state c.in_ok-state-2.state so c.in_ok-state.ensures c.in_ok-state-2.ensures.run
-          ∙ c.loop-state.invariant.so_far;
-      sizes = c.in_ok-state-2.ensures.sizes;
+      so_far = loop_again c.args.budget e (statements c.args.body.now) c.loop-valuation.valuation c.in_ok-valuation.valuation c.in_ok-valuation-2.valuation so c.in_ok-valuation.ensures c.in_ok-valuation-2.ensures.run
+          ∙ c.loop-valuation.invariant.so_far;
+      sizes = c.in_ok-valuation-2.ensures.sizes;
     }
 
 pub run_while-returns-clause-run : goal.run_while-returns-clause-run
 run_while-returns-clause-run t c =
     let e = phrase c.args.condition.now in
-    let not : Ok false ≡ holding e c.loop-state.state = ap (λ b. Ok b) (sym c.if-branch.false) ∙ c.in_ok-holds.ensures in
-    loop_end c.args.budget e (statements c.args.body.now) c.loop-state.state not ∙ c.loop-state.invariant.so_far
+    let not : Ok false ≡ holding e c.loop-valuation.valuation = ap (λ b. Ok b) (sym c.if-branch.false) ∙ c.in_ok-holds.ensures in
+    loop_end c.args.budget e (statements c.args.body.now) c.loop-valuation.valuation not ∙ c.loop-valuation.invariant.so_far
 
 pub run_for-returns-in_err-holds-clause-run : goal.run_for-returns-in_err-holds-clause-run
 run_for-returns-in_err-holds-clause-run t c =
     trap_handed _ _ _ c.from_residual.ensures.1
-    (loop_trap c.args.budget (phrase c.args.condition.now) (stepped c.args.body.now c.args.next.now c.args.step.now) c.loop-state.state _ c.in_err-holds.ensures ∙ c.loop-state.invariant.so_far)
+    (loop_trap c.args.budget (phrase c.args.condition.now) (stepped c.args.body.now c.args.next.now c.args.step.now) c.loop-valuation.valuation _ c.in_err-holds.ensures ∙ c.loop-valuation.invariant.so_far)
 
-pub run_for-returns-in_err-state-clause-run : goal.run_for-returns-in_err-state-clause-run
-run_for-returns-in_err-state-clause-run t c =
+pub run_for-returns-in_err-valuation-clause-run : goal.run_for-returns-in_err-valuation-clause-run
+run_for-returns-in_err-valuation-clause-run t c =
     let e = phrase c.args.condition.now in
-    let so : Ok true ≡ holding e c.loop-state.state = ap (λ b. Ok b) (sym c.if-branch.true) ∙ c.in_ok-holds.ensures in
-    trap_handed _ _ _ c.from_residual-in_err-state.ensures.1
-    (loop_spent c.args.budget e (stepped c.args.body.now c.args.next.now c.args.step.now) c.loop-state.state _ so c.in_err-state.ensures ∙ c.loop-state.invariant.so_far)
+    let so : Ok true ≡ holding e c.loop-valuation.valuation = ap (λ b. Ok b) (sym c.if-branch.true) ∙ c.in_ok-holds.ensures in
+    trap_handed _ _ _ c.from_residual-in_err-valuation.ensures.1
+    (loop_spent c.args.budget e (stepped c.args.body.now c.args.next.now c.args.step.now) c.loop-valuation.valuation _ so c.in_err-valuation.ensures ∙ c.loop-valuation.invariant.so_far)
 
 pub run_for-run_statements-requires : goal.run_for-run_statements-requires
 run_for-run_statements-requires t c =
-    (omega arith, turned-sizes c.args.budget c.loop-state.state c.in_ok-state.state c.in_ok-state.ensures c.loop-state.invariant.sizes)
+    (omega arith, turned-sizes c.args.budget c.loop-valuation.valuation c.in_ok-valuation.valuation c.in_ok-valuation.ensures c.loop-valuation.invariant.sizes)
 
-pub run_for-returns-in_err-state-2-clause-run : goal.run_for-returns-in_err-state-2-clause-run
-run_for-returns-in_err-state-2-clause-run t c =
+pub run_for-returns-in_err-valuation-2-clause-run : goal.run_for-returns-in_err-valuation-2-clause-run
+run_for-returns-in_err-valuation-2-clause-run t c =
     let e = phrase c.args.condition.now in
     let body = c.args.body.now in
-    let so : Ok true ≡ holding e c.loop-state.state = ap (λ b. Ok b) (sym c.if-branch.true) ∙ c.in_ok-holds.ensures in
-    let stops = body_stops c.args.budget body c.args.next.now c.args.step.now c.in_ok-state.state _ c.in_err-state-2.ensures.run in
-    stop_handed _ _ _ _ c.from_residual-in_err-state-2.ensures.1 c.loop-state.invariant.so_far
-    (loop_stop c.args.budget e (stepped body c.args.next.now c.args.step.now) c.loop-state.state c.in_ok-state.state _ so c.in_ok-state.ensures stops)
+    let so : Ok true ≡ holding e c.loop-valuation.valuation = ap (λ b. Ok b) (sym c.if-branch.true) ∙ c.in_ok-holds.ensures in
+    let stops = body_stops c.args.budget body c.args.next.now c.args.step.now c.in_ok-valuation.valuation _ c.in_err-valuation-2.ensures.run in
+    stop_handed _ _ _ _ c.from_residual-in_err-valuation-2.ensures.1 c.loop-valuation.invariant.so_far
+    (loop_stop c.args.budget e (stepped body c.args.next.now c.args.step.now) c.loop-valuation.valuation c.in_ok-valuation.valuation _ so c.in_ok-valuation.ensures stops)
 
-pub run_for-returns-in_err-state-3-clause-run : goal.run_for-returns-in_err-state-3-clause-run
-run_for-returns-in_err-state-3-clause-run t c =
+pub run_for-returns-in_err-valuation-3-clause-run : goal.run_for-returns-in_err-valuation-3-clause-run
+run_for-returns-in_err-valuation-3-clause-run t c =
     let e = phrase c.args.condition.now in
     let body = c.args.body.now in
-    let so : Ok true ≡ holding e c.loop-state.state = ap (λ b. Ok b) (sym c.if-branch.true) ∙ c.in_ok-holds.ensures in
-    let stops = step_stops c.args.budget body c.args.next.now c.args.step.now c.in_ok-state.state c.in_ok-state-2.state _ c.in_ok-state-2.ensures.run c.in_err-state-3.ensures.run in
-    stop_handed _ _ _ _ c.from_residual-in_err-state-3.ensures.1 c.loop-state.invariant.so_far
-    (loop_stop c.args.budget e (stepped body c.args.next.now c.args.step.now) c.loop-state.state c.in_ok-state.state _ so c.in_ok-state.ensures stops)
+    let so : Ok true ≡ holding e c.loop-valuation.valuation = ap (λ b. Ok b) (sym c.if-branch.true) ∙ c.in_ok-holds.ensures in
+    let stops = step_stops c.args.budget body c.args.next.now c.args.step.now c.in_ok-valuation.valuation c.in_ok-valuation-2.valuation _ c.in_ok-valuation-2.ensures.run c.in_err-valuation-3.ensures.run in
+    stop_handed _ _ _ _ c.from_residual-in_err-valuation-3.ensures.1 c.loop-valuation.invariant.so_far
+    (loop_stop c.args.budget e (stepped body c.args.next.now c.args.step.now) c.loop-valuation.valuation c.in_ok-valuation.valuation _ so c.in_ok-valuation.ensures stops)
 
-pub run_for-loop-state-smaller : goal.run_for-loop-state-smaller
-run_for-loop-state-smaller t c =
+pub run_for-loop-valuation-smaller : goal.run_for-loop-valuation-smaller
+run_for-loop-valuation-smaller t c =
     let body = c.args.body.now in
-    let goes = step_goes c.args.budget body c.args.next.now c.args.step.now c.in_ok-state.state c.in_ok-state-2.state c.in_ok-state-3.state c.in_ok-state-2.ensures.run c.in_ok-state-3.ensures.run in
-    loop_falls c.args.budget (phrase c.args.condition.now) (stepped body c.args.next.now c.args.step.now) c.loop-state.state c.in_ok-state.state c.in_ok-state-3.state c.in_ok-state.ensures goes
+    let goes = step_goes c.args.budget body c.args.next.now c.args.step.now c.in_ok-valuation.valuation c.in_ok-valuation-2.valuation c.in_ok-valuation-3.valuation c.in_ok-valuation-2.ensures.run c.in_ok-valuation-3.ensures.run in
+    loop_falls c.args.budget (phrase c.args.condition.now) (stepped body c.args.next.now c.args.step.now) c.loop-valuation.valuation c.in_ok-valuation.valuation c.in_ok-valuation-3.valuation c.in_ok-valuation.ensures goes
 
-pub run_for-loop-state-preserved : goal.run_for-loop-state-preserved
-run_for-loop-state-preserved t c =
+pub run_for-loop-valuation-preserved : goal.run_for-loop-valuation-preserved
+run_for-loop-valuation-preserved t c =
     let e = phrase c.args.condition.now in
     let body = c.args.body.now in
-    let so : Ok true ≡ holding e c.loop-state.state = ap (λ b. Ok b) (sym c.if-branch.true) ∙ c.in_ok-holds.ensures in
-    let goes = step_goes c.args.budget body c.args.next.now c.args.step.now c.in_ok-state.state c.in_ok-state-2.state c.in_ok-state-3.state c.in_ok-state-2.ensures.run c.in_ok-state-3.ensures.run in
+    let so : Ok true ≡ holding e c.loop-valuation.valuation = ap (λ b. Ok b) (sym c.if-branch.true) ∙ c.in_ok-holds.ensures in
+    let goes = step_goes c.args.budget body c.args.next.now c.args.step.now c.in_ok-valuation.valuation c.in_ok-valuation-2.valuation c.in_ok-valuation-3.valuation c.in_ok-valuation-2.ensures.run c.in_ok-valuation-3.ensures.run in
     record {
-      so_far = loop_again c.args.budget e (stepped body c.args.next.now c.args.step.now) c.loop-state.state c.in_ok-state.state c.in_ok-state-3.state so c.in_ok-state.ensures goes
-          ∙ c.loop-state.invariant.so_far;
-      sizes = c.in_ok-state-3.ensures.sizes;
+      so_far = loop_again c.args.budget e (stepped body c.args.next.now c.args.step.now) c.loop-valuation.valuation c.in_ok-valuation.valuation c.in_ok-valuation-3.valuation so c.in_ok-valuation.ensures goes
+          ∙ c.loop-valuation.invariant.so_far;
+      sizes = c.in_ok-valuation-3.ensures.sizes;
     }
 
 pub run_for-returns-clause-run : goal.run_for-returns-clause-run
 run_for-returns-clause-run t c =
     let e = phrase c.args.condition.now in
-    let not : Ok false ≡ holding e c.loop-state.state = ap (λ b. Ok b) (sym c.if-branch.false) ∙ c.in_ok-holds.ensures in
-    loop_end c.args.budget e (stepped c.args.body.now c.args.next.now c.args.step.now) c.loop-state.state not ∙ c.loop-state.invariant.so_far
+    let not : Ok false ≡ holding e c.loop-valuation.valuation = ap (λ b. Ok b) (sym c.if-branch.false) ∙ c.in_ok-holds.ensures in
+    loop_end c.args.budget e (stepped c.args.body.now c.args.next.now c.args.step.now) c.loop-valuation.valuation not ∙ c.loop-valuation.invariant.so_far
 
 pub run_statement-returns-in_err-holds-in-If-clause-run :
     goal.run_statement-returns-in_err-holds-in-If-clause-run
 run_statement-returns-in_err-holds-in-If-clause-run t c =
     trap_handed _ _ _ c.from_residual.ensures.1
-    (if_trap c.args.budget c.in-If.condition c.in-If.then c.args.state c.in-If.otherwise _ c.in_err-holds-in-If.ensures
-    ∙ ap (λ (x : Stmt). run_of c.args.budget (one x) c.args.state) (sym c.in-If.is))
+    (if_trap c.args.budget c.in-If.condition c.in-If.then c.args.valuation c.in-If.otherwise _ c.in_err-holds-in-If.ensures
+    ∙ ap (λ (x : Stmt). run_of c.args.budget (one x) c.args.valuation) (sym c.in-If.is))
 
 pub run_statement-returns-then-branch-clause-run : goal.run_statement-returns-then-branch-clause-run
 run_statement-returns-then-branch-clause-run t c =
-    let s = c.args.state in
+    let s = c.args.valuation in
     let so : Ok true ≡ holding (phrase c.in-If.condition) s = ap (λ b. Ok b) (sym c.if-branch.true) ∙ c.in_ok-holds-in-If.ensures in
     let whole = ap (λ (x : Stmt). run_of c.args.budget (one x) s) c.in-If.is ∙ if_so c.args.budget c.in-If.condition c.in-If.then s c.in-If.otherwise so
     ∙ ap (λ x. run_of c.args.budget (statements x) s) (sym c.deref.ensures.value) in
@@ -128,7 +128,7 @@ run_statement-returns-then-branch-clause-run t c =
 
 pub run_statement-returns-in-Some-clause-run : goal.run_statement-returns-in-Some-clause-run
 run_statement-returns-in-Some-clause-run t c =
-    let s = c.args.state in
+    let s = c.args.valuation in
     let not : Ok false ≡ holding (phrase c.in-If.condition) s = ap (λ b. Ok b) (sym c.if-branch.false) ∙ c.in_ok-holds-in-If.ensures in
     let whole = ap (λ (x : Stmt). run_of c.args.budget (one x) s) c.in-If.is
     ∙ ap (λ (o : Option (Vec Stmt Global)). run_of c.args.budget (one (If c.in-If.condition c.in-If.then o)) s) c.in-Some.is
@@ -138,7 +138,7 @@ run_statement-returns-in-Some-clause-run t c =
 
 pub run_statement-returns-in-None-clause-run : goal.run_statement-returns-in-None-clause-run
 run_statement-returns-in-None-clause-run t c =
-    let s = c.args.state in
+    let s = c.args.valuation in
     let not : Ok false ≡ holding (phrase c.in-If.condition) s = ap (λ b. Ok b) (sym c.if-branch.false) ∙ c.in_ok-holds-in-If.ensures in
     let whole = ap (λ (x : Stmt). run_of c.args.budget (one x) s) c.in-If.is
     ∙ ap (λ (o : Option (Vec Stmt Global)). run_of c.args.budget (one (If c.in-If.condition c.in-If.then o)) s) c.in-None.is
@@ -147,55 +147,55 @@ run_statement-returns-in-None-clause-run t c =
 
 pub run_statement-returns-in-Assign-clause-run : goal.run_statement-returns-in-Assign-clause-run
 run_statement-returns-in-Assign-clause-run t c =
-    let s = c.args.state in
+    let s = c.args.valuation in
     let whole = ap (λ (x : Stmt). run_of c.args.budget (one x) s) c.in-Assign.is ∙ run_assign c.args.budget c.in-Assign.target c.in-Assign.expr s in
     gives_same _ _ _ (sym whole) c.assigned.ensures.run
 
 pub run_statement-returns-in-While-clause-run : goal.run_statement-returns-in-While-clause-run
 run_statement-returns-in-While-clause-run t c =
-    let s = c.args.state in
+    let s = c.args.valuation in
     let whole = ap (λ (x : Stmt). run_of c.args.budget (one x) s) c.in-While.is ∙ run_while c.args.budget c.in-While.condition c.in-While.body s
     ∙ ap (λ x. loop_of c.args.budget (phrase c.in-While.condition) (statements x) s) (sym c.deref-in-While.ensures.value) in
     gives_same _ _ _ (sym whole) c.run_while.ensures.run
 
-pub run_statement-returns-in_err-state-in-For-clause-run :
-    goal.run_statement-returns-in_err-state-in-For-clause-run
-run_statement-returns-in_err-state-in-For-clause-run t c =
-    let s = c.args.state in
+pub run_statement-returns-in_err-valuation-in-For-clause-run :
+    goal.run_statement-returns-in_err-valuation-in-For-clause-run
+run_statement-returns-in_err-valuation-in-For-clause-run t c =
+    let s = c.args.valuation in
     let arm = c.in-For in
     let whole = ap (λ (x : Stmt). run_of c.args.budget (one x) s) arm.is ∙ run_for c.args.budget arm.first arm.next arm.start arm.condition arm.step arm.body s in
-    stop_handed _ _ _ _ c.from_residual-in_err-state-in-For.ensures.1 (sym whole)
-    (stop_given _ (assigned arm.first.at.name (phrases arm.first.index.items) (phrase arm.start) s) (loop_of c.args.budget (phrase arm.condition) (stepped arm.body.items arm.next arm.step)) c.in_err-state-in-For.ensures.run)
+    stop_handed _ _ _ _ c.from_residual-in_err-valuation-in-For.ensures.1 (sym whole)
+    (stop_given _ (assigned arm.first.at.name (phrases arm.first.index.items) (phrase arm.start) s) (loop_of c.args.budget (phrase arm.condition) (stepped arm.body.items arm.next arm.step)) c.in_err-valuation-in-For.ensures.run)
 
-pub run_statement-returns-in_ok-state-in-For-clause-run :
-    goal.run_statement-returns-in_ok-state-in-For-clause-run
-run_statement-returns-in_ok-state-in-For-clause-run t c =
-    let s = c.args.state in
+pub run_statement-returns-in_ok-valuation-in-For-clause-run :
+    goal.run_statement-returns-in_ok-valuation-in-For-clause-run
+run_statement-returns-in_ok-valuation-in-For-clause-run t c =
+    let s = c.args.valuation in
     let arm = c.in-For in
-    let m = c.in_ok-state-in-For.state in
+    let m = c.in_ok-valuation-in-For.valuation in
     let whole = ap (λ (x : Stmt). run_of c.args.budget (one x) s) arm.is ∙ run_for c.args.budget arm.first arm.next arm.start arm.condition arm.step arm.body s
-    ∙ ok_given m (assigned arm.first.at.name (phrases arm.first.index.items) (phrase arm.start) s) (loop_of c.args.budget (phrase arm.condition) (stepped arm.body.items arm.next arm.step)) c.in_ok-state-in-For.ensures.run
+    ∙ ok_given m (assigned arm.first.at.name (phrases arm.first.index.items) (phrase arm.start) s) (loop_of c.args.budget (phrase arm.condition) (stepped arm.body.items arm.next arm.step)) c.in_ok-valuation-in-For.ensures.run
     ∙ ap (λ x. loop_of c.args.budget (phrase arm.condition) (stepped x arm.next arm.step) m) (sym c.deref-in-For.ensures.value) in
     gives_same _ _ _ (sym whole) c.run_for.ensures.run
 
-pub run_statements-returns-in_err-state-clause-run :
-    goal.run_statements-returns-in_err-state-clause-run
-run_statements-returns-in_err-state-clause-run t c =
+pub run_statements-returns-in_err-valuation-clause-run :
+    goal.run_statements-returns-in_err-valuation-clause-run
+run_statements-returns-in_err-valuation-clause-run t c =
     let i = c.loop-stmt.stmt-index in
-    let next = run_next c.args.budget c.args.stmts.now i c.stmt-item.result c.loop-stmt.state c.loop-stmt-test.true c.stmt-item.is in
+    let next = run_next c.args.budget c.args.stmts.now i c.stmt-item.result c.loop-stmt.valuation c.loop-stmt-test.true c.stmt-item.is in
     stop_handed _ _ _ _ c.from_residual.ensures.1 (sym next ∙ c.loop-stmt.invariant.so_far)
-    (stop_given _ (run_of c.args.budget (one c.stmt-item.result) c.loop-stmt.state) (run_of c.args.budget (statements (drop (i + 1) c.args.stmts.now))) c.in_err-state.ensures.run)
+    (stop_given _ (run_of c.args.budget (one c.stmt-item.result) c.loop-stmt.valuation) (run_of c.args.budget (statements (drop (i + 1) c.args.stmts.now))) c.in_err-valuation.ensures.run)
 
 pub run_statements-loop-stmt-preserved : goal.run_statements-loop-stmt-preserved
 run_statements-loop-stmt-preserved t c =
     let i = c.loop-stmt.stmt-index in
-    let next = run_next c.args.budget c.args.stmts.now i c.stmt-item.result c.loop-stmt.state c.loop-stmt-test.true c.stmt-item.is
-    ∙ ok_given c.in_ok-state.state (run_of c.args.budget (one c.stmt-item.result) c.loop-stmt.state) (run_of c.args.budget (statements (drop (i + 1) c.args.stmts.now))) c.in_ok-state.ensures.run in
-    record { so_far = sym next ∙ c.loop-stmt.invariant.so_far; sizes = c.in_ok-state.ensures.sizes }
+    let next = run_next c.args.budget c.args.stmts.now i c.stmt-item.result c.loop-stmt.valuation c.loop-stmt-test.true c.stmt-item.is
+    ∙ ok_given c.in_ok-valuation.valuation (run_of c.args.budget (one c.stmt-item.result) c.loop-stmt.valuation) (run_of c.args.budget (statements (drop (i + 1) c.args.stmts.now))) c.in_ok-valuation.ensures.run in
+    record { so_far = sym next ∙ c.loop-stmt.invariant.so_far; sizes = c.in_ok-valuation.ensures.sizes }
 
 pub run_statements-returns-clause-run : goal.run_statements-returns-clause-run
 run_statements-returns-clause-run t c =
-    let s = c.loop-stmt.state in
+    let s = c.loop-stmt.valuation in
     let past = drop_all c.loop-stmt.stmt-index c.args.stmts.now c.loop-stmt-test.false in
     sym (run_none c.args.budget s) ∙ ap (λ (x : List Stmt). run_of c.args.budget (statements x) s) (sym past) ∙ c.loop-stmt.invariant.so_far
 
@@ -234,4 +234,4 @@ run_statement-run_for-requires t c =
     let w = for_weighs arm.first arm.next arm.start arm.condition arm.step arm.body in
     let whole = ap (λ (x : Stmt). weight (one x)) arm.is in
     let part = ap (λ (x : List Stmt). weight (statements x)) c.deref-in-For.ensures.value in
-    (omega arith, c.in_ok-state-in-For.ensures.sizes)
+    (omega arith, c.in_ok-valuation-in-For.ensures.sizes)

@@ -2,7 +2,7 @@
 
 ghost use Rattle.std.specs.List.{All};
 ghost use Rattle.std.specs.Prelude.{◌≡◌, ◌↔◌, ◌≤◌, length, IfOk, IsTrue};
-ghost use Rattle.p3l_ast.specs.Meaning.State.{rebound, with_word, turned, HasSizes};
+ghost use Rattle.p3l_ast.specs.Meaning.Valuation.{rebound, with_word, turned, HasSizes};
 
 use p3l_base::{List, Name, NoMemory, TrapKind, Words};
 use std::alloc::Global;
@@ -18,15 +18,15 @@ pub struct Binding {
 
 /// What the names of a body stand for, and how many turns its loops have begun.
 #[derive(Debug, Drop)]
-pub struct State {
+pub struct Valuation {
     pub bindings: List<Binding>,
     pub turns: u32,
 }
 
-impl State {
+impl Valuation {
     ghost use Rattle.std.specs.Prelude.{◌≡◌};
     ghost use Rattle.std.specs.Option.{option_copied};
-    ghost use Rattle.p3l_ast.specs.Meaning.State.{binding_of, sizes_of, word_of};
+    ghost use Rattle.p3l_ast.specs.Meaning.Valuation.{binding_of, sizes_of, word_of};
 
     /// What a name stands for.
     fn binding(&self, name: &Name) -> Option<&Binding>
@@ -80,45 +80,45 @@ fn rebound(
     })
 }
 
-/// The state in which a name's word at a place is another.
+/// The valuation in which a name's word at a place is another.
 pub fn with_word(
     alloc: Global,
-    state: &State,
+    valuation: &Valuation,
     name: &Name,
     place: usize,
     word: i64,
-) -> Result<State, NoMemory>
-    ensures { IfOk result (λ next. next ≡ with_word state.now name.now place word) }
+) -> Result<Valuation, NoMemory>
+    ensures { IfOk result (λ next. next ≡ with_word valuation.now name.now place word) }
 {
     let mut bindings = List::new(alloc);
-    for binding in state.bindings.as_slice() {
+    for binding in valuation.bindings.as_slice() {
         bindings.push(rebound(alloc, name, place, word, binding)?)?;
     }
-    Ok(State {
+    Ok(Valuation {
         bindings,
-        turns: state.turns,
+        turns: valuation.turns,
     })
 }
 
-/// The state with one turn of a loop more, if the budget has one left.
-pub fn turned(budget: u32, state: State) -> Result<State, TrapKind>
-    ensures { result ≡ turned budget state }
+/// The valuation with one turn of a loop more, if the budget has one left.
+pub fn turned(budget: u32, valuation: Valuation) -> Result<Valuation, TrapKind>
+    ensures { result ≡ turned budget valuation }
 {
-    if state.turns >= budget {
+    if valuation.turns >= budget {
         return Err(TrapKind::Budget);
     }
-    Ok(State {
-        bindings: state.bindings,
-        turns: state.turns + 1,
+    Ok(Valuation {
+        bindings: valuation.bindings,
+        turns: valuation.turns + 1,
     })
 }
 
 /// Whether every name has at most three sizes, each at most 65,536.
-pub fn has_sizes(state: &State) -> bool
-    ensures { IsTrue result ↔ HasSizes state.now }
+pub fn has_sizes(valuation: &Valuation) -> bool
+    ensures { IsTrue result ↔ HasSizes valuation.now }
 {
-    for binding in state.bindings.as_slice() {
-        if !are_sizes(state.sizes(&binding.name)) {
+    for binding in valuation.bindings.as_slice() {
+        if !are_sizes(valuation.sizes(&binding.name)) {
             return false;
         }
     }

@@ -1,6 +1,6 @@
 use Rattle.std.proofs.Common.{◌≡◌, map, take}
-use Rattle.p3l_ast.specs.Meaning.State.{rebound}
-use Rattle.p3l_ast.proofs.meaning.state.with_word.Given as goal
+use Rattle.p3l_ast.specs.Meaning.Valuation.{rebound}
+use Rattle.p3l_ast.proofs.meaning.valuation.with_word.Given as goal
 
 -- the bindings so far
 abbrev pub invariant-loop-binding : goal.invariant-loop-binding

@@ -16,22 +16,22 @@ use Rattle.p3l_ast.specs.Tree.{Statements, done, body, turning, EntryTree}
 use Rattle.p3l_lexer.specs.declared.mark.Mark.{Mark}
 use Rattle.p3l_lexer.specs.declared.mark.Mark.TheVariants as marks
 use Rattle.p3l_grammar.specs.Symbol.{Symbol, sign}
-use Rattle.p3l_grammar.specs.Written.{Head, HasOne, IsHead, IsCall, AreCalls, each, after_comma, separated, num_symbol, spell_size, spell_port, spell_sub, spell_arg, spell_out, spell_call, spell_head, spell_local, body_filling, chain_filling, spread_filling, turning_filling, module_of}
+use Rattle.p3l_grammar.specs.Written.{Signature, HasOne, IsSignature, IsCall, AreCalls, each, after_comma, separated, num_symbol, spell_size, spell_port, spell_sub, spell_arg, spell_out, spell_call, spell_signature, spell_local, body_filling, chain_filling, spread_filling, turning_filling, module_of}
 use Rattle.p3l_grammar.specs.Parser.{Parser, await, any_num, another_size, another_sub, another_port, another_arg, any_out, another_out, another_call, another_local, port, arg, ports, args, out_args, call, head, clause, another_stmt, end_of}
 use Rattle.p3l_grammar.proofs.Runs.{run}
 
 -- Modules of each form, and what may come after their keywords.
 
-abbrev pub bodied_tree : Head → Option Num → List Port → Statements → EntryTree
+abbrev pub bodied_tree : Signature → Option Num → List Port → Statements → EntryTree
 bodied_tree h b ls c = module_of kinds.Seq h (body_filling b (body ls c))
 
-abbrev pub chained_tree : Kind → Head → List Call → EntryTree
+abbrev pub chained_tree : Kind → Signature → List Call → EntryTree
 chained_tree k h cs = module_of k h (chain_filling cs)
 
-abbrev pub spread_tree : Kind → Head → Option Num → Call → EntryTree
+abbrev pub spread_tree : Kind → Signature → Option Num → Call → EntryTree
 spread_tree k h w c = module_of k h (spread_filling w c)
 
-abbrev pub turned_tree : Head → Num → Option Num → Call → Call → EntryTree
+abbrev pub turned_tree : Signature → Num → Option Num → Call → Call → EntryTree
 turned_tree h t n b c = module_of kinds.Loop h (turning_filling t n (turning b c))
 
 abbrev pub bodied_from : (EntryTree → Parser) → Parser
@@ -149,8 +149,8 @@ more_calls_run (d ∷ ds) cs go m r h =
     ∙ more_calls_run ds (cs ++ d ∷ []) go m r h.1
     ∙ ap (λ x. run (go x) (sign m ∷ r)) (append_assoc cs (d ∷ []) ds)
 
-pub head_runs : (h : Head) (go : Head → Parser) (r : List Symbol) → IsHead h → run (head go) (spell_head h r) ≡ run (go h) r
-head_runs h go r i =
+pub signature_runs : (h : Signature) (go : Signature → Parser) (r : List Symbol) → IsSignature h → run (head go) (spell_signature h r) ≡ run (go h) r
+signature_runs h go r i =
     let x = h.at in
     let outs_go = λ (is os : List Port). go (record { at = x; ins = is; outs = os }) in
     ports_run h.ins (λ is. await marks.Out (ports (outs_go is)))

@@ -1,9 +1,0 @@
-use Rattle.std.proofs.Common.{take}
-use Rattle.std.specs.List.{All}
-use Rattle.p3l_ast.specs.Meaning.State.{sizes_of}
-use Rattle.p3l_ast.proofs.Sizes.{AreSizes}
-use Rattle.p3l_ast.proofs.meaning.state.has_sizes.Given as goal
-
--- the names so far have such sizes
-abbrev pub invariant-loop-binding : goal.invariant-loop-binding
-invariant-loop-binding l = All (λ binding. AreSizes (sizes_of l.state binding.name)) (take l.binding-index l.binding-items)
