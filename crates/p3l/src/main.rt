@@ -1,15 +1,13 @@
 //! Compiles P3L programs to networks of processes, and runs them on streams.
 #![tactic(auto)]
 
-mod help;
-
 ghost use Rattle.std.specs.Prelude.{◌≡◌};
 ghost use Rattle.std.specs.Process.{exit_status};
 
-use help::help_for;
 use p3l_base::NoMemory;
 use p3l_host::{HostErr, HostFiles, HostIn, HostOut};
 use p3l_io::Sink;
+use p3l_opts::help_for;
 use p3l_program::top::top;
 use p3l_report::{Status, Verdict, put_no_memory, put_report, report_of};
 use std::env;

@@ -1,5 +1,7 @@
 // The texts of `--help` and `--version`.
 
+use crate::verb::{Verb, verb_of};
+
 /// What the program is and which commands it has.
 const PROGRAM: &str = "p3l compiles P3L programs to networks of processes, and runs them on streams.
 
@@ -171,19 +173,18 @@ fn is_version(word: &str) -> bool {
     word == "--version" || word == "-V"
 }
 
-/// The help of the command of this name, if there is one.
-fn help_of(command: &str) -> Option<&'static str> {
-    match command {
-        "run" => Some(RUN),
-        "compile" => Some(COMPILE),
-        "exec" => Some(EXEC),
-        "explain" => Some(EXPLAIN),
-        "verify-cert" => Some(VERIFY_CERT),
-        "check-trace" => Some(CHECK_TRACE),
-        "check" => Some(CHECK),
-        "fmt" => Some(FMT),
-        "gen" => Some(GEN),
-        _ => None,
+/// The help of a command.
+fn help_of(verb: Verb) -> &'static str {
+    match verb {
+        Verb::Check => CHECK,
+        Verb::Fmt => FMT,
+        Verb::Explain => EXPLAIN,
+        Verb::Compile => COMPILE,
+        Verb::Run => RUN,
+        Verb::Exec => EXEC,
+        Verb::VerifyCert => VERIFY_CERT,
+        Verb::CheckTrace => CHECK_TRACE,
+        Verb::Gen => GEN,
     }
 }
 
@@ -192,8 +193,8 @@ pub fn help_for(words: &[&str]) -> Option<&'static str> {
     match words {
         [first, ..] if is_help(first) => Some(PROGRAM),
         [first, ..] if is_version(first) => Some(VERSION),
-        [command, second, ..] if is_help(second) => help_of(command),
-        [command, second, ..] if is_version(second) && help_of(command).is_some() => Some(VERSION),
+        [command, second, ..] if is_help(second) => Some(help_of(verb_of(command)?)),
+        [command, second, ..] if is_version(second) && verb_of(command).is_some() => Some(VERSION),
         _ => None,
     }
 }
