@@ -8,7 +8,6 @@ pub mod SegmentLaw
 pub mod Sequential
 pub mod Fitting
 pub mod row
-pub mod RowLaws
 pub mod ChoiceLaw
 pub mod OutcomesLaw
 pub mod RoundRobinLaw

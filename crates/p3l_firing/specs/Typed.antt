@@ -1,60 +1,18 @@
 -- Nets that are typed for a tree: each process stands as its kind asks, between channels that carry the words and tags that it
 -- takes and gives; and the states of such nets.
-use Rattle.std.specs.Prelude.{◌≡◌, ℕ, ◌<◌, ◌≤◌, [], Some, length, slice_get}
+use Rattle.std.specs.Prelude.{◌≡◌, ℕ, ◌<◌, ◌≤◌, Some, length, slice_get}
 use Rattle.std.specs.List.{AllByRecursion}
 use Rattle.p3l_skel.specs.declared.tree.Tree.{Tree}
 use Rattle.p3l_skel.specs.Tree.{node_at}
 use Rattle.p3l_skel.specs.Lawful.{IsLawfulTree}
 use Rattle.p3l_firing.specs.declared.process.Proc.{Proc}
-use Rattle.p3l_firing.specs.declared.process.ProcKind.{ProcKind}
-use Rattle.p3l_firing.specs.declared.process.ProcKind.TheVariants.{Source, Sink, Run, Emit, Collect, Scatter, Gather, Split, FoldGather, Join, Head, Tail}
+use Rattle.p3l_firing.specs.declared.process.ProcKind.TheVariants.{Source, Sink}
 use Rattle.p3l_firing.specs.declared.net.Net.{Net}
 use Rattle.p3l_firing.specs.Token.{most_tags}
-use Rattle.p3l_firing.specs.State.{Own, State, chan_at}
+use Rattle.p3l_firing.specs.State.{State, chan_at}
 use Rattle.p3l_firing.specs.Process.{kind_at, all_ins, all_outs, times}
 use Rattle.p3l_firing.specs.Widths.{Widths, Carries, AllFit}
-use Rattle.p3l_firing.specs.kinds.Source as source
-use Rattle.p3l_firing.specs.kinds.Sink as sink
-use Rattle.p3l_firing.specs.kinds.Run as run
-use Rattle.p3l_firing.specs.kinds.Emit as emit
-use Rattle.p3l_firing.specs.kinds.Collect as collect
-use Rattle.p3l_firing.specs.kinds.Scatter as scatter
-use Rattle.p3l_firing.specs.kinds.Gather as gather
-use Rattle.p3l_firing.specs.kinds.Split as split
-use Rattle.p3l_firing.specs.kinds.FoldGather as fold_gather
-use Rattle.p3l_firing.specs.kinds.Join as join
-use Rattle.p3l_firing.specs.kinds.Head as head
-use Rattle.p3l_firing.specs.kinds.Tail as tail
-
--- a process fits as its kind asks
-abbrev pub FitsKind : ProcKind → Tree → Widths → Proc → Type 0
-FitsKind Source tree widths q = source.Fits tree widths q
-FitsKind Sink tree widths q = sink.Fits tree widths q
-FitsKind Run tree widths q = run.Fits tree widths q
-FitsKind Emit tree widths q = emit.Fits tree widths q
-FitsKind Collect tree widths q = collect.Fits tree widths q
-FitsKind Scatter tree widths q = scatter.Fits tree widths q
-FitsKind Gather tree widths q = gather.Fits tree widths q
-FitsKind Split tree widths q = split.Fits tree widths q
-FitsKind FoldGather tree widths q = fold_gather.Fits tree widths q
-FitsKind Join tree widths q = join.Fits tree widths q
-FitsKind Head tree widths q = head.Fits tree widths q
-FitsKind Tail tree widths q = tail.Fits tree widths q
-
--- what a process keeps fits its kind: those that are none of the five that hold tokens hold none
-abbrev pub FitsOwn : ProcKind → Tree → Widths → Proc → Own → Type 0
-FitsOwn Source tree widths q o = o.held ≡ []
-FitsOwn Sink tree widths q o = o.held ≡ []
-FitsOwn Run tree widths q o = o.held ≡ []
-FitsOwn Emit tree widths q o = o.held ≡ []
-FitsOwn Collect tree widths q o = o.held ≡ []
-FitsOwn Scatter tree widths q o = scatter.Keeps tree widths q o
-FitsOwn Gather tree widths q o = gather.Keeps tree widths q o
-FitsOwn Split tree widths q o = split.Keeps widths q o
-FitsOwn FoldGather tree widths q o = fold_gather.Keeps tree widths q o
-FitsOwn Join tree widths q o = o.held ≡ []
-FitsOwn Head tree widths q o = o.held ≡ []
-FitsOwn Tail tree widths q o = tail.Keeps widths q o
+pub use Rattle.p3l_firing.specs.kinds.{FitsKind, FitsOwn}
 
 -- a channel of a net: room for a token at least, no more credits than room, one process that writes it and one that reads it;
 -- what begins with credits carries no words and no tags

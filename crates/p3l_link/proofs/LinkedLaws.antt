@@ -7,7 +7,7 @@ use Rattle.p3l_skel.specs.Tree.{node_at, HasLength}
 use Rattle.p3l_firing.specs.Carried.{whole}
 use Rattle.p3l_firing.specs.State.{State, first_state}
 use Rattle.p3l_firing.proofs.CarriedLaw.{carried_run, carried_begins, carried_finished, carried_ends}
-use Rattle.p3l_firing.proofs.RowLaws.{fitting_first, fitting_fired}
+use Rattle.p3l_firing.proofs.row.{fitting_first, fitting_fired}
 use Rattle.p3l_template.specs.Units.{Units}
 use Rattle.p3l_link.specs.Laws.{IsOrderly, net_of, EveryNodeDoesWhatItMeans, EveryRootIsAPart, EveryNetIsCarried, EveryRunBeginsOrderly, EveryFiringKeepsTheList, EveryRunBeginsFitting, EveryFiringKeepsFitting, EveryRunBeginsTheMeaning, StuckMeansEmpty, StuckMeansFinished, RoundRobinEnds, FiringsAreBounded, OwedIsBoundedByTokens}
 use Rattle.p3l_link.specs.Whole.{all_long, root_carry}

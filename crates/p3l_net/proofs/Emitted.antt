@@ -2,7 +2,7 @@
 use Rattle.std.proofs.Common.{◌≡◌, ℕ, not, ◌&&◌, List, [], sym, ap, ◌∙◌}
 use Rattle.p3l_base.specs.declared.outcome.Outcome.{Outcome}
 use Rattle.p3l_firing.specs.Fire.{is_ready, can_fire}
-use Rattle.p3l_firing.proofs.RowLaws.{ready-emitted}
+use Rattle.p3l_firing.proofs.row.{ready-emitted}
 use Rattle.p3l_net.specs.Machine.{Seen, HasEmitted, can_step, state_of}
 
 -- a machine's step is the state's, whatever outcomes of this kind were emitted

@@ -17,7 +17,7 @@ use Rattle.p3l_net.specs.Offered.{Follows, HasFilledInbox}
 use Rattle.p3l_net.proofs.Queues.{tokens-opened, owns-first}
 use Rattle.p3l_firing.specs.Nodes.{Leaf}
 use Rattle.p3l_net.proofs.Emitted.{can_step-state}
-use Rattle.p3l_firing.proofs.RowLaws.{can_fire-rest, next_of-rest, fire-rest}
+use Rattle.p3l_firing.proofs.row.{can_fire-rest, next_of-rest, fire-rest}
 
 -- an item that is offered to an empty inbox was the next of the rest
 offered : (m : Seen) (emitted : List Outcome) (item : List ℤ) (rest : List (List ℤ)) → m.inbox ≡ None → with_rest (state_of (record m { inbox = Some item }) emitted) rest ≡ with_rest (state_of m emitted) (item ∷ rest)

@@ -22,7 +22,7 @@ use Rattle.p3l_net.specs.Steps.{IsApart, Moves, AgreesBut, ready_at}
 use Rattle.p3l_firing.proofs.Rows.{ready_at as row_ready, none_ready}
 use Rattle.p3l_ready.proofs.AtLemmas.{same_function}
 use Rattle.p3l_firing.proofs.Reading.{SameIn}
-use Rattle.p3l_firing.proofs.RowLaws.{row-alike, reads-own}
+use Rattle.p3l_firing.proofs.row.{row-alike, reads-own}
 use Rattle.p3l_net.proofs.Cyclic.{next_passes, next_none, next_is}
 
 module _ {m n : Seen} {p : ℕ} {touched : List ℕ} (moves : Moves m n p touched) (r : ℕ) (other : r ≢ p) (apart : IsApart m.net r touched) where

@@ -13,7 +13,7 @@ use Rattle.p3l_firing.specs.State.{Own, State, fresh, first_state}
 use Rattle.p3l_firing.specs.Widths.{Widths}
 use Rattle.p3l_firing.specs.Fire.{can_fire, fire}
 use Rattle.p3l_firing.specs.Typed.{IsTyped, IsFitting}
-use Rattle.p3l_firing.proofs.RowLaws.{fitting_fired, fitting_first}
+use Rattle.p3l_firing.proofs.row.{fitting_fired, fitting_first}
 use Rattle.p3l_net.specs.Machine.{Seen, IsSound, started, state_of}
 use Rattle.p3l_net.specs.Steps.{Done, ready_at}
 use Rattle.p3l_net.proofs.Queues.{rooms-opened, tokens-opened, owns-first}

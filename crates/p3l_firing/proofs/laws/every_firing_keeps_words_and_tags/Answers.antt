@@ -1,4 +1,4 @@
-use Rattle.p3l_firing.proofs.RowLaws.{fitting_first, fitting_fired}
+use Rattle.p3l_firing.proofs.row.{fitting_first, fitting_fired}
 use Rattle.p3l_firing.proofs.laws.every_firing_keeps_words_and_tags.Goals as goal
 
 pub returns-clause-first : goal.returns-clause-first
