@@ -47,6 +47,11 @@ abbrev pub checked_result : Result Progress SourceRefusal → Result Checked Sou
 checked_result (Ok progress) = Ok (checked_of progress)
 checked_result (Err refusal) = Err refusal
 
+-- what the entries so far come to with one that was added, or the refusal
+abbrev pub added_result : Progress → Result (Unit {0}) SourceRefusal → Result Checked SourceRefusal
+added_result progress (Ok x) = Ok (checked_of progress)
+added_result progress (Err refusal) = Err refusal
+
 -- an entry's name is no earlier entry's
 abbrev pub new_name : Checked → Spot → Verdict
 new_name checked at =

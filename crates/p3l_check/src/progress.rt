@@ -10,7 +10,7 @@ ghost use Rattle.p3l_calls.specs.Port.{total, AreSized};
 ghost use Rattle.p3l_check.specs.Modules.{number_of};
 ghost use Rattle.p3l_check.specs.Environment.{before_of};
 ghost use Rattle.p3l_check.specs.Places.{defined_from};
-ghost use Rattle.p3l_check.specs.Entry.{none_checked, checked_of, checked_result, new_name, ports_in, body_in, body_tree, kind_in, info_of, defined_as, defined_in, with_body, with_constant, with_passed, passed_result, checked_module, checked_entry, checked_entries};
+ghost use Rattle.p3l_check.specs.Entry.{none_checked, checked_of, checked_result, new_name, ports_in, body_in, body_tree, kind_in, info_of, defined_as, defined_in, added_result, with_body, with_passed, passed_result, checked_module, checked_entry, checked_entries};
 
 use crate::defined::Defined;
 use crate::environment::Environment;
@@ -24,6 +24,7 @@ use p3l_skel::{ModuleInfo, ModuleKind};
 use p3l_types::{Consts, words_of};
 use p3l_unfold::Wired;
 use std::alloc::Global;
+use std::mem;
 
 /// The most modules, so that 32 bits number them: memory is wanting for more.
 const MOST_MODULES: u32 = u32::MAX;
@@ -158,7 +159,7 @@ fn defined_in(
     module: &Module,
 ) -> Result<Defined, SourceRefusal>
     ensures defined { Gives result (defined_in (before_of env.entry) (module_tree «module».now)) }
-    ensures name { IfOk result (λ defined. defined.info ≡ info_of (module_tree «module».now)) }
+    ensures info { IfOk result (λ defined. defined.info ≡ info_of (module_tree «module».now)) }
 {
     let mut scope = Scope::new(alloc);
     let ports = ports_in(alloc, env.consts, &mut scope, module)?;
@@ -207,34 +208,15 @@ impl<'a> Progress<'a> {
         })
     }
 
-    /// These entries and a constant whose name is new.
-    fn with_constant(self, alloc: Global, name: &Name, value: i64) -> Result<Progress<'a>, NoMemory>
-        requires { constant_of self.consts name.now ≡ None }
-        ensures { IfOk result (λ progress. checked_of progress ≡ with_constant (checked_of self.entry) name.now value) }
+    /// Adds a module whose name is new.
+    fn add_module(&mut self, alloc: Global, passed: Passed<'a>) -> Result<(), NoMemory>
+        requires fresh { number_of self.old.modules passed.defined.info.name ≡ None }
+        requires room { length self.old.modules.infos + 1 < 2 ^ 32 }
+        ensures { IfOk result (λ x. checked_of self.new ≡ with_passed (checked_of self.old) passed.entry) }
     {
-        let mut progress = self;
-        progress.consts.add(alloc, name, value)?;
-        Ok(progress)
-    }
-
-    /// These entries and a module whose name is new.
-    fn with_module(self, alloc: Global, passed: Passed<'a>) -> Result<Progress<'a>, NoMemory>
-        requires fresh { number_of self.modules passed.defined.info.name ≡ None }
-        requires room { length self.modules.infos + 1 < 2 ^ 32 }
-        ensures { IfOk result (λ progress. checked_of progress ≡ with_passed (checked_of self.entry) passed.entry) }
-    {
-        let Progress {
-            consts,
-            modules,
-            mut seqs,
-        } = self;
-        add_body(&mut seqs, passed.seq)?;
-        let modules = modules.with(alloc, passed.defined)?;
-        Ok(Progress {
-            consts,
-            modules,
-            seqs,
-        })
+        let modules = mem::replace(&mut self.modules, Modules::new(alloc));
+        self.modules = modules.with(alloc, passed.defined)?;
+        add_body(&mut self.seqs, passed.seq)
     }
 
     /// The module at this place, and its body if it is a `seq` module.
@@ -246,7 +228,7 @@ impl<'a> Progress<'a> {
         module: &'a Module,
     ) -> Result<Passed<'a>, SourceRefusal>
         ensures passed { Gives (passed_result (checked_of self.now) result) (checked_module (checked_of self.now) (defined_from places.now from) (module_tree «module».now)) }
-        ensures name { IfOk result (λ passed. passed.defined.info ≡ info_of (module_tree «module».now)) }
+        ensures info { IfOk result (λ passed. passed.defined.info ≡ info_of (module_tree «module».now)) }
         ensures room { IfOk result (λ passed. length self.now.modules.infos + 1 < 2 ^ 32) }
     {
         let home = self.modules.len();
@@ -266,9 +248,29 @@ impl<'a> Progress<'a> {
         }
     }
 
+    /// Adds the entry at this place.
+    fn add_entry(
+        &mut self,
+        alloc: Global,
+        places: &Places,
+        from: usize,
+        entry: &'a Entry,
+    ) -> Result<(), SourceRefusal>
+        ensures { Gives (added_result self.new result) (checked_entry (checked_of self.old) (defined_from places.now from) (entry_tree entry.now)) }
+    {
+        self.check_name(spot_of(entry))?;
+        match entry {
+            Entry::Constant(spot, value) => Ok(self.consts.add(alloc, &spot.name, *value)?),
+            Entry::Module(module) => match self.check_module(alloc, places, from, module) {
+                Ok(passed) => Ok(self.add_module(alloc, passed)?),
+                Err(refusal) => Err(refusal),
+            },
+        }
+    }
+
     /// These entries and the one at this place.
     fn check_entry(
-        self,
+        mut self,
         alloc: Global,
         places: &Places,
         from: usize,
@@ -276,14 +278,8 @@ impl<'a> Progress<'a> {
     ) -> Result<Progress<'a>, SourceRefusal>
         ensures { Gives (checked_result result) (checked_entry (checked_of self.entry) (defined_from places.now from) (entry_tree entry.now)) }
     {
-        self.check_name(spot_of(entry))?;
-        match entry {
-            Entry::Constant(spot, value) => Ok(self.with_constant(alloc, &spot.name, *value)?),
-            Entry::Module(module) => match self.check_module(alloc, places, from, module) {
-                Ok(passed) => Ok(self.with_module(alloc, passed)?),
-                Err(refusal) => Err(refusal),
-            },
-        }
+        self.add_entry(alloc, places, from, entry)?;
+        Ok(self)
     }
 
     /// The entries of a program, one after another.
