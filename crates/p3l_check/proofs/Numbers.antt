@@ -1,9 +1,13 @@
 -- Numbers of modules by their names.
-use Rattle.std.proofs.Common.{◌≡◌, ℕ, ◌+◌, ◌<◌, Bool, true, false, cond, List, [], ◌∷◌, ◌++◌, length, Option, Some, IfSome, refl, ap, sym, ◌∙◌, subst, arith}
+use Rattle.std.proofs.Common.{◌≡◌, ℕ, ◌+◌, ◌<◌, ◌^◌, Bool, true, false, cond, List, [], ◌∷◌, ◌++◌, length, Option, Some, IfSome, refl, ap, sym, ◌∙◌, subst, arith, length-append}
 use Rattle.std.specs.Prelude.{bytes_eq}
 use Rattle.std.specs.Map.{lookup}
 use Rattle.p3l_skel.specs.declared.tree.ModuleInfo.{ModuleInfo}
+use Rattle.p3l_unfold.specs.declared.wired.Wired.{Wired}
+use Rattle.p3l_body.specs.declared.ports.Ports.{Ports}
+use Rattle.p3l_check.specs.declared.defined.Defined.{Defined}
 use Rattle.p3l_check.specs.Modules.{numbered}
+use Rattle.p3l_check.specs.Numbered.{AreNumbered}
 
 pub numbered-more : (k : ℕ) (infos : List ModuleInfo) (info : ModuleInfo) → numbered k (infos ++ info ∷ []) ≡ numbered k infos ++ (info.name, k + length infos) ∷ []
 numbered-more k [] info = let e : k + 0 ≡ k = omega arith in rw e refl
@@ -16,6 +20,22 @@ pub numbered-after : (infos : List ModuleInfo) (info : ModuleInfo) (n : ℕ) →
 numbered-after infos info n e =
     let zero_more : n ≡ 0 + length infos = omega arith in
     ap (λ m. numbered 0 infos ++ (info.name, m) ∷ []) zero_more ∙ sym (numbered-more 0 infos info)
+
+-- a list that keeps as long as another, each with one item more
+same-longer : {A B : Type 0} (xs : List A) (ys : List B) (x : A) (y : B) → length xs ≡ length ys → length (xs ++ x ∷ []) ≡ length (ys ++ y ∷ [])
+same-longer xs ys x y same = length-append xs (x ∷ []) ∙ (ap (λ n. n + 1) same ∙ sym (length-append ys (y ∷ [])))
+
+-- the numbers of modules, and that of one more
+pub are-numbered-after : (numbers numbers' : List (List ℕ × ℕ)) (infos infos' : List ModuleInfo) (ports ports' : List Ports) (wired wired' : List Wired) (d : Defined) (n : ℕ) →
+    AreNumbered numbers infos ports wired → n ≡ length infos → length infos + 1 < 2 ^ 32 → numbers' ≡ numbers ++ (d.info.name, n) ∷ [] →
+    infos' ≡ infos ++ d.info ∷ [] → ports' ≡ ports ++ d.ports ∷ [] → wired' ≡ wired ++ d.wired ∷ [] → AreNumbered numbers' infos' ports' wired'
+are-numbered-after numbers numbers' infos infos' ports ports' wired wired' d n are next few number info port wire =
+    rw (info, port, wire) (record {
+      numbers_are = number ∙ (ap (λ ns. ns ++ (d.info.name, n) ∷ []) are.numbers_are ∙ numbered-after infos d.info n next);
+      ported = same-longer ports infos d.ports d.info are.ported;
+      wirings = same-longer wired infos d.wired d.info are.wirings;
+      few = omega (arith, few, length-append infos (d.info ∷ []));
+    })
 
 found_first : (P : ℕ → Type 0) (b : Bool) (k : ℕ) (r : Option ℕ) → P k → IfSome r P → IfSome (cond b (Some k) r) P
 found_first P true k r here later = here

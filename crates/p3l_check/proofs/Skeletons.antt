@@ -127,7 +127,7 @@ module _ (before : Before) (same : length before.modules.wired ≡ length before
       let is : made ≡ skeleton = cc (passed.2) in
       let found = called-is false before call.0 callee.0 same callee.1 in
       let words = plain-words call.0 callee.0 passed.0 found passed.1 in
-      subst (IsFitting before.modules kinds.Farm (total ports.ins) (total ports.outs)) is
+      subst (IsFitting before.modules kinds.Farm (total ports.ins) (total ports.outs)) {x = made} is
       (record {
         kind_is = refl;
         workers = upto-within 512 before.constants m.clauses.workers workers.0 workers.1;
@@ -151,7 +151,7 @@ module _ (before : Before) (same : length before.modules.wired ≡ length before
       let some_in : 1 ≤ length call.0.ins = omega (arith, found.arity.ins, total-length (ports_at before.modules callee.0).ins taken) in
       let fits = cut-fits ports (ports_at before.modules callee.0) call.0 cut.0 sized_ins sized_outs (total-length ports.outs some_outs) some_in found.arity.ins found.arity.outs cut.1 in
       let range = upto-within (min (element_count cut.0) 512) before.constants m.clauses.workers workers.0 workers.1 in
-      subst (IsFitting before.modules kinds.Map (total ports.ins) (total ports.outs)) is
+      subst (IsFitting before.modules kinds.Map (total ports.ins) (total ports.outs)) {x = made} is
       (record {
         kind_is = refl;
         workers = if_some_weaker (IsWithin 1 (min (element_count cut.0) 512)) (IsCountInRange (forms.Map workers.0 cut.0)) (λ n h. map-range (element_count cut.0) n h) workers.0 range;
@@ -182,7 +182,7 @@ module _ (before : Before) (same : length before.modules.wired ≡ length before
       let runs = operator-is before call.0 callee.0 same callee.1 in
       let folds = elements-fit m.at.pos ports (ports_at before.modules callee.0) call.0 elements.0 elements.1 in
       let own = have callee.0 runs.inside in
-      subst (IsFitting before.modules kinds.Reduce (total ports.ins) (total ports.outs)) is
+      subst (IsFitting before.modules kinds.Reduce (total ports.ins) (total ports.outs)) {x = made} is
       (record {
         kind_is = refl;
         workers = reduce-within elements.0.len before.constants m.clauses.workers workers.0 workers.1;

@@ -1,5 +1,6 @@
 -- The entries of a program, in the order of the source.
 use Rattle.std.specs.Prelude.{ℕ, ℤ, ◌==◌, ◌||◌, Bool, List, [], ◌∷◌, ◌++◌, map, length, is_some, Result, Ok, Err, Option, Some, None}
+use Rattle.std.specs.Option.{option_map}
 use Rattle.p3l_ast.specs.declared.position.Spot.{Spot}
 use Rattle.p3l_ast.specs.declared.refusal.Fault.TheVariants.{Expected, Twice}
 use Rattle.p3l_ast.specs.declared.refusal.SourceRefusal.{SourceRefusal}
@@ -18,6 +19,7 @@ use Rattle.p3l_skel.specs.declared.tree.ModuleInfo.{ModuleInfo}
 use Rattle.p3l_calls.specs.Port.{total}
 use Rattle.p3l_check.specs.declared.skeleton.Skeleton.{Skeleton}
 use Rattle.p3l_check.specs.declared.defined.Defined.{Defined}
+use Rattle.p3l_check.specs.declared.progress.Passed.{Passed}
 use Rattle.p3l_check.specs.declared.progress.Progress.{Progress}
 use Rattle.p3l_check.specs.Modules.{Modules, no_modules, number_of, with_module}
 use Rattle.p3l_check.specs.Places.{defines}
@@ -44,6 +46,11 @@ checked_of progress = record {
 abbrev pub checked_result : Result Progress SourceRefusal → Result Checked SourceRefusal
 checked_result (Ok progress) = Ok (checked_of progress)
 checked_result (Err refusal) = Err refusal
+
+-- what the entries so far come to with one that was added, or the refusal
+abbrev pub added_result : Progress → Result (Unit {0}) SourceRefusal → Result Checked SourceRefusal
+added_result progress (Ok x) = Ok (checked_of progress)
+added_result progress (Err refusal) = Err refusal
 
 -- an entry's name is no earlier entry's
 abbrev pub new_name : Checked → Spot → Verdict
@@ -120,6 +127,14 @@ with_checked checked defined seq = record {
   modules = with_module checked.modules defined;
   seqs = with_body checked.seqs seq;
 }
+
+abbrev pub with_passed : Checked → Passed → Checked
+with_passed checked passed = with_checked checked passed.defined (option_map seq_tree passed.seq)
+
+-- what a module that passes comes to after others, or the refusal
+abbrev pub passed_result : Checked → Result Passed SourceRefusal → Result Checked SourceRefusal
+passed_result checked (Ok passed) = Ok (with_passed checked passed)
+passed_result checked (Err refusal) = Err refusal
 
 -- a module by the rules of all kinds, and then the body of a `seq` module, which has no other rules
 abbrev pub checked_module : Checked → (List ℕ → Bool) → ModuleTree → Result Checked SourceRefusal

@@ -1,6 +1,7 @@
 // The modules before an entry.
 
-ghost use Rattle.std.specs.Prelude.{◌≡◌, ◌+◌, ◌<◌, ◌^◌, None, IfOk, IfSome, IfErr, length};
+ghost use Rattle.std.specs.Prelude.{◌≡◌, ◌+◌, ◌<◌, ◌^◌, [], ◌∷◌, ◌++◌, None, IfOk, IfSome, IfErr, bytes_eq, length};
+ghost use Rattle.std.specs.Map.{lookup};
 ghost use Rattle.p3l_check.specs.Modules.{no_modules, number_of, ports_at, with_module};
 ghost use Rattle.p3l_check.specs.Wired.{AreWired};
 ghost use Rattle.p3l_unfold.specs.Wiring.{module_at};
@@ -34,6 +35,38 @@ impl Model for Modules {
     ghost view = { λ it. record { infos = it.infos; ports = it.ports; wired = it.wired } };
 
     ghost invariant = { λ it. AreNumbered it.numbers.entries it.infos it.ports it.wired };
+}
+
+/// Numbers of names, and that of a name that has none yet.
+fn add_number(
+    alloc: Global,
+    numbers: &mut IndexMap<Name, u32>,
+    name: &Name,
+    number: u32,
+) -> Result<(), NoMemory>
+    requires { lookup (bytes_eq name.now) numbers.old.entries ≡ None }
+    ensures { IfOk result (λ x. numbers.new.entries ≡ numbers.old.entries ++ (name.now, number) ∷ []) }
+{
+    let name = Name::from_text(alloc, name.as_str())?;
+    numbers.insert(name, number)?;
+    Ok(())
+}
+
+/// The infos, the ports and the wirings of modules, and those of one more.
+fn add_module(
+    infos: &mut List<ModuleInfo>,
+    ports: &mut List<Ports>,
+    wired: &mut List<Wired>,
+    defined: Defined,
+) -> Result<(), NoMemory>
+    ensures infos { IfOk result (λ x. infos.new ≡ infos.old ++ defined.info ∷ []) }
+    ensures ports { IfOk result (λ x. ports.new ≡ ports.old ++ defined.ports ∷ []) }
+    ensures wired { IfOk result (λ x. wired.new ≡ wired.old ++ defined.wired ∷ []) }
+{
+    infos.push(defined.info)?;
+    ports.push(defined.ports)?;
+    wired.push(defined.wired)?;
+    Ok(())
 }
 
 impl Modules {
@@ -86,7 +119,6 @@ impl Modules {
         requires room { length self.infos + 1 < 2 ^ 32 }
         ensures { IfOk result (λ modules. modules ≡ with_module self defined) }
     {
-        let name = Name::from_text(alloc, defined.info.name.as_str())?;
         let number = self.len();
         let Modules {
             mut numbers,
@@ -94,10 +126,8 @@ impl Modules {
             mut ports,
             mut wired,
         } = self;
-        numbers.insert(name, number)?;
-        infos.push(defined.info)?;
-        ports.push(defined.ports)?;
-        wired.push(defined.wired)?;
+        add_number(alloc, &mut numbers, &defined.info.name, number)?;
+        add_module(&mut infos, &mut ports, &mut wired, defined)?;
         Ok(Modules {
             numbers,
             infos,

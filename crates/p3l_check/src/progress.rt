@@ -1,16 +1,16 @@
 // The entries of a program, checked one after another.
 
-ghost use Rattle.std.specs.Prelude.{◌≡◌, ◌<◌, ◌≤◌, ◌^◌, ◌+◌, [], None, IfOk, map, length};
+ghost use Rattle.std.specs.Prelude.{◌≡◌, ◌==◌, ◌||◌, ◌<◌, ◌≤◌, ◌^◌, ◌+◌, [], None, IfOk, map, length};
 ghost use Rattle.std.specs.Option.{option_map};
 ghost use Rattle.p3l_ast.specs.Tree.{entry_tree, module_tree};
-ghost use Rattle.p3l_types.specs.Verdict.{Gives};
+ghost use Rattle.p3l_types.specs.Verdict.{Gives, broken_if};
 ghost use Rattle.p3l_types.specs.Constants.{constant_of};
 ghost use Rattle.p3l_body.specs.Seq.{port_names, seq_tree};
 ghost use Rattle.p3l_calls.specs.Port.{total, AreSized};
 ghost use Rattle.p3l_check.specs.Modules.{number_of};
 ghost use Rattle.p3l_check.specs.Environment.{before_of};
 ghost use Rattle.p3l_check.specs.Places.{defined_from};
-ghost use Rattle.p3l_check.specs.Entry.{none_checked, checked_of, checked_result, new_name, ports_in, body_in, body_tree, kind_in, info_of, defined_as, defined_in, with_body, with_constant, with_checked, checked_module, checked_entry, checked_entries};
+ghost use Rattle.p3l_check.specs.Entry.{none_checked, checked_of, checked_result, new_name, ports_in, body_in, body_tree, kind_in, info_of, defined_as, defined_in, added_result, with_body, with_passed, passed_result, checked_module, checked_entry, checked_entries};
 
 use crate::defined::Defined;
 use crate::environment::Environment;
@@ -24,6 +24,7 @@ use p3l_skel::{ModuleInfo, ModuleKind};
 use p3l_types::{Consts, words_of};
 use p3l_unfold::Wired;
 use std::alloc::Global;
+use std::mem;
 
 /// The most modules, so that 32 bits number them: memory is wanting for more.
 const MOST_MODULES: u32 = u32::MAX;
@@ -34,6 +35,13 @@ pub struct Progress<'a> {
     pub consts: Consts,
     pub modules: Modules,
     pub seqs: List<CheckedSeq<'a>>,
+}
+
+/// A module that keeps the rules, with its body if it is a `seq` module.
+#[derive(Drop)]
+pub struct Passed<'a> {
+    pub defined: Defined,
+    pub seq: Option<CheckedSeq<'a>>,
 }
 
 /// The skeleton that a kind of module is an instance of.
@@ -61,6 +69,19 @@ fn info_of(alloc: Global, module: &Module) -> Result<ModuleInfo, NoMemory>
     })
 }
 
+/// Every text spells at least one in and one out of a module.
+fn check_some_ports(module: &Module) -> Result<(), SourceRefusal>
+    ensures { result ≡ broken_if (length «module».now.ins == 0 || length «module».now.outs == 0) Fault.Expected «module».now.at.pos }
+{
+    if module.ins.len() == 0 || module.outs.len() == 0 {
+        return Err(SourceRefusal::At {
+            fault: Fault::Expected,
+            pos: module.at.pos,
+        });
+    }
+    Ok(())
+}
+
 /// The ports of a module, of which every text spells at least one in and one out.
 fn ports_in(
     alloc: Global,
@@ -74,15 +95,14 @@ fn ports_in(
     ensures outs { IfOk result (λ ports. AreSized ports.outs) }
     ensures names { IfOk result (λ ports. scope.new ≡ port_names ports) }
 {
-    let ins = module.ins.as_slice();
-    let outs = module.outs.as_slice();
-    if ins.len() == 0 || outs.len() == 0 {
-        return Err(SourceRefusal::At {
-            fault: Fault::Expected,
-            pos: module.at.pos,
-        });
-    }
-    ports_of(alloc, consts, scope, ins, outs)
+    check_some_ports(module)?;
+    ports_of(
+        alloc,
+        consts,
+        scope,
+        module.ins.as_slice(),
+        module.outs.as_slice(),
+    )
 }
 
 /// The checked body of a `seq` module; other modules have none.
@@ -138,7 +158,8 @@ fn defined_in(
     env: Environment<'_>,
     module: &Module,
 ) -> Result<Defined, SourceRefusal>
-    ensures { Gives result (defined_in (before_of env.entry) (module_tree «module».now)) }
+    ensures defined { Gives result (defined_in (before_of env.entry) (module_tree «module».now)) }
+    ensures info { IfOk result (λ defined. defined.info ≡ info_of (module_tree «module».now)) }
 {
     let mut scope = Scope::new(alloc);
     let ports = ports_in(alloc, env.consts, &mut scope, module)?;
@@ -147,19 +168,17 @@ fn defined_in(
     Ok(defined_as(info, ports, skeleton))
 }
 
-/// Bodies and one more, if there is one.
-fn with_body<'a>(
-    seqs: List<CheckedSeq<'a>>,
+/// Bodies, and one more if there is one.
+fn add_body<'a>(
+    seqs: &mut List<CheckedSeq<'a>>,
     seq: Option<CheckedSeq<'a>>,
-) -> Result<List<CheckedSeq<'a>>, NoMemory>
-    ensures { IfOk result (λ list. map seq_tree list ≡ with_body (map seq_tree seqs.entry) (option_map seq_tree seq.entry)) }
+) -> Result<(), NoMemory>
+    ensures { IfOk result (λ x. map seq_tree seqs.new ≡ with_body (map seq_tree seqs.old) (option_map seq_tree seq.entry)) }
 {
-    let Some(seq) = seq else {
-        return Ok(seqs);
-    };
-    let mut seqs = seqs;
-    seqs.push(seq)?;
-    Ok(seqs)
+    match seq {
+        Some(seq) => seqs.push(seq),
+        None => Ok(()),
+    }
 }
 
 impl<'a> Progress<'a> {
@@ -189,51 +208,28 @@ impl<'a> Progress<'a> {
         })
     }
 
-    /// These entries and a constant whose name is new.
-    fn with_constant(self, alloc: Global, name: &Name, value: i64) -> Result<Progress<'a>, NoMemory>
-        requires { constant_of self.consts name.now ≡ None }
-        ensures { IfOk result (λ progress. checked_of progress ≡ with_constant (checked_of self.entry) name.now value) }
+    /// Adds a module whose name is new.
+    fn add_module(&mut self, alloc: Global, passed: Passed<'a>) -> Result<(), NoMemory>
+        requires fresh { number_of self.old.modules passed.defined.info.name ≡ None }
+        requires room { length self.old.modules.infos + 1 < 2 ^ 32 }
+        ensures { IfOk result (λ x. checked_of self.new ≡ with_passed (checked_of self.old) passed.entry) }
     {
-        let mut progress = self;
-        progress.consts.add(alloc, name, value)?;
-        Ok(progress)
+        let modules = mem::replace(&mut self.modules, Modules::new(alloc));
+        self.modules = modules.with(alloc, passed.defined)?;
+        add_body(&mut self.seqs, passed.seq)
     }
 
-    /// These entries and a module whose name is new, with its body if it is a `seq` module.
-    fn with_module(
-        self,
-        alloc: Global,
-        defined: Defined,
-        seq: Option<CheckedSeq<'a>>,
-    ) -> Result<Progress<'a>, NoMemory>
-        requires fresh { number_of self.modules defined.info.name ≡ None }
-        requires room { length self.modules.infos + 1 < 2 ^ 32 }
-        ensures { IfOk result (λ progress. checked_of progress ≡ with_checked (checked_of self.entry) defined (option_map seq_tree seq.entry)) }
-    {
-        let Progress {
-            consts,
-            modules,
-            seqs,
-        } = self;
-        let modules = modules.with(alloc, defined)?;
-        let seqs = with_body(seqs, seq)?;
-        Ok(Progress {
-            consts,
-            modules,
-            seqs,
-        })
-    }
-
-    /// These entries and a module whose name is new, the entry at this place.
+    /// The module at this place, and its body if it is a `seq` module.
     fn check_module(
-        self,
+        &self,
         alloc: Global,
         places: &Places,
         from: usize,
         module: &'a Module,
-    ) -> Result<Progress<'a>, SourceRefusal>
-        requires { number_of self.modules «module».now.at.name ≡ None }
-        ensures { Gives (checked_result result) (checked_module (checked_of self.entry) (defined_from places.now from) (module_tree «module».now)) }
+    ) -> Result<Passed<'a>, SourceRefusal>
+        ensures passed { Gives (passed_result (checked_of self.now) result) (checked_module (checked_of self.now) (defined_from places.now from) (module_tree «module».now)) }
+        ensures info { IfOk result (λ passed. passed.defined.info ≡ info_of (module_tree «module».now)) }
+        ensures room { IfOk result (λ passed. length self.now.modules.infos + 1 < 2 ^ 32) }
     {
         let home = self.modules.len();
         if home == MOST_MODULES {
@@ -247,14 +243,34 @@ impl<'a> Progress<'a> {
         };
         let defined = defined_in(alloc, env, module)?;
         match body_in(alloc, &self.consts, home, module) {
-            Ok(seq) => Ok(self.with_module(alloc, defined, seq)?),
+            Ok(seq) => Ok(Passed { defined, seq }),
             Err(refusal) => Err(refusal),
+        }
+    }
+
+    /// Adds the entry at this place.
+    fn add_entry(
+        &mut self,
+        alloc: Global,
+        places: &Places,
+        from: usize,
+        entry: &'a Entry,
+    ) -> Result<(), SourceRefusal>
+        ensures { Gives (added_result self.new result) (checked_entry (checked_of self.old) (defined_from places.now from) (entry_tree entry.now)) }
+    {
+        self.check_name(spot_of(entry))?;
+        match entry {
+            Entry::Constant(spot, value) => Ok(self.consts.add(alloc, &spot.name, *value)?),
+            Entry::Module(module) => match self.check_module(alloc, places, from, module) {
+                Ok(passed) => Ok(self.add_module(alloc, passed)?),
+                Err(refusal) => Err(refusal),
+            },
         }
     }
 
     /// These entries and the one at this place.
     fn check_entry(
-        self,
+        mut self,
         alloc: Global,
         places: &Places,
         from: usize,
@@ -262,11 +278,8 @@ impl<'a> Progress<'a> {
     ) -> Result<Progress<'a>, SourceRefusal>
         ensures { Gives (checked_result result) (checked_entry (checked_of self.entry) (defined_from places.now from) (entry_tree entry.now)) }
     {
-        self.check_name(spot_of(entry))?;
-        match entry {
-            Entry::Constant(spot, value) => Ok(self.with_constant(alloc, &spot.name, *value)?),
-            Entry::Module(module) => self.check_module(alloc, places, from, module),
-        }
+        self.add_entry(alloc, places, from, entry)?;
+        Ok(self)
     }
 
     /// The entries of a program, one after another.

@@ -1,17 +1,13 @@
-use Rattle.std.proofs.Common.{arith}
-use Rattle.std.specs.Prelude.{bytes_eq}
-use Rattle.std.proofs.lemmas.Grind.{common_steps}
-use Rattle.indexmap.proofs.CallerLemmas.{insert_entry-new}
-use Rattle.p3l_check.proofs.Numbers.{numbered-after}
+use Rattle.std.proofs.Common.{◌≡◌, ◌+◌, ◌<◌, ◌^◌, length, sym, ap, ◌∙◌, subst}
+use Rattle.p3l_check.specs.Modules.{Modules}
+use Rattle.p3l_check.proofs.Numbers.{are-numbered-after}
 use Rattle.p3l_check.proofs.modules.Modules.with.Goals as goal
 
 pub invariant_of-result : goal.invariant_of-result
 invariant_of-result c =
-    let after = numbered-after c.self.inside.infos c.args.defined.info c.len-number.result in
-    let table = insert_entry-new bytes_eq c.self.inside.numbers c.in_ok-name.name c.len-number.result in
-    record {
-      numbers_are = grind (arith, after, table);
-      ported = grind (arith, common_steps);
-      wirings = grind (arith, common_steps);
-      few = grind (arith, common_steps);
-    }
+    let old = c.self.inside in
+    let added = c.in_ok-add_module.ensures in
+    let next : c.len-number.result ≡ length old.infos = c.len-number.ensures ∙ ap (λ (m : Modules). length m.infos) (sym c.self.view_is) in
+    let few : length old.infos + 1 < 2 ^ 32 = subst (λ (m : Modules). length m.infos + 1 < 2 ^ 32) (sym c.self.view_is) c.requires.room in
+    are-numbered-after old.numbers.entries _ old.infos _ old.ports _ old.wired _ c.args.defined c.len-number.result c.self.invariant next few
+    c.in_ok-add_number.ensures added.infos added.ports added.wired
