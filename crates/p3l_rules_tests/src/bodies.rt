@@ -103,12 +103,18 @@ const BODIES: &str = "0 | ${ y = x; b[x] = a[0][x]; }$
 /// What a body stands after.
 const HEAD: &str = "const K = 3; seq main in(int x, int a[2][3]) out(int y, int b[4])";
 
+/// A program must have this fault.
+fn check_program(rt: &impl Abort, alloc: Global, found: &str, text: &str) -> Result<(), Fail> {
+    let answer = fault(alloc, text)?;
+    assert!(rt; answer.as_str() == found, "{answer} for {text}");
+    Ok(())
+}
+
 /// Each program of a table must have its fault.
 fn check_programs(rt: &impl Abort, alloc: Global, table: &str) -> Result<(), Fail> {
     for line in table.lines() {
         let (found, text) = line.split_once(" | ").ok_or("no fault")?;
-        let answer = fault(alloc, text)?;
-        assert!(rt; answer.as_str() == found, "{answer} for {line}");
+        check_program(rt, alloc, found, text)?;
     }
     Ok(())
 }
@@ -118,8 +124,7 @@ fn check_bodies(rt: &impl Abort, alloc: Global, head: &str, table: &str) -> Resu
     for line in table.lines() {
         let (found, body) = line.split_once(" | ").ok_or("no fault")?;
         let text = format!(in alloc; "{head}\n{body}\nend seq")?;
-        let answer = fault(alloc, text.as_str())?;
-        assert!(rt; answer.as_str() == found, "{answer} for {line}");
+        check_program(rt, alloc, found, text.as_str())?;
     }
     Ok(())
 }

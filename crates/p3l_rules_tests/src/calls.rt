@@ -1,8 +1,11 @@
 // The first faults of the arguments of calls, with their places.
 
+ghost use Rattle.std.specs.Prelude.{◌≡◌, [], IfOk};
+ghost use Rattle.p3l_calls.specs.Port.{AreSized};
+
 use p3l_ast::{Call, Entry, Fault, Inside, Kind, Module, Program, SourceRefusal};
-use p3l_base::Name;
-use p3l_body::{Ports, Scope, ports_of};
+use p3l_base::{List, Name};
+use p3l_body::{Ports, Scope, Var, ports_of};
 use p3l_calls::{check_condition, check_plain_call, check_stage, cut_of, elements_of};
 use p3l_reader::read;
 use p3l_types::Consts;
@@ -135,116 +138,177 @@ const REDUCES: &str = "0 | reduce m in(int a[5]) out(int s) two in(a[*i]) out(s)
 27 | reduce m in(int a[5]) out(int s[3]) ^two in(a[*i]) out(s) end reduce
 27 | reduce m in(int a[5][2]) out(int s[2]) ^dot in(a[*i][]) out(s) end reduce";
 
-/// The ports of the module of this name.
-fn callee(
+/// What calls are checked in: a program, and the constants that stand before.
+#[derive(Clone, Copy)]
+struct Context<'p> {
     alloc: Global,
-    program: &Program,
-    consts: &Consts,
-    name: &Name,
-) -> Result<Ports, SourceRefusal> {
-    for entry in program.entries.as_slice() {
-        if let Entry::Module(module) = entry {
-            if module.at.name == *name {
-                let mut scope = Scope::new(alloc);
-                let (ins, outs) = (module.ins.as_slice(), module.outs.as_slice());
-                return ports_of(alloc, consts, &mut scope, ins, outs);
+    program: &'p Program,
+    consts: &'p Consts,
+}
+
+impl<'p> Context<'p> {
+    /// The ports of a module, whose names then stand in the empty scope.
+    fn ports(&self, scope: &mut Scope, module: &Module) -> Result<Ports, SourceRefusal>
+        requires { scope.old ≡ [] }
+        ensures ins { IfOk result (λ ports. AreSized ports.ins) }
+        ensures outs { IfOk result (λ ports. AreSized ports.outs) }
+    {
+        let (ins, outs) = (module.ins.as_slice(), module.outs.as_slice());
+        ports_of(self.alloc, self.consts, scope, ins, outs)
+    }
+
+    /// The ports of the module of this name.
+    fn callee(&self, name: &Name) -> Result<Ports, SourceRefusal> {
+        for entry in self.program.entries.as_slice() {
+            if let Entry::Module(module) = entry {
+                if module.at.name == *name {
+                    return self.ports(&mut Scope::new(self.alloc), module);
+                }
             }
         }
+        Err(SourceRefusal::At {
+            fault: Fault::UnknownName,
+            pos: self.program.end,
+        })
     }
-    Err(SourceRefusal::At {
-        fault: Fault::UnknownName,
-        pos: program.end,
-    })
-}
 
-/// The calls of a pipe or a comp.
-fn check_chain(
-    alloc: Global,
-    program: &Program,
-    consts: &Consts,
-    module: &Module,
-    calls: &[Call],
-) -> Result<(), SourceRefusal> {
-    let mut scope = Scope::new(alloc);
-    let (ins, outs) = (module.ins.as_slice(), module.outs.as_slice());
-    let Ports { ins, outs } = ports_of(alloc, consts, &mut scope, ins, outs)?;
-    let mut taken = ins;
-    let Some((last, stages)) = calls.split_last() else {
-        return Ok(());
-    };
-    for call in stages {
-        let ports = callee(alloc, program, consts, &call.at.name)?;
-        taken = check_stage(alloc, consts, &mut scope, taken.as_slice(), &ports, call)?;
+    /// A call that is handed variables and fills others.
+    fn check_plain(&self, taken: &[Var], filled: &[Var], call: &Call) -> Result<(), SourceRefusal> {
+        let callee = self.callee(&call.at.name)?;
+        check_plain_call(taken, filled, &callee, call)
     }
-    let ports = callee(alloc, program, consts, &last.at.name)?;
-    check_plain_call(taken.as_slice(), outs.as_slice(), &ports, last)
-}
 
-/// The body and the condition of a loop.
-fn check_loop(
-    alloc: Global,
-    program: &Program,
-    consts: &Consts,
-    module: &Module,
-    body: &Call,
-    condition: &Call,
-) -> Result<(), SourceRefusal> {
-    let mut scope = Scope::new(alloc);
-    let (ins, outs) = (module.ins.as_slice(), module.outs.as_slice());
-    let ports = ports_of(alloc, consts, &mut scope, ins, outs)?;
-    let turned = callee(alloc, program, consts, &body.at.name)?;
-    check_plain_call(ports.ins.as_slice(), ports.outs.as_slice(), &turned, body)?;
-    let tested = callee(alloc, program, consts, &condition.at.name)?;
-    let loop_outs = ports.outs.as_slice();
-    check_condition(alloc, consts, &scope, loop_outs, &tested, condition)
-}
-
-/// The one call of a farm, a map or a reduce.
-fn check_one(
-    alloc: Global,
-    program: &Program,
-    consts: &Consts,
-    module: &Module,
-    call: &Call,
-) -> Result<(), SourceRefusal> {
-    let mut scope = Scope::new(alloc);
-    let (ins, outs) = (module.ins.as_slice(), module.outs.as_slice());
-    let ports = ports_of(alloc, consts, &mut scope, ins, outs)?;
-    let called = callee(alloc, program, consts, &call.at.name)?;
-    match module.kind {
-        Kind::Map => {
-            cut_of(alloc, &ports, &called, call)?;
-            Ok(())
-        }
-        Kind::Reduce => {
-            elements_of(module.at.pos, &ports, &called, call)?;
-            Ok(())
-        }
-        _ => check_plain_call(ports.ins.as_slice(), ports.outs.as_slice(), &called, call),
+    /// A call of a chain that another follows; gives what that one takes.
+    fn check_next(
+        &self,
+        scope: &mut Scope,
+        taken: &[Var],
+        call: &Call,
+    ) -> Result<List<Var>, SourceRefusal> {
+        let callee = self.callee(&call.at.name)?;
+        check_stage(self.alloc, self.consts, scope, taken, &callee, call)
     }
-}
 
-/// The calls of a module.
-fn check_calls(
-    alloc: Global,
-    program: &Program,
-    consts: &Consts,
-    module: &Module,
-) -> Result<(), SourceRefusal> {
-    match &module.inside {
-        Inside::Body(_) => Ok(()),
-        Inside::Turning(body, condition) => {
-            check_loop(alloc, program, consts, module, body, condition)
+    /// The calls of a chain before the last one; gives what that one takes.
+    fn check_stages(
+        &self,
+        scope: &mut Scope,
+        ins: List<Var>,
+        calls: &[Call],
+    ) -> Result<List<Var>, SourceRefusal> {
+        let mut taken = ins;
+        for call in calls {
+            taken = self.check_next(scope, taken.as_slice(), call)?;
         }
-        Inside::Calls(calls) => match module.kind {
-            Kind::Pipe | Kind::Comp => {
-                check_chain(alloc, program, consts, module, calls.as_slice())
+        Ok(taken)
+    }
+
+    /// The calls of a pipe or a comp.
+    fn check_chain(
+        &self,
+        module: &Module,
+        stages: &[Call],
+        last: &Call,
+    ) -> Result<(), SourceRefusal> {
+        let mut scope = Scope::new(self.alloc);
+        let Ports { ins, outs } = self.ports(&mut scope, module)?;
+        let taken = self.check_stages(&mut scope, ins, stages)?;
+        self.check_plain(taken.as_slice(), outs.as_slice(), last)
+    }
+
+    /// The condition of a loop that gives these variables.
+    fn check_test(
+        &self,
+        scope: &Scope,
+        loop_outs: &[Var],
+        call: &Call,
+    ) -> Result<(), SourceRefusal> {
+        let callee = self.callee(&call.at.name)?;
+        check_condition(self.alloc, self.consts, scope, loop_outs, &callee, call)
+    }
+
+    /// The body and the condition of a loop.
+    fn check_loop(
+        &self,
+        module: &Module,
+        body: &Call,
+        condition: &Call,
+    ) -> Result<(), SourceRefusal> {
+        let mut scope = Scope::new(self.alloc);
+        let Ports { ins, outs } = self.ports(&mut scope, module)?;
+        self.check_plain(ins.as_slice(), outs.as_slice(), body)?;
+        self.check_test(&scope, outs.as_slice(), condition)
+    }
+
+    /// The one call of a farm, a map or a reduce with these ports.
+    fn check_only(
+        &self,
+        module: &Module,
+        ports: &Ports,
+        callee: &Ports,
+        call: &Call,
+    ) -> Result<(), SourceRefusal>
+        requires ins { AreSized ports.now.ins }
+        requires outs { AreSized ports.now.outs }
+    {
+        match module.kind {
+            Kind::Map => {
+                cut_of(self.alloc, ports, callee, call)?;
+                Ok(())
             }
-            _ => match calls.as_slice() {
-                [call] => check_one(alloc, program, consts, module, call),
+            Kind::Reduce => {
+                elements_of(module.at.pos, ports, callee, call)?;
+                Ok(())
+            }
+            _ => check_plain_call(ports.ins.as_slice(), ports.outs.as_slice(), callee, call),
+        }
+    }
+
+    /// The one call of a farm, a map or a reduce.
+    fn check_one(&self, module: &Module, call: &Call) -> Result<(), SourceRefusal> {
+        let ports = self.ports(&mut Scope::new(self.alloc), module)?;
+        let callee = self.callee(&call.at.name)?;
+        self.check_only(module, &ports, &callee, call)
+    }
+
+    /// The calls of a module.
+    fn check(&self, module: &Module) -> Result<(), SourceRefusal> {
+        match &module.inside {
+            Inside::Body(_) => Ok(()),
+            Inside::Turning(body, condition) => self.check_loop(module, body, condition),
+            Inside::Calls(calls) => match (module.kind, calls.as_slice()) {
+                (Kind::Pipe | Kind::Comp, [stages @ .., last]) => {
+                    self.check_chain(module, stages, last)
+                }
+                (_, [call]) => self.check_one(module, call),
                 _ => Ok(()),
             },
-        },
+        }
+    }
+}
+
+/// Adds a constant to those before, or checks the calls of a module.
+fn check_entry(
+    alloc: Global,
+    program: &Program,
+    consts: &mut Consts,
+    entry: &Entry,
+) -> Result<(), SourceRefusal> {
+    match entry {
+        Entry::Constant(spot, value) => {
+            if consts.get(&spot.name).is_none() {
+                consts.add(alloc, &spot.name, *value)?;
+            }
+            Ok(())
+        }
+        Entry::Module(module) => {
+            let context = Context {
+                alloc,
+                program,
+                consts,
+            };
+            context.check(module)
+        }
     }
 }
 
@@ -253,14 +317,7 @@ fn check(alloc: Global, text: &str) -> Result<(), SourceRefusal> {
     let program = read(alloc, text.as_bytes())?;
     let mut consts = Consts::new(alloc)?;
     for entry in program.entries.as_slice() {
-        match entry {
-            Entry::Constant(spot, value) => {
-                if consts.get(&spot.name).is_none() {
-                    consts.add(alloc, &spot.name, *value)?;
-                }
-            }
-            Entry::Module(module) => check_calls(alloc, &program, &consts, module)?,
-        }
+        check_entry(alloc, &program, &mut consts, entry)?;
     }
     Ok(())
 }
@@ -279,14 +336,29 @@ fn fault(alloc: Global, text: &str) -> Result<String, AllocError> {
     }
 }
 
-/// A program must have this fault.
-fn check_text(rt: &impl Abort, alloc: Global, expected: &str, text: &str) -> Result<(), Fail> {
-    let answer = fault(alloc, text)?;
+/// A caller must have this fault.
+fn check_caller(rt: &impl Abort, alloc: Global, expected: &str, caller: &str) -> Result<(), Fail> {
+    let text = format!(in alloc; "{HEAD}\n{caller}")?;
+    let answer = fault(alloc, text.as_str())?;
     assert!(rt;
         answer.as_str() == expected,
-        "{answer} and not {expected} for {text}"
+        "{answer} and not {expected} for {caller}"
     );
     Ok(())
+}
+
+/// A caller must have the fault of this number between two pieces of its text.
+fn check_marked(
+    rt: &impl Abort,
+    alloc: Global,
+    number: &str,
+    before: &str,
+    after: &str,
+) -> Result<(), Fail> {
+    let col = before.len().wrapping_add(1);
+    let expected = format!(in alloc; "{number} 2:{col}")?;
+    let caller = format!(in alloc; "{before}{after}")?;
+    check_caller(rt, alloc, expected.as_str(), caller.as_str())
 }
 
 /// Each caller of a table must have its fault.
@@ -294,16 +366,8 @@ fn check_table(rt: &impl Abort, alloc: Global, table: &str) -> Result<(), Fail> 
     for line in table.lines() {
         let (number, marked) = line.split_once(" | ").ok_or("no fault")?;
         match marked.split_once("^") {
-            Some((before, after)) => {
-                let col = before.len().wrapping_add(1);
-                let expected = format!(in alloc; "{number} 2:{col}")?;
-                let text = format!(in alloc; "{HEAD}\n{before}{after}")?;
-                check_text(rt, alloc, expected.as_str(), text.as_str())?;
-            }
-            None => {
-                let text = format!(in alloc; "{HEAD}\n{marked}")?;
-                check_text(rt, alloc, number, text.as_str())?;
-            }
+            Some((before, after)) => check_marked(rt, alloc, number, before, after)?,
+            None => check_caller(rt, alloc, number, marked)?,
         }
     }
     Ok(())

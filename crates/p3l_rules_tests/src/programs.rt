@@ -227,47 +227,64 @@ fn no_main_in_an_empty_text(rt: HostRuntime) -> Result<(), Fail> {
     Ok(())
 }
 
-/// A pipe of twenty calls of one module.
-fn add_level(alloc: Global, text: &mut String, name: &str, callee: &str) -> Result<(), AllocError> {
-    let head = format!(in alloc; "pipe {name} in(int c0) out(int d) ")?;
-    text.push_str(head.as_str())?;
+/// Heads of pipes of twenty calls, and what each calls: the last stands in a line of its own.
+const LEVELS: [(&str, &str); 5] = [
+    ("pipe p", "f"),
+    ("pipe q", "p"),
+    ("pipe r", "q"),
+    ("pipe s", "r"),
+    ("\npipe main", "s"),
+];
+
+/// Adds the first nineteen calls of a module to a pipe.
+fn add_calls(alloc: Global, text: &mut String, callee: &str) -> Result<(), AllocError> {
     for from in 0..19u32 {
         let to = from + 1;
         let call = format!(in alloc; "{callee} in(c{from}) out(int c{to}) ")?;
         text.push_str(call.as_str())?;
     }
-    let last = format!(in alloc; "{callee} in(c19) out(d) end pipe ")?;
-    text.push_str(last.as_str())?;
     Ok(())
+}
+
+/// Adds a pipe of twenty calls of one module.
+fn add_level(alloc: Global, text: &mut String, head: &str, callee: &str) -> Result<(), AllocError> {
+    let head = format!(in alloc; "{head} in(int c0) out(int d) ")?;
+    text.push_str(head.as_str())?;
+    add_calls(alloc, text, callee)?;
+    let last = format!(in alloc; "{callee} in(c19) out(d) end pipe ")?;
+    text.push_str(last.as_str())
+}
+
+/// Pipes of twenty calls, each of the one before.
+fn levels(alloc: Global) -> Result<String, AllocError> {
+    let mut text = format!(in alloc; "{HEAD} ")?;
+    for (head, callee) in LEVELS {
+        add_level(alloc, &mut text, head, callee)?;
+    }
+    Ok(text)
 }
 
 #[test]
 fn millions_of_instances_are_refused_at_once(rt: HostRuntime) -> Result<(), Fail> {
-    let alloc = rt.alloc();
-    let mut text = format!(in alloc; "{HEAD} ")?;
-    add_level(alloc, &mut text, "p", "f")?;
-    add_level(alloc, &mut text, "q", "p")?;
-    add_level(alloc, &mut text, "r", "q")?;
-    add_level(alloc, &mut text, "s", "r")?;
-    text.push_str("\n")?;
-    add_level(alloc, &mut text, "main", "s")?;
-    let found = answer(alloc, text.as_str())?;
+    let text = levels(rt.alloc())?;
+    let found = answer(rt.alloc(), text.as_str())?;
     assert_eq!(rt; found.as_str(), "31 2:6");
     Ok(())
+}
+
+/// Three constants and a `seq` module.
+fn entries(alloc: Global, number: u32) -> Result<String, AllocError> {
+    format!(in alloc;
+        "const A{number}=1;const B{number}=2;const C{number}=3;seq m{number} in(int x)out(int y)${{y=x+A{number}+B0;}}$end seq\n"
+    )
 }
 
 /// Constants and `seq` modules by turns, within the limit of a text: the last module has the name of the first constant.
 fn many_entries(alloc: Global) -> Result<String, AllocError> {
     let mut text = String::new(alloc);
-    for k in 0..10000u32 {
-        let constants = format!(in alloc; "const A{k}=1;const B{k}=2;const C{k}=3;")?;
-        text.push_str(constants.as_str())?;
-        let head = format!(in alloc; "seq m{k} in(int x)out(int y)")?;
-        text.push_str(head.as_str())?;
-        let sum = format!(in alloc; "x+A{k}+B0;")?;
-        text.push_str("${y=")?;
-        text.push_str(sum.as_str())?;
-        text.push_str("}$end seq\n")?;
+    for number in 0..10000u32 {
+        let entries = entries(alloc, number)?;
+        text.push_str(entries.as_str())?;
     }
     text.push_str("seq A0 in(int x)out(int y)${y=x;}$end seq")?;
     Ok(text)

@@ -37,14 +37,21 @@ fn port(alloc: Global) -> Result<Port, NoMemory> {
     })
 }
 
+/// The constant `N`, which is 3.
+fn consts(alloc: Global) -> Result<Consts, NoMemory> {
+    let mut consts = Consts::new(alloc)?;
+    let name = Name::from_text(alloc, "N")?;
+    if consts.get(&name).is_none() {
+        consts.add(alloc, &name, 3)?;
+    }
+    Ok(consts)
+}
+
 #[test]
 fn shapes(rt: HostRuntime) -> Result<(), Fail> {
-    let alloc = rt.alloc();
-    let mut consts = Consts::new(alloc)?;
-    if consts.get(&Name::from_text(alloc, "N")?).is_none() {
-        consts.add(alloc, &Name::from_text(alloc, "N")?, 3)?;
-    }
-    let shape = shape_of(alloc, &port(alloc)?, &consts)?;
+    let port = port(rt.alloc())?;
+    let consts = consts(rt.alloc())?;
+    let shape = shape_of(rt.alloc(), &port, &consts)?;
     assert_eq!(rt; shape.sizes.as_slice(), [2, 3].as_slice());
     Ok(())
 }
@@ -57,26 +64,31 @@ fn shape(alloc: Global, first: u32, second: u32) -> Result<Shape, NoMemory> {
     Ok(Shape { sizes })
 }
 
-/// An argument with these brackets.
-fn arg(alloc: Global, subs: List<Sub>) -> Result<Arg, NoMemory> {
-    Ok(Arg {
+/// What these brackets leave of an array of 2 by 3.
+fn slice(alloc: Global, subs: List<Sub>) -> Result<Shape, Fail> {
+    let arg = Arg {
         at: spot(alloc, "a")?,
         subs,
-    })
+    };
+    let shape = shape(alloc, 2, 3)?;
+    Ok(sliced(alloc, &arg, &shape)?.ok_or("none")?)
+}
+
+/// The brackets `[*i][]`.
+fn rows(alloc: Global) -> Result<List<Sub>, NoMemory> {
+    let mut subs = List::new(alloc);
+    subs.push(Sub::Free(spot(alloc, "i")?))?;
+    subs.push(Sub::Whole)?;
+    Ok(subs)
 }
 
 #[test]
 fn slices(rt: HostRuntime) -> Result<(), Fail> {
     let alloc = rt.alloc();
-    let shape = shape(alloc, 2, 3)?;
-    let mut subs = List::new(alloc);
-    let plain = arg(alloc, List::new(alloc))?;
-    let whole = sliced(alloc, &plain, &shape)?.ok_or("none")?;
+    let whole = slice(alloc, List::new(alloc))?;
     assert_eq!(rt; whole.sizes.as_slice(), [2, 3].as_slice());
-    subs.push(Sub::Free(spot(alloc, "i")?))?;
-    subs.push(Sub::Whole)?;
-    let rows = sliced(alloc, &arg(alloc, subs)?, &shape)?.ok_or("none")?;
-    assert_eq!(rt; rows.sizes.as_slice(), [3].as_slice());
+    let row = slice(alloc, rows(alloc)?)?;
+    assert_eq!(rt; row.sizes.as_slice(), [3].as_slice());
     Ok(())
 }
 

@@ -1,6 +1,7 @@
 // Cuts of matrices and cubes, and the tokens that results fill.
 
-ghost use Rattle.std.specs.Prelude.{◌≡◌, ◌+◌, ◌≤◌, List, IfOk};
+ghost use Rattle.std.specs.Prelude.{◌≡◌, ◌+◌, ◌≤◌, List, [], ◌∷◌, ◌++◌, IfOk, OnOk};
+ghost use Rattle.p3l_base.specs.Cut.{HasLawfulOuts, element_count, element_size};
 ghost use Rattle.p3l_base.specs.Slice.{array_size, AreFreeIndices};
 
 use p3l_base::{Cut, Dim, List, NoMemory, Place, Slice, Words, cut_at, join};
@@ -76,48 +77,67 @@ fn lines_and_planes_of_a_cube(rt: HostRuntime) -> Result<(), Fail> {
     Ok(())
 }
 
-fn words_of(alloc: Global, words: &[i64]) -> Result<Words, NoMemory>
-    ensures { IfOk result (λ list. list ≡ words.now) }
+/// Puts these words after the other results.
+fn put(alloc: Global, results: &mut List<Words>, words: &[i64]) -> Result<(), NoMemory>
+    ensures { OnOk result (results.new ≡ results.old ++ words.now ∷ []) }
 {
-    Ok(Words::from_vec(Vec::from_slice(alloc, words)?))
+    results.push(Words::from_vec(Vec::from_slice(alloc, words)?))
+}
+
+/// The cut whose elements are the words of a 2 by 2 matrix.
+fn cut_of_a_matrix(alloc: Global) -> Result<Cut, NoMemory>
+    ensures lawful { IfOk result HasLawfulOuts }
+    ensures elements { IfOk result (λ cut. element_count cut ≡ 4) }
+    ensures words { IfOk result (λ cut. element_size cut.outs ≡ 1) }
+{
+    let mut outs = List::new(alloc);
+    outs.push(slice_of(alloc, 0, &[FIRST_2, SECOND_2])?)?;
+    Ok(Cut {
+        first: 2,
+        second: 2,
+        ins: List::new(alloc),
+        outs,
+    })
 }
 
 #[test]
 fn elements_fill_a_matrix(rt: HostRuntime) -> Result<(), Fail> {
     let alloc = rt.alloc();
-    let mut outs = List::new(alloc);
-    outs.push(slice_of(alloc, 0, &[FIRST_2, SECOND_2])?)?;
-    let cut = Cut {
-        first: 2,
-        second: 2,
-        ins: List::new(alloc),
-        outs,
-    };
+    let cut = cut_of_a_matrix(alloc)?;
     let mut results = List::new(alloc);
-    results.push(words_of(alloc, &[19])?)?;
-    results.push(words_of(alloc, &[22])?)?;
-    results.push(words_of(alloc, &[43])?)?;
-    results.push(words_of(alloc, &[50])?)?;
+    put(alloc, &mut results, &[19])?;
+    put(alloc, &mut results, &[22])?;
+    put(alloc, &mut results, &[43])?;
+    put(alloc, &mut results, &[50])?;
     let token = join(alloc, &cut, &results)?;
     assert_eq!(rt; token.as_slice(), [19, 22, 43, 50].as_slice());
     Ok(())
 }
 
-#[test]
-fn results_fill_columns_and_sums(rt: HostRuntime) -> Result<(), Fail> {
-    let alloc = rt.alloc();
+/// The cut whose elements are two columns, each with its sum.
+fn cut_of_columns(alloc: Global) -> Result<Cut, NoMemory>
+    ensures lawful { IfOk result HasLawfulOuts }
+    ensures elements { IfOk result (λ cut. element_count cut ≡ 2) }
+    ensures words { IfOk result (λ cut. element_size cut.outs ≡ 3) }
+{
     let mut outs = List::new(alloc);
     outs.push(slice_of(alloc, 0, &[REST_2, FIRST_2])?)?;
     outs.push(slice_of(alloc, 4, &[FIRST_2])?)?;
-    let cut = Cut {
+    Ok(Cut {
         first: 2,
         second: 1,
         ins: List::new(alloc),
         outs,
-    };
+    })
+}
+
+#[test]
+fn results_fill_columns_and_sums(rt: HostRuntime) -> Result<(), Fail> {
+    let alloc = rt.alloc();
+    let cut = cut_of_columns(alloc)?;
     let mut results = List::new(alloc);
-    results.push(words_of(alloc, &[1, 2, 3])?)?;
-    results.push(words_of(alloc, &[4, 5, 6])?)?;
+    put(alloc, &mut results, &[1, 2, 3])?;
+    put(alloc, &mut results, &[4, 5, 6])?;
     let token = join(alloc, &cut, &results)?;
     assert_eq!(rt; token.as_slice(), [1, 4, 2, 5, 3, 6].as_slice());
     Ok(())

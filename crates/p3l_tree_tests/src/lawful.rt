@@ -1,246 +1,260 @@
 // Lawful trees and counts, and one broken rule at a time.
 
-use p3l_base::{Cut, Dim, List, Name, Place, Slice};
-use p3l_skel::{Counts, Form, ModuleInfo, ModuleKind, Node, Tree, lawful_counts, lawful_tree};
+use crate::rows::{Array, Row, Shape, Sketch, counts_of, tree_of};
+use p3l_base::{Dim, NoMemory, Place};
+use p3l_skel::{ModuleKind, lawful_counts, lawful_tree};
 use std::alloc::Global;
-use std::test::*;
+use std::process::Abort;
+use std::test::Fail;
 
-/// The right number, and in the wrong tree `at` another one.
-fn number(wrong: u32, at: u32, right: u32, other: u32) -> u32 {
-    if wrong == at { other } else { right }
-}
+const OF_FOUR: Dim = Dim {
+    size: 4,
+    place: Place::First,
+};
 
-fn node(
-    alloc: Global,
-    form: Form,
-    module: u32,
-    words: (u32, u32),
-    parts: &[u32],
-) -> Result<Node, Fail> {
-    Ok(Node {
-        form,
-        module,
-        ins: words.0,
-        outs: words.1,
-        parts: List::from_vec(parts.to_vec(alloc)?),
-    })
-}
+const OF_FIVE: Dim = Dim {
+    size: 5,
+    place: Place::First,
+};
 
-fn modules(alloc: Global, kinds: &[ModuleKind]) -> Result<List<ModuleInfo>, Fail> {
-    let mut modules = Vec::new(alloc);
-    for kind in kinds {
-        let name = Name::from_text(alloc, "m")?;
-        modules.push(ModuleInfo { name, kind: *kind })?;
-    }
-    Ok(List::from_vec(modules))
-}
+const ALL_FOUR: Dim = Dim {
+    size: 4,
+    place: Place::Rest,
+};
 
-/// A slice with one dimension.
-fn slice(alloc: Global, start: u32, size: u32, place: Place) -> Result<List<Slice>, Fail> {
-    let dims = List::from_vec([Dim { size, place }].to_vec(alloc)?);
-    let mut slices = Vec::new(alloc);
-    slices.push(Slice { start, dims })?;
-    Ok(List::from_vec(slices))
-}
+/// Four words, each an element; five; four from word 1 on; and four that each element has all of.
+const FOUR: [Array; 1] = [(0, &[OF_FOUR])];
 
-/// A map over four words, and the wrong ones.
-fn map_of_four(alloc: Global, wrong: u32) -> Result<Form, Fail> {
-    let cut = Cut {
-        first: number(wrong, 1, 4, 3),
-        second: number(wrong, 2, 1, 2),
-        ins: slice(
-            alloc,
-            number(wrong, 3, 0, 1),
-            number(wrong, 4, 4, 5),
-            Place::First,
-        )?,
-        outs: slice(
-            alloc,
-            number(wrong, 5, 0, 1),
-            4,
-            if wrong == 6 {
-                Place::Rest
-            } else {
-                Place::First
-            },
-        )?,
-    };
-    let workers = if wrong == 7 { Some(5) } else { None };
-    Ok(Form::Map { workers, cut })
-}
+const FIVE: [Array; 1] = [(0, &[OF_FIVE])];
+
+const LATE: [Array; 1] = [(1, &[OF_FOUR])];
+
+const SHARED: [Array; 1] = [(0, &[ALL_FOUR])];
 
 /// A pipe of a map and of a loop whose body is a comp and whose condition is a reduce.
-fn whole_tree(alloc: Global, wrong: u32) -> Result<Tree, Fail> {
-    let map = map_of_four(alloc, wrong)?;
-    let turning = Form::Loop {
-        turns: number(wrong, 9, number(wrong, 8, 10, 0), 65_537),
-        tokens: number(wrong, 11, number(wrong, 10, 4, 0), 1025),
-    };
-    let reduce = Form::Reduce {
-        workers: Some(number(wrong, 13, number(wrong, 12, 2, 3), 8)),
-        len: number(wrong, 14, 4, 3),
-        elem: number(wrong, 15, 1, 2),
-    };
-    let none: [u32; 0] = [];
-    let mut nodes = Vec::new(alloc);
-    nodes.push(node(
-        alloc,
-        Form::Pipe,
-        0,
-        (number(wrong, 16, 4, 0), 4),
-        &[number(wrong, 17, 1, 3), 3],
-    )?)?;
-    nodes.push(node(alloc, map, 1, (4, number(wrong, 18, 4, 5)), &[2])?)?;
-    nodes.push(node(
-        alloc,
-        Form::Seq,
-        2,
-        (number(wrong, 19, 1, 2), 1),
-        if wrong == 20 { &[3] } else { &none },
-    )?)?;
-    nodes.push(node(
-        alloc,
-        turning,
-        3,
-        (4, 4),
-        if wrong == 21 { &[4] } else { &[4, 6] },
-    )?)?;
-    nodes.push(node(alloc, Form::Comp, number(wrong, 22, 4, 0), (4, 4), &[5])?)?;
-    nodes.push(node(alloc, Form::Seq, number(wrong, 23, 5, 9), (4, 4), &none)?)?;
-    nodes.push(node(alloc, reduce, 6, (4, 1), &[7])?)?;
-    nodes.push(node(alloc, Form::Seq, number(wrong, 24, 7, 5), (2, 1), &none)?)?;
-    let modules = modules(
-        alloc,
-        &[
-            ModuleKind::Pipe,
-            ModuleKind::Map,
-            ModuleKind::Seq,
-            ModuleKind::Loop,
-            ModuleKind::Comp,
-            ModuleKind::Seq,
-            ModuleKind::Reduce,
-            ModuleKind::Seq,
-        ],
-    )?;
-    let nodes = List::from_vec(nodes);
-    Ok(Tree { nodes, modules })
+const WHOLE: Sketch = (
+    &[
+        (Shape::Pipe, 0, 4, 4, &[1, 3]),
+        (Shape::Map(None, 4, 1, &FOUR, &FOUR), 1, 4, 4, &[2]),
+        (Shape::Seq, 2, 1, 1, &[]),
+        (Shape::Loop(10, 4), 3, 4, 4, &[4, 6]),
+        (Shape::Comp, 4, 4, 4, &[5]),
+        (Shape::Seq, 5, 4, 4, &[]),
+        (Shape::Reduce(Some(2), 4, 1), 6, 4, 1, &[7]),
+        (Shape::Seq, 7, 2, 1, &[]),
+    ],
+    &[
+        ModuleKind::Pipe,
+        ModuleKind::Map,
+        ModuleKind::Seq,
+        ModuleKind::Loop,
+        ModuleKind::Comp,
+        ModuleKind::Seq,
+        ModuleKind::Reduce,
+        ModuleKind::Seq,
+    ],
+);
+
+/// Rows in place of those of the whole tree, each of which breaks a rule.
+const BROKEN: [(usize, Row); 24] = [
+    (0, (Shape::Pipe, 0, 0, 4, &[1, 3])),
+    (0, (Shape::Pipe, 0, 4, 4, &[3, 3])),
+    (1, (Shape::Map(None, 3, 1, &FOUR, &FOUR), 1, 4, 4, &[2])),
+    (1, (Shape::Map(None, 4, 2, &FOUR, &FOUR), 1, 4, 4, &[2])),
+    (1, (Shape::Map(None, 4, 1, &LATE, &FOUR), 1, 4, 4, &[2])),
+    (1, (Shape::Map(None, 4, 1, &FIVE, &FOUR), 1, 4, 4, &[2])),
+    (1, (Shape::Map(None, 4, 1, &FOUR, &LATE), 1, 4, 4, &[2])),
+    (1, (Shape::Map(None, 4, 1, &FOUR, &SHARED), 1, 4, 4, &[2])),
+    (1, (Shape::Map(Some(5), 4, 1, &FOUR, &FOUR), 1, 4, 4, &[2])),
+    (1, (Shape::Map(None, 4, 1, &FOUR, &FOUR), 1, 4, 5, &[2])),
+    (2, (Shape::Seq, 2, 2, 1, &[])),
+    (2, (Shape::Seq, 2, 1, 1, &[3])),
+    (3, (Shape::Loop(0, 4), 3, 4, 4, &[4, 6])),
+    (3, (Shape::Loop(65_537, 4), 3, 4, 4, &[4, 6])),
+    (3, (Shape::Loop(10, 0), 3, 4, 4, &[4, 6])),
+    (3, (Shape::Loop(10, 1025), 3, 4, 4, &[4, 6])),
+    (3, (Shape::Loop(10, 4), 3, 4, 4, &[4])),
+    (4, (Shape::Comp, 0, 4, 4, &[5])),
+    (5, (Shape::Seq, 9, 4, 4, &[])),
+    (6, (Shape::Reduce(Some(3), 4, 1), 6, 4, 1, &[7])),
+    (6, (Shape::Reduce(Some(8), 4, 1), 6, 4, 1, &[7])),
+    (6, (Shape::Reduce(Some(2), 3, 1), 6, 4, 1, &[7])),
+    (6, (Shape::Reduce(Some(2), 4, 2), 6, 4, 1, &[7])),
+    (7, (Shape::Seq, 5, 2, 1, &[])),
+];
+
+/// Whether a tree is lawful.
+fn is_lawful(alloc: Global, sketch: Sketch) -> Result<bool, NoMemory> {
+    Ok(lawful_tree(&tree_of(alloc, sketch.0, sketch.1)?))
+}
+
+/// Whether a tree is lawful with another row in one place.
+fn is_lawful_with(alloc: Global, sketch: Sketch, place: usize, row: Row) -> Result<bool, NoMemory> {
+    let mut rows = Vec::from_slice(alloc, sketch.0)?;
+    if let Some(old) = rows.get_mut(place) {
+        *old = row;
+    }
+    Ok(lawful_tree(&tree_of(alloc, rows.as_slice(), sketch.1)?))
+}
+
+/// No tree may be lawful with one of these rows in its place.
+fn refuse(
+    rt: &impl Abort,
+    alloc: Global,
+    sketch: Sketch,
+    table: &[(usize, Row)],
+) -> Result<(), NoMemory> {
+    for (number, (place, row)) in table.iter().enumerate() {
+        let lawful = is_lawful_with(alloc, sketch, *place, *row)?;
+        assert!(rt; !lawful, "{number}");
+    }
+    Ok(())
 }
 
 #[test]
 fn one_broken_rule_is_refused(rt: HostRuntime) -> Result<(), Fail> {
-    assert!(rt; lawful_tree(&whole_tree(rt.alloc(), 0)?));
-    for wrong in 1..25 {
-        assert!(rt; !lawful_tree(&whole_tree(rt.alloc(), wrong)?), "{wrong}");
-    }
-    Ok(())
+    assert!(rt; is_lawful(rt.alloc(), WHOLE)?);
+    Ok(refuse(&rt, rt.alloc(), WHOLE, &BROKEN)?)
 }
 
-/// So many comps, each around the next, around a seq.
-fn nested(alloc: Global, comps: u32) -> Result<Tree, Fail> {
-    let mut nodes = Vec::new(alloc);
-    for number in 0..comps {
-        nodes.push(node(alloc, Form::Comp, 0, (1, 1), &[number.wrapping_add(1)])?)?;
-    }
-    nodes.push(node(alloc, Form::Seq, 1, (1, 1), &[])?)?;
-    let nodes = List::from_vec(nodes);
-    let modules = modules(alloc, &[ModuleKind::Comp, ModuleKind::Seq])?;
-    Ok(Tree { nodes, modules })
-}
+/// Comps, each around the next, around a seq.
+const FIVE_COMPS: Sketch = (
+    &[
+        (Shape::Comp, 0, 1, 1, &[1]),
+        (Shape::Comp, 0, 1, 1, &[2]),
+        (Shape::Comp, 0, 1, 1, &[3]),
+        (Shape::Comp, 0, 1, 1, &[4]),
+        (Shape::Comp, 0, 1, 1, &[5]),
+        (Shape::Seq, 1, 1, 1, &[]),
+    ],
+    &[ModuleKind::Comp, ModuleKind::Seq],
+);
 
-/// A loop of so many turns around a map of 65,536 elements.
-fn heavy(alloc: Global, turns: u32) -> Result<Tree, Fail> {
-    let cut = Cut {
-        first: 65_536,
-        second: 1,
-        ins: slice(alloc, 0, 65_536, Place::First)?,
-        outs: slice(alloc, 0, 65_536, Place::First)?,
-    };
-    let mut nodes = Vec::new(alloc);
-    let words = (65_536, 65_536);
-    nodes.push(node(alloc, Form::Loop { turns, tokens: 1 }, 0, words, &[1, 3])?)?;
-    nodes.push(node(alloc, Form::Map { workers: None, cut }, 1, words, &[2])?)?;
-    nodes.push(node(alloc, Form::Seq, 2, (1, 1), &[])?)?;
-    nodes.push(node(alloc, Form::Seq, 3, (65_536, 1), &[])?)?;
-    let nodes = List::from_vec(nodes);
-    let modules = modules(
-        alloc,
-        &[
-            ModuleKind::Loop,
-            ModuleKind::Map,
-            ModuleKind::Seq,
-            ModuleKind::Seq,
-        ],
-    )?;
-    Ok(Tree { nodes, modules })
-}
+const SIX_COMPS: Sketch = (
+    &[
+        (Shape::Comp, 0, 1, 1, &[1]),
+        (Shape::Comp, 0, 1, 1, &[2]),
+        (Shape::Comp, 0, 1, 1, &[3]),
+        (Shape::Comp, 0, 1, 1, &[4]),
+        (Shape::Comp, 0, 1, 1, &[5]),
+        (Shape::Comp, 0, 1, 1, &[6]),
+        (Shape::Seq, 1, 1, 1, &[]),
+    ],
+    &[ModuleKind::Comp, ModuleKind::Seq],
+);
+
+const OF_MANY: Dim = Dim {
+    size: 65_536,
+    place: Place::First,
+};
+
+const MANY: [Array; 1] = [(0, &[OF_MANY])];
+
+/// A loop around a map of 65,536 elements. 682 turns fire 682 * 196612 + 1 times, which is within
+/// 2 ^ 27, and 683 turns are past it.
+const HEAVY: Sketch = (
+    &[
+        (Shape::Loop(682, 1), 0, 65_536, 65_536, &[1, 3]),
+        (
+            Shape::Map(None, 65_536, 1, &MANY, &MANY),
+            1,
+            65_536,
+            65_536,
+            &[2],
+        ),
+        (Shape::Seq, 2, 1, 1, &[]),
+        (Shape::Seq, 3, 65_536, 1, &[]),
+    ],
+    &[
+        ModuleKind::Loop,
+        ModuleKind::Map,
+        ModuleKind::Seq,
+        ModuleKind::Seq,
+    ],
+);
+
+const TOO_HEAVY: Row = (Shape::Loop(683, 1), 0, 65_536, 65_536, &[1, 3]);
 
 #[test]
 fn depth_and_work_are_limited(rt: HostRuntime) -> Result<(), Fail> {
-    assert!(rt; lawful_tree(&nested(rt.alloc(), 5)?));
-    assert!(rt; !lawful_tree(&nested(rt.alloc(), 6)?));
-    // 682 turns fire 682 * 196612 + 1 times, which is within 2 ^ 27, and 683 turns are past it.
-    assert!(rt; lawful_tree(&heavy(rt.alloc(), 682)?));
-    assert!(rt; !lawful_tree(&heavy(rt.alloc(), 683)?));
+    let alloc = rt.alloc();
+    assert!(rt; is_lawful(alloc, FIVE_COMPS)?);
+    assert!(rt; !is_lawful(alloc, SIX_COMPS)?);
+    assert!(rt; is_lawful(alloc, HEAVY)?);
+    assert!(rt; !is_lawful_with(alloc, HEAVY, 0, TOO_HEAVY)?);
     Ok(())
 }
 
-/// A reduce of five words.
-fn reduce_of_five(alloc: Global, workers: Option<u32>) -> Result<Tree, Fail> {
-    let mut nodes = Vec::new(alloc);
-    nodes.push(node(
-        alloc,
-        Form::Reduce {
-            workers,
-            len: 5,
-            elem: 1,
-        },
-        0,
-        (5, 1),
-        &[1],
-    )?)?;
-    nodes.push(node(alloc, Form::Seq, 1, (2, 1), &[])?)?;
-    let nodes = List::from_vec(nodes);
-    let modules = modules(alloc, &[ModuleKind::Reduce, ModuleKind::Seq])?;
-    Ok(Tree { nodes, modules })
+/// Each of these numbers of workers must be lawful for the tree or not, as its row says.
+fn compare_counts(
+    rt: &impl Abort,
+    alloc: Global,
+    sketch: Sketch,
+    table: &[(&[u32], bool)],
+) -> Result<(), NoMemory> {
+    let tree = tree_of(alloc, sketch.0, sketch.1)?;
+    for (counts, lawful) in table {
+        let found = lawful_counts(&tree, &counts_of(alloc, counts)?);
+        assert_eq!(rt; found, *lawful, "{counts:?}");
+    }
+    Ok(())
 }
 
-fn counts(alloc: Global, list: &[u32]) -> Result<Counts, Fail> {
-    Ok(Counts {
-        list: List::from_vec(list.to_vec(alloc)?),
-    })
-}
+const COUNTS: [(&[u32], bool); 8] = [
+    (&[0], false),
+    (&[1], true),
+    (&[2], true),
+    (&[3], true),
+    (&[4], true),
+    (&[5], false),
+    (&[], false),
+    (&[2, 2], false),
+];
 
 #[test]
 fn counts_are_those_of_the_nodes_outside_units(rt: HostRuntime) -> Result<(), Fail> {
-    let whole = whole_tree(rt.alloc(), 0)?;
-    for count in 0..6 {
-        let lawful = 1 <= count && count <= 4;
-        assert_eq!(rt;
-            lawful_counts(&whole, &counts(rt.alloc(), &[count])?),
-            lawful,
-            "{count}"
-        );
-    }
-    assert!(rt; !lawful_counts(&whole, &counts(rt.alloc(), &[])?));
-    assert!(rt; !lawful_counts(&whole, &counts(rt.alloc(), &[2, 2])?));
-    Ok(())
+    Ok(compare_counts(&rt, rt.alloc(), WHOLE, &COUNTS)?)
 }
+
+/// Reduces of five words: without a clause, and with one.
+const FREE: Sketch = (
+    &[
+        (Shape::Reduce(None, 5, 1), 0, 5, 1, &[1]),
+        (Shape::Seq, 1, 2, 1, &[]),
+    ],
+    &[ModuleKind::Reduce, ModuleKind::Seq],
+);
+
+const FIXED: Sketch = (
+    &[
+        (Shape::Reduce(Some(2), 5, 1), 0, 5, 1, &[1]),
+        (Shape::Seq, 1, 2, 1, &[]),
+    ],
+    &[ModuleKind::Reduce, ModuleKind::Seq],
+);
+
+const TOO_MANY: Row = (Shape::Reduce(Some(8), 5, 1), 0, 5, 1, &[1]);
+
+const FREE_COUNTS: [(&[u32], bool); 9] = [
+    (&[0], false),
+    (&[1], true),
+    (&[2], true),
+    (&[3], false),
+    (&[4], true),
+    (&[5], false),
+    (&[6], false),
+    (&[7], false),
+    (&[8], false),
+];
+
+const FIXED_COUNTS: [(&[u32], bool); 2] = [(&[2], true), (&[4], false)];
 
 #[test]
 fn segments_are_powers_of_two_and_keep_the_clause(rt: HostRuntime) -> Result<(), Fail> {
-    let free = reduce_of_five(rt.alloc(), None)?;
-    for count in 0..9 {
-        let lawful = count == 1 || count == 2 || count == 4;
-        assert_eq!(rt;
-            lawful_counts(&free, &counts(rt.alloc(), &[count])?),
-            lawful,
-            "{count}"
-        );
-    }
-    let fixed = reduce_of_five(rt.alloc(), Some(2))?;
-    assert!(rt; lawful_tree(&fixed));
-    assert!(rt; !lawful_tree(&reduce_of_five(rt.alloc(), Some(8))?));
-    assert!(rt; lawful_counts(&fixed, &counts(rt.alloc(), &[2])?));
-    assert!(rt; !lawful_counts(&fixed, &counts(rt.alloc(), &[4])?));
+    let alloc = rt.alloc();
+    compare_counts(&rt, alloc, FREE, &FREE_COUNTS)?;
+    assert!(rt; is_lawful(alloc, FIXED)?);
+    assert!(rt; !is_lawful_with(alloc, FIXED, 0, TOO_MANY)?);
+    compare_counts(&rt, alloc, FIXED, &FIXED_COUNTS)?;
     Ok(())
 }

@@ -8,3 +8,5 @@ mod cuts;
 mod lawful;
 #[cfg(test)]
 mod numbers;
+#[cfg(test)]
+mod rows;

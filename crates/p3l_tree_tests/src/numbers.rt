@@ -1,194 +1,139 @@
 // The numbers of small trees, one of each skeleton.
 
-use p3l_base::{Cut, Dim, List, Name, NoMemory, Place, Slice};
+use crate::rows::{Array, Shape, Sketch, counts_of, tree_of};
+use p3l_base::{Dim, NoMemory, Place};
 use p3l_model::{firings, is_outside, procs};
-use p3l_skel::{Counts, Form, ModuleInfo, ModuleKind, Node, Tree, lawful_counts, lawful_tree};
+use p3l_skel::{Counts, ModuleKind, Tree, lawful_counts, lawful_tree};
 use std::alloc::Global;
 use std::process::Abort;
 use std::test::Fail;
 
-fn list_of(alloc: Global, numbers: &[u32]) -> Result<List<u32>, NoMemory> {
-    Ok(List::from_vec(Vec::from_slice(alloc, numbers)?))
-}
-
-fn kind_of(form: &Form) -> ModuleKind {
-    match form {
-        Form::Seq => ModuleKind::Seq,
-        Form::Comp => ModuleKind::Comp,
-        Form::Pipe => ModuleKind::Pipe,
-        Form::Farm { .. } => ModuleKind::Farm,
-        Form::Map { .. } => ModuleKind::Map,
-        Form::Reduce { .. } => ModuleKind::Reduce,
-        Form::Loop { .. } => ModuleKind::Loop,
-    }
-}
-
-// Puts a node of a new module after the others.
-fn add(
-    alloc: Global,
-    tree: &mut Tree,
-    form: Form,
-    ins: u32,
-    outs: u32,
-    parts: &[u32],
-) -> Result<(), NoMemory> {
-    let module = u32::try_from(tree.modules.len()).unwrap_or(0);
-    let kind = kind_of(&form);
-    tree.modules.push(ModuleInfo {
-        name: Name::from_text(alloc, "m")?,
-        kind,
-    })?;
-    let parts = list_of(alloc, parts)?;
-    tree.nodes.push(Node {
-        form,
-        module,
-        ins,
-        outs,
-        parts,
-    })
-}
-
-fn empty_tree(alloc: Global) -> Tree {
-    Tree {
-        nodes: List::new(alloc),
-        modules: List::new(alloc),
-    }
-}
-
-fn slice_of(alloc: Global, start: u32, rows: Place, columns: Place) -> Result<Slice, NoMemory> {
-    let dims = [
-        Dim {
-            size: 2,
-            place: rows,
-        },
-        Dim {
-            size: 2,
-            place: columns,
-        },
-    ];
-    Ok(Slice {
-        start,
-        dims: List::from_vec(Vec::from_slice(alloc, &dims)?),
-    })
-}
-
-// The cut of the product of two 2 by 2 matrices into inner products.
-fn product_cut(alloc: Global) -> Result<Cut, NoMemory> {
-    let mut ins = List::new(alloc);
-    ins.push(slice_of(alloc, 0, Place::First, Place::Rest)?)?;
-    ins.push(slice_of(alloc, 4, Place::Rest, Place::Second)?)?;
-    let mut outs = List::new(alloc);
-    outs.push(slice_of(alloc, 0, Place::First, Place::Second)?)?;
-    Ok(Cut {
-        first: 2,
-        second: 2,
-        ins,
-        outs,
-    })
-}
+/// Numbers of workers and a node: the node's processes, and the network's firings for one item.
+type Expected = (&'static [u32], u32, (u64, u64));
 
 // A node's processes and the network's firings for one item.
-fn numbers(
+fn numbers(rt: &impl Abort, tree: &Tree, counts: &Counts, node: u32) -> (u64, u64) {
+    assert!(rt; lawful_tree(tree));
+    assert!(rt; lawful_counts(tree, counts));
+    assert!(rt; is_outside(tree, node));
+    (procs(tree, counts, node), firings(tree, counts))
+}
+
+// Each row of a table must have the numbers of the tree.
+fn compare(
     rt: &impl Abort,
     alloc: Global,
-    tree: &Tree,
-    counts: &[u32],
-    node: u32,
-) -> Result<(u64, u64), NoMemory> {
-    let counts = Counts {
-        list: list_of(alloc, counts)?,
-    };
-    assert!(rt; lawful_tree(tree));
-    assert!(rt; lawful_counts(tree, &counts));
-    assert!(rt; is_outside(tree, node));
-    Ok((procs(tree, &counts, node), firings(tree, &counts)))
+    sketch: Sketch,
+    table: &[Expected],
+) -> Result<(), NoMemory> {
+    let tree = tree_of(alloc, sketch.0, sketch.1)?;
+    for (counts, node, expected) in table {
+        let counts = counts_of(alloc, counts)?;
+        assert_eq!(rt; numbers(rt, &tree, &counts, *node), *expected);
+    }
+    Ok(())
 }
+
+const FIRST: Dim = Dim {
+    size: 2,
+    place: Place::First,
+};
+
+const SECOND: Dim = Dim {
+    size: 2,
+    place: Place::Second,
+};
+
+const REST: Dim = Dim {
+    size: 2,
+    place: Place::Rest,
+};
+
+/// The product of two 2 by 2 matrices, cut into inner products.
+const FACTORS: [Array; 2] = [(0, &[FIRST, REST]), (4, &[REST, SECOND])];
+
+const PRODUCT: [Array; 1] = [(0, &[FIRST, SECOND])];
+
+const MAP: Sketch = (
+    &[
+        (Shape::Map(None, 2, 2, &FACTORS, &PRODUCT), 0, 8, 4, &[1]),
+        (Shape::Seq, 1, 4, 1, &[]),
+    ],
+    &[ModuleKind::Map, ModuleKind::Seq],
+);
+
+const OF_THE_MAP: [Expected; 3] = [(&[1], 0, (3, 16)), (&[2], 0, (4, 16)), (&[3], 0, (5, 16))];
 
 #[test]
 fn a_map_scatters_and_gathers(rt: HostRuntime) -> Result<(), Fail> {
-    let alloc = rt.alloc();
-    let mut tree = empty_tree(alloc);
-    let map = Form::Map {
-        workers: None,
-        cut: product_cut(alloc)?,
-    };
-    add(alloc, &mut tree, map, 8, 4, &[1])?;
-    add(alloc, &mut tree, Form::Seq, 4, 1, &[])?;
-    assert_eq!(rt; numbers(&rt, alloc, &tree, &[1], 0)?, (3, 16));
-    assert_eq!(rt; numbers(&rt, alloc, &tree, &[2], 0)?, (4, 16));
-    assert_eq!(rt; numbers(&rt, alloc, &tree, &[3], 0)?, (5, 16));
-    Ok(())
+    Ok(compare(&rt, rt.alloc(), MAP, &OF_THE_MAP)?)
 }
+
+const REDUCE: Sketch = (
+    &[
+        (Shape::Reduce(None, 5, 1), 0, 5, 1, &[1]),
+        (Shape::Seq, 1, 2, 1, &[]),
+    ],
+    &[ModuleKind::Reduce, ModuleKind::Seq],
+);
+
+const OF_THE_REDUCE: [Expected; 2] = [(&[4], 0, (8, 14)), (&[1], 0, (1, 3))];
 
 #[test]
 fn a_reduce_folds_its_segments(rt: HostRuntime) -> Result<(), Fail> {
-    let alloc = rt.alloc();
-    let mut tree = empty_tree(alloc);
-    let reduce = Form::Reduce {
-        workers: None,
-        len: 5,
-        elem: 1,
-    };
-    add(alloc, &mut tree, reduce, 5, 1, &[1])?;
-    add(alloc, &mut tree, Form::Seq, 2, 1, &[])?;
-    assert_eq!(rt; numbers(&rt, alloc, &tree, &[4], 0)?, (8, 14));
-    assert_eq!(rt; numbers(&rt, alloc, &tree, &[1], 0)?, (1, 3));
-    Ok(())
+    Ok(compare(&rt, rt.alloc(), REDUCE, &OF_THE_REDUCE)?)
 }
+
+/// Loops whose bodies are a seq and a farm.
+const LOOP: Sketch = (
+    &[
+        (Shape::Loop(10, 4), 0, 2, 2, &[1, 2]),
+        (Shape::Seq, 1, 2, 2, &[]),
+        (Shape::Seq, 2, 2, 1, &[]),
+    ],
+    &[ModuleKind::Loop, ModuleKind::Seq, ModuleKind::Seq],
+);
+
+const LOOP_OF_FARM: Sketch = (
+    &[
+        (Shape::Loop(10, 4), 0, 2, 2, &[1, 3]),
+        (Shape::Farm(Some(4)), 1, 2, 2, &[2]),
+        (Shape::Seq, 2, 2, 2, &[]),
+        (Shape::Seq, 3, 2, 1, &[]),
+    ],
+    &[
+        ModuleKind::Loop,
+        ModuleKind::Farm,
+        ModuleKind::Seq,
+        ModuleKind::Seq,
+    ],
+);
 
 #[test]
 fn a_loop_turns_its_body(rt: HostRuntime) -> Result<(), Fail> {
-    let alloc = rt.alloc();
-    let mut halves = empty_tree(alloc);
-    add(
-        alloc,
-        &mut halves,
-        Form::Loop {
-            turns: 10,
-            tokens: 4,
-        },
-        2,
-        2,
-        &[1, 2],
-    )?;
-    add(alloc, &mut halves, Form::Seq, 2, 2, &[])?;
-    add(alloc, &mut halves, Form::Seq, 2, 1, &[])?;
-    assert_eq!(rt; numbers(&rt, alloc, &halves, &[], 0)?, (3, 33));
-    let mut farmed = empty_tree(alloc);
-    add(
-        alloc,
-        &mut farmed,
-        Form::Loop {
-            turns: 10,
-            tokens: 4,
-        },
-        2,
-        2,
-        &[1, 3],
-    )?;
-    add(
-        alloc,
-        &mut farmed,
-        Form::Farm { workers: Some(4) },
-        2,
-        2,
-        &[2],
-    )?;
-    add(alloc, &mut farmed, Form::Seq, 2, 2, &[])?;
-    add(alloc, &mut farmed, Form::Seq, 2, 1, &[])?;
-    assert_eq!(rt; numbers(&rt, alloc, &farmed, &[4], 0)?, (8, 53));
+    compare(&rt, rt.alloc(), LOOP, &[(&[], 0, (3, 33))])?;
+    compare(&rt, rt.alloc(), LOOP_OF_FARM, &[(&[4], 0, (8, 53))])?;
     Ok(())
 }
 
+const PIPE: Sketch = (
+    &[
+        (Shape::Pipe, 0, 1, 1, &[1, 2]),
+        (Shape::Seq, 1, 1, 1, &[]),
+        (Shape::Farm(None), 2, 1, 1, &[3]),
+        (Shape::Seq, 3, 1, 1, &[]),
+    ],
+    &[
+        ModuleKind::Pipe,
+        ModuleKind::Seq,
+        ModuleKind::Farm,
+        ModuleKind::Seq,
+    ],
+);
+
+const OF_THE_PIPE: [Expected; 2] = [(&[5], 0, (8, 6)), (&[5], 2, (7, 6))];
+
 #[test]
 fn a_pipe_adds_its_stages(rt: HostRuntime) -> Result<(), Fail> {
-    let alloc = rt.alloc();
-    let mut tree = empty_tree(alloc);
-    add(alloc, &mut tree, Form::Pipe, 1, 1, &[1, 2])?;
-    add(alloc, &mut tree, Form::Seq, 1, 1, &[])?;
-    add(alloc, &mut tree, Form::Farm { workers: None }, 1, 1, &[3])?;
-    add(alloc, &mut tree, Form::Seq, 1, 1, &[])?;
-    assert_eq!(rt; numbers(&rt, alloc, &tree, &[5], 0)?, (8, 6));
-    assert_eq!(rt; numbers(&rt, alloc, &tree, &[5], 2)?, (7, 6));
-    Ok(())
+    Ok(compare(&rt, rt.alloc(), PIPE, &OF_THE_PIPE)?)
 }
