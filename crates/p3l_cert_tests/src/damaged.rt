@@ -7,94 +7,97 @@ use std::alloc::Global;
 use std::process::Abort;
 use std::test::Fail;
 
-// The refusal with one line changed, and with two.
-fn refused(
-    rt: &impl Abort,
-    alloc: Global,
-    at: usize,
-    line: &[u8],
-) -> Result<Option<CertRefusal>, NoMemory> {
-    refused_two(rt, alloc, (at, line), (at, line))
+/// A line in place of one of the certificate's, counted from 0.
+type Changed = (usize, &'static [u8]);
+
+/// What a certificate is refused for.
+#[derive(Clone, Copy, Drop)]
+enum Due {
+    Nothing,
+    /// The row of this number, what it keeps, and what is found.
+    Wrong(u64, u32, u32),
+    /// The row of this number, and the node, bound and processors of the one that is missing.
+    Missing(u64, u32, u128, u32),
+    False(Claim),
+    /// The line of this number.
+    Bad(u64),
 }
 
+impl Due {
+    fn refusal(&self) -> Option<CertRefusal> {
+        match *self {
+            Due::Nothing => None,
+            Due::Wrong(row, kept, found) => Some(CertRefusal::RowWrong { row, kept, found }),
+            Due::Missing(row, node, bound, cap) => Some(CertRefusal::RowMissing {
+                row,
+                node,
+                bound,
+                cap,
+            }),
+            Due::False(claim) => Some(CertRefusal::ClaimWrong(claim)),
+            Due::Bad(line) => Some(CertRefusal::BadText { line }),
+        }
+    }
+}
+
+// Each with one line changed must be refused so.
+fn refused(rt: &impl Abort, alloc: Global, table: &[(usize, &[u8], Due)]) -> Result<(), NoMemory> {
+    for (number, line, due) in table {
+        let text = text_with(alloc, (*number, line), (*number, line))?;
+        assert_eq!(rt; refusal(rt, alloc, text.as_slice())?, due.refusal());
+    }
+    Ok(())
+}
+
+// Each with two lines changed must be refused so.
 fn refused_two(
     rt: &impl Abort,
     alloc: Global,
-    first: (usize, &[u8]),
-    second: (usize, &[u8]),
-) -> Result<Option<CertRefusal>, NoMemory> {
-    let text = text_with(alloc, first, second)?;
-    refusal(rt, alloc, text.as_slice())
+    table: &[(Changed, Changed, Due)],
+) -> Result<(), NoMemory> {
+    for (first, second, due) in table {
+        let text = text_with(alloc, *first, *second)?;
+        assert_eq!(rt; refusal(rt, alloc, text.as_slice())?, due.refusal());
+    }
+    Ok(())
 }
 
-fn missing(row: u64, node: u32, bound: u128, cap: u32) -> Option<CertRefusal> {
-    Some(CertRefusal::RowMissing {
-        row,
-        node,
-        bound,
-        cap,
-    })
-}
-
-fn wrong(row: u64, kept: u32, found: u32) -> Option<CertRefusal> {
-    Some(CertRefusal::RowWrong { row, kept, found })
-}
-
-fn claim(claim: Claim) -> Option<CertRefusal> {
-    Some(CertRefusal::ClaimWrong(claim))
-}
-
-fn bad(line: u64) -> Option<CertRefusal> {
-    Some(CertRefusal::BadText { line })
-}
+const ROWS: [(usize, &[u8], Due); 5] = [
+    (9, b"row 2 11 8 9\n", Due::Wrong(4, 9, 8)),
+    (7, b"row 1 11 8 2\n", Due::Wrong(2, 2, 1)),
+    (21, b"", Due::Missing(4, 3, 66, 1)),
+    (5, b"", Due::Missing(17, 0, 11, 8)),
+    (6, b"", Due::Missing(17, 0, 12, 8)),
+];
 
 #[test]
 fn rows(rt: HostRuntime) -> Result<(), Fail> {
-    let alloc = rt.alloc();
-    assert_eq!(rt; refusal(&rt, alloc, text(alloc)?.as_slice())?, None);
-    assert_eq!(rt; refused(&rt, alloc, 9, b"row 2 11 8 9\n")?, wrong(4, 9, 8));
-    assert_eq!(rt; refused(&rt, alloc, 7, b"row 1 11 8 2\n")?, wrong(2, 2, 1));
-    assert_eq!(rt; refused(&rt, alloc, 21, b"")?, missing(4, 3, 66, 1));
-    assert_eq!(rt; refused(&rt, alloc, 5, b"")?, missing(17, 0, 11, 8));
-    assert_eq!(rt; refused(&rt, alloc, 6, b"")?, missing(17, 0, 12, 8));
-    Ok(())
+    let whole = text(rt.alloc())?;
+    assert_eq!(rt; refusal(&rt, rt.alloc(), whole.as_slice())?, None);
+    Ok(refused(&rt, rt.alloc(), &ROWS)?)
 }
+
+const MORE_ROWS: [(usize, &[u8], Due); 2] = [
+    (22, b"row 3 72 1 1\nrow 3 100 1 1\n", Due::Nothing),
+    (22, b"row 3 72 1 1\nrow 4 0 1 1\n", Due::Wrong(18, 1, 0)),
+];
 
 #[test]
 fn more_rows(rt: HostRuntime) -> Result<(), Fail> {
-    let alloc = rt.alloc();
-    assert_eq!(rt;
-        refused(&rt, alloc, 22, b"row 3 72 1 1\nrow 3 100 1 1\n")?,
-        None
-    );
-    assert_eq!(rt;
-        refused(&rt, alloc, 22, b"row 3 72 1 1\nrow 4 0 1 1\n")?,
-        wrong(18, 1, 0)
-    );
-    Ok(())
+    Ok(refused(&rt, rt.alloc(), &MORE_ROWS)?)
 }
+
+const CLAIMS: [(usize, &[u8], Due); 5] = [
+    (2, b"counts 0\n", Due::False(Claim::Counts)),
+    (2, b"counts 5 5\n", Due::False(Claim::Counts)),
+    (3, b"service 13\n", Due::False(Claim::Service)),
+    (4, b"used 7\n", Due::False(Claim::Used)),
+    (1, b"processors 7\n", Due::False(Claim::Fits)),
+];
 
 #[test]
 fn claims(rt: HostRuntime) -> Result<(), Fail> {
-    let alloc = rt.alloc();
-    assert_eq!(rt;
-        refused(&rt, alloc, 2, b"counts 0\n")?,
-        claim(Claim::Counts)
-    );
-    assert_eq!(rt;
-        refused(&rt, alloc, 2, b"counts 5 5\n")?,
-        claim(Claim::Counts)
-    );
-    assert_eq!(rt;
-        refused(&rt, alloc, 3, b"service 13\n")?,
-        claim(Claim::Service)
-    );
-    assert_eq!(rt; refused(&rt, alloc, 4, b"used 7\n")?, claim(Claim::Used));
-    assert_eq!(rt;
-        refused(&rt, alloc, 1, b"processors 7\n")?,
-        claim(Claim::Fits)
-    );
-    Ok(())
+    Ok(refused(&rt, rt.alloc(), &CLAIMS)?)
 }
 
 // True counts and true rows, of which the last claim says that a sooner time is to be had.
@@ -105,27 +108,35 @@ const NOT_THE_BEST: &[u8] =
 fn counts_that_are_not_the_best(rt: HostRuntime) -> Result<(), Fail> {
     assert_eq!(rt;
         refusal(&rt, rt.alloc(), NOT_THE_BEST)?,
-        claim(Claim::Least)
+        Due::False(Claim::Least).refusal()
     );
     Ok(())
 }
 
+const FIRST_OF_TWO: [(Changed, Changed, Due); 6] = [
+    (
+        (2, b"counts 0\n"),
+        (3, b"service 13\n"),
+        Due::False(Claim::Counts),
+    ),
+    (
+        (3, b"service 13\n"),
+        (4, b"used 7\n"),
+        Due::False(Claim::Service),
+    ),
+    (
+        (4, b"used 7\n"),
+        (1, b"processors 6\n"),
+        Due::False(Claim::Used),
+    ),
+    ((9, b"row 2 11 8 9\n"), (21, b""), Due::Missing(4, 3, 66, 1)),
+    ((7, b"row 1 11 8 2\n"), (21, b""), Due::Wrong(2, 2, 1)),
+    ((5, b""), (6, b""), Due::Missing(16, 0, 12, 8)),
+];
+
 #[test]
 fn the_first_of_two(rt: HostRuntime) -> Result<(), Fail> {
-    let alloc = rt.alloc();
-    let two = refused_two(&rt, alloc, (2, b"counts 0\n"), (3, b"service 13\n"))?;
-    assert_eq!(rt; two, claim(Claim::Counts));
-    let two = refused_two(&rt, alloc, (3, b"service 13\n"), (4, b"used 7\n"))?;
-    assert_eq!(rt; two, claim(Claim::Service));
-    let two = refused_two(&rt, alloc, (4, b"used 7\n"), (1, b"processors 6\n"))?;
-    assert_eq!(rt; two, claim(Claim::Used));
-    let two = refused_two(&rt, alloc, (9, b"row 2 11 8 9\n"), (21, b""))?;
-    assert_eq!(rt; two, missing(4, 3, 66, 1));
-    let two = refused_two(&rt, alloc, (7, b"row 1 11 8 2\n"), (21, b""))?;
-    assert_eq!(rt; two, wrong(2, 2, 1));
-    let two = refused_two(&rt, alloc, (5, b""), (6, b""))?;
-    assert_eq!(rt; two, missing(16, 0, 12, 8));
-    Ok(())
+    Ok(refused_two(&rt, rt.alloc(), &FIRST_OF_TWO)?)
 }
 
 // True rows that say that fewer processes are to be had in the same time.
@@ -136,59 +147,80 @@ const NOT_THE_FEWEST: &[u8] =
 fn counts_that_are_not_the_fewest(rt: HostRuntime) -> Result<(), Fail> {
     assert_eq!(rt;
         refusal(&rt, rt.alloc(), NOT_THE_FEWEST)?,
-        claim(Claim::Least)
+        Due::False(Claim::Least).refusal()
     );
     Ok(())
 }
+
+const FIRST_TEST: [(Changed, Changed, Due); 5] = [
+    ((2, b"counts 02\n"), (3, b"service 13\n"), Due::Bad(3)),
+    (
+        (2, b"counts 0\n"),
+        (9, b"row 2 11 8 9\n"),
+        Due::False(Claim::Counts),
+    ),
+    (
+        (1, b"processors 7\n"),
+        (9, b"row 2 11 8 9\n"),
+        Due::False(Claim::Fits),
+    ),
+    ((9, b"row 2 11 8 9\n"), (6, b""), Due::Wrong(3, 9, 8)),
+    (
+        (5, b"row 0 11 8 8\n"),
+        (9, b"row 2 11 8 9\n"),
+        Due::Wrong(0, 8, 9),
+    ),
+];
 
 #[test]
 fn the_first_test_decides(rt: HostRuntime) -> Result<(), Fail> {
-    let alloc = rt.alloc();
-    let wrong_row: (usize, &[u8]) = (9, b"row 2 11 8 9\n");
-    let two = refused_two(&rt, alloc, (2, b"counts 02\n"), (3, b"service 13\n"))?;
-    assert_eq!(rt; two, bad(3));
-    let two = refused_two(&rt, alloc, (2, b"counts 0\n"), wrong_row)?;
-    assert_eq!(rt; two, claim(Claim::Counts));
-    let two = refused_two(&rt, alloc, (1, b"processors 7\n"), wrong_row)?;
-    assert_eq!(rt; two, claim(Claim::Fits));
-    let two = refused_two(&rt, alloc, wrong_row, (6, b""))?;
-    assert_eq!(rt; two, wrong(3, 9, 8));
-    let two = refused_two(&rt, alloc, (5, b"row 0 11 8 8\n"), wrong_row)?;
-    assert_eq!(rt; two, wrong(0, 8, 9));
-    Ok(())
+    Ok(refused_two(&rt, rt.alloc(), &FIRST_TEST)?)
 }
+
+const UNUSED: [(usize, &[u8], Due); 3] = [
+    (7, b"row 1 5 3 4\nrow 1 11 8 1\n", Due::Nothing),
+    (7, b"row 1 5 3 1\nrow 1 11 8 1\n", Due::Wrong(2, 1, 4)),
+    (
+        10,
+        b"row 2 12 7 6\nrow 2 12 8 7\n",
+        Due::Missing(5, 3, 12, 5),
+    ),
+];
 
 #[test]
 fn rows_that_nothing_rests_on(rt: HostRuntime) -> Result<(), Fail> {
-    let alloc = rt.alloc();
-    let true_one: &[u8] = b"row 1 5 3 4\nrow 1 11 8 1\n";
-    assert_eq!(rt; refused(&rt, alloc, 7, true_one)?, None);
-    let untrue: &[u8] = b"row 1 5 3 1\nrow 1 11 8 1\n";
-    assert_eq!(rt; refused(&rt, alloc, 7, untrue)?, wrong(2, 1, 4));
-    let alone: &[u8] = b"row 2 12 7 6\nrow 2 12 8 7\n";
-    assert_eq!(rt; refused(&rt, alloc, 10, alone)?, missing(5, 3, 12, 5));
-    Ok(())
+    Ok(refused(&rt, rt.alloc(), &UNUSED)?)
 }
+
+const TEXTS: [(usize, &[u8], Due); 8] = [
+    (1, b"processors 08\n", Due::Bad(2)),
+    (1, b"processors 513\n", Due::Bad(2)),
+    (2, b"counts \n", Due::Bad(3)),
+    (
+        3,
+        b"service 1298074214633706907132624082305023\n",
+        Due::False(Claim::Service),
+    ),
+    (
+        3,
+        b"service 1298074214633706907132624082305024\n",
+        Due::Bad(4),
+    ),
+    (7, b"row 1 12 8 1\n", Due::Bad(9)),
+    (23, b"", Due::Bad(24)),
+    (23, b"end\n\n", Due::Bad(25)),
+];
+
+const TURNED: [(Changed, Changed, Due); 1] = [(
+    (7, b"row 1 12 8 1\n"),
+    (8, b"row 1 11 8 1\n"),
+    Due::Bad(9),
+)];
 
 #[test]
 fn texts(rt: HostRuntime) -> Result<(), Fail> {
-    let alloc = rt.alloc();
-    assert_eq!(rt; refused(&rt, alloc, 1, b"processors 08\n")?, bad(2));
-    assert_eq!(rt; refused(&rt, alloc, 1, b"processors 513\n")?, bad(2));
-    assert_eq!(rt; refused(&rt, alloc, 2, b"counts \n")?, bad(3));
-    let greatest: &[u8] = b"service 1298074214633706907132624082305023\n";
-    assert_eq!(rt; refused(&rt, alloc, 3, greatest)?, claim(Claim::Service));
-    let past: &[u8] = b"service 1298074214633706907132624082305024\n";
-    assert_eq!(rt; refused(&rt, alloc, 3, past)?, bad(4));
-    let row: &[u8] = b"row 1 12 8 1\n";
-    assert_eq!(rt;
-        refused_two(&rt, alloc, (7, row), (8, b"row 1 11 8 1\n"))?,
-        bad(9)
-    );
-    assert_eq!(rt; refused(&rt, alloc, 7, row)?, bad(9));
-    assert_eq!(rt; refused(&rt, alloc, 23, b"")?, bad(24));
-    assert_eq!(rt; refused(&rt, alloc, 23, b"end\n\n")?, bad(25));
-    Ok(())
+    refused(&rt, rt.alloc(), &TEXTS)?;
+    Ok(refused_two(&rt, rt.alloc(), &TURNED)?)
 }
 
 // The line in which each front of a text ends, if a front is read as a certificate or told at

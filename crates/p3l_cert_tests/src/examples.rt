@@ -2,171 +2,55 @@
 // out by hand.
 
 use crate::damaged::first_unlike;
-use p3l_alloc::choose;
-use p3l_base::{Cut, Dim, List, Name, NoMemory, Place, Slice};
-use p3l_cert::{cert_text, certify, check, read_cert};
-use p3l_cost::{Costs, lawful_costs, standard};
-use p3l_skel::{Form, ModuleInfo, Node, Tree, lawful_tree};
+use crate::making::{made, refusal};
+use crate::trees::{Row, Shape, tree_of};
+use p3l_base::{List, NoMemory};
+use p3l_cost::{Costs, standard};
+use p3l_skel::{Tree, lawful_tree};
 use std::alloc::Global;
 use std::process::Abort;
 use std::test::Fail;
 
-fn empty(alloc: Global) -> Tree {
-    Tree {
-        nodes: List::new(alloc),
-        modules: List::new(alloc),
-    }
-}
+const LINE_ROWS: [Row; 1] = [(Shape::Seq, 1, 1, &[])];
 
-// Puts a node of a module of its own after the others.
-fn add(
-    alloc: Global,
-    tree: &mut Tree,
-    form: Form,
-    words: (u32, u32),
-    parts: &[u32],
-) -> Result<(), NoMemory> {
-    let module = u32::try_from(tree.modules.len()).unwrap_or(0);
-    tree.modules.push(ModuleInfo {
-        name: Name::from_text(alloc, "m")?,
-        kind: form.kind(),
-    })?;
-    tree.nodes.push(Node {
-        form,
-        module,
-        ins: words.0,
-        outs: words.1,
-        parts: List::from_vec(Vec::from_slice(alloc, parts)?),
-    })
-}
+const NORM_ROWS: [Row; 3] = [
+    (Shape::Comp, 4, 1, &[1, 2]),
+    (Shape::Seq, 4, 4, &[]),
+    (Shape::Seq, 4, 1, &[]),
+];
 
-fn line(alloc: Global) -> Result<Tree, NoMemory> {
-    let mut tree = empty(alloc);
-    add(alloc, &mut tree, Form::Seq, (1, 1), &[])?;
-    Ok(tree)
-}
+const HALVE_ROWS: [Row; 3] = [
+    (Shape::Loop(64, 4), 2, 2, &[1, 2]),
+    (Shape::Seq, 2, 2, &[]),
+    (Shape::Seq, 2, 1, &[]),
+];
 
-fn norm(alloc: Global) -> Result<Tree, NoMemory> {
-    let mut tree = empty(alloc);
-    add(alloc, &mut tree, Form::Comp, (4, 1), &[1, 2])?;
-    add(alloc, &mut tree, Form::Seq, (4, 4), &[])?;
-    add(alloc, &mut tree, Form::Seq, (4, 1), &[])?;
-    Ok(tree)
-}
+const GREATEST_ROWS: [Row; 2] = [
+    (Shape::Reduce(Some(4), 10), 10, 1, &[1]),
+    (Shape::Seq, 2, 1, &[]),
+];
 
-fn halve(alloc: Global) -> Result<Tree, NoMemory> {
-    let turning = Form::Loop {
-        turns: 64,
-        tokens: 4,
-    };
-    let mut tree = empty(alloc);
-    add(alloc, &mut tree, turning, (2, 2), &[1, 2])?;
-    add(alloc, &mut tree, Form::Seq, (2, 2), &[])?;
-    add(alloc, &mut tree, Form::Seq, (2, 1), &[])?;
-    Ok(tree)
-}
+const TOTAL_ROWS: [Row; 2] = [
+    (Shape::Reduce(None, 16), 16, 1, &[1]),
+    (Shape::Seq, 2, 1, &[]),
+];
 
-fn reduce(alloc: Global, workers: Option<u32>, len: u32) -> Result<Tree, NoMemory> {
-    let form = Form::Reduce {
-        workers,
-        len,
-        elem: 1,
-    };
-    let mut tree = empty(alloc);
-    add(alloc, &mut tree, form, (len, 1), &[1])?;
-    add(alloc, &mut tree, Form::Seq, (2, 1), &[])?;
-    Ok(tree)
-}
+const SIGNAL_ROWS: [Row; 4] = [
+    (Shape::Pipe, 8, 8, &[1, 2]),
+    (Shape::Seq, 8, 8, &[]),
+    (Shape::Farm(None), 8, 8, &[3]),
+    (Shape::Seq, 8, 8, &[]),
+];
 
-fn signal(alloc: Global) -> Result<Tree, NoMemory> {
-    let mut tree = empty(alloc);
-    add(alloc, &mut tree, Form::Pipe, (8, 8), &[1, 2])?;
-    add(alloc, &mut tree, Form::Seq, (8, 8), &[])?;
-    add(alloc, &mut tree, Form::Farm { workers: None }, (8, 8), &[3])?;
-    add(alloc, &mut tree, Form::Seq, (8, 8), &[])?;
-    Ok(tree)
-}
+const FARMS_ROWS: [Row; 5] = [
+    (Shape::Pipe, 1, 1, &[1, 3]),
+    (Shape::Farm(None), 1, 1, &[2]),
+    (Shape::Seq, 1, 1, &[]),
+    (Shape::Farm(Some(3)), 1, 1, &[4]),
+    (Shape::Seq, 1, 1, &[]),
+];
 
-fn farms(alloc: Global) -> Result<Tree, NoMemory> {
-    let mut tree = empty(alloc);
-    add(alloc, &mut tree, Form::Pipe, (1, 1), &[1, 3])?;
-    add(alloc, &mut tree, Form::Farm { workers: None }, (1, 1), &[2])?;
-    add(alloc, &mut tree, Form::Seq, (1, 1), &[])?;
-    add(
-        alloc,
-        &mut tree,
-        Form::Farm { workers: Some(3) },
-        (1, 1),
-        &[4],
-    )?;
-    add(alloc, &mut tree, Form::Seq, (1, 1), &[])?;
-    Ok(tree)
-}
-
-// A matrix of 3 by 3 from a word on.
-fn square(alloc: Global, start: u32, rows: Place, columns: Place) -> Result<Slice, NoMemory> {
-    let rows = Dim {
-        size: 3,
-        place: rows,
-    };
-    let columns = Dim {
-        size: 3,
-        place: columns,
-    };
-    Ok(Slice {
-        start,
-        dims: List::from_vec(Vec::from_slice(alloc, &[rows, columns])?),
-    })
-}
-
-fn matrix(alloc: Global) -> Result<Tree, NoMemory> {
-    let mut ins = List::new(alloc);
-    ins.push(square(alloc, 0, Place::First, Place::Rest)?)?;
-    ins.push(square(alloc, 9, Place::Rest, Place::Second)?)?;
-    let mut outs = List::new(alloc);
-    outs.push(square(alloc, 0, Place::First, Place::Second)?)?;
-    let cut = Cut {
-        first: 3,
-        second: 3,
-        ins,
-        outs,
-    };
-    let map = Form::Map { workers: None, cut };
-    let mut tree = empty(alloc);
-    add(alloc, &mut tree, map, (18, 9), &[1])?;
-    add(alloc, &mut tree, Form::Seq, (6, 1), &[])?;
-    Ok(tree)
-}
-
-// The text of the certificate of the counts that are chosen at the standard costs.
-fn text_of(rt: &impl Abort, alloc: Global, tree: &Tree, processors: u32) -> Result<List<u8>, Fail> {
-    assert!(rt; lawful_tree(tree));
-    assert!(rt; 1 <= processors && processors <= 512);
-    let costs = standard(alloc, tree)?;
-    let choice = choose(alloc, tree, &costs, processors)
-        .ok()
-        .ok_or("enough processors")?;
-    let cert = certify(
-        alloc,
-        tree,
-        &costs,
-        processors,
-        &choice.counts,
-        choice.service,
-        choice.used,
-    )?;
-    Ok(cert_text(alloc, &cert)?)
-}
-
-// Whether a text is a certificate that holds at the standard costs.
-fn holds(rt: &impl Abort, alloc: Global, tree: &Tree, text: &[u8]) -> Result<bool, NoMemory> {
-    assert!(rt; lawful_tree(tree));
-    let costs = standard(alloc, tree)?;
-    match read_cert(alloc, text) {
-        Err(_) => Ok(false),
-        Ok(cert) => Ok(check(alloc, tree, &costs, &cert).is_ok()),
-    }
-}
+const MATRIX_ROWS: [Row; 2] = [(Shape::Product, 18, 9, &[1]), (Shape::Seq, 6, 1, &[])];
 
 // The certificate for so many processors is this text, it is accepted, and no front of it is one;
 // and for a few processors more, what is made is accepted too.
@@ -174,16 +58,32 @@ fn check_example(
     rt: &impl Abort,
     alloc: Global,
     tree: &Tree,
+    costs: &Costs,
     processors: u32,
     expected: &[u8],
 ) -> Result<(), Fail> {
-    let text = text_of(rt, alloc, tree, processors)?;
+    let text = made(rt, alloc, tree, costs, processors)?;
     assert_eq!(rt; text.as_slice(), expected);
     assert_eq!(rt; first_unlike(alloc, expected), None);
     for more in 0..12 {
         let many = processors.saturating_add(more);
-        let text = text_of(rt, alloc, tree, many)?;
-        assert!(rt; holds(rt, alloc, tree, text.as_slice())?, "{many}");
+        let text = made(rt, alloc, tree, costs, many)?;
+        assert_eq!(rt;
+            refusal(rt, alloc, tree, costs, text.as_slice()),
+            None,
+            "{many}"
+        );
+    }
+    Ok(())
+}
+
+// Checks each example at the standard costs.
+fn check_examples(rt: &impl Abort, alloc: Global, table: &[Example]) -> Result<(), Fail> {
+    for (rows, processors, expected) in table {
+        let tree = tree_of(alloc, rows)?;
+        assert!(rt; lawful_tree(&tree));
+        let costs = standard(alloc, &tree)?;
+        check_example(rt, alloc, &tree, &costs, *processors, expected)?;
     }
     Ok(())
 }
@@ -212,32 +112,35 @@ const SIGNAL: &[u8] =
 const FARMS: &[u8] =
     b"p3l-cert 1\nprocessors 9\ncounts 2 3\nservice 61\nused 9\nrow 0 60 9 10\nrow 0 61 9 9\nrow 1 60 9 5\nrow 1 61 9 4\nrow 2 60 7 8\nrow 2 61 7 8\nrow 2 120 3 4\nrow 2 122 3 1\nrow 2 180 2 1\nrow 2 183 2 1\nrow 2 240 1 1\nrow 2 244 1 1\nrow 2 300 1 1\nrow 2 305 1 1\nrow 2 360 1 1\nrow 2 366 1 1\nrow 2 420 1 1\nrow 2 427 1 1\nrow 3 60 9 5\nrow 3 61 9 5\nrow 4 180 2 1\nrow 4 183 2 1\nend\n";
 
+/// The rows of a tree, for how many processors its certificate is, and its text.
+type Example = (&'static [Row], u32, &'static [u8]);
+
+const UNITS: [Example; 2] = [(&LINE_ROWS, 4, LINE), (&NORM_ROWS, 2, NORM)];
+
 #[test]
 fn certificates_of_units(rt: HostRuntime) -> Result<(), Fail> {
-    let alloc = rt.alloc();
-    check_example(&rt, alloc, &line(alloc)?, 4, LINE)?;
-    check_example(&rt, alloc, &norm(alloc)?, 2, NORM)
+    check_examples(&rt, rt.alloc(), &UNITS)
 }
+
+const REDUCES: [Example; 2] = [(&GREATEST_ROWS, 8, GREATEST), (&TOTAL_ROWS, 9, TOTAL)];
 
 #[test]
 fn certificates_of_reduces(rt: HostRuntime) -> Result<(), Fail> {
-    let alloc = rt.alloc();
-    check_example(&rt, alloc, &reduce(alloc, Some(4), 10)?, 8, GREATEST)?;
-    check_example(&rt, alloc, &reduce(alloc, None, 16)?, 9, TOTAL)
+    check_examples(&rt, rt.alloc(), &REDUCES)
 }
+
+const LOOP_AND_MAP: [Example; 2] = [(&HALVE_ROWS, 4, HALVE), (&MATRIX_ROWS, 5, MATRIX)];
 
 #[test]
 fn certificates_of_a_loop_and_a_map(rt: HostRuntime) -> Result<(), Fail> {
-    let alloc = rt.alloc();
-    check_example(&rt, alloc, &halve(alloc)?, 4, HALVE)?;
-    check_example(&rt, alloc, &matrix(alloc)?, 5, MATRIX)
+    check_examples(&rt, rt.alloc(), &LOOP_AND_MAP)
 }
+
+const PIPES: [Example; 2] = [(&SIGNAL_ROWS, 5, SIGNAL), (&FARMS_ROWS, 9, FARMS)];
 
 #[test]
 fn certificates_of_pipes_of_farms(rt: HostRuntime) -> Result<(), Fail> {
-    let alloc = rt.alloc();
-    check_example(&rt, alloc, &signal(alloc)?, 5, SIGNAL)?;
-    check_example(&rt, alloc, &farms(alloc)?, 9, FARMS)
+    check_examples(&rt, rt.alloc(), &PIPES)
 }
 
 const NO_TIME: &[u8] = b"p3l-cert 1\nprocessors 4\ncounts\nservice 0\nused 1\nrow 0 0 4 1\nend\n";
@@ -254,24 +157,9 @@ fn no_costs(alloc: Global) -> Result<Costs, NoMemory> {
 
 #[test]
 fn no_row_stands_below_no_time(rt: HostRuntime) -> Result<(), Fail> {
-    let alloc = rt.alloc();
-    let tree = line(alloc)?;
-    let costs = no_costs(alloc)?;
-    assert!(rt; lawful_tree(&tree));
-    assert!(rt; lawful_costs(&tree, &costs));
-    let choice = choose(alloc, &tree, &costs, 4)
-        .ok()
-        .ok_or("enough processors")?;
-    let cert = certify(
-        alloc,
-        &tree,
-        &costs,
-        4,
-        &choice.counts,
-        choice.service,
-        choice.used,
-    )?;
-    assert_eq!(rt; cert_text(alloc, &cert)?.as_slice(), NO_TIME);
-    assert!(rt; check(alloc, &tree, &costs, &cert).is_ok());
+    let tree = tree_of(rt.alloc(), &LINE_ROWS)?;
+    let costs = no_costs(rt.alloc())?;
+    let text = made(&rt, rt.alloc(), &tree, &costs, 4)?;
+    assert_eq!(rt; text.as_slice(), NO_TIME);
     Ok(())
 }

@@ -8,4 +8,8 @@ mod examples;
 #[cfg(test)]
 mod made;
 #[cfg(test)]
+mod making;
+#[cfg(test)]
 mod pipe;
+#[cfg(test)]
+mod trees;

@@ -1,10 +1,10 @@
 // A pipe of a unit of 10 ticks and a farm of units of 60, and its certificate for 8 processors.
 
-use p3l_alloc::choose;
+use crate::making;
 use p3l_base::{List, Name, NoMemory};
-use p3l_cert::{CertRefusal, cert_text, certify, check, read_cert};
-use p3l_cost::{Costs, lawful_costs};
-use p3l_skel::{Form, ModuleInfo, ModuleKind, Node, Tree, lawful_tree};
+use p3l_cert::CertRefusal;
+use p3l_cost::Costs;
+use p3l_skel::{Form, ModuleInfo, ModuleKind, Node, Tree};
 use std::alloc::Global;
 use std::process::Abort;
 use std::test::Fail;
@@ -73,35 +73,56 @@ pub fn text(alloc: Global) -> Result<Vec<u8>, NoMemory> {
     Ok(text)
 }
 
-fn node(alloc: Global, form: Form, module: u32, parts: &[u32]) -> Result<Node, NoMemory> {
-    Ok(Node {
-        form,
-        module,
-        ins: 1,
-        outs: 1,
-        parts: List::from_vec(Vec::from_slice(alloc, parts)?),
-    })
+// The nodes: the kind of each, its module and its parts.
+const NODES: [(ModuleKind, u32, &[u32]); 4] = [
+    (ModuleKind::Pipe, 3, &[1, 2]),
+    (ModuleKind::Seq, 0, &[]),
+    (ModuleKind::Farm, 2, &[3]),
+    (ModuleKind::Seq, 1, &[]),
+];
+
+const MODULES: [(&str, ModuleKind); 4] = [
+    ("f", ModuleKind::Seq),
+    ("g", ModuleKind::Seq),
+    ("w", ModuleKind::Farm),
+    ("main", ModuleKind::Pipe),
+];
+
+fn form_of(kind: ModuleKind) -> Form {
+    match kind {
+        ModuleKind::Pipe => Form::Pipe,
+        ModuleKind::Farm => Form::Farm { workers: None },
+        _ => Form::Seq,
+    }
 }
 
-fn module(alloc: Global, name: &str, kind: ModuleKind) -> Result<ModuleInfo, NoMemory> {
-    Ok(ModuleInfo {
-        name: Name::from_text(alloc, name)?,
-        kind,
-    })
+fn nodes(alloc: Global) -> Result<List<Node>, NoMemory> {
+    let mut nodes = List::new(alloc);
+    for (kind, module, parts) in NODES {
+        nodes.push(Node {
+            form: form_of(kind),
+            module,
+            ins: 1,
+            outs: 1,
+            parts: List::from_vec(Vec::from_slice(alloc, parts)?),
+        })?;
+    }
+    Ok(nodes)
+}
+
+fn modules(alloc: Global) -> Result<List<ModuleInfo>, NoMemory> {
+    let mut modules = List::new(alloc);
+    for (name, kind) in MODULES {
+        let name = Name::from_text(alloc, name)?;
+        modules.push(ModuleInfo { name, kind })?;
+    }
+    Ok(modules)
 }
 
 /// The tree of the pipe.
 pub fn tree(alloc: Global) -> Result<Tree, NoMemory> {
-    let mut nodes = List::new(alloc);
-    nodes.push(node(alloc, Form::Pipe, 3, &[1, 2])?)?;
-    nodes.push(node(alloc, Form::Seq, 0, &[])?)?;
-    nodes.push(node(alloc, Form::Farm { workers: None }, 2, &[3])?)?;
-    nodes.push(node(alloc, Form::Seq, 1, &[])?)?;
-    let mut modules = List::new(alloc);
-    modules.push(module(alloc, "f", ModuleKind::Seq)?)?;
-    modules.push(module(alloc, "g", ModuleKind::Seq)?)?;
-    modules.push(module(alloc, "w", ModuleKind::Farm)?)?;
-    modules.push(module(alloc, "main", ModuleKind::Pipe)?)?;
+    let nodes = nodes(alloc)?;
+    let modules = modules(alloc)?;
     Ok(Tree { nodes, modules })
 }
 
@@ -123,35 +144,12 @@ pub fn refusal(
 ) -> Result<Option<CertRefusal>, NoMemory> {
     let tree = tree(alloc)?;
     let costs = costs(alloc)?;
-    assert!(rt; lawful_tree(&tree));
-    assert!(rt; lawful_costs(&tree, &costs));
-    match read_cert(alloc, text) {
-        Err(refusal) => Ok(Some(refusal)),
-        Ok(cert) => match check(alloc, &tree, &costs, &cert) {
-            Err(refusal) => Ok(Some(refusal)),
-            Ok(()) => Ok(None),
-        },
-    }
+    Ok(making::refusal(rt, alloc, &tree, &costs, text))
 }
 
 /// The text of the certificate that is made for so many processors.
 pub fn made(rt: &impl Abort, alloc: Global, processors: u32) -> Result<List<u8>, Fail> {
     let tree = tree(alloc)?;
     let costs = costs(alloc)?;
-    assert!(rt; lawful_tree(&tree));
-    assert!(rt; lawful_costs(&tree, &costs));
-    assert!(rt; 1 <= processors && processors <= 512);
-    let choice = choose(alloc, &tree, &costs, processors)
-        .ok()
-        .ok_or("enough processors")?;
-    let cert = certify(
-        alloc,
-        &tree,
-        &costs,
-        processors,
-        &choice.counts,
-        choice.service,
-        choice.used,
-    )?;
-    Ok(cert_text(alloc, &cert)?)
+    making::made(rt, alloc, &tree, &costs, processors)
 }

@@ -1,73 +1,31 @@
-// Trees of nodes that are modules of their own.
+// Trees as tables, a row for each node in preorder. Each node is a module of its own.
 
 use p3l_base::{Cut, Dim, List, Name, NoMemory, Place, Slice};
-use p3l_skel::{Form, ModuleInfo, ModuleKind, Node, Tree};
+use p3l_skel::{Form, ModuleInfo, Node, Tree};
 use std::alloc::Global;
 
-pub(crate) fn list_of(alloc: Global, numbers: &[u32]) -> Result<List<u32>, NoMemory> {
+/// What a node does.
+#[derive(Clone, Copy, Drop)]
+pub enum Shape {
+    Seq,
+    Comp,
+    Pipe,
+    /// The workers of the clause.
+    Farm(Option<u32>),
+    /// Four pieces of so many words each, for a word each.
+    Map(u32),
+    /// The workers of the clause, and so many words.
+    Reduce(Option<u32>, u32),
+    /// So many turns, and so many tokens at once.
+    Loop(u32, u32),
+}
+
+/// A node: what it does, the words that it takes and gives, and its parts.
+pub type Row = (Shape, u32, u32, &'static [u32]);
+
+/// The list of these numbers.
+pub fn list_of(alloc: Global, numbers: &[u32]) -> Result<List<u32>, NoMemory> {
     Ok(List::from_vec(Vec::from_slice(alloc, numbers)?))
-}
-
-fn kind_of(form: &Form) -> ModuleKind {
-    match form {
-        Form::Seq => ModuleKind::Seq,
-        Form::Comp => ModuleKind::Comp,
-        Form::Pipe => ModuleKind::Pipe,
-        Form::Farm { .. } => ModuleKind::Farm,
-        Form::Map { .. } => ModuleKind::Map,
-        Form::Reduce { .. } => ModuleKind::Reduce,
-        Form::Loop { .. } => ModuleKind::Loop,
-    }
-}
-
-pub(crate) fn empty_tree(alloc: Global) -> Tree {
-    Tree {
-        nodes: List::new(alloc),
-        modules: List::new(alloc),
-    }
-}
-
-/// Puts a node of a new module after the others.
-pub(crate) fn add(
-    alloc: Global,
-    tree: &mut Tree,
-    form: Form,
-    words: (u32, u32),
-    parts: &[u32],
-) -> Result<(), NoMemory> {
-    let module = u32::try_from(tree.modules.len()).unwrap_or(0);
-    let kind = kind_of(&form);
-    tree.modules.push(ModuleInfo {
-        name: Name::from_text(alloc, "m")?,
-        kind,
-    })?;
-    let parts = list_of(alloc, parts)?;
-    tree.nodes.push(Node {
-        form,
-        module,
-        ins: words.0,
-        outs: words.1,
-        parts,
-    })
-}
-
-/// Puts a `seq` node after the others.
-pub(crate) fn add_seq(alloc: Global, tree: &mut Tree, words: (u32, u32)) -> Result<(), NoMemory> {
-    let none: [u32; 0] = [];
-    add(alloc, tree, Form::Seq, words, &none)
-}
-
-/// A map over four pieces of so many words each.
-pub(crate) fn map_of_four(alloc: Global, words: u32) -> Result<Form, NoMemory> {
-    Ok(Form::Map {
-        workers: None,
-        cut: Cut {
-            first: 4,
-            second: 1,
-            ins: rows(alloc, words)?,
-            outs: rows(alloc, 1)?,
-        },
-    })
 }
 
 // An array of four rows of so many words.
@@ -88,4 +46,63 @@ fn rows(alloc: Global, words: u32) -> Result<List<Slice>, NoMemory> {
         dims: List::from_vec(Vec::from_slice(alloc, &dims)?),
     })?;
     Ok(slices)
+}
+
+fn cut_of(alloc: Global, words: u32) -> Result<Cut, NoMemory> {
+    let ins = rows(alloc, words)?;
+    let outs = rows(alloc, 1)?;
+    Ok(Cut {
+        first: 4,
+        second: 1,
+        ins,
+        outs,
+    })
+}
+
+fn form_of(alloc: Global, shape: Shape) -> Result<Form, NoMemory> {
+    Ok(match shape {
+        Shape::Seq => Form::Seq,
+        Shape::Comp => Form::Comp,
+        Shape::Pipe => Form::Pipe,
+        Shape::Farm(workers) => Form::Farm { workers },
+        Shape::Map(words) => Form::Map {
+            workers: None,
+            cut: cut_of(alloc, words)?,
+        },
+        Shape::Reduce(workers, len) => Form::Reduce {
+            workers,
+            len,
+            elem: 1,
+        },
+        Shape::Loop(turns, tokens) => Form::Loop { turns, tokens },
+    })
+}
+
+// Puts the node of a row after the others, with a module of its own.
+fn add(alloc: Global, tree: &mut Tree, row: Row) -> Result<(), NoMemory> {
+    let module = u32::try_from(tree.modules.len()).unwrap_or(0);
+    let form = form_of(alloc, row.0)?;
+    let name = Name::from_text(alloc, "m")?;
+    let kind = form.kind();
+    tree.modules.push(ModuleInfo { name, kind })?;
+    let parts = list_of(alloc, row.3)?;
+    tree.nodes.push(Node {
+        form,
+        module,
+        ins: row.1,
+        outs: row.2,
+        parts,
+    })
+}
+
+/// The tree of these rows.
+pub fn tree_of(alloc: Global, rows: &[Row]) -> Result<Tree, NoMemory> {
+    let mut tree = Tree {
+        nodes: List::new(alloc),
+        modules: List::new(alloc),
+    };
+    for row in rows {
+        add(alloc, &mut tree, *row)?;
+    }
+    Ok(tree)
 }

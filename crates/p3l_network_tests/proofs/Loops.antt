@@ -11,21 +11,21 @@ use Rattle.p3l_skel.specs.declared.tree.Node.{Node}
 use Rattle.p3l_skel.specs.declared.tree.Tree.{Tree}
 use Rattle.p3l_network_tests.specs.Looped.{loop_modules, counting_loop, counts_down}
 
-pub modules_are : (none one two three : List ModuleInfo) (main body test : List ℕ) →
-    none ≡ [] → main ≡ 109 ∷ 97 ∷ 105 ∷ 110 ∷ [] → body ≡ 98 ∷ 111 ∷ 100 ∷ 121 ∷ [] → test ≡ 116 ∷ 101 ∷ 115 ∷ 116 ∷ [] →
-    one ≡ none ++ record { name = main; kind = kind.Loop } ∷ [] → two ≡ one ++ record { name = body; kind = kind.Seq } ∷ [] →
-    three ≡ two ++ record { name = test; kind = kind.Seq } ∷ [] → three ≡ loop_modules
+pub modules_are : (none one two three : List ModuleInfo) →
+    none ≡ [] → one ≡ none ++ record { name = 109 ∷ 97 ∷ 105 ∷ 110 ∷ []; kind = kind.Loop } ∷ [] →
+    two ≡ one ++ record { name = 98 ∷ 111 ∷ 100 ∷ 121 ∷ []; kind = kind.Seq } ∷ [] →
+    three ≡ two ++ record { name = 116 ∷ 101 ∷ 115 ∷ 116 ∷ []; kind = kind.Seq } ∷ [] → three ≡ loop_modules
 unfolding loop_modules
-modules_are none one two three main body test a b c d e f g = cc
+modules_are none one two three a b c d = cc
 
-pub tree_is : (no_parts one_part parts : List ℕ) (none one two three : List Node) (body test : Node) (modules : List ModuleInfo) →
-    no_parts ≡ [] → one_part ≡ no_parts ++ 1 ∷ [] → parts ≡ one_part ++ 2 ∷ [] →
+pub tree_is : (parts : List ℕ) (none one two three : List Node) (body test : Node) (modules : List ModuleInfo) →
+    parts ≡ 1 ∷ (2 ∷ []) →
     none ≡ [] → one ≡ none ++ record { form = Loop 3 2; «module» = 0; ins = 2; outs = 2; parts = parts } ∷ [] →
     body ≡ record { form = Seq; «module» = 1; ins = 2; outs = 2; parts = [] } → two ≡ one ++ body ∷ [] →
     test ≡ record { form = Seq; «module» = 2; ins = 2; outs = 1; parts = [] } → three ≡ two ++ test ∷ [] →
     modules ≡ loop_modules → let tree : Tree = record { nodes = three; modules = modules } in tree ≡ counting_loop
 unfolding counting_loop
-tree_is no_parts one_part parts none one two three body test modules a b c d e f g h i j = cc
+tree_is parts none one two three body test modules a b c d e f g h = cc
 
 -- a node of the loop that is run
 pub body_is : (node : ℕ) (words : List ℤ) (r : Result Outcome NoMemory) → node ≡ 1 → IfOk r (λ o. o ≡ counts_down 1 words) → IfOk r (λ o. o ≡ item counting_loop counts_down node words)

@@ -18,11 +18,11 @@ use Rattle.p3l_skel.specs.declared.tree.Tree.{Tree}
 use Rattle.p3l_network_tests.specs.WithPart.{two_modules, with_part, four_map, five_reduce, three_reduce, checks, subtracts}
 use Rattle.p3l_network_tests.specs.Refusing.{refusing}
 
-pub modules_are : (of_root : ModuleKind) (none one two : List ModuleInfo) (main part : List ℕ) →
-    none ≡ [] → main ≡ 109 ∷ 97 ∷ 105 ∷ 110 ∷ [] → part ≡ 112 ∷ 97 ∷ 114 ∷ 116 ∷ [] →
-    one ≡ none ++ record { name = main; kind = of_root } ∷ [] → two ≡ one ++ record { name = part; kind = kind.Seq } ∷ [] → two ≡ two_modules of_root
+pub modules_are : (of_root : ModuleKind) (none one two : List ModuleInfo) →
+    none ≡ [] → one ≡ none ++ record { name = 109 ∷ 97 ∷ 105 ∷ 110 ∷ []; kind = of_root } ∷ [] →
+    two ≡ one ++ record { name = 112 ∷ 97 ∷ 114 ∷ 116 ∷ []; kind = kind.Seq } ∷ [] → two ≡ two_modules of_root
 unfolding two_modules
-modules_are of_root none one two main part a b c d e = cc
+modules_are of_root none one two a b c = cc
 
 pub tree_is : (form : Form) (of_root : ModuleKind) (ins outs part_ins part_outs : ℕ) (none one two : List Node) (parts no_parts : List ℕ) (modules : List ModuleInfo) →
     none ≡ [] → parts ≡ 1 ∷ [] → no_parts ≡ [] →

@@ -5,8 +5,8 @@ ghost use Rattle.p3l_base.specs.declared.outcome.Outcome.TheVariants.{Value};
 ghost use Rattle.p3l_skel.specs.declared.tree.Form.TheVariants.{Seq};
 ghost use Rattle.p3l_network_tests.specs.Looped.{counting_loop, counts_down, loop_modules};
 
-use crate::with_part::{first_value, minus, word};
-use p3l_base::{List, Name, NoMemory, Outcome, Words};
+use crate::with_part::{add, first_value, minus, word};
+use p3l_base::{List, NoMemory, Outcome, Words};
 use p3l_skel::{Form, ModuleInfo, ModuleKind, Node, Tree, Units};
 use std::alloc::Global;
 
@@ -27,22 +27,10 @@ fn seq_node(alloc: Global, home: u32, outs: u32) -> Node
 fn modules(alloc: Global) -> Result<List<ModuleInfo>, NoMemory>
     ensures { IfOk result (λ modules. modules ≡ loop_modules) }
 {
-    let main = Name::from_text(alloc, "main")?;
-    let body = Name::from_text(alloc, "body")?;
-    let test = Name::from_text(alloc, "test")?;
     let mut modules = List::new(alloc);
-    modules.push(ModuleInfo {
-        name: main,
-        kind: ModuleKind::Loop,
-    })?;
-    modules.push(ModuleInfo {
-        name: body,
-        kind: ModuleKind::Seq,
-    })?;
-    modules.push(ModuleInfo {
-        name: test,
-        kind: ModuleKind::Seq,
-    })?;
+    add(alloc, &mut modules, "main", ModuleKind::Loop)?;
+    add(alloc, &mut modules, "body", ModuleKind::Seq)?;
+    add(alloc, &mut modules, "test", ModuleKind::Seq)?;
     Ok(modules)
 }
 
@@ -50,9 +38,6 @@ fn modules(alloc: Global) -> Result<List<ModuleInfo>, NoMemory>
 pub fn tree_of_loop(alloc: Global) -> Result<Tree, NoMemory>
     ensures { IfOk result (λ tree. tree ≡ counting_loop) }
 {
-    let mut parts = List::new(alloc);
-    parts.push(1u32)?;
-    parts.push(2u32)?;
     let mut nodes = List::new(alloc);
     nodes.push(Node {
         form: Form::Loop {
@@ -62,7 +47,7 @@ pub fn tree_of_loop(alloc: Global) -> Result<Tree, NoMemory>
         module: 0,
         ins: 2,
         outs: 2,
-        parts,
+        parts: List::from_vec(Vec::from_slice(alloc, &[1, 2])?),
     })?;
     nodes.push(seq_node(alloc, 1, 2))?;
     nodes.push(seq_node(alloc, 2, 1))?;

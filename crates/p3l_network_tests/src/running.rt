@@ -123,6 +123,46 @@ fn step<U: Units>(
     Ok(())
 }
 
+/// The machine of one body.
+fn machine_of<'t>(rt: &impl Abort, alloc: Global, tree: &'t Tree) -> Result<Machine<'t>, NoMemory>
+    requires { tree.now ≡ one_node }
+    ensures { IfOk result (λ machine. machine.tree ≡ one_node) }
+{
+    laws::the_net_of_one_unit_is_typed();
+    assert!(rt; lawful_tree(tree));
+    let net = unit_net(alloc, 4)?;
+    Machine::start(alloc, tree, net)
+}
+
+/// Fires one process after another by turns until none can; gives what was handed out.
+fn run<U: Units>(
+    rt: &impl Abort,
+    alloc: Global,
+    machine: &mut Machine<'_>,
+    tree: &Tree,
+    units: &U,
+    items: &[i64],
+) -> Result<List<Outcome>, NoMemory>
+    requires machine { machine.old.tree ≡ one_node }
+    requires tree { tree.now ≡ one_node }
+    requires units { U.tree units.now ≡ one_node }
+{
+    let mut outcomes = List::new(alloc);
+    let mut next = 0;
+    let mut cursor = 0;
+    for _pick in 0..100 {
+        next = fill(alloc, machine, items, next)?;
+        assert!(rt; cursor < machine.size());
+        let Some(process) = machine.next_ready(cursor) else {
+            return Ok(outcomes);
+        };
+        step(rt, alloc, machine, tree, units, process, &mut outcomes)?;
+        assert!(rt; process < 3);
+        cursor = (process + 1) % 3;
+    }
+    Ok(outcomes)
+}
+
 /// What the network of one body emits of items under round robin.
 fn emitted<U: Units>(
     rt: &impl Abort,
@@ -134,24 +174,8 @@ fn emitted<U: Units>(
     requires tree { tree.now ≡ one_node }
     requires units { U.tree units.now ≡ one_node }
 {
-    let net = unit_net(alloc, 4)?;
-    laws::the_net_of_one_unit_is_typed();
-    assert!(rt; lawful_tree(tree));
-    let mut machine = Machine::start(alloc, tree, net)?;
-    let mut outcomes = List::new(alloc);
-    let mut next = 0;
-    let mut cursor = 0;
-    for _pick in 0..100 {
-        next = fill(alloc, &mut machine, items, next)?;
-        assert!(rt; cursor < machine.size());
-        let Some(process) = machine.next_ready(cursor) else {
-            return Ok(outcomes);
-        };
-        step(rt, alloc, &mut machine, tree, units, process, &mut outcomes)?;
-        assert!(rt; process < 3);
-        cursor = (process + 1) % 3;
-    }
-    Ok(outcomes)
+    let mut machine = machine_of(rt, alloc, tree)?;
+    run(rt, alloc, &mut machine, tree, units, items)
 }
 
 /// What the plain program gives for items, up to and with the first trap.

@@ -1,8 +1,10 @@
 // Machines fired process by process, by tables worked out from the rows of the kinds.
 
-ghost use Rattle.std.specs.Prelude.{◌≡◌, None, IfOk};
+ghost use Rattle.std.specs.Prelude.{◌≡◌, ◌<◌, None, length, IfOk};
+ghost use Rattle.p3l_firing.specs.Typed.{IsTyped};
 
 use p3l_base::{List, NoMemory, Outcome, Words};
+use p3l_firing::Net;
 use p3l_link::link;
 use p3l_model::{is_outside, procs};
 use p3l_net::Machine;
@@ -10,7 +12,18 @@ use p3l_skel::{Counts, Tree, Units, lawful_counts, lawful_tree};
 use std::alloc::Global;
 use std::process::Abort;
 
-/// The machine of a tree with these numbers of workers, and with room for one token in each channel.
+/// The net of a tree with these numbers of workers, and with room for one token in each channel.
+fn net_of(rt: &impl Abort, alloc: Global, tree: &Tree, counts: &Counts) -> Result<Net, NoMemory>
+    ensures { IfOk result (λ net. IsTyped tree.now net) }
+{
+    assert!(rt; lawful_tree(tree));
+    assert!(rt; lawful_counts(tree, counts));
+    assert!(rt; is_outside(tree, 0));
+    assert!(rt; procs(tree, counts, 0) <= 4096);
+    link(alloc, tree, counts, 1)
+}
+
+/// The machine of such a net.
 fn machine_of<'t>(
     rt: &impl Abort,
     alloc: Global,
@@ -23,28 +36,38 @@ fn machine_of<'t>(
     let counts = Counts {
         list: List::from_vec(workers.to_vec(alloc)?),
     };
-    assert!(rt; lawful_tree(tree));
-    assert!(rt; lawful_counts(tree, &counts));
-    assert!(rt; is_outside(tree, 0));
-    assert!(rt; procs(tree, &counts, 0) <= 4096);
-    let net = link(alloc, tree, &counts, 1)?;
+    let net = net_of(rt, alloc, tree, &counts)?;
     Machine::start(alloc, tree, net)
 }
 
-/// Compares which processes can fire with a set of bits: asked one by one, counted, in order and
-/// from each on.
+/// Compares whether a process can fire: asked of it, from it on, and by its place among all that can,
+/// of which `before` stand before it. Gives how many stand before the next one.
+fn compare_process(
+    rt: &impl Abort,
+    machine: &Machine<'_>,
+    process: u32,
+    before: u32,
+    can: bool,
+) -> u32
+    requires { process < length machine.now.net.procs }
+{
+    assert_eq!(rt; machine.can_step(process), can);
+    assert_eq!(rt; machine.next_ready(process) == Some(process), can);
+    if !can {
+        return before;
+    }
+    assert!(rt; before < machine.ready());
+    assert_eq!(rt; machine.ready_at(before), process);
+    before + 1
+}
+
+/// Compares which processes can fire with a set of bits.
 fn compare_ready(rt: &impl Abort, machine: &Machine<'_>, ready: u32) {
     assert!(rt; machine.size() < 32);
     let mut before = 0;
     for process in 0..machine.size() {
-        let can = machine.can_step(process);
-        assert_eq!(rt; can, ready >> process & 1 == 1);
-        assert_eq!(rt; machine.next_ready(process) == Some(process), can);
-        if can {
-            assert!(rt; before < machine.ready());
-            assert_eq!(rt; machine.ready_at(before), process);
-            before += 1;
-        }
+        let can = ready >> process & 1 == 1;
+        before = compare_process(rt, machine, process, before, can);
     }
     assert_eq!(rt; machine.ready(), before);
 }
@@ -91,24 +114,51 @@ fn offer(
     machine.offer(alloc, words)
 }
 
-/// Offers the item at `next`, if the machine wants one and there is one; gives the place of the next
-/// one.
-fn fill(
+/// Offers the first of these items, if the machine wants one and there is one; gives those that are
+/// left.
+fn fill<'i>(
     rt: &impl Abort,
     alloc: Global,
     machine: &mut Machine<'_>,
     tree: &Tree,
-    items: &[[i64; 2]],
-    next: usize,
-) -> Result<usize, NoMemory>
+    items: &'i [[i64; 2]],
+) -> Result<&'i [[i64; 2]], NoMemory>
     requires { machine.old.tree ≡ tree.now }
     ensures { machine.new.tree ≡ machine.old.tree }
 {
-    if next < items.len() && machine.wants_item() {
-        offer(rt, alloc, machine, tree, items[next].as_slice())?;
-        return Ok(next + 1);
+    if !machine.wants_item() {
+        return Ok(items);
     }
-    Ok(next)
+    let Some((item, rest)) = items.split_first() else {
+        return Ok(items);
+    };
+    offer(rt, alloc, machine, tree, item.as_slice())?;
+    Ok(rest)
+}
+
+/// Fires processes one after another, and offers an item before each where the machine wants one;
+/// gives what was handed out.
+fn pass_all<U: Units>(
+    rt: &impl Abort,
+    alloc: Global,
+    machine: &mut Machine<'_>,
+    tree: &Tree,
+    units: &U,
+    items: &[[i64; 2]],
+    steps: &[(u32, u32)],
+) -> Result<List<Outcome>, NoMemory>
+    requires machine { machine.old.tree ≡ tree.now }
+    requires units { U.tree units.now ≡ tree.now }
+{
+    let mut outcomes = List::new(alloc);
+    let mut left = items;
+    for (process, ready) in steps {
+        left = fill(rt, alloc, machine, tree, left)?;
+        if let Some(outcome) = fire(rt, alloc, machine, tree, units, *process, *ready)? {
+            outcomes.push(outcome)?;
+        }
+    }
+    Ok(outcomes)
 }
 
 /// What the network of a tree hands out of items under these picks, as `outcome_of`; each item is
@@ -125,16 +175,30 @@ pub fn outcomes_of<U: Units>(
     requires { U.tree units.now ≡ tree.now }
 {
     let mut machine = machine_of(rt, alloc, tree, workers)?;
-    let mut outcomes = List::new(alloc);
-    let mut next = 0;
+    pass_all(rt, alloc, &mut machine, tree, units, items, steps)
+}
+
+/// Offers an item, and fires processes one after another; gives what the last of them handed out.
+fn pass<U: Units>(
+    rt: &impl Abort,
+    alloc: Global,
+    machine: &mut Machine<'_>,
+    tree: &Tree,
+    units: &U,
+    item: &[i64],
+    steps: &[(u32, u32)],
+) -> Result<Option<Outcome>, NoMemory>
+    requires machine { machine.old.tree ≡ tree.now }
+    requires empty { machine.old.inbox ≡ None }
+    requires units { U.tree units.now ≡ tree.now }
+{
+    offer(rt, alloc, machine, tree, item)?;
+    compare_ready(rt, machine, 0b1);
+    let mut last = None;
     for (process, ready) in steps {
-        next = fill(rt, alloc, &mut machine, tree, items, next)?;
-        let outcome = fire(rt, alloc, &mut machine, tree, units, *process, *ready)?;
-        if let Some(outcome) = outcome {
-            outcomes.push(outcome)?;
-        }
+        last = fire(rt, alloc, machine, tree, units, *process, *ready)?;
     }
-    Ok(outcomes)
+    Ok(last)
 }
 
 /// What the network of a tree makes of an item under these picks. After each of them stands the set
@@ -151,11 +215,5 @@ pub fn outcome_of<U: Units>(
     requires { U.tree units.now ≡ tree.now }
 {
     let mut machine = machine_of(rt, alloc, tree, workers)?;
-    offer(rt, alloc, &mut machine, tree, item)?;
-    compare_ready(rt, &machine, 0b1);
-    let mut last = None;
-    for (process, ready) in steps {
-        last = fire(rt, alloc, &mut machine, tree, units, *process, *ready)?;
-    }
-    Ok(last)
+    pass(rt, alloc, &mut machine, tree, units, item, steps)
 }

@@ -1,10 +1,10 @@
 // Trees of a root with one `seq` part, and what their parts do.
 
-ghost use Rattle.std.specs.Prelude.{◌≡◌, ◌<◌, pos, [], ◌∷◌, ◌-ℤ◌, length, slice_index_or, IfOk, IfSome};
+ghost use Rattle.std.specs.Prelude.{◌≡◌, ◌<◌, pos, [], ◌∷◌, ◌++◌, ◌-ℤ◌, length, slice_index_or, IfOk, IfSome, OnOk};
 ghost use Rattle.p3l_base.specs.declared.outcome.Outcome.TheVariants.{Value};
 ghost use Rattle.p3l_base.specs.declared.slice.Place.TheVariants as places;
 ghost use Rattle.p3l_skel.specs.Examples.{checked, four_cut};
-ghost use Rattle.p3l_network_tests.specs.WithPart.{two_modules, four_map, reduce_of};
+ghost use Rattle.p3l_network_tests.specs.WithPart.{two_modules, with_part, four_map, reduce_of};
 
 use p3l_base::{Cut, Dim, List, Name, NoMemory, Outcome, Place, Slice, Trap, TrapKind, Words};
 use p3l_skel::{Form, ModuleInfo, ModuleKind, Node, Tree, Units};
@@ -38,81 +38,79 @@ fn cut_of_four(alloc: Global) -> Result<Cut, NoMemory>
     })
 }
 
+/// Puts a module after the others.
+pub fn add(
+    alloc: Global,
+    modules: &mut List<ModuleInfo>,
+    name: &str,
+    kind: ModuleKind,
+) -> Result<(), NoMemory>
+    ensures ok { OnOk result (modules.new ≡ modules.old ++ record { name = name.now; kind = kind } ∷ []) }
+{
+    let name = Name::from_text(alloc, name)?;
+    modules.push(ModuleInfo { name, kind })
+}
+
 /// The modules of a root of this kind and of its part.
 fn modules_of(alloc: Global, kind: ModuleKind) -> Result<List<ModuleInfo>, NoMemory>
     ensures { IfOk result (λ modules. modules ≡ two_modules kind) }
 {
-    let main = Name::from_text(alloc, "main")?;
-    let part = Name::from_text(alloc, "part")?;
     let mut modules = List::new(alloc);
-    modules.push(ModuleInfo { name: main, kind })?;
-    modules.push(ModuleInfo {
-        name: part,
-        kind: ModuleKind::Seq,
-    })?;
+    add(alloc, &mut modules, "main", kind)?;
+    add(alloc, &mut modules, "part", ModuleKind::Seq)?;
     Ok(modules)
 }
 
-/// The list of node 1.
-fn the_part(alloc: Global) -> Result<List<u32>, NoMemory>
-    ensures { IfOk result (λ parts. parts ≡ 1 ∷ []) }
+/// The tree of a root of this form and kind with a part, and the words that both take and give.
+fn tree_of(
+    alloc: Global,
+    form: Form,
+    kind: ModuleKind,
+    root: (u32, u32),
+    part: (u32, u32),
+) -> Result<Tree, NoMemory>
+    ensures { IfOk result (λ tree. tree ≡ with_part form kind root.0 root.1 part.0 part.1) }
 {
-    let mut parts = List::new(alloc);
-    parts.push(1u32)?;
-    Ok(parts)
+    let mut nodes = List::new(alloc);
+    nodes.push(Node {
+        form,
+        module: 0,
+        ins: root.0,
+        outs: root.1,
+        parts: List::from_vec(Vec::from_slice(alloc, &[1])?),
+    })?;
+    nodes.push(Node {
+        form: Form::Seq,
+        module: 1,
+        ins: part.0,
+        outs: part.1,
+        parts: List::new(alloc),
+    })?;
+    let modules = modules_of(alloc, kind)?;
+    Ok(Tree { nodes, modules })
 }
 
 /// The tree of a map of four words, one by one.
 pub fn tree_of_map(alloc: Global) -> Result<Tree, NoMemory>
     ensures { IfOk result (λ tree. tree ≡ four_map) }
 {
-    let cut = cut_of_four(alloc)?;
-    let parts = the_part(alloc)?;
-    let mut nodes = List::new(alloc);
-    nodes.push(Node {
-        form: Form::Map { workers: None, cut },
-        module: 0,
-        ins: 4,
-        outs: 4,
-        parts,
-    })?;
-    nodes.push(Node {
-        form: Form::Seq,
-        module: 1,
-        ins: 1,
-        outs: 1,
-        parts: List::new(alloc),
-    })?;
-    let modules = modules_of(alloc, ModuleKind::Map)?;
-    Ok(Tree { nodes, modules })
+    let form = Form::Map {
+        workers: None,
+        cut: cut_of_four(alloc)?,
+    };
+    tree_of(alloc, form, ModuleKind::Map, (4, 4), (1, 1))
 }
 
 /// The tree of a reduce of so many words.
 pub fn tree_of_reduce(alloc: Global, len: u32) -> Result<Tree, NoMemory>
     ensures { IfOk result (λ tree. tree ≡ reduce_of len) }
 {
-    let parts = the_part(alloc)?;
-    let mut nodes = List::new(alloc);
-    nodes.push(Node {
-        form: Form::Reduce {
-            workers: None,
-            len,
-            elem: 1,
-        },
-        module: 0,
-        ins: len,
-        outs: 1,
-        parts,
-    })?;
-    nodes.push(Node {
-        form: Form::Seq,
-        module: 1,
-        ins: 2,
-        outs: 1,
-        parts: List::new(alloc),
-    })?;
-    let modules = modules_of(alloc, ModuleKind::Reduce)?;
-    Ok(Tree { nodes, modules })
+    let form = Form::Reduce {
+        workers: None,
+        len,
+        elem: 1,
+    };
+    tree_of(alloc, form, ModuleKind::Reduce, (len, 1), (2, 1))
 }
 
 /// The outcome of one word.

@@ -1,6 +1,6 @@
 use Rattle.std.proofs.Common.{◌≡◌}
 use Rattle.p3l_network_tests.specs.OneNode.{one_node}
-use Rattle.p3l_network_tests.proofs.running.emitted.Given as goal
+use Rattle.p3l_network_tests.proofs.running.run.Given as goal
 
 abbrev pub invariant-loop-pick : goal.invariant-loop-pick
 invariant-loop-pick g l = l.machine.tree ≡ one_node
