@@ -1,22 +1,23 @@
--- A machine that goes through the picks of a trace: its first state, each item, each pick, and the end.
+-- A walk along a trace: its first state, what is fed, each line, and the end.
 use Rattle.std.proofs.Common.{◌≡◌, ◌≢◌, ℕ, ℤ, suc, ◌+◌, ◌*◌, ◌<◌, ◌≤◌, ◌^◌, Bool, true, false, List, [], ◌∷◌, ◌++◌, length, take, drop, get_or, Option, Some, None, inl, inr, refl, sym, ap, subst, ◌∙◌, arith, append_assoc, append-nil}
 use Rattle.std.specs.Option.{option_to_list}
 use Rattle.std.proofs.Math.Seq.{take-suc}
-use Rattle.std.proofs.lemmas.List.{take-append-drop}
+use Rattle.std.proofs.lemmas.List.{length-take-le, take-append-drop, take_all}
 use Rattle.std.proofs.lemmas.Nat.{mul-le}
 use Rattle.p3l_base.specs.declared.outcome.Outcome.{Outcome}
+use Rattle.p3l_firing.specs.declared.net.Net.{Net}
 use Rattle.p3l_skel.specs.declared.tree.Tree.{Tree}
 use Rattle.p3l_skel.specs.Tree.{node_at}
-use Rattle.p3l_firing.specs.declared.net.Net.{Net}
 use Rattle.p3l_net.specs.Carried.{HaveInWords}
 use Rattle.p3l_net.specs.Fire.{can_fire}
-use Rattle.p3l_net.specs.Machine.{Seen, can_step, started}
+use Rattle.p3l_net.specs.Machine.{Fires, Seen, can_step}
+use Rattle.p3l_net.specs.Nodes.{Leaf}
 use Rattle.p3l_net.specs.Offered.{Follows, HasFilledInbox}
 use Rattle.p3l_net.specs.Run.{Course, after_picks, picked}
 use Rattle.p3l_stream.specs.declared.items.Ending.{Ending}
 use Rattle.p3l_stream.specs.Given.{HasGiven}
-use Rattle.p3l_stream.specs.Seen as lines
-use Rattle.p3l_run.specs.Feed.{Feeds, Offers, input_limit, most_of_input}
+use Rattle.p3l_stream.specs.Seen as stream
+use Rattle.p3l_run.specs.Feed.{Feeds, Offers, closed_so, input_limit, most_of_input}
 use Rattle.p3l_run.specs.Laws.{Laws, Runs}
 use Rattle.p3l_run.specs.Network.{Network, course_under, width_of}
 use Rattle.p3l_run.specs.Run.{MayCome}
@@ -26,34 +27,20 @@ use Rattle.p3l_run.proofs.TraceSteps.{agree_more, picks_more, same_line}
 use Rattle.p3l_trace.specs.declared.trace.TraceLine.{TraceLine}
 use Rattle.p3l_trace.specs.declared.trace.Traced.{Traced}
 use Rattle.p3l_trace.specs.Agreement.{AgreeFrom, AgreesIn, AgreesWith, AllAgree, IsCounted, picks_of}
+use Rattle.p3l_retrace.specs.declared.walk.Walk.{Walk}
 use Rattle.p3l_retrace.specs.Retraced.{AgreesOn, DiffersOn}
-use Rattle.p3l_retrace.specs.Step.{Steps, StepsIf}
-use Rattle.p3l_retrace.specs.Walk.{IsAt, Stands, Walks}
+use Rattle.p3l_retrace.specs.Walk.{AwaitsLine, IsAt, Outside, Passes, Stands, Steps, StepsIf, Walks, outside, started}
 
 no_end : (e : Ending) → ◌≡◌ {A = Option Ending} None (Some e) → ⊥
 no_end e h = cc
 
-module _ (n : Network) (laws : Laws n) where
+module _ (n : Network) where
+  -- what holds of the tree and the net of a machine that runs the network
   at_network : (m : Seen) → Runs n m → (P : Tree → Net → Type 0) → P m.tree m.net → P n.tree n.net
   at_network m runs P p = subst (λ t. P t n.net) runs.tree (subst (λ k. P m.tree k) runs.net p)
 
-  -- a machine that was just started, and a stream that was asked for nothing
-  pub walks_first : (m : Seen) (s : lines.Seen) (rest : Option (List ℕ)) (faults width : ℕ) → width ≡ width_of n → HasGiven (width_of n) (lines.started (width_of n) input_limit) [] [] → m ≡ started n.tree n.net
-      → s ≡ lines.started width input_limit → Walks n m s None [] rest rest faults faults
-  unfolding after_picks AgreeFrom
-  walks_first m s rest faults width wide given fresh new = record {
-    items = [];
-    outcomes = [];
-    gives = gives_first (width_of n) rest faults s given (new ∙ ap (λ w. lines.started w input_limit) wide);
-    stands = record {
-      runs = record { tree = ap (λ k. k.tree) fresh; net = ap (λ k. k.net) fresh };
-      wide = tt;
-      at = λ later may. record { follows = subst (λ k. Follows k [] later (course_under n later [])) (sym fresh) (laws.starts later); agree = tt };
-    };
-  }
-
   -- an item that was offered
-  module _ (m m' : Seen) (given : List (List ℤ)) (close close' : Option Ending) (outcomes : List Outcome) (walked : List TraceLine) (s : Stands n m given close outcomes walked)
+  module _ (laws : Laws n) (m m' : Seen) (given : List (List ℤ)) (close close' : Option Ending) (outcomes : List Outcome) (walked : List TraceLine) (s : Stands n m given close outcomes walked)
       (kept : (e : Ending) → close ≡ Some e → close' ≡ Some e) where
     stands_same : Offers m m' [] → Stands n m' (given ++ []) close' outcomes walked
     stands_same same =
@@ -82,75 +69,104 @@ module _ (n : Network) (laws : Laws n) where
     stands_fed (item ∷ more) offers wide asked =
         subst (λ k. Stands n m' (given ++ item ∷ k) close' outcomes walked) (sym offers.2) (stands_offered item offers.0 offers.1 wide.0 (asked (λ e. cc)))
 
-  module _ (m : Seen) (s : lines.Seen) (close : Option Ending) (walked : List TraceLine) (rest left : Option (List ℕ)) (before now : ℕ) (d : Walks n m s close walked rest left before now) where
-    same_width : (node_at m.tree 0).ins ≡ width_of n
-    same_width = ap (λ t. (node_at t 0).ins) d.stands.runs.tree
+  module _ (before : Outside) where
+    -- nothing was asked for and no line passed
+    pub walks_first : Laws n → n.firings * most_of_input < 2 ^ 63 → HasGiven (width_of n) (stream.started (width_of n) input_limit) [] [] → (width : ℕ) → width ≡ width_of n → (w : Walk) → w ≡ started n.tree n.net width → Walks n before before [] w
+    unfolding after_picks AgreeFrom
+    walks_first laws fits given width wide w is =
+        subst (Walks n before before []) (sym is) (subst (λ k. Walks n before before [] (started n.tree n.net k)) (sym wide) (record {
+          laws = laws;
+          fits = fits;
+          items = [];
+          outcomes = [];
+          gives = gives_first (width_of n) before.rest before.faults (stream.started (width_of n) input_limit) given refl;
+          stands = record { runs = record { tree = refl; net = refl }; wide = tt; at = λ later may. record { follows = laws.starts later; agree = tt } };
+        }))
 
-    -- the machine was fed
-    pub walks_fed : (m' : Seen) (s' : lines.Seen) (left' : Option (List ℕ)) (now' : ℕ) (close' : Option Ending) → Feeds (node_at m.tree 0).ins m m' s s' left left' now now' close close' → Walks n m' s' close' walked rest left' before now'
-    walks_fed m' s' left' now' close' feeds =
-        let f : Feeds (width_of n) m m' s s' left left' now now' close close' = subst (λ k. Feeds k m m' s s' left left' now now' close close') same_width feeds in
-        record {
-          items = d.items ++ f.more;
-          outcomes = d.outcomes;
-          gives = f.gives rest before d.items d.gives;
-          stands = stands_fed m m' d.items close close' d.outcomes walked d.stands f.kept f.more f.offers f.wide f.asked;
-        }
+    module _ (now : Outside) (walked : List TraceLine) (w : Walk) (d : Walks n before now walked w) where
+      same_width : (node_at w.machine.tree 0).ins ≡ width_of n
+      same_width = ap (λ t. (node_at t 0).ins) d.stands.runs.tree
 
-    all_wide : (later : List (List ℤ)) → MayCome n close later → HaveInWords n.tree (d.items ++ later)
-    all_wide later may = wide_append (width_of n) d.items later d.stands.wide may.wide
+      pub wide : w.stream.words ≡ (node_at w.machine.tree 0).ins
+      wide = d.gives.given.width_is ∙ sym same_width
 
-    abbrev course : List (List ℤ) → Course
-    course later = course_under n (d.items ++ later) (picks_of walked)
+      pub unended : w.close ≡ None → w.stream.closed ≡ None
+      unended none = d.gives.closed_is ∙ ap closed_so none
 
-    -- no machine fires more often than this number
-    pub fired_fits : n.firings * most_of_input < 2 ^ 63 → m.fired < 2 ^ 63
-    fired_fits fits =
-        let may = nothing_comes n close in
-        let items : List (List ℤ) = d.items ++ [] in
-        let a = laws.fired_most items (all_wide [] may) (picks_of walked) in
-        let b = laws.sent_most items (all_wide [] may) (picks_of walked) in
-        let same = (d.stands.at [] may).follows.fired in
-        let few : length d.items ≤ most_of_input = (let few = d.gives.few in omega arith) in
-        let whole = ap length (append-nil d.items) in
-        let sent : (course_under n items (picks_of walked)).state.sent ≤ most_of_input = omega arith in
-        omega (arith, mul-le n.firings (course_under n items (picks_of walked)).state.sent n.firings most_of_input (omega arith) sent)
+      -- no machine fires more often than this number
+      pub fired_fits : w.machine.fired < 2 ^ 63
+      fired_fits =
+          let may = nothing_comes n w.close in
+          let items : List (List ℤ) = d.items ++ [] in
+          let all_wide : HaveInWords n.tree items = wide_append (width_of n) d.items [] d.stands.wide may.wide in
+          let a = d.laws.fired_most items all_wide (picks_of walked) in
+          let b = d.laws.sent_most items all_wide (picks_of walked) in
+          let same = (d.stands.at [] may).follows.fired in
+          let few : length d.items ≤ most_of_input = (let few = d.gives.few in omega arith) in
+          let whole = ap length (append-nil d.items) in
+          let sent : (course_under n items (picks_of walked)).state.sent ≤ most_of_input = omega arith in
+          let fits = d.fits in
+          omega (arith, mul-le n.firings (course_under n items (picks_of walked)).state.sent n.firings most_of_input (omega arith) sent)
 
-    -- the trace is one of a run
-    pub agrees_on : (traced : Traced) → traced.lines ≡ walked → IsCounted traced → AgreesOn n traced rest left before now close
-    agrees_on traced all counted = record {
-      stream = s;
-      items = d.items;
-      gives = d.gives;
-      holds = λ later may. record { lines = subst (λ k. AllAgree n.tree n.leaf n.net (d.items ++ later) k) (sym all) (d.stands.at later may).agree; counts = counted };
-    }
+      -- the machine was fed
+      pub fed : (m : Seen) (s : stream.Seen) (left : Option (List ℕ)) (faults : ℕ) (close : Option Ending) → Feeds (node_at w.machine.tree 0).ins w.machine m w.stream s now.rest left now.faults faults w.close close →
+          AwaitsLine n before (outside left faults) walked (record w { machine = m; stream = s; close = close })
+      fed m s left faults close feeds =
+          let f : Feeds (width_of n) w.machine m w.stream s now.rest left now.faults faults w.close close = subst (λ k. Feeds k w.machine m w.stream s now.rest left now.faults faults w.close close) same_width feeds in
+          record {
+            walks = record {
+              laws = d.laws;
+              fits = d.fits;
+              items = d.items ++ f.more;
+              outcomes = d.outcomes;
+              gives = f.gives before.rest before.faults d.items d.gives;
+              stands = stands_fed d.laws w.machine m d.items w.close close d.outcomes walked d.stands f.kept f.more f.offers f.wide f.asked;
+            };
+            filled = f.filled;
+          }
 
-    -- or its counts are not those of its lines
-    pub miscounts_on : (traced : Traced) (number : ℕ) → traced.lines ≡ walked → (IsCounted traced → ⊥) → number ≡ length traced.lines + 2 → DiffersOn n traced rest left before now number
-    miscounts_on traced number all other is = (
-      close,
-      record {
-        stream = s;
+      -- the trace is one of a run
+      pub agrees_on : (traced : Traced) → traced.lines ≡ walked → IsCounted traced → AgreesOn n traced before.rest now.rest before.faults now.faults w.close
+      agrees_on traced all counted = record {
+        stream = w.stream;
         items = d.items;
         gives = d.gives;
-        holds = λ later may. inr (record { agree = subst (λ k. AllAgree n.tree n.leaf n.net (d.items ++ later) k) (sym all) (d.stands.at later may).agree; other = other; number_is = is });
-      },
-    )
+        holds = λ later may. record { lines = subst (λ k. AllAgree n.tree n.leaf n.net (d.items ++ later) k) (sym all) (d.stands.at later may).agree; counts = counted };
+      }
 
-    module _ (inbox : close ≡ None → m.inbox ≢ None) (line : TraceLine) where
-      filled : (later : List (List ℤ)) → MayCome n close later → HasFilledInbox m later
-      filled = filled_after n close m inbox
-
-      can_same : (later : List (List ℤ)) → MayCome n close later → can_fire n.tree n.net (course later).state line.pick ≡ can_step m line.pick
-      can_same later may =
-          at_network m d.stands.runs (λ t k. can_fire t k (course later).state line.pick ≡ can_step m line.pick) (laws.can_fires m d.outcomes later (course later) line.pick (d.stands.at later may).follows (filled later may))
-
-      -- a line differs
-      pub differs_on : (traced : Traced) (after : List TraceLine) (number : ℕ) → traced.lines ≡ walked ++ line ∷ after → (AgreesWith m line → ⊥) → number ≡ length walked + 2 → DiffersOn n traced rest left before now number
-      differs_on traced after number are other is = (
-        close,
+      -- or its counts are not those of its lines
+      pub miscounts_on : (traced : Traced) (number : ℕ) → traced.lines ≡ walked → (IsCounted traced → ⊥) → number ≡ length traced.lines + 2 → DiffersOn n traced before.rest now.rest before.faults now.faults number
+      miscounts_on traced number all other is = (
+        w.close,
         record {
-          stream = s;
+          stream = w.stream;
+          items = d.items;
+          gives = d.gives;
+          holds = λ later may. inr (record { agree = subst (λ k. AllAgree n.tree n.leaf n.net (d.items ++ later) k) (sym all) (d.stands.at later may).agree; other = other; number_is = is });
+        },
+      )
+
+    module _ (now : Outside) (walked : List TraceLine) (w : Walk) (a : AwaitsLine n before now walked w) (line : TraceLine) where
+      abbrev d : Walks n before now walked w
+      d = a.walks
+
+      abbrev course : List (List ℤ) → Course
+      course later = course_under n (d.items ++ later) (picks_of walked)
+
+      filled : (later : List (List ℤ)) → MayCome n w.close later → HasFilledInbox w.machine later
+      filled = filled_after n w.close w.machine a.filled
+
+      can_same : (later : List (List ℤ)) → MayCome n w.close later → can_fire n.tree n.net (course later).state line.pick ≡ can_step w.machine line.pick
+      can_same later may =
+          at_network w.machine d.stands.runs (λ t k. can_fire t k (course later).state line.pick ≡ can_step w.machine line.pick)
+          (d.laws.can_fires w.machine d.outcomes later (course later) line.pick (d.stands.at later may).follows (filled later may))
+
+      -- the line differs
+      pub differs_on : (traced : Traced) (after : List TraceLine) (number : ℕ) → traced.lines ≡ walked ++ line ∷ after → (AgreesWith w.machine line → ⊥) → number ≡ length walked + 2 → DiffersOn n traced before.rest now.rest before.faults now.faults number
+      differs_on traced after number are other is = (
+        w.close,
+        record {
+          stream = w.stream;
           items = d.items;
           gives = d.gives;
           holds = λ later may. inl (record {
@@ -159,23 +175,25 @@ module _ (n : Network) (laws : Laws n) where
             after = after;
             lines_are = are;
             agree = (d.stands.at later may).agree;
-            other = λ agrees. other (same_line _ _ n.net m.net line (can_same later may) (sym d.stands.runs.net) agrees);
+            other = λ agrees. other (same_line _ _ n.net w.machine.net line (can_same later may) (sym d.stands.runs.net) agrees);
             number_is = is;
           });
         },
       )
 
-      -- a line agrees, and its pick is taken
-      module _ (agrees : AgreesWith m line) (new : Seen) where
-        agrees_in : (later : List (List ℤ)) → MayCome n close later → AgreesIn n.tree n.net (course later).state line
-        agrees_in later may = same_line _ _ m.net n.net line (sym (can_same later may)) d.stands.runs.net agrees
+      -- the line agrees, and its pick is made
+      module _ (agrees : AgreesWith w.machine line) where
+        agrees_in : (later : List (List ℤ)) → MayCome n w.close later → AgreesIn n.tree n.net (course later).state line
+        agrees_in later may = same_line _ _ w.machine.net n.net line (sym (can_same later may)) d.stands.runs.net agrees
 
         one_more : (later : List (List ℤ)) → course_under n (d.items ++ later) (picks_of (walked ++ line ∷ [])) ≡ picked n.tree n.leaf n.net (course later) line.pick
-        one_more later = ap (course_under n (d.items ++ later)) (picks_more walked line) ∙ laws.one_more _ (picks_of walked) line.pick
+        one_more later = ap (course_under n (d.items ++ later)) (picks_more walked line) ∙ d.laws.one_more _ (picks_of walked) line.pick
 
-        walks_on : (handed : Option Outcome) → Runs n new
-            → ((later : List (List ℤ)) → MayCome n close later → Follows new (d.outcomes ++ option_to_list handed) later (picked m.tree n.leaf m.net (course later) line.pick)) → Walks n new s close (walked ++ line ∷ []) rest left before now
-        walks_on handed runs follows = record {
+        walks_on : (m : Seen) (handed : Option Outcome) → Runs n m
+            → ((later : List (List ℤ)) → MayCome n w.close later → Follows m (d.outcomes ++ option_to_list handed) later (picked w.machine.tree n.leaf w.machine.net (course later) line.pick)) → Walks n before now (walked ++ line ∷ []) (record w { machine = m })
+        walks_on m handed runs follows = record {
+          laws = d.laws;
+          fits = d.fits;
           items = d.items;
           outcomes = d.outcomes ++ option_to_list handed;
           gives = d.gives;
@@ -184,35 +202,77 @@ module _ (n : Network) (laws : Laws n) where
             wide = d.stands.wide;
             at = λ later may. record {
               follows =
-                  subst (λ c. Follows new (d.outcomes ++ option_to_list handed) later c) (sym (one_more later))
-                  (at_network m d.stands.runs (λ t k. Follows new (d.outcomes ++ option_to_list handed) later (picked t n.leaf k (course later) line.pick)) (follows later may));
+                  subst (λ c. Follows m (d.outcomes ++ option_to_list handed) later c) (sym (one_more later))
+                  (at_network w.machine d.stands.runs (λ t k. Follows m (d.outcomes ++ option_to_list handed) later (picked t n.leaf k (course later) line.pick)) (follows later may));
               agree = agree_more n.tree n.leaf n.net _ walked line (d.stands.at later may).agree (agrees_in later may);
             };
           };
         }
 
-        pub walks_stepped : Steps n.leaf m new line.pick → Walks n new s close (walked ++ line ∷ []) rest left before now
-        walks_stepped steps = by (can_step m line.pick) refl steps
+        fired : (m : Seen) (handed : Option Outcome) → can_step w.machine line.pick ≡ true → Fires n.leaf w.machine m line.pick handed → Walks n before now (walked ++ line ∷ []) (record w { machine = m })
+        fired m handed can fires =
+            walks_on m handed (record { tree = fires.tree ∙ d.stands.runs.tree; net = fires.net ∙ d.stands.runs.net })
+            (λ later may. d.laws.fires w.machine m d.outcomes later (course later) line.pick handed (d.stands.at later may).follows (filled later may) can fires)
+
+        idle : can_step w.machine line.pick ≡ false → Walks n before now (walked ++ line ∷ []) w
+        idle cannot =
+            walks_on w.machine None d.stands.runs
+            (λ later may.
+            subst (λ o. Follows w.machine o later (picked w.machine.tree n.leaf w.machine.net (course later) line.pick)) (sym (append-nil d.outcomes))
+            (d.laws.idles w.machine d.outcomes later (course later) line.pick (d.stands.at later may).follows (filled later may) cannot))
+
+        pub stepped : (leaf : Leaf) → n.leaf ≡ leaf → (new : Walk) → Steps leaf line.pick w new → Walks n before now (walked ++ line ∷ []) new
+        stepped leaf leaf_is new steps = by (can_step w.machine line.pick) refl steps
           where
-            by : (b : Bool) → can_step m line.pick ≡ b → StepsIf b n.leaf m new line.pick → Walks n new s close (walked ++ line ∷ []) rest left before now
+            by : (b : Bool) → can_step w.machine line.pick ≡ b → StepsIf b leaf line.pick w new → Walks n before now (walked ++ line ∷ []) new
             by true can step =
-                walks_on step.0 (record { tree = step.1.tree ∙ d.stands.runs.tree; net = step.1.net ∙ d.stands.runs.net })
-                (λ later may. laws.fires m new d.outcomes later (course later) line.pick step.0 (d.stands.at later may).follows (filled later may) can step.1)
-            by false cannot same =
-                walks_on None (record { tree = ap (λ (k : Seen). k.tree) same ∙ d.stands.runs.tree; net = ap (λ (k : Seen). k.net) same ∙ d.stands.runs.net })
-                (λ later may.
-                subst (λ k. Follows k (d.outcomes ++ []) later (picked m.tree n.leaf m.net (course later) line.pick)) (sym same)
-                (subst (λ o. Follows m o later (picked m.tree n.leaf m.net (course later) line.pick)) (sym (append-nil d.outcomes))
-                (laws.idles m d.outcomes later (course later) line.pick (d.stands.at later may).follows (filled later may) cannot)))
+                subst (Walks n before now (walked ++ line ∷ [])) (sym step.2) (fired new.machine step.0 can (subst (λ l. Fires l w.machine new.machine line.pick step.0) (sym leaf_is) step.1))
+            by false cannot same = subst (Walks n before now (walked ++ line ∷ [])) (sym same) (idle cannot)
 
 next : (i : ℕ) → i + 1 ≡ suc i
 next i = omega arith
 
 -- the lines in front of one, and it
-pub lines_here : (xs : List TraceLine) (i : ℕ) (d : TraceLine) → i < length xs → xs ≡ take i xs ++ get_or xs i d ∷ drop (i + 1) xs
-lines_here xs i d low =
-    let one : take (i + 1) xs ≡ take i xs ++ get_or xs i d ∷ [] = ap (λ k. take k xs) (next i) ∙ take-suc xs i d low in
-    sym (take-append-drop (i + 1) xs) ∙ ap (λ t. t ++ drop (i + 1) xs) one ∙ append_assoc (take i xs) (get_or xs i d ∷ []) (drop (i + 1) xs)
+lines_longer : (xs : List TraceLine) (i : ℕ) (d : TraceLine) → i < length xs → take (i + 1) xs ≡ take i xs ++ get_or xs i d ∷ []
+lines_longer xs i d low = ap (λ k. take k xs) (next i) ∙ take-suc xs i d low
 
-pub lines_longer : (xs : List TraceLine) (i : ℕ) (d : TraceLine) → i < length xs → take i xs ++ get_or xs i d ∷ [] ≡ take (i + 1) xs
-lines_longer xs i d low = sym (ap (λ k. take k xs) (next i) ∙ take-suc xs i d low)
+lines_here : (xs : List TraceLine) (i : ℕ) (d : TraceLine) → i < length xs → xs ≡ take i xs ++ get_or xs i d ∷ drop (i + 1) xs
+lines_here xs i d low =
+    sym (take-append-drop (i + 1) xs) ∙ ap (λ t. t ++ drop (i + 1) xs) (lines_longer xs i d low) ∙ append_assoc (take i xs) (get_or xs i d ∷ []) (drop (i + 1) xs)
+
+-- a trace whose lines are gone over, of which so many were passed
+module _ (n : Network) (before now : Outside) (traced : Traced) (lines : List TraceLine) (same : lines ≡ traced.lines) (passed : ℕ) (w : Walk) where
+  abbrev front : List TraceLine
+  front = take passed traced.lines
+
+  -- its next line
+  module _ (d : TraceLine) (low : passed < length lines) where
+    abbrev line : TraceLine
+    line = get_or lines passed d
+
+    there : passed < length traced.lines
+    there = subst (λ l. passed < length l) same low
+
+    line_is : get_or traced.lines passed d ≡ line
+    line_is = ap (λ l. get_or l passed d) (sym same)
+
+    pub line_passed : (agrees : Bool) → agrees ≡ true → Passes n before now front line w agrees → Walks n before now (take (passed + 1) traced.lines) w
+    line_passed agrees is passes =
+        subst (λ l. Walks n before now l w) (sym (lines_longer traced.lines passed d there ∙ ap (λ l. front ++ l ∷ []) line_is)) (subst (Passes n before now front line w) is passes)
+
+    pub line_differs : (agrees : Bool) → agrees ≡ false → Passes n before now front line w agrees → (number : ℕ) → number ≡ passed + 2 → DiffersOn n traced before.rest now.rest before.faults now.faults number
+    line_differs agrees is passes number counts =
+        let differs = subst (Passes n before now front line w) is passes in
+        differs_on n before now front w differs.0 line traced (drop (passed + 1) traced.lines) number (lines_here traced.lines passed d there ∙ ap (λ l. front ++ l ∷ drop (passed + 1) traced.lines) line_is) differs.1
+        (let size = length-take-le passed traced.lines (let t = there in omega arith) in omega arith)
+
+  -- it has no more lines
+  module _ (past : length lines ≤ passed) (walks : Walks n before now front w) where
+    all : traced.lines ≡ front
+    all = sym (take_all passed traced.lines (subst (λ l. length l ≤ passed) same past))
+
+    pub lines_agree : IsCounted traced → AgreesOn n traced before.rest now.rest before.faults now.faults w.close
+    lines_agree = agrees_on n before now front w walks traced all
+
+    pub counts_differ : passed ≤ length lines → (IsCounted traced → ⊥) → (number : ℕ) → number ≡ passed + 2 → DiffersOn n traced before.rest now.rest before.faults now.faults number
+    counts_differ most other number counts = miscounts_on n before now front w walks traced number all other (let size = ap length same in omega arith)

@@ -1,17 +1,30 @@
--- A machine that goes through the picks of a trace, on items that come from a stream.
-use Rattle.std.specs.Prelude.{ℕ, ℤ, List, ◌++◌, Option}
+-- A walk along a trace: a machine that makes the picks of its lines, on items that come from a stream, and what each step does.
+use Rattle.std.specs.Prelude.{◌≡◌, ◌≢◌, ℕ, ℤ, ◌*◌, ◌<◌, ◌^◌, Bool, true, false, List, [], ◌∷◌, ◌++◌, Option, None}
 use Rattle.p3l_base.specs.declared.outcome.Outcome.{Outcome}
+use Rattle.p3l_firing.specs.declared.net.Net.{Net}
+use Rattle.p3l_skel.specs.declared.tree.Tree.{Tree}
 use Rattle.p3l_net.specs.Carried.{HaveInWords}
-use Rattle.p3l_net.specs.Machine.{Seen}
+use Rattle.p3l_net.specs.Machine as machine
+use Rattle.p3l_net.specs.Machine.{Fires, Seen, can_step}
+use Rattle.p3l_net.specs.Nodes.{Leaf}
 use Rattle.p3l_net.specs.Offered.{Follows}
 use Rattle.p3l_stream.specs.declared.items.Ending.{Ending}
-use Rattle.p3l_stream.specs.Seen as lines
-use Rattle.p3l_run.specs.Feed.{Gives, closed_so}
-use Rattle.p3l_run.specs.Laws.{Runs}
+use Rattle.p3l_stream.specs.Seen as stream
+use Rattle.p3l_run.specs.Feed.{Gives, closed_so, input_limit, most_of_input}
+use Rattle.p3l_run.specs.Laws.{Laws, Runs}
 use Rattle.p3l_run.specs.Network.{Network, course_under, width_of}
 use Rattle.p3l_run.specs.Run.{MayCome}
 use Rattle.p3l_trace.specs.declared.trace.TraceLine.{TraceLine}
-use Rattle.p3l_trace.specs.Agreement.{AllAgree, picks_of}
+use Rattle.p3l_trace.specs.Agreement.{AgreesWith, AllAgree, picks_of}
+use Rattle.p3l_retrace.specs.declared.walk.Walk.{Walk}
+
+-- what the outside tells: the rest of the input and the count of its faults
+pub record Outside : Type 0 where
+  pub rest : Option (List ℕ)
+  pub faults : ℕ
+
+abbrev pub outside : Option (List ℕ) → ℕ → Outside
+outside rest faults = record { rest = rest; faults = faults }
 
 -- the machine stands where the picks of these lines lead on the items given and those that come later, and each of the lines agrees
 pub record IsAt (n : Network) (m : Seen) (items later : List (List ℤ)) (outcomes : List Outcome) (walked : List TraceLine) : Type 0 where
@@ -24,9 +37,51 @@ pub record Stands (n : Network) (m : Seen) (given : List (List ℤ)) (close : Op
   pub wide : HaveInWords n.tree given
   pub at : (later : List (List ℤ)) → MayCome n close later → IsAt n m (given ++ later) later outcomes walked
 
--- the same, with the stream where it gave these items
-pub record Walks (n : Network) (m : Seen) (stream : lines.Seen) (close : Option Ending) (walked : List TraceLine) (rest left : Option (List ℕ)) (before now : ℕ) : Type 0 where
+-- a walk that was just started
+abbrev pub started : Tree → Net → ℕ → Walk
+started tree net width = record { machine = machine.started tree net; stream = stream.started width input_limit; close = None }
+
+-- a walk along a trace of the network is under way: these lines were passed, on the items that the stream gave from what the
+-- outside told before to what it tells now
+pub record Walks (n : Network) (before now : Outside) (walked : List TraceLine) (w : Walk) : Type 0 where
+  pub laws : Laws n
+  pub fits : n.firings * most_of_input < 2 ^ 63
   pub items : List (List ℤ)
   pub outcomes : List Outcome
-  pub gives : Gives (width_of n) rest left before now stream items (closed_so close)
-  pub stands : Stands n m items close outcomes walked
+  pub gives : Gives (width_of n) before.rest now.rest before.faults now.faults w.stream items (closed_so w.close)
+  pub stands : Stands n w.machine items w.close outcomes walked
+
+-- the same where the inbox is filled, as long as the stream isn't ended, so that the machine can fire just where the network can
+pub record AwaitsLine (n : Network) (before now : Outside) (walked : List TraceLine) (w : Walk) : Type 0 where
+  pub walks : Walks n before now walked w
+  pub filled : w.close ≡ None → w.machine.inbox ≢ None
+
+-- a walk of some network is under way, with these bodies of modules
+pub record IsUnderWay (leaf : Leaf) (now : Outside) (w : Walk) : Type 0 where
+  pub network : Network
+  pub leaf_is : network.leaf ≡ leaf
+  pub before : Outside
+  pub walked : List TraceLine
+  pub walks : Walks network before now walked w
+
+-- whatever the network is, a walk that was fed is under way still
+abbrev pub FeedsOn : Outside → Outside → Walk → Walk → Type 0
+FeedsOn now after old new = (n : Network) (before : Outside) (walked : List TraceLine) → Walks n before now walked old → AwaitsLine n before after walked new
+
+-- what the pick of a process does, by whether that can fire
+abbrev pub StepsIf : Bool → Leaf → ℕ → Walk → Walk → Type 0
+StepsIf true leaf p old new = (handed : Option Outcome) × Fires leaf old.machine new.machine p handed × (new ≡ record old { machine = new.machine })
+StepsIf false leaf p old new = new ≡ old
+
+abbrev pub Steps : Leaf → ℕ → Walk → Walk → Type 0
+Steps leaf p old new = StepsIf (can_step old.machine p) leaf p old new
+
+-- one line more was passed; or it differs, and nothing was done but to feed the machine
+abbrev pub Passes : Network → Outside → Outside → List TraceLine → TraceLine → Walk → Bool → Type 0
+Passes n before now walked line w true = Walks n before now (walked ++ line ∷ []) w
+Passes n before now walked line w false = AwaitsLine n before now walked w × (AgreesWith w.machine line → ⊥)
+
+-- whatever the network is, with these bodies of modules, a walk passes the next line, if that agrees
+abbrev pub PassesOn : Leaf → TraceLine → Outside → Outside → Walk → Walk → Bool → Type 0
+PassesOn leaf line now after old new agrees =
+    (n : Network) (before : Outside) (walked : List TraceLine) → n.leaf ≡ leaf → Walks n before now walked old → Passes n before after walked line new agrees

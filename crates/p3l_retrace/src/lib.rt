@@ -3,4 +3,4 @@
 #![tactic(auto)]
 
 pub mod retrace;
-mod step;
+mod walk;

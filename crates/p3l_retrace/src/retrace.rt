@@ -6,17 +6,15 @@ ghost use Rattle.p3l_run.specs.Feed.{most_of_input};
 ghost use Rattle.p3l_run.specs.Network.{IsSound, network};
 ghost use Rattle.p3l_retrace.specs.Retraced.{IsRetraced};
 
-use crate::step::step;
+use crate::walk::Walk;
 use p3l_base::NoMemory;
 use p3l_io::Source;
-use p3l_net::Machine;
 use p3l_run::Plan;
-use p3l_run::feed::{INPUT_LIMIT, feed};
 use p3l_run::laws::laws;
 use p3l_skel::Units;
+use p3l_stream::Ending;
 use p3l_stream::laws::a_stream_gives_its_items;
-use p3l_stream::{Ending, Lines};
-use p3l_trace::{Traced, agrees, is_counted};
+use p3l_trace::{Traced, is_counted};
 use std::alloc::Global;
 
 /// How a trace was checked.
@@ -48,21 +46,17 @@ pub fn retrace<U: Units, S: Source>(
 {
     laws();
     a_stream_gives_its_items();
-    let mut machine = Machine::start(alloc, plan.tree, plan.net)?;
-    let mut lines = Lines::new(alloc, plan.width, INPUT_LIMIT)?;
-    let mut close = None;
+    let mut walk = Walk::start(alloc, plan.tree, plan.net, plan.width)?;
+    // The first line of a trace is its header.
     let mut number: u64 = 1;
     for line in traced.lines.as_slice() {
         number += 1;
-        close = feed(alloc, &mut machine, &mut lines, close, input)?;
-        if !agrees(line, &machine, machine.net()) {
+        if !walk.pass(alloc, plan.tree, plan.units, line, input)? {
             return Ok(Retraced::Differs(number));
         }
-        step(alloc, &mut machine, plan.tree, plan.units, line.pick)?;
     }
-    number += 1;
     if !is_counted(traced) {
-        return Ok(Retraced::Differs(number));
+        return Ok(Retraced::Differs(number + 1));
     }
-    Ok(Retraced::Agreed(close))
+    Ok(Retraced::Agreed(walk.close))
 }
