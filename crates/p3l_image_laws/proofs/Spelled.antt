@@ -22,7 +22,7 @@ use Rattle.p3l_lexer.specs.Position.{position_after}
 use Rattle.p3l_lexer.specs.Token.{Chunk, IsCutInto, token_at, tokens_after}
 use Rattle.p3l_grammar.specs.Grammar.{Spells}
 use Rattle.p3l_grammar.specs.Symbol.{Symbol, word, sign, symbols}
-use Rattle.p3l_grammar.specs.Written.{Formula, numeral, place, prefix, infix_, paren, Formulas, no_index, index, Script, stop, set, if_, if_else, while_, for_, Head, Passage, fixed, bodied, chained, spread, turned, each, separated, spell, spell_index, spell_script, spell_size, spell_port, spell_sub, spell_arg, spell_out, spell_call, spell_head, spell_clause, spell_local, spell_passage, spell_text, passage_tree, text_tree}
+use Rattle.p3l_grammar.specs.Written.{Formula, numeral, place, prefix, infix_, paren, Formulas, no_index, index, Script, stop, set, if_, if_else, while_, for_, Signature, Passage, fixed, bodied, chained, spread, turned, each, separated, spell, spell_index, spell_script, spell_size, spell_port, spell_sub, spell_arg, spell_out, spell_call, spell_signature, spell_clause, spell_local, spell_passage, spell_text, passage_tree, text_tree}
 use Rattle.p3l_image_laws.specs.Written.{HasNameOf, IsNameText}
 use Rattle.p3l_image_laws.proofs.Words.{word_is_name}
 
@@ -118,8 +118,8 @@ after_call c r h =
     let b = after_separated spell_out after_out c.outs _ a.1.1.1 in
     b.1
 
-after_head : (m : Head) (r : List Symbol) → AreNamed (spell_head m r) → AreNamed r
-after_head m r h =
+after_signature : (m : Signature) (r : List Symbol) → AreNamed (spell_signature m r) → AreNamed r
+after_signature m r h =
     let a = after_separated spell_port after_port m.ins _ h.1.1.1 in
     let b = after_separated spell_port after_port m.outs _ a.1.1.1 in
     b.1
@@ -134,13 +134,13 @@ after_local p r h = (after_port p _ h).1
 passage_named : (p : Passage) (r : List Symbol) → AreNamed (spell_passage p r) → HasNameOf (passage_tree p) × AreNamed r
 passage_named (fixed x v p) r h = (h.1.0, h.1.1.1.1.1)
 passage_named (bodied m b ls c) r h =
-    let a = after_clause marks.Budget b _ (after_head m _ h.1) in
+    let a = after_clause marks.Budget b _ (after_signature m _ h.1) in
     let d = after_script c _ (after_each spell_local after_local ls _ a.1) in
     (h.1.0, d.1.1.1)
-passage_named (chained k m cs) r h = (h.1.0, (after_each spell_call after_call cs _ (after_head m _ h.1)).1.1)
-passage_named (spread k m w c) r h = (h.1.0, (after_call c _ (after_clause marks.Workers w _ (after_head m _ h.1))).1.1)
+passage_named (chained k m cs) r h = (h.1.0, (after_each spell_call after_call cs _ (after_signature m _ h.1)).1.1)
+passage_named (spread k m w c) r h = (h.1.0, (after_call c _ (after_clause marks.Workers w _ (after_signature m _ h.1))).1.1)
 passage_named (turned m t n b c) r h =
-    let a = after_clause marks.Tokens n _ (after_head m _ h.1).1.1 in
+    let a = after_clause marks.Tokens n _ (after_signature m _ h.1).1.1 in
     let d = after_call c _ (after_call b _ a).1 in
     (h.1.0, d.1.1)
 
