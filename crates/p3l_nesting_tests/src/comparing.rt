@@ -92,7 +92,23 @@ fn compare_schedules(
     Ok(())
 }
 
-// Compares the runs of what was loaded. Some trap is in the middle of its items.
+// Compares the runs on the items of the tree that these units serve. Some trap is in their middle.
+fn compare_units(
+    rt: &impl Abort,
+    alloc: Global,
+    units: &UnitTable<'_>,
+    counts: &Counts,
+) -> Result<(), Fail> {
+    let cases = cases_of(rt, alloc, units)?;
+    let cases = cases.as_slice();
+    assert!(rt; due(cases) > 1 && due(cases) < cases.len());
+    for cap in CAPACITIES {
+        compare_schedules(rt, alloc, units, counts, cap, cases)?;
+    }
+    Ok(())
+}
+
+// Compares the runs of what was loaded.
 fn compare_loaded(rt: &impl Abort, alloc: Global, loaded: Loaded) -> Result<(), Fail>
     requires { IsReady loaded }
 {
@@ -103,13 +119,7 @@ fn compare_loaded(rt: &impl Abort, alloc: Global, loaded: Loaded) -> Result<(), 
         ..
     } = loaded;
     let units = UnitTable::new(alloc, &tree, codes)?;
-    let cases = cases_of(rt, alloc, &units)?;
-    let cases = cases.as_slice();
-    assert!(rt; due(cases) > 1 && due(cases) < cases.len());
-    for cap in CAPACITIES {
-        compare_schedules(rt, alloc, &units, &counts, cap, cases)?;
-    }
-    Ok(())
+    compare_units(rt, alloc, &units, &counts)
 }
 
 /// Compares the networks of sketches with the plain program.

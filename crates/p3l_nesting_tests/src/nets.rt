@@ -9,7 +9,7 @@ use p3l_firing::{Net, Proc};
 use p3l_link::{is_linked, link};
 use p3l_model::{is_outside, procs};
 use p3l_skel::{Counts, Tree, lawful_counts, lawful_tree};
-use std::alloc::Global;
+use std::alloc::{AllocError, Global};
 use std::process::Abort;
 use std::test::Fail;
 
@@ -116,24 +116,34 @@ const PARTS: [Expected; 4] = [
     (&loops::BY_REDUCE, &[], 2, LOOP_BY_REDUCE),
 ];
 
-fn line_of(alloc: Global, proc: &Proc) -> Result<String, Fail> {
+fn line_of(alloc: Global, proc: &Proc) -> Result<String, AllocError> {
     let ins = proc.ins.as_slice();
     let outs = proc.outs.as_slice();
-    Ok(format!(in alloc;
+    format!(in alloc;
         "{:?} {} {} {:?} {:?}\n",
         proc.kind, proc.node, proc.arg, ins, outs
-    )?)
+    )
 }
 
-fn text_of(alloc: Global, net: &Net) -> Result<String, Fail> {
-    let mut text = String::new(alloc);
+fn add_processes(alloc: Global, text: &mut String, net: &Net) -> Result<(), AllocError> {
     for proc in net.procs.as_slice() {
         text.push_str(line_of(alloc, proc)?.as_str())?;
     }
+    Ok(())
+}
+
+fn add_channels(alloc: Global, text: &mut String, net: &Net) -> Result<(), AllocError> {
     text.push_str("channels")?;
     for chan in net.chans.as_slice() {
         text.push_str(format!(in alloc; " {}+{}", chan.cap, chan.credits)?.as_str())?;
     }
+    Ok(())
+}
+
+fn text_of(alloc: Global, net: &Net) -> Result<String, AllocError> {
+    let mut text = String::new(alloc);
+    add_processes(alloc, &mut text, net)?;
+    add_channels(alloc, &mut text, net)?;
     Ok(text)
 }
 
@@ -155,14 +165,26 @@ fn net_of(
     Ok(net)
 }
 
+// The net of these rows as a text.
+fn linked_text(
+    rt: &impl Abort,
+    alloc: Global,
+    rows: &[Row],
+    counts: &[u32],
+    cap: u32,
+) -> Result<String, Fail> {
+    let tree = tree_of(alloc, rows)?;
+    let counts = Counts {
+        list: list_of(alloc, counts)?,
+    };
+    let net = net_of(rt, alloc, &tree, &counts, cap)?;
+    Ok(text_of(alloc, &net)?)
+}
+
 fn compare_nets(rt: &impl Abort, alloc: Global, table: &[Expected]) -> Result<(), Fail> {
-    for (rows, counts, cap, text) in table {
-        let tree = tree_of(alloc, rows)?;
-        let counts = Counts {
-            list: list_of(alloc, counts)?,
-        };
-        let net = net_of(rt, alloc, &tree, &counts, *cap)?;
-        assert_eq!(rt; text_of(alloc, &net)?.as_str(), *text);
+    for (rows, counts, cap, expected) in table {
+        let text = linked_text(rt, alloc, rows, counts, *cap)?;
+        assert_eq!(rt; text.as_str(), *expected);
     }
     Ok(())
 }

@@ -1,16 +1,20 @@
 // Machines of linked nets, run on items under a schedule.
 
-ghost use Rattle.std.specs.Prelude.{◌≡◌, ◌<◌, length, IfOk};
+ghost use Rattle.std.specs.Prelude.{◌≡◌, ◌<◌, length, IfOk, IsTrue};
+ghost use Rattle.p3l_net.specs.Machine.{can_step};
+ghost use Rattle.p3l_firing.specs.Typed.{IsTyped};
 ghost use Rattle.p3l_sched.specs.Picker.{HasPlace};
+ghost use Rattle.p3l_skel.specs.Lawful.{IsLawfulTree};
 
 use crate::items::Case;
 use p3l_base::{List, NoMemory, Outcome};
+use p3l_firing::Net;
 use p3l_link::link;
 use p3l_model::{is_outside, procs};
 use p3l_net::Machine;
 use p3l_plain::outcome::copied;
 use p3l_sched::{Picker, Schedule};
-use p3l_skel::{Counts, lawful_counts};
+use p3l_skel::{Counts, Tree, lawful_counts};
 use p3l_units::UnitTable;
 use std::alloc::Global;
 use std::process::Abort;
@@ -31,6 +35,24 @@ fn picker_of(seed: Option<u64>) -> Picker
     }
 }
 
+// The net of a tree.
+fn net_of(
+    rt: &impl Abort,
+    alloc: Global,
+    tree: &Tree,
+    counts: &Counts,
+    cap: u32,
+) -> Result<Net, NoMemory>
+    requires { IsLawfulTree tree.now }
+    ensures { IfOk result (λ net. IsTyped tree.now net) }
+{
+    assert!(rt; lawful_counts(tree, counts));
+    assert!(rt; is_outside(tree, 0));
+    assert!(rt; procs(tree, counts, 0) <= 4096);
+    assert!(rt; 1 <= cap && cap <= 1024);
+    link(alloc, tree, counts, cap)
+}
+
 // The machine of the tree that these units serve.
 fn machine_of<'t>(
     rt: &impl Abort,
@@ -42,11 +64,7 @@ fn machine_of<'t>(
     ensures tree { IfOk result (λ machine. machine.tree ≡ units.now.tree) }
 {
     let tree = units.tree();
-    assert!(rt; lawful_counts(tree, counts));
-    assert!(rt; is_outside(tree, 0));
-    assert!(rt; procs(tree, counts, 0) <= 4096);
-    assert!(rt; 1 <= cap && cap <= 1024);
-    let net = link(alloc, tree, counts, cap)?;
+    let net = net_of(rt, alloc, tree, counts, cap)?;
     Machine::start(alloc, tree, net)
 }
 
@@ -77,6 +95,22 @@ fn fill<'c>(
     Ok(rest)
 }
 
+// The process that is picked, which can fire.
+fn picked(rt: &impl Abort, machine: &Machine<'_>, picker: &mut Picker) -> u32
+    requires place { HasPlace (length machine.now.net.procs) picker.old }
+    ensures there { result < length machine.now.net.procs }
+    ensures can { IsTrue (can_step machine.now result) }
+    ensures place { HasPlace (length machine.now.net.procs) picker.new }
+{
+    assert!(rt; machine.ready() != 0);
+    let process = picker.pick(machine);
+    assert!(rt; process.is_some());
+    let process = process.unwrap();
+    assert!(rt; process < machine.size());
+    assert!(rt; machine.can_step(process));
+    process
+}
+
 // Fires the process that is picked, and keeps the outcome that it hands out.
 fn step(
     rt: &impl Abort,
@@ -91,17 +125,37 @@ fn step(
     ensures tree { machine.new.tree ≡ machine.old.tree }
     ensures place { HasPlace (length machine.new.net.procs) picker.new }
 {
-    assert!(rt; machine.ready() != 0);
-    let process = picker.pick(machine);
-    assert!(rt; process.is_some());
-    let process = process.unwrap();
-    assert!(rt; process < machine.size());
-    assert!(rt; machine.can_step(process));
+    let process = picked(rt, machine, picker);
     assert!(rt; machine.fired() < MOST_PICKS as u64);
     let fired = machine.fire(alloc, units.tree(), units, process)?;
     if let Some(outcome) = fired.emitted {
         outcomes.push(outcome)?;
     }
+    Ok(())
+}
+
+// Fires processes until none can, and keeps the outcomes.
+fn run(
+    rt: &impl Abort,
+    alloc: Global,
+    units: &UnitTable<'_>,
+    machine: &mut Machine<'_>,
+    picker: &mut Picker,
+    outcomes: &mut List<Outcome>,
+    cases: &[Case],
+) -> Result<(), NoMemory>
+    requires tree { machine.old.tree ≡ units.now.tree }
+    requires place { HasPlace (length machine.old.net.procs) picker.old }
+{
+    let mut left = cases;
+    for _pick in 0..MOST_PICKS {
+        left = fill(rt, alloc, units, machine, left)?;
+        if machine.ready() == 0 {
+            return Ok(());
+        }
+        step(rt, alloc, units, machine, picker, outcomes)?;
+    }
+    assert!(rt; false, "the run does not end");
     Ok(())
 }
 
@@ -116,17 +170,17 @@ pub fn emitted(
 ) -> Result<List<Outcome>, NoMemory> {
     let (cap, seed) = setting;
     let mut machine = machine_of(rt, alloc, units, counts, cap)?;
-    let mut picker = picker_of(seed);
     assert!(rt; machine.size() > 0);
+    let mut picker = picker_of(seed);
     let mut outcomes = List::new(alloc);
-    let mut left = cases;
-    for _pick in 0..MOST_PICKS {
-        left = fill(rt, alloc, units, &mut machine, left)?;
-        if machine.ready() == 0 {
-            return Ok(outcomes);
-        }
-        step(rt, alloc, units, &mut machine, &mut picker, &mut outcomes)?;
-    }
-    assert!(rt; false, "the run does not end");
+    run(
+        rt,
+        alloc,
+        units,
+        &mut machine,
+        &mut picker,
+        &mut outcomes,
+        cases,
+    )?;
     Ok(outcomes)
 }

@@ -5,16 +5,33 @@ ghost use Rattle.p3l_nesting_tests.specs.Ready.{IsReady};
 
 use crate::building::{codes_of, list_of, tree_of};
 use crate::sketch::Sketch;
+use p3l_base::NoMemory;
+use p3l_firing::Net;
 use p3l_image::Image;
 use p3l_link::link;
 use p3l_load::{Loaded, load};
 use p3l_model::{is_outside, procs};
-use p3l_skel::{Counts, lawful_counts, lawful_tree};
+use p3l_skel::{Counts, Tree, lawful_counts, lawful_tree};
 use std::alloc::Global;
 use std::process::Abort;
 use std::test::Fail;
 
-// The image of a sketch, whose channels hold one token.
+// The net of a tree, whose channels hold one token.
+fn net_of(
+    rt: &impl Abort,
+    alloc: Global,
+    name: &str,
+    tree: &Tree,
+    counts: &Counts,
+) -> Result<Net, NoMemory> {
+    assert!(rt; lawful_tree(tree), "{name}");
+    assert!(rt; lawful_counts(tree, counts), "{name}");
+    assert!(rt; is_outside(tree, 0));
+    assert!(rt; procs(tree, counts, 0) <= 4096);
+    link(alloc, tree, counts, 1)
+}
+
+// The image of a sketch.
 fn image_of(rt: &impl Abort, alloc: Global, sketch: Sketch) -> Result<Image, Fail>
     ensures { IfOk result (λ image. image.cap ≡ 1) }
 {
@@ -23,12 +40,8 @@ fn image_of(rt: &impl Abort, alloc: Global, sketch: Sketch) -> Result<Image, Fai
     let counts = Counts {
         list: list_of(alloc, counts)?,
     };
+    let net = net_of(rt, alloc, name, &tree, &counts)?;
     let codes = codes_of(alloc, rows)?;
-    assert!(rt; lawful_tree(&tree), "{name}");
-    assert!(rt; lawful_counts(&tree, &counts), "{name}");
-    assert!(rt; is_outside(&tree, 0));
-    assert!(rt; procs(&tree, &counts, 0) <= 4096);
-    let net = link(alloc, &tree, &counts, 1)?;
     Ok(Image {
         cap: 1,
         tree,

@@ -1,8 +1,10 @@
 // Lines against the machine of one body: 0 is the source, 1 the sink, and 2 runs the body.
 
 ghost use Rattle.std.specs.Prelude.{◌≡◌, None, IfOk};
+ghost use Rattle.p3l_firing.specs.Typed.{IsTyped};
 
 use p3l_base::{List, Name, NoMemory, Words};
+use p3l_firing::Net;
 use p3l_link::link;
 use p3l_model::{is_outside, procs};
 use p3l_net::{Machine, ProcKind};
@@ -30,10 +32,9 @@ fn tree_of_one(alloc: Global) -> Result<Tree, NoMemory> {
     Ok(Tree { nodes, modules })
 }
 
-/// The machine of a tree without workers, before the first firing.
-fn machine_of<'t>(rt: &impl Abort, alloc: Global, tree: &'t Tree) -> Result<Machine<'t>, NoMemory>
-    ensures tree { IfOk result (λ machine. machine.tree ≡ tree.now) }
-    ensures empty { IfOk result (λ machine. machine.inbox ≡ None) }
+/// The net of a tree without workers.
+fn net_of(rt: &impl Abort, alloc: Global, tree: &Tree) -> Result<Net, NoMemory>
+    ensures { IfOk result (λ net. IsTyped tree.now net) }
 {
     let counts = Counts {
         list: List::new(alloc),
@@ -42,7 +43,15 @@ fn machine_of<'t>(rt: &impl Abort, alloc: Global, tree: &'t Tree) -> Result<Mach
     assert!(rt; lawful_counts(tree, &counts));
     assert!(rt; is_outside(tree, 0));
     assert!(rt; procs(tree, &counts, 0) <= 4096);
-    let net = link(alloc, tree, &counts, 4)?;
+    link(alloc, tree, &counts, 4)
+}
+
+/// The machine of such a net, before the first firing.
+fn machine_of<'t>(rt: &impl Abort, alloc: Global, tree: &'t Tree) -> Result<Machine<'t>, NoMemory>
+    ensures tree { IfOk result (λ machine. machine.tree ≡ tree.now) }
+    ensures empty { IfOk result (λ machine. machine.inbox ≡ None) }
+{
+    let net = net_of(rt, alloc, tree)?;
     Machine::start(alloc, tree, net)
 }
 
@@ -80,17 +89,43 @@ const OFFERED: [(u32, Option<ProcKind>, bool); 8] = [
     (3, Some(ProcKind::Source), false),
 ];
 
-#[test]
-fn lines_agree_by_what_can_fire_and_its_kind(rt: HostRuntime) -> Result<(), Fail> {
-    let alloc = rt.alloc();
-    let tree = tree_of_one(alloc)?;
-    let mut machine = machine_of(&rt, alloc, &tree)?;
-    compare(&rt, &machine, &EMPTY);
+/// Offers an item of one word.
+fn offer(
+    rt: &impl Abort,
+    alloc: Global,
+    machine: &mut Machine<'_>,
+    tree: &Tree,
+) -> Result<(), NoMemory>
+    requires tree { machine.old.tree ≡ tree.now }
+    requires empty { machine.old.inbox ≡ None }
+{
     let words = Words::from_vec(Vec::from_slice(alloc, &[7])?);
     let root = tree.node(0);
     assert!(rt; root.is_some());
     assert!(rt; words.len() == root.unwrap().ins as usize);
-    machine.offer(alloc, words)?;
-    compare(&rt, &machine, &OFFERED);
+    machine.offer(alloc, words)
+}
+
+/// Compares the lines with a machine that has no item, and then with one that has.
+fn compare_all(
+    rt: &impl Abort,
+    alloc: Global,
+    machine: &mut Machine<'_>,
+    tree: &Tree,
+) -> Result<(), NoMemory>
+    requires tree { machine.old.tree ≡ tree.now }
+    requires empty { machine.old.inbox ≡ None }
+{
+    compare(rt, machine, &EMPTY);
+    offer(rt, alloc, machine, tree)?;
+    compare(rt, machine, &OFFERED);
+    Ok(())
+}
+
+#[test]
+fn lines_agree_by_what_can_fire_and_its_kind(rt: HostRuntime) -> Result<(), Fail> {
+    let tree = tree_of_one(rt.alloc())?;
+    let mut machine = machine_of(&rt, rt.alloc(), &tree)?;
+    compare_all(&rt, rt.alloc(), &mut machine, &tree)?;
     Ok(())
 }
