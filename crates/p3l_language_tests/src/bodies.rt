@@ -89,61 +89,118 @@ impl Maker {
         Ok(Valuation { bindings, turns: 0 })
     }
 
+    /// The list of one statement.
+    fn alone(&self, stmt: Stmt) -> Result<Vec<Stmt>, NoMemory> {
+        Ok(vec![in self.alloc; stmt]?)
+    }
+
+    /// The list of two statements.
+    fn pair(&self, first: Stmt, second: Stmt) -> Result<Vec<Stmt>, NoMemory> {
+        Ok(vec![in self.alloc; first, second]?)
+    }
+
+    /// s = s + i;
+    fn add_i(&self) -> Result<Stmt, NoMemory> {
+        let sum = self.op(self.read("s")?, BinOp::Add, self.read("i")?)?;
+        Ok(Stmt::Assign(self.scalar("s")?, sum))
+    }
+
     /// while (i < 10) { i = i + 1; s = s + i; }
     fn sum(&self) -> Result<Vec<Stmt>, NoMemory> {
-        let more = self.op(self.read("s")?, BinOp::Add, self.read("i")?)?;
-        let body = vec![in self.alloc; self.add("i", 1)?, Stmt::Assign(self.scalar("s")?, more)]?;
-        let sum = Stmt::While(self.with("i", BinOp::Lt, 10)?, body);
-        Ok(vec![in self.alloc; sum]?)
+        let body = self.pair(self.add("i", 1)?, self.add_i()?)?;
+        self.alone(Stmt::While(self.with("i", BinOp::Lt, 10)?, body))
     }
 
     /// for (i = 0; i < 3; i = i + 1) { for (j = 0; j < 4; j = j + 1) { s = s + 1; } }
     fn nested(&self) -> Result<Vec<Stmt>, NoMemory> {
-        let inner = self.count("j", 4, vec![in self.alloc; self.add("s", 1)?]?)?;
-        let outer = self.count("i", 3, vec![in self.alloc; inner]?)?;
-        Ok(vec![in self.alloc; outer]?)
+        let inner = self.count("j", 4, self.alone(self.add("s", 1)?)?)?;
+        self.alone(self.count("i", 3, self.alone(inner)?)?)
+    }
+
+    /// 1 / 0
+    fn broken(&self) -> Result<Expr, NoMemory> {
+        self.op(Expr::Number(1), BinOp::Div, Expr::Number(0))
+    }
+
+    /// s = 1 / 0;
+    fn breaks(&self) -> Result<Stmt, NoMemory> {
+        Ok(Stmt::Assign(self.scalar("s")?, self.broken()?))
     }
 
     /// if (s == number) { s = 1 / 0; } else { s = s + 7; }
     fn branches(&self, number: i64) -> Result<Vec<Stmt>, NoMemory> {
-        let broken = self.op(Expr::Number(1), BinOp::Div, Expr::Number(0))?;
-        let then = vec![in self.alloc; Stmt::Assign(self.scalar("s")?, broken)]?;
-        let otherwise = vec![in self.alloc; self.add("s", 7)?]?;
+        let then = self.alone(self.breaks()?)?;
+        let otherwise = self.alone(self.add("s", 7)?)?;
         let condition = self.with("s", BinOp::Eq, number)?;
-        Ok(vec![in self.alloc; Stmt::If(condition, then, Some(otherwise))]?)
+        self.alone(Stmt::If(condition, then, Some(otherwise)))
     }
 
     /// if (s == number) { s = s + 1; } s = s + 2;
     fn no_else(&self, number: i64) -> Result<Vec<Stmt>, NoMemory> {
-        let then = vec![in self.alloc; self.add("s", 1)?]?;
+        let then = self.alone(self.add("s", 1)?)?;
         let branch = Stmt::If(self.with("s", BinOp::Eq, number)?, then, None);
-        Ok(vec![in self.alloc; branch, self.add("s", 2)?]?)
+        self.pair(branch, self.add("s", 2)?)
+    }
+
+    /// a[s] = 0;
+    fn clear(&self) -> Result<Stmt, NoMemory> {
+        let target = self.element("a", self.read("s")?)?;
+        Ok(Stmt::Assign(target, Expr::Number(0)))
     }
 
     /// while (1) { s = s + 1; a[s] = 0; }
     fn runs_off(&self) -> Result<Vec<Stmt>, NoMemory> {
-        let clear = Stmt::Assign(self.element("a", self.read("s")?)?, Expr::Number(0));
-        let body = vec![in self.alloc; self.add("s", 1)?, clear]?;
-        Ok(vec![in self.alloc; Stmt::While(Expr::Number(1), body)]?)
+        let body = self.pair(self.add("s", 1)?, self.clear()?)?;
+        self.alone(Stmt::While(Expr::Number(1), body))
     }
 
     /// while (1 / 0) { }
     fn broken_condition(&self) -> Result<Vec<Stmt>, NoMemory> {
-        let broken = self.op(Expr::Number(1), BinOp::Div, Expr::Number(0))?;
-        let none = Stmt::While(broken, Vec::new(self.alloc));
-        Ok(vec![in self.alloc; none]?)
+        self.alone(Stmt::While(self.broken()?, Vec::new(self.alloc)))
+    }
+
+    /// a[i]
+    fn front(&self) -> Result<Target, NoMemory> {
+        self.element("a", self.read("i")?)
+    }
+
+    /// a[3 - i]
+    fn mirror(&self) -> Result<Target, NoMemory> {
+        let index = self.op(Expr::Number(3), BinOp::Sub, self.read("i")?)?;
+        self.element("a", index)
+    }
+
+    /// s = a[i];
+    fn keep(&self) -> Result<Stmt, NoMemory> {
+        Ok(Stmt::Assign(self.scalar("s")?, Expr::Read(self.front()?)))
+    }
+
+    /// a[i] = a[3 - i];
+    fn copy(&self) -> Result<Stmt, NoMemory> {
+        Ok(Stmt::Assign(self.front()?, Expr::Read(self.mirror()?)))
+    }
+
+    /// a[3 - i] = s;
+    fn put_back(&self) -> Result<Stmt, NoMemory> {
+        Ok(Stmt::Assign(self.mirror()?, self.read("s")?))
     }
 
     /// s = a[i]; a[i] = a[3 - i]; a[3 - i] = s;
     fn swap(&self) -> Result<Vec<Stmt>, NoMemory> {
-        let front = self.element("a", self.read("i")?)?;
-        let mirror = self.op(Expr::Number(3), BinOp::Sub, self.read("i")?)?;
-        let keep = Stmt::Assign(self.scalar("s")?, Expr::Read(front));
-        let back = Expr::Read(self.element("a", mirror)?);
-        let first = Stmt::Assign(self.element("a", self.read("i")?)?, back);
-        let mirror = self.op(Expr::Number(3), BinOp::Sub, self.read("i")?)?;
-        let second = Stmt::Assign(self.element("a", mirror)?, self.read("s")?);
-        Ok(vec![in self.alloc; keep, first, second]?)
+        let mut stmts = self.pair(self.keep()?, self.copy()?)?;
+        stmts.push(self.put_back()?)?;
+        Ok(stmts)
+    }
+
+    fn body(&self, body: Body) -> Result<Vec<Stmt>, NoMemory> {
+        match body {
+            Body::Sum => self.sum(),
+            Body::Nested => self.nested(),
+            Body::Branches(number) => self.branches(number),
+            Body::NoElse(number) => self.no_else(number),
+            Body::RunsOff => self.runs_off(),
+            Body::BrokenCondition => self.broken_condition(),
+        }
     }
 
     /// Whether statements come to this end within a budget of turns.
@@ -161,43 +218,47 @@ impl Maker {
     }
 }
 
+/// The bodies that a maker makes under these names.
+#[derive(Clone, Copy, Drop)]
+enum Body {
+    Sum,
+    Nested,
+    Branches(i64),
+    NoElse(i64),
+    RunsOff,
+    BrokenCondition,
+}
+
+/// Bodies, with their budgets of turns and their ends.
+const CASES: [(&str, Body, u32, End); 11] = [
+    ("all turns", Body::Sum, 10, Ok((55, 10))),
+    ("a turn too few", Body::Sum, 9, Err(TrapKind::Budget)),
+    ("loops share turns", Body::Nested, 15, Ok((12, 15))),
+    ("inner turns count", Body::Nested, 14, Err(TrapKind::Budget)),
+    (
+        "the first way",
+        Body::Branches(0),
+        0,
+        Err(TrapKind::DivZero),
+    ),
+    ("the other way", Body::Branches(1), 0, Ok((7, 0))),
+    ("no other way", Body::NoElse(1), 0, Ok((2, 0))),
+    ("one way", Body::NoElse(0), 0, Ok((3, 0))),
+    ("past the array", Body::RunsOff, 9, Err(TrapKind::Index)),
+    ("the budget first", Body::RunsOff, 3, Err(TrapKind::Budget)),
+    (
+        "the condition first",
+        Body::BrokenCondition,
+        0,
+        Err(TrapKind::DivZero),
+    ),
+];
+
 #[test]
 fn bodies_end_as_known(rt: HostRuntime) -> Result<(), Fail> {
     let maker = Maker { alloc: rt.alloc() };
-    let cases = [
-        ("all turns", maker.sum()?, 10, Ok((55, 10))),
-        ("a turn too few", maker.sum()?, 9, Err(TrapKind::Budget)),
-        ("loops share turns", maker.nested()?, 15, Ok((12, 15))),
-        (
-            "inner turns count",
-            maker.nested()?,
-            14,
-            Err(TrapKind::Budget),
-        ),
-        (
-            "the first way",
-            maker.branches(0)?,
-            0,
-            Err(TrapKind::DivZero),
-        ),
-        ("the other way", maker.branches(1)?, 0, Ok((7, 0))),
-        ("no other way", maker.no_else(1)?, 0, Ok((2, 0))),
-        ("one way", maker.no_else(0)?, 0, Ok((3, 0))),
-        ("past the array", maker.runs_off()?, 9, Err(TrapKind::Index)),
-        (
-            "the budget first",
-            maker.runs_off()?,
-            3,
-            Err(TrapKind::Budget),
-        ),
-        (
-            "the condition first",
-            maker.broken_condition()?,
-            0,
-            Err(TrapKind::DivZero),
-        ),
-    ];
-    for (name, stmts, budget, end) in cases {
+    for (name, body, budget, end) in CASES {
+        let stmts = maker.body(body)?;
         assert!(rt; maker.ends(&stmts, budget, end)?, "{name}");
     }
     Ok(())
