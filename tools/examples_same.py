@@ -3,7 +3,7 @@
 
     tools/examples_same.py
 
-Compares crates/p3l_example_tests/src/texts.rt with examples/, byte for byte: each text must be that of its file, and no file
+Compares crates/p3l_program_tests/src/examples/texts.rt with examples/, byte for byte: each text must be that of its file, and no file
 may be left out.
 """
 
@@ -24,7 +24,7 @@ def text_of(literal):
 
 
 def main():
-    source = (ROOT / "crates/p3l_example_tests/src/texts.rt").read_bytes().decode()
+    source = (ROOT / "crates/p3l_program_tests/src/examples/texts.rt").read_bytes().decode()
     told = {}
     for name, fields in EXAMPLE.findall(source):
         for field, literal in FIELD.findall(fields):

@@ -1,4 +1,5 @@
 pub mod Chosen
+pub mod Explanation
 pub mod Need
 pub mod Soonest
 pub mod Table

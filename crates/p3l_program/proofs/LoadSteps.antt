@@ -15,7 +15,7 @@ use Rattle.p3l_cert.specs.declared.cert.Cert.{Cert}
 use Rattle.p3l_cert.specs.Certified.{AreRowsAsked}
 use Rattle.p3l_cert.specs.Checker.{CertHolds}
 use Rattle.p3l_cert.specs.Text.{cert_format}
-use Rattle.p3l_explain.specs.Allocation.{allocation_text}
+use Rattle.p3l_alloc.specs.Explanation.{allocation_text}
 use Rattle.p3l_opts.specs.declared.command.Build.{Build}
 use Rattle.p3l_report.specs.declared.cost_fault.CostFault.{CostFault}
 use Rattle.p3l_report.specs.declared.cost_fault.CostFault.TheVariants as fault

@@ -13,7 +13,7 @@ use crate::save::save;
 use crate::text::write_text;
 use p3l_base::Name;
 use p3l_cert::cert_text;
-use p3l_explain::allocation_text;
+use p3l_alloc::allocation_text;
 use p3l_io::{Files, Sink};
 use p3l_opts::Build;
 use p3l_report::Verdict;

@@ -8,7 +8,7 @@ ghost use Rattle.p3l_program.specs.World.{change};
 
 use crate::load::load;
 use crate::text::write_text;
-use p3l_explain::allocation_text;
+use p3l_alloc::allocation_text;
 use p3l_io::{Files, Sink};
 use p3l_opts::Build;
 use p3l_report::Verdict;

@@ -11,7 +11,7 @@ use Rattle.p3l_skel.proofs.Below.{outside_from-step, outside_from-zero}
 use Rattle.p3l_cost.specs.declared.costs.Costs.{Costs}
 use Rattle.p3l_model.proofs.Members.{Contains-flat_map, Contains-head, Contains-tail}
 use Rattle.p3l_model.proofs.Nested.{outside_roots}
-use Rattle.p3l_explain.specs.Allocation.{node_line, node_lines}
+use Rattle.p3l_alloc.specs.Explanation.{node_line, node_lines}
 
 root_inside : (d : ℕ) (tree : Tree) (k next : ℕ) → IsSubtree d tree k next → k < length tree.nodes
 unfolding IsSubtree

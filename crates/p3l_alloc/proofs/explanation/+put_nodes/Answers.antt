@@ -5,9 +5,9 @@ use Rattle.std.proofs.lemmas.List.{append-nil}
 use Rattle.p3l_skel.specs.Counts.{outside_from, outside_parts}
 use Rattle.p3l_skel.specs.Tree.{node_at}
 use Rattle.p3l_skel.proofs.Below.{outside_from-step, outside_from-zero}
-use Rattle.p3l_explain.specs.Allocation.{node_line}
-use Rattle.p3l_explain.proofs.Outside.{first_outside, outside_inside, part_outside, parts_lines}
-use Rattle.p3l_explain.proofs.allocation.+put_nodes.Goals as goal
+use Rattle.p3l_alloc.specs.Explanation.{node_line}
+use Rattle.p3l_alloc.proofs.Outside.{first_outside, outside_inside, part_outside, parts_lines}
+use Rattle.p3l_alloc.proofs.explanation.+put_nodes.Goals as goal
 
 pub returns-in_default : goal.returns-in_default
 returns-in_default t c =

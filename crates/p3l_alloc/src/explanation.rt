@@ -1,4 +1,4 @@
-// The text of an allocation.
+// The text that explains an allocation.
 
 ghost use Rattle.std.specs.Prelude.{◌≡◌, ◌≤◌, ◌++◌, ℕ, IfOk, OnOk, string_bytes};
 ghost use Rattle.std.specs.List.{Contains};
@@ -6,9 +6,9 @@ ghost use Rattle.p3l_skel.specs.Counts.{HasLawfulCounts, outside, outside_from};
 ghost use Rattle.p3l_skel.specs.Lawful.{IsLawfulTree};
 ghost use Rattle.p3l_skel.specs.Tree.{node_at};
 ghost use Rattle.p3l_cost.specs.Costs.{AreCostsOf};
-ghost use Rattle.p3l_explain.specs.Allocation.{allocation_text, count_words, kind_name, module_name, node_line, node_lines, node_words, whole_line};
+ghost use Rattle.p3l_alloc.specs.Explanation.{allocation_text, count_words, kind_name, module_name, node_line, node_lines, node_words, whole_line};
 
-use p3l_alloc::Choice;
+use crate::allocation::Choice;
 use p3l_base::{List, NoMemory};
 use p3l_cost::Costs;
 use p3l_model::workers::workers;

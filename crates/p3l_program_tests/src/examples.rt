@@ -1,6 +1,8 @@
 // Each example under two schedules.
 
-use crate::texts::{Example, FARMS, GREATEST, HALVE, LINE, MATRIX, NORM, SIGNAL, TOTAL};
+mod texts;
+
+use self::texts::{Example, FARMS, GREATEST, HALVE, LINE, MATRIX, NORM, SIGNAL, TOTAL};
 use p3l_base::List;
 use p3l_io::{MemFiles, MemSink, MemSource};
 use p3l_program::top::top;

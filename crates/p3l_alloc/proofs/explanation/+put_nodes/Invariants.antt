@@ -1,9 +1,9 @@
 use Rattle.std.proofs.Common.{◌≡◌, ◌-◌, ◌++◌, drop}
 use Rattle.std.specs.Prelude.{string_bytes}
 use Rattle.p3l_skel.specs.Counts.{outside_from}
-use Rattle.p3l_explain.specs.Allocation.{node_lines}
-use Rattle.p3l_explain.proofs.Outside.{parts_lines}
-use Rattle.p3l_explain.proofs.allocation.+put_nodes.Given as goal
+use Rattle.p3l_alloc.specs.Explanation.{node_lines}
+use Rattle.p3l_alloc.proofs.Outside.{parts_lines}
+use Rattle.p3l_alloc.proofs.explanation.+put_nodes.Given as goal
 
 abbrev pub decreases-put_nodes : goal.decreases-put_nodes
 decreases-put_nodes l = l.levels
