@@ -58,8 +58,10 @@ pub fn choose(
     requires costs { AreCostsOf tree.now costs.now }
     requires some { 1 ≤ processors }
     requires few { processors ≤ 512 }
-    ensures chosen { IfOk result (λ choice. IsChosen tree.now costs.now processors choice.counts.list) }
-    ensures service { IfOk result (λ choice. choice.service ≡ service tree.now costs.now choice.counts.list 0) }
+    ensures chosen { IfOk result (λ choice.
+        IsChosen tree.now costs.now processors choice.counts.list) }
+    ensures service { IfOk result (λ choice. choice.service
+        ≡ service tree.now costs.now choice.counts.list 0) }
     ensures used { IfOk result (λ choice. choice.used ≡ procs tree.now choice.counts.list 0) }
     ensures refused { IfErr result (IsRefused tree.now processors) }
 {

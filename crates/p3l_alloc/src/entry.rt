@@ -21,7 +21,8 @@ pub fn soonest(row: &[u128], processes: u32) -> u128
 /// a pipe it is that of no stages.
 pub fn entry(cost: &NodeCost, part: &[u128], processes: u32) -> u128
     requires { processes ≤ 512 }
-    ensures { (a : Costed) → HasPart cost.now a processes part.now → IsSoonest (over_part cost.now a) processes result }
+    ensures { (a : Costed) → HasPart cost.now a processes part.now
+        → IsSoonest (over_part cost.now a) processes result }
 {
     match cost {
         NodeCost::Unit { service } => unit_entry(*service, processes),
@@ -48,7 +49,8 @@ fn unit_entry(service: u128, processes: u32) -> u128
 
 // The head and the tail of a loop take two processes.
 fn loop_entry(turns: u32, ends: u128, body: &[u128], processes: u32) -> u128
-    ensures { (a : Costed) → HasPart (cost.Loop turns ends) a processes body.now → IsSoonest (costs.Loop turns ends a) processes result }
+    ensures { (a : Costed) → HasPart (cost.Loop turns ends) a processes body.now
+        → IsSoonest (costs.Loop turns ends a) processes result }
 {
     if processes < 2 {
         return NEVER;
@@ -75,7 +77,8 @@ fn shared(sharing: Sharing, ends: u128, workers: u32, part: u128) -> u128
 // each worker the same number of processes the last is the best.
 fn workers_entry(span: Span, sharing: Sharing, ends: u128, part: &[u128], processes: u32) -> u128
     requires { processes ≤ 512 }
-    ensures { (a : Costed) → HasPart (cost.Workers span sharing ends) a processes part.now → IsSoonest (costs.Workers span sharing ends a) processes result }
+    ensures { (a : Costed) → HasPart (cost.Workers span sharing ends) a processes part.now
+        → IsSoonest (costs.Workers span sharing ends a) processes result }
 {
     let room = processes.saturating_sub(2);
     let most = span.high.min(room);
@@ -126,7 +129,8 @@ pub fn power_of_two(level: u32) -> u32
 
 /// Whether a reduce may have so many segments within so many processes.
 pub fn can_segment(span: Span, segments: u32, processes: u32) -> bool
-    ensures { IsTrue result ↔ ((span.low ≤ segments) × (segments ≤ span.high) × (joined_procs segments ≤ processes)) }
+    ensures { IsTrue result
+        ↔ ((span.low ≤ segments) × (segments ≤ span.high) × (joined_procs segments ≤ processes)) }
 {
     span.low <= segments && segments <= span.high && segments_procs(segments) <= processes as u64
 }

@@ -35,7 +35,8 @@ fn kind_name(form: &Form) -> &'static str
 
 /// Puts what a node says of its count after a text, if it has one.
 fn put_count(alloc: Global, text: &mut String, form: &Form, count: u32) -> Result<(), NoMemory>
-    ensures { OnOk result (string_bytes text.new ≡ string_bytes text.old ++ count_words form.now count) }
+    ensures { OnOk result (string_bytes text.new
+        ≡ string_bytes text.old ++ count_words form.now count) }
 {
     match form {
         Form::Farm { .. } | Form::Map { .. } | Form::Reduce { .. } => {
@@ -62,7 +63,8 @@ fn put_node(
     requires counts { HasLawfulCounts tree.now counts.now.list }
     requires outside { Contains (outside tree.now) number }
     requires node { node.now ≡ node_at tree.now number }
-    ensures { OnOk result (string_bytes text.new ≡ string_bytes text.old ++ node_line tree.now costs.now counts.now.list number) }
+    ensures { OnOk result (string_bytes text.new
+        ≡ string_bytes text.old ++ node_line tree.now costs.now counts.now.list number) }
 {
     let kind = kind_name(&node.form);
     let name = name_of(tree, node.module);
@@ -99,9 +101,11 @@ fn put_nodes(
     requires tree { IsLawfulTree tree.now }
     requires costs { AreCostsOf tree.now costs.now }
     requires counts { HasLawfulCounts tree.now counts.now.list }
-    requires outside { (node : ℕ) → Contains (outside_from tree.now levels number) node → Contains (outside tree.now) node }
+    requires outside { (node : ℕ) → Contains (outside_from tree.now levels number) node
+        → Contains (outside tree.now) node }
     ensures { OnOk result (string_bytes text.new
-        ≡ string_bytes text.old ++ node_lines tree.now costs.now counts.now.list (outside_from tree.now levels number)) }
+        ≡ string_bytes text.old
+        ++ node_lines tree.now costs.now counts.now.list (outside_from tree.now levels number)) }
 {
     let Some(node) = tree.node(number) else {
         return Ok(());
@@ -130,7 +134,8 @@ pub fn allocation_text(
     requires costs { AreCostsOf tree.now costs.now }
     requires counts { HasLawfulCounts tree.now choice.now.counts.list }
     ensures { IfOk result (λ text. text
-        ≡ allocation_text tree.now costs.now processors choice.now.counts.list choice.now.used choice.now.service) }
+        ≡ allocation_text tree.now costs.now processors choice.now.counts.list choice.now.used
+        choice.now.service) }
 {
     let used = choice.used;
     let time = choice.service;

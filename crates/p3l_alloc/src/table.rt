@@ -104,7 +104,9 @@ fn stages_row(
     most: u32,
 ) -> Result<List<u128>, NoMemory>
     requires { most ≤ 512 }
-    ensures { IfOk result (λ row. (below : ℕ → Costed) → AreRows tree.now rows.now below most parts.now → IsRow (stages below parts.now) most row) }
+    ensures { IfOk result (λ row. (below : ℕ → Costed)
+        → AreRows tree.now rows.now below most parts.now
+        → IsRow (stages below parts.now) most row) }
 {
     let mut row = cost_row(alloc, &NodeCost::Stages, &[], most)?;
     for after in 0..parts.len() {
@@ -122,7 +124,8 @@ fn cost_row(
     most: u32,
 ) -> Result<List<u128>, NoMemory>
     requires { most ≤ 512 }
-    ensures { IfOk result (λ row. (a : Costed) → HasPart cost.now a most part.now → IsRow (over_part cost.now a) most row) }
+    ensures { IfOk result (λ row. (a : Costed) → HasPart cost.now a most part.now
+        → IsRow (over_part cost.now a) most row) }
 {
     let mut row = Vec::new(alloc);
     for processes in 0..most + 1 {
@@ -139,7 +142,8 @@ fn both_row(
     most: u32,
 ) -> Result<List<u128>, NoMemory>
     requires { most ≤ 512 }
-    ensures { IfOk result (λ row. (a b : Costed) → IsRow a most first.now → IsRow b most others.now → IsRow (Both a b) most row) }
+    ensures { IfOk result (λ row. (a b : Costed) → IsRow a most first.now → IsRow b most others.now
+        → IsRow (Both a b) most row) }
 {
     let mut row = Vec::new(alloc);
     for processes in 0..most + 1 {
@@ -151,7 +155,8 @@ fn both_row(
 // The soonest over all ways to share the processes among a stage and those that follow it.
 fn both_entry(first: &[u128], others: &[u128], processes: u32) -> u128
     requires { processes ≤ 512 }
-    ensures { (a b : Costed) → IsRow a processes first.now → IsRow b processes others.now → IsSoonest (Both a b) processes result }
+    ensures { (a b : Costed) → IsRow a processes first.now → IsRow b processes others.now
+        → IsSoonest (Both a b) processes result }
 {
     let mut best = NEVER;
     for given in 0..processes + 1 {

@@ -67,7 +67,8 @@ fn first_workers(
     requires processes { processes ≤ 512 }
     requires sharing { IsSharing sharing }
     ensures found { IfSome result (IsFirstCount span sharing part.now time processes) }
-    ensures none { IfNone result ((m : ℕ) → IsIn span m → m + 2 ≤ processes → part_time sharing time m < slice_index_or part.now ((processes - 2) / m) never) }
+    ensures none { IfNone result ((m : ℕ) → IsIn span m → m + 2 ≤ processes
+        → part_time sharing time m < slice_index_or part.now ((processes - 2) / m) never) }
 {
     let room = processes.saturating_sub(2);
     let most = span.high.min(room);
@@ -84,7 +85,8 @@ fn first_segments(span: Span, fold: &FoldCost, time: u128, processes: u32) -> Op
     requires processes { processes ≤ 512 }
     requires time { time < never }
     ensures found { IfSome result (IsFirstSegments span fold.now time processes) }
-    ensures none { IfNone result ((m : ℕ) → AreSegments span m → joined_procs m ≤ processes → time < segments_service fold.now m) }
+    ensures none { IfNone result ((m : ℕ) → AreSegments span m → joined_procs m ≤ processes
+        → time < segments_service fold.now m) }
 {
     for level in 0..10u32 {
         let segments = power_of_two(level);
@@ -118,7 +120,8 @@ pub fn first_counts(
     requires time { time < never }
     requires slow { slowest (costed tree.now costs.now node) < never }
     requires can { CanServe (costed tree.now costs.now node) time processes }
-    ensures { IfOk result (AddsFirst (costed tree.now costs.now node) time processes counts.old counts.new) }
+    ensures { IfOk result (AddsFirst (costed tree.now costs.now node)
+        time processes counts.old counts.new) }
 {
     if levels == 0 {
         return Ok(0);
@@ -200,7 +203,8 @@ fn stages_counts(
     requires slow { slowest (costed tree.now costs.now node) < never }
     requires can { CanServe (costed tree.now costs.now node) time processes }
     requires pipe { node_cost tree.now costs.now node ≡ cost.Stages }
-    ensures { IfOk result (AddsFirst (costed tree.now costs.now node) time processes counts.old counts.new) }
+    ensures { IfOk result (AddsFirst (costed tree.now costs.now node)
+        time processes counts.old counts.new) }
 {
     let parts = parts_of(tree, node);
     let mut later = least_of_all(tree, rows, parts, time);

@@ -119,12 +119,14 @@ fn fill_array(
     requires second { corner.second < cut.now.second }
     requires count { length results.now ≡ element_count cut.now }
     requires sizes { All (λ words. length words ≡ element_size cut.now.outs) results.now }
-    requires free { All (λ dim. HasIndexSize cut.now.first cut.now.second dim.place dim.size) dims.now }
+    requires free { All (λ dim. HasIndexSize cut.now.first cut.now.second dim.place dim.size)
+        dims.now }
     requires sized { len ≡ cut_size dims.now }
     requires within { corner.at + len ≤ element_size cut.now.outs }
     requires small { element_size cut.now.outs < 2 ^ 64 }
     ensures { OnOk result (token.new.items ≡ token.old.items
-        ++ array_words (result_word results.now cut.now.second) dims.now corner.first corner.second corner.at) }
+        ++ array_words (result_word results.now cut.now.second)
+        dims.now corner.first corner.second corner.at) }
 {
     let Some((dim, inner)) = dims.split_first() else {
         token.push(result_at(cut, results, corner))?;

@@ -8,6 +8,7 @@ ghost use Rattle.p3l_base.specs.Cut.{element_count, element_size, HasLawfulOuts,
 /// The joined words of a cut's results are the one token whose cuts at the out slices are the
 /// results.
 pub fn joins_once()
-    ensures { (cut : Cut) (results : List (List ℤ)) → HasLawfulOuts cut → length results ≡ element_count cut →
+    ensures { (cut : Cut) (results : List (List ℤ)) → HasLawfulOuts cut
+        → length results ≡ element_count cut →
         All (λ words. length words ≡ element_size cut.outs) results → AreOnlyJoined cut results }
 {}

@@ -56,7 +56,8 @@ impl Table {
 
     /// Enters a port that starts at a word, if its name is not there yet.
     pub fn add(&mut self, alloc: Global, start: u32, var: &Var) -> Result<(), NoMemory>
-        ensures { OnOk result (self.new ≡ added self.old var.now.name (record { start = start; shape = var.now.shape })) }
+        ensures { OnOk result (self.new
+            ≡ added self.old var.now.name (record { start = start; shape = var.now.shape })) }
     {
         if self.ports.get(&var.name).is_some() {
             return Ok(());
@@ -78,7 +79,8 @@ impl Table {
 /// The table of the ports of a module, the first of which starts at word 0.
 pub fn locate(alloc: Global, vars: &[Var]) -> Result<Table, NoMemory>
     requires { AreSized vars.now }
-    ensures { IfOk result (λ table. (name : List ℕ) → lookup (bytes_eq name) table ≡ located vars.now name) }
+    ensures { IfOk result (λ table. (name : List ℕ)
+        → lookup (bytes_eq name) table ≡ located vars.now name) }
 {
     let mut table = Table::new(alloc);
     let mut start = 0;

@@ -112,8 +112,10 @@ fn map_out(
     out: &OutArg,
 ) -> Result<Slice, SourceRefusal>
     requires { start + total (drop k vars.now) ≤ 65536 }
-    ensures slice { Gives result (map_out indices.now start (slice_get vars.now k) (slice_get ports.now k) out.now) }
-    ensures few { IfOk result (λ slice. (start + array_size slice.dims) + total (drop (k + 1) vars.now) ≤ 65536) }
+    ensures slice { Gives result (map_out indices.now start (slice_get vars.now k)
+        (slice_get ports.now k) out.now) }
+    ensures few { IfOk result (λ slice. (start + array_size slice.dims)
+        + total (drop (k + 1) vars.now) ≤ 65536) }
 {
     let arg = match out {
         OutArg::Fresh(port) => return refused(Fault::Wiring, port.at.pos),
@@ -183,7 +185,8 @@ fn map_in(
     k: usize,
     arg: &Arg,
 ) -> Result<Slice, SourceRefusal>
-    ensures { Gives result (map_in indices.now (lookup (bytes_eq arg.now.at.name) table.now) (slice_get ports.now k) arg.now) }
+    ensures { Gives result (map_in indices.now (lookup (bytes_eq arg.now.at.name) table.now)
+        (slice_get ports.now k) arg.now) }
 {
     let Some(array) = table.get(&arg.at.name) else {
         return refused(Fault::Wiring, arg.at.pos);

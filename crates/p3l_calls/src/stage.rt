@@ -26,7 +26,8 @@ fn fresh_out(
     out: &OutArg,
 ) -> Result<Var, SourceRefusal>
     requires { words ≤ 65536 }
-    ensures var { Gives result (fresh_out consts.now scope.now words (slice_get ports.now k) out.now) }
+    ensures var { Gives result (fresh_out consts.now scope.now words (slice_get ports.now k)
+        out.now) }
     ensures few { IfOk result (λ var. words + product var.shape.sizes ≤ 65536) }
     ensures fresh { IfOk result (λ var. lookup (bytes_eq var.name) scope.now ≡ None) }
 {

@@ -110,8 +110,10 @@ pub fn certify(
     requires optimal { IsOptimal tree.now costs.now processors counts.now.list }
     requires service { service ≡ service_of tree.now costs.now counts.now.list 0 }
     requires used { used ≡ procs tree.now counts.now.list 0 }
-    ensures claims { IfOk result (λ cert. (cert.processors ≡ processors) × (cert.counts.list ≡ counts.now.list) × (cert.service ≡ service) × (cert.used ≡ used)) }
-    ensures rows { IfOk result (λ cert. AreRowsAsked tree.now costs.now service processors cert.rows) }
+    ensures claims { IfOk result (λ cert. (cert.processors ≡ processors)
+        × (cert.counts.list ≡ counts.now.list) × (cert.service ≡ service) × (cert.used ≡ used)) }
+    ensures rows { IfOk result (λ cert.
+        AreRowsAsked tree.now costs.now service processors cert.rows) }
     ensures form { IfOk result (λ cert. cert_format.fits cert ≡ true) }
     ensures holds { IfOk result (CertHolds tree.now costs.now) }
 {

@@ -98,7 +98,8 @@ fn check_rows(
 // The least of the root within a bound and a cap, which has to be among the rows.
 fn root_least(rows: &[Row], bound: u128, cap: u32) -> Result<u32, CertRefusal>
     requires { AreRows rows.now }
-    ensures fault { Answers result (there_fault rows.now (key 0 bound cap) (kept rows.now (key 0 bound cap))) }
+    ensures fault { Answers result (there_fault rows.now (key 0 bound cap)
+        (kept rows.now (key 0 bound cap))) }
     ensures least { IfOk result (λ least. kept rows.now (key 0 bound cap) ≡ Some least) }
 {
     match needed(
@@ -170,9 +171,11 @@ pub fn check(alloc: Global, tree: &Tree, costs: &Costs, cert: &Cert) -> Result<(
     requires form { cert_format.fits cert.now ≡ true }
     ensures answer { IsAnswer tree.now costs.now cert.now result }
     ensures holds { OnOk result (CertHolds tree.now costs.now cert.now) }
-    ensures optimal { OnOk result (IsOptimal tree.now costs.now cert.now.processors cert.now.counts.list) }
+    ensures optimal { OnOk result (IsOptimal tree.now costs.now cert.now.processors
+        cert.now.counts.list) }
     // It refuses no certificate that holds.
-    ensures accepts { CertHolds tree.now costs.now cert.now → IfErr result (λ refusal. refusal ≡ refusals.NoMemory) }
+    ensures accepts { CertHolds tree.now costs.now cert.now
+        → IfErr result (λ refusal. refusal ≡ refusals.NoMemory) }
 {
     if !lawful_counts(tree, &cert.counts) {
         return Err(CertRefusal::ClaimWrong(Claim::Counts));

@@ -97,7 +97,8 @@ fn read_numbers(bytes: &[u8]) -> Result<(Row, &[u8]), ReadError>
 // The row in front, where a fault is told at its own place.
 #[tactic(auto, unfolding(p3l_format::specs::Text::text_then, p3l_format::specs::Format::within))]
 fn read_row(above: Option<Row>, bytes: &[u8]) -> Result<(Row, &[u8]), ReadError>
-    ensures { Gives (λ x. (x.0, x.1.now)) result ((text_then row_word (within (is_above above) numbers_format)).read bytes.now) }
+    ensures { Gives (λ x. (x.0, x.1.now))
+        result ((text_then row_word (within (is_above above) numbers_format)).read bytes.now) }
 {
     let numbers = read_text(b"row ", bytes)?;
     let (row, rest) = read_numbers(numbers)?;

@@ -48,7 +48,8 @@ fn worker_keys(
     requires low { span.low ≤ 512 }
     requires bound { bound < 2 ^ 110 }
     requires cap { cap ≤ 512 }
-    ensures { IfOk result (λ keys. keys ≡ worker_keys part (part_bound sharing bound) cap (low_of span) (run_of span cap)) }
+    ensures { IfOk result (λ keys. keys
+        ≡ worker_keys part (part_bound sharing bound) cap (low_of span) (run_of span cap)) }
 {
     let room = cap.saturating_sub(2);
     let first = span.low.max(1);
@@ -152,7 +153,8 @@ pub fn push_keys(
     requires costs { AreCostsOf tree.now costs.now }
     requires table { IsTable tree.now costs.now table.now }
     requires key { IsSmall key }
-    ensures { OnOk result (keys.new.items ≡ keys.old.items ++ keys_from tree.now costs.now levels key) }
+    ensures { OnOk result (keys.new.items
+        ≡ keys.old.items ++ keys_from tree.now costs.now levels key) }
 {
     if levels == 0 {
         return Ok(());

@@ -62,7 +62,8 @@ fn workers_step(
     requires some { 1 ≤ workers }
     requires workers { workers ≤ 512 }
     requires bound { bound < 2 ^ 110 }
-    ensures { result ≡ workers_step (needed rows.now) part (part_bound sharing bound) cap workers best }
+    ensures { result
+        ≡ workers_step (needed rows.now) part (part_bound sharing bound) cap workers best }
 {
     let least = needed(
         rows,
@@ -89,7 +90,9 @@ fn workers_rule(
     requires low { span.low ≤ 512 }
     requires bound { bound < 2 ^ 110 }
     requires cap { cap ≤ 512 }
-    ensures { result ≡ workers_rule (needed rows.now) part (part_bound sharing bound) cap (low_of span) (run_of span cap) }
+    ensures { result
+        ≡ workers_rule (needed rows.now) part (part_bound sharing bound) cap (low_of span)
+        (run_of span cap) }
 {
     let first = span.low.max(1);
     let end = (span.high.min(cap.saturating_sub(2)) + 1).max(first);

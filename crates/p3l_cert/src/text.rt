@@ -21,7 +21,9 @@ use std::alloc::Global;
 // The counts in a line, where a fault is told at its own place.
 #[tactic(auto, unfolding(p3l_format::specs::Text::text_then))]
 fn read_counts(alloc: Global, bytes: &[u8]) -> Result<(List<u32>, &[u8]), ReadError>
-    ensures { Gives (λ x. (x.0, x.1.now)) result ((text_then counts_word (until count_format next_count first_count feed)).read bytes.now) }
+    ensures { Gives (λ x. (x.0, x.1.now))
+        result ((text_then counts_word (until count_format next_count first_count feed)).read
+        bytes.now) }
 {
     let rest = read_text(b"counts", bytes)?;
     read_until(alloc, CountItem, b"\n", rest)
@@ -161,9 +163,11 @@ pub fn cert_text(alloc: Global, cert: &Cert) -> Result<List<u8>, NoMemory>
 #[tactic(auto, using(crate::proofs::FirstLine::cert_first_bad))]
 pub fn read_cert(alloc: Global, text: &[u8]) -> Result<Cert, CertRefusal>
     // What is read is spelled so.
-    ensures found { IfOk result (λ cert. (cert_format.fits cert ≡ true) × (text.now ≡ cert_format.spell cert)) }
+    ensures found { IfOk result (λ cert. (cert_format.fits cert ≡ true)
+        × (text.now ≡ cert_format.spell cert)) }
     // What is spelled so is read, unless memory runs out.
-    ensures only { (cert : TheCert) → cert_format.fits cert ≡ true → text.now ≡ cert_format.spell cert → Answers text.now result (Ok cert) }
+    ensures only { (cert : TheCert) → cert_format.fits cert ≡ true
+        → text.now ≡ cert_format.spell cert → Answers text.now result (Ok cert) }
     // The line that is told is the first that isn't of its form, whatever reads it.
     ensures first { TellsFirst text.now result }
     // Which line the format's own reading tells.
@@ -180,5 +184,7 @@ pub fn read_cert(alloc: Global, text: &[u8]) -> Result<Cert, CertRefusal>
 
 /// No certificate's text begins another's.
 pub fn text_begins_no_other()
-    ensures { (v w : TheCert) (more : List ℕ) → cert_format.fits v ≡ true → cert_format.fits w ≡ true → cert_format.spell v ++ more ≡ cert_format.spell w → (v ≡ w) × (more ≡ []) }
+    ensures { (v w : TheCert) (more : List ℕ) → cert_format.fits v ≡ true
+        → cert_format.fits w ≡ true → cert_format.spell v ++ more ≡ cert_format.spell w
+        → (v ≡ w) × (more ≡ []) }
 {}

@@ -38,7 +38,9 @@ fn are_turns(numbers: &[u32]) -> bool
 
 /// Whether each loop of a tree is expected to turn no more often than it may.
 fn turn_within(tree: &Tree, costs: &Costs) -> bool
-    ensures { IsTrue result ↔ All (λ (node : Node). IsWithinTurns node.form (slice_index costs.now.turns node.module)) tree.now.nodes }
+    ensures { IsTrue result
+        ↔ All (λ (node : Node). IsWithinTurns node.form (slice_index costs.now.turns node.module))
+        tree.now.nodes }
 {
     tree.nodes
         .as_slice()
@@ -48,7 +50,8 @@ fn turn_within(tree: &Tree, costs: &Costs) -> bool
 
 /// Whether a node, if it is a loop, is expected to turn no more often than it may.
 fn turns_within(costs: &Costs, node: &Node) -> bool
-    ensures { IsTrue result ↔ IsWithinTurns node.now.form (slice_index costs.now.turns node.now.module) }
+    ensures { IsTrue result
+        ↔ IsWithinTurns node.now.form (slice_index costs.now.turns node.now.module) }
 {
     match &node.form {
         Form::Loop { turns, .. } => expected(costs, node.module) <= *turns,

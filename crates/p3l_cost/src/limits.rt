@@ -47,7 +47,8 @@ impl Limits {
     /// Adds a module, if there is none of its name.
     fn add(&mut self, alloc: Global, name: &Name, most: u32) -> Result<(), NoMemory>
         ensures { OnOk result ((other : List ℕ) → lookup (bytes_eq other) self.new
-            ≡ option_or (lookup (bytes_eq other) self.old) (if bytes_eq other name.now then Some most else None)) }
+            ≡ option_or (lookup (bytes_eq other) self.old)
+            (if bytes_eq other name.now then Some most else None)) }
     {
         if self.get(name).is_some() {
             return Ok(());
@@ -71,7 +72,8 @@ fn most_of(section: Section, nodes: &[Node], home: u32) -> u32
 /// The modules that a table speaks of.
 pub(crate) fn limits_of(alloc: Global, tree: &Tree, section: Section) -> Result<Limits, NoMemory>
     requires few { length tree.now.modules < 2 ^ 32 }
-    ensures { IfOk result (λ limits. (name : List ℕ) → lookup (bytes_eq name) limits ≡ limit_of tree.now section name) }
+    ensures { IfOk result (λ limits. (name : List ℕ)
+        → lookup (bytes_eq name) limits ≡ limit_of tree.now section name) }
 {
     let mut limits = Limits::new(alloc);
     for (home, module) in tree.modules.as_slice().iter().enumerate() {

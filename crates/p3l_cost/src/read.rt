@@ -33,7 +33,8 @@ fn read_document(alloc: Global, text: &[u8]) -> Result<Table, CostRefusal>
 
 /// The value of a key.
 fn value_at<'a>(table: &'a Table, key: &str) -> Option<&'a Value>
-    ensures { option_map (λ value. view value.now) result ≡ get_member key.now (table_view table.now) }
+    ensures { option_map (λ value. view value.now) result
+        ≡ get_member key.now (table_view table.now) }
 {
     table.get(key)
 }
@@ -126,7 +127,8 @@ fn turns_of(tree: &Tree, document: &Table, home: u32, info: &ModuleInfo) -> u32
 /// The expected turns of all modules.
 fn all_turns(alloc: Global, tree: &Tree, document: &Table) -> Result<List<u32>, NoMemory>
     requires few { length tree.now.modules < 2 ^ 32 }
-    ensures { IfOk result (λ turns. turns ≡ all_turns tree.now (table_view document.now) 0 tree.now.modules) }
+    ensures { IfOk result (λ turns. turns
+        ≡ all_turns tree.now (table_view document.now) 0 tree.now.modules) }
 {
     let mut turns = List::new(alloc);
     for (home, info) in tree.modules.as_slice().iter().enumerate() {

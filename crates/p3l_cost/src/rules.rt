@@ -47,7 +47,8 @@ fn check_entry(
     value: &Value,
     limits: &Limits,
 ) -> Result<(), CostRefusal>
-    ensures { Gives result (entry_within section name.now (view value.now) (lookup (bytes_eq name.now) limits.now)) }
+    ensures { Gives result (entry_within section name.now (view value.now)
+        (lookup (bytes_eq name.now) limits.now)) }
 {
     let module = Name::from_text(alloc, name)?;
     match limits.get(&module) {
@@ -66,7 +67,8 @@ fn check_entries(
     entries: &Table,
     limits: &Limits,
 ) -> Result<(), CostRefusal>
-    ensures { Gives result (entries_rule (λ name. lookup (bytes_eq name) limits.now) section (table_view entries.now)) }
+    ensures { Gives result (entries_rule (λ name. lookup (bytes_eq name) limits.now)
+        section (table_view entries.now)) }
 {
     'entries: for (name, value) in entries.iter() {
         check_entry(alloc, section, name.as_str(), value, limits)?;

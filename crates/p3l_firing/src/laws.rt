@@ -37,19 +37,26 @@ pub fn channels_are_chosen()
 /// the net fires at most so many times for each item sent. The round robin ends where nothing can
 /// fire.
 pub fn a_carried_net_means_its_items()
-    ensures begins { (tree : Tree) (leaf : Leaf) (net : Net) (firings : ℕ) (carry : Carry) (items : List (List ℤ)) (picks : List ℕ)
+    ensures begins { (tree : Tree) (leaf : Leaf) (net : Net) (firings : ℕ) (carry : Carry)
+        (items : List (List ℤ)) (picks : List ℕ)
         → IsCarried tree leaf net firings carry → HaveInWords tree items
         → IsPrefixOf (run tree leaf net items picks).state.emitted (meaning tree leaf items) }
-    ensures finished { (tree : Tree) (leaf : Leaf) (net : Net) (firings : ℕ) (carry : Carry) (items : List (List ℤ)) (picks : List ℕ)
-        → IsCarried tree leaf net firings carry → HaveInWords tree items → IsStuck tree net (run tree leaf net items picks).state
-        → (run tree leaf net items picks).state.emitted ≡ meaning tree leaf items }
-    ensures bounded { (tree : Tree) (leaf : Leaf) (net : Net) (firings : ℕ) (carry : Carry) (items : List (List ℤ)) (picks : List ℕ)
+    ensures finished { (tree : Tree) (leaf : Leaf) (net : Net) (firings : ℕ) (carry : Carry)
+        (items : List (List ℤ)) (picks : List ℕ)
         → IsCarried tree leaf net firings carry → HaveInWords tree items
-        → (run tree leaf net items picks).fired ≤ firings * (run tree leaf net items picks).state.sent }
-    ensures sent { (tree : Tree) (leaf : Leaf) (net : Net) (firings : ℕ) (carry : Carry) (items : List (List ℤ)) (picks : List ℕ)
+        → IsStuck tree net (run tree leaf net items picks).state
+        → (run tree leaf net items picks).state.emitted ≡ meaning tree leaf items }
+    ensures bounded { (tree : Tree) (leaf : Leaf) (net : Net) (firings : ℕ) (carry : Carry)
+        (items : List (List ℤ)) (picks : List ℕ)
+        → IsCarried tree leaf net firings carry → HaveInWords tree items
+        → (run tree leaf net items picks).fired
+        ≤ firings * (run tree leaf net items picks).state.sent }
+    ensures sent { (tree : Tree) (leaf : Leaf) (net : Net) (firings : ℕ) (carry : Carry)
+        (items : List (List ℤ)) (picks : List ℕ)
         → IsCarried tree leaf net firings carry → HaveInWords tree items
         → (run tree leaf net items picks).state.sent ≤ length items }
-    ensures ends { (tree : Tree) (leaf : Leaf) (net : Net) (firings : ℕ) (carry : Carry) (items : List (List ℤ))
+    ensures ends { (tree : Tree) (leaf : Leaf) (net : Net) (firings : ℕ) (carry : Carry)
+        (items : List (List ℤ))
         → IsCarried tree leaf net firings carry → HaveInWords tree items → 0 < length net.procs
         → IsStuck tree net (run tree leaf net items
         (round_robin tree leaf net (firings * length items) (first_state net items) 0)).state }
@@ -61,7 +68,8 @@ pub fn every_firing_keeps_words_and_tags()
     ensures first { (tree : Tree) (net : Net) (typed : IsTyped tree net) (items : List (List ℤ))
         → AllByRecursion (λ words. length words ≡ (node_at tree 0).ins) items
         → IsFitting tree net typed.widths (first_state net items) }
-    ensures fired { (tree : Tree) (leaf : Leaf) (net : Net) (typed : IsTyped tree net) (s : State) (p : ℕ)
+    ensures fired { (tree : Tree) (leaf : Leaf) (net : Net) (typed : IsTyped tree net) (s : State)
+        (p : ℕ)
         → GivesOuts tree leaf → IsFitting tree net typed.widths s → can_fire tree net s p ≡ true
         → IsFitting tree net typed.widths (fire tree leaf net s p) }
 {}
@@ -69,26 +77,31 @@ pub fn every_firing_keeps_words_and_tags()
 /// A run goes pick by pick, and so does the round robin, of which no pick is idle.
 pub fn runs_go_pick_by_pick()
     ensures more { (tree : Tree) (leaf : Leaf) (net : Net) (c : Course) (picks : List ℕ) (p : ℕ)
-        → after_picks tree leaf net c (picks ++ p ∷ []) ≡ picked tree leaf net (after_picks tree leaf net c picks) p }
+        → after_picks tree leaf net c (picks ++ p ∷ [])
+        ≡ picked tree leaf net (after_picks tree leaf net c picks) p }
     ensures next { (tree : Tree) (leaf : Leaf) (net : Net) (most : ℕ) (s : State) (from p : ℕ)
         → next_of tree net s from ≡ Some p
-        → round_robin tree leaf net (suc most) s from ≡ p ∷ round_robin tree leaf net most (fire tree leaf net s p) (after net p) }
+        → round_robin tree leaf net (suc most) s from
+        ≡ p ∷ round_robin tree leaf net most (fire tree leaf net s p) (after net p) }
     ensures end { (tree : Tree) (leaf : Leaf) (net : Net) (most : ℕ) (s : State) (from : ℕ)
         → next_of tree net s from ≡ None → round_robin tree leaf net most s from ≡ [] }
     ensures busy { (tree : Tree) (leaf : Leaf) (net : Net) (items : List (List ℤ)) (most : ℕ)
-        → (run tree leaf net items (round_robin tree leaf net most (first_state net items) 0)).idle ≡ 0 }
+        → (run tree leaf net items (round_robin tree leaf net most (first_state net items) 0)).idle
+        ≡ 0 }
 {}
 
 /// The net of one unit is typed for each lawful tree whose root is a `seq` node.
 pub fn the_net_of_one_unit_is_typed()
-    ensures { (tree : Tree) (cap : ℕ) → 0 < cap → IsLawfulTree tree → 0 < length tree.nodes → (node_at tree 0).form ≡ Seq
+    ensures { (tree : Tree) (cap : ℕ) → 0 < cap → IsLawfulTree tree → 0 < length tree.nodes
+        → (node_at tree 0).form ≡ Seq
         → IsTyped tree (unit_net cap) }
 {}
 
 /// The net of one unit is carried: so all its runs mean their items, with as many firings for an item
 /// as its tree has.
 pub fn the_net_of_one_unit_is_carried()
-    ensures { (tree : Tree) (leaf : Leaf) (cap : ℕ) (counts : List ℕ) → 0 < cap → (node_at tree 0).form ≡ Seq
+    ensures { (tree : Tree) (leaf : Leaf) (cap : ℕ) (counts : List ℕ) → 0 < cap
+        → (node_at tree 0).form ≡ Seq
         → (carry : Carry) × IsCarried tree leaf (unit_net cap) (firings tree counts) carry }
 {}
 

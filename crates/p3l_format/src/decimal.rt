@@ -89,7 +89,8 @@ pub fn read_number_then<'a>(
     text: &[u8],
     bytes: &'a [u8],
 ) -> Result<(u128, &'a [u8]), ReadError>
-    ensures read { Gives (λ x. (x.0, x.1.now)) result ((number_then low high text.now).read bytes.now) }
+    ensures read { Gives (λ x. (x.0, x.1.now))
+        result ((number_then low high text.now).read bytes.now) }
     ensures range { IfOk result (λ x. (low ≤ x.0) × (x.0 ≤ high)) }
 {
     let (number, rest) = read_number_in(low, high, bytes)?;

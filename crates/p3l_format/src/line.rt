@@ -43,7 +43,8 @@ impl<'w> NumberLine<'w> {
     /// The number of the line in front, and what is after the line.
     #[tactic(auto, unfolding(crate::specs::Line::number_line, crate::specs::Line::line))]
     pub fn read<'a>(&self, bytes: &'a [u8]) -> Result<(u128, &'a [u8]), ReadError>
-        ensures read { Gives (λ x. (x.0, x.1.now)) result ((number_line self.now.word.now self.now.low self.now.high).read bytes.now) }
+        ensures read { Gives (λ x. (x.0, x.1.now))
+            result ((number_line self.now.word.now self.now.low self.now.high).read bytes.now) }
         ensures range { IfOk result (λ x. (self.now.low ≤ x.0) × (x.0 ≤ self.now.high)) }
     {
         match self.read_words(bytes) {
@@ -55,7 +56,9 @@ impl<'w> NumberLine<'w> {
     // The same, where a fault is told at its own place.
     #[tactic(auto, unfolding(crate::specs::Text::text_then))]
     fn read_words<'a>(&self, bytes: &'a [u8]) -> Result<(u128, &'a [u8]), ReadError>
-        ensures read { Gives (λ x. (x.0, x.1.now)) result ((text_then self.now.word.now (number_then self.now.low self.now.high (10 ∷ []))).read bytes.now) }
+        ensures read { Gives (λ x. (x.0, x.1.now))
+            result ((text_then self.now.word.now (number_then self.now.low self.now.high (10
+            ∷ []))).read bytes.now) }
         ensures range { IfOk result (λ x. (self.now.low ≤ x.0) × (x.0 ≤ self.now.high)) }
     {
         let rest = read_text(self.word, bytes)?;
@@ -66,7 +69,9 @@ impl<'w> NumberLine<'w> {
     /// Puts the line of a number after others.
     #[tactic(auto, unfolding(crate::specs::Line::number_line, crate::specs::Line::line, crate::specs::Text::text_then, crate::specs::Decimal::number_then, crate::specs::Text::then_text, crate::specs::Format::within, crate::specs::Decimal::number_text))]
     pub fn write(&self, alloc: Global, number: u128, out: &mut Vec<u8>) -> Result<(), NoMemory>
-        ensures { OnOk result (out.new.items ≡ out.old.items ++ (number_line self.now.word.now self.now.low self.now.high).spell number) }
+        ensures { OnOk result (out.new.items
+            ≡ out.old.items
+            ++ (number_line self.now.word.now self.now.low self.now.high).spell number) }
     {
         out.extend_from_slice(self.word)?;
         write_number_then(alloc, number, b"\n", out)

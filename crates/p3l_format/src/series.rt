@@ -30,7 +30,8 @@ pub trait Item: Copy + Drop {
     /// Puts the value's spelling after others.
     fn write(&self, alloc: Global, value: &Self::Value, out: &mut Vec<u8>) -> Result<(), NoMemory>
         requires { (format self.now).fits value.now ≡ true }
-        ensures { OnOk result (out.new.items ≡ out.old.items ++ (format self.now).spell value.now) };
+        ensures { OnOk result (out.new.items
+            ≡ out.old.items ++ (format self.now).spell value.now) };
 
     ghost takes_some: { (it : Self) (s : List ℕ) (v : Self.Value) (rest : List ℕ) → (format it).read s ≡ Ok (v, rest) → length rest < length s };
 }
@@ -46,7 +47,8 @@ pub fn read_until<'a, I: Item>(
 ) -> Result<(List<I::Value>, &'a [u8]), ReadError>
 where
     I::Value: Drop,
-    ensures { Gives (λ x. (x.0, x.1.now)) result ((until I.format I.next first stop.now).read bytes.now) }
+    ensures { Gives (λ x. (x.0, x.1.now))
+        result ((until I.format I.next first stop.now).read bytes.now) }
 {
     let mut values = List::new(alloc);
     let mut kind = first;
@@ -71,7 +73,8 @@ pub fn write_series<I: Item>(
     out: &mut Vec<u8>,
 ) -> Result<(), NoMemory>
     requires { fits_from I.format I.next first values.now ≡ true }
-    ensures { OnOk result (out.new.items ≡ out.old.items ++ spell_from I.format I.next first values.now) }
+    ensures { OnOk result (out.new.items
+        ≡ out.old.items ++ spell_from I.format I.next first values.now) }
 {
     let mut kind = first;
     for value in values {

@@ -17,7 +17,8 @@ pub fn strip<'a>(text: &[u8], bytes: &'a [u8]) -> Option<&'a [u8]>
 
 /// What is after a text that has to stand in front.
 pub fn read_text<'a>(text: &[u8], bytes: &'a [u8]) -> Result<&'a [u8], ReadError>
-    ensures { Gives (λ rest. rest.now) result (go_on (λ rest. Ok rest) bytes.now (after_text text.now bytes.now)) }
+    ensures { Gives (λ rest. rest.now)
+        result (go_on (λ rest. Ok rest) bytes.now (after_text text.now bytes.now)) }
 {
     match strip(text, bytes) {
         Some(rest) => Ok(rest),

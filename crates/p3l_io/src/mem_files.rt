@@ -39,7 +39,8 @@ fn put(
     name: &str,
     bytes: &[u8],
 ) -> Result<(), NoMemory>
-    ensures ok { OnOk result (IsPut (bytes_under (texts files.old.entries)) (bytes_under (texts files.new.entries)) name.now bytes.now) }
+    ensures ok { OnOk result (IsPut (bytes_under (texts files.old.entries))
+        (bytes_under (texts files.new.entries)) name.now bytes.now) }
     ensures err { OnErr result (files.new.entries ≡ files.old.entries) }
 {
     let bytes = List::from_vec(Vec::from_slice(alloc, bytes)?);
@@ -121,9 +122,11 @@ impl Files for MemFiles {
 
     fn read(&mut self, alloc: Global, name: &str, limit: u64) -> Result<List<u8>, FileFault>
         ensures within { IfOk result (λ bytes. length bytes ≤ limit) }
-        ensures bytes { Reads (Some (bytes_under self.old.files)) (Some (bytes_under self.new.files)) name.now limit result }
+        ensures bytes { Reads (Some (bytes_under self.old.files))
+            (Some (bytes_under self.new.files)) name.now limit result }
         ensures cause { HasReadCause self.old.faults self.new.faults result }
-        ensures failed { read_failed result ≡ (fails_next self.old || is_none (bytes_under self.old.files name.now)) }
+        ensures failed { read_failed result
+            ≡ (fails_next self.old || is_none (bytes_under self.old.files name.now)) }
         ensures after { self.new ≡ after_call self.old (read_failed result) }
     {
         if self.fails_next() {
@@ -136,7 +139,8 @@ impl Files for MemFiles {
     }
 
     fn write(&mut self, alloc: Global, name: &str, bytes: &[u8]) -> Result<(), WriteFault>
-        ensures bytes { Writes (Some (bytes_under self.old.files)) (Some (bytes_under self.new.files)) name.now bytes.now result }
+        ensures bytes { Writes (Some (bytes_under self.old.files))
+            (Some (bytes_under self.new.files)) name.now bytes.now result }
         ensures cause { HasWriteCause self.old.faults self.new.faults result }
         ensures failed { write_failed result ≡ fails_next self.old }
         ensures after { IsCalled self.old self.new (write_failed result) }

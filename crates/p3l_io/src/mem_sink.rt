@@ -55,7 +55,8 @@ impl MemSink {
     /// A sink that takes the memory for `room` bytes now and no more later. `fails` has the calls
     /// that fail, of which the first entry of a call counts.
     pub fn new(alloc: Global, room: usize, fails: List<PutFail>) -> Result<MemSink, NoMemory>
-        ensures { IfOk result (λ sink. sink ≡ record { taken = []; left = room; fails = fails; calls = 0; faults = 0 }) }
+        ensures { IfOk result (λ sink. sink
+            ≡ record { taken = []; left = room; fails = fails; calls = 0; faults = 0 }) }
     {
         Ok(MemSink {
             bytes: Vec::with_capacity(alloc, room)?,
@@ -76,7 +77,12 @@ impl MemSink {
     /// Puts bytes for which there is room.
     fn append(&mut self, bytes: &[u8])
         requires { length bytes.now ≤ self.old.left }
-        ensures { self.new ≡ record self.old { taken = self.old.taken ++ bytes.now; left = self.old.left - length bytes.now } }
+        ensures { self.new
+            ≡ record self.old {
+              taken = self.old.taken
+                  ++ bytes.now;
+              left = self.old.left - length bytes.now;
+            } }
     {
         if self.bytes.extend_from_slice(bytes).is_err() {
             unreachable!()

@@ -38,7 +38,8 @@ impl MemSource {
     /// the calls that fail, counted from 1.
     pub fn new(bytes: List<u8>, piece: usize, fails: List<u64>) -> MemSource
         requires { 0 < piece }
-        ensures { result ≡ record { rest = bytes; piece = piece; fails = fails; calls = 0; faults = 0 } }
+        ensures { result
+            ≡ record { rest = bytes; piece = piece; fails = fails; calls = 0; faults = 0 } }
     {
         MemSource {
             bytes,

@@ -78,7 +78,8 @@ pub fn is_linked(
     requires counts { HasLawfulCounts tree.now counts.now.list }
     requires procs { procs tree.now counts.now.list 0 ≤ 4096 }
     requires cap { (1 ≤ cap) × (cap ≤ 1024) }
-    ensures { IfOk result (λ same. IsTrue same ↔ (net.now ≡ linked_net tree.now counts.now.list cap)) }
+    ensures { IfOk result (λ same. IsTrue same
+        ↔ (net.now ≡ linked_net tree.now counts.now.list cap)) }
 {
     let linked = link(alloc, tree, counts, cap)?;
     Ok(same_net(net, &linked))
@@ -86,15 +87,18 @@ pub fn is_linked(
 
 /// The net of a lawful tree under lawful counts is typed for the tree.
 pub fn a_linked_net_is_typed()
-    ensures { (tree : Tree) (counts : List ℕ) (cap : ℕ) → IsLawfulTree tree → HasLawfulCounts tree counts
+    ensures { (tree : Tree) (counts : List ℕ) (cap : ℕ) → IsLawfulTree tree
+        → HasLawfulCounts tree counts
         → procs tree counts 0 ≤ 4096 → 1 ≤ cap → IsTyped tree (linked_net tree counts cap) }
 {}
 
 /// The net of a lawful tree has a process for each that is counted, besides the source and the sink,
 /// and at most twice as many channels as are counted.
 pub fn a_linked_net_is_counted()
-    ensures procs { (tree : Tree) (counts : List ℕ) (cap : ℕ) → IsLawfulTree tree → HasLawfulCounts tree counts
+    ensures procs { (tree : Tree) (counts : List ℕ) (cap : ℕ) → IsLawfulTree tree
+        → HasLawfulCounts tree counts
         → length (linked_net tree counts cap).procs ≡ procs tree counts 0 + 2 }
-    ensures chans { (tree : Tree) (counts : List ℕ) (cap : ℕ) → IsLawfulTree tree → HasLawfulCounts tree counts
+    ensures chans { (tree : Tree) (counts : List ℕ) (cap : ℕ) → IsLawfulTree tree
+        → HasLawfulCounts tree counts
         → length (linked_net tree counts cap).chans ≤ 2 * procs tree counts 0 }
 {}

@@ -57,7 +57,8 @@ fn place_own(
 ) -> Result<List<Ports>, NoMemory>
     requires lawful { IsLawfulTree tree.now }
     requires there { number < length tree.now.nodes }
-    requires count { HasOwnCount (node_at tree.now number).form (count_of tree.now counts.now.list number) }
+    requires count { HasOwnCount (node_at tree.now number).form (count_of tree.now counts.now.list
+        number) }
     requires room { HasRoom builder.old
         (own_piece (shape_of tree.now counts.now.list number) cap (base_of at.now builder.old)) }
     ensures placed { IfOk result (λ ports. builder.new

@@ -93,7 +93,9 @@ impl Sharing {
 impl FoldCost {
     // The service time of a process that folds so many elements.
     fn fold(&self, len: u32) -> u128
-        ensures { result ≡ timed (fold_service (λ w. self.now.setup + self.now.word * w) len self.now.elem self.now.operator) }
+        ensures { result
+            ≡ timed (fold_service (λ w. self.now.setup + self.now.word * w)
+            len self.now.elem self.now.operator) }
     {
         let elem = self.elem as u64;
         let ends = self.transfer(len as u64 * elem) + self.transfer(elem);
@@ -107,7 +109,9 @@ impl FoldCost {
     // The service time of the process that splits the whole into so many segments, the longest of
     // which has `long` elements.
     fn split(&self, segments: u32, long: u32) -> u128
-        ensures { result ≡ timed (split_service (λ w. self.now.setup + self.now.word * w) (self.now.len * self.now.elem) (long * self.now.elem) segments) }
+        ensures { result
+            ≡ timed (split_service (λ w. self.now.setup + self.now.word * w)
+            (self.now.len * self.now.elem) (long * self.now.elem) segments) }
     {
         let elem = self.elem as u64;
         let pieces = (segments as u128).saturating_mul(self.transfer(long as u64 * elem));
@@ -118,7 +122,9 @@ impl FoldCost {
 
     // The service time of a process that joins the results of two segments.
     fn join(&self) -> u128
-        ensures { result ≡ timed (join_service (λ w. self.now.setup + self.now.word * w) self.now.elem self.now.operator) }
+        ensures { result
+            ≡ timed (join_service (λ w. self.now.setup + self.now.word * w)
+            self.now.elem self.now.operator) }
     {
         self.operator
             .saturating_add(3 * self.transfer(self.elem as u64))
@@ -233,7 +239,8 @@ pub fn unit_time(tree: &Tree, costs: &Costs, number: u32, node: &Node) -> u128
 
 // The greater of the service times of a farm's two ends.
 pub fn farm_time(costs: &Costs, node: &Node) -> u128
-    ensures { result ≡ timed (max (2 * transfer costs.now node.now.ins) (2 * transfer costs.now node.now.outs)) }
+    ensures { result
+        ≡ timed (max (2 * transfer costs.now node.now.ins) (2 * transfer costs.now node.now.outs)) }
 {
     let ins = 2 * token_time(costs, node.ins);
     let outs = 2 * token_time(costs, node.outs);
@@ -263,7 +270,8 @@ pub fn map_time(tree: &Tree, costs: &Costs, number: u32, node: &Node, cut: &Cut)
 
 // The words that a node takes and gives.
 fn words_of(tree: &Tree, number: u32) -> (u32, u32)
-    ensures { result ≡ record { 0 = (node_at tree.now number).ins; 1 = (node_at tree.now number).outs } }
+    ensures { result
+        ≡ record { 0 = (node_at tree.now number).ins; 1 = (node_at tree.now number).outs } }
 {
     match tree.node(number) {
         Some(node) => (node.ins, node.outs),
@@ -273,7 +281,10 @@ fn words_of(tree: &Tree, number: u32) -> (u32, u32)
 
 // The greater of the service times of a loop's two ends, with so many turns.
 pub fn loop_time(tree: &Tree, costs: &Costs, node: &Node, turns: u32) -> u128
-    ensures { result ≡ timed (max (2 * (turns * transfer costs.now node.now.ins)) (turns * (ticks tree.now costs.now (slice_index node.now.parts 1) + 2 * transfer costs.now node.now.ins))) }
+    ensures { result
+        ≡ timed (max (2 * (turns * transfer costs.now node.now.ins))
+        (turns * (ticks tree.now costs.now (slice_index node.now.parts 1)
+        + 2 * transfer costs.now node.now.ins))) }
 {
     let token = token_time(costs, node.ins);
     let test = ticks(tree, costs, node.part(1)).saturating_add(2 * token);
@@ -318,7 +329,15 @@ fn cost_over(tree: &Tree, costs: &Costs, number: u32, node: &Node) -> NodeCost
 
 // The costs of a reduce of `len` elements of `elem` words each.
 pub fn fold_cost(tree: &Tree, costs: &Costs, node: &Node, len: u32, elem: u32) -> FoldCost
-    ensures { result ≡ record { setup = costs.now.setup; word = costs.now.word; len = len; elem = elem; operator = timed (ticks tree.now costs.now (slice_index node.now.parts 0)) } }
+    ensures { result
+        ≡ record {
+          setup = costs.now.setup;
+          word = costs.now.word;
+          len = len;
+          elem = elem;
+          operator
+              = timed (ticks tree.now costs.now (slice_index node.now.parts 0));
+        } }
 {
     FoldCost {
         setup: costs.setup,
@@ -339,7 +358,10 @@ fn map_cost(
     cut: &Cut,
 ) -> NodeCost
     requires { node.now ≡ node_at tree.now number }
-    ensures { result ≡ NodeCost.Workers (span_up_to workers (min (element_count cut.now) 512)) (Sharing.Elements (element_count cut.now)) (timed (map_ends tree.now costs.now number cut.now)) }
+    ensures { result
+        ≡ NodeCost.Workers (span_up_to workers (min (element_count cut.now) 512))
+        (Sharing.Elements (element_count cut.now))
+        (timed (map_ends tree.now costs.now number cut.now)) }
 {
     let count = element_count(cut);
     NodeCost::Workers {
@@ -352,7 +374,9 @@ fn map_cost(
 // What a loop costs.
 fn loop_cost(tree: &Tree, costs: &Costs, node: &Node) -> NodeCost
     ensures { let turns = slice_index costs.now.turns node.now.module in
-        result ≡ NodeCost.Loop turns (timed (max (2 * (turns * transfer costs.now node.now.ins)) (turns * (ticks tree.now costs.now (slice_index node.now.parts 1) + 2 * transfer costs.now node.now.ins)))) }
+        result ≡ NodeCost.Loop turns (timed (max (2 * (turns * transfer costs.now node.now.ins))
+        (turns * (ticks tree.now costs.now (slice_index node.now.parts 1)
+        + 2 * transfer costs.now node.now.ins)))) }
 {
     let turns = number_of(&costs.turns, node.module);
     NodeCost::Loop {

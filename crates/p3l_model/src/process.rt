@@ -26,7 +26,8 @@ pub fn procs(tree: &Tree, counts: &Counts, node: u32) -> u64
 
 // The processes of a node and of so many levels below it.
 fn procs_from(tree: &Tree, counts: &Counts, levels: u32, number: u32) -> u64
-    ensures { result ≡ fitted (procs_by tree.now (count_of tree.now counts.now.list) levels number) }
+    ensures { result
+        ≡ fitted (procs_by tree.now (count_of tree.now counts.now.list) levels number) }
 {
     if levels == 0 {
         return 1;

@@ -36,7 +36,8 @@ fn service_from(tree: &Tree, costs: &Costs, counts: &Counts, levels: u32, number
     requires tree { IsLawfulTree tree.now }
     requires costs { AreCostsOf tree.now costs.now }
     requires timed { IsTimed tree.now costs.now (count_of tree.now counts.now.list) levels number }
-    ensures number { result ≡ service_by tree.now costs.now (count_of tree.now counts.now.list) levels number }
+    ensures number { result
+        ≡ service_by tree.now costs.now (count_of tree.now counts.now.list) levels number }
     ensures small { result < never }
 {
     if levels == 0 {

@@ -36,7 +36,8 @@ fn search(
     from: usize,
     wanted: u32,
 ) -> SearchResult
-    ensures { (more : List ℕ) → count_found result (λ next. count_in more (drop next counts.now) wanted)
+    ensures { (more : List ℕ)
+        → count_found result (λ next. count_in more (drop next counts.now) wanted)
         ≡ count_in (counted_from tree.now levels number ++ more) (drop from counts.now) wanted }
 {
     if levels == 0 {
@@ -60,7 +61,8 @@ fn search(
 
 // Looks for a node's count in that of the node `number` itself, if it has one, at a place.
 fn search_own(form: &Form, number: u32, counts: &[u32], at: usize, wanted: u32) -> SearchResult
-    ensures { (more : List ℕ) → count_found result (λ next. count_in more (drop next counts.now) wanted)
+    ensures { (more : List ℕ)
+        → count_found result (λ next. count_in more (drop next counts.now) wanted)
         ≡ count_in (own_counted form.now number ++ more) (drop at counts.now) wanted }
 {
     match form {

@@ -75,7 +75,8 @@ fn place_joins(
 ) -> Result<(), NoMemory>
     requires room { length builder.old.procs + m ≤ 1048576 }
     requires chans { from ≤ 1048576 }
-    ensures { IfOk result (λ _. builder.new ≡ added builder.old (join_procs node output from 1 (m - 1)) []) }
+    ensures { IfOk result (λ _. builder.new
+        ≡ added builder.old (join_procs node output from 1 (m - 1)) []) }
 {
     for q in 1..m {
         let proc = join(alloc, node, output, from, q)?;
@@ -97,7 +98,8 @@ fn place_folds(
     requires room { length builder.old.procs + length lengths.now ≤ 1048576 }
     requires chans { (first ≤ 1048576) × (from ≤ 1048576) }
     ensures { IfOk result (λ _. builder.new
-        ≡ added builder.old (fold_procs node (length lengths.now) output first from 0 lengths.now) []) }
+        ≡ added builder.old (fold_procs node (length lengths.now) output first from 0 lengths.now)
+        []) }
 {
     let count = lengths.len() as u32;
     for s in 0..count {
@@ -130,7 +132,8 @@ pub(crate) fn place_tree(
     requires room { (length builder.old.procs + 2 * 2 ^ level ≤ 1048576)
         × (length builder.old.chans + 3 * 2 ^ level ≤ 1048578) }
     ensures { IfOk result (λ _. builder.new
-        ≡ added builder.old ((tree_shape node (2 ^ level) (level - 1) len).procs (base_of at.now builder.old))
+        ≡ added builder.old ((tree_shape node (2 ^ level) (level - 1)
+        len).procs (base_of at.now builder.old))
         ((tree_shape node (2 ^ level) (level - 1) len).laid cap (base_of at.now builder.old))) }
 {
     let lengths = segment_lengths(alloc, level, len)?;

@@ -19,7 +19,8 @@ use std::alloc::Global;
 pub fn read_printed(alloc: Global, program: &Program) -> Result<Program, SourceRefusal>
     requires spelled { HasText (program_tree program.now) }
     requires short { length (canonical (program_tree program.now)) ≤ 1048576 }
-    ensures same { IfOk result (λ again. program_unplaced (program_tree again) ≡ program_unplaced (program_tree program.now)) }
+    ensures same { IfOk result (λ again. program_unplaced (program_tree again)
+        ≡ program_unplaced (program_tree program.now)) }
     ensures refused { IfErr result (λ refusal. refusal ≡ NoMemory) }
 {
     let text = print(alloc, program)?;

@@ -19,30 +19,40 @@ use p3l_net::laws::a_filled_machine_follows_the_run;
 /// The picks for a run go one by one. They end where no process can fire, and where there is no
 /// pick.
 pub fn picks_go_one_by_one()
-    ensures next { (tree : Tree) (leaf : Leaf) (net : Net) (most : ℕ) (way : Way) (c : Course) (p : ℕ)
+    ensures next { (tree : Tree) (leaf : Leaf) (net : Net) (most : ℕ) (way : Way) (c : Course)
+        (p : ℕ)
         → ready_of (can_fire tree net c.state) (length net.procs) ≢ []
         → pick_of (can_fire tree net c.state) (length net.procs) way ≡ Some p
-        → picks_from tree leaf net (suc most) way c ≡ p ∷ picks_from tree leaf net most (after_pick (length net.procs) way p) (picked tree leaf net c p) }
+        → picks_from tree leaf net (suc most) way c
+        ≡ p ∷ picks_from tree leaf net most (after_pick (length net.procs) way p)
+        (picked tree leaf net c p) }
     ensures ended { (tree : Tree) (leaf : Leaf) (net : Net) (most : ℕ) (way : Way) (c : Course)
-        → pick_of (can_fire tree net c.state) (length net.procs) way ≡ None → picks_from tree leaf net most way c ≡ [] }
+        → pick_of (can_fire tree net c.state) (length net.procs) way ≡ None
+        → picks_from tree leaf net most way c ≡ [] }
     ensures stuck { (tree : Tree) (leaf : Leaf) (net : Net) (most : ℕ) (way : Way) (c : Course)
-        → ready_of (can_fire tree net c.state) (length net.procs) ≡ [] → picks_from tree leaf net most way c ≡ [] }
+        → ready_of (can_fire tree net c.state) (length net.procs) ≡ []
+        → picks_from tree leaf net most way c ≡ [] }
 {}
 
 /// Where some process can fire, a turn and a draw pick one that can, and of recorded picks one is
 /// read; no process can fire where none of the net's can.
 pub fn picks_are_ready()
-    ensures ready { (can : ℕ → Bool) (size : ℕ) (way : Way) (p : ℕ) → pick_of can size way ≡ Some p → IsPickedFrom can size way p }
-    ensures stuck { (tree : Tree) (net : Net) (s : State) → ready_of (can_fire tree net s) (length net.procs) ≡ [] → IsStuck tree net s }
+    ensures ready { (can : ℕ → Bool) (size : ℕ) (way : Way) (p : ℕ) → pick_of can size way ≡ Some p
+        → IsPickedFrom can size way p }
+    ensures stuck { (tree : Tree) (net : Net) (s : State)
+        → ready_of (can_fire tree net s) (length net.procs) ≡ [] → IsStuck tree net s }
 {}
 
 /// What is picked for a machine whose empty inbox is filled before each pick is what is picked for
 /// the run on all the items.
 pub fn a_filled_machine_is_picked_for_as_its_run()
-    ensures ready { (m : Seen) (outcomes : List Outcome) (rest : List (List ℤ)) (c : Course) → Follows m outcomes rest c → HasFilledInbox m rest
+    ensures ready { (m : Seen) (outcomes : List Outcome) (rest : List (List ℤ)) (c : Course)
+        → Follows m outcomes rest c → HasFilledInbox m rest
         → ready_of (can_fire m.tree m.net c.state) (length m.net.procs) ≡ ready_list m }
-    ensures pick { (m : Seen) (outcomes : List Outcome) (rest : List (List ℤ)) (c : Course) (way : Way) → Follows m outcomes rest c → HasFilledInbox m rest
-        → pick_of (can_fire m.tree m.net c.state) (length m.net.procs) way ≡ pick_of (can_step m) (length m.net.procs) way }
+    ensures pick { (m : Seen) (outcomes : List Outcome) (rest : List (List ℤ)) (c : Course)
+        (way : Way) → Follows m outcomes rest c → HasFilledInbox m rest
+        → pick_of (can_fire m.tree m.net c.state) (length m.net.procs) way
+        ≡ pick_of (can_step m) (length m.net.procs) way }
 {
     a_filled_machine_follows_the_run();
 }

@@ -61,10 +61,12 @@ impl Picker {
     pub fn pick(&mut self, machine: &Machine<'_>) -> Option<u32>
         requires ready { ready_list machine.now ≢ [] }
         requires place { HasPlace (length machine.now.net.procs) self.old }
-        ensures pick { result ≡ pick_of (can_step machine.now) (length machine.now.net.procs) self.old }
+        ensures pick { result
+            ≡ pick_of (can_step machine.now) (length machine.now.net.procs) self.old }
         ensures after { self.new ≡ next_after (length machine.now.net.procs) self.old result }
         ensures place { HasPlace (length machine.now.net.procs) self.new }
-        ensures there { HasProcesses (length machine.now.net.procs) self.old → IfSome result (λ p. p < length machine.now.net.procs) }
+        ensures there { HasProcesses (length machine.now.net.procs) self.old
+            → IfSome result (λ p. p < length machine.now.net.procs) }
     {
         match &mut self.way {
             Way::Turns(cursor) => take_turn(cursor, machine),
@@ -77,8 +79,10 @@ impl Picker {
 /// The first process at or after the cursor, cyclically, that can fire; the cursor moves after it.
 fn take_turn(cursor: &mut u32, machine: &Machine<'_>) -> Option<u32>
     requires { cursor.old < length machine.now.net.procs }
-    ensures pick { result ≡ find (can_step machine.now) (in_turn (length machine.now.net.procs) cursor.old) }
-    ensures after { cursor.new ≡ option_map_or (λ p. (p + 1) % length machine.now.net.procs) result cursor.old }
+    ensures pick { result
+        ≡ find (can_step machine.now) (in_turn (length machine.now.net.procs) cursor.old) }
+    ensures after { cursor.new
+        ≡ option_map_or (λ p. (p + 1) % length machine.now.net.procs) result cursor.old }
     ensures place { cursor.new < length machine.now.net.procs }
     ensures there { IfSome result (λ p. p < length machine.now.net.procs) }
 {
@@ -91,7 +95,8 @@ fn take_turn(cursor: &mut u32, machine: &Machine<'_>) -> Option<u32>
 /// One of the processes that can fire, drawn by the next word of a generator.
 fn draw(generator: &mut Lcg64Xsh32, machine: &Machine<'_>) -> u32
     requires { ready_list machine.now ≢ [] }
-    ensures pick { slice_get (ready_list machine.now) ((pcg32 generator.old).0 % length (ready_list machine.now)) ≡ Some result }
+    ensures pick { slice_get (ready_list machine.now)
+        ((pcg32 generator.old).0 % length (ready_list machine.now)) ≡ Some result }
     ensures after { generator.new ≡ (pcg32 generator.old).1 }
     ensures there { result < length machine.now.net.procs }
 {

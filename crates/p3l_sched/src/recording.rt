@@ -35,7 +35,8 @@ impl Recording {
     pub(crate) fn take(&mut self) -> Option<u32>
         ensures first { result ≡ slice_get self.old 0 }
         ensures rest { self.new ≡ drop 1 self.old }
-        ensures below { (size : ℕ) → AllByRecursion (λ pick. pick < size) self.old → IfSome result (λ pick. pick < size) }
+        ensures below { (size : ℕ) → AllByRecursion (λ pick. pick < size) self.old
+            → IfSome result (λ pick. pick < size) }
     {
         let first = self.picks.as_slice().get(self.next)?;
         self.next += 1;

@@ -31,7 +31,8 @@ fn first_of_word(bytes: &[u8]) -> Option<usize>
 
 /// What stands before the first word, the word, and what is after it.
 pub(crate) fn next_word(text: &[u8]) -> Option<(&[u8], &[u8], &[u8])>
-    ensures { IsNextWord text.now (option_map (λ found. (found.0.now, found.1.now, found.2.now)) result) }
+    ensures { IsNextWord text.now (option_map (λ found. (found.0.now, found.1.now, found.2.now))
+        result) }
 {
     let start = first_of_word(text)?;
     let (gap, rest) = text.split_at(start);

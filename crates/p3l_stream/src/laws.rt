@@ -12,8 +12,11 @@ ghost use Rattle.p3l_stream.specs.Seen.{Seen, closed_by, started};
 /// however the bytes were cut into pieces.
 pub fn a_stream_gives_its_items()
     ensures starts { (width limit : ℕ) → HasGiven width (started width limit) [] [] }
-    ensures answers { (width : ℕ) (old new : Seen) (rest left : Option (List ℕ)) (bytes : List ℕ) (items : List (List ℤ)) (result : Result Next NoMemory)
+    ensures answers { (width : ℕ) (old new : Seen) (rest left : Option (List ℕ)) (bytes : List ℕ)
+        (items : List (List ℤ)) (result : Result Next NoMemory)
         → HasGiven width old bytes items → old.closed ≡ None → new.closed ≡ closed_by result
-        → (answers : Answers old new rest left result) → HasGiven width new (bytes ++ answers.got) (items ++ items_in result) }
-    ensures wide { (old new : Seen) (rest left : Option (List ℕ)) (words : List ℤ) → Answers old new rest left (Ok (next.Item words)) → length words ≡ old.words }
+        → (answers : Answers old new rest left result)
+        → HasGiven width new (bytes ++ answers.got) (items ++ items_in result) }
+    ensures wide { (old new : Seen) (rest left : Option (List ℕ)) (words : List ℤ)
+        → Answers old new rest left (Ok (next.Item words)) → length words ≡ old.words }
 {}

@@ -68,21 +68,27 @@ impl Lines {
     /// The item of the next line that has words, or how the stream ends. It then ends so at each
     /// later call too, also by want of memory.
     pub fn next<S: Source>(&mut self, source: &mut S) -> Result<Next, NoMemory>
-        ensures answers { self.old.closed ≡ None → Answers self.old self.new (S.rest source.old) (S.rest source.new) result }
-        ensures cause { self.old.closed ≡ None → NextCause result (S.faults source.old) (S.faults source.new) }
+        ensures answers { self.old.closed ≡ None
+            → Answers self.old self.new (S.rest source.old) (S.rest source.new) result }
+        ensures cause { self.old.closed ≡ None
+            → NextCause result (S.faults source.old) (S.faults source.new) }
         ensures closed { self.old.closed ≡ None → self.new.closed ≡ closed_by result }
 
         // What was answered once is answered again.
-        ensures again { (close : Result Ending NoMemory) → self.old.closed ≡ Some close → result ≡ answer_of close }
-        ensures same { (close : Result Ending NoMemory) → self.old.closed ≡ Some close → (self.new ≡ self.old) × (source.new ≡ source.old) }
+        ensures again { (close : Result Ending NoMemory) → self.old.closed ≡ Some close
+            → result ≡ answer_of close }
+        ensures same { (close : Result Ending NoMemory) → self.old.closed ≡ Some close
+            → (self.new ≡ self.old) × (source.new ≡ source.old) }
 
         // The source is asked for nothing where there is a line to answer, and nothing after its end.
         ensures ready { HasLine self.old.words self.old.held → source.new ≡ source.old }
         ensures at_end { self.old.at_end ≡ true → source.new ≡ source.old }
 
         // What stays to be answered is less than a piece, and the items are at most half the limit and one.
-        ensures few { IfOk result (λ next. item_count next ≡ 1 → (length self.new.held < 4096) ⊎ (source.new ≡ source.old)) }
-        ensures items { IfOk result (λ next. item_count next + most_items self.new ≤ most_items self.old) }
+        ensures few { IfOk result (λ next. item_count next ≡ 1
+            → (length self.new.held < 4096) ⊎ (source.new ≡ source.old)) }
+        ensures items { IfOk result (λ next. item_count next + most_items self.new
+            ≤ most_items self.old) }
     {
         match self.closed {
             Some(Ok(ending)) => Ok(next_of(ending)),
@@ -116,7 +122,8 @@ impl Lines {
         ensures cause { NextCause result (S.faults source.old) (S.faults source.new) }
         ensures ready { HasLine self.old.words self.old.held → source.new ≡ source.old }
         ensures at_end { self.old.at_end ≡ true → source.new ≡ source.old }
-        ensures few { IfOk result (λ next. item_count next ≡ 1 → (length self.new.held < 4096) ⊎ (source.new ≡ source.old)) }
+        ensures few { IfOk result (λ next. item_count next ≡ 1
+            → (length self.new.held < 4096) ⊎ (source.new ≡ source.old)) }
     {
         match self.pass_blanks()? {
             Some(line) => Ok(answer_for(line, self.passed)),

@@ -31,7 +31,8 @@ pub fn text_of(alloc: Global, outcomes: &[Outcome]) -> Result<List<u8>, NoMemory
 
 /// Puts the line of an item after a text.
 fn write_item(alloc: Global, text: &mut String, words: &Words) -> Result<(), NoMemory>
-    ensures { OnOk result (string_bytes text.new ≡ string_bytes text.old ++ as_text.item_text words.now) }
+    ensures { OnOk result (string_bytes text.new
+        ≡ string_bytes text.old ++ as_text.item_text words.now) }
 {
     write_words(alloc, text, words.as_slice())?;
     text.push('\n')?;
@@ -40,7 +41,8 @@ fn write_item(alloc: Global, text: &mut String, words: &Words) -> Result<(), NoM
 
 /// Puts words in decimal after a text, separated by one space.
 fn write_words(alloc: Global, text: &mut String, words: &[i64]) -> Result<(), NoMemory>
-    ensures { OnOk result (string_bytes text.new ≡ string_bytes text.old ++ as_text.words_text words.now) }
+    ensures { OnOk result (string_bytes text.new
+        ≡ string_bytes text.old ++ as_text.words_text words.now) }
 {
     for (index, word) in words.iter().enumerate() {
         write_word(alloc, text, index, *word)?;
@@ -50,7 +52,8 @@ fn write_words(alloc: Global, text: &mut String, words: &[i64]) -> Result<(), No
 
 /// Puts a word after a text that has so many of the item's words.
 fn write_word(alloc: Global, text: &mut String, index: usize, word: i64) -> Result<(), NoMemory>
-    ensures { OnOk result (string_bytes text.new ≡ string_bytes text.old ++ as_text.word_text index word) }
+    ensures { OnOk result (string_bytes text.new
+        ≡ string_bytes text.old ++ as_text.word_text index word) }
 {
     if index > 0 {
         text.push(' ')?;

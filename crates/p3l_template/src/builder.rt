@@ -51,7 +51,11 @@ impl Builder {
         requires { length self.old.chans < 1048576 }
         ensures number { IfOk result (λ n. n ≡ length self.old.chans) }
         ensures added { IfOk result (λ n. self.new
-            ≡ record { procs = self.old.procs; chans = self.old.chans ++ record { cap = cap; credits = credits } ∷ [] }) }
+            ≡ record {
+              procs = self.old.procs;
+              chans = self.old.chans
+                  ++ record { cap = cap; credits = credits } ∷ [];
+            }) }
     {
         let number = self.chans.len() as u32;
         self.chans.push(Chan { cap, credits })?;
@@ -73,9 +77,14 @@ impl Builder {
     /// Adds so many channels without credits and gives their numbers.
     pub fn channels(&mut self, alloc: Global, count: u32, cap: u32) -> Result<List<u32>, NoMemory>
         requires { length self.old.chans + count ≤ 1048576 }
-        ensures numbers { IfOk result (λ numbers. numbers ≡ numbers_from (length self.old.chans) count) }
+        ensures numbers { IfOk result (λ numbers. numbers
+            ≡ numbers_from (length self.old.chans) count) }
         ensures added { IfOk result (λ numbers. self.new
-            ≡ record { procs = self.old.procs; chans = self.old.chans ++ replicate count (empty_chan cap) }) }
+            ≡ record {
+              procs = self.old.procs;
+              chans = self.old.chans
+                  ++ replicate count (empty_chan cap);
+            }) }
     {
         let mut numbers = List::new(alloc);
         for _done in 0..count {

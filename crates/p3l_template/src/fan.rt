@@ -36,7 +36,8 @@ impl Fan {
         requires room { HasRoomFor builder.old 2 (self.now.workers + self.now.workers) }
         ensures placed { IfOk result (λ ports. builder.new
             ≡ added builder.old
-            (fan_procs self.now.first self.now.last self.now.node self.now.workers (base_of at.now builder.old))
+            (fan_procs self.now.first self.now.last self.now.node self.now.workers (base_of at.now
+            builder.old))
             (replicate (self.now.workers + self.now.workers) (empty_chan cap))) }
         ensures ports { IfOk result (λ ports. ports
             ≡ all_ports (fan_seats (base_of at.now builder.old).chan

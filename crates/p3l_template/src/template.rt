@@ -40,12 +40,14 @@ pub trait Template {
         cap: u32,
     ) -> Result<List<Ports>, NoMemory>
         requires fit { is_fit self.now }
-        requires room { HasRoomFor builder.old (length ((shape self.now).procs (base_of at.now builder.old)))
+        requires room { HasRoomFor builder.old (length ((shape self.now).procs (base_of at.now
+            builder.old)))
             ((shape self.now).chans (base_of at.now builder.old)) }
         ensures placed { IfOk result (λ ports. builder.new
             ≡ added builder.old ((shape self.now).procs (base_of at.now builder.old))
             ((shape self.now).laid cap (base_of at.now builder.old))) }
-        ensures ports { IfOk result (λ ports. ports ≡ all_ports ((shape self.now).seats (base_of at.now builder.old))) };
+        ensures ports { IfOk result (λ ports. ports
+            ≡ all_ports ((shape self.now).seats (base_of at.now builder.old))) };
 
     /// Placed round lawful parts, it is a lawful part.
     ghost lawful: { (t : Self) → is_fit t → IsLawfulShape (shape t) };

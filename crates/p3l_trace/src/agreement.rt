@@ -14,7 +14,9 @@ use p3l_net::Machine;
 pub fn agrees(line: &TraceLine, machine: &Machine<'_>, net: &Net) -> bool
     requires { net.now ≡ machine.now.net }
     ensures machine { IsTrue result ↔ AgreesWith machine.now line.now }
-    ensures state { (emitted : List Outcome) → HasEmitted machine.now emitted → IsTrue result ↔ AgreesIn machine.now.tree net.now (state_of machine.now emitted) line.now }
+    ensures state { (emitted : List Outcome) → HasEmitted machine.now emitted
+        → IsTrue result
+        ↔ AgreesIn machine.now.tree net.now (state_of machine.now emitted) line.now }
 {
     let Some(process) = net.procs.as_slice().get(line.pick as usize) else {
         return false;

@@ -28,7 +28,8 @@ fn read_lines(alloc: Global, bytes: &[u8]) -> Result<(List<TraceLine>, &[u8]), R
 #[tactic(auto, unfolding(crate::specs::Text::line_format, p3l_format::specs::Line::line))]
 fn write_lines(alloc: Global, lines: &[TraceLine], out: &mut Vec<u8>) -> Result<(), NoMemory>
     ensures fits { OnOk result (fits_from line_format next_line first_line lines.now ≡ true) }
-    ensures put { OnOk result (out.new.items ≡ out.old.items ++ spell_from line_format next_line first_line lines.now) }
+    ensures put { OnOk result (out.new.items
+        ≡ out.old.items ++ spell_from line_format next_line first_line lines.now) }
 {
     for line in lines {
         write_pick(alloc, *line, out)?;
@@ -124,9 +125,11 @@ pub fn trace_text(alloc: Global, traced: &Traced) -> Result<List<u8>, NoMemory>
 #[tactic(auto, using(crate::proofs::FirstLine::trace_first_bad))]
 pub fn read_trace(alloc: Global, text: &[u8]) -> Result<Traced, TraceRefusal>
     // What is read is spelled so.
-    ensures found { IfOk result (λ traced. (trace_format.fits traced ≡ true) × (text.now ≡ trace_format.spell traced)) }
+    ensures found { IfOk result (λ traced. (trace_format.fits traced ≡ true)
+        × (text.now ≡ trace_format.spell traced)) }
     // What is spelled so is read, unless memory runs out.
-    ensures only { (traced : TheTraced) → trace_format.fits traced ≡ true → text.now ≡ trace_format.spell traced → Answers text.now result (Ok traced) }
+    ensures only { (traced : TheTraced) → trace_format.fits traced ≡ true
+        → text.now ≡ trace_format.spell traced → Answers text.now result (Ok traced) }
     // The line that is told is the first that isn't of its form, whatever reads it.
     ensures first { TellsFirst text.now result }
     // Which line the format's own reading tells.
@@ -143,5 +146,7 @@ pub fn read_trace(alloc: Global, text: &[u8]) -> Result<Traced, TraceRefusal>
 
 /// No trace's text begins another's.
 pub fn text_begins_no_other()
-    ensures { (v w : TheTraced) (more : List ℕ) → trace_format.fits v ≡ true → trace_format.fits w ≡ true → trace_format.spell v ++ more ≡ trace_format.spell w → (v ≡ w) × (more ≡ []) }
+    ensures { (v w : TheTraced) (more : List ℕ) → trace_format.fits v ≡ true
+        → trace_format.fits w ≡ true → trace_format.spell v ++ more ≡ trace_format.spell w
+        → (v ≡ w) × (more ≡ []) }
 {}
