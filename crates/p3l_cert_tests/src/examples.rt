@@ -3,10 +3,10 @@
 
 use crate::damaged::first_unlike;
 use crate::making::{made, refusal};
-use crate::trees::{Row, Shape, tree_of};
-use p3l_base::{List, NoMemory};
+use p3l_base::{Dim, List, NoMemory, Place};
 use p3l_cost::{Costs, standard};
 use p3l_skel::{Tree, lawful_tree};
+use p3l_sketch::{Array, Row, Shape, tree_of};
 use std::alloc::Global;
 use std::process::Abort;
 use std::test::Fail;
@@ -26,12 +26,12 @@ const HALVE_ROWS: [Row; 3] = [
 ];
 
 const GREATEST_ROWS: [Row; 2] = [
-    (Shape::Reduce(Some(4), 10), 10, 1, &[1]),
+    (Shape::Reduce(Some(4), 10, 1), 10, 1, &[1]),
     (Shape::Seq, 2, 1, &[]),
 ];
 
 const TOTAL_ROWS: [Row; 2] = [
-    (Shape::Reduce(None, 16), 16, 1, &[1]),
+    (Shape::Reduce(None, 16, 1), 16, 1, &[1]),
     (Shape::Seq, 2, 1, &[]),
 ];
 
@@ -50,7 +50,29 @@ const FARMS_ROWS: [Row; 5] = [
     (Shape::Seq, 1, 1, &[]),
 ];
 
-const MATRIX_ROWS: [Row; 2] = [(Shape::Product, 18, 9, &[1]), (Shape::Seq, 6, 1, &[])];
+const FIRST: Dim = Dim {
+    size: 3,
+    place: Place::First,
+};
+
+const SECOND: Dim = Dim {
+    size: 3,
+    place: Place::Second,
+};
+
+const REST: Dim = Dim {
+    size: 3,
+    place: Place::Rest,
+};
+
+const FACTORS: [Array; 2] = [(0, &[FIRST, REST]), (9, &[REST, SECOND])];
+
+const PRODUCT: [Array; 1] = [(0, &[FIRST, SECOND])];
+
+const MATRIX_ROWS: [Row; 2] = [
+    (Shape::Map(None, 3, 3, &FACTORS, &PRODUCT), 18, 9, &[1]),
+    (Shape::Seq, 6, 1, &[]),
+];
 
 // The certificate for so many processors is this text, it is accepted, and no front of it is one;
 // and for a few processors more, what is made is accepted too.

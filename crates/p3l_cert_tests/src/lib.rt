@@ -11,5 +11,3 @@ mod made;
 mod making;
 #[cfg(test)]
 mod pipe;
-#[cfg(test)]
-mod trees;

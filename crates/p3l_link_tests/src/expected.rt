@@ -1,11 +1,11 @@
 // What a net is expected to be.
 
-use crate::trees::{Row, list_of, tree_of};
 use p3l_base::NoMemory;
 use p3l_firing::{Net, Proc};
 use p3l_link::{is_linked, link};
 use p3l_model::{is_outside, procs};
 use p3l_skel::{Counts, Tree, lawful_counts, lawful_tree};
+use p3l_sketch::{Row, counts_of, tree_of};
 use std::alloc::{AllocError, Global};
 use std::process::Abort;
 use std::test::Fail;
@@ -74,9 +74,7 @@ fn linked_text(
     cap: u32,
 ) -> Result<String, Fail> {
     let tree = tree_of(alloc, rows)?;
-    let counts = Counts {
-        list: list_of(alloc, counts)?,
-    };
+    let counts = counts_of(alloc, counts)?;
     let net = net_of(rt, alloc, &tree, &counts, cap)?;
     Ok(text_of(alloc, &net)?)
 }

@@ -4,8 +4,8 @@
 #[cfg(test)]
 mod expected;
 #[cfg(test)]
+mod maps;
+#[cfg(test)]
 mod nested;
 #[cfg(test)]
 mod skeletons;
-#[cfg(test)]
-mod trees;

@@ -1,7 +1,8 @@
 // Skeletons inside others.
 
 use crate::expected::{Expected, compare};
-use crate::trees::{Row, Shape};
+use crate::maps::MAP_OF_PAIRS;
+use p3l_sketch::{Row, Shape};
 use std::test::Fail;
 
 const FARM_IN_PIPE: [Row; 4] = [
@@ -61,9 +62,9 @@ fn a_farm_is_the_body_of_a_loop(rt: HostRuntime) -> Result<(), Fail> {
 }
 
 const PIPE_IN_MAP: [Row; 5] = [
-    (Shape::Map(2), 8, 4, &[1]),
+    (MAP_OF_PAIRS, 8, 4, &[1]),
     (Shape::Pipe, 2, 1, &[2, 4]),
-    (Shape::Reduce(None, 2), 2, 1, &[3]),
+    (Shape::Reduce(None, 2, 1), 2, 1, &[3]),
     (Shape::Seq, 2, 1, &[]),
     (Shape::Seq, 1, 1, &[]),
 ];

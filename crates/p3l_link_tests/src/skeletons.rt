@@ -1,7 +1,8 @@
 // Each skeleton alone.
 
 use crate::expected::{Expected, compare};
-use crate::trees::{Row, Shape};
+use crate::maps::MAP_OF_WORDS;
+use p3l_sketch::{Row, Shape};
 use std::test::Fail;
 
 const SEQ: [Row; 1] = [(Shape::Seq, 1, 1, &[])];
@@ -13,7 +14,7 @@ const COMP: [Row; 3] = [
 ];
 
 const REDUCE: [Row; 2] = [
-    (Shape::Reduce(None, 5), 5, 1, &[1]),
+    (Shape::Reduce(None, 5, 1), 5, 1, &[1]),
     (Shape::Seq, 2, 1, &[]),
 ];
 
@@ -59,7 +60,7 @@ fn a_pipe_has_a_channel_between_two_stages(rt: HostRuntime) -> Result<(), Fail> 
 
 const FARM: [Row; 2] = [(Shape::Farm(None), 1, 1, &[1]), (Shape::Seq, 1, 1, &[])];
 
-const MAP: [Row; 2] = [(Shape::Map(1), 4, 4, &[1]), (Shape::Seq, 1, 1, &[])];
+const MAP: [Row; 2] = [(MAP_OF_WORDS, 4, 4, &[1]), (Shape::Seq, 1, 1, &[])];
 
 const WORKERS: [Expected; 2] = [
     (
@@ -94,7 +95,7 @@ fn workers_stand_between_two_processes(rt: HostRuntime) -> Result<(), Fail> {
 }
 
 const REDUCE_OF_FOUR: [Row; 2] = [
-    (Shape::Reduce(Some(4), 5), 5, 1, &[1]),
+    (Shape::Reduce(Some(4), 5, 1), 5, 1, &[1]),
     (Shape::Seq, 2, 1, &[]),
 ];
 

@@ -1,8 +1,8 @@
 // Lawful trees and counts, and one broken rule at a time.
 
-use crate::rows::{Array, Row, Shape, Sketch, counts_of, tree_of};
 use p3l_base::{Dim, NoMemory, Place};
 use p3l_skel::{ModuleKind, lawful_counts, lawful_tree};
+use p3l_sketch::{Array, ModuleRow, Shape, Sketch, counts_of, tree_with};
 use std::alloc::Global;
 use std::process::Abort;
 use std::test::Fail;
@@ -56,7 +56,7 @@ const WHOLE: Sketch = (
 );
 
 /// Rows in place of those of the whole tree, each of which breaks a rule.
-const BROKEN: [(usize, Row); 24] = [
+const BROKEN: [(usize, ModuleRow); 24] = [
     (0, (Shape::Pipe, 0, 0, 4, &[1, 3])),
     (0, (Shape::Pipe, 0, 4, 4, &[3, 3])),
     (1, (Shape::Map(None, 3, 1, &FOUR, &FOUR), 1, 4, 4, &[2])),
@@ -85,16 +85,21 @@ const BROKEN: [(usize, Row); 24] = [
 
 /// Whether a tree is lawful.
 fn is_lawful(alloc: Global, sketch: Sketch) -> Result<bool, NoMemory> {
-    Ok(lawful_tree(&tree_of(alloc, sketch.0, sketch.1)?))
+    Ok(lawful_tree(&tree_with(alloc, sketch.0, sketch.1)?))
 }
 
 /// Whether a tree is lawful with another row in one place.
-fn is_lawful_with(alloc: Global, sketch: Sketch, place: usize, row: Row) -> Result<bool, NoMemory> {
+fn is_lawful_with(
+    alloc: Global,
+    sketch: Sketch,
+    place: usize,
+    row: ModuleRow,
+) -> Result<bool, NoMemory> {
     let mut rows = Vec::from_slice(alloc, sketch.0)?;
     if let Some(old) = rows.get_mut(place) {
         *old = row;
     }
-    Ok(lawful_tree(&tree_of(alloc, rows.as_slice(), sketch.1)?))
+    Ok(lawful_tree(&tree_with(alloc, rows.as_slice(), sketch.1)?))
 }
 
 /// No tree may be lawful with one of these rows in its place.
@@ -102,7 +107,7 @@ fn refuse(
     rt: &impl Abort,
     alloc: Global,
     sketch: Sketch,
-    table: &[(usize, Row)],
+    table: &[(usize, ModuleRow)],
 ) -> Result<(), NoMemory> {
     for (number, (place, row)) in table.iter().enumerate() {
         let lawful = is_lawful_with(alloc, sketch, *place, *row)?;
@@ -173,7 +178,7 @@ const HEAVY: Sketch = (
     ],
 );
 
-const TOO_HEAVY: Row = (Shape::Loop(683, 1), 0, 65_536, 65_536, &[1, 3]);
+const TOO_HEAVY: ModuleRow = (Shape::Loop(683, 1), 0, 65_536, 65_536, &[1, 3]);
 
 #[test]
 fn depth_and_work_are_limited(rt: HostRuntime) -> Result<(), Fail> {
@@ -192,7 +197,7 @@ fn compare_counts(
     sketch: Sketch,
     table: &[(&[u32], bool)],
 ) -> Result<(), NoMemory> {
-    let tree = tree_of(alloc, sketch.0, sketch.1)?;
+    let tree = tree_with(alloc, sketch.0, sketch.1)?;
     for (counts, lawful) in table {
         let found = lawful_counts(&tree, &counts_of(alloc, counts)?);
         assert_eq!(rt; found, *lawful, "{counts:?}");
@@ -233,7 +238,7 @@ const FIXED: Sketch = (
     &[ModuleKind::Reduce, ModuleKind::Seq],
 );
 
-const TOO_MANY: Row = (Shape::Reduce(Some(8), 5, 1), 0, 5, 1, &[1]);
+const TOO_MANY: ModuleRow = (Shape::Reduce(Some(8), 5, 1), 0, 5, 1, &[1]);
 
 const FREE_COUNTS: [(&[u32], bool); 9] = [
     (&[0], false),

@@ -8,5 +8,3 @@ mod cuts;
 mod lawful;
 #[cfg(test)]
 mod numbers;
-#[cfg(test)]
-mod rows;

@@ -1,9 +1,9 @@
 // The numbers of small trees, one of each skeleton.
 
-use crate::rows::{Array, Shape, Sketch, counts_of, tree_of};
 use p3l_base::{Dim, NoMemory, Place};
 use p3l_model::{firings, is_outside, procs};
 use p3l_skel::{Counts, ModuleKind, Tree, lawful_counts, lawful_tree};
+use p3l_sketch::{Array, Shape, Sketch, counts_of, tree_with};
 use std::alloc::Global;
 use std::process::Abort;
 use std::test::Fail;
@@ -26,7 +26,7 @@ fn compare(
     sketch: Sketch,
     table: &[Expected],
 ) -> Result<(), NoMemory> {
-    let tree = tree_of(alloc, sketch.0, sketch.1)?;
+    let tree = tree_with(alloc, sketch.0, sketch.1)?;
     for (counts, node, expected) in table {
         let counts = counts_of(alloc, counts)?;
         assert_eq!(rt; numbers(rt, &tree, &counts, *node), *expected);

@@ -1,0 +1,74 @@
+// What the nodes of a table do.
+
+use p3l_base::{Cut, Dim, List, NoMemory, Slice};
+use p3l_skel::Form;
+use std::alloc::Global;
+
+/// An array: the word that it starts at, and its dimensions.
+pub type Array = (u32, &'static [Dim]);
+
+/// What a node does.
+#[derive(Clone, Copy, Drop)]
+pub enum Shape {
+    Seq,
+    Comp,
+    Pipe,
+    /// The workers of the clause.
+    Farm(Option<u32>),
+    /// The workers of the clause, the numbers of first and of second indices, and the arrays that
+    /// are taken apart and filled.
+    Map(Option<u32>, u32, u32, &'static [Array], &'static [Array]),
+    /// The workers of the clause, the number of elements, and the words of each.
+    Reduce(Option<u32>, u32, u32),
+    /// The turns, and the tokens at once.
+    Loop(u32, u32),
+}
+
+/// The list of these numbers.
+pub fn list_of(alloc: Global, numbers: &[u32]) -> Result<List<u32>, NoMemory> {
+    Ok(List::from_vec(Vec::from_slice(alloc, numbers)?))
+}
+
+fn slices_of(alloc: Global, arrays: &[Array]) -> Result<List<Slice>, NoMemory> {
+    let mut slices = List::new(alloc);
+    for (start, dims) in arrays {
+        slices.push(Slice {
+            start: *start,
+            dims: List::from_vec(Vec::from_slice(alloc, dims)?),
+        })?;
+    }
+    Ok(slices)
+}
+
+fn cut_of(
+    alloc: Global,
+    first: u32,
+    second: u32,
+    ins: &[Array],
+    outs: &[Array],
+) -> Result<Cut, NoMemory> {
+    let ins = slices_of(alloc, ins)?;
+    let outs = slices_of(alloc, outs)?;
+    Ok(Cut {
+        first,
+        second,
+        ins,
+        outs,
+    })
+}
+
+/// The form of a node that does this.
+pub fn form_of(alloc: Global, shape: Shape) -> Result<Form, NoMemory> {
+    Ok(match shape {
+        Shape::Seq => Form::Seq,
+        Shape::Comp => Form::Comp,
+        Shape::Pipe => Form::Pipe,
+        Shape::Farm(workers) => Form::Farm { workers },
+        Shape::Map(workers, first, second, ins, outs) => Form::Map {
+            workers,
+            cut: cut_of(alloc, first, second, ins, outs)?,
+        },
+        Shape::Reduce(workers, len, elem) => Form::Reduce { workers, len, elem },
+        Shape::Loop(turns, tokens) => Form::Loop { turns, tokens },
+    })
+}

@@ -1,0 +1,92 @@
+// The trees of tables.
+
+use crate::shape::{Shape, form_of, list_of};
+use p3l_base::{List, Name, NoMemory};
+use p3l_skel::{Counts, Form, ModuleInfo, ModuleKind, Node, Tree};
+use std::alloc::Global;
+
+/// A node of a module of its own: what it does, the words that it takes and gives, and its parts.
+pub type Row = (Shape, u32, u32, &'static [u32]);
+
+/// A node: what it does, its module, the words that it takes and gives, and its parts.
+pub type ModuleRow = (Shape, u32, u32, u32, &'static [u32]);
+
+/// A tree: its nodes, and the kinds of its modules.
+pub type Sketch = (&'static [ModuleRow], &'static [ModuleKind]);
+
+fn module_of(alloc: Global, kind: ModuleKind) -> Result<ModuleInfo, NoMemory> {
+    Ok(ModuleInfo {
+        name: Name::from_text(alloc, "m")?,
+        kind,
+    })
+}
+
+/// Puts a node after the others, with a module of its own.
+pub fn add_node(
+    alloc: Global,
+    tree: &mut Tree,
+    form: Form,
+    words: (u32, u32),
+    parts: List<u32>,
+) -> Result<(), NoMemory> {
+    let module = u32::try_from(tree.modules.len()).unwrap_or(0);
+    tree.modules.push(module_of(alloc, form.kind())?)?;
+    tree.nodes.push(Node {
+        form,
+        module,
+        ins: words.0,
+        outs: words.1,
+        parts,
+    })
+}
+
+/// The tree of these rows, each of which is a node of a module of its own.
+pub fn tree_of(alloc: Global, rows: &[Row]) -> Result<Tree, NoMemory> {
+    let mut tree = Tree {
+        nodes: List::new(alloc),
+        modules: List::new(alloc),
+    };
+    for (shape, ins, outs, parts) in rows {
+        let form = form_of(alloc, *shape)?;
+        let parts = list_of(alloc, parts)?;
+        add_node(alloc, &mut tree, form, (*ins, *outs), parts)?;
+    }
+    Ok(tree)
+}
+
+fn node_of(alloc: Global, row: ModuleRow) -> Result<Node, NoMemory> {
+    let (shape, module, ins, outs, parts) = row;
+    let form = form_of(alloc, shape)?;
+    let parts = list_of(alloc, parts)?;
+    Ok(Node {
+        form,
+        module,
+        ins,
+        outs,
+        parts,
+    })
+}
+
+/// The tree of these rows, with modules of these kinds.
+pub fn tree_with(
+    alloc: Global,
+    rows: &[ModuleRow],
+    kinds: &[ModuleKind],
+) -> Result<Tree, NoMemory> {
+    let mut nodes = List::new(alloc);
+    for row in rows {
+        nodes.push(node_of(alloc, *row)?)?;
+    }
+    let mut modules = List::new(alloc);
+    for kind in kinds {
+        modules.push(module_of(alloc, *kind)?)?;
+    }
+    Ok(Tree { nodes, modules })
+}
+
+/// These numbers of workers.
+pub fn counts_of(alloc: Global, counts: &[u32]) -> Result<Counts, NoMemory> {
+    Ok(Counts {
+        list: list_of(alloc, counts)?,
+    })
+}
