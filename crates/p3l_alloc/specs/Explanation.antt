@@ -4,18 +4,12 @@ use Rattle.std.specs.Fmt.{decimal}
 use Rattle.std.specs.List.{flat_map}
 use Rattle.p3l_skel.specs.declared.tree.Form.{Form}
 use Rattle.p3l_skel.specs.declared.tree.Form.TheVariants.{Seq, Comp, Pipe, Farm, Map, Reduce, Loop}
-use Rattle.p3l_skel.specs.declared.tree.ModuleInfo.{ModuleInfo}
-use Rattle.p3l_skel.specs.declared.tree.ModuleKind.TheVariants as kind
 use Rattle.p3l_skel.specs.declared.tree.Tree.{Tree}
 use Rattle.p3l_skel.specs.Counts.{count_of, outside}
 use Rattle.p3l_skel.specs.Numbers.{procs}
-use Rattle.p3l_skel.specs.Tree.{node_at}
+use Rattle.p3l_skel.specs.Tree.{node_at, no_module}
 use Rattle.p3l_cost.specs.declared.costs.Costs.{Costs}
 use Rattle.p3l_model.specs.Service.{service}
-
--- what a module is read as that is not there
-abbrev pub no_module : ModuleInfo
-no_module = record { name = []; kind = kind.Seq }
 
 -- the name of the module of this number
 abbrev pub module_name : Tree → ℕ → List ℕ

@@ -114,7 +114,11 @@ fn modules(alloc: Global) -> Result<List<ModuleInfo>, NoMemory> {
     let mut modules = List::new(alloc);
     for (name, kind) in MODULES {
         let name = Name::from_text(alloc, name)?;
-        modules.push(ModuleInfo { name, kind })?;
+        modules.push(ModuleInfo {
+            name,
+            kind,
+            rescue: None,
+        })?;
     }
     Ok(modules)
 }

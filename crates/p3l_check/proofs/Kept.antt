@@ -3,7 +3,7 @@ use Rattle.std.proofs.Common.{◌≡◌, ℕ, zero, suc, ◌+◌, ◌<◌, ◌�
 use Rattle.std.specs.List.{AllByRecursion}
 use Rattle.std.proofs.Math.Seq.{get_or-append_seam}
 use Rattle.std.proofs.lemmas.List.{get_or_append_left}
-use Rattle.std.proofs.lemmas.List.Elements.{All-from_recursion, recursion_from_All}
+use Rattle.std.proofs.lemmas.List.Elements.{All-nil, All-cons, All-append, All-from_recursion, recursion_from_All}
 use Rattle.std.proofs.lemmas.Bool.{cases_lt}
 use Rattle.p3l_skel.specs.declared.tree.Form.{Form}
 use Rattle.p3l_skel.specs.declared.tree.Form.TheVariants.{Seq, Comp, Pipe, Farm, Map, Reduce, Loop}
@@ -11,7 +11,7 @@ use Rattle.p3l_skel.specs.declared.tree.ModuleInfo.{ModuleInfo}
 use Rattle.p3l_skel.specs.declared.tree.ModuleKind.{ModuleKind}
 use Rattle.p3l_skel.specs.Tree.{sequential_row}
 use Rattle.p3l_skel.specs.Counts.{IsCountInRange, workers_of}
-use Rattle.p3l_skel.specs.Lawful.{IsSize, HasKind, kind_of}
+use Rattle.p3l_skel.specs.Lawful.{IsSize, HasKind, HasLawfulRescue, kind_of}
 use Rattle.p3l_unfold.specs.declared.wired.Wired.{Wired}
 use Rattle.p3l_unfold.specs.Wiring.{no_module, module_at, TakesAndGives, IsCallChain, IsSequentialModule, IsWiredMap, IsWiredReduce, IsWiredLoop, IsWiredForm, IsWiredModule}
 use Rattle.p3l_check.specs.Wired.{AreWired}
@@ -123,9 +123,10 @@ module _ (infos : List ModuleInfo) (wired : List Wired) (info : ModuleInfo) (m :
   }
 
   -- modules and one that may stand after them
-  pub wired-more : AreWired infos wired → IsNext wired info.kind m → AreWired (infos ++ info ∷ []) (wired ++ m ∷ [])
-  wired-more wiring next = record {
+  pub wired-more : AreWired infos wired → HasLawfulRescue info → IsNext wired info.kind m → AreWired (infos ++ info ∷ []) (wired ++ m ∷ [])
+  wired-more wiring rescue next = record {
     count = length-append wired (m ∷ []) ∙ (ap (λ n. n + 1) wiring.count ∙ sym (length-append infos (info ∷ [])));
+    rescues = All-append HasLawfulRescue infos (info ∷ []) wiring.rescues (All-cons HasLawfulRescue info [] rescue (All-nil HasLawfulRescue));
     each = λ k inside. ⊎_elim
         (λ h. subst (IsWiredModule (infos ++ info ∷ []) (wired ++ m ∷ []) k) (sym (module-kept wired m k h)) (old_kept k h (wiring.each k h)))
         (λ h. let last : length wired ≡ k = omega (arith, simp length-append at inside) in
@@ -135,4 +136,4 @@ module _ (infos : List ModuleInfo) (wired : List Wired) (info : ModuleInfo) (m :
   }
 
 pub none-wired : AreWired [] []
-none-wired = record { count = refl; each = λ k inside. absurd (omega (arith, inside)) }
+none-wired = record { count = refl; rescues = All-nil HasLawfulRescue; each = λ k inside. absurd (omega (arith, inside)) }

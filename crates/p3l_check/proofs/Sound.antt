@@ -15,6 +15,7 @@ use Rattle.p3l_body.specs.declared.var.Var.{Var}
 use Rattle.p3l_body.specs.declared.ports.Ports.{Ports}
 use Rattle.p3l_body.specs.Scope.{Names, named, declared_one, declared}
 use Rattle.p3l_body.specs.Seq.{ports_of}
+use Rattle.p3l_skel.specs.Lawful.{HasLawfulRescue}
 use Rattle.p3l_unfold.specs.declared.wired.Wired.{Wired}
 use Rattle.p3l_unfold.specs.Wiring.{module_at}
 use Rattle.p3l_calls.specs.Port.{total, AreSized}
@@ -43,6 +44,7 @@ none-sound = record { wiring = none-wired; ported = refl; have = λ k inside. ab
 
 -- a module that may be defined after others
 pub record MayFollow (modules : Modules) (d : Defined) : Type 0 where
+  pub rescue : HasLawfulRescue d.info
   pub next : IsNext modules.wired d.info.kind d.wired
   pub have : HasTotals d.ports d.wired.ins d.wired.outs
 
@@ -51,7 +53,7 @@ totals-same a b v w p q h = subst (λ x. HasTotals x w.ins w.outs) p (subst (λ 
 
 pub sound-more : (modules : Modules) (d : Defined) → AreSound modules → MayFollow modules d → AreSound (with_module modules d)
 sound-more modules d sound follows = record {
-  wiring = wired-more modules.infos modules.wired d.info d.wired sound.wiring follows.next;
+  wiring = wired-more modules.infos modules.wired d.info d.wired sound.wiring follows.rescue follows.next;
   ported = length-append modules.ports (d.ports ∷ []) ∙ (ap (λ n. n + 1) sound.ported ∙ sym (length-append modules.infos (d.info ∷ [])));
   have = λ k inside. ⊎_elim
       (λ h. let there : k < length modules.ports = omega (arith, sound.ported, sound.wiring.count) in
@@ -123,6 +125,7 @@ next-follows before m d sound e =
     let fits = skeleton-fits before sound.wiring.count sound.have (λ k inside. (sound.wiring.each k inside).ins.0) m ports.0 m.kind good.ins good.outs good.some_outs skeleton.0 skeleton.1 in
     subst (MayFollow before.modules) is
     (record {
+      rescue = tt;
       next = record {
         kind_is = fits.kind_is;
         ins = (good.some_ins, good.ins.few_words);

@@ -94,7 +94,7 @@ kind_in kinds.Loop = skeletons.Loop
 
 -- a module with its name
 abbrev pub info_of : ModuleTree → ModuleInfo
-info_of m = record { name = m.at.name; kind = kind_in m.kind }
+info_of m = record { name = m.at.name; kind = kind_in m.kind; rescue = None }
 
 -- a module of these ports and this skeleton
 abbrev pub defined_as : ModuleInfo → Ports → Skeleton → Defined

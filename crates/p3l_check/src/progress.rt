@@ -66,6 +66,7 @@ fn info_of(alloc: Global, module: &Module) -> Result<ModuleInfo, NoMemory>
     Ok(ModuleInfo {
         name: Name::from_text(alloc, module.at.name.as_str())?,
         kind: kind_in(module.kind),
+        rescue: None,
     })
 }
 

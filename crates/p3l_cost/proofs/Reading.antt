@@ -7,10 +7,10 @@ use Rattle.std.proofs.lemmas.Bool.{leb-true}
 use Rattle.std.proofs.lemmas.List.Elements.{All-nil, All-cons}
 use Rattle.toml.specs.Data.{Data, string, integer, float, boolean, datetime, array, table, Members, get_member}
 use Rattle.p3l_skel.specs.declared.tree.ModuleInfo.{ModuleInfo}
-use Rattle.p3l_skel.specs.declared.tree.ModuleKind.TheVariants as kind
 use Rattle.p3l_skel.specs.declared.tree.Node.{Node}
 use Rattle.p3l_skel.specs.declared.tree.Tree.{Tree}
 use Rattle.p3l_skel.specs.Lawful.{IsLawfulTree}
+use Rattle.p3l_skel.specs.Tree.{no_module}
 use Rattle.p3l_cost.specs.declared.costs.Costs.{Costs}
 use Rattle.p3l_cost.specs.declared.refusal.CostRefusal.{CostRefusal}
 use Rattle.p3l_cost.specs.declared.refusal.CostRefusal.TheVariants.{NotToml, BadKey, BadValue, Missing, NoMemory}
@@ -20,9 +20,6 @@ use Rattle.p3l_cost.specs.Costs.{AreCostsOf, IsTurns, most_cost}
 use Rattle.p3l_cost.specs.Standard.{full_turns, turns_of, turns_or}
 use Rattle.p3l_cost.specs.File.{Gives, IsDocument, IsRead, Verdict, all_ticks, all_turns, costs_in, costs_with, entry_in, entry_of, given, is_used, keys_rule, least_of, number_in, speaks_of, ticks_of, ticks_or, turns_of_module, whole_in}
 use Rattle.p3l_cost.proofs.Turns.{home_inside, limits_at, turns_lawful, turns_within, within-form}
-
-no_info : ModuleInfo
-no_info = record { name = []; kind = kind.Seq }
 
 -- numbers that were found are in range
 whole_in-range : (low high : ℕ) (d : Data) → IfSome (whole_in low high d) (λ n. (low ≤ n) × (n ≤ high))
@@ -139,8 +136,8 @@ module _ (tree : Tree) (document : Members) where
         slice_index (all_turns tree document 0 tree.modules) (get_or tree.nodes k d).module ≤ t
     node-within k d inside t e =
         let home = (get_or tree.nodes k d).module in
-        let m : ModuleInfo = get_or tree.modules home no_info in
-        let at : slice_index (all_turns tree document 0 tree.modules) home ≡ turns_of_module tree document (0 + home) m = all_turns-at 0 tree.modules home 0 no_info (home_inside tree lawful k d inside) in
+        let m : ModuleInfo = get_or tree.modules home no_module in
+        let at : slice_index (all_turns tree document 0 tree.modules) home ≡ turns_of_module tree document (0 + home) m = all_turns-at 0 tree.modules home 0 no_module (home_inside tree lawful k d inside) in
         let here : 0 + home ≡ home = omega arith in
         rw (at, here)
         (turns_of-are (λ n. n ≤ t) home m (limits_at tree lawful k d inside t e).0 (turns_within tree lawful 1 k d inside t e)

@@ -16,6 +16,7 @@ fn add_module(
     tree.modules.push(ModuleInfo {
         name: Name::from_text(alloc, name)?,
         kind,
+        rescue: None,
     })
 }
 

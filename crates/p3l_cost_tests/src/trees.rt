@@ -156,6 +156,7 @@ fn add(
     tree.modules.push(ModuleInfo {
         name: Name::from_text(alloc, "m")?,
         kind: form.kind(),
+        rescue: None,
     })?;
     tree.nodes.push(Node {
         form,

@@ -5,7 +5,7 @@ use Rattle.p3l_base.specs.declared.outcome.Outcome.TheVariants.{Value, Trapped}
 use Rattle.p3l_skel.specs.declared.tree.Form.{Form}
 use Rattle.p3l_skel.specs.declared.tree.Form.TheVariants.{Farm}
 use Rattle.p3l_skel.specs.Tree.{node_at, part_at, HasLength, GivesOuts}
-use Rattle.p3l_skel.specs.Item.{item, item_row}
+use Rattle.p3l_skel.specs.Item.{item, item_row, rescued_at}
 use Rattle.p3l_skel.specs.Lawful.{IsLawfulTree, IsLawfulForm, HasOnePart, HasWords}
 use Rattle.p3l_skel.proofs.Depth.{lawful_at, item-by_parts}
 use Rattle.p3l_skel.proofs.Kept.{item-keeps}
@@ -28,10 +28,10 @@ module _ (units : Units) (lawful : IsLawfulTree units.tree) (node : ℕ) (inside
 
   pub item_at : (form : Form) (words : List ℤ) → (node_at units.tree node).form ≡ form →
       item units.tree units.leaf node words
-      ≡ item_row units.leaf (node_at units.tree node).module form (node_at units.tree node).parts (item units.tree units.leaf) words
+      ≡ item_row (rescued_at units.tree node) units.leaf (node_at units.tree node).module form (node_at units.tree node).parts (item units.tree units.leaf) words
   item_at form words is =
       item-by_parts units.tree units.leaf lawful node words inside
-      ∙ ap (λ f. item_row units.leaf (node_at units.tree node).module f (node_at units.tree node).parts
+      ∙ ap (λ f. item_row (rescued_at units.tree node) units.leaf (node_at units.tree node).module f (node_at units.tree node).parts
       (item units.tree units.leaf) words) is
 
   -- what it makes of an outcome with its in words has its out words

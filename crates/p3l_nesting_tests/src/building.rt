@@ -24,8 +24,8 @@ fn array_of(alloc: Global, dims: &[Dim]) -> Result<List<Slice>, NoMemory> {
 
 fn form_of(alloc: Global, shape: Shape) -> Result<Form, NoMemory> {
     Ok(match shape {
-        Shape::Seq(_) => Form::Seq,
-        Shape::Comp => Form::Comp,
+        Shape::Seq(_) | Shape::RescuedSeq(..) => Form::Seq,
+        Shape::Comp | Shape::RescuedComp(_) => Form::Comp,
         Shape::Pipe => Form::Pipe,
         Shape::Farm => Form::Farm { workers: None },
         Shape::Map(first, second, ins, outs) => map_of(alloc, first, second, ins, outs)?,
@@ -36,6 +36,14 @@ fn form_of(alloc: Global, shape: Shape) -> Result<Form, NoMemory> {
         },
         Shape::Loop(turns, tokens) => Form::Loop { turns, tokens },
     })
+}
+
+// The rescue number of the module of a node.
+fn rescue_of(shape: Shape) -> Option<i64> {
+    match shape {
+        Shape::RescuedSeq(_, number) | Shape::RescuedComp(number) => Some(number),
+        _ => None,
+    }
 }
 
 fn map_of(
@@ -64,7 +72,8 @@ fn add(alloc: Global, tree: &mut Tree, row: Row) -> Result<(), NoMemory> {
     let form = form_of(alloc, row.0)?;
     let name = Name::from_text(alloc, "m")?;
     let kind = form.kind();
-    tree.modules.push(ModuleInfo { name, kind })?;
+    let rescue = rescue_of(row.0);
+    tree.modules.push(ModuleInfo { name, kind, rescue })?;
     let parts = list_of(alloc, row.3)?;
     tree.nodes.push(Node {
         form,
@@ -91,7 +100,7 @@ pub fn tree_of(alloc: Global, rows: &[Row]) -> Result<Tree, NoMemory> {
 pub fn codes_of(alloc: Global, rows: &[Row]) -> Result<List<Code>, NoMemory> {
     let mut codes = List::new(alloc);
     for row in rows {
-        if let Shape::Seq(body) = row.0 {
+        if let Shape::Seq(body) | Shape::RescuedSeq(body, _) = row.0 {
             codes.push(code_of(alloc, body)?)?;
         }
     }

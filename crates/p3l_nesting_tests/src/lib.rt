@@ -31,6 +31,8 @@ mod reduces;
 #[cfg(test)]
 mod refused;
 #[cfg(test)]
+mod rescues;
+#[cfg(test)]
 mod running;
 #[cfg(test)]
 mod serving;

@@ -9,6 +9,9 @@ use p3l_base::{Dim, Place};
 pub enum Shape {
     Seq(Body),
     Comp,
+    /// A seq and a comp whose modules have this rescue number.
+    RescuedSeq(Body, i64),
+    RescuedComp(i64),
     Pipe,
     Farm,
     /// So many first and second indices, and the sizes of the one array that is taken apart and of

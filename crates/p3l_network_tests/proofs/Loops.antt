@@ -1,5 +1,5 @@
 -- The loop, as it is built, and what its nodes make of words.
-use Rattle.std.proofs.Common.{◌≡◌, ℕ, ℤ, List, [], ◌∷◌, ◌++◌, Result, IfOk, sym, subst}
+use Rattle.std.proofs.Common.{◌≡◌, ℕ, ℤ, List, [], ◌∷◌, ◌++◌, Result, IfOk, sym, subst, None}
 use Rattle.p3l_base.specs.declared.memory.NoMemory.{NoMemory}
 use Rattle.p3l_base.specs.declared.outcome.Outcome.{Outcome}
 use Rattle.p3l_skel.specs.Item.{item, item_to}
@@ -12,9 +12,9 @@ use Rattle.p3l_skel.specs.declared.tree.Tree.{Tree}
 use Rattle.p3l_network_tests.specs.Looped.{loop_modules, counting_loop, counts_down}
 
 pub modules_are : (none one two three : List ModuleInfo) →
-    none ≡ [] → one ≡ none ++ record { name = 109 ∷ 97 ∷ 105 ∷ 110 ∷ []; kind = kind.Loop } ∷ [] →
-    two ≡ one ++ record { name = 98 ∷ 111 ∷ 100 ∷ 121 ∷ []; kind = kind.Seq } ∷ [] →
-    three ≡ two ++ record { name = 116 ∷ 101 ∷ 115 ∷ 116 ∷ []; kind = kind.Seq } ∷ [] → three ≡ loop_modules
+    none ≡ [] → one ≡ none ++ record { name = 109 ∷ 97 ∷ 105 ∷ 110 ∷ []; kind = kind.Loop; rescue = None } ∷ [] →
+    two ≡ one ++ record { name = 98 ∷ 111 ∷ 100 ∷ 121 ∷ []; kind = kind.Seq; rescue = None } ∷ [] →
+    three ≡ two ++ record { name = 116 ∷ 101 ∷ 115 ∷ 116 ∷ []; kind = kind.Seq; rescue = None } ∷ [] → three ≡ loop_modules
 unfolding loop_modules
 modules_are none one two three a b c d = cc
 

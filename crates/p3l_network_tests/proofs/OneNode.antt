@@ -1,5 +1,5 @@
 -- The tree of one node, its bodies and its net.
-use Rattle.std.proofs.Common.{◌≡◌, ℕ, ℤ, zero, suc, ◌<◌, List, [], ◌∷◌, ◌++◌, length, refl, sym, subst, arith}
+use Rattle.std.proofs.Common.{◌≡◌, ℕ, ℤ, zero, suc, ◌<◌, List, [], ◌∷◌, ◌++◌, length, refl, sym, subst, arith, None}
 use Rattle.p3l_base.specs.declared.outcome.Outcome.TheVariants.{Value, Trapped}
 use Rattle.p3l_base.specs.declared.outcome.TrapKind.TheVariants.{DivZero}
 use Rattle.p3l_skel.specs.declared.tree.Form.TheVariants.{Seq}
@@ -20,7 +20,7 @@ use Rattle.p3l_network_tests.specs.Refusing.{refusing}
 -- the tree is its one node and its one module
 pub tree_is : (nodes nodes' : List Node) (parts : List ℕ) (modules modules' : List ModuleInfo) (name : List ℕ) →
     nodes ≡ [] → parts ≡ [] → nodes' ≡ nodes ++ record { form = Seq; «module» = 0; ins = 1; outs = 1; parts = parts } ∷ [] →
-    modules ≡ [] → name ≡ 109 ∷ 97 ∷ 105 ∷ 110 ∷ [] → modules' ≡ modules ++ record { name = name; kind = kind.Seq } ∷ [] →
+    modules ≡ [] → name ≡ 109 ∷ 97 ∷ 105 ∷ 110 ∷ [] → modules' ≡ modules ++ record { name = name; kind = kind.Seq; rescue = None } ∷ [] →
     let tree : Tree = record { nodes = nodes'; modules = modules' } in tree ≡ one_node
 unfolding one_node
 tree_is nodes nodes' parts modules modules' name a b c d e f = cc

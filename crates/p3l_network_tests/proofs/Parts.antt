@@ -1,5 +1,5 @@
 -- The trees of a root with one part, as they are built, and what their nodes make of words.
-use Rattle.std.proofs.Common.{◌≡◌, ℕ, ℤ, pos, zero, suc, ◌-ℤ◌, List, [], ◌∷◌, ◌++◌, length, get_or, Result, IfOk, refl, sym, subst, arith}
+use Rattle.std.proofs.Common.{◌≡◌, ℕ, ℤ, pos, zero, suc, ◌-ℤ◌, List, [], ◌∷◌, ◌++◌, length, get_or, Result, IfOk, refl, sym, subst, arith, None}
 use Rattle.p3l_base.specs.declared.memory.NoMemory.{NoMemory}
 use Rattle.p3l_base.specs.declared.outcome.Outcome.{Outcome}
 use Rattle.p3l_base.specs.declared.outcome.Outcome.TheVariants.{Value, Trapped}
@@ -19,8 +19,8 @@ use Rattle.p3l_network_tests.specs.WithPart.{two_modules, with_part, four_map, f
 use Rattle.p3l_network_tests.specs.Refusing.{refusing}
 
 pub modules_are : (of_root : ModuleKind) (none one two : List ModuleInfo) →
-    none ≡ [] → one ≡ none ++ record { name = 109 ∷ 97 ∷ 105 ∷ 110 ∷ []; kind = of_root } ∷ [] →
-    two ≡ one ++ record { name = 112 ∷ 97 ∷ 114 ∷ 116 ∷ []; kind = kind.Seq } ∷ [] → two ≡ two_modules of_root
+    none ≡ [] → one ≡ none ++ record { name = 109 ∷ 97 ∷ 105 ∷ 110 ∷ []; kind = of_root; rescue = None } ∷ [] →
+    two ≡ one ++ record { name = 112 ∷ 97 ∷ 114 ∷ 116 ∷ []; kind = kind.Seq; rescue = None } ∷ [] → two ≡ two_modules of_root
 unfolding two_modules
 modules_are of_root none one two a b c = cc
 

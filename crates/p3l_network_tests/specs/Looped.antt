@@ -1,5 +1,5 @@
 -- A loop whose body counts its first word down, and its turns up, until the first word is 0.
-use Rattle.std.specs.Prelude.{ℕ, ℤ, pos, zero, suc, ◌+ℤ◌, ◌-ℤ◌, List, [], ◌∷◌, codes, slice_index_or}
+use Rattle.std.specs.Prelude.{ℕ, ℤ, pos, zero, suc, ◌+ℤ◌, ◌-ℤ◌, List, [], ◌∷◌, codes, slice_index_or, None}
 use Rattle.p3l_base.specs.declared.outcome.Outcome.{Outcome}
 use Rattle.p3l_base.specs.declared.outcome.Outcome.TheVariants.{Value}
 use Rattle.p3l_skel.specs.declared.tree.Form.TheVariants.{Seq, Loop}
@@ -10,8 +10,8 @@ use Rattle.p3l_skel.specs.declared.tree.Tree.{Tree}
 -- the modules of the loop, of its body and of its condition
 unfoldable pub loop_modules : List ModuleInfo
 loop_modules =
-    record { name = codes "main"; kind = kind.Loop }
-    ∷ (record { name = codes "body"; kind = kind.Seq } ∷ (record { name = codes "test"; kind = kind.Seq } ∷ []))
+    record { name = codes "main"; kind = kind.Loop; rescue = None }
+    ∷ (record { name = codes "body"; kind = kind.Seq; rescue = None } ∷ (record { name = codes "test"; kind = kind.Seq; rescue = None } ∷ []))
 
 -- three turns and two tokens; node 1 is the body and node 2 the condition
 unfoldable pub counting_loop : Tree

@@ -67,6 +67,7 @@ fn tree_of_one(alloc: Global) -> Result<Tree, NoMemory>
     modules.push(ModuleInfo {
         name: Name::from_text(alloc, "main")?,
         kind: ModuleKind::Seq,
+        rescue: None,
     })?;
     Ok(Tree { nodes, modules })
 }

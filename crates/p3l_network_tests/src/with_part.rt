@@ -45,10 +45,14 @@ pub fn add(
     name: &str,
     kind: ModuleKind,
 ) -> Result<(), NoMemory>
-    ensures ok { OnOk result (modules.new ≡ modules.old ++ record { name = name.now; kind = kind } ∷ []) }
+    ensures ok { OnOk result (modules.new ≡ modules.old ++ record { name = name.now; kind = kind; rescue = None } ∷ []) }
 {
     let name = Name::from_text(alloc, name)?;
-    modules.push(ModuleInfo { name, kind })
+    modules.push(ModuleInfo {
+        name,
+        kind,
+        rescue: None,
+    })
 }
 
 /// The modules of a root of this kind and of its part.

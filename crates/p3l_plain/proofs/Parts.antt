@@ -9,8 +9,8 @@ use Rattle.p3l_skel.specs.declared.tree.Form.{Form}
 use Rattle.p3l_skel.specs.declared.tree.Form.TheVariants.{Seq, Comp, Pipe, Farm, Map, Reduce, Loop}
 use Rattle.p3l_skel.specs.declared.tree.Node.{Node}
 use Rattle.p3l_skel.specs.declared.tree.Tree.{Tree}
-use Rattle.p3l_skel.specs.Tree.{node_at, FitsForm, HasFittingLength, HasLength, GivesOuts, IsUnit, sequential_row, sequential_to}
-use Rattle.p3l_skel.specs.Item.{on_value, item_row, item, elements}
+use Rattle.p3l_skel.specs.Tree.{node_at, rescue_of, FitsForm, HasFittingLength, HasLength, GivesOuts, IsUnit, sequential_row, sequential_to}
+use Rattle.p3l_skel.specs.Item.{on_value, item_row, item, elements, rescued}
 use Rattle.p3l_skel.specs.Lawful.{AreSubtrees, IsSubtree, IsSize, HasOnePart, HasTwoParts, HasWords, IsLawfulForm, IsLawfulMap, IsLawfulReduce, IsLawfulLoop, IsLawfulTree}
 use Rattle.p3l_skel.proofs.Depth.{lawful_at, subtree_at, IsSubtree-grows, item-by_parts}
 use Rattle.p3l_skel.proofs.Below.{sequential_to-step}
@@ -106,10 +106,11 @@ module _ (tree : Tree) (lawful : IsLawfulTree tree) where
       let at = lawful_at tree lawful k inside in
       subst (λ (m : Node). 1 ≤ m.ins) (sym found) at.ins.0
 
-  pub row_at : (leaf : ℕ → List ℤ → Outcome) (node : Node) (k : ℕ) (form : Form) (words : List ℤ) → node ≡ node_at tree k → k < length tree.nodes → node.form ≡ form → item_row leaf node.module form node.parts (item tree leaf) words ≡ item tree leaf k words
+  pub row_at : (leaf : ℕ → List ℤ → Outcome) (node : Node) (k : ℕ) (form : Form) (words : List ℤ) → node ≡ node_at tree k → k < length tree.nodes → node.form ≡ form →
+      item_row (rescued (rescue_of tree node.module) node.outs) leaf node.module form node.parts (item tree leaf) words ≡ item tree leaf k words
   row_at leaf node k form words found inside is =
-      sym (ap (λ f. item_row leaf node.module f node.parts (item tree leaf) words) is)
-      ∙ (ap (λ (n : Node). item_row leaf n.module n.form n.parts (item tree leaf) words) found ∙ sym (item-by_parts tree leaf lawful k words inside))
+      sym (ap (λ f. item_row (rescued (rescue_of tree node.module) node.outs) leaf node.module f node.parts (item tree leaf) words) is)
+      ∙ (ap (λ (n : Node). item_row (rescued (rescue_of tree n.module) n.outs) leaf n.module n.form n.parts (item tree leaf) words) found ∙ sym (item-by_parts tree leaf lawful k words inside))
 
   pub is_unit : (other : Tree) (node : Node) (k : ℕ) → other ≡ tree → node ≡ node_at tree k → k < length tree.nodes → node.form ≡ Seq → IsUnit other k
   is_unit other node k served found inside is =

@@ -12,6 +12,7 @@ ghost use Rattle.std.specs.Prelude.{◌≡◌, ◌<◌, ◌≤◌, ◌*◌, leng
 use crate::element::{elements, gather};
 use crate::outcome::{copied, is_done, paired};
 use p3l_base::{Cut, List, NoMemory, Outcome, Trap, TrapKind, Words, join};
+use p3l_skel::outcome::rescue;
 use p3l_skel::{Form, Node, Tree, Units};
 use std::alloc::Global;
 
@@ -35,7 +36,10 @@ pub fn item_outcome<U: Units>(
     };
     match &found.form {
         Form::Seq => units.run(alloc, node, words),
-        Form::Comp => stages_outcome(alloc, tree, units, found, words),
+        Form::Comp => {
+            let outcome = stages_outcome(alloc, tree, units, found, words)?;
+            rescue(alloc, tree, found, outcome)
+        }
         Form::Pipe => stages_outcome(alloc, tree, units, found, words),
         Form::Farm { .. } => item_outcome(alloc, tree, units, found.part(0), words),
         Form::Map { cut, .. } => map_outcome(alloc, tree, units, found.part(0), cut, words),

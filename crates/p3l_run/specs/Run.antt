@@ -3,9 +3,8 @@ use Rattle.std.specs.Prelude.{◌≡◌, ℕ, ℤ, List, [], ◌++◌, cond, len
 use Rattle.p3l_base.specs.declared.memory.NoMemory.{NoMemory}
 use Rattle.p3l_base.specs.declared.outcome.Outcome.{Outcome}
 use Rattle.p3l_base.specs.declared.outcome.Trap.{Trap}
-use Rattle.p3l_skel.specs.declared.tree.ModuleInfo.{ModuleInfo}
-use Rattle.p3l_skel.specs.declared.tree.ModuleKind.TheVariants.{Seq}
 use Rattle.p3l_skel.specs.declared.tree.Tree.{Tree}
+use Rattle.p3l_skel.specs.Tree.{no_module}
 use Rattle.p3l_net.specs.Carried.{HaveInWords}
 use Rattle.p3l_net.specs.Run.{Course}
 use Rattle.p3l_report.specs.declared.stats.Stats.{Stats}
@@ -26,10 +25,6 @@ use Rattle.p3l_run.specs.Keeping.{kept_by}
 use Rattle.p3l_run.specs.Sum.{sum_of}
 use Rattle.p3l_run.specs.Trap.{trap_of}
 use Rattle.p3l_run.specs.Write.{HasBegun, HasPut}
-
--- what a name is read as that is no module's
-abbrev pub no_module : ModuleInfo
-no_module = record { name = []; kind = Seq }
 
 -- the name of the module of this number
 abbrev pub module_name : Tree → ℕ → List ℕ

@@ -16,7 +16,7 @@ use Rattle.p3l_net.specs.Carried.{Carry, IsCarried}
 use Rattle.p3l_net.specs.Typed.{IsTyped}
 use Rattle.p3l_run.specs.Network.{IsSound, network}
 use Rattle.p3l_skel.specs.Tree.{IsUnit, by_parts, node_at}
-use Rattle.p3l_skel.specs.Lawful.{IsSubtree, IsLawfulNode, AgreesWith, AgreesWithAll, IsLawfulTree}
+use Rattle.p3l_skel.specs.Lawful.{IsSubtree, HasLawfulRescue, IsLawfulNode, AgreesWith, AgreesWithAll, IsLawfulTree}
 use Rattle.p3l_skel.specs.Numbers.{firings, firings_by, runs_to, flat_firings, joined_firings}
 use Rattle.p3l_skel.specs.Work.{IsLight}
 use Rattle.p3l_firing.specs.declared.process.Proc.{Proc}
@@ -44,10 +44,16 @@ one_light : IsLight one_node
 unfolding one_node firings_by runs_to by_parts
 one_light = record { flat = omega arith; joined = omega arith; bodies = omega arith }
 
+one_rescues : All HasLawfulRescue one_node.modules
+unfolding one_node
+one_rescues zero d inside = tt
+one_rescues (suc i) d inside = absurd (omega (arith, inside))
+
 pub one_lawful : IsLawfulTree one_node
 unfolding one_node
 one_lawful = record {
   few_modules = omega arith;
+  rescues = one_rescues;
   few_nodes = omega arith;
   preorder = one_subtree;
   nodes = one_nodes;
@@ -62,7 +68,7 @@ three_firings = refl
 -- the tree is its one node and its one module
 pub tree_is : (nodes nodes' : List Node) (parts : List ℕ) (modules modules' : List ModuleInfo) (name : List ℕ) →
     nodes ≡ [] → parts ≡ [] → nodes' ≡ nodes ++ record { form = Seq; «module» = 0; ins = 1; outs = 1; parts = parts } ∷ [] →
-    modules ≡ [] → name ≡ 109 ∷ 97 ∷ 105 ∷ 110 ∷ [] → modules' ≡ modules ++ record { name = name; kind = kind.Seq } ∷ [] →
+    modules ≡ [] → name ≡ 109 ∷ 97 ∷ 105 ∷ 110 ∷ [] → modules' ≡ modules ++ record { name = name; kind = kind.Seq; rescue = None } ∷ [] →
     let tree : Tree = record { nodes = nodes'; modules = modules' } in tree ≡ one_node
 unfolding one_node
 tree_is nodes nodes' parts modules modules' name a b c d e f = cc

@@ -7,7 +7,7 @@ use Rattle.p3l_skel.specs.declared.tree.Form.{Form}
 use Rattle.p3l_skel.specs.declared.tree.Form.TheVariants.{Seq, Comp, Pipe, Farm, Map, Reduce, Loop}
 use Rattle.p3l_skel.specs.declared.tree.Tree.{Tree}
 use Rattle.p3l_skel.specs.Tree.{node_at, no_node, by_parts, nesting}
-use Rattle.p3l_skel.specs.Item.{on_value, in_order, mapped, reduced, turned, turns_spent, item_row, item_to, item}
+use Rattle.p3l_skel.specs.Item.{on_value, in_order, mapped, reduced, turned, turns_spent, item_row, rescued_at, item_to, item}
 use Rattle.p3l_skel.specs.Lawful.{IsSubtree, AreSubtrees, IsLawfulForm, IsLawfulNode, IsLawfulTree}
 
 -- functions that give the same everywhere are the same
@@ -26,23 +26,23 @@ in_order-same f g (p ∷ ps) outcome same =
     ap (λ m. in_order f ps (on_value m outcome)) same.0 ∙ in_order-same f g ps (on_value (g p) outcome) same.1
 
 -- what a lawful node makes of words hangs on what its parts do alone
-item_row-same : (tree : Tree) (leaf : ℕ → List ℤ → Outcome) (home : ℕ) (form : Form) (ins outs : ℕ) (parts : List ℕ) (f g : ℕ → List ℤ → Outcome) → IsLawfulForm tree form ins outs parts → SameAt f g parts → (words : List ℤ) → item_row leaf home form parts f words ≡ item_row leaf home form parts g words
+item_row-same : (tree : Tree) (rescue : Outcome → Outcome) (leaf : ℕ → List ℤ → Outcome) (home : ℕ) (form : Form) (ins outs : ℕ) (parts : List ℕ) (f g : ℕ → List ℤ → Outcome) → IsLawfulForm tree form ins outs parts → SameAt f g parts → (words : List ℤ) → item_row rescue leaf home form parts f words ≡ item_row rescue leaf home form parts g words
 unfolding SameAt
-item_row-same tree leaf home Seq ins outs parts f g lawful same words = refl
-item_row-same tree leaf home Comp ins outs parts f g lawful same words = in_order-same f g parts (Value words) same
-item_row-same tree leaf home Pipe ins outs parts f g lawful same words = in_order-same f g parts (Value words) same
-item_row-same tree leaf home (Farm w) ins outs [] f g lawful same words = absurd lawful
-item_row-same tree leaf home (Farm w) ins outs (p ∷ ps) f g lawful same words = ap (λ m. m words) same.0
-item_row-same tree leaf home (Map w cut) ins outs [] f g lawful same words = absurd lawful
-item_row-same tree leaf home (Map w cut) ins outs (p ∷ ps) f g lawful same words = ap (λ m. mapped cut m words) same.0
-item_row-same tree leaf home (Reduce w len elem) ins outs [] f g lawful same words = absurd lawful
-item_row-same tree leaf home (Reduce w len elem) ins outs (p ∷ ps) f g lawful same words = ap (λ m. reduced elem m words) same.0
-item_row-same tree leaf home (Loop turns tokens) ins outs [] f g lawful same words = absurd lawful
-item_row-same tree leaf home (Loop turns tokens) ins outs (p ∷ []) f g lawful same words = absurd lawful
-item_row-same tree leaf home (Loop turns tokens) ins outs (p ∷ (q ∷ ps)) f g lawful same words =
+item_row-same tree rescue leaf home Seq ins outs parts f g lawful same words = refl
+item_row-same tree rescue leaf home Comp ins outs parts f g lawful same words = ap rescue (in_order-same f g parts (Value words) same)
+item_row-same tree rescue leaf home Pipe ins outs parts f g lawful same words = in_order-same f g parts (Value words) same
+item_row-same tree rescue leaf home (Farm w) ins outs [] f g lawful same words = absurd lawful
+item_row-same tree rescue leaf home (Farm w) ins outs (p ∷ ps) f g lawful same words = ap (λ m. m words) same.0
+item_row-same tree rescue leaf home (Map w cut) ins outs [] f g lawful same words = absurd lawful
+item_row-same tree rescue leaf home (Map w cut) ins outs (p ∷ ps) f g lawful same words = ap (λ m. mapped cut m words) same.0
+item_row-same tree rescue leaf home (Reduce w len elem) ins outs [] f g lawful same words = absurd lawful
+item_row-same tree rescue leaf home (Reduce w len elem) ins outs (p ∷ ps) f g lawful same words = ap (λ m. reduced elem m words) same.0
+item_row-same tree rescue leaf home (Loop turns tokens) ins outs [] f g lawful same words = absurd lawful
+item_row-same tree rescue leaf home (Loop turns tokens) ins outs (p ∷ []) f g lawful same words = absurd lawful
+item_row-same tree rescue leaf home (Loop turns tokens) ins outs (p ∷ (q ∷ ps)) f g lawful same words =
     ap (λ m. turned m (f q) (turns_spent home) turns words) same.0 ∙ ap (λ m. turned (g p) m (turns_spent home) turns words) same.1.0
 
-pub item_to-step : (tree : Tree) (leaf : ℕ → List ℤ → Outcome) (d k : ℕ) → item_to tree leaf (suc d) k ≡ item_row leaf (node_at tree k).module (node_at tree k).form (node_at tree k).parts (item_to tree leaf d)
+pub item_to-step : (tree : Tree) (leaf : ℕ → List ℤ → Outcome) (d k : ℕ) → item_to tree leaf (suc d) k ≡ item_row (rescued_at tree k) leaf (node_at tree k).module (node_at tree k).form (node_at tree k).parts (item_to tree leaf d)
 unfolding item_to by_parts
 item_to-step tree leaf d k = refl
 
@@ -66,7 +66,7 @@ module _ (tree : Tree) (leaf : ℕ → List ℤ → Outcome) (lawful : IsLawfulT
       let node = lawful_at tree lawful k subtree.0 in
       let less : d ≤ e = omega arith in
       item_to-step tree leaf e k
-      ∙ (same_function _ _ (item_row-same tree leaf (node_at tree k).module (node_at tree k).form (node_at tree k).ins (node_at tree k).outs (node_at tree k).parts (item_to tree leaf e) (item_to tree leaf d) node.form (parts_agree d e (λ j n s. item_to-deep d e j n less s) (node_at tree k).parts (k + 1) next subtree.1))
+      ∙ (same_function _ _ (item_row-same tree (rescued_at tree k) leaf (node_at tree k).module (node_at tree k).form (node_at tree k).ins (node_at tree k).outs (node_at tree k).parts (item_to tree leaf e) (item_to tree leaf d) node.form (parts_agree d e (λ j n s. item_to-deep d e j n less s) (node_at tree k).parts (k + 1) next subtree.1))
       ∙ sym (item_to-step tree leaf d k))
 
 -- the subtree at any number in a subtree
@@ -121,11 +121,11 @@ pub subtree_at : (tree : Tree) → IsLawfulTree tree → (k : ℕ) → k < lengt
 subtree_at tree lawful k inside = IsSubtree-at nesting tree 0 (length tree.nodes) k lawful.preorder (omega arith) inside
 
 -- a node's meaning goes by those of its parts
-pub item-by_parts : (tree : Tree) (leaf : ℕ → List ℤ → Outcome) → IsLawfulTree tree → (k : ℕ) (words : List ℤ) → k < length tree.nodes → item tree leaf k words ≡ item_row leaf (node_at tree k).module (node_at tree k).form (node_at tree k).parts (item tree leaf) words
+pub item-by_parts : (tree : Tree) (leaf : ℕ → List ℤ → Outcome) → IsLawfulTree tree → (k : ℕ) (words : List ℤ) → k < length tree.nodes → item tree leaf k words ≡ item_row (rescued_at tree k) leaf (node_at tree k).module (node_at tree k).form (node_at tree k).parts (item tree leaf) words
 unfolding IsSubtree
 item-by_parts tree leaf lawful k words inside =
     let subtree = subtree_at tree lawful k inside in
     let node = lawful_at tree lawful k inside in
     ap (λ m. m words) (item_to-step tree leaf 5 k)
-    ∙ sym (item_row-same tree leaf (node_at tree k).module (node_at tree k).form (node_at tree k).ins (node_at tree k).outs (node_at tree k).parts (item_to tree leaf 6) (item_to tree leaf 5) node.form
+    ∙ sym (item_row-same tree (rescued_at tree k) leaf (node_at tree k).module (node_at tree k).form (node_at tree k).ins (node_at tree k).outs (node_at tree k).parts (item_to tree leaf 6) (item_to tree leaf 5) node.form
     (parts_agree tree leaf lawful 5 6 (λ j n s. item_to-deep tree leaf lawful 5 6 j n (omega arith) s) (node_at tree k).parts (k + 1) subtree.0 subtree.1.1) words)

@@ -1,5 +1,5 @@
 -- The most segments of a reduce are the greatest lawful number of them.
-use Rattle.std.proofs.Common.{◌≡◌, ℕ, zero, suc, ◌*◌, ◌^◌, ◌<◌, ◌≤◌, List, [], ◌∷◌, length, refl, arith, subst, sym, Option, Some, None}
+use Rattle.std.proofs.Common.{◌≡◌, ℕ, zero, suc, ◌*◌, ◌^◌, ◌≤◌, List, [], ◌∷◌, refl, arith, subst, Option, Some, None}
 use Rattle.std.specs.Prelude.{IfSome}
 use Rattle.p3l_skel.specs.declared.tree.Form.{Form}
 use Rattle.p3l_skel.specs.declared.tree.Form.TheVariants.{Reduce}
@@ -8,7 +8,7 @@ use Rattle.p3l_skel.specs.Tree.{node_at}
 use Rattle.p3l_skel.specs.Counts.{IsCountInRange, IsLawfulCount, workers_of}
 use Rattle.p3l_skel.specs.Lawful.{HasOnePart, IsLawfulForm, IsLawfulReduce, IsLawfulTree}
 use Rattle.p3l_skel.specs.Laws.{IsGreatest, HasGreatestSegments}
-use Rattle.p3l_skel.specs.Numbers.{most_segments, power_up_to}
+use Rattle.p3l_skel.specs.Numbers.{most_segments}
 use Rattle.p3l_skel.proofs.Depth.{lawful_at}
 use Rattle.p3l_skel.proofs.Powers.{power_up_to-power, power_up_to-fits, power_up_to-most, power_up_to-small, small_exponent}
 

@@ -1,5 +1,6 @@
 -- A value that a node gives has the node's out words.
-use Rattle.std.proofs.Common.{◌≡◌, ℕ, ℤ, zero, suc, ◌+◌, ◌*◌, ◌/◌, ◌<◌, ◌≤◌, Bool, true, false, if◌then◌else◌, List, [], ◌∷◌, ◌++◌, take, drop, length, map, refl, arith, ap, sym, ◌∙◌, subst, length-append, length-take, length-drop}
+use Rattle.std.proofs.Common.{◌≡◌, ℕ, ℤ, zero, suc, ◌+◌, ◌*◌, ◌/◌, ◌<◌, ◌≤◌, Bool, true, false, if◌then◌else◌, Option, Some, None, List, [], ◌∷◌, ◌++◌, take, drop, length, map, refl, arith, ap, sym, ◌∙◌, subst, length-append, length-take, length-drop}
+use Rattle.std.proofs.lemmas.List.{length-replicate}
 use Rattle.std.specs.List.{range_with_len}
 use Rattle.std.proofs.Math.Nat.{mul-div_cancel, mul-zero, mul_comm}
 use Rattle.std.proofs.lemmas.List.FromFn.{length-range_with_len}
@@ -13,9 +14,9 @@ use Rattle.p3l_base.specs.laws.Slice.{length-flat_map_same}
 use Rattle.p3l_skel.specs.declared.tree.Form.{Form}
 use Rattle.p3l_skel.specs.declared.tree.Form.TheVariants.{Seq, Comp, Pipe, Farm, Map, Reduce, Loop}
 use Rattle.p3l_skel.specs.declared.tree.Tree.{Tree}
-use Rattle.p3l_skel.specs.Tree.{node_at, FitsForm, HasFittingLength, HasLength, GivesOuts}
+use Rattle.p3l_skel.specs.Tree.{node_at, rescue_of, FitsForm, HasFittingLength, HasLength, GivesOuts}
 use Rattle.p3l_skel.specs.Fold.{combined, fold_of_up_to, tree_fold}
-use Rattle.p3l_skel.specs.Item.{on_value, in_order, gathered, map_outcomes, pieces, reduced, is_done, turned, turns_spent, item_row, item_to, item}
+use Rattle.p3l_skel.specs.Item.{on_value, in_order, gathered, map_outcomes, pieces, reduced, is_done, turned, turns_spent, rescued, rescued_at, item_row, item_to, item}
 use Rattle.p3l_skel.specs.Lawful.{IsChain, IsLawfulForm, IsLawfulTree, IsSubtree, AreSubtrees, IsSize}
 use Rattle.p3l_skel.proofs.Depth.{item_to-step, lawful_at, subtree_at}
 
@@ -103,6 +104,12 @@ turned-keeps body condition spent n (suc t) words last kept fits =
     after_body n (turned body condition spent t) condition (body words) (kept words fits)
     (λ result long. turned-keeps body condition spent n t result last kept long)
 
+-- what is rescued has the words that are wanted
+rescued-keeps : (number : Option ℤ) (outs : ℕ) (outcome : Outcome) → HasLength outs outcome → HasLength outs (rescued number outs outcome)
+rescued-keeps None outs outcome long = long
+rescued-keeps (Some number) outs (Value words) long = long
+rescued-keeps (Some number) outs (Trapped trap) long = length-replicate outs number
+
 -- a factor of a positive product is positive
 some_factor : (n m product : ℕ) → 1 ≤ product → product ≡ n * m → 0 < m
 some_factor n zero product some same = let e : n * zero ≡ 0 = mul-zero n in absurd (omega arith)
@@ -129,23 +136,23 @@ module _ (tree : Tree) (part : ℕ → List ℤ → Outcome) where
       in_order-keeps ps (node_at tree p).outs outs (on_value (part p) outcome) chain.2 kept.1 (on_value-keeps p ins outcome kept.0 chain.1 long)
 
   -- a node of a lawful form gives its out words
-  row-keeps : (leaf : ℕ → List ℤ → Outcome) (home : ℕ) (form : Form) (ins outs : ℕ) (parts : List ℕ) (words : List ℤ) → IsSize ins → IsLawfulForm tree form ins outs parts → AllKeep parts → (form ≡ Seq → length words ≡ ins → HasLength outs (leaf home words)) → FitsForm form ins (length words) → HasLength outs (item_row leaf home form parts part words)
+  row-keeps : (rescue : Outcome → Outcome) (leaf : ℕ → List ℤ → Outcome) (home : ℕ) (form : Form) (ins outs : ℕ) (parts : List ℕ) (words : List ℤ) → IsSize ins → IsLawfulForm tree form ins outs parts → AllKeep parts → ((outcome : Outcome) → HasLength outs outcome → HasLength outs (rescue outcome)) → (form ≡ Seq → length words ≡ ins → HasLength outs (leaf home words)) → FitsForm form ins (length words) → HasLength outs (item_row rescue leaf home form parts part words)
   unfolding AllKeep Keeps
-  row-keeps leaf home Seq ins outs parts words sized lawful kept own fits = own refl fits
-  row-keeps leaf home Comp ins outs parts words sized lawful kept own fits =
+  row-keeps rescue leaf home Seq ins outs parts words sized lawful kept rescues own fits = rescues _ (own refl fits)
+  row-keeps rescue leaf home Comp ins outs parts words sized lawful kept rescues own fits =
+      rescues _ (in_order-keeps parts ins outs (Value words) lawful.1 kept fits)
+  row-keeps rescue leaf home Pipe ins outs parts words sized lawful kept rescues own fits =
       in_order-keeps parts ins outs (Value words) lawful.1 kept fits
-  row-keeps leaf home Pipe ins outs parts words sized lawful kept own fits =
-      in_order-keeps parts ins outs (Value words) lawful.1 kept fits
-  row-keeps leaf home (Farm w) ins outs [] words sized lawful kept own fits = absurd lawful
-  row-keeps leaf home (Farm w) ins outs (p ∷ []) words sized lawful kept own fits =
+  row-keeps rescue leaf home (Farm w) ins outs [] words sized lawful kept rescues own fits = absurd lawful
+  row-keeps rescue leaf home (Farm w) ins outs (p ∷ []) words sized lawful kept rescues own fits =
       subst (λ n. HasLength n (part p words)) lawful.gives (kept.0 words (fits ∙ sym lawful.takes))
-  row-keeps leaf home (Farm w) ins outs (p ∷ (q ∷ ps)) words sized lawful kept own fits = absurd lawful
-  row-keeps leaf home (Map w cut) ins outs [] words sized lawful kept own fits = absurd lawful
-  row-keeps leaf home (Map w cut) ins outs (p ∷ []) words sized lawful kept own fits =
+  row-keeps rescue leaf home (Farm w) ins outs (p ∷ (q ∷ ps)) words sized lawful kept rescues own fits = absurd lawful
+  row-keeps rescue leaf home (Map w cut) ins outs [] words sized lawful kept rescues own fits = absurd lawful
+  row-keeps rescue leaf home (Map w cut) ins outs (p ∷ []) words sized lawful kept rescues own fits =
       gathered-keeps (joined_words cut) outs (map_outcomes cut (part p) words) (λ results. length-arrays_words results cut.second cut.outs 0 ∙ lawful.cuts.outs_end)
-  row-keeps leaf home (Map w cut) ins outs (p ∷ (q ∷ ps)) words sized lawful kept own fits = absurd lawful
-  row-keeps leaf home (Reduce w len elem) ins outs [] words sized lawful kept own fits = absurd lawful
-  row-keeps leaf home (Reduce w len elem) ins outs (p ∷ []) words sized lawful kept own fits =
+  row-keeps rescue leaf home (Map w cut) ins outs (p ∷ (q ∷ ps)) words sized lawful kept rescues own fits = absurd lawful
+  row-keeps rescue leaf home (Reduce w len elem) ins outs [] words sized lawful kept rescues own fits = absurd lawful
+  row-keeps rescue leaf home (Reduce w len elem) ins outs (p ∷ []) words sized lawful kept rescues own fits =
       let some : 0 < elem = some_factor len elem ins sized.0 lawful.elements in
       let count : length words / elem ≡ fits.0 = ap (λ n. n / elem) fits.2 ∙ mul-div_cancel fits.0 some in
       let cut = pieces-long fits.0 elem words fits.2 in
@@ -154,15 +161,15 @@ module _ (tree : Tree) (part : ℕ → List ℤ → Outcome) where
       let folded : HasLength elem (tree_fold (part p) (map (λ e. Value e) (pieces fits.0 elem words))) = fold-keeps (part p) elem _ _ operator filled cut.1 in
       subst (λ n. HasLength n (reduced elem (part p) words)) (sym lawful.result)
       (subst (λ k. HasLength elem (tree_fold (part p) (map (λ e. Value e) (pieces k elem words)))) (sym count) folded)
-  row-keeps leaf home (Reduce w len elem) ins outs (p ∷ (q ∷ ps)) words sized lawful kept own fits = absurd lawful
-  row-keeps leaf home (Loop turns tokens) ins outs [] words sized lawful kept own fits = absurd lawful
-  row-keeps leaf home (Loop turns tokens) ins outs (p ∷ []) words sized lawful kept own fits = absurd lawful
-  row-keeps leaf home (Loop turns tokens) ins outs (p ∷ (q ∷ [])) words sized lawful kept own fits =
+  row-keeps rescue leaf home (Reduce w len elem) ins outs (p ∷ (q ∷ ps)) words sized lawful kept rescues own fits = absurd lawful
+  row-keeps rescue leaf home (Loop turns tokens) ins outs [] words sized lawful kept rescues own fits = absurd lawful
+  row-keeps rescue leaf home (Loop turns tokens) ins outs (p ∷ []) words sized lawful kept rescues own fits = absurd lawful
+  row-keeps rescue leaf home (Loop turns tokens) ins outs (p ∷ (q ∷ [])) words sized lawful kept rescues own fits =
       let loop = lawful.parts in
       turned-keeps (part p) (part q) (turns_spent home) outs turns words tt
       (λ v long. subst (λ n. HasLength n (part p v)) loop.turned.gives (kept.0 v (long ∙ (sym loop.same_words ∙ sym loop.turned.takes))))
       (fits ∙ loop.same_words)
-  row-keeps leaf home (Loop turns tokens) ins outs (p ∷ (q ∷ (r ∷ ps))) words sized lawful kept own fits = absurd lawful
+  row-keeps rescue leaf home (Loop turns tokens) ins outs (p ∷ (q ∷ (r ∷ ps))) words sized lawful kept rescues own fits = absurd lawful
 
 -- a lawful node may take its in words
 fits-ins : (tree : Tree) (form : Form) (ins outs : ℕ) (parts : List ℕ) (n : ℕ) → IsSize ins → IsLawfulForm tree form ins outs parts → n ≡ ins → FitsForm form ins n
@@ -199,8 +206,9 @@ module _ (tree : Tree) (leaf : ℕ → List ℤ → Outcome) (lawful : IsLawfulT
   item_to-keeps (suc d) k next words subtree fits =
       let node = lawful_at tree lawful k subtree.0 in
       subst (λ (m : List ℤ → Outcome). HasLength (node_at tree k).outs (m words)) (sym (item_to-step tree leaf d k))
-      (row-keeps tree (item_to tree leaf d) leaf (node_at tree k).module (node_at tree k).form (node_at tree k).ins (node_at tree k).outs (node_at tree k).parts words node.ins node.form
+      (row-keeps tree (item_to tree leaf d) (rescued_at tree k) leaf (node_at tree k).module (node_at tree k).form (node_at tree k).ins (node_at tree k).outs (node_at tree k).parts words node.ins node.form
       (parts-keep d (λ j n w s f. item_to-keeps d j n w s f) (node_at tree k).parts (k + 1) next subtree.1)
+      (rescued-keeps (rescue_of tree (node_at tree k).module) (node_at tree k).outs)
       (λ seq long. gives k words subtree.0 seq long) fits)
 
   -- a value that a node gives has the node's out words

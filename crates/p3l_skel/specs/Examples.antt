@@ -1,12 +1,12 @@
 -- Values of the meaning that were worked out by hand.
-use Rattle.std.specs.Prelude.{◌≡◌, ℤ, pos, negsuc, zero, suc, ◌+ℤ◌, ◌-ℤ◌, ◌*ℤ◌, int_div, List, [], ◌∷◌}
+use Rattle.std.specs.Prelude.{◌≡◌, ℤ, pos, negsuc, zero, suc, ◌+ℤ◌, ◌-ℤ◌, ◌*ℤ◌, int_div, ℕ, Some, List, [], ◌∷◌}
 use Rattle.p3l_base.specs.declared.outcome.Outcome.{Outcome}
 use Rattle.p3l_base.specs.declared.outcome.Outcome.TheVariants.{Value, Trapped}
 use Rattle.p3l_base.specs.declared.outcome.TrapKind.{TrapKind}
 use Rattle.p3l_base.specs.declared.outcome.TrapKind.TheVariants.{DivZero, Shift}
 use Rattle.p3l_base.specs.declared.slice.Place.TheVariants.{Rest, First, Second}
 use Rattle.p3l_base.specs.declared.cut.Cut.{Cut}
-use Rattle.p3l_skel.specs.Item.{mapped, reduced, turned, turns_spent}
+use Rattle.p3l_skel.specs.Item.{in_order, mapped, reduced, turned, turns_spent, rescued}
 
 abbrev pub trap : TrapKind → Outcome
 trap kind = Trapped (record { kind = kind; «module» = 1 })
@@ -37,6 +37,11 @@ checked (pos zero ∷ words) = trap DivZero
 checked (negsuc n ∷ words) = trap Shift
 checked words = Value words
 
+-- two stages with a trap at 0, the second of which has rescue number 9
+abbrev pub second_rescued : ℕ → List ℤ → Outcome
+second_rescued zero words = checked words
+second_rescued (suc n) words = rescued (Some (pos 9)) 1 (checked words)
+
 -- the rows of one matrix of two by two, and the columns of another
 abbrev pub matrix_cut : Cut
 matrix_cut = record {
@@ -60,7 +65,7 @@ abbrev pub words_to_8 : List ℤ
 words_to_8 = pos 1 ∷ (pos 2 ∷ (pos 3 ∷ (pos 4 ∷ (pos 5 ∷ (pos 6 ∷ (pos 7 ∷ (pos 8 ∷ [])))))))
 
 -- the product of two matrices, the fold of 1 to 5 by differences, two runs of a loop and one whose
--- turns are spent, and the first of two traps
+-- turns are spent, the first of two traps, a rescued trap, and one that a later stage does not rescue
 pub record HandValues : Type 0 where
   pub product : mapped matrix_cut inner words_to_8 ≡ Value (pos 19 ∷ (pos 22 ∷ (pos 43 ∷ (pos 50 ∷ []))))
   pub differences : reduced 1 minus (pos 1 ∷ (pos 2 ∷ (pos 3 ∷ (pos 4 ∷ (pos 5 ∷ []))))) ≡ Value (negsuc 4 ∷ [])
@@ -68,3 +73,6 @@ pub record HandValues : Type 0 where
   pub one_turn : turned half more (turns_spent 0) 10 (pos 3 ∷ (pos 0 ∷ [])) ≡ Value (pos 1 ∷ (pos 1 ∷ []))
   pub spent : turned half more (turns_spent 0) 5 (pos 64 ∷ (pos 0 ∷ [])) ≡ turns_spent 0
   pub first_trap : mapped four_cut checked (pos 5 ∷ (negsuc 0 ∷ (pos 0 ∷ (pos 2 ∷ [])))) ≡ trap Shift
+  pub rescued_trap : rescued (Some (negsuc 6)) 2 (trap DivZero) ≡ Value (negsuc 6 ∷ (negsuc 6 ∷ []))
+  pub rescued_stage : in_order second_rescued (1 ∷ (0 ∷ [])) (Value (pos 0 ∷ [])) ≡ Value (pos 9 ∷ [])
+  pub earlier_trap : in_order second_rescued (0 ∷ (1 ∷ [])) (Value (pos 0 ∷ [])) ≡ trap DivZero

@@ -1,5 +1,5 @@
 -- What a tree makes of an item: a function on words, with no process and no channel.
-use Rattle.std.specs.Prelude.{ℕ, ℤ, pos, zero, suc, ◌/◌, Bool, true, false, if◌then◌else◌, List, [], ◌∷◌, length, map, take, drop, slice_index}
+use Rattle.std.specs.Prelude.{ℕ, ℤ, pos, zero, suc, ◌/◌, Bool, true, false, if◌then◌else◌, Option, Some, None, List, [], ◌∷◌, length, map, take, drop, replicate, slice_index}
 use Rattle.std.specs.List.{range_with_len}
 use Rattle.p3l_base.specs.declared.cut.Cut.{Cut}
 use Rattle.p3l_base.specs.declared.outcome.Outcome.{Outcome}
@@ -9,7 +9,7 @@ use Rattle.p3l_base.specs.Cut.{element_count, element_words, joined_words}
 use Rattle.p3l_skel.specs.declared.tree.Form.{Form}
 use Rattle.p3l_skel.specs.declared.tree.Form.TheVariants.{Seq, Comp, Pipe, Farm, Map, Reduce, Loop}
 use Rattle.p3l_skel.specs.declared.tree.Tree.{Tree}
-use Rattle.p3l_skel.specs.Tree.{node_at, by_parts, nesting}
+use Rattle.p3l_skel.specs.Tree.{node_at, rescue_of, by_parts, nesting}
 use Rattle.p3l_skel.specs.Fold.{tree_fold}
 
 -- a meaning on outcomes: a trap is itself
@@ -68,22 +68,33 @@ turned body condition spent (suc t) words =
 abbrev pub turns_spent : ℕ → Outcome
 turns_spent home = Trapped (record { kind = Turns; «module» = home })
 
--- what a node of a module makes of words, where it is known what its parts do
-abbrev pub item_row : (ℕ → List ℤ → Outcome) → ℕ → Form → List ℕ → (ℕ → List ℤ → Outcome) → List ℤ → Outcome
-item_row leaf home Seq parts part words = leaf home words
-item_row leaf home Comp parts part words = in_order part parts (Value words)
-item_row leaf home Pipe parts part words = in_order part parts (Value words)
-item_row leaf home (Farm w) parts part words = part (slice_index parts 0) words
-item_row leaf home (Map w cut) parts part words = mapped cut (part (slice_index parts 0)) words
-item_row leaf home (Reduce w len elem) parts part words = reduced elem (part (slice_index parts 0)) words
-item_row leaf home (Loop turns tokens) parts part words =
+-- what a rescue number makes of an outcome: a trap becomes `outs` words, each the number
+abbrev pub rescued : Option ℤ → ℕ → Outcome → Outcome
+rescued None outs outcome = outcome
+rescued (Some number) outs (Value words) = Value words
+rescued (Some number) outs (Trapped trap) = Value (replicate outs number)
+
+-- what the rescue number of a node's module, if it has one, makes of an outcome
+abbrev pub rescued_at : Tree → ℕ → Outcome → Outcome
+rescued_at tree node = rescued (rescue_of tree (node_at tree node).module) (node_at tree node).outs
+
+-- what a node of a module makes of words, where it is known what its parts do, and what the module's
+-- rescue number makes of an outcome
+abbrev pub item_row : (Outcome → Outcome) → (ℕ → List ℤ → Outcome) → ℕ → Form → List ℕ → (ℕ → List ℤ → Outcome) → List ℤ → Outcome
+item_row rescue leaf home Seq parts part words = rescue (leaf home words)
+item_row rescue leaf home Comp parts part words = rescue (in_order part parts (Value words))
+item_row rescue leaf home Pipe parts part words = in_order part parts (Value words)
+item_row rescue leaf home (Farm w) parts part words = part (slice_index parts 0) words
+item_row rescue leaf home (Map w cut) parts part words = mapped cut (part (slice_index parts 0)) words
+item_row rescue leaf home (Reduce w len elem) parts part words = reduced elem (part (slice_index parts 0)) words
+item_row rescue leaf home (Loop turns tokens) parts part words =
     turned (part (slice_index parts 0)) (part (slice_index parts 1)) (turns_spent home) turns words
 
 -- what a node makes of the words of an item, where it is known what each `seq` module does, down to
 -- a depth
 unfoldable pub item_to : Tree → (ℕ → List ℤ → Outcome) → ℕ → ℕ → List ℤ → Outcome
 item_to tree leaf =
-    by_parts (λ part k. item_row leaf (node_at tree k).module (node_at tree k).form (node_at tree k).parts part)
+    by_parts (λ part k. item_row (rescued_at tree k) leaf (node_at tree k).module (node_at tree k).form (node_at tree k).parts part)
     (λ k words. leaf (node_at tree k).module words)
 
 -- what a node makes of the words of an item, where it is known what each `seq` module does

@@ -1,5 +1,5 @@
 -- Lawful trees.
-use Rattle.std.specs.Prelude.{◌≡◌, ℕ, zero, suc, ◌+◌, ◌*◌, ◌^◌, ◌<◌, ◌≤◌, IsTrue, IfSome, IsSomeAnd, List, [], ◌∷◌, length, slice_get}
+use Rattle.std.specs.Prelude.{◌≡◌, ℕ, zero, suc, ◌+◌, ◌*◌, ◌^◌, ◌<◌, ◌≤◌, Bool, true, false, IsTrue, IfSome, IsSomeAnd, List, [], ◌∷◌, length, slice_get}
 use Rattle.std.specs.List.{All}
 use Rattle.p3l_base.specs.declared.slice.Dim.{Dim}
 use Rattle.p3l_base.specs.declared.slice.Slice.{Slice}
@@ -122,6 +122,16 @@ kind_of (Loop turns tokens) = kind.Loop
 abbrev pub HasKind : List ModuleInfo → ℕ → ModuleKind → Type 0
 HasKind modules home k = IsSomeAnd (slice_get modules home) (λ (m : ModuleInfo). m.kind ≡ k)
 
+-- whether a module that is written with this skeleton may have a rescue number
+abbrev pub may_rescue : ModuleKind → Bool
+may_rescue kind.Seq = true
+may_rescue kind.Comp = true
+may_rescue _ = false
+
+-- a module has a rescue number only where its skeleton allows one
+abbrev pub HasLawfulRescue : ModuleInfo → Type 0
+HasLawfulRescue info = IfSome info.rescue (λ number. IsTrue (may_rescue info.kind))
+
 -- a lawful node of a tree
 pub record IsLawfulNode (tree : Tree) (node : Node) : Type 0 where
   pub kind : HasKind tree.modules node.module (kind_of node.form)
@@ -144,6 +154,7 @@ AgreesWithAll nodes node = All (λ (other : Node). node.module ≡ other.module 
 -- a lawful tree
 pub record IsLawfulTree (tree : Tree) : Type 0 where
   pub few_modules : length tree.modules < 2 ^ 32
+  pub rescues : All HasLawfulRescue tree.modules
   pub few_nodes : length tree.nodes ≤ 128
   pub preorder : IsSubtree nesting tree 0 (length tree.nodes)
   pub nodes : All (IsLawfulNode tree) tree.nodes

@@ -10,7 +10,7 @@ use Rattle.p3l_skel.specs.Tree.{node_at, HasFittingLength, HasLength}
 use Rattle.p3l_skel.specs.Counts.{IsLawfulCount}
 use Rattle.p3l_skel.specs.Numbers.{most_segments}
 use Rattle.p3l_skel.specs.Fold.{tree_fold, segments}
-use Rattle.p3l_skel.specs.Item.{on_value, in_order, gathered, item, item_row}
+use Rattle.p3l_skel.specs.Item.{on_value, in_order, gathered, item, item_row, rescued_at}
 
 -- the tree fold of the tree folds of a power of two of segments is that of the whole
 abbrev pub FoldsBySegments : Type 0
@@ -34,7 +34,7 @@ pub record PassesTraps (tree : Tree) (leaf : ℕ → List ℤ → Outcome) (trap
 abbrev pub GoesByParts : Tree → (ℕ → List ℤ → Outcome) → Type 0
 GoesByParts tree leaf =
     (node : ℕ) (words : List ℤ) → node < length tree.nodes →
-    item tree leaf node words ≡ item_row leaf (node_at tree node).module (node_at tree node).form (node_at tree node).parts (item tree leaf) words
+    item tree leaf node words ≡ item_row (rescued_at tree node) leaf (node_at tree node).module (node_at tree node).form (node_at tree node).parts (item tree leaf) words
 
 -- a value that a node of a lawful tree gives has the node's out words
 abbrev pub KeepsWords : Tree → (ℕ → List ℤ → Outcome) → Type 0

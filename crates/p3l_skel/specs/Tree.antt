@@ -1,10 +1,11 @@
 -- The nodes of a tree, and what is computed from the root down.
-use Rattle.std.specs.Prelude.{◌≡◌, ℕ, ℤ, zero, suc, ◌*◌, ◌<◌, ◌≤◌, Bool, true, false, IsTrue, List, [], ◌∷◌, length, slice_index, slice_index_or, ⊤}
+use Rattle.std.specs.Prelude.{◌≡◌, ℕ, ℤ, zero, suc, ◌*◌, ◌<◌, ◌≤◌, Bool, true, false, IsTrue, List, [], ◌∷◌, length, slice_index, slice_index_or, Option, None, ⊤}
 use Rattle.p3l_base.specs.declared.outcome.Outcome.{Outcome}
 use Rattle.p3l_base.specs.declared.outcome.Outcome.TheVariants.{Value, Trapped}
 use Rattle.p3l_skel.specs.declared.tree.Form.{Form}
 use Rattle.p3l_skel.specs.declared.tree.Form.TheVariants.{Seq, Comp, Pipe, Farm, Map, Reduce, Loop}
 use Rattle.p3l_skel.specs.declared.tree.ModuleKind.TheVariants as kind
+use Rattle.p3l_skel.specs.declared.tree.ModuleInfo.{ModuleInfo}
 use Rattle.p3l_skel.specs.declared.tree.Node.{Node}
 use Rattle.p3l_skel.specs.declared.tree.Tree.{Tree}
 
@@ -20,12 +21,20 @@ no_node = record { form = Pipe; «module» = 0; ins = 0; outs = 0; parts = [] }
 unfoldable pub seq_tree : List ℕ → ℕ → ℕ → Tree
 seq_tree name ins outs = record {
   nodes = record { form = Seq; «module» = 0; ins = ins; outs = outs; parts = [] } ∷ [];
-  modules = record { name = name; kind = kind.Seq } ∷ [];
+  modules = record { name = name; kind = kind.Seq; rescue = None } ∷ [];
 }
 
 -- the node of this number
 abbrev pub node_at : Tree → ℕ → Node
 node_at tree node = slice_index_or tree.nodes node no_node
+
+-- what a number past the modules is read as: a module with no name
+abbrev pub no_module : ModuleInfo
+no_module = record { name = []; kind = kind.Seq; rescue = None }
+
+-- the rescue number of a module, if it has one
+abbrev pub rescue_of : Tree → ℕ → Option ℤ
+rescue_of tree home = (slice_index_or tree.modules home no_module).rescue
 
 -- the number of a node's part k
 abbrev pub part_at : Tree → ℕ → ℕ → ℕ

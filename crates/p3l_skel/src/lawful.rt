@@ -4,12 +4,12 @@ ghost use Rattle.std.specs.Prelude.{◌≡◌, ◌≢◌, ◌↔◌, ◌≤◌, 
 ghost use Rattle.std.specs.List.{All};
 ghost use Rattle.p3l_skel.specs.Tree.{is_sequential};
 ghost use Rattle.p3l_skel.specs.Counts.{IsCountInRange, workers_of};
-ghost use Rattle.p3l_skel.specs.Lawful.{HasWords, IsChain, IsSequential, HasOnePart, HasTwoParts, IsLawfulMap, IsLawfulReduce, HasLoopLimits, AreLoopParts, IsLawfulLoop, IsLawfulForm, kind_of, HasKind, IsLawfulNode, IsSubtree, IsLawfulTree};
+ghost use Rattle.p3l_skel.specs.Lawful.{HasWords, IsChain, IsSequential, HasOnePart, HasTwoParts, IsLawfulMap, IsLawfulReduce, HasLoopLimits, AreLoopParts, IsLawfulLoop, IsLawfulForm, kind_of, HasKind, HasLawfulRescue, may_rescue, IsLawfulNode, IsSubtree, IsLawfulTree};
 
 use crate::agree::modules_agree;
 use crate::cut::{have_sizes, is_lawful_cut, is_size};
 use crate::shape::{is_sequential, subtree_end};
-use crate::tree::{Form, ModuleKind, NESTING, Node, Tree};
+use crate::tree::{Form, ModuleInfo, ModuleKind, NESTING, Node, Tree};
 use crate::work::is_light;
 use p3l_base::Cut;
 
@@ -37,6 +37,35 @@ impl Form {
             Form::Loop { .. } => ModuleKind::Loop,
         }
     }
+}
+
+impl ModuleKind {
+    /// Whether a module that is written with this skeleton may have a rescue number.
+    pub fn may_rescue(self) -> bool
+        ensures { result ≡ may_rescue self }
+    {
+        match self {
+            ModuleKind::Seq | ModuleKind::Comp => true,
+            _ => false,
+        }
+    }
+}
+
+/// Whether a module has a rescue number only where its skeleton allows one.
+fn has_lawful_rescue(info: &ModuleInfo) -> bool
+    ensures { IsTrue result ↔ HasLawfulRescue info.now }
+{
+    match info.rescue {
+        Some(_) => info.kind.may_rescue(),
+        None => true,
+    }
+}
+
+/// Whether all modules have rescue numbers only where their skeletons allow them.
+fn have_lawful_rescues(modules: &[ModuleInfo]) -> bool
+    ensures { IsTrue result ↔ All HasLawfulRescue modules.now }
+{
+    modules.iter().all(has_lawful_rescue)
 }
 
 /// Whether a module of this number is there, and is written with this skeleton.
@@ -265,12 +294,13 @@ fn is_in_preorder(tree: &Tree) -> bool
     }
 }
 
-/// Whether a tree keeps all rules: its order, its numbers, its wiring, the agreement of each
-/// module's nodes and the limit on the work of one item.
+/// Whether a tree keeps all rules: its order, its numbers, its wiring, its rescue numbers, the
+/// agreement of each module's nodes and the limit on the work of one item.
 pub fn lawful_tree(tree: &Tree) -> bool
     ensures { IsTrue result ↔ IsLawfulTree tree.now }
 {
     (tree.modules.len() as u64) < 1 << 32
+        && have_lawful_rescues(tree.modules.as_slice())
         && tree.nodes.len() <= MOST_NODES
         && is_in_preorder(tree)
         && has_lawful_nodes(tree)

@@ -6,6 +6,7 @@ pub mod counts;
 mod cut;
 pub mod lawful;
 pub mod laws;
+pub mod outcome;
 mod shape;
 pub mod tree;
 pub mod units;

@@ -1,7 +1,7 @@
 // The tree of skeletons and the counts of workers.
 
 ghost use Rattle.std.specs.Prelude.{◌≡◌, ◌↔◌, ◌<◌, ◌≤◌, IsSome, IfOk, IfSome, IfNone, length, slice_index};
-ghost use Rattle.p3l_skel.specs.Tree.{node_at, seq_tree};
+ghost use Rattle.p3l_skel.specs.Tree.{node_at, rescue_of, seq_tree};
 
 use p3l_base::{Cut, List, Name, NoMemory};
 use std::alloc::Global;
@@ -53,11 +53,13 @@ pub struct Node {
     pub parts: List<u32>,
 }
 
-/// A module of the program.
+/// A module of the program. Where it has a rescue number, a trap that arises within one of its nodes
+/// becomes a value whose words are all this number: only a `seq` or `comp` module may have one.
 #[derive(Debug, Drop)]
 pub struct ModuleInfo {
     pub name: Name,
     pub kind: ModuleKind,
+    pub rescue: Option<i64>,
 }
 
 /// The skeleton that a module is written with.
@@ -105,6 +107,7 @@ impl Tree {
         modules.push(ModuleInfo {
             name,
             kind: ModuleKind::Seq,
+            rescue: None,
         })?;
         Ok(Tree { nodes, modules })
     }
@@ -116,6 +119,16 @@ impl Tree {
         ensures past { IfNone result (length self.now.nodes ≤ number) }
     {
         self.nodes.as_slice().get(number as usize)
+    }
+
+    /// The rescue number of a module, if it has one.
+    pub fn rescue_of(&self, module: u32) -> Option<i64>
+        ensures { result ≡ rescue_of self.now «module» }
+    {
+        match self.modules.as_slice().get(module as usize) {
+            Some(info) => info.rescue,
+            None => None,
+        }
     }
 }
 

@@ -14,10 +14,15 @@ pub type ModuleRow = (Shape, u32, u32, u32, &'static [u32]);
 /// A tree: its nodes, and the kinds of its modules.
 pub type Sketch = (&'static [ModuleRow], &'static [ModuleKind]);
 
-fn module_of(alloc: Global, kind: ModuleKind) -> Result<ModuleInfo, NoMemory> {
+fn module_of(
+    alloc: Global,
+    kind: ModuleKind,
+    rescue: Option<i64>,
+) -> Result<ModuleInfo, NoMemory> {
     Ok(ModuleInfo {
         name: Name::from_text(alloc, "m")?,
         kind,
+        rescue,
     })
 }
 
@@ -30,7 +35,7 @@ pub fn add_node(
     parts: List<u32>,
 ) -> Result<(), NoMemory> {
     let module = u32::try_from(tree.modules.len()).unwrap_or(0);
-    tree.modules.push(module_of(alloc, form.kind())?)?;
+    tree.modules.push(module_of(alloc, form.kind(), None)?)?;
     tree.nodes.push(Node {
         form,
         module,
@@ -67,19 +72,40 @@ fn node_of(alloc: Global, row: ModuleRow) -> Result<Node, NoMemory> {
     })
 }
 
+fn nodes_of(alloc: Global, rows: &[ModuleRow]) -> Result<List<Node>, NoMemory> {
+    let mut nodes = List::new(alloc);
+    for row in rows {
+        nodes.push(node_of(alloc, *row)?)?;
+    }
+    Ok(nodes)
+}
+
 /// The tree of these rows, with modules of these kinds.
 pub fn tree_with(
     alloc: Global,
     rows: &[ModuleRow],
     kinds: &[ModuleKind],
 ) -> Result<Tree, NoMemory> {
-    let mut nodes = List::new(alloc);
-    for row in rows {
-        nodes.push(node_of(alloc, *row)?)?;
-    }
+    let nodes = nodes_of(alloc, rows)?;
     let mut modules = List::new(alloc);
     for kind in kinds {
-        modules.push(module_of(alloc, *kind)?)?;
+        modules.push(module_of(alloc, *kind, None)?)?;
+    }
+    Ok(Tree { nodes, modules })
+}
+
+/// The tree of a sketch where the module of this number has a rescue number.
+pub fn tree_with_rescue(
+    alloc: Global,
+    sketch: Sketch,
+    number: usize,
+    rescue: i64,
+) -> Result<Tree, NoMemory> {
+    let nodes = nodes_of(alloc, sketch.0)?;
+    let mut modules = List::new(alloc);
+    for (place, kind) in sketch.1.iter().enumerate() {
+        let given = if place == number { Some(rescue) } else { None };
+        modules.push(module_of(alloc, *kind, given)?)?;
     }
     Ok(Tree { nodes, modules })
 }

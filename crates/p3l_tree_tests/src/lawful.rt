@@ -2,7 +2,7 @@
 
 use p3l_base::{Dim, NoMemory, Place};
 use p3l_skel::{ModuleKind, lawful_counts, lawful_tree};
-use p3l_sketch::{Array, ModuleRow, Shape, Sketch, counts_of, tree_with};
+use p3l_sketch::{Array, ModuleRow, Shape, Sketch, counts_of, tree_with, tree_with_rescue};
 use std::alloc::Global;
 use std::process::Abort;
 use std::test::Fail;
@@ -89,12 +89,7 @@ fn is_lawful(alloc: Global, sketch: Sketch) -> Result<bool, NoMemory> {
 }
 
 /// Whether a tree is lawful with another row in one place.
-fn is_lawful_with(
-    alloc: Global,
-    sketch: Sketch,
-    place: usize,
-    row: ModuleRow,
-) -> Result<bool, NoMemory> {
+fn is_lawful_with(alloc: Global, sketch: Sketch, place: usize, row: ModuleRow) -> Result<bool, NoMemory> {
     let mut rows = Vec::from_slice(alloc, sketch.0)?;
     if let Some(old) = rows.get_mut(place) {
         *old = row;
@@ -120,6 +115,18 @@ fn refuse(
 fn one_broken_rule_is_refused(rt: HostRuntime) -> Result<(), Fail> {
     assert!(rt; is_lawful(rt.alloc(), WHOLE)?);
     Ok(refuse(&rt, rt.alloc(), WHOLE, &BROKEN)?)
+}
+
+/// Whether the whole tree is lawful with a rescue number for each of its modules in turn.
+const RESCUES: [bool; 8] = [false, false, true, false, true, true, false, true];
+
+#[test]
+fn seqs_and_comps_alone_are_rescued(rt: HostRuntime) -> Result<(), Fail> {
+    for (number, expected) in RESCUES.iter().enumerate() {
+        let lawful = lawful_tree(&tree_with_rescue(rt.alloc(), WHOLE, number, -7)?);
+        assert!(rt; lawful == *expected, "{number}");
+    }
+    Ok(())
 }
 
 /// Comps, each around the next, around a seq.

@@ -30,6 +30,7 @@ lawful_unfolded infos wired root wiring inside nested few light =
     let sound : All (IsSoundNode tree wired) tree.nodes = All-from_recursion (IsSoundNode tree wired) tree.nodes (sound_nodes infos wired wiring tree refl nesting root 0 (omega arith) stands) in
     record {
       few_modules = wiring.few;
+      rescues = wiring.rescues;
       few_nodes = few;
       preorder = let e : 0 + length tree.nodes ≡ length tree.nodes = omega arith in subst (IsSubtree nesting tree 0) e (is_subtree infos wired wiring tree refl nesting root 0 stands);
       nodes = All-weaker (IsSoundNode tree wired) (IsLawfulNode tree) (λ n h. h.lawful) tree.nodes sound;

@@ -8,7 +8,7 @@ use Rattle.p3l_skel.specs.declared.tree.Form.TheVariants.{Seq, Comp, Pipe, Farm,
 use Rattle.p3l_skel.specs.declared.tree.ModuleInfo.{ModuleInfo}
 use Rattle.p3l_skel.specs.Tree.{sequential_row}
 use Rattle.p3l_skel.specs.Counts.{IsCountInRange, workers_of}
-use Rattle.p3l_skel.specs.Lawful.{IsSize, HasSizes, HasOnePart, HasTwoParts, HasLoopLimits, HasKind, kind_of}
+use Rattle.p3l_skel.specs.Lawful.{IsSize, HasSizes, HasOnePart, HasTwoParts, HasLoopLimits, HasKind, HasLawfulRescue, kind_of}
 use Rattle.p3l_unfold.specs.declared.wired.Wired.{Wired}
 
 -- what a number past the modules is read as: a pipe of nothing
@@ -77,8 +77,10 @@ pub record IsWiredModule (infos : List ModuleInfo) (wired : List Wired) (k : ℕ
   -- a seq, a comp, or a map or reduce of a sequential module
   pub sequential : m.sequential ≡ sequential_row m.form (module_at wired (slice_index m.calls 0)).sequential
 
--- modules in the order of the source, each of which fits those that it calls
+-- modules in the order of the source, each of which fits those that it calls, and has a rescue
+-- number only where its skeleton allows one
 pub record IsWiring (infos : List ModuleInfo) (wired : List Wired) : Type 0 where
   pub count : length wired ≡ length infos
   pub few : length infos < 2 ^ 32
+  pub rescues : All HasLawfulRescue infos
   pub each : (k : ℕ) → k < length wired → IsWiredModule infos wired k (module_at wired k)

@@ -15,6 +15,7 @@ use crate::table::UnitTable;
 use p3l_base::{Cut, List, NoMemory, Outcome, Words, join};
 use p3l_plain::element::{elements, gather};
 use p3l_plain::outcome::{copied, paired};
+use p3l_skel::outcome::rescue;
 use p3l_skel::{Form, Node, Tree};
 use std::alloc::Global;
 
@@ -37,8 +38,14 @@ pub fn node_outcome(
         unreachable!();
     };
     match &found.form {
-        Form::Seq => table.run_body(alloc, node, words),
-        Form::Comp => stages_outcome(alloc, tree, table, found, words),
+        Form::Seq => {
+            let outcome = table.run_body(alloc, node, words)?;
+            rescue(alloc, tree, found, outcome)
+        }
+        Form::Comp => {
+            let outcome = stages_outcome(alloc, tree, table, found, words)?;
+            rescue(alloc, tree, found, outcome)
+        }
         Form::Map { cut, .. } => map_outcome(alloc, tree, table, found.part(0), cut, words),
         Form::Reduce { elem, .. } => {
             let list = elements(alloc, words, *elem)?;

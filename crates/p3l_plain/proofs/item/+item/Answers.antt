@@ -5,9 +5,9 @@ use Rattle.p3l_base.specs.Cut.{element_words, element_count, joined_words}
 use Rattle.p3l_base.specs.laws.Cut.{length-element_words}
 use Rattle.p3l_skel.specs.declared.tree.Form.TheVariants.{Comp, Pipe}
 use Rattle.p3l_skel.specs.declared.tree.Tree.{Tree}
-use Rattle.p3l_skel.specs.Tree.{node_at, HasLength, GivesOuts}
+use Rattle.p3l_skel.specs.Tree.{node_at, rescue_of, HasLength, GivesOuts}
 use Rattle.p3l_skel.specs.Fold.{tree_fold}
-use Rattle.p3l_skel.specs.Item.{in_order, item, mapped, turned, turns_spent}
+use Rattle.p3l_skel.specs.Item.{in_order, item, mapped, rescued, turned, turns_spent}
 use Rattle.p3l_plain.proofs.Mapped.{if_ok-along, if_ok-same, mapped-trap, mapped-more, mapped-all, mapped-count, fold-one, fold-more, paired-fits}
 use Rattle.p3l_plain.proofs.Elements.{sized-more}
 use Rattle.p3l_plain.proofs.Turned.{turned-body_trap, turned-condition_trap, turned-done, turned-again, turned-none}
@@ -147,11 +147,13 @@ item_outcome-returns-in-Loop g t c =
     (row_at c.args.tree.now c.requires.lawful (g.U.Units.leaf c.args.units.now) c.in-Some.found.now c.args.node _ c.args.words.now c.in-Some.ensures.found c.requires.there c.in-Loop.is)
     c.loop_outcome.ensures
 
-pub item_outcome-returns-in-Comp : goal.item_outcome-returns-in-Comp
-item_outcome-returns-in-Comp g t c =
-    if_ok-same c.stages_outcome.result _ _
-    (row_at c.args.tree.now c.requires.lawful (g.U.Units.leaf c.args.units.now) c.in-Some.found.now c.args.node Comp c.args.words.now c.in-Some.ensures.found c.requires.there c.in-Comp.is)
-    c.stages_outcome.ensures
+pub item_outcome-returns-in_ok-outcome-in-Comp : goal.item_outcome-returns-in_ok-outcome-in-Comp
+item_outcome-returns-in_ok-outcome-in-Comp g t c =
+    let node = c.in-Some.found.now in
+    if_ok-same c.rescue.result _ _
+    (ap (rescued (rescue_of c.args.tree.now node.module) node.outs) c.in_ok-outcome-in-Comp.ensures
+    ∙ row_at c.args.tree.now c.requires.lawful (g.U.Units.leaf c.args.units.now) node c.args.node Comp c.args.words.now c.in-Some.ensures.found c.requires.there c.in-Comp.is)
+    c.rescue.ensures
 
 pub item_outcome-returns-in-Pipe : goal.item_outcome-returns-in-Pipe
 item_outcome-returns-in-Pipe g t c =

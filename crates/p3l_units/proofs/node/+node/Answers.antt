@@ -6,9 +6,9 @@ use Rattle.p3l_base.specs.laws.Cut.{length-element_words}
 use Rattle.p3l_skel.specs.declared.tree.Form.TheVariants.{Comp, Seq}
 use Rattle.p3l_skel.specs.declared.tree.Tree.{Tree}
 use Rattle.p3l_skel.specs.declared.tree.Node.{Node}
-use Rattle.p3l_skel.specs.Tree.{node_at, HasLength, GivesOuts, IsUnit}
+use Rattle.p3l_skel.specs.Tree.{node_at, rescue_of, HasLength, GivesOuts, IsUnit}
 use Rattle.p3l_skel.specs.Fold.{tree_fold}
-use Rattle.p3l_skel.specs.Item.{in_order, item, mapped}
+use Rattle.p3l_skel.specs.Item.{in_order, item, mapped, rescued}
 use Rattle.p3l_plain.proofs.Mapped.{if_ok-along, if_ok-same, mapped-trap, mapped-more, mapped-all, mapped-count, fold-one, fold-more, paired-fits}
 use Rattle.p3l_plain.proofs.Elements.{sized-more}
 use Rattle.p3l_plain.proofs.Parts.{some_elements, along_ins, form_at, fits_at, fitting, row_at, next_keeps, value_keeps, first_later, least, map_part, reduce_part}
@@ -102,11 +102,13 @@ node_outcome-returns-in_ok-list-in-Reduce t c =
     ∙ row_at tree c.requires.lawful leaf c.in-Some.found.now c.args.node _ c.args.words.now c.in-Some.ensures.found c.requires.unit.in_tree c.in-Reduce.is))
     c.fold_outcome.ensures.folded
 
-pub node_outcome-returns-in-Comp : goal.node_outcome-returns-in-Comp
-node_outcome-returns-in-Comp t c =
-    if_ok-same c.stages_outcome.result _ _
-    (row_at c.args.tree.now c.requires.lawful (leaf c.args.table.now) c.in-Some.found.now c.args.node Comp c.args.words.now c.in-Some.ensures.found c.requires.unit.in_tree c.in-Comp.is)
-    c.stages_outcome.ensures
+pub node_outcome-returns-in_ok-outcome-in-Comp : goal.node_outcome-returns-in_ok-outcome-in-Comp
+node_outcome-returns-in_ok-outcome-in-Comp t c =
+    let node = c.in-Some.found.now in
+    if_ok-same c.rescue-in-Comp.result _ _
+    (ap (rescued (rescue_of c.args.tree.now node.module) node.outs) c.in_ok-outcome-in-Comp.ensures
+    ∙ row_at c.args.tree.now c.requires.lawful (leaf c.args.table.now) node c.args.node Comp c.args.words.now c.in-Some.ensures.found c.requires.unit.in_tree c.in-Comp.is)
+    c.rescue-in-Comp.ensures
 
 pub map_outcome-node_outcome-requires : goal.map_outcome-node_outcome-requires
 map_outcome-node_outcome-requires t c =
@@ -211,11 +213,15 @@ node_outcome-unreachable-requires-in-Pipe t c =
     (λ r. ⊎_elim (λ f. no_farm tree node c.args.node f.0 found f.1 c.requires.unit) (λ l. no_loop tree node c.args.node l.0 l.1 found l.2 c.requires.unit) r)
     c.in-Pipe.is
 
-pub node_outcome-returns-in-Seq : goal.node_outcome-returns-in-Seq
-node_outcome-returns-in-Seq t c =
+pub node_outcome-returns-in_ok-outcome-in-Seq : goal.node_outcome-returns-in_ok-outcome-in-Seq
+node_outcome-returns-in_ok-outcome-in-Seq t c =
     let tree = c.args.tree.now in
-    if_ok-same c.run_body.result _ _
-    (ap (λ (tr : Tree). leaf c.args.table.now (node_at tr c.args.node).module c.args.words.now) c.requires.served
-    ∙ (ap (λ (n : Node). leaf c.args.table.now n.module c.args.words.now) (sym c.in-Some.ensures.found)
-    ∙ row_at tree c.requires.lawful (leaf c.args.table.now) c.in-Some.found.now c.args.node Seq c.args.words.now c.in-Some.ensures.found c.requires.unit.in_tree c.in-Seq.is))
-    c.run_body.ensures
+    let node = c.in-Some.found.now in
+    let leaf = leaf c.args.table.now in
+    if_ok-same c.rescue.result _ _
+    (ap (rescued (rescue_of tree node.module) node.outs)
+    (c.in_ok-outcome-in-Seq.ensures
+    ∙ (ap (λ (tr : Tree). leaf (node_at tr c.args.node).module c.args.words.now) c.requires.served
+    ∙ ap (λ (n : Node). leaf n.module c.args.words.now) (sym c.in-Some.ensures.found)))
+    ∙ row_at tree c.requires.lawful leaf node c.args.node Seq c.args.words.now c.in-Some.ensures.found c.requires.unit.in_tree c.in-Seq.is)
+    c.rescue.ensures

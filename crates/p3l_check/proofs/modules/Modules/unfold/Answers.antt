@@ -7,4 +7,4 @@ use Rattle.p3l_check.proofs.modules.Modules.unfold.Goals as goal
 pub unfold-requires-clause-wiring : goal.unfold-requires-clause-wiring
 unfold-requires-clause-wiring c =
     let wired : AreWired c.self.inside.infos c.self.inside.wired = subst (λ (m : Modules). AreWired m.infos m.wired) (sym c.self.view_is) c.requires.wiring in
-    subst (IsWiring c.self.inside.infos) (sym c.as_slice.ensures) (record { count = wired.count; few = c.self.invariant.few; each = wired.each })
+    subst (IsWiring c.self.inside.infos) (sym c.as_slice.ensures) (record { count = wired.count; few = c.self.invariant.few; rescues = wired.rescues; each = wired.each })
