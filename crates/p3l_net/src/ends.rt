@@ -14,7 +14,7 @@ use std::marker::Model;
 
 /// The process that writes each channel, and the one that reads it.
 #[derive(Debug, Drop)]
-pub(crate) struct Sides {
+pub struct Sides {
     writers: Vec<u32>,
     readers: Vec<u32>,
 }
@@ -39,7 +39,7 @@ fn mark(table: &mut Vec<u32>, channels: &[u32], p: u32)
 
 impl Sides {
     /// The ends of the channels of a net.
-    pub(crate) fn of(alloc: Global, net: &Net) -> Result<Sides, NoMemory>
+    pub fn of(alloc: Global, net: &Net) -> Result<Sides, NoMemory>
         requires { (tree : Tree) × IsTyped tree net.now }
         ensures { IfOk result (λ sides. HasEnds net.now sides) }
     {
@@ -56,7 +56,7 @@ impl Sides {
     }
 
     /// The process that writes a channel.
-    pub(crate) fn writer(&self, c: u32) -> u32
+    pub fn writer(&self, c: u32) -> u32
         requires { c < length self.now.writers }
         ensures { result ≡ slice_index self.now.writers c }
     {
@@ -64,7 +64,7 @@ impl Sides {
     }
 
     /// The process that reads a channel.
-    pub(crate) fn reader(&self, c: u32) -> u32
+    pub fn reader(&self, c: u32) -> u32
         requires { c < length self.now.readers }
         ensures { result ≡ slice_index self.now.readers c }
     {

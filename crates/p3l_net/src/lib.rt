@@ -3,7 +3,7 @@
 
 mod channel;
 mod channels;
-mod ends;
+pub mod ends;
 mod kinds;
 pub mod laws;
 pub mod machine;

@@ -1,0 +1,2 @@
+mod FrameSteps
+mod NumberedSteps

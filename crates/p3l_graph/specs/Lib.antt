@@ -1,0 +1,4 @@
+pub mod Boxes
+pub mod Frames
+pub mod Graph
+pub mod Numbered
