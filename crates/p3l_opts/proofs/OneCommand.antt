@@ -23,6 +23,8 @@ verb_named text =
     else if bytes_eq text (codes "compile") then Some verb.Compile
     else if bytes_eq text (codes "run") then Some verb.Run
     else if bytes_eq text (codes "exec") then Some verb.Exec
+    else if bytes_eq text (codes "migrate") then Some verb.Migrate
+    else if bytes_eq text (codes "graph") then Some verb.Graph
     else if bytes_eq text (codes "verify-cert") then Some verb.VerifyCert
     else if bytes_eq text (codes "check-trace") then Some verb.CheckTrace
     else Some verb.Gen
@@ -35,6 +37,8 @@ named verb.Explain = refl
 named verb.Compile = refl
 named verb.Run = refl
 named verb.Exec = refl
+named verb.Migrate = refl
+named verb.Graph = refl
 named verb.VerifyCert = refl
 named verb.CheckTrace = refl
 named verb.Gen = refl
@@ -111,6 +115,8 @@ one_command found (command.Run x s t r) (command.Run y s' t' r') v ha hb = λ i.
     command.Run (one_build _ _ x y ha.0 hb.0 i) (one_schedule _ _ _ ha.1.picks hb.1.picks i) ((ha.1.traced ∙ sym hb.1.traced) i) ((ha.1.reported ∙ sym hb.1.reported) i)
 one_command found (command.Exec x s t r) (command.Exec y s' t' r') v ha hb = λ i.
     command.Exec (one_name _ _ _ ha.0 hb.0 i) (one_schedule _ _ _ ha.1.picks hb.1.picks i) ((ha.1.traced ∙ sym hb.1.traced) i) ((ha.1.reported ∙ sym hb.1.reported) i)
+one_command found (command.Migrate x o) (command.Migrate y p) v ha hb = λ i. command.Migrate (one_name _ _ _ ha.0 hb.0 i) (one_name _ _ _ ha.1 hb.1 i)
+one_command found (command.Graph x) (command.Graph y) v ha hb = ap command.Graph (one_build _ _ x y ha hb)
 one_command found (command.VerifyCert x c k) (command.VerifyCert y d l) v ha hb = λ i. command.VerifyCert (one_name _ _ _ ha.0 hb.0 i) (one_name _ _ _ ha.1 hb.1 i) ((ha.2 ∙ sym hb.2) i)
 one_command found (command.CheckTrace x t) (command.CheckTrace y u) v ha hb = λ i. command.CheckTrace (one_build _ _ x y ha.0 hb.0 i) (one_name _ _ _ ha.1 hb.1 i)
 one_command found (command.Gen m p k s t) (command.Gen n q l s' t') v ha hb = λ i.

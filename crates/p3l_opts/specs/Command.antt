@@ -24,6 +24,8 @@ verb_of (command.Explain build cert) = verb.Explain
 verb_of (command.Compile build output) = verb.Compile
 verb_of (command.Run build schedule trace stats) = verb.Run
 verb_of (command.Exec image schedule trace stats) = verb.Exec
+verb_of (command.Migrate image output) = verb.Migrate
+verb_of (command.Graph build) = verb.Graph
 verb_of (command.VerifyCert program cert costs) = verb.VerifyCert
 verb_of (command.CheckTrace build trace) = verb.CheckTrace
 verb_of (command.Gen number processors items schedule save) = verb.Gen
@@ -105,6 +107,8 @@ HasValues found (command.Explain build cert) = HasBuild found None build × (cer
 HasValues found (command.Compile build output) = HasBuild found (first_of (codes "capacity") found) build × (first_of (codes "output") found ≡ Some output)
 HasValues found (command.Run build schedule trace stats) = HasBuild found (first_of (codes "capacity") found) build × HasRun found schedule trace stats
 HasValues found (command.Exec image schedule trace stats) = (first_of (codes "image") found ≡ Some image) × HasRun found schedule trace stats
+HasValues found (command.Migrate image output) = (first_of (codes "image") found ≡ Some image) × (first_of (codes "output") found ≡ Some output)
+HasValues found (command.Graph build) = HasBuild found (first_of (codes "capacity") found) build
 HasValues found (command.VerifyCert program cert costs) =
     (first_of (codes "program") found ≡ Some program) × (first_of (codes "cert") found ≡ Some cert) × (costs ≡ first_of (codes "costs") found)
 HasValues found (command.CheckTrace build trace) = HasBuild found (first_of (codes "capacity") found) build × (first_of (codes "trace") found ≡ Some trace)

@@ -14,6 +14,8 @@ name_of verb.Explain = codes "explain"
 name_of verb.Compile = codes "compile"
 name_of verb.Run = codes "run"
 name_of verb.Exec = codes "exec"
+name_of verb.Migrate = codes "migrate"
+name_of verb.Graph = codes "graph"
 name_of verb.VerifyCert = codes "verify-cert"
 name_of verb.CheckTrace = codes "check-trace"
 name_of verb.Gen = codes "gen"
@@ -49,6 +51,16 @@ rules_of verb.Exec =
     ∷ rule_for (codes "schedule") Optional
     ∷ rule_for (codes "trace") Optional
     ∷ rule_for (codes "stats") Flag
+    ∷ []
+rules_of verb.Migrate =
+    rule_for (codes "image") Positional
+    ∷ rule_for (codes "output") Mandatory
+    ∷ []
+rules_of verb.Graph =
+    rule_for (codes "program") Positional
+    ∷ rule_for (codes "processors") Mandatory
+    ∷ rule_for (codes "costs") Optional
+    ∷ rule_for (codes "capacity") Optional
     ∷ []
 rules_of verb.VerifyCert =
     rule_for (codes "program") Positional

@@ -25,6 +25,12 @@ pub enum Command {
     /// `exec IMAGE [--schedule S] [--trace FILE] [--stats]`: runs an image on the input. It has the
     /// name of the image's file, and the rest as `run`.
     Exec(Name, Sched, Option<Name>, bool),
+    /// `migrate IMAGE --output FILE`: writes an image of the newest version with its network linked
+    /// anew. It has the names of the image's file and of the file that is written.
+    Migrate(Name, Name),
+    /// `graph PROGRAM --processors P [--costs FILE] [--capacity C]`: writes a picture of the network.
+    /// It has how the network is built.
+    Graph(Build),
     /// `verify-cert PROGRAM --cert FILE [--costs FILE]`: checks a certificate. It has the names of
     /// the program's file, of the certificate's and of the costs'.
     VerifyCert(Name, Name, Option<Name>),

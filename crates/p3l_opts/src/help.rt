@@ -11,7 +11,9 @@ commands:
   run PROGRAM --processors P ..           run a program on the standard input
   compile PROGRAM --processors P ..       write the image of a program to a file
   exec IMAGE ..                           run an image on the standard input
+  migrate IMAGE --output FILE             write an image of the newest version, linked anew
   explain PROGRAM --processors P ..       write the worker counts that are chosen for a program
+  graph PROGRAM --processors P ..         write a picture of a program's network, for Graphviz
   verify-cert PROGRAM --cert FILE ..      check a certificate that worker counts are the best
   check-trace PROGRAM --processors P ..   check a trace against a run on the standard input
   check PROGRAM                           say whether a program keeps the rules of the language
@@ -64,6 +66,35 @@ bodies and its network. What runs it needs neither the program nor its costs.
   --capacity C     how many tokens a channel holds at most, 1 to 1,024 (4 if not given)
 
 example: p3l compile m.p3l --processors 16 --output m.img
+";
+
+/// What `migrate` does.
+const MIGRATE: &str =
+    "usage: p3l migrate IMAGE --output FILE
+
+Reads an image of any version, links its network anew from its tree and its counts, and writes the image in
+the newest version to a file. An image whose tree or codes can't be run is refused, and no file is written.
+
+  IMAGE            the file of the image
+  --output FILE    where to write the image
+
+example: p3l migrate old.img --output new.img
+";
+
+/// What `graph` does.
+const GRAPH: &str =
+    "usage: p3l graph PROGRAM --processors P [--costs FILE] [--capacity C]
+
+Writes the network that run would run, as a text in the DOT language: a box for each process with its
+number, what it does and its module, an arrow for each channel with its capacity, and a frame round the
+processes of each module.
+
+  PROGRAM          the file of the program
+  --processors P   how many processors there are, 1 to 512
+  --costs FILE     the costs by which worker counts are chosen; without them the standard costs
+  --capacity C     how many tokens a channel holds at most, 1 to 1,024 (4 if not given)
+
+example: p3l graph m.p3l --processors 16 | dot -Tsvg > m.svg
 ";
 
 /// What `exec` does.
@@ -182,6 +213,8 @@ fn help_of(verb: Verb) -> &'static str {
         Verb::Compile => COMPILE,
         Verb::Run => RUN,
         Verb::Exec => EXEC,
+        Verb::Migrate => MIGRATE,
+        Verb::Graph => GRAPH,
         Verb::VerifyCert => VERIFY_CERT,
         Verb::CheckTrace => CHECK_TRACE,
         Verb::Gen => GEN,

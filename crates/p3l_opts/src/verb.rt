@@ -18,6 +18,8 @@ pub enum Verb {
     Compile,
     Run,
     Exec,
+    Migrate,
+    Graph,
     VerifyCert,
     CheckTrace,
     Gen,
@@ -52,6 +54,12 @@ pub fn verb_of(word: &str) -> Option<Verb>
     }
     if is_word(word, "exec") {
         return Some(Verb::Exec);
+    }
+    if is_word(word, "migrate") {
+        return Some(Verb::Migrate);
+    }
+    if is_word(word, "graph") {
+        return Some(Verb::Graph);
     }
     if is_word(word, "verify-cert") {
         return Some(Verb::VerifyCert);
@@ -114,6 +122,24 @@ pub(crate) fn clap_command<'a>(alloc: Global, verb: Verb) -> Result<Command<'a>,
                 ("schedule", Spelling::Optional),
                 ("trace", Spelling::Optional),
                 ("stats", Spelling::Flag),
+            ],
+        ),
+        Verb::Migrate => command_with(
+            alloc,
+            "migrate",
+            &[
+                ("image", Spelling::Positional),
+                ("output", Spelling::Mandatory),
+            ],
+        ),
+        Verb::Graph => command_with(
+            alloc,
+            "graph",
+            &[
+                ("program", Spelling::Positional),
+                ("processors", Spelling::Mandatory),
+                ("costs", Spelling::Optional),
+                ("capacity", Spelling::Optional),
             ],
         ),
         Verb::VerifyCert => command_with(

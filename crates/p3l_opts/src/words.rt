@@ -51,6 +51,8 @@ fn command_of(alloc: Global, verb: Verb, matches: &ArgMatches) -> Result<Command
         Verb::Compile => compile_of(alloc, matches),
         Verb::Run => run_of(alloc, matches),
         Verb::Exec => exec_of(alloc, matches),
+        Verb::Migrate => migrate_of(alloc, matches),
+        Verb::Graph => Ok(Command::Graph(build_of(alloc, matches)?)),
         Verb::VerifyCert => verify_cert_of(alloc, matches),
         Verb::CheckTrace => check_trace_of(alloc, matches),
         Verb::Gen => gen_of(alloc, matches),
@@ -140,6 +142,18 @@ fn exec_of(alloc: Global, matches: &ArgMatches) -> Result<Command, OptsRefusal>
     let trace = name_if_given(alloc, matches, "trace")?;
     let stats = is_given(matches, "stats");
     Ok(Command::Exec(image, schedule, trace, stats))
+}
+
+/// The command `migrate` with the values that were found.
+fn migrate_of(alloc: Global, matches: &ArgMatches) -> Result<Command, OptsRefusal>
+    ensures verb { IfOk result (λ command. verb_of command ≡ Verb.Migrate) }
+    ensures values { IfOk result (HasValues (rows_of (found_of matches.now))) }
+    ensures usage { IsErrOf result OptsRefusal.Usage → (command : Command)
+        → verb_of command ≡ Verb.Migrate → HasValues (rows_of (found_of matches.now)) command → ⊥ }
+{
+    let image = name_of(alloc, matches, "image")?;
+    let output = name_of(alloc, matches, "output")?;
+    Ok(Command::Migrate(image, output))
 }
 
 /// The command `verify-cert` with the values that were found.

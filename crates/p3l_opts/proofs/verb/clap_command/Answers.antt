@@ -26,6 +26,14 @@ pub returns-in-Exec : goal.returns-in-Exec
 unfolding app_for
 returns-in-Exec c = rw c.in-Exec.is (IfOk-weaker c.command_with-in-Exec.result _ _ (λ r e. e) c.command_with-in-Exec.ensures)
 
+pub returns-in-Migrate : goal.returns-in-Migrate
+unfolding app_for
+returns-in-Migrate c = rw c.in-Migrate.is (IfOk-weaker c.command_with-in-Migrate.result _ _ (λ r e. e) c.command_with-in-Migrate.ensures)
+
+pub returns-in-Graph : goal.returns-in-Graph
+unfolding app_for
+returns-in-Graph c = rw c.in-Graph.is (IfOk-weaker c.command_with-in-Graph.result _ _ (λ r e. e) c.command_with-in-Graph.ensures)
+
 pub returns-in-VerifyCert : goal.returns-in-VerifyCert
 unfolding app_for
 returns-in-VerifyCert c = rw c.in-VerifyCert.is (IfOk-weaker c.command_with-in-VerifyCert.result _ _ (λ r e. e) c.command_with-in-VerifyCert.ensures)
