@@ -5,9 +5,9 @@ ghost use Rattle.std.specs.Prelude.{◌≡◌};
 ghost use Rattle.std.specs.Process.{exit_status};
 
 use p3l_base::NoMemory;
+use p3l_help::HANDBOOK;
 use p3l_host::{HostErr, HostFiles, HostIn, HostOut};
 use p3l_io::Sink;
-use p3l_opts::help_for;
 use p3l_program::top::top;
 use p3l_report::{Status, Verdict, put_no_memory, put_report, report_of};
 use std::env;
@@ -55,7 +55,7 @@ fn start(rt: &HostRuntime) -> Result<Status, NoMemory> {
     for word in all.iter().skip(1) {
         words.push(word.as_str())?;
     }
-    if let Some(text) = help_for(words.as_slice()) {
+    if let Some(text) = HANDBOOK.answer(words.as_slice()) {
         return Ok(show(rt, text));
     }
     let mut files = HostFiles::new(rt);

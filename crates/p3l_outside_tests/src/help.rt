@@ -1,7 +1,7 @@
 // The texts that the program answers words that ask for help with.
 
 use p3l_base::NoMemory;
-use p3l_opts::help_for;
+use p3l_help::HANDBOOK;
 use std::alloc::Global;
 use std::process::Abort;
 use std::test::Fail;
@@ -96,13 +96,74 @@ fn compare(
     Ok(())
 }
 
+/// Each number of refusal, with the name that the program prints after it.
+const NUMBERED: [(&str, &str); 52] = [
+    ("1", "BadByte"),
+    ("2", "BadToken"),
+    ("3", "Expected"),
+    ("4", "NumberTooBig"),
+    ("5", "NameTooLong"),
+    ("6", "SourceTooLong"),
+    ("8", "TooNested"),
+    ("10", "UnknownName"),
+    ("11", "BadSize"),
+    ("12", "TooWide"),
+    ("20", "Twice"),
+    ("21", "NoMain"),
+    ("22", "UsedBeforeDefined"),
+    ("23", "Arity"),
+    ("24", "TypeDiffers"),
+    ("25", "Wiring"),
+    ("26", "FreeIndex"),
+    ("27", "BadOperator"),
+    ("28", "NotInComp"),
+    ("29", "LoopTypes"),
+    ("30", "BadWorkers"),
+    ("31", "TooManyInstances"),
+    ("32", "TooDeep"),
+    ("33", "TooHeavy"),
+    ("40", "Undeclared"),
+    ("41", "DeclaredTwice"),
+    ("42", "NotArray"),
+    ("43", "IsArray"),
+    ("44", "WriteToIn"),
+    ("50", "NotToml"),
+    ("51", "BadKey"),
+    ("52", "BadValue"),
+    ("53", "Missing"),
+    ("70", "RowWrong"),
+    ("71", "RowMissing"),
+    ("72", "ClaimWrong"),
+    ("73", "BadText"),
+    ("80", "BadMagic"),
+    ("81", "Version"),
+    ("82", "Short"),
+    ("83", "BadField"),
+    ("84", "TrailingBytes"),
+    ("90", "CodeUnsafe"),
+    ("91", "NotLinked"),
+    ("92", "TreeWrong"),
+    ("95", "BadPick"),
+    ("96", "NoSuchProcess"),
+    ("100", "BadWord"),
+    ("101", "WrongCount"),
+    ("102", "OutOfRange"),
+    ("110", "BadLine"),
+    ("111", "Differs"),
+];
+
 #[test]
 fn the_help_of_a_command_has_its_words_and_an_example(rt: HostRuntime) -> Result<(), Fail> {
     for (command, words) in NAMED {
-        for asked in ["--help", "-h"] {
-            let help = help_for(&[command, asked, "more"]);
-            assert!(rt; help.is_some());
-            compare(&rt, rt.alloc(), command, help.unwrap(), words)?;
+        let help = HANDBOOK.answer(&["help", command]);
+        assert!(rt; help.is_some());
+        compare(&rt, rt.alloc(), command, help.unwrap(), words)?;
+        for asked in [
+            [command, "--help", "more"],
+            [command, "m.p3l", "-h"],
+            [command, "-h", "--version"],
+        ] {
+            assert!(rt; HANDBOOK.answer(&asked) == help);
         }
     }
     Ok(())
@@ -110,33 +171,75 @@ fn the_help_of_a_command_has_its_words_and_an_example(rt: HostRuntime) -> Result
 
 #[test]
 fn the_help_of_the_program_lists_the_commands(rt: HostRuntime) -> Result<(), Fail> {
-    let help = help_for(&["--help"]);
+    let help = HANDBOOK.answer(&["--help"]);
     assert!(rt; help.is_some());
     for (command, _) in NAMED {
         assert!(rt; says(rt.alloc(), help.unwrap(), "\n  ", command)?);
+    }
+    for words in [
+        ["help", "help"],
+        ["-h", "run"],
+        ["help", "--help"],
+        ["help", "-h"],
+    ] {
+        assert!(rt; HANDBOOK.answer(&words) == help);
+    }
+    assert!(rt; HANDBOOK.answer(&["help"]) == help);
+    Ok(())
+}
+
+#[test]
+fn each_number_has_a_page_that_names_it_and_shows_it(rt: HostRuntime) -> Result<(), Fail> {
+    for (number, name) in NUMBERED {
+        let help = HANDBOOK.answer(&["help", number]);
+        assert!(rt; help.is_some());
+        let page = help.unwrap();
+        let title = format!(in rt.alloc(); "{number} {name}\n")?;
+        assert!(rt; page.as_bytes().starts_with(title.as_bytes()));
+        assert!(rt; has(page, "\n    $ ") && has(page, "\nTo mend it: "));
     }
     Ok(())
 }
 
 #[test]
+fn other_topics_have_a_page(rt: HostRuntime) {
+    for (topic, part) in [
+        ("status", "13  evidence: NUMBER NAME"),
+        ("language", "Not in the language, and what to write instead"),
+    ] {
+        let help = HANDBOOK.answer(&["help", topic]);
+        assert!(rt; help.is_some());
+        assert!(rt; has(help.unwrap(), part));
+    }
+}
+
+#[test]
 fn the_version_is_given_and_other_words_get_no_help(rt: HostRuntime) {
+    let version = "p3l 0.1.0\nrattle-kit-13f logic dac8208d650f15bf\n";
     for words in [
         ["--version", "x"],
         ["-V", "run"],
         ["run", "-V"],
         ["gen", "--version"],
+        ["help", "-V"],
+        ["help", "version"],
     ] {
-        assert!(rt; help_for(&words) == Some("p3l 0.1.0\n"));
+        assert!(rt; HANDBOOK.answer(&words) == Some(version));
     }
     for words in [
         ["run", "m.p3l"],
-        ["scan", "--help"],
-        ["scan", "-V"],
+        ["walk", "--help"],
+        ["walk", "-V"],
         ["", "-h"],
-        ["help", "run"],
+        ["help", "walk"],
+        ["help", "7"],
+        ["help", ""],
+        ["m.p3l", "help"],
     ] {
-        assert!(rt; help_for(&words).is_none());
+        assert!(rt; HANDBOOK.answer(&words).is_none());
     }
-    assert!(rt; help_for(&[]).is_none());
-    assert!(rt; help_for(&["run"]).is_none());
+    assert!(rt; HANDBOOK.answer(&[]).is_none());
+    assert!(rt; HANDBOOK.answer(&["run"]).is_none());
+    assert!(rt; HANDBOOK.answer(&["fmt", "--", "--help"]).is_none());
+    assert!(rt; HANDBOOK.answer(&["help", "run", "fmt"]).is_none());
 }

@@ -2,7 +2,10 @@
 
 mod texts;
 
-use self::texts::{Example, FARMS, GREATEST, HALVE, LINE, MATRIX, NORM, SIGNAL, TOTAL};
+use self::texts::{
+    Example, FARMS, GREATEST, HALVE, HASH, HISTOGRAM, LINE, MATRIX, NORM, PREFIX, ROOT, SIGNAL,
+    SLIDING, TOTAL, VECTOR,
+};
 use p3l_base::List;
 use p3l_io::{MemFiles, MemSink, MemSource};
 use p3l_program::top::top;
@@ -96,6 +99,23 @@ fn a_loop(rt: HostRuntime) -> Result<(), Fail> {
     // Of 6, 1, 19 and 1 turns; an item that takes all 64 fires 195 times.
     let numbers = "stats: items 4, fired 93, idle 0, bound 780\n";
     compare_runs(&rt, rt.alloc(), &HALVE, numbers)
+}
+
+#[test]
+fn recipes(rt: HostRuntime) -> Result<(), Fail> {
+    let table: [(&Example, &str); 6] = [
+        (&HASH, "stats: items 2, fired 6, idle 0, bound 6\n"),
+        (&VECTOR, "stats: items 2, fired 26, idle 0, bound 26\n"),
+        (&HISTOGRAM, "stats: items 2, fired 6, idle 0, bound 6\n"),
+        (&PREFIX, "stats: items 2, fired 6, idle 0, bound 6\n"),
+        // Of 1, 1, 1, 4, 11 and 35 turns; an item that takes all 64 fires 197 times.
+        (&ROOT, "stats: items 6, fired 189, idle 0, bound 1182\n"),
+        (&SLIDING, "stats: items 2, fired 28, idle 0, bound 34\n"),
+    ];
+    for (example, numbers) in table {
+        compare_runs(&rt, rt.alloc(), example, numbers)?;
+    }
+    Ok(())
 }
 
 #[test]

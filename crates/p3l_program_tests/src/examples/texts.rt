@@ -106,6 +106,61 @@ end loop
 ",
 };
 
+pub const HASH: Example = Example {
+    program: "// The FNV-1a hash of eight bytes, as a word of 64 bits with a sign. A product wraps, as the hash wants it.
+const LENGTH = 8;
+const PRIME = 1099511628211;
+
+seq main in(int bytes[LENGTH]) out(int hash)
+${
+  int i;
+  // 14695981039346656037 is above the greatest number, so it is written as what it is modulo 2^64.
+  hash = -3750763034362895579;
+  for (i = 0; i < LENGTH; i = i + 1) {
+    hash = (hash ^ bytes[i]) * PRIME;
+  }
+}$
+end seq
+",
+    input: "104 101 108 108 111 32 119 111
+0 0 0 0 0 0 0 0
+",
+    output: "-6323438951910650201
+-6284781860667377211
+",
+};
+
+pub const HISTOGRAM: Example = Example {
+    program: "// How many of twelve numbers fall into each of four bins of the width 10; the first and the last one take what lies
+// outside.
+const SAMPLES = 12;
+const BINS = 4;
+
+seq main in(int samples[SAMPLES]) out(int counts[BINS])
+${
+  int i;
+  int bin;
+  for (i = 0; i < SAMPLES; i = i + 1) {
+    bin = samples[i] / 10;
+    if (samples[i] < 0) {
+      bin = 0;
+    }
+    if (bin >= BINS) {
+      bin = BINS - 1;
+    }
+    counts[bin] = counts[bin] + 1;
+  }
+}$
+end seq
+",
+    input: "0 5 9 10 19 20 25 29 30 39 31 12
+-5 100 7 7 7 7 7 7 7 7 7 7
+",
+    output: "3 3 3 3
+11 0 0 1
+",
+};
+
 pub const LINE: Example = Example {
     program: "seq main in(int x) out(int y)
 ${ y = x * 2 + 1; }$
@@ -181,6 +236,81 @@ end comp
 ",
 };
 
+pub const PREFIX: Example = Example {
+    program: "// The prefix sums of eight numbers: each result is the sum of all up to its place.
+const N = 8;
+
+seq main in(int a[N]) out(int sums[N])
+${
+  int i;
+  int sum;
+  for (i = 0; i < N; i = i + 1) {
+    sum = sum + a[i];
+    sums[i] = sum;
+  }
+}$
+end seq
+",
+    input: "1 2 3 4 5 6 7 8
+5 -5 5 -5 5 -5 5 -5
+",
+    output: "1 3 6 10 15 21 28 36
+5 0 5 0 5 0 5 0
+",
+};
+
+pub const ROOT: Example = Example {
+    program: "// The whole square root by Newton's method. A guess goes along with its number, and each item takes as many
+// turns of the loop as it needs.
+seq begin in(int number) out(int same, int guess)
+${
+  same = number;
+  guess = number / 2 + 1;
+}$
+end seq
+
+seq better in(int number, int guess) out(int same, int next)
+${
+  same = number;
+  next = (guess + number / guess) / 2;
+}$
+end seq
+
+seq above in(int number, int guess) out(int again)
+${ again = guess != 0 && guess > number / guess; }$
+end seq
+
+loop newton in(int number, int guess) out(int same, int next) turns 64
+  better in(number, guess) out(same, next)
+  while above in(same, next) out(int again)
+end loop
+
+seq answer in(int number, int guess) out(int root)
+${ root = guess; }$
+end seq
+
+pipe main in(int number) out(int root)
+  begin in(number) out(int same, int guess)
+  newton in(same, guess) out(int kept, int last)
+  answer in(kept, last) out(root)
+end pipe
+",
+    input: "0
+1
+2
+144
+1000000
+9223372036854775807
+",
+    output: "0
+1
+1
+12
+1000
+3037000499
+",
+};
+
 pub const SIGNAL: Example = Example {
     program: "// A signal of eight samples is scaled, and each item is smoothed by one of several workers.
 const N = 8;
@@ -223,6 +353,64 @@ end pipe
 ",
 };
 
+pub const SLIDING: Example = Example {
+    program: "// The sums of each eight neighbours round a ring of sixteen. The sums of 2 k neighbours are those of k and of the k
+// after them, so a loop doubles the width, which goes along with the sums.
+const N = 16;
+const WIDTH = 8;
+
+seq begin in(int a[N]) out(int sums[N], int width)
+${
+  int i;
+  for (i = 0; i < N; i = i + 1) {
+    sums[i] = a[i];
+  }
+  width = 1;
+}$
+end seq
+
+seq double in(int sums[N], int width) out(int wider[N], int twice)
+${
+  int i;
+  for (i = 0; i < N; i = i + 1) {
+    wider[i] = sums[i] + sums[(i + width) % N];
+  }
+  twice = width * 2;
+}$
+end seq
+
+seq narrow in(int sums[N], int width) out(int again)
+${ again = width < WIDTH; }$
+end seq
+
+loop doubling in(int sums[N], int width) out(int wider[N], int twice) turns 4
+  double in(sums, width) out(wider, twice)
+  while narrow in(wider, twice) out(int again)
+end loop
+
+seq drop in(int sums[N], int width) out(int b[N])
+${
+  int i;
+  for (i = 0; i < N; i = i + 1) {
+    b[i] = sums[i];
+  }
+}$
+end seq
+
+pipe main in(int a[N]) out(int b[N])
+  begin in(a) out(int sums[N], int width)
+  doubling in(sums, width) out(int wide[N], int last)
+  drop in(wide, last) out(b)
+end pipe
+",
+    input: "1 2 3 4 5 6 7 8 9 10 11 12 13 14 15 16
+1 0 0 0 0 0 0 0 0 0 0 0 0 0 0 -1
+",
+    output: "36 44 52 60 68 76 84 92 100 92 84 76 68 60 52 44
+1 0 0 0 0 0 0 0 -1 0 0 0 0 0 0 0
+",
+};
+
 pub const TOTAL: Example = Example {
     program: "// The sum of sixteen numbers, folded in segments by several processes.
 seq add in(int x, int y) out(int z)
@@ -238,5 +426,32 @@ end reduce
 ",
     output: "136
 -120
+",
+};
+
+pub const VECTOR: Example = Example {
+    program: "// A matrix by a vector: each element of the result is the inner product of a row and the whole vector, which goes
+// along with every row.
+const ROWS = 3;
+const COLUMNS = 4;
+
+seq dot in(int row[COLUMNS], int vector[COLUMNS]) out(int sum)
+${
+  int i;
+  for (i = 0; i < COLUMNS; i = i + 1) {
+    sum = sum + row[i] * vector[i];
+  }
+}$
+end seq
+
+map main in(int matrix[ROWS][COLUMNS], int vector[COLUMNS]) out(int product[ROWS])
+  dot in(matrix[*i][], vector) out(product[*i])
+end map
+",
+    input: "1 2 3 4 5 6 7 8 9 10 11 12 1 0 -1 2
+1 0 0 0 0 1 0 0 0 0 1 0 7 8 9 10
+",
+    output: "6 14 22
+7 8 9
 ",
 };

@@ -1,45 +1,14 @@
-// The texts of `--help` and `--version`.
+// The pages of commands.
 
-use crate::verb::{Verb, verb_of};
-
-/// What the program is and which commands it has.
-const PROGRAM: &str = "p3l compiles P3L programs to networks of processes, and runs them on streams.
-
-usage: p3l COMMAND ..
-
-commands:
-  run PROGRAM --processors P ..           run a program on the standard input
-  compile PROGRAM --processors P ..       write the image of a program to a file
-  exec IMAGE ..                           run an image on the standard input
-  migrate IMAGE --output FILE             write an image of the newest version, linked anew
-  explain PROGRAM --processors P ..       write the worker counts that are chosen for a program
-  graph PROGRAM --processors P ..         write a picture of a program's network, for Graphviz
-  verify-cert PROGRAM --cert FILE ..      check a certificate that worker counts are the best
-  check-trace PROGRAM --processors P ..   check a trace against a run on the standard input
-  check PROGRAM                           say whether a program keeps the rules of the language
-  fmt PROGRAM                             write a program in its canonical text
-  gen N --processors P ..                 generate a program with its items by a number, and run it
-
-p3l COMMAND --help says more. --version gives the version.
-
-Options stand in any order, each once at most; numbers have no sign and no leading zero. Results go to the
-standard output, and a message to the standard error says why the program ended with another status than 0:
-
-   1  stopped by the end of the schedule's picks     8  the standard input could not be read
-   2  the words are not a command                    9  a file could not be read, or is too long
-   3  the source is refused                         10  writing failed
-   4  the costs are refused                         11  no memory
-   5  too few processors                            12  the schedule is refused
-   6  a line of the stream is refused               13  an image, a certificate or a trace is refused
-   7  a trap                                        14  the input is too long
-";
+use crate::page::Page;
 
 /// What `run` does.
 const RUN: &str =
     "usage: p3l run PROGRAM --processors P [--costs FILE] [--schedule S] [--capacity C] [--trace FILE]
                [--stats]
 
-Reads items from the standard input, one a line, and writes one line for each result.
+Reads items from the standard input, one a line, and writes one line for each result. One thread runs:
+the number of processors chooses the worker counts, and does not make the run faster.
 
   PROGRAM          the file of the program
   --processors P   how many processors there are, 1 to 512
@@ -72,8 +41,9 @@ example: p3l compile m.p3l --processors 16 --output m.img
 const MIGRATE: &str =
     "usage: p3l migrate IMAGE --output FILE
 
-Reads an image of any version, links its network anew from its tree and its counts, and writes the image in
-the newest version to a file. An image whose tree or codes can't be run is refused, and no file is written.
+Reads an image of any version, links its network anew from its tree and its counts, and writes
+the image in the newest version to a file. An image whose tree or codes can't be run is refused,
+and no file is written.
 
   IMAGE            the file of the image
   --output FILE    where to write the image
@@ -85,9 +55,9 @@ example: p3l migrate old.img --output new.img
 const GRAPH: &str =
     "usage: p3l graph PROGRAM --processors P [--costs FILE] [--capacity C]
 
-Writes the network that run would run, as a text in the DOT language: a box for each process with its
-number, what it does and its module, an arrow for each channel with its capacity, and a frame round the
-processes of each module.
+Writes the network that run would run, as a text in the DOT language: a box for each process with
+its number, what it does and its module, an arrow for each channel with its capacity, and a frame
+round the processes of each skeleton.
 
   PROGRAM          the file of the program
   --processors P   how many processors there are, 1 to 512
@@ -168,7 +138,8 @@ example: p3l check m.p3l
 /// What `fmt` does.
 const FMT: &str = "usage: p3l fmt PROGRAM
 
-Writes the canonical text of a program to the standard output.
+Writes the canonical text of a program to the standard output. Comments are dropped: don't write the text
+over a source whose comments you want to keep.
 
   PROGRAM          the file of the program
 
@@ -191,43 +162,50 @@ counts that are chosen, and the sum of all words that came out, which wraps at 6
 example: p3l gen 7 --processors 16 --save seven
 ";
 
-/// The version.
-const VERSION: &str = "p3l 0.1.0\n";
-
-/// Whether a word asks for help.
-fn is_help(word: &str) -> bool {
-    word == "--help" || word == "-h"
-}
-
-/// Whether a word asks for the version.
-fn is_version(word: &str) -> bool {
-    word == "--version" || word == "-V"
-}
-
-/// The help of a command.
-fn help_of(verb: Verb) -> &'static str {
-    match verb {
-        Verb::Check => CHECK,
-        Verb::Fmt => FMT,
-        Verb::Explain => EXPLAIN,
-        Verb::Compile => COMPILE,
-        Verb::Run => RUN,
-        Verb::Exec => EXEC,
-        Verb::Migrate => MIGRATE,
-        Verb::Graph => GRAPH,
-        Verb::VerifyCert => VERIFY_CERT,
-        Verb::CheckTrace => CHECK_TRACE,
-        Verb::Gen => GEN,
-    }
-}
-
-/// The text that the words ask for: of the program by the first word, of a command right after it.
-pub fn help_for(words: &[&str]) -> Option<&'static str> {
-    match words {
-        [first, ..] if is_help(first) => Some(PROGRAM),
-        [first, ..] if is_version(first) => Some(VERSION),
-        [command, second, ..] if is_help(second) => Some(help_of(verb_of(command)?)),
-        [command, second, ..] if is_version(second) && verb_of(command).is_some() => Some(VERSION),
-        _ => None,
-    }
-}
+/// A page for each command, by its first word.
+pub(crate) const COMMANDS: &[Page] = &[
+    Page {
+        topic: "run",
+        text: RUN,
+    },
+    Page {
+        topic: "compile",
+        text: COMPILE,
+    },
+    Page {
+        topic: "exec",
+        text: EXEC,
+    },
+    Page {
+        topic: "migrate",
+        text: MIGRATE,
+    },
+    Page {
+        topic: "explain",
+        text: EXPLAIN,
+    },
+    Page {
+        topic: "graph",
+        text: GRAPH,
+    },
+    Page {
+        topic: "verify-cert",
+        text: VERIFY_CERT,
+    },
+    Page {
+        topic: "check-trace",
+        text: CHECK_TRACE,
+    },
+    Page {
+        topic: "check",
+        text: CHECK,
+    },
+    Page {
+        topic: "fmt",
+        text: FMT,
+    },
+    Page {
+        topic: "gen",
+        text: GEN,
+    },
+];

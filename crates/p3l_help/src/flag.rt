@@ -1,0 +1,74 @@
+// The words that ask for a page wherever they stand.
+
+ghost use Rattle.std.specs.Prelude.{◌≡◌};
+ghost use Rattle.std.specs.Option.{option_map};
+ghost use Rattle.p3l_help.specs.Flag.{asking_among, before_dashes, dashes_in, first_flag, flag_of, topic_of};
+
+/// What such a word asks for.
+#[derive(Clone, Copy, Debug, Drop, PartialEq, Eq)]
+pub enum Flag {
+    /// Help on what the words are about.
+    Help,
+    /// The version of the program.
+    Version,
+}
+
+impl Flag {
+    /// The topic that is asked for where help would be about this one.
+    pub(crate) fn topic(self, about: &str) -> &str
+        ensures { result.now ≡ topic_of about.now self }
+    {
+        match self {
+            Flag::Help => about,
+            Flag::Version => "version",
+        }
+    }
+}
+
+/// What a word asks for, if it asks.
+pub(crate) fn flag_in(word: &str) -> Option<Flag>
+    ensures { result ≡ flag_of word.now }
+{
+    match word {
+        "--help" | "-h" => Some(Flag::Help),
+        "--version" | "-V" => Some(Flag::Version),
+        _ => None,
+    }
+}
+
+/// Where the first `--` stands.
+fn dashes_in(words: &[&str]) -> Option<usize>
+    ensures { result ≡ dashes_in words.now }
+{
+    words.iter().position(|word| *word == "--")
+}
+
+/// The words before the first `--`.
+fn before_dashes<'a>(words: &'a [&'a str]) -> &'a [&'a str]
+    ensures { result.now ≡ before_dashes words.now }
+{
+    match dashes_in(words) {
+        Some(end) => &words[..end],
+        None => words,
+    }
+}
+
+/// The first word that asks for something.
+fn asking_among<'a>(words: &'a [&'a str]) -> Option<&'a str>
+    ensures { option_map (λ word. word.now) result ≡ asking_among words.now }
+{
+    words
+        .iter()
+        .find(|word| flag_in(word).is_some())
+        .map(|word| *word)
+}
+
+/// What the first word before `--` that asks for something asks for.
+pub(crate) fn flag_among(words: &[&str]) -> Option<Flag>
+    ensures { result ≡ first_flag words.now }
+{
+    match asking_among(before_dashes(words)) {
+        Some(word) => flag_in(word),
+        None => None,
+    }
+}

@@ -1,0 +1,124 @@
+#!/usr/bin/env python3
+"""Sessions in texts: runs each command that README.md, the files of docs/ and the pages of numbers show, and compares what it writes.
+
+    tools/blocks.py PATH-OF-P3L [--mend] [FILE..]
+
+A session is a block of lines, in a fence or four spaces to the right: `$ ` begins a command, `> ` goes on with it, and the lines after
+it are what it writes to standard output and standard error. The sessions of a file run in one shell, in a folder of their own with a
+copy of examples/, in their order; each page in a new one. With --mend the files get what the commands wrote.
+"""
+
+import argparse
+import os
+import pathlib
+import re
+import shutil
+import subprocess
+import sys
+import tempfile
+
+ROOT = pathlib.Path(__file__).resolve().parent.parent
+MARK = "\x01"
+SECONDS = 600
+NUMBER = re.compile(r"\| (\d+) \| \w+ (?=\|)")
+
+
+class Command:
+    """A command of a session, with the lines that it stands on and those that are said to come of it."""
+
+    def __init__(self, indent, line):
+        self.indent, self.shown, self.text, self.told = indent, [line], [line[len(indent) + 2 :]], []
+
+
+def pieces_of(text):
+    """The lines of a text and its commands, in their order."""
+    pieces, command, fenced = [], None, False
+    for line in text.split("\n"):
+        fence = line.startswith("```")
+        fenced = fenced != fence
+        indent = "" if fenced else "    "
+        body = line[len(indent) :] if line.startswith(indent) else None
+        if body is not None and body.startswith("$ ") and not fence:
+            command = Command(indent, line)
+            pieces.append(command)
+        elif command and not fence and body is not None and (body == ">" or body.startswith("> ")) and not command.told:
+            command.shown.append(line)
+            command.text.append(body[2:])
+        elif command and not fence and body is not None:
+            command.told.append(body)
+        else:
+            command = None
+            pieces.append(line)
+    return pieces
+
+
+def run_all(commands, program):
+    """What each command writes, run in one shell in a folder of their own."""
+    script = "".join("\n".join(it.text) + f"\nprintf '{MARK}'\n" for it in commands)
+    with tempfile.TemporaryDirectory(prefix="p3l-blocks-") as folder:
+        shutil.copytree(ROOT / "examples", f"{folder}/examples")
+        (pathlib.Path(folder) / ".bin").mkdir()
+        os.symlink(program, f"{folder}/.bin/p3l")
+        env = {**os.environ, "PATH": f"{folder}/.bin:{os.environ['PATH']}", "LC_ALL": "C"}
+        how = {"stdin": subprocess.DEVNULL, "stdout": subprocess.PIPE, "stderr": subprocess.STDOUT}
+        shell = subprocess.run(["bash", "-c", script], cwd=folder, env=env, timeout=SECONDS, **how)
+    return shell.stdout.decode(errors="replace").split(MARK)
+
+
+def lines_of(output):
+    return output.removesuffix("\n").split("\n") if output else []
+
+
+def compare(name, text, program):
+    """The text with what its commands wrote in the place of what it says; tells each that differs."""
+    pieces = pieces_of(text)
+    commands = [it for it in pieces if isinstance(it, Command)]
+    wrong = 0
+    for command, output in zip(commands, run_all(commands, program) if commands else []):
+        wrote = lines_of(output)
+        if wrote != command.told:
+            wrong += 1
+            print(f"blocks: {name}: {command.text[0]}")
+            print("\n".join(f"  - {line}" for line in command.told))
+            print("\n".join(f"  + {line}" for line in wrote))
+        command.told = wrote
+    lines = []
+    for it in pieces:
+        if isinstance(it, Command):
+            lines += it.shown + [it.indent + line for line in it.told]
+        else:
+            lines.append(it)
+    return "\n".join(lines), len(commands), wrong
+
+
+def pages(program):
+    """The page of each number that docs/COMMANDS.md has."""
+    table = (ROOT / "docs/COMMANDS.md").read_text().partition("## Numbers and names")[2]
+    for number in sorted(NUMBER.findall(table), key=int):
+        ran = subprocess.run([program, "help", number], capture_output=True, text=True)
+        yield f"help {number}", ran.stdout if ran.returncode == 0 else f"    $ p3l help {number}\n"
+
+
+def main():
+    words = argparse.ArgumentParser(description=__doc__.split("\n")[0])
+    words.add_argument("program", type=lambda path: str(pathlib.Path(path).resolve()))
+    words.add_argument("--mend", action="store_true")
+    words.add_argument("files", nargs="*", type=pathlib.Path)
+    given = words.parse_intermixed_args()
+    files = given.files or [ROOT / "README.md", *sorted((ROOT / "docs").glob("*.md"))]
+    count = wrong = 0
+    for file in files:
+        text = file.read_text()
+        mended, ran, differ = compare(file.name, text, given.program)
+        count, wrong = count + ran, wrong + differ
+        if given.mend and mended != text:
+            file.write_text(mended)
+    for name, text in [] if given.files else pages(given.program):
+        _, ran, differ = compare(name, text, given.program)
+        count, wrong = count + ran, wrong + differ
+    print(f"blocks: {count} commands, {wrong} differ")
+    return 1 if wrong or not count else 0
+
+
+if __name__ == "__main__":
+    sys.exit(main())
