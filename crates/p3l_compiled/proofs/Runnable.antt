@@ -14,8 +14,8 @@ use Rattle.p3l_compile.proofs.Leaves.{have_codes}
 use Rattle.p3l_firing.specs.Typed.{IsTyped}
 use Rattle.p3l_link.specs.Net.{linked_net}
 use Rattle.p3l_image.specs.declared.image.Image.{Image}
-use Rattle.p3l_image.specs.Image.{image_format}
-use Rattle.p3l_image_laws.specs.Written.{EveryRunnableImageCanBeWritten, HasAllOperands, HasName}
+use Rattle.p3l_image.specs.Image.{CanBeWritten}
+use Rattle.p3l_image_laws.specs.Written.{EveryRunnableImageCanBeWritten, HasAllOperands, HasName, HasRescueInRange}
 use Rattle.p3l_load.specs.Load.{IsRunnable}
 use Rattle.p3l_compiled.specs.Compiled.{AreCodesOf, ComesTo, EveryBodyHasItsModule, EveryCompiledImageCanBeRun, EveryModuleHasAName, image_of}
 
@@ -56,15 +56,15 @@ module _ (counted : EveryBodyHasItsModule)
 -- such an image can be run, and be written
 pub record IsMade (image : Image) : Type 0 where
   pub runs : IsRunnable image
-  pub fits : image_format.fits image ≡ true
+  pub fits : CanBeWritten image
 
 module _ (named : EveryModuleHasAName) (runs : EveryCompiledImageCanBeRun) (fit : EveryRunnableImageCanBeWritten) where
-  pub made : (tree : Tree) (codes : List Code) (counts : List ℕ) (capacity : ℕ) → AreCodesOf tree codes → All IsSafe codes → All HasAllOperands codes →
+  pub made : (tree : Tree) (codes : List Code) (counts : List ℕ) (capacity : ℕ) → AreCodesOf tree codes → All IsSafe codes → All HasRescueInRange tree.modules → All HasAllOperands codes →
       HasLawfulCounts tree counts → procs tree counts 0 ≤ 4096 → 1 ≤ capacity → capacity ≤ 1024 → IsMade (image_of tree counts codes capacity)
-  made tree codes counts capacity own safe operands lawful small some few =
+  made tree codes counts capacity own safe rescues operands lawful small some few =
       let can = runs tree codes counts capacity own safe lawful small some in
       let names = named own.bytes own.comes.program own.r own.comes.spelled own.comes.keeps in
       record {
         runs = can;
-        fits = fit (image_of tree counts codes capacity) can some few (subst (λ (t : Tree). All HasName t.modules) (sym own.tree_is) names) operands;
+        fits = fit (image_of tree counts codes capacity) can some few (subst (λ (t : Tree). All HasName t.modules) (sym own.tree_is) names) rescues operands;
       }

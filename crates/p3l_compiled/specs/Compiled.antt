@@ -13,7 +13,7 @@ use Rattle.p3l_code.specs.Safe.{IsSafe}
 use Rattle.p3l_compile.specs.Leaves.{AreBodies, AreCodes}
 use Rattle.p3l_link.specs.Net.{linked_net}
 use Rattle.p3l_image.specs.declared.image.Image.{Image}
-use Rattle.p3l_image.specs.Image.{image_format}
+use Rattle.p3l_image.specs.Image.{CanBeWritten, image_text}
 use Rattle.p3l_load.specs.Codes.{seqs_in}
 use Rattle.p3l_load.specs.Load.{IsRunnable}
 use Rattle.p3l_image_laws.specs.Written.{HasName}
@@ -47,8 +47,8 @@ pub record AreCodesOf (tree : Tree) (codes : List Code) : Type 0 where
 -- bytes are those of an image, which can be read again and be run
 pub record IsImageText (image : Image) (bytes : List ℕ) : Type 0 where
   pub runs : IsRunnable image
-  pub fits : image_format.fits image ≡ true
-  pub bytes_are : bytes ≡ image_format.spell image
+  pub fits : CanBeWritten image
+  pub bytes_are : bytes ≡ image_text image
 
 -- the modules of the tree of a program that a text spells have names of the language
 abbrev pub EveryModuleHasAName : Type 0

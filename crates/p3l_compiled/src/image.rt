@@ -13,7 +13,7 @@ use crate::laws::{every_compiled_image_can_be_run, every_module_has_a_name};
 use p3l_base::{List, NoMemory};
 use p3l_code::{Code, SafeCode};
 use p3l_image::{Image, encode};
-use p3l_image_laws::{every_runnable_image_can_be_written, have_operands};
+use p3l_image_laws::{every_runnable_image_can_be_written, have_operands, have_rescues};
 use p3l_link::link;
 use p3l_skel::{Counts, Tree};
 use std::alloc::Global;
@@ -93,6 +93,7 @@ pub fn image_text(
     every_compiled_image_can_be_run();
     every_runnable_image_can_be_written();
     let image = image_of(alloc, tree, counts, codes, capacity)?;
+    have_rescues(image.tree.modules.as_slice());
     have_operands(image.codes.as_slice());
     encode(alloc, &image)
 }

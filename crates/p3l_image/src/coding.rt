@@ -1,9 +1,8 @@
 // Images as bytes.
 
-ghost use Rattle.std.specs.Prelude.{◌≡◌, ◌≤◌, ℕ, ◌++◌, List, [], true, slice_index, Ok, IfOk};
-ghost use Rattle.p3l_format.specs.Format.{read_all};
+ghost use Rattle.std.specs.Prelude.{◌≡◌, ◌≤◌, ◌++◌, true, slice_index, Ok, IfOk, OnOk};
 ghost use Rattle.p3l_image.specs.declared.image.Image.{Image as TheImage};
-ghost use Rattle.p3l_image.specs.Image.{body_format, image_format};
+ghost use Rattle.p3l_image.specs.Image.{body_format, image_format, image_in, image_text, CanBeWritten, ImageBeginsNoOther, IsSpelling, OldTextsTellNoRescue};
 ghost use Rattle.p3l_image.specs.Refusal.{Answers, refusal_of, version_at};
 ghost use Rattle.p3l_image.specs.laws.Image.{lawful_body, lawful_image};
 
@@ -13,28 +12,29 @@ use crate::net::NetField;
 use p3l_base::{List, NoMemory};
 use p3l_format::{Cause, Fault, Field, ReadError, read_exact, read_u32_in, write_u32};
 use p3l_skel::Counts;
-use p3l_tree_format::{COUNTS, TreeField};
+use p3l_tree_format::{COUNTS, TreeField, Version, read_version, write_version};
 use std::alloc::Global;
 
 const MAGIC: u32 = 0x5033_4c49;
 
-const VERSION: u32 = 1;
-
-// What stands after the magic number and the version.
+// What stands after the magic number and this version.
 #[derive(Clone, Copy, Drop)]
-struct BodyField;
+struct BodyField {
+    version: Version,
+}
 
 impl Field for BodyField {
     type Value = Image;
 
-    ghost format = { λ _. body_format };
+    ghost format = { λ it. body_format it.version };
 
-    ghost lawful = { λ _. lawful_body };
+    ghost lawful = { λ it. lawful_body it.version };
 
     #[tactic(auto, unfolding(crate::specs::Image::body_format, p3l_format::specs::Format::pair, p3l_format::specs::Format::as_form))]
     fn read<'a>(&self, alloc: Global, bytes: &'a [u8]) -> Result<(Image, &'a [u8]), ReadError> {
+        let version = self.version;
         let (cap, rest) = read_u32_in(1, 1_024, bytes)?;
-        let (tree, rest) = TreeField.read(alloc, rest)?;
+        let (tree, rest) = TreeField { version }.read(alloc, rest)?;
         let (list, rest) = COUNTS.read(alloc, rest)?;
         let (codes, rest) = CODES.read(alloc, rest)?;
         let field = NetField {
@@ -55,8 +55,9 @@ impl Field for BodyField {
 
     #[tactic(auto, unfolding(crate::specs::Image::body_format, p3l_format::specs::Format::pair, p3l_format::specs::Format::as_form, p3l_format::specs::Format::within))]
     fn write(&self, value: &Image, out: &mut Vec<u8>) -> Result<(), NoMemory> {
+        let version = self.version;
         write_u32(value.cap, out)?;
-        TreeField.write(&value.tree, out)?;
+        TreeField { version }.write(&value.tree, out)?;
         COUNTS.write(&value.counts.list, out)?;
         CODES.write(&value.codes, out)?;
         let field = NetField {
@@ -66,56 +67,74 @@ impl Field for BodyField {
     }
 }
 
-// A whole image.
+// Puts an image after others, in a version.
+#[tactic(auto, unfolding(crate::specs::Image::image_format, p3l_format::specs::Format::pair, p3l_format::specs::Format::after, p3l_format::specs::Format::within))]
+fn write_image(version: Version, image: &Image, out: &mut Vec<u8>) -> Result<(), NoMemory>
+    requires { image_format.fits (version, image.now) ≡ true }
+    ensures { OnOk result (out.new.items ≡ out.old.items ++ image_format.spell (version, image.now)) }
+{
+    write_u32(MAGIC, out)?;
+    write_version(version, out)?;
+    BodyField { version }.write(image, out)
+}
+
+// A whole image, and its version.
 #[derive(Clone, Copy, Drop)]
 struct ImageField;
 
 impl Field for ImageField {
-    type Value = Image;
+    type Value = (Version, Image);
 
     ghost format = { λ _. image_format };
 
     ghost lawful = { λ _. lawful_image };
 
-    #[tactic(auto, unfolding(crate::specs::Image::image_format, p3l_format::specs::Format::after))]
-    fn read<'a>(&self, alloc: Global, bytes: &'a [u8]) -> Result<(Image, &'a [u8]), ReadError> {
+    #[tactic(auto, unfolding(crate::specs::Image::image_format, p3l_format::specs::Format::pair, p3l_format::specs::Format::after))]
+    fn read<'a>(
+        &self,
+        alloc: Global,
+        bytes: &'a [u8],
+    ) -> Result<((Version, Image), &'a [u8]), ReadError> {
         let rest = read_exact(MAGIC, bytes)?;
-        let rest = read_exact(VERSION, rest)?;
-        BodyField.read(alloc, rest)
+        let (version, rest) = read_version(rest)?;
+        let (image, rest) = BodyField { version }.read(alloc, rest)?;
+        Ok(((version, image), rest))
     }
 
-    #[tactic(auto, unfolding(crate::specs::Image::image_format, p3l_format::specs::Format::after, p3l_format::specs::Format::within))]
-    fn write(&self, value: &Image, out: &mut Vec<u8>) -> Result<(), NoMemory> {
-        write_u32(MAGIC, out)?;
-        write_u32(VERSION, out)?;
-        BodyField.write(value, out)
+    fn write(&self, value: &(Version, Image), out: &mut Vec<u8>) -> Result<(), NoMemory> {
+        write_image(value.0, &value.1, out)
     }
 }
 
-/// The bytes of an image whose fields are in their ranges: each node has the form of its module's
-/// kind, and what names a module, a node or a channel names one that is there.
+/// The bytes of an image whose fields are in their ranges, in version 2: each node has the form of
+/// its module's kind, what names a module, a node or a channel names one that is there, and only
+/// `seq` and `comp` modules have rescue numbers.
 pub fn encode(alloc: Global, image: &Image) -> Result<List<u8>, NoMemory>
-    requires { image_format.fits image.now ≡ true }
-    ensures { IfOk result (λ bytes. bytes ≡ image_format.spell image.now) }
+    requires { CanBeWritten image.now }
+    ensures { IfOk result (λ bytes. bytes ≡ image_text image.now) }
 {
-    p3l_format::encode(&ImageField, alloc, image)
+    let mut out = Vec::new(alloc);
+    write_image(Version::Two, image, &mut out)?;
+    Ok(List::from_vec(out))
 }
 
-/// The image that bytes spell, or why they spell none, by the first fault. Memory is taken for what
-/// is there, and not for what a count promises.
+/// The image that bytes spell in version 1 or 2, or why they spell none, by the first fault. Memory
+/// is taken for what is there, and not for what a count promises.
 pub fn decode(alloc: Global, bytes: &[u8]) -> Result<Image, ImageRefusal>
     // What is read is spelled so.
-    ensures found { IfOk result (λ image. (image_format.fits image ≡ true) × (bytes.now ≡ image_format.spell image)) }
+    ensures found { IfOk result (λ image. IsSpelling image bytes.now) }
     // What is spelled so is read, unless memory runs out.
-    ensures only { (image : TheImage) → image_format.fits image ≡ true → bytes.now ≡ image_format.spell image → Answers bytes.now result (Ok image) }
+    ensures only { (image : TheImage) → IsSpelling image bytes.now → Answers bytes.now result (Ok image) }
     // Its capacity is in its range.
     ensures some { IfOk result (λ image. 1 ≤ image.cap) }
     ensures few { IfOk result (λ image. image.cap ≤ 1024) }
+    // What was read can be written, in version 2.
+    ensures again { IfOk result CanBeWritten }
     // Which fault it is.
-    ensures exact { Answers bytes.now result (read_all image_format bytes.now) }
+    ensures exact { Answers bytes.now result (image_in bytes.now) }
 {
     match p3l_format::decode(&ImageField, alloc, bytes) {
-        Ok(image) => Ok(image),
+        Ok((_version, image)) => Ok(image),
         Err(ReadError::NoMemory) => Err(ImageRefusal::NoMemory),
         Err(ReadError::Wrong(fault)) => Err(refusal(bytes, fault)),
     }
@@ -160,7 +179,13 @@ fn byte_at(bytes: &[u8], place: usize) -> u8
     bytes.get(place).copied().unwrap_or(0)
 }
 
-/// No image begins another.
+/// No image begins another, in whatever versions they are spelled.
 pub fn image_begins_no_other()
-    ensures { (v w : TheImage) (more : List ℕ) → image_format.fits v ≡ true → image_format.fits w ≡ true → image_format.spell v ++ more ≡ image_format.spell w → (v ≡ w) × (more ≡ []) }
+    ensures { ImageBeginsNoOther }
+{}
+
+/// An image has a spelling in version 1 exactly where it can be written and no module has a rescue
+/// number.
+pub fn old_texts_tell_no_rescue()
+    ensures { OldTextsTellNoRescue }
 {}

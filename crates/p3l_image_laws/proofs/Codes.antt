@@ -1,8 +1,6 @@
 -- Safe codes are in their ranges.
-use Rattle.std.proofs.Common.{◌≡◌, ℤ, pos, negsuc, ◌^◌, ◌<◌, true, List, [], ◌∷◌, refl, arith}
+use Rattle.std.proofs.Common.{◌≡◌, ◌^◌, ◌<◌, true, List, [], ◌∷◌, refl, arith}
 use Rattle.std.specs.List.{All, list_all}
-use Rattle.std.specs.Int.{w64, cast_unsigned}
-use Rattle.std.proofs.lemmas.Bool.{lt-ltb, ltb-true}
 use Rattle.p3l_ast.specs.declared.expression.UnOp.{UnOp}
 use Rattle.p3l_ast.specs.declared.expression.UnOp.TheVariants as un
 use Rattle.p3l_ast.specs.declared.expression.BinOp.{BinOp}
@@ -12,11 +10,11 @@ use Rattle.p3l_code.specs.declared.instr.Instr.TheVariants.{Push, Load, Store, S
 use Rattle.p3l_code.specs.declared.instr.Code.{Code}
 use Rattle.p3l_code.specs.Safe.{IsSafe}
 use Rattle.p3l_format.specs.Format.{as_form, pair, coded, nothing, tagged}
-use Rattle.p3l_format.specs.Numbers.{number, u8_format, u32_format, u64_format, i64_format, is_i64, one_of}
+use Rattle.p3l_format.specs.Numbers.{u8_format, u32_format, one_of}
 use Rattle.p3l_format.specs.laws.Parts.{both_true}
 use Rattle.p3l_image.specs.Instr.{unary_format, binary_format, operands, instr_format, instrs_format, code_format}
 use Rattle.p3l_image_laws.specs.Written.{HasAllOperands, HasOperands}
-use Rattle.p3l_image_laws.proofs.Ranges.{after_first, first_of, list_fits, u32_fits}
+use Rattle.p3l_image_laws.proofs.Ranges.{after_first, first_of, list_fits, u32_fits, whole_fits}
 
 unary_fits : (op : UnOp) → unary_format.fits op ≡ true
 unfolding one_of coded u8_format
@@ -28,14 +26,6 @@ binary_fits : (op : BinOp) → binary_format.fits op ≡ true
 unfolding one_of coded u8_format
 binary_fits bin.Or = refl
 binary_fits _ = refl
-
-unsigned_small : (z : ℤ) → is_i64 z ≡ true → cast_unsigned w64 z < 2 ^ 64
-unsigned_small (pos n) fits = let low = ltb-true n (2 ^ 63) fits in omega (arith, low)
-unsigned_small (negsuc n) fits = let low = ltb-true n (2 ^ 63) fits in omega (arith, low)
-
-whole_fits : (z : ℤ) → is_i64 z ≡ true → i64_format.fits z ≡ true
-unfolding as_form number
-whole_fits z fits = both_true (is_i64 z) (u64_format.fits (cast_unsigned w64 z)) fits (lt-ltb (cast_unsigned w64 z) (2 ^ 64) (unsigned_small z fits))
 
 instr_fits : (i : Instr) → HasOperands i → instr_format.fits i ≡ true
 unfolding instr_format operands tagged as_form pair nothing one_of coded u8_format

@@ -1,6 +1,6 @@
 -- The tree of lawful nodes is in its ranges.
-use Rattle.std.proofs.Common.{◌≡◌, ℕ, zero, suc, ◌*◌, ◌<◌, ◌≤◌, true, List, [], ◌∷◌, length, get_or, Option, Some, None, refl, ap, ◌∙◌, subst, arith, eq-eqb}
-use Rattle.std.specs.Prelude.{IfSome, IsSomeAnd, slice_get}
+use Rattle.std.proofs.Common.{◌≡◌, ℕ, ℤ, zero, suc, ◌*◌, ◌<◌, ◌≤◌, true, false, List, [], ◌∷◌, length, get_or, Option, Some, None, refl, ap, ◌∙◌, subst, arith, eq-eqb}
+use Rattle.std.specs.Prelude.{IfSome, IsSomeAnd, IsTrue, slice_get}
 use Rattle.std.specs.List.{All, list_all}
 use Rattle.std.proofs.Math.Nat.{le-mul_of_pos_right}
 use Rattle.std.proofs.lemmas.List.Sums.{list_all-from_AllPass}
@@ -13,18 +13,20 @@ use Rattle.p3l_skel.specs.declared.tree.ModuleInfo.{ModuleInfo}
 use Rattle.p3l_skel.specs.declared.tree.Node.{Node}
 use Rattle.p3l_skel.specs.declared.tree.Tree.{Tree}
 use Rattle.p3l_skel.specs.Counts.{IsCountInRange, workers_of}
-use Rattle.p3l_skel.specs.Lawful.{HasKind, HasOnePart, HasTwoParts, IsLawfulForm, IsLawfulLoop, IsLawfulMap, IsLawfulReduce, IsLawfulTree, IsSize, kind_of}
+use Rattle.p3l_skel.specs.Lawful.{HasKind, HasLawfulRescue, may_rescue, HasOnePart, HasTwoParts, IsLawfulForm, IsLawfulLoop, IsLawfulMap, IsLawfulReduce, IsLawfulTree, IsSize, kind_of}
 use Rattle.p3l_skel.specs.Tree.{node_at, no_node}
 use Rattle.p3l_skel.proofs.Depth.{IsSubtree-grows, lawful_at}
-use Rattle.p3l_format.specs.Format.{as_form, pair, within, counted, coded, nothing}
-use Rattle.p3l_format.specs.Numbers.{u8_format, u8_in, u32_in, u32_below, block, one_of}
+use Rattle.p3l_format.specs.Format.{as_form, pair, within, counted, coded, nothing, tagged}
+use Rattle.p3l_format.specs.Numbers.{number, is_i64, i64_format, u8_format, u8_in, u32_in, u32_below, block, one_of}
 use Rattle.p3l_format.specs.laws.Parts.{both_true}
 use Rattle.p3l_tree_format.specs.Slice.{cut_format}
 use Rattle.p3l_tree_format.specs.Module.{is_name, kind_format, name_format, module_format}
 use Rattle.p3l_tree_format.specs.Form.{clause_format, form_format}
 use Rattle.p3l_tree_format.specs.Tree.{indices_format, kind_at, kind_in, modules_format, node_format, nodes_format, tree_format}
-use Rattle.p3l_image_laws.specs.Written.{HasName}
-use Rattle.p3l_image_laws.proofs.Ranges.{first_of, after_first, fits_below, fits_byte, fits_in, list_fits}
+use Rattle.p3l_tree_format.specs.declared.version.Version.TheVariants.{Two}
+use Rattle.p3l_tree_format.specs.Rescue.{flag_format, number_format, rescue_format}
+use Rattle.p3l_image_laws.specs.Written.{HasName, HasRescueInRange}
+use Rattle.p3l_image_laws.proofs.Ranges.{first_of, after_first, fits_below, fits_byte, fits_in, list_fits, whole_fits}
 use Rattle.p3l_image_laws.proofs.Slices.{cut_fits}
 use Rattle.p3l_image_laws.proofs.Below.{count_range, parts_fit}
 
@@ -148,19 +150,38 @@ name_fits name is short =
     both_true ((u8_in 1 64).fits (length name)) _ (fits_byte 1 64 (length name) (name_some name is) short (omega (arith, short)))
     (both_true _ (is_name name) (eq-eqb (length name) (length name) refl) is)
 
-module_fits : (info : ModuleInfo) → HasName info → module_format.fits info ≡ true
+-- a module whose fields are in their ranges
+record IsInRange (info : ModuleInfo) : Type 0 where
+  name : HasName info
+  lawful : HasLawfulRescue info
+  rescue : HasRescueInRange info
+
+rescue_fits : (kind : ModuleKind) (rescue : Option ℤ) → IfSome rescue (λ n. IsTrue (may_rescue kind)) → IfSome rescue (λ n. is_i64 n ≡ true)
+    → (rescue_format Two kind).fits rescue ≡ true
+unfolding rescue_format flag_format number_format tagged within one_of coded u8_format as_form nothing
+rescue_fits kind None may range = refl
+rescue_fits kind (Some n) may range = both_true (may_rescue kind) (i64_format.fits n) may (whole_fits n range)
+
+module_fits : (info : ModuleInfo) → IsInRange info → (module_format Two).fits info ≡ true
 unfolding module_format as_form pair
-module_fits info has = both_true (kind_format.fits info.kind) (name_format.fits info.name) (kind_fits info.kind) (name_fits info.name has.0 has.1)
+module_fits info is =
+    both_true (kind_format.fits info.kind) _ (kind_fits info.kind)
+    (both_true (name_format.fits info.name) _ (name_fits info.name is.name.0 is.name.1) (rescue_fits info.kind info.rescue is.lawful is.rescue))
 
-modules_fit : (modules : List ModuleInfo) → All HasName modules → list_all module_format.fits modules ≡ true
-modules_fit [] has = refl
-modules_fit (info ∷ modules) has =
-    both_true (module_format.fits info) (list_all module_format.fits modules) (module_fits info (first_of HasName info modules has))
-    (modules_fit modules (after_first HasName info modules has))
+modules_fit : (modules : List ModuleInfo) → All HasName modules → All HasLawfulRescue modules → All HasRescueInRange modules → list_all (module_format Two).fits modules ≡ true
+modules_fit [] names lawful rescues = refl
+modules_fit (info ∷ modules) names lawful rescues =
+    both_true ((module_format Two).fits info) (list_all (module_format Two).fits modules)
+    (module_fits info (record {
+      name = first_of HasName info modules names;
+      lawful = first_of HasLawfulRescue info modules lawful;
+      rescue = first_of HasRescueInRange info modules rescues;
+    }))
+    (modules_fit modules (after_first HasName info modules names) (after_first HasLawfulRescue info modules lawful) (after_first HasRescueInRange info modules rescues))
 
-pub tree_fits : (tree : Tree) → IsLawfulTree tree → All HasName tree.modules → tree_format.fits tree ≡ true
+pub tree_fits : (tree : Tree) → IsLawfulTree tree → All HasName tree.modules → All HasRescueInRange tree.modules → (tree_format Two).fits tree ≡ true
 unfolding tree_format as_form pair
-tree_fits tree lawful names =
-    both_true (modules_format.fits tree.modules) ((nodes_format tree.modules).fits tree.nodes)
-    (list_fits 1 module_format tree.modules (omega (arith, some_modules tree lawful)) lawful.few_modules (modules_fit tree.modules names))
+tree_fits tree lawful names rescues =
+    both_true ((modules_format Two).fits tree.modules) ((nodes_format tree.modules).fits tree.nodes)
+    (list_fits 1 (module_format Two) tree.modules (omega (arith, some_modules tree lawful)) lawful.few_modules (modules_fit tree.modules names lawful.rescues rescues))
     (nodes_fit tree lawful)

@@ -1,6 +1,6 @@
 -- What is one word of the language is a name.
 use Rattle.std.proofs.Common.{◌≡◌, ℕ, pos, ◌^◌, ◌≤◌, Bool, true, false, cond, ◌&&◌, ltb, leb, List, [], ◌∷◌, length, Option, Some, None, refl, sym, subst}
-use Rattle.std.specs.Prelude.{nat_eq, not, is_some}
+use Rattle.std.specs.Prelude.{nat_eq, not, is_some, bytes_eq, codes, ◌||◌}
 use Rattle.std.specs.List.{list_all}
 use Rattle.std.proofs.lemmas.Bool.{leb-true}
 use Rattle.p3l_ast.specs.declared.refusal.Fault.TheVariants.{BadByte, BadToken, NumberTooBig, NameTooLong}
@@ -52,6 +52,10 @@ number_is_none text name e = by (is_number text) (ltb (value_of text) (2 ^ 63)) 
     by true false e = absurd cc
     by false q e = absurd cc
 
+or_right : (a b : Bool) → b ≡ true → (a || b) ≡ true
+or_right true b e = refl
+or_right false b e = e
+
 -- a word that is no keyword, and not too long
 word_is : (found : Option Mark) (text name : List ℕ) → Some (Token (word_or_keyword found text)) ≡ Some (Token (Word name)) → (name ≡ text) × (not (is_some found) ≡ true) × (length text ≤ 64)
 unfolding word_or_keyword
@@ -75,7 +79,8 @@ word_is_name (first ∷ rest) name e =
     by true true true s all letter e =
         let is = word_is (keyword_of (first ∷ rest)) (first ∷ rest) name e in
         let word : (is_letter first && list_all is_word_byte rest) ≡ true = both_true (is_letter first) (list_all is_word_byte rest) letter all in (
-          subst (λ (n : List ℕ). is_name n ≡ true) (sym is.0) (both_true (is_letter first && list_all is_word_byte rest) (not (is_some (keyword_of (first ∷ rest)))) word is.1),
+          subst (λ (n : List ℕ). is_name n ≡ true) (sym is.0) (both_true (is_letter first && list_all is_word_byte rest) _ word
+              (or_right (bytes_eq (first ∷ rest) (codes "rescue")) (not (is_some (keyword_of (first ∷ rest)))) is.1)),
           subst (λ (n : List ℕ). length n ≤ 64) (sym is.0) is.2,
         )
     by true true false s all letter e = absurd (number_is_none (first ∷ rest) name e)

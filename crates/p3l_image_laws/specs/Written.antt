@@ -1,5 +1,5 @@
 -- Images that can be written.
-use Rattle.std.specs.Prelude.{◌≡◌, ℕ, ◌^◌, ◌<◌, ◌≤◌, true, List, length, Some, ⊤}
+use Rattle.std.specs.Prelude.{◌≡◌, ℕ, ◌^◌, ◌<◌, ◌≤◌, true, List, length, Some, IfSome, ⊤}
 use Rattle.std.specs.List.{All, AllByRecursion}
 use Rattle.p3l_ast.specs.Tree.{EntryTree, ProgramTree, constant, defined}
 use Rattle.p3l_lexer.specs.declared.token.Lexeme.TheVariants.{Word}
@@ -13,10 +13,10 @@ use Rattle.p3l_code.specs.declared.instr.Code.{Code}
 use Rattle.p3l_format.specs.Numbers.{is_i64}
 use Rattle.p3l_tree_format.specs.Module.{is_name}
 use Rattle.p3l_image.specs.declared.image.Image.{Image}
-use Rattle.p3l_image.specs.Image.{image_format}
+use Rattle.p3l_image.specs.Image.{CanBeWritten, IsSpelling}
 use Rattle.p3l_load.specs.declared.loaded.LoadRefusal.{LoadRefusal}
 use Rattle.p3l_load.specs.declared.loaded.LoadRefusal.TheVariants.{NoMemory}
-use Rattle.p3l_load.specs.Load.{IsRunnable, Refuses}
+use Rattle.p3l_load.specs.Load.{IsRunnable, Refuses, migrated_of}
 
 -- a text is a name of the language, of at most 64 bytes
 abbrev pub IsNameText : List ℕ → Type 0
@@ -51,12 +51,21 @@ HasOperands End = ⊤
 abbrev pub HasAllOperands : Code → Type 0
 HasAllOperands code = All HasOperands code.instrs
 
+-- the rescue number of a module, if it has one, is a number of its type
+abbrev pub HasRescueInRange : ModuleInfo → Type 0
+HasRescueInRange info = IfSome info.rescue (λ number. is_i64 number ≡ true)
+
 -- an image that can be run can be written
 abbrev pub EveryRunnableImageCanBeWritten : Type 0
 EveryRunnableImageCanBeWritten =
     (image : Image) → IsRunnable image → 1 ≤ image.cap → image.cap ≤ 1024
-    → All HasName image.tree.modules → All HasAllOperands image.codes
-    → image_format.fits image ≡ true
+    → All HasName image.tree.modules → All HasRescueInRange image.tree.modules → All HasAllOperands image.codes
+    → CanBeWritten image
+
+-- an image that was read and migrated can be written
+abbrev pub EveryMigratedImageCanBeWritten : Type 0
+EveryMigratedImageCanBeWritten =
+    (image : Image) (bytes : List ℕ) → IsSpelling image bytes → IsRunnable (migrated_of image) → CanBeWritten (migrated_of image)
 
 -- loading gives no other answer on an image that can be run than the program, or that memory was wanting
 abbrev pub NoRunnableImageIsRefused : Type 0

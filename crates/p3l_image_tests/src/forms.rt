@@ -20,34 +20,43 @@ fn again(alloc: Global, bytes: &[u8]) -> Result<Option<List<u8>>, NoMemory> {
 
 const HEAD: [Row; 3] = [
     (b"P3LI", b""),
-    (b"\x00\x00\x00\x01", b""),
+    (b"\x00\x00\x00\x02", b""),
     (b"\x00\x00\x04\x00", b"\x00\x00\x04\x01"),
 ];
 
-// Seven modules, each with its kind, the length of its name, and the name.
-const MODULES: [Row; 22] = [
+// Seven modules, each with its kind, the length of its name, the name, and whether it has a rescue
+// number: the first has -7, and only the second might have one too.
+const MODULES: [Row; 30] = [
     (b"\x00\x00\x00\x07", b"\x00\x00\x00\x00"),
     (b"\x00", b"\x07"),
     (b"\x01", b"\x00"),
     (b"s", b"1"),
+    (b"\x01", b"\x02"),
+    (b"\xff\xff\xff\xff\xff\xff\xff\xf9", b""),
     (b"\x01", b"\xff"),
     (b"\x02", b"\x41"),
     (b"c_", b"c-"),
+    (b"\x00", b"\x02"),
     (b"\x02", b""),
     (b"\x02", b""),
     (b"P1", b"\xc3\xa9"),
+    (b"\x00", b"\x01"),
     (b"\x03", b""),
     (b"\x04", b""),
     (b"farM", b"farm"),
+    (b"\x00", b"\x01"),
     (b"\x04", b""),
     (b"\x03", b""),
     (b"_Zz", b"out"),
+    (b"\x00", b"\x01"),
     (b"\x05", b""),
     (b"\x01", b""),
     (b"a", b"@"),
+    (b"\x00", b"\x01"),
     (b"\x06", b""),
     (b"\x01", b""),
     (b"Z", b"["),
+    (b"\x00", b"\xff"),
 ];
 
 // A node of each module: its module, its words, the numbers of its form, and its parts.

@@ -7,4 +7,6 @@ mod forms;
 #[cfg(test)]
 mod loading;
 #[cfg(test)]
+mod old;
+#[cfg(test)]
 mod small;

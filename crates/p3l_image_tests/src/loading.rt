@@ -1,8 +1,8 @@
 // Images that are loaded, and why others are refused.
 
-use crate::small::FIELDS;
-use p3l_image::decode;
-use p3l_load::{LoadRefusal, load};
+use crate::small::{FIELDS, has_net};
+use p3l_image::{Image, decode};
+use p3l_load::{LoadRefusal, load, migrate};
 use std::alloc::Global;
 use std::test::Fail;
 
@@ -10,31 +10,33 @@ use std::test::Fail;
 type Change = (usize, &'static [u8]);
 
 // There are two codes, the first without instructions.
-const CODES: Change = (13, b"\x00\x00\x00\x02");
+const CODES: Change = (14, b"\x00\x00\x00\x02");
 
 const FIRST: Change = (
-    14,
+    15,
     b"\x00\x0f\x42\x40\x00\x00\x00\x01\x00\x00\x00\x01\x00\x00\x00\x02\x00\x00\x00\x00\x00\x0f\x42\x40",
 );
 // The node takes two words, and its code takes one.
-const INS: Change = (9, b"\x00\x00\x00\x02");
+const INS: Change = (10, b"\x00\x00\x00\x02");
 // The node is its own part.
-const PART: Change = (11, b"\x00\x00\x00\x01\x00\x00\x00\x00");
+const PART: Change = (12, b"\x00\x00\x00\x01\x00\x00\x00\x00");
 // There is a count, and no node that has one.
-const COUNT: Change = (12, b"\x00\x00\x00\x01\x00\x00\x00\x01");
+const COUNT: Change = (13, b"\x00\x00\x00\x01\x00\x00\x00\x01");
 // The budget of the code is 0.
-const BUDGET: Change = (14, b"\x00\x00\x00\x00");
+const BUDGET: Change = (15, b"\x00\x00\x00\x00");
 // It loads a word after its memory.
-const SLOT: Change = (20, b"\x00\x00\x00\x02");
+const SLOT: Change = (21, b"\x00\x00\x00\x02");
 // The unit writes channel 0.
-const CHANNEL: Change = (56, b"\x00\x00\x00\x00");
+const CHANNEL: Change = (57, b"\x00\x00\x00\x00");
 // The unit is a source.
-const KIND: Change = (50, b"\x00");
+const KIND: Change = (51, b"\x00");
 // The channels are to hold 3 tokens.
 const CAPACITY: Change = (2, b"\x00\x00\x00\x03");
+// The module has the rescue number -7.
+const RESCUE: Change = (7, b"\x01\xff\xff\xff\xff\xff\xff\xff\xf9");
 
-// What loading gives of the image with these changes: nothing where it loads.
-fn refusal(alloc: Global, changes: &[Change]) -> Result<Option<LoadRefusal>, Fail> {
+// The bytes of the image with these changes.
+fn changed(alloc: Global, changes: &[Change]) -> Result<Vec<u8>, Fail> {
     let mut bytes = Vec::new(alloc);
     for place in 0..FIELDS.len() {
         let field = match changes.iter().find(|change| change.0 == place) {
@@ -43,14 +45,28 @@ fn refusal(alloc: Global, changes: &[Change]) -> Result<Option<LoadRefusal>, Fai
         };
         bytes.extend_from_slice(field)?;
     }
+    Ok(bytes)
+}
+
+// What loading gives of the image with these changes: nothing where it loads.
+fn refusal(alloc: Global, changes: &[Change]) -> Result<Option<LoadRefusal>, Fail> {
+    let bytes = changed(alloc, changes)?;
     let image = decode(alloc, &bytes).ok().ok_or("the bytes are an image")?;
     Ok(load(alloc, image).err())
+}
+
+// What migration gives of the image with these changes.
+fn migrated(alloc: Global, changes: &[Change]) -> Result<Result<Image, LoadRefusal>, Fail> {
+    let bytes = changed(alloc, changes)?;
+    let image = decode(alloc, &bytes).ok().ok_or("the bytes are an image")?;
+    Ok(migrate(alloc, image))
 }
 
 #[test]
 fn what_is_lawful_safe_and_linked_is_loaded(rt: HostRuntime) -> Result<(), Fail> {
     let alloc = rt.alloc();
     assert_eq!(rt; refusal(alloc, &[])?, None);
+    assert_eq!(rt; refusal(alloc, &[RESCUE])?, None);
     assert_eq!(rt;
         refusal(alloc, &[CODES, FIRST])?,
         Some(LoadRefusal::TreeWrong)
@@ -81,5 +97,22 @@ fn the_tree_is_looked_at_first_and_the_net_last(rt: HostRuntime) -> Result<(), F
         refusal(alloc, &[SLOT, CHANNEL])?,
         Some(LoadRefusal::CodeUnsafe(0))
     );
+    Ok(())
+}
+
+#[test]
+fn a_net_is_linked_anew(rt: HostRuntime) -> Result<(), Fail> {
+    let alloc = rt.alloc();
+    for change in [RESCUE, CHANNEL, KIND] {
+        let image = migrated(alloc, &[change])?.ok().ok_or("it is migrated")?;
+        assert!(rt; has_net(&image));
+        assert_eq!(rt; load(alloc, image).err(), None);
+    }
+    for changes in [[COUNT, SLOT, CHANNEL], [INS, BUDGET, KIND]] {
+        let told = migrated(alloc, &changes)?.err();
+        assert_eq!(rt; told, Some(LoadRefusal::TreeWrong));
+    }
+    let told = migrated(alloc, &[SLOT, CHANNEL])?.err();
+    assert_eq!(rt; told, Some(LoadRefusal::CodeUnsafe(0)));
     Ok(())
 }

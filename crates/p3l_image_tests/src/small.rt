@@ -9,19 +9,20 @@ use std::alloc::Global;
 use std::test::Fail;
 
 /// How many fields the image has.
-pub const COUNT: usize = 57;
+pub const COUNT: usize = 58;
 
 /// The fields of the image of a `seq` module `main` that makes `x * 2 + 1` of a word `x`.
 pub const FIELDS: [&[u8]; COUNT] = [
     // The magic number, the version, the capacity.
     b"P3LI",
-    b"\x00\x00\x00\x01",
+    b"\x00\x00\x00\x02",
     b"\x00\x00\x00\x04",
-    // One module: `seq`, with a name of 4 bytes.
+    // One module: `seq`, with a name of 4 bytes, and no rescue number.
     b"\x00\x00\x00\x01",
     b"\x00",
     b"\x04",
     b"main",
+    b"\x00",
     // One node: its module, 1 word in, 1 word out, no parts.
     b"\x00\x00\x00\x01",
     b"\x00\x00\x00\x00",
@@ -99,6 +100,7 @@ fn has_tree(image: &Image) -> bool {
     match (image.tree.modules.as_slice(), image.tree.nodes.as_slice()) {
         ([info], [node]) => info.kind == ModuleKind::Seq
             && info.name.as_str() == "main"
+            && info.rescue.is_none()
             && node.form.kind() == ModuleKind::Seq
             && (node.module, node.ins, node.outs) == (0, 1, 1)
             && node.parts.is_empty(),
@@ -133,8 +135,8 @@ fn is_process(process: &Proc, kind: ProcKind, ins: &[u32], outs: &[u32]) -> bool
         && process.outs.as_slice() == outs
 }
 
-// Whether the net of an image is that of the fields.
-fn has_net(image: &Image) -> bool {
+/// Whether the net of an image is that of the fields.
+pub fn has_net(image: &Image) -> bool {
     let chan = Chan { cap: 4, credits: 0 };
     match image.net.procs.as_slice() {
         [source, sink, unit] => is_process(source, ProcKind::Source, &[], &[0])
@@ -172,7 +174,7 @@ fn an_image_cut_short_is_told_at_its_field(rt: HostRuntime) -> Result<(), Fail> 
     bytes.push(0)?;
     assert_eq!(rt;
         refusal(rt.alloc(), &bytes),
-        Some(ImageRefusal::TrailingBytes(194))
+        Some(ImageRefusal::TrailingBytes(195))
     );
     Ok(())
 }
@@ -183,8 +185,8 @@ fn another_magic_number_or_version_is_told(rt: HostRuntime) {
     assert_eq!(rt; refusal(alloc, b"P3LJ"), Some(ImageRefusal::BadMagic));
     assert_eq!(rt; refusal(alloc, b"P3L"), Some(ImageRefusal::Short(0)));
     assert_eq!(rt;
-        refusal(alloc, b"P3LI\x00\x00\x00\x07"),
-        Some(ImageRefusal::Version(7))
+        refusal(alloc, b"P3LI\x00\x00\x00\x03"),
+        Some(ImageRefusal::Version(3))
     );
     assert_eq!(rt;
         refusal(alloc, b"P3LI\x00\x00\x00\x00\x00"),
@@ -194,6 +196,6 @@ fn another_magic_number_or_version_is_told(rt: HostRuntime) {
 
 #[test]
 fn a_count_takes_no_memory_by_itself(rt: HostRuntime) {
-    let bytes = b"P3LI\x00\x00\x00\x01\x00\x00\x00\x04\xff\xff\xff\xff";
+    let bytes = b"P3LI\x00\x00\x00\x02\x00\x00\x00\x04\xff\xff\xff\xff";
     assert_eq!(rt; refusal(rt.alloc(), bytes), Some(ImageRefusal::Short(16)));
 }

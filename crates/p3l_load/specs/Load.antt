@@ -49,3 +49,12 @@ Refuses image TreeWrong = ¬ IsWhole image
 Refuses image (CodeUnsafe number) = IsWhole image × IsFirstUnsafe image.codes number
 Refuses image NotLinked = IsWhole image × All IsSafe image.codes × (image.net ≢ net_of image)
 Refuses image NoMemory = ⊤
+
+-- the image with the net of its tree in place of its own
+abbrev pub migrated_of : Image → Image
+migrated_of image = record { cap = image.cap; tree = image.tree; counts = image.counts; codes = image.codes; net = net_of image }
+
+-- why an image isn't migrated: why it isn't loaded, but that its net doesn't matter
+abbrev pub RefusesMigration : Image → LoadRefusal → Type 0
+RefusesMigration image NotLinked = ⊥
+RefusesMigration image refusal = Refuses image refusal

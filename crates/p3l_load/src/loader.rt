@@ -17,9 +17,9 @@ use std::alloc::Global;
 /// The most processes of a tree that is loaded. The source and the sink aren't counted.
 const MOST_PROCS: u64 = 4_096;
 
-// Whether the tree of an image, its counts and its codes are lawful together, and the tree has few
-// processes.
-fn is_whole(alloc: Global, image: &Image) -> Result<bool, NoMemory>
+/// Whether the tree of an image, its counts and its codes are lawful together, and the tree has few
+/// processes.
+pub(crate) fn is_whole(alloc: Global, image: &Image) -> Result<bool, NoMemory>
     ensures { IfOk result (λ whole. IsTrue whole ↔ IsWhole image.now) }
 {
     if !lawful_tree(&image.tree) || !lawful_counts(&image.tree, &image.counts) {

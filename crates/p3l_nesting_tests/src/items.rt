@@ -4,7 +4,7 @@ ghost use Rattle.std.specs.Prelude.{◌≡◌, ◌<◌, IsTrue, length};
 ghost use Rattle.p3l_skel.specs.Tree.{HasFittingLength};
 
 use p3l_base::{List, NoMemory, Outcome, Words};
-use p3l_plain::item_outcome;
+use p3l_reference::item_outcome;
 use p3l_skel::{Form, Tree};
 use p3l_units::UnitTable;
 use std::alloc::Global;

@@ -12,7 +12,7 @@ use p3l_firing::Net;
 use p3l_link::link;
 use p3l_model::{is_outside, procs};
 use p3l_net::Machine;
-use p3l_plain::outcome::copied;
+use p3l_skel::outcome::copied;
 use p3l_sched::{Picker, Schedule};
 use p3l_skel::{Counts, Tree, lawful_counts};
 use p3l_units::UnitTable;

@@ -8,7 +8,7 @@ use Rattle.std.proofs.Math.Pow.{pow-lt}
 use Rattle.std.proofs.lemmas.Bool.{cases_lt, cond-false}
 use Rattle.std.proofs.lemmas.List.{drop-drop, drop-take, take-take, take-append-drop, get_or-append_right}
 use Rattle.std.proofs.lemmas.Nat.{pow_pos}
-use Rattle.p3l_plain.proofs.Elements.{length-pieces}
+use Rattle.p3l_skel.proofs.Elements.{length-pieces}
 use Rattle.p3l_skel.specs.Item.{pieces, elements}
 use Rattle.p3l_skel.specs.Fold.{segments}
 use Rattle.p3l_skel.proofs.Folds.{segments-top, length-segments}

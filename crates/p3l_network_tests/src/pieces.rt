@@ -3,8 +3,8 @@
 ghost use Rattle.std.specs.Prelude.{◌≡◌, IfOk};
 
 use p3l_base::{NoMemory, Outcome, Trap, TrapKind, Words};
-use p3l_plain::element::elements;
-use p3l_plain::outcome::{is_done, paired};
+use p3l_skel::element::elements;
+use p3l_skel::outcome::{is_done, paired};
 use std::alloc::Global;
 use std::test::*;
 

@@ -5,7 +5,7 @@ ghost use Rattle.p3l_network_tests.specs.OneNode.{one_node};
 
 use p3l_base::{List, Name, NoMemory, Outcome, Trap, TrapKind, Words};
 use p3l_net::{Machine, laws, unit_net};
-use p3l_plain::item_outcome;
+use p3l_reference::item_outcome;
 use p3l_skel::{Form, ModuleInfo, ModuleKind, Node, Tree, Units, lawful_tree};
 use std::alloc::Global;
 use std::process::Abort;

@@ -7,7 +7,8 @@ use Rattle.p3l_compile.specs.Leaves.{AreBodies}
 use Rattle.p3l_compile.proofs.Leaves.{same_leaf}
 use Rattle.p3l_compiled.specs.Compiled.{image_of}
 use Rattle.p3l_image.specs.declared.image.Image.{Image}
-use Rattle.p3l_image.specs.Image.{image_format}
+use Rattle.p3l_image.specs.Image.{ImageBeginsNoOther}
+use Rattle.p3l_image.specs.laws.Image.{written_spells}
 use Rattle.p3l_link.specs.Net.{linked_net}
 use Rattle.p3l_load.specs.Load.{loaded_of}
 use Rattle.p3l_opts.specs.declared.command.Build.{Build}
@@ -38,10 +39,7 @@ costs_once held (Some name) None other one two = absurd one
 costs_once held (Some name) (Some a) None one two = absurd two
 costs_once held (Some name) (Some a) (Some b) one two = ap Some (held_once held text_limit name a b one two)
 
-abbrev pub BeginsNoOther : Type 0
-BeginsNoOther = (v w : Image) (more : List ℕ) → image_format.fits v ≡ true → image_format.fits w ≡ true → image_format.spell v ++ more ≡ image_format.spell w → (v ≡ w) × (more ≡ [])
-
-module _ (serve : ResolvedServe) (begins : BeginsNoOther) (held others : Held) (build : Build) (name bytes : List ℕ) (own : IsImageOf (Some held) build bytes)
+module _ (serve : ResolvedServe) (begins : ImageBeginsNoOther) (held others : Held) (build : Build) (name bytes : List ℕ) (own : IsImageOf (Some held) build bytes)
     (there : HasText (Some others) image_limit name bytes) where
   the_image : Image
   the_image = image_of own.r.tree own.counts own.codes build.capacity
@@ -61,7 +59,7 @@ module _ (serve : ResolvedServe) (begins : BeginsNoOther) (held others : Held) (
   -- the bytes spell it alone
   only_image : (i : Image) → IsRunnableImage i bytes → i ≡ the_image
   unfolding the_image
-  only_image i runs = (begins i the_image [] runs.is.fits own.is.fits (append-nil (image_format.spell i) ∙ (sym runs.is.spelled ∙ own.is.bytes_are))).0
+  only_image i runs = (begins i the_image bytes bytes [] runs.is (written_spells the_image bytes own.is.fits own.is.bytes_are) (append-nil bytes)).0
 
   from_image : (n : Network) → HasNetwork (Some others) (imaged name) n → HasNetwork (Some held) (built build) n
   from_image n h =
@@ -92,12 +90,12 @@ module _ (serve : ResolvedServe) (begins : BeginsNoOther) (held others : Held) (
         have = (there, refl);
         is = record {
           i = the_image;
-          runs = record { is = record { fits = own.is.fits; spelled = own.is.bytes_are }; runs = own.is.runs };
+          runs = record { is = written_spells the_image bytes own.is.fits own.is.bytes_are; runs = own.is.runs };
           network_is = h.is.network_is ∙ (ap (λ r. network_of r h.is.counts build.capacity) same.0 ∙ (ap (λ c. network_of own.r c build.capacity) same.1 ∙ sym same_network));
         };
       }
 
-pub has_network : ResolvedServe → BeginsNoOther → EveryImageHasItsProgramsNetwork
+pub has_network : ResolvedServe → ImageBeginsNoOther → EveryImageHasItsProgramsNetwork
 has_network serve begins held others build name bytes own there n =
     (from_image serve begins held others build name bytes own there n, to_image serve begins held others build name bytes own there n)
 

@@ -1,16 +1,15 @@
 -- From the reading and the loading of an image to its stages and its network.
-use Rattle.std.proofs.Common.{◌≡◌, ℕ, zero, suc, true, List, [], ◌∷◌, Option, None, sym, ap, ◌∙◌, inl, inr, subst}
+use Rattle.std.proofs.Common.{◌≡◌, ℕ, zero, suc, List, [], ◌∷◌, Option, None, sym, ap, ◌∙◌, inl, inr, subst}
 use Rattle.std.specs.List.{All, AllByRecursion}
 use Rattle.std.specs.Prelude.{IsSomeAnd, slice_get}
 use Rattle.std.specs.declared.result.Result.TheVariants.{Ok, Err}
 use Rattle.std.proofs.lemmas.List.Elements.{recursion_from_All}
-use Rattle.p3l_format.specs.Format.{read_all}
 use Rattle.p3l_code.specs.declared.instr.Code.{Code}
 use Rattle.p3l_code.specs.Safe.{IsSafe}
 use Rattle.p3l_image.specs.declared.image.Image.{Image}
 use Rattle.p3l_image.specs.declared.image.ImageRefusal.{ImageRefusal}
 use Rattle.p3l_image.specs.declared.image.ImageRefusal.TheVariants as image
-use Rattle.p3l_image.specs.Image.{image_format}
+use Rattle.p3l_image.specs.Image.{image_in}
 use Rattle.p3l_image.specs.Refusal.{Answers}
 use Rattle.p3l_io.specs.Told.{Held}
 use Rattle.p3l_load.specs.declared.loaded.Loaded.{Loaded}
@@ -45,13 +44,13 @@ module _ (files : Change Held) (name bytes : List ℕ) (has : HasText files.old 
   no_image e is never = (inr ((bytes, has), inl (record { bytes = bytes; has = has; are = record { misspelled = is; never = never } })), calm)
 
   -- bytes that are refused spell no image
-  pub not_decoded : (r : ImageRefusal) → ((i : Image) → image_format.fits i ≡ true → bytes ≡ image_format.spell i → Answers bytes (Err r) (Ok i)) → Answers bytes (Err r) (read_all image_format bytes) →
+  pub not_decoded : (r : ImageRefusal) → ((i : Image) → IsImage i bytes → Answers bytes (Err r) (Ok i)) → Answers bytes (Err r) (image_in bytes) →
       IsNotLoaded files (image_stages name) (image_verdict r)
-  not_decoded image.BadMagic only exact = no_image evidence.BadMagic (sym exact) (λ i is. let z = only i is.fits is.spelled in absurd cc)
-  not_decoded (image.Version version) only exact = no_image (evidence.Version version) (sym exact) (λ i is. let z = only i is.fits is.spelled in absurd cc)
-  not_decoded (image.Short place) only exact = no_image (evidence.Short place) (sym exact) (λ i is. let z = only i is.fits is.spelled in absurd cc)
-  not_decoded (image.BadField place) only exact = no_image (evidence.BadField place) (sym exact) (λ i is. let z = only i is.fits is.spelled in absurd cc)
-  not_decoded (image.TrailingBytes place) only exact = no_image (evidence.TrailingBytes place) (sym exact) (λ i is. let z = only i is.fits is.spelled in absurd cc)
+  not_decoded image.BadMagic only exact = no_image evidence.BadMagic (sym exact) (λ i is. let z = only i is in absurd cc)
+  not_decoded (image.Version version) only exact = no_image (evidence.Version version) (sym exact) (λ i is. let z = only i is in absurd cc)
+  not_decoded (image.Short place) only exact = no_image (evidence.Short place) (sym exact) (λ i is. let z = only i is in absurd cc)
+  not_decoded (image.BadField place) only exact = no_image (evidence.BadField place) (sym exact) (λ i is. let z = only i is in absurd cc)
+  not_decoded (image.TrailingBytes place) only exact = no_image (evidence.TrailingBytes place) (sym exact) (λ i is. let z = only i is in absurd cc)
   not_decoded image.NoMemory only exact = calm
 
   module _ (i : Image) (is : IsImage i bytes) (only : (other : Image) → IsImage other bytes → other ≡ i) where
@@ -79,8 +78,8 @@ module _ (files : Change Held) (name bytes : List ℕ) (has : HasText files.old 
     not_run load.NoMemory h = calm
 
 -- bytes spell one image
-pub same_image : (bytes : List ℕ) (i : Image) → ((other : Image) → image_format.fits other ≡ true → bytes ≡ image_format.spell other → Answers bytes (Ok i) (Ok other)) → (other : Image) → IsImage other bytes → other ≡ i
-same_image bytes i only other is = let z = only other is.fits is.spelled in cc
+pub same_image : (bytes : List ℕ) (i : Image) → ((other : Image) → IsImage other bytes → Answers bytes (Ok i) (Ok other)) → (other : Image) → IsImage other bytes → other ≡ i
+same_image bytes i only other is = let z = only other is in cc
 
 module _ (name : List ℕ) (loaded : Loaded) where
   module _ (files : Option Held) (loads : LoadsImage files name loaded) where

@@ -1,10 +1,9 @@
 -- Images of files, and which of them can be run.
-use Rattle.std.specs.Prelude.{◌≡◌, ℕ, List, true, Result, Err, Option}
-use Rattle.p3l_format.specs.Format.{read_all}
+use Rattle.std.specs.Prelude.{◌≡◌, ℕ, List, Result, Err, Option}
 use Rattle.p3l_image.specs.declared.image.Image.{Image}
 use Rattle.p3l_image.specs.declared.image.ImageRefusal.{ImageRefusal}
 use Rattle.p3l_image.specs.declared.image.ImageRefusal.TheVariants as image
-use Rattle.p3l_image.specs.Image.{image_format}
+use Rattle.p3l_image.specs.Image.{IsSpelling, image_in}
 use Rattle.p3l_image.specs.Refusal.{told}
 use Rattle.p3l_io.specs.Told.{Held}
 use Rattle.p3l_load.specs.declared.loaded.LoadRefusal.TheVariants as load
@@ -17,14 +16,13 @@ use Rattle.p3l_program.specs.File.{HasText}
 abbrev pub image_limit : ℕ
 image_limit = 67108864
 
--- the bytes spell an image
-pub record IsImage (i : Image) (bytes : List ℕ) : Type 0 where
-  pub fits : image_format.fits i ≡ true
-  pub spelled : bytes ≡ image_format.spell i
+-- the bytes spell an image, in whichever version
+abbrev pub IsImage : Image → List ℕ → Type 0
+IsImage i bytes = IsSpelling i bytes
 
 -- an image or the first fault of the bytes
 abbrev pub read_image : List ℕ → Result Image ImageRefusal
-read_image bytes = told bytes (read_all image_format bytes)
+read_image bytes = told bytes (image_in bytes)
 
 -- why bytes spell no image
 abbrev pub IsMisspelled : Evidence → List ℕ → Type 0

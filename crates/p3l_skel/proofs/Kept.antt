@@ -111,7 +111,7 @@ rescued-keeps (Some number) outs (Value words) long = long
 rescued-keeps (Some number) outs (Trapped trap) long = length-replicate outs number
 
 -- a factor of a positive product is positive
-some_factor : (n m product : ℕ) → 1 ≤ product → product ≡ n * m → 0 < m
+pub some_factor : (n m product : ℕ) → 1 ≤ product → product ≡ n * m → 0 < m
 some_factor n zero product some same = let e : n * zero ≡ 0 = mul-zero n in absurd (omega arith)
 some_factor n (suc m) product some same = omega arith
 
@@ -172,7 +172,7 @@ module _ (tree : Tree) (part : ℕ → List ℤ → Outcome) where
   row-keeps rescue leaf home (Loop turns tokens) ins outs (p ∷ (q ∷ (r ∷ ps))) words sized lawful kept rescues own fits = absurd lawful
 
 -- a lawful node may take its in words
-fits-ins : (tree : Tree) (form : Form) (ins outs : ℕ) (parts : List ℕ) (n : ℕ) → IsSize ins → IsLawfulForm tree form ins outs parts → n ≡ ins → FitsForm form ins n
+pub fits-ins : (tree : Tree) (form : Form) (ins outs : ℕ) (parts : List ℕ) (n : ℕ) → IsSize ins → IsLawfulForm tree form ins outs parts → n ≡ ins → FitsForm form ins n
 fits-ins tree Seq ins outs parts n sized lawful same = same
 fits-ins tree Comp ins outs parts n sized lawful same = same
 fits-ins tree Pipe ins outs parts n sized lawful same = same

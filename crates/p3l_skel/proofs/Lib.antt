@@ -1,10 +1,14 @@
 pub mod Below
 pub mod Capped
 pub mod Depth
+pub mod Elements
 pub mod Folds
 pub mod Greatest
 pub mod Kept
+pub mod Mapped
+pub mod Parts
 pub mod Powers
 pub mod Sizes
+pub mod Stages
 pub mod Subtrees
 pub mod Taken

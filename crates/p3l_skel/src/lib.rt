@@ -4,6 +4,7 @@
 mod agree;
 pub mod counts;
 mod cut;
+pub mod element;
 pub mod lawful;
 pub mod laws;
 pub mod outcome;

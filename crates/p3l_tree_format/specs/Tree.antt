@@ -8,6 +8,7 @@ use Rattle.p3l_skel.specs.declared.tree.Node.{Node}
 use Rattle.p3l_skel.specs.declared.tree.Tree.{Tree}
 use Rattle.p3l_format.specs.Format.{Format, both, pair, record_of, counted}
 use Rattle.p3l_format.specs.Numbers.{u32_in, u32_below}
+use Rattle.p3l_tree_format.specs.declared.version.Version.{Version}
 use Rattle.p3l_tree_format.specs.Module.{module_format}
 use Rattle.p3l_tree_format.specs.Form.{form_format}
 
@@ -34,11 +35,12 @@ node_format modules nodes = record_of
 unfoldable pub nodes_format : List ModuleInfo → Format ℕ (List Node)
 nodes_format modules = counted (u32_in 1 128) (λ nodes. node_format modules nodes)
 
-abbrev pub modules_format : Format ℕ (List ModuleInfo)
-modules_format = counted (u32_in 1 4294967295) (λ _. module_format)
+abbrev pub modules_format : Version → Format ℕ (List ModuleInfo)
+modules_format version = counted (u32_in 1 4294967295) (λ _. module_format version)
 
-unfoldable pub tree_format : Format ℕ Tree
-tree_format = record_of (λ p. record { modules = p.0; nodes = p.1 }) (λ t. (t.modules, t.nodes)) (pair modules_format nodes_format)
+unfoldable pub tree_format : Version → Format ℕ Tree
+tree_format version =
+    record_of (λ p. record { modules = p.0; nodes = p.1 }) (λ t. (t.modules, t.nodes)) (pair (modules_format version) nodes_format)
 
 abbrev pub counts_format : Format ℕ (List ℕ)
 counts_format = counted (u32_in 0 4294967295) (λ _. u32_in 1 512)

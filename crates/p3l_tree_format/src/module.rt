@@ -7,6 +7,8 @@ ghost use Rattle.p3l_lexer.specs.Piece.{is_word_byte};
 ghost use Rattle.p3l_tree_format.specs.Module.{kind_number, kind_format, is_word, is_name, name_format, module_format};
 ghost use Rattle.p3l_tree_format.specs.laws.Module.{lawful_name, lawful_module};
 
+use crate::rescue::RescueField;
+use crate::version::Version;
 use p3l_base::{Name, NoMemory};
 use p3l_format::{
     Cause, Field, ReadError, fault_of, read_block, read_one_of, read_u8_in, write_u8,
@@ -66,23 +68,25 @@ fn is_word(bytes: &[u8]) -> bool
     letter(*first) && are_word_bytes(rest)
 }
 
-// Whether bytes are a word that is no keyword.
+// Whether bytes are a word that is no keyword, or `rescue`, which was a name in the first images.
 fn is_name(bytes: &[u8]) -> bool
     ensures { result ≡ is_name bytes.now }
 {
-    is_word(bytes) && keyword(bytes).is_none()
+    is_word(bytes) && (bytes == b"rescue".as_slice() || keyword(bytes).is_none())
 }
 
-/// A module: its kind and its name.
+/// A module in a version of images: its kind, its name, and its rescue number if it has one.
 #[derive(Clone, Copy, Drop)]
-pub struct ModuleField;
+pub struct ModuleField {
+    pub version: Version,
+}
 
 impl Field for ModuleField {
     type Value = ModuleInfo;
 
-    ghost format = { λ _. module_format };
+    ghost format = { λ it. module_format it.version };
 
-    ghost lawful = { λ _. lawful_module };
+    ghost lawful = { λ it. lawful_module it.version };
 
     #[tactic(auto, unfolding(crate::specs::Module::module_format, p3l_format::specs::Format::pair, p3l_format::specs::Format::as_form))]
     fn read<'a>(
@@ -92,13 +96,23 @@ impl Field for ModuleField {
     ) -> Result<(ModuleInfo, &'a [u8]), ReadError> {
         let (kind, rest) = read_kind(bytes)?;
         let (name, rest) = NameField.read(alloc, rest)?;
-        Ok((ModuleInfo { name, kind }, rest))
+        let field = RescueField {
+            version: self.version,
+            kind,
+        };
+        let (rescue, rest) = field.read(alloc, rest)?;
+        Ok((ModuleInfo { name, kind, rescue }, rest))
     }
 
     #[tactic(auto, unfolding(crate::specs::Module::module_format, p3l_format::specs::Format::pair, p3l_format::specs::Format::as_form))]
     fn write(&self, value: &ModuleInfo, out: &mut Vec<u8>) -> Result<(), NoMemory> {
         write_kind(value.kind, out)?;
-        NameField.write(&value.name, out)
+        NameField.write(&value.name, out)?;
+        let field = RescueField {
+            version: self.version,
+            kind: value.kind,
+        };
+        field.write(&value.rescue, out)
     }
 }
 

@@ -1,12 +1,13 @@
 // Trees and counts as fields.
 
 ghost use Rattle.std.specs.Prelude.{◌≡◌};
-ghost use Rattle.p3l_tree_format.specs.Tree.{kind_at, node_format, nodes_format, tree_format};
-ghost use Rattle.p3l_tree_format.specs.laws.Tree.{lawful_node, lawful_nodes, lawful_tree};
+ghost use Rattle.p3l_tree_format.specs.Tree.{kind_at, modules_format, node_format, nodes_format, tree_format};
+ghost use Rattle.p3l_tree_format.specs.laws.Tree.{lawful_modules, lawful_node, lawful_nodes, lawful_tree};
 
 use crate::form::FormField;
 use crate::module::ModuleField;
 use crate::number::{InField, IndicesField};
+use crate::version::Version;
 use p3l_base::{List, NoMemory};
 use p3l_format::{
     Field, ListField, ReadError, read_so_many, read_u32_below, read_u32_in, write_each, write_u32,
@@ -108,12 +109,6 @@ impl<'m> Field for NodesField<'m> {
     }
 }
 
-const MODULES: ListField<ModuleField> = ListField {
-    low: 1,
-    high: 4_294_967_295,
-    item: ModuleField,
-};
-
 /// The numbers of workers of a tree.
 pub const COUNTS: ListField<InField> = ListField {
     low: 0,
@@ -121,20 +116,63 @@ pub const COUNTS: ListField<InField> = ListField {
     item: InField { low: 1, high: 512 },
 };
 
-/// A tree: its modules and its nodes.
+/// The modules of a tree in a version of images.
 #[derive(Clone, Copy, Drop)]
-pub struct TreeField;
+pub struct ModulesField {
+    pub version: Version,
+}
+
+impl Field for ModulesField {
+    type Value = List<ModuleInfo>;
+
+    ghost format = { λ it. modules_format it.version };
+
+    ghost lawful = { λ it. lawful_modules it.version };
+
+    fn read<'a>(
+        &self,
+        alloc: Global,
+        bytes: &'a [u8],
+    ) -> Result<(List<ModuleInfo>, &'a [u8]), ReadError> {
+        ListField {
+            low: 1,
+            high: 4_294_967_295,
+            item: ModuleField {
+                version: self.version,
+            },
+        }
+        .read(alloc, bytes)
+    }
+
+    fn write(&self, value: &List<ModuleInfo>, out: &mut Vec<u8>) -> Result<(), NoMemory> {
+        ListField {
+            low: 1,
+            high: 4_294_967_295,
+            item: ModuleField {
+                version: self.version,
+            },
+        }
+        .write(value, out)
+    }
+}
+
+/// A tree in a version of images: its modules and its nodes.
+#[derive(Clone, Copy, Drop)]
+pub struct TreeField {
+    pub version: Version,
+}
 
 impl Field for TreeField {
     type Value = Tree;
 
-    ghost format = { λ _. tree_format };
+    ghost format = { λ it. tree_format it.version };
 
-    ghost lawful = { λ _. lawful_tree };
+    ghost lawful = { λ it. lawful_tree it.version };
 
     #[tactic(auto, unfolding(crate::specs::Tree::tree_format, p3l_format::specs::Format::pair, p3l_format::specs::Format::as_form))]
     fn read<'a>(&self, alloc: Global, bytes: &'a [u8]) -> Result<(Tree, &'a [u8]), ReadError> {
-        let (modules, rest) = MODULES.read(alloc, bytes)?;
+        let version = self.version;
+        let (modules, rest) = ModulesField { version }.read(alloc, bytes)?;
         let field = NodesField {
             modules: modules.as_slice(),
         };
@@ -144,7 +182,8 @@ impl Field for TreeField {
 
     #[tactic(auto, unfolding(crate::specs::Tree::tree_format, p3l_format::specs::Format::pair, p3l_format::specs::Format::as_form))]
     fn write(&self, value: &Tree, out: &mut Vec<u8>) -> Result<(), NoMemory> {
-        MODULES.write(&value.modules, out)?;
+        let version = self.version;
+        ModulesField { version }.write(&value.modules, out)?;
         let field = NodesField {
             modules: value.modules.as_slice(),
         };

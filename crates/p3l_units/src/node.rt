@@ -13,9 +13,8 @@ ghost use Rattle.std.specs.Prelude.{◌≡◌, ◌<◌, ◌≤◌, ◌*◌, leng
 
 use crate::table::UnitTable;
 use p3l_base::{Cut, List, NoMemory, Outcome, Words, join};
-use p3l_plain::element::{elements, gather};
-use p3l_plain::outcome::{copied, paired};
-use p3l_skel::outcome::rescue;
+use p3l_skel::element::{elements, gather};
+use p3l_skel::outcome::{copied, paired, rescue};
 use p3l_skel::{Form, Node, Tree};
 use std::alloc::Global;
 

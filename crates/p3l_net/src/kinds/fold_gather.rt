@@ -21,8 +21,8 @@ use crate::store::Store;
 use crate::touched::Touched;
 use p3l_base::{NoMemory, Outcome};
 use p3l_firing::{Proc, ProcKind, Token};
-use p3l_plain::outcome::copied;
 use p3l_skel::Units;
+use p3l_skel::outcome::copied;
 use std::alloc::Global;
 
 // The same outcome again.

@@ -21,7 +21,7 @@ use crate::store::Store;
 use crate::touched::Touched;
 use p3l_base::{Cut, List, NoMemory, Outcome, join};
 use p3l_firing::{Proc, ProcKind, Token};
-use p3l_plain::outcome::copied;
+use p3l_skel::outcome::copied;
 use std::alloc::Global;
 
 // The first trap of the results of all elements, else the whole token that their words fill.

@@ -17,7 +17,7 @@ use crate::store::Store;
 use crate::touched::Touched;
 use p3l_base::{Cut, NoMemory, Outcome};
 use p3l_firing::{Proc, ProcKind, Token};
-use p3l_plain::element;
+use p3l_skel::element;
 use std::alloc::Global;
 
 // Element `k` of an outcome: a trap stays as it is.

@@ -20,7 +20,7 @@ use crate::store::Store;
 use crate::touched::Touched;
 use p3l_base::{NoMemory, Outcome, Trap, TrapKind};
 use p3l_firing::{Proc, ProcKind, Token};
-use p3l_plain::outcome::is_done;
+use p3l_skel::outcome::is_done;
 use p3l_skel::{Form, Units};
 use std::alloc::Global;
 

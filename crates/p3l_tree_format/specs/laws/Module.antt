@@ -10,6 +10,8 @@ use Rattle.p3l_format.specs.Lawful.{IsLawful}
 use Rattle.p3l_format.specs.laws.Parts.{first_true, second_true}
 use Rattle.p3l_format.specs.laws.Formats.{lawful_within, lawful_pair, lawful_both, lawful_form, lawful_record}
 use Rattle.p3l_format.specs.laws.Numbers.{lawful_u8_in, lawful_one_of, lawful_block}
+use Rattle.p3l_tree_format.specs.declared.version.Version.{Version}
+use Rattle.p3l_tree_format.specs.laws.Rescue.{lawful_rescue}
 use Rattle.p3l_tree_format.specs.Module.{kinds, kind_number, kind_format, is_name, name_format, module_format}
 
 kind_there : (k : ModuleKind) → slice_get kinds (kind_number k) ≡ Some k
@@ -35,6 +37,6 @@ pub lawful_name : IsLawful name_format
 unfolding name_format
 lawful_name = lawful_form _ _ _ _ (record { back = name_back; fine = λ _ _. refl; there = λ _ _. refl }) (lawful_pair _ _ (lawful_u8_in 1 64) (λ n. lawful_within is_name (block n) (lawful_block n)))
 
-pub lawful_module : IsLawful module_format
+pub lawful_module : (version : Version) → IsLawful (module_format version)
 unfolding module_format
-lawful_module = lawful_record _ _ _ (λ _. refl) (λ _. refl) (lawful_both _ _ lawful_kind lawful_name)
+lawful_module version = lawful_record _ _ _ (λ _. refl) (λ _. refl) (lawful_pair _ _ lawful_kind (λ kind. lawful_both _ _ lawful_name (lawful_rescue version kind)))

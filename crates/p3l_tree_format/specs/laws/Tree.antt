@@ -4,6 +4,7 @@ use Rattle.p3l_skel.specs.declared.tree.ModuleInfo.{ModuleInfo}
 use Rattle.p3l_format.specs.Lawful.{IsLawful}
 use Rattle.p3l_format.specs.laws.Formats.{lawful_pair, lawful_both, lawful_record, lawful_counted}
 use Rattle.p3l_format.specs.laws.Numbers.{lawful_u32_in, lawful_u32_below}
+use Rattle.p3l_tree_format.specs.declared.version.Version.{Version}
 use Rattle.p3l_tree_format.specs.Tree.{indices_format, node_format, nodes_format, modules_format, tree_format, counts_format}
 use Rattle.p3l_tree_format.specs.laws.Module.{lawful_module}
 use Rattle.p3l_tree_format.specs.laws.Form.{lawful_form_of}
@@ -22,12 +23,12 @@ pub lawful_nodes : (modules : List ModuleInfo) → IsLawful (nodes_format module
 unfolding nodes_format
 lawful_nodes modules = lawful_counted _ _ (lawful_u32_in 1 128) (λ nodes. lawful_node modules nodes)
 
-pub lawful_modules : IsLawful modules_format
-lawful_modules = lawful_counted _ _ (lawful_u32_in 1 4294967295) (λ _. lawful_module)
+pub lawful_modules : (version : Version) → IsLawful (modules_format version)
+lawful_modules version = lawful_counted _ _ (lawful_u32_in 1 4294967295) (λ _. lawful_module version)
 
-pub lawful_tree : IsLawful tree_format
+pub lawful_tree : (version : Version) → IsLawful (tree_format version)
 unfolding tree_format
-lawful_tree = lawful_record _ _ _ (λ _. refl) (λ _. refl) (lawful_pair _ _ lawful_modules lawful_nodes)
+lawful_tree version = lawful_record _ _ _ (λ _. refl) (λ _. refl) (lawful_pair _ _ (lawful_modules version) lawful_nodes)
 
 pub lawful_counts : IsLawful counts_format
 lawful_counts = lawful_counted _ _ (lawful_u32_in 0 4294967295) (λ _. lawful_u32_in 1 512)

@@ -1,8 +1,15 @@
 use Rattle.p3l_image.specs.laws.Image.{capacity_in_range}
+use Rattle.p3l_image.proofs.OldText.{written_anew}
 use Rattle.p3l_image.proofs.coding.decode.Goals as goal
 
 pub returns-in-Ok-clause-some : goal.returns-in-Ok-clause-some
-returns-in-Ok-clause-some c = (capacity_in_range c.in-Ok.image c.in-Ok.ensures.found.0).0
+returns-in-Ok-clause-some c = (capacity_in_range c.in-Ok._version c.in-Ok.image c.in-Ok.ensures.found.0).0
 
 pub returns-in-Ok-clause-few : goal.returns-in-Ok-clause-few
-returns-in-Ok-clause-few c = (capacity_in_range c.in-Ok.image c.in-Ok.ensures.found.0).1
+returns-in-Ok-clause-few c = (capacity_in_range c.in-Ok._version c.in-Ok.image c.in-Ok.ensures.found.0).1
+
+pub returns-in-Ok-clause-found : goal.returns-in-Ok-clause-found
+returns-in-Ok-clause-found c = record { version = c.in-Ok._version; fits = c.in-Ok.ensures.found.0; spelled = c.in-Ok.ensures.found.1 }
+
+pub returns-in-Ok-clause-again : goal.returns-in-Ok-clause-again
+returns-in-Ok-clause-again c = written_anew c.in-Ok._version c.in-Ok.image c.in-Ok.ensures.found.0

@@ -1,8 +1,8 @@
-use Rattle.std.proofs.Common.{◌≡◌, ℕ, true, List, Ok, Err, subst, sym}
-use Rattle.p3l_format.specs.Format.{read_all}
+use Rattle.std.proofs.Common.{ℕ, List, Ok, Err, subst, sym}
 use Rattle.p3l_image.specs.declared.image.Image.{Image}
-use Rattle.p3l_image.specs.Image.{image_format}
+use Rattle.p3l_image.specs.Image.{image_in}
 use Rattle.p3l_image.specs.Refusal.{Answers}
+use Rattle.p3l_program.specs.Image.{IsImage}
 use Rattle.p3l_program.specs.Load.{IsNotLoaded}
 use Rattle.p3l_program.specs.Stage.{image_stages}
 use Rattle.p3l_program.specs.World.{change}
@@ -14,8 +14,8 @@ returns-in-Err-decode-clause-refused g c =
     let files = change g.F.Files.held g.F.Files.faults c.args.files.now c.find_text.new.files in
     let bytes = c.in-Ok.bytes in
     let r = c.in-Err-decode.refusal in
-    let only = subst (λ (b : List ℕ). (i : Image) → image_format.fits i ≡ true → b ≡ image_format.spell i → Answers b (Err r) (Ok i)) c.as_slice.ensures c.in-Err-decode.ensures.only in
-    let exact = subst (λ (b : List ℕ). Answers b (Err r) (read_all image_format b)) c.as_slice.ensures c.in-Err-decode.ensures.exact in
+    let only = subst (λ (b : List ℕ). (i : Image) → IsImage i b → Answers b (Err r) (Ok i)) c.as_slice.ensures c.in-Err-decode.ensures.only in
+    let exact = subst (λ (b : List ℕ). Answers b (Err r) (image_in b)) c.as_slice.ensures c.in-Err-decode.ensures.exact in
     subst (λ v. IsNotLoaded files (image_stages c.args.name) v) (sym c.image_verdict.ensures) (not_decoded files c.args.name bytes c.in-Ok.ensures.found c.in-Ok.ensures.calm r only exact)
 
 pub returns-clause-refused : goal.returns-clause-refused
@@ -23,23 +23,23 @@ returns-clause-refused g c =
     let files = change g.F.Files.held g.F.Files.faults c.args.files.now c.find_text.new.files in
     let bytes = c.in-Ok.bytes in
     let i = c.in-Ok-decode.image in
-    let found = subst (λ (b : List ℕ). (image_format.fits i ≡ true) × (b ≡ image_format.spell i)) c.as_slice.ensures c.in-Ok-decode.ensures.found in
-    let only = subst (λ (b : List ℕ). (other : Image) → image_format.fits other ≡ true → b ≡ image_format.spell other → Answers b (Ok i) (Ok other)) c.as_slice.ensures c.in-Ok-decode.ensures.only in
+    let found = subst (λ (b : List ℕ). IsImage i b) c.as_slice.ensures c.in-Ok-decode.ensures.found in
+    let only = subst (λ (b : List ℕ). (other : Image) → IsImage other b → Answers b (Ok i) (Ok other)) c.as_slice.ensures c.in-Ok-decode.ensures.only in
     subst (λ v. IsNotLoaded files (image_stages c.args.name) v) (sym c.load_verdict.ensures)
-    (not_run files c.args.name bytes c.in-Ok.ensures.found c.in-Ok.ensures.calm i (record { fits = found.0; spelled = found.1 }) (same_image bytes i only) c.in-Err-load.refusal c.in-Err-load.ensures.refused)
+    (not_run files c.args.name bytes c.in-Ok.ensures.found c.in-Ok.ensures.calm i found (same_image bytes i only) c.in-Err-load.refusal c.in-Err-load.ensures.refused)
 
 pub returns-in-Ok-load-clause-loaded : goal.returns-in-Ok-load-clause-loaded
 returns-in-Ok-load-clause-loaded g c =
     let bytes = c.in-Ok.bytes in
     let i = c.in-Ok-decode.image in
-    let found = subst (λ (b : List ℕ). (image_format.fits i ≡ true) × (b ≡ image_format.spell i)) c.as_slice.ensures c.in-Ok-decode.ensures.found in
-    let only = subst (λ (b : List ℕ). (other : Image) → image_format.fits other ≡ true → b ≡ image_format.spell other → Answers b (Ok i) (Ok other)) c.as_slice.ensures c.in-Ok-decode.ensures.only in
+    let found = subst (λ (b : List ℕ). IsImage i b) c.as_slice.ensures c.in-Ok-decode.ensures.found in
+    let only = subst (λ (b : List ℕ). (other : Image) → IsImage other b → Answers b (Ok i) (Ok other)) c.as_slice.ensures c.in-Ok-decode.ensures.only in
     record {
       i = i;
       loaded_is = c.in-Ok-load.ensures.loaded;
       bytes = bytes;
       has = c.in-Ok.ensures.found;
-      runs = record { is = record { fits = found.0; spelled = found.1 }; runs = c.in-Ok-load.ensures.runs };
+      runs = record { is = found; runs = c.in-Ok-load.ensures.runs };
       only = same_image bytes i only;
       room = c.in-Ok-decode.ensures.some;
     }

@@ -9,10 +9,10 @@ use Rattle.p3l_skel.specs.declared.tree.Node.{Node}
 use Rattle.p3l_skel.specs.Tree.{node_at, rescue_of, HasLength, GivesOuts, IsUnit}
 use Rattle.p3l_skel.specs.Fold.{tree_fold}
 use Rattle.p3l_skel.specs.Item.{in_order, item, mapped, rescued}
-use Rattle.p3l_plain.proofs.Mapped.{if_ok-along, if_ok-same, mapped-trap, mapped-more, mapped-all, mapped-count, fold-one, fold-more, paired-fits}
-use Rattle.p3l_plain.proofs.Elements.{sized-more}
-use Rattle.p3l_plain.proofs.Parts.{some_elements, along_ins, form_at, fits_at, fitting, row_at, next_keeps, value_keeps, first_later, least, map_part, reduce_part}
-use Rattle.p3l_plain.proofs.Stages.{FitsStages, stage_there, stage_fits, stages_fit, in_order-more, in_order-all, FitsStages-first}
+use Rattle.p3l_skel.proofs.Mapped.{if_ok-along, if_ok-same, mapped-trap, mapped-more, mapped-all, mapped-count, fold-one, fold-more, paired-fits}
+use Rattle.p3l_skel.proofs.Elements.{sized-more}
+use Rattle.p3l_skel.proofs.Parts.{some_elements, along_ins, form_at, fits_at, fitting, row_at, next_keeps, value_keeps, first_later, least, map_part, reduce_part}
+use Rattle.p3l_skel.proofs.Stages.{FitsStages, stage_there, stage_fits, stages_fit, in_order-more, in_order-all, FitsStages-first}
 use Rattle.p3l_units.specs.Table.{leaf}
 use Rattle.p3l_units.specs.laws.Leaf.{gives_outs}
 use Rattle.p3l_units.proofs.Sequential.{no_pipe, no_farm, no_loop, map_unit, comp_units}

@@ -4,7 +4,7 @@ use Rattle.p3l_base.specs.declared.outcome.Outcome.TheVariants.{Value}
 use Rattle.p3l_base.specs.Cut.{element_words}
 use Rattle.p3l_skel.specs.Tree.{node_at}
 use Rattle.p3l_skel.specs.Item.{in_order, item}
-use Rattle.p3l_plain.proofs.Stages.{FitsStages}
+use Rattle.p3l_skel.proofs.Stages.{FitsStages}
 use Rattle.p3l_units.specs.Table.{leaf}
 use Rattle.p3l_units.proofs.node.+node.Given as goal
 

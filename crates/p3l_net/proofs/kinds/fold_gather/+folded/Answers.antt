@@ -1,7 +1,7 @@
 use Rattle.std.proofs.Common.{◌≤◌, length, ap, sym, ◌∙◌, subst, arith}
 use Rattle.p3l_skel.specs.Item.{item}
 use Rattle.p3l_skel.specs.Tree.{HasLength}
-use Rattle.p3l_plain.proofs.Mapped.{if_ok-along, if_ok-same}
+use Rattle.p3l_skel.proofs.Mapped.{if_ok-along, if_ok-same}
 use Rattle.p3l_firing.specs.declared.token.Token.{Token}
 use Rattle.p3l_net.specs.Operators.{outs_of}
 use Rattle.p3l_net.proofs.Folding.{one_folded, halves_folded, front-sized, back-sized, sized-first, takes_both, combined_sized}

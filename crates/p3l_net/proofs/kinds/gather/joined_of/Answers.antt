@@ -4,7 +4,7 @@ use Rattle.std.specs.List.{All}
 use Rattle.std.proofs.lemmas.List.Elements.{All-nil}
 use Rattle.p3l_base.specs.declared.outcome.Outcome.TheVariants.{Value}
 use Rattle.p3l_base.specs.Cut.{element_size, joined_words}
-use Rattle.p3l_plain.proofs.Elements.{sized-more}
+use Rattle.p3l_skel.proofs.Elements.{sized-more}
 use Rattle.p3l_skel.specs.Tree.{HasLength}
 use Rattle.p3l_firing.specs.declared.token.Token.{Token}
 use Rattle.p3l_net.proofs.Joining.{all_at, left_first, gathered_from, from_start, from_value, from_trap, from_end}

@@ -1,7 +1,7 @@
 use Rattle.std.proofs.Common.{◌≡◌, ◌<◌, ℕ, List, length, get_or, IfOk, refl, sym, ap, ◌∙◌, subst}
 use Rattle.std.proofs.lemmas.Option.{slice_get_read}
 use Rattle.p3l_base.specs.declared.outcome.Outcome.{Outcome}
-use Rattle.p3l_plain.proofs.Mapped.{if_ok-same}
+use Rattle.p3l_skel.proofs.Mapped.{if_ok-same}
 use Rattle.p3l_skel.specs.declared.tree.Form.TheVariants as forms
 use Rattle.p3l_skel.specs.declared.tree.Node.{Node}
 use Rattle.p3l_skel.specs.Tree.{node_at}

@@ -1,0 +1,6 @@
+//! The plain program of an item: what a node makes of it, step by step by the definition.
+#![tactic(auto)]
+
+pub mod item;
+
+pub use item::item_outcome;
