@@ -11,8 +11,8 @@ use Rattle.p3l_skel.specs.Lawful.{IsLawfulTree}
 use Rattle.p3l_check.specs.Resolving.{ResolvedTree, resolved}
 use Rattle.p3l_bodies.specs.Served.{ResolvedServe}
 use Rattle.p3l_compile.specs.Leaves.{AreBodies, AreCodes}
-use Rattle.p3l_program.specs.declared.accept.Accepted.{Accepted}
-use Rattle.p3l_program.specs.Accepted.{IsTextRefused}
+use Rattle.p3l_program.specs.declared.plan.Accepted.{Accepted}
+use Rattle.p3l_program.specs.Plan.{IsTextRefused}
 use Rattle.p3l_program.specs.Load.{AcceptsText}
 
 -- a text that is refused by the reader is not accepted

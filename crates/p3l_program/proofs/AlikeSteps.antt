@@ -17,11 +17,10 @@ use Rattle.p3l_report.specs.declared.stats.Stats.{Stats}
 use Rattle.p3l_report.specs.declared.verdict.Finish.{Finish}
 use Rattle.p3l_run.specs.Network.{Network, network}
 use Rattle.p3l_program.specs.Alike.{EveryImageHasItsProgramsNetwork, EveryImageRunsAsItsProgram}
-use Rattle.p3l_program.specs.Chosen.{HasCostText, IsAllotted}
+use Rattle.p3l_program.specs.Plan.{HasCostText, HasNetwork, IsAllotted, network_in, network_of}
 use Rattle.p3l_program.specs.Compile.{IsImageOf}
 use Rattle.p3l_program.specs.File.{HasText, text_limit}
 use Rattle.p3l_program.specs.Image.{IsRunnableImage, image_limit}
-use Rattle.p3l_program.specs.Network.{HasNetwork, network_in, network_of}
 use Rattle.p3l_program.specs.Origin.{Origin, built, imaged}
 use Rattle.p3l_program.specs.Run.{BeginsRun, Emits, EndsRun, IsRunStatus, RunsOver, RunsWhole}
 use Rattle.p3l_program.specs.World.{World}

@@ -19,12 +19,11 @@ use Rattle.p3l_report.specs.declared.verdict.Refusal.TheVariants as refusal
 use Rattle.p3l_report.specs.declared.verdict.Verdict.{Verdict}
 use Rattle.p3l_report.specs.declared.verdict.Verdict.TheVariants as verdict
 use Rattle.p3l_check.specs.Resolving.{ResolvedTree}
-use Rattle.p3l_program.specs.declared.accept.Accepted.{Accepted}
+use Rattle.p3l_program.specs.declared.plan.Accepted.{Accepted}
 use Rattle.p3l_program.specs.declared.file.FileRefusal.{FileRefusal}
 use Rattle.p3l_program.specs.declared.file.FileRefusal.TheVariants as file
-use Rattle.p3l_program.specs.Accepted.{ComesTo}
+use Rattle.p3l_program.specs.Plan.{AreSaid, ComesTo, HasCostText, IsPriced}
 use Rattle.p3l_program.specs.Certified.{IsCertOf, IsCertified, IsNoCert, SpellsCert, cert_limit}
-use Rattle.p3l_program.specs.Chosen.{AreSaid, HasCostText, IsPriced}
 use Rattle.p3l_program.specs.File.{HasText, text_limit}
 use Rattle.p3l_program.specs.Load.{IsNotLoaded, IsUnreadable, file_verdict}
 use Rattle.p3l_program.specs.LoadCert.{IsCertRefused, IsCertless, LoadsCert, LoadsVerified, cert_verdict}

@@ -11,17 +11,16 @@ use Rattle.p3l_report.specs.declared.verdict.Finish.TheVariants as finishes
 use Rattle.p3l_report.specs.declared.verdict.Verdict.{Verdict}
 use Rattle.p3l_report.specs.declared.verdict.Verdict.TheVariants as verdict
 use Rattle.p3l_check.specs.Resolving.{ResolvedTree}
-use Rattle.p3l_program.specs.declared.load.Loaded.{Loaded}
-use Rattle.p3l_program.specs.Command.{IsFileDue}
+use Rattle.p3l_program.specs.declared.plan.Allotted.{Allotted}
 use Rattle.p3l_program.specs.Compile.{IsImageOf}
 use Rattle.p3l_program.specs.Load.{IsLoaded, IsNotLoaded}
-use Rattle.p3l_program.specs.Saved.{SaveCause}
+use Rattle.p3l_program.specs.Saved.{IsFileDue, SaveCause}
 use Rattle.p3l_program.specs.Stage.{AllPass, Stage}
 use Rattle.p3l_program.specs.Text.{IsNothing}
 use Rattle.p3l_program.specs.World.{Change}
 use Rattle.p3l_program.proofs.SavedSteps.{none_put, saving_due, saving_failed, saving_refused, saving_unwritten}
 
-module _ (files : Option Held) (build : Build) (r : ResolvedTree) (loaded : Loaded) (is : IsLoaded files build r loaded) where
+module _ (files : Option Held) (build : Build) (r : ResolvedTree) (loaded : Allotted) (is : IsLoaded files build r loaded) where
   -- the codes are those of the program of the text
   pub coded : AreCodesOf loaded.program.tree loaded.program.codes
   coded = record {

@@ -1,66 +1,33 @@
 -- Verdicts that are due, and want of memory in their place.
-use Rattle.std.proofs.Common.{◌≡◌, ℕ, List, [], ◌∷◌, ◌⊎◌, Option, Some, None, append-nil, refl, inl, inr}
+use Rattle.std.proofs.Common.{◌≡◌, ◌≢◌, ℕ, List, [], ◌∷◌, ◌⊎◌, Option, Some, None, refl, sym, subst, inl, inr}
+use Rattle.std.specs.Option.{option_to_list}
 use Rattle.clap.specs.Words.{Text}
 use Rattle.p3l_opts.specs.declared.command.Build.{Build}
 use Rattle.p3l_opts.specs.declared.command.Command.{Command}
-use Rattle.p3l_opts.specs.declared.command.Command.TheVariants as command
-use Rattle.p3l_io.specs.Told.{Held}
-use Rattle.p3l_opts.specs.declared.command.Sched.{Sched}
 use Rattle.p3l_opts.specs.Command.{Spells}
-use Rattle.p3l_report.specs.declared.stats.Stats.{Stats}
-use Rattle.p3l_report.specs.declared.verdict.Finish.{Finish}
+use Rattle.p3l_io.specs.Told.{Held}
 use Rattle.p3l_report.specs.declared.verdict.Verdict.{Verdict}
 use Rattle.p3l_report.specs.declared.verdict.Verdict.TheVariants as verdict
-use Rattle.p3l_program.specs.Answer.{IsDue}
-use Rattle.p3l_program.specs.Certificate.{IsCertificate}
-use Rattle.p3l_program.specs.Check.{IsCounted}
-use Rattle.p3l_program.specs.Command.{Begins, Ends, IsDueOf, IsFileDue, IsSavingDue, IsTextDue, saved_first, written_of}
-use Rattle.p3l_program.specs.Compile.{IsImageOf}
-use Rattle.p3l_program.specs.Explain.{IsExplained}
-use Rattle.p3l_program.specs.Fmt.{IsFormatted, fmt_stages}
-use Rattle.p3l_program.specs.Generated.{IsGenDue, IsGenUnsaved, gen_of}
-use Rattle.p3l_program.specs.Saved.{KeepsFiles}
-use Rattle.p3l_program.specs.Stage.{build_stages, program_stages, verify_stages}
-use Rattle.p3l_program.specs.Verify.{IsVerified}
-use Rattle.p3l_program.specs.Text.{IsNothing}
+use Rattle.p3l_program.specs.Answer.{IsAsked, IsDue, IsUnsaved}
+use Rattle.p3l_program.specs.Behavior.{IsDueBy}
+use Rattle.p3l_program.specs.Command.{IsDueOf, behavior_of, saved_first, work_of, written_of}
+use Rattle.p3l_program.specs.Generated.{Gen, IsGenDue, IsGenUnsaved}
+use Rattle.p3l_program.specs.Origin.{Running}
+use Rattle.p3l_program.specs.Run.{IsRunDue, RunsOver}
+use Rattle.p3l_program.specs.Saved.{IsFileDue, IsSavingDue, KeepsBut, KeepsFiles, KeepsFirst}
+use Rattle.p3l_program.specs.Stage.{Stage}
+use Rattle.p3l_program.specs.Text.{IsNothing, IsTextDue}
+use Rattle.p3l_program.specs.Trace.{IsCheckDue}
+use Rattle.p3l_program.specs.Work.{Work, behavior, check_trace, run_generated, run_network, save_file, write_text}
 use Rattle.p3l_program.specs.World.{Change, IsStill, World, world}
-use Rattle.p3l_program.proofs.RunSteps.{finishes_starts}
-use Rattle.p3l_program.proofs.FirstSteps.{first_by, first_touches, first_no_memory, saves_none, unsaved_no_memory}
-use Rattle.p3l_program.proofs.TextSteps.{ends_text}
-use Rattle.p3l_program.proofs.TraceSteps.{ends_check}
-
--- a command that came to its end was begun
-pub ends_begins : (w : World) (c : Command) (finish : Finish) (stats : Option Stats) → Ends w c finish stats → Begins w c
-ends_begins w (command.Check name) finish stats h = ends_text w (IsCounted w.files.old name) finish stats h
-ends_begins w (command.Fmt name) finish stats h = ends_text w (IsFormatted w.files.old name) finish stats h
-ends_begins w (command.Explain build None) finish stats h = ends_text w (IsExplained w.files.old build) finish stats h
-ends_begins w (command.Explain build (Some cert)) finish stats h = ends_text w (IsExplained w.files.old build) finish stats h.ends
-ends_begins w (command.Compile build name) finish stats h = ends_text w IsNothing finish stats h.ends
-ends_begins w (command.Run build schedule trace reported) finish stats h = record {
-  n = h.n;
-  s = h.s;
-  has = h.has;
-  starts = finishes_starts h.n h.s _ _ _ _ _ _ _ h.ran h.finishes;
-}
-ends_begins w (command.VerifyCert program cert costs) finish stats h = ends_text w (IsVerified w.files.old program costs cert) finish stats h
-ends_begins w (command.Exec name schedule trace reported) finish stats h = record {
-  n = h.n;
-  s = h.s;
-  has = h.has;
-  starts = finishes_starts h.n h.s _ _ _ _ _ _ _ h.ran h.finishes;
-}
-ends_begins w (command.CheckTrace build name) finish stats h = ends_check w build name finish stats h
-ends_begins w (command.Gen number processors items asked save) finish stats h = record {
-  text = h.text;
-  is = (finish, h.is);
-  begun = record { written = h.text; more = []; put = h.put; text_is = append-nil h.text };
-  input = h.input;
-}
+use Rattle.p3l_program.proofs.FirstSteps.{first_no_memory, unsaved_no_memory}
+use Rattle.p3l_program.proofs.SavedSteps.{kept_by}
+use Rattle.p3l_program.proofs.WorkLaws.{lawful}
 
 -- where memory is wanting for the lines, the verdict is want of memory
 command_no_memory : (w : World) (c : Command) (v : Verdict) → IsDueOf w c v → IsDueOf w c verdict.NoMemory
 command_no_memory w c (verdict.Refused r) h = inl h.untouched
-command_no_memory w c (verdict.Ended finish stats) h = inr (record { passed = h.passed; begins = ends_begins w c finish stats h.ends })
+command_no_memory w c (verdict.Ended finish stats) h = inr (record { passed = h.passed; begins = (lawful c).begun w finish stats h.ends })
 command_no_memory w c verdict.WriteFault h = inr h.begun
 command_no_memory w c verdict.NoMemory h = h
 
@@ -69,54 +36,58 @@ due_no_memory words w v (inl a) = inl (record { command = a.command; spelled = a
 due_no_memory words w v (inr (inl u)) = inr (inr (inl (record { verdict_is = refl; untouched = u.untouched; kept = u.files.told })))
 due_no_memory words w v (inr (inr (inl u))) = inr (inr (inl (record { verdict_is = refl; untouched = u.untouched; kept = u.kept })))
 due_no_memory words w v (inr (inr (inr u))) =
-    inl (record { command = u.command; spelled = u.spelled; due = inl u.untouched; kept = unsaved_no_memory w.files (written_of u.command) (saved_first u.command) u.some u.kept; touched = inr (first_touches w u.command u.some) })
+    inl (record { command = u.command; spelled = u.spelled; due = inl u.untouched; kept = unsaved_no_memory w.files (written_of u.command) (saved_first u.command) u.some u.kept; touched = inr ((lawful u.command).touches w u.some) })
 
--- words that ask for a command
-module _ (words : List Text) (files : Change Held) (input out : Change (List ℕ)) (v : Verdict) where
-  -- one that writes no file
-  asked : (c : Command) → Spells words c → written_of c ≡ [] → IsDueOf (world files input out) c v → files.new ≡ files.old → IsDue words (world files input out) v
-  asked c spelled none due same = inl (record { command = c; spelled = spelled; due = due; kept = first_by files (written_of c) (saved_first c) v (saves_none c none) none same; touched = inl same })
-
--- one that lets the input alone
-module _ (words : List Text) (files : Change Held) (out : Change (List ℕ)) (rest : Option (List ℕ)) (faults : ℕ) (v : Verdict) where
-  abbrev pub quiet : Change (List ℕ)
-  quiet = record { old = rest; new = rest; before = faults; now = faults }
-
-  still : IsStill quiet
-  still = record { told = refl; calm = refl }
-
-  pub fmt_asked : (name : List ℕ) → Spells words (command.Fmt name) → IsTextDue files out (fmt_stages name) (IsFormatted files.old name) v → files.new ≡ files.old → IsDue words (world files quiet out) v
-  fmt_asked name spelled due same = asked words files quiet out v (command.Fmt name) spelled refl (due quiet still) same
-
-  pub check_asked : (name : List ℕ) → Spells words (command.Check name) → IsTextDue files out (program_stages name) (IsCounted files.old name) v → files.new ≡ files.old → IsDue words (world files quiet out) v
-  check_asked name spelled due same = asked words files quiet out v (command.Check name) spelled refl (due quiet still) same
-
-  pub explain_asked : (build : Build) → Spells words (command.Explain build None) → IsTextDue files out (build_stages build) (IsExplained files.old build) v → files.new ≡ files.old → IsDue words (world files quiet out) v
-  explain_asked build spelled due same = asked words files quiet out v (command.Explain build None) spelled refl (due quiet still) same
-
-  pub certify_asked : (build : Build) (name : List ℕ) → Spells words (command.Explain build (Some name)) →
-      IsSavingDue files out (build_stages build) (IsExplained files.old build) name (IsCertificate files.old build) v → KeepsFiles files (name ∷ []) v → IsDue words (world files quiet out) v
-  certify_asked build name spelled due kept = inl (record { command = command.Explain build (Some name); spelled = spelled; due = due quiet still; kept = kept; touched = inr tt })
-
-  pub verify_asked : (program cert : List ℕ) (costs : Option (List ℕ)) → Spells words (command.VerifyCert program cert costs) → IsTextDue files out (verify_stages program cert costs) (IsVerified files.old program costs cert) v → files.new ≡ files.old →
-      IsDue words (world files quiet out) v
-  verify_asked program cert costs spelled due same = asked words files quiet out v (command.VerifyCert program cert costs) spelled refl (due quiet still) same
-
-  pub compile_asked : (build : Build) (name : List ℕ) → Spells words (command.Compile build name) → IsStill out → IsFileDue files (build_stages build) name (IsImageOf files.old build) v →
-      KeepsFiles files (name ∷ []) v → IsDue words (world files quiet out) v
-  compile_asked build name spelled silent due kept = inl (record { command = command.Compile build name; spelled = spelled; due = due out silent quiet still; kept = kept; touched = inr tt })
-
-  -- words that ask for what is generated
-  pub gen_asked : (number processors items : ℕ) (schedule : Sched) (prefix : Option (List ℕ)) → Spells words (command.Gen number processors items schedule prefix) →
-      IsGenDue files out (gen_of number processors items schedule prefix) v ⊎ IsGenUnsaved files out (gen_of number processors items schedule prefix) v → IsDue words (world files quiet out) v
-  gen_asked number processors items schedule prefix spelled (inl h) =
-      inl (record { command = command.Gen number processors items schedule prefix; spelled = spelled; due = h.due quiet still; kept = h.kept; touched = inr tt })
-  gen_asked number processors items schedule prefix spelled (inr h) = inr (inr (inr (record {
-    verdict_is = h.verdict_is;
-    command = command.Gen number processors items schedule prefix;
+-- a verdict is due of words that spell a command, by the shape of its work
+module _ (words : List Text) (c : Command) (spelled : Spells words c) where
+  of_work : (w : World) (k : Work) (v : Verdict) → work_of c ≡ k → IsDueBy w (behavior k) v → KeepsFirst w.files (behavior k).written (behavior k).saved_first v →
+      (w.files.new ≡ w.files.old) ⊎ (behavior k).Touches w → IsDue words w v
+  of_work w k v is due kept touched = inl (record {
+    command = c;
     spelled = spelled;
-    some = h.some;
-    untouched = record { input = still; out = h.silent };
-    risen = h.risen;
-    kept = h.kept;
-  })))
+    due = subst (λ j. IsDueBy w (behavior j) v) (sym is) due;
+    kept = subst (λ j. KeepsFirst w.files (behavior j).written (behavior j).saved_first v) (sym is) kept;
+    touched = subst (λ j. (w.files.new ≡ w.files.old) ⊎ (behavior j).Touches w) (sym is) touched;
+  })
+
+  -- one that runs a network, and one that checks a trace
+  module _ (files : Change Held) (input out : Change (List ℕ)) (v : Verdict) where
+    pub run_asked : (run : Running) → work_of c ≡ run_network run → IsRunDue (world files input out) run.origin run.schedule run.trace run.reported v →
+        KeepsFiles files (option_to_list run.trace) v → (files.new ≡ files.old) ⊎ RunsOver (world files input out) run.origin run.schedule → IsDue words (world files input out) v
+    run_asked run is due kept over = of_work (world files input out) (run_network run) v is due kept over
+
+    pub check_asked : (build : Build) (name : List ℕ) → work_of c ≡ check_trace build name → IsCheckDue (world files input out) build name v → files.new ≡ files.old →
+        IsDue words (world files input out) v
+    check_asked build name is due same = of_work (world files input out) (check_trace build name) v is due (kept_by files [] v same) (inl same)
+
+  -- those that let the input alone
+  module _ (files : Change Held) (out : Change (List ℕ)) (rest : Option (List ℕ)) (faults : ℕ) (v : Verdict) where
+    abbrev pub quiet : Change (List ℕ)
+    quiet = record { old = rest; new = rest; before = faults; now = faults }
+
+    still : IsStill quiet
+    still = record { told = refl; calm = refl }
+
+    pub text_asked : (stages : List Stage) (IsText : Option Held → List ℕ → Type 0) → work_of c ≡ write_text stages IsText → IsTextDue files out stages (IsText files.old) v →
+        files.new ≡ files.old → IsDue words (world files quiet out) v
+    text_asked stages IsText is due same = of_work (world files quiet out) (write_text stages IsText) v is (due quiet still) (kept_by files [] v same) (inl same)
+
+    pub saving_asked : (stages : List Stage) (IsText : Option Held → List ℕ → Type 0) (name : List ℕ) (IsBytes : Option Held → List ℕ → Type 0) → work_of c ≡ save_file stages IsText name IsBytes →
+        IsSavingDue files out stages (IsText files.old) name (IsBytes files.old) v → KeepsFiles files (name ∷ []) v → IsDue words (world files quiet out) v
+    saving_asked stages IsText name IsBytes is due kept = of_work (world files quiet out) (save_file stages IsText name IsBytes) v is (due quiet still) kept (inr tt)
+
+    pub file_asked : (stages : List Stage) (name : List ℕ) (IsBytes : Option Held → List ℕ → Type 0) → work_of c ≡ save_file stages (λ held. IsNothing) name IsBytes → IsStill out →
+        IsFileDue files stages name (IsBytes files.old) v → KeepsFiles files (name ∷ []) v → IsDue words (world files quiet out) v
+    file_asked stages name IsBytes is silent due kept = saving_asked stages (λ held. IsNothing) name IsBytes is (due out silent) kept
+
+    pub gen_asked : (g : Gen) → work_of c ≡ run_generated g → IsGenDue files out g v ⊎ IsGenUnsaved files out g v → IsDue words (world files quiet out) v
+    gen_asked g is (inl h) = of_work (world files quiet out) (run_generated g) v is (h.due quiet still) h.kept (inr tt)
+    gen_asked g is (inr h) = inr (inr (inr (record {
+      verdict_is = h.verdict_is;
+      command = c;
+      spelled = spelled;
+      some = subst (λ j. (behavior j).saved_first ≢ []) (sym is) h.some;
+      untouched = record { input = still; out = h.silent };
+      risen = h.risen;
+      kept = subst (λ j. KeepsBut files (behavior j).written) (sym is) h.kept;
+    })))

@@ -1,38 +1,22 @@
 -- Files that a command writes before its work.
-use Rattle.std.proofs.Common.{◌≡◌, ◌≢◌, ℕ, List, [], ◌∷◌, ◌⊎◌, Some, None, refl, sym, subst, inl, inr}
+use Rattle.std.proofs.Common.{◌≡◌, ◌≢◌, ℕ, List, [], ◌∷◌, ◌⊎◌, refl, sym, subst, inl, inr}
 use Rattle.clap.specs.Words.{Text}
 use Rattle.p3l_io.specs.Told.{Held}
 use Rattle.p3l_opts.specs.declared.command.Command.{Command}
-use Rattle.p3l_opts.specs.declared.command.Command.TheVariants as command
 use Rattle.p3l_opts.specs.Command.{Spells}
 use Rattle.p3l_report.specs.declared.verdict.Refusal.{Refusal}
 use Rattle.p3l_report.specs.declared.verdict.Verdict.{Verdict}
 use Rattle.p3l_report.specs.declared.verdict.Verdict.TheVariants as verdict
 use Rattle.p3l_program.specs.Answer.{HasSavedFirst, SpellsWriter}
-use Rattle.p3l_program.specs.Command.{Touches, file_of, saved_first, written_of}
+use Rattle.p3l_program.specs.Command.{saved_first, written_of}
 use Rattle.p3l_program.specs.Saved.{AreSaved, KeepsBut, KeepsFirst}
-use Rattle.p3l_program.specs.World.{Change, World}
+use Rattle.p3l_program.specs.World.{Change}
 use Rattle.p3l_program.proofs.SavedSteps.{kept_by, kept_no_memory}
+use Rattle.p3l_program.proofs.WorkLaws.{lawful}
 
--- a command that writes no files writes none before its work
-pub saves_none : (c : Command) → written_of c ≡ [] → saved_first c ≡ []
-saves_none (command.Gen number processors items asked None) none = refl
-saves_none (command.Gen number processors items asked (Some prefix)) none = absurd cc
-saves_none _ none = refl
-
--- nor does one that reads its program or its image from a file
-pub read_saves_none : (c : Command) (name : List ℕ) → file_of c ≡ Some name → saved_first c ≡ []
-read_saves_none (command.Gen number processors items asked save) name named = absurd cc
-read_saves_none _ name named = refl
-
--- one that does is one that writes files
+-- a command that writes files before its work is one that writes files
 pub first_writer : (words : List Text) (c : Command) → Spells words c → saved_first c ≢ [] → SpellsWriter words
-first_writer words c spelled some = record { command = c; spelled = spelled; writes = λ none. some (saves_none c none) }
-
--- and a run is none
-pub first_touches : (w : World) (c : Command) → saved_first c ≢ [] → Touches w c
-first_touches w (command.Gen number processors items asked save) some = tt
-first_touches w _ some = absurd (some refl)
+first_writer words c spelled some = record { command = c; spelled = spelled; writes = λ none. some ((lawful c).first_written none) }
 
 module _ (files : Change Held) (names : List (List ℕ)) where
   -- files that are kept, where there are none of those

@@ -27,13 +27,11 @@ use Rattle.p3l_sched.specs.declared.schedule.Schedule.{Schedule}
 use Rattle.p3l_stream.specs.declared.items.Ending.TheVariants as ending
 use Rattle.p3l_stream.specs.declared.items.Items.{Items}
 use Rattle.p3l_check.specs.Resolving.{ResolvedTree}
-use Rattle.p3l_program.specs.declared.accept.Accepted.{Accepted}
-use Rattle.p3l_program.specs.declared.load.Loaded.{Loaded}
-use Rattle.p3l_program.specs.Accepted.{ComesTo}
-use Rattle.p3l_program.specs.Chosen.{IsPriced, IsUnpriced, refusal_of}
+use Rattle.p3l_program.specs.declared.plan.Accepted.{Accepted}
+use Rattle.p3l_program.specs.declared.plan.Allotted.{Allotted}
+use Rattle.p3l_program.specs.Plan.{ComesTo, IsPriced, IsUnpriced, network_of, refusal_of}
 use Rattle.p3l_program.specs.Generated.{AreNotLoaded, EndsGen, Gen, IsGenDue, IsGenRun, IsGenText, IsGenerated, IsRanOn, IsRanUnder, IsToldOf, LoadsTexts, comes_whole, due_at, gen_capacity, gen_stages, saves_of, summary_line, text_stages}
 use Rattle.p3l_program.specs.Load.{cost_verdict}
-use Rattle.p3l_program.specs.Network.{network_of}
 use Rattle.p3l_program.specs.Saved.{AreSaved, HasSaves, HoldFirst, KeepsFirst, names_of}
 use Rattle.p3l_program.specs.Stage.{AllPass}
 use Rattle.p3l_program.specs.Text.{BeginsText}
@@ -94,7 +92,7 @@ module _ (text said : List ℕ) (processors : ℕ) (r : ResolvedTree) (program :
         here = subst (λ t. IsShort t processors need) comes.compiled.tree_is short
 
 -- where all is loaded the stages pass
-module _ (text said : List ℕ) (processors : ℕ) (loaded : Loaded) (loads : LoadsTexts text said processors loaded) where
+module _ (text said : List ℕ) (processors : ℕ) (loaded : Allotted) (loads : LoadsTexts text said processors loaded) where
   pub texts_pass : (files : Change Held) → AllPass files (text_stages text said processors)
   texts_pass files =
       let a = loads.are in
@@ -161,7 +159,7 @@ module _ (out : Change (List ℕ)) (g : Gen) where
     })
 
 -- the line of a run of what was loaded is that of what is asked for
-pub generated_by : (g : Gen) (loaded : Loaded) (ran : Ran) → (loads : LoadsTexts (program_text g.number) costs_text g.processors loaded) →
+pub generated_by : (g : Gen) (loaded : Allotted) (ran : Ran) → (loads : LoadsTexts (program_text g.number) costs_text g.processors loaded) →
     IsRanUnder (network_of loads.r loaded.choice.counts.list gen_capacity) g.asked (stream_text g.number g.items) ran →
     IsGenerated g ran.finish (due_at ran.finish (summary_line g.number ran.stats loaded.choice.service loaded.choice.used ran.sum))
 generated_by g loaded ran loads under = record {

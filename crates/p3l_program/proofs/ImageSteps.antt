@@ -1,5 +1,5 @@
 -- From the reading and the loading of an image to its stages and its network.
-use Rattle.std.proofs.Common.{◌≡◌, ℕ, zero, suc, List, [], ◌∷◌, Option, None, sym, ap, ◌∙◌, inl, inr, subst}
+use Rattle.std.proofs.Common.{◌≡◌, ℕ, zero, suc, List, [], ◌∷◌, Option, None, sym, ap, ◌∙◌, inl, inr, subst, refl}
 use Rattle.std.specs.List.{All, AllByRecursion}
 use Rattle.std.specs.Prelude.{IsSomeAnd, slice_get}
 use Rattle.std.specs.declared.result.Result.TheVariants.{Ok, Err}
@@ -24,9 +24,10 @@ use Rattle.p3l_report.specs.declared.verdict.Verdict.TheVariants as verdict
 use Rattle.p3l_run.specs.Network.{Network}
 use Rattle.p3l_program.specs.File.{HasText}
 use Rattle.p3l_program.specs.Image.{IsBroken, IsImage, IsMisspelled, image_limit}
-use Rattle.p3l_program.specs.Load.{IsNotLoaded}
+use Rattle.p3l_program.specs.Load.{IsNotLoaded, LoadsNetwork}
+use Rattle.p3l_program.specs.Origin.{imaged}
 use Rattle.p3l_program.specs.LoadImage.{IsReadyImage, LoadsImage, image_verdict, load_verdict}
-use Rattle.p3l_program.specs.Network.{IsImaged, network_in}
+use Rattle.p3l_program.specs.Plan.{IsImaged, network_in}
 use Rattle.p3l_program.specs.Stage.{AllPass, image_stages}
 use Rattle.p3l_program.specs.World.{Change, IsCalm}
 
@@ -91,14 +92,24 @@ module _ (name : List ℕ) (loaded : Loaded) where
         subst IsReadyImage (sym loads.loaded_is) here
 
     -- its network is the one that is asked for
-    pub is_imaged : IsImaged (record { text = loads.bytes; said = None }) (network_in loaded)
+    is_imaged : IsImaged (record { text = loads.bytes; said = None }) (network_in loaded)
     is_imaged = record { i = loads.i; runs = loads.runs; network_is = ap network_in loads.loaded_is }
 
     -- and the only one
-    pub only_imaged : (other : Network) → IsImaged (record { text = loads.bytes; said = None }) other → other ≡ network_in loaded
+    only_imaged : (other : Network) → IsImaged (record { text = loads.bytes; said = None }) other → other ≡ network_in loaded
     only_imaged other o = o.network_is ∙ ap (λ i. network_in (loaded_of i)) (loads.only o.i o.runs.is) ∙ ap network_in (sym loads.loaded_is)
 
   -- and all stages of the image pass
-  pub image_passes : (files : Change Held) → LoadsImage files.old name loaded → AllPass files (image_stages name)
+  image_passes : (files : Change Held) → LoadsImage files.old name loaded → AllPass files (image_stages name)
   image_passes files loads =
       ((loads.bytes, loads.has), ((loads.i, record { bytes = loads.bytes; has = loads.has; are = loads.runs.is }), ((loads.i, record { bytes = loads.bytes; has = loads.has; are = loads.runs }), tt)))
+
+  -- so the network of the image was loaded
+  pub image_network : (files : Option Held) → LoadsImage files name loaded → LoadsNetwork files (imaged name) (network_in loaded)
+  image_network files loads = record {
+    texts = record { text = loads.bytes; said = None };
+    have = (loads.has, refl);
+    is = is_imaged files loads;
+    only = only_imaged files loads;
+    passed = λ change told. image_passes change (subst (λ f. LoadsImage f name loaded) (sym told) loads);
+  }

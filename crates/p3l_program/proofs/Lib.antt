@@ -18,7 +18,14 @@ mod SoundSteps
 mod SeenSteps
 mod TraceSteps
 mod RecheckSteps
-mod FirstSteps
 mod GenSteps
+mod EndSteps
+mod Lawful
+mod TextLaws
+mod RunLaws
+mod TraceLaws
+mod GenLaws
+mod WorkLaws
+mod FirstSteps
 mod DueSteps
 mod AnswerSteps

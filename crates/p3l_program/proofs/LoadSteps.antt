@@ -24,15 +24,13 @@ use Rattle.p3l_report.specs.declared.verdict.Refusal.TheVariants as refusal
 use Rattle.p3l_report.specs.declared.verdict.Verdict.{Verdict}
 use Rattle.p3l_report.specs.declared.verdict.Verdict.TheVariants as verdict
 use Rattle.p3l_check.specs.Resolving.{ResolvedTree}
-use Rattle.p3l_program.specs.declared.accept.Accepted.{Accepted}
-use Rattle.p3l_program.specs.declared.load.Loaded.{Loaded}
-use Rattle.p3l_program.specs.Accepted.{ComesTo, IsNotAccepted}
+use Rattle.p3l_program.specs.declared.plan.Accepted.{Accepted}
+use Rattle.p3l_program.specs.declared.plan.Allotted.{Allotted}
+use Rattle.p3l_program.specs.Plan.{AreSaid, ComesTo, HasCostText, IsAllotted, IsBuilt, IsNotAccepted, IsPriced, network_of, refusal_of}
 use Rattle.p3l_program.specs.Certificate.{IsCertificate}
-use Rattle.p3l_program.specs.Chosen.{AreSaid, HasCostText, IsAllotted, IsPriced, refusal_of}
 use Rattle.p3l_program.specs.Explain.{IsExplained}
 use Rattle.p3l_program.specs.File.{HasText, text_limit}
 use Rattle.p3l_program.specs.Load.{IsCostless, IsLoaded, IsNotLoaded, cost_verdict}
-use Rattle.p3l_program.specs.Network.{IsBuilt, network_of}
 use Rattle.p3l_program.specs.Stage.{AllPass, FilesCause, IsRefusedBy, Stage, build_stages, cost_stages, fitting, program_stages}
 use Rattle.p3l_program.specs.World.{Change, IsCalm}
 use Rattle.p3l_program.proofs.StageSteps.{passed_both, refused_after, refused_front}
@@ -164,7 +162,7 @@ module _ (files : Change Held) (build : Build) (r : ResolvedTree) (program : Acc
     pub all_pass : (counts : List ℕ) → IsAllotted text said build.processors r cs counts → AllPass files (build_stages build)
     all_pass counts allotted = front_passes (fitting build ∷ []) ((r, cs, counts, record { text = text; has = has; said = said; says = says; allotted = allotted }), tt)
 
-module _ (build : Build) (r : ResolvedTree) (loaded : Loaded) where
+module _ (build : Build) (r : ResolvedTree) (loaded : Allotted) where
   -- where all is loaded all stages of a build pass
   pub loaded_passes : (files : Change Held) → IsLoaded files.old build r loaded → AllPass files (build_stages build)
   loaded_passes files is =

@@ -8,11 +8,11 @@ use Rattle.p3l_io.specs.Told.{Held}
 use Rattle.p3l_opts.specs.declared.command.Build.{Build}
 use Rattle.p3l_run.specs.Network.{Network}
 use Rattle.p3l_check.specs.Resolving.{ResolvedTree}
-use Rattle.p3l_program.specs.declared.load.Loaded.{Loaded}
-use Rattle.p3l_program.specs.Accepted.{IsAccepted}
-use Rattle.p3l_program.specs.Chosen.{AreSaid, IsAllotted}
-use Rattle.p3l_program.specs.Load.{IsLoaded}
-use Rattle.p3l_program.specs.Network.{IsBuilt, network_of}
+use Rattle.p3l_program.specs.declared.plan.Allotted.{Allotted}
+use Rattle.p3l_program.specs.Plan.{AreSaid, IsAccepted, IsAllotted, IsBuilt, network_of}
+use Rattle.p3l_program.specs.Load.{IsLoaded, LoadsNetwork}
+use Rattle.p3l_program.specs.Origin.{built}
+use Rattle.p3l_program.proofs.LoadSteps.{is_built, loaded_passes}
 
 -- two lists, each no later than the other, are the same
 no_later_twice : (xs ys : List ℕ) → IsNoLater xs ys → IsNoLater ys xs → xs ≡ ys
@@ -51,7 +51,7 @@ allotted_once text said processors r other cs costs counts others only one two =
     let chosen : IsChosen r.tree cs processors others = subst (λ c. IsChosen r.tree c processors others) same moved in
     (tree, chosen_once r.tree cs processors others counts chosen one.chosen)
 
-module _ (files : Option Held) (build : Build) (r : ResolvedTree) (loaded : Loaded) (is : IsLoaded files build r loaded) where
+module _ (files : Option Held) (build : Build) (r : ResolvedTree) (loaded : Allotted) (is : IsLoaded files build r loaded) where
   -- what is allotted to the program is what was loaded
   same_counts : (other : ResolvedTree) (others : Costs) (counts : List ℕ) → IsAllotted is.text is.said build.processors other others counts → (other ≡ r) × (counts ≡ loaded.choice.counts.list)
   same_counts other others counts p = allotted_once is.text is.said build.processors r other loaded.costs others loaded.choice.counts.list counts is.comes.only is.allotted p
@@ -61,3 +61,13 @@ module _ (files : Option Held) (build : Build) (r : ResolvedTree) (loaded : Load
   only_built other b =
       let same = same_counts b.r b.cs b.counts b.allotted in
       b.network_is ∙ ap (λ t. network_of t b.counts build.capacity) same.0 ∙ ap (λ c. network_of r c build.capacity) same.1
+
+  -- and it was loaded
+  pub program_network : (n : Network) → n ≡ network_of r loaded.choice.counts.list build.capacity → LoadsNetwork files (built build) n
+  program_network n n_is = record {
+    texts = record { text = is.text; said = is.said };
+    have = (is.has, is.says);
+    is = subst (λ m. IsBuilt build (record { text = is.text; said = is.said }) m) (sym n_is) (is_built build r loaded files is);
+    only = λ other o. only_built other o ∙ sym n_is;
+    passed = λ change told. loaded_passes build r loaded change (subst (λ f. IsLoaded f build r loaded) (sym told) is);
+  }

@@ -1,5 +1,5 @@
 -- From the run of a network to the verdict of `run` and `exec`.
-use Rattle.std.proofs.Common.{◌≡◌, ℕ, Bool, List, [], Option, Some, None, ◌⊎◌, inl, inr, subst, append-nil}
+use Rattle.std.proofs.Common.{◌≡◌, ℕ, Bool, List, [], Option, Some, None, ◌⊎◌, inl, inr, subst, append-nil, refl}
 use Rattle.std.specs.declared.result.Result.TheVariants.{Ok, Err}
 use Rattle.p3l_io.specs.Told.{Held}
 use Rattle.p3l_opts.specs.declared.command.Sched.{Sched}
@@ -21,8 +21,8 @@ use Rattle.p3l_sched.specs.declared.schedule.Schedule.{Schedule}
 use Rattle.p3l_sched.specs.Picks.{Reads}
 use Rattle.p3l_program.specs.Due.{IsWriteFault}
 use Rattle.p3l_program.specs.File.{HasText}
-use Rattle.p3l_program.specs.Load.{IsNotLoaded}
-use Rattle.p3l_program.specs.Network.{HasNetwork, HaveTexts, IsNetworkOf, Texts}
+use Rattle.p3l_program.specs.Load.{IsNotLoaded, LoadsNetwork}
+use Rattle.p3l_program.specs.Plan.{HasNetwork}
 use Rattle.p3l_program.specs.Origin.{Origin}
 use Rattle.p3l_program.specs.Run.{BeginsRun, EndsRun, HasBadPicks, IsRunDue, IsRunOf, IsRunOver, IsRunSome, IsUnasked, IsUnsavedRun, KeepsRun, RunsOver, UnsavedRun}
 use Rattle.p3l_program.specs.Scheduled.{HasNoPicks, HasSchedule, picks_limit}
@@ -54,9 +54,13 @@ run_unloaded files input out origin asked trace reported v still silent h =
     not_loaded (world files input out) (run_stages origin asked) (EndsRun (world files input out) origin asked trace reported) (BeginsRun (world files input out) origin asked) (UnsavedRun (world files input out) origin asked trace) v still silent
     (not_loaded_front files (origin_stages origin) (schedule_stages origin asked) v h)
 
-module _ (files : Change Held) (input out : Change (List ℕ)) (origin : Origin) (n : Network) (texts : Texts) (have : HaveTexts files.old origin texts) (is : IsNetworkOf origin texts n) (passed : AllPass files (origin_stages origin)) where
+-- a network that was loaded is run
+module _ (files : Change Held) (input out : Change (List ℕ)) (origin : Origin) (n : Network) (loads : LoadsNetwork files.old origin n) where
   has : HasNetwork files.old origin n
-  has = record { texts = texts; have = have; is = is }
+  has = record { texts = loads.texts; have = loads.have; is = loads.is }
+
+  passed : AllPass files (origin_stages origin)
+  passed = loads.passed files refl
 
   schedule_passes : (asked : Sched) (s : Schedule) → HasSchedule files.old (size_of n) asked s → AllPass files (schedule_stages origin asked)
   schedule_passes sched.RoundRobin s h = tt
@@ -73,73 +77,72 @@ module _ (files : Change Held) (input out : Change (List ℕ)) (origin : Origin)
   pub run_touched : (asked : Sched) (trace : Option (List ℕ)) (v : Verdict) → KeepsRun n files input out asked trace v → (files.new ≡ files.old) ⊎ RunsOver (world files input out) origin asked
   run_touched asked trace v h = elim h.over [ inl same ↦ inl same | inr over ↦ inr (runs_over asked over) ]
 
-  -- where what is run has one network, a text that is refused for it has no picks
-  module _ (only : (other : Network) → IsNetworkOf origin texts other → other ≡ n) where
-    no_picks : (name text : List ℕ) (r : PickRefusal) → HasText files.old picks_limit name text → Reads text (size_of n) (Err r) → (r ≡ picks.NoMemory → ⊥) → HasNoPicks files.old origin name r
-    no_picks name text r held reads some = record {
-      texts = texts;
-      have = have;
-      picks = text;
-      held = held;
-      refused = record {
+  -- as what is run has one network, a text that is refused for it has no picks
+  no_picks : (name text : List ℕ) (r : PickRefusal) → HasText files.old picks_limit name text → Reads text (size_of n) (Err r) → (r ≡ picks.NoMemory → ⊥) → HasNoPicks files.old origin name r
+  no_picks name text r held reads some = record {
+    texts = loads.texts;
+    have = loads.have;
+    picks = text;
+    held = held;
+    refused = record {
+      n = n;
+      is = loads.is;
+      reads = reads;
+      never = λ other read here q. read_or_refused text (size_of n) read r some (subst (λ m. Reads text (size_of m) (Ok read)) (loads.only other here) q) reads;
+    };
+  }
+
+  bad_picks : (name : List ℕ) (r : Refusal) → HasBadPicks files (size_of n) name r → Refuses files (scheduled origin name) r
+  bad_picks name (refusal.BadPick line) h = no_picks name h.text (picks.BadPick line) h.has h.bad (λ e. absurd cc)
+  bad_picks name (refusal.NoSuchProcess line pick count) h = no_picks name h.text (picks.NoSuchProcess line pick count) h.has h.bad (λ e. absurd cc)
+  bad_picks name r h = absurd h.bad
+
+  files_cause : (r : Refusal) (name : List ℕ) → HasBadPicks files (size_of n) name r → FilesCause r files
+  files_cause (refusal.BadPick line) name h = h.calm
+  files_cause (refusal.NoSuchProcess line pick count) name h = h.calm
+  files_cause r name h = absurd h.bad
+
+  refused_by : (asked : Sched) (r : Refusal) → IsUnasked files (size_of n) asked (verdict.Refused r) → IsRefusedBy files (run_stages origin asked) r × FilesCause r files
+  refused_by sched.RoundRobin r h = absurd h
+  refused_by (sched.Seeded seed) r h = absurd h
+  refused_by (sched.File name) r (inl h) = (refused_after files (origin_stages origin) (schedule_stages origin (sched.File name)) r passed (inl h.0), h.1)
+  refused_by (sched.File name) r (inr h) =
+      (refused_after files (origin_stages origin) (schedule_stages origin (sched.File name)) r passed (inr ((h.text, h.has), inl (bad_picks name r h))), files_cause r name h)
+
+  begins_run : (asked : Sched) → IsRunSome n files input out asked → BeginsRun (world files input out) origin asked
+  begins_run asked h = record { n = n; s = h.s; has = record { network = has; schedule = h.schedule }; starts = h.starts }
+
+  -- the file of the trace could not be written
+  unsaved : (asked : Sched) (trace : Option (List ℕ)) → IsUnsavedRun n files input out asked trace →
+      IsWriteFault (world files input out) (run_stages origin asked) (BeginsRun (world files input out) origin asked) (UnsavedRun (world files input out) origin asked trace)
+  unsaved asked None h = absurd h
+  unsaved asked (Some name) h = record {
+    begun = record {
+      passed = all_passes asked h.0.s h.0.schedule;
+      begins = record {
         n = n;
-        is = is;
-        reads = reads;
-        never = λ other read here q. read_or_refused text (size_of n) read r some (subst (λ m. Reads text (size_of m) (Ok read)) (only other here) q) reads;
+        s = h.0.s;
+        has = record { network = has; schedule = h.0.schedule };
+        starts = finishes_starts n h.0.s h.0.keeping _ _ _ _ _ _ h.0.ran h.0.finishes;
       };
-    }
+    };
+    fault = inr ((runs_over asked h.0, h.0.out_calm), h.1);
+  }
 
-    bad_picks : (name : List ℕ) (r : Refusal) → HasBadPicks files (size_of n) name r → Refuses files (scheduled origin name) r
-    bad_picks name (refusal.BadPick line) h = no_picks name h.text (picks.BadPick line) h.has h.bad (λ e. absurd cc)
-    bad_picks name (refusal.NoSuchProcess line pick count) h = no_picks name h.text (picks.NoSuchProcess line pick count) h.has h.bad (λ e. absurd cc)
-    bad_picks name r h = absurd h.bad
-
-    files_cause : (r : Refusal) (name : List ℕ) → HasBadPicks files (size_of n) name r → FilesCause r files
-    files_cause (refusal.BadPick line) name h = h.calm
-    files_cause (refusal.NoSuchProcess line pick count) name h = h.calm
-    files_cause r name h = absurd h.bad
-
-    refused_by : (asked : Sched) (r : Refusal) → IsUnasked files (size_of n) asked (verdict.Refused r) → IsRefusedBy files (run_stages origin asked) r × FilesCause r files
-    refused_by sched.RoundRobin r h = absurd h
-    refused_by (sched.Seeded seed) r h = absurd h
-    refused_by (sched.File name) r (inl h) = (refused_after files (origin_stages origin) (schedule_stages origin (sched.File name)) r passed (inl h.0), h.1)
-    refused_by (sched.File name) r (inr h) =
-        (refused_after files (origin_stages origin) (schedule_stages origin (sched.File name)) r passed (inr ((h.text, h.has), inl (bad_picks name r h))), files_cause r name h)
-
-    begins_run : (asked : Sched) → IsRunSome n files input out asked → BeginsRun (world files input out) origin asked
-    begins_run asked h = record { n = n; s = h.s; has = record { network = has; schedule = h.schedule }; starts = h.starts }
-
-    -- the file of the trace could not be written
-    unsaved : (asked : Sched) (trace : Option (List ℕ)) → IsUnsavedRun n files input out asked trace →
-        IsWriteFault (world files input out) (run_stages origin asked) (BeginsRun (world files input out) origin asked) (UnsavedRun (world files input out) origin asked trace)
-    unsaved asked None h = absurd h
-    unsaved asked (Some name) h = record {
-      begun = record {
-        passed = all_passes asked h.0.s h.0.schedule;
-        begins = record {
-          n = n;
-          s = h.0.s;
-          has = record { network = has; schedule = h.0.schedule };
-          starts = finishes_starts n h.0.s h.0.keeping _ _ _ _ _ _ h.0.ran h.0.finishes;
-        };
-      };
-      fault = inr ((runs_over asked h.0, h.0.out_calm), h.1);
-    }
-
-    -- the verdict of the run is due
-    pub run_due : (asked : Sched) (trace : Option (List ℕ)) (reported : Bool) (v : Verdict) → IsRunOf n files input out asked trace reported v → IsRunDue (world files input out) origin asked trace reported v
-    run_due asked trace reported (verdict.Refused r) h =
-        (let by = refused_by asked r h.0 in record { by = by.0; untouched = record { input = h.1.input_still; out = h.1.out_still }; files = by.1 })
-    run_due asked trace reported (verdict.Ended finish stats) h = record {
-      passed = all_passes asked h.s h.schedule;
-      ends = record { n = n; s = h.s; has = record { network = has; schedule = h.schedule }; ran = h.ran; finish_is = h.finish_is; stats_are = h.stats_are; finishes = h.finishes; recorded = h.recorded };
-      files = h.files_calm;
-      out = h.out_calm;
-    }
-    run_due asked trace reported verdict.WriteFault (inl h) = record {
-      begun = record { passed = all_passes asked h.0.s h.0.schedule; begins = begins_run asked h.0 };
-      fault = inl (record { files = h.0.files_calm; out = h.1 });
-    }
-    run_due asked trace reported verdict.WriteFault (inr h) = unsaved asked trace h
-    run_due asked trace reported verdict.NoMemory (inl h) = inl (record { input = h.input_still; out = h.out_still })
-    run_due asked trace reported verdict.NoMemory (inr h) = inr (record { passed = all_passes asked h.s h.schedule; begins = begins_run asked h })
+  -- the verdict of the run is due
+  pub run_due : (asked : Sched) (trace : Option (List ℕ)) (reported : Bool) (v : Verdict) → IsRunOf n files input out asked trace reported v → IsRunDue (world files input out) origin asked trace reported v
+  run_due asked trace reported (verdict.Refused r) h =
+      (let by = refused_by asked r h.0 in record { by = by.0; untouched = record { input = h.1.input_still; out = h.1.out_still }; files = by.1 })
+  run_due asked trace reported (verdict.Ended finish stats) h = record {
+    passed = all_passes asked h.s h.schedule;
+    ends = record { n = n; s = h.s; has = record { network = has; schedule = h.schedule }; ran = h.ran; finish_is = h.finish_is; stats_are = h.stats_are; finishes = h.finishes; recorded = h.recorded };
+    files = h.files_calm;
+    out = h.out_calm;
+  }
+  run_due asked trace reported verdict.WriteFault (inl h) = record {
+    begun = record { passed = all_passes asked h.0.s h.0.schedule; begins = begins_run asked h.0 };
+    fault = inl (record { files = h.0.files_calm; out = h.1 });
+  }
+  run_due asked trace reported verdict.WriteFault (inr h) = unsaved asked trace h
+  run_due asked trace reported verdict.NoMemory (inl h) = inl (record { input = h.input_still; out = h.out_still })
+  run_due asked trace reported verdict.NoMemory (inr h) = inr (record { passed = all_passes asked h.s h.schedule; begins = begins_run asked h })

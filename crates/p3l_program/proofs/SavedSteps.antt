@@ -5,9 +5,8 @@ use Rattle.p3l_io.specs.Told.{Held}
 use Rattle.p3l_report.specs.declared.verdict.Verdict.{Verdict}
 use Rattle.p3l_report.specs.declared.verdict.Verdict.TheVariants as verdict
 use Rattle.p3l_run.specs.Write.{HasBegun, HasPut}
-use Rattle.p3l_program.specs.Command.{IsSavingDue}
 use Rattle.p3l_program.specs.Load.{IsNotLoaded}
-use Rattle.p3l_program.specs.Saved.{EndsSaving, HoldsBut, IsSaved, KeepsBut, KeepsFiles, SaveCause}
+use Rattle.p3l_program.specs.Saved.{EndsSaving, HoldsBut, IsSaved, IsSavingDue, KeepsBut, KeepsFiles, SaveCause}
 use Rattle.p3l_program.specs.Stage.{AllPass, Stage}
 use Rattle.p3l_program.specs.Text.{BeginsText, IsWritten}
 use Rattle.p3l_program.specs.World.{Change, IsCalm, IsStill, world}

@@ -19,11 +19,10 @@ use Rattle.p3l_link.specs.Net.{linked_net}
 use Rattle.p3l_link.specs.Whole.{root_carry}
 use Rattle.p3l_run.specs.Network.{IsSound, network}
 use Rattle.p3l_load.specs.declared.loaded.Loaded.{Loaded as LoadedImage}
-use Rattle.p3l_program.specs.declared.load.Loaded.{Loaded}
-use Rattle.p3l_program.specs.Accepted.{IsCompiled}
+use Rattle.p3l_program.specs.declared.plan.Allotted.{Allotted}
+use Rattle.p3l_program.specs.Plan.{IsCompiled, network_in, network_of}
 use Rattle.p3l_program.specs.Load.{IsReady}
 use Rattle.p3l_program.specs.LoadImage.{IsReadyImage}
-use Rattle.p3l_program.specs.Network.{network_in, network_of}
 
 -- a linked net is typed and carried
 pub sound : EveryNetIsCarried → (tree : Tree) (leaf : ℕ → List ℤ → Outcome) (counts : List ℕ) (capacity : ℕ) (net : Net) (bound : ℕ) → IsLawfulTree tree → HasLawfulCounts tree counts → 1 ≤ capacity → GivesOuts tree leaf →
@@ -61,7 +60,7 @@ compiled_network r tree leaf net bound counts capacity same leaves linked bound_
     ∙ ap (λ t. network t (body_leaf t r.seqs) (linked_net t counts capacity) (firings t counts)) same
 
 -- a program that was loaded is, linked under its counts, ready as an image is, and its network is the program's
-module _ (loaded : Loaded) (capacity : ℕ) (ready : IsReady loaded) (room : 1 ≤ capacity) (net : Net) (linked : net ≡ linked_net loaded.program.tree loaded.choice.counts.list capacity) where
+module _ (loaded : Allotted) (capacity : ℕ) (ready : IsReady loaded) (room : 1 ≤ capacity) (net : Net) (linked : net ≡ linked_net loaded.program.tree loaded.choice.counts.list capacity) where
   abbrev pub linked_as : LoadedImage
   linked_as = record { cap = capacity; tree = loaded.program.tree; counts = loaded.choice.counts; codes = loaded.program.codes; net = net }
 

@@ -23,12 +23,10 @@ use Rattle.p3l_sched.specs.declared.schedule.Schedule.{Schedule}
 use Rattle.p3l_sched.specs.Picks.{Reads}
 use Rattle.p3l_trace.specs.declared.trace.Traced.{Traced}
 use Rattle.p3l_check.specs.Resolving.{ResolvedTree}
-use Rattle.p3l_program.specs.Accepted.{HasNoTree, HasTree, IsAccepted}
+use Rattle.p3l_program.specs.Plan.{HasCostText, HasCosts, HasCounts, HasNetwork, HasNoCosts, HasNoTree, HasTooFew, HasTree, HaveTexts, IsAccepted, IsAllotted, IsNetworkOf, IsPriced, Texts}
 use Rattle.p3l_program.specs.Certified.{HasCert, HasNoCert, IsCertified}
-use Rattle.p3l_program.specs.Chosen.{HasCostText, HasCosts, HasCounts, HasNoCosts, HasTooFew, IsAllotted, IsPriced}
 use Rattle.p3l_program.specs.File.{HasFault, HasProgram, HasText, Holds, IsTooLong}
 use Rattle.p3l_program.specs.Image.{HasBytes, IsBrokenImage, IsImage, IsNoImage, IsRunnableImage}
-use Rattle.p3l_program.specs.Network.{HasNetwork, HaveTexts, IsNetworkOf, Texts}
 use Rattle.p3l_program.specs.Origin.{Origin, built, imaged}
 use Rattle.p3l_program.specs.Scheduled.{HasNoPicks, HasPicks}
 use Rattle.p3l_program.specs.Stage.{AllPass, IsRefusedBy, Passes, Refuses, Stage, certified, fitting, priced, readable, resolved, scheduled, spelled, text_fitting, text_kept, text_priced, decoded, loaded, traced}

@@ -14,13 +14,12 @@ use Rattle.p3l_report.specs.declared.verdict.Finish.{Finish}
 use Rattle.p3l_report.specs.declared.verdict.Refusal.TheVariants as refusal
 use Rattle.p3l_report.specs.declared.verdict.Verdict.{Verdict}
 use Rattle.p3l_report.specs.declared.verdict.Verdict.TheVariants as verdict
-use Rattle.p3l_program.specs.Command.{IsTextDue}
 use Rattle.p3l_program.specs.Due.{IsDueWith}
 use Rattle.p3l_program.specs.File.{HasText, text_limit}
 use Rattle.p3l_program.specs.Fmt.{HasNoCanonical, IsFaulty, fmt_stages}
 use Rattle.p3l_program.specs.Load.{IsNotLoaded}
 use Rattle.p3l_program.specs.Stage.{AllPass, Stage}
-use Rattle.p3l_program.specs.Text.{BeginsText, EndsText, IsWritten}
+use Rattle.p3l_program.specs.Text.{BeginsText, EndsText, IsTextDue, IsWritten}
 use Rattle.p3l_program.specs.World.{Change, IsCalm, IsStill, World, world}
 
 -- a text that is refused spells no program

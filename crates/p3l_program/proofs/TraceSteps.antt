@@ -37,7 +37,8 @@ use Rattle.p3l_trace.specs.declared.trace.TraceRefusal.TheVariants as refusals
 use Rattle.p3l_trace.specs.Text.{trace_format}
 use Rattle.p3l_trace.specs.Told.{Answers}
 use Rattle.p3l_trace.specs.Agreement.{Agrees, DiffersAt}
-use Rattle.p3l_program.specs.Network.{HasNetwork}
+use Rattle.p3l_program.specs.Plan.{HasNetwork}
+use Rattle.p3l_program.specs.Load.{LoadsNetwork}
 use Rattle.p3l_program.specs.Origin.{built}
 use Rattle.p3l_program.specs.Stage.{AllPass, FilesCause, IsRefusedBy, Refuses, build_stages, readable, traced}
 use Rattle.p3l_program.specs.Trace.{Agreed, BeginsTrace, ChecksWhole, EndsTrace, HasBadTrace, IsCheckDue, IsCheckOf, IsCheckSome, IsTraceStatus, IsUnrefused, IsUntraced, check_stages, holds_line}
@@ -59,7 +60,13 @@ pub untraced : (files : Change Held) (name text : List ℕ) (line : ℕ) → Has
 untraced files name text line has calm only exact =
     inr (record { line = line; is = refl; none = record { text = text; has = has; none = unspelled text line only (read_all trace_format text) refl exact }; calm = calm })
 
-module _ (files : Change Held) (input out : Change (List ℕ)) (build : Build) (n : Network) (has : HasNetwork files.old (built build) n) (passed : AllPass files (build_stages build)) (name : List ℕ) where
+module _ (files : Change Held) (input out : Change (List ℕ)) (build : Build) (n : Network) (loads : LoadsNetwork files.old (built build) n) (name : List ℕ) where
+  has : HasNetwork files.old (built build) n
+  has = record { texts = loads.texts; have = loads.have; is = loads.is }
+
+  passed : AllPass files (build_stages build)
+  passed = loads.passed files refl
+
   all_passes : (t : Traced) → HasTrace files.old name t → AllPass files (check_stages build name)
   all_passes t h = passed_both files (build_stages build) (readable trace_limit name ∷ (traced name ∷ [])) passed ((h.text, h.has), ((t, h), tt))
 

@@ -9,7 +9,7 @@ use Rattle.p3l_run.specs.Network.{Network}
 use Rattle.p3l_program.specs.Compile.{IsImageOf}
 use Rattle.p3l_program.specs.File.{HasText}
 use Rattle.p3l_program.specs.Image.{image_limit}
-use Rattle.p3l_program.specs.Network.{HasNetwork}
+use Rattle.p3l_program.specs.Plan.{HasNetwork}
 use Rattle.p3l_program.specs.Origin.{built, imaged}
 use Rattle.p3l_program.specs.Run.{BeginsRun, Emits, EndsRun, IsRunStatus, RunsOver, RunsWhole}
 use Rattle.p3l_program.specs.World.{World}

@@ -1,9 +1,8 @@
 -- What the program answers, writes and says, and why.
-use Rattle.std.specs.Prelude.{◌≡◌, ◌≢◌, ℕ, List, [], ◌++◌, ◌⊎◌, Option, Some}
+use Rattle.std.specs.Prelude.{◌≡◌, ◌≢◌, ℕ, List, [], ◌∷◌, ◌++◌, ◌⊎◌, Option, Some}
 use Rattle.clap.specs.Words.{Text}
 use Rattle.p3l_io.specs.Told.{Held}
 use Rattle.p3l_opts.specs.declared.command.Command.{Command}
-use Rattle.p3l_opts.specs.declared.command.Sched.{Sched}
 use Rattle.p3l_opts.specs.Command.{Spells}
 use Rattle.p3l_report.specs.declared.stats.Stats.{Stats}
 use Rattle.p3l_report.specs.declared.verdict.Finish.{Finish}
@@ -13,14 +12,14 @@ use Rattle.p3l_report.specs.declared.verdict.Verdict.{Verdict}
 use Rattle.p3l_report.specs.declared.verdict.Verdict.TheVariants as verdict
 use Rattle.p3l_report.specs.Line.{stats_line}
 use Rattle.p3l_report.specs.Verdict.{finish_status, lines_of, refusal_status, status_of}
-use Rattle.p3l_program.specs.Command.{Begins, Ends, IsDueOf, IsWhole, Touches, file_of, saved_first, stages_of, written_of, limit_of}
+use Rattle.p3l_program.specs.Command.{Begins, Ends, IsDueOf, IsWhole, Touches, saved_first, stages_of, written_of}
 use Rattle.p3l_program.specs.Due.{IsBegun, IsEnd}
 use Rattle.p3l_program.specs.Run.{Emits}
 use Rattle.p3l_program.specs.Saved.{AreSaved, KeepsBut, KeepsFirst}
-use Rattle.p3l_program.specs.Stage.{IsRefusedBy}
+use Rattle.p3l_program.specs.Stage.{IsRefusedBy, Stage, readable}
 use Rattle.p3l_program.specs.File.{IsTooLong}
 use Rattle.p3l_program.specs.World.{Change, HasRisen, IsStill, IsUntouched, World}
-use Rattle.p3l_program.specs.Origin.{Origin}
+use Rattle.p3l_program.specs.Origin.{Running}
 
 -- the words spell no command
 abbrev pub SpellsNone : List Text → Type 0
@@ -126,17 +125,19 @@ pub record KeepsOthers (words : List Text) (w : World) : Type 0 where
   pub kept : KeepsBut w.files (written_of command)
   pub touched : Touches w command
 
--- the file that the words name is longer than the limit
+-- the command that the words spell reads a file first, which is longer than its limit
 pub record HasTooLong (words : List Text) (files : Option Held) : Type 0 where
   pub command : Command
   pub spelled : Spells words command
+  pub limit : ℕ
   pub name : List ℕ
-  pub name_is : file_of command ≡ Some name
-  pub longer : IsTooLong files (limit_of command) name
+  pub after : List Stage
+  pub reads_first : stages_of command ≡ readable limit name ∷ after
+  pub longer : IsTooLong files limit name
 
 -- the line of the numbers comes first on the standard error, and they are those of the run
-pub record Reports (w : World) (origin : Origin) (asked : Sched) (trace : Option (List ℕ)) (said : List ℕ) (err : Option (List ℕ)) : Type 0 where
+pub record Reports (w : World) (run : Running) (said : List ℕ) (err : Option (List ℕ)) : Type 0 where
   pub numbers : Stats
   pub more : List ℕ
   pub line : err ≡ Some (said ++ (stats_line numbers ++ more))
-  pub emits : Emits w origin asked trace numbers
+  pub emits : Emits w run.origin run.schedule run.trace numbers

@@ -8,7 +8,7 @@ use Rattle.p3l_cert.specs.Checker.{CertHolds}
 use Rattle.p3l_cert.specs.Text.{cert_format}
 use Rattle.p3l_opts.specs.declared.command.Build.{Build}
 use Rattle.p3l_check.specs.Resolving.{ResolvedTree}
-use Rattle.p3l_program.specs.Chosen.{HasCounts}
+use Rattle.p3l_program.specs.Plan.{HasCounts}
 
 -- the text of the certificate of these counts, which holds and has exactly the rows that it needs
 pub record IsCertificate (files : Option Held) (build : Build) (text : List ℕ) : Type 0 where

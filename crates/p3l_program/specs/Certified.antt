@@ -17,7 +17,7 @@ use Rattle.p3l_report.specs.declared.evidence.Claim.TheVariants as reported
 use Rattle.p3l_report.specs.declared.evidence.Evidence.{Evidence}
 use Rattle.p3l_report.specs.declared.evidence.Evidence.TheVariants as evidence
 use Rattle.p3l_check.specs.Resolving.{ResolvedTree}
-use Rattle.p3l_program.specs.Chosen.{HasCostText, IsPriced}
+use Rattle.p3l_program.specs.Plan.{HasCostText, IsPriced}
 use Rattle.p3l_program.specs.File.{HasText, text_limit}
 
 -- the most bytes of a file of a certificate

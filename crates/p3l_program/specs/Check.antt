@@ -3,7 +3,7 @@ use Rattle.std.specs.Prelude.{◌≡◌, ℕ, List, ◌++◌, length, Option, co
 use Rattle.std.specs.Fmt.{decimal}
 use Rattle.p3l_io.specs.Told.{Held}
 use Rattle.p3l_check.specs.Resolving.{ResolvedTree}
-use Rattle.p3l_program.specs.Accepted.{HasTree}
+use Rattle.p3l_program.specs.Plan.{HasTree}
 
 -- ok: M modules, I instances
 abbrev pub ok_line : (modules instances : ℕ) → List ℕ

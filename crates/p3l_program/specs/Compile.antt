@@ -7,8 +7,7 @@ use Rattle.p3l_cost.specs.declared.costs.Costs.{Costs}
 use Rattle.p3l_compiled.specs.Compiled.{IsImageText, image_of}
 use Rattle.p3l_opts.specs.declared.command.Build.{Build}
 use Rattle.p3l_check.specs.Resolving.{ResolvedTree}
-use Rattle.p3l_program.specs.Accepted.{IsAccepted}
-use Rattle.p3l_program.specs.Chosen.{HasCounts}
+use Rattle.p3l_program.specs.Plan.{HasCounts, IsAccepted}
 
 -- the bytes of the image of the one program that the file spells: the capacity, its tree, the counts that are chosen for it, codes of
 -- its bodies, and the net of the tree under the counts; they can be read again and be run

@@ -25,12 +25,11 @@ use Rattle.p3l_sched.specs.declared.schedule.Schedule.TheVariants as schedule
 use Rattle.p3l_stream.specs.declared.items.Ending.TheVariants as ending
 use Rattle.p3l_stream.specs.Items.{items_of}
 use Rattle.p3l_check.specs.Resolving.{ResolvedTree}
-use Rattle.p3l_program.specs.declared.load.Loaded.{Loaded}
-use Rattle.p3l_program.specs.Accepted.{ComesTo}
-use Rattle.p3l_program.specs.Chosen.{IsAllotted}
+use Rattle.p3l_program.specs.declared.plan.Allotted.{Allotted}
+use Rattle.p3l_program.specs.Plan.{ComesTo, IsAllotted, network_of}
+use Rattle.p3l_program.specs.Behavior.{Behavior}
 use Rattle.p3l_program.specs.Due.{IsDueWith}
 use Rattle.p3l_program.specs.Load.{IsNotLoaded}
-use Rattle.p3l_program.specs.Network.{network_of}
 use Rattle.p3l_program.specs.Saved.{AreSaved, KeepsBut, KeepsFirst, names_of}
 use Rattle.p3l_program.specs.Stage.{Stage, text_fitting, text_kept, text_priced}
 use Rattle.p3l_program.specs.Text.{BeginsText}
@@ -154,6 +153,21 @@ pub record IsGenStatus (g : Gen) (status : ℕ) : Type 0 where
   pub is : IsGenerated g f text
   pub status_is : status ≡ finish_status f
 
+-- the texts are saved where that is asked for, and then run
+abbrev pub gen_behavior : Gen → Behavior
+gen_behavior g = record {
+  stages = gen_stages g;
+  written = names_of (saves_of g);
+  saved_first = saves_of g;
+  run = None;
+  Ends = λ w finish stats. EndsGen w g finish stats;
+  Begins = λ w. BeginsText w (IsGenText g);
+  Unsaved = λ w. ⊥;
+  Touches = λ w. Unit {0};
+  IsWhole = λ w rest taken. GensWhole w g rest taken;
+  IsStatusDue = λ w rest n. IsGenStatus g n;
+}
+
 -- how the writing of the text of an end goes
 abbrev pub IsToldOf : Change (List ℕ) → Finish → List ℕ → Verdict → Type 0
 IsToldOf out f text (verdict.Ended f' stats) = (f' ≡ f) × (stats ≡ None) × HasPut out.old out.new text × IsCalm out
@@ -162,13 +176,13 @@ IsToldOf out f text verdict.NoMemory = HasBegun out.old out.new text
 IsToldOf out f text (verdict.Refused refused) = ⊥
 
 -- a program that a text spells, with the costs that another says and the counts that are chosen for it
-pub record AreLoaded (text said : List ℕ) (processors : ℕ) (r : ResolvedTree) (loaded : Loaded) : Type 0 where
+pub record AreLoaded (text said : List ℕ) (processors : ℕ) (r : ResolvedTree) (loaded : Allotted) : Type 0 where
   pub comes : ComesTo text r loaded.program
   pub allotted : IsAllotted text (Some said) processors r loaded.costs loaded.choice.counts.list
   pub service_is : loaded.choice.service ≡ service r.tree loaded.costs loaded.choice.counts.list 0
   pub used_is : loaded.choice.used ≡ procs r.tree loaded.choice.counts.list 0
 
-pub record LoadsTexts (text said : List ℕ) (processors : ℕ) (loaded : Loaded) : Type 0 where
+pub record LoadsTexts (text said : List ℕ) (processors : ℕ) (loaded : Allotted) : Type 0 where
   pub r : ResolvedTree
   pub are : AreLoaded text said processors r loaded
 

@@ -1,10 +1,8 @@
 pub mod World
 pub mod File
-pub mod Accepted
-pub mod Chosen
 pub mod Origin
 pub mod Image
-pub mod Network
+pub mod Plan
 pub mod Scheduled
 pub mod Certified
 pub mod TraceFile
@@ -13,6 +11,7 @@ pub mod Load
 pub mod LoadCert
 pub mod LoadImage
 pub mod Due
+pub mod Behavior
 pub mod Text
 pub mod Saved
 pub mod Fmt
@@ -27,5 +26,7 @@ pub mod Trace
 pub mod Generated
 pub mod Alike
 pub mod Recheck
+pub mod Work
 pub mod Command
 pub mod Answer
+pub mod Top

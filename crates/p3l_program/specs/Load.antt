@@ -11,20 +11,21 @@ use Rattle.p3l_model.specs.Service.{service}
 use Rattle.p3l_skel.specs.Counts.{HasLawfulCounts}
 use Rattle.p3l_skel.specs.Numbers.{procs}
 use Rattle.p3l_opts.specs.declared.command.Build.{Build}
+use Rattle.p3l_run.specs.Network.{Network}
 use Rattle.p3l_report.specs.declared.cost_fault.CostFault.TheVariants as fault
 use Rattle.p3l_report.specs.declared.verdict.Refusal.{Refusal}
 use Rattle.p3l_report.specs.declared.verdict.Refusal.TheVariants as refusal
 use Rattle.p3l_report.specs.declared.verdict.Verdict.{Verdict}
 use Rattle.p3l_report.specs.declared.verdict.Verdict.TheVariants as verdict
 use Rattle.p3l_check.specs.Resolving.{ResolvedTree}
-use Rattle.p3l_program.specs.declared.accept.Accepted.{Accepted}
+use Rattle.p3l_program.specs.declared.plan.Accepted.{Accepted}
 use Rattle.p3l_program.specs.declared.file.FileRefusal.{FileRefusal}
 use Rattle.p3l_program.specs.declared.file.FileRefusal.TheVariants as file
-use Rattle.p3l_program.specs.declared.load.Loaded.{Loaded}
-use Rattle.p3l_program.specs.Accepted.{ComesTo, IsCompiled}
-use Rattle.p3l_program.specs.Chosen.{AreSaid, HasCostText, IsAllotted, refusal_of}
+use Rattle.p3l_program.specs.declared.plan.Allotted.{Allotted}
+use Rattle.p3l_program.specs.Origin.{Origin}
+use Rattle.p3l_program.specs.Plan.{AreSaid, ComesTo, HasCostText, HaveTexts, IsAllotted, IsCompiled, IsNetworkOf, Texts, refusal_of}
 use Rattle.p3l_program.specs.File.{HasText, IsTooLong, text_limit}
-use Rattle.p3l_program.specs.Stage.{FilesCause, IsRefusedBy, Refuses, Stage, readable}
+use Rattle.p3l_program.specs.Stage.{FilesCause, IsRefusedBy, Refuses, Stage, readable, AllPass, origin_stages}
 use Rattle.p3l_program.specs.World.{Change, HasRisen, IsCalm}
 
 -- why a file gives no text
@@ -95,7 +96,7 @@ IsCostless files costs tree verdict.NoMemory = IsCalm files
 IsCostless files costs tree v = ⊥
 
 -- a program with its costs and the counts that are chosen for it
-pub record IsLoaded (files : Option Held) (build : Build) (r : ResolvedTree) (loaded : Loaded) : Type 0 where
+pub record IsLoaded (files : Option Held) (build : Build) (r : ResolvedTree) (loaded : Allotted) : Type 0 where
   pub text : List ℕ
   pub has : HasText files text_limit build.program text
   pub comes : ComesTo text r loaded.program
@@ -106,13 +107,21 @@ pub record IsLoaded (files : Option Held) (build : Build) (r : ResolvedTree) (lo
   pub service_is : loaded.choice.service ≡ service r.tree loaded.costs loaded.choice.counts.list 0
   pub used_is : loaded.choice.used ≡ procs r.tree loaded.choice.counts.list 0
 
-pub record Loads (files : Option Held) (build : Build) (loaded : Loaded) : Type 0 where
+pub record Loads (files : Option Held) (build : Build) (loaded : Allotted) : Type 0 where
   pub r : ResolvedTree
   pub is : IsLoaded files build r loaded
 
 -- a program can be run with the counts that are chosen
-pub record IsReady (loaded : Loaded) : Type 0 where
+pub record IsReady (loaded : Allotted) : Type 0 where
   pub r : ResolvedTree
   pub compiled : IsCompiled r loaded.program
   pub fit : HasLawfulCounts r.tree loaded.choice.counts.list
   pub few : procs r.tree loaded.choice.counts.list 0 ≤ 512
+
+-- the network that words and files ask for, which is the only one; all that stands before it passes
+pub record LoadsNetwork (told : Option Held) (origin : Origin) (n : Network) : Type 0 where
+  pub texts : Texts
+  pub have : HaveTexts told origin texts
+  pub is : IsNetworkOf origin texts n
+  pub only : (other : Network) → IsNetworkOf origin texts other → other ≡ n
+  pub passed : (files : Change Held) → files.old ≡ told → AllPass files (origin_stages origin)

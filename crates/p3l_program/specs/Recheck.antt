@@ -10,7 +10,7 @@ use Rattle.p3l_report.specs.Verdict.{ending_status}
 use Rattle.p3l_run.specs.Network.{Network, width_of}
 use Rattle.p3l_trace.specs.declared.trace.Traced.{Traced}
 use Rattle.p3l_trace.specs.Text.{trace_format}
-use Rattle.p3l_program.specs.Network.{HasNetwork}
+use Rattle.p3l_program.specs.Plan.{HasNetwork}
 use Rattle.p3l_program.specs.Origin.{Origin, built}
 use Rattle.p3l_program.specs.Run.{EndsRun, seen_of}
 use Rattle.p3l_program.specs.Saved.{Stands}

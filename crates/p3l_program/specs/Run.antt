@@ -27,10 +27,11 @@ use Rattle.p3l_stream.specs.declared.taken.Cutoff.{Cutoff}
 use Rattle.p3l_stream.specs.declared.taken.Cutoff.TheVariants as stop
 use Rattle.p3l_stream.specs.Items.{items_of, items_taken}
 use Rattle.p3l_stream.specs.Text.{text_of}
+use Rattle.p3l_program.specs.Behavior.{Behavior}
 use Rattle.p3l_program.specs.Due.{IsDueWith}
 use Rattle.p3l_program.specs.File.{HasText}
-use Rattle.p3l_program.specs.Network.{HasNetwork}
-use Rattle.p3l_program.specs.Origin.{Origin}
+use Rattle.p3l_program.specs.Plan.{HasNetwork}
+use Rattle.p3l_program.specs.Origin.{Origin, Running}
 use Rattle.p3l_program.specs.Recorded.{IsRecorded, IsRecording, IsRecordOf, IsRecordOn}
 use Rattle.p3l_program.specs.Saved.{KeepsFiles}
 use Rattle.p3l_program.specs.Scheduled.{HasSchedule, picks_limit}
@@ -129,6 +130,21 @@ pub record IsRunStatus (w : World) (origin : Origin) (asked : Sched) (rest : Lis
   pub s : Schedule
   pub has : HasRun w.files.old origin asked n s
   pub status_is : status ≡ run_status n s rest
+
+-- it is run on the input under the schedule, and its trace is written where a file is named for it
+abbrev pub run_behavior : Running → Behavior
+run_behavior run = record {
+  stages = run_stages run.origin run.schedule;
+  written = option_to_list run.trace;
+  saved_first = [];
+  run = Some run;
+  Ends = λ w finish stats. EndsRun w run.origin run.schedule run.trace run.reported finish stats;
+  Begins = λ w. BeginsRun w run.origin run.schedule;
+  Unsaved = λ w. UnsavedRun w run.origin run.schedule run.trace;
+  Touches = λ w. RunsOver w run.origin run.schedule;
+  IsWhole = λ w rest taken. RunsWhole w run.origin run.schedule run.trace rest taken;
+  IsStatusDue = λ w rest n. IsRunStatus w run.origin run.schedule rest n;
+}
 
 -- a verdict is due of the running of it
 abbrev pub IsRunDue : World → Origin → Sched → Option (List ℕ) → Bool → Verdict → Type 0

@@ -5,8 +5,12 @@ use Rattle.p3l_report.specs.declared.stats.Stats.{Stats}
 use Rattle.p3l_report.specs.declared.verdict.Finish.{Finish}
 use Rattle.p3l_report.specs.declared.verdict.Verdict.{Verdict}
 use Rattle.p3l_report.specs.declared.verdict.Verdict.TheVariants as verdict
-use Rattle.p3l_program.specs.Text.{EndsText, WritesWhole}
-use Rattle.p3l_program.specs.World.{Change, HasRisen, IsCalm, World}
+use Rattle.p3l_report.specs.Status as status
+use Rattle.p3l_program.specs.Behavior.{Behavior}
+use Rattle.p3l_program.specs.Due.{IsDueWith}
+use Rattle.p3l_program.specs.Stage.{Stage}
+use Rattle.p3l_program.specs.Text.{BeginsText, EndsText, IsNothing, WritesWhole}
+use Rattle.p3l_program.specs.World.{Change, HasRisen, IsCalm, IsStill, World, world}
 
 -- a name is none of these
 abbrev pub IsOther : List ℕ → List (List ℕ) → Type 0
@@ -92,3 +96,30 @@ pub record SavesWhole (w : World) (IsText : List ℕ → Type 0) (name : List �
   pub bytes : List ℕ
   pub is : IsBytes bytes
   pub saved : IsSaved w.files name bytes
+
+-- after these stages, a file of this name is written, and then a text, each by what the files hold
+abbrev pub saving_behavior : List Stage → (Option Held → List ℕ → Type 0) → List ℕ → (Option Held → List ℕ → Type 0) → Behavior
+saving_behavior stages IsText name IsBytes = record {
+  stages = stages;
+  written = name ∷ [];
+  saved_first = [];
+  run = None;
+  Ends = λ w finish stats. EndsSaving w (IsText w.files.old) name (IsBytes w.files.old) finish stats;
+  Begins = λ w. BeginsText w (IsText w.files.old);
+  Unsaved = λ w. IsStill w.out;
+  Touches = λ w. Unit {0};
+  IsWhole = λ w rest taken. SavesWhole w (IsText w.files.old) name (IsBytes w.files.old) rest taken;
+  IsStatusDue = λ w rest n. n ≡ status.done;
+}
+
+-- a verdict is due of a command with these stages that writes such a file and then such a text, and
+-- lets the input alone
+abbrev pub IsSavingDue : Change Held → Change (List ℕ) → List Stage → (List ℕ → Type 0) → List ℕ → (List ℕ → Type 0) → Verdict → Type 0
+IsSavingDue files out stages IsText name IsBytes v =
+    (input : Change (List ℕ)) → IsStill input →
+    IsDueWith (world files input out) stages (EndsSaving (world files input out) IsText name IsBytes) (BeginsText (world files input out) IsText) (IsStill out) v
+
+-- a verdict is due of a command with these stages that writes such a file alone, and lets the input
+-- and the output alone
+abbrev pub IsFileDue : Change Held → List Stage → List ℕ → (List ℕ → Type 0) → Verdict → Type 0
+IsFileDue files stages name IsBytes v = (out : Change (List ℕ)) → IsStill out → IsSavingDue files out stages IsNothing name IsBytes v

@@ -9,7 +9,7 @@ use Rattle.p3l_sched.specs.declared.schedule.Schedule.{Schedule}
 use Rattle.p3l_sched.specs.declared.schedule.Schedule.TheVariants as schedule
 use Rattle.p3l_sched.specs.Picks.{Reads}
 use Rattle.p3l_program.specs.File.{HasText}
-use Rattle.p3l_program.specs.Network.{HaveTexts, IsNetworkOf, Texts}
+use Rattle.p3l_program.specs.Plan.{HaveTexts, IsNetworkOf, Texts}
 use Rattle.p3l_program.specs.Origin.{Origin}
 
 -- the most bytes of a file of picks

@@ -16,12 +16,10 @@ use Rattle.p3l_sched.specs.declared.refusal.PickRefusal.TheVariants as picks
 use Rattle.p3l_sched.specs.declared.schedule.Schedule.{Schedule}
 use Rattle.p3l_trace.specs.declared.trace.Traced.{Traced}
 use Rattle.p3l_check.specs.Resolving.{ResolvedTree}
-use Rattle.p3l_program.specs.Accepted.{HasNoTree, HasTree, IsAccepted, IsNotAccepted}
+use Rattle.p3l_program.specs.Plan.{HasCosts, HasCounts, HasNetwork, HasNoCosts, HasNoTree, HasTooFew, HasTree, IsAccepted, IsAllotted, IsNotAccepted, IsOverfull, IsPriced, IsUnpriced}
 use Rattle.p3l_program.specs.Certified.{HasCert, HasNoCert, cert_limit}
-use Rattle.p3l_program.specs.Chosen.{HasCosts, HasCounts, HasNoCosts, HasTooFew, IsAllotted, IsOverfull, IsPriced, IsUnpriced}
 use Rattle.p3l_program.specs.File.{HasFault, HasProgram, HasText, IsTooLong, text_limit}
 use Rattle.p3l_program.specs.Image.{HasBytes, IsBrokenImage, IsImage, IsNoImage, IsRunnableImage, image_limit}
-use Rattle.p3l_program.specs.Network.{HasNetwork}
 use Rattle.p3l_program.specs.Origin.{Origin, built, imaged}
 use Rattle.p3l_program.specs.Scheduled.{HasNoPicks, HasPicks, picks_limit}
 use Rattle.p3l_program.specs.TraceFile.{HasNoTrace, HasTrace}

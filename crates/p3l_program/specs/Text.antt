@@ -1,12 +1,17 @@
 -- Commands that write one text, and take nothing.
 use Rattle.std.specs.Prelude.{◌≡◌, ℕ, List, [], ◌++◌, Option, Some, None}
+use Rattle.p3l_io.specs.Told.{Held}
 use Rattle.p3l_report.specs.declared.stats.Stats.{Stats}
 use Rattle.p3l_report.specs.declared.verdict.Finish.{Finish}
 use Rattle.p3l_report.specs.declared.verdict.Finish.TheVariants as finishes
 use Rattle.p3l_report.specs.declared.verdict.Verdict.{Verdict}
 use Rattle.p3l_report.specs.declared.verdict.Verdict.TheVariants as verdict
+use Rattle.p3l_report.specs.Status as status
 use Rattle.p3l_run.specs.Write.{HasBegun, HasPut}
-use Rattle.p3l_program.specs.World.{Change, HasRisen, IsCalm, IsStill, World}
+use Rattle.p3l_program.specs.Behavior.{Behavior}
+use Rattle.p3l_program.specs.Due.{IsDueWith}
+use Rattle.p3l_program.specs.Stage.{Stage}
+use Rattle.p3l_program.specs.World.{Change, HasRisen, IsCalm, IsStill, World, world}
 
 -- the text of a command that writes none
 abbrev pub IsNothing : List ℕ → Type 0
@@ -34,6 +39,27 @@ pub record WritesWhole (w : World) (IsText : List ℕ → Type 0) (rest taken : 
   pub is : IsText text
   pub rest_stays : w.input.new ≡ Some rest
   pub taken_is : w.out.new ≡ Some (taken ++ text)
+
+-- after these stages, a text by what the files hold is written
+abbrev pub text_behavior : List Stage → (Option Held → List ℕ → Type 0) → Behavior
+text_behavior stages IsText = record {
+  stages = stages;
+  written = [];
+  saved_first = [];
+  run = None;
+  Ends = λ w finish stats. EndsText w (IsText w.files.old) finish stats;
+  Begins = λ w. BeginsText w (IsText w.files.old);
+  Unsaved = λ w. ⊥;
+  Touches = λ w. Unit {0};
+  IsWhole = λ w rest taken. WritesWhole w (IsText w.files.old) rest taken;
+  IsStatusDue = λ w rest n. n ≡ status.done;
+}
+
+-- a verdict is due of a command with these stages that writes such a text, and lets the input alone
+abbrev pub IsTextDue : Change Held → Change (List ℕ) → List Stage → (List ℕ → Type 0) → Verdict → Type 0
+IsTextDue files out stages IsText v =
+    (input : Change (List ℕ)) → IsStill input →
+    IsDueWith (world files input out) stages (EndsText (world files input out) IsText) (BeginsText (world files input out) IsText) ⊥ v
 
 -- how the writing of a text ends
 abbrev pub IsWritten : Change (List ℕ) → List ℕ → Verdict → Type 0

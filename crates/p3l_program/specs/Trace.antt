@@ -22,8 +22,9 @@ use Rattle.p3l_stream.specs.declared.items.Items.{Items}
 use Rattle.p3l_stream.specs.Items.{items_of}
 use Rattle.p3l_trace.specs.declared.trace.Traced.{Traced}
 use Rattle.p3l_trace.specs.Agreement.{Agrees, DiffersAt}
+use Rattle.p3l_program.specs.Behavior.{Behavior}
 use Rattle.p3l_program.specs.Due.{IsDueWith}
-use Rattle.p3l_program.specs.Network.{HasNetwork}
+use Rattle.p3l_program.specs.Plan.{HasNetwork}
 use Rattle.p3l_program.specs.Origin.{built}
 use Rattle.p3l_program.specs.Run.{IsRunNot, seen_of}
 use Rattle.p3l_program.specs.Stage.{FilesCause, Refuses, Stage, build_stages, readable, traced}
@@ -117,6 +118,21 @@ pub record IsTraceStatus (w : World) (build : Build) (name rest : List ℕ) (k :
 -- what is checked is built, and has a trace
 abbrev pub check_stages : Build → List ℕ → List Stage
 check_stages build name = build_stages build ++ (readable trace_limit name ∷ (traced name ∷ []))
+
+-- the trace of a file is checked against the run of a program on the input
+abbrev pub check_behavior : Build → List ℕ → Behavior
+check_behavior build name = record {
+  stages = check_stages build name;
+  written = [];
+  saved_first = [];
+  run = None;
+  Ends = λ w finish stats. EndsTrace w build name finish stats;
+  Begins = λ w. BeginsTrace w build name;
+  Unsaved = λ w. ⊥;
+  Touches = λ w. Unit {0};
+  IsWhole = λ w rest taken. ChecksWhole w build name rest taken;
+  IsStatusDue = λ w rest n. IsTraceStatus w build name rest n;
+}
 
 -- a verdict is due of the command
 abbrev pub IsCheckDue : World → Build → List ℕ → Verdict → Type 0

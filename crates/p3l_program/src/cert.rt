@@ -9,9 +9,8 @@ ghost use Rattle.p3l_program.specs.LoadCert.{AcceptsCert, IsCertRefused, IsCertl
 ghost use Rattle.p3l_program.specs.Stage.{verify_stages};
 ghost use Rattle.p3l_program.specs.World.{change};
 
-use crate::costs::load_costs;
 use crate::file::find_text;
-use crate::load::load_program;
+use crate::plan::{load_costs, load_program};
 use p3l_base::Name;
 use p3l_cert::{Cert, CertRefusal, check, read_cert};
 use p3l_cost::Costs;

@@ -2,13 +2,12 @@
 
 ghost use Rattle.std.specs.Prelude.{◌≡◌, ◌∷◌, ◌≤◌, []};
 ghost use Rattle.p3l_program.specs.Certificate.{IsCertificate};
-ghost use Rattle.p3l_program.specs.Command.{IsSavingDue};
 ghost use Rattle.p3l_program.specs.Explain.{IsExplained};
-ghost use Rattle.p3l_program.specs.Saved.{KeepsFiles};
+ghost use Rattle.p3l_program.specs.Saved.{IsSavingDue, KeepsFiles};
 ghost use Rattle.p3l_program.specs.Stage.{build_stages};
 ghost use Rattle.p3l_program.specs.World.{change};
 
-use crate::load::{Loaded, load};
+use crate::plan::{Allotted, allot};
 use crate::save::save;
 use crate::text::write_text;
 use p3l_base::Name;
@@ -33,11 +32,11 @@ pub fn certify<F: Files, K: Sink>(
     ensures kept { KeepsFiles (change F.held F.faults files.old files.new) (name ∷ []) result }
 {
     let processors = build.processors;
-    let Loaded {
+    let Allotted {
         program,
         costs,
         choice,
-    } = match load(alloc, build, files) {
+    } = match allot(alloc, build, files) {
         Ok(loaded) => loaded,
         Err(verdict) => return verdict,
     };

@@ -2,11 +2,11 @@
 
 ghost use Rattle.std.specs.Prelude.{◌≡◌, length, IfOk, string_bytes};
 ghost use Rattle.p3l_program.specs.Check.{IsCounted, ok_line};
-ghost use Rattle.p3l_program.specs.Command.{IsTextDue};
+ghost use Rattle.p3l_program.specs.Text.{IsTextDue};
 ghost use Rattle.p3l_program.specs.Stage.{program_stages};
 ghost use Rattle.p3l_program.specs.World.{change};
 
-use crate::load::load_program;
+use crate::plan::load_program;
 use crate::text::write_text;
 use p3l_base::{Name, NoMemory};
 use p3l_io::{Files, Sink};

@@ -5,21 +5,18 @@ ghost use Rattle.p3l_run.specs.Feed.{most_of_input};
 ghost use Rattle.p3l_run.specs.Network.{IsSound, network};
 ghost use Rattle.p3l_skel.specs.Tree.{node_at};
 ghost use Rattle.p3l_program.specs.LoadImage.{IsReadyImage};
-ghost use Rattle.p3l_program.specs.Network.{network_in};
+ghost use Rattle.p3l_program.specs.Plan.{network_in};
 ghost use Rattle.p3l_program.specs.Trace.{IsAgreed, IsCheckDue, IsCheckOf, IsUntraced, holds_line};
 ghost use Rattle.p3l_program.specs.TraceFile.{HasTrace};
 ghost use Rattle.p3l_program.specs.World.{change, world};
 
 use crate::file::find_text;
-use crate::linked::linked;
-use crate::load::load;
-use crate::running::width_of;
+use crate::plan::{load_network, plan_of};
 use crate::text::write_text;
 use p3l_base::{Name, NoMemory};
 use p3l_io::{Files, Sink, Source};
 use p3l_link::laws::every_linked_net_is_carried;
 use p3l_load::Loaded;
-use p3l_model::firings;
 use p3l_opts::Build;
 use p3l_report::{Evidence, Finish, Refusal, Verdict};
 use p3l_retrace::retrace::{Retraced, retrace};
@@ -76,8 +73,8 @@ fn agreed<K: Sink>(alloc: Global, traced: &Traced, close: Option<Ending>, out: &
     }
 }
 
-/// Checks the trace of a file against a network on the items of the input.
-fn check_network<U: Units, F: Files, S: Source, K: Sink>(
+/// Checks the trace of a file against a plan on the items of the input.
+fn check_plan<U: Units, F: Files, S: Source, K: Sink>(
     alloc: Global,
     plan: Plan<'_, U>,
     name: Name,
@@ -105,17 +102,17 @@ fn check_network<U: Units, F: Files, S: Source, K: Sink>(
     }
 }
 
-/// Checks the trace of a file against what was linked, on the items of the input.
-fn check_linked<F: Files, S: Source, K: Sink>(
+/// Checks the trace of a file against a network that was loaded, on the items of the input.
+fn check_network<F: Files, S: Source, K: Sink>(
     alloc: Global,
-    linked: Loaded,
+    loaded: Loaded,
     name: Name,
     files: &mut F,
     input: &mut S,
     out: &mut K,
 ) -> Verdict
-    requires ready { IsReadyImage linked }
-    ensures checked { IsCheckOf (network_in linked) (change F.held F.faults files.old files.new) (change S.rest S.faults input.old input.new) (change K.taken K.faults out.old out.new) name result }
+    requires ready { IsReadyImage loaded }
+    ensures checked { IsCheckOf (network_in loaded) (change F.held F.faults files.old files.new) (change S.rest S.faults input.old input.new) (change K.taken K.faults out.old out.new) name result }
     ensures stays { F.held files.new ≡ F.held files.old }
 {
     every_linked_net_is_carried();
@@ -125,18 +122,12 @@ fn check_linked<F: Files, S: Source, K: Sink>(
         codes,
         net,
         ..
-    } = linked;
+    } = loaded;
     let Ok(units) = UnitTable::new(alloc, &tree, codes) else {
         return Verdict::NoMemory;
     };
-    let plan = Plan {
-        tree: &tree,
-        units: &units,
-        net,
-        firings: firings(&tree, &counts),
-        width: width_of(&tree),
-    };
-    check_network(alloc, plan, name, files, input, out)
+    let plan = plan_of(&tree, &counts, &units, net);
+    check_plan(alloc, plan, name, files, input, out)
 }
 
 /// Checks the trace of a file against the run of the program of another on the input.
@@ -153,13 +144,8 @@ pub fn check_trace<F: Files, S: Source, K: Sink>(
     ensures due { IsCheckDue (world (change F.held F.faults files.old files.new) (change S.rest S.faults input.old input.new) (change K.taken K.faults out.old out.new)) build name result }
     ensures stays { F.held files.new ≡ F.held files.old }
 {
-    let capacity = build.capacity;
-    let loaded = match load(alloc, build, files) {
-        Ok(loaded) => loaded,
-        Err(verdict) => return verdict,
-    };
-    match linked(alloc, loaded, capacity) {
-        Err(_) => Verdict::NoMemory,
-        Ok(linked) => check_linked(alloc, linked, name, files, input, out),
+    match load_network(alloc, build, files) {
+        Err(verdict) => verdict,
+        Ok(loaded) => check_network(alloc, loaded, name, files, input, out),
     }
 }

@@ -1,14 +1,12 @@
 // The command `compile`: the image of a program, written to a file.
 
 ghost use Rattle.std.specs.Prelude.{◌≡◌, ◌∷◌, ◌≤◌, []};
-ghost use Rattle.p3l_program.specs.Command.{IsFileDue};
 ghost use Rattle.p3l_program.specs.Compile.{IsImageOf};
-ghost use Rattle.p3l_program.specs.Saved.{KeepsFiles};
+ghost use Rattle.p3l_program.specs.Saved.{IsFileDue, KeepsFiles};
 ghost use Rattle.p3l_program.specs.Stage.{build_stages};
 ghost use Rattle.p3l_program.specs.World.{change};
 
-use crate::accept::Accepted;
-use crate::load::{Loaded, load};
+use crate::plan::{Accepted, Allotted, allot};
 use crate::save::save;
 use p3l_base::Name;
 use p3l_compiled::image_text;
@@ -26,11 +24,11 @@ pub fn compile<F: Files>(alloc: Global, build: Build, name: Name, files: &mut F)
     ensures kept { KeepsFiles (change F.held F.faults files.old files.new) (name ∷ []) result }
 {
     let capacity = build.capacity;
-    let Loaded {
+    let Allotted {
         program,
         choice,
         ..
-    } = match load(alloc, build, files) {
+    } = match allot(alloc, build, files) {
         Ok(loaded) => loaded,
         Err(verdict) => return verdict,
     };

@@ -8,7 +8,7 @@ ghost use Rattle.p3l_program.specs.Saved.{KeepsFiles};
 ghost use Rattle.p3l_program.specs.World.{change, world};
 
 use crate::image::load_image;
-use crate::running::run_loaded;
+use crate::running::run_network;
 use p3l_base::Name;
 use p3l_io::{Files, Sink, Source};
 use p3l_opts::Sched;
@@ -33,6 +33,6 @@ pub fn exec<F: Files, S: Source, K: Sink>(
 {
     match load_image(alloc, name, files) {
         Err(verdict) => verdict,
-        Ok(loaded) => run_loaded(alloc, loaded, asked, trace, reported, files, input, out),
+        Ok(loaded) => run_network(alloc, loaded, asked, trace, reported, files, input, out),
     }
 }

@@ -1,12 +1,12 @@
 // The command `explain`: the counts that are chosen for a program, and what they come to.
 
 ghost use Rattle.std.specs.Prelude.{◌≡◌, ◌≤◌};
-ghost use Rattle.p3l_program.specs.Command.{IsTextDue};
+ghost use Rattle.p3l_program.specs.Text.{IsTextDue};
 ghost use Rattle.p3l_program.specs.Explain.{IsExplained};
 ghost use Rattle.p3l_program.specs.Stage.{build_stages};
 ghost use Rattle.p3l_program.specs.World.{change};
 
-use crate::load::load;
+use crate::plan::allot;
 use crate::text::write_text;
 use p3l_alloc::allocation_text;
 use p3l_io::{Files, Sink};
@@ -26,7 +26,7 @@ pub fn explain<F: Files, K: Sink>(
     ensures stays { F.held files.new ≡ F.held files.old }
 {
     let processors = build.processors;
-    match load(alloc, build, files) {
+    match allot(alloc, build, files) {
         Err(verdict) => verdict,
         Ok(loaded) => {
             let tree = &loaded.program.tree;

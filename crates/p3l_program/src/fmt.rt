@@ -1,7 +1,7 @@
 // The command `fmt`: the canonical text of a program, from its file to the output.
 
 ghost use Rattle.std.specs.Prelude.{◌≡◌, ◌≤◌, length, IfOk, IfErr};
-ghost use Rattle.p3l_program.specs.Command.{IsTextDue};
+ghost use Rattle.p3l_program.specs.Text.{IsTextDue};
 ghost use Rattle.p3l_program.specs.File.{text_limit};
 ghost use Rattle.p3l_program.specs.Fmt.{HasNoCanonical, IsCanonicalOf, IsFormatted, fmt_stages};
 ghost use Rattle.p3l_program.specs.World.{change};

@@ -4,19 +4,15 @@ ghost use Rattle.std.specs.Prelude.{◌≡◌, ◌≢◌, ◌++◌, ◌≤◌, �
 ghost use Rattle.p3l_check.specs.Resolving.{ResolvedTree};
 ghost use Rattle.p3l_opts.specs.Command.{IsMade};
 ghost use Rattle.p3l_report.specs.declared.verdict.Verdict.TheVariants as verdict;
-ghost use Rattle.p3l_program.specs.Accepted.{IsCompiled};
+ghost use Rattle.p3l_program.specs.Plan.{IsCompiled, network_of};
 ghost use Rattle.p3l_program.specs.File.{text_limit};
 ghost use Rattle.p3l_program.specs.Generated.{AreNotLoaded, AreTextsOf, Gen, IsGenDue, IsGenRun, IsGenUnsaved, IsPicked, IsRanUnder, IsToldOf, LoadsTexts, comes_whole, due_at, gen_capacity, gen_of, numbers_text, saves_for, saves_with, summary_line};
 ghost use Rattle.p3l_program.specs.Load.{IsReady};
-ghost use Rattle.p3l_program.specs.Network.{network_of};
 ghost use Rattle.p3l_program.specs.Saved.{HasSave, HasSaves};
 ghost use Rattle.p3l_program.specs.World.{change};
 
-use crate::accept::{Accepted, accept};
-use crate::costs::cost_verdict;
-use crate::load::Loaded;
 use crate::memory::{NoSink, TextSource};
-use crate::running::width_of;
+use crate::plan::{Accepted, Allotted, accept, cost_verdict, plan_of};
 use crate::save::save;
 use p3l_alloc::{AllocRefusal, choose};
 use p3l_ast::SourceRefusal;
@@ -27,12 +23,11 @@ use p3l_gen::{Generated, generate};
 use p3l_io::{Files, Sink};
 use p3l_link::laws::every_linked_net_is_carried;
 use p3l_link::link;
-use p3l_model::firings;
 use p3l_opts::Sched;
 use p3l_report::{Finish, Refusal, Stats, Verdict};
 use p3l_run::run::run;
 use p3l_run::write::write;
-use p3l_run::{Keeping, Plan, Ran};
+use p3l_run::{Keeping, Ran};
 use p3l_sched::Schedule;
 use p3l_stream::Ending;
 use std::alloc::Global;
@@ -101,7 +96,7 @@ fn load_texts(
     program: &[u8],
     costs: &[u8],
     processors: u32,
-) -> Result<Loaded, Verdict>
+) -> Result<Allotted, Verdict>
     requires within { length program.now ≤ text_limit }
     requires some { 1 ≤ processors }
     requires few { processors ≤ 512 }
@@ -120,7 +115,7 @@ fn load_texts(
         Err(refusal) => return Err(cost_verdict(refusal)),
     };
     match choose(alloc, &program.tree, &costs, processors) {
-        Ok(choice) => Ok(Loaded {
+        Ok(choice) => Ok(Allotted {
             program,
             costs,
             choice,
@@ -143,7 +138,7 @@ fn schedule_of(asked: Sched) -> Schedule
 }
 
 /// Runs the network of a program on the items of a text; what it emits is not written.
-fn run_text(alloc: Global, loaded: Loaded, asked: Sched, text: List<u8>) -> Result<Ran, Verdict>
+fn run_text(alloc: Global, loaded: Allotted, asked: Sched, text: List<u8>) -> Result<Ran, Verdict>
     requires ready { IsReady loaded }
     requires made { IsMade asked }
     requires short { length text < 2 ^ 36 }
@@ -151,7 +146,7 @@ fn run_text(alloc: Global, loaded: Loaded, asked: Sched, text: List<u8>) -> Resu
     ensures wanting { IfErr result (λ v. v ≡ verdict.NoMemory) }
 {
     every_linked_net_is_carried();
-    let Loaded {
+    let Allotted {
         program,
         choice,
         ..
@@ -164,13 +159,7 @@ fn run_text(alloc: Global, loaded: Loaded, asked: Sched, text: List<u8>) -> Resu
     let Ok(net) = link(alloc, &tree, &counts, CAPACITY) else {
         return Err(Verdict::NoMemory);
     };
-    let plan = Plan {
-        tree: &tree,
-        units: &units,
-        net,
-        firings: firings(&tree, &counts),
-        width: width_of(&tree),
-    };
+    let plan = plan_of(&tree, &counts, &units, net);
     let mut input = TextSource::new(text);
     match run(
         alloc,

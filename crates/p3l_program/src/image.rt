@@ -1,8 +1,10 @@
 // Loading the image that a command runs.
 
 ghost use Rattle.std.specs.Prelude.{◌≡◌, ◌≤◌, IfOk, IfErr, OnOk};
-ghost use Rattle.p3l_program.specs.Load.{IsNotLoaded};
-ghost use Rattle.p3l_program.specs.LoadImage.{LoadsImage, image_verdict, load_verdict};
+ghost use Rattle.p3l_program.specs.Load.{IsNotLoaded, LoadsNetwork};
+ghost use Rattle.p3l_program.specs.LoadImage.{IsReadyImage, image_verdict, load_verdict};
+ghost use Rattle.p3l_program.specs.Origin.{imaged};
+ghost use Rattle.p3l_program.specs.Plan.{network_in};
 ghost use Rattle.p3l_program.specs.Stage.{image_stages};
 ghost use Rattle.p3l_program.specs.World.{change};
 
@@ -47,7 +49,8 @@ fn load_verdict(refusal: LoadRefusal) -> Verdict
 
 /// The image of the file of this name, if it can be run; else the verdict that it can't.
 pub fn load_image<F: Files>(alloc: Global, name: Name, files: &mut F) -> Result<Loaded, Verdict>
-    ensures loaded { IfOk result (LoadsImage (F.held files.old) name) }
+    ensures network { IfOk result (λ loaded. LoadsNetwork (F.held files.old) (imaged name) (network_in loaded)) }
+    ensures ready { IfOk result IsReadyImage }
     ensures calm { OnOk result (F.faults files.new ≡ F.faults files.old) }
     ensures refused { IfErr result (IsNotLoaded (change F.held F.faults files.old files.new) (image_stages name)) }
     ensures stays { F.held files.new ≡ F.held files.old }

@@ -2,23 +2,20 @@
 //! streams.
 #![tactic(auto)]
 
-mod accept;
 pub mod alike;
 mod cert;
 pub mod certify;
 pub mod check;
 pub mod check_trace;
 pub mod compile;
-mod costs;
 pub mod exec;
 pub mod explain;
 mod file;
 pub mod fmt;
 pub mod generated;
 mod image;
-mod linked;
-mod load;
 mod memory;
+mod plan;
 pub mod recheck;
 mod record;
 pub mod run;

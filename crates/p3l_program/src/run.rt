@@ -7,9 +7,8 @@ ghost use Rattle.p3l_program.specs.Run.{IsRunDue, RunsOver};
 ghost use Rattle.p3l_program.specs.Saved.{KeepsFiles};
 ghost use Rattle.p3l_program.specs.World.{change, world};
 
-use crate::linked::linked;
-use crate::load::load;
-use crate::running::run_loaded;
+use crate::plan::load_network;
+use crate::running::run_network;
 use p3l_base::Name;
 use p3l_io::{Files, Sink, Source};
 use p3l_opts::{Build, Sched};
@@ -34,13 +33,8 @@ pub fn run<F: Files, S: Source, K: Sink>(
     ensures kept { KeepsFiles (change F.held F.faults files.old files.new) (option_to_list trace) result }
     ensures over { (F.held files.new ≡ F.held files.old) ⊎ RunsOver (world (change F.held F.faults files.old files.new) (change S.rest S.faults input.old input.new) (change K.taken K.faults out.old out.new)) (built build) asked }
 {
-    let capacity = build.capacity;
-    let loaded = match load(alloc, build, files) {
-        Ok(loaded) => loaded,
-        Err(verdict) => return verdict,
-    };
-    match linked(alloc, loaded, capacity) {
-        Err(_) => Verdict::NoMemory,
-        Ok(linked) => run_loaded(alloc, linked, asked, trace, reported, files, input, out),
+    match load_network(alloc, build, files) {
+        Err(verdict) => verdict,
+        Ok(loaded) => run_network(alloc, loaded, asked, trace, reported, files, input, out),
     }
 }

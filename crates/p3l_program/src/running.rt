@@ -6,34 +6,24 @@ ghost use Rattle.p3l_run.specs.Feed.{most_of_input};
 ghost use Rattle.p3l_run.specs.Network.{IsSound, network};
 ghost use Rattle.p3l_skel.specs.Tree.{node_at};
 ghost use Rattle.p3l_program.specs.LoadImage.{IsReadyImage};
-ghost use Rattle.p3l_program.specs.Network.{network_in};
+ghost use Rattle.p3l_program.specs.Plan.{network_in};
 ghost use Rattle.p3l_program.specs.Run.{IsClosed, IsRunOf, KeepsRun, keeping_for, shown};
 ghost use Rattle.p3l_program.specs.World.{change};
 
+use crate::plan::plan_of;
 use crate::record::record;
 use crate::schedule::load_schedule;
 use p3l_base::Name;
 use p3l_io::{Files, Sink, Source};
 use p3l_link::laws::every_linked_net_is_carried;
 use p3l_load::Loaded;
-use p3l_model::firings;
 use p3l_opts::Sched;
 use p3l_report::{Finish, Stats, Verdict};
 use p3l_run::run::run;
 use p3l_run::{Keeping, Plan, Ran};
-use p3l_skel::{Tree, Units};
+use p3l_skel::Units;
 use p3l_units::UnitTable;
 use std::alloc::Global;
-
-/// How many words an item of a tree has.
-pub fn width_of(tree: &Tree) -> u32
-    ensures { result ≡ (node_at tree.now 0).ins }
-{
-    match tree.node(0) {
-        Some(root) => root.ins,
-        None => 0,
-    }
-}
 
 /// The verdict of a run that came to its end, whose numbers are to be reported or not.
 fn ended(finish: Finish, stats: Stats, reported: bool) -> Verdict
@@ -78,9 +68,9 @@ fn close<F: Files>(
     }
 }
 
-/// Runs a network on the items of the input under the schedule that is asked for, writes each value
+/// Runs a plan on the items of the input under the schedule that is asked for, writes each value
 /// as it comes out, and at the end the trace.
-pub fn run_network<U: Units, F: Files, S: Source, K: Sink>(
+pub fn run_plan<U: Units, F: Files, S: Source, K: Sink>(
     alloc: Global,
     plan: Plan<'_, U>,
     asked: Sched,
@@ -112,8 +102,8 @@ pub fn run_network<U: Units, F: Files, S: Source, K: Sink>(
     }
 }
 
-/// Runs what was loaded, or linked as an image is.
-pub fn run_loaded<F: Files, S: Source, K: Sink>(
+/// Runs a network that was loaded, from a program or an image.
+pub fn run_network<F: Files, S: Source, K: Sink>(
     alloc: Global,
     loaded: Loaded,
     asked: Sched,
@@ -138,12 +128,6 @@ pub fn run_loaded<F: Files, S: Source, K: Sink>(
     let Ok(units) = UnitTable::new(alloc, &tree, codes) else {
         return Verdict::NoMemory;
     };
-    let plan = Plan {
-        tree: &tree,
-        units: &units,
-        net,
-        firings: firings(&tree, &counts),
-        width: width_of(&tree),
-    };
-    run_network(alloc, plan, asked, trace, reported, files, input, out)
+    let plan = plan_of(&tree, &counts, &units, net);
+    run_plan(alloc, plan, asked, trace, reported, files, input, out)
 }

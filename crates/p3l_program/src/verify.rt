@@ -1,7 +1,7 @@
 // The command `verify-cert`: whether a certificate holds for a program and its costs.
 
 ghost use Rattle.std.specs.Prelude.{◌≡◌, IfOk, string_bytes};
-ghost use Rattle.p3l_program.specs.Command.{IsTextDue};
+ghost use Rattle.p3l_program.specs.Text.{IsTextDue};
 ghost use Rattle.p3l_program.specs.Stage.{verify_stages};
 ghost use Rattle.p3l_program.specs.Verify.{IsVerified, holds_line};
 ghost use Rattle.p3l_program.specs.World.{change};

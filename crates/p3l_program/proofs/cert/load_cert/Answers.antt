@@ -1,5 +1,5 @@
 use Rattle.std.proofs.Common.{◌∙◌, subst, IfErr, IfOk}
-use Rattle.p3l_program.specs.Chosen.{HasCostText}
+use Rattle.p3l_program.specs.Plan.{HasCostText}
 use Rattle.p3l_program.specs.Load.{IsCostless}
 use Rattle.p3l_program.specs.LoadCert.{IsCertless, LoadsCert}
 use Rattle.p3l_program.specs.Stage.{cert_stages}

@@ -23,8 +23,8 @@ returns-in-Ok-save-clause-due g c =
     let cert = c.in-Ok-certify.cert in
     let bytes = c.in-Ok-cert_text.certificate in
     let claims = c.in-Ok-certify.ensures.claims in
-    let same = same_change (held c.load.new.files) (held c.args.files.now) (held end) (faults c.load.new.files) (faults c.args.files.now) (faults end) c.load.ensures.stays c.in-Ok.ensures.calm in
-    let written = subst (λ b. SaveCause (change held faults c.load.new.files end) c.args.name b (Ok tt)) c.as_slice.ensures c.in-Ok-save.ensures.by in
+    let same = same_change (held c.allot.new.files) (held c.args.files.now) (held end) (faults c.allot.new.files) (faults c.args.files.now) (faults end) c.allot.ensures.stays c.in-Ok.ensures.calm in
+    let written = subst (λ b. SaveCause (change held faults c.allot.new.files end) c.args.name b (Ok tt)) c.as_slice.ensures c.in-Ok-save.ensures.by in
     let save = subst (λ f. SaveCause f c.args.name bytes (Ok tt)) same written in
     saving_due files out (build_stages c.args.build) (IsExplained (held c.args.files.now) c.args.build) c.args.name (IsCertificate (held c.args.files.now) c.args.build) text bytes
     (loaded_passes c.args.build loads.r loaded files loads.is)
@@ -46,8 +46,8 @@ returns-clause-due g c =
     let bytes = c.in-Ok-cert_text.certificate in
     let claims = c.in-Ok-certify.ensures.claims in
     let v = c.in-Err-save.verdict in
-    let same = same_change (held c.load.new.files) (held c.args.files.now) (held end) (faults c.load.new.files) (faults c.args.files.now) (faults end) c.load.ensures.stays c.in-Ok.ensures.calm in
-    let written = subst (λ b. SaveCause (change held faults c.load.new.files end) c.args.name b (Err v)) c.as_slice.ensures c.in-Err-save.ensures.by in
+    let same = same_change (held c.allot.new.files) (held c.args.files.now) (held end) (faults c.allot.new.files) (faults c.args.files.now) (faults end) c.allot.ensures.stays c.in-Ok.ensures.calm in
+    let written = subst (λ b. SaveCause (change held faults c.allot.new.files end) c.args.name b (Err v)) c.as_slice.ensures c.in-Err-save.ensures.by in
     saving_failed files out (build_stages c.args.build) (IsExplained (held c.args.files.now) c.args.build) c.args.name (IsCertificate (held c.args.files.now) c.args.build) text bytes
     (loaded_passes c.args.build loads.r loaded files loads.is)
     (explained c.args.build loads.r loaded (held c.args.files.now) text loads.is c.in-Ok-allocation_text.ensures)

@@ -18,9 +18,9 @@ returns-in-Ok-save-clause-due g c =
     let end = c.save.new.files in
     let files = change held faults c.args.files.now end in
     let bytes = c.in-Ok-image_text.image in
-    let same = same_change (held c.load.new.files) (held c.args.files.now) (held end) (faults c.load.new.files) (faults c.args.files.now) (faults end) c.load.ensures.stays c.in-Ok.ensures.calm in
+    let same = same_change (held c.allot.new.files) (held c.args.files.now) (held end) (faults c.allot.new.files) (faults c.args.files.now) (faults end) c.allot.ensures.stays c.in-Ok.ensures.calm in
     let text = subst (λ codes. IsImageText (image_of loaded.program.tree loaded.choice.counts.list codes c.args.build.capacity) bytes) c.as_slice.ensures c.in-Ok-image_text.ensures in
-    let written = subst (λ b. SaveCause (change held faults c.load.new.files end) c.args.name b (Ok tt)) c.as_slice-2.ensures c.in-Ok-save.ensures.by in
+    let written = subst (λ b. SaveCause (change held faults c.allot.new.files end) c.args.name b (Ok tt)) c.as_slice-2.ensures c.in-Ok-save.ensures.by in
     file_due files (build_stages c.args.build) c.args.name (IsImageOf (held c.args.files.now) c.args.build) bytes (loaded_passes c.args.build loads.r loaded files loads.is)
     (imaged (held c.args.files.now) c.args.build loads.r loaded loads.is bytes text) (subst (λ f. SaveCause f c.args.name bytes (Ok tt)) same written)
 
@@ -34,8 +34,8 @@ returns-clause-due g c =
     let files = change held faults c.args.files.now end in
     let bytes = c.in-Ok-image_text.image in
     let v = c.in-Err-save.verdict in
-    let same = same_change (held c.load.new.files) (held c.args.files.now) (held end) (faults c.load.new.files) (faults c.args.files.now) (faults end) c.load.ensures.stays c.in-Ok.ensures.calm in
+    let same = same_change (held c.allot.new.files) (held c.args.files.now) (held end) (faults c.allot.new.files) (faults c.args.files.now) (faults end) c.allot.ensures.stays c.in-Ok.ensures.calm in
     let text = subst (λ codes. IsImageText (image_of loaded.program.tree loaded.choice.counts.list codes c.args.build.capacity) bytes) c.as_slice.ensures c.in-Ok-image_text.ensures in
-    let written = subst (λ b. SaveCause (change held faults c.load.new.files end) c.args.name b (Err v)) c.as_slice-2.ensures c.in-Err-save.ensures.by in
+    let written = subst (λ b. SaveCause (change held faults c.allot.new.files end) c.args.name b (Err v)) c.as_slice-2.ensures c.in-Err-save.ensures.by in
     file_failed files (build_stages c.args.build) c.args.name (IsImageOf (held c.args.files.now) c.args.build) bytes (loaded_passes c.args.build loads.r loaded files loads.is)
     (imaged (held c.args.files.now) c.args.build loads.r loaded loads.is bytes text) v (subst (λ f. SaveCause f c.args.name bytes (Err v)) same written)

@@ -1,14 +1,15 @@
-use Rattle.std.proofs.Common.{◌≤◌, ap, Some, subst, sym, arith}
+use Rattle.std.proofs.Common.{ap, refl, Some, subst, sym, ◌∙◌, arith}
 use Rattle.p3l_skel.specs.Counts.{HasLawfulCounts}
 use Rattle.p3l_skel.specs.Lawful.{IsLawfulTree}
 use Rattle.p3l_skel.specs.Tree.{GivesOuts}
 use Rattle.p3l_compile.specs.Leaves.{AreBodies}
-use Rattle.p3l_run.specs.Network.{network}
+use Rattle.p3l_run.specs.Network.{IsSound, network}
+use Rattle.p3l_skel.specs.Numbers.{firings}
 use Rattle.p3l_units.specs.Table.{leaf}
 use Rattle.p3l_units.specs.laws.Leaf.{gives_outs}
 use Rattle.p3l_program.specs.Generated.{IsRanOn, gen_capacity}
 use Rattle.p3l_program.proofs.GenSteps.{ran_on}
-use Rattle.p3l_program.proofs.SoundSteps.{compiled_network, some_words, sound}
+use Rattle.p3l_program.proofs.SoundSteps.{compiled_network, sound}
 use Rattle.p3l_program.proofs.generated.run_text.Goals as goal
 
 pub run-requires-clause-sound : goal.run-requires-clause-sound
@@ -19,14 +20,9 @@ run-requires-clause-sound c =
     let lawful = subst (λ t. IsLawfulTree t) (sym ready.compiled.tree_is) ready.compiled.lawful in
     let fit = subst (λ t. HasLawfulCounts t counts) (sym ready.compiled.tree_is) ready.fit in
     let gives = subst (λ t. GivesOuts t (leaf c.in-Ok.units)) c.in-Ok.ensures.tree (gives_outs c.in-Ok.units) in
-    sound c.every_linked_net_is_carried.ensures tree (leaf c.in-Ok.units) counts gen_capacity c.in-Ok-link.net c.firings.result lawful fit (omega arith) gives
-    c.in-Ok-link.ensures.net c.in-Ok-link.ensures.typed c.firings.ensures.number
-
-pub run-requires-clause-wide : goal.run-requires-clause-wide
-run-requires-clause-wide c =
-    let compiled = c.requires.ready.compiled in
-    let lawful = subst (λ t. IsLawfulTree t) (sym compiled.tree_is) compiled.lawful in
-    subst (λ n. 1 ≤ n) (sym c.width_of.ensures) (some_words c.args.loaded.program.tree lawful)
+    subst IsSound (sym c.plan_of-plan.ensures.network)
+    (sound c.every_linked_net_is_carried.ensures tree (leaf c.in-Ok.units) counts gen_capacity c.in-Ok-link.net (firings tree counts) lawful fit (omega arith) gives
+    c.in-Ok-link.ensures.net c.in-Ok-link.ensures.typed refl)
 
 pub returns-in-Ok-run-clause-ran : goal.returns-in-Ok-run-clause-ran
 returns-in-Ok-run-clause-ran c = λ r compiled.
@@ -34,9 +30,12 @@ returns-in-Ok-run-clause-ran c = λ r compiled.
     let counts = c.args.loaded.choice.counts.list in
     let s = c.schedule_of.result in
     let ran = c.in-Ok-run.ran in
-    let here = network tree (leaf c.in-Ok.units) c.in-Ok-link.net c.firings.result in
+    let plan = c.plan_of-plan.result in
+    let here = network plan.tree.now (leaf plan.units.now) plan.net plan.firings in
     let bodies = subst (λ t. AreBodies t r.seqs) (sym compiled.tree_is) compiled.bodies in
-    let same = compiled_network r tree (leaf c.in-Ok.units) c.in-Ok-link.net c.firings.result counts gen_capacity compiled.tree_is (c.in-Ok.ensures.leaf r.seqs bodies compiled.codes)
-    c.in-Ok-link.ensures.net c.firings.ensures.number in
+    let same =
+        c.plan_of-plan.ensures.network
+        ∙ compiled_network r tree (leaf c.in-Ok.units) c.in-Ok-link.net (firings tree counts) counts gen_capacity compiled.tree_is (c.in-Ok.ensures.leaf r.seqs bodies compiled.codes)
+        c.in-Ok-link.ensures.net refl in
     let on : IsRanOn here s c.args.text ran.finish ran.stats ran.sum = ran_on here s c.args.text _ _ _ _ ran (ap Some c.new-input.ensures) c.requires.short c.in-Ok-run.ensures.ends in
     record { s = s; picked = c.schedule_of.ensures; on = subst (λ n. IsRanOn n s c.args.text ran.finish ran.stats ran.sum) same on }

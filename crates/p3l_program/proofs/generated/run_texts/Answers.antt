@@ -1,7 +1,7 @@
 use Rattle.std.proofs.Common.{refl, sym, subst, ◌∙◌}
 use Rattle.p3l_gen.specs.Texts.{costs_text, program_text}
 use Rattle.p3l_program.specs.Generated.{AreNotLoaded, IsRanUnder, IsToldOf, LoadsTexts, due_at, gen_capacity, summary_line}
-use Rattle.p3l_program.specs.Network.{network_of}
+use Rattle.p3l_program.specs.Plan.{network_of}
 use Rattle.p3l_program.specs.World.{change}
 use Rattle.p3l_program.proofs.GenSteps.{gen_refused, gen_told, generated_by, texts_pass}
 use Rattle.p3l_program.proofs.generated.run_texts.Goals as goal

@@ -1,12 +1,17 @@
-use Rattle.std.proofs.Common.{ℕ, List, Ok, Err, subst, sym}
+use Rattle.std.proofs.Common.{◌≡◌, ℕ, ◌≤◌, List, Ok, Err, Option, subst, sym}
 use Rattle.p3l_image.specs.declared.image.Image.{Image}
 use Rattle.p3l_image.specs.Image.{image_in}
 use Rattle.p3l_image.specs.Refusal.{Answers}
-use Rattle.p3l_program.specs.Image.{IsImage}
+use Rattle.p3l_io.specs.Told.{Held}
+use Rattle.p3l_load.specs.declared.loaded.Loaded.{Loaded}
+use Rattle.p3l_load.specs.Load.{IsRunnable, loaded_of}
+use Rattle.p3l_program.specs.File.{HasText}
+use Rattle.p3l_program.specs.Image.{IsImage, image_limit}
 use Rattle.p3l_program.specs.Load.{IsNotLoaded}
+use Rattle.p3l_program.specs.LoadImage.{LoadsImage}
 use Rattle.p3l_program.specs.Stage.{image_stages}
 use Rattle.p3l_program.specs.World.{change}
-use Rattle.p3l_program.proofs.ImageSteps.{not_decoded, not_run, same_image}
+use Rattle.p3l_program.proofs.ImageSteps.{image_network, not_decoded, not_run, ready, same_image}
 use Rattle.p3l_program.proofs.image.load_image.Goals as goal
 
 pub returns-in-Err-decode-clause-refused : goal.returns-in-Err-decode-clause-refused
@@ -28,18 +33,30 @@ returns-clause-refused g c =
     subst (λ v. IsNotLoaded files (image_stages c.args.name) v) (sym c.load_verdict.ensures)
     (not_run files c.args.name bytes c.in-Ok.ensures.found c.in-Ok.ensures.calm i found (same_image bytes i only) c.in-Err-load.refusal c.in-Err-load.ensures.refused)
 
-pub returns-in-Ok-load-clause-loaded : goal.returns-in-Ok-load-clause-loaded
-returns-in-Ok-load-clause-loaded g c =
-    let bytes = c.in-Ok.bytes in
-    let i = c.in-Ok-decode.image in
-    let found = subst (λ (b : List ℕ). IsImage i b) c.as_slice.ensures c.in-Ok-decode.ensures.found in
-    let only = subst (λ (b : List ℕ). (other : Image) → IsImage other b → Answers b (Ok i) (Ok other)) c.as_slice.ensures c.in-Ok-decode.ensures.only in
+-- the image that was loaded
+loads : (files : Option Held) (name bytes read : List ℕ) (i : Image) (loaded : Loaded) → HasText files image_limit name bytes → read ≡ bytes → IsImage i read →
+    ((other : Image) → IsImage other read → Answers read (Ok i) (Ok other)) → loaded ≡ loaded_of i → IsRunnable i → 1 ≤ i.cap → LoadsImage files name loaded
+loads files name bytes read i loaded has same is only loaded_is runs room =
     record {
       i = i;
-      loaded_is = c.in-Ok-load.ensures.loaded;
+      loaded_is = loaded_is;
       bytes = bytes;
-      has = c.in-Ok.ensures.found;
-      runs = record { is = found; runs = c.in-Ok-load.ensures.runs };
-      only = same_image bytes i only;
-      room = c.in-Ok-decode.ensures.some;
+      has = has;
+      runs = record { is = subst (λ (b : List ℕ). IsImage i b) same is; runs = runs };
+      only = same_image bytes i (subst (λ (b : List ℕ). (other : Image) → IsImage other b → Answers b (Ok i) (Ok other)) same only);
+      room = room;
     }
+
+pub returns-in-Ok-load-clause-network : goal.returns-in-Ok-load-clause-network
+returns-in-Ok-load-clause-network g c =
+    let held = g.F.Files.held c.args.files.now in
+    image_network c.args.name c.in-Ok-load.loaded held
+    (loads held c.args.name c.in-Ok.bytes _ c.in-Ok-decode.image c.in-Ok-load.loaded c.in-Ok.ensures.found c.as_slice.ensures c.in-Ok-decode.ensures.found
+    c.in-Ok-decode.ensures.only c.in-Ok-load.ensures.loaded c.in-Ok-load.ensures.runs c.in-Ok-decode.ensures.some)
+
+pub returns-in-Ok-load-clause-ready : goal.returns-in-Ok-load-clause-ready
+returns-in-Ok-load-clause-ready g c =
+    let held = g.F.Files.held c.args.files.now in
+    ready c.args.name c.in-Ok-load.loaded held
+    (loads held c.args.name c.in-Ok.bytes _ c.in-Ok-decode.image c.in-Ok-load.loaded c.in-Ok.ensures.found c.as_slice.ensures c.in-Ok-decode.ensures.found
+    c.in-Ok-decode.ensures.only c.in-Ok-load.ensures.loaded c.in-Ok-load.ensures.runs c.in-Ok-decode.ensures.some)

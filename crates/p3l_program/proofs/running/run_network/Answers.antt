@@ -1,24 +1,30 @@
-use Rattle.std.proofs.Common.{subst}
-use Rattle.p3l_run.specs.Network.{Network, network}
-use Rattle.p3l_run.specs.Run.{Finishes}
-use Rattle.p3l_program.specs.Run.{IsClosed}
-use Rattle.p3l_program.specs.Scheduled.{HasSchedule}
+use Rattle.std.proofs.Common.{◌≡◌, refl, subst, sym, ◌∙◌}
+use Rattle.p3l_program.specs.Run.{IsRunOf, KeepsRun}
+use Rattle.p3l_run.specs.Network.{IsSound}
+use Rattle.p3l_skel.specs.Numbers.{firings}
 use Rattle.p3l_program.specs.World.{change}
-use Rattle.p3l_program.proofs.LoadSteps.{same_change}
-use Rattle.p3l_program.proofs.RecordSteps.{closed_run}
+use Rattle.p3l_program.proofs.SoundSteps.{loaded_network, loaded_sound}
 use Rattle.p3l_program.proofs.running.run_network.Goals as goal
 
-pub returns-in-Ok-run-clause-ran : goal.returns-in-Ok-run-clause-ran
-returns-in-Ok-run-clause-ran g c =
-    let n : Network = network c.args.plan.tree.now (g.U.Units.leaf c.args.plan.units.now) c.args.plan.net c.args.plan.firings in
-    let held = g.F.Files.held in
-    let faults = g.F.Files.faults in
-    let end = c.close.new.files in
-    let files = change held faults c.args.files.now end in
-    let input = change g.S.Source.rest g.S.Source.faults c.args.input.now c.run.new.input in
-    let out = change g.K.Sink.taken g.K.Sink.faults c.args.out.now c.run.new.out in
-    let same = same_change (held c.load_schedule.new.files) (held c.args.files.now) (held end) (faults c.load_schedule.new.files) (faults c.args.files.now) (faults end) c.load_schedule.ensures.stays c.in-Ok.ensures.calm in
-    let closed = subst (λ f. IsClosed f c.in-Ok-run.ran c.args.trace c.args.reported c.close.result) same c.close.ensures in
-    let ends = subst (λ k. Finishes n c.in-Ok.schedule k input.old input.new input.before input.now out.old out.new c.in-Ok-run.ran) c.keeping_for-keeping.ensures c.in-Ok-run.ensures.ends in
-    let asked = subst (λ k. HasSchedule (held c.args.files.now) k c.args.asked c.in-Ok.schedule) c.len-count.ensures c.in-Ok.ensures.asked in
-    closed_run n c.in-Ok.schedule files input out c.args.asked c.in-Ok-run.ran asked c.in-Ok-run.ensures.output c.args.trace c.args.reported ends c.close.result closed
+pub run_plan-requires-clause-sound : goal.run_plan-requires-clause-sound
+run_plan-requires-clause-sound g c =
+    let bound = firings c.args.loaded.tree c.args.loaded.counts.list in
+    subst IsSound (sym c.plan_of-plan.ensures.network) (loaded_sound c.args.loaded c.requires.ready c.in-Ok.units c.in-Ok.ensures bound refl c.every_linked_net_is_carried.ensures)
+
+pub returns-clause-ran : goal.returns-clause-ran
+returns-clause-ran g c =
+    let files = change g.F.Files.held g.F.Files.faults c.args.files.now c.run_plan.new.files in
+    let input = change g.S.Source.rest g.S.Source.faults c.args.input.now c.run_plan.new.input in
+    let out = change g.K.Sink.taken g.K.Sink.faults c.args.out.now c.run_plan.new.out in
+    let bound = firings c.args.loaded.tree c.args.loaded.counts.list in
+    let same = c.plan_of-plan.ensures.network ∙ loaded_network c.args.loaded c.requires.ready c.in-Ok.units c.in-Ok.ensures bound refl in
+    subst (λ n. IsRunOf n files input out c.args.asked c.args.trace c.args.reported c.run_plan.result) same c.run_plan.ensures.ran
+
+pub returns-clause-kept : goal.returns-clause-kept
+returns-clause-kept g c =
+    let files = change g.F.Files.held g.F.Files.faults c.args.files.now c.run_plan.new.files in
+    let input = change g.S.Source.rest g.S.Source.faults c.args.input.now c.run_plan.new.input in
+    let out = change g.K.Sink.taken g.K.Sink.faults c.args.out.now c.run_plan.new.out in
+    let bound = firings c.args.loaded.tree c.args.loaded.counts.list in
+    let same = c.plan_of-plan.ensures.network ∙ loaded_network c.args.loaded c.requires.ready c.in-Ok.units c.in-Ok.ensures bound refl in
+    subst (λ n. KeepsRun n files input out c.args.asked c.args.trace c.run_plan.result) same c.run_plan.ensures.kept

@@ -1,64 +1,114 @@
 use Rattle.std.proofs.Common.{refl, rules, subst}
 use Rattle.p3l_opts.specs.declared.command.Command.TheVariants as command
 use Rattle.p3l_opts.specs.Command.{Spells, texts_of}
+use Rattle.p3l_program.specs.Command.{work_of}
 use Rattle.p3l_program.specs.World.{change}
-use Rattle.p3l_program.proofs.DueSteps.{certify_asked, check_asked, compile_asked, explain_asked, fmt_asked, gen_asked, verify_asked}
+use Rattle.p3l_program.proofs.DueSteps.{check_asked, file_asked, gen_asked, run_asked, saving_asked, text_asked}
 use Rattle.p3l_program.proofs.GenSteps.{items_few}
 use Rattle.p3l_program.proofs.top.perform.Goals as goal
 
 pub returns-in-Ok-Check : goal.returns-in-Ok-Check
+unfolding work_of
 returns-in-Ok-Check g c =
-    let spelled : Spells (texts_of c.args.words.now) (command.Check c.in-Ok-Check.name) = search (rules, c.in-Ok-Check.ensures.spelled) in record {
+    let asked = c.in-Ok-Check in
+    let spelled : Spells (texts_of c.args.words.now) (command.Check asked.name) = search (rules, asked.ensures.spelled) in record {
       due =
-          check_asked (texts_of c.args.words.now) (change g.F.Files.held g.F.Files.faults c.args.files.now c.check.new.files) (change g.K.Sink.taken g.K.Sink.faults c.args.out.now c.check.new.out)
-          (g.S.Source.rest c.args.input.now) (g.S.Source.faults c.args.input.now) c.check.result c.in-Ok-Check.name spelled c.check.ensures.due c.check.ensures.stays;
+          text_asked (texts_of c.args.words.now) _ spelled (change g.F.Files.held g.F.Files.faults c.args.files.now c.check.new.files)
+          (change g.K.Sink.taken g.K.Sink.faults c.args.out.now c.check.new.out) (g.S.Source.rest c.args.input.now) (g.S.Source.faults c.args.input.now)
+          c.check.result _ _ refl c.check.ensures.due c.check.ensures.stays;
     }
 
 pub returns-in-Ok-Fmt : goal.returns-in-Ok-Fmt
+unfolding work_of
 returns-in-Ok-Fmt g c =
-    let spelled : Spells (texts_of c.args.words.now) (command.Fmt c.in-Ok-Fmt.name) = search (rules, c.in-Ok-Fmt.ensures.spelled) in record {
+    let asked = c.in-Ok-Fmt in
+    let spelled : Spells (texts_of c.args.words.now) (command.Fmt asked.name) = search (rules, asked.ensures.spelled) in record {
       due =
-          fmt_asked (texts_of c.args.words.now) (change g.F.Files.held g.F.Files.faults c.args.files.now c.fmt.new.files) (change g.K.Sink.taken g.K.Sink.faults c.args.out.now c.fmt.new.out)
-          (g.S.Source.rest c.args.input.now) (g.S.Source.faults c.args.input.now) c.fmt.result c.in-Ok-Fmt.name spelled c.fmt.ensures.due c.fmt.ensures.stays;
+          text_asked (texts_of c.args.words.now) _ spelled (change g.F.Files.held g.F.Files.faults c.args.files.now c.fmt.new.files)
+          (change g.K.Sink.taken g.K.Sink.faults c.args.out.now c.fmt.new.out) (g.S.Source.rest c.args.input.now) (g.S.Source.faults c.args.input.now)
+          c.fmt.result _ _ refl c.fmt.ensures.due c.fmt.ensures.stays;
     }
 
 pub returns-in-None : goal.returns-in-None
+unfolding work_of
 returns-in-None g c =
     let words = texts_of c.args.words.now in
     let asked = subst (λ k. Spells words k) c.in-Ok-Explain.field-0-is c.in-Ok-Explain.ensures.spelled in
     let spelled = subst (λ cert. Spells words (command.Explain c.in-Ok-Explain.build cert)) c.in-None.is asked in record {
       due =
-          explain_asked words (change g.F.Files.held g.F.Files.faults c.args.files.now c.explain.new.files) (change g.K.Sink.taken g.K.Sink.faults c.args.out.now c.explain.new.out)
-          (g.S.Source.rest c.args.input.now) (g.S.Source.faults c.args.input.now) c.explain.result c.in-Ok-Explain.build spelled c.explain.ensures.due c.explain.ensures.stays;
+          text_asked words _ spelled (change g.F.Files.held g.F.Files.faults c.args.files.now c.explain.new.files)
+          (change g.K.Sink.taken g.K.Sink.faults c.args.out.now c.explain.new.out) (g.S.Source.rest c.args.input.now) (g.S.Source.faults c.args.input.now)
+          c.explain.result _ _ refl c.explain.ensures.due c.explain.ensures.stays;
     }
 
 pub returns-in-Some : goal.returns-in-Some
+unfolding work_of
 returns-in-Some g c =
     let words = texts_of c.args.words.now in
     let asked = subst (λ k. Spells words k) c.in-Ok-Explain.field-0-is c.in-Ok-Explain.ensures.spelled in
     let spelled = subst (λ cert. Spells words (command.Explain c.in-Ok-Explain.build cert)) c.in-Some.is asked in record {
       due =
-          certify_asked words (change g.F.Files.held g.F.Files.faults c.args.files.now c.certify.new.files) (change g.K.Sink.taken g.K.Sink.faults c.args.out.now c.certify.new.out)
-          (g.S.Source.rest c.args.input.now) (g.S.Source.faults c.args.input.now) c.certify.result c.in-Ok-Explain.build c.in-Some.name spelled c.certify.ensures.due c.certify.ensures.kept;
+          saving_asked words _ spelled (change g.F.Files.held g.F.Files.faults c.args.files.now c.certify.new.files)
+          (change g.K.Sink.taken g.K.Sink.faults c.args.out.now c.certify.new.out) (g.S.Source.rest c.args.input.now) (g.S.Source.faults c.args.input.now)
+          c.certify.result _ _ _ _ refl c.certify.ensures.due c.certify.ensures.kept;
     }
 
 pub returns-in-Ok-Compile : goal.returns-in-Ok-Compile
+unfolding work_of
 returns-in-Ok-Compile g c =
-    let words = texts_of c.args.words.now in
-    let spelled : Spells words (command.Compile c.in-Ok-Compile.build c.in-Ok-Compile.name) = search (rules, c.in-Ok-Compile.ensures.spelled) in record {
+    let asked = c.in-Ok-Compile in
+    let spelled : Spells (texts_of c.args.words.now) (command.Compile asked.build asked.name) = search (rules, asked.ensures.spelled) in record {
       due =
-          compile_asked words (change g.F.Files.held g.F.Files.faults c.args.files.now c.compile.new.files) (change g.K.Sink.taken g.K.Sink.faults c.args.out.now c.args.out.now)
-          (g.S.Source.rest c.args.input.now) (g.S.Source.faults c.args.input.now) c.compile.result c.in-Ok-Compile.build c.in-Ok-Compile.name spelled (record { told = refl; calm = refl })
-          c.compile.ensures.due c.compile.ensures.kept;
+          file_asked (texts_of c.args.words.now) _ spelled (change g.F.Files.held g.F.Files.faults c.args.files.now c.compile.new.files)
+          (change g.K.Sink.taken g.K.Sink.faults c.args.out.now c.args.out.now) (g.S.Source.rest c.args.input.now) (g.S.Source.faults c.args.input.now)
+          c.compile.result _ _ _ refl (record { told = refl; calm = refl }) c.compile.ensures.due c.compile.ensures.kept;
+    }
+
+pub returns-in-Ok-Run : goal.returns-in-Ok-Run
+unfolding work_of
+returns-in-Ok-Run g c =
+    let asked = c.in-Ok-Run in
+    let spelled : Spells (texts_of c.args.words.now) (command.Run asked.build asked.schedule asked.trace asked.reported) = search (rules, asked.ensures.spelled) in record {
+      due =
+          run_asked (texts_of c.args.words.now) _ spelled (change g.F.Files.held g.F.Files.faults c.args.files.now c.run.new.files)
+          (change g.S.Source.rest g.S.Source.faults c.args.input.now c.run.new.input)
+          (change g.K.Sink.taken g.K.Sink.faults c.args.out.now c.run.new.out)
+          c.run.result _ refl c.run.ensures.due c.run.ensures.kept c.run.ensures.over;
     }
 
 pub returns-in-Ok-VerifyCert : goal.returns-in-Ok-VerifyCert
+unfolding work_of
 returns-in-Ok-VerifyCert g c =
     let asked = c.in-Ok-VerifyCert in
     let spelled : Spells (texts_of c.args.words.now) (command.VerifyCert asked.program asked.cert asked.costs) = search (rules, asked.ensures.spelled) in record {
       due =
-          verify_asked (texts_of c.args.words.now) (change g.F.Files.held g.F.Files.faults c.args.files.now c.verify_cert.new.files) (change g.K.Sink.taken g.K.Sink.faults c.args.out.now c.verify_cert.new.out)
-          (g.S.Source.rest c.args.input.now) (g.S.Source.faults c.args.input.now) c.verify_cert.result asked.program asked.cert asked.costs spelled c.verify_cert.ensures.due c.verify_cert.ensures.stays;
+          text_asked (texts_of c.args.words.now) _ spelled (change g.F.Files.held g.F.Files.faults c.args.files.now c.verify_cert.new.files)
+          (change g.K.Sink.taken g.K.Sink.faults c.args.out.now c.verify_cert.new.out) (g.S.Source.rest c.args.input.now) (g.S.Source.faults c.args.input.now)
+          c.verify_cert.result _ _ refl c.verify_cert.ensures.due c.verify_cert.ensures.stays;
+    }
+
+pub returns-in-Ok-Exec : goal.returns-in-Ok-Exec
+unfolding work_of
+returns-in-Ok-Exec g c =
+    let asked = c.in-Ok-Exec in
+    let spelled : Spells (texts_of c.args.words.now) (command.Exec asked.name asked.schedule asked.trace asked.reported) = search (rules, asked.ensures.spelled) in record {
+      due =
+          run_asked (texts_of c.args.words.now) _ spelled (change g.F.Files.held g.F.Files.faults c.args.files.now c.exec.new.files)
+          (change g.S.Source.rest g.S.Source.faults c.args.input.now c.exec.new.input)
+          (change g.K.Sink.taken g.K.Sink.faults c.args.out.now c.exec.new.out)
+          c.exec.result _ refl c.exec.ensures.due c.exec.ensures.kept c.exec.ensures.over;
+    }
+
+pub returns-in-Ok-CheckTrace : goal.returns-in-Ok-CheckTrace
+unfolding work_of
+returns-in-Ok-CheckTrace g c =
+    let asked = c.in-Ok-CheckTrace in
+    let spelled : Spells (texts_of c.args.words.now) (command.CheckTrace asked.build asked.name) = search (rules, asked.ensures.spelled) in record {
+      due =
+          check_asked (texts_of c.args.words.now) _ spelled (change g.F.Files.held g.F.Files.faults c.args.files.now c.check_trace.new.files)
+          (change g.S.Source.rest g.S.Source.faults c.args.input.now c.check_trace.new.input)
+          (change g.K.Sink.taken g.K.Sink.faults c.args.out.now c.check_trace.new.out)
+          c.check_trace.result _ _ refl c.check_trace.ensures.due c.check_trace.ensures.stays;
     }
 
 pub run_generated-requires-clause-items : goal.run_generated-requires-clause-items
@@ -68,10 +118,12 @@ run_generated-requires-clause-items g c =
     items_few _ asked.items spelled.values.items_are
 
 pub returns-in-Ok-Gen : goal.returns-in-Ok-Gen
+unfolding work_of
 returns-in-Ok-Gen g c =
     let asked = c.in-Ok-Gen in
     let spelled : Spells (texts_of c.args.words.now) (command.Gen asked.number asked.processors asked.items asked.schedule asked.prefix) = search (rules, asked.ensures.spelled) in record {
       due =
-          gen_asked (texts_of c.args.words.now) (change g.F.Files.held g.F.Files.faults c.args.files.now c.run_generated.new.files) (change g.K.Sink.taken g.K.Sink.faults c.args.out.now c.run_generated.new.out)
-          (g.S.Source.rest c.args.input.now) (g.S.Source.faults c.args.input.now) c.run_generated.result asked.number asked.processors asked.items asked.schedule asked.prefix spelled c.run_generated.ensures.due;
+          gen_asked (texts_of c.args.words.now) _ spelled (change g.F.Files.held g.F.Files.faults c.args.files.now c.run_generated.new.files)
+          (change g.K.Sink.taken g.K.Sink.faults c.args.out.now c.run_generated.new.out) (g.S.Source.rest c.args.input.now) (g.S.Source.faults c.args.input.now)
+          c.run_generated.result _ refl c.run_generated.ensures.due;
     }

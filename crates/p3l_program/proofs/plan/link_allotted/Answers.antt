@@ -1,5 +1,5 @@
 use Rattle.p3l_program.proofs.SoundSteps.{linked_network, linked_ready}
-use Rattle.p3l_program.proofs.linked.linked.Goals as goal
+use Rattle.p3l_program.proofs.plan.link_allotted.Goals as goal
 
 pub returns : goal.returns
 returns c = record {

@@ -1,6 +1,6 @@
 use Rattle.std.proofs.Common.{Ok, Some, subst}
 use Rattle.p3l_cost.specs.File.{Says}
-use Rattle.p3l_program.proofs.costs.costs_in.Goals as goal
+use Rattle.p3l_program.proofs.plan.costs_in.Goals as goal
 
 pub returns-in-Ok-read_costs-clause-loaded : goal.returns-in-Ok-read_costs-clause-loaded
 returns-in-Ok-read_costs-clause-loaded g c = record {

@@ -1,11 +1,11 @@
 use Rattle.std.proofs.Common.{[], ◌∷◌, subst, ◌∙◌}
 use Rattle.p3l_alloc.specs.Chosen.{IsRefused}
-use Rattle.p3l_program.specs.Chosen.{HasCostText}
+use Rattle.p3l_program.specs.Plan.{HasCostText}
 use Rattle.p3l_program.specs.Load.{IsCostless}
 use Rattle.p3l_program.specs.Stage.{fitting}
 use Rattle.p3l_program.specs.World.{change}
 use Rattle.p3l_program.proofs.LoadSteps.{costless, same_change, too_few}
-use Rattle.p3l_program.proofs.load.load.Goals as goal
+use Rattle.p3l_program.proofs.plan.allot.Goals as goal
 
 pub returns-in-Err-load_costs-clause-refused : goal.returns-in-Err-load_costs-clause-refused
 returns-in-Err-load_costs-clause-refused g c =

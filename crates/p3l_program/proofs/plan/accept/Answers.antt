@@ -6,7 +6,7 @@ use Rattle.p3l_body.specs.Seq.{seq_tree}
 use Rattle.p3l_compile.specs.Condition.{IsCompilable}
 use Rattle.p3l_compile.specs.Leaves.{AreCodes}
 use Rattle.p3l_program.proofs.AcceptSteps.{bodies, kept, not_kept, not_read}
-use Rattle.p3l_program.proofs.accept.accept.Goals as goal
+use Rattle.p3l_program.proofs.plan.accept.Goals as goal
 
 pub returns-in_err-program-clause-refused : goal.returns-in_err-program-clause-refused
 returns-in_err-program-clause-refused c =

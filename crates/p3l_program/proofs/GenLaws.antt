@@ -1,0 +1,72 @@
+-- What the answers of `gen` rest on.
+use Rattle.std.proofs.Common.{◌≡◌, ◌≢◌, ℕ, List, [], ◌∷◌, Option, Some, None, refl, sym, ap, subst, ◌∙◌, arith, append-nil}
+use Rattle.p3l_gen.specs.Texts.{costs_text, program_text, stream_text}
+use Rattle.p3l_report.proofs.Statuses as statuses
+use Rattle.p3l_report.specs.declared.stats.Stats.{Stats}
+use Rattle.p3l_report.specs.declared.verdict.Finish.{Finish}
+use Rattle.p3l_report.specs.declared.verdict.Finish.TheVariants as finish
+use Rattle.p3l_report.specs.Status as status
+use Rattle.p3l_report.specs.Verdict.{finish_status}
+use Rattle.p3l_stream.specs.Items.{items_of}
+use Rattle.p3l_run.specs.Network.{course_of, width_of}
+use Rattle.p3l_program.specs.Generated.{EndsGen, Gen, GensWhole, IsGenerated, gen_behavior, gen_capacity, saves_of, saves_with}
+use Rattle.p3l_program.specs.Plan.{network_of}
+use Rattle.p3l_program.specs.Saved.{names_of}
+use Rattle.p3l_program.specs.Stage.{Stage, readable}
+use Rattle.p3l_program.specs.World.{World}
+use Rattle.p3l_program.proofs.EndSteps.{IsStream, end_is, put_told, stream_is}
+use Rattle.p3l_program.proofs.Lawful.{Lawful}
+use Rattle.p3l_program.proofs.SeenSteps.{stream_end, text_ends}
+
+-- a run of what is generated has no other end than a run's
+gen_stream : (g : Gen) (f : Finish) (text : List ℕ) (k : ℕ) → IsGenerated g f text → finish_status f ≡ k → (k ≡ status.stopped → ⊥) → (k ≡ status.trap → ⊥) → IsStream f k
+gen_stream g f text k is h stopped trap =
+    let n = network_of is.r is.counts gen_capacity in
+    let seen = items_of (width_of n) (stream_text g.number g.items) in
+    let other = end_is n (course_of n is.s seen.items) seen.ending f is.ran.ends in
+    stream_is f k h other.0 other.1 stopped trap
+
+-- and its items don't end with a fault of reading
+gen_read : (g : Gen) (f : Finish) (text : List ℕ) → IsGenerated g f text → finish_status f ≡ status.read → ⊥
+gen_read g f text is h =
+    let st = gen_stream g f text status.read is h (λ e. absurd (omega arith)) (λ e. absurd (omega arith)) in
+    let n = network_of is.r is.counts gen_capacity in
+    let text = stream_text g.number g.items in
+    let seen = items_of (width_of n) text in
+    text_ends (width_of n) text (stream_end n (course_of n is.s seen.items) seen.ending st.e f is.ran.ends st.finish_is ∙ statuses.read_is st.e st.status_is)
+
+-- one of status 0 is whole
+gen_whole : (w : World) (g : Gen) (rest taken : List ℕ) (f : Finish) (stats : Option Stats) → w.input.old ≡ Some rest → w.out.old ≡ Some taken → finish_status f ≡ status.done → EndsGen w g f stats → GensWhole w g rest taken
+gen_whole w g rest taken f stats input out h e =
+    let st = gen_stream g f e.text status.done e.is h (λ z. absurd (omega arith)) (λ z. absurd (omega arith)) in
+    record {
+      text = e.text;
+      is = subst (λ k. IsGenerated g k e.text) (st.finish_is ∙ ap finish.Stream (statuses.done_is st.e st.status_is)) e.is;
+      rest_stays = e.input.told ∙ input;
+      taken_is = put_told w.out.old w.out.new taken e.text out e.put;
+      saved = e.saved;
+    }
+
+-- texts are saved where a name is given for them
+saves_none : (prefix : Option (List ℕ)) (program costs stream : List ℕ) → names_of (saves_with prefix program costs stream) ≡ [] → saves_with prefix program costs stream ≡ []
+saves_none None program costs stream none = refl
+saves_none (Some prefix) program costs stream none = absurd cc
+
+pub gen_lawful : (g : Gen) → Lawful (gen_behavior g)
+gen_lawful g = record {
+  begun = λ w f stats e. record {
+    text = e.text;
+    is = (f, e.is);
+    begun = record { written = e.text; more = []; put = e.put; text_is = append-nil e.text };
+    input = e.input;
+  };
+  whole = λ w rest taken f stats input out h e. gen_whole w g rest taken f stats input out h e;
+  status_due = λ w rest f stats input calm e. record { f = f; text = e.text; is = e.is; status_is = refl };
+  read = λ w f stats e h. absurd (gen_read g f e.text e.is h);
+  calm = λ w f stats e h. e.input.calm;
+  writer = λ w h. absurd h;
+  first_written = λ none. saves_none g.prefix (program_text g.number) costs_text (stream_text g.number g.items) none;
+  reads_first = λ limit name after is. absurd cc;
+  touches = λ w some. tt;
+  ran = λ w run f stats is e. absurd cc;
+}

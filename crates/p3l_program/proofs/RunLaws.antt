@@ -1,0 +1,144 @@
+-- What the answers of commands rest on that run a network.
+use Rattle.std.proofs.Common.{◌≡◌, ◌≢◌, ℕ, ◌*◌, List, [], ◌∷◌, ◌++◌, Option, Some, None, refl, sym, ap, subst, ◌∙◌, arith, append-nil, Bool}
+use Rattle.std.specs.Option.{option_to_list}
+use Rattle.p3l_io.specs.Causes.{Rose}
+use Rattle.p3l_io.specs.Told.{Held}
+use Rattle.p3l_opts.specs.declared.command.Sched.{Sched}
+use Rattle.p3l_report.proofs.Statuses as statuses
+use Rattle.p3l_report.specs.declared.stats.Stats.{Stats}
+use Rattle.p3l_report.specs.declared.verdict.Finish.{Finish}
+use Rattle.p3l_report.specs.declared.verdict.Finish.TheVariants as finish
+use Rattle.p3l_report.specs.Status as status
+use Rattle.p3l_report.specs.Verdict.{ending_status, finish_status}
+use Rattle.p3l_stream.specs.declared.items.Ending.{Ending}
+use Rattle.p3l_stream.specs.declared.items.Ending.TheVariants as ending
+use Rattle.p3l_stream.specs.Given.{Closes, GivenCause, ended_by as items_ended}
+use Rattle.p3l_stream.specs.Items.{items_of}
+use Rattle.p3l_stream.specs.Text.{text_of}
+use Rattle.p3l_sched.specs.declared.schedule.Schedule.{Schedule}
+use Rattle.p3l_trace.specs.declared.trace.Traced.{Traced}
+use Rattle.p3l_run.proofs.RunSteps.{nothing_comes}
+use Rattle.p3l_run.specs.declared.keeping.Keeping.{Keeping}
+use Rattle.p3l_run.specs.declared.run.Ran.{Ran}
+use Rattle.p3l_run.specs.Feed.{closed_so}
+use Rattle.p3l_run.specs.Network.{Network, course_of, meaning_of, width_of}
+use Rattle.p3l_run.specs.Run.{Finishes, MayEnd}
+use Rattle.p3l_run.specs.Write.{HasPut}
+use Rattle.p3l_program.specs.Origin.{Origin, Running}
+use Rattle.p3l_program.specs.Recorded.{IsRecorded, IsRecordOf}
+use Rattle.p3l_program.specs.Run.{Emits, EndsRun, RunsWhole, UnsavedRun, run_behavior}
+use Rattle.p3l_program.specs.Stage.{Stage, readable, run_stages}
+use Rattle.p3l_program.specs.World.{Change, World}
+use Rattle.p3l_program.proofs.EndSteps.{IsStream, end_is, ended_told, put_told, stream_is}
+use Rattle.p3l_program.proofs.Lawful.{Lawful}
+use Rattle.p3l_program.proofs.RunSteps.{finishes_starts}
+use Rattle.p3l_program.proofs.SeenSteps.{seen_status, still_of}
+
+module _ (n : Network) (s : Schedule) (keeping : Keeping) (rest left : Option (List ℕ)) (before now : ℕ) (taken taken' : Option (List ℕ)) (end : Ran) (f : Finish) (is : f ≡ end.finish)
+    (ran : Finishes n s keeping rest left before now taken taken' end) where
+  not_other : (f ≡ finish.Done → ⊥) × ((line : ℕ) → f ≡ finish.Differs line → ⊥)
+  not_other = end_is n (course_of n s (ran.items ++ [])) (some_ending ran.close) f (is ∙ ran.ends [] (nothing_comes n ran.close) (some_ending ran.close) (may_end ran.close))
+    where
+      some_ending : Option Ending → Ending
+      some_ending None = ending.End
+      some_ending (Some e) = e
+
+      may_end : (close : Option Ending) → MayEnd close (some_ending close)
+      may_end None = tt
+      may_end (Some e) = refl
+
+  run_stream : (k : ℕ) → finish_status f ≡ k → (k ≡ status.stopped → ⊥) → (k ≡ status.trap → ⊥) → IsStream f k
+  run_stream k h stopped trap = stream_is f k h not_other.0 not_other.1 stopped trap
+
+  closed_by : (k : ℕ) → (st : IsStream f k) → ran.close ≡ Some st.e
+  closed_by k st = ran.closed st.e (sym is ∙ st.finish_is)
+
+  run_cause : (k : ℕ) → (st : IsStream f k) → GivenCause (closed_so (Some st.e)) before now
+  run_cause k st = subst (λ c. GivenCause (closed_so c) before now) (closed_by k st) ran.gives.cause
+
+  pub run_read : finish_status f ≡ status.read → Rose before now
+  run_read h =
+      let st = run_stream status.read h (λ e. absurd (omega arith)) (λ e. absurd (omega arith)) in
+      subst (λ e. GivenCause (closed_so (Some e)) before now) (statuses.read_is st.e st.status_is) (run_cause status.read st)
+
+  run_calm : (k : ℕ) → finish_status f ≡ k → (k ≡ status.stopped → ⊥) → (k ≡ status.trap → ⊥) → (k ≡ status.read → ⊥) → now ≡ before
+  run_calm k h stopped trap read = (let st = run_stream k h stopped trap in by st.e (λ e. read (sym st.status_is ∙ ap ending_status e)) (run_cause k st))
+    where
+      by : (e : Ending) → (e ≡ ending.ReadFault → ⊥) → GivenCause (closed_so (Some e)) before now → now ≡ before
+      by ending.End other cause = cause
+      by (ending.BadWord line) other cause = cause
+      by (ending.WrongCount line had) other cause = cause
+      by (ending.OutOfRange line) other cause = cause
+      by ending.ReadFault other cause = absurd (other refl)
+      by ending.TooLong other cause = cause
+
+-- what is said of a trace in a file, by what follows of it
+recorded_so : (files : Change Held) (trace : Option (List ℕ)) (One Other : Traced → Type 0) → ((t : Traced) → One t → Other t) → IsRecorded files trace One → IsRecorded files trace Other
+recorded_so files None One Other go h = tt
+recorded_so files (Some name) One Other go h = record { t = h.t; is = go h.t h.is; fits = h.fits; saved = h.saved }
+
+-- a run of status 0 is whole
+run_whole : (w : World) (origin : Origin) (order : Sched) (trace : Option (List ℕ)) (rest taken : List ℕ) (reported : Bool) (finish : Finish) (stats : Option Stats) → w.input.old ≡ Some rest → w.out.old ≡ Some taken → finish_status finish ≡ status.done →
+    EndsRun w origin order trace reported finish stats → RunsWhole w origin order trace rest taken
+run_whole w origin order trace rest taken reported finish stats input out h e =
+    let f = e.finishes in
+    let g = f.gives in
+    let st = run_stream e.n e.s _ _ _ _ _ _ _ e.ran finish e.finish_is f status.done h (λ z. absurd (omega arith)) (λ z. absurd (omega arith)) in
+    let is_end : st.e ≡ ending.End = statuses.done_is st.e st.status_is in
+    let close : f.close ≡ Some ending.End = closed_by e.n e.s _ _ _ _ _ _ _ e.ran finish e.finish_is f status.done st ∙ ap Some is_end in
+    let closes : Closes (width_of e.n) f.stream g.bytes f.items (closed_so (Some ending.End)) = subst (λ c. Closes (width_of e.n) f.stream g.bytes f.items c) (g.closed_is ∙ ap closed_so close) g.given.closes in
+    let told = ended_told w.input.old w.input.new rest g.bytes input g.read (g.at_end closes.0) in
+    let all : items_of (width_of e.n) rest ≡ items_ended f.items ending.End = ap (items_of (width_of e.n)) (sym told.1) ∙ closes.1 in
+    let may : MayEnd f.close ending.End = subst (λ c. MayEnd c ending.End) (sym close) refl in
+    let ran = f.ran [] (nothing_comes e.n f.close) in
+    let still = still_of e.n (course_of e.n e.s (f.items ++ [])) ending.End st.e finish st.finish_is (e.finish_is ∙ f.ends [] (nothing_comes e.n f.close) ending.End may) in
+    let items : f.items ++ [] ≡ (items_of (width_of e.n) rest).items = append-nil f.items ∙ sym (ap (λ i. i.items) all) in
+    record {
+      n = e.n;
+      s = e.s;
+      has = e.has;
+      input_ended = told.0;
+      all_items = ap (λ i. i.ending) all;
+      taken_is =
+          put_told w.out.old w.out.new taken (text_of f.outcomes) out f.put
+          ∙ ap (λ o. Some (taken ++ text_of o)) (ran.whole still ∙ ap (meaning_of e.n) (append-nil f.items))
+          ∙ ap (λ i. Some (taken ++ text_of (meaning_of e.n i.items))) (sym all);
+      recorded = recorded_so w.files trace _ (IsRecordOf e.n e.s (items_of (width_of e.n) rest).items) (λ t is. subst (λ i. IsRecordOf e.n e.s i t) items (is [] (nothing_comes e.n f.close))) e.recorded;
+    }
+
+-- the text of what the network emits was written, and the trace of this run
+pub emits_of : (w : World) (origin : Origin) (order : Sched) (trace : Option (List ℕ)) (reported : Bool) (finish : Finish) (stats : Option Stats) → (e : EndsRun w origin order trace reported finish stats) → Emits w origin order trace e.ran.stats
+emits_of w origin order trace reported finish stats e = let f = e.finishes in let ran = f.ran [] (nothing_comes e.n f.close) in record {
+  n = e.n;
+  s = e.s;
+  has = e.has;
+  items = f.items ++ [];
+  put = subst (λ o. HasPut w.out.old w.out.new (text_of o)) ran.emitted f.put;
+  recorded = recorded_so w.files trace _ (IsRecordOf e.n e.s (f.items ++ [])) (λ t is. is [] (nothing_comes e.n f.close)) e.recorded;
+  bounded = ran.bounded;
+  bound_is = ap (λ s. s.bound) ran.stats_are ∙ sym (ap (λ s. s.items * e.n.firings) ran.stats_are);
+}
+
+-- a run whose trace could not be written has a file for it
+named : (w : World) (origin : Origin) (asked : Sched) (trace : Option (List ℕ)) → UnsavedRun w origin asked trace → option_to_list trace ≢ []
+named w origin asked None h none = h
+named w origin asked (Some name) h none = absurd cc
+
+pub run_lawful : (run : Running) → Lawful (run_behavior run)
+run_lawful run = record {
+  begun = λ w f stats e. record { n = e.n; s = e.s; has = e.has; starts = finishes_starts e.n e.s _ _ _ _ _ _ _ e.ran e.finishes };
+  whole = λ w rest taken f stats input out h e. run_whole w run.origin run.schedule run.trace rest taken run.reported f stats input out h e;
+  status_due = λ w rest f stats input calm e. record {
+    n = e.n;
+    s = e.s;
+    has = e.has;
+    status_is = ap finish_status e.finish_is ∙ seen_status e.n e.s rest _ _ _ _ _ _ _ e.ran input calm.input e.finishes;
+  };
+  read = λ w f stats e h. run_read e.n e.s _ _ _ _ _ _ _ e.ran f e.finish_is e.finishes h;
+  calm = λ w f stats e h. run_calm e.n e.s _ _ _ _ _ _ _ e.ran f e.finish_is e.finishes (finish_status f) refl h.1 h.2 h.3;
+  writer = λ w h. named w run.origin run.schedule run.trace h;
+  first_written = λ none. refl;
+  reads_first = λ limit name after is. refl;
+  touches = λ w some. absurd (some refl);
+  ran = λ w other f stats is e. let same : run ≡ other = cc in subst (λ (r : Running). EndsRun w r.origin r.schedule r.trace r.reported f stats) same e;
+}

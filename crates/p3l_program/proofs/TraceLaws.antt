@@ -1,0 +1,26 @@
+-- What the answers of `check-trace` rest on.
+use Rattle.std.proofs.Common.{◌≡◌, ◌≢◌, ℕ, true, List, [], ◌∷◌, Option, Some, refl, sym, ap, ◌∙◌}
+use Rattle.p3l_opts.specs.declared.command.Build.{Build}
+use Rattle.p3l_report.specs.Status as status
+use Rattle.p3l_program.specs.Trace.{check_behavior}
+use Rattle.p3l_program.proofs.EndSteps.{put_told}
+use Rattle.p3l_program.proofs.Lawful.{Lawful}
+use Rattle.p3l_program.proofs.TraceSteps.{check_calm, check_read, check_status, check_whole, ends_check}
+
+-- a status of evidence is none of an end
+no_evidence : (k : ℕ) → status.is_end k ≡ true → k ≡ status.evidence → ⊥
+no_evidence k kind is = (let z = sym (ap status.is_end is) ∙ kind in cc)
+
+pub check_lawful : (build : Build) (name : List ℕ) → Lawful (check_behavior build name)
+check_lawful build name = record {
+  begun = λ w f stats e. ends_check w build name f stats e;
+  whole = λ w rest taken f stats input out h e. check_whole w build name rest taken f stats (λ text put. put_told w.out.old w.out.new taken text out put) input h e;
+  status_due = λ w rest f stats input calm e. check_status w build name rest f stats input calm e;
+  read = λ w f stats e h. check_read w build name f stats e h;
+  calm = λ w f stats e h. check_calm w build name f stats _ e refl (λ is. no_evidence _ h.0 is) h.3;
+  writer = λ w h. absurd h;
+  first_written = λ none. refl;
+  reads_first = λ limit name after is. refl;
+  touches = λ w some. tt;
+  ran = λ w run f stats is e. absurd cc;
+}

@@ -1,0 +1,27 @@
+-- What the answers of each command rest on, by the shape of its work.
+use Rattle.std.proofs.Common.{◌≡◌, ◌≢◌, ℕ, List, [], ◌∷◌, Option, Some, refl}
+use Rattle.p3l_opts.specs.declared.command.Build.{Build}
+use Rattle.p3l_opts.specs.declared.command.Command.{Command}
+use Rattle.p3l_report.specs.declared.verdict.Finish.{Finish}
+use Rattle.p3l_report.specs.declared.stats.Stats.{Stats}
+use Rattle.p3l_report.specs.Verdict.{finish_status}
+use Rattle.p3l_program.specs.Command.{behavior_of, work_of}
+use Rattle.p3l_program.specs.Trace.{check_behavior}
+use Rattle.p3l_program.specs.Work.{Work, behavior, check_trace, run_generated, run_network, save_file, write_text}
+use Rattle.p3l_program.specs.World.{World}
+use Rattle.p3l_program.proofs.EndSteps.{put_told}
+use Rattle.p3l_program.proofs.GenLaws.{gen_lawful}
+use Rattle.p3l_program.proofs.Lawful.{Lawful}
+use Rattle.p3l_program.proofs.RunLaws.{run_lawful}
+use Rattle.p3l_program.proofs.TextLaws.{saving_lawful, text_lawful}
+use Rattle.p3l_program.proofs.TraceLaws.{check_lawful}
+
+lawful_work : (k : Work) → Lawful (behavior k)
+lawful_work (write_text stages IsText) = text_lawful stages IsText
+lawful_work (save_file stages IsText name IsBytes) = saving_lawful stages IsText name IsBytes
+lawful_work (run_network run) = run_lawful run
+lawful_work (check_trace build name) = check_lawful build name
+lawful_work (run_generated g) = gen_lawful g
+
+pub lawful : (c : Command) → Lawful (behavior_of c)
+lawful c = lawful_work (work_of c)

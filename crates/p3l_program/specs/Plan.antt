@@ -1,0 +1,198 @@
+-- The way from a text to a network: the program that it spells and that keeps all rules, its costs, the
+-- counts that are chosen for it, and the net of its tree under them.
+use Rattle.std.specs.Prelude.{◌≡◌, ℕ, List, Ok, Err, Option, ◌⊎◌, Some, None}
+use Rattle.p3l_ast.specs.declared.position.Pos.{Pos}
+use Rattle.p3l_ast.specs.declared.refusal.Fault.{Fault}
+use Rattle.p3l_ast.specs.declared.refusal.SourceRefusal.{SourceRefusal}
+use Rattle.p3l_ast.specs.declared.refusal.SourceRefusal.TheVariants as source
+use Rattle.p3l_ast.specs.Tree.{ProgramTree}
+use Rattle.p3l_grammar.specs.Grammar.{IsFirstFault, Spells}
+use Rattle.p3l_io.specs.Told.{Held}
+use Rattle.p3l_skel.specs.Lawful.{IsLawfulTree}
+use Rattle.p3l_check.specs.Resolving.{ResolvedTree, resolved}
+use Rattle.p3l_compile.specs.Leaves.{AreBodies, AreCodes, body_leaf}
+use Rattle.p3l_skel.specs.declared.tree.Tree.{Tree}
+use Rattle.p3l_cost.specs.declared.costs.Costs.{Costs}
+use Rattle.p3l_cost.specs.declared.refusal.CostRefusal.{CostRefusal}
+use Rattle.p3l_cost.specs.declared.refusal.CostRefusal.TheVariants as costs
+use Rattle.p3l_cost.specs.File.{IsRead, Says}
+use Rattle.p3l_cost.specs.Standard.{standard_costs}
+use Rattle.p3l_model.specs.Optimal.{IsChosen}
+use Rattle.p3l_alloc.specs.Chosen.{IsShort}
+use Rattle.p3l_opts.specs.declared.command.Build.{Build}
+use Rattle.p3l_report.specs.declared.cost_fault.CostFault.{CostFault}
+use Rattle.p3l_report.specs.declared.cost_fault.CostFault.TheVariants as fault
+use Rattle.p3l_skel.specs.Numbers.{firings}
+use Rattle.p3l_units.specs.Table.{leaf}
+use Rattle.p3l_image.specs.declared.image.Image.{Image}
+use Rattle.p3l_link.specs.Net.{linked_net}
+use Rattle.p3l_load.specs.declared.loaded.Loaded.{Loaded}
+use Rattle.p3l_load.specs.Load.{loaded_of}
+use Rattle.p3l_run.specs.Network.{Network, network}
+use Rattle.p3l_program.specs.declared.plan.Accepted.{Accepted}
+use Rattle.p3l_program.specs.File.{HasText, text_limit}
+use Rattle.p3l_program.specs.Image.{IsRunnableImage, image_limit}
+use Rattle.p3l_program.specs.Origin.{Origin, built, imaged}
+
+-- the text spells a program that keeps all rules, with this tree and these bodies
+pub record IsAccepted (text : List ℕ) (r : ResolvedTree) : Type 0 where
+  pub program : ProgramTree
+  pub spelled : Spells text program
+  pub keeps : resolved program ≡ Ok r
+
+-- the text spells a program that breaks a rule, the first of them at this place
+pub record BreaksRule (text : List ℕ) (fault : Fault) (pos : Pos) : Type 0 where
+  pub program : ProgramTree
+  pub spelled : Spells text program
+  pub breaks : resolved program ≡ Err (source.At fault pos)
+
+-- the text is not accepted, for this first fault
+pub record IsNotAccepted (text : List ℕ) (fault : Fault) (pos : Pos) : Type 0 where
+  pub why : IsFirstFault text fault pos ⊎ BreaksRule text fault pos
+  pub never : (r : ResolvedTree) → IsAccepted text r → ⊥
+
+-- the file of this name has such a program
+pub record HasTree (files : Option Held) (name : List ℕ) (r : ResolvedTree) : Type 0 where
+  pub text : List ℕ
+  pub has : HasText files text_limit name text
+  pub accepted : IsAccepted text r
+
+-- it has none, for this fault
+pub record HasNoTree (files : Option Held) (name : List ℕ) (fault : Fault) (pos : Pos) : Type 0 where
+  pub text : List ℕ
+  pub has : HasText files text_limit name text
+  pub refused : IsNotAccepted text fault pos
+
+-- an accepted program's tree, and the codes of its bodies
+pub record IsCompiled (r : ResolvedTree) (accepted : Accepted) : Type 0 where
+  pub tree_is : accepted.tree ≡ r.tree
+  pub lawful : IsLawfulTree r.tree
+  pub bodies : AreBodies r.tree r.seqs
+  pub codes : AreCodes r.seqs accepted.codes
+
+-- what an accepted text comes to, which it does alone
+pub record ComesTo (text : List ℕ) (r : ResolvedTree) (program : Accepted) : Type 0 where
+  pub accepted : IsAccepted text r
+  pub only : (other : ResolvedTree) → IsAccepted text other → other ≡ r
+  pub compiled : IsCompiled r program
+
+-- a text is refused for a fault, or memory was wanting
+abbrev pub IsTextRefused : List ℕ → SourceRefusal → Type 0
+IsTextRefused text (source.At fault pos) = IsNotAccepted text fault pos
+IsTextRefused text source.NoMemory = Unit {0}
+
+-- the text of costs, where a file of costs is named
+abbrev pub HasCostText : Option Held → Option (List ℕ) → Option (List ℕ) → Type 0
+HasCostText files None None = Unit {0}
+HasCostText files None (Some text) = ⊥
+HasCostText files (Some name) None = ⊥
+HasCostText files (Some name) (Some text) = HasText files text_limit name text
+
+-- the costs that a text says, and without one the standard costs
+abbrev pub AreSaid : Tree → Option (List ℕ) → Costs → Type 0
+AreSaid tree None cs = cs ≡ standard_costs tree
+AreSaid tree (Some text) cs = Says tree text (Ok cs)
+
+-- an accepted program with its costs
+pub record IsPriced (text : List ℕ) (said : Option (List ℕ)) (r : ResolvedTree) (cs : Costs) : Type 0 where
+  pub accepted : IsAccepted text r
+  pub costs : AreSaid r.tree said cs
+
+-- and with the counts that are chosen for so many processors
+pub record IsAllotted (text : List ℕ) (said : Option (List ℕ)) (processors : ℕ) (r : ResolvedTree) (cs : Costs) (counts : List ℕ) : Type 0 where
+  pub priced : IsPriced text said r cs
+  pub chosen : IsChosen r.tree cs processors counts
+
+-- how a fault of costs is told
+abbrev pub refusal_of : CostFault → CostRefusal
+refusal_of fault.NotToml = costs.NotToml
+refusal_of (fault.BadKey key) = costs.BadKey key
+refusal_of (fault.BadValue key) = costs.BadValue key
+refusal_of (fault.Missing name) = costs.Missing name
+
+-- a text says no costs of the program, for this fault
+pub record IsUnpriced (text said : List ℕ) (f : CostFault) : Type 0 where
+  pub r : ResolvedTree
+  pub accepted : IsAccepted text r
+  pub refused : IsRead r.tree said (Err (refusal_of f))
+  pub never : (other : ResolvedTree) (cs : Costs) → IsPriced text (Some said) other cs → ⊥
+
+-- no counts of the program fit so many processors, and the least number that some need
+pub record IsOverfull (text : List ℕ) (said : Option (List ℕ)) (processors need : ℕ) : Type 0 where
+  pub r : ResolvedTree
+  pub cs : Costs
+  pub priced : IsPriced text said r cs
+  pub short : IsShort r.tree processors need
+  pub never : (other : ResolvedTree) (others : Costs) (counts : List ℕ) → IsAllotted text said processors other others counts → ⊥
+
+-- the files of these names have a program and its costs
+pub record HasCosts (files : Option Held) (program : List ℕ) (costs_file : Option (List ℕ)) (r : ResolvedTree) (cs : Costs) : Type 0 where
+  pub text : List ℕ
+  pub has : HasText files text_limit program text
+  pub said : Option (List ℕ)
+  pub says : HasCostText files costs_file said
+  pub priced : IsPriced text said r cs
+
+pub record HasNoCosts (files : Option Held) (program costs_file : List ℕ) (f : CostFault) : Type 0 where
+  pub text : List ℕ
+  pub has : HasText files text_limit program text
+  pub said : List ℕ
+  pub says : HasText files text_limit costs_file said
+  pub refused : IsUnpriced text said f
+
+-- and the counts that are chosen for them
+pub record HasCounts (files : Option Held) (build : Build) (r : ResolvedTree) (cs : Costs) (counts : List ℕ) : Type 0 where
+  pub text : List ℕ
+  pub has : HasText files text_limit build.program text
+  pub said : Option (List ℕ)
+  pub says : HasCostText files build.costs said
+  pub allotted : IsAllotted text said build.processors r cs counts
+
+pub record HasTooFew (files : Option Held) (build : Build) (need : ℕ) : Type 0 where
+  pub text : List ℕ
+  pub has : HasText files text_limit build.program text
+  pub said : Option (List ℕ)
+  pub says : HasCostText files build.costs said
+  pub refused : IsOverfull text said build.processors need
+
+-- the network of an accepted program under these counts, whose channels hold so many tokens
+abbrev pub network_of : ResolvedTree → List ℕ → (capacity : ℕ) → Network
+network_of r counts capacity = network r.tree (body_leaf r.tree r.seqs) (linked_net r.tree counts capacity) (firings r.tree counts)
+
+-- the network that was loaded from an image, whose `seq` modules do what its codes do
+abbrev pub network_in : Loaded → Network
+network_in loaded = network loaded.tree (leaf (record { tree = loaded.tree; codes = loaded.codes })) loaded.net (firings loaded.tree loaded.counts.list)
+
+-- what the files that are run have: the text of a program, and of its costs where a file of costs is named; or the bytes of an image
+pub record Texts : Type 0 where
+  pub text : List ℕ
+  pub said : Option (List ℕ)
+
+abbrev pub HaveTexts : Option Held → Origin → Texts → Type 0
+HaveTexts files (built build) texts = HasText files text_limit build.program texts.text × HasCostText files build.costs texts.said
+HaveTexts files (imaged name) texts = HasText files image_limit name texts.text × (texts.said ≡ None)
+
+-- the network of an accepted program with the counts that are chosen for it
+pub record IsBuilt (build : Build) (texts : Texts) (n : Network) : Type 0 where
+  pub r : ResolvedTree
+  pub cs : Costs
+  pub counts : List ℕ
+  pub allotted : IsAllotted texts.text texts.said build.processors r cs counts
+  pub network_is : n ≡ network_of r counts build.capacity
+
+-- the network of an image that can be run
+pub record IsImaged (texts : Texts) (n : Network) : Type 0 where
+  pub i : Image
+  pub runs : IsRunnableImage i texts.text
+  pub network_is : n ≡ network_in (loaded_of i)
+
+-- the network of what is run
+abbrev pub IsNetworkOf : Origin → Texts → Network → Type 0
+IsNetworkOf (built build) texts n = IsBuilt build texts n
+IsNetworkOf (imaged name) texts n = IsImaged texts n
+
+-- the network that files and words ask for
+pub record HasNetwork (files : Option Held) (origin : Origin) (n : Network) : Type 0 where
+  pub texts : Texts
+  pub have : HaveTexts files origin texts
+  pub is : IsNetworkOf origin texts n

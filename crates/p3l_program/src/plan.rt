@@ -1,0 +1,262 @@
+// The way from a text to a network: the program that it spells, its costs, the counts that are chosen
+// for it, and the net of its tree under them. Each command takes its beginning from here.
+
+ghost use Rattle.std.specs.Prelude.{◌≡◌, ◌<◌, ◌≤◌, ◌*◌, ◌^◌, length, IfOk, IfErr, OnOk};
+ghost use Rattle.p3l_check.specs.Resolving.{ResolvedTree};
+ghost use Rattle.p3l_run.specs.Feed.{most_of_input};
+ghost use Rattle.p3l_run.specs.Network.{network};
+ghost use Rattle.p3l_skel.specs.Counts.{HasLawfulCounts};
+ghost use Rattle.p3l_skel.specs.Lawful.{IsLawfulTree};
+ghost use Rattle.p3l_skel.specs.Numbers.{firings};
+ghost use Rattle.p3l_skel.specs.Tree.{node_at};
+ghost use Rattle.p3l_program.specs.File.{text_limit};
+ghost use Rattle.p3l_program.specs.Load.{AcceptsText, IsCostless, IsNotLoaded, IsReady, Loads, LoadsCosts, LoadsNetwork, LoadsProgram, cost_verdict};
+ghost use Rattle.p3l_program.specs.LoadImage.{IsReadyImage};
+ghost use Rattle.p3l_program.specs.Origin.{built};
+ghost use Rattle.p3l_program.specs.Plan.{IsCompiled, IsTextRefused, network_in, network_of};
+ghost use Rattle.p3l_program.specs.Stage.{build_stages, program_stages};
+ghost use Rattle.p3l_program.specs.World.{change};
+
+use crate::file::{TEXT_LIMIT, find_text};
+use p3l_alloc::{AllocRefusal, Choice, choose};
+use p3l_ast::SourceRefusal;
+use p3l_base::{List, Name, NoMemory};
+use p3l_bodies::resolved_serve;
+use p3l_check::resolve;
+use p3l_code::SafeCode;
+use p3l_compile::codes_of;
+use p3l_cost::{CostRefusal, Costs, read_costs, standard};
+use p3l_firing::Net;
+use p3l_io::Files;
+use p3l_link::link;
+use p3l_load::Loaded;
+use p3l_model::firings;
+use p3l_opts::Build;
+use p3l_reader::read;
+use p3l_report::{CostFault, Refusal, Verdict};
+use p3l_run::Plan;
+use p3l_skel::{Counts, Tree, Units};
+use std::alloc::Global;
+
+/// A program that keeps all rules: its tree, and the codes of its `seq` modules in their order.
+#[derive(Drop)]
+pub struct Accepted {
+    pub tree: Tree,
+    pub codes: List<SafeCode>,
+}
+
+/// The program that a text spells, if it keeps all rules; else the first fault.
+pub fn accept(alloc: Global, text: &[u8]) -> Result<Accepted, SourceRefusal>
+    requires { length text.now ≤ text_limit }
+    ensures accepted { IfOk result (AcceptsText text.now) }
+    ensures refused { IfErr result (IsTextRefused text.now) }
+{
+    resolved_serve();
+    let program = read(alloc, text)?;
+    let resolved = resolve(alloc, &program)?;
+    let codes = codes_of(alloc, resolved.seqs.as_slice())?;
+    Ok(Accepted {
+        tree: resolved.tree,
+        codes,
+    })
+}
+
+/// The program of the file of this name, or the verdict that there is none.
+pub fn load_program<F: Files>(alloc: Global, name: Name, files: &mut F) -> Result<Accepted, Verdict>
+    ensures loaded { IfOk result (LoadsProgram (F.held files.old) name) }
+    ensures calm { OnOk result (F.faults files.new ≡ F.faults files.old) }
+    ensures refused { IfErr result (IsNotLoaded (change F.held F.faults files.old files.new) (program_stages name)) }
+    ensures stays { F.held files.new ≡ F.held files.old }
+{
+    match find_text(alloc, name, TEXT_LIMIT, files) {
+        Err(refusal) => Err(Verdict::from(refusal)),
+        Ok(text) => match accept(alloc, text.as_slice()) {
+            Ok(program) => Ok(program),
+            Err(SourceRefusal::At { fault, pos }) => {
+                Err(Verdict::Refused(Refusal::Source { fault, pos }))
+            }
+            Err(SourceRefusal::NoMemory) => Err(Verdict::NoMemory),
+        },
+    }
+}
+
+/// The verdict of costs that are refused.
+pub fn cost_verdict(refusal: CostRefusal) -> Verdict
+    ensures { result ≡ cost_verdict refusal }
+{
+    match refusal {
+        CostRefusal::NotToml => Verdict::Refused(Refusal::Costs(CostFault::NotToml)),
+        CostRefusal::BadKey(key) => Verdict::Refused(Refusal::Costs(CostFault::BadKey(key))),
+        CostRefusal::BadValue(key) => Verdict::Refused(Refusal::Costs(CostFault::BadValue(key))),
+        CostRefusal::Missing(name) => Verdict::Refused(Refusal::Costs(CostFault::Missing(name))),
+        CostRefusal::NoMemory => Verdict::NoMemory,
+    }
+}
+
+/// The costs of a tree that the file of this name says.
+fn costs_in<F: Files>(
+    alloc: Global,
+    name: Name,
+    tree: &Tree,
+    files: &mut F,
+) -> Result<Costs, Verdict>
+    requires lawful { IsLawfulTree tree.now }
+    ensures loaded { IfOk result (LoadsCosts (F.held files.old) (Some name) tree.now) }
+    ensures calm { OnOk result (F.faults files.new ≡ F.faults files.old) }
+    ensures refused { IfErr result (IsCostless (change F.held F.faults files.old files.new) (Some name) tree.now) }
+    ensures stays { F.held files.new ≡ F.held files.old }
+{
+    match find_text(alloc, name, TEXT_LIMIT, files) {
+        Err(refusal) => Err(Verdict::from(refusal)),
+        Ok(text) => match read_costs(alloc, text.as_slice(), tree) {
+            Ok(costs) => Ok(costs),
+            Err(refusal) => Err(cost_verdict(refusal)),
+        },
+    }
+}
+
+/// The costs of a tree, by the file that is named for them; without one, the standard costs.
+pub fn load_costs<F: Files>(
+    alloc: Global,
+    name: Option<Name>,
+    tree: &Tree,
+    files: &mut F,
+) -> Result<Costs, Verdict>
+    requires lawful { IsLawfulTree tree.now }
+    ensures loaded { IfOk result (LoadsCosts (F.held files.old) name tree.now) }
+    ensures calm { OnOk result (F.faults files.new ≡ F.faults files.old) }
+    ensures refused { IfErr result (IsCostless (change F.held F.faults files.old files.new) name tree.now) }
+    ensures stays { F.held files.new ≡ F.held files.old }
+{
+    match name {
+        Some(name) => costs_in(alloc, name, tree, files),
+        None => match standard(alloc, tree) {
+            Ok(costs) => Ok(costs),
+            Err(_) => Err(Verdict::NoMemory),
+        },
+    }
+}
+
+/// A program with its costs, and the counts of workers that are chosen for it.
+#[derive(Drop)]
+pub struct Allotted {
+    pub program: Accepted,
+    pub costs: Costs,
+    pub choice: Choice,
+}
+
+/// The program, its costs and the counts that are chosen, or the verdict that there are none.
+pub fn allot<F: Files>(alloc: Global, build: Build, files: &mut F) -> Result<Allotted, Verdict>
+    requires some { 1 ≤ build.processors }
+    requires few { build.processors ≤ 512 }
+    ensures loaded { IfOk result (Loads (F.held files.old) build) }
+    ensures calm { OnOk result (F.faults files.new ≡ F.faults files.old) }
+    ensures refused { IfErr result (IsNotLoaded (change F.held F.faults files.old files.new) (build_stages build)) }
+    ensures stays { F.held files.new ≡ F.held files.old }
+{
+    let processors = build.processors;
+    let program = match load_program(alloc, build.program, files) {
+        Ok(program) => program,
+        Err(verdict) => return Err(verdict),
+    };
+    let costs = match load_costs(alloc, build.costs, &program.tree, files) {
+        Ok(costs) => costs,
+        Err(verdict) => return Err(verdict),
+    };
+    match choose(alloc, &program.tree, &costs, processors) {
+        Ok(choice) => Ok(Allotted {
+            program,
+            costs,
+            choice,
+        }),
+        Err(AllocRefusal::TooFew { need }) => Err(Verdict::Refused(Refusal::TooFew { need })),
+        Err(AllocRefusal::NoMemory) => Err(Verdict::NoMemory),
+    }
+}
+
+/// What an image of a loaded program holds: its tree under the counts that are chosen, with channels
+/// of this capacity, and the codes of its bodies.
+fn link_allotted(alloc: Global, loaded: Allotted, capacity: u32) -> Result<Loaded, NoMemory>
+    requires ready { IsReady loaded }
+    requires some { 1 ≤ capacity }
+    requires few { capacity ≤ 1024 }
+    ensures ready { IfOk result IsReadyImage }
+    ensures network { IfOk result (λ linked. (r : ResolvedTree) → IsCompiled r loaded.program → network_in linked ≡ network_of r loaded.choice.counts.list capacity) }
+{
+    let Allotted {
+        program,
+        choice,
+        ..
+    } = loaded;
+    let Accepted { tree, codes } = program;
+    let counts = choice.counts;
+    let net = link(alloc, &tree, &counts, capacity)?;
+    Ok(Loaded {
+        cap: capacity,
+        tree,
+        counts,
+        codes,
+        net,
+    })
+}
+
+/// The network of the program of a file, under the counts that are chosen for it and with channels of
+/// the capacity that is asked for, or the verdict that there is none.
+pub fn load_network<F: Files>(
+    alloc: Global,
+    build: Build,
+    files: &mut F,
+) -> Result<Loaded, Verdict>
+    requires processors { (1 ≤ build.processors) × (build.processors ≤ 512) }
+    requires capacity { (1 ≤ build.capacity) × (build.capacity ≤ 1024) }
+    ensures network { IfOk result (λ loaded. LoadsNetwork (F.held files.old) (built build) (network_in loaded)) }
+    ensures ready { IfOk result IsReadyImage }
+    ensures calm { OnOk result (F.faults files.new ≡ F.faults files.old) }
+    ensures refused { IfErr result (IsNotLoaded (change F.held F.faults files.old files.new) (build_stages build)) }
+    ensures stays { F.held files.new ≡ F.held files.old }
+{
+    let capacity = build.capacity;
+    let allotted = match allot(alloc, build, files) {
+        Ok(allotted) => allotted,
+        Err(verdict) => return Err(verdict),
+    };
+    match link_allotted(alloc, allotted, capacity) {
+        Ok(network) => Ok(network),
+        Err(_) => Err(Verdict::NoMemory),
+    }
+}
+
+/// How many words an item of a tree has.
+fn width_of(tree: &Tree) -> u32
+    ensures { result ≡ (node_at tree.now 0).ins }
+{
+    match tree.node(0) {
+        Some(root) => root.ins,
+        None => 0,
+    }
+}
+
+/// The plan of a run of a tree under counts, by units of it and a net.
+pub fn plan_of<'a, U: Units>(
+    tree: &'a Tree,
+    counts: &Counts,
+    units: &'a U,
+    net: Net,
+) -> Plan<'a, U>
+    requires lawful { IsLawfulTree tree.now }
+    requires counts { HasLawfulCounts tree.now counts.now.list }
+    requires units { U.tree units.now ≡ tree.now }
+    ensures network { network result.tree.now (U.leaf result.units.now) result.net result.firings ≡ network tree.now (U.leaf units.now) net (firings tree.now counts.now.list) }
+    ensures units { U.tree result.units.now ≡ result.tree.now }
+    ensures width { result.width ≡ (node_at result.tree.now 0).ins }
+    ensures wide { 1 ≤ result.width }
+    ensures fits { result.firings * most_of_input < 2 ^ 63 }
+{
+    Plan {
+        tree,
+        units,
+        net,
+        firings: firings(tree, counts),
+        width: width_of(tree),
+    }
+}
