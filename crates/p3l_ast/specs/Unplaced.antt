@@ -11,6 +11,7 @@ use Rattle.p3l_ast.specs.declared.call.Arg.{Arg}
 use Rattle.p3l_ast.specs.declared.call.OutArg.{OutArg}
 use Rattle.p3l_ast.specs.declared.call.OutArg.TheVariants.{Fresh, Old}
 use Rattle.p3l_ast.specs.declared.call.Call.{Call}
+use Rattle.p3l_ast.specs.declared.module.Rescue.{Rescue}
 use Rattle.p3l_ast.specs.declared.module.Clauses.{Clauses}
 use Rattle.p3l_ast.specs.Tree.{Phrase, number, read, unary, binary, Phrases, none, more, Statements, done, assign, if_, if_else, while_, for_, InsideTree, body, calls, turning, ModuleTree, EntryTree, constant, defined, ProgramTree}
 
@@ -42,12 +43,16 @@ out_unplaced (Old a) = Old (arg_unplaced a)
 abbrev pub call_unplaced : Call → Call
 call_unplaced c = record { at = spot_unplaced c.at; ins = map arg_unplaced c.ins; outs = map out_unplaced c.outs }
 
+abbrev pub rescue_unplaced : Rescue → Rescue
+rescue_unplaced r = record { minus = r.minus; num = num_unplaced r.num }
+
 abbrev pub clauses_unplaced : Clauses → Clauses
 clauses_unplaced c = record {
   workers = option_map num_unplaced c.workers;
   turns = option_map num_unplaced c.turns;
   tokens = option_map num_unplaced c.tokens;
   budget = option_map num_unplaced c.budget;
+  rescue = option_map rescue_unplaced c.rescue;
 }
 
 abbrev mutual

@@ -15,7 +15,7 @@ pub mod statement;
 
 pub use call::{Arg, Call, OutArg, Sub};
 pub use expression::{BinOp, Expr, Target, UnOp};
-pub use module::{Clauses, Inside, Kind, Module};
+pub use module::{Clauses, Inside, Kind, Module, Rescue};
 pub use port::{Num, Port};
 pub use position::{Pos, Spot};
 pub use program::{Entry, Program};

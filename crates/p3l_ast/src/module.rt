@@ -18,6 +18,13 @@ pub enum Kind {
     Loop,
 }
 
+/// The number that stands for a trap within a module: a number, or its negative after a minus.
+#[derive(Debug, Drop)]
+pub struct Rescue {
+    pub minus: bool,
+    pub num: Num,
+}
+
 /// The clauses that a module's head gives; each kind has its own.
 #[derive(Debug, Drop)]
 pub struct Clauses {
@@ -25,6 +32,7 @@ pub struct Clauses {
     pub turns: Option<Num>,
     pub tokens: Option<Num>,
     pub budget: Option<Num>,
+    pub rescue: Option<Rescue>,
 }
 
 /// What stands between a module's head and its end.

@@ -14,7 +14,7 @@ use Rattle.p3l_body.specs.declared.var.Var.{Var}
 use Rattle.p3l_body.specs.declared.ports.Ports.{Ports}
 use Rattle.p3l_body.specs.Scope.{Names, named, declared}
 use Rattle.p3l_body.specs.Mention.{code_mentions, mentions_rule}
-use Rattle.p3l_body.specs.Seq.{SeqTree, ports_of, port_names, budget_of, checked_locals, checked_body, checked_seq}
+use Rattle.p3l_body.specs.Seq.{SeqTree, ports_of, port_names, budget_of, rescue_of, checked_locals, checked_body, checked_seq}
 use Rattle.p3l_compile.specs.Condition.{IsCompilable}
 use Rattle.p3l_bodies.proofs.Passages.{InsideKeeps}
 use Rattle.p3l_bodies.proofs.Declared.{if_given, ok_if, keys, keys_named, keys_append, names_in, names_append, Declares, all_declared, declared_few, declared_arrays, declared_apart, declared_differ, differ_append, all_append}
@@ -118,12 +118,17 @@ body_compilable n constants home ports budget pos (body local_ports statements) 
           few = omega (arith, h.1);
         }
 
+any_rescue : (r : Result (Option ℤ) SourceRefusal) → IfOk r (λ rescue. Unit {0})
+any_rescue (Ok rescue) = tt
+any_rescue (Err e) = tt
+
 -- a module with statements that keep the limits and hold fewer things than a text has bytes
 pub compilable : (n : ℕ) (constants : Constants) (home : ℕ) (m : ModuleTree) → n ≤ 1048576 → InsideKeeps n m.inside → IfOk (checked_seq constants home m) IsCompilable
 compilable n constants home m short keeps =
     if_given (ports_of constants m.ins m.outs) _ (ArePorts constants) IsCompilable (ports_declared constants m.ins m.outs)
     (λ ports are. if_given (budget_of constants m.clauses.budget) _ IsBudget IsCompilable (budget_limited constants m.clauses.budget)
-    (λ budget limit. body_compilable n constants home ports budget m.at.pos m.inside short are limit keeps))
+    (λ budget limit. if_given (rescue_of constants m.clauses.rescue) _ (λ rescue. Unit {0}) IsCompilable (any_rescue (rescue_of constants m.clauses.rescue))
+    (λ rescue x. body_compilable n constants home ports budget m.at.pos m.inside short are limit keeps)))
 
 -- a checked body has its module's number
 body_home : (constants : Constants) (home : ℕ) (ports : Ports) (budget : ℕ) (pos : Pos) (inside : InsideTree) →
@@ -149,4 +154,5 @@ pub checked_home : (constants : Constants) (home : ℕ) (m : ModuleTree) → IfO
 checked_home constants home m =
     if_given (ports_of constants m.ins m.outs) _ (ArePorts constants) _ (ports_declared constants m.ins m.outs)
     (λ ports are. if_given (budget_of constants m.clauses.budget) _ IsBudget _ (budget_limited constants m.clauses.budget)
-    (λ budget limit. body_home constants home ports budget m.at.pos m.inside))
+    (λ budget limit. if_given (rescue_of constants m.clauses.rescue) _ (λ rescue. Unit {0}) _ (any_rescue (rescue_of constants m.clauses.rescue))
+    (λ rescue x. body_home constants home ports budget m.at.pos m.inside)))

@@ -1,5 +1,5 @@
 -- A text is no shorter than what its bodies hold.
-use Rattle.std.proofs.Common.{◌≡◌, ℕ, ◌+◌, ◌<◌, ◌≤◌, List, [], ◌∷◌, ◌++◌, length, Option, Some, None, refl, ap, ◌∙◌, arith, length-append}
+use Rattle.std.proofs.Common.{◌≡◌, ℕ, ◌+◌, ◌<◌, ◌≤◌, List, [], ◌∷◌, ◌++◌, length, Bool, true, false, Option, Some, None, refl, ap, ◌∙◌, arith, length-append}
 use Rattle.p3l_ast.specs.declared.position.Pos.{Pos}
 use Rattle.p3l_ast.specs.declared.port.Num.{Num}
 use Rattle.p3l_ast.specs.declared.port.Port.{Port}
@@ -9,6 +9,7 @@ use Rattle.p3l_ast.specs.declared.call.Arg.{Arg}
 use Rattle.p3l_ast.specs.declared.call.OutArg.{OutArg}
 use Rattle.p3l_ast.specs.declared.call.OutArg.TheVariants.{Fresh, Old}
 use Rattle.p3l_ast.specs.declared.call.Call.{Call}
+use Rattle.p3l_ast.specs.declared.module.Rescue.{Rescue}
 use Rattle.p3l_lexer.specs.declared.mark.Mark.{Mark}
 use Rattle.p3l_lexer.specs.declared.mark.Mark.TheVariants as marks
 use Rattle.p3l_lexer.specs.declared.token.Piece.{Piece}
@@ -18,7 +19,7 @@ use Rattle.p3l_lexer.specs.Position.{position_after}
 use Rattle.p3l_lexer.specs.Token.{Chunk, IsCutInto, token_at, tokens_after, IsTokens}
 use Rattle.p3l_lexer.proofs.Lexing.{not_empty}
 use Rattle.p3l_grammar.specs.Symbol.{Symbol, sign, symbols}
-use Rattle.p3l_grammar.specs.Written.{Formula, numeral, place, prefix, infix_, paren, Formulas, no_index, index, Script, stop, set, if_, if_else, while_, for_, Signature, Passage, fixed, bodied, chained, spread, turned, each, after_comma, separated, num_symbol, spell_size, spell_port, spell_sub, spell_arg, spell_out, spell_call, spell, spell_index, spell_set, spell_script, spell_signature, spell_clause, spell_local, spell_end, spell_passage, tree, trees, script_tree}
+use Rattle.p3l_grammar.specs.Written.{Formula, numeral, place, prefix, infix_, paren, Formulas, no_index, index, Script, stop, set, if_, if_else, while_, for_, Signature, Passage, fixed, bodied, chained, spread, turned, each, after_comma, separated, num_symbol, spell_size, spell_port, spell_sub, spell_arg, spell_out, spell_call, spell, spell_index, spell_set, spell_script, spell_signature, spell_clause, spell_signed, spell_rescue_clause, spell_local, spell_end, spell_passage, tree, trees, script_tree}
 use Rattle.p3l_compile.specs.Limits.{items, index_items, code_items}
 
 -- what an expression holds, and what follows it
@@ -108,21 +109,31 @@ clause_longer : (m : Mark) (n : Option Num) → Lengthens (spell_clause m n)
 clause_longer m None r = omega arith
 clause_longer m (Some n) r = omega arith
 
+signed_longer : (minus : Bool) (n : Num) → Lengthens (spell_signed minus n)
+signed_longer true n r = omega arith
+signed_longer false n r = omega arith
+
+rescue_longer : (x : Option Rescue) → Lengthens (spell_rescue_clause x)
+rescue_longer None r = omega arith
+rescue_longer (Some x) r = omega (arith, signed_longer x.minus x.num r)
+
 -- a body has fewer items than its module has symbols
-pub body_longer : (h : Signature) (b : Option Num) (ls : List Port) (c : Script) (r : List Symbol) →
-    code_items (script_tree c) + length r < length (spell_passage (bodied h b ls c) r)
-body_longer h b ls c r =
+pub body_longer : (h : Signature) (b : Option Num) (x : Option Rescue) (ls : List Port) (c : Script) (r : List Symbol) →
+    code_items (script_tree c) + length r < length (spell_passage (bodied h b x ls c) r)
+body_longer h b x ls c r =
     let r1 = sign marks.CloseBody ∷ sign marks.End ∷ sign marks.Seq ∷ r in
     let r2 = spell_script c r1 in
     let r3 = sign marks.OpenBody ∷ each spell_local ls r2 in
+    let r4 = spell_rescue_clause x r3 in
     let local : (p : Port) → Lengthens (spell_local p) = λ p s. omega (arith, port_longer p (sign marks.Semicolon ∷ s)) in
-    omega (arith, script_long c r1, each_longer spell_local local ls r2, clause_longer marks.Budget b r3, signature_longer h (spell_clause marks.Budget b r3))
+    omega (arith, script_long c r1, each_longer spell_local local ls r2, rescue_longer x r3, clause_longer marks.Budget b r4, signature_longer h (spell_clause marks.Budget b r4))
 
 pub passage_longer : (i : Passage) → Lengthens (spell_passage i)
 passage_longer (fixed x v p) r = omega arith
-passage_longer (bodied h b ls c) r = omega (arith, body_longer h b ls c r)
-passage_longer (chained k h cs) r =
-    omega (arith, each_longer spell_call call_longer cs (spell_end k r), signature_longer h (each spell_call cs (spell_end k r)))
+passage_longer (bodied h b x ls c) r = omega (arith, body_longer h b x ls c r)
+passage_longer (chained k h x cs) r =
+    let r1 = each spell_call cs (spell_end k r) in
+    omega (arith, each_longer spell_call call_longer cs (spell_end k r), rescue_longer x r1, signature_longer h (spell_rescue_clause x r1))
 passage_longer (spread k h w c) r =
     let r1 = spell_call c (spell_end k r) in
     omega (arith, call_longer c (spell_end k r), clause_longer marks.Workers w r1, signature_longer h (spell_clause marks.Workers w r1))

@@ -1,5 +1,5 @@
 -- From the symbols of a text to those of its bodies: outside bodies no symbol counts.
-use Rattle.std.proofs.Common.{◌≡◌, ℕ, ◌<◌, ◌≤◌, false, List, [], ◌∷◌, length, Option, Some, None, refl, ap, subst, arith}
+use Rattle.std.proofs.Common.{◌≡◌, ℕ, ◌<◌, ◌≤◌, Bool, true, false, List, [], ◌∷◌, length, Option, Some, None, refl, ap, subst, arith}
 use Rattle.std.specs.List.{AllByRecursion}
 use Rattle.p3l_ast.specs.declared.port.Num.{Num}
 use Rattle.p3l_ast.specs.declared.port.Num.TheVariants.{Digits, Named}
@@ -12,13 +12,14 @@ use Rattle.p3l_ast.specs.declared.call.OutArg.TheVariants.{Fresh, Old}
 use Rattle.p3l_ast.specs.declared.call.Call.{Call}
 use Rattle.p3l_ast.specs.declared.module.Kind.{Kind}
 use Rattle.p3l_ast.specs.declared.module.Kind.TheVariants as kinds
+use Rattle.p3l_ast.specs.declared.module.Rescue.{Rescue}
 use Rattle.p3l_ast.specs.Tree.{InsideTree, body, calls, turning, EntryTree, constant, defined, ProgramTree}
 use Rattle.p3l_lexer.specs.declared.mark.Mark.{Mark}
 use Rattle.p3l_lexer.specs.declared.mark.Mark.TheVariants as marks
 use Rattle.p3l_grammar.specs.Symbol.{Symbol, sign, symbols, kind_mark}
 use Rattle.p3l_grammar.specs.Limits.{at_rest, at_statement, after_symbol, IsWithin}
 use Rattle.p3l_grammar.specs.Grammar.{Spells}
-use Rattle.p3l_grammar.specs.Written.{Script, Signature, Passage, fixed, bodied, chained, spread, turned, each, after_comma, separated, num_symbol, spell_size, spell_port, spell_sub, spell_arg, spell_out, spell_call, spell_script, spell_signature, spell_clause, spell_local, spell_end, spell_passage, spell_text, script_tree, passage_tree, text_tree}
+use Rattle.p3l_grammar.specs.Written.{Script, Signature, Passage, fixed, bodied, chained, spread, turned, each, after_comma, separated, num_symbol, spell_size, spell_port, spell_sub, spell_arg, spell_out, spell_call, spell_script, spell_signature, spell_clause, spell_signed, spell_rescue_clause, spell_local, spell_end, spell_passage, spell_text, script_tree, passage_tree, text_tree}
 use Rattle.p3l_compile.specs.Limits.{KeepsLimits, code_items}
 use Rattle.p3l_bodies.proofs.Nested.{nest, script_limited}
 use Rattle.p3l_bodies.proofs.Lengths.{body_longer, passage_longer, symbols_few}
@@ -74,6 +75,14 @@ clause_rests : (m : Mark) → after_symbol at_rest (sign m) ≡ at_rest → (n :
 clause_rests m e None r h = h
 clause_rests m e (Some n) r h = num_rests n r (subst (λ k. IsWithin k (num_symbol n ∷ r)) e h.1)
 
+signed_rests : (minus : Bool) (n : Num) → Rests (spell_signed minus n)
+signed_rests false n r h = num_rests n r h
+signed_rests true n r h = num_rests n r h.1
+
+rescue_rests : (x : Option Rescue) → Rests (spell_rescue_clause x)
+rescue_rests None r h = h
+rescue_rests (Some x) r h = signed_rests x.minus x.num r h.1
+
 kind_rests : (k : Kind) → after_symbol at_rest (sign (kind_mark k)) ≡ at_rest
 kind_rests kinds.Seq = refl
 kind_rests kinds.Comp = refl
@@ -112,23 +121,25 @@ EntryKeeps n (constant x value) = Unit {0}
 EntryKeeps n (defined m) = InsideKeeps n m.inside
 
 -- an entry, and what follows it
-body_keeps : (n : ℕ) (g : Signature) (b : Option Num) (ls : List Port) (c : Script) (r : List Symbol) → length (spell_passage (bodied g b ls c) r) ≤ n →
-    IsWithin at_rest (spell_passage (bodied g b ls c) r) → (KeepsLimits (script_tree c) × (code_items (script_tree c) < n)) × IsWithin at_rest r
-body_keeps n g b ls c r short h =
+body_keeps : (n : ℕ) (g : Signature) (b : Option Num) (x : Option Rescue) (ls : List Port) (c : Script) (r : List Symbol) → length (spell_passage (bodied g b x ls c) r) ≤ n →
+    IsWithin at_rest (spell_passage (bodied g b x ls c) r) → (KeepsLimits (script_tree c) × (code_items (script_tree c) < n)) × IsWithin at_rest r
+body_keeps n g b x ls c r short h =
     let r1 = sign marks.CloseBody ∷ spell_end kinds.Seq r in
     let r2 = sign marks.OpenBody ∷ each spell_local ls (spell_script c r1) in
-    let head = signature_rests g (spell_clause marks.Budget b r2) h.1 in
-    let inner = clause_rests marks.Budget refl b r2 head in
+    let r3 = spell_rescue_clause x r2 in
+    let head = signature_rests g (spell_clause marks.Budget b r3) h.1 in
+    let inner = rescue_rests x r2 (clause_rests marks.Budget refl b r3 head) in
     let k = script_limited c 0 r1 (locals_pass ls (spell_script c r1) inner.1) in
-    ((k.0, omega (arith, body_longer g b ls c r)), end_rests kinds.Seq r k.1.1)
+    ((k.0, omega (arith, body_longer g b x ls c r)), end_rests kinds.Seq r k.1.1)
 
 entry_keeps : (n : ℕ) (i : Passage) (r : List Symbol) → length (spell_passage i r) ≤ n → IsWithin at_rest (spell_passage i r) →
     EntryKeeps n (passage_tree i) × IsWithin at_rest r
 entry_keeps n (fixed x v p) r short h = (tt, h.1.1.1.1.1)
-entry_keeps n (bodied g b ls c) r short h = body_keeps n g b ls c r short h
-entry_keeps n (chained k g cs) r short h =
-    let a = mark_rests k (spell_signature g (each spell_call cs (spell_end k r))) h in
-    let b = signature_rests g (each spell_call cs (spell_end k r)) a in
+entry_keeps n (bodied g b x ls c) r short h = body_keeps n g b x ls c r short h
+entry_keeps n (chained k g x cs) r short h =
+    let r1 = each spell_call cs (spell_end k r) in
+    let a = mark_rests k (spell_signature g (spell_rescue_clause x r1)) h in
+    let b = rescue_rests x r1 (signature_rests g (spell_rescue_clause x r1) a) in
     (tt, end_rests k r (each_rests spell_call call_rests cs (spell_end k r) b))
 entry_keeps n (spread k g w c) r short h =
     let r1 = spell_call c (spell_end k r) in

@@ -1,5 +1,5 @@
 -- What the entries of a program come to: their modules, what these take and give, and their bodies.
-use Rattle.std.proofs.Common.{◌≡◌, ℕ, zero, suc, ◌+◌, Bool, cond, List, [], ◌∷◌, ◌++◌, length, map, get_or, Option, Some, None, Result, Ok, Err, refl, sym, ap, ◌∙◌, subst, arith, append_assoc, append-nil, length-append}
+use Rattle.std.proofs.Common.{◌≡◌, ℕ, ℤ, zero, suc, ◌+◌, Bool, cond, List, [], ◌∷◌, ◌++◌, length, map, get_or, Option, Some, None, Result, Ok, Err, refl, sym, ap, ◌∙◌, subst, arith, append_assoc, append-nil, length-append}
 use Rattle.std.specs.Prelude.{IsSomeAnd, slice_get}
 use Rattle.std.specs.List.{All, AllByRecursion}
 use Rattle.std.proofs.lemmas.List.Elements.{All-from_recursion}
@@ -12,7 +12,7 @@ use Rattle.p3l_types.specs.Verdict.{given}
 use Rattle.p3l_types.specs.Constants.{Constants}
 use Rattle.p3l_body.specs.declared.var.Var.{Var}
 use Rattle.p3l_body.specs.declared.ports.Ports.{Ports}
-use Rattle.p3l_body.specs.Seq.{SeqTree, ports_of, port_names, budget_of, checked_locals, checked_body, checked_seq}
+use Rattle.p3l_body.specs.Seq.{SeqTree, ports_of, port_names, budget_of, rescue_of, checked_locals, checked_body, checked_seq}
 use Rattle.p3l_skel.specs.declared.tree.Form.TheVariants as forms
 use Rattle.p3l_skel.specs.declared.tree.ModuleKind.TheVariants as module_kinds
 use Rattle.p3l_skel.specs.declared.tree.ModuleInfo.{ModuleInfo}
@@ -28,6 +28,7 @@ use Rattle.p3l_unfold.proofs.Instances.{instance-step, instance-none}
 use Rattle.p3l_calls.specs.Port as ports
 use Rattle.p3l_check.specs.declared.skeleton.Skeleton.{Skeleton}
 use Rattle.p3l_check.specs.declared.defined.Defined.{Defined}
+use Rattle.p3l_check.specs.Clauses.{rescue_in}
 use Rattle.p3l_check.specs.Skeleton.{skeleton_of}
 use Rattle.p3l_check.specs.Entry.{Checked, none_checked, new_name, ports_in, body_in, kind_in, info_of, defined_as, before_in, with_checked, checked_module, with_constant, checked_entry, checked_entries}
 use Rattle.p3l_check.specs.Places.{defines}
@@ -71,7 +72,8 @@ seq_ports constants home m p seq are e =
     let g = given_of (ports_of constants m.ins m.outs) _ seq e in
     let h = given_of (budget_of constants m.clauses.budget) _ seq g.then_is in
     let same : g.value ≡ p = ok_same g.value p (sym g.is ∙ are) in
-    let own = body_ports constants home g.value h.value m.at.pos m.inside seq h.then_is in
+    let i = given_of (rescue_of constants m.clauses.rescue) _ seq h.then_is in
+    let own = body_ports constants home g.value h.value m.at.pos m.inside seq i.then_is in
     (own.0 ∙ ap (λ (q : Ports). q.ins) same, own.1 ∙ ap (λ (q : Ports). q.outs) same)
 
 same_total : (vars : List Var) → ports.total vars ≡ total vars
@@ -111,10 +113,11 @@ record Adds (checked last : Checked) (entries : List EntryTree) : Type 0 where
 
 -- a module of this kind in front
 record AddsOne (checked next : Checked) (m : ModuleTree) (entries : List EntryTree) (kind : Kind) : Type 0 where
+  rescue : Option ℤ
   w : Wired
   seqs : List SeqTree
   constants_are : next.constants ≡ checked.constants
-  infos_are : next.modules.infos ≡ checked.modules.infos ++ info_of m ∷ []
+  infos_are : next.modules.infos ≡ checked.modules.infos ++ info_of m rescue ∷ []
   wired_are : next.modules.wired ≡ checked.modules.wired ++ w ∷ []
   seqs_are : next.seqs ≡ checked.seqs ++ seqs
   are : (rest : List SeqTree) → AreChecked checked.constants (length checked.modules.infos + 1) entries rest →
@@ -122,9 +125,9 @@ record AddsOne (checked next : Checked) (m : ModuleTree) (entries : List EntryTr
   count : length seqs ≡ one_if_seq (kind_in kind)
   first : (rest : List SeqTree) → kind_in kind ≡ module_kinds.Seq → IsSomeAnd (slice_get (seqs ++ rest) 0) (HasWordsOf w)
 
-module _ (checked next : Checked) (m : ModuleTree) (entries : List EntryTree) (p : Ports) (skeleton : Skeleton) (are_ports : ports_of checked.constants m.ins m.outs ≡ Ok p) where
+module _ (checked next : Checked) (m : ModuleTree) (entries : List EntryTree) (p : Ports) (rescue : Option ℤ) (skeleton : Skeleton) (are_ports : ports_of checked.constants m.ins m.outs ≡ Ok p) where
   after : Option SeqTree → Checked
-  after seq = with_checked checked (defined_as (info_of m) p skeleton) seq
+  after seq = with_checked checked (defined_as (info_of m rescue) p skeleton) seq
 
   -- a module of another kind has no body
   bodiless : (kind : Kind) → ((rest : List SeqTree) → AreChecked checked.constants (length checked.modules.infos + 1) entries rest →
@@ -132,7 +135,8 @@ module _ (checked next : Checked) (m : ModuleTree) (entries : List EntryTree) (p
       0 ≡ one_if_seq (kind_in kind) → (kind_in kind ≡ module_kinds.Seq → ⊥) → next ≡ after None → AddsOne checked next m entries kind
   unfolding after
   bodiless kind are count other is = record {
-    w = (defined_as (info_of m) p skeleton).wired;
+    rescue = rescue;
+    w = (defined_as (info_of m rescue) p skeleton).wired;
     seqs = [];
     constants_are = ap (λ (c : Checked). c.constants) is;
     infos_are = ap (λ (c : Checked). c.modules.infos) is;
@@ -147,7 +151,8 @@ module _ (checked next : Checked) (m : ModuleTree) (entries : List EntryTree) (p
   unfolding after
   bodied seq e is =
       let own = seq_ports checked.constants (length checked.modules.infos) m p seq are_ports e in record {
-        w = (defined_as (info_of m) p skeleton).wired;
+        rescue = rescue;
+        w = (defined_as (info_of m rescue) p skeleton).wired;
         seqs = seq ∷ [];
         constants_are = ap (λ (c : Checked). c.constants) is;
         infos_are = ap (λ (c : Checked). c.modules.infos) is;
@@ -178,11 +183,12 @@ unfolding after
 module_adds checked next is_ahead m entries e =
     let g = given_of _ _ next e in
     let h = given_of (ports_in checked.constants m) _ g.value g.is in
-    let i = given_of (skeleton_of m.kind (before_in checked is_ahead) m h.value) _ g.value h.then_is in
+    let k = given_of (rescue_in m.kind m.at.pos checked.constants m.clauses) _ g.value h.then_is in
+    let i = given_of (skeleton_of m.kind (before_in checked is_ahead) m h.value) _ g.value k.then_is in
     let j = given_of (body_in m.kind checked.constants (length checked.modules.infos) m) _ next g.then_is in
     let there = given_of _ (λ x. ports_of checked.constants m.ins m.outs) h.value h.is in
-    let d : defined_as (info_of m) h.value i.value ≡ g.value = ok_same _ g.value i.then_is in
-    one_more checked next m entries h.value i.value there.then_is m.kind j.value j.is (sym (ok_same _ next j.then_is) ∙ ap (λ (x : Defined). with_checked checked x j.value) (sym d))
+    let d : defined_as (info_of m k.value) h.value i.value ≡ g.value = ok_same _ g.value i.then_is in
+    one_more checked next m entries h.value k.value i.value there.then_is m.kind j.value j.is (sym (ok_same _ next j.then_is) ∙ ap (λ (x : Defined). with_checked checked x j.value) (sym d))
 
 -- what lies after others
 get_after : (front back : List SeqTree) (n k : ℕ) → k ≡ length front + n → slice_get (front ++ back) k ≡ slice_get back n
@@ -191,7 +197,7 @@ get_after (x ∷ front) back n zero e = absurd (omega (arith, e))
 get_after (x ∷ front) back n (suc k) e = get_after front back n k (omega (arith, e))
 
 have_more : (checked next : Checked) (m : ModuleTree) (entries : List EntryTree) (one : AddsOne checked next m entries m.kind) (infos : List ModuleInfo) (wired : List Wired) (seqs : List SeqTree) →
-    HaveBodies infos wired seqs → HaveBodies (info_of m ∷ infos) (one.w ∷ wired) (one.seqs ++ seqs)
+    HaveBodies infos wired seqs → HaveBodies (info_of m one.rescue ∷ infos) (one.w ∷ wired) (one.seqs ++ seqs)
 unfolding HaveBodies
 have_more checked next m entries one infos wired seqs have zero seq =
     subst (λ t. IsSomeAnd (cond (is_seq_kind t) (slice_get (one.seqs ++ seqs) 0) None) (HasWordsOf one.w)) (sym seq) (one.first seqs seq)
@@ -236,14 +242,14 @@ adds checked last (defined m ∷ entries) e =
     let one = module_adds checked g.value is_ahead m entries h.then_is in
     let r = adds g.value last entries g.then_is in
     let home = length checked.modules.infos in
-    let next_home : length g.value.modules.infos ≡ home + 1 = ap (length {A = ModuleInfo}) one.infos_are ∙ length-append checked.modules.infos (info_of m ∷ []) in
+    let next_home : length g.value.modules.infos ≡ home + 1 = ap (length {A = ModuleInfo}) one.infos_are ∙ length-append checked.modules.infos (info_of m one.rescue ∷ []) in
     let are : AreChecked checked.constants (home + 1) entries r.seqs =
     subst (λ n. AreChecked checked.constants n entries r.seqs) next_home
     (subst (λ c. AreChecked c (length g.value.modules.infos) entries r.seqs) one.constants_are r.are) in record {
-      infos = info_of m ∷ r.infos;
+      infos = info_of m one.rescue ∷ r.infos;
       wired = one.w ∷ r.wired;
       seqs = one.seqs ++ r.seqs;
-      infos_are = r.infos_are ∙ ap (λ l. l ++ r.infos) one.infos_are ∙ append_assoc checked.modules.infos (info_of m ∷ []) r.infos;
+      infos_are = r.infos_are ∙ ap (λ l. l ++ r.infos) one.infos_are ∙ append_assoc checked.modules.infos (info_of m one.rescue ∷ []) r.infos;
       wired_are = r.wired_are ∙ ap (λ l. l ++ r.wired) one.wired_are ∙ append_assoc checked.modules.wired (one.w ∷ []) r.wired;
       seqs_are = r.seqs_are ∙ ap (λ l. l ++ r.seqs) one.seqs_are ∙ append_assoc checked.seqs one.seqs r.seqs;
       are = one.are r.seqs are;

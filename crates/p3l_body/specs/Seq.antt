@@ -6,6 +6,9 @@ use Rattle.p3l_ast.specs.declared.refusal.SourceRefusal.{SourceRefusal}
 use Rattle.p3l_ast.specs.declared.refusal.SourceRefusal.TheVariants.{At}
 use Rattle.p3l_ast.specs.declared.port.Num.{Num}
 use Rattle.p3l_ast.specs.declared.port.Port.{Port}
+use Rattle.p3l_ast.specs.declared.expression.UnOp.TheVariants.{Neg}
+use Rattle.p3l_ast.specs.declared.module.Rescue.{Rescue}
+use Rattle.p3l_ast.specs.Meaning.Operator.{unary_of}
 use Rattle.p3l_ast.specs.Tree.{Statements, InsideTree, body, calls, turning, ModuleTree, statements}
 use Rattle.p3l_types.specs.Verdict.{given}
 use Rattle.p3l_types.specs.Constants.{Constants, number_of, place_of, natural}
@@ -37,6 +40,15 @@ limited low high constants num =
 abbrev pub budget_of : Constants → Option Num → Result ℕ SourceRefusal
 budget_of constants None = Ok 1000000
 budget_of constants (Some num) = limited 1 100000000 constants num
+
+-- a number, or after a minus what the minus of bodies makes of it
+abbrev pub signed : Bool → ℤ → ℤ
+signed minus value = if minus then unary_of Neg value else value
+
+-- the rescue number of a module, if its clause is given: any number, or any constant before it
+abbrev pub rescue_of : Constants → Option Rescue → Result (Option ℤ) SourceRefusal
+rescue_of constants None = Ok None
+rescue_of constants (Some rescue) = given (number_of constants rescue.num) (λ value. Ok (Some (signed rescue.minus value)))
 
 -- a `seq` module with its number, the constants before it, its variables with their shapes, its
 -- budget and its statements
@@ -71,12 +83,13 @@ checked_body constants home ports budget pos (body local_ports statements) =
 checked_body constants home ports budget pos (calls cs) = Err (At Expected pos)
 checked_body constants home ports budget pos (turning c d) = Err (At Expected pos)
 
--- a `seq` module by all its rules in order: ports, budget, body
+-- a `seq` module by all its rules in order: ports, budget, rescue, body
 abbrev pub checked_seq : Constants → ℕ → ModuleTree → Result SeqTree SourceRefusal
 checked_seq constants home m =
     given (ports_of constants m.ins m.outs)
     (λ ports. given (budget_of constants m.clauses.budget)
-    (λ budget. checked_body constants home ports budget m.at.pos m.inside))
+    (λ budget. given (rescue_of constants m.clauses.rescue)
+    (λ rescue. checked_body constants home ports budget m.at.pos m.inside)))
 
 -- the tree of a checked module
 abbrev pub seq_tree : CheckedSeq → SeqTree

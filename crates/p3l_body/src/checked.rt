@@ -5,7 +5,7 @@ ghost use Rattle.p3l_types.specs.Verdict.{Gives};
 ghost use Rattle.p3l_body.specs.Seq.{checked_locals, checked_seq, checked_tree};
 
 use crate::mention::Names;
-use crate::ports::{Ports, budget_of, ports_of};
+use crate::ports::{Ports, budget_of, ports_of, rescue_of};
 use crate::scope::{Scope, declare};
 use crate::var::Var;
 use p3l_ast::{Block, Fault, Inside, Module, SourceRefusal, Stmt};
@@ -48,8 +48,8 @@ fn locals_of(
     Ok(locals)
 }
 
-/// Checks the `seq` module of this number: its ports, its budget, its local variables, and every name of its
-/// statements in the order of the text.
+/// Checks the `seq` module of this number: its ports, its budget and rescue, its local variables, and every name
+/// of its statements in the order of the text.
 pub fn check_body<'a>(
     alloc: Global,
     seq: &'a Module,
@@ -67,6 +67,7 @@ pub fn check_body<'a>(
         seq.outs.as_slice(),
     )?;
     let budget = budget_of(consts, &seq.clauses.budget)?;
+    rescue_of(consts, &seq.clauses.rescue)?;
     let Inside::Body(block) = &seq.inside else {
         return Err(SourceRefusal::At {
             fault: Fault::Expected,

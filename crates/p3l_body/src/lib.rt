@@ -8,6 +8,6 @@ pub mod scope;
 pub mod var;
 
 pub use checked::{CheckedSeq, check_body};
-pub use ports::{Ports, limited, ports_of};
+pub use ports::{Ports, budget_of, limited, ports_of, rescue_of};
 pub use scope::{Known, Scope, declare, declare_one, enter};
 pub use var::Var;

@@ -2,11 +2,12 @@
 
 ghost use Rattle.std.specs.Prelude.{◌≡◌, [], ◌≤◌, IfOk};
 ghost use Rattle.p3l_types.specs.Verdict.{Gives};
-ghost use Rattle.p3l_body.specs.Seq.{ports_of, port_names, limited, budget_of};
+ghost use Rattle.p3l_body.specs.Seq.{ports_of, port_names, limited, budget_of, signed, rescue_of};
 
 use crate::scope::{Scope, declare};
 use crate::var::Var;
-use p3l_ast::{Fault, Num, Port, SourceRefusal};
+use p3l_ast::meaning::operator::unary;
+use p3l_ast::{Fault, Num, Port, Rescue, SourceRefusal, UnOp};
 use p3l_base::List;
 use p3l_types::{Consts, natural, place_of, value_of};
 use std::alloc::Global;
@@ -63,5 +64,26 @@ pub fn budget_of(consts: &Consts, clause: &Option<Num>) -> Result<u32, SourceRef
     match clause {
         Some(num) => limited(1, MOST_BUDGET, consts, num),
         None => Ok(USUAL_BUDGET),
+    }
+}
+
+/// A number, or after a minus what the minus of bodies makes of it.
+fn signed(minus: bool, value: i64) -> i64
+    ensures { result ≡ signed minus value }
+{
+    if minus {
+        unary(UnOp::Neg, value)
+    } else {
+        value
+    }
+}
+
+/// The rescue number of a module, if its clause is given.
+pub fn rescue_of(consts: &Consts, clause: &Option<Rescue>) -> Result<Option<i64>, SourceRefusal>
+    ensures { result ≡ rescue_of consts.now clause.now }
+{
+    match clause {
+        Some(rescue) => Ok(Some(signed(rescue.minus, value_of(&rescue.num, consts)?))),
+        None => Ok(None),
     }
 }

@@ -3,7 +3,7 @@ use Rattle.std.proofs.Common.{◌≡◌, ℕ, zero, suc, ◌+◌, ◌<◌, ◌�
 use Rattle.std.specs.List.{AllByRecursion}
 use Rattle.std.proofs.Math.Seq.{get_or-append_seam}
 use Rattle.std.proofs.lemmas.List.{get_or_append_left}
-use Rattle.std.proofs.lemmas.List.Elements.{All-nil, All-cons, All-append, All-from_recursion, recursion_from_All}
+use Rattle.std.proofs.lemmas.List.Elements.{All-from_recursion, recursion_from_All}
 use Rattle.std.proofs.lemmas.Bool.{cases_lt}
 use Rattle.p3l_skel.specs.declared.tree.Form.{Form}
 use Rattle.p3l_skel.specs.declared.tree.Form.TheVariants.{Seq, Comp, Pipe, Farm, Map, Reduce, Loop}
@@ -95,6 +95,10 @@ kind-last : (infos : List ModuleInfo) (info : ModuleInfo) (kind : ModuleKind) �
 kind-last [] info kind h = h
 kind-last (i ∷ infos) info kind h = kind-last infos info kind h
 
+rescues-kept : (infos : List ModuleInfo) (info : ModuleInfo) → AllByRecursion HasLawfulRescue infos → HasLawfulRescue info → AllByRecursion HasLawfulRescue (infos ++ info ∷ [])
+rescues-kept [] info all h = (h, tt)
+rescues-kept (i ∷ infos) info all h = (all.0, rescues-kept infos info all.1 h)
+
 module _ (infos : List ModuleInfo) (wired : List Wired) (info : ModuleInfo) (m : Wired) where
   old_kept : (k : ℕ) → k < length wired → IsWiredModule infos wired k (module_at wired k) → IsWiredModule (infos ++ info ∷ []) (wired ++ m ∷ []) k (module_at wired k)
   old_kept k inside w =
@@ -125,8 +129,8 @@ module _ (infos : List ModuleInfo) (wired : List Wired) (info : ModuleInfo) (m :
   -- modules and one that may stand after them
   pub wired-more : AreWired infos wired → HasLawfulRescue info → IsNext wired info.kind m → AreWired (infos ++ info ∷ []) (wired ++ m ∷ [])
   wired-more wiring rescue next = record {
+    rescues = rescues-kept infos info wiring.rescues rescue;
     count = length-append wired (m ∷ []) ∙ (ap (λ n. n + 1) wiring.count ∙ sym (length-append infos (info ∷ [])));
-    rescues = All-append HasLawfulRescue infos (info ∷ []) wiring.rescues (All-cons HasLawfulRescue info [] rescue (All-nil HasLawfulRescue));
     each = λ k inside. ⊎_elim
         (λ h. subst (IsWiredModule (infos ++ info ∷ []) (wired ++ m ∷ []) k) (sym (module-kept wired m k h)) (old_kept k h (wiring.each k h)))
         (λ h. let last : length wired ≡ k = omega (arith, simp length-append at inside) in
@@ -136,4 +140,4 @@ module _ (infos : List ModuleInfo) (wired : List Wired) (info : ModuleInfo) (m :
   }
 
 pub none-wired : AreWired [] []
-none-wired = record { count = refl; rescues = All-nil HasLawfulRescue; each = λ k inside. absurd (omega (arith, inside)) }
+none-wired = record { rescues = tt; count = refl; each = λ k inside. absurd (omega (arith, inside)) }

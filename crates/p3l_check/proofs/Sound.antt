@@ -1,10 +1,15 @@
 -- The modules of a program that keeps the rules fit those that they call.
-use Rattle.std.proofs.Common.{◌≡◌, ℕ, suc, ◌+◌, ◌<◌, ◌≤◌, Bool, true, false, ◌||◌, List, [], ◌∷◌, ◌++◌, map, length, Result, Ok, refl, sym, ap, ◌∙◌, subst, arith, length-append, ⊎_elim}
+use Rattle.std.proofs.Common.{◌≡◌, ℕ, suc, ℤ, ◌+◌, ◌<◌, ◌≤◌, Bool, true, false, ◌||◌, List, [], ◌∷◌, ◌++◌, map, length, IsTrue, IfSome, Option, Some, None, Result, Ok, refl, sym, ap, ◌∙◌, subst, arith, length-append, ⊎_elim}
 use Rattle.std.specs.Prelude.{◌==◌}
 use Rattle.std.proofs.Math.Seq.{get_or-append_seam}
 use Rattle.std.proofs.lemmas.Bool.{cases_lt, eqb-false}
 use Rattle.std.proofs.lemmas.List.{get_or_append_left}
+use Rattle.p3l_ast.specs.declared.position.Pos.{Pos}
 use Rattle.p3l_ast.specs.declared.port.Port.{Port}
+use Rattle.p3l_ast.specs.declared.module.Kind.{Kind}
+use Rattle.p3l_ast.specs.declared.module.Kind.TheVariants as kinds
+use Rattle.p3l_ast.specs.declared.module.Rescue.{Rescue}
+use Rattle.p3l_ast.specs.declared.module.Clauses.{Clauses}
 use Rattle.p3l_ast.specs.declared.refusal.Fault.{Fault}
 use Rattle.p3l_ast.specs.declared.refusal.Fault.TheVariants.{Expected, Twice}
 use Rattle.p3l_ast.specs.declared.refusal.SourceRefusal.{SourceRefusal}
@@ -15,7 +20,7 @@ use Rattle.p3l_body.specs.declared.var.Var.{Var}
 use Rattle.p3l_body.specs.declared.ports.Ports.{Ports}
 use Rattle.p3l_body.specs.Scope.{Names, named, declared_one, declared}
 use Rattle.p3l_body.specs.Seq.{ports_of}
-use Rattle.p3l_skel.specs.Lawful.{HasLawfulRescue}
+use Rattle.p3l_skel.specs.Lawful.{may_rescue, HasLawfulRescue}
 use Rattle.p3l_unfold.specs.declared.wired.Wired.{Wired}
 use Rattle.p3l_unfold.specs.Wiring.{module_at}
 use Rattle.p3l_calls.specs.Port.{total, AreSized}
@@ -26,8 +31,9 @@ use Rattle.p3l_check.specs.declared.defined.Defined.{Defined}
 use Rattle.p3l_check.specs.Modules.{Modules, no_modules, no_ports, ports_at, with_module}
 use Rattle.p3l_check.specs.Places.{defines}
 use Rattle.p3l_check.specs.Environment.{Before}
+use Rattle.p3l_check.specs.Clauses.{no_rescue, rescue_in}
 use Rattle.p3l_check.specs.Skeleton.{skeleton_of}
-use Rattle.p3l_check.specs.Entry.{Checked, none_checked, new_name, ports_in, body_in, info_of, defined_as, defined_in, before_in, checked_entry, checked_entries}
+use Rattle.p3l_check.specs.Entry.{Checked, none_checked, new_name, ports_in, body_in, kind_in, info_of, defined_as, defined_in, before_in, checked_entry, checked_entries}
 use Rattle.p3l_check.specs.Wired.{AreWired}
 use Rattle.p3l_check.proofs.Kept.{IsNext, wired-more, none-wired, module-kept, module-last}
 use Rattle.p3l_check.proofs.Staged.{HavePorts}
@@ -96,6 +102,26 @@ some_if_not : (a b : Bool) → (a || b) ≡ false → (a ≡ false) × (b ≡ fa
 some_if_not true b e = absurd cc
 some_if_not false b e = (refl, e)
 
+-- only a `seq` or a `comp` that passes has a rescue number
+
+rescue-allowed : (rescue : Option ℤ) → IfSome rescue (λ number. IsTrue true)
+rescue-allowed None = tt
+rescue-allowed (Some number) = refl
+
+rescue-none : (pos : Pos) (clause : Option Rescue) (rescue : Option ℤ) (P : ℤ → Type 0) → no_rescue pos clause ≡ Ok rescue → IfSome rescue P
+rescue-none pos None rescue P e = let none : None ≡ rescue = cc in subst (λ r. IfSome r P) none tt
+rescue-none pos (Some clause) rescue P e = absurd cc
+
+rescue-lawful : (kind : Kind) (pos : Pos) (constants : Constants) (clauses : Clauses) (rescue : Option ℤ) → rescue_in kind pos constants clauses ≡ Ok rescue →
+    IfSome rescue (λ number. IsTrue (may_rescue (kind_in kind)))
+rescue-lawful kinds.Seq pos constants clauses rescue e = rescue-allowed rescue
+rescue-lawful kinds.Comp pos constants clauses rescue e = rescue-allowed rescue
+rescue-lawful kinds.Pipe pos constants clauses rescue e = rescue-none pos clauses.rescue rescue (λ number. IsTrue false) e
+rescue-lawful kinds.Farm pos constants clauses rescue e = rescue-none pos clauses.rescue rescue (λ number. IsTrue false) e
+rescue-lawful kinds.Map pos constants clauses rescue e = rescue-none pos clauses.rescue rescue (λ number. IsTrue false) e
+rescue-lawful kinds.Reduce pos constants clauses rescue e = rescue-none pos clauses.rescue rescue (λ number. IsTrue false) e
+rescue-lawful kinds.Loop pos constants clauses rescue e = rescue-none pos clauses.rescue rescue (λ number. IsTrue false) e
+
 -- the ports of a module that passes: sized, and some
 pub record AreGood (ports : Ports) : Type 0 where
   pub ins : AreSized ports.ins
@@ -119,13 +145,14 @@ ports-good constants m ports e =
 pub next-follows : (before : Before) (m : ModuleTree) (d : Defined) → AreSound before.modules → defined_in before m ≡ Ok d → MayFollow before.modules d
 next-follows before m d sound e =
     let ports = given-taken (ports_in before.constants m) _ d e in
-    let skeleton = given-taken (skeleton_of m.kind before m ports.0) _ d ports.2 in
-    let is : defined_as (info_of m) ports.0 skeleton.0 ≡ d = cc (skeleton.2) in
+    let rescue = given-taken (rescue_in m.kind m.at.pos before.constants m.clauses) _ d ports.2 in
+    let skeleton = given-taken (skeleton_of m.kind before m ports.0) _ d rescue.2 in
+    let is : defined_as (info_of m rescue.0) ports.0 skeleton.0 ≡ d = cc (skeleton.2) in
     let good = ports-good before.constants m ports.0 ports.1 in
     let fits = skeleton-fits before sound.wiring.count sound.have (λ k inside. (sound.wiring.each k inside).ins.0) m ports.0 m.kind good.ins good.outs good.some_outs skeleton.0 skeleton.1 in
     subst (MayFollow before.modules) is
     (record {
-      rescue = tt;
+      rescue = rescue-lawful m.kind m.at.pos before.constants m.clauses rescue.0 rescue.1;
       next = record {
         kind_is = fits.kind_is;
         ins = (good.some_ins, good.ins.few_words);

@@ -1,14 +1,18 @@
 -- The numbers of a module's clauses.
-use Rattle.std.specs.Prelude.{ℕ, ◌==◌, Bool, List, [], ◌∷◌, Result, Ok, Err, Option, Some, None, min, if◌then◌else◌}
+use Rattle.std.specs.Prelude.{ℕ, ℤ, ◌==◌, Bool, List, [], ◌∷◌, Result, Ok, Err, Option, Some, None, min, if◌then◌else◌}
 use Rattle.std.specs.List.{list_any}
 use Rattle.p3l_ast.specs.declared.position.Pos.{Pos}
 use Rattle.p3l_ast.specs.declared.refusal.Fault.TheVariants.{Expected, BadWorkers}
 use Rattle.p3l_ast.specs.declared.refusal.SourceRefusal.{SourceRefusal}
 use Rattle.p3l_ast.specs.declared.refusal.SourceRefusal.TheVariants.{At}
 use Rattle.p3l_ast.specs.declared.port.Num.{Num}
+use Rattle.p3l_ast.specs.declared.module.Kind.{Kind}
+use Rattle.p3l_ast.specs.declared.module.Kind.TheVariants as kinds
+use Rattle.p3l_ast.specs.declared.module.Rescue.{Rescue}
+use Rattle.p3l_ast.specs.declared.module.Clauses.{Clauses}
 use Rattle.p3l_types.specs.Verdict.{given}
 use Rattle.p3l_types.specs.Constants.{Constants, place_of}
-use Rattle.p3l_body.specs.Seq.{limited}
+use Rattle.p3l_body.specs.Seq.{limited, budget_of, rescue_of}
 
 -- the workers of a farm or a map: 1 to so many; none without a clause
 abbrev pub workers_upto : ℕ → Constants → Option Num → Result (Option ℕ) SourceRefusal
@@ -48,3 +52,20 @@ turns_of pos constants (Some num) = limited 1 65536 constants num
 abbrev pub tokens_of : Constants → Option Num → Result ℕ SourceRefusal
 tokens_of constants None = Ok 4
 tokens_of constants (Some num) = limited 1 1024 constants num
+
+-- no rescue, which is all that texts spell of modules that are neither `seq` nor `comp`
+abbrev pub no_rescue : Pos → Option Rescue → Result (Option ℤ) SourceRefusal
+no_rescue pos None = Ok None
+no_rescue pos (Some rescue) = Err (At Expected pos)
+
+-- the rescue number of a module that stands at a place, if it has one; the rule of a `seq` module's budget
+-- comes before it
+abbrev pub rescue_in : Kind → Pos → Constants → Clauses → Result (Option ℤ) SourceRefusal
+rescue_in kinds.Seq pos constants clauses =
+    given (budget_of constants clauses.budget) (λ budget. rescue_of constants clauses.rescue)
+rescue_in kinds.Comp pos constants clauses = rescue_of constants clauses.rescue
+rescue_in kinds.Pipe pos constants clauses = no_rescue pos clauses.rescue
+rescue_in kinds.Farm pos constants clauses = no_rescue pos clauses.rescue
+rescue_in kinds.Map pos constants clauses = no_rescue pos clauses.rescue
+rescue_in kinds.Reduce pos constants clauses = no_rescue pos clauses.rescue
+rescue_in kinds.Loop pos constants clauses = no_rescue pos clauses.rescue

@@ -24,6 +24,7 @@ use Rattle.p3l_check.specs.declared.progress.Progress.{Progress}
 use Rattle.p3l_check.specs.Modules.{Modules, no_modules, number_of, with_module}
 use Rattle.p3l_check.specs.Places.{defines}
 use Rattle.p3l_check.specs.Environment.{Before}
+use Rattle.p3l_check.specs.Clauses.{rescue_in}
 use Rattle.p3l_check.specs.Skeleton.{skeleton_of}
 
 -- what the entries so far come to: constants, modules, and the checked bodies of `seq` modules
@@ -92,9 +93,9 @@ kind_in kinds.Map = skeletons.Map
 kind_in kinds.Reduce = skeletons.Reduce
 kind_in kinds.Loop = skeletons.Loop
 
--- a module with its name
-abbrev pub info_of : ModuleTree → ModuleInfo
-info_of m = record { name = m.at.name; kind = kind_in m.kind; rescue = None }
+-- a module with its name and its rescue number
+abbrev pub info_of : ModuleTree → Option ℤ → ModuleInfo
+info_of m rescue = record { name = m.at.name; kind = kind_in m.kind; rescue = rescue }
 
 -- a module of these ports and this skeleton
 abbrev pub defined_as : ModuleInfo → Ports → Skeleton → Defined
@@ -110,12 +111,13 @@ defined_as info ports skeleton = record {
   };
 }
 
--- a module as the entries after it see it: its ports, and then its clauses and calls
+-- a module as the entries after it see it: its ports, its rescue number, and then its other clauses and calls
 abbrev pub defined_in : Before → ModuleTree → Result Defined SourceRefusal
 defined_in before m =
     given (ports_in before.constants m)
-    (λ ports. given (skeleton_of m.kind before m ports)
-    (λ skeleton. Ok (defined_as (info_of m) ports skeleton)))
+    (λ ports. given (rescue_in m.kind m.at.pos before.constants m.clauses)
+    (λ rescue. given (skeleton_of m.kind before m ports)
+    (λ skeleton. Ok (defined_as (info_of m rescue) ports skeleton))))
 
 abbrev pub before_in : Checked → (List ℕ → Bool) → Before
 before_in checked is_ahead = record { constants = checked.constants; modules = checked.modules; is_ahead = is_ahead }

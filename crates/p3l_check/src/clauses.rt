@@ -1,10 +1,10 @@
 // The numbers of a module's clauses.
 
 ghost use Rattle.std.specs.Prelude.{◌≡◌};
-ghost use Rattle.p3l_check.specs.Clauses.{workers_upto, farm_workers, map_workers, is_power, as_power, reduce_workers, turns_of, tokens_of};
+ghost use Rattle.p3l_check.specs.Clauses.{workers_upto, farm_workers, map_workers, is_power, as_power, reduce_workers, turns_of, tokens_of, no_rescue, rescue_in};
 
-use p3l_ast::{Fault, Num, Pos, SourceRefusal};
-use p3l_body::limited;
+use p3l_ast::{Clauses, Fault, Kind, Num, Pos, Rescue, SourceRefusal};
+use p3l_body::{budget_of, limited, rescue_of};
 use p3l_types::{Consts, place_of};
 
 /// The most workers of a farm or a map, and segments of a reduce.
@@ -109,5 +109,40 @@ pub fn tokens_of(consts: &Consts, clause: &Option<Num>) -> Result<u32, SourceRef
     match clause {
         Some(num) => limited(1, MOST_TOKENS, consts, num),
         None => Ok(USUAL_TOKENS),
+    }
+}
+
+/// No rescue, as no text spells one of the module at this place.
+fn no_rescue(pos: Pos, clause: &Option<Rescue>) -> Result<Option<i64>, SourceRefusal>
+    ensures { result ≡ no_rescue pos clause.now }
+{
+    match clause {
+        Some(_) => Err(SourceRefusal::At {
+            fault: Fault::Expected,
+            pos,
+        }),
+        None => Ok(None),
+    }
+}
+
+/// The rescue number of a module that stands at this place, if it has one, after the rule of a
+/// `seq` module's budget.
+pub fn rescue_in(
+    kind: Kind,
+    pos: Pos,
+    consts: &Consts,
+    clauses: &Clauses,
+) -> Result<Option<i64>, SourceRefusal>
+    ensures { result ≡ rescue_in kind pos consts.now clauses.now }
+{
+    match kind {
+        Kind::Seq => {
+            budget_of(consts, &clauses.budget)?;
+            rescue_of(consts, &clauses.rescue)
+        }
+        Kind::Comp => rescue_of(consts, &clauses.rescue),
+        Kind::Pipe | Kind::Farm | Kind::Map | Kind::Reduce | Kind::Loop => {
+            no_rescue(pos, &clauses.rescue)
+        }
     }
 }

@@ -12,6 +12,7 @@ ghost use Rattle.p3l_check.specs.Environment.{before_of};
 ghost use Rattle.p3l_check.specs.Places.{defined_from};
 ghost use Rattle.p3l_check.specs.Entry.{none_checked, checked_of, checked_result, new_name, ports_in, body_in, body_tree, kind_in, info_of, defined_as, defined_in, added_result, with_body, with_passed, passed_result, checked_module, checked_entry, checked_entries};
 
+use crate::clauses::rescue_in;
 use crate::defined::Defined;
 use crate::environment::Environment;
 use crate::modules::Modules;
@@ -59,14 +60,14 @@ fn kind_in(kind: Kind) -> ModuleKind
     }
 }
 
-/// A module with its name.
-fn info_of(alloc: Global, module: &Module) -> Result<ModuleInfo, NoMemory>
-    ensures { IfOk result (λ info. info ≡ info_of (module_tree «module».now)) }
+/// A module with its name and its rescue number.
+fn info_of(alloc: Global, module: &Module, rescue: Option<i64>) -> Result<ModuleInfo, NoMemory>
+    ensures { IfOk result (λ info. info ≡ info_of (module_tree «module».now) rescue) }
 {
     Ok(ModuleInfo {
         name: Name::from_text(alloc, module.at.name.as_str())?,
         kind: kind_in(module.kind),
-        rescue: None,
+        rescue,
     })
 }
 
@@ -153,19 +154,21 @@ fn defined_as(info: ModuleInfo, ports: Ports, skeleton: Skeleton) -> Defined
     Defined { info, ports, wired }
 }
 
-/// A module as the entries after it see it: its ports, and then its clauses and calls.
+/// A module as the entries after it see it: its ports, its rescue number, and then its other clauses
+/// and calls.
 fn defined_in(
     alloc: Global,
     env: Environment<'_>,
     module: &Module,
 ) -> Result<Defined, SourceRefusal>
     ensures defined { Gives result (defined_in (before_of env.entry) (module_tree «module».now)) }
-    ensures info { IfOk result (λ defined. defined.info ≡ info_of (module_tree «module».now)) }
+    ensures name { IfOk result (λ defined. defined.info.name ≡ «module».now.at.name) }
 {
     let mut scope = Scope::new(alloc);
     let ports = ports_in(alloc, env.consts, &mut scope, module)?;
+    let rescue = rescue_in(module.kind, module.at.pos, env.consts, &module.clauses)?;
     let skeleton = skeleton_of(alloc, env, module, &mut scope, &ports)?;
-    let info = info_of(alloc, module)?;
+    let info = info_of(alloc, module, rescue)?;
     Ok(defined_as(info, ports, skeleton))
 }
 
@@ -229,7 +232,7 @@ impl<'a> Progress<'a> {
         module: &'a Module,
     ) -> Result<Passed<'a>, SourceRefusal>
         ensures passed { Gives (passed_result (checked_of self.now) result) (checked_module (checked_of self.now) (defined_from places.now from) (module_tree «module».now)) }
-        ensures info { IfOk result (λ passed. passed.defined.info ≡ info_of (module_tree «module».now)) }
+        ensures name { IfOk result (λ passed. passed.defined.info.name ≡ «module».now.at.name) }
         ensures room { IfOk result (λ passed. length self.now.modules.infos + 1 < 2 ^ 32) }
     {
         let home = self.modules.len();

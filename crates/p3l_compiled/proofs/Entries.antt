@@ -1,5 +1,5 @@
 -- What the entries of a program come to: modules with names, and a body for each `seq` module.
-use Rattle.std.proofs.Common.{◌≡◌, ℕ, ◌+◌, Bool, cond, List, [], ◌∷◌, ◌++◌, length, Option, Some, None, Result, Ok, refl, sym, ap, ◌∙◌, subst, arith, length-append}
+use Rattle.std.proofs.Common.{◌≡◌, ℕ, ℤ, ◌+◌, Bool, cond, List, [], ◌∷◌, ◌++◌, length, Option, Some, None, Result, Ok, refl, sym, ap, ◌∙◌, subst, arith, length-append}
 use Rattle.std.specs.List.{All, AllByRecursion}
 use Rattle.std.proofs.lemmas.List.Elements.{All-from_recursion}
 use Rattle.std.proofs.lemmas.List.Sums.{sum_by-append}
@@ -16,6 +16,7 @@ use Rattle.p3l_units.specs.Table.{is_seq_kind, one_if_seq}
 use Rattle.p3l_calls.proofs.Kept.{given-taken}
 use Rattle.p3l_check.specs.declared.defined.Defined.{Defined}
 use Rattle.p3l_check.specs.Environment.{Before}
+use Rattle.p3l_check.specs.Clauses.{rescue_in}
 use Rattle.p3l_check.specs.Skeleton.{skeleton_of}
 use Rattle.p3l_check.specs.Entry.{Checked, none_checked, new_name, ports_in, body_in, with_body, kind_in, info_of, defined_as, defined_in, before_in, with_checked, checked_module, with_constant, checked_entry, checked_entries}
 use Rattle.p3l_check.specs.Places.{defines}
@@ -69,19 +70,27 @@ bodies_more seqs kinds.Map constants home m seq e = none_more seqs seq e
 bodies_more seqs kinds.Reduce constants home m seq e = none_more seqs seq e
 bodies_more seqs kinds.Loop constants home m seq e = none_more seqs seq e
 
--- what a module is defined with has its name and its kind
-info_is : (before : Before) (m : ModuleTree) (d : Defined) → defined_in before m ≡ Ok d → info_of m ≡ d.info
-info_is before m d e =
+-- what a module is defined with has its name, its kind and some rescue number or none
+record HasInfoOf (m : ModuleTree) (d : Defined) : Type 0 where
+  rescue : Option ℤ
+  info_is : info_of m rescue ≡ d.info
+
+info_of_defined : (before : Before) (m : ModuleTree) (d : Defined) → defined_in before m ≡ Ok d → HasInfoOf m d
+info_of_defined before m d e =
     let ports = given-taken (ports_in before.constants m) _ d e in
-    let skeleton = given-taken (skeleton_of m.kind before m ports.0) _ d ports.2 in
-    ap (λ (x : Defined). x.info) (ok_same (defined_as (info_of m) ports.0 skeleton.0) d skeleton.2)
+    let rescue = given-taken (rescue_in m.kind m.at.pos before.constants m.clauses) _ d ports.2 in
+    let skeleton = given-taken (skeleton_of m.kind before m ports.0) _ d rescue.2 in
+    record {
+      rescue = rescue.0;
+      info_is = ap (λ (x : Defined). x.info) (ok_same (defined_as (info_of m rescue.0) ports.0 skeleton.0) d skeleton.2);
+    }
 
 module_named : (checked next : Checked) (is_ahead : List ℕ → Bool) (m : ModuleTree) → AreNamed checked → HasNameOf (defined m) →
     checked_module checked is_ahead m ≡ Ok next → AreNamed next
 module_named checked next is_ahead m are has e =
     let d = given-taken (defined_in (before_in checked is_ahead) m) _ next e in
     let seq = given-taken (body_in m.kind checked.constants (length checked.modules.infos) m) _ next d.2 in
-    let info = info_is (before_in checked is_ahead) m d.0 d.1 in
+    let info = (info_of_defined (before_in checked is_ahead) m d.0 d.1).info_is in
     let count = bodies_more checked.seqs m.kind checked.constants (length checked.modules.infos) m seq.0 seq.1 in
     subst AreNamed (ok_same (with_checked checked d.0 seq.0) next seq.2)
     (record {

@@ -1,9 +1,10 @@
 -- What is written is read: expressions, statements, and whole texts.
-use Rattle.std.proofs.Common.{◌≡◌, ℕ, ◌<◌, ◌≤◌, List, [], ◌∷◌, ◌++◌, Option, Some, None, true, false, refl, sym, ap, ◌∙◌, arith, append_assoc, append-nil}
+use Rattle.std.proofs.Common.{◌≡◌, ℕ, ◌<◌, ◌≤◌, List, [], ◌∷◌, ◌++◌, Option, Some, None, Bool, true, false, refl, sym, ap, ◌∙◌, arith, append_assoc, append-nil}
 use Rattle.std.specs.Prelude.{nat_le}
 use Rattle.std.proofs.lemmas.Bool.Decides.{nat_tests}
 use Rattle.p3l_ast.specs.declared.position.Spot.{Spot}
 use Rattle.p3l_ast.specs.declared.port.Num.{Num}
+use Rattle.p3l_ast.specs.declared.port.Num.TheVariants.{Digits, Named}
 use Rattle.p3l_ast.specs.declared.port.Port.{Port}
 use Rattle.p3l_ast.specs.declared.call.Call.{Call}
 use Rattle.p3l_ast.specs.declared.expression.UnOp.{UnOp}
@@ -12,6 +13,7 @@ use Rattle.p3l_ast.specs.declared.expression.BinOp.{BinOp}
 use Rattle.p3l_ast.specs.declared.expression.BinOp.TheVariants as ops
 use Rattle.p3l_ast.specs.declared.module.Kind.{Kind}
 use Rattle.p3l_ast.specs.declared.module.Kind.TheVariants as kinds
+use Rattle.p3l_ast.specs.declared.module.Rescue.{Rescue}
 use Rattle.p3l_ast.specs.Tree.{Phrase, read, binary, Phrases, none, more, snoc, Statements, done, assign, if_, if_else, while_, for_, join, EntryTree}
 use Rattle.p3l_ast.proofs.Trees.{join_done, join_join}
 use Rattle.p3l_lexer.specs.declared.mark.Mark.{Mark}
@@ -19,10 +21,10 @@ use Rattle.p3l_lexer.specs.declared.mark.Mark.TheVariants as marks
 use Rattle.p3l_ast.specs.Notation.{level}
 use Rattle.p3l_grammar.specs.Symbol.{Symbol, sign, unary_mark, kind_mark}
 use Rattle.p3l_grammar.specs.Written as written
-use Rattle.p3l_grammar.specs.Written.{Formula, numeral, place, prefix, infix_, paren, Formulas, no_index, index, Script, stop, set, Signature, Passage, fixed, bodied, chained, spread, turned, tight, IsGrouped, AreGrouped, IsScript, HasOne, IsSignature, IsCall, AreCalls, IsChain, IsPassage, IsText, each, num_symbol, spell_call, spell, spell_index, spell_set, spell_script, spell_signature, spell_clause, spell_local, spell_end, spell_passage, spell_text, tree, trees, script_tree, passage_tree, text_tree}
-use Rattle.p3l_grammar.specs.Parser.{need, Parser, entries, await, any_num, clause, another_call, another_local, operand, another_index, value, another_stmt, maybe_else, Hole, whole, after_unary, after_binary, expression, call, block, setting_from, setting, end_of, otherwise, operand_step, infix_of, level_of, operator_step, step, value_step}
+use Rattle.p3l_grammar.specs.Written.{Formula, numeral, place, prefix, infix_, paren, Formulas, no_index, index, Script, stop, set, Signature, Passage, fixed, bodied, chained, spread, turned, tight, IsGrouped, AreGrouped, IsScript, HasOne, IsSignature, IsCall, AreCalls, IsChain, IsPassage, IsText, each, num_symbol, spell_call, spell, spell_index, spell_set, spell_script, spell_signature, spell_clause, spell_signed, spell_rescue, spell_rescue_clause, spell_local, spell_end, spell_passage, spell_text, tree, trees, script_tree, passage_tree, text_tree}
+use Rattle.p3l_grammar.specs.Parser.{need, Parser, entries, await, any_num, clause, any_rescue, rescue_clause, another_call, another_local, operand, another_index, value, another_stmt, maybe_else, Hole, whole, after_unary, after_binary, expression, call, block, setting_from, setting, end_of, otherwise, operand_step, infix_of, level_of, operator_step, step, value_step}
 use Rattle.p3l_grammar.proofs.Runs.{bind, run}
-use Rattle.p3l_grammar.proofs.Signatures.{bodied_tree, chained_tree, spread_tree, turned_tree, bodied_from, chained_from, spread_from, turned_from, PassesLocal, locals_run, signature_runs, call_from_runs, more_calls_run, num_runs}
+use Rattle.p3l_grammar.proofs.Signatures.{bodied_tree, chained_tree, spread_tree, turned_tree, bodied_from, chain_from, piped_from, composed_from, spread_from, turned_from, PassesLocal, locals_run, signature_runs, call_from_runs, more_calls_run, num_runs}
 
 pub level_small : (o : BinOp) → level o ≤ 9
 level_small ops.Or = omega arith
@@ -185,9 +187,26 @@ script_no_local (written.if_else e t f c) r ls go = refl
 script_no_local (written.while_ e t c) r ls go = refl
 script_no_local (written.for_ x is e w y js f t c) r ls go = refl
 
-budget_runs : (b : Option Num) (go : Option Num → Parser) (r : List Symbol) → run (clause marks.Budget go) (spell_clause marks.Budget b (sign marks.OpenBody ∷ r)) ≡ run (go b) (sign marks.OpenBody ∷ r)
-budget_runs None go r = refl
-budget_runs (Some n) go r = num_runs n (λ m. go (Some m)) (sign marks.OpenBody ∷ r)
+-- a number after a minus or without one
+signed_runs : (minus : Bool) (n : Num) (go : Rescue → Parser) (r : List Symbol) → run (any_rescue go) (spell_signed minus n r) ≡ run (go (record { minus = minus; num = n })) r
+signed_runs true n go r = num_runs n (λ m. go (record { minus = true; num = m })) r
+signed_runs false (Digits v p) go r = refl
+signed_runs false (Named x) go r = refl
+
+-- a rescue or none, before the body of a `seq` and before the first call of a `comp`
+
+body_rescue_runs : (x : Option Rescue) (go : Option Rescue → Parser) (r : List Symbol) → run (rescue_clause go) (spell_rescue_clause x (sign marks.OpenBody ∷ r)) ≡ run (go x) (sign marks.OpenBody ∷ r)
+body_rescue_runs None go r = refl
+body_rescue_runs (Some x) go r = signed_runs x.minus x.num (λ y. go (Some y)) (sign marks.OpenBody ∷ r)
+
+call_rescue_runs : (x : Option Rescue) (go : Option Rescue → Parser) (c : Call) (r : List Symbol) → run (rescue_clause go) (spell_rescue_clause x (spell_call c r)) ≡ run (go x) (spell_call c r)
+call_rescue_runs None go c r = refl
+call_rescue_runs (Some x) go c r = signed_runs x.minus x.num (λ y. go (Some y)) (spell_call c r)
+
+budget_runs : (b : Option Num) (x : Option Rescue) (go : Option Num → Parser) (r : List Symbol) → run (clause marks.Budget go) (spell_clause marks.Budget b (spell_rescue_clause x (sign marks.OpenBody ∷ r))) ≡ run (go b) (spell_rescue_clause x (sign marks.OpenBody ∷ r))
+budget_runs None None go r = refl
+budget_runs None (Some x) go r = refl
+budget_runs (Some n) x go r = num_runs n (λ m. go (Some m)) (spell_rescue_clause x (sign marks.OpenBody ∷ r))
 
 workers_run : (w : Option Num) (go : Option Num → Parser) (c : Call) (r : List Symbol) → run (clause marks.Workers go) (spell_clause marks.Workers w (spell_call c r)) ≡ run (go w) (spell_call c r)
 workers_run None go c r = refl
@@ -197,13 +216,25 @@ tokens_run : (w : Option Num) (go : Option Num → Parser) (c : Call) (r : List 
 tokens_run None go c r = refl
 tokens_run (Some n) go c r = num_runs n (λ m. go (Some m)) (spell_call c r)
 
-chained_runs : (k : Kind) (h : Signature) (cs : List Call) (go : EntryTree → Parser) (r : List Symbol) → IsChain k → IsSignature h → HasOne cs → AreCalls cs → run (chained_from k go) (spell_signature h (each spell_call cs (spell_end k r))) ≡ run (end_of k (go (chained_tree k h cs))) (spell_end k r)
-chained_runs k h [] go r i j l m = absurd l
-chained_runs k h (c ∷ cs) go r i j l m =
-    let after = λ (h' : Signature) (ds : List Call). end_of k (go (chained_tree k h' ds)) in
-    signature_runs h (λ h'. call (λ d. another_call (d ∷ []) (after h'))) (each spell_call (c ∷ cs) (spell_end k r)) j
-    ∙ call_from_runs c (λ d. another_call (d ∷ []) (after h)) (each spell_call cs (spell_end k r)) m.0
-    ∙ more_calls_run cs (c ∷ []) (after h) marks.End (sign (kind_mark k) ∷ r) m.1
+-- the calls of a `pipe` or a `comp`
+chain_runs : (k : Kind) (h : Signature) (x : Option Rescue) (c : Call) (cs : List Call) (go : EntryTree → Parser) (r : List Symbol) → IsCall c → AreCalls cs → run (chain_from k h x go) (each spell_call (c ∷ cs) (spell_end k r)) ≡ run (end_of k (go (chained_tree k h x (c ∷ cs)))) (spell_end k r)
+chain_runs k h x c cs go r i j =
+    let after = λ (ds : List Call). end_of k (go (chained_tree k h x ds)) in
+    call_from_runs c (λ d. another_call (d ∷ []) after) (each spell_call cs (spell_end k r)) i
+    ∙ more_calls_run cs (c ∷ []) after marks.End (sign (kind_mark k) ∷ r) j
+
+piped_runs : (h : Signature) (cs : List Call) (go : EntryTree → Parser) (r : List Symbol) → IsSignature h → HasOne cs → AreCalls cs → run (piped_from go) (spell_signature h (each spell_call cs (spell_end kinds.Pipe r))) ≡ run (go (chained_tree kinds.Pipe h None cs)) r
+piped_runs h [] go r j l m = absurd l
+piped_runs h (c ∷ cs) go r j l m =
+    signature_runs h (λ g. chain_from kinds.Pipe g None go) (each spell_call (c ∷ cs) (spell_end kinds.Pipe r)) j
+    ∙ chain_runs kinds.Pipe h None c cs go r m.0 m.1
+
+composed_runs : (h : Signature) (x : Option Rescue) (cs : List Call) (go : EntryTree → Parser) (r : List Symbol) → IsSignature h → HasOne cs → AreCalls cs → run (composed_from go) (spell_signature h (spell_rescue_clause x (each spell_call cs (spell_end kinds.Comp r)))) ≡ run (go (chained_tree kinds.Comp h x cs)) r
+composed_runs h x [] go r j l m = absurd l
+composed_runs h x (c ∷ cs) go r j l m =
+    signature_runs h (λ g. rescue_clause (λ y. chain_from kinds.Comp g y go)) (spell_rescue_clause x (each spell_call (c ∷ cs) (spell_end kinds.Comp r))) j
+    ∙ call_rescue_runs x (λ y. chain_from kinds.Comp h y go) c (each spell_call cs (spell_end kinds.Comp r))
+    ∙ chain_runs kinds.Comp h x c cs go r m.0 m.1
 
 kind_ends : (k : Kind) (s : Parser) (r : List Symbol) → run (end_of k s) (spell_end k r) ≡ run s r
 kind_ends kinds.Seq s r = refl
@@ -233,24 +264,23 @@ turned_runs h t n b c go r i j l =
     ∙ call_from_runs b (λ b'. await marks.While (call (last h t n b'))) (sign marks.While ∷ spell_call c (spell_end kinds.Loop r)) j
     ∙ call_from_runs c (last h t n b) (spell_end kinds.Loop r) l
 
-bodied_runs : (h : Signature) (b : Option Num) (ls : List Port) (c : Script) (go : EntryTree → Parser) (r : List Symbol) → IsSignature h → IsScript c → run (bodied_from go) (spell_signature h (spell_clause marks.Budget b (sign marks.OpenBody ∷ each spell_local ls (spell_script c (sign marks.CloseBody ∷ spell_end kinds.Seq r))))) ≡ run (go (bodied_tree h b ls (script_tree c))) r
-bodied_runs h b ls c go r i j =
-    let last = λ (h' : Signature) (b' : Option Num) (ls' : List Port) (c' : Statements). await marks.CloseBody (end_of kinds.Seq (go (bodied_tree h' b' ls' c'))) in
-    let inside = λ (h' : Signature) (b' : Option Num). another_local [] (λ ls'. another_stmt done (last h' b' ls')) in
+bodied_runs : (h : Signature) (b : Option Num) (x : Option Rescue) (ls : List Port) (c : Script) (go : EntryTree → Parser) (r : List Symbol) → IsSignature h → IsScript c → run (bodied_from go) (spell_signature h (spell_clause marks.Budget b (spell_rescue_clause x (sign marks.OpenBody ∷ each spell_local ls (spell_script c (sign marks.CloseBody ∷ spell_end kinds.Seq r)))))) ≡ run (go (bodied_tree h b x ls (script_tree c))) r
+bodied_runs h b x ls c go r i j =
+    let last = λ (h' : Signature) (b' : Option Num) (x' : Option Rescue) (ls' : List Port) (c' : Statements). await marks.CloseBody (end_of kinds.Seq (go (bodied_tree h' b' x' ls' c'))) in
+    let inside = λ (h' : Signature) (b' : Option Num) (x' : Option Rescue). another_local [] (λ ls'. another_stmt done (last h' b' x' ls')) in
     let rest = spell_script c (sign marks.CloseBody ∷ spell_end kinds.Seq r) in
-    signature_runs h (λ h'. clause marks.Budget (λ b'. await marks.OpenBody (inside h' b'))) (spell_clause marks.Budget b (sign marks.OpenBody ∷ each spell_local ls rest)) i
-    ∙ budget_runs b (λ b'. await marks.OpenBody (inside h b')) (each spell_local ls rest)
-    ∙ locals_run ls [] (λ ls'. another_stmt done (last h b ls')) rest (script_no_local c (spell_end kinds.Seq r))
-    ∙ script_runs c done (last h b ls) (sign marks.CloseBody ∷ spell_end kinds.Seq r) j (λ d go'. refl) (λ d t e go'. refl)
+    signature_runs h (λ h'. clause marks.Budget (λ b'. rescue_clause (λ x'. await marks.OpenBody (inside h' b' x')))) (spell_clause marks.Budget b (spell_rescue_clause x (sign marks.OpenBody ∷ each spell_local ls rest))) i
+    ∙ budget_runs b x (λ b'. rescue_clause (λ x'. await marks.OpenBody (inside h b' x'))) (each spell_local ls rest)
+    ∙ body_rescue_runs x (λ x'. await marks.OpenBody (inside h b x')) (each spell_local ls rest)
+    ∙ locals_run ls [] (λ ls'. another_stmt done (last h b x ls')) rest (script_no_local c (spell_end kinds.Seq r))
+    ∙ script_runs c done (last h b x ls) (sign marks.CloseBody ∷ spell_end kinds.Seq r) j (λ d go'. refl) (λ d t e go'. refl)
 
 pub passage_runs : (i : Passage) (es : List EntryTree) (r : List Symbol) → IsPassage i → run (entries es) (spell_passage i r) ≡ run (entries (es ++ passage_tree i ∷ [])) r
 passage_runs (fixed x v p) es r h = refl
-passage_runs (bodied h b ls c) es r g = bodied_runs h b ls c (λ e. entries (es ++ e ∷ [])) r g.0 g.1
-passage_runs (chained kinds.Pipe h cs) es r g =
-    chained_runs kinds.Pipe h cs (λ e. entries (es ++ e ∷ [])) r g.0 g.1 g.2 g.3
-passage_runs (chained kinds.Comp h cs) es r g =
-    chained_runs kinds.Comp h cs (λ e. entries (es ++ e ∷ [])) r g.0 g.1 g.2 g.3
-passage_runs (chained _ h cs) es r g = absurd g.0
+passage_runs (bodied h b x ls c) es r g = bodied_runs h b x ls c (λ e. entries (es ++ e ∷ [])) r g.0 g.1
+passage_runs (chained kinds.Pipe h None cs) es r g = piped_runs h cs (λ e. entries (es ++ e ∷ [])) r g.1 g.2 g.3
+passage_runs (chained kinds.Comp h x cs) es r g = composed_runs h x cs (λ e. entries (es ++ e ∷ [])) r g.1 g.2 g.3
+passage_runs (chained _ h x cs) es r g = absurd g.0
 passage_runs (spread kinds.Farm h w c) es r g = spread_runs kinds.Farm h w c (λ e. entries (es ++ e ∷ [])) r g.1 g.2
 passage_runs (spread kinds.Map h w c) es r g = spread_runs kinds.Map h w c (λ e. entries (es ++ e ∷ [])) r g.1 g.2
 passage_runs (spread kinds.Reduce h w c) es r g = spread_runs kinds.Reduce h w c (λ e. entries (es ++ e ∷ [])) r g.1 g.2

@@ -1,17 +1,18 @@
 -- The parser says what is derived, and where no program goes on.
-use Rattle.std.proofs.Common.{◌≡◌, ℕ, suc, ◌≤◌, List, [], ◌∷◌, ◌++◌, length, Option, Some, None, refl, sym, ap, ◌∙◌, subst, arith, append-nil}
+use Rattle.std.proofs.Common.{◌≡◌, ℕ, suc, ◌≤◌, List, [], ◌∷◌, ◌++◌, length, Option, Some, None, false, refl, sym, ap, ◌∙◌, subst, arith, append-nil}
 use Rattle.std.specs.declared.result.Result.TheVariants.{Ok, Err}
 use Rattle.p3l_ast.specs.declared.position.Pos.{Pos}
 use Rattle.p3l_ast.specs.declared.position.Spot.{Spot}
 use Rattle.p3l_ast.specs.declared.port.Num.TheVariants.{Named}
 use Rattle.p3l_ast.specs.declared.call.Sub.TheVariants.{Whole}
 use Rattle.p3l_ast.specs.declared.call.OutArg.TheVariants.{Old}
+use Rattle.p3l_ast.specs.declared.module.Rescue.{Rescue}
 use Rattle.p3l_ast.specs.Tree.{Phrase, unary, binary, done, if_, join, EntryTree}
 use Rattle.p3l_lexer.specs.declared.mark.Mark.TheVariants as marks
 use Rattle.p3l_lexer.specs.declared.token.Token.{Token}
 use Rattle.p3l_grammar.specs.Symbol.{Symbol, symbol, symbols, word, digits, sign}
 use Rattle.p3l_grammar.specs.Written.{Formula, numeral, prefix, infix_, Passage, tight, IsGrouped, IsText, spell, spell_text, tree, text_tree}
-use Rattle.p3l_grammar.specs.Parser.{need, Parser, entries, await, any_word, any_digits, any_num, clause, another_size, any_sub, another_sub, another_port, another_arg, any_out, another_out, another_call, another_local, operand, another_index, value, another_stmt, maybe_else, Hole, whole, after_unary, after_binary, step, finish, value_finish, next, all}
+use Rattle.p3l_grammar.specs.Parser.{need, Parser, entries, await, any_word, any_digits, any_num, clause, any_rescue, rescue_clause, another_size, any_sub, another_sub, another_port, another_arg, any_out, another_out, another_call, another_local, operand, another_index, value, another_stmt, maybe_else, Hole, whole, after_unary, after_binary, step, finish, value_finish, next, all}
 use Rattle.p3l_grammar.proofs.Runs.{bind, run}
 use Rattle.std.specs.Prelude.{pos}
 use Rattle.p3l_grammar.specs.Grammar.{Derives, IsViable}
@@ -62,6 +63,10 @@ mutual
   completes (any_num go) f h =
       passes_on f (λ r. word anyone ∷ r) (completes (go (Named anyone)) (λ r. f (word anyone ∷ r)) (h (Named anyone)))
   completes (clause m go) f h = completes (go None) f (h None)
+  completes (any_rescue go) f h =
+      let x : Rescue = record { minus = false; num = Named anyone } in
+      passes_on f (λ r. word anyone ∷ r) (completes (go x) (λ r. f (word anyone ∷ r)) (h x))
+  completes (rescue_clause go) f h = completes (go None) f (h None)
   completes (another_size ns go) f h = completes (go ns) f (num_stop ns go f h)
   completes (any_sub go) f h =
       passes_on f (λ r. sign marks.CloseBracket ∷ r) (completes (go Whole) (λ r. f (sign marks.CloseBracket ∷ r)) (h Whole))
@@ -126,6 +131,7 @@ mutual
   finish_left : (s : Parser) (left : ℕ) → finish s ≡ Err left → left ≡ 0
   finish_left (entries es) left h = absurd cc
   finish_left (clause m go) left h = finish_left (go None) left h
+  finish_left (rescue_clause go) left h = finish_left (go None) left h
   finish_left (another_size ns go) left h = finish_left (go ns) left h
   finish_left (another_sub ss go) left h = finish_left (go ss) left h
   finish_left (another_port ps go) left h = finish_left (go ps) left h
@@ -141,6 +147,7 @@ mutual
   finish_left (any_word go) left h = cc
   finish_left (any_digits go) left h = cc
   finish_left (any_num go) left h = cc
+  finish_left (any_rescue go) left h = cc
   finish_left (any_sub go) left h = cc
   finish_left (any_out go) left h = cc
   finish_left (operand h') left h = cc
@@ -159,6 +166,7 @@ mutual
   finish_whole : (s : Parser) (f : List Symbol → List Symbol) (es : List EntryTree) → IsRead s f → finish s ≡ Ok es → IsWhole f es
   finish_whole (entries ds) f es h p = (h.0, h.1, h.2, h.3 ∙ (cc))
   finish_whole (clause m go) f es h p = finish_whole (go None) f es (h None) p
+  finish_whole (rescue_clause go) f es h p = finish_whole (go None) f es (h None) p
   finish_whole (another_size ns go) f es h p = finish_whole (go ns) f es (num_stop ns go f h) p
   finish_whole (another_sub ss go) f es h p = finish_whole (go ss) f es (sub_stop ss go f h) p
   finish_whole (another_port ps go) f es h p = finish_whole (go ps) f es (port_stop ps go f h) p
@@ -177,6 +185,7 @@ mutual
   finish_whole (any_word go) f es h p = absurd cc
   finish_whole (any_digits go) f es h p = absurd cc
   finish_whole (any_num go) f es h p = absurd cc
+  finish_whole (any_rescue go) f es h p = absurd cc
   finish_whole (any_sub go) f es h p = absurd cc
   finish_whole (any_out go) f es h p = absurd cc
   finish_whole (operand h') f es h p = absurd cc

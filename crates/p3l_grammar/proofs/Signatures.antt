@@ -9,24 +9,25 @@ use Rattle.p3l_ast.specs.declared.call.Arg.{Arg}
 use Rattle.p3l_ast.specs.declared.call.OutArg.{OutArg}
 use Rattle.p3l_ast.specs.declared.call.OutArg.TheVariants.{Fresh, Old}
 use Rattle.p3l_ast.specs.declared.call.Call.{Call}
-use Rattle.std.specs.Prelude.{Option}
+use Rattle.std.specs.Prelude.{Option, None}
 use Rattle.p3l_ast.specs.declared.module.Kind.{Kind}
 use Rattle.p3l_ast.specs.declared.module.Kind.TheVariants as kinds
+use Rattle.p3l_ast.specs.declared.module.Rescue.{Rescue}
 use Rattle.p3l_ast.specs.Tree.{Statements, done, body, turning, EntryTree}
 use Rattle.p3l_lexer.specs.declared.mark.Mark.{Mark}
 use Rattle.p3l_lexer.specs.declared.mark.Mark.TheVariants as marks
 use Rattle.p3l_grammar.specs.Symbol.{Symbol, sign}
 use Rattle.p3l_grammar.specs.Written.{Signature, HasOne, IsSignature, IsCall, AreCalls, each, after_comma, separated, num_symbol, spell_size, spell_port, spell_sub, spell_arg, spell_out, spell_call, spell_signature, spell_local, body_filling, chain_filling, spread_filling, turning_filling, module_of}
-use Rattle.p3l_grammar.specs.Parser.{Parser, await, any_num, another_size, another_sub, another_port, another_arg, any_out, another_out, another_call, another_local, port, arg, ports, args, out_args, call, head, clause, another_stmt, end_of}
+use Rattle.p3l_grammar.specs.Parser.{Parser, await, any_num, another_size, another_sub, another_port, another_arg, any_out, another_out, another_call, another_local, port, arg, ports, args, out_args, call, head, clause, rescue_clause, another_stmt, end_of}
 use Rattle.p3l_grammar.proofs.Runs.{run}
 
 -- Modules of each form, and what may come after their keywords.
 
-abbrev pub bodied_tree : Signature → Option Num → List Port → Statements → EntryTree
-bodied_tree h b ls c = module_of kinds.Seq h (body_filling b (body ls c))
+abbrev pub bodied_tree : Signature → Option Num → Option Rescue → List Port → Statements → EntryTree
+bodied_tree h b x ls c = module_of kinds.Seq h (body_filling b x (body ls c))
 
-abbrev pub chained_tree : Kind → Signature → List Call → EntryTree
-chained_tree k h cs = module_of k h (chain_filling cs)
+abbrev pub chained_tree : Kind → Signature → Option Rescue → List Call → EntryTree
+chained_tree k h x cs = module_of k h (chain_filling x cs)
 
 abbrev pub spread_tree : Kind → Signature → Option Num → Call → EntryTree
 spread_tree k h w c = module_of k h (spread_filling w c)
@@ -36,11 +37,18 @@ turned_tree h t n b c = module_of kinds.Loop h (turning_filling t n (turning b c
 
 abbrev pub bodied_from : (EntryTree → Parser) → Parser
 bodied_from go =
-    head (λ h. clause marks.Budget (λ b. await marks.OpenBody (another_local [] (λ ls. another_stmt done
-    (λ c. await marks.CloseBody (end_of kinds.Seq (go (bodied_tree h b ls c))))))))
+    head (λ h. clause marks.Budget (λ b. rescue_clause (λ x. await marks.OpenBody (another_local [] (λ ls. another_stmt done
+    (λ c. await marks.CloseBody (end_of kinds.Seq (go (bodied_tree h b x ls c)))))))))
 
-abbrev pub chained_from : Kind → (EntryTree → Parser) → Parser
-chained_from k go = head (λ h. call (λ c. another_call (c ∷ []) (λ cs. end_of k (go (chained_tree k h cs)))))
+-- the calls of a `pipe` or a `comp` after the rest of its head
+abbrev pub chain_from : Kind → Signature → Option Rescue → (EntryTree → Parser) → Parser
+chain_from k h x go = call (λ c. another_call (c ∷ []) (λ cs. end_of k (go (chained_tree k h x cs))))
+
+abbrev pub piped_from : (EntryTree → Parser) → Parser
+piped_from go = head (λ h. chain_from kinds.Pipe h None go)
+
+abbrev pub composed_from : (EntryTree → Parser) → Parser
+composed_from go = head (λ h. rescue_clause (λ x. chain_from kinds.Comp h x go))
 
 abbrev pub spread_from : Kind → (EntryTree → Parser) → Parser
 spread_from k go = head (λ h. clause marks.Workers (λ w. call (λ c. end_of k (go (spread_tree k h w c)))))

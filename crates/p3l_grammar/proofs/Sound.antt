@@ -17,6 +17,7 @@ use Rattle.p3l_ast.specs.declared.expression.BinOp.{BinOp}
 use Rattle.p3l_ast.specs.declared.expression.BinOp.TheVariants as ops
 use Rattle.p3l_ast.specs.declared.module.Kind.{Kind}
 use Rattle.p3l_ast.specs.declared.module.Kind.TheVariants as kinds
+use Rattle.p3l_ast.specs.declared.module.Rescue.{Rescue}
 use Rattle.p3l_ast.specs.Tree.{Phrase, unary, binary, Phrases, snoc, Statements, done, assign, if_, if_else, while_, for_, join, EntryTree}
 use Rattle.p3l_ast.proofs.Trees.{join_done, join_join}
 use Rattle.p3l_lexer.specs.declared.mark.Mark.{Mark}
@@ -24,8 +25,8 @@ use Rattle.p3l_lexer.specs.declared.mark.Mark.TheVariants as marks
 use Rattle.p3l_ast.specs.Notation.{level}
 use Rattle.p3l_grammar.specs.Symbol.{Symbol, word, digits, sign, faulty, unary_mark, kind_mark}
 use Rattle.p3l_grammar.specs.Written as written
-use Rattle.p3l_grammar.specs.Written.{Formula, numeral, place, prefix, infix_, paren, Formulas, no_index, index, Script, stop, set, Signature, Passage, fixed, bodied, chained, spread, turned, tight, IsGrouped, AreGrouped, IsScript, HasOne, IsSignature, IsCall, AreCalls, IsChain, IsSpread, IsPassage, IsText, each, after_comma, separated, num_symbol, spell_size, spell_port, in_brackets, spell_sub, spell_arg, spell_out, spell_call, spell, spell_index, spell_script, spell_signature, spell_clause, spell_local, spell_passage, spell_text, tree, trees, script_tree, passage_tree, text_tree}
-use Rattle.p3l_grammar.specs.Parser.{need, Parser, entries, await, any_word, any_digits, any_num, clause, another_size, any_sub, another_sub, another_port, another_arg, any_out, another_out, another_call, another_local, operand, another_index, value, another_stmt, maybe_else, Hole, whole, after_unary, after_binary, ports, args, out_args, call_from, call, head, end_of, otherwise, same_mark, entries_step, await_step, clause_step, size_step, sub_step, subs_step, port_step, arg_step, any_out_step, out_step, call_step, local_step, operand_step, index_step, infix_of, level_of, operator_step, stmt_step, else_step, step, value_step}
+use Rattle.p3l_grammar.specs.Written.{Formula, numeral, place, prefix, infix_, paren, Formulas, no_index, index, Script, stop, set, Signature, Passage, fixed, bodied, chained, spread, turned, tight, IsGrouped, AreGrouped, IsScript, HasOne, IsSignature, IsCall, AreCalls, IsChain, IsSpread, IsPassage, IsText, each, after_comma, separated, num_symbol, spell_size, spell_port, in_brackets, spell_sub, spell_arg, spell_out, spell_call, spell, spell_index, spell_script, spell_signature, spell_clause, spell_rescue, spell_rescue_clause, spell_local, spell_passage, spell_text, tree, trees, script_tree, passage_tree, text_tree}
+use Rattle.p3l_grammar.specs.Parser.{need, Parser, entries, await, any_word, any_digits, any_num, clause, any_rescue, rescue_clause, another_size, any_sub, another_sub, another_port, another_arg, any_out, another_out, another_call, another_local, operand, another_index, value, another_stmt, maybe_else, Hole, whole, after_unary, after_binary, ports, args, out_args, call_from, call, head, end_of, otherwise, same_mark, entries_step, await_step, clause_step, rescue_step, rescue_clause_step, size_step, sub_step, subs_step, port_step, arg_step, any_out_step, out_step, call_step, local_step, operand_step, index_step, infix_of, level_of, operator_step, stmt_step, else_step, step, value_step}
 use Rattle.p3l_grammar.proofs.Runs.{bind, run}
 use Rattle.std.proofs.lemmas.Slice.Eq.{bytes_eq-Decides}
 use Rattle.p3l_lexer.specs.declared.token.Lexeme.TheVariants as lexemes
@@ -34,7 +35,7 @@ use Rattle.p3l_lexer.specs.Mark.{mark_text}
 use Rattle.p3l_lexer.specs.Piece.{piece_of}
 use Rattle.p3l_lexer.proofs.Spelling.{piece_of-mark}
 use Rattle.p3l_grammar.specs.Grammar.{Derives}
-use Rattle.p3l_grammar.proofs.Signatures.{bodied_tree, chained_tree, spread_tree, turned_tree, bodied_from, chained_from, spread_from, turned_from}
+use Rattle.p3l_grammar.proofs.Signatures.{bodied_tree, chained_tree, spread_tree, turned_tree, bodied_from, chain_from, piped_from, composed_from, spread_from, turned_from}
 use Rattle.p3l_grammar.proofs.Complete.{level_small, adds, adds_none, adds_snoc}
 
 -- After the symbols that f puts before its argument the parser is in this state. Whatever may come next,
@@ -47,6 +48,8 @@ abbrev mutual
   IsRead (any_digits go) f = (v : ℤ) (p : Pos) → IsRead (go v) (λ r. f (digits v p ∷ r))
   IsRead (any_num go) f = (n : Num) → IsRead (go n) (λ r. f (num_symbol n ∷ r))
   IsRead (clause m go) f = (b : Option Num) → IsRead (go b) (λ r. f (spell_clause m b r))
+  IsRead (any_rescue go) f = (x : Rescue) → IsRead (go x) (λ r. f (spell_rescue x r))
+  IsRead (rescue_clause go) f = (x : Option Rescue) → IsRead (go x) (λ r. f (spell_rescue_clause x r))
   IsRead (another_size ns go) f = (ms : List Num) → IsRead (go (ns ++ ms)) (λ r. f (each spell_size ms r))
   IsRead (any_sub go) f = (s : Sub) → IsRead (go s) (λ r. f (in_brackets s r))
   IsRead (another_sub ss go) f = (ms : List Sub) → IsRead (go (ss ++ ms)) (λ r. f (each spell_sub ms r))
@@ -164,14 +167,23 @@ Goes go f = (i : Passage) → IsPassage i → IsRead (go (passage_tree i)) (λ r
 
 bodied_read : (go : EntryTree → Parser) (f : List Symbol → List Symbol) → Goes go f → IsRead (bodied_from go) (Then f (sign marks.Seq))
 bodied_read go f h =
-    signature_read (λ h'. clause marks.Budget (λ b. await marks.OpenBody (another_local [] (λ ls. another_stmt done (λ c. await marks.CloseBody (end_of kinds.Seq (go (bodied_tree h' b ls c)))))))) (Then f (sign marks.Seq))
-    (λ h' i b ls c j. h (bodied h' b ls c) (i, j))
+    signature_read (λ h'. clause marks.Budget (λ b. rescue_clause (λ x. await marks.OpenBody (another_local [] (λ ls. another_stmt done (λ c. await marks.CloseBody (end_of kinds.Seq (go (bodied_tree h' b x ls c))))))))) (Then f (sign marks.Seq))
+    (λ h' i b x ls c j. h (bodied h' b x ls c) (i, j))
 
-chained_read : (k : Kind) (go : EntryTree → Parser) (f : List Symbol → List Symbol) → IsChain k → Goes go f → IsRead (chained_from k go) (Then f (sign (kind_mark k)))
-chained_read k go f c h =
-    signature_read (λ h'. call (λ d. another_call (d ∷ []) (λ cs. end_of k (go (chained_tree k h' cs))))) (Then f (sign (kind_mark k)))
-    (λ h' i. call_read (λ d. another_call (d ∷ []) (λ cs. end_of k (go (chained_tree k h' cs)))) (λ r. f (sign (kind_mark k) ∷ spell_signature h' r))
-    (λ d j ds l. h (chained k h' (d ∷ ds)) (c, i, tt, (j, l))))
+-- the calls of a `pipe` or a `comp`
+chain_read : (k : Kind) (g : Signature) (x : Option Rescue) (go : EntryTree → Parser) (f : List Symbol → List Symbol) → IsChain k x → IsSignature g → Goes go f →
+    IsRead (chain_from k g x go) (λ r. f (sign (kind_mark k) ∷ spell_signature g (spell_rescue_clause x r)))
+chain_read k g x go f c i h =
+    call_read (λ d. another_call (d ∷ []) (λ cs. end_of k (go (chained_tree k g x cs)))) (λ r. f (sign (kind_mark k) ∷ spell_signature g (spell_rescue_clause x r)))
+    (λ d j ds l. h (chained k g x (d ∷ ds)) (c, i, tt, (j, l)))
+
+piped_read : (go : EntryTree → Parser) (f : List Symbol → List Symbol) → Goes go f → IsRead (piped_from go) (Then f (sign marks.Pipe))
+piped_read go f h =
+    signature_read (λ g. chain_from kinds.Pipe g None go) (Then f (sign marks.Pipe)) (λ g i. chain_read kinds.Pipe g None go f tt i h)
+
+composed_read : (go : EntryTree → Parser) (f : List Symbol → List Symbol) → Goes go f → IsRead (composed_from go) (Then f (sign marks.Comp))
+composed_read go f h =
+    signature_read (λ g. rescue_clause (λ x. chain_from kinds.Comp g x go)) (Then f (sign marks.Comp)) (λ g i x. chain_read kinds.Comp g x go f tt i h)
 
 spread_read : (k : Kind) (go : EntryTree → Parser) (f : List Symbol → List Symbol) → IsSpread k → Goes go f → IsRead (spread_from k go) (Then f (sign (kind_mark k)))
 spread_read k go f s h =
@@ -190,13 +202,24 @@ turned_read go f h =
 entries_read : (t : Symbol) (es : List EntryTree) (f : List Symbol → List Symbol) → IsRead (entries es) f → IfRead (entries_step t es) (Then f t)
 entries_read (sign marks.Const) es f h = λ x v p. entry_reads es f (fixed x v p) h tt
 entries_read (sign marks.Seq) es f h = bodied_read (λ e. entries (es ++ e ∷ [])) f (λ i g. entry_reads es f i h g)
-entries_read (sign marks.Pipe) es f h = chained_read kinds.Pipe (λ e. entries (es ++ e ∷ [])) f tt (λ i g. entry_reads es f i h g)
-entries_read (sign marks.Comp) es f h = chained_read kinds.Comp (λ e. entries (es ++ e ∷ [])) f tt (λ i g. entry_reads es f i h g)
+entries_read (sign marks.Pipe) es f h = piped_read (λ e. entries (es ++ e ∷ [])) f (λ i g. entry_reads es f i h g)
+entries_read (sign marks.Comp) es f h = composed_read (λ e. entries (es ++ e ∷ [])) f (λ i g. entry_reads es f i h g)
 entries_read (sign marks.Farm) es f h = spread_read kinds.Farm (λ e. entries (es ++ e ∷ [])) f tt (λ i g. entry_reads es f i h g)
 entries_read (sign marks.Map) es f h = spread_read kinds.Map (λ e. entries (es ++ e ∷ [])) f tt (λ i g. entry_reads es f i h g)
 entries_read (sign marks.Reduce) es f h = spread_read kinds.Reduce (λ e. entries (es ++ e ∷ [])) f tt (λ i g. entry_reads es f i h g)
 entries_read (sign marks.Loop) es f h = turned_read (λ e. entries (es ++ e ∷ [])) f (λ i g. entry_reads es f i h g)
 entries_read _ es f h = tt
+
+-- A rescue number, and a rescue or none.
+
+rescue_reads : (t : Symbol) (go : Rescue → Parser) (f : List Symbol → List Symbol) → IsRead (any_rescue go) f → IfRead (rescue_step t go) (Then f t)
+rescue_reads (digits v p) go f h = h (record { minus = false; num = Digits v p })
+rescue_reads (word x) go f h = h (record { minus = false; num = Named x })
+rescue_reads (sign (marks.Operator ops.Sub)) go f h = λ n. h (record { minus = true; num = n })
+rescue_reads _ go f h = tt
+
+rescue_clause_reads : (t : Symbol) (go : Option Rescue → Parser) (f : List Symbol → List Symbol) → IsRead (rescue_clause go) f → IfRead (rescue_clause_step t go) (Then f t)
+rescue_clause_reads t go f h = await_reads t marks.Rescue (any_rescue (λ x. go (Some x))) f (λ x. h (Some x))
 
 -- One more item of a list, or none.
 
@@ -387,6 +410,9 @@ mutual
   step_reads (any_num go) faulty f h = tt
   step_reads (clause m go) t f h =
       reads_otherwise (clause_step t m go) (step (go None) t) (Then f t) (await_reads t m (any_num (λ n. go (Some n))) f (λ n. h (Some n))) (step_reads (go None) t f (h None))
+  step_reads (any_rescue go) t f h = rescue_reads t go f h
+  step_reads (rescue_clause go) t f h =
+      reads_otherwise (rescue_clause_step t go) (step (go None) t) (Then f t) (rescue_clause_reads t go f h) (step_reads (go None) t f (h None))
   step_reads (another_size ns go) t f h =
       reads_otherwise (size_step t ns go) (step (go ns) t) (Then f t) (size_reads t ns go f h) (step_reads (go ns) t f (num_stop ns go f h))
   step_reads (any_sub go) t f h = in_sub_reads t go f h

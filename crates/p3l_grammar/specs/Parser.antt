@@ -1,5 +1,5 @@
 -- A parser that reads symbols one by one: it says what may come, and how the reading goes on then.
-use Rattle.std.specs.Prelude.{ℕ, suc, ℤ, List, [], ◌∷◌, ◌++◌, length, Option, Some, None, Bool, cond, nat_le, bytes_eq}
+use Rattle.std.specs.Prelude.{ℕ, suc, ℤ, List, [], ◌∷◌, ◌++◌, length, Option, Some, None, Bool, true, false, cond, nat_le, bytes_eq}
 use Rattle.std.specs.declared.result.Result.{Result}
 use Rattle.std.specs.declared.result.Result.TheVariants.{Ok, Err}
 use Rattle.p3l_ast.specs.declared.position.Spot.{Spot}
@@ -18,6 +18,7 @@ use Rattle.p3l_ast.specs.declared.expression.BinOp.{BinOp}
 use Rattle.p3l_ast.specs.declared.expression.BinOp.TheVariants as ops
 use Rattle.p3l_ast.specs.declared.module.Kind.{Kind}
 use Rattle.p3l_ast.specs.declared.module.Kind.TheVariants as kinds
+use Rattle.p3l_ast.specs.declared.module.Rescue.{Rescue}
 use Rattle.p3l_ast.specs.Tree.{Phrase, number, read, unary, binary, Phrases, none, snoc, Statements, done, assign, if_, if_else, while_, for_, join, body, turning, InsideTree, EntryTree, constant}
 use Rattle.p3l_lexer.specs.declared.mark.Mark.{Mark}
 use Rattle.p3l_lexer.specs.declared.mark.Mark.TheVariants as marks
@@ -36,6 +37,8 @@ mutual
     any_digits : (ℤ → Parser) → Parser
     any_num : (Num → Parser) → Parser
     clause : Mark → (Option Num → Parser) → Parser
+    any_rescue : (Rescue → Parser) → Parser
+    rescue_clause : (Option Rescue → Parser) → Parser
     another_size : List Num → (List Num → Parser) → Parser
     any_sub : (Sub → Parser) → Parser
     another_sub : List Sub → (List Sub → Parser) → Parser
@@ -182,9 +185,9 @@ loop_tokens t go = clause marks.Tokens (λ n. loop_calls (λ i. go (turning_fill
 
 -- what stands between the head of a module and its end
 abbrev pub filling : Kind → (Filling → Parser) → Parser
-filling kinds.Seq go = clause marks.Budget (λ b. body_from (λ i. go (body_filling b i)))
-filling kinds.Comp go = call_list (λ cs. go (chain_filling cs))
-filling kinds.Pipe go = call_list (λ cs. go (chain_filling cs))
+filling kinds.Seq go = clause marks.Budget (λ b. rescue_clause (λ x. body_from (λ i. go (body_filling b x i))))
+filling kinds.Comp go = rescue_clause (λ x. call_list (λ cs. go (chain_filling x cs)))
+filling kinds.Pipe go = call_list (λ cs. go (chain_filling None cs))
 filling kinds.Farm go = clause marks.Workers (λ w. call (λ c. go (spread_filling w c)))
 filling kinds.Map go = clause marks.Workers (λ w. call (λ c. go (spread_filling w c)))
 filling kinds.Reduce go = clause marks.Workers (λ w. call (λ c. go (spread_filling w c)))
@@ -247,6 +250,15 @@ num_step _ go = None
 
 abbrev pub clause_step : Symbol → Mark → (Option Num → Parser) → Option Parser
 clause_step t m go = await_step t m (any_num (λ n. go (Some n)))
+
+abbrev pub rescue_step : Symbol → (Rescue → Parser) → Option Parser
+rescue_step (digits v p) go = Some (go (record { minus = false; num = Digits v p }))
+rescue_step (word x) go = Some (go (record { minus = false; num = Named x }))
+rescue_step (sign (marks.Operator ops.Sub)) go = Some (any_num (λ n. go (record { minus = true; num = n })))
+rescue_step _ go = None
+
+abbrev pub rescue_clause_step : Symbol → (Option Rescue → Parser) → Option Parser
+rescue_clause_step t go = await_step t marks.Rescue (any_rescue (λ x. go (Some x)))
 
 abbrev pub size_step : Symbol → List Num → (List Num → Parser) → Option Parser
 size_step (sign marks.OpenBracket) ns go = Some (size_in (λ n. another_size (ns ++ n ∷ []) go))
@@ -332,6 +344,8 @@ abbrev mutual
   step (any_digits go) t = digits_step t go
   step (any_num go) t = num_step t go
   step (clause m go) t = otherwise (clause_step t m go) (step (go None) t)
+  step (any_rescue go) t = rescue_step t go
+  step (rescue_clause go) t = otherwise (rescue_clause_step t go) (step (go None) t)
   step (another_size ns go) t = otherwise (size_step t ns go) (step (go ns) t)
   step (any_sub go) t = sub_step t go
   step (another_sub ss go) t = otherwise (subs_step t ss go) (step (go ss) t)
@@ -361,6 +375,7 @@ abbrev mutual
   pub finish : Parser → Result (List EntryTree) ℕ
   finish (entries es) = Ok es
   finish (clause m go) = finish (go None)
+  finish (rescue_clause go) = finish (go None)
   finish (another_size ns go) = finish (go ns)
   finish (another_sub ss go) = finish (go ss)
   finish (another_port ps go) = finish (go ps)

@@ -1,5 +1,5 @@
 -- Programs as they are written: with parentheses, and with the position of every number.
-use Rattle.std.specs.Prelude.{ℕ, ℤ, ◌<◌, ◌≤◌, List, [], ◌∷◌, map, Option, Some, None}
+use Rattle.std.specs.Prelude.{ℕ, ℤ, ◌<◌, ◌≤◌, Bool, true, false, List, [], ◌∷◌, map, Option, Some, None}
 use Rattle.p3l_ast.specs.declared.position.Pos.{Pos}
 use Rattle.p3l_ast.specs.declared.position.Spot.{Spot}
 use Rattle.p3l_ast.specs.declared.port.Num.{Num}
@@ -13,9 +13,10 @@ use Rattle.p3l_ast.specs.declared.call.OutArg.TheVariants.{Fresh, Old}
 use Rattle.p3l_ast.specs.declared.call.Call.{Call}
 use Rattle.p3l_ast.specs.declared.expression.UnOp.{UnOp}
 use Rattle.p3l_ast.specs.declared.expression.BinOp.{BinOp}
-use Rattle.p3l_ast.specs.declared.expression.BinOp.TheVariants.{Mul}
+use Rattle.p3l_ast.specs.declared.expression.BinOp.TheVariants as ops
 use Rattle.p3l_ast.specs.declared.module.Kind.{Kind}
 use Rattle.p3l_ast.specs.declared.module.Kind.TheVariants.{Seq, Comp, Pipe, Farm, Map, Reduce, Loop}
+use Rattle.p3l_ast.specs.declared.module.Rescue.{Rescue}
 use Rattle.p3l_ast.specs.declared.module.Clauses.{Clauses}
 use Rattle.p3l_ast.specs.Tree as ast
 use Rattle.p3l_ast.specs.Tree.{Phrase, number, read, unary, binary, Phrases, none, more, Statements, done, assign, body, calls, turning, InsideTree, EntryTree, constant, defined}
@@ -53,12 +54,13 @@ pub record Signature : Type 0 where
   pub ins : List Port
   pub outs : List Port
 
--- an entry as it is written: a constant, a `seq` with its budget, locals and statements, a `pipe` or
--- `comp`, a `farm`, `map` or `reduce` with its workers, or a `loop` with its turns, tokens, body and condition
+-- an entry as it is written: a constant, a `seq` with its budget, rescue, locals and statements, a `pipe`, or a
+-- `comp` with its rescue, a `farm`, `map` or `reduce` with its workers, or a `loop` with its turns, tokens, body
+-- and condition
 pub data Passage : Type 0 where
   fixed : Spot → ℤ → Pos → Passage
-  bodied : Signature → Option Num → List Port → Script → Passage
-  chained : Kind → Signature → List Call → Passage
+  bodied : Signature → Option Num → Option Rescue → List Port → Script → Passage
+  chained : Kind → Signature → Option Rescue → List Call → Passage
   spread : Kind → Signature → Option Num → Call → Passage
   turned : Signature → Num → Option Num → Call → Call → Passage
 
@@ -109,10 +111,11 @@ abbrev pub AreCalls : List Call → Type 0
 AreCalls [] = Unit {0}
 AreCalls (c ∷ cs) = IsCall c × AreCalls cs
 
-abbrev pub IsChain : Kind → Type 0
-IsChain Pipe = Unit {0}
-IsChain Comp = Unit {0}
-IsChain _ = ⊥
+-- a `comp` may have a rescue, and a `pipe` has none
+abbrev pub IsChain : Kind → Option Rescue → Type 0
+IsChain Pipe None = Unit {0}
+IsChain Comp rescue = Unit {0}
+IsChain _ _ = ⊥
 
 abbrev pub IsSpread : Kind → Type 0
 IsSpread Farm = Unit {0}
@@ -122,8 +125,8 @@ IsSpread _ = ⊥
 
 abbrev pub IsPassage : Passage → Type 0
 IsPassage (fixed x v p) = Unit {0}
-IsPassage (bodied h b ls c) = IsSignature h × IsScript c
-IsPassage (chained k h cs) = IsChain k × IsSignature h × HasOne cs × AreCalls cs
+IsPassage (bodied h b x ls c) = IsSignature h × IsScript c
+IsPassage (chained k h x cs) = IsChain k x × IsSignature h × HasOne cs × AreCalls cs
 IsPassage (spread k h w c) = IsSpread k × IsSignature h × IsCall c
 IsPassage (turned h t n b c) = IsSignature h × IsCall b × IsCall c
 
@@ -159,7 +162,7 @@ spell_port p r = sign marks.Int ∷ word p.at ∷ each spell_size p.sizes r
 -- what stands after the bracket that opens
 abbrev pub in_brackets : Sub → List Symbol → List Symbol
 in_brackets Whole r = sign marks.CloseBracket ∷ r
-in_brackets (Free x) r = sign (marks.Operator Mul) ∷ word x ∷ sign marks.CloseBracket ∷ r
+in_brackets (Free x) r = sign (marks.Operator ops.Mul) ∷ word x ∷ sign marks.CloseBracket ∷ r
 
 abbrev pub spell_sub : Sub → List Symbol → List Symbol
 spell_sub s r = sign marks.OpenBracket ∷ in_brackets s r
@@ -219,6 +222,19 @@ abbrev pub spell_clause : Mark → Option Num → List Symbol → List Symbol
 spell_clause m None r = r
 spell_clause m (Some n) r = sign m ∷ num_symbol n ∷ r
 
+-- a number, after a minus where it is negated
+abbrev pub spell_signed : Bool → Num → List Symbol → List Symbol
+spell_signed false n r = num_symbol n ∷ r
+spell_signed true n r = sign (marks.Operator ops.Sub) ∷ num_symbol n ∷ r
+
+abbrev pub spell_rescue : Rescue → List Symbol → List Symbol
+spell_rescue x r = spell_signed x.minus x.num r
+
+-- a rescue, where it is given
+abbrev pub spell_rescue_clause : Option Rescue → List Symbol → List Symbol
+spell_rescue_clause None r = r
+spell_rescue_clause (Some x) r = sign marks.Rescue ∷ spell_rescue x r
+
 abbrev pub spell_local : Port → List Symbol → List Symbol
 spell_local p r = spell_port p (sign marks.Semicolon ∷ r)
 
@@ -227,10 +243,11 @@ spell_end k r = sign marks.End ∷ sign (kind_mark k) ∷ r
 
 abbrev pub spell_passage : Passage → List Symbol → List Symbol
 spell_passage (fixed x v p) r = sign marks.Const ∷ word x ∷ sign marks.Assign ∷ digits v p ∷ sign marks.Semicolon ∷ r
-spell_passage (bodied h b ls c) r =
-    sign marks.Seq ∷ spell_signature h (spell_clause marks.Budget b (sign marks.OpenBody
-    ∷ each spell_local ls (spell_script c (sign marks.CloseBody ∷ spell_end Seq r))))
-spell_passage (chained k h cs) r = sign (kind_mark k) ∷ spell_signature h (each spell_call cs (spell_end k r))
+spell_passage (bodied h b x ls c) r =
+    sign marks.Seq ∷ spell_signature h (spell_clause marks.Budget b (spell_rescue_clause x (sign marks.OpenBody
+    ∷ each spell_local ls (spell_script c (sign marks.CloseBody ∷ spell_end Seq r)))))
+spell_passage (chained k h x cs) r =
+    sign (kind_mark k) ∷ spell_signature h (spell_rescue_clause x (each spell_call cs (spell_end k r)))
 spell_passage (spread k h w c) r = sign (kind_mark k) ∷ spell_signature h (spell_clause marks.Workers w (spell_call c (spell_end k r)))
 spell_passage (turned h t n b c) r =
     sign marks.Loop ∷ spell_signature h (sign marks.Turns ∷ num_symbol t ∷ spell_clause marks.Tokens n (spell_call b (sign marks.While
@@ -267,23 +284,29 @@ pub record Filling : Type 0 where
   pub clauses : Clauses
   pub inside : InsideTree
 
-abbrev pub body_filling : Option Num → InsideTree → Filling
-body_filling b i = record { clauses = record { workers = None; turns = None; tokens = None; budget = b }; inside = i }
+abbrev pub body_filling : Option Num → Option Rescue → InsideTree → Filling
+body_filling b x i = record {
+  clauses = record { workers = None; turns = None; tokens = None; budget = b; rescue = x };
+  inside = i;
+}
 
-abbrev pub chain_filling : List Call → Filling
-chain_filling cs = record {
-  clauses = record { workers = None; turns = None; tokens = None; budget = None };
+abbrev pub chain_filling : Option Rescue → List Call → Filling
+chain_filling x cs = record {
+  clauses = record { workers = None; turns = None; tokens = None; budget = None; rescue = x };
   inside = calls cs;
 }
 
 abbrev pub spread_filling : Option Num → Call → Filling
 spread_filling w c = record {
-  clauses = record { workers = w; turns = None; tokens = None; budget = None };
+  clauses = record { workers = w; turns = None; tokens = None; budget = None; rescue = None };
   inside = calls (c ∷ []);
 }
 
 abbrev pub turning_filling : Num → Option Num → InsideTree → Filling
-turning_filling t n i = record { clauses = record { workers = None; turns = Some t; tokens = n; budget = None }; inside = i }
+turning_filling t n i = record {
+  clauses = record { workers = None; turns = Some t; tokens = n; budget = None; rescue = None };
+  inside = i;
+}
 
 abbrev pub module_of : Kind → Signature → Filling → EntryTree
 module_of k h f =
@@ -291,8 +314,8 @@ module_of k h f =
 
 abbrev pub passage_tree : Passage → EntryTree
 passage_tree (fixed x v p) = constant x v
-passage_tree (bodied h b ls c) = module_of Seq h (body_filling b (body ls (script_tree c)))
-passage_tree (chained k h cs) = module_of k h (chain_filling cs)
+passage_tree (bodied h b x ls c) = module_of Seq h (body_filling b x (body ls (script_tree c)))
+passage_tree (chained k h x cs) = module_of k h (chain_filling x cs)
 passage_tree (spread k h w c) = module_of k h (spread_filling w c)
 passage_tree (turned h t n b c) = module_of Loop h (turning_filling t n (turning b c))
 

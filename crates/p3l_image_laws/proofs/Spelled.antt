@@ -1,5 +1,5 @@
 -- The names of what a text spells are names of the language.
-use Rattle.std.proofs.Common.{◌≡◌, ℕ, List, [], ◌∷◌, ◌++◌, Option, Some, None, sym, subst}
+use Rattle.std.proofs.Common.{◌≡◌, ℕ, Bool, true, false, List, [], ◌∷◌, ◌++◌, Option, Some, None, sym, subst}
 use Rattle.std.specs.List.{AllByRecursion}
 use Rattle.p3l_ast.specs.declared.position.Pos.{Pos}
 use Rattle.p3l_ast.specs.declared.port.Num.{Num}
@@ -10,6 +10,7 @@ use Rattle.p3l_ast.specs.declared.call.Arg.{Arg}
 use Rattle.p3l_ast.specs.declared.call.OutArg.{OutArg}
 use Rattle.p3l_ast.specs.declared.call.OutArg.TheVariants.{Fresh, Old}
 use Rattle.p3l_ast.specs.declared.call.Call.{Call}
+use Rattle.p3l_ast.specs.declared.module.Rescue.{Rescue}
 use Rattle.p3l_ast.specs.Tree.{ProgramTree}
 use Rattle.p3l_lexer.specs.declared.mark.Mark.{Mark}
 use Rattle.p3l_lexer.specs.declared.mark.Mark.TheVariants as marks
@@ -22,7 +23,7 @@ use Rattle.p3l_lexer.specs.Position.{position_after}
 use Rattle.p3l_lexer.specs.Token.{Chunk, IsCutInto, token_at, tokens_after}
 use Rattle.p3l_grammar.specs.Grammar.{Spells}
 use Rattle.p3l_grammar.specs.Symbol.{Symbol, word, sign, symbols}
-use Rattle.p3l_grammar.specs.Written.{Formula, numeral, place, prefix, infix_, paren, Formulas, no_index, index, Script, stop, set, if_, if_else, while_, for_, Signature, Passage, fixed, bodied, chained, spread, turned, each, separated, spell, spell_index, spell_script, spell_size, spell_port, spell_sub, spell_arg, spell_out, spell_call, spell_signature, spell_clause, spell_local, spell_passage, spell_text, passage_tree, text_tree}
+use Rattle.p3l_grammar.specs.Written.{Formula, numeral, place, prefix, infix_, paren, Formulas, no_index, index, Script, stop, set, if_, if_else, while_, for_, Signature, Passage, fixed, bodied, chained, spread, turned, each, separated, spell, spell_index, spell_script, spell_size, spell_port, spell_sub, spell_arg, spell_out, spell_call, spell_signature, spell_clause, spell_signed, spell_rescue_clause, spell_local, spell_passage, spell_text, passage_tree, text_tree}
 use Rattle.p3l_image_laws.specs.Written.{HasNameOf, IsNameText}
 use Rattle.p3l_image_laws.proofs.Words.{word_is_name}
 
@@ -128,16 +129,24 @@ after_clause : (m : Mark) (n : Option Num) (r : List Symbol) → AreNamed (spell
 after_clause m None r h = h
 after_clause m (Some n) r h = h.1.1
 
+after_signed : (minus : Bool) (n : Num) (r : List Symbol) → AreNamed (spell_signed minus n r) → AreNamed r
+after_signed false n r h = h.1
+after_signed true n r h = h.1.1
+
+after_rescue : (x : Option Rescue) (r : List Symbol) → AreNamed (spell_rescue_clause x r) → AreNamed r
+after_rescue None r h = h
+after_rescue (Some x) r h = after_signed x.minus x.num r h.1
+
 after_local : (p : Port) (r : List Symbol) → AreNamed (spell_local p r) → AreNamed r
 after_local p r h = (after_port p _ h).1
 
 passage_named : (p : Passage) (r : List Symbol) → AreNamed (spell_passage p r) → HasNameOf (passage_tree p) × AreNamed r
 passage_named (fixed x v p) r h = (h.1.0, h.1.1.1.1.1)
-passage_named (bodied m b ls c) r h =
-    let a = after_clause marks.Budget b _ (after_signature m _ h.1) in
+passage_named (bodied m b x ls c) r h =
+    let a = after_rescue x _ (after_clause marks.Budget b _ (after_signature m _ h.1)) in
     let d = after_script c _ (after_each spell_local after_local ls _ a.1) in
     (h.1.0, d.1.1.1)
-passage_named (chained k m cs) r h = (h.1.0, (after_each spell_call after_call cs _ (after_signature m _ h.1)).1.1)
+passage_named (chained k m x cs) r h = (h.1.0, (after_each spell_call after_call cs _ (after_rescue x _ (after_signature m _ h.1))).1.1)
 passage_named (spread k m w c) r h = (h.1.0, (after_call c _ (after_clause marks.Workers w _ (after_signature m _ h.1))).1.1)
 passage_named (turned m t n b c) r h =
     let a = after_clause marks.Tokens n _ (after_signature m _ h.1).1.1 in

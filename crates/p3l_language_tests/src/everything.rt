@@ -2,7 +2,7 @@
 
 /// The text as somebody may write it.
 pub const EVERYTHING: &str = "const N = 4;
-seq s in(int x, int a[N][2]) out(int y) budget 50 ${
+seq s in(int x, int a[N][2]) out(int y) budget 50 rescue - 7 ${
   int i; int b[2][2][2];
   b[0][x + 1][(y)] = -!~x;
   y = a[i][0] * 2 / 3 % 4 + 5 - 6 << 1 >> 2 < 3 <= 4 > 5 >= 6 == 7 != 8 & 9 ^ 10 | 11 && 12 || 13;
@@ -10,7 +10,7 @@ seq s in(int x, int a[N][2]) out(int y) budget 50 ${
   if (y) { while (i < N) { i = i + 1; } }
   for (i = 0; i < N; i = i + 1) { y = y + i; }
 }$ end seq
-comp c in(int x) out(int y) s in(x) out(int z, int w[2]) s in(z, w) out(y) end comp
+comp c in(int x) out(int y) rescue N s in(x) out(int z, int w[2]) s in(z, w) out(y) end comp
 pipe p in(int x) out(int y) c in(x) out(y) end pipe
 farm f in(int x) out(int y) workers N c in(x) out(y) end farm
 map m in(int a[N][2]) out(int b[N]) c in(a[*i][]) out(b[*i]) end map
@@ -21,7 +21,7 @@ loop main in(int x) out(int y) turns 9 tokens 2 c in(x) out(y) while c in(y) out
 /// The canonical text, written by hand.
 pub const CANONICAL: &str = "const N = 4;
 
-seq s in(int x, int a[N][2]) out(int y) budget 50
+seq s in(int x, int a[N][2]) out(int y) budget 50 rescue -7
 ${
   int i;
   int b[2][2][2];
@@ -42,7 +42,7 @@ ${
 }$
 end seq
 
-comp c in(int x) out(int y)
+comp c in(int x) out(int y) rescue N
   s in(x) out(int z, int w[2])
   s in(z, w) out(y)
 end comp

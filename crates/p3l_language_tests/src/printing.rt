@@ -70,6 +70,28 @@ fn entries_are_separated_by_an_empty_line(rt: HostRuntime) -> Result<(), Fail> {
 }
 
 #[test]
+fn a_rescue_stands_after_the_budget(rt: HostRuntime) -> Result<(), Fail> {
+    let table = [
+        (
+            "seq m in(int x)out(int y)rescue-7${}$end seq",
+            "seq m in(int x) out(int y) rescue -7\n${\n}$\nend seq\n",
+        ),
+        (
+            "seq m in(int x) out(int y) budget N rescue - /* no */ K ${ }$ end seq",
+            "seq m in(int x) out(int y) budget N rescue -K\n${\n}$\nend seq\n",
+        ),
+        (
+            "comp c in(int x) out(int y) rescue 0 m in(x) out(y) end comp",
+            "comp c in(int x) out(int y) rescue 0\n  m in(x) out(y)\nend comp\n",
+        ),
+    ];
+    for (text, canonical) in table {
+        compare(&rt, rt.alloc(), text, canonical)?;
+    }
+    Ok(())
+}
+
+#[test]
 fn operands_have_the_parentheses_that_they_need(rt: HostRuntime) -> Result<(), Fail> {
     let table = [
         ("(((x)))", "x"),

@@ -34,7 +34,7 @@ fn filled(
 
 #[test]
 fn first_faults(rt: HostRuntime) -> Result<(), Fail> {
-    let table: [(&str, (u8, u32, u32)); 24] = [
+    let table: [(&str, (u8, u32, u32)); 30] = [
         ("#", (1, 1, 1)),
         ("const a = 1;\n\u{80}", (1, 2, 1)),
         ("const b = 1; # const a = 9223372036854775808;", (1, 1, 14)),
@@ -71,6 +71,24 @@ fn first_faults(rt: HostRuntime) -> Result<(), Fail> {
             "loop l in(int x) out(int y) turns 3 b in(x) out(y) end loop",
             (3, 1, 52),
         ),
+        (
+            "comp main in(int x) out(int y)\n  rescue in(x) out(y)",
+            (3, 2, 10),
+        ),
+        (
+            "seq m in(int x) out(int y) rescue 3 budget 2 ${ }$ end seq",
+            (3, 1, 37),
+        ),
+        (
+            "seq m in(int x) out(int y) rescue --3 ${ }$ end seq",
+            (3, 1, 36),
+        ),
+        (
+            "comp c in(int x) out(int y) rescue 9223372036854775808 m in(x) out(y) end comp",
+            (4, 1, 36),
+        ),
+        ("pipe p in(int x) out(int y) rescue 1", (3, 1, 29)),
+        ("const rescue = 1;", (3, 1, 7)),
         ("const a = 9223372036854775807;", (0, 0, 0)),
         ("const a = 9223372036854775808;", (4, 1, 11)),
         ("seq m in(int x[9999999999999999999]", (4, 1, 16)),
@@ -101,6 +119,9 @@ fn early_ends(rt: HostRuntime) -> Result<(), Fail> {
         "seq m in(int x) out(int y,",
         "seq main in(int x) out(int y) ${",
         "seq m in(int x) out(int y) budget",
+        "seq m in(int x) out(int y) rescue",
+        "seq m in(int x) out(int y) rescue -",
+        "comp c in(int x) out(int y) rescue -3",
         "seq m in(int x) out(int y) ${ int i",
         "seq m in(int x) out(int y) ${ y",
         "seq m in(int x) out(int y) ${ y[",

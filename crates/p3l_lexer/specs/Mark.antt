@@ -3,7 +3,7 @@ use Rattle.std.specs.Prelude.{ℕ, List, [], ◌∷◌, Option, Some, None, find
 use Rattle.p3l_ast.specs.declared.expression.BinOp.{BinOp}
 use Rattle.p3l_ast.specs.Notation.{sign_of, operator_of}
 use Rattle.p3l_lexer.specs.declared.mark.Mark.{Mark}
-use Rattle.p3l_lexer.specs.declared.mark.Mark.TheVariants.{Seq, Pipe, Farm, Map, Reduce, Comp, Loop, End, In, Out, Int, Const, Workers, Turns, Tokens, Budget, While, If, Else, For, OpenBody, CloseBody, OpenParen, CloseParen, OpenBracket, CloseBracket, OpenBrace, CloseBrace, Comma, Semicolon, Assign, Bang, Tilde, Operator}
+use Rattle.p3l_lexer.specs.declared.mark.Mark.TheVariants.{Seq, Pipe, Farm, Map, Reduce, Comp, Loop, End, In, Out, Int, Const, Workers, Turns, Tokens, Budget, Rescue, While, If, Else, For, OpenBody, CloseBody, OpenParen, CloseParen, OpenBracket, CloseBracket, OpenBrace, CloseBrace, Comma, Semicolon, Assign, Bang, Tilde, Operator}
 
 -- the bytes of a mark
 abbrev pub mark_text : Mark → List ℕ
@@ -23,6 +23,7 @@ mark_text Workers = codes "workers"
 mark_text Turns = codes "turns"
 mark_text Tokens = codes "tokens"
 mark_text Budget = codes "budget"
+mark_text Rescue = codes "rescue"
 mark_text While = codes "while"
 mark_text If = codes "if"
 mark_text Else = codes "else"
@@ -44,7 +45,7 @@ mark_text (Operator op) = sign_of op
 
 -- the marks that are no operators between operands, the keywords first
 abbrev pub keywords : List Mark
-keywords = Seq ∷ Pipe ∷ Farm ∷ Map ∷ Reduce ∷ Comp ∷ Loop ∷ End ∷ In ∷ Out ∷ Int ∷ Const ∷ Workers ∷ Turns ∷ Tokens ∷ Budget ∷ While ∷ If ∷ Else ∷ For ∷ []
+keywords = Seq ∷ Pipe ∷ Farm ∷ Map ∷ Reduce ∷ Comp ∷ Loop ∷ End ∷ In ∷ Out ∷ Int ∷ Const ∷ Workers ∷ Turns ∷ Tokens ∷ Budget ∷ Rescue ∷ While ∷ If ∷ Else ∷ For ∷ []
 
 abbrev pub punctuation : List Mark
 punctuation = OpenBody ∷ CloseBody ∷ OpenParen ∷ CloseParen ∷ OpenBracket ∷ CloseBracket ∷ OpenBrace ∷ CloseBrace ∷ Comma ∷ Semicolon ∷ Assign ∷ Bang ∷ Tilde ∷ []

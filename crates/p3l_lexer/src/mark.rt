@@ -24,6 +24,7 @@ pub enum Mark {
     Turns,
     Tokens,
     Budget,
+    Rescue,
     While,
     If,
     Else,
@@ -81,6 +82,7 @@ impl Mark {
             Mark::Turns => "turns",
             Mark::Tokens => "tokens",
             Mark::Budget => "budget",
+            Mark::Rescue => "rescue",
             Mark::While => "while",
             Mark::If => "if",
             Mark::Else => "else",
@@ -104,7 +106,7 @@ impl Mark {
 }
 
 /// The keywords.
-const KEYWORDS: [Mark; 20] = [
+const KEYWORDS: [Mark; 21] = [
     Mark::Seq,
     Mark::Pipe,
     Mark::Farm,
@@ -121,6 +123,7 @@ const KEYWORDS: [Mark; 20] = [
     Mark::Turns,
     Mark::Tokens,
     Mark::Budget,
+    Mark::Rescue,
     Mark::While,
     Mark::If,
     Mark::Else,

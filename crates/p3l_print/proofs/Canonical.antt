@@ -36,8 +36,8 @@ canonical_script (for_ x is e w y js f b c) =
 
 abbrev pub canonical_passage : Passage → Passage
 canonical_passage (fixed x v p) = fixed x v p
-canonical_passage (bodied h b ls c) = bodied h b ls (canonical_script c)
-canonical_passage (chained k h cs) = chained k h cs
+canonical_passage (bodied h b x ls c) = bodied h b x ls (canonical_script c)
+canonical_passage (chained k h x cs) = chained k h x cs
 canonical_passage (spread k h w c) = spread k h w c
 canonical_passage (turned h t n b c) = turned h t n b c
 
@@ -104,8 +104,8 @@ script_is (for_ x is e w y js f b c) =
 
 pub passage_is : (i : Passage) → IsPassage i → IsPassage (canonical_passage i) × (passage_tree (canonical_passage i) ≡ passage_tree i)
 passage_is (fixed x v p) h = (tt, refl)
-passage_is (bodied g b ls c) h = let k = script_is c in ((h.0, k.0), ap (λ d. module_of Seq g (body_filling b (body ls d))) k.1)
-passage_is (chained k g cs) h = (h, refl)
+passage_is (bodied g b x ls c) h = let k = script_is c in ((h.0, k.0), ap (λ d. module_of Seq g (body_filling b x (body ls d))) k.1)
+passage_is (chained k g x cs) h = (h, refl)
 passage_is (spread k g w c) h = (h, refl)
 passage_is (turned g t n b c) h = (h, refl)
 

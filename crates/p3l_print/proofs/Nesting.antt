@@ -18,13 +18,14 @@ use Rattle.p3l_ast.specs.declared.expression.BinOp.{BinOp}
 use Rattle.p3l_ast.specs.declared.expression.BinOp.TheVariants as ops
 use Rattle.p3l_ast.specs.declared.module.Kind.{Kind}
 use Rattle.p3l_ast.specs.declared.module.Kind.TheVariants as kinds
+use Rattle.p3l_ast.specs.declared.module.Rescue.{Rescue}
 use Rattle.p3l_lexer.specs.declared.mark.Mark.{Mark}
 use Rattle.p3l_lexer.specs.declared.mark.Mark.TheVariants as marks
 use Rattle.p3l_ast.specs.Notation.{level}
 use Rattle.p3l_grammar.specs.Symbol.{Symbol, word, digits, sign, unary_mark, kind_mark}
 use Rattle.p3l_grammar.specs.declared.nest.Nest.{Nest}
 use Rattle.p3l_grammar.specs.Limits.{at_rest, at_statement, after_symbol, IsKept, IsWithin}
-use Rattle.p3l_grammar.specs.Written.{Formula, numeral, place, prefix, infix_, paren, Formulas, no_index, index, Script, stop, set, if_, if_else, while_, for_, Signature, Passage, fixed, bodied, chained, spread, turned, tight, IsGrouped, AreGrouped, IsScript, IsPassage, IsText, each, after_comma, separated, num_symbol, spell_size, spell_port, spell_sub, spell_arg, spell_out, spell_call, spell, spell_index, spell_set, spell_script, spell_signature, spell_clause, spell_local, spell_end, spell_passage, spell_text}
+use Rattle.p3l_grammar.specs.Written.{Formula, numeral, place, prefix, infix_, paren, Formulas, no_index, index, Script, stop, set, if_, if_else, while_, for_, Signature, Passage, fixed, bodied, chained, spread, turned, tight, IsGrouped, AreGrouped, IsScript, IsPassage, IsText, each, after_comma, separated, num_symbol, spell_size, spell_port, spell_sub, spell_arg, spell_out, spell_call, spell, spell_index, spell_set, spell_script, spell_signature, spell_clause, spell_signed, spell_rescue_clause, spell_local, spell_end, spell_passage, spell_text}
 use Rattle.p3l_grammar.proofs.Complete.{le_true}
 use Rattle.p3l_print.proofs.Canonical.{around, canonical_formula, canonical_formulas, canonical_script, canonical_passage, canonical_passages}
 
@@ -545,6 +546,16 @@ rest_clause : (m : Mark) (n : Option Num) → after_symbol at_rest (sign m) ≡ 
 rest_clause m None e = none_steady at_rest
 rest_clause m (Some n) e = both_steady at_rest (λ r. sign m ∷ r) (λ r. num_symbol n ∷ r) (at_rest_sign m e) (rest_num n)
 
+rest_signed : (minus : Bool) (n : Num) → IsSteady at_rest (spell_signed minus n)
+rest_signed false n = rest_num n
+rest_signed true n =
+    both_steady at_rest (λ r. sign (marks.Operator ops.Sub) ∷ r) (λ r. num_symbol n ∷ r) (at_rest_sign (marks.Operator ops.Sub) refl) (rest_num n)
+
+rest_rescue : (x : Option Rescue) → IsSteady at_rest (spell_rescue_clause x)
+rest_rescue None = none_steady at_rest
+rest_rescue (Some x) =
+    both_steady at_rest (λ r. sign marks.Rescue ∷ r) (spell_signed x.minus x.num) (at_rest_sign marks.Rescue refl) (rest_signed x.minus x.num)
+
 -- local variables stand in a body
 
 body_open : IsKept (at_statement 0)
@@ -579,10 +590,11 @@ rest_end : (k : Kind) → IsSteady at_rest (spell_end k)
 rest_end k = both_steady at_rest (λ r. sign marks.End ∷ r) (λ r. sign (kind_mark k) ∷ r) (at_rest_sign marks.End refl) (rest_kind k)
 
 -- what stands before the body of a `seq`
-before_body_rests : (h : Signature) (b : Option Num) → IsSteady at_rest (λ r. sign marks.Seq ∷ spell_signature h (spell_clause marks.Budget b r))
-before_body_rests h b =
-    both_steady at_rest (λ r. sign marks.Seq ∷ r) (λ r. spell_signature h (spell_clause marks.Budget b r)) (at_rest_sign marks.Seq refl)
-    (both_steady at_rest (spell_signature h) (spell_clause marks.Budget b) (rest_signature h) (rest_clause marks.Budget b refl))
+before_body_rests : (h : Signature) (b : Option Num) (x : Option Rescue) → IsSteady at_rest (λ r. sign marks.Seq ∷ spell_signature h (spell_clause marks.Budget b (spell_rescue_clause x r)))
+before_body_rests h b x =
+    both_steady at_rest (λ r. sign marks.Seq ∷ r) (λ r. spell_signature h (spell_clause marks.Budget b (spell_rescue_clause x r))) (at_rest_sign marks.Seq refl)
+    (both_steady at_rest (spell_signature h) (λ r. spell_clause marks.Budget b (spell_rescue_clause x r)) (rest_signature h)
+    (both_steady at_rest (spell_clause marks.Budget b) (spell_rescue_clause x) (rest_clause marks.Budget b refl) (rest_rescue x)))
 
 rest_fixed : (i : Spot) (t : Symbol) → after_symbol at_rest t ≡ at_rest → IsSteady at_rest (λ r. sign marks.Const ∷ word i ∷ sign marks.Assign ∷ t ∷ sign marks.Semicolon ∷ r)
 rest_fixed x t e =
@@ -591,11 +603,12 @@ rest_fixed x t e =
     (both_steady at_rest (λ r. sign marks.Assign ∷ r) (λ r. t ∷ sign marks.Semicolon ∷ r) (at_rest_sign marks.Assign refl)
     (both_steady at_rest (λ r. t ∷ r) (λ r. sign marks.Semicolon ∷ r) (one_steady at_rest t resting e) (at_rest_sign marks.Semicolon refl))))
 
-rest_chained : (k : Kind) (h : Signature) (cs : List Call) → IsSteady at_rest (λ r. sign (kind_mark k) ∷ spell_signature h (each spell_call cs (spell_end k r)))
-rest_chained k h cs =
-    both_steady at_rest (λ r. sign (kind_mark k) ∷ r) (λ r. spell_signature h (each spell_call cs (spell_end k r))) (rest_kind k)
-    (both_steady at_rest (spell_signature h) (λ r. each spell_call cs (spell_end k r)) (rest_signature h)
-    (both_steady at_rest (each spell_call cs) (spell_end k) (each_steady at_rest spell_call rest_call cs) (rest_end k)))
+rest_chained : (k : Kind) (h : Signature) (x : Option Rescue) (cs : List Call) → IsSteady at_rest (λ r. sign (kind_mark k) ∷ spell_signature h (spell_rescue_clause x (each spell_call cs (spell_end k r))))
+rest_chained k h x cs =
+    both_steady at_rest (λ r. sign (kind_mark k) ∷ r) (λ r. spell_signature h (spell_rescue_clause x (each spell_call cs (spell_end k r)))) (rest_kind k)
+    (both_steady at_rest (spell_signature h) (λ r. spell_rescue_clause x (each spell_call cs (spell_end k r))) (rest_signature h)
+    (both_steady at_rest (spell_rescue_clause x) (λ r. each spell_call cs (spell_end k r)) (rest_rescue x)
+    (both_steady at_rest (each spell_call cs) (spell_end k) (each_steady at_rest spell_call rest_call cs) (rest_end k))))
 
 rest_spread : (k : Kind) (h : Signature) (w : Option Num) (c : Call) → IsSteady at_rest (λ r. sign (kind_mark k) ∷ spell_signature h (spell_clause marks.Workers w (spell_call c (spell_end k r))))
 rest_spread k h w c =
@@ -623,23 +636,23 @@ record PassageKeeps (i : Passage) (r : List Symbol) : Type 0 where
 steady_keeps : (i : Passage) (r : List Symbol) → IsSteady at_rest (spell_passage i) → canonical_passage i ≡ i → IsWithin at_rest (spell_passage i r) → PassageKeeps i r
 steady_keeps i r k same h = record { leaves = k.leaves r h; enters = λ s l. subst (λ j. IsWithin at_rest (spell_passage j s)) (sym same) (k.enters s l) }
 
-bodied_keeps : (g : Signature) (b : Option Num) (ls : List Port) (c : Script) (r : List Symbol) → IsScript c → IsWithin at_rest (spell_passage (bodied g b ls c) r) → PassageKeeps (bodied g b ls c) r
-bodied_keeps g b ls c r proper h =
-    let inner = (before_body_rests g b).leaves (sign marks.OpenBody ∷ each spell_local ls (spell_script c (sign marks.CloseBody ∷ spell_end kinds.Seq r))) h in
+bodied_keeps : (g : Signature) (b : Option Num) (x : Option Rescue) (ls : List Port) (c : Script) (r : List Symbol) → IsScript c → IsWithin at_rest (spell_passage (bodied g b x ls c) r) → PassageKeeps (bodied g b x ls c) r
+bodied_keeps g b x ls c r proper h =
+    let inner = (before_body_rests g b x).leaves (sign marks.OpenBody ∷ each spell_local ls (spell_script c (sign marks.CloseBody ∷ spell_end kinds.Seq r))) h in
     let statements = (each_steady (at_statement 0) spell_local local_steady ls).leaves (spell_script c (sign marks.CloseBody ∷ spell_end kinds.Seq r)) inner.1 in
     let k = script_keeps c 0 (sign marks.CloseBody ∷ spell_end kinds.Seq r) statements in record {
       leaves = (rest_end kinds.Seq).leaves r k.1.1;
       enters = λ s l.
           let last = (rest_end kinds.Seq).enters s l in
           let statements = script_within (canonical_script c) 0 (sign marks.CloseBody ∷ spell_end kinds.Seq s) (omega arith) (script_kept c 0 proper k.0) (resting, last) in
-          (before_body_rests g b).enters (sign marks.OpenBody ∷ each spell_local ls (spell_script (canonical_script c) (sign marks.CloseBody ∷ spell_end kinds.Seq s)))
+          (before_body_rests g b x).enters (sign marks.OpenBody ∷ each spell_local ls (spell_script (canonical_script c) (sign marks.CloseBody ∷ spell_end kinds.Seq s)))
           (body_open, (each_steady (at_statement 0) spell_local local_steady ls).enters (spell_script (canonical_script c) (sign marks.CloseBody ∷ spell_end kinds.Seq s)) statements);
     }
 
 passage_keeps : (i : Passage) (r : List Symbol) → IsPassage i → IsWithin at_rest (spell_passage i r) → PassageKeeps i r
 passage_keeps (fixed x v p) r proper h = steady_keeps (fixed x v p) r (rest_fixed x (digits v p) refl) refl h
-passage_keeps (bodied g b ls c) r proper h = bodied_keeps g b ls c r proper.1 h
-passage_keeps (chained k g cs) r proper h = steady_keeps (chained k g cs) r (rest_chained k g cs) refl h
+passage_keeps (bodied g b x ls c) r proper h = bodied_keeps g b x ls c r proper.1 h
+passage_keeps (chained k g x cs) r proper h = steady_keeps (chained k g x cs) r (rest_chained k g x cs) refl h
 passage_keeps (spread k g w c) r proper h = steady_keeps (spread k g w c) r (rest_spread k g w c) refl h
 passage_keeps (turned g t n b c) r proper h = steady_keeps (turned g t n b c) r (rest_turned g t n b c) refl h
 

@@ -1,5 +1,5 @@
 -- What symbols derive does not depend on their positions.
-use Rattle.std.proofs.Common.{◌≡◌, ◌≤◌, ◌<◌, ℤ, List, [], ◌∷◌, Option, Some, None, map, refl, sym, ap, ◌∙◌, subst}
+use Rattle.std.proofs.Common.{◌≡◌, ◌≤◌, ◌<◌, ℤ, Bool, true, false, List, [], ◌∷◌, Option, Some, None, map, refl, sym, ap, ◌∙◌, subst}
 use Rattle.std.specs.Prelude.{option_map}
 use Rattle.p3l_ast.specs.declared.position.Pos.{Pos}
 use Rattle.p3l_ast.specs.declared.position.Spot.{Spot}
@@ -16,15 +16,16 @@ use Rattle.p3l_ast.specs.declared.expression.UnOp.{UnOp}
 use Rattle.p3l_ast.specs.declared.expression.BinOp.{BinOp}
 use Rattle.p3l_ast.specs.declared.module.Kind.{Kind}
 use Rattle.p3l_ast.specs.declared.module.Kind.TheVariants as kinds
+use Rattle.p3l_ast.specs.declared.module.Rescue.{Rescue}
 use Rattle.p3l_ast.specs.Tree.{read, unary, binary, more, EntryTree, constant}
-use Rattle.p3l_ast.specs.Unplaced.{nowhere, spot_unplaced, num_unplaced, port_unplaced, sub_unplaced, arg_unplaced, out_unplaced, call_unplaced, phrase_unplaced, phrases_unplaced, statements_unplaced, entry_unplaced}
+use Rattle.p3l_ast.specs.Unplaced.{nowhere, spot_unplaced, num_unplaced, port_unplaced, sub_unplaced, arg_unplaced, out_unplaced, call_unplaced, rescue_unplaced, phrase_unplaced, phrases_unplaced, statements_unplaced, entry_unplaced}
 use Rattle.p3l_lexer.specs.declared.mark.Mark.{Mark}
 use Rattle.p3l_ast.specs.declared.expression.BinOp.TheVariants as ops
 use Rattle.p3l_lexer.specs.declared.mark.Mark.TheVariants as marks
 use Rattle.p3l_ast.specs.Notation.{level}
 use Rattle.p3l_grammar.specs.Symbol.{Symbol, word, digits, sign, faulty, unary_mark, kind_mark}
 use Rattle.p3l_grammar.specs.Grammar.{Derives}
-use Rattle.p3l_grammar.specs.Written.{Formula, numeral, place, prefix, infix_, paren, Formulas, no_index, index, Script, stop, set, if_, if_else, while_, for_, Signature, Passage, fixed, bodied, chained, spread, turned, tight, IsGrouped, AreGrouped, IsScript, HasOne, IsSignature, IsCall, AreCalls, IsPassage, IsText, each, after_comma, separated, num_symbol, spell_size, spell_port, spell_sub, spell_arg, spell_out, spell_call, spell, spell_index, spell_set, spell_script, spell_signature, spell_clause, spell_local, spell_end, spell_passage, spell_text, tree, trees, script_tree, passage_tree, text_tree}
+use Rattle.p3l_grammar.specs.Written.{Formula, numeral, place, prefix, infix_, paren, Formulas, no_index, index, Script, stop, set, if_, if_else, while_, for_, Signature, Passage, fixed, bodied, chained, spread, turned, tight, IsGrouped, AreGrouped, IsScript, HasOne, IsSignature, IsCall, AreCalls, IsChain, IsPassage, IsText, each, after_comma, separated, num_symbol, spell_size, spell_port, spell_sub, spell_arg, spell_out, spell_call, spell, spell_index, spell_set, spell_script, spell_signature, spell_clause, spell_signed, spell_rescue, spell_rescue_clause, spell_local, spell_end, spell_passage, spell_text, tree, trees, script_tree, passage_tree, text_tree}
 
 -- symbols that are the same but for positions
 abbrev pub Same : Symbol → Symbol → Type 0
@@ -519,6 +520,37 @@ find_clause m (Some n) r ts h =
     let b = find_num n r a.rest a.left in
     record { it = Some b.it; alike = ap Some b.alike; rest = b.rest; whole = a.whole ∙ ap (mark_then m) b.whole; left = b.left }
 
+-- a number after a minus or without one
+find_signed : (minus : Bool) (n : Num) (r ts : List Symbol) → AreSame (spell_signed minus n r) ts → Found (λ d. num_unplaced d ≡ num_unplaced n) (spell_signed minus) r ts
+find_signed false n r ts h = find_num n r ts h
+find_signed true n r ts h =
+    let a = find_sign (marks.Operator ops.Sub) (num_symbol n ∷ r) ts h in
+    let b = find_num n r a.rest a.left in
+    record { it = b.it; alike = b.alike; rest = b.rest; whole = a.whole ∙ ap (mark_then (marks.Operator ops.Sub)) b.whole; left = b.left }
+
+abbrev some_rescue : Bool → Num → Option Rescue
+some_rescue minus n = Some (record { minus = minus; num = n })
+
+find_rescue : (x : Option Rescue) (r ts : List Symbol) → AreSame (spell_rescue_clause x r) ts → Found (λ y. option_map rescue_unplaced y ≡ option_map rescue_unplaced x) spell_rescue_clause r ts
+find_rescue None r ts h = record { it = None; alike = refl; rest = ts; whole = refl; left = h }
+find_rescue (Some x) r ts h =
+    let a = find_sign marks.Rescue (spell_rescue x r) ts h in
+    let b = find_signed x.minus x.num r a.rest a.left in record {
+      it = some_rescue x.minus b.it;
+      alike = ap (some_rescue x.minus) b.alike;
+      rest = b.rest;
+      whole = a.whole ∙ ap (mark_then marks.Rescue) b.whole;
+      left = b.left;
+    }
+
+-- where a rescue may be given, one that is the same but for positions may be too
+chain_alike : (k : Kind) (x y : Option Rescue) → option_map rescue_unplaced y ≡ option_map rescue_unplaced x → IsChain k x → IsChain k y
+chain_alike kinds.Comp x y p h = tt
+chain_alike kinds.Pipe None None p h = tt
+chain_alike kinds.Pipe None (Some y) p h = absurd cc
+chain_alike kinds.Pipe (Some x) y p h = absurd h
+chain_alike _ x y p h = absurd h
+
 find_local : (p : Port) (r ts : List Symbol) → AreSame (spell_local p r) ts → Found (λ q. port_unplaced q ≡ port_unplaced p) spell_local r ts
 find_local p r ts h =
     let a = find_port p (sign marks.Semicolon ∷ r) ts h in
@@ -535,16 +567,17 @@ record PassageAlike (i j : Passage) : Type 0 where
   proper : IsPassage i → IsPassage j
   same : entry_unplaced (passage_tree j) ≡ entry_unplaced (passage_tree i)
 
-bodied_alike : (h g : Signature) (b d : Option Num) (ls ms : List Port) (c k : Script) → SignatureAlike h g → option_map num_unplaced d ≡ option_map num_unplaced b → map port_unplaced ms ≡ map port_unplaced ls → ScriptAlike c k
-    → PassageAlike (bodied h b ls c) (bodied g d ms k)
-bodied_alike h g b d ls ms c k x p q y = record {
+bodied_alike : (h g : Signature) (b d : Option Num) (v w : Option Rescue) (ls ms : List Port) (c k : Script) → SignatureAlike h g → option_map num_unplaced d ≡ option_map num_unplaced b
+    → option_map rescue_unplaced w ≡ option_map rescue_unplaced v → map port_unplaced ms ≡ map port_unplaced ls → ScriptAlike c k → PassageAlike (bodied h b v ls c) (bodied g d w ms k)
+bodied_alike h g b d v w ls ms c k x p z q y = record {
   proper = λ n. (signature_alike h g x n.0, y.proper n.1);
   same = (let a1 = x.at in let a2 = x.ins in let a3 = x.outs in let a4 = y.same in cc);
 }
 
-chained_alike : (k : Kind) (h g : Signature) (cs ds : List Call) → SignatureAlike h g → map call_unplaced ds ≡ map call_unplaced cs → PassageAlike (chained k h cs) (chained k g ds)
-chained_alike k h g cs ds x p = record {
-  proper = λ n. (n.0, signature_alike h g x n.1, one_alike call_unplaced ds cs p n.2, calls_alike cs ds p n.3);
+chained_alike : (k : Kind) (h g : Signature) (v w : Option Rescue) (cs ds : List Call) → SignatureAlike h g → option_map rescue_unplaced w ≡ option_map rescue_unplaced v → map call_unplaced ds ≡ map call_unplaced cs
+    → PassageAlike (chained k h v cs) (chained k g w ds)
+chained_alike k h g v w cs ds x z p = record {
+  proper = λ n. (chain_alike k v w z n.0, signature_alike h g x n.1, one_alike call_unplaced ds cs p n.2, calls_alike cs ds p n.3);
   same = (let a1 = x.at in let a2 = x.ins in let a3 = x.outs in cc);
 }
 
@@ -575,35 +608,39 @@ find_passage (fixed x v p) r ts h =
       whole = a.whole ∙ ap (mark_then marks.Const) (b.whole ∙ ap (λ q. word b.it ∷ q) (c.whole ∙ ap (mark_then marks.Assign) (d.whole ∙ ap (λ q. digits v d.it ∷ q) e.whole)));
       left = e.left;
     }
-find_passage (bodied g b ls c) r ts h =
+find_passage (bodied g b x ls c) r ts h =
     let r1 = spell_end kinds.Seq r in
     let r2 = spell_script c (sign marks.CloseBody ∷ r1) in
     let r3 = sign marks.OpenBody ∷ each spell_local ls r2 in
-    let a = find_sign marks.Seq (spell_signature g (spell_clause marks.Budget b r3)) ts h in
-    let d = find_signature g (spell_clause marks.Budget b r3) a.rest a.left in
-    let e = find_clause marks.Budget b r3 d.rest d.left in
-    let f = find_sign marks.OpenBody (each spell_local ls r2) e.rest e.left in
+    let r4 = spell_rescue_clause x r3 in
+    let a = find_sign marks.Seq (spell_signature g (spell_clause marks.Budget b r4)) ts h in
+    let d = find_signature g (spell_clause marks.Budget b r4) a.rest a.left in
+    let e = find_clause marks.Budget b r4 d.rest d.left in
+    let y = find_rescue x r3 e.rest e.left in
+    let f = find_sign marks.OpenBody (each spell_local ls r2) y.rest y.left in
     let i = find_each spell_local port_unplaced find_local ls r2 f.rest f.left in
     let j = find_script c (sign marks.CloseBody ∷ r1) i.rest i.left in
     let k = find_sign marks.CloseBody r1 j.rest j.left in
     let l = find_end kinds.Seq r k.rest k.left in record {
-      it = bodied d.it e.it i.it j.it;
-      alike = bodied_alike g d.it b e.it ls i.it c j.it d.alike e.alike i.alike j.alike;
+      it = bodied d.it e.it y.it i.it j.it;
+      alike = bodied_alike g d.it b e.it x y.it ls i.it c j.it d.alike e.alike y.alike i.alike j.alike;
       rest = l.rest;
-      whole = a.whole ∙ ap (mark_then marks.Seq) (d.whole ∙ ap (spell_signature d.it) (e.whole ∙ ap (spell_clause marks.Budget e.it) (f.whole ∙ ap (mark_then marks.OpenBody)
-          (i.whole ∙ ap (each spell_local i.it) (j.whole ∙ ap (spell_script j.it) (k.whole ∙ ap (mark_then marks.CloseBody) l.whole))))));
+      whole = a.whole ∙ ap (mark_then marks.Seq) (d.whole ∙ ap (spell_signature d.it) (e.whole ∙ ap (spell_clause marks.Budget e.it) (y.whole ∙ ap (spell_rescue_clause y.it) (f.whole ∙ ap (mark_then marks.OpenBody)
+          (i.whole ∙ ap (each spell_local i.it) (j.whole ∙ ap (spell_script j.it) (k.whole ∙ ap (mark_then marks.CloseBody) l.whole)))))));
       left = l.left;
     }
-find_passage (chained k g cs) r ts h =
+find_passage (chained k g x cs) r ts h =
     let r1 = spell_end k r in
-    let a = find_sign (kind_mark k) (spell_signature g (each spell_call cs r1)) ts h in
-    let b = find_signature g (each spell_call cs r1) a.rest a.left in
-    let c = find_each spell_call call_unplaced find_call cs r1 b.rest b.left in
+    let r2 = each spell_call cs r1 in
+    let a = find_sign (kind_mark k) (spell_signature g (spell_rescue_clause x r2)) ts h in
+    let b = find_signature g (spell_rescue_clause x r2) a.rest a.left in
+    let y = find_rescue x r2 b.rest b.left in
+    let c = find_each spell_call call_unplaced find_call cs r1 y.rest y.left in
     let d = find_end k r c.rest c.left in record {
-      it = chained k b.it c.it;
-      alike = chained_alike k g b.it cs c.it b.alike c.alike;
+      it = chained k b.it y.it c.it;
+      alike = chained_alike k g b.it x y.it cs c.it b.alike y.alike c.alike;
       rest = d.rest;
-      whole = a.whole ∙ ap (mark_then (kind_mark k)) (b.whole ∙ ap (spell_signature b.it) (c.whole ∙ ap (each spell_call c.it) d.whole));
+      whole = a.whole ∙ ap (mark_then (kind_mark k)) (b.whole ∙ ap (spell_signature b.it) (y.whole ∙ ap (spell_rescue_clause y.it) (c.whole ∙ ap (each spell_call c.it) d.whole)));
       left = d.left;
     }
 find_passage (spread k g w c) r ts h =

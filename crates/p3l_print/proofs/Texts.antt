@@ -1,13 +1,15 @@
 -- The canonical text of a program is written with the tokens of its canonical form.
-use Rattle.std.proofs.Common.{◌≡◌, ℕ, false, List, [], ◌∷◌, ◌++◌, Option, Some, None, flat_map, refl, append_assoc, append-nil, codes}
+use Rattle.std.proofs.Common.{◌≡◌, ℕ, Bool, true, false, List, [], ◌∷◌, ◌++◌, Option, Some, None, flat_map, refl, append_assoc, append-nil, codes}
 use Rattle.std.specs.Fmt.{signed_decimal}
 use Rattle.std.specs.List.{join_by}
 use Rattle.p3l_ast.specs.declared.position.Pos.{Pos}
+use Rattle.p3l_ast.specs.declared.expression.BinOp.TheVariants as ops
 use Rattle.p3l_ast.specs.declared.port.Num.{Num}
 use Rattle.p3l_ast.specs.declared.port.Port.{Port}
 use Rattle.p3l_ast.specs.declared.call.Call.{Call}
 use Rattle.p3l_ast.specs.declared.module.Kind.{Kind}
 use Rattle.p3l_ast.specs.declared.module.Kind.TheVariants as kinds
+use Rattle.p3l_ast.specs.declared.module.Rescue.{Rescue}
 use Rattle.p3l_ast.specs.declared.module.Clauses.{Clauses}
 use Rattle.p3l_ast.specs.Tree.{body, calls, turning, InsideTree}
 use Rattle.p3l_lexer.specs.declared.mark.Mark.{Mark}
@@ -26,15 +28,15 @@ use Rattle.p3l_lexer.specs.Spelling.{goes_on}
 use Rattle.p3l_lexer.proofs.Spelling.{no_lexemes}
 use Rattle.p3l_lexer.proofs.Writing.{word_again, digits_are}
 use Rattle.p3l_grammar.specs.Symbol.{Symbol, word, digits, sign, symbol_at, symbols, kind_mark}
-use Rattle.p3l_grammar.specs.Written.{Script, Signature, Passage, fixed, bodied, chained, spread, turned, each, num_symbol, spell_port, spell_call, spell_script, spell_signature, spell_clause, spell_local, spell_end, spell_passage, spell_text, script_tree, passage_tree, text_tree}
+use Rattle.p3l_grammar.specs.Written.{Script, Signature, Passage, fixed, bodied, chained, spread, turned, each, num_symbol, spell_port, spell_call, spell_script, spell_signature, spell_clause, spell_signed, spell_rescue_clause, spell_local, spell_end, spell_passage, spell_text, script_tree, passage_tree, text_tree}
 use Rattle.p3l_print.specs.Printer.{interface_text}
 use Rattle.p3l_print.specs.Port.{num_text, port_text}
 use Rattle.p3l_print.specs.Call.{call_text}
 use Rattle.p3l_print.specs.Statement.{statements_text}
-use Rattle.p3l_print.specs.Module.{kind_text, clause_text, clauses_text, local_line, call_line, inside_text, module_text}
+use Rattle.p3l_print.specs.Module.{kind_text, clause_text, minus_text, rescue_text, clauses_text, local_line, call_line, inside_text, module_text}
 use Rattle.p3l_print.specs.Program.{entry_text}
 use Rattle.p3l_print.proofs.Canonical.{canonical_script, canonical_passage, canonical_passages}
-use Rattle.p3l_print.proofs.Writing.{IsWritable, AreWritable, Writes, EndsWord, put_space, put_line, put_mark, put_alone, semicolon_alone, put_word, put_digits, num_writes, port_spelling, spell_interface, interface_writes, interface_passes, interface_begins, call_writes, call_passes}
+use Rattle.p3l_print.proofs.Writing.{IsWritable, AreWritable, Writes, EndsWord, put_space, put_line, put_mark, put_alone, minus_alone, semicolon_alone, put_word, put_digits, num_writes, port_spelling, spell_interface, interface_writes, interface_passes, interface_begins, call_writes, call_passes}
 use Rattle.p3l_print.proofs.Bodies.{script_passes, script_writes}
 
 -- lines
@@ -119,6 +121,37 @@ clause_begins : (m : Mark) (n : Option Num) (rest : List ℕ) → EndsWord rest 
 clause_begins m None rest h = h
 clause_begins m (Some n) rest h = refl
 
+-- a number after a minus or without one
+signed_writes : (minus : Bool) (n : Num) (r s : List Symbol) (rest : List ℕ) → AreWritable (spell_signed minus n r) → EndsWord rest → Writes rest s
+    → Writes (minus_text minus ++ (num_text n ++ rest)) (spell_signed minus n s)
+signed_writes false n r s rest h ends w = num_writes n r s rest h ends w
+signed_writes true n r s rest h ends w =
+    put_alone (marks.Operator ops.Sub) (num_text n ++ rest) (num_symbol n ∷ s) minus_alone (num_writes n r s rest h.1 ends w)
+
+rescue_writes : (x : Option Rescue) (r s : List Symbol) (rest : List ℕ) → AreWritable (spell_rescue_clause x r) → EndsWord rest → Writes rest s
+    → Writes (rescue_text x ++ rest) (spell_rescue_clause x s)
+unfolding goes_on punctuation_of operator_of
+rescue_writes None r s rest h ends w = w
+rescue_writes (Some x) r s rest h ends w =
+    let t1 = minus_text x.minus ++ (num_text x.num ++ rest) in
+    let s1 = spell_signed x.minus x.num s in
+    let w1 : Writes t1 s1 = signed_writes x.minus x.num r s rest h.1 ends w in
+    let w2 : Writes (codes "rescue" ++ (32 ∷ t1)) (sign marks.Rescue ∷ s1) = put_mark marks.Rescue (32 ∷ t1) s1 refl (put_space t1 s1 w1) in
+    let w3 : Writes (codes " rescue " ++ t1) (sign marks.Rescue ∷ s1) = put_space (codes "rescue" ++ (32 ∷ t1)) (sign marks.Rescue ∷ s1) w2 in
+    rw (append_assoc (minus_text x.minus) (num_text x.num) rest) w3
+
+signed_passes : (minus : Bool) (n : Num) (r : List Symbol) → AreWritable (spell_signed minus n r) → AreWritable r
+signed_passes false n r h = h.1
+signed_passes true n r h = h.1.1
+
+rescue_passes : (x : Option Rescue) (r : List Symbol) → AreWritable (spell_rescue_clause x r) → AreWritable r
+rescue_passes None r h = h
+rescue_passes (Some x) r h = signed_passes x.minus x.num r h.1
+
+rescue_begins : (x : Option Rescue) (rest : List ℕ) → EndsWord rest → EndsWord (rescue_text x ++ rest)
+rescue_begins None rest h = h
+rescue_begins (Some x) rest h = refl
+
 signature_writes : (k : Kind) (h : Signature) (clauses : List ℕ) (r s : List Symbol) (rest : List ℕ) → AreWritable (spell_signature h r) → Writes (clauses ++ 10 ∷ rest) s
     → Writes (kind_text k ++ codes " " ++ h.at.name ++ interface_text port_text h.ins port_text h.outs ++ clauses ++ codes "\n" ++ rest) (sign (kind_mark k) ∷ spell_signature h s)
 signature_writes k h clauses r s rest p w =
@@ -164,18 +197,18 @@ tokens_space = refl
 
 -- the clauses that a module can have
 
-abbrev only_budget : Option Num → Clauses
-only_budget b = record { workers = None; turns = None; tokens = None; budget = b }
+abbrev only_budget : Option Num → Option Rescue → Clauses
+only_budget b x = record { workers = None; turns = None; tokens = None; budget = b; rescue = x }
 
 abbrev only_workers : Option Num → Clauses
-only_workers w = record { workers = w; turns = None; tokens = None; budget = None }
+only_workers w = record { workers = w; turns = None; tokens = None; budget = None; rescue = None }
 
 abbrev only_turns : Num → Option Num → Clauses
-only_turns t n = record { workers = None; turns = Some t; tokens = n; budget = None }
+only_turns t n = record { workers = None; turns = Some t; tokens = n; budget = None; rescue = None }
 
-budget_text : (b : Option Num) → clauses_text (only_budget b) ≡ clause_text (codes "budget") b
+budget_text : (b : Option Num) (x : Option Rescue) → clauses_text (only_budget b x) ≡ clause_text (codes "budget") b ++ rescue_text x
 unfolding clauses_text
-budget_text b = simp append-nil
+budget_text b x = simp append-nil
 
 workers_text : (w : Option Num) → clauses_text (only_workers w) ≡ clause_text (codes "workers") w
 unfolding clauses_text
@@ -185,8 +218,13 @@ turns_text : (t : Num) (n : Option Num) → clauses_text (only_turns t n) ≡ cl
 unfolding clauses_text
 turns_text t n = refl
 
-budget_writes : (b : Option Num) (r s : List Symbol) (t : List ℕ) → AreWritable (spell_clause marks.Budget b r) → Writes t s → Writes (clauses_text (only_budget b) ++ 10 ∷ t) (spell_clause marks.Budget b s)
-budget_writes b r s t h w = rw (budget_text b) (clause_writes marks.Budget b r s (10 ∷ t) budget_space h refl (put_line t s w))
+budget_writes : (b : Option Num) (x : Option Rescue) (r s : List Symbol) (t : List ℕ) → AreWritable (spell_clause marks.Budget b (spell_rescue_clause x r)) → Writes t s
+    → Writes (clauses_text (only_budget b x) ++ 10 ∷ t) (spell_clause marks.Budget b (spell_rescue_clause x s))
+budget_writes b x r s t h w =
+    let t1 = rescue_text x ++ (10 ∷ t) in
+    let w1 : Writes t1 (spell_rescue_clause x s) = rescue_writes x r s (10 ∷ t) (clause_passes marks.Budget b (spell_rescue_clause x r) h) refl (put_line t s w) in
+    let w2 = clause_writes marks.Budget b (spell_rescue_clause x r) (spell_rescue_clause x s) t1 budget_space h (rescue_begins x (10 ∷ t) refl) w1 in
+    rw (budget_text b x, append_assoc (clause_text (codes "budget") b) (rescue_text x) (10 ∷ t)) w2
 
 workers_writes : (v : Option Num) (r s : List Symbol) (t : List ℕ) → AreWritable (spell_clause marks.Workers v r) → Writes t s → Writes (clauses_text (only_workers v) ++ 10 ∷ t) (spell_clause marks.Workers v s)
 workers_writes v r s t h w = rw (workers_text v) (clause_writes marks.Workers v r s (10 ∷ t) workers_space h refl (put_line t s w))
@@ -253,21 +291,24 @@ passage_writes (fixed x v p) r s rest h w =
     let w4 : Writes t4 s4 = put_word x t3 s3 h.1.0 refl w3 in
     let w5 : Writes (codes "const " ++ t4) (sign marks.Const ∷ s4) = put_mark marks.Const (32 ∷ t4) s4 refl (put_space t4 s4 w4) in
     simp append_assoc w5
-passage_writes (bodied g b ls c) r s rest h w =
+passage_writes (bodied g b x ls c) r s rest h w =
     let r3 = spell_end kinds.Seq r in
     let r2 = each spell_local ls (spell_script c (sign marks.CloseBody ∷ r3)) in
-    let r1 = spell_clause marks.Budget b (sign marks.OpenBody ∷ r2) in
+    let r4 = spell_rescue_clause x (sign marks.OpenBody ∷ r2) in
+    let r1 = spell_clause marks.Budget b r4 in
     let s2 = sign marks.OpenBody ∷ each spell_local ls (spell_script (canonical_script c) (sign marks.CloseBody ∷ spell_end kinds.Seq s)) in
     let p = signature_passes g r1 h.1 in
-    module_writes kinds.Seq g (only_budget b) (body ls (script_tree c)) r1 (spell_clause marks.Budget b s2) s2 s rest h.1
-    (λ t z. budget_writes b (sign marks.OpenBody ∷ r2) s2 t p z)
-    (λ t z. body_writes ls c (sign marks.CloseBody ∷ r3) (spell_end kinds.Seq s) t (clause_passes marks.Budget b (sign marks.OpenBody ∷ r2) p).1 z) w
-passage_writes (chained k g cs) r s rest h w =
-    let r1 = each spell_call cs (spell_end k r) in
+    module_writes kinds.Seq g (only_budget b x) (body ls (script_tree c)) r1 (spell_clause marks.Budget b (spell_rescue_clause x s2)) s2 s rest h.1
+    (λ t z. budget_writes b x (sign marks.OpenBody ∷ r2) s2 t p z)
+    (λ t z. body_writes ls c (sign marks.CloseBody ∷ r3) (spell_end kinds.Seq s) t (rescue_passes x (sign marks.OpenBody ∷ r2) (clause_passes marks.Budget b r4 p)).1 z) w
+passage_writes (chained k g x cs) r s rest h w =
+    let r2 = each spell_call cs (spell_end k r) in
+    let r1 = spell_rescue_clause x r2 in
     let s1 = each spell_call cs (spell_end k s) in
-    module_writes k g (only_workers None) (calls cs) r1 s1 s1 s rest h.1
-    (λ t z. workers_writes None [] s1 t tt z)
-    (λ t z. calls_write cs (spell_end k r) (spell_end k s) t (signature_passes g r1 h.1) z) w
+    let p = signature_passes g r1 h.1 in
+    module_writes k g (only_budget None x) (calls cs) r1 (spell_rescue_clause x s1) s1 s rest h.1
+    (λ t z. budget_writes None x r2 s1 t p z)
+    (λ t z. calls_write cs (spell_end k r) (spell_end k s) t (rescue_passes x r2 p) z) w
 passage_writes (spread k g v c) r s rest h w =
     let r2 = spell_call c (spell_end k r) in
     let r1 = spell_clause marks.Workers v r2 in
@@ -287,12 +328,15 @@ passage_writes (turned g u n b c) r s rest h w =
 
 passage_passes : (i : Passage) (r : List Symbol) → AreWritable (spell_passage i r) → AreWritable r
 passage_passes (fixed x v p) r h = h.1.1.1.1.1
-passage_passes (bodied g b ls c) r h =
+passage_passes (bodied g b x ls c) r h =
     let r3 = sign marks.CloseBody ∷ spell_end kinds.Seq r in
     let r2 = sign marks.OpenBody ∷ each spell_local ls (spell_script c r3) in
-    let inner = (clause_passes marks.Budget b r2 (signature_passes g (spell_clause marks.Budget b r2) h.1)).1 in
+    let r4 = spell_rescue_clause x r2 in
+    let inner = (rescue_passes x r2 (clause_passes marks.Budget b r4 (signature_passes g (spell_clause marks.Budget b r4) h.1))).1 in
     (script_passes c r3 (lines_pass local_line spell_local local_is_line ls (spell_script c r3) inner)).1.1.1
-passage_passes (chained k g cs) r h = (lines_pass call_line spell_call call_is_line cs (spell_end k r) (signature_passes g (each spell_call cs (spell_end k r)) h.1)).1.1
+passage_passes (chained k g x cs) r h =
+    let r2 = each spell_call cs (spell_end k r) in
+    (lines_pass call_line spell_call call_is_line cs (spell_end k r) (rescue_passes x r2 (signature_passes g (spell_rescue_clause x r2) h.1))).1.1
 passage_passes (spread k g v c) r h =
     let r2 = spell_call c (spell_end k r) in
     (call_passes c (spell_end k r) (clause_passes marks.Workers v r2 (signature_passes g (spell_clause marks.Workers v r2) h.1))).1.1

@@ -13,15 +13,16 @@ use Rattle.p3l_ast.specs.declared.call.OutArg.TheVariants.{Fresh, Old}
 use Rattle.p3l_ast.specs.declared.call.Call.{Call}
 use Rattle.p3l_ast.specs.declared.expression.UnOp.{UnOp}
 use Rattle.p3l_ast.specs.declared.expression.BinOp.{BinOp}
+use Rattle.p3l_ast.specs.declared.module.Rescue.{Rescue}
 use Rattle.p3l_ast.specs.declared.module.Clauses.{Clauses}
 use Rattle.p3l_ast.specs.Tree.{Phrase, number, read, unary, binary, Phrases, none, more, Statements, done, assign, if_, if_else, while_, for_, InsideTree, body, calls, turning, ModuleTree, EntryTree, constant, defined, ProgramTree}
-use Rattle.p3l_ast.specs.Unplaced.{num_unplaced, port_unplaced, sub_unplaced, arg_unplaced, out_unplaced, call_unplaced, clauses_unplaced, phrase_unplaced, phrases_unplaced, statements_unplaced, inside_unplaced, module_unplaced, entry_unplaced, program_unplaced}
+use Rattle.p3l_ast.specs.Unplaced.{num_unplaced, port_unplaced, sub_unplaced, arg_unplaced, out_unplaced, call_unplaced, rescue_unplaced, clauses_unplaced, phrase_unplaced, phrases_unplaced, statements_unplaced, inside_unplaced, module_unplaced, entry_unplaced, program_unplaced}
 use Rattle.p3l_print.specs.Printer.{interface_text}
 use Rattle.p3l_print.specs.Port.{num_text, size_text, port_text}
 use Rattle.p3l_print.specs.Call.{sub_text, arg_text, out_arg_text, call_text}
 use Rattle.p3l_print.specs.Expression.{tightness, expression_text, index_text}
 use Rattle.p3l_print.specs.Statement.{assignment_text, deeper, opening_text, for_opening_text, statements_text}
-use Rattle.p3l_print.specs.Module.{clause_text, clauses_text, local_line, call_line, inside_text, module_text}
+use Rattle.p3l_print.specs.Module.{clause_text, rescue_text, clauses_text, local_line, call_line, inside_text, module_text}
 use Rattle.p3l_print.specs.Program.{entry_text, canonical}
 
 each_same : {X : Type 0} (f : X → List ℕ) (g : X → X) → ((x : X) → f (g x) ≡ f x) → (xs : List X) → flat_map f (map g xs) ≡ flat_map f xs
@@ -120,10 +121,15 @@ clause_same : (word : List ℕ) (n : Option Num) → clause_text word (option_ma
 clause_same word None = refl
 clause_same word (Some n) = let p = num_same n in cc
 
+rescue_same : (x : Option Rescue) → rescue_text (option_map rescue_unplaced x) ≡ rescue_text x
+rescue_same None = refl
+rescue_same (Some x) = let p = num_same x.num in cc
+
 clauses_same : (c : Clauses) → clauses_text (clauses_unplaced c) ≡ clauses_text c
 unfolding clauses_text
 clauses_same c =
     let p = clause_same (codes "budget") c.budget in
+    let x = rescue_same c.rescue in
     let q = clause_same (codes "workers") c.workers in
     let r = clause_same (codes "turns") c.turns in
     let s = clause_same (codes "tokens") c.tokens in

@@ -120,6 +120,10 @@ pub star_alone : IsAlone (marks.Operator ops.Mul)
 unfolding goes_on punctuation_of operator_of
 star_alone b = refl
 
+pub minus_alone : IsAlone (marks.Operator ops.Sub)
+unfolding goes_on punctuation_of operator_of
+minus_alone b = refl
+
 pub open_brace_alone : IsAlone marks.OpenBrace
 unfolding goes_on punctuation_of operator_of
 open_brace_alone b = refl

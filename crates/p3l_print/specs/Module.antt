@@ -1,9 +1,10 @@
 -- How modules are written.
-use Rattle.std.specs.Prelude.{ℕ, List, [], ◌++◌, flat_map, Option, Some, None, codes}
+use Rattle.std.specs.Prelude.{ℕ, List, [], ◌++◌, flat_map, Bool, true, false, Option, Some, None, codes}
 use Rattle.p3l_ast.specs.declared.port.Num.{Num}
 use Rattle.p3l_ast.specs.declared.port.Port.{Port}
 use Rattle.p3l_ast.specs.declared.call.Call.{Call}
 use Rattle.p3l_ast.specs.declared.module.Kind.{Kind}
+use Rattle.p3l_ast.specs.declared.module.Rescue.{Rescue}
 use Rattle.p3l_ast.specs.declared.module.Clauses.{Clauses}
 use Rattle.p3l_ast.specs.Tree.{ModuleTree, InsideTree, body, calls, turning}
 use Rattle.p3l_lexer.specs.Mark.{mark_text}
@@ -22,9 +23,18 @@ abbrev pub clause_text : List ℕ → Option Num → List ℕ
 clause_text word None = []
 clause_text word (Some num) = codes " " ++ word ++ codes " " ++ num_text num
 
+abbrev pub minus_text : Bool → List ℕ
+minus_text false = []
+minus_text true = codes "-"
+
+-- a rescue that is given, after a space; nothing stands between a minus and its number
+abbrev pub rescue_text : Option Rescue → List ℕ
+rescue_text None = []
+rescue_text (Some rescue) = codes " rescue " ++ minus_text rescue.minus ++ num_text rescue.num
+
 unfoldable pub clauses_text : Clauses → List ℕ
 clauses_text clauses =
-    clause_text (codes "budget") clauses.budget ++ clause_text (codes "workers") clauses.workers ++ clause_text (codes "turns") clauses.turns
+    clause_text (codes "budget") clauses.budget ++ rescue_text clauses.rescue ++ clause_text (codes "workers") clauses.workers ++ clause_text (codes "turns") clauses.turns
     ++ clause_text (codes "tokens") clauses.tokens
 
 -- a module's first line

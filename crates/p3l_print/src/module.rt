@@ -3,10 +3,10 @@
 ghost use Rattle.std.specs.Prelude.{◌≡◌, ◌++◌, OnOk, flat_map};
 ghost use Rattle.p3l_ast.specs.Tree.{statements, inside_tree, module_tree, turning};
 ghost use Rattle.p3l_ast.specs.Tree.{body as body_tree};
-ghost use Rattle.p3l_print.specs.Module.{clause_text, clauses_text, signature_text, local_line, call_line, inside_text, module_text};
+ghost use Rattle.p3l_print.specs.Module.{clause_text, minus_text, rescue_text, clauses_text, signature_text, local_line, call_line, inside_text, module_text};
 
 use crate::printer::Printer;
-use p3l_ast::{Block, Call, Clauses, Inside, Module, Num, Port};
+use p3l_ast::{Block, Call, Clauses, Inside, Module, Num, Port, Rescue};
 use p3l_base::NoMemory;
 use p3l_grammar::mark::mark_of_kind;
 
@@ -38,6 +38,7 @@ impl Printer {
         ensures { OnOk result (self.new ≡ self.old ++ clauses_text clauses.now) }
     {
         self.clause(b"budget", &clauses.budget)?;
+        self.rescue(&clauses.rescue)?;
         self.clause(b"workers", &clauses.workers)?;
         self.clause(b"turns", &clauses.turns)?;
         self.clause(b"tokens", &clauses.tokens)
@@ -54,6 +55,25 @@ impl Printer {
         self.put(word)?;
         self.put(b" ")?;
         self.num(num)
+    }
+
+    /// The rescue after a space, if it is given.
+    fn rescue(&mut self, clause: &Option<Rescue>) -> Result<(), NoMemory>
+        ensures { OnOk result (self.new ≡ self.old ++ rescue_text clause.now) }
+    {
+        let Some(rescue) = clause else {
+            return Ok(());
+        };
+        self.put(b" rescue ")?;
+        self.minus(rescue.minus)?;
+        self.num(&rescue.num)
+    }
+
+    /// A minus, where there is one.
+    fn minus(&mut self, is_there: bool) -> Result<(), NoMemory>
+        ensures { OnOk result (self.new ≡ self.old ++ minus_text is_there) }
+    {
+        if is_there { self.put(b"-") } else { Ok(()) }
     }
 
     fn inside(&mut self, inside: &Inside) -> Result<(), NoMemory>

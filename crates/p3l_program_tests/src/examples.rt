@@ -3,8 +3,8 @@
 mod texts;
 
 use self::texts::{
-    Example, FARMS, GREATEST, HALVE, HASH, HISTOGRAM, LINE, MATRIX, NORM, PREFIX, ROOT, SIGNAL,
-    SLIDING, TOTAL, VECTOR,
+    AVERAGES, Example, FARMS, GREATEST, HALVE, HASH, HISTOGRAM, LINE, MATRIX, NORM, PREFIX, ROOT,
+    SIGNAL, SLIDING, TOTAL, VECTOR,
 };
 use p3l_base::List;
 use p3l_io::{MemFiles, MemSink, MemSource};
@@ -92,6 +92,12 @@ fn farms_in_pipes(rt: HostRuntime) -> Result<(), Fail> {
     compare_runs(&rt, alloc, &FARMS, numbers)?;
     let numbers = "stats: items 3, fired 18, idle 0, bound 18\n";
     compare_runs(&rt, alloc, &SIGNAL, numbers)
+}
+
+#[test]
+fn a_rescue_in_a_pipe(rt: HostRuntime) -> Result<(), Fail> {
+    let numbers = "stats: items 3, fired 12, idle 0, bound 12\n";
+    compare_runs(&rt, rt.alloc(), &AVERAGES, numbers)
 }
 
 #[test]

@@ -2,7 +2,7 @@
 
 ghost use Rattle.std.specs.Prelude.{◌<◌, ◌≤◌, length, IfOk, IfErr};
 ghost use Rattle.p3l_ast.specs.Tree.{inside_tree, entry_tree};
-ghost use Rattle.p3l_grammar.specs.Parser.{clause, body_from, loop_calls, filling, head, fixed_from, module_from};
+ghost use Rattle.p3l_grammar.specs.Parser.{clause, any_rescue, rescue_clause, body_from, loop_calls, filling, head, fixed_from, module_from};
 ghost use Rattle.p3l_reader.specs.Reading.{Reads, Fails, Closes, FailsEnd};
 ghost use Rattle.p3l_reader.specs.Parts.{signature_of, filling_of};
 
@@ -11,7 +11,7 @@ use crate::mark::{digits, expect, num, skip, spot};
 use crate::port::{locals, ports};
 use crate::refusal::Refusal;
 use crate::stmt::stmts;
-use p3l_ast::{Block, Clauses, Entry, Inside, Kind, Module, Num, Port, Spot};
+use p3l_ast::{BinOp, Block, Clauses, Entry, Inside, Kind, Module, Num, Port, Rescue, Spot};
 use p3l_base::List;
 use p3l_grammar::mark::mark_of_kind;
 use p3l_lexer::{Mark, Token};
@@ -42,6 +42,39 @@ fn clause(alloc: Global, tokens: &[Token], mark: Mark) -> Result<(Option<Num>, &
         Some(rest) => {
             let (value, rest) = num(alloc, rest)?;
             Ok((Some(value), rest))
+        }
+        None => Ok((None, tokens)),
+    }
+}
+
+/// A number or the name of a constant, after a minus where it is negated.
+fn rescue_number(alloc: Global, tokens: &[Token]) -> Result<(Rescue, &[Token]), Refusal>
+    ensures ok { IfOk result (λ x. Reads any_rescue tokens.now x.0 x.1.now) }
+    ensures shorter { IfOk result (λ x. length x.1.now < length tokens.now) }
+    ensures err { IfErr result (λ e. Fails any_rescue tokens.now e) }
+{
+    match skip(tokens, Mark::Operator(BinOp::Sub)) {
+        Some(rest) => {
+            let (num, rest) = num(alloc, rest)?;
+            Ok((Rescue { minus: true, num }, rest))
+        }
+        None => {
+            let (num, rest) = num(alloc, tokens)?;
+            Ok((Rescue { minus: false, num }, rest))
+        }
+    }
+}
+
+/// The rescue of a `seq` or a `comp`, where its keyword comes next.
+fn rescue(alloc: Global, tokens: &[Token]) -> Result<(Option<Rescue>, &[Token]), Refusal>
+    ensures ok { IfOk result (λ x. Reads rescue_clause tokens.now x.0 x.1.now) }
+    ensures shorter { IfOk result (λ x. length x.1.now ≤ length tokens.now) }
+    ensures err { IfErr result (λ e. Fails rescue_clause tokens.now e) }
+{
+    match skip(tokens, Mark::Rescue) {
+        Some(rest) => {
+            let (rescue, rest) = rescue_number(alloc, rest)?;
+            Ok((Some(rescue), rest))
         }
         None => Ok((None, tokens)),
     }
@@ -94,18 +127,39 @@ fn seq(alloc: Global, tokens: &[Token]) -> Result<(Contents, &[Token]), Refusal>
     ensures err { IfErr result (λ e. Fails (filling Kind.Seq) tokens.now e) }
 {
     let (budget, rest) = clause(alloc, tokens, Mark::Budget)?;
+    let (rescue, rest) = rescue(alloc, rest)?;
     let (inside, rest) = body(alloc, rest)?;
     let clauses = Clauses {
         workers: None,
         turns: None,
         tokens: None,
         budget,
+        rescue,
     };
     Ok((Contents { clauses, inside }, rest))
 }
 
-/// What stands after the head of a `comp` or a `pipe`.
-fn chain(alloc: Global, tokens: &[Token]) -> Result<(Contents, &[Token]), Refusal>
+/// What stands after the head of a `comp`.
+fn comp(alloc: Global, tokens: &[Token]) -> Result<(Contents, &[Token]), Refusal>
+    ensures ok { IfOk result (λ x. Reads (filling Kind.Comp) tokens.now (filling_of x.0) x.1.now) }
+    ensures shorter { IfOk result (λ x. length x.1.now < length tokens.now) }
+    ensures err { IfErr result (λ e. Fails (filling Kind.Comp) tokens.now e) }
+{
+    let (rescue, rest) = rescue(alloc, tokens)?;
+    let (calls, rest) = call_list(alloc, rest)?;
+    let clauses = Clauses {
+        workers: None,
+        turns: None,
+        tokens: None,
+        budget: None,
+        rescue,
+    };
+    let inside = Inside::Calls(calls);
+    Ok((Contents { clauses, inside }, rest))
+}
+
+/// What stands after the head of a `pipe`.
+fn pipe(alloc: Global, tokens: &[Token]) -> Result<(Contents, &[Token]), Refusal>
     ensures ok { IfOk result (λ x. Reads (filling Kind.Pipe) tokens.now (filling_of x.0) x.1.now) }
     ensures shorter { IfOk result (λ x. length x.1.now < length tokens.now) }
     ensures err { IfErr result (λ e. Fails (filling Kind.Pipe) tokens.now e) }
@@ -116,6 +170,7 @@ fn chain(alloc: Global, tokens: &[Token]) -> Result<(Contents, &[Token]), Refusa
         turns: None,
         tokens: None,
         budget: None,
+        rescue: None,
     };
     let inside = Inside::Calls(calls);
     Ok((Contents { clauses, inside }, rest))
@@ -136,6 +191,7 @@ fn spread(alloc: Global, tokens: &[Token]) -> Result<(Contents, &[Token]), Refus
         turns: None,
         tokens: None,
         budget: None,
+        rescue: None,
     };
     let inside = Inside::Calls(calls);
     Ok((Contents { clauses, inside }, rest))
@@ -156,6 +212,7 @@ fn turning(alloc: Global, tokens: &[Token]) -> Result<(Contents, &[Token]), Refu
         turns: Some(turns),
         tokens: capacity,
         budget: None,
+        rescue: None,
     };
     Ok((Contents { clauses, inside }, rest))
 }
@@ -172,8 +229,8 @@ fn whole_filling(
 {
     match kind {
         Kind::Seq => seq(alloc, tokens),
-        Kind::Comp => chain(alloc, tokens),
-        Kind::Pipe => chain(alloc, tokens),
+        Kind::Comp => comp(alloc, tokens),
+        Kind::Pipe => pipe(alloc, tokens),
         Kind::Farm => spread(alloc, tokens),
         Kind::Map => spread(alloc, tokens),
         Kind::Reduce => spread(alloc, tokens),

@@ -61,7 +61,14 @@ const HEADS: &str = "0 | seq m in(int x) out(int y) ${ y = x; }$ end seq
 20 1:38 | const K = 1; seq m in(int x) out(int K) ${ K = 1; }$ end seq
 30 1:35 | seq m in(int x) out(int y) budget 0 ${ y = z; }$ end seq
 30 1:35 | seq m in(int x) out(int y) budget 100000001 ${ int y; }$ end seq
-10 1:35 | seq m in(int x) out(int y) budget K ${ y = x; }$ end seq";
+10 1:35 | seq m in(int x) out(int y) budget K ${ y = x; }$ end seq
+0 | const K = 5; seq m in(int x) out(int y) budget K rescue -K ${ y = x; }$ end seq
+0 | seq m in(int x) out(int y) rescue -9223372036854775807 ${ y = x; }$ end seq
+10 1:35 | seq m in(int x) out(int y) rescue K ${ y = z; }$ end seq const K = 1;
+10 1:36 | seq m in(int x) out(int y) rescue -K ${ int y; }$ end seq
+10 1:35 | seq m in(int x) out(int y) budget L rescue K ${ y = z; }$ end seq
+30 1:35 | seq m in(int x) out(int y) budget 0 rescue K ${ y = z; }$ end seq
+10 1:44 | seq m in(int x) out(int y) budget 1 rescue K ${ y = z; }$ end seq";
 
 /// Each line has a fault with its place, and a body in line 2.
 const BODIES: &str = "0 | ${ y = x; b[x] = a[0][x]; }$

@@ -40,6 +40,21 @@ fn answer(alloc: Global, text: &str) -> Result<String, AllocError> {
     }
 }
 
+/// The rescue number of each module of a program, with `.` for a module that has none.
+fn rescues(alloc: Global, text: &str) -> Result<String, Fail> {
+    let program = read(alloc, text.as_bytes())?;
+    let resolved = resolve(alloc, &program)?;
+    let mut found = String::new(alloc);
+    for info in resolved.tree.modules.as_slice() {
+        let one = match info.rescue {
+            Some(number) => format!(in alloc; " {number}")?,
+            None => String::from_str(alloc, " .")?,
+        };
+        found.push_str(one.as_str())?;
+    }
+    Ok(found)
+}
+
 /// Modules that stand in line 1, before the programs of the tables.
 const HEAD: &str =
     "seq f in(int x) out(int y) ${ y = x; }$ end seq seq add in(int x, int y) out(int z) ${ z = x + y; }$ end seq seq g in(int x[4]) out(int y[4]) ${ y[0] = x[0]; }$ end seq farm w in(int a) out(int b) f in(a) out(b) end farm";
@@ -130,7 +145,11 @@ ok 5 2 | map main in(int a[2][3], int c) out(int b[3][2]) workers 6 add in(a[*i]
 ok 6 2 | seq h in(int x[4], int y[4]) out(int z) ${ z = x[0]; }$ end seq map main in(int a[2][4], int c[4]) out(int b[2]) h in(a[*i][], c) out(b[*i]) end map";
 
 /// The numbers of clauses.
-const CLAUSES: &str = "30 2:37 | farm v in(int a) out(int b) workers 0 f in(a) out(b) end farm
+const CLAUSES: &str =
+    "10 2:35 | seq h in(int a) out(int b) rescue K ${ b = a; }$ end seq const K = 1;
+10 2:36 | seq h in(int a) out(int b) rescue -K ${ b = a; }$ end seq
+10 2:36 | comp c in(int a) out(int b) rescue K f in(a) out(b) end comp const K = 1;
+30 2:37 | farm v in(int a) out(int b) workers 0 f in(a) out(b) end farm
 30 2:37 | farm v in(int a) out(int b) workers 513 f in(a) out(b) end farm
 30 2:42 | map m in(int a[4]) out(int b[4]) workers 5 f in(a[*i]) out(b[*i]) end map
 30 2:48 | map m in(int a[1024]) out(int b[1024]) workers 513 f in(a[*i]) out(b[*i]) end map
@@ -147,7 +166,13 @@ ok 5 2 | reduce main in(int a[5]) out(int s) workers 4 add in(a[*i]) out(s) end 
 ok 5 3 | loop main in(int a) out(int b) turns 65536 tokens 1024 f in(a) out(b) while f in(b) out(int c) end loop";
 
 /// Programs with several faults.
-const ORDER: &str = "25 2:50 | map m in(int a[4]) out(int b[4]) f in(d[*i]) out(c[*i]) end map
+const ORDER: &str = "10 2:35 | seq h in(int a) out(int b) budget L rescue K ${ b = c; }$ end seq
+30 2:35 | seq h in(int a) out(int b) budget 0 rescue K ${ b = c; }$ end seq
+10 2:44 | seq h in(int a) out(int b) budget 1 rescue K ${ b = c; }$ end seq
+12 2:14 | seq h in(int a[257][256]) out(int b) budget L rescue K ${ b = c; }$ end seq
+10 2:36 | comp c in(int a) out(int b) rescue K w in(a, a) out(b) end comp
+20 2:26 | comp c in(int a) out(int a) rescue K f in(a) out(a) end comp
+25 2:50 | map m in(int a[4]) out(int b[4]) f in(d[*i]) out(c[*i]) end map
 25 2:37 | farm v in(int a[2]) out(int b) f in(b) out(b) end farm
 24 2:46 | pipe p in(int a[2], int b) out(int c) add in(a, a) out(c) end pipe
 24 2:37 | farm v in(int a[2]) out(int b) f in(a) out(a) end farm
@@ -218,6 +243,45 @@ fn the_first_fault_decides(rt: HostRuntime) -> Result<(), Fail> {
 #[test]
 fn limits_of_whole_programs(rt: HostRuntime) -> Result<(), Fail> {
     check_programs(&rt, rt.alloc(), HEAD, LIMITS)
+}
+
+#[test]
+fn rescue_numbers(rt: HostRuntime) -> Result<(), Fail> {
+    let seq = "seq main in(int x) out(int y)";
+    let body = "${ y = x; }$ end seq";
+    let comp =
+        "seq f in(int x) out(int y) rescue K ${ y = x; }$ end seq comp main in(int x) out(int y)";
+    let call = "f in(x) out(y) end comp";
+    let table = [
+        ("", seq, "", body, " ."),
+        ("", seq, "rescue 9", body, " 9"),
+        ("", seq, "budget 3 rescue -7", body, " -7"),
+        ("", seq, "rescue -0", body, " 0"),
+        ("const K = 5;", seq, "rescue K", body, " 5"),
+        ("const K = 5;", seq, "rescue -K", body, " -5"),
+        (
+            "",
+            seq,
+            "rescue 9223372036854775807",
+            body,
+            " 9223372036854775807",
+        ),
+        (
+            "",
+            seq,
+            "rescue -9223372036854775807",
+            body,
+            " -9223372036854775807",
+        ),
+        ("const K = 5;", comp, "", call, " 5 ."),
+        ("const K = 5;", comp, "rescue -2", call, " 5 -2"),
+    ];
+    for (before, head, clause, after, numbers) in table {
+        let text = format!(in rt.alloc(); "{before} {head} {clause} {after}")?;
+        let found = rescues(rt.alloc(), text.as_str())?;
+        assert!(rt; found.as_str() == numbers, "{found} for {text}");
+    }
+    Ok(())
 }
 
 #[test]

@@ -8,6 +8,37 @@ pub struct Example {
     pub output: &'static str,
 }
 
+pub const AVERAGES: Example = Example {
+    program: "// The average of each batch, and whether it passes a mark. An empty batch has no average: -1 stands for it,
+// and the batches after it go on.
+const MARK = 10;
+
+seq average in(int sum, int count) out(int mean) rescue -1
+${ mean = sum / count; }$
+end seq
+
+seq grade in(int mean) out(int same, int passes)
+${
+  same = mean;
+  passes = mean >= MARK;
+}$
+end seq
+
+pipe main in(int sum, int count) out(int mean, int passes)
+  average in(sum, count) out(int m)
+  grade in(m) out(mean, passes)
+end pipe
+",
+    input: "12 4
+0 0
+100 5
+",
+    output: "3 0
+-1 0
+20 1
+",
+};
+
 pub const FARMS: Example = Example {
     program: "// A pipe of two farms: numbers are squared by some workers, and their digits are summed by others.
 seq square in(int x) out(int y)
