@@ -12,6 +12,7 @@ use Rattle.p3l_program.specs.Compile.{IsImageOf}
 use Rattle.p3l_program.specs.Explain.{IsExplained}
 use Rattle.p3l_program.specs.Fmt.{IsFormatted, fmt_stages}
 use Rattle.p3l_program.specs.Generated.{gen_of}
+use Rattle.p3l_program.specs.Graph.{IsDrawn}
 use Rattle.p3l_program.specs.Origin.{Running, built, imaged, running}
 use Rattle.p3l_program.specs.Stage.{Stage, build_stages, program_stages, verify_stages}
 use Rattle.p3l_program.specs.Text.{IsNothing}
@@ -28,6 +29,7 @@ work_of (command.Explain build (Some cert)) =
     save_file (build_stages build) (λ files. IsExplained files build) cert (λ files. IsCertificate files build)
 work_of (command.Compile build name) =
     save_file (build_stages build) (λ files. IsNothing) name (λ files. IsImageOf files build)
+work_of (command.Graph build) = write_text (build_stages build) (λ files. IsDrawn files build)
 work_of (command.Run build schedule trace reported) = run_network (running (built build) schedule trace reported)
 work_of (command.Exec name schedule trace reported) = run_network (running (imaged name) schedule trace reported)
 work_of (command.VerifyCert program cert costs) =

@@ -13,6 +13,7 @@ pub mod explain;
 mod file;
 pub mod fmt;
 pub mod generated;
+pub mod graph;
 mod image;
 mod memory;
 mod plan;

@@ -13,6 +13,7 @@ use crate::exec::exec;
 use crate::explain::explain;
 use crate::fmt::fmt;
 use crate::generated::run_generated;
+use crate::graph::graph;
 use crate::run::run;
 use crate::verify::verify_cert;
 use p3l_io::{Files, Sink, Source};
@@ -40,6 +41,7 @@ fn perform<F: Files, S: Source, K: Sink>(
             Some(name) => certify(alloc, build, name, files, out),
         },
         Ok(Command::Compile(build, name)) => compile(alloc, build, name, files),
+        Ok(Command::Graph(build)) => graph(alloc, build, files, out),
         Ok(Command::Run(build, schedule, trace, reported)) => run(
             alloc, build, schedule, trace, reported, files, input, out,
         ),

@@ -64,6 +64,17 @@ returns-in-Ok-Compile g c =
           c.compile.result _ _ _ refl (record { told = refl; calm = refl }) c.compile.ensures.due c.compile.ensures.kept;
     }
 
+pub returns-in-Ok-Graph : goal.returns-in-Ok-Graph
+unfolding work_of
+returns-in-Ok-Graph g c =
+    let asked = c.in-Ok-Graph in
+    let spelled : Spells (texts_of c.args.words.now) (command.Graph asked.build) = search (rules, asked.ensures.spelled) in record {
+      due =
+          text_asked (texts_of c.args.words.now) _ spelled (change g.F.Files.held g.F.Files.faults c.args.files.now c.graph.new.files)
+          (change g.K.Sink.taken g.K.Sink.faults c.args.out.now c.graph.new.out) (g.S.Source.rest c.args.input.now) (g.S.Source.faults c.args.input.now)
+          c.graph.result _ _ refl c.graph.ensures.due c.graph.ensures.stays;
+    }
+
 pub returns-in-Ok-Run : goal.returns-in-Ok-Run
 unfolding work_of
 returns-in-Ok-Run g c =

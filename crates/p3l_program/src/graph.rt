@@ -1,0 +1,38 @@
+// The command `graph`: the picture of the network that is built for a program.
+
+ghost use Rattle.std.specs.Prelude.{◌≡◌, ◌≤◌};
+ghost use Rattle.p3l_program.specs.Graph.{IsDrawn};
+ghost use Rattle.p3l_program.specs.Stage.{build_stages};
+ghost use Rattle.p3l_program.specs.Text.{IsTextDue};
+ghost use Rattle.p3l_program.specs.World.{change};
+
+use crate::plan::load_network;
+use crate::text::write_text;
+use p3l_graph::graph_text;
+use p3l_io::{Files, Sink};
+use p3l_opts::Build;
+use p3l_report::Verdict;
+use std::alloc::Global;
+
+/// Writes the picture of the network that is built for the program of a file.
+pub fn graph<F: Files, K: Sink>(
+    alloc: Global,
+    build: Build,
+    files: &mut F,
+    out: &mut K,
+) -> Verdict
+    requires processors { (1 ≤ build.processors) × (build.processors ≤ 512) }
+    requires capacity { (1 ≤ build.capacity) × (build.capacity ≤ 1024) }
+    ensures due { IsTextDue (change F.held F.faults files.old files.new)
+        (change K.taken K.faults out.old out.new) (build_stages build)
+        (IsDrawn (F.held files.old) build) result }
+    ensures stays { F.held files.new ≡ F.held files.old }
+{
+    match load_network(alloc, build, files) {
+        Err(verdict) => verdict,
+        Ok(loaded) => match graph_text(alloc, &loaded.tree, &loaded.net) {
+            Err(_) => Verdict::NoMemory,
+            Ok(text) => write_text(text.as_slice(), out),
+        },
+    }
+}
