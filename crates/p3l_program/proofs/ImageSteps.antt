@@ -16,19 +16,20 @@ use Rattle.p3l_load.specs.declared.loaded.Loaded.{Loaded}
 use Rattle.p3l_load.specs.declared.loaded.LoadRefusal.{LoadRefusal}
 use Rattle.p3l_load.specs.declared.loaded.LoadRefusal.TheVariants as load
 use Rattle.p3l_load.specs.Codes.{IsFirstUnsafe}
-use Rattle.p3l_load.specs.Load.{IsRunnable, Refuses, loaded_of}
+use Rattle.p3l_load.specs.Load.{IsRunnable, Refuses, RefusesMigration, loaded_of, migrated_of}
 use Rattle.p3l_report.specs.declared.evidence.Evidence.{Evidence}
 use Rattle.p3l_report.specs.declared.evidence.Evidence.TheVariants as evidence
 use Rattle.p3l_report.specs.declared.verdict.Refusal.TheVariants as refusal
 use Rattle.p3l_report.specs.declared.verdict.Verdict.TheVariants as verdict
 use Rattle.p3l_run.specs.Network.{Network}
 use Rattle.p3l_program.specs.File.{HasText}
-use Rattle.p3l_program.specs.Image.{IsBroken, IsImage, IsMisspelled, image_limit}
+use Rattle.p3l_program.specs.Image.{IsBroken, IsImage, IsMisspelled, IsUnfit, image_limit}
 use Rattle.p3l_program.specs.Load.{IsNotLoaded, LoadsNetwork}
+use Rattle.p3l_program.specs.Migrate.{Migrates}
 use Rattle.p3l_program.specs.Origin.{imaged}
 use Rattle.p3l_program.specs.LoadImage.{IsReadyImage, LoadsImage, image_verdict, load_verdict}
 use Rattle.p3l_program.specs.Plan.{IsImaged, network_in}
-use Rattle.p3l_program.specs.Stage.{AllPass, image_stages}
+use Rattle.p3l_program.specs.Stage.{AllPass, Stage, decoded, image_stages, migrate_stages, readable}
 use Rattle.p3l_program.specs.World.{Change, IsCalm}
 
 -- codes that are all safe have no unsafe one
@@ -41,18 +42,19 @@ first_unsafe : (codes : List Code) (number : ℕ) → IsFirstUnsafe codes number
 first_unsafe codes number first safe = unsafe_at codes number first.unsafe (recursion_from_All IsSafe codes safe)
 
 module _ (files : Change Held) (name bytes : List ℕ) (has : HasText files.old image_limit name bytes) (calm : IsCalm files) where
-  no_image : (e : Evidence) → IsMisspelled e bytes → ((i : Image) → IsImage i bytes → ⊥) → IsNotLoaded files (image_stages name) (verdict.Refused (refusal.Evidence e))
-  no_image e is never = (inr ((bytes, has), inl (record { bytes = bytes; has = has; are = record { misspelled = is; never = never } })), calm)
+  no_image : (more : List Stage) (e : Evidence) → IsMisspelled e bytes → ((i : Image) → IsImage i bytes → ⊥) →
+      IsNotLoaded files (readable image_limit name ∷ (decoded name ∷ more)) (verdict.Refused (refusal.Evidence e))
+  no_image more e is never = (inr ((bytes, has), inl (record { bytes = bytes; has = has; are = record { misspelled = is; never = never } })), calm)
 
-  -- bytes that are refused spell no image
-  pub not_decoded : (r : ImageRefusal) → ((i : Image) → IsImage i bytes → Answers bytes (Err r) (Ok i)) → Answers bytes (Err r) (image_in bytes) →
-      IsNotLoaded files (image_stages name) (image_verdict r)
-  not_decoded image.BadMagic only exact = no_image evidence.BadMagic (sym exact) (λ i is. let z = only i is in absurd cc)
-  not_decoded (image.Version version) only exact = no_image (evidence.Version version) (sym exact) (λ i is. let z = only i is in absurd cc)
-  not_decoded (image.Short place) only exact = no_image (evidence.Short place) (sym exact) (λ i is. let z = only i is in absurd cc)
-  not_decoded (image.BadField place) only exact = no_image (evidence.BadField place) (sym exact) (λ i is. let z = only i is in absurd cc)
-  not_decoded (image.TrailingBytes place) only exact = no_image (evidence.TrailingBytes place) (sym exact) (λ i is. let z = only i is in absurd cc)
-  not_decoded image.NoMemory only exact = calm
+  -- bytes that are refused spell no image, whatever stages come after
+  pub not_decoded : (more : List Stage) (r : ImageRefusal) → ((i : Image) → IsImage i bytes → Answers bytes (Err r) (Ok i)) → Answers bytes (Err r) (image_in bytes) →
+      IsNotLoaded files (readable image_limit name ∷ (decoded name ∷ more)) (image_verdict r)
+  not_decoded more image.BadMagic only exact = no_image more evidence.BadMagic (sym exact) (λ i is. let z = only i is in absurd cc)
+  not_decoded more (image.Version version) only exact = no_image more (evidence.Version version) (sym exact) (λ i is. let z = only i is in absurd cc)
+  not_decoded more (image.Short place) only exact = no_image more (evidence.Short place) (sym exact) (λ i is. let z = only i is in absurd cc)
+  not_decoded more (image.BadField place) only exact = no_image more (evidence.BadField place) (sym exact) (λ i is. let z = only i is in absurd cc)
+  not_decoded more (image.TrailingBytes place) only exact = no_image more (evidence.TrailingBytes place) (sym exact) (λ i is. let z = only i is in absurd cc)
+  not_decoded more image.NoMemory only exact = calm
 
   module _ (i : Image) (is : IsImage i bytes) (only : (other : Image) → IsImage other bytes → other ≡ i) where
     broken : (e : Evidence) → IsBroken e i → (IsRunnable i → ⊥) → IsNotLoaded files (image_stages name) (verdict.Refused (refusal.Evidence e))
@@ -77,6 +79,40 @@ module _ (files : Change Held) (name bytes : List ℕ) (has : HasText files.old 
     not_run (load.CodeUnsafe number) h = broken (evidence.CodeUnsafe number) h (λ runs. first_unsafe i.codes number h.1 runs.safe)
     not_run load.NotLinked h = broken evidence.NotLinked h (λ runs. h.2 runs.linked)
     not_run load.NoMemory h = calm
+
+    unfit : (e : Evidence) → IsUnfit e i → (IsRunnable (migrated_of i) → ⊥) → IsNotLoaded files (migrate_stages name) (verdict.Refused (refusal.Evidence e))
+    unfit e why never = (
+      inr (
+        (bytes, has),
+        inr (
+          (i, record { bytes = bytes; has = has; are = is }),
+          inl (record {
+            bytes = bytes;
+            has = has;
+            are = record { i = i; is = is; unfit = why; never = λ other runs. never (subst (λ o. IsRunnable (migrated_of o)) (only other runs.is) runs.runs) };
+          }),
+        ),
+      ),
+      calm,
+    )
+
+    -- an image that is refused can't be migrated
+    pub not_migrated : (r : LoadRefusal) → RefusesMigration i r → IsNotLoaded files (migrate_stages name) (load_verdict r)
+    not_migrated load.TreeWrong h =
+        unfit evidence.TreeWrong h (λ runs. h (record { lawful = runs.whole.lawful; counted = runs.whole.counted; few = runs.whole.few; coded = runs.whole.coded }))
+    not_migrated (load.CodeUnsafe number) h = unfit (evidence.CodeUnsafe number) h (λ runs. first_unsafe i.codes number h.1 runs.safe)
+    not_migrated load.NotLinked h = absurd h
+    not_migrated load.NoMemory h = calm
+
+-- all stages of an image that was migrated pass
+pub migrate_passes : (files : Change Held) (name : List ℕ) (migrated : Image) → Migrates files.old name migrated → AllPass files (migrate_stages name)
+migrate_passes files name migrated m = (
+  (m.bytes, m.has),
+  (
+    (m.i, record { bytes = m.bytes; has = m.has; are = m.is }),
+    ((m.i, record { bytes = m.bytes; has = m.has; are = record { is = m.is; runs = subst (λ image. IsRunnable image) m.migrated_is m.runs } }), tt),
+  ),
+)
 
 -- bytes spell one image
 pub same_image : (bytes : List ℕ) (i : Image) → ((other : Image) → IsImage other bytes → Answers bytes (Ok i) (Ok other)) → (other : Image) → IsImage other bytes → other ≡ i

@@ -26,10 +26,10 @@ use Rattle.p3l_check.specs.Resolving.{ResolvedTree}
 use Rattle.p3l_program.specs.Plan.{HasCostText, HasCosts, HasCounts, HasNetwork, HasNoCosts, HasNoTree, HasTooFew, HasTree, HaveTexts, IsAccepted, IsAllotted, IsNetworkOf, IsPriced, Texts}
 use Rattle.p3l_program.specs.Certified.{HasCert, HasNoCert, IsCertified}
 use Rattle.p3l_program.specs.File.{HasFault, HasProgram, HasText, Holds, IsTooLong}
-use Rattle.p3l_program.specs.Image.{HasBytes, IsBrokenImage, IsImage, IsNoImage, IsRunnableImage}
+use Rattle.p3l_program.specs.Image.{HasBytes, IsBrokenImage, IsImage, IsMigratable, IsNoImage, IsRunnableImage, IsUnmigratable}
 use Rattle.p3l_program.specs.Origin.{Origin, built, imaged}
 use Rattle.p3l_program.specs.Scheduled.{HasNoPicks, HasPicks}
-use Rattle.p3l_program.specs.Stage.{AllPass, IsRefusedBy, Passes, Refuses, Stage, certified, fitting, priced, readable, resolved, scheduled, spelled, text_fitting, text_kept, text_priced, decoded, loaded, traced}
+use Rattle.p3l_program.specs.Stage.{AllPass, IsRefusedBy, Passes, Refuses, Stage, certified, fitting, priced, readable, resolved, scheduled, spelled, text_fitting, text_kept, text_priced, decoded, loaded, migratable, traced}
 use Rattle.p3l_program.specs.TraceFile.{HasNoTrace, HasTrace}
 use Rattle.p3l_program.specs.World.{Change, HasRisen}
 
@@ -111,6 +111,10 @@ module _ (files : Option Held) (held : Held) (told : files ≡ Some held) where
   loaded_once : (name : List ℕ) (i : Image) (e : Evidence) → HasBytes files name (IsRunnableImage i) → HasBytes files name (IsBrokenImage e) → ⊥
   loaded_once name i e has none = none.are.never i (subst (λ b. IsRunnableImage i b) (same_text name none.bytes has.bytes none.has.holds has.has.holds) has.are)
 
+  -- nor those of one that can be migrated as one that can't
+  migrated_once : (name : List ℕ) (i : Image) (e : Evidence) → HasBytes files name (IsMigratable i) → HasBytes files name (IsUnmigratable e) → ⊥
+  migrated_once name i e has none = none.are.never i (subst (λ b. IsMigratable i b) (same_text name none.bytes has.bytes none.has.holds has.has.holds) has.are)
+
   -- what is run has one list of texts
   same_texts : (origin : Origin) (texts others : Texts) → HaveTexts files origin texts → HaveTexts files origin others → texts ≡ others
   same_texts (built build) texts others a b =
@@ -151,6 +155,7 @@ module _ (files : Change Held) (held : Held) (told : files.old ≡ Some held) (c
   passed_stage (fitting build) (refusal.TooFew need) p h = fitting_once files.old held told build p.0 p.1 p.2 need p.3 h
   passed_stage (decoded name) (refusal.Evidence evidence) p h = decoded_once files.old held told name p.0 evidence p.1 h
   passed_stage (loaded name) (refusal.Evidence evidence) p h = loaded_once files.old held told name p.0 evidence p.1 h
+  passed_stage (migratable name) (refusal.Evidence evidence) p h = migrated_once files.old held told name p.0 evidence p.1 h
   passed_stage (scheduled origin name) (refusal.BadPick line) p h = scheduled_once files.old held told origin name p.0 p.1 (picks.BadPick line) p.2 p.3 h
   passed_stage (scheduled origin name) (refusal.NoSuchProcess line pick count) p h = scheduled_once files.old held told origin name p.0 p.1 (picks.NoSuchProcess line pick count) p.2 p.3 h
   passed_stage (certified program costs name) (refusal.Evidence shown) p h = certified_once files.old held told program costs name p.0 p.1 p.2 shown p.3 h
@@ -171,6 +176,7 @@ module _ (files : Change Held) (held : Held) (told : files.old ≡ Some held) (c
   refused_stage (fitting build) (refusal.TooFew need) (refusal.TooFew other) h k = refl
   refused_stage (decoded name) (refusal.Evidence evidence) (refusal.Evidence other) h k = refl
   refused_stage (loaded name) (refusal.Evidence evidence) (refusal.Evidence other) h k = refl
+  refused_stage (migratable name) (refusal.Evidence evidence) (refusal.Evidence other) h k = refl
   refused_stage (scheduled origin name) (refusal.BadPick line) (refusal.BadPick other) h k = refl
   refused_stage (scheduled origin name) (refusal.BadPick line) (refusal.NoSuchProcess other pick count) h k = refl
   refused_stage (scheduled origin name) (refusal.NoSuchProcess line pick count) (refusal.BadPick other) h k = refl

@@ -13,8 +13,9 @@ use Rattle.p3l_program.specs.Explain.{IsExplained}
 use Rattle.p3l_program.specs.Fmt.{IsFormatted, fmt_stages}
 use Rattle.p3l_program.specs.Generated.{gen_of}
 use Rattle.p3l_program.specs.Graph.{IsDrawn}
+use Rattle.p3l_program.specs.Migrate.{IsMigrated}
 use Rattle.p3l_program.specs.Origin.{Running, built, imaged, running}
-use Rattle.p3l_program.specs.Stage.{Stage, build_stages, program_stages, verify_stages}
+use Rattle.p3l_program.specs.Stage.{Stage, build_stages, migrate_stages, program_stages, verify_stages}
 use Rattle.p3l_program.specs.Text.{IsNothing}
 use Rattle.p3l_program.specs.Verify.{IsVerified}
 use Rattle.p3l_program.specs.Work.{Work, behavior, check_trace, run_generated, run_network, save_file, write_text}
@@ -29,6 +30,8 @@ work_of (command.Explain build (Some cert)) =
     save_file (build_stages build) (λ files. IsExplained files build) cert (λ files. IsCertificate files build)
 work_of (command.Compile build name) =
     save_file (build_stages build) (λ files. IsNothing) name (λ files. IsImageOf files build)
+work_of (command.Migrate name output) =
+    save_file (migrate_stages name) (λ files. IsNothing) output (λ files. IsMigrated files name)
 work_of (command.Graph build) = write_text (build_stages build) (λ files. IsDrawn files build)
 work_of (command.Run build schedule trace reported) = run_network (running (built build) schedule trace reported)
 work_of (command.Exec name schedule trace reported) = run_network (running (imaged name) schedule trace reported)

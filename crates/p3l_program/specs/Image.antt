@@ -7,7 +7,7 @@ use Rattle.p3l_image.specs.Image.{IsSpelling, image_in}
 use Rattle.p3l_image.specs.Refusal.{told}
 use Rattle.p3l_io.specs.Told.{Held}
 use Rattle.p3l_load.specs.declared.loaded.LoadRefusal.TheVariants as load
-use Rattle.p3l_load.specs.Load.{IsRunnable, Refuses}
+use Rattle.p3l_load.specs.Load.{IsRunnable, Refuses, RefusesMigration, migrated_of}
 use Rattle.p3l_report.specs.declared.evidence.Evidence.{Evidence}
 use Rattle.p3l_report.specs.declared.evidence.Evidence.TheVariants as evidence
 use Rattle.p3l_program.specs.File.{HasText}
@@ -41,6 +41,12 @@ IsBroken (evidence.CodeUnsafe number) i = Refuses i (load.CodeUnsafe number)
 IsBroken evidence.NotLinked i = Refuses i load.NotLinked
 IsBroken _ i = ⊥
 
+-- why it can't be migrated: the same, but that its net doesn't matter
+abbrev pub IsUnfit : Evidence → Image → Type 0
+IsUnfit evidence.TreeWrong i = RefusesMigration i load.TreeWrong
+IsUnfit (evidence.CodeUnsafe number) i = RefusesMigration i (load.CodeUnsafe number)
+IsUnfit _ i = ⊥
+
 -- the bytes spell no image, for this reason
 pub record IsNoImage (e : Evidence) (bytes : List ℕ) : Type 0 where
   pub misspelled : IsMisspelled e bytes
@@ -57,6 +63,18 @@ pub record IsBrokenImage (e : Evidence) (bytes : List ℕ) : Type 0 where
   pub is : IsImage i bytes
   pub broken : IsBroken e i
   pub never : (other : Image) → IsRunnableImage other bytes → ⊥
+
+-- they spell an image that can be run once its net is linked anew
+pub record IsMigratable (i : Image) (bytes : List ℕ) : Type 0 where
+  pub is : IsImage i bytes
+  pub runs : IsRunnable (migrated_of i)
+
+-- they spell one that can't be, for this reason
+pub record IsUnmigratable (e : Evidence) (bytes : List ℕ) : Type 0 where
+  pub i : Image
+  pub is : IsImage i bytes
+  pub unfit : IsUnfit e i
+  pub never : (other : Image) → IsMigratable other bytes → ⊥
 
 -- the file of this name has bytes within the limit, and they are such
 pub record HasBytes (files : Option Held) (name : List ℕ) (AreSuch : List ℕ → Type 0) : Type 0 where

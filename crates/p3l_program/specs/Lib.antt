@@ -16,6 +16,7 @@ pub mod Image
 pub mod Load
 pub mod LoadCert
 pub mod LoadImage
+pub mod Migrate
 pub mod Origin
 pub mod Plan
 pub mod Recheck

@@ -19,14 +19,14 @@ use Rattle.p3l_check.specs.Resolving.{ResolvedTree}
 use Rattle.p3l_program.specs.Plan.{HasCosts, HasCounts, HasNetwork, HasNoCosts, HasNoTree, HasTooFew, HasTree, IsAccepted, IsAllotted, IsNotAccepted, IsOverfull, IsPriced, IsUnpriced}
 use Rattle.p3l_program.specs.Certified.{HasCert, HasNoCert, cert_limit}
 use Rattle.p3l_program.specs.File.{HasFault, HasProgram, HasText, IsTooLong, text_limit}
-use Rattle.p3l_program.specs.Image.{HasBytes, IsBrokenImage, IsImage, IsNoImage, IsRunnableImage, image_limit}
+use Rattle.p3l_program.specs.Image.{HasBytes, IsBrokenImage, IsImage, IsNoImage, IsMigratable, IsRunnableImage, IsUnmigratable, image_limit}
 use Rattle.p3l_program.specs.Origin.{Origin, built, imaged}
 use Rattle.p3l_program.specs.Scheduled.{HasNoPicks, HasPicks, picks_limit}
 use Rattle.p3l_program.specs.TraceFile.{HasNoTrace, HasTrace}
 use Rattle.p3l_program.specs.World.{Change, HasRisen, IsCalm}
 
 -- the file of this name can be read, within its limit; its text spells a program; the program keeps all rules; the file of the second
--- name says costs of it; some counts fit the processors; the bytes of the file spell an image; the image can be run; the file of this
+-- name says costs of it; some counts fit the processors; the bytes of the file spell an image; the image can be run; it can be run once its net is linked anew; the file of this
 -- name has picks for the network of what is run; the file of the last name has a certificate that holds for a program and its costs;
 -- the file of this name spells a trace; the text spells a program that keeps all rules, the second text says costs of it, and some
 -- counts of it fit so many processors
@@ -38,6 +38,7 @@ pub data Stage : Type 0 where
   fitting : Build → Stage
   decoded : List ℕ → Stage
   loaded : List ℕ → Stage
+  migratable : List ℕ → Stage
   scheduled : Origin → List ℕ → Stage
   certified : List ℕ → Option (List ℕ) → List ℕ → Stage
   traced : List ℕ → Stage
@@ -54,6 +55,7 @@ Passes files (priced program costs) = (r : ResolvedTree) × (cs : Costs) × HasC
 Passes files (fitting build) = (r : ResolvedTree) × (cs : Costs) × (counts : List ℕ) × HasCounts files.old build r cs counts
 Passes files (decoded name) = (i : Image) × HasBytes files.old name (IsImage i)
 Passes files (loaded name) = (i : Image) × HasBytes files.old name (IsRunnableImage i)
+Passes files (migratable name) = (i : Image) × HasBytes files.old name (IsMigratable i)
 Passes files (scheduled origin name) = (n : Network) × (s : Schedule) × HasNetwork files.old origin n × HasPicks files.old (size_of n) name s
 Passes files (certified program costs name) = (r : ResolvedTree) × (cs : Costs) × (cert : Cert) × HasCert files.old program costs name r cs cert
 Passes files (traced name) = (t : Traced) × HasTrace files.old name t
@@ -71,6 +73,7 @@ Refuses files (priced program costs) (refusal.Costs fault) = HasNoCosts files.ol
 Refuses files (fitting build) (refusal.TooFew need) = HasTooFew files.old build need
 Refuses files (decoded name) (refusal.Evidence evidence) = HasBytes files.old name (IsNoImage evidence)
 Refuses files (loaded name) (refusal.Evidence evidence) = HasBytes files.old name (IsBrokenImage evidence)
+Refuses files (migratable name) (refusal.Evidence evidence) = HasBytes files.old name (IsUnmigratable evidence)
 Refuses files (scheduled origin name) (refusal.BadPick line) = HasNoPicks files.old origin name (picks.BadPick line)
 Refuses files (scheduled origin name) (refusal.NoSuchProcess line pick count) = HasNoPicks files.old origin name (picks.NoSuchProcess line pick count)
 Refuses files (certified program costs name) (refusal.Evidence shown) = HasNoCert files.old program costs name shown
@@ -118,6 +121,10 @@ verify_stages program cert costs = program_stages program ++ (cost_stages progra
 -- an image is read, spelled by its bytes, and can be run
 abbrev pub image_stages : List ℕ → List Stage
 image_stages name = readable image_limit name ∷ (decoded name ∷ (loaded name ∷ []))
+
+-- an image is read, spelled by its bytes, and can be run once its net is linked anew
+abbrev pub migrate_stages : List ℕ → List Stage
+migrate_stages name = readable image_limit name ∷ (decoded name ∷ (migratable name ∷ []))
 
 -- what is run is built or loaded
 abbrev pub origin_stages : Origin → List Stage

@@ -5,14 +5,15 @@ ghost use Rattle.p3l_program.specs.Load.{IsNotLoaded, LoadsNetwork};
 ghost use Rattle.p3l_program.specs.LoadImage.{IsReadyImage, image_verdict, load_verdict};
 ghost use Rattle.p3l_program.specs.Origin.{imaged};
 ghost use Rattle.p3l_program.specs.Plan.{network_in};
-ghost use Rattle.p3l_program.specs.Stage.{image_stages};
+ghost use Rattle.p3l_program.specs.Migrate.{Migrates};
+ghost use Rattle.p3l_program.specs.Stage.{image_stages, migrate_stages};
 ghost use Rattle.p3l_program.specs.World.{change};
 
 use crate::file::find_text;
 use p3l_base::Name;
-use p3l_image::{ImageRefusal, decode};
+use p3l_image::{Image, ImageRefusal, decode};
 use p3l_io::Files;
-use p3l_load::{LoadRefusal, Loaded, load};
+use p3l_load::{LoadRefusal, Loaded, load, migrate};
 use p3l_report::{Evidence, Refusal, Verdict};
 use std::alloc::Global;
 
@@ -65,6 +66,29 @@ pub fn load_image<F: Files>(alloc: Global, name: Name, files: &mut F) -> Result<
     };
     match load(alloc, image) {
         Ok(loaded) => Ok(loaded),
+        Err(refusal) => Err(load_verdict(refusal)),
+    }
+}
+
+/// The image of the file of this name with its net linked anew, if it can be run so; else the verdict
+/// that it can't.
+pub fn migrate_image<F: Files>(alloc: Global, name: Name, files: &mut F) -> Result<Image, Verdict>
+    ensures migrated { IfOk result (Migrates (F.held files.old) name) }
+    ensures calm { OnOk result (F.faults files.new ≡ F.faults files.old) }
+    ensures refused { IfErr result (IsNotLoaded (change F.held F.faults files.old files.new)
+        (migrate_stages name)) }
+    ensures stays { F.held files.new ≡ F.held files.old }
+{
+    let bytes = match find_text(alloc, name, IMAGE_LIMIT, files) {
+        Ok(bytes) => bytes,
+        Err(refusal) => return Err(Verdict::from(refusal)),
+    };
+    let image = match decode(alloc, bytes.as_slice()) {
+        Ok(image) => image,
+        Err(refusal) => return Err(image_verdict(refusal)),
+    };
+    match migrate(alloc, image) {
+        Ok(migrated) => Ok(migrated),
         Err(refusal) => Err(load_verdict(refusal)),
     }
 }

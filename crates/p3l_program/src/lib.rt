@@ -16,6 +16,7 @@ pub mod generated;
 pub mod graph;
 mod image;
 mod memory;
+pub mod migrate;
 mod plan;
 pub mod recheck;
 mod record;

@@ -14,6 +14,7 @@ use crate::explain::explain;
 use crate::fmt::fmt;
 use crate::generated::run_generated;
 use crate::graph::graph;
+use crate::migrate::migrate;
 use crate::run::run;
 use crate::verify::verify_cert;
 use p3l_io::{Files, Sink, Source};
@@ -41,6 +42,7 @@ fn perform<F: Files, S: Source, K: Sink>(
             Some(name) => certify(alloc, build, name, files, out),
         },
         Ok(Command::Compile(build, name)) => compile(alloc, build, name, files),
+        Ok(Command::Migrate(name, output)) => migrate(alloc, name, output, files),
         Ok(Command::Graph(build)) => graph(alloc, build, files, out),
         Ok(Command::Run(build, schedule, trace, reported)) => run(
             alloc, build, schedule, trace, reported, files, input, out,

@@ -1,4 +1,4 @@
-use Rattle.std.proofs.Common.{◌≡◌, ℕ, ◌≤◌, List, Ok, Err, Option, subst, sym}
+use Rattle.std.proofs.Common.{◌≡◌, ℕ, ◌≤◌, List, [], ◌∷◌, Ok, Err, Option, subst, sym}
 use Rattle.p3l_image.specs.declared.image.Image.{Image}
 use Rattle.p3l_image.specs.Image.{image_in}
 use Rattle.p3l_image.specs.Refusal.{Answers}
@@ -9,7 +9,7 @@ use Rattle.p3l_program.specs.File.{HasText}
 use Rattle.p3l_program.specs.Image.{IsImage, image_limit}
 use Rattle.p3l_program.specs.Load.{IsNotLoaded}
 use Rattle.p3l_program.specs.LoadImage.{LoadsImage}
-use Rattle.p3l_program.specs.Stage.{image_stages}
+use Rattle.p3l_program.specs.Stage.{image_stages, loaded}
 use Rattle.p3l_program.specs.World.{change}
 use Rattle.p3l_program.proofs.ImageSteps.{image_network, not_decoded, not_run, ready, same_image}
 use Rattle.p3l_program.proofs.image.load_image.Goals as goal
@@ -21,7 +21,7 @@ returns-in-Err-decode-clause-refused g c =
     let r = c.in-Err-decode.refusal in
     let only = subst (λ (b : List ℕ). (i : Image) → IsImage i b → Answers b (Err r) (Ok i)) c.as_slice.ensures c.in-Err-decode.ensures.only in
     let exact = subst (λ (b : List ℕ). Answers b (Err r) (image_in b)) c.as_slice.ensures c.in-Err-decode.ensures.exact in
-    subst (λ v. IsNotLoaded files (image_stages c.args.name) v) (sym c.image_verdict.ensures) (not_decoded files c.args.name bytes c.in-Ok.ensures.found c.in-Ok.ensures.calm r only exact)
+    subst (λ v. IsNotLoaded files (image_stages c.args.name) v) (sym c.image_verdict.ensures) (not_decoded files c.args.name bytes c.in-Ok.ensures.found c.in-Ok.ensures.calm (loaded c.args.name ∷ []) r only exact)
 
 pub returns-clause-refused : goal.returns-clause-refused
 returns-clause-refused g c =
@@ -34,9 +34,9 @@ returns-clause-refused g c =
     (not_run files c.args.name bytes c.in-Ok.ensures.found c.in-Ok.ensures.calm i found (same_image bytes i only) c.in-Err-load.refusal c.in-Err-load.ensures.refused)
 
 -- the image that was loaded
-loads : (files : Option Held) (name bytes read : List ℕ) (i : Image) (loaded : Loaded) → HasText files image_limit name bytes → read ≡ bytes → IsImage i read →
-    ((other : Image) → IsImage other read → Answers read (Ok i) (Ok other)) → loaded ≡ loaded_of i → IsRunnable i → 1 ≤ i.cap → LoadsImage files name loaded
-loads files name bytes read i loaded has same is only loaded_is runs room =
+loads : (files : Option Held) (name bytes read : List ℕ) (i : Image) (taken : Loaded) → HasText files image_limit name bytes → read ≡ bytes → IsImage i read →
+    ((other : Image) → IsImage other read → Answers read (Ok i) (Ok other)) → taken ≡ loaded_of i → IsRunnable i → 1 ≤ i.cap → LoadsImage files name taken
+loads files name bytes read i taken has same is only loaded_is runs room =
     record {
       i = i;
       loaded_is = loaded_is;

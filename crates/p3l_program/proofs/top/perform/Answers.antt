@@ -64,6 +64,17 @@ returns-in-Ok-Compile g c =
           c.compile.result _ _ _ refl (record { told = refl; calm = refl }) c.compile.ensures.due c.compile.ensures.kept;
     }
 
+pub returns-in-Ok-Migrate : goal.returns-in-Ok-Migrate
+unfolding work_of
+returns-in-Ok-Migrate g c =
+    let asked = c.in-Ok-Migrate in
+    let spelled : Spells (texts_of c.args.words.now) (command.Migrate asked.name asked.output) = search (rules, asked.ensures.spelled) in record {
+      due =
+          file_asked (texts_of c.args.words.now) _ spelled (change g.F.Files.held g.F.Files.faults c.args.files.now c.migrate.new.files)
+          (change g.K.Sink.taken g.K.Sink.faults c.args.out.now c.args.out.now) (g.S.Source.rest c.args.input.now) (g.S.Source.faults c.args.input.now)
+          c.migrate.result _ _ _ refl (record { told = refl; calm = refl }) c.migrate.ensures.due c.migrate.ensures.kept;
+    }
+
 pub returns-in-Ok-Graph : goal.returns-in-Ok-Graph
 unfolding work_of
 returns-in-Ok-Graph g c =
