@@ -24,7 +24,7 @@ fn says(alloc: Global, text: &str, before: &str, word: &str) -> Result<bool, NoM
 }
 
 /// What the help of each command names: its values and options.
-const NAMED: [(&str, &[&str]); 9] = [
+const NAMED: [(&str, &[&str]); 11] = [
     ("check", &["PROGRAM"]),
     ("fmt", &["PROGRAM"]),
     (
@@ -56,6 +56,11 @@ const NAMED: [(&str, &[&str]); 9] = [
     (
         "exec",
         &["IMAGE", "--schedule S", "--trace FILE", "--stats"],
+    ),
+    ("migrate", &["IMAGE", "--output FILE"]),
+    (
+        "graph",
+        &["PROGRAM", "--processors P", "--costs FILE", "--capacity C"],
     ),
     ("verify-cert", &["PROGRAM", "--cert FILE", "--costs FILE"]),
     (

@@ -33,6 +33,13 @@ fn shown(alloc: Global, command: &Command) -> Result<String, Fail> {
                 picks.as_str()
             )?
         }
+        Command::Migrate(image, output) => {
+            format!(in alloc; "migrate {} {}", image.as_str(), output.as_str())?
+        }
+        Command::Graph(build) => {
+            let built = build_shown(alloc, build)?;
+            format!(in alloc; "graph {}", built.as_str())?
+        }
         Command::VerifyCert(program, cert, costs) => {
             let program = program.as_str();
             let cert = cert.as_str();
@@ -83,7 +90,7 @@ fn schedule_shown(alloc: Global, schedule: &Sched) -> Result<String, Fail> {
 
 #[test]
 fn words_spell_commands(rt: HostRuntime) -> Result<(), Fail> {
-    let table: [(&[&str], &str); 27] = [
+    let table: [(&[&str], &str); 29] = [
         (&["check", "m.p3l"], "check m.p3l"),
         (&["fmt", "m.p3l"], "fmt m.p3l"),
         (&["fmt", "--", "--odd"], "fmt --odd"),
@@ -195,6 +202,11 @@ fn words_spell_commands(rt: HostRuntime) -> Result<(), Fail> {
             "compile a 8 - 2 i",
         ),
         (&["exec", "i", "--stats"], "exec i rr - true"),
+        (&["migrate", "--output", "j", "i"], "migrate i j"),
+        (
+            &["graph", "m", "--processors", "4", "--capacity", "1"],
+            "graph m 4 - 1",
+        ),
         (
             &["exec", "i", "--schedule", "seed:7", "--trace", "t"],
             "exec i seed:7 t false",
@@ -228,7 +240,7 @@ fn words_spell_commands(rt: HostRuntime) -> Result<(), Fail> {
 
 #[test]
 fn other_words_spell_none(rt: HostRuntime) -> Result<(), Fail> {
-    let table: [&[&str]; 48] = [
+    let table: [&[&str]; 50] = [
         &[],
         &["walk"],
         &[""],
@@ -276,6 +288,8 @@ fn other_words_spell_none(rt: HostRuntime) -> Result<(), Fail> {
         &["explain", "m", "--processors", "4", "--capacity", "1"],
         &["compile", "m", "--processors", "4"],
         &["exec", "i", "--processors", "4"],
+        &["migrate", "i"],
+        &["graph", "m", "--output", "g"],
         &["verify-cert", "m"],
         &["check-trace", "m", "--processors", "4"],
         &["gen", "4294967296", "--processors", "4"],

@@ -83,6 +83,7 @@ struct Damage(usize, u8, &'static str);
 const OF_THE_HEAD: &[Damage] = &[
     Damage(0, 0, "evidence: 80 BadMagic\n"),
     Damage(7, 7, "evidence: 81 Version 7\n"),
+    Damage(7, 3, "evidence: 81 Version 3\n"),
     Damage(4, 1, "evidence: 81 Version 16777217\n"),
     Damage(11, 0, "evidence: 83 BadField 8\n"),
     Damage(10, 4, "evidence: 83 BadField 8\n"),
@@ -241,7 +242,7 @@ fn a_compiled_code_that_is_unsafe_is_refused(rt: HostRuntime) -> Result<(), Fail
     let bytes = image.as_slice();
     assert!(rt; bytes.len() > 75);
     // The first instruction loads the item.
-    assert_eq!(rt; bytes[70], 1);
-    let other = with_byte(alloc, bytes, Byte(71, 1))?;
+    assert_eq!(rt; bytes[71], 1);
+    let other = with_byte(alloc, bytes, Byte(72, 1))?;
     refuse(&rt, alloc, other.as_slice(), "evidence: 90 CodeUnsafe 0\n")
 }

@@ -20,7 +20,11 @@ mod files;
 #[cfg(test)]
 mod generating;
 #[cfg(test)]
+mod graphs;
+#[cfg(test)]
 mod images;
+#[cfg(test)]
+mod migrations;
 #[cfg(test)]
 mod order_of_endings;
 #[cfg(test)]
