@@ -12,7 +12,7 @@ use std::marker::Model;
 use std::{fs, rt};
 
 /// How many bytes a read asks for at most.
-const PIECE: usize = 4096;
+const PIECE: usize = 16_384;
 
 /// The files of the file system, which contracts see as their count of faults.
 #[derive(Drop)]

@@ -73,7 +73,8 @@ to_come l v = read (bag l v) v.least (length (bag l v))
 unfoldable pub well_kept : Laps → ℕ → View → Bool
 well_kept l tokens v =
     nat_eq (v.least + length (bag l v)) v.next
-    && (nat_eq (v.credits + length (bag l v)) tokens && (in_turns l.turns v.ring && numbered (bag l v) v.least))
+    && (nat_eq (v.credits + length (bag l v)) tokens
+    && (in_turns l.turns v.ring && (in_turns l.turns v.held && numbered (bag l v) v.least)))
 
 -- the firings that the tokens after the body still need, where the body needs f for each token
 unfoldable pub ring_due : ℕ → ℕ → List Token → ℕ

@@ -1,5 +1,5 @@
 -- The values of a map: what Scatter, the lines and Gather hold, and what it is worth.
-use Rattle.std.specs.Prelude.{ℕ, zero, suc, ◌+◌, ◌-◌, ◌%◌, Bool, ◌&&◌, nat_eq, nat_lt, nat_le, List, [], ◌∷◌, ◌++◌, map, length}
+use Rattle.std.specs.Prelude.{ℕ, zero, suc, ◌+◌, ◌-◌, ◌%◌, Bool, true, false, ◌&&◌, nat_eq, nat_lt, nat_le, List, [], ◌∷◌, ◌++◌, map, length}
 use Rattle.p3l_base.specs.declared.outcome.Outcome.{Outcome}
 use Rattle.p3l_firing.specs.Lists.{first_or}
 use Rattle.p3l_firing.specs.Token.{bodies, credit}
@@ -61,15 +61,42 @@ whole q v = v.held ++ (read_by v.lines (spot q) (length v.held) (under_way q v) 
 unfoldable pub to_come : Pieces → View → List Token
 to_come q v = map (joined q) (groups q.number [] (whole q v))
 
--- Scatter holds one token, or none and k is 0
+-- the piece that Scatter sends next, 0 where it holds no token
+unfoldable pub next_piece : List Token → ℕ → ℕ
+next_piece [] k = 0
+next_piece (x ∷ xs) k = k
+
+-- Scatter holds one token, of which a piece is left to send, or none
 unfoldable pub scatter_ok : Pieces → List Token → ℕ → Bool
-scatter_ok q [] k = nat_eq k 0
+scatter_ok q [] k = true
 scatter_ok q (x ∷ []) k = nat_lt k q.number
-scatter_ok q (x ∷ (y ∷ ys)) k = nat_lt 1 0
+scatter_ok q (x ∷ (y ∷ ys)) k = false
+
+-- whether these are the same tags
+unfoldable pub same_tags : List ℕ → List ℕ → Bool
+same_tags [] [] = true
+same_tags [] (y ∷ ys) = false
+same_tags (x ∷ xs) [] = false
+same_tags (x ∷ xs) (y ∷ ys) = nat_eq x y && same_tags xs ys
+
+-- all these tokens have these tags
+unfoldable pub all_tagged : List ℕ → List Token → Bool
+all_tagged tags [] = true
+all_tagged tags (x ∷ xs) = same_tags x.tags tags && all_tagged tags xs
+
+-- the pieces of a group have the tags of one token
+unfoldable pub alike : List Token → Bool
+alike [] = true
+alike (x ∷ xs) = all_tagged x.tags xs
+
+unfoldable pub all_alike : List (List Token) → Bool
+all_alike [] = true
+all_alike (g ∷ gs) = alike g && all_alike gs
 
 unfoldable pub well_kept : Pieces → View → Bool
 well_kept q v =
     nat_le (length v.held) q.number
-    && (nat_eq ((length v.held + under_way q v) % q.number) v.sent
+    && (nat_eq ((length v.held + under_way q v) % q.number) (next_piece v.sending v.sent)
     && (in_by v.lines (spot q) q.lines (length v.held) (under_way q v)
-    && (nat_eq (length (left q.number [] (whole q v))) 0 && scatter_ok q v.sending v.sent)))
+    && (nat_eq (length (left q.number [] (whole q v))) 0
+    && (all_alike (groups q.number [] (whole q v)) && scatter_ok q v.sending v.sent))))

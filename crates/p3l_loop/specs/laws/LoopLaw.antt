@@ -982,6 +982,7 @@ module _ (net : Net) (units : Units) (roles : ℕ → Role) (node tokens : ℕ) 
       count = refl;
       credits = omega arith;
       turns = refl;
+      spent = refl;
       numbered = record { once = λ k f l. absurd (omega (arith, l)); none = λ k l. refl };
     }
 

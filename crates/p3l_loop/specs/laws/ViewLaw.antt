@@ -1,12 +1,12 @@
 -- What the rows of Head and Tail do to what a loop shows: letting in, holding, sending round once more and releasing
 -- keep the list, the numbers, the turns and the credits (`let_in_goes` to `release_goes`), and the work falls.
 -- What the ring makes of an item is what the language says of its turns (`rounds_turns`).
-use Rattle.std.proofs.Common.{◌≡◌, ℕ, zero, suc, ◌+◌, ◌*◌, ◌-◌, ◌≤◌, ◌<◌, inl, inr, nat_lt, Bool, true, false, List, [], ◌∷◌, ◌++◌, map, length, refl, sym, ap, ap₂, ◌∙◌, subst, arith, append_assoc, length-append, eqb-true, eq-eqb, lt-ltb, ltb-true, le-ltb}
+use Rattle.std.proofs.Common.{◌≡◌, ℕ, zero, suc, ◌+◌, ◌*◌, ◌-◌, ◌≤◌, ◌<◌, inl, inr, nat_eq, nat_lt, Bool, true, false, List, [], ◌∷◌, ◌++◌, map, length, refl, sym, ap, ap₂, ◌∙◌, subst, arith, append_assoc, length-append, eqb-true, eq-eqb, lt-ltb, ltb-true, le-ltb}
 use Rattle.std.proofs.lemmas.Bool.{cases_Bool, cases_lt, cond-true, cond-false, and_parts, and_from}
 use Rattle.std.proofs.lemmas.List.{map-append}
 use Rattle.p3l_base.specs.declared.outcome.Outcome.{Outcome}
 use Rattle.p3l_base.specs.declared.outcome.Outcome.TheVariants.{Value, Trapped}
-use Rattle.p3l_firing.specs.Token.{over, newest_tag, peeled, admitted, once_more, first_tag, later_tags, next_tag}
+use Rattle.p3l_firing.specs.Token.{over, newest_tag, second_tag, peeled, admitted, once_more, first_tag, later_tags, next_tag}
 use Rattle.p3l_firing.specs.declared.token.Token.{Token}
 use Rattle.p3l_firing.specs.kinds.Tail.{Turn.Held, Turn.Again, turn_of, by_test, has_number, pick_number, drop_number}
 use Rattle.p3l_loop.specs.Loop.{Laps, ending, after, turns, rounds, settled, View, bag, in_turns, to_come, well_kept, ring_due}
@@ -24,6 +24,7 @@ pub record Kept (l : Laps) (tokens : ℕ) (v : View) : Type 0 where
   pub count : v.least + length (bag l v) ≡ v.next
   pub credits : v.credits + length (bag l v) ≡ tokens
   pub turns : in_turns l.turns v.ring ≡ true
+  pub spent : in_turns l.turns v.held ≡ true
   pub numbered : IsNumbered (bag l v) v.least
 
 pub kept_to : (l : Laps) (tokens : ℕ) (v : View) → well_kept l tokens v ≡ true → Kept l tokens v
@@ -36,14 +37,15 @@ kept_to l tokens v h =
       count = eqb-true _ _ a.0;
       credits = eqb-true _ _ b.0;
       turns = c.0;
-      numbered = numbered_to (bag l v) v.least c.1;
+      spent = (and_parts _ _ c.1).0;
+      numbered = numbered_to (bag l v) v.least (and_parts _ _ c.1).1;
     }
 
 pub kept_from : (l : Laps) (tokens : ℕ) (v : View) → Kept l tokens v → well_kept l tokens v ≡ true
 unfolding well_kept
 kept_from l tokens v k =
     and_from _ _ (eq-eqb _ _ k.count)
-    (and_from _ _ (eq-eqb _ _ k.credits) (and_from _ _ k.turns (numbered_from (bag l v) v.least k.numbered)))
+    (and_from _ _ (eq-eqb _ _ k.credits) (and_from _ _ k.turns (and_from _ _ k.spent (numbered_from (bag l v) v.least k.numbered))))
 
 -- from v to w: still kept, and the same list
 pub record Goes (l : Laps) (tokens : ℕ) (v w : View) : Type 0 where
@@ -63,6 +65,24 @@ pub turns_rest : (m : ℕ) (x : Token) (xs : List Token) → in_turns m (x ∷ x
     (0 < newest_tag x) × (in_turns m xs ≡ true)
 unfolding in_turns
 turns_rest m x xs h = (ltb-true 0 (newest_tag x) (and_parts _ _ (and_parts _ _ h).0).0, (and_parts _ _ h).1)
+
+-- the first of them with another outcome is in turn too
+turns_alone : (m : ℕ) (x : Token) (xs : List Token) (w : Outcome) → in_turns m (x ∷ xs) ≡ true →
+    in_turns m (record x { body = w } ∷ []) ≡ true
+unfolding in_turns
+turns_alone m x xs w h = and_from _ _ (and_parts _ _ h).0 refl
+
+-- those that are left when one is let go are
+turns_drop : (m n : ℕ) (xs : List Token) → in_turns m xs ≡ true → in_turns m (drop_number n xs) ≡ true
+unfolding in_turns drop_number
+turns_drop m n [] h = refl
+turns_drop m n (x ∷ xs) h =
+    elim (cases_Bool (nat_eq (second_tag x) n)) [
+      | inl e ↦ subst (λ z. in_turns m z ≡ true) (sym (cond-true _ _ _ e)) (and_parts _ _ h).1
+      | inr e ↦
+          subst (λ z. in_turns m z ≡ true) (sym (cond-false _ _ _ e))
+          (and_from _ _ (and_parts _ _ h).0 (turns_drop m n xs (and_parts _ _ h).1))
+    ]
 
 pub next_turn : (x : Token) → 0 < newest_tag x → newest_tag (once_more x) ≡ suc (newest_tag x)
 unfolding first_tag next_tag
@@ -176,6 +196,7 @@ module _ (l : Laps) (tokens : ℕ) (v : View) (k : Kept l tokens v) where
           credits = omega (arith, len, k.credits, f);
           turns = turns_append l.turns v.ring _ k.turns
               (turns_one l.turns _ (omega (arith, new_first x)) (omega (arith, new_first x)));
+          spent = k.spent;
           numbered = subst (λ z. IsNumbered z v.least) (sym b) (append_numbered (bag l v) _ v.least k.numbered n);
         };
         line =
@@ -211,6 +232,8 @@ module _ (l : Laps) (tokens : ℕ) (v : View) (k : Kept l tokens v) where
           count = omega (arith, len, k.count);
           credits = omega (arith, len, k.credits);
           turns = (turns_rest l.turns y ys (ap (in_turns l.turns) (sym e) ∙ k.turns)).1;
+          spent = turns_append l.turns v.held _ k.spent
+              (turns_alone l.turns y ys w (ap (in_turns l.turns) (sym e) ∙ k.turns));
           numbered = subst (λ z. IsNumbered z v.least) (sym b) k.numbered;
         };
         line = ap (λ z. v.output ++ (read z v.least (length z) ++ map (over (rounds l)) v.input)) b;
@@ -258,6 +281,7 @@ module _ (l : Laps) (tokens : ℕ) (v : View) (k : Kept l tokens v) where
           credits = omega (arith, m, k.credits);
           turns = turns_append l.turns ys _ t.1
               (turns_one l.turns _ (omega (arith, next_turn y t.0)) (omega (arith, next_turn y t.0, a.0)));
+          spent = k.spent;
           numbered =
               subst (λ z. IsNumbered z v.least) (sym b)
               (moved_numbered (map peeled v.held) (settled l y) (map (settled l) ys) v.least n);
@@ -306,6 +330,7 @@ module _ (l : Laps) (tokens : ℕ) (v : View) (k : Kept l tokens v) where
             count = omega (arith, len, k.count);
             credits = omega (arith, len, k.credits);
             turns = k.turns;
+            spent = turns_drop l.turns v.least v.held k.spent;
             numbered =
                 subst (λ z. IsNumbered (bag l release_view) z) (sym up)
                 (subst (λ z. IsNumbered z (suc v.least)) (sym bag_after)

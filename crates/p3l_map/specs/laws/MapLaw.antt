@@ -1,7 +1,7 @@
 -- THE LAW OF THE MAP (`map_lawful`): any number of workers but 0, round any lawful parts, for any number of pieces.
 -- The pieces of an item go to the workers by turns and come back by turns, and each group is joined to one outcome:
 -- the items leave in order, each as the map of its pieces.
-use Rattle.std.proofs.Common.{◌≡◌, ℕ, zero, suc, ◌+◌, ◌-◌, ◌%◌, ◌≤◌, ◌<◌, ◌≢◌, inl, inr, ◌&&◌, cond, nat_lt, true, false, List, [], ◌∷◌, ◌++◌, map, length, get_or, refl, sym, ap, ap₂, ◌∙◌, subst, arith, append_assoc, le_refl, length-append, mod-lt, slice_get, Some, ltb-true, ◌*◌, nat_eq, nat_le, eqb-true, ltb-false}
+use Rattle.std.proofs.Common.{◌≡◌, ℕ, zero, suc, ◌+◌, ◌-◌, ◌%◌, ◌≤◌, ◌<◌, ◌≢◌, inl, inr, ◌&&◌, cond, nat_lt, true, false, List, [], ◌∷◌, ◌++◌, map, length, get_or, refl, sym, ap, ap₂, ◌∙◌, subst, arith, append_assoc, le_refl, length-append, mod-lt, slice_get, Some, ltb-true, ◌*◌, nat_eq, nat_le, ltb-false}
 use Rattle.std.proofs.Math.Nat.{mod-eq_of_lt}
 use Rattle.std.proofs.lemmas.Bool.{cases_Bool, and_parts, and_from, cases_eq, cond-true, cond-false}
 use Rattle.std.proofs.lemmas.List.{map-append, length-map}
@@ -14,10 +14,10 @@ use Rattle.p3l_firing.specs.Token.{over, bodies, has_trap, credit}
 use Rattle.p3l_firing.specs.declared.net.Net.{Net}
 use Rattle.p3l_firing.specs.declared.process.ProcKind.TheVariants.{Scatter, Gather}
 use Rattle.p3l_firing.specs.declared.token.Token.{Token}
-use Rattle.p3l_map.specs.Map.{Pieces, View, spot, piece, joined, mapped, whole, to_come, well_kept, unsent, under_way, scatter_ok}
+use Rattle.p3l_map.specs.Map.{Pieces, View, spot, piece, joined, mapped, whole, to_come, well_kept, unsent, under_way, next_piece, scatter_ok, all_alike}
 use Rattle.p3l_map.specs.MapShape.{scatter_proc, gather_proc, pieces_of, lines_of, view_of, map_part, map_shape}
 use Rattle.p3l_map.specs.Places.{read_by, in_by, total, groups, left}
-use Rattle.p3l_map.specs.laws.MapView.{view_line, Kept, kept_to, kept_from, Goes, take_view, take_goes, collect_view, collect_goes, emit_view, emit_goes, send_view, send_goes, Next, Next.More, Next.Done}
+use Rattle.p3l_map.specs.laws.MapView.{view_line, Kept, kept_to, kept_from, Goes, sent_below, take_view, take_goes, collect_view, collect_goes, emit_view, emit_goes, send_view, send_goes, Next, Next.More, Next.Done}
 use Rattle.p3l_map.specs.laws.SizeLaw.{total_sum, come_bound, le_times, all_bound}
 use Rattle.p3l_map.specs.laws.Turns.{turns_same, total_same, all_empty_at, all_empty_from}
 use Rattle.p3l_template.specs.Part.{Part, IsLawfulPart, IsSized, in_hands, inside, line, IsInside, IsSameInside, IsAlike, Moves, Keeps, OneFired, no_part, all_orderly, IsFresh, Begins, IsDrained, due}
@@ -57,10 +57,9 @@ idle_ok : (q : Pieces) → scatter_ok q [] 0 ≡ true
 unfolding scatter_ok
 idle_ok q = refl
 
-sent_none : (q : Pieces) (ts : List Token) (k : ℕ) → scatter_ok q ts k ≡ true → ts ≡ [] → k ≡ 0
-unfolding scatter_ok
-sent_none q [] k h e = eqb-true _ _ h
-sent_none q (t ∷ ts) k h e = cc
+idle_next : (ts : List Token) (k : ℕ) → ts ≡ [] → next_piece ts k ≡ 0
+unfolding next_piece
+idle_next ts k e = ap (λ z. next_piece z k) e
 
 -- lines that are the same below n are as good
 module _ (q : Pieces) (wide : 0 < q.lines) (v : View) (M : ℕ → List Token)
@@ -92,6 +91,7 @@ module _ (q : Pieces) (wide : 0 < q.lines) (v : View) (M : ℕ → List Token)
           ap (in_by M (spot q) q.lines (length v.held)) near_total
           ∙ (turns_same (spot q) q.lines near_spot (under_way q v) (length v.held) v.lines M h).1 ∙ g.kept.in_turn;
       even = ap (left q.number []) near_whole ∙ g.kept.even;
+      alike = ap (λ z. all_alike (groups q.number [] z)) near_whole ∙ g.kept.alike;
       scatter = g.kept.scatter;
     };
     line = ap
@@ -106,12 +106,14 @@ module _ (q : Pieces) (wide : 0 < q.lines) (v : View) (M : ℕ → List Token)
   unfolding well_kept
   near_kept =
       ap (λ m. nat_le (length v.held) q.number
-      && (nat_eq ((length v.held + m) % q.number) v.sent
+      && (nat_eq ((length v.held + m) % q.number) (next_piece v.sending v.sent)
       && (in_by M (spot q) q.lines (length v.held) m
-      && (nat_eq (length (left q.number [] (whole q near))) 0 && scatter_ok q v.sending v.sent)))) near_total
+      && (nat_eq (length (left q.number [] (whole q near))) 0
+      && (all_alike (groups q.number [] (whole q near)) && scatter_ok q v.sending v.sent))))) near_total
       ∙ ap₂ (λ b z. nat_le (length v.held) q.number
-      && (nat_eq ((length v.held + under_way q v) % q.number) v.sent
-      && (b && (nat_eq (length (left q.number [] z)) 0 && scatter_ok q v.sending v.sent))))
+      && (nat_eq ((length v.held + under_way q v) % q.number) (next_piece v.sending v.sent)
+      && (b && (nat_eq (length (left q.number [] z)) 0
+      && (all_alike (groups q.number [] z) && scatter_ok q v.sending v.sent)))))
       (turns_same (spot q) q.lines near_spot (under_way q v) (length v.held) v.lines M h).1 near_whole
 
 module _ (net : Net) (units : Units) (roles : ℕ → Role) (node n : ℕ) (pos : 0 < n) (base : Base) (Ps : List Part)
@@ -879,9 +881,7 @@ module _ (net : Net) (units : Units) (roles : ℕ → Role) (node n : ℕ) (pos 
           | inr e ↦
               let z = send_scatter ∙ last_piece (s.own base.proc) e in
               let l = ltb-false _ _ e in
-              let m = subst (λ z. z < suc (last_element units.tree node)) k.place
-              (mod-lt (length (s.own (base.proc + 1)).held + under_way Q (view_of base Ps s)) {m = suc (last_element units.tree node)}
-              (omega arith)) in
+              let m = sent_below Q (omega arith) pos (view_of base Ps s) k (first_or credit (s.own base.proc).held) one in
               let a : length ((send_state s).own base.proc).held
               * ((suc (last_element units.tree node) - ((send_state s).own base.proc).number) * ((roles 0).firings + 2))
               ≡ 0 * ((suc (last_element units.tree node) - 0) * ((roles 0).firings + 2)) =
@@ -1080,11 +1080,9 @@ module _ (net : Net) (units : Units) (roles : ℕ → Role) (node n : ℕ) (pos 
 
       no_held : (s.own (base.proc + 1)).held ≡ []
       no_held =
-          let z : (s.own base.proc).number ≡ 0 =
-          sent_none Q (s.own base.proc).held (s.own base.proc).number kept.scatter no_sending in
           let a : length (s.own (base.proc + 1)).held ≡ 0 =
           sym (mod-eq_of_lt held_few) ∙ ap (λ m. m % suc (last_element units.tree node)) (omega (arith, under_none))
-          ∙ kept.place ∙ z in
+          ∙ kept.place ∙ idle_next (s.own base.proc).held (s.own base.proc).number no_sending in
           length_zero _ a
 
       map_drained : IsDrained (map_part units node n roles base Ps) s
@@ -1148,7 +1146,7 @@ module _ (net : Net) (units : Units) (roles : ℕ → Role) (node n : ℕ) (pos 
   -- BEGINS
   map_begins : (s : State) → IsFresh net (map_part units node n roles base Ps) s →
       Begins (map_part units node n roles base Ps) s
-  unfolding line due to_come whole unsent groups read_by
+  unfolding line due to_come whole unsent groups read_by all_alike
   map_begins s fresh =
       let each = each_begins net units roles n base Ps fan (map_part units node n roles base Ps) holds s fresh in
       let c = fresh.own base.proc (le_refl _) (omega (arith, fan.all.procs)) in
@@ -1173,11 +1171,13 @@ module _ (net : Net) (units : Units) (roles : ℕ → Role) (node n : ℕ) (pos 
         orderly = and_from _ _ (kept_from Q (view_of base Ps s) (record {
           full = omega (arith, ap (λ o. length o.held) g);
           place = ap (λ m. m % suc (last_element units.tree node)) (omega (arith, ap (λ o. length o.held) g, u))
-              ∙ mod-eq_of_lt {n = 0} {m = suc (last_element units.tree node)} (omega arith) ∙ sym (ap (λ o. o.number) c);
+              ∙ mod-eq_of_lt {n = 0} {m = suc (last_element units.tree node)} (omega arith)
+              ∙ sym (idle_next (s.own base.proc).held (s.own base.proc).number (ap (λ o. o.held) c));
           in_turn =
               ap (in_by (lines_of Ps s) (spot Q) n (length (s.own (base.proc + 1)).held)) u
               ∙ none_turn (lines_of Ps s) (spot Q) n (length (s.own (base.proc + 1)).held) ls;
           even = ap (left (suc (last_element units.tree node)) []) w ∙ none_over (suc (last_element units.tree node));
+          alike = ap (λ z. all_alike (groups (suc (last_element units.tree node)) [] z)) w;
           scatter = ap (λ o. scatter_ok Q o.held o.number) c ∙ idle_ok Q;
         })) (all_from Ps s (λ w l. (each w (omega (arith, l, fan.all.count))).orderly));
         pending = p;

@@ -9,7 +9,7 @@ use Rattle.p3l_firing.specs.Lists.{first_or, rest_of, has_first}
 use Rattle.p3l_firing.specs.At.{at}
 use Rattle.p3l_firing.specs.Token.{over, bodies, credit}
 use Rattle.p3l_firing.specs.declared.token.Token.{Token}
-use Rattle.p3l_map.specs.Map.{Pieces, spot, piece, pieces, outcomes, joined, mapped, View, unsent, under_way, whole, to_come, scatter_ok, well_kept}
+use Rattle.p3l_map.specs.Map.{Pieces, spot, piece, pieces, outcomes, joined, mapped, View, unsent, under_way, whole, to_come, next_piece, scatter_ok, well_kept, same_tags, all_tagged, alike, all_alike}
 use Rattle.p3l_map.specs.Places.{read_by, in_by, total, groups, left}
 use Rattle.p3l_map.specs.laws.GroupLaw.{groups_append, one_group, left_append}
 use Rattle.p3l_map.specs.laws.Turns.{turns_more, read_moved, total_at}
@@ -20,9 +20,10 @@ view_line q v = v.output ++ (to_come q v ++ map (over (mapped q)) v.input)
 
 pub record Kept (q : Pieces) (v : View) : Type 0 where
   pub full : length v.held ≤ q.number
-  pub place : (length v.held + under_way q v) % q.number ≡ v.sent
+  pub place : (length v.held + under_way q v) % q.number ≡ next_piece v.sending v.sent
   pub in_turn : in_by v.lines (spot q) q.lines (length v.held) (under_way q v) ≡ true
   pub even : left q.number [] (whole q v) ≡ []
+  pub alike : all_alike (groups q.number [] (whole q v)) ≡ true
   pub scatter : scatter_ok q v.sending v.sent ≡ true
 
 none_left : (ts : List Token) → length ts ≡ 0 → ts ≡ []
@@ -38,7 +39,8 @@ kept_to q v h =
       place = eqb-true _ _ b.0;
       in_turn = c.0;
       even = none_left _ (eqb-true _ _ d.0);
-      scatter = d.1;
+      alike = (and_parts _ _ d.1).0;
+      scatter = (and_parts _ _ d.1).1;
     }
 
 pub kept_from : (q : Pieces) (v : View) → Kept q v → well_kept q v ≡ true
@@ -46,7 +48,7 @@ unfolding well_kept
 kept_from q v k =
     and_from _ _ (le-leb _ _ k.full)
     (and_from _ _ (eq-eqb _ _ k.place)
-    (and_from _ _ k.in_turn (and_from _ _ (eq-eqb _ _ (ap length k.even)) k.scatter)))
+    (and_from _ _ k.in_turn (and_from _ _ (eq-eqb _ _ (ap length k.even)) (and_from _ _ k.alike k.scatter))))
 
 pub record Goes (q : Pieces) (v w : View) : Type 0 where
   pub kept : Kept q w
@@ -67,6 +69,31 @@ unfolding pieces
 pieces_first q k zero x h = absurd (omega arith)
 pieces_first q k (suc m) x h = refl
 
+-- the pieces of one token are alike
+same_tags-refl : (ts : List ℕ) → same_tags ts ts ≡ true
+unfolding same_tags
+same_tags-refl [] = refl
+same_tags-refl (t ∷ ts) = and_from _ _ (eq-eqb t t refl) (same_tags-refl ts)
+
+pieces_tagged : (q : Pieces) (k m : ℕ) (x : Token) → all_tagged x.tags (pieces q k m x) ≡ true
+unfolding all_tagged pieces
+pieces_tagged q k zero x = refl
+pieces_tagged q k (suc m) x = and_from _ _ (same_tags-refl x.tags) (pieces_tagged q (suc k) m x)
+
+pieces_alike : (q : Pieces) (k m : ℕ) (x : Token) → alike (pieces q k m x) ≡ true
+unfolding alike pieces
+pieces_alike q k zero x = refl
+pieces_alike q k (suc m) x = pieces_tagged q (suc k) m x
+
+alike_more : (gs : List (List Token)) (g : List Token) → all_alike gs ≡ true → alike g ≡ true → all_alike (gs ++ g ∷ []) ≡ true
+unfolding all_alike
+alike_more [] g h k = and_from _ _ k refl
+alike_more (y ∷ ys) g h k = and_from _ _ (and_parts _ _ h).0 (alike_more ys g (and_parts _ _ h).1 k)
+
+alike_rest : (g : List Token) (gs : List (List Token)) → all_alike (g ∷ gs) ≡ true → all_alike gs ≡ true
+unfolding all_alike
+alike_rest g gs h = (and_parts _ _ h).1
+
 -- the pieces of one token are made its outcome
 pieces_joined : (q : Pieces) (x : Token) → 0 < q.number → joined q (pieces q 0 q.number x) ≡ over (mapped q) x
 unfolding joined mapped
@@ -79,8 +106,13 @@ module _ (q : Pieces) (pos : 0 < q.number) (wide : 0 < q.lines) (v : View) (k : 
   unfolding spot
   spot_below p = mod-lt (p % q.number) wide
 
-  sent_below : v.sent < q.number
-  sent_below = subst (λ z. z < q.number) k.place (mod-lt (length v.held + under_way q v) pos)
+  -- the place of the next piece in its group
+  place_next : (x : Token) → v.sending ≡ x ∷ [] → (length v.held + under_way q v) % q.number ≡ v.sent
+  unfolding next_piece
+  place_next x e = k.place ∙ ap (λ s. next_piece s v.sent) e
+
+  pub sent_below : (x : Token) → v.sending ≡ x ∷ [] → v.sent < q.number
+  sent_below x e = subst (λ z. z < q.number) (place_next x e) (mod-lt (length v.held + under_way q v) pos)
 
   -- all that depends on the whole list
   same_whole : (w : View) → whole q w ≡ whole q v → w.output ≡ v.output → w.input ≡ v.input →
@@ -104,12 +136,12 @@ module _ (q : Pieces) (pos : 0 < q.number) (wide : 0 < q.lines) (v : View) (k : 
       ∙ ap (λ s. (v.held ++ (read_by v.lines (spot q) (length v.held) (under_way q v) ++ unsent q s v.sent))
       ++ pieces q 0 q.number x) (sym e)
 
-  idle_sent : v.sending ≡ [] → v.sent ≡ 0
-  unfolding scatter_ok
-  idle_sent e = eqb-true _ _ (ap (λ s. scatter_ok q s v.sent) (sym e) ∙ k.scatter)
+  place_idle : v.sending ≡ [] → (length v.held + under_way q v) % q.number ≡ 0
+  unfolding next_piece
+  place_idle e = k.place ∙ ap (λ s. next_piece s v.sent) e
 
   pub take_goes : (x : Token) (xs : List Token) → v.sending ≡ [] → v.input ≡ x ∷ xs → Goes q v (take_view x xs)
-  unfolding view_line to_come scatter_ok
+  unfolding view_line to_come next_piece scatter_ok
   take_goes x xs e f =
       let w = take_whole x xs e in
       let one =
@@ -123,10 +155,11 @@ module _ (q : Pieces) (pos : 0 < q.number) (wide : 0 < q.lines) (v : View) (k : 
       record {
         kept = record {
           full = k.full;
-          place = k.place ∙ idle_sent e;
+          place = place_idle e;
           in_turn = k.in_turn;
           even = ap (left q.number []) w ∙ left_append q.number [] (whole q v) (pieces q 0 q.number x)
               ∙ ap (λ a. left q.number a (pieces q 0 q.number x)) k.even ∙ one.1;
+          alike = ap all_alike g ∙ alike_more _ _ k.alike (pieces_alike q 0 q.number x);
           scatter = lt-ltb _ _ pos;
         };
         line =
@@ -189,6 +222,7 @@ module _ (q : Pieces) (pos : 0 < q.number) (wide : 0 < q.lines) (v : View) (k : 
               (spot q) q.lines z (under_way q collect_view)) n
               ∙ collect_turn t;
           even = ap (left q.number []) w ∙ k.even;
+          alike = ap (λ z. all_alike (groups q.number [] z)) w ∙ k.alike;
           scatter = k.scatter;
         };
         line = same_whole collect_view w refl refl;
@@ -235,6 +269,7 @@ module _ (q : Pieces) (pos : 0 < q.number) (wide : 0 < q.lines) (v : View) (k : 
               ∙ ap (λ a. left q.number a
               (read_by v.lines (spot q) (length v.held) (under_way q v) ++ unsent q v.sending v.sent)) (sym one.1)
               ∙ sym (left_append q.number [] v.held _) ∙ k.even;
+          alike = ap (λ z. all_alike (groups q.number [] z)) w ∙ alike_rest v.held _ (sym (ap all_alike g) ∙ k.alike);
           scatter = k.scatter;
         };
         line =
@@ -262,7 +297,7 @@ module _ (q : Pieces) (pos : 0 < q.number) (wide : 0 < q.lines) (v : View) (k : 
       unsent q v.sending v.sent ≡ piece q v.sent x ∷ unsent q s n
   unfolding unsent pieces
   send_unsent x s n t e =
-      let d : q.number - v.sent ≡ suc (q.number - suc v.sent) = omega (arith, sent_below) in
+      let d : q.number - v.sent ≡ suc (q.number - suc v.sent) = omega (arith, sent_below x e) in
       ap (λ z. unsent q z v.sent) e ∙ ap (λ m. pieces q v.sent m x) d
       ∙ ap (λ z. piece q v.sent x ∷ z)
       (elim t as (λ s n t. pieces q (suc v.sent) (q.number - suc v.sent) x ≡ unsent q s n) [
@@ -270,21 +305,23 @@ module _ (q : Pieces) (pos : 0 < q.number) (wide : 0 < q.lines) (v : View) (k : 
         | Done l ↦ let z : q.number - suc v.sent ≡ 0 = omega arith in ap (λ m. pieces q (suc v.sent) m x) z
       ])
 
-  send_place : (x : Token) (s : List Token) (n : ℕ) → Next x s n → suc (length v.held + under_way q v) % q.number ≡ n
-  send_place x s n t =
-      suc-mod (length v.held + under_way q v) q.number ∙ ap (λ z. suc z % q.number) k.place
-      ∙ elim t as (λ s n t. suc v.sent % q.number ≡ n) [
+  send_place : (x : Token) (s : List Token) (n : ℕ) → Next x s n → v.sending ≡ x ∷ [] →
+      suc (length v.held + under_way q v) % q.number ≡ next_piece s n
+  unfolding next_piece
+  send_place x s n t e =
+      suc-mod (length v.held + under_way q v) q.number ∙ ap (λ z. suc z % q.number) (place_next x e)
+      ∙ elim t as (λ s n t. suc v.sent % q.number ≡ next_piece s n) [
         | More l ↦ mod-eq_of_lt l
-        | Done l ↦ ap (λ z. z % q.number) (omega (arith, l, sent_below)) ∙ mod_self q.number
+        | Done l ↦ ap (λ z. z % q.number) (omega (arith, l, sent_below x e)) ∙ mod_self q.number
       ]
 
   send_scatter : (x : Token) (s : List Token) (n : ℕ) → Next x s n → scatter_ok q s n ≡ true
   unfolding scatter_ok
   send_scatter x s n t = elim t as (λ s n t. scatter_ok q s n ≡ true) [ More l ↦ lt-ltb _ _ l | Done l ↦ refl ]
 
-  send_spot : v.sent % q.lines ≡ spot q (length v.held + under_way q v)
+  send_spot : (x : Token) → v.sending ≡ x ∷ [] → v.sent % q.lines ≡ spot q (length v.held + under_way q v)
   unfolding spot
-  send_spot = ap (λ z. z % q.lines) (sym k.place)
+  send_spot x e = ap (λ z. z % q.lines) (sym (place_next x e))
 
   pub send_goes : (x : Token) (s : List Token) (n : ℕ) → Next x s n → v.sending ≡ x ∷ [] → Goes q v (send_view x s n)
   unfolding whole
@@ -294,7 +331,7 @@ module _ (q : Pieces) (pos : 0 < q.number) (wide : 0 < q.lines) (v : View) (k : 
       let a : at v.lines (v.sent % q.lines) (v.lines (v.sent % q.lines) ++ piece q v.sent x ∷ [])
       ≡ at v.lines (spot q (length v.held + under_way q v))
       (v.lines (spot q (length v.held + under_way q v)) ++ piece q v.sent x ∷ []) =
-      ap (λ w. at v.lines w (v.lines w ++ piece q v.sent x ∷ [])) send_spot in
+      ap (λ w. at v.lines w (v.lines w ++ piece q v.sent x ∷ [])) (send_spot x e) in
       let c : total (at v.lines (v.sent % q.lines) (v.lines (v.sent % q.lines) ++ piece q v.sent x ∷ [])) q.lines
       ≡ suc (under_way q v) =
       omega (
@@ -315,9 +352,10 @@ module _ (q : Pieces) (pos : 0 < q.number) (wide : 0 < q.lines) (v : View) (k : 
         kept = record {
           full = k.full;
           place = ap (λ z. (length v.held + z) % q.number) c ∙ ap (λ z. z % q.number) (omega arith)
-              ∙ send_place x s n t;
+              ∙ send_place x s n t e;
           in_turn = ap₂ (λ L z. in_by L (spot q) q.lines (length v.held) z) a c ∙ r.1;
           even = ap (left q.number []) w ∙ k.even;
+          alike = ap (λ z. all_alike (groups q.number [] z)) w ∙ k.alike;
           scatter = send_scatter x s n t;
         };
         line = same_whole (send_view x s n) w refl refl;
