@@ -33,7 +33,8 @@ fn locals_of(
     scope: &mut Scope,
     block: &Block,
 ) -> Result<List<Var>, SourceRefusal>
-    ensures { Gives result (checked_locals consts.now scope.old block.now.locals (statements block.now.stmts)) }
+    ensures { Gives result (checked_locals consts.now scope.old block.now.locals (statements
+        block.now.stmts)) }
 {
     let locals = declare(
         alloc,

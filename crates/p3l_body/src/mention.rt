@@ -23,7 +23,12 @@ fn check_known(
     brackets: usize,
     is_assigned: bool,
 ) -> Result<(), SourceRefusal>
-    ensures { result ≡ mention_rule known (record { at = spot.now; brackets = brackets; is_assigned = is_assigned }) }
+    ensures { result
+        ≡ mention_rule known (record {
+          at = spot.now;
+          brackets = brackets;
+          is_assigned = is_assigned;
+        }) }
 {
     let fault = match known {
         None => Fault::Undeclared,
@@ -43,7 +48,8 @@ impl Names<'_> {
     #[cycle(expression)]
     #[tactic(auto, using(crate::proofs::Mentioned::expressions))]
     fn check_expr(self, expr: &Expr) -> Result<(), SourceRefusal>
-        ensures { result ≡ mentions_rule self.entry.consts.now self.entry.scope.now (mentions (phrase expr.now)) }
+        ensures { result
+            ≡ mentions_rule self.entry.consts.now self.entry.scope.now (mentions (phrase expr.now)) }
     {
         match expr {
             Expr::Number(_) => Ok(()),
@@ -60,7 +66,9 @@ impl Names<'_> {
     #[cycle(expression)]
     #[tactic(auto, using(crate::proofs::Mentioned::expressions))]
     fn check_place(self, is_assigned: bool, place: &Target) -> Result<(), SourceRefusal>
-        ensures { result ≡ mentions_rule self.entry.consts.now self.entry.scope.now (place_mentions is_assigned place.now.at (phrases place.now.index.items)) }
+        ensures { result
+            ≡ mentions_rule self.entry.consts.now self.entry.scope.now (place_mentions is_assigned
+            place.now.at (phrases place.now.index.items)) }
     {
         let known = self.scope.known(self.consts, &place.at.name);
         check_known(known, &place.at, place.index.len(), is_assigned)?;
@@ -73,7 +81,9 @@ impl Names<'_> {
     /// The rules of an assignment: first its target, then the right side.
     #[tactic(auto, using(crate::proofs::Mentioned::expressions))]
     fn check_assignment(self, target: &Target, expr: &Expr) -> Result<(), SourceRefusal>
-        ensures { result ≡ mentions_rule self.entry.consts.now self.entry.scope.now (assignment_mentions target.now.at (phrases target.now.index.items) (phrase expr.now)) }
+        ensures { result
+            ≡ mentions_rule self.entry.consts.now self.entry.scope.now (assignment_mentions
+            target.now.at (phrases target.now.index.items) (phrase expr.now)) }
     {
         self.check_place(true, target)?;
         self.check_expr(expr)
@@ -83,7 +93,9 @@ impl Names<'_> {
     #[cycle(statement)]
     #[tactic(auto, using(crate::proofs::Mentioned::statement_rules))]
     pub fn check_statements(self, stmts: &[Stmt]) -> Result<(), SourceRefusal>
-        ensures { result ≡ mentions_rule self.entry.consts.now self.entry.scope.now (code_mentions (statements stmts.now)) }
+        ensures { result
+            ≡ mentions_rule self.entry.consts.now self.entry.scope.now (code_mentions (statements
+            stmts.now)) }
     {
         for stmt in stmts {
             self.check_statement(stmt)?;
@@ -95,7 +107,9 @@ impl Names<'_> {
     #[cycle(statement)]
     #[tactic(auto, using(crate::proofs::Mentioned::statement_rules))]
     fn check_statement(self, stmt: &Stmt) -> Result<(), SourceRefusal>
-        ensures { result ≡ mentions_rule self.entry.consts.now self.entry.scope.now (code_mentions (one stmt.now)) }
+        ensures { result
+            ≡ mentions_rule self.entry.consts.now self.entry.scope.now (code_mentions (one
+            stmt.now)) }
     {
         match stmt {
             Stmt::Assign(target, expr) => self.check_assignment(target, expr),

@@ -19,7 +19,8 @@ fn unspelled(pos: Pos) -> SourceRefusal
 /// The calls of a pipe or a comp that stands at this place.
 pub fn calls_of(pos: Pos, inside: &Inside) -> Result<&[Call], SourceRefusal>
     ensures calls { IfOk result (λ calls. calls_of pos (inside_tree inside.now) ≡ Ok calls.now) }
-    ensures refused { IfErr result (λ refusal. calls_of pos (inside_tree inside.now) ≡ Err refusal) }
+    ensures refused { IfErr result (λ refusal. calls_of pos (inside_tree inside.now)
+        ≡ Err refusal) }
 {
     match inside {
         Inside::Calls(calls) => match calls.as_slice() {
@@ -46,8 +47,10 @@ pub fn call_of(pos: Pos, inside: &Inside) -> Result<&Call, SourceRefusal>
 
 /// The body and the condition of a loop that stands at this place.
 pub fn turning_of(pos: Pos, inside: &Inside) -> Result<(&Call, &Call), SourceRefusal>
-    ensures calls { IfOk result (λ pair. turning_of pos (inside_tree inside.now) ≡ Ok (pair.0.now, pair.1.now)) }
-    ensures refused { IfErr result (λ refusal. turning_of pos (inside_tree inside.now) ≡ Err refusal) }
+    ensures calls { IfOk result (λ pair. turning_of pos (inside_tree inside.now)
+        ≡ Ok (pair.0.now, pair.1.now)) }
+    ensures refused { IfErr result (λ refusal. turning_of pos (inside_tree inside.now)
+        ≡ Err refusal) }
 {
     match inside {
         Inside::Turning(body, condition) => Ok((body, condition)),

@@ -45,7 +45,8 @@ fn add_number(
     number: u32,
 ) -> Result<(), NoMemory>
     requires { lookup (bytes_eq name.now) numbers.old.entries ≡ None }
-    ensures { IfOk result (λ x. numbers.new.entries ≡ numbers.old.entries ++ (name.now, number) ∷ []) }
+    ensures { IfOk result (λ x. numbers.new.entries
+        ≡ numbers.old.entries ++ (name.now, number) ∷ []) }
 {
     let name = Name::from_text(alloc, name.as_str())?;
     numbers.insert(name, number)?;

@@ -73,7 +73,9 @@ fn info_of(alloc: Global, module: &Module, rescue: Option<i64>) -> Result<Module
 
 /// Every text spells at least one in and one out of a module.
 fn check_some_ports(module: &Module) -> Result<(), SourceRefusal>
-    ensures { result ≡ broken_if (length «module».now.ins == 0 || length «module».now.outs == 0) Fault.Expected «module».now.at.pos }
+    ensures { result
+        ≡ broken_if (length «module».now.ins == 0 || length «module».now.outs == 0)
+        Fault.Expected «module».now.at.pos }
 {
     if module.ins.len() == 0 || module.outs.len() == 0 {
         return Err(SourceRefusal::At {
@@ -114,7 +116,8 @@ fn body_in<'a>(
     home: u32,
     module: &'a Module,
 ) -> Result<Option<CheckedSeq<'a>>, SourceRefusal>
-    ensures { Gives (body_tree result) (body_in «module».now.kind consts.now home (module_tree «module».now)) }
+    ensures { Gives (body_tree result)
+        (body_in «module».now.kind consts.now home (module_tree «module».now)) }
 {
     match module.kind {
         Kind::Seq => match check_body(alloc, module, home, consts) {
@@ -177,7 +180,8 @@ fn add_body<'a>(
     seqs: &mut List<CheckedSeq<'a>>,
     seq: Option<CheckedSeq<'a>>,
 ) -> Result<(), NoMemory>
-    ensures { IfOk result (λ x. map seq_tree seqs.new ≡ with_body (map seq_tree seqs.old) (option_map seq_tree seq.entry)) }
+    ensures { IfOk result (λ x. map seq_tree seqs.new
+        ≡ with_body (map seq_tree seqs.old) (option_map seq_tree seq.entry)) }
 {
     match seq {
         Some(seq) => seqs.push(seq),
@@ -216,7 +220,8 @@ impl<'a> Progress<'a> {
     fn add_module(&mut self, alloc: Global, passed: Passed<'a>) -> Result<(), NoMemory>
         requires fresh { number_of self.old.modules passed.defined.info.name ≡ None }
         requires room { length self.old.modules.infos + 1 < 2 ^ 32 }
-        ensures { IfOk result (λ x. checked_of self.new ≡ with_passed (checked_of self.old) passed.entry) }
+        ensures { IfOk result (λ x. checked_of self.new
+            ≡ with_passed (checked_of self.old) passed.entry) }
     {
         let modules = mem::replace(&mut self.modules, Modules::new(alloc));
         self.modules = modules.with(alloc, passed.defined)?;
@@ -231,7 +236,9 @@ impl<'a> Progress<'a> {
         from: usize,
         module: &'a Module,
     ) -> Result<Passed<'a>, SourceRefusal>
-        ensures passed { Gives (passed_result (checked_of self.now) result) (checked_module (checked_of self.now) (defined_from places.now from) (module_tree «module».now)) }
+        ensures passed { Gives (passed_result (checked_of self.now) result)
+            (checked_module (checked_of self.now) (defined_from places.now from)
+            (module_tree «module».now)) }
         ensures name { IfOk result (λ passed. passed.defined.info.name ≡ «module».now.at.name) }
         ensures room { IfOk result (λ passed. length self.now.modules.infos + 1 < 2 ^ 32) }
     {
@@ -260,7 +267,9 @@ impl<'a> Progress<'a> {
         from: usize,
         entry: &'a Entry,
     ) -> Result<(), SourceRefusal>
-        ensures { Gives (added_result self.new result) (checked_entry (checked_of self.old) (defined_from places.now from) (entry_tree entry.now)) }
+        ensures { Gives (added_result self.new result)
+            (checked_entry (checked_of self.old) (defined_from places.now from)
+            (entry_tree entry.now)) }
     {
         self.check_name(spot_of(entry))?;
         match entry {
@@ -280,7 +289,9 @@ impl<'a> Progress<'a> {
         from: usize,
         entry: &'a Entry,
     ) -> Result<Progress<'a>, SourceRefusal>
-        ensures { Gives (checked_result result) (checked_entry (checked_of self.entry) (defined_from places.now from) (entry_tree entry.now)) }
+        ensures { Gives (checked_result result)
+            (checked_entry (checked_of self.entry) (defined_from places.now from)
+            (entry_tree entry.now)) }
     {
         self.add_entry(alloc, places, from, entry)?;
         Ok(self)
@@ -288,7 +299,8 @@ impl<'a> Progress<'a> {
 
     /// The entries of a program, one after another.
     pub fn of(alloc: Global, entries: &'a [Entry]) -> Result<Progress<'a>, SourceRefusal>
-        ensures { Gives (checked_result result) (checked_entries none_checked (map entry_tree entries.now)) }
+        ensures { Gives (checked_result result)
+            (checked_entries none_checked (map entry_tree entries.now)) }
     {
         let places = Places::of(alloc, entries)?;
         let mut progress = Progress::new(alloc, entries)?;

@@ -78,7 +78,8 @@ fn whole<'a>(
     progress: Progress<'a>,
 ) -> Result<Resolved<'a>, SourceRefusal>
     requires { AreWired progress.modules.infos progress.modules.wired }
-    ensures resolved { Gives (resolved_tree result) (whole (program_tree program.now) (checked_of progress.entry)) }
+    ensures resolved { Gives (resolved_tree result)
+        (whole (program_tree program.now) (checked_of progress.entry)) }
     ensures lawful { IfOk result (λ resolved. IsLawfulTree resolved.tree) }
 {
     let Progress { modules, seqs, .. } = progress;

@@ -49,7 +49,8 @@ fn hand_on(
     callee: &Ports,
     call: &Call,
 ) -> Result<List<Var>, SourceRefusal>
-    ensures vars { Gives result (handed_on (before_of env.entry) scope.old taken.now outs.now is_last callee.now call.now) }
+    ensures vars { Gives result (handed_on (before_of env.entry)
+        scope.old taken.now outs.now is_last callee.now call.now) }
     ensures names { IfOk result (λ vars. scope.new ≡ scope.old ++ map (named false) vars) }
 {
     if is_last {
@@ -78,7 +79,8 @@ fn staged(
     ports: &Ports,
     calls: &[Call],
 ) -> Result<List<u32>, SourceRefusal>
-    ensures { Gives result (staged in_process (before_of env.entry) scope.old ports.now.ins ports.now.outs calls.now) }
+    ensures { Gives result (staged in_process (before_of env.entry)
+        scope.old ports.now.ins ports.now.outs calls.now) }
 {
     let mut numbers = List::new(alloc);
     let mut handed = None;
@@ -110,7 +112,8 @@ fn stages(
     ports: &Ports,
 ) -> Result<List<u32>, SourceRefusal>
     requires { scope.old ≡ port_names ports.now }
-    ensures { Gives result (stages in_process (before_of env.entry) (module_tree «module».now) ports.now) }
+    ensures { Gives result (stages in_process (before_of env.entry) (module_tree «module».now)
+        ports.now) }
 {
     let calls = calls_of(module.at.pos, &module.inside)?;
     staged(alloc, in_process, env, scope, ports, calls)
@@ -313,7 +316,8 @@ pub fn skeleton_of(
     requires names { scope.old ≡ port_names ports.now }
     requires ins { AreSized ports.now.ins }
     requires outs { AreSized ports.now.outs }
-    ensures { Gives result (skeleton_of «module».now.kind (before_of env.entry) (module_tree «module».now) ports.now) }
+    ensures { Gives result (skeleton_of «module».now.kind (before_of env.entry)
+        (module_tree «module».now) ports.now) }
 {
     match module.kind {
         Kind::Seq => Ok(of_calls(Form::Seq, List::new(alloc), true)),

@@ -217,7 +217,8 @@ pub fn first_past(tokens: &[Token]) -> Option<usize>
     ensures none { IfNone result (IsWithin at_rest (symbols tokens.now)) }
     ensures inside { IfSome result (λ i. i < length tokens.now) }
     ensures before { IfSome result (λ i. IsWithin at_rest (symbols (take i tokens.now))) }
-    ensures past { IfSome result (λ i. IsPast (nest_after at_rest (symbols (take (suc i) tokens.now)))) }
+    ensures past { IfSome result (λ i.
+        IsPast (nest_after at_rest (symbols (take (suc i) tokens.now)))) }
 {
     let mut nest = Nest::at_rest();
     for (i, token) in tokens.iter().enumerate() {

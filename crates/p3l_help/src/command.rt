@@ -38,8 +38,7 @@ example: p3l compile m.p3l --processors 16 --output m.img
 ";
 
 /// What `migrate` does.
-const MIGRATE: &str =
-    "usage: p3l migrate IMAGE --output FILE
+const MIGRATE: &str = "usage: p3l migrate IMAGE --output FILE
 
 Reads an image of any version, links its network anew from its tree and its counts, and writes
 the image in the newest version to a file. An image whose tree or codes can't be run is refused,
@@ -52,8 +51,7 @@ example: p3l migrate old.img --output new.img
 ";
 
 /// What `graph` does.
-const GRAPH: &str =
-    "usage: p3l graph PROGRAM --processors P [--costs FILE] [--capacity C]
+const GRAPH: &str = "usage: p3l graph PROGRAM --processors P [--costs FILE] [--capacity C]
 
 Writes the network that run would run, as a text in the DOT language: a box for each process with
 its number, what it does and its module, an arrow for each channel with its capacity, and a frame

@@ -18,9 +18,9 @@ is a line of the output. Values are whole numbers of 64 bits.
     end map
 
 Modules
-  seq NAME in(PORTS) out(PORTS) [budget B] ${ DECLARATIONS STATEMENTS }$ end seq
+  seq NAME in(PORTS) out(PORTS) [budget B] [rescue R] ${ DECLARATIONS STATEMENTS }$ end seq
                                 a body
-  comp NAME .. CALL CALL .. end comp
+  comp NAME .. [rescue R] CALL CALL .. end comp
                                 one after another, in one process
   pipe NAME .. CALL CALL .. end pipe
                                 one after another, each with processes of its own
@@ -37,7 +37,8 @@ Ports are `int x` or `int a[3][4]`. A call is `NAME in(ARGUMENTS) out(ARGUMENTS)
 between stages of a `pipe` or `comp`, and as the out of a loop's condition, an
 out is a new port, `out(int z)`. In a `map` and a `reduce` a star marks an index
 that tells elements apart, `a[*i]`, and empty brackets leave a whole row, `a[*i][]`.
-A module calls only modules that stand above it.
+A module calls only modules that stand above it. Where a trap comes in a module with
+`rescue -1`, each word that it gives is -1, and the stream goes on.
 
 Bodies
   int i; int t[8];              local variables, which begin at 0, as outs do
@@ -71,7 +72,8 @@ Not in the language, and what to write instead
   recursion                     a loop, or while in a body
   1.5                           15, counted in tenths
   names that clash with words   seq pipe farm map reduce comp loop end in out int
-                                const workers turns tokens budget while if else for
+                                const workers turns tokens budget rescue while if else
+                                for
 
 `p3l help NUMBER` has the rule of a refusal. `p3l fmt` shows the canonical text.
 ";

@@ -159,7 +159,8 @@ fn read_operands(kind: InstrKind, bytes: &[u8]) -> Result<(Instr, &[u8]), ReadEr
 // Puts the operands of an instruction after others.
 #[tactic(auto, unfolding(crate::specs::Instr::operands, p3l_format::specs::Format::pair, p3l_format::specs::Format::as_form, p3l_format::specs::Format::nothing))]
 fn write_operands(instr: Instr, out: &mut Vec<u8>) -> Result<(), NoMemory>
-    ensures { OnOk result (out.new.items ≡ out.old.items ++ (operands (kind_of instr)).spell instr) }
+    ensures { OnOk result (out.new.items
+        ≡ out.old.items ++ (operands (kind_of instr)).spell instr) }
 {
     match instr {
         Instr::Push(operand) => write_i64(operand, out),
@@ -240,7 +241,8 @@ fn binary_number(value: BinOp) -> u8
 // Puts the byte of a value after others.
 #[tactic(auto, unfolding(p3l_format::specs::Numbers::one_of, p3l_format::specs::Numbers::u8_format, p3l_format::specs::Format::coded))]
 fn write_kind(value: InstrKind, out: &mut Vec<u8>) -> Result<(), NoMemory>
-    ensures { OnOk result (out.new.items ≡ out.old.items ++ (one_of instr_kinds instr_number).spell value) }
+    ensures { OnOk result (out.new.items
+        ≡ out.old.items ++ (one_of instr_kinds instr_number).spell value) }
 {
     write_u8(kind_number(value), out)
 }

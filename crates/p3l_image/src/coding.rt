@@ -71,7 +71,8 @@ impl Field for BodyField {
 #[tactic(auto, unfolding(crate::specs::Image::image_format, p3l_format::specs::Format::pair, p3l_format::specs::Format::after, p3l_format::specs::Format::within))]
 fn write_image(version: Version, image: &Image, out: &mut Vec<u8>) -> Result<(), NoMemory>
     requires { image_format.fits (version, image.now) ≡ true }
-    ensures { OnOk result (out.new.items ≡ out.old.items ++ image_format.spell (version, image.now)) }
+    ensures { OnOk result (out.new.items
+        ≡ out.old.items ++ image_format.spell (version, image.now)) }
 {
     write_u32(MAGIC, out)?;
     write_version(version, out)?;
@@ -124,7 +125,8 @@ pub fn decode(alloc: Global, bytes: &[u8]) -> Result<Image, ImageRefusal>
     // What is read is spelled so.
     ensures found { IfOk result (λ image. IsSpelling image bytes.now) }
     // What is spelled so is read, unless memory runs out.
-    ensures only { (image : TheImage) → IsSpelling image bytes.now → Answers bytes.now result (Ok image) }
+    ensures only { (image : TheImage) → IsSpelling image bytes.now
+        → Answers bytes.now result (Ok image) }
     // Its capacity is in its range.
     ensures some { IfOk result (λ image. 1 ≤ image.cap) }
     ensures few { IfOk result (λ image. image.cap ≤ 1024) }

@@ -18,7 +18,8 @@ use std::alloc::Global;
 fn put(alloc: Global, tokens: &mut List<Token>, text: &[u8], at: Pos) -> Result<(), NoMemory>
     requires some { 0 < length text.now }
     requires piece { IsSome (piece_of text.now) }
-    ensures { OnOk result ((piece : Piece) → piece_of text.now ≡ Some piece → tokens.new ≡ tokens.old ++ token_at at piece) }
+    ensures { OnOk result ((piece : Piece) → piece_of text.now ≡ Some piece
+        → tokens.new ≡ tokens.old ++ token_at at piece) }
 {
     match piece(alloc, text)? {
         Piece::Gap => Ok(()),
@@ -30,7 +31,8 @@ fn put(alloc: Global, tokens: &mut List<Token>, text: &[u8], at: Pos) -> Result<
 pub fn tokens(alloc: Global, text: &[u8]) -> Result<List<Token>, NoMemory>
     requires { length text.now < 2 ^ 32 - 1 }
     ensures found { IfOk result (λ tokens. IsTokens text.now tokens) }
-    ensures only { IfOk result (λ tokens. (others : List Token) → IsTokens text.now others → others ≡ tokens) }
+    ensures only { IfOk result (λ tokens. (others : List Token) → IsTokens text.now others
+        → others ≡ tokens) }
 {
     let mut list = List::new(alloc);
     let mut rest = text;

@@ -61,7 +61,9 @@ fn numeral(text: &[u8]) -> bool
 /// The number of decimal digits, if it is at most 9223372036854775807.
 fn value(digits: &[u8]) -> Option<i64>
     requires { list_all is_digit digits.now ≡ true }
-    ensures { MatchOption result (2 ^ 63 ≤ value_of digits.now) (λ value. (value_of digits.now < 2 ^ 63) × (value ≡ pos (value_of digits.now))) }
+    ensures { MatchOption result (2 ^ 63
+        ≤ value_of digits.now) (λ value. (value_of digits.now < 2 ^ 63)
+        × (value ≡ pos (value_of digits.now))) }
 {
     let mut value: u128 = 0;
     for byte in digits {

@@ -33,7 +33,8 @@ fn next(at: Pos, byte: u8) -> Pos
 pub fn advance(at: Pos, more: &[u8]) -> Pos
     requires line { at.line + length more.now < 2 ^ 32 }
     requires col { at.col + length more.now < 2 ^ 32 }
-    ensures { (before : List ℕ) → at ≡ position_after before → result ≡ position_after (before ++ more.now) }
+    ensures { (before : List ℕ) → at ≡ position_after before
+        → result ≡ position_after (before ++ more.now) }
 {
     let mut at = at;
     for byte in more {

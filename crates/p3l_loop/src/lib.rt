@@ -72,5 +72,6 @@ impl Template for LoopTemplate {
 
 /// What the ring makes of a token is what the turns of the loop do.
 pub fn goes_round_as_said()
-    ensures { (l : Laps) (outcome : Outcome) → 0 < l.turns → rounds l outcome ≡ turns l l.turns outcome }
+    ensures { (l : Laps) (outcome : Outcome) → 0 < l.turns
+        → rounds l outcome ≡ turns l l.turns outcome }
 {}

@@ -36,7 +36,8 @@ pub(crate) fn matches_of<'a>(
     words: &'a [&'a str],
 ) -> Result<ArgMatches<'a>, OptsRefusal>
     ensures taken { IfOk result (λ _. faults verb (texts_of words.entry.now) ≡ []) }
-    ensures found { IfOk result (λ matches. rows_of (found_of matches) ≡ rows verb (texts_of words.entry.now)) }
+    ensures found { IfOk result (λ matches. rows_of (found_of matches)
+        ≡ rows verb (texts_of words.entry.now)) }
     ensures usage { IsErrOf result OptsRefusal.Usage → faults verb (texts_of words.entry.now) ≢ [] }
 {
     let command = match clap_command(alloc, verb) {
@@ -61,15 +62,18 @@ fn refusal_of(error: &Error) -> OptsRefusal
 
 /// The text that the words have for a value.
 fn text_of<'a>(matches: &ArgMatches<'a>, id: &str) -> Option<&'a str>
-    ensures { option_map (λ text. text.now) result ≡ first_of id.now (rows_of (found_of matches.now)) }
+    ensures { option_map (λ text. text.now) result
+        ≡ first_of id.now (rows_of (found_of matches.now)) }
 {
     matches.get_str(id)
 }
 
 /// The name that the words have for a value.
 pub(crate) fn name_of(alloc: Global, matches: &ArgMatches, id: &str) -> Result<Name, OptsRefusal>
-    ensures ok { IfOk result (λ name. first_of id.now (rows_of (found_of matches.now)) ≡ Some name) }
-    ensures usage { IsErrOf result OptsRefusal.Usage → first_of id.now (rows_of (found_of matches.now)) ≡ None }
+    ensures ok { IfOk result (λ name. first_of id.now (rows_of (found_of matches.now))
+        ≡ Some name) }
+    ensures usage { IsErrOf result OptsRefusal.Usage
+        → first_of id.now (rows_of (found_of matches.now)) ≡ None }
 {
     match text_of(matches, id) {
         Some(text) => Ok(Name::from_text(alloc, text)?),
@@ -94,7 +98,8 @@ pub(crate) fn name_if_given(
 /// The number of processors that the words have for a value.
 pub(crate) fn processors_in(matches: &ArgMatches, id: &str) -> Option<u32>
     ensures some { IfSome result (HasProcessors (first_of id.now (rows_of (found_of matches.now)))) }
-    ensures none { IfNone result ((count : ℕ) → HasProcessors (first_of id.now (rows_of (found_of matches.now))) count → ⊥) }
+    ensures none { IfNone result ((count : ℕ)
+        → HasProcessors (first_of id.now (rows_of (found_of matches.now))) count → ⊥) }
 {
     match text_of(matches, id) {
         Some(text) => count_of(text, MOST_PROCESSORS),
@@ -105,7 +110,8 @@ pub(crate) fn processors_in(matches: &ArgMatches, id: &str) -> Option<u32>
 /// The capacity that the words have for a value, or the default.
 pub(crate) fn capacity_in(matches: &ArgMatches, id: &str) -> Option<u32>
     ensures some { IfSome result (HasCapacity (first_of id.now (rows_of (found_of matches.now)))) }
-    ensures none { IfNone result ((capacity : ℕ) → HasCapacity (first_of id.now (rows_of (found_of matches.now))) capacity → ⊥) }
+    ensures none { IfNone result ((capacity : ℕ)
+        → HasCapacity (first_of id.now (rows_of (found_of matches.now))) capacity → ⊥) }
 {
     match text_of(matches, id) {
         Some(text) => count_of(text, MOST_CAPACITY),
@@ -120,7 +126,8 @@ pub(crate) fn schedule_in(
     id: &str,
 ) -> Result<Sched, OptsRefusal>
     ensures ok { IfOk result (HasSchedule (first_of id.now (rows_of (found_of matches.now)))) }
-    ensures usage { IsErrOf result OptsRefusal.Usage → (schedule : Sched) → HasSchedule (first_of id.now (rows_of (found_of matches.now))) schedule → ⊥ }
+    ensures usage { IsErrOf result OptsRefusal.Usage → (schedule : Sched)
+        → HasSchedule (first_of id.now (rows_of (found_of matches.now))) schedule → ⊥ }
 {
     match text_of(matches, id) {
         Some(text) => schedule_of(alloc, text),
@@ -131,7 +138,8 @@ pub(crate) fn schedule_in(
 /// The number of items that the words have for a value, or the default.
 pub(crate) fn items_in(matches: &ArgMatches, id: &str) -> Option<u32>
     ensures some { IfSome result (HasItems (first_of id.now (rows_of (found_of matches.now)))) }
-    ensures none { IfNone result ((items : ℕ) → HasItems (first_of id.now (rows_of (found_of matches.now))) items → ⊥) }
+    ensures none { IfNone result ((items : ℕ)
+        → HasItems (first_of id.now (rows_of (found_of matches.now))) items → ⊥) }
 {
     match text_of(matches, id) {
         Some(text) => count_of(text, MOST_ITEMS),
@@ -142,7 +150,8 @@ pub(crate) fn items_in(matches: &ArgMatches, id: &str) -> Option<u32>
 /// The number of 32 bits that the words have for a value.
 pub(crate) fn number_of(matches: &ArgMatches, id: &str) -> Option<u32>
     ensures some { IfSome result (HasNumber (first_of id.now (rows_of (found_of matches.now)))) }
-    ensures none { IfNone result ((number : ℕ) → HasNumber (first_of id.now (rows_of (found_of matches.now))) number → ⊥) }
+    ensures none { IfNone result ((number : ℕ)
+        → HasNumber (first_of id.now (rows_of (found_of matches.now))) number → ⊥) }
 {
     match text_of(matches, id) {
         Some(text) => number_in(text),

@@ -22,8 +22,10 @@ fn begins_with_digit(word: &str) -> bool
 
 /// The number above 0 that a word spells in digits, with no sign and no leading zero.
 fn number_of(word: &str) -> Option<u64>
-    ensures some { IfSome result (λ number. (1 ≤ number) × (number < 2 ^ 64) × (word.now ≡ decimal number)) }
-    ensures none { IfNone result ((number : ℕ) → 1 ≤ number → number < 2 ^ 64 → word.now ≡ decimal number → ⊥) }
+    ensures some { IfSome result (λ number. (1 ≤ number) × (number < 2 ^ 64)
+        × (word.now ≡ decimal number)) }
+    ensures none { IfNone result ((number : ℕ) → 1 ≤ number → number < 2 ^ 64
+        → word.now ≡ decimal number → ⊥) }
 {
     if begins_with_digit(word) {
         word.parse::<u64>().ok()
@@ -34,8 +36,10 @@ fn number_of(word: &str) -> Option<u64>
 
 /// A number from 1 to `most`.
 pub(crate) fn count_of(word: &str, most: u32) -> Option<u32>
-    ensures some { IfSome result (λ count. (1 ≤ count) × (count ≤ most) × (word.now ≡ decimal count)) }
-    ensures none { IfNone result ((count : ℕ) → 1 ≤ count → count ≤ most → word.now ≡ decimal count → ⊥) }
+    ensures some { IfSome result (λ count. (1 ≤ count) × (count ≤ most)
+        × (word.now ≡ decimal count)) }
+    ensures none { IfNone result ((count : ℕ) → 1 ≤ count → count ≤ most → word.now ≡ decimal count
+        → ⊥) }
 {
     match number_of(word) {
         Some(count) if count <= u64::from(most) => Some(count as u32),
@@ -77,7 +81,8 @@ fn after<'a>(word: &'a str, front: &str) -> Option<&'a str>
 /// The schedule that a word spells.
 pub(crate) fn schedule_of(alloc: Global, word: &str) -> Result<Sched, OptsRefusal>
     ensures ok { IfOk result (SpellsSchedule word.now) }
-    ensures usage { IsErrOf result OptsRefusal.Usage → (schedule : Sched) → SpellsSchedule word.now schedule → ⊥ }
+    ensures usage { IsErrOf result OptsRefusal.Usage → (schedule : Sched)
+        → SpellsSchedule word.now schedule → ⊥ }
 {
     if word == "rr" {
         return Ok(Sched::RoundRobin);

@@ -17,7 +17,8 @@ use std::alloc::Global;
 /// The command that the words spell; the program's own name is none of them.
 pub fn parse(alloc: Global, words: &[&str]) -> Result<Command, OptsRefusal>
     ensures spelled { IfOk result (Spells (texts_of words.now)) }
-    ensures usage { IsErrOf result OptsRefusal.Usage → (command : Command) → Spells (texts_of words.now) command → ⊥ }
+    ensures usage { IsErrOf result OptsRefusal.Usage → (command : Command)
+        → Spells (texts_of words.now) command → ⊥ }
 {
     match words.first() {
         Some(first) => match verb_of(first) {
@@ -32,7 +33,8 @@ pub fn parse(alloc: Global, words: &[&str]) -> Result<Command, OptsRefusal>
 fn parse_after(alloc: Global, verb: Verb, words: &[&str]) -> Result<Command, OptsRefusal>
     requires { slice_get (texts_of words.now) 0 ≡ Some (name_of verb) }
     ensures spelled { IfOk result (Spells (texts_of words.now)) }
-    ensures usage { IsErrOf result OptsRefusal.Usage → (command : Command) → Spells (texts_of words.now) command → ⊥ }
+    ensures usage { IsErrOf result OptsRefusal.Usage → (command : Command)
+        → Spells (texts_of words.now) command → ⊥ }
 {
     let matches = matches_of(alloc, verb, words)?;
     command_of(alloc, verb, &matches)
@@ -42,7 +44,8 @@ fn parse_after(alloc: Global, verb: Verb, words: &[&str]) -> Result<Command, Opt
 fn command_of(alloc: Global, verb: Verb, matches: &ArgMatches) -> Result<Command, OptsRefusal>
     ensures verb { IfOk result (λ command. verb_of command ≡ verb) }
     ensures values { IfOk result (HasValues (rows_of (found_of matches.now))) }
-    ensures usage { IsErrOf result OptsRefusal.Usage → (command : Command) → verb_of command ≡ verb → HasValues (rows_of (found_of matches.now)) command → ⊥ }
+    ensures usage { IsErrOf result OptsRefusal.Usage → (command : Command) → verb_of command ≡ verb
+        → HasValues (rows_of (found_of matches.now)) command → ⊥ }
 {
     match verb {
         Verb::Check => Ok(Command::Check(name_of(alloc, matches, "program")?)),
@@ -61,8 +64,10 @@ fn command_of(alloc: Global, verb: Verb, matches: &ArgMatches) -> Result<Command
 
 /// How a network of this capacity is built, by the other values that were found.
 fn build_with(alloc: Global, matches: &ArgMatches, capacity: u32) -> Result<Build, OptsRefusal>
-    ensures ok { IfOk result (λ build. (text : Option (List ℕ)) → HasCapacity text capacity → HasBuild (rows_of (found_of matches.now)) text build) }
-    ensures usage { IsErrOf result OptsRefusal.Usage → (text : Option (List ℕ)) (build : Build) → HasBuild (rows_of (found_of matches.now)) text build → ⊥ }
+    ensures ok { IfOk result (λ build. (text : Option (List ℕ)) → HasCapacity text capacity
+        → HasBuild (rows_of (found_of matches.now)) text build) }
+    ensures usage { IsErrOf result OptsRefusal.Usage → (text : Option (List ℕ)) (build : Build)
+        → HasBuild (rows_of (found_of matches.now)) text build → ⊥ }
 {
     let program = name_of(alloc, matches, "program")?;
     let Some(processors) = processors_in(matches, "processors") else {
@@ -80,15 +85,19 @@ fn build_with(alloc: Global, matches: &ArgMatches, capacity: u32) -> Result<Buil
 /// How a network of the default capacity is built, by the other values that were found.
 fn plain_build_of(alloc: Global, matches: &ArgMatches) -> Result<Build, OptsRefusal>
     ensures ok { IfOk result (HasBuild (rows_of (found_of matches.now)) None) }
-    ensures usage { IsErrOf result OptsRefusal.Usage → (build : Build) → HasBuild (rows_of (found_of matches.now)) None build → ⊥ }
+    ensures usage { IsErrOf result OptsRefusal.Usage → (build : Build)
+        → HasBuild (rows_of (found_of matches.now)) None build → ⊥ }
 {
     build_with(alloc, matches, DEFAULT_CAPACITY)
 }
 
 /// How a network is built, by the values that were found.
 fn build_of(alloc: Global, matches: &ArgMatches) -> Result<Build, OptsRefusal>
-    ensures ok { IfOk result (HasBuild (rows_of (found_of matches.now)) (first_of (codes "capacity") (rows_of (found_of matches.now)))) }
-    ensures usage { IsErrOf result OptsRefusal.Usage → (build : Build) → HasBuild (rows_of (found_of matches.now)) (first_of (codes "capacity") (rows_of (found_of matches.now))) build → ⊥ }
+    ensures ok { IfOk result (HasBuild (rows_of (found_of matches.now))
+        (first_of (codes "capacity") (rows_of (found_of matches.now)))) }
+    ensures usage { IsErrOf result OptsRefusal.Usage → (build : Build)
+        → HasBuild (rows_of (found_of matches.now))
+        (first_of (codes "capacity") (rows_of (found_of matches.now))) build → ⊥ }
 {
     let Some(capacity) = capacity_in(matches, "capacity") else {
         return Err(OptsRefusal::Usage);
@@ -100,7 +109,8 @@ fn build_of(alloc: Global, matches: &ArgMatches) -> Result<Build, OptsRefusal>
 fn explain_of(alloc: Global, matches: &ArgMatches) -> Result<Command, OptsRefusal>
     ensures verb { IfOk result (λ command. verb_of command ≡ Verb.Explain) }
     ensures values { IfOk result (HasValues (rows_of (found_of matches.now))) }
-    ensures usage { IsErrOf result OptsRefusal.Usage → (command : Command) → verb_of command ≡ Verb.Explain → HasValues (rows_of (found_of matches.now)) command → ⊥ }
+    ensures usage { IsErrOf result OptsRefusal.Usage → (command : Command)
+        → verb_of command ≡ Verb.Explain → HasValues (rows_of (found_of matches.now)) command → ⊥ }
 {
     let build = plain_build_of(alloc, matches)?;
     let cert = name_if_given(alloc, matches, "cert")?;
@@ -111,7 +121,8 @@ fn explain_of(alloc: Global, matches: &ArgMatches) -> Result<Command, OptsRefusa
 fn compile_of(alloc: Global, matches: &ArgMatches) -> Result<Command, OptsRefusal>
     ensures verb { IfOk result (λ command. verb_of command ≡ Verb.Compile) }
     ensures values { IfOk result (HasValues (rows_of (found_of matches.now))) }
-    ensures usage { IsErrOf result OptsRefusal.Usage → (command : Command) → verb_of command ≡ Verb.Compile → HasValues (rows_of (found_of matches.now)) command → ⊥ }
+    ensures usage { IsErrOf result OptsRefusal.Usage → (command : Command)
+        → verb_of command ≡ Verb.Compile → HasValues (rows_of (found_of matches.now)) command → ⊥ }
 {
     let build = build_of(alloc, matches)?;
     let output = name_of(alloc, matches, "output")?;
@@ -122,7 +133,8 @@ fn compile_of(alloc: Global, matches: &ArgMatches) -> Result<Command, OptsRefusa
 fn run_of(alloc: Global, matches: &ArgMatches) -> Result<Command, OptsRefusal>
     ensures verb { IfOk result (λ command. verb_of command ≡ Verb.Run) }
     ensures values { IfOk result (HasValues (rows_of (found_of matches.now))) }
-    ensures usage { IsErrOf result OptsRefusal.Usage → (command : Command) → verb_of command ≡ Verb.Run → HasValues (rows_of (found_of matches.now)) command → ⊥ }
+    ensures usage { IsErrOf result OptsRefusal.Usage → (command : Command)
+        → verb_of command ≡ Verb.Run → HasValues (rows_of (found_of matches.now)) command → ⊥ }
 {
     let build = build_of(alloc, matches)?;
     let schedule = schedule_in(alloc, matches, "schedule")?;
@@ -135,7 +147,8 @@ fn run_of(alloc: Global, matches: &ArgMatches) -> Result<Command, OptsRefusal>
 fn exec_of(alloc: Global, matches: &ArgMatches) -> Result<Command, OptsRefusal>
     ensures verb { IfOk result (λ command. verb_of command ≡ Verb.Exec) }
     ensures values { IfOk result (HasValues (rows_of (found_of matches.now))) }
-    ensures usage { IsErrOf result OptsRefusal.Usage → (command : Command) → verb_of command ≡ Verb.Exec → HasValues (rows_of (found_of matches.now)) command → ⊥ }
+    ensures usage { IsErrOf result OptsRefusal.Usage → (command : Command)
+        → verb_of command ≡ Verb.Exec → HasValues (rows_of (found_of matches.now)) command → ⊥ }
 {
     let image = name_of(alloc, matches, "image")?;
     let schedule = schedule_in(alloc, matches, "schedule")?;
@@ -160,7 +173,9 @@ fn migrate_of(alloc: Global, matches: &ArgMatches) -> Result<Command, OptsRefusa
 fn verify_cert_of(alloc: Global, matches: &ArgMatches) -> Result<Command, OptsRefusal>
     ensures verb { IfOk result (λ command. verb_of command ≡ Verb.VerifyCert) }
     ensures values { IfOk result (HasValues (rows_of (found_of matches.now))) }
-    ensures usage { IsErrOf result OptsRefusal.Usage → (command : Command) → verb_of command ≡ Verb.VerifyCert → HasValues (rows_of (found_of matches.now)) command → ⊥ }
+    ensures usage { IsErrOf result OptsRefusal.Usage → (command : Command)
+        → verb_of command ≡ Verb.VerifyCert → HasValues (rows_of (found_of matches.now)) command
+        → ⊥ }
 {
     let program = name_of(alloc, matches, "program")?;
     let cert = name_of(alloc, matches, "cert")?;
@@ -172,7 +187,9 @@ fn verify_cert_of(alloc: Global, matches: &ArgMatches) -> Result<Command, OptsRe
 fn check_trace_of(alloc: Global, matches: &ArgMatches) -> Result<Command, OptsRefusal>
     ensures verb { IfOk result (λ command. verb_of command ≡ Verb.CheckTrace) }
     ensures values { IfOk result (HasValues (rows_of (found_of matches.now))) }
-    ensures usage { IsErrOf result OptsRefusal.Usage → (command : Command) → verb_of command ≡ Verb.CheckTrace → HasValues (rows_of (found_of matches.now)) command → ⊥ }
+    ensures usage { IsErrOf result OptsRefusal.Usage → (command : Command)
+        → verb_of command ≡ Verb.CheckTrace → HasValues (rows_of (found_of matches.now)) command
+        → ⊥ }
 {
     let build = build_of(alloc, matches)?;
     let trace = name_of(alloc, matches, "trace")?;
@@ -183,7 +200,8 @@ fn check_trace_of(alloc: Global, matches: &ArgMatches) -> Result<Command, OptsRe
 fn gen_of(alloc: Global, matches: &ArgMatches) -> Result<Command, OptsRefusal>
     ensures verb { IfOk result (λ command. verb_of command ≡ Verb.Gen) }
     ensures values { IfOk result (HasValues (rows_of (found_of matches.now))) }
-    ensures usage { IsErrOf result OptsRefusal.Usage → (command : Command) → verb_of command ≡ Verb.Gen → HasValues (rows_of (found_of matches.now)) command → ⊥ }
+    ensures usage { IsErrOf result OptsRefusal.Usage → (command : Command)
+        → verb_of command ≡ Verb.Gen → HasValues (rows_of (found_of matches.now)) command → ⊥ }
 {
     let Some(number) = number_of(matches, "number") else {
         return Err(OptsRefusal::Usage);
@@ -201,8 +219,11 @@ fn gen_of(alloc: Global, matches: &ArgMatches) -> Result<Command, OptsRefusal>
 
 /// The schedule that the words have for a value, or round robin, unless its picks stand in a file.
 fn made_in(alloc: Global, matches: &ArgMatches, id: &str) -> Result<Sched, OptsRefusal>
-    ensures ok { IfOk result (λ schedule. HasSchedule (first_of id.now (rows_of (found_of matches.now))) schedule × IsMade schedule) }
-    ensures usage { IsErrOf result OptsRefusal.Usage → (schedule : Sched) → HasSchedule (first_of id.now (rows_of (found_of matches.now))) schedule → IsMade schedule → ⊥ }
+    ensures ok { IfOk result (λ schedule.
+        HasSchedule (first_of id.now (rows_of (found_of matches.now))) schedule × IsMade schedule) }
+    ensures usage { IsErrOf result OptsRefusal.Usage → (schedule : Sched)
+        → HasSchedule (first_of id.now (rows_of (found_of matches.now))) schedule → IsMade schedule
+        → ⊥ }
 {
     match schedule_in(alloc, matches, id)? {
         Sched::RoundRobin => Ok(Sched::RoundRobin),

@@ -59,7 +59,8 @@ impl Printer {
     #[tactic(auto, unfolding(crate::specs::Expression::operand_text))]
     fn operand(&mut self, asked: u8, operand: &Expr) -> Result<(), NoMemory>
         ensures { OnOk result (self.new ≡ self.old
-            ++ operand_text asked (tightness (phrase operand.now)) (expression_text (phrase operand.now))) }
+            ++ operand_text asked (tightness (phrase operand.now))
+            (expression_text (phrase operand.now))) }
     {
         if asked <= tightness_of(operand) {
             return self.expression(operand);
@@ -71,7 +72,8 @@ impl Printer {
 
     #[cycle(expression)]
     pub fn target(&mut self, place: &Target) -> Result<(), NoMemory>
-        ensures { OnOk result (self.new ≡ self.old ++ target_text place.now.at (phrases place.now.index.items)) }
+        ensures { OnOk result (self.new
+            ≡ self.old ++ target_text place.now.at (phrases place.now.index.items)) }
     {
         self.name(&place.at.name)?;
         self.index(&place.index)

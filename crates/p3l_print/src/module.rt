@@ -126,7 +126,8 @@ impl Printer {
 
     /// The body's call and the condition's.
     fn turning(&mut self, body: &Call, condition: &Call) -> Result<(), NoMemory>
-        ensures { OnOk result (self.new ≡ self.old ++ inside_text (turning body.now condition.now)) }
+        ensures { OnOk result (self.new
+            ≡ self.old ++ inside_text (turning body.now condition.now)) }
     {
         self.call_line(body)?;
         self.put(b"  while ")?;

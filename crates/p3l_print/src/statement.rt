@@ -13,7 +13,8 @@ impl Printer {
     #[cycle(statement)]
     #[tactic(auto, using(crate::proofs::Lines::lines))]
     pub fn statements(&mut self, margin: &[u8], stmts: &[Stmt]) -> Result<(), NoMemory>
-        ensures { OnOk result (self.new ≡ self.old ++ statements_text margin.now (statements stmts.now)) }
+        ensures { OnOk result (self.new
+            ≡ self.old ++ statements_text margin.now (statements stmts.now)) }
     {
         for stmt in stmts {
             self.statement(margin, stmt)?;
@@ -68,7 +69,8 @@ impl Printer {
     #[tactic(auto, unfolding(crate::specs::Statement::assignment_text))]
     fn assignment(&mut self, place: &Target, value: &Expr) -> Result<(), NoMemory>
         ensures { OnOk result (self.new
-            ≡ self.old ++ assignment_text place.now.at (phrases place.now.index.items) (phrase value.now)) }
+            ≡ self.old
+            ++ assignment_text place.now.at (phrases place.now.index.items) (phrase value.now)) }
     {
         self.target(place)?;
         self.put(b" = ")?;
@@ -119,7 +121,8 @@ impl Printer {
     #[tactic(auto, unfolding(crate::specs::Statement::block_text))]
     fn block(&mut self, margin: &[u8], stmts: &[Stmt]) -> Result<(), NoMemory>
         ensures { OnOk result (self.new
-            ≡ self.old ++ block_text margin.now (statements_text (deeper margin.now) (statements stmts.now))) }
+            ≡ self.old
+            ++ block_text margin.now (statements_text (deeper margin.now) (statements stmts.now))) }
     {
         self.put(b"{\n")?;
         let inner = self.deeper(margin)?;
@@ -132,7 +135,8 @@ impl Printer {
     #[cycle(statement)]
     fn last_block(&mut self, margin: &[u8], stmts: &[Stmt]) -> Result<(), NoMemory>
         ensures { OnOk result (self.new ≡ self.old
-            ++ (block_text margin.now (statements_text (deeper margin.now) (statements stmts.now)) ++ codes "\n")) }
+            ++ (block_text margin.now (statements_text (deeper margin.now) (statements stmts.now))
+            ++ codes "\n")) }
     {
         self.block(margin, stmts)?;
         self.put(b"\n")

@@ -113,7 +113,8 @@ fn next_index(alloc: Global, tokens: &[Token]) -> Result<Option<(Expr, &[Token])
 /// The indices in brackets, as many as there are.
 #[cycle(expression)]
 pub fn index(alloc: Global, tokens: &[Token]) -> Result<(Vec<Expr>, &[Token]), Refusal>
-    ensures ok { IfOk result (λ x. Reads (another_index none) tokens.now (phrases x.0.items) x.1.now) }
+    ensures ok { IfOk result (λ x. Reads (another_index none) tokens.now (phrases x.0.items)
+        x.1.now) }
     ensures shorter { IfOk result (λ x. length x.1.now ≤ length tokens.now) }
     ensures err { IfErr result (λ e. Fails (another_index none) tokens.now e) }
 {

@@ -57,7 +57,8 @@ fn last_tokens(tokens: &[Token], left: usize) -> &[Token]
 fn within(alloc: Global, tokens: &[Token], end: Pos) -> Result<List<Entry>, SourceRefusal>
     requires { IsWithin at_rest (symbols tokens.now) }
     ensures found { IfOk result (λ list. Derives (symbols tokens.now) (map entry_tree list)) }
-    ensures only { (entries : List EntryTree) → Derives (symbols tokens.now) entries → IsOnlyList entries result }
+    ensures only { (entries : List EntryTree) → Derives (symbols tokens.now) entries
+        → IsOnlyList entries result }
     ensures first { IfErr result (λ e. IsFaultIn tokens.now end e) }
 {
     match text(alloc, tokens) {
@@ -126,7 +127,8 @@ fn first_fault(
 fn entries(alloc: Global, tokens: &[Token], end: Pos) -> Result<List<Entry>, SourceRefusal>
     ensures found { IfOk result (λ list. Derives (symbols tokens.now) (map entry_tree list)) }
     ensures within { IfOk result (λ _. IsWithin at_rest (symbols tokens.now)) }
-    ensures only { (entries : List EntryTree) → Derives (symbols tokens.now) entries → IsWithin at_rest (symbols tokens.now) → IsOnlyList entries result }
+    ensures only { (entries : List EntryTree) → Derives (symbols tokens.now) entries
+        → IsWithin at_rest (symbols tokens.now) → IsOnlyList entries result }
     ensures first { IfErr result (λ e. IsFaultIn tokens.now end e) }
 {
     match first_past(tokens) {
@@ -141,7 +143,8 @@ pub fn read(alloc: Global, text: &[u8]) -> Result<Program, SourceRefusal>
     ensures found { IfOk result (λ program. Spells text.now (program_tree program)) }
     ensures short { IfOk result (λ _. length text.now ≤ 1048576) }
     // What is spelled so is read, unless memory runs out.
-    ensures only { length text.now ≤ 1048576 → (program : ProgramTree) → Spells text.now program → IsOnly program result }
+    ensures only { length text.now ≤ 1048576 → (program : ProgramTree) → Spells text.now program
+        → IsOnly program result }
     // A longer text is refused as a whole, and any other at its first fault.
     ensures long { 1048576 < length text.now → result ≡ Err too_long }
     ensures first { IfErr result (λ e. IsRefusal text.now e) }

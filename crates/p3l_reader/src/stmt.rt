@@ -25,7 +25,8 @@ fn target(alloc: Global, tokens: &[Token]) -> Result<(Target, &[Token]), Refusal
 
 /// An assignment up to a mark, and what follows the mark.
 fn setting(alloc: Global, tokens: &[Token], mark: Mark) -> Result<(Target, Expr, &[Token]), Refusal>
-    ensures ok { IfOk result (λ x. Sets mark tokens.now x.0.at (phrases x.0.index.items) (phrase x.1) x.2.now) }
+    ensures ok { IfOk result (λ x. Sets mark tokens.now x.0.at (phrases x.0.index.items)
+        (phrase x.1) x.2.now) }
     ensures shorter { IfOk result (λ x. length x.2.now < length tokens.now) }
     ensures err { IfErr result (λ e. FailsSetting mark tokens.now e) }
 {
@@ -140,7 +141,8 @@ fn next_stmt(alloc: Global, tokens: &[Token]) -> Result<Option<(Stmt, &[Token])>
 /// Statements, as many as there are.
 #[cycle(statement)]
 pub fn stmts(alloc: Global, tokens: &[Token]) -> Result<(Vec<Stmt>, &[Token]), Refusal>
-    ensures ok { IfOk result (λ x. Reads (another_stmt done) tokens.now (statements x.0.items) x.1.now) }
+    ensures ok { IfOk result (λ x. Reads (another_stmt done) tokens.now (statements x.0.items)
+        x.1.now) }
     ensures shorter { IfOk result (λ x. length x.1.now ≤ length tokens.now) }
     ensures err { IfErr result (λ e. Fails (another_stmt done) tokens.now e) }
 {

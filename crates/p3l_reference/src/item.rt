@@ -63,7 +63,8 @@ fn next_outcome<U: Units>(
     requires served { U.tree units.now ≡ tree.now }
     requires there { node < length tree.now.nodes }
     requires fits { HasLength (node_at tree.now node).ins outcome }
-    ensures { IfOk result (λ next. next ≡ on_value (item tree.now (U.leaf units.now) node) outcome) }
+    ensures { IfOk result (λ next. next
+        ≡ on_value (item tree.now (U.leaf units.now) node) outcome) }
 {
     match outcome {
         Outcome::Value(words) => item_outcome(alloc, tree, units, node, &words),
@@ -85,7 +86,8 @@ fn stages_outcome<U: Units>(
     requires chain { IsChain tree.now node.now.ins node.now.outs node.now.parts }
     requires preorder { All (λ part. slice_index node.now.parts 0 ≤ part) node.now.parts }
     requires fits { length words.now ≡ node.now.ins }
-    ensures { IfOk result (λ outcome. outcome ≡ in_order (item tree.now (U.leaf units.now)) node.now.parts (Value words.now)) }
+    ensures { IfOk result (λ outcome. outcome
+        ≡ in_order (item tree.now (U.leaf units.now)) node.now.parts (Value words.now)) }
 {
     let mut outcome = Outcome::Value(copied(alloc, words)?);
     for stage in node.parts.as_slice() {
@@ -107,8 +109,10 @@ fn map_outcome<U: Units>(
     requires lawful { IsLawfulTree tree.now }
     requires served { U.tree units.now ≡ tree.now }
     requires there { part < length tree.now.nodes }
-    requires cuts { IsLawfulCut cut.now (length words.now) (token_size cut.now.outs) (node_at tree.now part).ins (node_at tree.now part).outs }
-    ensures { IfOk result (λ outcome. outcome ≡ mapped cut.now (item tree.now (U.leaf units.now) part) words.now) }
+    requires cuts { IsLawfulCut cut.now (length words.now) (token_size cut.now.outs)
+        (node_at tree.now part).ins (node_at tree.now part).outs }
+    ensures { IfOk result (λ outcome. outcome
+        ≡ mapped cut.now (item tree.now (U.leaf units.now) part) words.now) }
 {
     let mut results = List::new(alloc);
     for e in 0..cut.first as u64 * cut.second as u64 {
@@ -135,8 +139,11 @@ fn fold_outcome<U: Units>(
     requires there { operator < length tree.now.nodes }
     requires takes_two { (node_at tree.now operator).ins ≡ 2 * (node_at tree.now operator).outs }
     requires some { 1 ≤ length elements.now }
-    requires sized { All (λ element. length element ≡ (node_at tree.now operator).outs) elements.now }
-    ensures folded { IfOk result (λ outcome. outcome ≡ tree_fold (item tree.now (U.leaf units.now) operator) (map (λ element. Value element) elements.now)) }
+    requires sized { All (λ element. length element
+        ≡ (node_at tree.now operator).outs) elements.now }
+    ensures folded { IfOk result (λ outcome. outcome
+        ≡ tree_fold (item tree.now (U.leaf units.now) operator)
+        (map (λ element. Value element) elements.now)) }
     ensures sized { IfOk result (λ outcome. HasLength (node_at tree.now operator).outs outcome) }
 {
     if elements.len() == 1 {
@@ -161,10 +168,14 @@ fn loop_outcome<U: Units>(
 ) -> Result<Outcome, NoMemory>
     requires lawful { IsLawfulTree tree.now }
     requires served { U.tree units.now ≡ tree.now }
-    requires parts { AreLoopParts tree.now node.now.ins node.now.outs (slice_index node.now.parts 0) (slice_index node.now.parts 1) }
+    requires parts { AreLoopParts tree.now node.now.ins node.now.outs (slice_index node.now.parts 0)
+        (slice_index node.now.parts 1) }
     requires preorder { slice_index node.now.parts 0 ≤ slice_index node.now.parts 1 }
     requires fits { length words.now ≡ node.now.ins }
-    ensures { IfOk result (λ outcome. outcome ≡ turned (item tree.now (U.leaf units.now) (slice_index node.now.parts 0)) (item tree.now (U.leaf units.now) (slice_index node.now.parts 1)) (turns_spent node.now.«module») turns words.now) }
+    ensures { IfOk result (λ outcome. outcome
+        ≡ turned (item tree.now (U.leaf units.now) (slice_index node.now.parts 0))
+        (item tree.now (U.leaf units.now) (slice_index node.now.parts 1))
+        (turns_spent node.now.«module») turns words.now) }
 {
     let mut state = copied(alloc, words)?;
     for _turn in 0..turns {

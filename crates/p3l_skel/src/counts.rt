@@ -73,8 +73,12 @@ pub fn outside_parts(node: &Node) -> &[u32]
 /// The place after a node's own number in the counts, from a place on; none where the number is
 /// wanting or not lawful.
 fn after_own(tree: &Tree, number: u32, counts: &[u32], from: usize) -> Option<usize>
-    ensures ok { IfSome result (λ next. TakesLawful tree.now (own_counted (node_at tree.now number).form number) (drop from counts.now) (drop next counts.now)) }
-    ensures none { IfNone result ((rest : List ℕ) → ¬ TakesLawful tree.now (own_counted (node_at tree.now number).form number) (drop from counts.now) rest) }
+    ensures ok { IfSome result (λ next.
+        TakesLawful tree.now (own_counted (node_at tree.now number).form number)
+        (drop from counts.now) (drop next counts.now)) }
+    ensures none { IfNone result ((rest : List ℕ)
+        → ¬ TakesLawful tree.now (own_counted (node_at tree.now number).form number)
+        (drop from counts.now) rest) }
 {
     let Some(node) = tree.node(number) else {
         return Some(from);
@@ -94,8 +98,10 @@ fn after_own(tree: &Tree, number: u32, counts: &[u32], from: usize) -> Option<us
 /// The place after the counts of a node outside units and of the nodes below it, from a place on;
 /// none where one is wanting or not lawful.
 fn after(tree: &Tree, levels: u32, number: u32, counts: &[u32], from: usize) -> Option<usize>
-    ensures ok { IfSome result (λ next. TakesLawful tree.now (counted_from tree.now levels number) (drop from counts.now) (drop next counts.now)) }
-    ensures none { IfNone result ((rest : List ℕ) → ¬ TakesLawful tree.now (counted_from tree.now levels number) (drop from counts.now) rest) }
+    ensures ok { IfSome result (λ next. TakesLawful tree.now (counted_from tree.now levels number)
+        (drop from counts.now) (drop next counts.now)) }
+    ensures none { IfNone result ((rest : List ℕ)
+        → ¬ TakesLawful tree.now (counted_from tree.now levels number) (drop from counts.now) rest) }
 {
     let Some(node) = tree.node(number) else {
         return Some(from);

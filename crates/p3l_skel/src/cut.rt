@@ -129,7 +129,8 @@ fn second_len(dims: &[Dim]) -> usize
 /// Where the arrays end that follow one another from word 0 on without gaps.
 fn arrays_end(slices: &[Slice]) -> Option<u64>
     requires { All HasSizes slices.now }
-    ensures ok { IfSome result (λ end. FollowOneAnother 0 slices.now × (end ≡ token_size slices.now)) }
+    ensures ok { IfSome result (λ end. FollowOneAnother 0 slices.now
+        × (end ≡ token_size slices.now)) }
     ensures none { IfNone result (¬ FollowOneAnother 0 slices.now) }
 {
     let mut end: u64 = 0;
@@ -194,7 +195,9 @@ fn second_stands(slices: &[Slice], times: usize) -> bool
 
 /// Whether First and Second stand at most once in each slice.
 fn free_at_most_once(slices: &[Slice]) -> bool
-    ensures { IsTrue result ↔ (All (λ slice. first_count slice.dims ≤ 1) slices.now × All (λ slice. second_count slice.dims ≤ 1) slices.now) }
+    ensures { IsTrue result
+        ↔ (All (λ slice. first_count slice.dims ≤ 1) slices.now
+        × All (λ slice. second_count slice.dims ≤ 1) slices.now) }
 {
     slices
         .iter()

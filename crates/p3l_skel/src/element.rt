@@ -15,7 +15,8 @@ pub fn gather(alloc: Global, cut: &Cut, words: &Words, element: u64) -> Result<W
     requires there { element < element_count cut.now }
     requires sizes { All (HasFreeSizes cut.now.first cut.now.second) cut.now.ins }
     requires within { All (λ (slice : Slice). LiesWithin slice (length words.now)) cut.now.ins }
-    ensures { IfOk result (λ gathered. gathered ≡ element_words cut.now.ins cut.now.second words.now element) }
+    ensures { IfOk result (λ gathered. gathered
+        ≡ element_words cut.now.ins cut.now.second words.now element) }
 {
     prove!(element / (cut.second as u64) < cut.first as u64);
     let first = (element / cut.second as u64) as u32;

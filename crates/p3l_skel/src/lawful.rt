@@ -141,7 +141,8 @@ fn both_parts(node: &Node) -> Option<(u32, u32)>
 
 /// Whether the part of a farm fits it.
 fn is_lawful_farm(tree: &Tree, node: &Node) -> bool
-    ensures { IsTrue result ↔ HasOnePart (λ part. HasWords tree.now part node.now.ins node.now.outs) node.now.parts }
+    ensures { IsTrue result
+        ↔ HasOnePart (λ part. HasWords tree.now part node.now.ins node.now.outs) node.now.parts }
 {
     match only_part(node) {
         Some(part) => has_words(tree, part, node.ins, node.outs),
@@ -151,7 +152,8 @@ fn is_lawful_farm(tree: &Tree, node: &Node) -> bool
 
 /// Whether the cut and the part of a map fit it.
 fn is_lawful_map(tree: &Tree, cut: &Cut, node: &Node) -> bool
-    ensures { IsTrue result ↔ HasOnePart (IsLawfulMap tree.now cut.now node.now.ins node.now.outs) node.now.parts }
+    ensures { IsTrue result
+        ↔ HasOnePart (IsLawfulMap tree.now cut.now node.now.ins node.now.outs) node.now.parts }
 {
     match only_part(node) {
         Some(part) => is_map_part(tree, cut, node, part),
@@ -173,7 +175,8 @@ fn is_map_part(tree: &Tree, cut: &Cut, node: &Node, part: u32) -> bool
 
 /// Whether the numbers and the part of a reduce fit it.
 fn is_lawful_reduce(tree: &Tree, len: u32, elem: u32, node: &Node) -> bool
-    ensures { IsTrue result ↔ HasOnePart (IsLawfulReduce tree.now len elem node.now.ins node.now.outs) node.now.parts }
+    ensures { IsTrue result
+        ↔ HasOnePart (IsLawfulReduce tree.now len elem node.now.ins node.now.outs) node.now.parts }
 {
     match only_part(node) {
         Some(part) => is_reduce_part(tree, len, elem, node, part),
@@ -203,7 +206,9 @@ fn is_operator(tree: &Tree, elem: u32, part: u32) -> bool
 
 /// Whether the numbers and the parts of a loop fit it.
 fn is_lawful_loop(tree: &Tree, turns: u32, tokens: u32, node: &Node) -> bool
-    ensures { IsTrue result ↔ HasTwoParts (IsLawfulLoop tree.now turns tokens node.now.ins node.now.outs) node.now.parts }
+    ensures { IsTrue result
+        ↔ HasTwoParts (IsLawfulLoop tree.now turns tokens node.now.ins node.now.outs)
+        node.now.parts }
 {
     match both_parts(node) {
         Some((body, condition)) => has_loop_limits(turns, tokens)
@@ -231,7 +236,8 @@ fn are_loop_parts(tree: &Tree, node: &Node, body: u32, condition: u32) -> bool
 
 /// Whether the parts of a node fit it.
 fn is_lawful_form(tree: &Tree, node: &Node) -> bool
-    ensures { IsTrue result ↔ IsLawfulForm tree.now node.now.form node.now.ins node.now.outs node.now.parts }
+    ensures { IsTrue result
+        ↔ IsLawfulForm tree.now node.now.form node.now.ins node.now.outs node.now.parts }
 {
     let parts = node.parts.as_slice();
     match &node.form {
@@ -247,7 +253,9 @@ fn is_lawful_form(tree: &Tree, node: &Node) -> bool
 
 /// Whether a node has parts that lead from its ins to its outs.
 fn is_filled_chain(tree: &Tree, node: &Node) -> bool
-    ensures { IsTrue result ↔ ((1 ≤ length node.now.parts) × IsChain tree.now node.now.ins node.now.outs node.now.parts) }
+    ensures { IsTrue result
+        ↔ ((1 ≤ length node.now.parts)
+        × IsChain tree.now node.now.ins node.now.outs node.now.parts) }
 {
     !node.parts.is_empty() && is_chain(tree, node.ins, node.outs, node.parts.as_slice())
 }

@@ -20,7 +20,8 @@ pub fn copied(alloc: Global, words: &Words) -> Result<Words, NoMemory>
 /// What an operator is to be run on, of what the two halves of a fold came to: the words of the
 /// left followed by those of the right, or the left trap, else the right one.
 pub fn paired(alloc: Global, left: Outcome, right: Outcome) -> Result<Outcome, NoMemory>
-    ensures { IfOk result (λ both. (operator : List ℤ → Outcome) → on_value operator both ≡ combined operator left right) }
+    ensures { IfOk result (λ both. (operator : List ℤ → Outcome)
+        → on_value operator both ≡ combined operator left right) }
 {
     match (left, right) {
         (Outcome::Trapped(trap), _) => Ok(Outcome::Trapped(trap)),
@@ -51,7 +52,8 @@ pub fn rescue(
     node: &Node,
     outcome: Outcome,
 ) -> Result<Outcome, NoMemory>
-    ensures { IfOk result (λ kept. kept ≡ rescued (rescue_of tree.now node.now.«module») node.now.outs outcome) }
+    ensures { IfOk result (λ kept. kept
+        ≡ rescued (rescue_of tree.now node.now.«module») node.now.outs outcome) }
 {
     match outcome {
         Outcome::Value(words) => Ok(Outcome::Value(words)),

@@ -27,7 +27,8 @@ pub trait Units {
     fn run(&self, alloc: Global, node: u32, words: &Words) -> Result<Outcome, NoMemory>
         requires sequential { IsUnit (tree self.now) node }
         requires fits { HasFittingLength (tree self.now) node (length words.now) }
-        ensures { IfOk result (λ outcome. outcome ≡ item (tree self.now) (leaf self.now) node words.now) };
+        ensures { IfOk result (λ outcome. outcome
+            ≡ item (tree self.now) (leaf self.now) node words.now) };
 
     /// A value that a `seq` module gives has the out words of the module's nodes.
     ghost gives_outs: { (units : Self) → GivesOuts (tree units) (leaf units) };

@@ -110,7 +110,8 @@ fn runs_over(form: &Form, inner: u64) -> u64
 
 /// The firings of a node for one item, with the most segments, as far as they count.
 fn firings(tree: &Tree, joining: Joining, levels: u32, number: u32) -> u64
-    ensures { result ≡ capped (firings_by (reduce_firings joining) tree.now (segments_at tree.now) levels number) }
+    ensures { result
+        ≡ capped (firings_by (reduce_firings joining) tree.now (segments_at tree.now) levels number) }
 {
     if levels == 0 {
         return 1;

@@ -90,7 +90,8 @@ fn stages_outcome(
     requires units { All (IsUnit tree.now) node.now.parts }
     requires preorder { All (λ part. slice_index node.now.parts 0 ≤ part) node.now.parts }
     requires fits { length words.now ≡ node.now.ins }
-    ensures { IfOk result (λ outcome. outcome ≡ in_order (item tree.now (leaf table.now)) node.now.parts (Value words.now)) }
+    ensures { IfOk result (λ outcome. outcome
+        ≡ in_order (item tree.now (leaf table.now)) node.now.parts (Value words.now)) }
 {
     let mut outcome = Outcome::Value(copied(alloc, words)?);
     for stage in node.parts.as_slice() {
@@ -112,8 +113,10 @@ fn map_outcome(
     requires lawful { IsLawfulTree tree.now }
     requires served { table.now.tree ≡ tree.now }
     requires unit { IsUnit tree.now part }
-    requires cuts { IsLawfulCut cut.now (length words.now) (token_size cut.now.outs) (node_at tree.now part).ins (node_at tree.now part).outs }
-    ensures { IfOk result (λ outcome. outcome ≡ mapped cut.now (item tree.now (leaf table.now) part) words.now) }
+    requires cuts { IsLawfulCut cut.now (length words.now) (token_size cut.now.outs)
+        (node_at tree.now part).ins (node_at tree.now part).outs }
+    ensures { IfOk result (λ outcome. outcome
+        ≡ mapped cut.now (item tree.now (leaf table.now) part) words.now) }
 {
     let mut results = List::new(alloc);
     for e in 0..cut.first as u64 * cut.second as u64 {
@@ -140,8 +143,11 @@ fn fold_outcome(
     requires unit { IsUnit tree.now operator }
     requires takes_two { (node_at tree.now operator).ins ≡ 2 * (node_at tree.now operator).outs }
     requires some { 1 ≤ length elements.now }
-    requires sized { All (λ element. length element ≡ (node_at tree.now operator).outs) elements.now }
-    ensures folded { IfOk result (λ outcome. outcome ≡ tree_fold (item tree.now (leaf table.now) operator) (map (λ element. Value element) elements.now)) }
+    requires sized { All (λ element. length element
+        ≡ (node_at tree.now operator).outs) elements.now }
+    ensures folded { IfOk result (λ outcome. outcome
+        ≡ tree_fold (item tree.now (leaf table.now) operator)
+        (map (λ element. Value element) elements.now)) }
     ensures sized { IfOk result (λ outcome. HasLength (node_at tree.now operator).outs outcome) }
 {
     if elements.len() == 1 {

@@ -65,7 +65,8 @@ impl<'t> UnitTable<'t> {
         requires there { node < length self.now.tree.nodes }
         requires form { (node_at self.now.tree node).form ≡ forms.Seq }
         requires fits { length words.now ≡ (node_at self.now.tree node).ins }
-        ensures { IfOk result (λ outcome. outcome ≡ leaf self.now (node_at self.now.tree node).«module» words.now) }
+        ensures { IfOk result (λ outcome. outcome
+            ≡ leaf self.now (node_at self.now.tree node).«module» words.now) }
     {
         let module = self.tree.nodes.as_slice()[node as usize].module;
         let place = self.places.as_slice()[module as usize];

@@ -53,7 +53,9 @@ fn both(valuation: &Valuation, op: BinOp, left: i64, right: &Expr) -> Result<i64
 #[cycle(meaning)]
 pub fn place(valuation: &Valuation, target: &Target) -> Result<usize, TrapKind>
     requires { HasSizes valuation.now }
-    ensures { result ≡ place_of valuation.now (phrases target.now.index.items) (sizes_of valuation.now target.now.at.name) 0 }
+    ensures { result
+        ≡ place_of valuation.now (phrases target.now.index.items)
+        (sizes_of valuation.now target.now.at.name) 0 }
 {
     let sizes = valuation.sizes(&target.at.name);
     let mut place = 0;

@@ -76,7 +76,8 @@ fn run_while(
     valuation: Valuation,
 ) -> Result<Valuation, Stop>
     requires { HasSizes valuation }
-    ensures run { Gives result (loop_of budget (phrase condition.now) (statements body.now) valuation) }
+    ensures run { Gives result (loop_of budget (phrase condition.now) (statements body.now)
+        valuation) }
     ensures sizes { IfOk result HasSizes }
 {
     let mut valuation = valuation;
@@ -101,7 +102,8 @@ fn run_for(
 ) -> Result<Valuation, Stop>
     requires { HasSizes valuation }
     ensures run { Gives result (loop_of budget (phrase condition.now)
-        (join (statements body.now) (assign next.now.at (phrases next.now.index.items) (phrase step.now) done)) valuation) }
+        (join (statements body.now)
+        (assign next.now.at (phrases next.now.index.items) (phrase step.now) done)) valuation) }
     ensures sizes { IfOk result HasSizes }
 {
     let mut valuation = valuation;
@@ -116,7 +118,8 @@ fn run_for(
 /// Whether a condition holds.
 fn holds(valuation: &Valuation, condition: &Expr) -> Result<bool, TrapKind>
     requires { HasSizes valuation.now }
-    ensures { result ≡ given (value_of valuation.now (phrase condition.now)) (λ word. Ok (holds word)) }
+    ensures { result
+        ≡ given (value_of valuation.now (phrase condition.now)) (λ word. Ok (holds word)) }
 {
     let word = value(valuation, condition)?;
     Ok(word != 0)
@@ -130,7 +133,8 @@ fn assigned(
     valuation: Valuation,
 ) -> Result<Valuation, Stop>
     requires { HasSizes valuation }
-    ensures run { Gives result (assigned target.now.at.name (phrases target.now.index.items) (phrase expr.now) valuation) }
+    ensures run { Gives result (assigned target.now.at.name (phrases target.now.index.items)
+        (phrase expr.now) valuation) }
     ensures sizes { IfOk result HasSizes }
 {
     let place = place(&valuation, target)?;
