@@ -14,6 +14,7 @@ use Rattle.p3l_load.specs.Load.{loaded_of}
 use Rattle.p3l_opts.specs.declared.command.Build.{Build}
 use Rattle.p3l_opts.specs.declared.command.Sched.{Sched}
 use Rattle.p3l_report.specs.declared.stats.Stats.{Stats}
+use Rattle.p3l_run.specs.declared.end.RunStats.{RunStats}
 use Rattle.p3l_report.specs.declared.verdict.Finish.{Finish}
 use Rattle.p3l_run.specs.Network.{Network, network}
 use Rattle.p3l_program.specs.Alike.{EveryImageHasItsProgramsNetwork, EveryImageRunsAsItsProgram}
@@ -132,7 +133,7 @@ module _ (w : World) (one another : Origin) (asked : Sched) (go : (n : Network) 
   status_so : (rest : List ℕ) (k : ℕ) → IsRunStatus w one asked rest k → IsRunStatus w another asked rest k
   status_so rest k h = record { n = h.n; s = h.s; has = record { network = go h.n h.has.network; schedule = h.has.schedule }; status_is = h.status_is }
 
-  emits_so : (trace : Option (List ℕ)) (numbers : Stats) → Emits w one asked trace numbers → Emits w another asked trace numbers
+  emits_so : (trace : Option (List ℕ)) (numbers : RunStats) → Emits w one asked trace numbers → Emits w another asked trace numbers
   emits_so trace numbers h = record {
     n = h.n;
     s = h.s;

@@ -22,6 +22,8 @@ use Rattle.p3l_program.specs.Origin.{Running}
 use Rattle.p3l_program.specs.Run.{Emits, EndsRun, shown}
 use Rattle.p3l_program.specs.Stage.{AllPass, FilesCause, IsRefusedBy, Stage, readable}
 use Rattle.p3l_program.specs.Top.{Promises}
+use Rattle.p3l_run.specs.declared.end.RunStats.{RunStats}
+use Rattle.p3l_program.specs.Verdict.{run_stats}
 use Rattle.p3l_program.specs.World.{Change, HasNoFault, HasRisen, IsUntouched, World}
 use Rattle.p3l_program.proofs.FirstSteps.{first_writer, kept_first, left_first}
 use Rattle.p3l_program.proofs.Lawful.{IsCalmStatus}
@@ -197,13 +199,13 @@ module _ (words : List Text) (w : World) (err : Change (List ℕ)) (n : ℕ) (a 
           | inr (inl want) ↦ absurd (let z : status.is_end status.no_memory ≡ true = ap status.is_end (sym want ∙ sym (ap status_of e.verdict_is) ∙ at) ∙ kind in cc)
         ]
 
-    recorded : (numbers : Stats) × Emits w run.origin run.schedule run.trace numbers
+    recorded : (numbers : RunStats) × Emits w run.origin run.schedule run.trace numbers
     recorded = (run_ended.ends.ran.stats, emits_of w run.origin run.schedule run.trace run.reported run_ended.finish run_ended.stats run_ended.ends)
 
     reported : run.reported ≡ true → (said : List ℕ) → err.old ≡ Some said → (HasRisen err → ⊥) → Reports w run said err.new
     reported asked said told calm =
         let e = run_ended in
-        let numbers : e.stats ≡ Some e.ends.ran.stats = e.ends.stats_are ∙ ap (λ b. shown b e.ends.ran.stats) asked in
+        let numbers : e.stats ≡ Some (run_stats e.ends.ran.stats) = e.ends.stats_are ∙ ap (λ b. shown b (run_stats e.ends.ran.stats)) asked in
         let line : err.new ≡ Some (said ++ lines_of (verdict.Ended e.finish e.stats)) = a.says said told calm ∙ ap (λ v. Some (said ++ lines_of v)) e.verdict_is in
         record {
           numbers = e.ends.ran.stats;

@@ -4,32 +4,26 @@ use Rattle.p3l_gen.specs.Texts.{costs_text, program_text, stream_text}
 use Rattle.p3l_report.proofs.Statuses as statuses
 use Rattle.p3l_report.specs.declared.stats.Stats.{Stats}
 use Rattle.p3l_report.specs.declared.verdict.Finish.{Finish}
-use Rattle.p3l_report.specs.declared.verdict.Finish.TheVariants as finish
 use Rattle.p3l_report.specs.Status as status
 use Rattle.p3l_report.specs.Verdict.{finish_status}
 use Rattle.p3l_stream.specs.Items.{items_of}
+use Rattle.p3l_run.specs.declared.end.RunEnd.{RunEnd}
+use Rattle.p3l_run.specs.declared.end.RunEnd.TheVariants as ends
 use Rattle.p3l_run.specs.Network.{course_of, width_of}
 use Rattle.p3l_program.specs.Generated.{EndsGen, Gen, GensWhole, IsGenerated, gen_behavior, gen_capacity, saves_of, saves_with}
 use Rattle.p3l_program.specs.Plan.{network_of}
 use Rattle.p3l_program.specs.Saved.{names_of}
 use Rattle.p3l_program.specs.Stage.{Stage, readable}
+use Rattle.p3l_program.specs.Verdict.{run_finish}
 use Rattle.p3l_program.specs.World.{World}
-use Rattle.p3l_program.proofs.EndSteps.{IsStream, end_is, put_told, stream_is}
+use Rattle.p3l_program.proofs.EndSteps.{put_told, stream_is}
 use Rattle.p3l_program.proofs.Lawful.{Lawful}
 use Rattle.p3l_program.proofs.SeenSteps.{stream_end, text_ends}
 
--- a run of what is generated has no other end than a run's
-gen_stream : (g : Gen) (f : Finish) (text : List ℕ) (k : ℕ) → IsGenerated g f text → finish_status f ≡ k → (k ≡ status.stopped → ⊥) → (k ≡ status.trap → ⊥) → IsStream f k
-gen_stream g f text k is h stopped trap =
-    let n = network_of is.r is.counts gen_capacity in
-    let seen = items_of (width_of n) (stream_text g.number g.items) in
-    let other = end_is n (course_of n is.s seen.items) seen.ending f is.ran.ends in
-    stream_is f k h other.0 other.1 stopped trap
-
--- and its items don't end with a fault of reading
-gen_read : (g : Gen) (f : Finish) (text : List ℕ) → IsGenerated g f text → finish_status f ≡ status.read → ⊥
+-- the items of a run of what is generated don't end with a fault of reading
+gen_read : (g : Gen) (f : RunEnd) (text : List ℕ) → IsGenerated g f text → finish_status (run_finish f) ≡ status.read → ⊥
 gen_read g f text is h =
-    let st = gen_stream g f text status.read is h (λ e. absurd (omega arith)) (λ e. absurd (omega arith)) in
+    let st = stream_is f status.read h (λ e. absurd (omega arith)) (λ e. absurd (omega arith)) in
     let n = network_of is.r is.counts gen_capacity in
     let text = stream_text g.number g.items in
     let seen = items_of (width_of n) text in
@@ -38,10 +32,10 @@ gen_read g f text is h =
 -- one of status 0 is whole
 gen_whole : (w : World) (g : Gen) (rest taken : List ℕ) (f : Finish) (stats : Option Stats) → w.input.old ≡ Some rest → w.out.old ≡ Some taken → finish_status f ≡ status.done → EndsGen w g f stats → GensWhole w g rest taken
 gen_whole w g rest taken f stats input out h e =
-    let st = gen_stream g f e.text status.done e.is h (λ z. absurd (omega arith)) (λ z. absurd (omega arith)) in
+    let st = stream_is e.end status.done (sym (ap finish_status e.finish_is) ∙ h) (λ z. absurd (omega arith)) (λ z. absurd (omega arith)) in
     record {
       text = e.text;
-      is = subst (λ k. IsGenerated g k e.text) (st.finish_is ∙ ap finish.Stream (statuses.done_is st.e st.status_is)) e.is;
+      is = subst (λ k. IsGenerated g k e.text) (st.finish_is ∙ ap ends.Stream (statuses.done_is st.e st.status_is)) e.is;
       rest_stays = e.input.told ∙ input;
       taken_is = put_told w.out.old w.out.new taken e.text out e.put;
       saved = e.saved;
@@ -56,13 +50,13 @@ pub gen_lawful : (g : Gen) → Lawful (gen_behavior g)
 gen_lawful g = record {
   begun = λ w f stats e. record {
     text = e.text;
-    is = (f, e.is);
+    is = (e.end, e.is);
     begun = record { written = e.text; more = []; put = e.put; text_is = append-nil e.text };
     input = e.input;
   };
   whole = λ w rest taken f stats input out h e. gen_whole w g rest taken f stats input out h e;
-  status_due = λ w rest f stats input calm e. record { f = f; text = e.text; is = e.is; status_is = refl };
-  read = λ w f stats e h. absurd (gen_read g f e.text e.is h);
+  status_due = λ w rest f stats input calm e. record { end = e.end; text = e.text; is = e.is; status_is = ap finish_status e.finish_is };
+  read = λ w f stats e h. absurd (gen_read g e.end e.text e.is (sym (ap finish_status e.finish_is) ∙ h));
   calm = λ w f stats e h. e.input.calm;
   writer = λ w h. absurd h;
   first_written = λ none. saves_none g.prefix (program_text g.number) costs_text (stream_text g.number g.items) none;

@@ -13,8 +13,8 @@ use Rattle.p3l_alloc.specs.Chosen.{IsShort}
 use Rattle.p3l_opts.specs.Command.{HasItems}
 use Rattle.p3l_report.specs.declared.cost_fault.CostFault.{CostFault}
 use Rattle.p3l_report.specs.declared.cost_fault.CostFault.TheVariants as fault
-use Rattle.p3l_report.specs.declared.verdict.Finish.{Finish}
-use Rattle.p3l_report.specs.declared.verdict.Finish.TheVariants as finish
+use Rattle.p3l_run.specs.declared.end.RunEnd.{RunEnd}
+use Rattle.p3l_run.specs.declared.end.RunEnd.TheVariants as ends
 use Rattle.p3l_report.specs.declared.verdict.Refusal.TheVariants as refusal
 use Rattle.p3l_report.specs.declared.verdict.Verdict.{Verdict}
 use Rattle.p3l_report.specs.declared.verdict.Verdict.TheVariants as verdict
@@ -104,17 +104,15 @@ items_few None items h = omega arith
 items_few (Some text) items h = h.most_is
 
 -- only the end of a stream is whole
-whole_is : (f : Finish) → comes_whole f ≡ true → f ≡ finish.Stream ending.End
-whole_is (finish.Stream ending.End) h = refl
-whole_is (finish.Stream (ending.BadWord line)) h = absurd cc
-whole_is (finish.Stream (ending.WrongCount line had)) h = absurd cc
-whole_is (finish.Stream (ending.OutOfRange line)) h = absurd cc
-whole_is (finish.Stream ending.ReadFault) h = absurd cc
-whole_is (finish.Stream ending.TooLong) h = absurd cc
-whole_is finish.Done h = absurd cc
-whole_is (finish.Stopped fired idle) h = absurd cc
-whole_is (finish.Trapped item kind home) h = absurd cc
-whole_is (finish.Differs line) h = absurd cc
+whole_is : (f : RunEnd) → comes_whole f ≡ true → f ≡ ends.Stream ending.End
+whole_is (ends.Stream ending.End) h = refl
+whole_is (ends.Stream (ending.BadWord line)) h = absurd cc
+whole_is (ends.Stream (ending.WrongCount line had)) h = absurd cc
+whole_is (ends.Stream (ending.OutOfRange line)) h = absurd cc
+whole_is (ends.Stream ending.ReadFault) h = absurd cc
+whole_is (ends.Stream ending.TooLong) h = absurd cc
+whole_is (ends.Stopped fired idle) h = absurd cc
+whole_is (ends.Trapped item kind home) h = absurd cc
 
 -- a run on a source that tells a text below the limit, and never fails, is one on all items of the text
 pub ran_on : (n : Network) (s : Schedule) (text : List ℕ) (rest left taken taken' : Option (List ℕ)) (ran : Ran) → rest ≡ Some text → length text < 2 ^ 36 → Finishes n s keep.Nothing rest left 0 0 taken taken' ran → IsRanOn n s text ran.finish ran.stats ran.sum
@@ -140,12 +138,12 @@ module _ (out : Change (List ℕ)) (g : Gen) where
   pub gen_refused : (v : Verdict) → IsStill out → AreNotLoaded (program_text g.number) costs_text g.processors v → IsGenRun out g v
   gen_refused v untouched h = λ files input calm saved still. not_loaded (world files input out) (gen_stages g) (EndsGen (world files input out) g) (BeginsText (world files input out) (IsGenText g)) ⊥ v still untouched (h files calm)
 
-  module _ (f : Finish) (text : List ℕ) (is : IsGenerated g f text) (passed : (files : Change Held) → AllPass files (gen_stages g)) where
+  module _ (f : RunEnd) (text : List ℕ) (is : IsGenerated g f text) (passed : (files : Change Held) → AllPass files (gen_stages g)) where
     pub gen_told : (v : Verdict) → IsToldOf out f text v → IsGenRun out g v
     gen_told (verdict.Refused refused) h = absurd h
     gen_told (verdict.Ended f' stats) h = λ files input calm saved still. record {
       passed = passed files;
-      ends = record { stats_are = h.1; text = text; is = subst (λ k. IsGenerated g k text) (sym h.0) is; put = h.2; input = still; saved = saved };
+      ends = record { end = f; finish_is = h.0; stats_are = h.1; text = text; is = is; put = h.2; input = still; saved = saved };
       files = calm;
       out = h.3;
     }

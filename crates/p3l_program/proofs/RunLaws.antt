@@ -7,7 +7,6 @@ use Rattle.p3l_opts.specs.declared.command.Sched.{Sched}
 use Rattle.p3l_report.proofs.Statuses as statuses
 use Rattle.p3l_report.specs.declared.stats.Stats.{Stats}
 use Rattle.p3l_report.specs.declared.verdict.Finish.{Finish}
-use Rattle.p3l_report.specs.declared.verdict.Finish.TheVariants as finish
 use Rattle.p3l_report.specs.Status as status
 use Rattle.p3l_report.specs.Verdict.{ending_status, finish_status}
 use Rattle.p3l_stream.specs.declared.items.Ending.{Ending}
@@ -28,40 +27,30 @@ use Rattle.p3l_program.specs.Origin.{Origin, Running}
 use Rattle.p3l_program.specs.Recorded.{IsRecorded, IsRecordOf}
 use Rattle.p3l_program.specs.Run.{Emits, EndsRun, RunsWhole, UnsavedRun, run_behavior}
 use Rattle.p3l_program.specs.Stage.{Stage, readable, run_stages}
+use Rattle.p3l_program.specs.Verdict.{run_finish}
 use Rattle.p3l_program.specs.World.{Change, World}
-use Rattle.p3l_program.proofs.EndSteps.{IsStream, end_is, ended_told, put_told, stream_is}
+use Rattle.p3l_program.proofs.EndSteps.{IsStream, ended_told, put_told, stream_is}
 use Rattle.p3l_program.proofs.Lawful.{Lawful}
 use Rattle.p3l_program.proofs.RunSteps.{finishes_starts}
 use Rattle.p3l_program.proofs.SeenSteps.{seen_status, still_of}
 
-module _ (n : Network) (s : Schedule) (keeping : Keeping) (rest left : Option (List ℕ)) (before now : ℕ) (taken taken' : Option (List ℕ)) (end : Ran) (f : Finish) (is : f ≡ end.finish)
+module _ (n : Network) (s : Schedule) (keeping : Keeping) (rest left : Option (List ℕ)) (before now : ℕ) (taken taken' : Option (List ℕ)) (end : Ran)
     (ran : Finishes n s keeping rest left before now taken taken' end) where
-  not_other : (f ≡ finish.Done → ⊥) × ((line : ℕ) → f ≡ finish.Differs line → ⊥)
-  not_other = end_is n (course_of n s (ran.items ++ [])) (some_ending ran.close) f (is ∙ ran.ends [] (nothing_comes n ran.close) (some_ending ran.close) (may_end ran.close))
-    where
-      some_ending : Option Ending → Ending
-      some_ending None = ending.End
-      some_ending (Some e) = e
+  run_stream : (k : ℕ) → finish_status (run_finish end.finish) ≡ k → (k ≢ status.stopped) → (k ≢ status.trap) → IsStream end.finish k
+  run_stream k h stopped trap = stream_is end.finish k h stopped trap
 
-      may_end : (close : Option Ending) → MayEnd close (some_ending close)
-      may_end None = tt
-      may_end (Some e) = refl
+  closed_by : (k : ℕ) → (st : IsStream end.finish k) → ran.close ≡ Some st.e
+  closed_by k st = ran.closed st.e st.finish_is
 
-  run_stream : (k : ℕ) → finish_status f ≡ k → (k ≡ status.stopped → ⊥) → (k ≡ status.trap → ⊥) → IsStream f k
-  run_stream k h stopped trap = stream_is f k h not_other.0 not_other.1 stopped trap
-
-  closed_by : (k : ℕ) → (st : IsStream f k) → ran.close ≡ Some st.e
-  closed_by k st = ran.closed st.e (sym is ∙ st.finish_is)
-
-  run_cause : (k : ℕ) → (st : IsStream f k) → GivenCause (closed_so (Some st.e)) before now
+  run_cause : (k : ℕ) → (st : IsStream end.finish k) → GivenCause (closed_so (Some st.e)) before now
   run_cause k st = subst (λ c. GivenCause (closed_so c) before now) (closed_by k st) ran.gives.cause
 
-  pub run_read : finish_status f ≡ status.read → Rose before now
+  run_read : finish_status (run_finish end.finish) ≡ status.read → Rose before now
   run_read h =
       let st = run_stream status.read h (λ e. absurd (omega arith)) (λ e. absurd (omega arith)) in
       subst (λ e. GivenCause (closed_so (Some e)) before now) (statuses.read_is st.e st.status_is) (run_cause status.read st)
 
-  run_calm : (k : ℕ) → finish_status f ≡ k → (k ≡ status.stopped → ⊥) → (k ≡ status.trap → ⊥) → (k ≡ status.read → ⊥) → now ≡ before
+  run_calm : (k : ℕ) → finish_status (run_finish end.finish) ≡ k → (k ≢ status.stopped) → (k ≢ status.trap) → (k ≢ status.read) → now ≡ before
   run_calm k h stopped trap read = (let st = run_stream k h stopped trap in by st.e (λ e. read (sym st.status_is ∙ ap ending_status e)) (run_cause k st))
     where
       by : (e : Ending) → (e ≡ ending.ReadFault → ⊥) → GivenCause (closed_so (Some e)) before now → now ≡ before
@@ -83,15 +72,15 @@ run_whole : (w : World) (origin : Origin) (order : Sched) (trace : Option (List 
 run_whole w origin order trace rest taken reported finish stats input out h e =
     let f = e.finishes in
     let g = f.gives in
-    let st = run_stream e.n e.s _ _ _ _ _ _ _ e.ran finish e.finish_is f status.done h (λ z. absurd (omega arith)) (λ z. absurd (omega arith)) in
+    let st = run_stream e.n e.s _ _ _ _ _ _ _ e.ran f status.done (sym (ap finish_status e.finish_is) ∙ h) (λ z. absurd (omega arith)) (λ z. absurd (omega arith)) in
     let is_end : st.e ≡ ending.End = statuses.done_is st.e st.status_is in
-    let close : f.close ≡ Some ending.End = closed_by e.n e.s _ _ _ _ _ _ _ e.ran finish e.finish_is f status.done st ∙ ap Some is_end in
+    let close : f.close ≡ Some ending.End = closed_by e.n e.s _ _ _ _ _ _ _ e.ran f status.done st ∙ ap Some is_end in
     let closes : Closes (width_of e.n) f.stream g.bytes f.items (closed_so (Some ending.End)) = subst (λ c. Closes (width_of e.n) f.stream g.bytes f.items c) (g.closed_is ∙ ap closed_so close) g.given.closes in
     let told = ended_told w.input.old w.input.new rest g.bytes input g.read (g.at_end closes.0) in
     let all : items_of (width_of e.n) rest ≡ items_ended f.items ending.End = ap (items_of (width_of e.n)) (sym told.1) ∙ closes.1 in
     let may : MayEnd f.close ending.End = subst (λ c. MayEnd c ending.End) (sym close) refl in
     let ran = f.ran [] (nothing_comes e.n f.close) in
-    let still = still_of e.n (course_of e.n e.s (f.items ++ [])) ending.End st.e finish st.finish_is (e.finish_is ∙ f.ends [] (nothing_comes e.n f.close) ending.End may) in
+    let still = still_of e.n (course_of e.n e.s (f.items ++ [])) ending.End st.e e.ran.finish st.finish_is (f.ends [] (nothing_comes e.n f.close) ending.End may) in
     let items : f.items ++ [] ≡ (items_of (width_of e.n) rest).items = append-nil f.items ∙ sym (ap (λ i. i.items) all) in
     record {
       n = e.n;
@@ -134,8 +123,8 @@ run_lawful run = record {
     has = e.has;
     status_is = ap finish_status e.finish_is ∙ seen_status e.n e.s rest _ _ _ _ _ _ _ e.ran input calm.input e.finishes;
   };
-  read = λ w f stats e h. run_read e.n e.s _ _ _ _ _ _ _ e.ran f e.finish_is e.finishes h;
-  calm = λ w f stats e h. run_calm e.n e.s _ _ _ _ _ _ _ e.ran f e.finish_is e.finishes (finish_status f) refl h.1 h.2 h.3;
+  read = λ w f stats e h. run_read e.n e.s _ _ _ _ _ _ _ e.ran e.finishes (sym (ap finish_status e.finish_is) ∙ h);
+  calm = λ w f stats e h. run_calm e.n e.s _ _ _ _ _ _ _ e.ran e.finishes (finish_status f) (sym (ap finish_status e.finish_is)) h.1 h.2 h.3;
   writer = λ w h. named w run.origin run.schedule run.trace h;
   first_written = λ none. refl;
   reads_first = λ limit name after is. refl;

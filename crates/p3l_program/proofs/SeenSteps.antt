@@ -6,8 +6,8 @@ use Rattle.std.proofs.lemmas.Bool.{le-leb, lt-leb}
 use Rattle.std.proofs.lemmas.List.{take_all}
 use Rattle.std.proofs.lemmas.List.Elements.{recursion_from_All}
 use Rattle.p3l_io.specs.Causes.{Rose}
-use Rattle.p3l_report.specs.declared.verdict.Finish.{Finish}
-use Rattle.p3l_report.specs.declared.verdict.Finish.TheVariants as finish
+use Rattle.p3l_run.specs.declared.end.RunEnd.{RunEnd}
+use Rattle.p3l_run.specs.declared.end.RunEnd.TheVariants as finish
 use Rattle.p3l_report.specs.Verdict.{finish_status}
 use Rattle.p3l_run.specs.declared.keeping.Keeping.{Keeping}
 use Rattle.p3l_run.specs.declared.run.Ran.{Ran}
@@ -30,6 +30,7 @@ use Rattle.p3l_stream.specs.declared.line.Line.TheVariants as line
 use Rattle.p3l_stream.specs.Lines.{line_of, lines_of}
 use Rattle.p3l_stream.specs.Items.{items_of, items_of_lines, items_taken, put_line}
 use Rattle.p3l_stream.specs.Seen.{Seen}
+use Rattle.p3l_program.specs.Verdict.{run_finish}
 use Rattle.p3l_program.specs.Run.{run_status, seen_of, status_with, stop_of}
 
 -- what is seen of an input goes on from these items to this ending, as the stream may
@@ -160,10 +161,10 @@ seen_goes_on n rest (Some other) new before now close s items g told calm =
 
 -- so the status of a run on an input that tells what is left, where no fault came, is that of what is seen
 pub seen_status : (n : Network) (s : Schedule) (rest : List ℕ) (keeping : Keeping) (old new : Option (List ℕ)) (before now : ℕ) (taken taken' : Option (List ℕ)) (end : Ran) →
-    old ≡ Some rest → (Rose before now → ⊥) → Finishes n s keeping old new before now taken taken' end → finish_status end.finish ≡ run_status n s rest
+    old ≡ Some rest → (Rose before now → ⊥) → Finishes n s keeping old new before now taken taken' end → finish_status (run_finish end.finish) ≡ run_status n s rest
 seen_status n s rest keeping old new before now taken taken' end told calm f =
     let to = seen_goes_on n rest old new before now f.close f.stream f.items f.gives told calm in
-    ap finish_status (f.ends to.later to.may_come to.e to.may_end) ∙ ap (status_with n s) (sym to.seen)
+    ap (λ e. finish_status (run_finish e)) (f.ends to.later to.may_come to.e to.may_end) ∙ ap (status_with n s) (sym to.seen)
 
 -- below the limit all items of an input are seen
 pub seen_short : (width : ℕ) (rest : List ℕ) → length rest < input_limit → seen_of width rest ≡ items_of width rest
@@ -185,7 +186,7 @@ pub text_ends : (width : ℕ) (text : List ℕ) → (items_of width text).ending
 text_ends width text = lines_end width 1 (lines_of stop.End text)
 
 -- where a run ends as its stream does no process can fire
-pub still_of : (n : Network) (c : Course) (e close : Ending) (f : Finish) → f ≡ finish.Stream close → f ≡ finish_of n c e → goes_on n c ≡ false
+pub still_of : (n : Network) (c : Course) (e close : Ending) (f : RunEnd) → f ≡ finish.Stream close → f ≡ finish_of n c e → goes_on n c ≡ false
 still_of n c e close f stream is = by (goes_on n c) refl
   where
     by : (b : Bool) → goes_on n c ≡ b → goes_on n c ≡ false
@@ -193,7 +194,7 @@ still_of n c e close f stream is = by (goes_on n c) refl
     by true h = absurd (let z : finish_of n c e ≡ finish.Stopped c.fired c.idle = ap (λ b. cond b (finish.Stopped c.fired c.idle) (end_of n.tree (trap_of c.state.emitted) (length c.state.emitted) e)) h in let y = sym stream ∙ is ∙ z in cc)
 
 -- and its stream ended so
-pub stream_end : (n : Network) (c : Course) (close e : Ending) (f : Finish) → f ≡ finish_of n c close → f ≡ finish.Stream e → close ≡ e
+pub stream_end : (n : Network) (c : Course) (close e : Ending) (f : RunEnd) → f ≡ finish_of n c close → f ≡ finish.Stream e → close ≡ e
 stream_end n c close e f is stream = by (goes_on n c) (trap_of c.state.emitted) (sym is ∙ stream)
   where
     by : (b : Bool) (trap : Option Trap) → cond b (finish.Stopped c.fired c.idle) (end_of n.tree trap (length c.state.emitted) close) ≡ finish.Stream e → close ≡ e

@@ -4,6 +4,7 @@ use Rattle.p3l_io.specs.Told.{Held}
 use Rattle.p3l_opts.specs.declared.command.Build.{Build}
 use Rattle.p3l_opts.specs.declared.command.Sched.{Sched}
 use Rattle.p3l_report.specs.declared.stats.Stats.{Stats}
+use Rattle.p3l_run.specs.declared.end.RunStats.{RunStats}
 use Rattle.p3l_report.specs.declared.verdict.Finish.{Finish}
 use Rattle.p3l_run.specs.Network.{Network}
 use Rattle.p3l_program.specs.Compile.{IsImageOf}
@@ -27,7 +28,7 @@ pub record RunsAlike (w : World) (name : List ℕ) (build : Build) (asked : Sche
   pub over : RunsOver w (imaged name) asked ↔ RunsOver w (built build) asked
   pub whole : (trace : Option (List ℕ)) (rest taken : List ℕ) → RunsWhole w (imaged name) asked trace rest taken ↔ RunsWhole w (built build) asked trace rest taken
   pub status : (rest : List ℕ) (k : ℕ) → IsRunStatus w (imaged name) asked rest k ↔ IsRunStatus w (built build) asked rest k
-  pub emits : (trace : Option (List ℕ)) (numbers : Stats) → Emits w (imaged name) asked trace numbers ↔ Emits w (built build) asked trace numbers
+  pub emits : (trace : Option (List ℕ)) (numbers : RunStats) → Emits w (imaged name) asked trace numbers ↔ Emits w (built build) asked trace numbers
 
 -- where files hold a program and the image that was made of it, `exec` of the image is due what `run` of the program is
 abbrev pub EveryImageRunsAsItsProgram : Type 0

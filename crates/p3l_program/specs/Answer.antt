@@ -18,6 +18,8 @@ use Rattle.p3l_program.specs.Run.{Emits}
 use Rattle.p3l_program.specs.Saved.{AreSaved, KeepsBut, KeepsFirst}
 use Rattle.p3l_program.specs.Stage.{IsRefusedBy, Stage, readable}
 use Rattle.p3l_program.specs.File.{IsTooLong}
+use Rattle.p3l_run.specs.declared.end.RunStats.{RunStats}
+use Rattle.p3l_program.specs.Verdict.{run_stats}
 use Rattle.p3l_program.specs.World.{Change, HasRisen, IsStill, IsUntouched, World}
 use Rattle.p3l_program.specs.Origin.{Running}
 
@@ -137,7 +139,7 @@ pub record HasTooLong (words : List Text) (files : Option Held) : Type 0 where
 
 -- the line of the numbers comes first on the standard error, and they are those of the run
 pub record Reports (w : World) (run : Running) (said : List ℕ) (err : Option (List ℕ)) : Type 0 where
-  pub numbers : Stats
+  pub numbers : RunStats
   pub more : List ℕ
-  pub line : err ≡ Some (said ++ (stats_line numbers ++ more))
+  pub line : err ≡ Some (said ++ (stats_line (run_stats numbers) ++ more))
   pub emits : Emits w run.origin run.schedule run.trace numbers

@@ -11,10 +11,12 @@ use Rattle.p3l_opts.specs.declared.command.Sched.{Sched}
 use Rattle.p3l_opts.specs.declared.command.Sched.TheVariants as sched
 use Rattle.p3l_report.specs.declared.stats.Stats.{Stats}
 use Rattle.p3l_report.specs.declared.verdict.Finish.{Finish}
-use Rattle.p3l_report.specs.declared.verdict.Finish.TheVariants as finish
 use Rattle.p3l_report.specs.declared.verdict.Verdict.{Verdict}
 use Rattle.p3l_report.specs.declared.verdict.Verdict.TheVariants as verdict
 use Rattle.p3l_report.specs.Verdict.{finish_status}
+use Rattle.p3l_run.specs.declared.end.RunEnd.{RunEnd}
+use Rattle.p3l_run.specs.declared.end.RunEnd.TheVariants as ends
+use Rattle.p3l_run.specs.declared.end.RunStats.{RunStats}
 use Rattle.p3l_run.specs.declared.run.Ran.{Ran}
 use Rattle.p3l_run.specs.Network.{Network, course_of, meaning_of, stats_of, width_of}
 use Rattle.p3l_run.specs.Run.{finish_of}
@@ -33,6 +35,7 @@ use Rattle.p3l_program.specs.Load.{IsNotLoaded}
 use Rattle.p3l_program.specs.Saved.{AreSaved, KeepsBut, KeepsFirst, names_of}
 use Rattle.p3l_program.specs.Stage.{Stage, text_fitting, text_kept, text_priced}
 use Rattle.p3l_program.specs.Text.{BeginsText}
+use Rattle.p3l_program.specs.Verdict.{run_finish}
 use Rattle.p3l_program.specs.World.{Change, HasRisen, IsCalm, IsStill, World, world}
 
 -- what is asked for: the number of the texts, for so many processors, with so many items, under this schedule, and what the names of
@@ -78,13 +81,13 @@ abbrev pub gen_capacity : ℕ
 gen_capacity = 4
 
 -- a run comes to the end of its items without a trap
-abbrev pub comes_whole : Finish → Bool
-comes_whole (finish.Stream ending.End) = true
+abbrev pub comes_whole : RunEnd → Bool
+comes_whole (ends.Stream ending.End) = true
 comes_whole f = false
 
 -- a network was run under a schedule on all items of a text, to this end, with these numbers and this sum of the words emitted, which
 -- are those of the meaning of the items where the run came to the end of the text
-pub record IsRanOn (n : Network) (s : Schedule) (text : List ℕ) (f : Finish) (numbers : Stats) (sum : ℤ) : Type 0 where
+pub record IsRanOn (n : Network) (s : Schedule) (text : List ℕ) (f : RunEnd) (numbers : RunStats) (sum : ℤ) : Type 0 where
   pub ends : f ≡ finish_of n (course_of n s (items_of (width_of n) text).items) (items_of (width_of n) text).ending
   pub stats_are : numbers ≡ stats_of n (course_of n s (items_of (width_of n) text).items)
   pub bounded : numbers.fired ≤ n.firings * numbers.items
@@ -98,42 +101,44 @@ pub record IsRanUnder (n : Network) (asked : Sched) (text : List ℕ) (ran : Ran
   pub on : IsRanOn n s text ran.finish ran.stats ran.sum
 
 -- items I, fired F, idle D, bound B
-abbrev pub numbers_text : Stats → List ℕ
+abbrev pub numbers_text : RunStats → List ℕ
 numbers_text numbers =
     codes "items " ++ (decimal numbers.items ++ (codes ", fired " ++ (decimal numbers.fired ++ (codes ", idle " ++ (decimal numbers.idle ++ (codes ", bound " ++ decimal numbers.bound))))))
 
 -- gen N: items I, fired F, idle D, bound B, service T, used U, sum S
-abbrev pub summary_line : (number : ℕ) → Stats → (service used : ℕ) → (sum : ℤ) → List ℕ
+abbrev pub summary_line : (number : ℕ) → RunStats → (service used : ℕ) → (sum : ℤ) → List ℕ
 summary_line number numbers service used sum =
     codes "gen " ++ (decimal number ++ (codes ": " ++ (numbers_text numbers
     ++ (codes ", service " ++ (decimal service ++ (codes ", used " ++ (decimal used ++ (codes ", sum " ++ (signed_decimal sum ++ codes "\n")))))))))
 
 -- it is due where the run comes to the end of its items
-abbrev pub due_at : Finish → List ℕ → List ℕ
+abbrev pub due_at : RunEnd → List ℕ → List ℕ
 due_at f line = if comes_whole f then line else []
 
 -- the run of what is generated came to this end, of which this text is due
-pub record IsGenerated (g : Gen) (f : Finish) (text : List ℕ) : Type 0 where
+pub record IsGenerated (g : Gen) (f : RunEnd) (text : List ℕ) : Type 0 where
   pub r : ResolvedTree
   pub cs : Costs
   pub counts : List ℕ
   pub allotted : IsAllotted (program_text g.number) (Some costs_text) g.processors r cs counts
   pub s : Schedule
   pub picked : IsPicked g.asked s
-  pub numbers : Stats
+  pub numbers : RunStats
   pub sum : ℤ
   pub ran : IsRanOn (network_of r counts gen_capacity) s (stream_text g.number g.items) f numbers sum
   pub text_is : text ≡ due_at f (summary_line g.number numbers (service r.tree cs counts 0) (procs r.tree counts 0) sum)
 
 -- a text is that of some end
 abbrev pub IsGenText : Gen → List ℕ → Type 0
-IsGenText g text = (f : Finish) × IsGenerated g f text
+IsGenText g text = (f : RunEnd) × IsGenerated g f text
 
 -- the texts were saved where that is asked for, and run to this end, and its text was written; nothing was taken
 pub record EndsGen (w : World) (g : Gen) (f : Finish) (stats : Option Stats) : Type 0 where
+  pub end : RunEnd
+  pub finish_is : f ≡ run_finish end
   pub stats_are : stats ≡ None
   pub text : List ℕ
-  pub is : IsGenerated g f text
+  pub is : IsGenerated g end text
   pub put : HasPut w.out.old w.out.new text
   pub input : IsStill w.input
   pub saved : AreSaved w.files (saves_of g)
@@ -141,17 +146,17 @@ pub record EndsGen (w : World) (g : Gen) (f : Finish) (stats : Option Stats) : T
 -- over an input and an output that tell: the run came to the end of the items, and its line was written, whole
 pub record GensWhole (w : World) (g : Gen) (rest taken : List ℕ) : Type 0 where
   pub text : List ℕ
-  pub is : IsGenerated g (finish.Stream ending.End) text
+  pub is : IsGenerated g (ends.Stream ending.End) text
   pub rest_stays : w.input.new ≡ Some rest
   pub taken_is : w.out.new ≡ Some (taken ++ text)
   pub saved : AreSaved w.files (saves_of g)
 
 -- the command is due to end with this status
 pub record IsGenStatus (g : Gen) (status : ℕ) : Type 0 where
-  pub f : Finish
+  pub end : RunEnd
   pub text : List ℕ
-  pub is : IsGenerated g f text
-  pub status_is : status ≡ finish_status f
+  pub is : IsGenerated g end text
+  pub status_is : status ≡ finish_status (run_finish end)
 
 -- the texts are saved where that is asked for, and then run
 abbrev pub gen_behavior : Gen → Behavior
@@ -169,8 +174,8 @@ gen_behavior g = record {
 }
 
 -- how the writing of the text of an end goes
-abbrev pub IsToldOf : Change (List ℕ) → Finish → List ℕ → Verdict → Type 0
-IsToldOf out f text (verdict.Ended f' stats) = (f' ≡ f) × (stats ≡ None) × HasPut out.old out.new text × IsCalm out
+abbrev pub IsToldOf : Change (List ℕ) → RunEnd → List ℕ → Verdict → Type 0
+IsToldOf out f text (verdict.Ended f' stats) = (f' ≡ run_finish f) × (stats ≡ None) × HasPut out.old out.new text × IsCalm out
 IsToldOf out f text verdict.WriteFault = HasBegun out.old out.new text × HasRisen out
 IsToldOf out f text verdict.NoMemory = HasBegun out.old out.new text
 IsToldOf out f text (verdict.Refused refused) = ⊥

@@ -29,6 +29,7 @@ pub mod Text
 pub mod Top
 pub mod Trace
 pub mod TraceFile
+pub mod Verdict
 pub mod Verify
 pub mod Work
 pub mod World

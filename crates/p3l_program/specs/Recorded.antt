@@ -1,7 +1,7 @@
 -- The traces that runs leave in files.
 use Rattle.std.specs.Prelude.{◌≡◌, ℕ, ℤ, true, List, ◌++◌, Option, Some, None, Result, Ok, OnOk}
 use Rattle.p3l_io.specs.Told.{Held}
-use Rattle.p3l_report.specs.declared.stats.Stats.{Stats}
+use Rattle.p3l_run.specs.declared.end.RunStats.{RunStats}
 use Rattle.p3l_report.specs.declared.verdict.Verdict.{Verdict}
 use Rattle.p3l_run.specs.Network.{Network, course_of, picks_of}
 use Rattle.p3l_run.specs.Run.{MayCome}
@@ -40,11 +40,11 @@ IsRecorded files None IsSuch = Unit {0}
 IsRecorded files (Some name) IsSuch = HasRecord files name IsSuch
 
 -- the trace of these lines, with the counts of a run
-abbrev pub traced_by : List TraceLine → Stats → Traced
+abbrev pub traced_by : List TraceLine → RunStats → Traced
 traced_by lines numbers = record { lines = lines; fired = numbers.fired; idle = numbers.idle }
 
 -- how the lines that were kept go to the file that is named for the trace
-abbrev pub IsRecording : Change Held → Option (List ℕ) → Option (List TraceLine) → Stats → Result (Unit {0}) Verdict → Type 0
+abbrev pub IsRecording : Change Held → Option (List ℕ) → Option (List TraceLine) → RunStats → Result (Unit {0}) Verdict → Type 0
 IsRecording files (Some name) (Some lines) numbers result =
     HasSave files name (trace_format.spell (traced_by lines numbers)) result × OnOk result (trace_format.fits (traced_by lines numbers) ≡ true)
 IsRecording files trace lines numbers result = (result ≡ Ok tt) × IsStill files

@@ -13,6 +13,7 @@ use Rattle.p3l_report.specs.declared.verdict.Verdict.TheVariants as verdict
 use Rattle.p3l_report.specs.Verdict.{finish_status}
 use Rattle.p3l_run.specs.declared.keeping.Keeping.{Keeping}
 use Rattle.p3l_run.specs.declared.keeping.Keeping.TheVariants as keep
+use Rattle.p3l_run.specs.declared.end.RunStats.{RunStats}
 use Rattle.p3l_run.specs.declared.run.Ran.{Ran}
 use Rattle.p3l_run.specs.Feed.{input_limit}
 use Rattle.p3l_run.specs.Network.{Network, course_of, meaning_of, size_of, width_of}
@@ -36,6 +37,7 @@ use Rattle.p3l_program.specs.Recorded.{IsRecorded, IsRecording, IsRecordOf, IsRe
 use Rattle.p3l_program.specs.Saved.{KeepsFiles}
 use Rattle.p3l_program.specs.Scheduled.{HasSchedule, picks_limit}
 use Rattle.p3l_program.specs.Stage.{FilesCause, Refuses, readable, run_stages}
+use Rattle.p3l_program.specs.Verdict.{run_finish, run_stats}
 use Rattle.p3l_program.specs.World.{Change, HasRisen, IsCalm, IsStill, World}
 
 -- the numbers of a run, where they are to be reported
@@ -59,8 +61,8 @@ pub record EndsRun (w : World) (origin : Origin) (asked : Sched) (trace : Option
   pub s : Schedule
   pub has : HasRun w.files.old origin asked n s
   pub ran : Ran
-  pub finish_is : finish ≡ ran.finish
-  pub stats_are : stats ≡ shown reported ran.stats
+  pub finish_is : finish ≡ run_finish ran.finish
+  pub stats_are : stats ≡ shown reported (run_stats ran.stats)
   pub finishes : Finishes n s (keeping_for trace) w.input.old w.input.new w.input.before w.input.now w.out.old w.out.new ran
   pub recorded : IsRecorded w.files trace (IsRecordOn n s finishes.items finishes.close)
 
@@ -98,7 +100,7 @@ pub record RunsWhole (w : World) (origin : Origin) (asked : Sched) (trace : Opti
 
 -- the text of what the network emits on these items under the schedule was written, and the trace of this run, with these numbers, of
 -- which the firings are at most so many for each item sent
-pub record Emits (w : World) (origin : Origin) (asked : Sched) (trace : Option (List ℕ)) (numbers : Stats) : Type 0 where
+pub record Emits (w : World) (origin : Origin) (asked : Sched) (trace : Option (List ℕ)) (numbers : RunStats) : Type 0 where
   pub n : Network
   pub s : Schedule
   pub has : HasRun w.files.old origin asked n s
@@ -118,7 +120,7 @@ seen_of width rest = items_taken width (stop_of rest) (take input_limit rest)
 
 -- the status of a run under a schedule of these items with this ending
 abbrev pub status_with : Network → Schedule → Items → ℕ
-status_with n s seen = finish_status (finish_of n (course_of n s seen.items) seen.ending)
+status_with n s seen = finish_status (run_finish (finish_of n (course_of n s seen.items) seen.ending))
 
 -- the status of a run on an input where no fault comes
 abbrev pub run_status : Network → Schedule → List ℕ → ℕ
@@ -174,8 +176,8 @@ pub record IsRunTo (n : Network) (files : Change Held) (input out : Change (List
   pub s : Schedule
   pub schedule : HasSchedule files.old (size_of n) asked s
   pub ran : Ran
-  pub finish_is : finish ≡ ran.finish
-  pub stats_are : stats ≡ shown reported ran.stats
+  pub finish_is : finish ≡ run_finish ran.finish
+  pub stats_are : stats ≡ shown reported (run_stats ran.stats)
   pub finishes : Finishes n s (keeping_for trace) input.old input.new input.before input.now out.old out.new ran
   pub recorded : IsRecorded files trace (IsRecordOn n s finishes.items finishes.close)
   pub files_calm : IsCalm files
@@ -209,7 +211,7 @@ pub record IsRunNot (files : Change Held) (input out : Change (List ℕ)) : Type
 
 -- how a run that came to its end is told, once its trace was written where a file is named for it
 abbrev pub IsClosed : Change Held → Ran → Option (List ℕ) → Bool → Verdict → Type 0
-IsClosed files ran trace reported (verdict.Ended finish stats) = (finish ≡ ran.finish) × (stats ≡ shown reported ran.stats) × IsRecording files trace ran.lines ran.stats (Ok tt)
+IsClosed files ran trace reported (verdict.Ended finish stats) = (finish ≡ run_finish ran.finish) × (stats ≡ shown reported (run_stats ran.stats)) × IsRecording files trace ran.lines ran.stats (Ok tt)
 IsClosed files ran trace reported v = IsRecording files trace ran.lines ran.stats (Err v)
 
 -- how the run of a network under the schedule that is asked for ends

@@ -3,7 +3,7 @@ use Rattle.std.specs.Prelude.{◌≡◌, ◌≢◌, ◌<◌, ℕ, List, ◌⊎�
 use Rattle.clap.specs.Words.{Text}
 use Rattle.p3l_opts.specs.declared.command.Command.{Command}
 use Rattle.p3l_opts.specs.Command.{Spells}
-use Rattle.p3l_report.specs.declared.stats.Stats.{Stats}
+use Rattle.p3l_run.specs.declared.end.RunStats.{RunStats}
 use Rattle.p3l_report.specs.declared.verdict.Refusal.{Refusal}
 use Rattle.p3l_report.specs.Status as status
 use Rattle.p3l_report.specs.Verdict.{refusal_status}
@@ -22,62 +22,49 @@ Gives k wanted = (k ≡ wanted) ⊎ (k ≡ status.no_memory)
 pub record Promises (words : List Text) (w : World) (err : Change (List ℕ)) (k : ℕ) : Type 0 where
   -- How it ended: with this status, why, what was written, and the lines on the standard error.
   pub answers : Answers words w err k
-
   -- What is written begins what the command that the words spell writes: of `run` and `exec` the text
   -- of the program's meaning on the items read, of `fmt` the canonical text of the program, of `gen`
   -- the line of the run of the texts that its number gives.
   pub begins : IsUntouched w ⊎ BeginsWork words w
-
   -- With status 0 it is the whole, and `run` and `exec` read their input to the end.
   pub done : WhenTold w (λ held rest taken. k ≡ status.done → IsDone words w rest taken)
-
   -- With each status of an end the command came to an end of this status: of `run` and `exec`, the
   -- whole text of what the network emits on the items that the stream gave was written.
   pub ended : status.is_end k ≡ true → IsEndedWith words w k
-
   -- With each status of a refusal nothing was touched, no file changed but those that the command
   -- writes before its work, and the words are no command, or the stage that refuses so comes after
   -- others that all pass.
   pub refused : status.is_refusal k ≡ true → IsRefusedWith words w k
-
   -- With 13 evidence was refused so, with nothing touched, or a line of a trace differs from the run,
   -- with nothing written.
   pub evidence : k ≡ status.evidence → IsRefusedWith words w k ⊎ IsEndedWith words w k
-
   -- Words that are no command give 2, and what a stage refuses gives its status.
   pub usage_where : SpellsNone words → Gives k status.usage
   pub refused_where : WhenTold w (λ held rest taken. (refused : Refusal) → IsRefusedAt words w.files refused →
       (HasRisen w.files → ⊥) → Gives k (refusal_status refused))
-
   -- A file that is longer than its limit gives 9, whatever its text is.
   pub long_file : WhenTold w (λ held rest taken. HasTooLong words w.files.old → Gives k status.file)
-
   -- Where all stages pass and no call fails, `run` and `exec` end by what is seen of their input below
   -- the limit, and a command that writes a text with 0.
   pub completes : WhenTold w (λ held rest taken. (command : Command) → Spells words command →
       AllPass w.files (stages_of command) → HasNoFault w → IsStatusDue w rest command k ⊎ (k ≡ status.no_memory))
-
   -- The line of the numbers comes where the words ask for it, and they are the run's: they come with
   -- what the network emitted, and with the bound on its firings.
   pub reported : (command : Command) (run : Running) → Spells words command → run_of command ≡ Some run →
       run.reported ≡ true → status.is_end k ≡ true → (said : List ℕ) → err.old ≡ Some said → (HasRisen err → ⊥) →
       Reports w run said err.new
-
   -- With each status of an end the text of what the network emits was written, and where the words name
   -- a file for the trace of the run, it has the text of it: its picks are those of the schedule, and it
   -- agrees with this same run.
   pub recorded : (command : Command) (run : Running) → Spells words command → run_of command ≡ Some run →
-      status.is_end k ≡ true → (numbers : Stats) × Emits w run.origin run.schedule run.trace numbers
-
+      status.is_end k ≡ true → (numbers : RunStats) × Emits w run.origin run.schedule run.trace numbers
   -- A fault is answered only where the count of the object rose in this call.
   pub read_fault : k ≡ status.read → HasRisen w.input
   pub write_fault : k ≡ status.write → HasRisen w.out ⊎ (SpellsWriter words × HasRisen w.files)
-
   -- No failure is dropped: of a file that is read it gives 9, and of one that is written 10.
   pub out_failed : w.out.before < w.out.now → Gives k status.write
   pub files_failed : w.files.before < w.files.now →
       (k ≡ status.file) ⊎ ((k ≡ status.no_memory) ⊎ (SpellsWriter words × (k ≡ status.write)))
   pub input_failed : w.input.before < w.input.now → (k ≢ status.done) × (k ≢ status.too_long) × (k ≢ status.stream)
-
   -- No file is changed but those that the words name for writing, and by a run none before it is over.
   pub files_stay : (w.files.new ≡ w.files.old) ⊎ KeepsOthers words w

@@ -14,6 +14,7 @@ ghost use Rattle.p3l_program.specs.World.{change};
 use crate::memory::{NoSink, TextSource};
 use crate::plan::{Accepted, Allotted, accept, cost_verdict, plan_of};
 use crate::save::save;
+use crate::verdict::{fault_verdict, run_finish};
 use p3l_alloc::{AllocRefusal, choose};
 use p3l_ast::SourceRefusal;
 use p3l_base::{List, Name, NoMemory};
@@ -24,10 +25,10 @@ use p3l_io::{Files, Sink};
 use p3l_link::laws::every_linked_net_is_carried;
 use p3l_link::link;
 use p3l_opts::Sched;
-use p3l_report::{Finish, Refusal, Stats, Verdict};
+use p3l_report::{Refusal, Verdict};
 use p3l_run::run::run;
 use p3l_run::write::write;
-use p3l_run::{Keeping, Ran};
+use p3l_run::{Keeping, Ran, RunEnd, RunStats};
 use p3l_sched::Schedule;
 use p3l_stream::Ending;
 use std::alloc::Global;
@@ -170,12 +171,12 @@ fn run_text(alloc: Global, loaded: Allotted, asked: Sched, text: List<u8>) -> Re
         &mut NoSink,
     ) {
         Ok(ran) => Ok(ran),
-        Err(fault) => Err(Verdict::from(fault)),
+        Err(fault) => Err(fault_verdict(fault)),
     }
 }
 
 /// The numbers of a run, as the line has them.
-fn numbers_text(alloc: Global, numbers: &Stats) -> Result<String, NoMemory>
+fn numbers_text(alloc: Global, numbers: &RunStats) -> Result<String, NoMemory>
     ensures { IfOk result (λ text. string_bytes text ≡ numbers_text numbers.now) }
 {
     let items = numbers.items;
@@ -202,10 +203,10 @@ fn summary_line(
 }
 
 /// Whether a run came to the end of its items without a trap.
-fn comes_whole(finish: &Finish) -> bool
+fn comes_whole(finish: &RunEnd) -> bool
     ensures { result ≡ comes_whole finish.now }
 {
-    matches!(finish, Finish::Stream(Ending::End))
+    matches!(finish, RunEnd::Stream(Ending::End))
 }
 
 /// Writes the line of a run that came to the end of its items, and of another one nothing.
@@ -220,14 +221,14 @@ fn tell<K: Sink>(
     ensures { IsToldOf (change K.taken K.faults out.old out.new) ran.finish (due_at ran.finish (summary_line number ran.stats service used ran.sum)) result }
 {
     if !comes_whole(&ran.finish) {
-        return Verdict::Ended(ran.finish, None);
+        return Verdict::Ended(run_finish(ran.finish), None);
     }
     let Ok(line) = summary_line(alloc, number, &ran, service, used) else {
         return Verdict::NoMemory;
     };
     match write(out, line.as_str().as_bytes()) {
-        Ok(()) => Verdict::Ended(ran.finish, None),
-        Err(fault) => Verdict::from(fault),
+        Ok(()) => Verdict::Ended(run_finish(ran.finish), None),
+        Err(fault) => fault_verdict(fault),
     }
 }
 

@@ -26,4 +26,5 @@ mod save;
 mod schedule;
 mod text;
 pub mod top;
+mod verdict;
 pub mod verify;

@@ -202,11 +202,7 @@ fn link_allotted(alloc: Global, loaded: Allotted, capacity: u32) -> Result<Loade
 
 /// The network of the program of a file, under the counts that are chosen for it and with channels of
 /// the capacity that is asked for, or the verdict that there is none.
-pub fn load_network<F: Files>(
-    alloc: Global,
-    build: Build,
-    files: &mut F,
-) -> Result<Loaded, Verdict>
+pub fn load_network<F: Files>(alloc: Global, build: Build, files: &mut F) -> Result<Loaded, Verdict>
     requires processors { (1 ≤ build.processors) × (build.processors ≤ 512) }
     requires capacity { (1 ≤ build.capacity) × (build.capacity ≤ 1024) }
     ensures network { IfOk result (λ loaded. LoadsNetwork (F.held files.old) (built build) (network_in loaded)) }
@@ -237,12 +233,7 @@ fn width_of(tree: &Tree) -> u32
 }
 
 /// The plan of a run of a tree under counts, by units of it and a net.
-pub fn plan_of<'a, U: Units>(
-    tree: &'a Tree,
-    counts: &Counts,
-    units: &'a U,
-    net: Net,
-) -> Plan<'a, U>
+pub fn plan_of<'a, U: Units>(tree: &'a Tree, counts: &Counts, units: &'a U, net: Net) -> Plan<'a, U>
     requires lawful { IsLawfulTree tree.now }
     requires counts { HasLawfulCounts tree.now counts.now.list }
     requires units { U.tree units.now ≡ tree.now }

@@ -9,7 +9,8 @@ ghost use Rattle.p3l_program.specs.World.{change};
 use crate::save::save;
 use p3l_base::{List, Name};
 use p3l_io::Files;
-use p3l_report::{Stats, Verdict};
+use p3l_report::Verdict;
+use p3l_run::RunStats;
 use p3l_trace::{TraceLine, Traced, trace_text};
 use std::alloc::Global;
 
@@ -35,7 +36,7 @@ pub fn record<F: Files>(
     alloc: Global,
     trace: Option<Name>,
     lines: Option<List<TraceLine>>,
-    stats: &Stats,
+    stats: &RunStats,
     files: &mut F,
 ) -> Result<(), Verdict>
     ensures { IsRecording (change F.held F.faults files.old files.new) trace lines stats.now result }

@@ -13,6 +13,7 @@ ghost use Rattle.p3l_program.specs.World.{change};
 use crate::plan::plan_of;
 use crate::record::record;
 use crate::schedule::load_schedule;
+use crate::verdict::{fault_verdict, run_finish, run_stats};
 use p3l_base::Name;
 use p3l_io::{Files, Sink, Source};
 use p3l_link::laws::every_linked_net_is_carried;
@@ -63,7 +64,7 @@ fn close<F: Files>(
         ..
     } = ran;
     match record(alloc, trace, lines, &stats, files) {
-        Ok(()) => ended(finish, stats, reported),
+        Ok(()) => ended(run_finish(finish), run_stats(stats), reported),
         Err(verdict) => verdict,
     }
 }
@@ -97,7 +98,7 @@ pub fn run_plan<U: Units, F: Files, S: Source, K: Sink>(
     };
     let keeping = keeping_for(&trace);
     match run(alloc, plan, schedule, keeping, input, out) {
-        Err(fault) => Verdict::from(fault),
+        Err(fault) => fault_verdict(fault),
         Ok(ran) => close(alloc, ran, trace, reported, files),
     }
 }

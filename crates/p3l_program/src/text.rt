@@ -3,6 +3,7 @@
 ghost use Rattle.p3l_program.specs.Text.{IsWritten};
 ghost use Rattle.p3l_program.specs.World.{change};
 
+use crate::verdict::fault_verdict;
 use p3l_io::Sink;
 use p3l_report::{Finish, Verdict};
 use p3l_run::write::write;
@@ -13,6 +14,6 @@ pub fn write_text<K: Sink>(text: &[u8], out: &mut K) -> Verdict
 {
     match write(out, text) {
         Ok(()) => Verdict::Ended(Finish::Done, None),
-        Err(fault) => Verdict::from(fault),
+        Err(fault) => fault_verdict(fault),
     }
 }

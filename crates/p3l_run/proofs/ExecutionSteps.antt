@@ -12,8 +12,8 @@ use Rattle.p3l_net.specs.Machine as machine
 use Rattle.p3l_net.specs.Machine.{Fires, can_step, ready_list}
 use Rattle.p3l_net.specs.Offered.{HasFilledInbox}
 use Rattle.p3l_net.specs.Process.{kind_at}
-use Rattle.p3l_report.specs.declared.stats.Stats.{Stats}
-use Rattle.p3l_report.specs.declared.verdict.Finish.TheVariants as finish
+use Rattle.p3l_run.specs.declared.end.RunStats.{RunStats}
+use Rattle.p3l_run.specs.declared.end.RunEnd.TheVariants as finish
 use Rattle.p3l_sched.specs.declared.picker.Way.{Way}
 use Rattle.p3l_sched.specs.Course.{picks_from}
 use Rattle.p3l_sched.specs.Picker.{HasPlace, HasProcesses, IsPickedFrom, NamesProcesses, after_pick, recorded}
@@ -257,7 +257,7 @@ module _ (job : Job) where
           by (p ∷ ps) some = absurd (let z = sym (finish_is.stopped (λ none. (let y : [] ≡ p ∷ ps = sym none ∙ some in cc))) ∙ is in cc)
 
       numbers : ran.stats ≡ record { items = e.machine.sent; fired = e.machine.fired; idle = e.idle; bound = e.machine.sent * n.firings }
-      numbers = (let with_firings : ℕ → Stats = λ k. record { items = e.machine.sent; fired = e.machine.fired; idle = e.idle; bound = e.machine.sent * k } in stats_are ∙ ap with_firings d.firings_is)
+      numbers = (let with_firings : ℕ → RunStats = λ k. record { items = e.machine.sent; fired = e.machine.fired; idle = e.idle; bound = e.machine.sent * k } in stats_are ∙ ap with_firings d.firings_is)
 
       pub ends_over : Ends job now (Ok ran)
       ends_over = record {

@@ -21,7 +21,7 @@ use Rattle.p3l_net.specs.State.{with_rest}
 use Rattle.p3l_net.specs.Run.{Course, after_picks, picked}
 use Rattle.p3l_net.specs.Carried.{HaveInWords}
 use Rattle.p3l_net.specs.Outcomes.{IsPrefixOf}
-use Rattle.p3l_report.specs.declared.stats.Stats.{Stats}
+use Rattle.p3l_run.specs.declared.end.RunStats.{RunStats}
 use Rattle.p3l_sched.specs.declared.picker.Way.{Way}
 use Rattle.p3l_sched.specs.declared.picker.Way.TheVariants as way
 use Rattle.p3l_sched.specs.declared.schedule.Schedule.{Schedule}
@@ -403,7 +403,7 @@ module _ (n : Network) (laws : Laws n) (schedule : Schedule) where
         unfolding course_of
         whole_course later may = ap (course_under n (given ++ later)) (picks_whole later may)
 
-        pub ran : (stats : Stats) → stats ≡ record { items = m.sent; fired = m.fired; idle = idle; bound = m.sent * n.firings } → (later : List (List ℤ)) → MayCome n close later → IsRunOn n schedule (given ++ later) outcomes stats
+        pub ran : (stats : RunStats) → stats ≡ record { items = m.sent; fired = m.fired; idle = idle; bound = m.sent * n.firings } → (later : List (List ℤ)) → MayCome n close later → IsRunOn n schedule (given ++ later) outcomes stats
         ran stats are later may =
             let c : Course = course later in
             let at = s.at later may in
@@ -418,10 +418,10 @@ module _ (n : Network) (laws : Laws n) (schedule : Schedule) where
                   let none : ready_at n c ≡ [] = none_ready (ready_at n c) (ap (goes_on n) same ∙ stuck) in
                   emitted_is later may ∙ laws.finished (given ++ later) (all_wide later may) picks (laws.none_can c none);
               stats_are = all ∙ ap (stats_of n) same;
-              bounded = subst (λ (x : Stats). x.fired ≤ n.firings * x.items) (sym all) (laws.fired_most (given ++ later) (all_wide later may) picks);
+              bounded = subst (λ (x : RunStats). x.fired ≤ n.firings * x.items) (sym all) (laws.fired_most (given ++ later) (all_wide later may) picks);
             }
 
-        pub traced : (stats : Stats) → stats ≡ record { items = m.sent; fired = m.fired; idle = idle; bound = m.sent * n.firings } → (later : List (List ℤ)) → MayCome n close later → IsTraceOf n schedule (given ++ later) stats walked
+        pub traced : (stats : RunStats) → stats ≡ record { items = m.sent; fired = m.fired; idle = idle; bound = m.sent * n.firings } → (later : List (List ℤ)) → MayCome n close later → IsTraceOf n schedule (given ++ later) stats walked
         traced stats are later may = record {
           picks = picks_whole later may;
           agrees = record {

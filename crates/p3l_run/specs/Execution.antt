@@ -9,9 +9,9 @@ use Rattle.p3l_skel.specs.declared.tree.Tree.{Tree}
 use Rattle.p3l_net.specs.Machine as machine
 use Rattle.p3l_net.specs.Machine.{Fires, can_step, ready_list}
 use Rattle.p3l_net.specs.Process.{kind_at}
-use Rattle.p3l_report.specs.declared.stats.Stats.{Stats}
-use Rattle.p3l_report.specs.declared.verdict.Finish.{Finish}
-use Rattle.p3l_report.specs.declared.verdict.Finish.TheVariants as finish
+use Rattle.p3l_run.specs.declared.end.RunStats.{RunStats}
+use Rattle.p3l_run.specs.declared.end.RunEnd.{RunEnd}
+use Rattle.p3l_run.specs.declared.end.RunEnd.TheVariants as finish
 use Rattle.p3l_sched.specs.declared.schedule.Schedule.{Schedule}
 use Rattle.p3l_sched.specs.Picker.{HasPlace, HasProcesses, after_pick, begun, pick_of, recorded}
 use Rattle.p3l_stream.specs.declared.items.Ending.{Ending}
@@ -134,12 +134,12 @@ pub record HasFired (leaf : Leaf) (p : ℕ) (old new : Execution) (handed : Opti
   pub rest : new ≡ record old { machine = new.machine; kept = kept_with p (Some kind) old.kept }
 
 -- how an execution ends that stands so, and has no pick left
-pub record IsFinish (tree : Tree) (e : Execution) (f : Finish) : Type 0 where
+pub record IsFinish (tree : Tree) (e : Execution) (f : RunEnd) : Type 0 where
   pub stuck : ready_list e.machine ≡ [] → (close : Ending) → MayEnd e.close close → f ≡ end_of tree e.told.trap e.machine.emitted close
   pub stopped : ready_list e.machine ≢ [] → f ≡ finish.Stopped e.machine.fired e.idle
 
 -- the numbers of an execution
-abbrev pub stats_at : Execution → Stats
+abbrev pub stats_at : Execution → RunStats
 stats_at e = record { items = e.machine.sent; fired = e.machine.fired; idle = e.idle; bound = e.machine.sent * e.firings }
 
 -- the next pick is in range, and so are the counts with it

@@ -1,4 +1,3 @@
-pub mod Fault
 pub mod Network
 pub mod Laws
 pub mod Trap

@@ -10,7 +10,7 @@ use Rattle.p3l_net.specs.Carried.{Carry, IsCarried}
 use Rattle.p3l_net.specs.Outcomes.{IsPrefixOf}
 use Rattle.p3l_net.specs.Run.{Course, run}
 use Rattle.p3l_net.specs.Typed.{IsTyped}
-use Rattle.p3l_report.specs.declared.stats.Stats.{Stats}
+use Rattle.p3l_run.specs.declared.end.RunStats.{RunStats}
 use Rattle.p3l_sched.specs.declared.schedule.Schedule.{Schedule}
 use Rattle.p3l_sched.specs.Course as schedules
 use Rattle.p3l_sched.specs.Picker.{ready_of}
@@ -64,7 +64,7 @@ abbrev pub goes_on : Network → Course → Bool
 goes_on n c = is_some (ready_at n c)
 
 -- the numbers of a run
-abbrev pub stats_of : Network → Course → Stats
+abbrev pub stats_of : Network → Course → RunStats
 stats_of n course = record {
   items = course.state.sent;
   fired = course.fired;
@@ -74,7 +74,7 @@ stats_of n course = record {
 
 -- the network was run on the items: it emitted these outcomes, which begin the meaning of the items, and are all of it where no
 -- process can fire at the end, and these are the numbers of the run, which fired at most so often for each item sent
-pub record IsRunOn (n : Network) (schedule : Schedule) (items : List (List ℤ)) (outcomes : List Outcome) (stats : Stats) : Type 0 where
+pub record IsRunOn (n : Network) (schedule : Schedule) (items : List (List ℤ)) (outcomes : List Outcome) (stats : RunStats) : Type 0 where
   pub emitted : outcomes ≡ (course_of n schedule items).state.emitted
   pub begins : IsPrefixOf outcomes (meaning_of n items)
   pub whole : goes_on n (course_of n schedule items) ≡ false → outcomes ≡ meaning_of n items

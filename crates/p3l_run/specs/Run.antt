@@ -7,9 +7,9 @@ use Rattle.p3l_skel.specs.declared.tree.Tree.{Tree}
 use Rattle.p3l_skel.specs.Tree.{no_module}
 use Rattle.p3l_net.specs.Carried.{HaveInWords}
 use Rattle.p3l_net.specs.Run.{Course}
-use Rattle.p3l_report.specs.declared.stats.Stats.{Stats}
-use Rattle.p3l_report.specs.declared.verdict.Finish.{Finish}
-use Rattle.p3l_report.specs.declared.verdict.Finish.TheVariants as finish
+use Rattle.p3l_run.specs.declared.end.RunStats.{RunStats}
+use Rattle.p3l_run.specs.declared.end.RunEnd.{RunEnd}
+use Rattle.p3l_run.specs.declared.end.RunEnd.TheVariants as finish
 use Rattle.p3l_sched.specs.declared.schedule.Schedule.{Schedule}
 use Rattle.p3l_stream.specs.declared.items.Ending.{Ending}
 use Rattle.p3l_stream.specs.Seen.{Seen}
@@ -31,12 +31,12 @@ abbrev pub module_name : Tree → ℕ → List ℕ
 module_name tree k = (slice_index_or tree.modules k no_module).name
 
 -- how a run ends in which no process can fire, and whose stream ended so: by the trap that was emitted last, if there is one
-abbrev pub end_of : Tree → Option Trap → ℕ → Ending → Finish
+abbrev pub end_of : Tree → Option Trap → ℕ → Ending → RunEnd
 end_of tree None emitted close = finish.Stream close
 end_of tree (Some trap) emitted close = finish.Trapped emitted trap.kind (module_name tree trap.module)
 
 -- how a run ends that stands so, and whose stream ended so: it was stopped where some process can fire
-abbrev pub finish_of : Network → Course → Ending → Finish
+abbrev pub finish_of : Network → Course → Ending → RunEnd
 finish_of n c close =
     cond (goes_on n c) (finish.Stopped c.fired c.idle) (end_of n.tree (trap_of c.state.emitted) (length c.state.emitted) close)
 
@@ -52,7 +52,7 @@ MayEnd (Some close) e = close ≡ e
 
 -- these lines are the trace of the run of the network on the items under the schedule, which has these numbers: their picks are
 -- that run's, and each says of its pick what happened
-pub record IsTraceOf (n : Network) (schedule : Schedule) (items : List (List ℤ)) (stats : Stats) (lines : List TraceLine) : Type 0 where
+pub record IsTraceOf (n : Network) (schedule : Schedule) (items : List (List ℤ)) (stats : RunStats) (lines : List TraceLine) : Type 0 where
   pub picks : trace.picks_of lines ≡ picks_of n schedule items
   pub agrees : trace.Agrees n.tree n.leaf n.net items (record { lines = lines; fired = stats.fired; idle = stats.idle })
 

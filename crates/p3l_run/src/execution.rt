@@ -7,6 +7,7 @@ ghost use Rattle.p3l_sched.specs.Picker.{HasPlace, HasProcesses};
 ghost use Rattle.p3l_skel.specs.Tree.{node_at};
 ghost use Rattle.p3l_run.specs.Execution.{Completes, FeedsOn, HasFired, IsFinish, IsInRange, IsUnderWay, MayPick, RunsOut, StepsOn, after_idle, outside, started, stats_at};
 
+use crate::end::RunEnd;
 use crate::fault::RunFault;
 use crate::feed::{INPUT_LIMIT, feed};
 use crate::finish::{finish_with, stats_of};
@@ -17,7 +18,6 @@ use p3l_base::{List, NoMemory, Outcome};
 use p3l_firing::Net;
 use p3l_io::{Sink, Source};
 use p3l_net::Machine;
-use p3l_report::Finish;
 use p3l_sched::{Picker, Schedule};
 use p3l_skel::{Tree, Units};
 use p3l_stream::{Ending, Lines};
@@ -214,7 +214,7 @@ impl<'t> Execution<'t> {
     }
 
     /// How the run ended, where no pick is left.
-    fn finish(&self, alloc: Global, tree: &Tree) -> Result<Finish, NoMemory>
+    fn finish(&self, alloc: Global, tree: &Tree) -> Result<RunEnd, NoMemory>
         requires { ready_list self.now.machine ≡ [] → IsNone self.now.told.trap → IsSome self.now.close }
         ensures { IfOk result (IsFinish tree.now self.now) }
     {
@@ -227,7 +227,7 @@ impl<'t> Execution<'t> {
                 self.close,
             );
         }
-        Ok(Finish::Stopped {
+        Ok(RunEnd::Stopped {
             fired: self.machine.fired(),
             idle: self.idle,
         })

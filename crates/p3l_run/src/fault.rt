@@ -2,10 +2,8 @@
 
 ghost use Rattle.std.specs.Prelude.{◌≡◌};
 ghost use Rattle.p3l_run.specs.declared.fault.RunFault.TheVariants as faults;
-ghost use Rattle.p3l_run.specs.Fault.{verdict_of};
 
 use p3l_io::Failed;
-use p3l_report::Verdict;
 
 /// Why a run ends early.
 #[derive(Clone, Copy, Debug, Drop, PartialEq, Eq)]
@@ -29,16 +27,5 @@ impl From<Failed> for RunFault {
 
     fn from(_failed: Failed) -> RunFault {
         RunFault::Write
-    }
-}
-
-impl From<RunFault> for Verdict {
-    ghost from_gives = { λ fault v. v ≡ verdict_of fault };
-
-    fn from(fault: RunFault) -> Verdict {
-        match fault {
-            RunFault::Write => Verdict::WriteFault,
-            RunFault::NoMemory => Verdict::NoMemory,
-        }
     }
 }

@@ -4,9 +4,9 @@ ghost use Rattle.std.specs.Prelude.{◌≡◌, ◌<◌, ◌*◌, ◌^◌, IfOk, 
 ghost use Rattle.p3l_stream.specs.declared.items.Ending.{Ending};
 ghost use Rattle.p3l_run.specs.Run.{MayEnd, end_of, module_name};
 
+use crate::end::{RunEnd, RunStats};
 use p3l_base::{Name, NoMemory, Trap};
 use p3l_net::Machine;
-use p3l_report::{Finish, Stats};
 use p3l_skel::Tree;
 use p3l_stream::Ending;
 use std::alloc::Global;
@@ -29,15 +29,15 @@ pub(crate) fn finish_with(
     trap: Option<Trap>,
     emitted: u64,
     close: Option<Ending>,
-) -> Result<Finish, NoMemory>
+) -> Result<RunEnd, NoMemory>
     requires { IsNone trap → IsSome close }
     ensures { IfOk result (λ finish. (e : Ending) → MayEnd close e → finish ≡ end_of tree.now trap emitted e) }
 {
     match trap {
-        None => Ok(Finish::Stream(close.unwrap())),
+        None => Ok(RunEnd::Stream(close.unwrap())),
         Some(trap) => {
             let name = name_of(alloc, tree, trap.module)?;
-            Ok(Finish::Trapped {
+            Ok(RunEnd::Trapped {
                 item: emitted,
                 kind: trap.kind,
                 module: name,
@@ -47,12 +47,12 @@ pub(crate) fn finish_with(
 }
 
 /// The numbers of a run of a machine, with so many idle picks and so many firings an item at most.
-pub(crate) fn stats_of(machine: &Machine<'_>, firings: u64, idle: u64) -> Stats
+pub(crate) fn stats_of(machine: &Machine<'_>, firings: u64, idle: u64) -> RunStats
     requires { machine.now.sent * firings < 2 ^ 64 }
     ensures { result ≡ record { items = machine.now.sent; fired = machine.now.fired; idle = idle; bound = machine.now.sent * firings } }
 {
     let sent = machine.sent();
-    Stats {
+    RunStats {
         items: sent,
         fired: machine.fired(),
         idle,

@@ -3,6 +3,7 @@
 //! for.
 #![tactic(auto)]
 
+pub mod end;
 mod execution;
 pub mod fault;
 pub mod feed;
@@ -14,6 +15,7 @@ pub mod run;
 mod sum;
 pub mod write;
 
+pub use end::{RunEnd, RunStats};
 pub use fault::RunFault;
 pub use feed::INPUT_LIMIT;
 pub use keeping::Keeping;

@@ -8,6 +8,7 @@ ghost use Rattle.p3l_run.specs.Network.{IsSound, network};
 ghost use Rattle.p3l_run.specs.Run.{IsRunEnd};
 ghost use Rattle.p3l_run.specs.Write.{WriteCause};
 
+use crate::end::{RunEnd, RunStats};
 use crate::execution::Execution;
 use crate::fault::RunFault;
 use crate::keeping::Keeping;
@@ -15,7 +16,6 @@ use crate::laws::laws;
 use crate::plan::Plan;
 use p3l_base::List;
 use p3l_io::{Sink, Source};
-use p3l_report::{Finish, Stats};
 use p3l_sched::Schedule;
 use p3l_skel::Units;
 use p3l_stream::laws::a_stream_gives_its_items;
@@ -25,8 +25,8 @@ use std::alloc::Global;
 /// A run that came to its end, with its numbers.
 #[derive(Debug, Drop)]
 pub struct Ran {
-    pub finish: Finish,
-    pub stats: Stats,
+    pub finish: RunEnd,
+    pub stats: RunStats,
     /// A line for each pick, where lines were to be kept.
     pub lines: Option<List<TraceLine>>,
     /// The sum of all words that were emitted, which wraps at 64 bits.

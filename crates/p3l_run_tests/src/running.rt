@@ -3,8 +3,7 @@
 use crate::network::{Echo, Refusing, run_on};
 use p3l_base::List;
 use p3l_io::{MemSink, MemSource, PutFail};
-use p3l_report::{Finish, Stats};
-use p3l_run::{Keeping, Ran, RunFault};
+use p3l_run::{Keeping, Ran, RunEnd, RunFault, RunStats};
 use p3l_sched::{Schedule, read_picks};
 use p3l_stream::Ending;
 use std::alloc::Global;
@@ -26,18 +25,16 @@ fn shown(alloc: Global, ran: &Result<Ran, RunFault>) -> Result<String, Fail> {
     let numbers = numbers_shown(alloc, &ran.stats)?;
     let numbers = numbers.as_str();
     Ok(match &ran.finish {
-        Finish::Done => String::from_str(alloc, "done")?,
-        Finish::Stopped { fired, idle } => format!(in alloc; "{numbers}stopped {fired} {idle}")?,
-        Finish::Trapped { item, module, .. } => {
+        RunEnd::Stopped { fired, idle } => format!(in alloc; "{numbers}stopped {fired} {idle}")?,
+        RunEnd::Trapped { item, module, .. } => {
             format!(in alloc; "{numbers}trap {item} {}", module.as_str())?
         }
-        Finish::Stream(ending) => format!(in alloc; "{numbers}{}", ending_shown(*ending))?,
-        Finish::Differs { line } => format!(in alloc; "{numbers}differs {line}")?,
+        RunEnd::Stream(ending) => format!(in alloc; "{numbers}{}", ending_shown(*ending))?,
     })
 }
 
 /// The numbers of a run, as a text.
-fn numbers_shown(alloc: Global, stats: &Stats) -> Result<String, Fail> {
+fn numbers_shown(alloc: Global, stats: &RunStats) -> Result<String, Fail> {
     let items = stats.items;
     let fired = stats.fired;
     let idle = stats.idle;

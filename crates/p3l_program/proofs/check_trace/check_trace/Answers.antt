@@ -1,8 +1,11 @@
-use Rattle.std.proofs.Common.{subst}
+use Rattle.std.proofs.Common.{[], ◌∷◌, refl, subst}
 use Rattle.p3l_program.specs.Plan.{network_in}
-use Rattle.p3l_program.specs.Trace.{IsCheckOf}
-use Rattle.p3l_program.specs.World.{change}
-use Rattle.p3l_program.proofs.LoadSteps.{same_change}
+use Rattle.p3l_program.specs.Stage.{build_stages, readable, traced}
+use Rattle.p3l_program.specs.Trace.{BeginsTrace, EndsTrace, IsCheckOf, check_stages}
+use Rattle.p3l_program.specs.TraceFile.{trace_limit}
+use Rattle.p3l_program.specs.World.{change, world}
+use Rattle.p3l_program.proofs.LoadSteps.{not_loaded_front, same_change}
+use Rattle.p3l_program.proofs.TextSteps.{not_loaded}
 use Rattle.p3l_program.proofs.TraceSteps.{check_due}
 use Rattle.p3l_program.proofs.check_trace.check_trace.Goals as goal
 
@@ -18,3 +21,14 @@ returns-in-Ok-clause-due g c =
     let same = same_change (held c.load_network.new.files) (held c.args.files.now) (held end) (faults c.load_network.new.files) (faults c.args.files.now) (faults end) c.load_network.ensures.stays c.in-Ok.ensures.calm in
     let checked = subst (λ f. IsCheckOf net f input out c.args.name c.check_network.result) same c.check_network.ensures.checked in
     check_due files input out c.args.build net c.in-Ok.ensures.network c.args.name c.check_network.result checked
+
+pub returns-in-Err-clause-due : goal.returns-in-Err-clause-due
+returns-in-Err-clause-due g c =
+    let files = change g.F.Files.held g.F.Files.faults c.args.files.now c.load_network.new.files in
+    let input = change g.S.Source.rest g.S.Source.faults c.args.input.now c.args.input.now in
+    let out = change g.K.Sink.taken g.K.Sink.faults c.args.out.now c.args.out.now in
+    let build = c.args.build in
+    let name = c.args.name in
+    let w = world files input out in
+    not_loaded w (check_stages build name) (EndsTrace w build name) (BeginsTrace w build name) ⊥ c.in-Err.verdict (record { told = refl; calm = refl }) (record { told = refl; calm = refl })
+    (not_loaded_front files (build_stages build) (readable trace_limit name ∷ (traced name ∷ [])) c.in-Err.verdict c.in-Err.ensures.refused)
