@@ -1,4 +1,5 @@
 pub mod Lists
+mod Rescues
 pub mod Tokens
 pub mod Bodies
 pub mod FirstFault

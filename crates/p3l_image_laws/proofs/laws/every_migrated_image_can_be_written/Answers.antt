@@ -1,4 +1,4 @@
-use Rattle.std.proofs.Common.{◌≡◌, ◌≤◌, true, length, sym, subst}
+use Rattle.std.proofs.Common.{◌≡◌, ◌≤◌, true, ◌&&◌, length}
 use Rattle.p3l_firing.specs.declared.net.Net.{Net}
 use Rattle.p3l_format.specs.Format.{as_form, after, pair}
 use Rattle.p3l_format.specs.Numbers.{u32_in}
@@ -15,7 +15,7 @@ use Rattle.p3l_image.proofs.OldText.{written_anew}
 use Rattle.p3l_load.specs.Load.{IsRunnable, migrated_of}
 use Rattle.p3l_image_laws.specs.Written.{EveryMigratedImageCanBeWritten}
 use Rattle.p3l_image_laws.proofs.Nodes.{some_nodes}
-use Rattle.p3l_image_laws.proofs.Pieces.{IsFine, net_fine}
+use Rattle.p3l_image_laws.proofs.Pieces.{net_fine}
 use Rattle.p3l_image_laws.proofs.Nets.{net_fits}
 use Rattle.p3l_image_laws.proofs.laws.every_migrated_image_can_be_written.Goals as goal
 
