@@ -15,12 +15,7 @@ use p3l_report::Verdict;
 use std::alloc::Global;
 
 /// Writes the picture of the network that is built for the program of a file.
-pub fn graph<F: Files, K: Sink>(
-    alloc: Global,
-    build: Build,
-    files: &mut F,
-    out: &mut K,
-) -> Verdict
+pub fn graph<F: Files, K: Sink>(alloc: Global, build: Build, files: &mut F, out: &mut K) -> Verdict
     requires processors { (1 ≤ build.processors) × (build.processors ≤ 512) }
     requires capacity { (1 ≤ build.capacity) × (build.capacity ≤ 1024) }
     ensures due { IsTextDue (change F.held F.faults files.old files.new)

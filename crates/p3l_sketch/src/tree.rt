@@ -14,11 +14,7 @@ pub type ModuleRow = (Shape, u32, u32, u32, &'static [u32]);
 /// A tree: its nodes, and the kinds of its modules.
 pub type Sketch = (&'static [ModuleRow], &'static [ModuleKind]);
 
-fn module_of(
-    alloc: Global,
-    kind: ModuleKind,
-    rescue: Option<i64>,
-) -> Result<ModuleInfo, NoMemory> {
+fn module_of(alloc: Global, kind: ModuleKind, rescue: Option<i64>) -> Result<ModuleInfo, NoMemory> {
     Ok(ModuleInfo {
         name: Name::from_text(alloc, "m")?,
         kind,

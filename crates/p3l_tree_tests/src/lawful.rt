@@ -89,7 +89,12 @@ fn is_lawful(alloc: Global, sketch: Sketch) -> Result<bool, NoMemory> {
 }
 
 /// Whether a tree is lawful with another row in one place.
-fn is_lawful_with(alloc: Global, sketch: Sketch, place: usize, row: ModuleRow) -> Result<bool, NoMemory> {
+fn is_lawful_with(
+    alloc: Global,
+    sketch: Sketch,
+    place: usize,
+    row: ModuleRow,
+) -> Result<bool, NoMemory> {
     let mut rows = Vec::from_slice(alloc, sketch.0)?;
     if let Some(old) = rows.get_mut(place) {
         *old = row;
