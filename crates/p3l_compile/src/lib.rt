@@ -8,4 +8,4 @@ pub mod statement;
 pub mod units;
 
 pub use body::compile;
-pub use units::{codes_of, table_of, units_of};
+pub use units::{codes_of, leaves_are_evals, table_of, units_of};

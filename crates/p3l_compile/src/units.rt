@@ -6,7 +6,7 @@ ghost use Rattle.p3l_body.specs.Seq.{SeqTree, seq_tree};
 ghost use Rattle.p3l_skel.specs.Lawful.{IsLawfulTree};
 ghost use Rattle.p3l_units.specs.Table.{leaf};
 ghost use Rattle.p3l_compile.specs.Condition.{IsCompilable};
-ghost use Rattle.p3l_compile.specs.Leaves.{AreBodies, AreCodes, HasBodies, body_leaf};
+ghost use Rattle.p3l_compile.specs.Leaves.{AreBodies, AreCodes, HasBodies, LeavesAreEvals, body_leaf};
 
 use crate::body::compile;
 use p3l_base::{List, NoMemory};
@@ -58,3 +58,9 @@ pub fn units_of<'t>(
     let codes = codes_of(alloc, seqs)?;
     table_of(alloc, tree, codes)
 }
+
+/// A law of the bodies of a tree: at each `seq` node, and on the words that it takes, what they make of
+/// these is what the body of its module means.
+pub fn leaves_are_evals()
+    ensures { LeavesAreEvals }
+{}

@@ -70,6 +70,12 @@ const OF_OTHER_PICKS: &[Told] = &[
         "1\n",
         "trace holds: 3 fired, 1 idle\n",
     ),
+    // Nothing is asked for at the last line, whatever the input has after.
+    Told(
+        "p3l-trace 1\n0 source\nend 1 0\n",
+        "1\nx\n",
+        "trace holds: 1 fired, 0 idle\n",
+    ),
     // No line of a pick asks for no item.
     Told(
         "p3l-trace 1\nend 0 0\n",

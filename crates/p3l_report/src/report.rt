@@ -4,7 +4,7 @@ ghost use Rattle.std.specs.Prelude.{◌≡◌, ◌++◌, ◌≤◌, List, ℕ, S
 ghost use Rattle.p3l_io.specs.Causes.{Rose};
 ghost use Rattle.p3l_report.specs.declared.verdict.Verdict.TheVariants as verdicts;
 ghost use Rattle.p3l_report.specs.Verdict.{ending_line, finish_line, lines_of, refusal_line, reported_line, status_line};
-ghost use Rattle.p3l_report.specs.Report.{optional_text, report_text};
+ghost use Rattle.p3l_report.specs.Report.{IsReportOf, PutsFront, PutsFronts, optional_text, report_text};
 
 use crate::cost_fault::cost_line;
 use crate::evidence::{Evidence, evidence_line};
@@ -114,7 +114,8 @@ fn line_of_numbers(alloc: Global, verdict: &Verdict) -> Result<Option<Line>, NoM
 
 /// The lines of a verdict.
 pub fn report_of(alloc: Global, verdict: &Verdict) -> Result<Report, NoMemory>
-    ensures { IfOk result (λ report. report_text report ≡ lines_of verdict.now) }
+    ensures text { IfOk result (λ report. report_text report ≡ lines_of verdict.now) }
+    ensures lines { IfOk result (IsReportOf verdict.now) }
 {
     let numbers = line_of_numbers(alloc, verdict)?;
     let status = line_of_status(alloc, verdict)?;
@@ -126,6 +127,7 @@ fn put_line<E: Sink>(err: &mut E, line: &Option<Line>)
     ensures told { (said : List ℕ) → E.taken err.old ≡ Some said
         → (Rose (E.faults err.old) (E.faults err.new) → ⊥)
         → E.taken err.new ≡ Some (said ++ optional_text line.now) }
+    ensures begun { (said : List ℕ) → E.taken err.old ≡ Some said → PutsFront said (E.taken err.new) (optional_text line.now) }
     ensures later { E.faults err.old ≤ E.faults err.new }
 {
     if let Some(line) = line {
@@ -138,6 +140,8 @@ pub fn put_report<E: Sink>(err: &mut E, report: &Report)
     ensures told { (said : List ℕ) → E.taken err.old ≡ Some said
         → (Rose (E.faults err.old) (E.faults err.new) → ⊥)
         → E.taken err.new ≡ Some (said ++ report_text report.now) }
+    ensures begun { (said : List ℕ) → E.taken err.old ≡ Some said
+        → PutsFronts said (E.taken err.new) (optional_text report.now.numbers) (optional_text report.now.status) }
     ensures later { E.faults err.old ≤ E.faults err.new }
 {
     put_line(err, &report.numbers);
@@ -149,6 +153,8 @@ pub fn put_no_memory<E: Sink>(err: &mut E)
     ensures told { (said : List ℕ) → E.taken err.old ≡ Some said
         → (Rose (E.faults err.old) (E.faults err.new) → ⊥)
         → E.taken err.new ≡ Some (said ++ lines_of verdicts.NoMemory) }
+    ensures begun { (said : List ℕ) → E.taken err.old ≡ Some said
+        → PutsFronts said (E.taken err.new) (reported_line verdicts.NoMemory) (status_line verdicts.NoMemory) }
     ensures later { E.faults err.old ≤ E.faults err.new }
 {
     let _ = err.put(b"no memory\n");

@@ -1,8 +1,8 @@
 -- A walk along a trace: its first state, what is fed, each line, and the end.
-use Rattle.std.proofs.Common.{◌≡◌, ◌≢◌, ℕ, ℤ, suc, ◌+◌, ◌*◌, ◌<◌, ◌≤◌, ◌^◌, Bool, true, false, List, [], ◌∷◌, ◌++◌, length, take, drop, get_or, Option, Some, None, inl, inr, refl, sym, ap, subst, ◌∙◌, arith, append_assoc, append-nil}
+use Rattle.std.proofs.Common.{◌≡◌, ◌≢◌, ℕ, ℤ, suc, ◌+◌, ◌-◌, ◌*◌, ◌<◌, ◌≤◌, ◌^◌, Bool, true, false, List, [], ◌∷◌, ◌++◌, length, take, drop, get_or, Option, Some, None, inl, inr, refl, sym, ap, subst, ◌∙◌, arith, append_assoc, append-nil}
 use Rattle.std.specs.Option.{option_to_list}
-use Rattle.std.proofs.Math.Seq.{take-suc}
-use Rattle.std.proofs.lemmas.List.{length-take-le, take-append-drop, take_all}
+use Rattle.std.proofs.Math.Seq.{take-append_seam, take-suc}
+use Rattle.std.proofs.lemmas.List.{length-append, length-take-le, take-append-drop, take_all}
 use Rattle.std.proofs.lemmas.Nat.{mul-le}
 use Rattle.p3l_base.specs.declared.outcome.Outcome.{Outcome}
 use Rattle.p3l_firing.specs.declared.net.Net.{Net}
@@ -10,10 +10,11 @@ use Rattle.p3l_skel.specs.declared.tree.Tree.{Tree}
 use Rattle.p3l_skel.specs.Tree.{node_at}
 use Rattle.p3l_net.specs.Carried.{HaveInWords}
 use Rattle.p3l_net.specs.Fire.{can_fire}
-use Rattle.p3l_net.specs.Machine.{Fires, Seen, can_step}
+use Rattle.p3l_net.specs.Machine.{Fires, Seen, can_step, state_of}
 use Rattle.p3l_net.specs.Nodes.{Leaf}
 use Rattle.p3l_net.specs.Offered.{Follows, HasFilledInbox}
 use Rattle.p3l_net.specs.Run.{Course, after_picks, picked}
+use Rattle.p3l_net.specs.State.{with_rest}
 use Rattle.p3l_stream.specs.declared.items.Ending.{Ending}
 use Rattle.p3l_stream.specs.Given.{HasGiven}
 use Rattle.p3l_stream.specs.Seen as stream
@@ -28,13 +29,38 @@ use Rattle.p3l_trace.specs.declared.trace.TraceLine.{TraceLine}
 use Rattle.p3l_trace.specs.declared.trace.Traced.{Traced}
 use Rattle.p3l_trace.specs.Agreement.{AgreeFrom, AgreesIn, AgreesWith, AllAgree, IsCounted, picks_of}
 use Rattle.p3l_retrace.specs.declared.walk.Walk.{Walk}
-use Rattle.p3l_retrace.specs.Retraced.{AgreesOn, DiffersOn}
-use Rattle.p3l_retrace.specs.Walk.{AwaitsLine, IsAt, Outside, Passes, Stands, Steps, StepsIf, Walks, outside, started}
+use Rattle.p3l_retrace.specs.Retraced.{AgreesOn, DiffersOn, IsAskedFor, one_waits, picks_to, sent_before_last}
+use Rattle.p3l_retrace.specs.Walk.{AwaitsLine, HasPassed, IsAt, Outside, Passes, Stands, Steps, StepsIf, Walks, outside, started}
 
 no_end : (e : Ending) → ◌≡◌ {A = Option Ending} None (Some e) → ⊥
 no_end e h = cc
 
+-- the picks in front of the last one
+picks_front : (picks : List ℕ) (p : ℕ) → take (length (picks ++ p ∷ []) - 1) (picks ++ p ∷ []) ≡ picks
+picks_front picks p =
+    let size : length (picks ++ p ∷ []) - 1 ≡ length picks = omega (arith, length-append picks (p ∷ [])) in
+    ap (λ k. take k (picks ++ p ∷ [])) size ∙ take-append_seam picks (p ∷ [])
+
+-- the lines up to the one of a number
+lines_to : (lines walked : List TraceLine) (line : TraceLine) (after : List TraceLine) (number : ℕ) → lines ≡ walked ++ line ∷ after → number ≡ length walked + 2 → take (number - 1) lines ≡ walked ++ line ∷ []
+lines_to lines walked line after number are is =
+    let size : number - 1 ≡ length (walked ++ line ∷ []) = omega (arith, length-append walked (line ∷ [])) in
+    ap (take (number - 1)) (are ∙ sym (append_assoc walked (line ∷ []) after))
+    ∙ ap (λ k. take k ((walked ++ line ∷ []) ++ after)) size ∙ take-append_seam (walked ++ line ∷ []) after
+
+-- of the last line these are all
+all_picks : (traced : Traced) (number : ℕ) → number ≡ length traced.lines + 2 → picks_to traced number ≡ picks_of traced.lines
+all_picks traced number is = ap picks_of (take_all (number - 1) traced.lines (omega arith))
+
 module _ (n : Network) where
+  -- where the stream was asked before the last of some picks, one item waits then, as long as it isn't ended
+  asked_last : (items : List (List ℤ)) (picks : List ℕ) (p given : ℕ) (close : Option Ending) → given ≡ (course_under n items picks).state.sent + one_waits close → IsAskedFor n items (picks ++ p ∷ []) given close
+  asked_last items picks p given close is = by picks (is ∙ ap (λ ps. (course_under n items ps).state.sent + one_waits close) (sym (picks_front picks p)))
+    where
+      by : (ps : List ℕ) → given ≡ sent_before_last n items (ps ++ p ∷ []) + one_waits close → IsAskedFor n items (ps ++ p ∷ []) given close
+      by [] so = so
+      by (q ∷ ps) so = so
+
   -- what holds of the tree and the net of a machine that runs the network
   at_network : (m : Seen) → Runs n m → (P : Tree → Net → Type 0) → P m.tree m.net → P n.tree n.net
   at_network m runs P p = subst (λ t. P t n.net) runs.tree (subst (λ k. P m.tree k) runs.net p)
@@ -69,21 +95,74 @@ module _ (n : Network) where
     stands_fed (item ∷ more) offers wide asked =
         subst (λ k. Stands n m' (given ++ item ∷ k) close' outcomes walked) (sym offers.2) (stands_offered item offers.0 offers.1 wide.0 (asked (λ e. cc)))
 
+  -- once the stream has ended nothing more is given, and the inbox is as it was
+  still_empty : (m m' : Seen) (close : Option Ending) (more : List (List ℤ)) → Offers m m' more → (more ≢ [] → close ≡ None) → (e : Ending) → close ≡ Some e → m.inbox ≡ None → m'.inbox ≡ None
+  still_empty m m' close [] offers asked e ended empty = ap (λ (k : Seen). k.inbox) offers ∙ empty
+  still_empty m m' close (item ∷ more) offers asked e ended empty = absurd (no_end e (sym (asked (λ h. cc)) ∙ ended))
+
+  -- each item that was given was sent, or waits
+  module _ (laws : Laws n) (m : Seen) (given : List (List ℤ)) (close : Option Ending) (outcomes : List Outcome) (walked : List TraceLine) (s : Stands n m given close outcomes walked) where
+    abbrev at_last : Course
+    at_last = course_under n (given ++ []) (picks_of walked)
+
+    sent_is : m.sent ≡ at_last.state.sent
+    unfolding with_rest state_of
+    sent_is = ap (λ x. x.sent) (s.at [] (nothing_comes n close)).follows.state
+
+    waiting_is : option_to_list m.inbox ++ [] ≡ at_last.state.unsent
+    unfolding with_rest state_of
+    waiting_is = ap (λ x. x.unsent) (s.at [] (nothing_comes n close)).follows.state
+
+    pub all_given : length given ≡ m.sent + length (option_to_list m.inbox)
+    all_given =
+        let count = laws.counted (given ++ []) (wide_append (width_of n) given [] s.wide tt) (picks_of walked) in
+        let a = ap length (append-nil given) in
+        let b = ap length (append-nil (option_to_list m.inbox)) in
+        let c = ap length waiting_is in
+        let d = sent_is in
+        omega arith
+
+    -- so one waits as long as the stream isn't ended, and none then
+    pub waits_so : (close ≡ None → m.inbox ≢ None) → ((e : Ending) → close ≡ Some e → m.inbox ≡ None) → length given ≡ m.sent + one_waits close
+    waits_so filled empty = all_given ∙ ap (λ k. m.sent + k) (by close m.inbox filled empty)
+      where
+        by : (c : Option Ending) (inbox : Option (List ℤ)) → (c ≡ None → inbox ≢ None) → ((e : Ending) → c ≡ Some e → inbox ≡ None) → length (option_to_list inbox) ≡ one_waits c
+        by None None filled empty = absurd (filled refl refl)
+        by None (Some item) filled empty = refl
+        by (Some e) None filled empty = refl
+        by (Some e) (Some item) filled empty = absurd (let z = empty e refl in cc)
+
+    -- where all was sent and nothing comes, no firing leaves an item that waits
+    pub stays_empty : (m' : Seen) (outcomes' : List Outcome) (p : ℕ) → Follows m' outcomes' [] (picked n.tree n.leaf n.net at_last p) → m.inbox ≡ None → m'.inbox ≡ None
+    unfolding with_rest state_of
+    stays_empty m' outcomes' p follows none =
+        let nothing : at_last.state.unsent ≡ [] = sym waiting_is ∙ ap (λ o. option_to_list o ++ []) none in
+        let left : option_to_list m'.inbox ++ [] ≡ [] = ap (λ x. x.unsent) follows.state ∙ laws.none_comes at_last p nothing in
+        by m'.inbox left
+      where
+        by : (inbox : Option (List ℤ)) → option_to_list inbox ++ [] ≡ [] → inbox ≡ None
+        by None left = refl
+        by (Some item) left = absurd (let z = left in cc)
+
   module _ (before : Outside) where
     -- nothing was asked for and no line passed
     pub walks_first : Laws n → n.firings * most_of_input < 2 ^ 63 → HasGiven (width_of n) (stream.started (width_of n) input_limit) [] [] → (width : ℕ) → width ≡ width_of n → (w : Walk) → w ≡ started n.tree n.net width → Walks n before before [] w
     unfolding after_picks AgreeFrom
     walks_first laws fits given width wide w is =
         subst (Walks n before before []) (sym is) (subst (λ k. Walks n before before [] (started n.tree n.net k)) (sym wide) (record {
-          laws = laws;
-          fits = fits;
-          items = [];
-          outcomes = [];
-          gives = gives_first (width_of n) before.rest before.faults (stream.started (width_of n) input_limit) given refl;
-          stands = record { runs = record { tree = refl; net = refl }; wide = tt; at = λ later may. record { follows = laws.starts later; agree = tt } };
+          passed = record {
+            laws = laws;
+            fits = fits;
+            items = [];
+            outcomes = [];
+            gives = gives_first (width_of n) before.rest before.faults (stream.started (width_of n) input_limit) given refl;
+            stands = record { runs = record { tree = refl; net = refl }; wide = tt; at = λ later may. record { follows = laws.starts later; agree = tt } };
+            empty = λ e ends. refl;
+          };
+          asked = λ later may. (refl, refl);
         }))
 
-    module _ (now : Outside) (walked : List TraceLine) (w : Walk) (d : Walks n before now walked w) where
+    module _ (now : Outside) (walked : List TraceLine) (w : Walk) (d : HasPassed n before now walked w) where
       same_width : (node_at w.machine.tree 0).ins ≡ width_of n
       same_width = ap (λ t. (node_at t 0).ins) d.stands.runs.tree
 
@@ -108,30 +187,47 @@ module _ (n : Network) where
           let fits = d.fits in
           omega (arith, mul-le n.firings (course_under n items (picks_of walked)).state.sent n.firings most_of_input (omega arith) sent)
 
+      fed_empty : (m : Seen) (close : Option Ending) (more : List (List ℤ)) → Offers w.machine m more → (more ≢ [] → w.close ≡ None) → ((e : Ending) → w.close ≡ None → close ≡ Some e → m.inbox ≡ None) →
+          (e : Ending) → close ≡ Some e → m.inbox ≡ None
+      fed_empty m close more offers asked empty e ends = by w.close refl
+        where
+          by : (c : Option Ending) → w.close ≡ c → m.inbox ≡ None
+          by None is = empty e is ends
+          by (Some x) is = still_empty w.machine m w.close more offers asked x is (d.empty x is)
+
       -- the machine was fed
       pub fed : (m : Seen) (s : stream.Seen) (left : Option (List ℕ)) (faults : ℕ) (close : Option Ending) → Feeds (node_at w.machine.tree 0).ins w.machine m w.stream s now.rest left now.faults faults w.close close →
           AwaitsLine n before (outside left faults) walked (record w { machine = m; stream = s; close = close })
       fed m s left faults close feeds =
           let f : Feeds (width_of n) w.machine m w.stream s now.rest left now.faults faults w.close close = subst (λ k. Feeds k w.machine m w.stream s now.rest left now.faults faults w.close close) same_width feeds in
+          let stands : Stands n m (d.items ++ f.more) close d.outcomes walked = stands_fed d.laws w.machine m d.items w.close close d.outcomes walked d.stands f.kept f.more f.offers f.wide f.asked in
+          let empty : (e : Ending) → close ≡ Some e → m.inbox ≡ None = fed_empty m close f.more f.offers f.asked f.empty in
           record {
-            walks = record {
+            passed = record {
               laws = d.laws;
               fits = d.fits;
               items = d.items ++ f.more;
               outcomes = d.outcomes;
               gives = f.gives before.rest before.faults d.items d.gives;
-              stands = stands_fed d.laws w.machine m d.items w.close close d.outcomes walked d.stands f.kept f.more f.offers f.wide f.asked;
+              stands = stands;
+              empty = empty;
             };
             filled = f.filled;
+            waits = waits_so d.laws m (d.items ++ f.more) close d.outcomes walked stands f.filled empty;
           }
+
+    module _ (now : Outside) (walked : List TraceLine) (w : Walk) (walks : Walks n before now walked w) where
+      abbrev so : HasPassed n before now walked w
+      so = walks.passed
 
       -- the trace is one of a run
       pub agrees_on : (traced : Traced) → traced.lines ≡ walked → IsCounted traced → AgreesOn n traced before.rest now.rest before.faults now.faults w.close
       agrees_on traced all counted = record {
         stream = w.stream;
-        items = d.items;
-        gives = d.gives;
-        holds = λ later may. record { lines = subst (λ k. AllAgree n.tree n.leaf n.net (d.items ++ later) k) (sym all) (d.stands.at later may).agree; counts = counted };
+        items = so.items;
+        gives = so.gives;
+        asked = λ later may. subst (λ k. IsAskedFor n (so.items ++ later) (picks_of k) (length so.items) w.close) (sym all) (walks.asked later may);
+        holds = λ later may. record { lines = subst (λ k. AllAgree n.tree n.leaf n.net (so.items ++ later) k) (sym all) (so.stands.at later may).agree; counts = counted };
       }
 
       -- or its counts are not those of its lines
@@ -140,15 +236,16 @@ module _ (n : Network) where
         w.close,
         record {
           stream = w.stream;
-          items = d.items;
-          gives = d.gives;
-          holds = λ later may. inr (record { agree = subst (λ k. AllAgree n.tree n.leaf n.net (d.items ++ later) k) (sym all) (d.stands.at later may).agree; other = other; number_is = is });
+          items = so.items;
+          gives = so.gives;
+          asked = λ later may. subst (λ k. IsAskedFor n (so.items ++ later) k (length so.items) w.close) (ap picks_of (sym all) ∙ sym (all_picks traced number is)) (walks.asked later may);
+          holds = λ later may. inr (record { agree = subst (λ k. AllAgree n.tree n.leaf n.net (so.items ++ later) k) (sym all) (so.stands.at later may).agree; other = other; number_is = is });
         },
       )
 
     module _ (now : Outside) (walked : List TraceLine) (w : Walk) (a : AwaitsLine n before now walked w) (line : TraceLine) where
-      abbrev d : Walks n before now walked w
-      d = a.walks
+      abbrev d : HasPassed n before now walked w
+      d = a.passed
 
       abbrev course : List (List ℤ) → Course
       course later = course_under n (d.items ++ later) (picks_of walked)
@@ -161,6 +258,14 @@ module _ (n : Network) where
           at_network w.machine d.stands.runs (λ t k. can_fire t k (course later).state line.pick ≡ can_step w.machine line.pick)
           (d.laws.can_fires w.machine d.outcomes later (course later) line.pick (d.stands.at later may).follows (filled later may))
 
+      -- it was asked before the line's pick too
+      asked_more : (later : List (List ℤ)) → MayCome n w.close later → IsAskedFor n (d.items ++ later) (picks_of (walked ++ line ∷ [])) (length d.items) w.close
+      unfolding with_rest state_of
+      asked_more later may =
+          subst (λ ps. IsAskedFor n (d.items ++ later) ps (length d.items) w.close) (sym (picks_more walked line))
+          (asked_last (d.items ++ later) (picks_of walked) line.pick (length d.items) w.close
+          (a.waits ∙ ap (λ k. k + one_waits w.close) (ap (λ x. x.sent) (d.stands.at later may).follows.state)))
+
       -- the line differs
       pub differs_on : (traced : Traced) (after : List TraceLine) (number : ℕ) → traced.lines ≡ walked ++ line ∷ after → (AgreesWith w.machine line → ⊥) → number ≡ length walked + 2 → DiffersOn n traced before.rest now.rest before.faults now.faults number
       differs_on traced after number are other is = (
@@ -169,6 +274,7 @@ module _ (n : Network) where
           stream = w.stream;
           items = d.items;
           gives = d.gives;
+          asked = λ later may. subst (λ k. IsAskedFor n (d.items ++ later) (picks_of k) (length d.items) w.close) (sym (lines_to traced.lines walked line after number are is)) (asked_more later may);
           holds = λ later may. inl (record {
             front = walked;
             line = line;
@@ -192,22 +298,30 @@ module _ (n : Network) where
         walks_on : (m : Seen) (handed : Option Outcome) → Runs n m
             → ((later : List (List ℤ)) → MayCome n w.close later → Follows m (d.outcomes ++ option_to_list handed) later (picked w.machine.tree n.leaf w.machine.net (course later) line.pick)) → Walks n before now (walked ++ line ∷ []) (record w { machine = m })
         walks_on m handed runs follows = record {
-          laws = d.laws;
-          fits = d.fits;
-          items = d.items;
-          outcomes = d.outcomes ++ option_to_list handed;
-          gives = d.gives;
-          stands = record {
-            runs = runs;
-            wide = d.stands.wide;
-            at = λ later may. record {
-              follows =
-                  subst (λ c. Follows m (d.outcomes ++ option_to_list handed) later c) (sym (one_more later))
-                  (at_network w.machine d.stands.runs (λ t k. Follows m (d.outcomes ++ option_to_list handed) later (picked t n.leaf k (course later) line.pick)) (follows later may));
-              agree = agree_more n.tree n.leaf n.net _ walked line (d.stands.at later may).agree (agrees_in later may);
+          passed = record {
+            laws = d.laws;
+            fits = d.fits;
+            items = d.items;
+            outcomes = d.outcomes ++ option_to_list handed;
+            gives = d.gives;
+            stands = record {
+              runs = runs;
+              wide = d.stands.wide;
+              at = λ later may. record {
+                follows = subst (λ c. Follows m (d.outcomes ++ option_to_list handed) later c) (sym (one_more later)) (follows_on later may);
+                agree = agree_more n.tree n.leaf n.net _ walked line (d.stands.at later may).agree (agrees_in later may);
+              };
             };
+            empty = λ e ends.
+                stays_empty d.laws w.machine d.items w.close d.outcomes walked d.stands m (d.outcomes ++ option_to_list handed) line.pick
+                (follows_on [] (nothing_comes n w.close)) (d.empty e ends);
           };
+          asked = asked_more;
         }
+          where
+            follows_on : (later : List (List ℤ)) → MayCome n w.close later → Follows m (d.outcomes ++ option_to_list handed) later (picked n.tree n.leaf n.net (course later) line.pick)
+            follows_on later may =
+                at_network w.machine d.stands.runs (λ t k. Follows m (d.outcomes ++ option_to_list handed) later (picked t n.leaf k (course later) line.pick)) (follows later may)
 
         fired : (m : Seen) (handed : Option Outcome) → can_step w.machine line.pick ≡ true → Fires n.leaf w.machine m line.pick handed → Walks n before now (walked ++ line ∷ []) (record w { machine = m })
         fired m handed can fires =

@@ -1,31 +1,55 @@
 -- How the check of a trace against a network ends.
-use Rattle.std.specs.Prelude.{ℕ, ℤ, List, ◌++◌, Option, Result, Ok, Err}
+use Rattle.std.specs.Prelude.{◌≡◌, ℕ, ℤ, ◌+◌, ◌-◌, List, [], ◌∷◌, ◌++◌, length, take, Option, Some, None, Result, Ok, Err}
 use Rattle.p3l_base.specs.declared.memory.NoMemory.{NoMemory}
 use Rattle.p3l_stream.specs.declared.items.Ending.{Ending}
 use Rattle.p3l_stream.specs.Seen.{Seen}
 use Rattle.p3l_run.specs.Feed.{Gives, closed_so}
-use Rattle.p3l_run.specs.Network.{Network, width_of}
+use Rattle.p3l_run.specs.Network.{Network, course_under, width_of}
 use Rattle.p3l_run.specs.Run.{MayCome}
 use Rattle.p3l_trace.specs.declared.trace.Traced.{Traced}
-use Rattle.p3l_trace.specs.Agreement.{Agrees, DiffersAt}
+use Rattle.p3l_trace.specs.Agreement.{Agrees, DiffersAt, picks_of}
 use Rattle.p3l_retrace.specs.declared.retrace.Retraced.{Retraced}
 use Rattle.p3l_retrace.specs.declared.retrace.Retraced.TheVariants as retraced
 
--- the stream gave these items and then ended so, if it did; and this holds of them and whatever may still come after them
-pub record HoldsOn (n : Network) (rest left : Option (List ℕ)) (before now : ℕ) (close : Option Ending) (P : List (List ℤ) → Type 0) : Type 0 where
+-- how many items are sent before the last of some picks
+abbrev pub sent_before_last : Network → List (List ℤ) → List ℕ → ℕ
+sent_before_last n items picks = (course_under n items (take (length picks - 1) picks)).state.sent
+
+-- the items that are given and not sent where a machine was fed: one, as long as the stream isn't ended
+abbrev pub one_waits : Option Ending → ℕ
+one_waits None = 1
+one_waits (Some close) = 0
+
+-- a stream of these items that is asked before each of these picks where the inbox is empty, and at no other time, gave so many
+-- of them, and then ended so, if it did: it was asked for nothing where there are no picks; else one item waits for the last of
+-- them, or the stream has ended and all that it gave were sent before
+abbrev pub IsAskedFor : Network → (items : List (List ℤ)) → (picks : List ℕ) → (given : ℕ) → Option Ending → Type 0
+IsAskedFor n items [] given close = (given ≡ 0) × (close ≡ None)
+IsAskedFor n items (p ∷ picks) given close = given ≡ sent_before_last n items (p ∷ picks) + one_waits close
+
+-- the stream was asked before each of these picks, gave these items and then ended so, if it did; and this holds of them and
+-- whatever may still come after them
+pub record HoldsOn (n : Network) (rest left : Option (List ℕ)) (before now : ℕ) (picks : List ℕ) (close : Option Ending) (P : List (List ℤ) → Type 0) : Type 0 where
   pub stream : Seen
   pub items : List (List ℤ)
   pub gives : Gives (width_of n) rest left before now stream items (closed_so close)
+  pub asked : (later : List (List ℤ)) → MayCome n close later → IsAskedFor n (items ++ later) picks (length items) close
   pub holds : (later : List (List ℤ)) → MayCome n close later → P (items ++ later)
 
 -- the trace is that of a run of the network
 abbrev pub AgreesOn : Network → Traced → Option (List ℕ) → Option (List ℕ) → ℕ → ℕ → Option Ending → Type 0
-AgreesOn n traced rest left before now close = HoldsOn n rest left before now close (λ items. Agrees n.tree n.leaf n.net items traced)
+AgreesOn n traced rest left before now close =
+    HoldsOn n rest left before now (picks_of traced.lines) close (λ items. Agrees n.tree n.leaf n.net items traced)
+
+-- the picks of the lines up to the one of this number; the first line of a trace is its header, and its last is no pick
+abbrev pub picks_to : Traced → ℕ → List ℕ
+picks_to traced number = picks_of (take (number - 1) traced.lines)
 
 -- the line of this number is the first that differs
 abbrev pub DiffersOn : Network → Traced → Option (List ℕ) → Option (List ℕ) → ℕ → ℕ → ℕ → Type 0
 DiffersOn n traced rest left before now number =
-    (close : Option Ending) × HoldsOn n rest left before now close (λ items. DiffersAt n.tree n.leaf n.net items traced number)
+    (close : Option Ending)
+    × HoldsOn n rest left before now (picks_to traced number) close (λ items. DiffersAt n.tree n.leaf n.net items traced number)
 
 -- how a check ends
 abbrev pub IsRetraced : Network → Traced → Option (List ℕ) → Option (List ℕ) → ℕ → ℕ → Result Retraced NoMemory → Type 0

@@ -1,5 +1,5 @@
 -- A walk along a trace: a machine that makes the picks of its lines, on items that come from a stream, and what each step does.
-use Rattle.std.specs.Prelude.{◌≡◌, ◌≢◌, ℕ, ℤ, ◌*◌, ◌<◌, ◌^◌, Bool, true, false, List, [], ◌∷◌, ◌++◌, Option, None}
+use Rattle.std.specs.Prelude.{◌≡◌, ◌≢◌, ℕ, ℤ, ◌+◌, ◌*◌, ◌<◌, ◌^◌, Bool, true, false, List, [], ◌∷◌, ◌++◌, length, Option, Some, None}
 use Rattle.p3l_base.specs.declared.outcome.Outcome.{Outcome}
 use Rattle.p3l_firing.specs.declared.net.Net.{Net}
 use Rattle.p3l_skel.specs.declared.tree.Tree.{Tree}
@@ -17,6 +17,7 @@ use Rattle.p3l_run.specs.Run.{MayCome}
 use Rattle.p3l_trace.specs.declared.trace.TraceLine.{TraceLine}
 use Rattle.p3l_trace.specs.Agreement.{AgreesWith, AllAgree, picks_of}
 use Rattle.p3l_retrace.specs.declared.walk.Walk.{Walk}
+use Rattle.p3l_retrace.specs.Retraced.{IsAskedFor, one_waits}
 
 -- what the outside tells: the rest of the input and the count of its faults
 pub record Outside : Type 0 where
@@ -41,20 +42,29 @@ pub record Stands (n : Network) (m : Seen) (given : List (List ℤ)) (close : Op
 abbrev pub started : Tree → Net → ℕ → Walk
 started tree net width = record { machine = machine.started tree net; stream = stream.started width input_limit; close = None }
 
--- a walk along a trace of the network is under way: these lines were passed, on the items that the stream gave from what the
--- outside told before to what it tells now
-pub record Walks (n : Network) (before now : Outside) (walked : List TraceLine) (w : Walk) : Type 0 where
+-- these lines of a trace of the network were passed, on the items that the stream gave from what the outside told before to what
+-- it tells now; once that has ended no item waits
+pub record HasPassed (n : Network) (before now : Outside) (walked : List TraceLine) (w : Walk) : Type 0 where
   pub laws : Laws n
   pub fits : n.firings * most_of_input < 2 ^ 63
   pub items : List (List ℤ)
   pub outcomes : List Outcome
   pub gives : Gives (width_of n) before.rest now.rest before.faults now.faults w.stream items (closed_so w.close)
   pub stands : Stands n w.machine items w.close outcomes walked
+  pub empty : (e : Ending) → w.close ≡ Some e → w.machine.inbox ≡ None
 
--- the same where the inbox is filled, as long as the stream isn't ended, so that the machine can fire just where the network can
+-- a walk along a trace of the network is under way: the stream was asked before each of the picks of the lines passed, and not after
+pub record Walks (n : Network) (before now : Outside) (walked : List TraceLine) (w : Walk) : Type 0 where
+  pub passed : HasPassed n before now walked w
+  pub asked : (later : List (List ℤ)) → MayCome n w.close later →
+      IsAskedFor n (passed.items ++ later) (picks_of walked) (length passed.items) w.close
+
+-- it was asked once more, so the inbox is filled, as long as the stream isn't ended, and the machine can fire just where the
+-- network can
 pub record AwaitsLine (n : Network) (before now : Outside) (walked : List TraceLine) (w : Walk) : Type 0 where
-  pub walks : Walks n before now walked w
+  pub passed : HasPassed n before now walked w
   pub filled : w.close ≡ None → w.machine.inbox ≢ None
+  pub waits : length passed.items ≡ w.machine.sent + one_waits w.close
 
 -- a walk of some network is under way, with these bodies of modules
 pub record IsUnderWay (leaf : Leaf) (now : Outside) (w : Walk) : Type 0 where
@@ -66,7 +76,7 @@ pub record IsUnderWay (leaf : Leaf) (now : Outside) (w : Walk) : Type 0 where
 
 -- whatever the network is, a walk that was fed is under way still
 abbrev pub FeedsOn : Outside → Outside → Walk → Walk → Type 0
-FeedsOn now after old new = (n : Network) (before : Outside) (walked : List TraceLine) → Walks n before now walked old → AwaitsLine n before after walked new
+FeedsOn now after old new = (n : Network) (before : Outside) (walked : List TraceLine) → HasPassed n before now walked old → AwaitsLine n before after walked new
 
 -- what the pick of a process does, by whether that can fire
 abbrev pub StepsIf : Bool → Leaf → ℕ → Walk → Walk → Type 0

@@ -110,6 +110,9 @@ ending_closed (next.OutOfRange line) e is = (refl, (let same : ending.OutOfRange
 ending_closed next.ReadFault e is = (refl, (let same : ending.ReadFault ≡ e = cc in ap (λ k. Some (Ok k)) same))
 ending_closed next.TooLong e is = (refl, (let same : ending.TooLong ≡ e = cc in ap (λ k. Some (Ok k)) same))
 
+no_end : (e : Ending) → ◌≡◌ {A = Option Ending} None (Some e) → ⊥
+no_end e h = cc
+
 -- nothing is asked
 pub same_feeds : (width : ℕ) (m : machine.Seen) (s : Seen) (rest : Option (List ℕ)) (faults : ℕ) (close : Option Ending) → (close ≡ None → m.inbox ≢ None) → Feeds width m m s s rest rest faults faults close close
 same_feeds width m s rest faults close filled = record {
@@ -120,6 +123,7 @@ same_feeds width m s rest faults close filled = record {
   filled = filled;
   asked = λ some. absurd (some refl);
   kept = λ e is. is;
+  empty = λ e none is. absurd (no_end e (sym none ∙ is));
 }
 
 -- what an answer gives
@@ -145,13 +149,11 @@ module _ (width : ℕ) (s s' : Seen) (rest left : Option (List ℕ)) (before now
     filled = λ e none. (let z : Some item ≡ None = sym (ap (λ (k : machine.Seen). k.inbox) offered) ∙ none in cc);
     asked = λ some. not_ended;
     kept = λ e is. absurd (no_end e (sym not_ended ∙ is));
+    empty = λ e none is. absurd (no_end e is);
   }
-    where
-      no_end : (e : Ending) → ◌≡◌ {A = Option Ending} None (Some e) → ⊥
-      no_end e h = cc
 
-  pub end_feeds : (m : machine.Seen) (e : Ending) → items_in answer ≡ [] → closed_by answer ≡ Some (Ok e) → Feeds width m m s s' rest left before now close (Some e)
-  end_feeds m e a b = record {
+  pub end_feeds : (m : machine.Seen) (e : Ending) → items_in answer ≡ [] → closed_by answer ≡ Some (Ok e) → m.inbox ≡ None → Feeds width m m s s' rest left before now close (Some e)
+  end_feeds m e a b empty = record {
     more = [];
     gives = gives_so [] (Some (Ok e)) a b;
     offers = refl;
@@ -159,10 +161,8 @@ module _ (width : ℕ) (s s' : Seen) (rest left : Option (List ℕ)) (before now
     filled = λ none. cc;
     asked = λ some. absurd (some refl);
     kept = λ other is. absurd (no_end other (sym not_ended ∙ is));
+    empty = λ other none is. empty;
   }
-    where
-      no_end : (other : Ending) → ◌≡◌ {A = Option Ending} None (Some other) → ⊥
-      no_end other h = cc
 
 -- whether a stream ended, as it was tested
 pub not_some : (close : Option Ending) (b : Bool) → b ≡ is_some close → b ≡ true → close ≡ None → ⊥

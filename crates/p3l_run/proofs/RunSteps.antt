@@ -1,8 +1,8 @@
 -- A machine that runs a network pick by pick: its first state, each item, each pick, and its end.
 use Rattle.std.proofs.Common.{◌≡◌, ◌≢◌, ℕ, ℤ, pos, suc, ◌+◌, ◌*◌, ◌<◌, ◌≤◌, ◌^◌, Bool, true, false, List, [], ◌∷◌, ◌++◌, length, fold, replicate, Option, Some, None, IsTrue, refl, sym, ap, subst, ◌∙◌, arith, append_assoc, append-nil, length-append, mul_comm}
 use Rattle.std.proofs.lemmas.List.{length-replicate}
-use Rattle.std.specs.List.{AllByRecursion}
-use Rattle.std.specs.Option.{option_to_list}
+use Rattle.std.specs.List.{AllByRecursion, slice_get}
+use Rattle.std.specs.Option.{option_map, option_to_list}
 use Rattle.std.proofs.lemmas.Bool.{cond-false, cond-true, false≢true}
 use Rattle.std.proofs.lemmas.List.Sums.{fold-append}
 use Rattle.std.proofs.lemmas.Nat.{mod_below, mul-le}
@@ -10,7 +10,9 @@ use Rattle.p3l_base.specs.declared.outcome.Outcome.{Outcome}
 use Rattle.p3l_base.specs.declared.outcome.Outcome.TheVariants.{Value, Trapped}
 use Rattle.p3l_base.specs.declared.outcome.Trap.{Trap}
 use Rattle.p3l_firing.specs.declared.net.Net.{Net}
+use Rattle.p3l_firing.specs.declared.process.Proc.{Proc}
 use Rattle.p3l_firing.specs.declared.process.ProcKind.{ProcKind}
+use Rattle.p3l_firing.specs.declared.process.ProcKind.TheVariants.{Source}
 use Rattle.p3l_skel.specs.declared.tree.Tree.{Tree}
 use Rattle.p3l_skel.specs.Item.{item, meaning, up_to_trap}
 use Rattle.p3l_net.specs.Fire.{can_fire}
@@ -43,6 +45,11 @@ use Rattle.p3l_run.specs.Trap.{trap_after, trap_of}
 use Rattle.p3l_run.specs.Write.{HasBegun, HasPut}
 use Rattle.p3l_run.proofs.TraceSteps.{agree_more, counts_fired, counts_idle, picks_more, same_line}
 use Rattle.p3l_run.proofs.WriteSteps.{begun_longer, begun_more, begun_whole, text_begins, text_more}
+
+-- a net that has a source has a process
+pub some_process : (procs : List Proc) → option_map (λ (q : Proc). q.kind) (slice_get procs 0) ≡ Some Source → 0 < length procs
+some_process [] e = absurd cc
+some_process (q ∷ qs) e = omega arith
 
 -- items after others, each of so many words
 pub wide_append : (width : ℕ) (xs ys : List (List ℤ)) → AllByRecursion (λ (w : List ℤ). length w ≡ width) xs → AllByRecursion (λ (w : List ℤ). length w ≡ width) ys → AllByRecursion (λ (w : List ℤ). length w ≡ width) (xs ++ ys)
@@ -87,7 +94,7 @@ room_first (schedules.Seeded seed) = omega arith
 room_first (schedules.Recorded picks) = omega arith
 
 -- after a pick the cursor is a process
-place_after : (size : ℕ) (w : Way) (p : ℕ) → 0 < size → HasPlace size (after_pick size w p)
+pub place_after : (size : ℕ) (w : Way) (p : ℕ) → 0 < size → HasPlace size (after_pick size w p)
 place_after size (way.Turns cursor) p some = mod_below (p + 1) size some
 place_after size (way.Draws generator) p some = tt
 place_after size (way.Reads picks) p some = tt
@@ -417,6 +424,7 @@ module _ (n : Network) (laws : Laws n) (schedule : Schedule) where
               whole = λ stuck.
                   let none : ready_at n c ≡ [] = none_ready (ready_at n c) (ap (goes_on n) same ∙ stuck) in
                   emitted_is later may ∙ laws.finished (given ++ later) (all_wide later may) picks (laws.none_can c none);
+              stops = λ goes. laws.stops schedule (given ++ later) (all_wide later may) goes;
               stats_are = all ∙ ap (stats_of n) same;
               bounded = subst (λ (x : RunStats). x.fired ≤ n.firings * x.items) (sym all) (laws.fired_most (given ++ later) (all_wide later may) picks);
             }

@@ -1,5 +1,5 @@
 -- What is known of every run of a network, as it is needed of a machine that goes pick by pick.
-use Rattle.std.specs.Prelude.{◌≡◌, ◌≢◌, ℕ, ℤ, suc, Bool, false, ◌*◌, ◌<◌, ◌≤◌, List, [], ◌∷◌, ◌++◌, Option, Some, None, IsTrue, length}
+use Rattle.std.specs.Prelude.{◌≡◌, ◌≢◌, ℕ, ℤ, suc, Bool, true, false, ◌+◌, ◌*◌, ◌<◌, ◌≤◌, List, [], ◌∷◌, ◌++◌, Option, Some, None, IsTrue, length}
 use Rattle.std.specs.Option.{option_to_list}
 use Rattle.p3l_base.specs.declared.outcome.Outcome.{Outcome}
 use Rattle.p3l_net.specs.Fire.{IsStuck, can_fire}
@@ -11,9 +11,11 @@ use Rattle.p3l_net.specs.Outcomes.{IsPrefixOf}
 use Rattle.p3l_net.specs.State.{first_state}
 use Rattle.p3l_net.specs.Typed.{IsTyped}
 use Rattle.p3l_sched.specs.declared.picker.Way.{Way}
+use Rattle.p3l_sched.specs.declared.schedule.Schedule.{Schedule}
+use Rattle.p3l_sched.specs.declared.schedule.Schedule.TheVariants.{Recorded}
 use Rattle.p3l_sched.specs.Course.{picks_from}
 use Rattle.p3l_sched.specs.Picker.{IsPickedFrom, after_pick, pick_of, ready_of}
-use Rattle.p3l_run.specs.Network.{Network, course_under, meaning_of, ready_at, size_of}
+use Rattle.p3l_run.specs.Network.{IsSound, Network, course_of, course_under, goes_on, meaning_of, picks_of, ready_at, size_of}
 
 -- a machine runs the network
 pub record Runs (n : Network) (m : Seen) : Type 0 where
@@ -49,8 +51,19 @@ pub record Laws (n : Network) : Type 0 where
   pub one_more : (c : Course) (picks : List ℕ) (p : ℕ) →
       after_picks n.tree n.leaf n.net c (picks ++ p ∷ []) ≡ picked n.tree n.leaf n.net (after_picks n.tree n.leaf n.net c picks) p
   -- of all runs
+  pub none_comes : (c : Course) (p : ℕ) → c.state.unsent ≡ [] → (picked n.tree n.leaf n.net c p).state.unsent ≡ []
   pub fired_most : (items : List (List ℤ)) → HaveInWords n.tree items → (picks : List ℕ) → (course_under n items picks).fired ≤ n.firings * (course_under n items picks).state.sent
   pub sent_most : (items : List (List ℤ)) → HaveInWords n.tree items → (picks : List ℕ) → (course_under n items picks).state.sent ≤ length items
+  pub counted : (items : List (List ℤ)) → HaveInWords n.tree items → (picks : List ℕ) →
+      (course_under n items picks).state.sent + length (course_under n items picks).state.unsent ≡ length items
+  pub stops : (schedule : Schedule) (items : List (List ℤ)) → HaveInWords n.tree items →
+      goes_on n (course_of n schedule items) ≡ true → schedule ≡ Recorded (picks_of n schedule items)
   pub begins : (items : List (List ℤ)) → HaveInWords n.tree items → (picks : List ℕ) → IsPrefixOf (course_under n items picks).state.emitted (meaning_of n items)
   pub finished : (items : List (List ℤ)) → HaveInWords n.tree items → (picks : List ℕ) → IsStuck n.tree n.net (course_under n items picks).state →
       (course_under n items picks).state.emitted ≡ meaning_of n items
+
+-- where some process can still fire at the end of a run, its picks were recorded, and all of these were made
+abbrev pub OnlyRecordedPicksStop : Type 0
+OnlyRecordedPicksStop =
+    (n : Network) (schedule : Schedule) (items : List (List ℤ)) → IsSound n → HaveInWords n.tree items →
+    goes_on n (course_of n schedule items) ≡ true → schedule ≡ Recorded (picks_of n schedule items)

@@ -12,6 +12,7 @@ use Rattle.p3l_net.specs.Run.{Course, run}
 use Rattle.p3l_net.specs.Typed.{IsTyped}
 use Rattle.p3l_run.specs.declared.end.RunStats.{RunStats}
 use Rattle.p3l_sched.specs.declared.schedule.Schedule.{Schedule}
+use Rattle.p3l_sched.specs.declared.schedule.Schedule.TheVariants.{Recorded}
 use Rattle.p3l_sched.specs.Course as schedules
 use Rattle.p3l_sched.specs.Picker.{ready_of}
 
@@ -73,11 +74,13 @@ stats_of n course = record {
 }
 
 -- the network was run on the items: it emitted these outcomes, which begin the meaning of the items, and are all of it where no
--- process can fire at the end, and these are the numbers of the run, which fired at most so often for each item sent
+-- process can fire at the end; where some can, the picks were recorded, and all of them were made; and these are the numbers of
+-- the run, which fired at most so often for each item sent
 pub record IsRunOn (n : Network) (schedule : Schedule) (items : List (List ℤ)) (outcomes : List Outcome) (stats : RunStats) : Type 0 where
   pub emitted : outcomes ≡ (course_of n schedule items).state.emitted
   pub begins : IsPrefixOf outcomes (meaning_of n items)
   pub whole : goes_on n (course_of n schedule items) ≡ false → outcomes ≡ meaning_of n items
+  pub stops : goes_on n (course_of n schedule items) ≡ true → schedule ≡ Recorded (picks_of n schedule items)
   pub stats_are : stats ≡ stats_of n (course_of n schedule items)
   pub bounded : stats.fired ≤ n.firings * stats.items
 

@@ -1,6 +1,6 @@
 // What is known of every run of a network.
 
-ghost use Rattle.p3l_run.specs.Laws.{Laws};
+ghost use Rattle.p3l_run.specs.Laws.{Laws, OnlyRecordedPicksStop};
 ghost use Rattle.p3l_run.specs.Network.{IsSound, Network};
 
 use p3l_net::laws as net;
@@ -17,3 +17,9 @@ pub fn laws()
     sched::picks_are_ready();
     sched::picks_go_one_by_one();
 }
+
+/// A law of the runs of sound networks: one of which the picks are made by turns or by a seed ends
+/// where no process can fire, and one under recorded picks there or at the end of these.
+pub fn only_recorded_picks_stop()
+    ensures { OnlyRecordedPicksStop }
+{}

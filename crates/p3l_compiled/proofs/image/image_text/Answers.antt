@@ -27,7 +27,7 @@ encode-requires c =
     let whole : IsMade (image_of c.args.tree c.args.counts.list c.args.codes.now c.args.capacity) =
     made c.every_module_has_a_name.ensures c.every_compiled_image_can_be_run.ensures c.every_runnable_image_can_be_written.ensures
     c.args.tree c.args.codes.now c.args.counts.list c.args.capacity c.requires.program (subst (All IsSafe) codes c.in_ok-image.ensures.safe)
-    (rescues_in c.as_slice.result.now c.in_ok-image.field-0 _ c.as_slice.ensures same c.have_rescues.ensures)
+    (rescues_in c.as_slice.result.now c.in_ok-image.image _ c.as_slice.ensures same c.have_rescues.ensures)
     (subst (All HasAllOperands) (c.as_slice-2.ensures ∙ codes) c.have_operands.ensures) c.requires.counted c.requires.procs c.requires.some c.requires.few in
     subst CanBeWritten (sym same) whole.fits
 
@@ -39,7 +39,7 @@ returns c =
     let whole : IsMade image =
     made c.every_module_has_a_name.ensures c.every_compiled_image_can_be_run.ensures c.every_runnable_image_can_be_written.ensures
     c.args.tree c.args.codes.now c.args.counts.list c.args.capacity c.requires.program (subst (All IsSafe) codes c.in_ok-image.ensures.safe)
-    (rescues_in c.as_slice.result.now c.in_ok-image.field-0 _ c.as_slice.ensures same c.have_rescues.ensures)
+    (rescues_in c.as_slice.result.now c.in_ok-image.image _ c.as_slice.ensures same c.have_rescues.ensures)
     (subst (All HasAllOperands) (c.as_slice-2.ensures ∙ codes) c.have_operands.ensures) c.requires.counted c.requires.procs c.requires.some c.requires.few in
     if_ok_then c.encode.result _ (IsImageText image)
     (λ bytes e. record { runs = whole.runs; fits = whole.fits; bytes_are = e ∙ ap (λ (i : Image). image_text i) same }) c.encode.ensures

@@ -16,7 +16,7 @@ loop-line-init g c = record {
 }
 
 pub pass-requires-clause-tree : goal.pass-requires-clause-tree
-pass-requires-clause-tree g c = sym c.loop-line.invariant.walks.stands.runs.tree
+pass-requires-clause-tree g c = sym c.loop-line.invariant.walks.passed.stands.runs.tree
 
 pub pass-requires-clause-network : goal.pass-requires-clause-network
 pass-requires-clause-network g c = record {

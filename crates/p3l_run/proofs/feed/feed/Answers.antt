@@ -53,3 +53,4 @@ returns-in-Err g c =
     end_feeds (node_at c.args.machine.now.tree 0).ins c.args.lines.now c.next.new.self (g.S.Source.rest c.args.input.now) (g.S.Source.rest c.next.new.source) (g.S.Source.faults c.args.input.now) (g.S.Source.faults c.next.new.source) c.args.close none (Ok c.in_ok-answer.answer)
     (λ bytes items given answers. c.a_stream_gives_its_items.ensures.answers _ c.args.lines.now c.next.new.self _ _ bytes items (Ok c.in_ok-answer.answer) given s_open (e.closed s_open) answers)
     (e.answers s_open) (e.cause s_open) (e.closed s_open) e.items c.args.machine.now c.in-Err.ending is.0 is.1
+    (c.wants_item.ensures.0 (search (rules, c.if-not-wants_item.false)))

@@ -1,14 +1,8 @@
-use Rattle.std.proofs.Common.{◌≡◌, ◌<◌, List, [], ◌∷◌, length, Some, arith}
-use Rattle.std.specs.Option.{option_map}
-use Rattle.std.specs.List.{slice_get}
-use Rattle.p3l_firing.specs.declared.process.Proc.{Proc}
-use Rattle.p3l_firing.specs.declared.process.ProcKind.TheVariants.{Source}
+use Rattle.p3l_firing.proofs.CarriedLaw.{carried_run}
+use Rattle.p3l_run.proofs.FiringSteps.{picked_leaves}
+use Rattle.p3l_run.proofs.RunSteps.{some_process}
+use Rattle.p3l_run.proofs.StoppedSteps.{only_recorded_picks_stop}
 use Rattle.p3l_run.proofs.laws.laws.Goals as goal
-
--- a net that has a source has a process
-some_process : (procs : List Proc) → option_map (λ (q : Proc). q.kind) (slice_get procs 0) ≡ Some Source → 0 < length procs
-some_process [] e = absurd cc
-some_process (q ∷ qs) e = omega arith
 
 pub returns : goal.returns
 returns c = λ n sound. let carry = sound.carried.0 in let carried = sound.carried.1 in record {
@@ -26,9 +20,12 @@ returns c = λ n sound. let carry = sound.carried.0 in let carried = sound.carri
   ended = c.picks_go_one_by_one.ensures.ended n.tree n.leaf n.net;
   stuck = c.picks_go_one_by_one.ensures.stuck n.tree n.leaf n.net;
   none_can = λ k. c.picks_are_ready.ensures.stuck n.tree n.net k.state;
+  none_comes = λ k p. (picked_leaves n.tree n.leaf n.net k p).unsent;
   one_more = c.runs_go_pick_by_pick.ensures.more n.tree n.leaf n.net;
   fired_most = λ items widths picks. c.a_carried_net_means_its_items.ensures.bounded n.tree n.leaf n.net n.firings carry items picks carried widths;
   sent_most = λ items widths picks. c.a_carried_net_means_its_items.ensures.sent n.tree n.leaf n.net n.firings carry items picks carried widths;
+  counted = λ items widths picks. (carried_run n.tree n.leaf n.net n.firings carry carried items widths picks).count;
+  stops = λ schedule items widths on. only_recorded_picks_stop n schedule items sound widths on;
   begins = λ items widths picks. c.a_carried_net_means_its_items.ensures.begins n.tree n.leaf n.net n.firings carry items picks carried widths;
   finished = λ items widths picks stuck. c.a_carried_net_means_its_items.ensures.finished n.tree n.leaf n.net n.firings carry items picks carried widths stuck;
 }

@@ -4,27 +4,27 @@ use Rattle.p3l_retrace.proofs.WalkSteps as walk
 use Rattle.p3l_retrace.proofs.walk.Walk.pass.Goals as goal
 
 pub feed-requires-clause-wide : goal.feed-requires-clause-wide
-feed-requires-clause-wide g c = let way = c.requires.network in walk.wide way.network way.before (outside (g.S.Source.rest c.args.input.now) (g.S.Source.faults c.args.input.now)) way.walked c.args.self.now way.walks
+feed-requires-clause-wide g c = let way = c.requires.network in walk.wide way.network way.before (outside (g.S.Source.rest c.args.input.now) (g.S.Source.faults c.args.input.now)) way.walked c.args.self.now way.walks.passed
 
 pub feed-requires-clause-open : goal.feed-requires-clause-open
-feed-requires-clause-open g c = let way = c.requires.network in walk.unended way.network way.before (outside (g.S.Source.rest c.args.input.now) (g.S.Source.faults c.args.input.now)) way.walked c.args.self.now way.walks
+feed-requires-clause-open g c = let way = c.requires.network in walk.unended way.network way.before (outside (g.S.Source.rest c.args.input.now) (g.S.Source.faults c.args.input.now)) way.walked c.args.self.now way.walks.passed
 
 pub returns-then-not-agrees : goal.returns-then-not-agrees
 returns-then-not-agrees g c =
     λ n before walked leaf_is d.
-    (c.in_ok-feed.ensures n before walked d, λ agrees. let yes = c.agrees.ensures.machine.1 agrees in let no = c.if-not-agrees.true in absurd cc)
+    (c.in_ok-feed.ensures n before walked d.passed, λ agrees. let yes = c.agrees.ensures.machine.1 agrees in let no = c.if-not-agrees.true in absurd cc)
 
 pub step-requires-clause-count : goal.step-requires-clause-count
 step-requires-clause-count g c =
     let way = c.requires.network in
-    walk.fired_fits way.network way.before (outside (g.S.Source.rest c.feed.new.input) (g.S.Source.faults c.feed.new.input)) way.walked c.feed.new.self (c.in_ok-feed.ensures way.network way.before way.walked way.walks).walks
+    walk.fired_fits way.network way.before (outside (g.S.Source.rest c.feed.new.input) (g.S.Source.faults c.feed.new.input)) way.walked c.feed.new.self (c.in_ok-feed.ensures way.network way.before way.walked way.walks.passed).passed
 
 pub step-requires-clause-tree : goal.step-requires-clause-tree
 step-requires-clause-tree g c =
     let way = c.requires.network in
-    c.requires.tree ∙ way.walks.stands.runs.tree ∙ sym (c.in_ok-feed.ensures way.network way.before way.walked way.walks).walks.stands.runs.tree
+    c.requires.tree ∙ way.walks.passed.stands.runs.tree ∙ sym (c.in_ok-feed.ensures way.network way.before way.walked way.walks.passed).passed.stands.runs.tree
 
 pub returns : goal.returns
 returns g c =
     λ n before walked leaf_is d.
-    walk.stepped n before (outside (g.S.Source.rest c.feed.new.input) (g.S.Source.faults c.feed.new.input)) walked c.feed.new.self (c.in_ok-feed.ensures n before walked d) c.args.line.now (c.agrees.ensures.machine.0 c.if-not-agrees.false) _ leaf_is c.step.new.self c.in_ok-step.ensures
+    walk.stepped n before (outside (g.S.Source.rest c.feed.new.input) (g.S.Source.faults c.feed.new.input)) walked c.feed.new.self (c.in_ok-feed.ensures n before walked d.passed) c.args.line.now (c.agrees.ensures.machine.0 c.if-not-agrees.false) _ leaf_is c.step.new.self c.in_ok-step.ensures
