@@ -14,8 +14,10 @@ use p3l_code::Instr;
 #[cycle(expression)]
 pub fn emit_expr(scope: &Scope<'_>, code: &mut Vec<Instr>, expr: &Expr) -> Result<(), NoMemory>
     requires { length code.old.items + phrase_size (phrase expr.now) ≤ 4194304 }
-    ensures code { OnOk result (code.new.items ≡ code.old.items ++ phrase_code scope.now (length code.old.items) (phrase expr.now)) }
-    ensures size { OnOk result (length code.new.items ≡ length code.old.items + phrase_size (phrase expr.now)) }
+    ensures code { OnOk result (code.new.items
+        ≡ code.old.items ++ phrase_code scope.now (length code.old.items) (phrase expr.now)) }
+    ensures size { OnOk result (length code.new.items
+        ≡ length code.old.items + phrase_size (phrase expr.now)) }
 {
     match expr {
         Expr::Number(number) => put(code, Instr::Push(*number)),
@@ -34,8 +36,11 @@ fn emit_unary(
     operand: &Expr,
 ) -> Result<(), NoMemory>
     requires { length code.old.items + phrase_size (unary op (phrase operand.now)) ≤ 4194304 }
-    ensures code { OnOk result (code.new.items ≡ code.old.items ++ phrase_code scope.now (length code.old.items) (unary op (phrase operand.now))) }
-    ensures size { OnOk result (length code.new.items ≡ length code.old.items + phrase_size (unary op (phrase operand.now))) }
+    ensures code { OnOk result (code.new.items
+        ≡ code.old.items
+        ++ phrase_code scope.now (length code.old.items) (unary op (phrase operand.now))) }
+    ensures size { OnOk result (length code.new.items
+        ≡ length code.old.items + phrase_size (unary op (phrase operand.now))) }
 {
     emit_expr(scope, code, operand)?;
     put(code, Instr::Unary(op))
@@ -50,10 +55,14 @@ fn emit_binary(
     left: &Expr,
     right: &Expr,
 ) -> Result<(), NoMemory>
-    requires { length code.old.items + phrase_size (binary op (phrase left.now) (phrase right.now)) ≤ 4194304 }
+    requires { length code.old.items + phrase_size (binary op (phrase left.now) (phrase right.now))
+        ≤ 4194304 }
     ensures code { OnOk result (code.new.items
-        ≡ code.old.items ++ phrase_code scope.now (length code.old.items) (binary op (phrase left.now) (phrase right.now))) }
-    ensures size { OnOk result (length code.new.items ≡ length code.old.items + phrase_size (binary op (phrase left.now) (phrase right.now))) }
+        ≡ code.old.items
+        ++ phrase_code scope.now (length code.old.items)
+        (binary op (phrase left.now) (phrase right.now))) }
+    ensures size { OnOk result (length code.new.items
+        ≡ length code.old.items + phrase_size (binary op (phrase left.now) (phrase right.now))) }
 {
     if op == BinOp::Or {
         return emit_short(scope, code, BinOp::Or, left, right);
@@ -75,11 +84,16 @@ fn emit_short(
     left: &Expr,
     right: &Expr,
 ) -> Result<(), NoMemory>
-    requires { length code.old.items + phrase_size (phrase left.now) + phrase_size (phrase right.now) + 5 ≤ 4194304 }
+    requires { length code.old.items + phrase_size (phrase left.now)
+        + phrase_size (phrase right.now) + 5 ≤ 4194304 }
     ensures code { OnOk result (code.new.items ≡ code.old.items
-        ++ short_code op (length code.old.items) (phrase_code scope.now (length code.old.items) (phrase left.now)) (phrase_size (phrase left.now))
+        ++ short_code op (length code.old.items)
+        (phrase_code scope.now (length code.old.items) (phrase left.now))
+        (phrase_size (phrase left.now))
         (λ p. phrase_code scope.now p (phrase right.now)) (phrase_size (phrase right.now))) }
-    ensures size { OnOk result (length code.new.items ≡ length code.old.items + (phrase_size (phrase left.now) + phrase_size (phrase right.now) + 5)) }
+    ensures size { OnOk result (length code.new.items
+        ≡ length code.old.items + (phrase_size (phrase left.now) + phrase_size (phrase right.now)
+        + 5)) }
 {
     emit_expr(scope, code, left)?;
     let jump = code.len();
@@ -113,9 +127,12 @@ fn decided(op: BinOp) -> i64
 // Puts the code that reads a variable, an element or a constant after the code so far.
 #[cycle(expression)]
 fn emit_read(scope: &Scope<'_>, code: &mut Vec<Instr>, target: &Target) -> Result<(), NoMemory>
-    requires { length code.old.items + phrase_size (read target.now.at (phrases target.now.index.items)) ≤ 4194304 }
+    requires { length code.old.items + phrase_size (read target.now.at (phrases
+        target.now.index.items)) ≤ 4194304 }
     ensures code { OnOk result (code.new.items
-        ≡ code.old.items ++ phrase_code scope.now (length code.old.items) (read target.now.at (phrases target.now.index.items))) }
+        ≡ code.old.items
+        ++ phrase_code scope.now (length code.old.items)
+        (read target.now.at (phrases target.now.index.items))) }
     ensures size { OnOk result (length code.new.items
         ≡ length code.old.items + phrase_size (read target.now.at (phrases target.now.index.items))) }
 {
@@ -141,8 +158,10 @@ fn emit_only(
 ) -> Result<(), NoMemory>
     requires { length code.old.items + phrase_size (phrase index.now) + 1 ≤ 4194304 }
     ensures code { OnOk result (code.new.items ≡ code.old.items
-        ++ (phrase_code scope.now (length code.old.items) (phrase index.now) ++ element_code (found scope.now name.now) ∷ [])) }
-    ensures size { OnOk result (length code.new.items ≡ length code.old.items + (phrase_size (phrase index.now) + 1)) }
+        ++ (phrase_code scope.now (length code.old.items) (phrase index.now)
+        ++ element_code (found scope.now name.now) ∷ [])) }
+    ensures size { OnOk result (length code.new.items
+        ≡ length code.old.items + (phrase_size (phrase index.now) + 1)) }
 {
     emit_expr(scope, code, index)?;
     put(code, element(scope, name))
@@ -153,8 +172,11 @@ fn emit_only(
 pub fn emit_index(scope: &Scope<'_>, code: &mut Vec<Instr>, target: &Target) -> Result<(), NoMemory>
     requires { length code.old.items + index_size (phrases target.now.index.items) ≤ 4194304 }
     ensures code { OnOk result (code.new.items
-        ≡ code.old.items ++ index_code scope.now (length code.old.items) (sizes_in (found scope.now target.now.at.name)) (phrases target.now.index.items)) }
-    ensures size { OnOk result (length code.new.items ≡ length code.old.items + index_size (phrases target.now.index.items)) }
+        ≡ code.old.items
+        ++ index_code scope.now (length code.old.items)
+        (sizes_in (found scope.now target.now.at.name)) (phrases target.now.index.items)) }
+    ensures size { OnOk result (length code.new.items
+        ≡ length code.old.items + index_size (phrases target.now.index.items)) }
 {
     let sizes = scope.sizes(&target.at.name);
     for (dimension, index) in target.index.iter().enumerate() {
@@ -196,7 +218,8 @@ fn element(scope: &Scope<'_>, name: &Name) -> Instr
 fn put_truth(code: &mut Vec<Instr>, other: i64) -> Result<(), NoMemory>
     requires { length code.old.items + 4 ≤ 4194304 }
     ensures code { OnOk result (code.new.items ≡ code.old.items
-        ++ (Instr.Push (pos 0) ∷ Instr.Binary BinOp.Ne ∷ Instr.Jump (length code.old.items + 4) ∷ Instr.Push other ∷ [])) }
+        ++ (Instr.Push (pos 0) ∷ Instr.Binary BinOp.Ne ∷ Instr.Jump (length code.old.items + 4)
+        ∷ Instr.Push other ∷ [])) }
     ensures size { OnOk result (length code.new.items ≡ length code.old.items + 4) }
 {
     put(code, Instr::Push(0))?;

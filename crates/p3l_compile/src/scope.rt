@@ -54,7 +54,8 @@ impl<'c> Scope<'c> {
     // Adds a variable whose name is not there yet.
     fn add(&mut self, name: Name, slot: Slot) -> Result<(), NoMemory>
         requires { lookup (bytes_eq name) self.old.slots ≡ None }
-        ensures { OnOk result (self.new ≡ record self.old { slots = self.old.slots ++ (name, slot) ∷ [] }) }
+        ensures { OnOk result (self.new
+            ≡ record self.old { slots = self.old.slots ++ (name, slot) ∷ [] }) }
     {
         self.slots.insert(name, slot)?;
         Ok(())
@@ -65,7 +66,8 @@ impl<'c> Scope<'c> {
         requires fresh { AreFresh self.old.slots from vars.now }
         requires arrays { AllByRecursion IsArray vars.now }
         requires room { from + total vars.now ≤ 196608 }
-        ensures entered { OnOk result (self.new ≡ record self.old { slots = self.old.slots ++ slots_from from vars.now }) }
+        ensures entered { OnOk result (self.new
+            ≡ record self.old { slots = self.old.slots ++ slots_from from vars.now }) }
         ensures after { IfOk result (λ after. after ≡ from + total vars.now) }
     {
         let mut base = from;

@@ -16,8 +16,10 @@ use p3l_code::Instr;
 #[cycle(statement)]
 pub fn emit_stmts(scope: &Scope<'_>, code: &mut Vec<Instr>, stmts: &[Stmt]) -> Result<(), NoMemory>
     requires { length code.old.items + statement_size (tree_of stmts.now) ≤ 4194304 }
-    ensures code { OnOk result (code.new.items ≡ code.old.items ++ statement_code scope.now (length code.old.items) (tree_of stmts.now)) }
-    ensures size { OnOk result (length code.new.items ≡ length code.old.items + statement_size (tree_of stmts.now)) }
+    ensures code { OnOk result (code.new.items
+        ≡ code.old.items ++ statement_code scope.now (length code.old.items) (tree_of stmts.now)) }
+    ensures size { OnOk result (length code.new.items
+        ≡ length code.old.items + statement_size (tree_of stmts.now)) }
 {
     for stmt in stmts {
         emit_stmt(scope, code, stmt)?;
@@ -29,8 +31,10 @@ pub fn emit_stmts(scope: &Scope<'_>, code: &mut Vec<Instr>, stmts: &[Stmt]) -> R
 #[cycle(statement)]
 fn emit_stmt(scope: &Scope<'_>, code: &mut Vec<Instr>, stmt: &Stmt) -> Result<(), NoMemory>
     requires { length code.old.items + statement_size (one stmt.now) ≤ 4194304 }
-    ensures code { OnOk result (code.new.items ≡ code.old.items ++ statement_code scope.now (length code.old.items) (one stmt.now)) }
-    ensures size { OnOk result (length code.new.items ≡ length code.old.items + statement_size (one stmt.now)) }
+    ensures code { OnOk result (code.new.items
+        ≡ code.old.items ++ statement_code scope.now (length code.old.items) (one stmt.now)) }
+    ensures size { OnOk result (length code.new.items
+        ≡ length code.old.items + statement_size (one stmt.now)) }
 {
     match stmt {
         Stmt::Assign(target, expr) => emit_assign(scope, code, target, expr),
@@ -54,9 +58,15 @@ fn emit_if(
     condition: &Expr,
     then: &[Stmt],
 ) -> Result<(), NoMemory>
-    requires { length code.old.items + statement_size (if_ (phrase condition.now) (tree_of then.now) done) ≤ 4194304 }
-    ensures code { OnOk result (code.new.items ≡ code.old.items ++ statement_code scope.now (length code.old.items) (if_ (phrase condition.now) (tree_of then.now) done)) }
-    ensures size { OnOk result (length code.new.items ≡ length code.old.items + statement_size (if_ (phrase condition.now) (tree_of then.now) done)) }
+    requires { length code.old.items + statement_size (if_ (phrase condition.now) (tree_of then.now)
+        done) ≤ 4194304 }
+    ensures code { OnOk result (code.new.items
+        ≡ code.old.items
+        ++ statement_code scope.now (length code.old.items)
+        (if_ (phrase condition.now) (tree_of then.now) done)) }
+    ensures size { OnOk result (length code.new.items
+        ≡ length code.old.items + statement_size (if_ (phrase condition.now) (tree_of then.now)
+        done)) }
 {
     emit_expr(scope, code, condition)?;
     let jump = code.len();
@@ -75,9 +85,15 @@ fn emit_choice(
     then: &[Stmt],
     other: &[Stmt],
 ) -> Result<(), NoMemory>
-    requires { length code.old.items + statement_size (if_else (phrase condition.now) (tree_of then.now) (tree_of other.now) done) ≤ 4194304 }
-    ensures code { OnOk result (code.new.items ≡ code.old.items ++ statement_code scope.now (length code.old.items) (if_else (phrase condition.now) (tree_of then.now) (tree_of other.now) done)) }
-    ensures size { OnOk result (length code.new.items ≡ length code.old.items + statement_size (if_else (phrase condition.now) (tree_of then.now) (tree_of other.now) done)) }
+    requires { length code.old.items + statement_size (if_else (phrase condition.now)
+        (tree_of then.now) (tree_of other.now) done) ≤ 4194304 }
+    ensures code { OnOk result (code.new.items
+        ≡ code.old.items
+        ++ statement_code scope.now (length code.old.items)
+        (if_else (phrase condition.now) (tree_of then.now) (tree_of other.now) done)) }
+    ensures size { OnOk result (length code.new.items
+        ≡ length code.old.items + statement_size (if_else (phrase condition.now) (tree_of then.now)
+        (tree_of other.now) done)) }
 {
     emit_expr(scope, code, condition)?;
     let jump = code.len();
@@ -99,9 +115,15 @@ fn emit_while(
     condition: &Expr,
     body: &[Stmt],
 ) -> Result<(), NoMemory>
-    requires { length code.old.items + statement_size (while_ (phrase condition.now) (tree_of body.now) done) ≤ 4194304 }
-    ensures code { OnOk result (code.new.items ≡ code.old.items ++ statement_code scope.now (length code.old.items) (while_ (phrase condition.now) (tree_of body.now) done)) }
-    ensures size { OnOk result (length code.new.items ≡ length code.old.items + statement_size (while_ (phrase condition.now) (tree_of body.now) done)) }
+    requires { length code.old.items + statement_size (while_ (phrase condition.now)
+        (tree_of body.now) done) ≤ 4194304 }
+    ensures code { OnOk result (code.new.items
+        ≡ code.old.items
+        ++ statement_code scope.now (length code.old.items)
+        (while_ (phrase condition.now) (tree_of body.now) done)) }
+    ensures size { OnOk result (length code.new.items
+        ≡ length code.old.items + statement_size (while_ (phrase condition.now) (tree_of body.now)
+        done)) }
 {
     let start = code.len();
     put(code, Instr::Jump(0))?;
@@ -123,9 +145,20 @@ fn emit_turns(
     step: &Expr,
     body: &[Stmt],
 ) -> Result<(), NoMemory>
-    requires { length code.old.items + statement_size (while_ (phrase condition.now) (join (tree_of body.now) (assign next.now.at (phrases next.now.index.items) (phrase step.now) done)) done) ≤ 4194304 }
-    ensures code { OnOk result (code.new.items ≡ code.old.items ++ statement_code scope.now (length code.old.items) (while_ (phrase condition.now) (join (tree_of body.now) (assign next.now.at (phrases next.now.index.items) (phrase step.now) done)) done)) }
-    ensures size { OnOk result (length code.new.items ≡ length code.old.items + statement_size (while_ (phrase condition.now) (join (tree_of body.now) (assign next.now.at (phrases next.now.index.items) (phrase step.now) done)) done)) }
+    requires { length code.old.items + statement_size (while_ (phrase condition.now)
+        (join (tree_of body.now)
+        (assign next.now.at (phrases next.now.index.items) (phrase step.now) done)) done)
+        ≤ 4194304 }
+    ensures code { OnOk result (code.new.items
+        ≡ code.old.items
+        ++ statement_code scope.now (length code.old.items)
+        (while_ (phrase condition.now)
+        (join (tree_of body.now)
+        (assign next.now.at (phrases next.now.index.items) (phrase step.now) done)) done)) }
+    ensures size { OnOk result (length code.new.items
+        ≡ length code.old.items + statement_size (while_ (phrase condition.now)
+        (join (tree_of body.now)
+        (assign next.now.at (phrases next.now.index.items) (phrase step.now) done)) done)) }
 {
     let start = code.len();
     put(code, Instr::Jump(0))?;
@@ -146,9 +179,12 @@ fn emit_assign(
     target: &Target,
     expr: &Expr,
 ) -> Result<(), NoMemory>
-    requires { length code.old.items + assign_size (phrases target.now.index.items) (phrase expr.now) ≤ 4194304 }
+    requires { length code.old.items + assign_size (phrases target.now.index.items)
+        (phrase expr.now) ≤ 4194304 }
     ensures code { OnOk result (code.new.items
-        ≡ code.old.items ++ assign_code scope.now (length code.old.items) target.now.at.name (phrases target.now.index.items) (phrase expr.now)) }
+        ≡ code.old.items
+        ++ assign_code scope.now (length code.old.items)
+        target.now.at.name (phrases target.now.index.items) (phrase expr.now)) }
     ensures size { OnOk result (length code.new.items
         ≡ length code.old.items + assign_size (phrases target.now.index.items) (phrase expr.now)) }
 {
@@ -169,9 +205,12 @@ fn emit_scalar(
     expr: &Expr,
 ) -> Result<(), NoMemory>
     requires empty { target.now.index.items ≡ [] }
-    requires room { length code.old.items + assign_size (phrases target.now.index.items) (phrase expr.now) ≤ 4194304 }
+    requires room { length code.old.items + assign_size (phrases target.now.index.items)
+        (phrase expr.now) ≤ 4194304 }
     ensures code { OnOk result (code.new.items
-        ≡ code.old.items ++ assign_code scope.now (length code.old.items) target.now.at.name (phrases target.now.index.items) (phrase expr.now)) }
+        ≡ code.old.items
+        ++ assign_code scope.now (length code.old.items)
+        target.now.at.name (phrases target.now.index.items) (phrase expr.now)) }
     ensures size { OnOk result (length code.new.items
         ≡ length code.old.items + assign_size (phrases target.now.index.items) (phrase expr.now)) }
 {

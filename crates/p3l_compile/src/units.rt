@@ -38,7 +38,8 @@ pub fn table_of<'t>(
     requires lawful { IsLawfulTree tree.now }
     requires bodies { HasBodies tree.now codes }
     ensures tree { IfOk result (λ table. table.tree ≡ tree.now) }
-    ensures leaf { (seqs : List SeqTree) → AreBodies tree.now seqs → AreCodes seqs codes → IfOk result (λ table. leaf table ≡ body_leaf tree.now seqs) }
+    ensures leaf { (seqs : List SeqTree) → AreBodies tree.now seqs → AreCodes seqs codes
+        → IfOk result (λ table. leaf table ≡ body_leaf tree.now seqs) }
 {
     UnitTable::new(alloc, tree, codes)
 }

@@ -30,7 +30,8 @@ impl Model for Channels {
 impl Channels {
     /// The channels of a net before anything has fired.
     pub(crate) fn open(alloc: Global, chans: &List<Chan>) -> Result<Channels, NoMemory>
-        requires { EachIndex chans.now (λ c. (slice_index_or chans.now c no_chan).credits ≤ (slice_index_or chans.now c no_chan).cap) }
+        requires { EachIndex chans.now (λ c. (slice_index_or chans.now c no_chan).credits
+            ≤ (slice_index_or chans.now c no_chan).cap) }
         ensures { IfOk result (λ channels. channels ≡ map opened chans.now) }
     {
         let mut list = Vec::new(alloc);

@@ -35,7 +35,8 @@ pub(crate) struct Step {
 
 // A step that emits nothing.
 fn quiet(kind: ProcKind, touched: Touched) -> Step
-    ensures { result ≡ record { fired = record { kind = kind; emitted = None }; touched = touched } }
+    ensures { result
+        ≡ record { fired = record { kind = kind; emitted = None }; touched = touched } }
 {
     Step {
         fired: Fired {
@@ -83,9 +84,11 @@ impl<'t> Store<'t> {
         requires calm { self.old.trapped ≡ false }
         requires count { self.old.fired < 2 ^ 63 }
         requires units { U.tree units.now ≡ self.old.tree }
-        ensures done { IfOk result (λ step. Done (U.leaf units.now) self.old self.new p step.touched step.fired.emitted) }
+        ensures done { IfOk result (λ step. Done (U.leaf units.now)
+            self.old self.new p step.touched step.fired.emitted) }
         ensures kind { IfOk result (λ step. kind_at self.old.net p ≡ Some step.fired.kind) }
-        ensures sink { IfOk result (λ step. IsSome step.fired.emitted ↔ (step.fired.kind ≡ ProcKind.Sink)) }
+        ensures sink { IfOk result (λ step. IsSome step.fired.emitted
+            ↔ (step.fired.kind ≡ ProcKind.Sink)) }
         ensures err { OnErr result (self.new ≡ self.old) }
         ensures memory { OnErr result (may_want_memory self.old p ≡ true) }
     {

@@ -134,8 +134,10 @@ impl<'t> Machine<'t> {
     /// can.
     pub fn next_ready(&self, from: u32) -> Option<u32>
         requires { from < length self.now.net.procs }
-        ensures first { result ≡ find (can_step self.now) (in_turn (length self.now.net.procs) from) }
-        ensures ready { IfSome result (λ p. (p < length self.now.net.procs) × IsTrue (can_step self.now p)) }
+        ensures first { result
+            ≡ find (can_step self.now) (in_turn (length self.now.net.procs) from) }
+        ensures ready { IfSome result (λ p. (p < length self.now.net.procs)
+            × IsTrue (can_step self.now p)) }
         ensures none { IfNone result ((p : ℕ) → can_step self.now p ≡ false) }
         ensures state { (emitted : List Outcome) → HasEmitted self.now emitted
             → result ≡ next_of self.now.tree self.now.net (state_of self.now emitted) from }
@@ -161,7 +163,8 @@ impl<'t> Machine<'t> {
         requires count { self.old.fired < 2 ^ 63 }
         requires tree { tree.now ≡ self.old.tree }
         requires units { U.tree units.now ≡ tree.now }
-        ensures fires { IfOk result (λ done. Fires (U.leaf units.now) self.old self.new p done.emitted) }
+        ensures fires { IfOk result (λ done. Fires (U.leaf units.now)
+            self.old self.new p done.emitted) }
         ensures kind { IfOk result (λ done. kind_at self.old.net p ≡ Some done.kind) }
         ensures sink { IfOk result (λ done. IsSome done.emitted ↔ (done.kind ≡ ProcKind.Sink)) }
         ensures err { OnErr result (self.new ≡ self.old) }

@@ -181,7 +181,8 @@ impl Keeps {
     /// A process takes a token to those that it holds; refused, the token comes back.
     pub(crate) fn gather(&mut self, p: u32, token: Token) -> Result<(), AllocFailed<Token>>
         requires { p < length self.old }
-        ensures ok { OnOk result (self.new ≡ slice_set self.old p (gathering (own_at self.old p) token)) }
+        ensures ok { OnOk result (self.new
+            ≡ slice_set self.old p (gathering (own_at self.old p) token)) }
         ensures err { OnErr result (self.new ≡ self.old) }
         ensures back { IfErr result (λ failed. failed.value ≡ token) }
     {

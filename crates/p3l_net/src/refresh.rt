@@ -27,7 +27,8 @@ fn look_at_ends(store: &Store, sides: &Sides, ready: &mut ReadySet, c: u32)
     requires size { length ready.old ≡ length store.now.net.procs }
     requires sides { HasEnds store.now.net sides.now }
     ensures size { length ready.new ≡ length store.now.net.procs }
-    ensures agrees { (cs : List ℕ) → AgreesBut store.now ready.old (c ∷ cs) → AgreesBut store.now ready.new cs }
+    ensures agrees { (cs : List ℕ) → AgreesBut store.now ready.old (c ∷ cs)
+        → AgreesBut store.now ready.new cs }
 {
     look(store, ready, sides.writer(c));
     look(store, ready, sides.reader(c));
@@ -40,7 +41,8 @@ pub(crate) fn refresh(store: &Store, sides: &Sides, ready: &mut ReadySet, p: u32
     requires size { length ready.old ≡ length store.now.net.procs }
     requires sides { HasEnds store.now.net sides.now }
     requires inside { AllByRecursion (λ c. c < length store.now.net.chans) touched.now }
-    requires others { (r : ℕ) → r < length store.now.net.procs → r ≢ p → IsApart store.now.net r touched.now
+    requires others { (r : ℕ) → r < length store.now.net.procs → r ≢ p
+        → IsApart store.now.net r touched.now
         → flag_at ready.old r ≡ ready_at store.now r }
     ensures { AgreesBut store.now ready.new [] }
 {

@@ -172,7 +172,9 @@ impl<'t> Store<'t> {
         requires there { p < length self.old.owns }
         requires token { CanTake self.old c }
         requires room { length (tokens_at self.old.queues c) ≤ (queue_at self.old.queues c).room }
-        ensures ok { OnOk result (self.new ≡ with_own (without_first self.old c) p (gathering (own_at self.old.owns p) (first_or credit (tokens_at self.old.queues c)))) }
+        ensures ok { OnOk result (self.new
+            ≡ with_own (without_first self.old c)
+            p (gathering (own_at self.old.owns p) (first_or credit (tokens_at self.old.queues c)))) }
         ensures err { OnErr result (self.new ≡ self.old) }
     {
         let token = self.channels.take(c);
@@ -188,7 +190,8 @@ impl<'t> Store<'t> {
     /// Whether process `p` holds the token whose number is due.
     pub(crate) fn holds_due(&self, p: u32) -> bool
         requires { p < length self.now.owns }
-        ensures { result ≡ has_number (own_at self.now.owns p).number (own_at self.now.owns p).held }
+        ensures { result
+            ≡ has_number (own_at self.now.owns p).number (own_at self.now.owns p).held }
     {
         self.keeps.holds_due(p)
     }
@@ -196,9 +199,11 @@ impl<'t> Store<'t> {
     /// Process `p` lets the first token out that it holds whose number is due, and counts one more.
     pub(crate) fn let_out(&mut self, p: u32) -> Token
         requires there { p < length self.old.owns }
-        requires due { has_number (own_at self.old.owns p).number (own_at self.old.owns p).held ≡ true }
+        requires due { has_number (own_at self.old.owns p).number (own_at self.old.owns p).held
+            ≡ true }
         requires few { (own_at self.old.owns p).number < 2 ^ 63 }
-        ensures token { result ≡ pick_number (own_at self.old.owns p).number (own_at self.old.owns p).held }
+        ensures token { result
+            ≡ pick_number (own_at self.old.owns p).number (own_at self.old.owns p).held }
         ensures after { self.new ≡ with_own self.old p (after_release (own_at self.old.owns p)) }
     {
         self.keeps.let_out(p)
@@ -210,7 +215,10 @@ impl<'t> Store<'t> {
         requires there { p < length self.old.owns }
         requires token { CanTake self.old c }
         requires room { length (tokens_at self.old.queues c) ≤ (queue_at self.old.queues c).room }
-        ensures ok { OnOk result (self.new ≡ with_own (without_first self.old c) p (gathering (own_at self.old.owns p) (record (first_or credit (tokens_at self.old.queues c)) { body = Trapped trap }))) }
+        ensures ok { OnOk result (self.new
+            ≡ with_own (without_first self.old c)
+            p (gathering (own_at self.old.owns p)
+            (record (first_or credit (tokens_at self.old.queues c)) { body = Trapped trap }))) }
         ensures err { OnErr result (self.new ≡ self.old) }
     {
         let Token { tags, body } = self.channels.take(c);
@@ -240,7 +248,8 @@ impl<'t> Store<'t> {
     pub(crate) fn pass_piece(&mut self, p: u32, more: bool)
         requires there { p < length self.old.owns }
         requires few { (own_at self.old.owns p).number < 2 ^ 63 }
-        ensures { self.new ≡ with_own self.old p (cond more (counted (own_at self.old.owns p)) fresh) }
+        ensures { self.new
+            ≡ with_own self.old p (cond more (counted (own_at self.old.owns p)) fresh) }
     {
         if more {
             self.count(p);

@@ -87,7 +87,8 @@ fn cert_in<F: Files>(
     requires costs { AreCostsOf tree.now costs.now }
     ensures loaded { IfOk result (LoadsCert (F.held files.old) name tree.now costs.now) }
     ensures calm { OnOk result (F.faults files.new ≡ F.faults files.old) }
-    ensures refused { IfErr result (IsCertless (change F.held F.faults files.old files.new) name tree.now costs.now) }
+    ensures refused { IfErr result (IsCertless (change F.held F.faults files.old files.new)
+        name tree.now costs.now) }
     ensures stays { F.held files.new ≡ F.held files.old }
 {
     match find_text(alloc, name, CERT_LIMIT, files) {
@@ -110,7 +111,8 @@ pub fn load_cert<F: Files>(
 ) -> Result<Cert, Verdict>
     ensures loaded { IfOk result (LoadsVerified (F.held files.old) program costs name) }
     ensures calm { OnOk result (F.faults files.new ≡ F.faults files.old) }
-    ensures refused { IfErr result (IsNotLoaded (change F.held F.faults files.old files.new) (verify_stages program name costs)) }
+    ensures refused { IfErr result (IsNotLoaded (change F.held F.faults files.old files.new)
+        (verify_stages program name costs)) }
     ensures stays { F.held files.new ≡ F.held files.old }
 {
     let program = match load_program(alloc, program, files) {

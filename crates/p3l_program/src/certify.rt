@@ -28,7 +28,10 @@ pub fn certify<F: Files, K: Sink>(
     out: &mut K,
 ) -> Verdict
     requires processors { (1 ≤ build.processors) × (build.processors ≤ 512) }
-    ensures due { IsSavingDue (change F.held F.faults files.old files.new) (change K.taken K.faults out.old out.new) (build_stages build) (IsExplained (F.held files.old) build) name (IsCertificate (F.held files.old) build) result }
+    ensures due { IsSavingDue (change F.held F.faults files.old files.new)
+        (change K.taken K.faults out.old out.new) (build_stages build)
+        (IsExplained (F.held files.old) build) name (IsCertificate (F.held files.old) build)
+        result }
     ensures kept { KeepsFiles (change F.held F.faults files.old files.new) (name ∷ []) result }
 {
     let processors = build.processors;

@@ -16,7 +16,8 @@ use std::alloc::Global;
 
 /// The line of a program that keeps all rules.
 fn ok_line(alloc: Global, tree: &Tree) -> Result<String, NoMemory>
-    ensures { IfOk result (λ line. string_bytes line ≡ ok_line (length tree.now.modules) (length tree.now.nodes)) }
+    ensures { IfOk result (λ line. string_bytes line
+        ≡ ok_line (length tree.now.modules) (length tree.now.nodes)) }
 {
     let modules = tree.modules.len();
     let instances = tree.nodes.len();
@@ -25,7 +26,9 @@ fn ok_line(alloc: Global, tree: &Tree) -> Result<String, NoMemory>
 
 /// Writes how many modules and instances the program of the file of this name has.
 pub fn check<F: Files, K: Sink>(alloc: Global, name: Name, files: &mut F, out: &mut K) -> Verdict
-    ensures due { IsTextDue (change F.held F.faults files.old files.new) (change K.taken K.faults out.old out.new) (program_stages name) (IsCounted (F.held files.old) name) result }
+    ensures due { IsTextDue (change F.held F.faults files.old files.new)
+        (change K.taken K.faults out.old out.new) (program_stages name)
+        (IsCounted (F.held files.old) name) result }
     ensures stays { F.held files.new ≡ F.held files.old }
 {
     match load_program(alloc, name, files) {

@@ -87,8 +87,10 @@ fn check_plan<U: Units, F: Files, S: Source, K: Sink>(
     requires width { plan.width ≡ (node_at plan.tree.now 0).ins }
     requires wide { 1 ≤ plan.width }
     requires fits { plan.firings * most_of_input < 2 ^ 63 }
-    ensures checked { IsCheckOf (network plan.entry.tree.now (U.leaf plan.entry.units.now) plan.entry.net plan.entry.firings)
-        (change F.held F.faults files.old files.new) (change S.rest S.faults input.old input.new) (change K.taken K.faults out.old out.new) name result }
+    ensures checked { IsCheckOf (network plan.entry.tree.now (U.leaf plan.entry.units.now)
+        plan.entry.net plan.entry.firings)
+        (change F.held F.faults files.old files.new) (change S.rest S.faults input.old input.new)
+        (change K.taken K.faults out.old out.new) name result }
     ensures stays { F.held files.new ≡ F.held files.old }
 {
     let traced = match load_trace(alloc, name, files) {
@@ -112,7 +114,9 @@ fn check_network<F: Files, S: Source, K: Sink>(
     out: &mut K,
 ) -> Verdict
     requires ready { IsReadyImage loaded }
-    ensures checked { IsCheckOf (network_in loaded) (change F.held F.faults files.old files.new) (change S.rest S.faults input.old input.new) (change K.taken K.faults out.old out.new) name result }
+    ensures checked { IsCheckOf (network_in loaded) (change F.held F.faults files.old files.new)
+        (change S.rest S.faults input.old input.new) (change K.taken K.faults out.old out.new)
+        name result }
     ensures stays { F.held files.new ≡ F.held files.old }
 {
     every_linked_net_is_carried();
@@ -141,7 +145,9 @@ pub fn check_trace<F: Files, S: Source, K: Sink>(
 ) -> Verdict
     requires processors { (1 ≤ build.processors) × (build.processors ≤ 512) }
     requires capacity { (1 ≤ build.capacity) × (build.capacity ≤ 1024) }
-    ensures due { IsCheckDue (world (change F.held F.faults files.old files.new) (change S.rest S.faults input.old input.new) (change K.taken K.faults out.old out.new)) build name result }
+    ensures due { IsCheckDue (world (change F.held F.faults files.old files.new)
+        (change S.rest S.faults input.old input.new) (change K.taken K.faults out.old out.new))
+        build name result }
     ensures stays { F.held files.new ≡ F.held files.old }
 {
     match load_network(alloc, build, files) {

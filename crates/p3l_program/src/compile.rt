@@ -20,7 +20,8 @@ use std::alloc::Global;
 pub fn compile<F: Files>(alloc: Global, build: Build, name: Name, files: &mut F) -> Verdict
     requires processors { (1 ≤ build.processors) × (build.processors ≤ 512) }
     requires capacity { (1 ≤ build.capacity) × (build.capacity ≤ 1024) }
-    ensures due { IsFileDue (change F.held F.faults files.old files.new) (build_stages build) name (IsImageOf (F.held files.old) build) result }
+    ensures due { IsFileDue (change F.held F.faults files.old files.new) (build_stages build)
+        name (IsImageOf (F.held files.old) build) result }
     ensures kept { KeepsFiles (change F.held F.faults files.old files.new) (name ∷ []) result }
 {
     let capacity = build.capacity;

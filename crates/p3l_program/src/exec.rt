@@ -27,9 +27,15 @@ pub fn exec<F: Files, S: Source, K: Sink>(
     input: &mut S,
     out: &mut K,
 ) -> Verdict
-    ensures due { IsRunDue (world (change F.held F.faults files.old files.new) (change S.rest S.faults input.old input.new) (change K.taken K.faults out.old out.new)) (imaged name) asked trace reported result }
-    ensures kept { KeepsFiles (change F.held F.faults files.old files.new) (option_to_list trace) result }
-    ensures over { (F.held files.new ≡ F.held files.old) ⊎ RunsOver (world (change F.held F.faults files.old files.new) (change S.rest S.faults input.old input.new) (change K.taken K.faults out.old out.new)) (imaged name) asked }
+    ensures due { IsRunDue (world (change F.held F.faults files.old files.new)
+        (change S.rest S.faults input.old input.new) (change K.taken K.faults out.old out.new))
+        (imaged name) asked trace reported result }
+    ensures kept { KeepsFiles (change F.held F.faults files.old files.new) (option_to_list trace)
+        result }
+    ensures over { (F.held files.new ≡ F.held files.old)
+        ⊎ RunsOver (world (change F.held F.faults files.old files.new)
+        (change S.rest S.faults input.old input.new) (change K.taken K.faults out.old out.new))
+        (imaged name) asked }
 {
     match load_image(alloc, name, files) {
         Err(verdict) => verdict,

@@ -22,7 +22,9 @@ pub fn explain<F: Files, K: Sink>(
     out: &mut K,
 ) -> Verdict
     requires processors { (1 ≤ build.processors) × (build.processors ≤ 512) }
-    ensures due { IsTextDue (change F.held F.faults files.old files.new) (change K.taken K.faults out.old out.new) (build_stages build) (IsExplained (F.held files.old) build) result }
+    ensures due { IsTextDue (change F.held F.faults files.old files.new)
+        (change K.taken K.faults out.old out.new) (build_stages build)
+        (IsExplained (F.held files.old) build) result }
     ensures stays { F.held files.new ≡ F.held files.old }
 {
     let processors = build.processors;

@@ -44,7 +44,8 @@ pub fn find_text<F: Files>(
 ) -> Result<List<u8>, FileRefusal>
     ensures found { IfOk result (λ text. HasText (F.held files.old) limit name text) }
     ensures calm { OnOk result (F.faults files.new ≡ F.faults files.old) }
-    ensures refused { IfErr result (λ refusal. IsUnreadable (change F.held F.faults files.old files.new) limit name refusal) }
+    ensures refused { IfErr result (λ refusal.
+        IsUnreadable (change F.held F.faults files.old files.new) limit name refusal) }
     ensures stays { F.held files.new ≡ F.held files.old }
 {
     match files.read(alloc, name.as_str(), limit) {

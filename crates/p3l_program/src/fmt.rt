@@ -30,7 +30,9 @@ fn canonical_of(alloc: Global, text: &[u8]) -> Result<List<u8>, SourceRefusal>
 
 /// Writes the canonical text of the program of the file of this name.
 pub fn fmt<F: Files, K: Sink>(alloc: Global, name: Name, files: &mut F, out: &mut K) -> Verdict
-    ensures due { IsTextDue (change F.held F.faults files.old files.new) (change K.taken K.faults out.old out.new) (fmt_stages name) (IsFormatted (F.held files.old) name) result }
+    ensures due { IsTextDue (change F.held F.faults files.old files.new)
+        (change K.taken K.faults out.old out.new) (fmt_stages name)
+        (IsFormatted (F.held files.old) name) result }
     ensures stays { F.held files.new ≡ F.held files.old }
 {
     match find_text(alloc, name, TEXT_LIMIT, files) {

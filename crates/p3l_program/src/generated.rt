@@ -53,7 +53,8 @@ fn save_as<F: Files>(
     text: &[u8],
     files: &mut F,
 ) -> Result<(), Verdict>
-    ensures { HasSave (change F.held F.faults files.old files.new) (prefix.now ++ suffix.now) text.now result }
+    ensures { HasSave (change F.held F.faults files.old files.new) (prefix.now
+        ++ suffix.now) text.now result }
 {
     match name_with(alloc, prefix, suffix) {
         Ok(name) => save(alloc, &name, text, files),
@@ -68,7 +69,8 @@ fn save_texts<F: Files>(
     texts: &Generated,
     files: &mut F,
 ) -> Result<(), Verdict>
-    ensures { HasSaves (change F.held F.faults files.old files.new) (saves_for prefix.now texts.now.program texts.now.costs texts.now.stream) result }
+    ensures { HasSaves (change F.held F.faults files.old files.new)
+        (saves_for prefix.now texts.now.program texts.now.costs texts.now.stream) result }
 {
     save_as(alloc, prefix, ".p3l", texts.program.as_slice(), files)?;
     save_as(alloc, prefix, ".toml", texts.costs.as_slice(), files)?;
@@ -82,7 +84,8 @@ fn save_where<F: Files>(
     texts: &Generated,
     files: &mut F,
 ) -> Result<(), Verdict>
-    ensures { HasSaves (change F.held F.faults files.old files.new) (saves_with prefix texts.now.program texts.now.costs texts.now.stream) result }
+    ensures { HasSaves (change F.held F.faults files.old files.new)
+        (saves_with prefix texts.now.program texts.now.costs texts.now.stream) result }
 {
     match prefix {
         Some(prefix) => save_texts(alloc, &prefix, texts, files),
@@ -143,7 +146,8 @@ fn run_text(alloc: Global, loaded: Allotted, asked: Sched, text: List<u8>) -> Re
     requires ready { IsReady loaded }
     requires made { IsMade asked }
     requires short { length text < 2 ^ 36 }
-    ensures ran { IfOk result (λ ran. (r : ResolvedTree) → IsCompiled r loaded.program → IsRanUnder (network_of r loaded.choice.counts.list gen_capacity) asked text ran) }
+    ensures ran { IfOk result (λ ran. (r : ResolvedTree) → IsCompiled r loaded.program
+        → IsRanUnder (network_of r loaded.choice.counts.list gen_capacity) asked text ran) }
     ensures wanting { IfErr result (λ v. v ≡ verdict.NoMemory) }
 {
     every_linked_net_is_carried();
@@ -194,7 +198,8 @@ fn summary_line(
     service: u128,
     used: u32,
 ) -> Result<String, NoMemory>
-    ensures { IfOk result (λ line. string_bytes line ≡ summary_line number ran.now.stats service used ran.now.sum) }
+    ensures { IfOk result (λ line. string_bytes line
+        ≡ summary_line number ran.now.stats service used ran.now.sum) }
 {
     let text = numbers_text(alloc, &ran.stats)?;
     let numbers = text.as_str();
@@ -218,7 +223,8 @@ fn tell<K: Sink>(
     used: u32,
     out: &mut K,
 ) -> Verdict
-    ensures { IsToldOf (change K.taken K.faults out.old out.new) ran.finish (due_at ran.finish (summary_line number ran.stats service used ran.sum)) result }
+    ensures { IsToldOf (change K.taken K.faults out.old out.new)
+        ran.finish (due_at ran.finish (summary_line number ran.stats service used ran.sum)) result }
 {
     if !comes_whole(&ran.finish) {
         return Verdict::Ended(run_finish(ran.finish), None);
@@ -245,7 +251,8 @@ fn run_texts<K: Sink>(
     requires made { IsMade asked }
     requires within { length texts.program ≤ text_limit }
     requires short { length texts.stream < 2 ^ 36 }
-    ensures { (g : Gen) → AreTextsOf g texts → g.number ≡ number → g.processors ≡ processors → g.asked ≡ asked → IsGenRun (change K.taken K.faults out.old out.new) g result }
+    ensures { (g : Gen) → AreTextsOf g texts → g.number ≡ number → g.processors ≡ processors
+        → g.asked ≡ asked → IsGenRun (change K.taken K.faults out.old out.new) g result }
 {
     let Generated {
         program,
@@ -279,8 +286,12 @@ pub fn run_generated<F: Files, K: Sink>(
     requires processors { (1 ≤ processors) × (processors ≤ 512) }
     requires items { items ≤ 100000 }
     requires made { IsMade asked }
-    ensures due { IsGenDue (change F.held F.faults files.old files.new) (change K.taken K.faults out.old out.new) (gen_of number processors items asked prefix) result
-        ⊎ IsGenUnsaved (change F.held F.faults files.old files.new) (change K.taken K.faults out.old out.new) (gen_of number processors items asked prefix) result }
+    ensures due { IsGenDue (change F.held F.faults files.old files.new)
+        (change K.taken K.faults out.old out.new) (gen_of number processors items asked prefix)
+        result
+        ⊎ IsGenUnsaved (change F.held F.faults files.old files.new)
+        (change K.taken K.faults out.old out.new) (gen_of number processors items asked prefix)
+        result }
 {
     let Ok(texts) = generate(alloc, number, items) else {
         return Verdict::NoMemory;

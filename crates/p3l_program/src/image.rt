@@ -50,10 +50,12 @@ fn load_verdict(refusal: LoadRefusal) -> Verdict
 
 /// The image of the file of this name, if it can be run; else the verdict that it can't.
 pub fn load_image<F: Files>(alloc: Global, name: Name, files: &mut F) -> Result<Loaded, Verdict>
-    ensures network { IfOk result (λ loaded. LoadsNetwork (F.held files.old) (imaged name) (network_in loaded)) }
+    ensures network { IfOk result (λ loaded. LoadsNetwork (F.held files.old) (imaged name)
+        (network_in loaded)) }
     ensures ready { IfOk result IsReadyImage }
     ensures calm { OnOk result (F.faults files.new ≡ F.faults files.old) }
-    ensures refused { IfErr result (IsNotLoaded (change F.held F.faults files.old files.new) (image_stages name)) }
+    ensures refused { IfErr result (IsNotLoaded (change F.held F.faults files.old files.new)
+        (image_stages name)) }
     ensures stays { F.held files.new ≡ F.held files.old }
 {
     let bytes = match find_text(alloc, name, IMAGE_LIMIT, files) {

@@ -18,7 +18,8 @@ use std::alloc::Global;
 /// Writes the image of a file in the newest version, with its net linked anew, to the file of another
 /// name.
 pub fn migrate<F: Files>(alloc: Global, name: Name, output: Name, files: &mut F) -> Verdict
-    ensures due { IsFileDue (change F.held F.faults files.old files.new) (migrate_stages name) output
+    ensures due { IsFileDue (change F.held F.faults files.old files.new) (migrate_stages name)
+        output
         (IsMigrated (F.held files.old) name) result }
     ensures kept { KeepsFiles (change F.held F.faults files.old files.new) (output ∷ []) result }
 {

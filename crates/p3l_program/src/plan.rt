@@ -65,7 +65,8 @@ pub fn accept(alloc: Global, text: &[u8]) -> Result<Accepted, SourceRefusal>
 pub fn load_program<F: Files>(alloc: Global, name: Name, files: &mut F) -> Result<Accepted, Verdict>
     ensures loaded { IfOk result (LoadsProgram (F.held files.old) name) }
     ensures calm { OnOk result (F.faults files.new ≡ F.faults files.old) }
-    ensures refused { IfErr result (IsNotLoaded (change F.held F.faults files.old files.new) (program_stages name)) }
+    ensures refused { IfErr result (IsNotLoaded (change F.held F.faults files.old files.new)
+        (program_stages name)) }
     ensures stays { F.held files.new ≡ F.held files.old }
 {
     match find_text(alloc, name, TEXT_LIMIT, files) {
@@ -103,7 +104,8 @@ fn costs_in<F: Files>(
     requires lawful { IsLawfulTree tree.now }
     ensures loaded { IfOk result (LoadsCosts (F.held files.old) (Some name) tree.now) }
     ensures calm { OnOk result (F.faults files.new ≡ F.faults files.old) }
-    ensures refused { IfErr result (IsCostless (change F.held F.faults files.old files.new) (Some name) tree.now) }
+    ensures refused { IfErr result (IsCostless (change F.held F.faults files.old files.new)
+        (Some name) tree.now) }
     ensures stays { F.held files.new ≡ F.held files.old }
 {
     match find_text(alloc, name, TEXT_LIMIT, files) {
@@ -125,7 +127,8 @@ pub fn load_costs<F: Files>(
     requires lawful { IsLawfulTree tree.now }
     ensures loaded { IfOk result (LoadsCosts (F.held files.old) name tree.now) }
     ensures calm { OnOk result (F.faults files.new ≡ F.faults files.old) }
-    ensures refused { IfErr result (IsCostless (change F.held F.faults files.old files.new) name tree.now) }
+    ensures refused { IfErr result (IsCostless (change F.held F.faults files.old files.new)
+        name tree.now) }
     ensures stays { F.held files.new ≡ F.held files.old }
 {
     match name {
@@ -151,7 +154,8 @@ pub fn allot<F: Files>(alloc: Global, build: Build, files: &mut F) -> Result<All
     requires few { build.processors ≤ 512 }
     ensures loaded { IfOk result (Loads (F.held files.old) build) }
     ensures calm { OnOk result (F.faults files.new ≡ F.faults files.old) }
-    ensures refused { IfErr result (IsNotLoaded (change F.held F.faults files.old files.new) (build_stages build)) }
+    ensures refused { IfErr result (IsNotLoaded (change F.held F.faults files.old files.new)
+        (build_stages build)) }
     ensures stays { F.held files.new ≡ F.held files.old }
 {
     let processors = build.processors;
@@ -181,7 +185,8 @@ fn link_allotted(alloc: Global, loaded: Allotted, capacity: u32) -> Result<Loade
     requires some { 1 ≤ capacity }
     requires few { capacity ≤ 1024 }
     ensures ready { IfOk result IsReadyImage }
-    ensures network { IfOk result (λ linked. (r : ResolvedTree) → IsCompiled r loaded.program → network_in linked ≡ network_of r loaded.choice.counts.list capacity) }
+    ensures network { IfOk result (λ linked. (r : ResolvedTree) → IsCompiled r loaded.program
+        → network_in linked ≡ network_of r loaded.choice.counts.list capacity) }
 {
     let Allotted {
         program,
@@ -205,10 +210,12 @@ fn link_allotted(alloc: Global, loaded: Allotted, capacity: u32) -> Result<Loade
 pub fn load_network<F: Files>(alloc: Global, build: Build, files: &mut F) -> Result<Loaded, Verdict>
     requires processors { (1 ≤ build.processors) × (build.processors ≤ 512) }
     requires capacity { (1 ≤ build.capacity) × (build.capacity ≤ 1024) }
-    ensures network { IfOk result (λ loaded. LoadsNetwork (F.held files.old) (built build) (network_in loaded)) }
+    ensures network { IfOk result (λ loaded. LoadsNetwork (F.held files.old) (built build)
+        (network_in loaded)) }
     ensures ready { IfOk result IsReadyImage }
     ensures calm { OnOk result (F.faults files.new ≡ F.faults files.old) }
-    ensures refused { IfErr result (IsNotLoaded (change F.held F.faults files.old files.new) (build_stages build)) }
+    ensures refused { IfErr result (IsNotLoaded (change F.held F.faults files.old files.new)
+        (build_stages build)) }
     ensures stays { F.held files.new ≡ F.held files.old }
 {
     let capacity = build.capacity;
@@ -237,7 +244,8 @@ pub fn plan_of<'a, U: Units>(tree: &'a Tree, counts: &Counts, units: &'a U, net:
     requires lawful { IsLawfulTree tree.now }
     requires counts { HasLawfulCounts tree.now counts.now.list }
     requires units { U.tree units.now ≡ tree.now }
-    ensures network { network result.tree.now (U.leaf result.units.now) result.net result.firings ≡ network tree.now (U.leaf units.now) net (firings tree.now counts.now.list) }
+    ensures network { network result.tree.now (U.leaf result.units.now) result.net result.firings
+        ≡ network tree.now (U.leaf units.now) net (firings tree.now counts.now.list) }
     ensures units { U.tree result.units.now ≡ result.tree.now }
     ensures width { result.width ≡ (node_at result.tree.now 0).ins }
     ensures wide { 1 ≤ result.width }

@@ -21,7 +21,8 @@ fn save_trace<F: Files>(
     traced: &Traced,
     files: &mut F,
 ) -> Result<(), Verdict>
-    ensures saved { HasSave (change F.held F.faults files.old files.new) name.now (trace_format.spell traced.now) result }
+    ensures saved { HasSave (change F.held F.faults files.old files.new)
+        name.now (trace_format.spell traced.now) result }
     ensures fits { OnOk result (trace_format.fits traced.now ≡ true) }
 {
     match trace_text(alloc, traced) {
@@ -39,7 +40,8 @@ pub fn record<F: Files>(
     stats: &RunStats,
     files: &mut F,
 ) -> Result<(), Verdict>
-    ensures { IsRecording (change F.held F.faults files.old files.new) trace lines stats.now result }
+    ensures { IsRecording (change F.held F.faults files.old files.new)
+        trace lines stats.now result }
 {
     let Some(name) = trace else {
         return Ok(());

@@ -29,9 +29,15 @@ pub fn run<F: Files, S: Source, K: Sink>(
 ) -> Verdict
     requires processors { (1 ≤ build.processors) × (build.processors ≤ 512) }
     requires capacity { (1 ≤ build.capacity) × (build.capacity ≤ 1024) }
-    ensures due { IsRunDue (world (change F.held F.faults files.old files.new) (change S.rest S.faults input.old input.new) (change K.taken K.faults out.old out.new)) (built build) asked trace reported result }
-    ensures kept { KeepsFiles (change F.held F.faults files.old files.new) (option_to_list trace) result }
-    ensures over { (F.held files.new ≡ F.held files.old) ⊎ RunsOver (world (change F.held F.faults files.old files.new) (change S.rest S.faults input.old input.new) (change K.taken K.faults out.old out.new)) (built build) asked }
+    ensures due { IsRunDue (world (change F.held F.faults files.old files.new)
+        (change S.rest S.faults input.old input.new) (change K.taken K.faults out.old out.new))
+        (built build) asked trace reported result }
+    ensures kept { KeepsFiles (change F.held F.faults files.old files.new) (option_to_list trace)
+        result }
+    ensures over { (F.held files.new ≡ F.held files.old)
+        ⊎ RunsOver (world (change F.held F.faults files.old files.new)
+        (change S.rest S.faults input.old input.new) (change K.taken K.faults out.old out.new))
+        (built build) asked }
 {
     match load_network(alloc, build, files) {
         Err(verdict) => verdict,

@@ -86,10 +86,14 @@ pub fn run_plan<U: Units, F: Files, S: Source, K: Sink>(
     requires width { plan.width ≡ (node_at plan.tree.now 0).ins }
     requires wide { 1 ≤ plan.width }
     requires fits { plan.firings * most_of_input < 2 ^ 63 }
-    ensures ran { IsRunOf (network plan.entry.tree.now (U.leaf plan.entry.units.now) plan.entry.net plan.entry.firings)
-        (change F.held F.faults files.old files.new) (change S.rest S.faults input.old input.new) (change K.taken K.faults out.old out.new) asked trace reported result }
-    ensures kept { KeepsRun (network plan.entry.tree.now (U.leaf plan.entry.units.now) plan.entry.net plan.entry.firings)
-        (change F.held F.faults files.old files.new) (change S.rest S.faults input.old input.new) (change K.taken K.faults out.old out.new) asked trace result }
+    ensures ran { IsRunOf (network plan.entry.tree.now (U.leaf plan.entry.units.now)
+        plan.entry.net plan.entry.firings)
+        (change F.held F.faults files.old files.new) (change S.rest S.faults input.old input.new)
+        (change K.taken K.faults out.old out.new) asked trace reported result }
+    ensures kept { KeepsRun (network plan.entry.tree.now (U.leaf plan.entry.units.now)
+        plan.entry.net plan.entry.firings)
+        (change F.held F.faults files.old files.new) (change S.rest S.faults input.old input.new)
+        (change K.taken K.faults out.old out.new) asked trace result }
 {
     let count = plan.net.procs.len() as u32;
     let schedule = match load_schedule(alloc, asked, count, files) {
@@ -115,8 +119,12 @@ pub fn run_network<F: Files, S: Source, K: Sink>(
     out: &mut K,
 ) -> Verdict
     requires ready { IsReadyImage loaded }
-    ensures ran { IsRunOf (network_in loaded) (change F.held F.faults files.old files.new) (change S.rest S.faults input.old input.new) (change K.taken K.faults out.old out.new) asked trace reported result }
-    ensures kept { KeepsRun (network_in loaded) (change F.held F.faults files.old files.new) (change S.rest S.faults input.old input.new) (change K.taken K.faults out.old out.new) asked trace result }
+    ensures ran { IsRunOf (network_in loaded) (change F.held F.faults files.old files.new)
+        (change S.rest S.faults input.old input.new) (change K.taken K.faults out.old out.new)
+        asked trace reported result }
+    ensures kept { KeepsRun (network_in loaded) (change F.held F.faults files.old files.new)
+        (change S.rest S.faults input.old input.new) (change K.taken K.faults out.old out.new)
+        asked trace result }
 {
     every_linked_net_is_carried();
     let Loaded {

@@ -29,7 +29,8 @@ fn picks_in<F: Files>(
     ensures named { IfOk result (NamesProcesses count) }
     ensures few { IfOk result (λ schedule. recorded schedule < 2 ^ 63) }
     ensures calm { OnOk result (F.faults files.new ≡ F.faults files.old) }
-    ensures refused { IfErr result (IsUnasked (change F.held F.faults files.old files.new) count (sched.File name)) }
+    ensures refused { IfErr result (IsUnasked (change F.held F.faults files.old files.new)
+        count (sched.File name)) }
     ensures stays { F.held files.new ≡ F.held files.old }
 {
     match find_text(alloc, name, PICKS_LIMIT, files) {
@@ -56,7 +57,8 @@ pub fn load_schedule<F: Files>(
     ensures named { IfOk result (NamesProcesses count) }
     ensures few { IfOk result (λ schedule. recorded schedule < 2 ^ 63) }
     ensures calm { OnOk result (F.faults files.new ≡ F.faults files.old) }
-    ensures refused { IfErr result (IsUnasked (change F.held F.faults files.old files.new) count asked) }
+    ensures refused { IfErr result (IsUnasked (change F.held F.faults files.old files.new)
+        count asked) }
     ensures stays { F.held files.new ≡ F.held files.old }
 {
     match asked {

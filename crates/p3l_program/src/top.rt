@@ -30,7 +30,10 @@ fn perform<F: Files, S: Source, K: Sink>(
     input: &mut S,
     out: &mut K,
 ) -> Verdict
-    ensures due { IsDue (texts_of words.now) (world (change F.held F.faults files.old files.new) (change S.rest S.faults input.old input.new) (change K.taken K.faults out.old out.new)) result }
+    ensures due { IsDue (texts_of words.now)
+        (world (change F.held F.faults files.old files.new)
+        (change S.rest S.faults input.old input.new) (change K.taken K.faults out.old out.new))
+        result }
 {
     match parse(alloc, words) {
         Err(OptsRefusal::Usage) => Verdict::Refused(Refusal::Usage),
@@ -73,7 +76,9 @@ fn answer<F: Files, S: Source, K: Sink, E: Sink>(
     out: &mut K,
     err: &mut E,
 ) -> Status
-    ensures answers { Answers (texts_of words.now) (world (change F.held F.faults files.old files.new) (change S.rest S.faults input.old input.new) (change K.taken K.faults out.old out.new))
+    ensures answers { Answers (texts_of words.now)
+        (world (change F.held F.faults files.old files.new)
+        (change S.rest S.faults input.old input.new) (change K.taken K.faults out.old out.new))
         (change E.taken E.faults err.old err.new) result.0 }
 {
     let verdict = perform(alloc, words, files, input, out);
@@ -101,7 +106,8 @@ pub fn top<F: Files, S: Source, K: Sink, E: Sink>(
     err: &mut E,
 ) -> Status
     ensures { Promises (texts_of words.now)
-        (world (change F.held F.faults files.old files.new) (change S.rest S.faults input.old input.new) (change K.taken K.faults out.old out.new))
+        (world (change F.held F.faults files.old files.new)
+        (change S.rest S.faults input.old input.new) (change K.taken K.faults out.old out.new))
         (change E.taken E.faults err.old err.new) result.0 }
 {
     one_command_at_most();

@@ -16,7 +16,8 @@ use std::alloc::Global;
 
 /// The line of a certificate that holds.
 fn holds_line(alloc: Global, cert: &Cert) -> Result<String, NoMemory>
-    ensures { IfOk result (λ line. string_bytes line ≡ holds_line cert.now.processors cert.now.used cert.now.service) }
+    ensures { IfOk result (λ line. string_bytes line
+        ≡ holds_line cert.now.processors cert.now.used cert.now.service) }
 {
     let processors = cert.processors;
     let used = cert.used;
@@ -36,7 +37,9 @@ pub fn verify_cert<F: Files, K: Sink>(
     files: &mut F,
     out: &mut K,
 ) -> Verdict
-    ensures due { IsTextDue (change F.held F.faults files.old files.new) (change K.taken K.faults out.old out.new) (verify_stages program name costs) (IsVerified (F.held files.old) program costs name) result }
+    ensures due { IsTextDue (change F.held F.faults files.old files.new)
+        (change K.taken K.faults out.old out.new) (verify_stages program name costs)
+        (IsVerified (F.held files.old) program costs name) result }
     ensures stays { F.held files.new ≡ F.held files.old }
 {
     match load_cert(alloc, program, costs, name, files) {

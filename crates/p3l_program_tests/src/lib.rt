@@ -32,6 +32,8 @@ mod order_of_stages;
 #[cfg(test)]
 mod picks;
 #[cfg(test)]
+mod rescues;
+#[cfg(test)]
 mod skeletons;
 #[cfg(test)]
 mod spelled;

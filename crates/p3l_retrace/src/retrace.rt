@@ -41,7 +41,8 @@ pub fn retrace<U: Units, S: Source>(
     requires width { plan.width ≡ (node_at plan.tree.now 0).ins }
     requires wide { 1 ≤ plan.width }
     requires fits { plan.firings * most_of_input < 2 ^ 63 }
-    ensures { IsRetraced (network plan.entry.tree.now (U.leaf plan.entry.units.now) plan.entry.net plan.entry.firings) traced.now
+    ensures { IsRetraced (network plan.entry.tree.now (U.leaf plan.entry.units.now)
+        plan.entry.net plan.entry.firings) traced.now
         (S.rest input.old) (S.rest input.new) (S.faults input.old) (S.faults input.new) result }
 {
     laws();

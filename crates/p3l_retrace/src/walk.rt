@@ -54,8 +54,10 @@ impl<'t> Walk<'t> {
     ) -> Result<bool, NoMemory>
         requires tree { tree.now ≡ self.old.machine.tree }
         requires units { U.tree units.now ≡ tree.now }
-        requires network { IsUnderWay (U.leaf units.now) (outside (S.rest input.old) (S.faults input.old)) self.old }
-        ensures { IfOk result (PassesOn (U.leaf units.now) line.now (outside (S.rest input.old) (S.faults input.old))
+        requires network { IsUnderWay (U.leaf units.now)
+            (outside (S.rest input.old) (S.faults input.old)) self.old }
+        ensures { IfOk result (PassesOn (U.leaf units.now)
+            line.now (outside (S.rest input.old) (S.faults input.old))
             (outside (S.rest input.new) (S.faults input.new)) self.old self.new) }
     {
         self.feed(alloc, input)?;
@@ -70,7 +72,8 @@ impl<'t> Walk<'t> {
     fn feed<S: Source>(&mut self, alloc: Global, input: &mut S) -> Result<(), NoMemory>
         requires wide { self.old.stream.words ≡ (node_at self.old.machine.tree 0).ins }
         requires open { self.old.close ≡ None → self.old.stream.closed ≡ None }
-        ensures { OnOk result (FeedsOn (outside (S.rest input.old) (S.faults input.old)) (outside (S.rest input.new) (S.faults input.new)) self.old self.new) }
+        ensures { OnOk result (FeedsOn (outside (S.rest input.old) (S.faults input.old))
+            (outside (S.rest input.new) (S.faults input.new)) self.old self.new) }
     {
         self.close = feed(
             alloc,

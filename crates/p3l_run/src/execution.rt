@@ -54,7 +54,8 @@ impl<'t> Execution<'t> {
     ) -> Result<Execution<'t>, NoMemory>
         requires typed { IsTyped tree.now net }
         requires wide { 1 ≤ width }
-        ensures { IfOk result (λ execution. execution ≡ started tree.now net firings width schedule keeping) }
+        ensures { IfOk result (λ execution. execution
+            ≡ started tree.now net firings width schedule keeping) }
     {
         Ok(Execution {
             firings,
@@ -79,9 +80,13 @@ impl<'t> Execution<'t> {
     ) -> Result<Ran, RunFault>
         requires tree { tree.now ≡ self.machine.tree }
         requires units { U.tree units.now ≡ tree.now }
-        requires job { IsUnderWay (U.leaf units.now) (outside (S.rest input.old) (S.faults input.old) (K.taken out.old) (K.faults out.old)) self }
-        ensures { Completes (U.leaf units.now) (outside (S.rest input.old) (S.faults input.old) (K.taken out.old) (K.faults out.old))
-            (outside (S.rest input.new) (S.faults input.new) (K.taken out.new) (K.faults out.new)) self.entry result }
+        requires job { IsUnderWay (U.leaf units.now)
+            (outside (S.rest input.old) (S.faults input.old) (K.taken out.old) (K.faults out.old))
+            self }
+        ensures { Completes (U.leaf units.now)
+            (outside (S.rest input.old) (S.faults input.old) (K.taken out.old) (K.faults out.old))
+            (outside (S.rest input.new) (S.faults input.new) (K.taken out.new) (K.faults out.new))
+            self.entry result }
     {
         self.run_out(alloc, tree, units, input, out)?;
         Ok(self.into_ran(alloc, tree)?)
@@ -99,9 +104,13 @@ impl<'t> Execution<'t> {
     ) -> Result<(), RunFault>
         requires tree { tree.now ≡ self.old.machine.tree }
         requires units { U.tree units.now ≡ tree.now }
-        requires job { IsUnderWay (U.leaf units.now) (outside (S.rest input.old) (S.faults input.old) (K.taken out.old) (K.faults out.old)) self.old }
-        ensures { RunsOut (U.leaf units.now) (outside (S.rest input.old) (S.faults input.old) (K.taken out.old) (K.faults out.old))
-            (outside (S.rest input.new) (S.faults input.new) (K.taken out.new) (K.faults out.new)) self.old self.new result }
+        requires job { IsUnderWay (U.leaf units.now)
+            (outside (S.rest input.old) (S.faults input.old) (K.taken out.old) (K.faults out.old))
+            self.old }
+        ensures { RunsOut (U.leaf units.now)
+            (outside (S.rest input.old) (S.faults input.old) (K.taken out.old) (K.faults out.old))
+            (outside (S.rest input.new) (S.faults input.new) (K.taken out.new) (K.faults out.new))
+            self.old self.new result }
     {
         'picks: loop {
             self.feed(alloc, input)?;
@@ -115,7 +124,8 @@ impl<'t> Execution<'t> {
     fn feed<S: Source>(&mut self, alloc: Global, input: &mut S) -> Result<(), NoMemory>
         requires wide { self.old.stream.words ≡ (node_at self.old.machine.tree 0).ins }
         requires open { self.old.close ≡ None → self.old.stream.closed ≡ None }
-        ensures { FeedsOn (S.rest input.old) (S.rest input.new) (S.faults input.old) (S.faults input.new) self.old self.new result }
+        ensures { FeedsOn (S.rest input.old) (S.rest input.new) (S.faults input.old)
+            (S.faults input.new) self.old self.new result }
     {
         self.close = feed(
             alloc,
@@ -139,7 +149,8 @@ impl<'t> Execution<'t> {
         requires tree { tree.now ≡ self.old.machine.tree }
         requires units { U.tree units.now ≡ tree.now }
         requires range { IsInRange self.old }
-        ensures { StepsOn (U.leaf units.now) (K.taken out.old) (K.taken out.new) (K.faults out.old) (K.faults out.new) self.old self.new result }
+        ensures { StepsOn (U.leaf units.now) (K.taken out.old) (K.taken out.new) (K.faults out.old)
+            (K.faults out.new) self.old self.new result }
     {
         let Some(process) = self.pick() else {
             return Ok(false);
@@ -215,7 +226,8 @@ impl<'t> Execution<'t> {
 
     /// How the run ended, where no pick is left.
     fn finish(&self, alloc: Global, tree: &Tree) -> Result<RunEnd, NoMemory>
-        requires { ready_list self.now.machine ≡ [] → IsNone self.now.told.trap → IsSome self.now.close }
+        requires { ready_list self.now.machine ≡ [] → IsNone self.now.told.trap
+            → IsSome self.now.close }
         ensures { IfOk result (IsFinish tree.now self.now) }
     {
         if self.machine.ready() == 0 {

@@ -25,7 +25,9 @@ pub fn feed<S: Source>(
 ) -> Result<Option<Ending>, NoMemory>
     requires wide { lines.old.words ≡ (node_at machine.old.tree 0).ins }
     requires open { close ≡ None → lines.old.closed ≡ None }
-    ensures { IsFed (node_at machine.old.tree 0).ins machine.old machine.new lines.old lines.new (S.rest input.old) (S.rest input.new) (S.faults input.old) (S.faults input.new) close result }
+    ensures { IsFed (node_at machine.old.tree 0).ins machine.old machine.new lines.old lines.new
+        (S.rest input.old) (S.rest input.new) (S.faults input.old) (S.faults input.new)
+        close result }
 {
     a_stream_gives_its_items();
     if close.is_some() {

@@ -31,7 +31,8 @@ pub(crate) fn finish_with(
     close: Option<Ending>,
 ) -> Result<RunEnd, NoMemory>
     requires { IsNone trap → IsSome close }
-    ensures { IfOk result (λ finish. (e : Ending) → MayEnd close e → finish ≡ end_of tree.now trap emitted e) }
+    ensures { IfOk result (λ finish. (e : Ending) → MayEnd close e
+        → finish ≡ end_of tree.now trap emitted e) }
 {
     match trap {
         None => Ok(RunEnd::Stream(close.unwrap())),
@@ -49,7 +50,14 @@ pub(crate) fn finish_with(
 /// The numbers of a run of a machine, with so many idle picks and so many firings an item at most.
 pub(crate) fn stats_of(machine: &Machine<'_>, firings: u64, idle: u64) -> RunStats
     requires { machine.now.sent * firings < 2 ^ 64 }
-    ensures { result ≡ record { items = machine.now.sent; fired = machine.now.fired; idle = idle; bound = machine.now.sent * firings } }
+    ensures { result
+        ≡ record {
+          items = machine.now.sent;
+          fired = machine.now.fired;
+          idle = idle;
+          bound =
+              machine.now.sent * firings;
+        } }
 {
     let sent = machine.sent();
     RunStats {

@@ -34,7 +34,8 @@ pub(crate) fn keep(
     pick: u32,
     kind: Option<ProcKind>,
 ) -> Result<(), NoMemory>
-    ensures { OnOk result (kept.new ≡ option_map (λ lines. lines ++ record { pick = pick; kind = kind } ∷ []) kept.old) }
+    ensures { OnOk result (kept.new
+        ≡ option_map (λ lines. lines ++ record { pick = pick; kind = kind } ∷ []) kept.old) }
 {
     match kept {
         None => Ok(()),

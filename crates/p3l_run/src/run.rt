@@ -53,8 +53,10 @@ pub fn run<U: Units, S: Source, K: Sink>(
     requires fits { plan.firings * most_of_input < 2 ^ 63 }
     requires named { NamesProcesses (length plan.net.procs) schedule }
     requires few { recorded schedule < 2 ^ 63 }
-    ensures ends { IsRunEnd (network plan.entry.tree.now (U.leaf plan.entry.units.now) plan.entry.net plan.entry.firings) schedule keeping
-        (S.rest input.old) (S.rest input.new) (S.faults input.old) (S.faults input.new) (K.taken out.old) (K.taken out.new) result }
+    ensures ends { IsRunEnd (network plan.entry.tree.now (U.leaf plan.entry.units.now)
+        plan.entry.net plan.entry.firings) schedule keeping
+        (S.rest input.old) (S.rest input.new) (S.faults input.old) (S.faults input.new)
+        (K.taken out.old) (K.taken out.new) result }
     ensures output { WriteCause (K.faults out.old) (K.faults out.new) result }
 {
     laws();

@@ -43,10 +43,14 @@ pub(crate) fn write_emitted<K: Sink>(
     told: Told,
     out: &mut K,
 ) -> Result<Told, RunFault>
-    ensures trap { IfOk result (λ after. after.trap ≡ fold trap_after told.trap (option_to_list emitted)) }
-    ensures sum { IfOk result (λ after. after.sum ≡ fold sum_after told.sum (option_to_list emitted)) }
-    ensures put { OnOk result (HasPut (K.taken out.old) (K.taken out.new) (text_of (option_to_list emitted))) }
-    ensures begun { OnErr result (HasBegun (K.taken out.old) (K.taken out.new) (text_of (option_to_list emitted))) }
+    ensures trap { IfOk result (λ after. after.trap
+        ≡ fold trap_after told.trap (option_to_list emitted)) }
+    ensures sum { IfOk result (λ after. after.sum
+        ≡ fold sum_after told.sum (option_to_list emitted)) }
+    ensures put { OnOk result (HasPut (K.taken out.old) (K.taken out.new)
+        (text_of (option_to_list emitted))) }
+    ensures begun { OnErr result (HasBegun (K.taken out.old) (K.taken out.new)
+        (text_of (option_to_list emitted))) }
     ensures cause { WriteCause (K.faults out.old) (K.faults out.new) result }
 {
     match emitted {

@@ -45,8 +45,10 @@ fn folded<U: Units>(
 ) -> Result<Outcome, NoMemory>
     requires operator { IsOperator (U.tree units.now) (U.leaf units.now) operator }
     requires some { 1 ≤ length tokens.now }
-    requires sized { AllByRecursion (λ (token : Token). HasLength (outs_of (U.tree units.now) operator) token.body) tokens.now }
-    ensures folded { IfOk result (λ outcome. outcome ≡ tree_fold (item (U.tree units.now) (U.leaf units.now) operator) (bodies tokens.now)) }
+    requires sized { AllByRecursion (λ (token : Token).
+        HasLength (outs_of (U.tree units.now) operator) token.body) tokens.now }
+    ensures folded { IfOk result (λ outcome. outcome
+        ≡ tree_fold (item (U.tree units.now) (U.leaf units.now) operator) (bodies tokens.now)) }
     ensures sized { IfOk result (λ outcome. HasLength (outs_of (U.tree units.now) operator) outcome) }
 {
     if tokens.len() == 1 {
@@ -101,7 +103,8 @@ impl<'t> Store<'t> {
     ) -> Result<Touched, NoMemory>
         requires may { MayFire self.old p ProcKind.FoldGather }
         requires units { U.tree units.now ≡ self.old.tree }
-        ensures done { IfOk result (λ touched. Done (U.leaf units.now) self.old self.new p touched None) }
+        ensures done { IfOk result (λ touched. Done (U.leaf units.now)
+            self.old self.new p touched None) }
         ensures err { OnErr result (self.new ≡ self.old) }
     {
         let process = self.process(p);
@@ -116,9 +119,11 @@ impl<'t> Store<'t> {
     // The fold-gather `p` sends the fold of the outcomes that it holds, and lets go of them.
     fn send_fold<U: Units>(&mut self, alloc: Global, units: &U, p: u32) -> Result<Touched, NoMemory>
         requires may { MayFire self.old p ProcKind.FoldGather }
-        requires full { (q : Proc) → slice_get self.old.net.procs p ≡ Some q → is_full (own_at self.old.owns p) q ≡ true }
+        requires full { (q : Proc) → slice_get self.old.net.procs p ≡ Some q
+            → is_full (own_at self.old.owns p) q ≡ true }
         requires units { U.tree units.now ≡ self.old.tree }
-        ensures done { IfOk result (λ touched. Done (U.leaf units.now) self.old self.new p touched None) }
+        ensures done { IfOk result (λ touched. Done (U.leaf units.now)
+            self.old self.new p touched None) }
         ensures err { OnErr result (self.new ≡ self.old) }
     {
         let process = self.process(p);
@@ -144,7 +149,8 @@ impl<'t> Store<'t> {
         requires units { U.tree units.now ≡ self.now.tree }
         ensures { IfOk result (λ token. token ≡ record {
           tags = (first_or credit (own_at self.now.owns p).held).tags;
-          body = fold_of self.now.tree (U.leaf units.now) process.now.node (bodies (own_at self.now.owns p).held);
+          body = fold_of self.now.tree (U.leaf units.now)
+              process.now.node (bodies (own_at self.now.owns p).held);
         }) }
     {
         let operator = self.node(process.node).part(0);

@@ -28,7 +28,8 @@ use std::alloc::Global;
 fn joined_of(alloc: Global, cut: &Cut, held: &[Token]) -> Result<Outcome, NoMemory>
     requires outs { HasLawfulOuts cut.now }
     requires count { length held.now ≡ element_count cut.now }
-    requires sizes { AllByRecursion (λ (token : Token). HasLength (element_size cut.now.outs) token.body) held.now }
+    requires sizes { AllByRecursion (λ (token : Token). HasLength (element_size cut.now.outs)
+        token.body) held.now }
     ensures { IfOk result (λ whole. whole ≡ gathered (joined_words cut.now) (bodies held.now)) }
 {
     let mut results = List::new(alloc);
@@ -83,7 +84,8 @@ impl<'t> Store<'t> {
     // Handed back is the channel touched.
     pub(super) fn fire_gather(&mut self, alloc: Global, p: u32) -> Result<Touched, NoMemory>
         requires { MayFire self.old p ProcKind.Gather }
-        ensures done { IfOk result (λ touched. (leaf : Leaf) → Done leaf self.old self.new p touched None) }
+        ensures done { IfOk result (λ touched. (leaf : Leaf)
+            → Done leaf self.old self.new p touched None) }
         ensures err { OnErr result (self.new ≡ self.old) }
     {
         let process = self.process(p);
@@ -98,8 +100,10 @@ impl<'t> Store<'t> {
     // The gather `p` sends the whole that the results which it holds make, and lets go of them.
     fn send_whole(&mut self, alloc: Global, p: u32) -> Result<Touched, NoMemory>
         requires may { MayFire self.old p ProcKind.Gather }
-        requires full { (q : Proc) → slice_get self.old.net.procs p ≡ Some q → is_full self.old.tree (own_at self.old.owns p) q ≡ true }
-        ensures done { IfOk result (λ touched. (leaf : Leaf) → Done leaf self.old self.new p touched None) }
+        requires full { (q : Proc) → slice_get self.old.net.procs p ≡ Some q
+            → is_full self.old.tree (own_at self.old.owns p) q ≡ true }
+        ensures done { IfOk result (λ touched. (leaf : Leaf)
+            → Done leaf self.old self.new p touched None) }
         ensures err { OnErr result (self.new ≡ self.old) }
     {
         let process = self.process(p);

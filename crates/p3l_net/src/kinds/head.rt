@@ -50,7 +50,8 @@ impl<'t> Store<'t> {
     // The head `p` sends a token round that came back.
     fn send_round(&mut self, p: u32) -> Touched
         requires may { MayFire self.old p ProcKind.Head }
-        requires back { (q : Proc) → slice_get self.old.net.procs p ≡ Some q → has_first (tokens_at self.old.queues (in_of q 1)) ≡ true }
+        requires back { (q : Proc) → slice_get self.old.net.procs p ≡ Some q
+            → has_first (tokens_at self.old.queues (in_of q 1)) ≡ true }
         ensures { (leaf : Leaf) → Done leaf self.old self.new p result None }
     {
         let process = self.process(p);
@@ -65,7 +66,8 @@ impl<'t> Store<'t> {
     // The head `p` takes a credit, and lets a token in, with its number and turn 1.
     fn let_in(&mut self, p: u32) -> Touched
         requires may { MayFire self.old p ProcKind.Head }
-        requires none { (q : Proc) → slice_get self.old.net.procs p ≡ Some q → has_first (tokens_at self.old.queues (in_of q 1)) ≡ false }
+        requires none { (q : Proc) → slice_get self.old.net.procs p ≡ Some q
+            → has_first (tokens_at self.old.queues (in_of q 1)) ≡ false }
         ensures { (leaf : Leaf) → Done leaf self.old self.new p result None }
     {
         let process = self.process(p);

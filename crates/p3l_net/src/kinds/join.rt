@@ -24,8 +24,10 @@ pub(super) fn combined_of<U: Units>(
     right: &Outcome,
 ) -> Result<Outcome, NoMemory>
     requires sequential { IsUnit (U.tree units.now) operator }
-    requires fits { IfValues left.now right.now (λ v w. HasFittingLength (U.tree units.now) operator (length v + length w)) }
-    ensures { IfOk result (λ made. made ≡ combined (item (U.tree units.now) (U.leaf units.now) operator) left.now right.now) }
+    requires fits { IfValues left.now right.now (λ v w. HasFittingLength (U.tree units.now)
+        operator (length v + length w)) }
+    ensures { IfOk result (λ made. made
+        ≡ combined (item (U.tree units.now) (U.leaf units.now) operator) left.now right.now) }
 {
     match (left, right) {
         (Outcome::Trapped(trap), _) => Ok(Outcome::Trapped(*trap)),
@@ -64,7 +66,8 @@ impl<'t> Store<'t> {
     ) -> Result<Touched, NoMemory>
         requires may { MayFire self.old p ProcKind.Join }
         requires units { U.tree units.now ≡ self.old.tree }
-        ensures done { IfOk result (λ touched. Done (U.leaf units.now) self.old self.new p touched None) }
+        ensures done { IfOk result (λ touched. Done (U.leaf units.now)
+            self.old self.new p touched None) }
         ensures err { OnErr result (self.new ≡ self.old) }
     {
         let process = self.process(p);

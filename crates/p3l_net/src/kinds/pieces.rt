@@ -41,7 +41,9 @@ impl<'t> Store<'t> {
         requires there { p < length self.old.owns }
         requires token { CanTake self.old input }
         requires count { self.old.fired < 2 ^ 63 }
-        ensures after { self.new ≡ ticked (with_own (without_first self.old input) p (holding (first_or credit (tokens_at self.old.queues input)))) }
+        ensures after { self.new
+            ≡ ticked (with_own (without_first self.old input)
+            p (holding (first_or credit (tokens_at self.old.queues input)))) }
         ensures touched { result ≡ input ∷ [] }
     {
         let token = self.take(input);
@@ -55,9 +57,13 @@ impl<'t> Store<'t> {
     pub(super) fn take_piece(&mut self, p: u32, input: u32) -> Result<Touched, NoMemory>
         requires there { p < length self.old.owns }
         requires token { CanTake self.old input }
-        requires room { length (tokens_at self.old.queues input) ≤ (queue_at self.old.queues input).room }
+        requires room { length (tokens_at self.old.queues input)
+            ≤ (queue_at self.old.queues input).room }
         requires count { self.old.fired < 2 ^ 63 }
-        ensures after { OnOk result (self.new ≡ ticked (with_own (without_first self.old input) p (gathering (own_at self.old.owns p) (first_or credit (tokens_at self.old.queues input))))) }
+        ensures after { OnOk result (self.new
+            ≡ ticked (with_own (without_first self.old input)
+            p (gathering (own_at self.old.owns p)
+            (first_or credit (tokens_at self.old.queues input))))) }
         ensures touched { IfOk result (λ touched. touched ≡ input ∷ []) }
         ensures err { OnErr result (self.new ≡ self.old) }
     {

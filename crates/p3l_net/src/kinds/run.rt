@@ -22,8 +22,10 @@ pub(super) fn outcome_of<U: Units>(
     outcome: &Outcome,
 ) -> Result<Outcome, NoMemory>
     requires sequential { IsUnit (U.tree units.now) node }
-    requires fits { IfValue outcome.now (λ words. HasFittingLength (U.tree units.now) node (length words)) }
-    ensures { IfOk result (λ made. made ≡ outcome_of (U.tree units.now) (U.leaf units.now) node outcome.now) }
+    requires fits { IfValue outcome.now (λ words. HasFittingLength (U.tree units.now)
+        node (length words)) }
+    ensures { IfOk result (λ made. made
+        ≡ outcome_of (U.tree units.now) (U.leaf units.now) node outcome.now) }
 {
     match outcome {
         Outcome::Value(words) => units.run(alloc, node, words),
@@ -55,7 +57,8 @@ impl<'t> Store<'t> {
     ) -> Result<Touched, NoMemory>
         requires may { MayFire self.old p ProcKind.Run }
         requires units { U.tree units.now ≡ self.old.tree }
-        ensures done { IfOk result (λ touched. Done (U.leaf units.now) self.old self.new p touched None) }
+        ensures done { IfOk result (λ touched. Done (U.leaf units.now)
+            self.old self.new p touched None) }
         ensures err { OnErr result (self.new ≡ self.old) }
     {
         let process = self.process(p);

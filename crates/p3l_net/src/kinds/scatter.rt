@@ -24,7 +24,8 @@ use std::alloc::Global;
 fn element_of(alloc: Global, cut: &Cut, k: u64, outcome: &Outcome) -> Result<Outcome, NoMemory>
     requires there { k < element_count cut.now }
     requires fits { IfValue outcome.now (λ words. HasLawfulIns cut.now (length words)) }
-    ensures { IfOk result (λ made. made ≡ on_value (λ words. Value (element_words cut.now.ins cut.now.second words k)) outcome.now) }
+    ensures { IfOk result (λ made. made
+        ≡ on_value (λ words. Value (element_words cut.now.ins cut.now.second words k)) outcome.now) }
 {
     match outcome {
         Outcome::Value(words) => Ok(Outcome::Value(element::gather(alloc, cut, words, k)?)),
@@ -63,7 +64,8 @@ impl<'t> Store<'t> {
     // is the channel touched.
     pub(super) fn fire_scatter(&mut self, alloc: Global, p: u32) -> Result<Touched, NoMemory>
         requires { MayFire self.old p ProcKind.Scatter }
-        ensures done { IfOk result (λ touched. (leaf : Leaf) → Done leaf self.old self.new p touched None) }
+        ensures done { IfOk result (λ touched. (leaf : Leaf)
+            → Done leaf self.old self.new p touched None) }
         ensures err { OnErr result (self.new ≡ self.old) }
     {
         let process = self.process(p);
@@ -80,7 +82,8 @@ impl<'t> Store<'t> {
     fn send_element(&mut self, alloc: Global, p: u32) -> Result<Touched, NoMemory>
         requires may { MayFire self.old p ProcKind.Scatter }
         requires holds { has_first (own_at self.old.owns p).held ≡ true }
-        ensures done { IfOk result (λ touched. (leaf : Leaf) → Done leaf self.old self.new p touched None) }
+        ensures done { IfOk result (λ touched. (leaf : Leaf)
+            → Done leaf self.old self.new p touched None) }
         ensures err { OnErr result (self.new ≡ self.old) }
     {
         let process = self.process(p);
@@ -99,7 +102,9 @@ impl<'t> Store<'t> {
         requires stands { Stands self.now p process.now }
         requires kind { process.now.kind ≡ ProcKind.Scatter }
         requires holds { has_first (own_at self.now.owns p).held ≡ true }
-        ensures { IfOk result (λ token. token ≡ over (element_of self.now.tree process.now.node (own_at self.now.owns p).number) (first_or credit (own_at self.now.owns p).held)) }
+        ensures { IfOk result (λ token. token
+            ≡ over (element_of self.now.tree process.now.node (own_at self.now.owns p).number)
+            (first_or credit (own_at self.now.owns p).held)) }
     {
         let cut = cut_of(self.node(process.node));
         let whole = &self.held(p)[0];

@@ -67,7 +67,8 @@ fn segment_of(
     requires power { IsPowerOfTwo count }
     requires few { count ≤ 512 }
     requires there { s < count }
-    ensures { IfOk result (λ made. made ≡ on_value (λ words. Value (segment_words elem count s words)) outcome.now) }
+    ensures { IfOk result (λ made. made
+        ≡ on_value (λ words. Value (segment_words elem count s words)) outcome.now) }
 {
     match outcome {
         Outcome::Value(words) => {
@@ -108,7 +109,8 @@ impl<'t> Store<'t> {
     // the channel touched.
     pub(super) fn fire_split(&mut self, alloc: Global, p: u32) -> Result<Touched, NoMemory>
         requires { MayFire self.old p ProcKind.Split }
-        ensures done { IfOk result (λ touched. (leaf : Leaf) → Done leaf self.old self.new p touched None) }
+        ensures done { IfOk result (λ touched. (leaf : Leaf)
+            → Done leaf self.old self.new p touched None) }
         ensures err { OnErr result (self.new ≡ self.old) }
     {
         let process = self.process(p);
@@ -124,7 +126,8 @@ impl<'t> Store<'t> {
     fn send_segment(&mut self, alloc: Global, p: u32) -> Result<Touched, NoMemory>
         requires may { MayFire self.old p ProcKind.Split }
         requires holds { has_first (own_at self.old.owns p).held ≡ true }
-        ensures done { IfOk result (λ touched. (leaf : Leaf) → Done leaf self.old self.new p touched None) }
+        ensures done { IfOk result (λ touched. (leaf : Leaf)
+            → Done leaf self.old self.new p touched None) }
         ensures err { OnErr result (self.new ≡ self.old) }
     {
         let process = self.process(p);
@@ -143,7 +146,9 @@ impl<'t> Store<'t> {
         requires stands { Stands self.now p process.now }
         requires kind { process.now.kind ≡ ProcKind.Split }
         requires holds { has_first (own_at self.now.owns p).held ≡ true }
-        ensures { IfOk result (λ token. token ≡ over (segment_of self.now.tree process.now.node (length process.now.outs) (own_at self.now.owns p).number) (first_or credit (own_at self.now.owns p).held)) }
+        ensures { IfOk result (λ token. token
+            ≡ over (segment_of self.now.tree process.now.node (length process.now.outs)
+            (own_at self.now.owns p).number) (first_or credit (own_at self.now.owns p).held)) }
     {
         let elem = elem_of(self.node(process.node));
         let count = process.outs.len();

@@ -38,7 +38,8 @@ enum Turn {
 // By the condition's outcome on the value of a token, the trap of spent turns, and whether more
 // turns are left.
 fn by_test(answer: &Outcome, spent: Trap, more: bool) -> Turn
-    ensures { (body : Outcome) → row_turn result body ≡ by_test answer.now body (Trapped spent) more }
+    ensures { (body : Outcome)
+        → row_turn result body ≡ by_test answer.now body (Trapped spent) more }
 {
     match answer {
         Outcome::Trapped(trap) => Turn::Traps(*trap),
@@ -65,8 +66,11 @@ fn turn_of<U: Units>(
     body: &Outcome,
 ) -> Result<Turn, NoMemory>
     requires sequential { IsUnit (U.tree units.now) condition }
-    requires fits { IfValue body.now (λ words. HasFittingLength (U.tree units.now) condition (length words)) }
-    ensures { IfOk result (λ turn. row_turn turn body.now ≡ turn_of (outcome_of (U.tree units.now) (U.leaf units.now) condition) (Trapped spent) more body.now) }
+    requires fits { IfValue body.now (λ words. HasFittingLength (U.tree units.now)
+        condition (length words)) }
+    ensures { IfOk result (λ turn. row_turn turn body.now
+        ≡ turn_of (outcome_of (U.tree units.now) (U.leaf units.now) condition) (Trapped spent)
+        more body.now) }
 {
     match body {
         Outcome::Trapped(_) => Ok(Turn::Stays),
@@ -92,7 +96,8 @@ impl<'t> Store<'t> {
     fn can_release(&self, p: u32, process: &Proc) -> bool
         requires stands { Stands self.now p process.now }
         requires kind { process.now.kind ≡ ProcKind.Tail }
-        ensures { result ≡ can_release self.now.net (state_of self.now []) (own_at self.now.owns p) process.now }
+        ensures { result
+            ≡ can_release self.now.net (state_of self.now []) (own_at self.now.owns p) process.now }
     {
         let outside = process.output();
         let credits = process.nth_output(2);
@@ -126,7 +131,8 @@ impl<'t> Store<'t> {
     ) -> Result<Touched, NoMemory>
         requires may { MayFire self.old p ProcKind.Tail }
         requires units { U.tree units.now ≡ self.old.tree }
-        ensures done { IfOk result (λ touched. Done (U.leaf units.now) self.old self.new p touched None) }
+        ensures done { IfOk result (λ touched. Done (U.leaf units.now)
+            self.old self.new p touched None) }
         ensures err { OnErr result (self.new ≡ self.old) }
         ensures memory { OnErr result (may_want_memory self.old p ≡ true) }
     {
@@ -142,7 +148,8 @@ impl<'t> Store<'t> {
     // back.
     fn let_token_out(&mut self, alloc: Global, p: u32) -> Touched
         requires may { MayFire self.old p ProcKind.Tail }
-        requires leaves { (q : Proc) → slice_get self.old.net.procs p ≡ Some q → can_release self.old.net (state_of self.old []) (own_at self.old.owns p) q ≡ true }
+        requires leaves { (q : Proc) → slice_get self.old.net.procs p ≡ Some q
+            → can_release self.old.net (state_of self.old []) (own_at self.old.owns p) q ≡ true }
         ensures { (leaf : Leaf) → Done leaf self.old self.new p result None }
     {
         let process = self.process(p);
@@ -159,9 +166,11 @@ impl<'t> Store<'t> {
     // more.
     fn take_turn<U: Units>(&mut self, alloc: Global, units: &U, p: u32) -> Result<Touched, NoMemory>
         requires may { MayFire self.old p ProcKind.Tail }
-        requires stays { (q : Proc) → slice_get self.old.net.procs p ≡ Some q → can_release self.old.net (state_of self.old []) (own_at self.old.owns p) q ≡ false }
+        requires stays { (q : Proc) → slice_get self.old.net.procs p ≡ Some q
+            → can_release self.old.net (state_of self.old []) (own_at self.old.owns p) q ≡ false }
         requires units { U.tree units.now ≡ self.old.tree }
-        ensures done { IfOk result (λ touched. Done (U.leaf units.now) self.old self.new p touched None) }
+        ensures done { IfOk result (λ touched. Done (U.leaf units.now)
+            self.old self.new p touched None) }
         ensures err { OnErr result (self.new ≡ self.old) }
     {
         let process = self.process(p);
@@ -199,7 +208,8 @@ impl<'t> Store<'t> {
         requires kind { process.now.kind ≡ ProcKind.Tail }
         requires comes { has_first (tokens_at self.now.queues (in_of process.now 0)) ≡ true }
         requires units { U.tree units.now ≡ self.now.tree }
-        ensures { IfOk result (λ turn. row_turn turn (first_or credit (tokens_at self.now.queues (in_of process.now 0))).body
+        ensures { IfOk result (λ turn.
+            row_turn turn (first_or credit (tokens_at self.now.queues (in_of process.now 0))).body
             ≡ next_turn self.now.tree (U.leaf units.now) (state_of self.now []) process.now) }
     {
         let input = process.input();
