@@ -88,6 +88,7 @@ def cases(made):
         yield Case("certificate", ["verify-cert", "m.p3l", *costs, "--cert", "cert"], "cert", made["cert"], 256 * MIB, {0, 9, 11, 13})
     if "image" in made:
         yield Case("image", ["exec", "image"], "image", made["image"], 64 * MIB, {0, 6, 7, 9, 11, 13})
+        yield Case("image, migrated", ["migrate", "image", "--output", "migrated"], "image", made["image"], 64 * MIB, {0, 9, 11, 13})
     if "trace" in made:
         yield Case("trace", ["check-trace", "m.p3l", *PROCESSORS, *costs, "--trace", "trace"], "trace", made["trace"], 256 * MIB, {0, 6, 9, 11, 13, 14})
 
