@@ -29,9 +29,9 @@ tree_is parts none one two three body test modules a b c d e f g h = cc
 
 -- a node of the loop that is run
 pub body_is : (node : ℕ) (words : List ℤ) (r : Result Outcome NoMemory) → node ≡ 1 → IfOk r (λ o. o ≡ counts_down 1 words) → IfOk r (λ o. o ≡ item counting_loop counts_down node words)
-unfolding item_to by_parts counting_loop
+unfolding item_to by_parts counting_loop loop_modules
 body_is node words r is made = subst (λ n. IfOk r (λ o. o ≡ item counting_loop counts_down n words)) (sym is) made
 
 pub test_is : (node : ℕ) (words : List ℤ) (r : Result Outcome NoMemory) → node ≡ 2 → IfOk r (λ o. o ≡ counts_down 2 words) → IfOk r (λ o. o ≡ item counting_loop counts_down node words)
-unfolding item_to by_parts counting_loop
+unfolding item_to by_parts counting_loop loop_modules
 test_is node words r is made = subst (λ n. IfOk r (λ o. o ≡ item counting_loop counts_down n words)) (sym is) made

@@ -33,7 +33,7 @@ unfolding with_part
 tree_is form of_root ins outs part_ins part_outs none one two parts no_parts modules a b c d e f = cc
 
 one_word : (words : List ℤ) (r : Result Outcome NoMemory) → length words ≡ 1 → IfOk r (λ o. o ≡ checked (get_or words 0 (pos 0) ∷ [])) → IfOk r (λ o. o ≡ item four_map checks 1 words)
-unfolding item_to by_parts with_part
+unfolding item_to by_parts with_part two_modules
 one_word [] r e made = absurd (omega (arith, e))
 one_word (x ∷ []) r e made = made
 one_word (x ∷ (y ∷ words)) r e made = absurd (omega (arith, e))
@@ -42,7 +42,7 @@ pub checks_is : (node : ℕ) (words : List ℤ) (r : Result Outcome NoMemory) �
 checks_is node words r is long made = subst (λ n. IfOk r (λ o. o ≡ item four_map checks n words)) (sym is) (one_word words r long made)
 
 pub pair_is : (node : ℕ) (words : List ℤ) (r : Result Outcome NoMemory) → IsUnit five_reduce node → length words ≡ 2 → IfOk r (λ o. o ≡ Value ((get_or words 0 (pos 0) -ℤ get_or words 1 (pos 0)) ∷ [])) → IfOk r (λ o. o ≡ item five_reduce subtracts node words)
-unfolding item_to by_parts with_part fold_of_up_to
+unfolding item_to by_parts with_part fold_of_up_to two_modules
 pair_is node [] r unit e made = absurd (omega (arith, e))
 pair_is node (x ∷ []) r unit e made = absurd (omega (arith, e))
 pair_is zero (x ∷ (y ∷ [])) r unit e made = made
@@ -51,7 +51,7 @@ pair_is (suc (suc node)) (x ∷ (y ∷ [])) r unit e made = absurd (omega (arith
 pair_is node (x ∷ (y ∷ (z ∷ words))) r unit e made = absurd (omega (arith, e))
 
 three_words : (words : List ℤ) (r : Result Outcome NoMemory) → length words ≡ 3 → IfOk r (λ o. o ≡ Value ((get_or words 0 (pos 0) -ℤ (get_or words 1 (pos 0) -ℤ get_or words 2 (pos 0))) ∷ [])) → IfOk r (λ o. o ≡ item five_reduce subtracts 0 words)
-unfolding item_to by_parts with_part fold_of_up_to
+unfolding item_to by_parts with_part fold_of_up_to two_modules
 three_words [] r e made = absurd (omega (arith, e))
 three_words (x ∷ []) r e made = absurd (omega (arith, e))
 three_words (x ∷ (y ∷ [])) r e made = absurd (omega (arith, e))
@@ -63,7 +63,7 @@ triple_is node words r is long made = subst (λ n. IfOk r (λ o. o ≡ item five
 
 -- a part that traps
 pub refused_pair : (node : ℕ) (words : List ℤ) → IsUnit three_reduce node → length words ≡ 2 → Trapped (record { kind = DivZero; «module» = 0 }) ≡ item three_reduce refusing node words
-unfolding item_to by_parts with_part fold_of_up_to
+unfolding item_to by_parts with_part fold_of_up_to two_modules
 refused_pair node [] unit e = absurd (omega (arith, e))
 refused_pair node (x ∷ []) unit e = absurd (omega (arith, e))
 refused_pair zero (x ∷ (y ∷ [])) unit e = refl
@@ -72,7 +72,7 @@ refused_pair (suc (suc node)) (x ∷ (y ∷ [])) unit e = absurd (omega (arith, 
 refused_pair node (x ∷ (y ∷ (z ∷ words))) unit e = absurd (omega (arith, e))
 
 alone : (words : List ℤ) (r : Result Outcome NoMemory) → length words ≡ 1 → IfOk r (λ o. o ≡ Value (get_or words 0 (pos 0) ∷ [])) → IfOk r (λ o. o ≡ item three_reduce refusing 0 words)
-unfolding item_to by_parts with_part fold_of_up_to
+unfolding item_to by_parts with_part fold_of_up_to two_modules
 alone [] r e made = absurd (omega (arith, e))
 alone (x ∷ []) r e made = made
 alone (x ∷ (y ∷ words)) r e made = absurd (omega (arith, e))
