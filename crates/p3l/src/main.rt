@@ -47,29 +47,38 @@ fn tell(rt: &HostRuntime, verdict: &Verdict) -> Status {
     }
 }
 
-/// Answers words that ask for help or the version, or runs the program with the real files and
-/// streams.
+/// Reads the words of the command line and does what they say.
 fn start(rt: &HostRuntime) -> Result<Status, NoMemory> {
     let all = words_of(rt)?;
     let mut words: Vec<&str> = Vec::new(rt.alloc());
     for word in all.iter().skip(1) {
         words.push(word.as_str())?;
     }
-    if let Some(text) = HANDBOOK.answer(words.as_slice()) {
-        return Ok(show(rt, text));
+    Ok(answer(rt, words.as_slice()))
+}
+
+/// Shows the page that the words ask for, or else runs the program.
+fn answer(rt: &HostRuntime, words: &[&str]) -> Status {
+    match HANDBOOK.answer(words) {
+        Some(text) => show(rt, text),
+        None => run(rt, words),
     }
+}
+
+/// Runs the program with the real files and streams.
+fn run(rt: &HostRuntime, words: &[&str]) -> Status {
     let mut files = HostFiles::new(rt);
     let mut input = HostIn::new(rt.stdin());
     let mut out = HostOut::new(rt.stdout());
     let mut err = HostErr::new(rt.stderr());
-    Ok(top(
+    top(
         rt.alloc(),
-        words.as_slice(),
+        words,
         &mut files,
         &mut input,
         &mut out,
         &mut err,
-    ))
+    )
 }
 
 /// The exit code of a status.

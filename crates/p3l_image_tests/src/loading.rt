@@ -106,6 +106,7 @@ fn a_net_is_linked_anew(rt: HostRuntime) -> Result<(), Fail> {
     for change in [RESCUE, CHANNEL, KIND] {
         let image = migrated(alloc, &[change])?.ok().ok_or("it is migrated")?;
         assert!(rt; has_net(&image));
+        assert!(rt; image.cap == 4);
         assert_eq!(rt; load(alloc, image).err(), None);
     }
     for changes in [[COUNT, SLOT, CHANNEL], [INS, BUDGET, KIND]] {
