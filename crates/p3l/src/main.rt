@@ -5,7 +5,7 @@ ghost use Rattle.std.specs.Prelude.{◌≡◌};
 ghost use Rattle.std.specs.Process.{exit_status};
 
 use p3l_base::NoMemory;
-use p3l_help::HANDBOOK;
+use p3l_help::all_pages;
 use p3l_host::{HostErr, HostFiles, HostIn, HostOut};
 use p3l_io::Sink;
 use p3l_program::top::top;
@@ -59,7 +59,7 @@ fn start(rt: &HostRuntime) -> Result<Status, NoMemory> {
 
 /// Shows the page that the words ask for, or else runs the program.
 fn answer(rt: &HostRuntime, words: &[&str]) -> Status {
-    match HANDBOOK.answer(words) {
+    match all_pages().answer(words) {
         Some(text) => show(rt, text),
         None => run(rt, words),
     }

@@ -12,11 +12,19 @@ abbrev pub first_of : Option (List ℕ) → Option (List ℕ) → Option (List �
 first_of (Some one) other = Some one
 first_of None other = other
 
+-- the text of the page on a number of refusal
+abbrev pub fault_on : Handbook → List ℕ → Option (List ℕ)
+fault_on book number =
+    first_of (text_among book.texts.now number)
+    (first_of (text_among book.modules.now number)
+    (first_of (text_among book.sheets.now number)
+    (first_of (text_among book.evidence.now number) (text_among book.runs.now number))))
+
 -- the text of the page on a topic
 abbrev pub page_on : Handbook → List ℕ → Option (List ℕ)
 page_on book topic =
     first_of (text_among book.commands.now topic)
-    (first_of (text_among book.topics.now topic) (text_among book.faults.now topic))
+    (first_of (text_among book.topics.now topic) (fault_on book topic))
 
 -- a word is the first word of a command
 abbrev pub is_command : Handbook → List ℕ → Bool

@@ -3,8 +3,8 @@
 
 use crate::page::Page;
 
-/// A page for each number that the program can say, in the order of the numbers.
-pub(crate) const FAULTS: &[Page] = &[
+/// The numbers 1 to 12: texts, their tokens and their grammar.
+pub(crate) const TEXTS: &[Page] = &[
     Page {
         topic: "1",
         text: "1 BadByte
@@ -165,6 +165,10 @@ To mend it: send less in one item, and let more items carry it.
 This is the refusal 12. What the status 12 means, `p3l help status` says.
 ",
     },
+];
+
+/// The numbers 20 to 33: modules, and how they are put together.
+pub(crate) const MODULES: &[Page] = &[
     Page {
         topic: "20",
         text: "20 Twice
@@ -393,6 +397,10 @@ To mend it: give fewer `turns`, or let a body do by a `while` what small
 processes do one by one.
 ",
     },
+];
+
+/// The numbers 40 to 53: bodies, and sheets of costs.
+pub(crate) const SHEETS: &[Page] = &[
     Page {
         topic: "40",
         text: "40 Undeclared
@@ -518,6 +526,10 @@ To mend it: add `main = 100` under `[seq]`, or a line `default = 100` at the
 top.
 ",
     },
+];
+
+/// The numbers 70 to 92: certificates and images.
+pub(crate) const EVIDENCE: &[Page] = &[
     Page {
         topic: "70",
         text: "70 RowWrong
@@ -695,6 +707,10 @@ of its nodes.
 To mend it: the image was changed by hand or damaged. Compile the program anew.
 ",
     },
+];
+
+/// The numbers 95 to 111: picks, items and traces.
+pub(crate) const RUNS: &[Page] = &[
     Page {
         topic: "95",
         text: "95 BadPick

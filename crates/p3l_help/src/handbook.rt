@@ -2,7 +2,8 @@
 
 ghost use Rattle.std.specs.Prelude.{◌≡◌};
 ghost use Rattle.std.specs.Option.{option_map};
-ghost use Rattle.p3l_help.specs.Handbook.{answer_to, is_command, named_topic, page_on, topic_after, topic_asked};
+ghost use Rattle.p3l_help.specs.Handbook.{answer_to, fault_on, is_command, named_topic};
+ghost use Rattle.p3l_help.specs.Handbook.{page_on, topic_after, topic_asked};
 
 use crate::flag::{flag_among, flag_in};
 use crate::page::{Page, text_on};
@@ -14,8 +15,16 @@ pub struct Handbook {
     pub commands: &'static [Page],
     /// A page for each topic that is no command and no number.
     pub topics: &'static [Page],
-    /// A page for each number of refusal.
-    pub faults: &'static [Page],
+    /// Pages of the numbers of refusal that texts of programs get.
+    pub texts: &'static [Page],
+    /// Those that modules and their parts get.
+    pub modules: &'static [Page],
+    /// Those that bodies and sheets of costs get.
+    pub sheets: &'static [Page],
+    /// Those that certificates and images get.
+    pub evidence: &'static [Page],
+    /// Those that picks, items and traces get.
+    pub runs: &'static [Page],
 }
 
 impl Handbook {
@@ -42,9 +51,28 @@ impl Handbook {
             Some(text) => Some(text),
             None => match text_on(self.topics, topic) {
                 Some(text) => Some(text),
-                None => text_on(self.faults, topic),
+                None => self.fault_on(topic),
             },
         }
+    }
+
+    /// The text of the page on a number of refusal.
+    fn fault_on(&self, number: &str) -> Option<&'static str>
+        ensures { option_map (λ text. text.now) result ≡ fault_on self.now number.now }
+    {
+        if let Some(text) = text_on(self.texts, number) {
+            return Some(text);
+        }
+        if let Some(text) = text_on(self.modules, number) {
+            return Some(text);
+        }
+        if let Some(text) = text_on(self.sheets, number) {
+            return Some(text);
+        }
+        if let Some(text) = text_on(self.evidence, number) {
+            return Some(text);
+        }
+        text_on(self.runs, number)
     }
 
     /// Whether a word is the first word of a command.

@@ -13,4 +13,4 @@ pub mod table;
 
 pub use handbook::Handbook;
 pub use page::Page;
-pub use table::HANDBOOK;
+pub use table::all_pages;

@@ -1,7 +1,7 @@
 // The texts that the program answers words that ask for help with.
 
 use p3l_base::NoMemory;
-use p3l_help::HANDBOOK;
+use p3l_help::all_pages;
 use std::alloc::Global;
 use std::process::Abort;
 use std::test::Fail;
@@ -160,7 +160,7 @@ const NUMBERED: [(&str, &str); 52] = [
 #[test]
 fn the_help_of_a_command_has_its_words_and_an_example(rt: HostRuntime) -> Result<(), Fail> {
     for (command, words) in NAMED {
-        let help = HANDBOOK.answer(&["help", command]);
+        let help = all_pages().answer(&["help", command]);
         assert!(rt; help.is_some());
         compare(&rt, rt.alloc(), command, help.unwrap(), words)?;
         for asked in [
@@ -168,7 +168,7 @@ fn the_help_of_a_command_has_its_words_and_an_example(rt: HostRuntime) -> Result
             [command, "m.p3l", "-h"],
             [command, "-h", "--version"],
         ] {
-            assert!(rt; HANDBOOK.answer(&asked) == help);
+            assert!(rt; all_pages().answer(&asked) == help);
         }
     }
     Ok(())
@@ -176,7 +176,7 @@ fn the_help_of_a_command_has_its_words_and_an_example(rt: HostRuntime) -> Result
 
 #[test]
 fn the_help_of_the_program_lists_the_commands(rt: HostRuntime) -> Result<(), Fail> {
-    let help = HANDBOOK.answer(&["--help"]);
+    let help = all_pages().answer(&["--help"]);
     assert!(rt; help.is_some());
     for (command, _) in NAMED {
         assert!(rt; says(rt.alloc(), help.unwrap(), "\n  ", command)?);
@@ -187,16 +187,16 @@ fn the_help_of_the_program_lists_the_commands(rt: HostRuntime) -> Result<(), Fai
         ["help", "--help"],
         ["help", "-h"],
     ] {
-        assert!(rt; HANDBOOK.answer(&words) == help);
+        assert!(rt; all_pages().answer(&words) == help);
     }
-    assert!(rt; HANDBOOK.answer(&["help"]) == help);
+    assert!(rt; all_pages().answer(&["help"]) == help);
     Ok(())
 }
 
 #[test]
 fn each_number_has_a_page_that_names_it_and_shows_it(rt: HostRuntime) -> Result<(), Fail> {
     for (number, name) in NUMBERED {
-        let help = HANDBOOK.answer(&["help", number]);
+        let help = all_pages().answer(&["help", number]);
         assert!(rt; help.is_some());
         let page = help.unwrap();
         let title = format!(in rt.alloc(); "{number} {name}\n")?;
@@ -212,7 +212,7 @@ fn other_topics_have_a_page(rt: HostRuntime) {
         ("status", "13  evidence: NUMBER NAME"),
         ("language", "Not in the language, and what to write instead"),
     ] {
-        let help = HANDBOOK.answer(&["help", topic]);
+        let help = all_pages().answer(&["help", topic]);
         assert!(rt; help.is_some());
         assert!(rt; has(help.unwrap(), part));
     }
@@ -229,7 +229,7 @@ fn the_version_is_given_and_other_words_get_no_help(rt: HostRuntime) {
         ["help", "-V"],
         ["help", "version"],
     ] {
-        assert!(rt; HANDBOOK.answer(&words) == Some(version));
+        assert!(rt; all_pages().answer(&words) == Some(version));
     }
     for words in [
         ["run", "m.p3l"],
@@ -241,10 +241,10 @@ fn the_version_is_given_and_other_words_get_no_help(rt: HostRuntime) {
         ["help", ""],
         ["m.p3l", "help"],
     ] {
-        assert!(rt; HANDBOOK.answer(&words).is_none());
+        assert!(rt; all_pages().answer(&words).is_none());
     }
-    assert!(rt; HANDBOOK.answer(&[]).is_none());
-    assert!(rt; HANDBOOK.answer(&["run"]).is_none());
-    assert!(rt; HANDBOOK.answer(&["fmt", "--", "--help"]).is_none());
-    assert!(rt; HANDBOOK.answer(&["help", "run", "fmt"]).is_none());
+    assert!(rt; all_pages().answer(&[]).is_none());
+    assert!(rt; all_pages().answer(&["run"]).is_none());
+    assert!(rt; all_pages().answer(&["fmt", "--", "--help"]).is_none());
+    assert!(rt; all_pages().answer(&["help", "run", "fmt"]).is_none());
 }
