@@ -15,7 +15,7 @@ import sys
 ROOT = pathlib.Path(__file__).resolve().parent.parent
 PLACE = ROOT / "docs/pictures"
 # An example, and the number of processors that its worker counts are chosen for.
-PICTURES = {"signal": 5, "farms": 10, "halve": 4, "greatest": 4, "matrix": 6}
+PICTURES = {"signal": 5, "farms": 10, "halve": 4, "greatest": 8, "matrix": 8}
 
 
 def picture(program, name, processors):

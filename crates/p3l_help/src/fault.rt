@@ -655,7 +655,7 @@ Bytes stand after the end of the image, from this place on.
 
     $ echo 'seq main in(int x) out(int y) ${ y = x; }$ end seq' >a.p3l
     $ p3l compile a.p3l --processors 4 --output a.img; echo >>a.img; p3l exec a.img </dev/null
-    evidence: 84 TrailingBytes 172
+    evidence: 84 TrailingBytes 173
 
 To mend it: copy the file as bytes, not as text.
 ",
