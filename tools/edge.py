@@ -1,0 +1,269 @@
+#!/usr/bin/env python3
+"""The edge: what the built program does with words, files and streams of the operating system, which no proof sees.
+
+    tools/edge.py PATH_OF_P3L
+
+Each case is a command line with what it is given, and the status, the standard output and the lines of standard error that
+docs/COMMANDS.md says. Then come real pipes, read piece by piece and line by line, full disks and closed pipes, a directory in
+the place of a file, bytes that aren't UTF-8, and no memory for the words; and the calls of the system are counted that read a
+file and write results. The last line is `N passed, M failed`.
+"""
+
+import os
+import resource
+import shutil
+import signal
+import subprocess
+import sys
+import tempfile
+
+DOUBLE = b"seq main in(int x) out(int y)\n${ y = x * 2 + 1; }$\nend seq\n"
+DOUBLE_TEXT = b"seq main in(int x) out(int y)\n${\n  y = x * 2 + 1;\n}$\nend seq\n"
+DIVISION = b"seq main in(int x) out(int y)\n${ y = 100 / x; }$\nend seq\n"
+FARM = b"seq f in(int x) out(int y) ${ y = x + 1; }$ end seq farm main in(int x) out(int y) workers 3 f in(x) out(y) end farm"
+RUN = ["run", "m.p3l", "--processors", "4"]
+STATS = "stats: items {0}, fired {1}, idle 0, bound {1}\n"
+USAGE = "usage: the words are not a command of p3l\n"
+WRITE_FAULT = "write fault\n"
+FULL, SECONDS = "/dev/full", 120
+FILES = {
+    "m.p3l": DOUBLE,
+    "d.p3l": DIVISION,
+    "w.p3l": FARM,
+    "bad.p3l": b"seq main in(int 1x)",
+    "latin.p3l": b"// caf\xe9\n" + DOUBLE,
+    "byte.p3l": b"seq \xff",
+    "latin.toml": b"default = 1 # caf\xe9\n",
+    "picks": b"0 2 1\n",
+    "bad.picks": b"0\n\xff\n",
+    "short.picks": b"0 2 0 1\n",
+    "wide.p3l": DOUBLE.rjust(1_048_576),
+    "long.p3l": b" " * (1_048_576 + 1),
+    "bad.image": b"P3LIx",
+}
+
+# The words, the input, and what ends them: the status, the output and the lines. A text that isn't given isn't compared.
+WORDS = [
+    ([], b"", 2, "", USAGE),
+    (["walk"], b"", 2, "", USAGE),
+    (["run", "m.p3l"], b"", 2, "", USAGE),
+    ([*RUN, "--stats", "--stats"], b"1\n", 2, "", USAGE),
+    (["run", "m.p3l", "--processors", "513"], b"1\n", 2, "", USAGE),
+    (["--version"], b"", 0, "p3l 0.1.0\nrattle-kit-13f logic dac8208d650f15bf\n", ""),
+    (["--help"], b"", 0, None, ""),
+    (["run", "-h"], b"", 0, None, ""),
+    (RUN, b"1\n2\n-3\n", 0, "3\n5\n-5\n", ""),
+    ([*RUN, "--stats"], b"1\n2\n-3\n", 0, "3\n5\n-5\n", STATS.format(3, 9)),
+    (RUN, b"", 0, "", ""),
+    ([*RUN, "--schedule", "seed:7", "--capacity", "1024"], b"1\n\n 2\t\r\n3", 0, "3\n5\n7\n", ""),
+    ([*RUN, "--schedule", "file:picks"], b"1\n", 0, "3\n", ""),
+    ([*RUN, "--schedule", "file:short.picks"], b"1\n2\n3\n", 1, "3\n", "stopped: 4 fired, 0 idle\n"),
+    (["check", "bad.p3l"], b"", 3, "", "source: 1:17: 2 BadToken\n"),
+    (["check", "w.p3l"], b"", 0, "ok: 2 modules, 2 instances\n", ""),
+    (["fmt", "m.p3l"], b"", 0, DOUBLE_TEXT.decode(), ""),
+    (["run", "w.p3l", "--processors", "4"], b"1\n", 5, "", "too few processors: need 5\n"),
+    (RUN, b"1\nx\n", 6, "3\n", "stream: line 2: 100 BadWord\n"),
+    (RUN, b"1\n2 3\n", 6, "3\n", "stream: line 2: 101 WrongCount 2\n"),
+    (RUN, b"9223372036854775808\n", 6, "", "stream: line 1: 102 OutOfRange\n"),
+    (["run", "d.p3l", "--processors", "4"], b"5\n0\n2\n", 7, "20\n", "trap: item 2: division by zero in main\n"),
+    (["run", "none.p3l", "--processors", "4"], b"1\n", 9, "", "file fault: none.p3l\n"),
+    (["fmt", "long.p3l"], b"", 9, "", "file too long: long.p3l\n"),
+    ([*RUN, "--schedule", "file:none"], b"1\n", 9, "", "file fault: none\n"),
+    (["exec", "bad.image"], b"1\n", 13, "", "evidence: 82 Short 4\n"),
+    (["explain", "m.p3l", "--processors", "4"], b"", 0, "processors 4 used 1 service 122\n0 seq main procs 1 service 122\n", ""),
+]
+
+# Directories in the place of files, and bytes that are no text.
+ODD = [
+    (["check", "."], b"", 9, "", "file fault: .\n"),
+    (["exec", "."], b"", 9, "", "file fault: .\n"),
+    (["explain", "m.p3l", "--processors", "4", "--costs", "."], b"", 9, "", "file fault: .\n"),
+    ([*RUN, "--schedule", "file:."], b"1\n", 9, "", "file fault: .\n"),
+    (["compile", "m.p3l", "--processors", "4", "--output", "."], b"", 10, "", WRITE_FAULT),
+    (["compile", "m.p3l", "--processors", "4", "--output", "none/image"], b"", 10, "", WRITE_FAULT),
+    (["compile", "m.p3l", "--processors", "4", "--output", FULL], b"", 10, "", WRITE_FAULT),
+    ([*RUN, "--trace", "."], b"1\n", 10, "3\n", WRITE_FAULT),
+    ([*RUN, "--trace", FULL], b"1\n", 10, "3\n", WRITE_FAULT),
+    (["gen", "7", "--processors", "4", "--items", "1", "--save", "none/seven"], b"", 10, "", WRITE_FAULT),
+    (["check", b"m\xff.p3l"], b"", 2, "", USAGE),
+    ([b"\xff"], b"", 2, "", USAGE),
+    (["check", "latin.p3l"], b"", 0, "ok: 1 modules, 1 instances\n", ""),
+    (["check", "byte.p3l"], b"", 3, "", "source: 1:5: 1 BadByte\n"),
+    (["explain", "m.p3l", "--processors", "4", "--costs", "latin.toml"], b"", 4, "", "costs: 50 NotToml\n"),
+    ([*RUN, "--schedule", "file:bad.picks"], b"1\n", 12, "", "schedule: line 2: 95 BadPick\n"),
+    (RUN, b"1\n\xff\n", 6, "3\n", "stream: line 2: 100 BadWord\n"),
+]
+
+# What is made is read again: the words of each step, its input and how it ends.
+COURSE = [
+    (["compile", "m.p3l", "--processors", "4", "--output", "image"], b"", 0, "", ""),
+    (["exec", "image", "--stats"], b"1\n2\n-3\n", 0, "3\n5\n-5\n", STATS.format(3, 9)),
+    (["explain", "m.p3l", "--processors", "4", "--cert", "cert"], b"", 0, None, ""),
+    (["verify-cert", "m.p3l", "--cert", "cert"], b"", 0, "certificate holds: processors 4 used 1 service 122\n", ""),
+    ([*RUN, "--trace", "trace"], b"1\n", 0, "3\n", ""),
+    (["check-trace", "m.p3l", "--processors", "4", "--trace", "trace"], b"1\n", 0, "trace holds: 3 fired, 0 idle\n", ""),
+    (["check-trace", "m.p3l", "--processors", "4", "--trace", "trace"], b"", 13, "", "evidence: 111 Differs 2\n"),
+]
+
+
+class Edge:
+    """The program in a folder of files, with how many cases passed and failed."""
+
+    def __init__(self, binary, folder):
+        self.binary, self.folder, self.passed, self.failed = binary, folder, 0, 0
+
+    def expect(self, name, found, wanted):
+        """Compares what a case came to; where nothing is wanted of a part, it isn't compared."""
+        if all(want is None or have == want for have, want in zip(found, wanted)):
+            self.passed += 1
+        else:
+            self.failed += 1
+            print(f"edge: {name}: found {found!r}, and not {wanted!r}")
+
+    def start(self, words, **streams):
+        return subprocess.Popen([self.binary, *words], cwd=self.folder, **streams)
+
+    def run(self, words, stream=b"", out=subprocess.PIPE, err=subprocess.PIPE):
+        """Status, output and lines of a run on these bytes."""
+        child = self.start(words, stdin=subprocess.PIPE, stdout=out, stderr=err)
+        output, lines = child.communicate(stream, timeout=SECONDS)
+        return child.returncode, output, lines
+
+    def try_words(self, cases):
+        for words, stream, status, output, lines in cases:
+            wanted = status, None if output is None else output.encode(), lines.encode()
+            self.expect(words, self.run(words, stream), wanted)
+
+
+def try_full(edge):
+    """A full disk in the place of standard output, of standard error, and of both."""
+    with open(FULL, "wb") as full:
+        for words in (RUN, ["fmt", "m.p3l"], ["check", "m.p3l"], ["--help"], ["explain", "m.p3l", "--processors", "4"]):
+            status, _, lines = edge.run(words, b"1\n", out=full)
+            edge.expect(("full output", words), (status, lines), (10, WRITE_FAULT.encode()))
+        for words, stream, wanted in (
+            (RUN, b"1\nx\n", (6, b"3\n")),
+            ([*RUN, "--stats"], b"1\n", (0, b"3\n")),
+            (["walk"], b"", (2, b"")),
+        ):
+            edge.expect(("full error", words), edge.run(words, stream, err=full)[:2], wanted)
+        edge.expect("both are full", edge.run(RUN, b"1\n", out=full, err=full)[:1], (10,))
+
+
+def try_pieces(edge):
+    """An input that comes a byte at a time, and results that are read before the next item is given."""
+    child = edge.start(RUN, stdin=subprocess.PIPE, stdout=subprocess.PIPE, stderr=subprocess.PIPE)
+    for byte in b"1\n2\n-3\n":
+        child.stdin.write(bytes([byte]))
+        child.stdin.flush()
+    output, lines = child.communicate(timeout=SECONDS)
+    edge.expect("byte by byte", (child.returncode, output, lines), (0, b"3\n5\n-5\n", b""))
+    # Without a buffer of Python's, in which what is read ahead of the first line would be lost.
+    child = edge.start(RUN, stdin=subprocess.PIPE, stdout=subprocess.PIPE, bufsize=0)
+    child.stdin.write(b"".join(b"%d\n" % item for item in range(5000)))
+    child.stdin.flush()
+    first = child.stdout.readline()
+    rest, _ = child.communicate(timeout=SECONDS)
+    whole = b"".join(b"%d\n" % (2 * item + 1) for item in range(5000))
+    edge.expect("a result before the end", (child.returncode, first + rest), (0, whole))
+
+
+def try_pipes(edge):
+    """Two programs one after the other, an output that is closed, and an input that is a directory or is closed."""
+    first = edge.start(RUN, stdin=subprocess.PIPE, stdout=subprocess.PIPE)
+    second = edge.start(RUN, stdin=first.stdout, stdout=subprocess.PIPE)
+    first.stdout.close()
+    first.stdin.write(b"1\n2\n")
+    first.stdin.close()
+    output, _ = second.communicate(timeout=SECONDS)
+    edge.expect("two in a pipe", (first.wait(SECONDS), second.returncode, output), (0, 0, b"7\n11\n"))
+    reader, writer = os.pipe()
+    os.close(reader)
+    status, _, lines = edge.run(RUN, b"1\n", out=writer)
+    os.close(writer)
+    edge.expect("a pipe that nobody reads", (status, lines), (10, WRITE_FAULT.encode()))
+    folder = os.open(edge.folder, os.O_RDONLY)
+    child = edge.start(RUN, stdin=folder, stdout=subprocess.PIPE, stderr=subprocess.PIPE)
+    output, lines = child.communicate(timeout=SECONDS)
+    os.close(folder)
+    edge.expect("a directory for an input", (child.returncode, output, lines), (8, b"", b"read fault\n"))
+
+
+def try_left(edge):
+    """What refused commands leave of files that they would write."""
+    with open(f"{edge.folder}/kept", "wb") as file:
+        file.write(b"kept")
+    for words in (
+        ["compile", "bad.p3l", "--processors", "4", "--output", "kept"],
+        ["explain", "w.p3l", "--processors", "4", "--cert", "kept"],
+        ["run", "bad.p3l", "--processors", "4", "--trace", "kept"],
+    ):
+        edge.run(words, b"1\n")
+        with open(f"{edge.folder}/kept", "rb") as file:
+            edge.expect(("left as it was", words), (file.read(),), (b"kept",))
+
+
+def calls_of(child, which):
+    """How many calls of the system a program has made: `syscr` that read, `syscw` that write."""
+    with open(f"/proc/{child.pid}/io") as told:
+        return int(next(line for line in told if line.startswith(which)).split()[1])
+
+
+def try_calls(edge):
+    """A file of 1 MiB is read by at most 100 calls, and each result is written by one."""
+    child = edge.start(["run", "wide.p3l", *RUN[2:]], stdin=subprocess.PIPE, stdout=subprocess.PIPE)
+    # A result comes out once the source's inbox holds the item after the next one.
+    child.stdin.write(b"1\n2\n3\n")
+    child.stdin.flush()
+    first = child.stdout.readline()
+    edge.expect("few calls for a file", (first, calls_of(child, "syscr") <= 100), (b"3\n", True))
+    before = calls_of(child, "syscw")
+    child.stdin.write(b"20\n300\n4000\n")
+    child.stdin.flush()
+    lines = [child.stdout.readline() for _ in range(3)]
+    edge.expect("a call for a result", (lines, calls_of(child, "syscw") - before), ([b"5\n", b"7\n", b"41\n"], 3))
+    child.communicate(timeout=SECONDS)
+
+
+def limit_memory(limit):
+    resource.setrlimit(resource.RLIMIT_AS, (limit, limit))
+
+
+def try_no_memory(edge):
+    """Two megabytes of words, with more and more memory: the program doesn't start, has no memory for them, or takes them."""
+    words, ended = ["w" * 100_000] * 19, set()
+    for limit in range(1 << 20, 64 << 20, 1 << 18):
+        try:
+            done = subprocess.run([edge.binary, *words], capture_output=True, preexec_fn=lambda: limit_memory(limit), timeout=SECONDS)
+        except OSError:
+            continue
+        if 0 <= done.returncode <= 14:
+            ended.add((done.returncode, done.stdout, done.stderr))
+    edge.expect("no memory for the words", (ended,), ({(2, b"", USAGE.encode()), (11, b"", b"no memory\n")},))
+
+
+def main():
+    if len(sys.argv) != 2:
+        sys.exit("usage: tools/edge.py PATH_OF_P3L")
+    signal.signal(signal.SIGPIPE, signal.SIG_IGN)
+    folder = tempfile.mkdtemp()
+    try:
+        for name, data in FILES.items():
+            with open(f"{folder}/{name}", "wb") as file:
+                file.write(data)
+        edge = Edge(os.path.abspath(sys.argv[1]), folder)
+        for cases in (WORDS, ODD, COURSE):
+            edge.try_words(cases)
+        for attempt in (try_full, try_pieces, try_pipes, try_left, try_calls, try_no_memory):
+            try:
+                attempt(edge)
+            except (OSError, subprocess.TimeoutExpired) as fault:
+                edge.expect(attempt.__name__, (repr(fault),), ("no fault",))
+    finally:
+        shutil.rmtree(folder)
+    print(f"{edge.passed} passed, {edge.failed} failed")
+    return int(edge.failed > 0)
+
+
+if __name__ == "__main__":
+    sys.exit(main())
