@@ -148,6 +148,10 @@ def try_full(edge):
         ):
             edge.expect(("full error", words), edge.run(words, stream, err=full)[:2], wanted)
         edge.expect("both are full", edge.run(RUN, b"1\n", out=full, err=full)[:1], (10,))
+        for stream in (b"1\nx\n", b"1\n" * 50_000):
+            status, _, lines = edge.run([*RUN, "--trace", "unwritten"], stream, out=full)
+            left = os.path.exists(f"{edge.folder}/unwritten")
+            edge.expect(("results before a line or a file", len(stream)), (status, lines, left), (10, WRITE_FAULT.encode(), False))
 
 
 def try_pieces(edge):
@@ -177,6 +181,15 @@ def try_pipes(edge):
     first.stdin.close()
     output, _ = second.communicate(timeout=SECONDS)
     edge.expect("two in a pipe", (first.wait(SECONDS), second.returncode, output), (0, 0, b"7\n11\n"))
+    child = edge.start(RUN, stdin=subprocess.PIPE, stdout=subprocess.PIPE, stderr=subprocess.PIPE, bufsize=0)
+    child.stdin.write(b"1\n2\n3\n")
+    first = child.stdout.readline()
+    child.stdout.close()
+    child.stdin.write(b"4\n5\n6\n")
+    child.stdin.close()
+    status, lines = child.wait(SECONDS), child.stderr.read()
+    child.stderr.close()
+    edge.expect("a pipe that is closed after a result", (first, status, lines), (b"3\n", 10, WRITE_FAULT.encode()))
     reader, writer = os.pipe()
     os.close(reader)
     status, _, lines = edge.run(RUN, b"1\n", out=writer)
@@ -210,7 +223,7 @@ def calls_of(child, which):
 
 
 def try_calls(edge):
-    """A file of 1 MiB is read by at most 100 calls, and each result is written by one."""
+    """A file of 1 MiB is read by at most 100 calls, and the results that items given at once have are written by one."""
     child = edge.start(["run", "wide.p3l", *RUN[2:]], stdin=subprocess.PIPE, stdout=subprocess.PIPE)
     # A result comes out once the source's inbox holds the item after the next one.
     child.stdin.write(b"1\n2\n3\n")
@@ -221,7 +234,7 @@ def try_calls(edge):
     child.stdin.write(b"20\n300\n4000\n")
     child.stdin.flush()
     lines = [child.stdout.readline() for _ in range(3)]
-    edge.expect("a call for a result", (lines, calls_of(child, "syscw") - before), ([b"5\n", b"7\n", b"41\n"], 3))
+    edge.expect("a call for what comes at once", (lines, calls_of(child, "syscw") - before), ([b"5\n", b"7\n", b"41\n"], 1))
     child.communicate(timeout=SECONDS)
 
 

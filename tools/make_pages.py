@@ -74,7 +74,9 @@ class Help:
         summaries = dict(LISTED.findall(self.program.partition("commands:\n")[2].partition("\n\n")[0]))
         pages = pages_in("command", named)
         self.commands = [Command(name, summaries.get(name, ""), page) for name, page in pages.items()]
-        self.numbers = pages_in("fault", named)
+        files = sorted((HELP / "fault").glob("*.rt"))
+        numbers = {topic: page for file in files for topic, page in pages_in(f"fault/{file.stem}", named).items()}
+        self.numbers = dict(sorted(numbers.items(), key=lambda page: int(page[0])))
         self.topics = ["status", "language", *self.numbers]
 
 

@@ -42,9 +42,9 @@ impl Due {
 
 // Each with one line changed must be refused so.
 fn refused(rt: &impl Abort, alloc: Global, table: &[(usize, &[u8], Due)]) -> Result<(), NoMemory> {
-    for (number, line, due) in table {
+    for (number, line, expected) in table {
         let text = text_with(alloc, (*number, line), (*number, line))?;
-        assert_eq!(rt; refusal(rt, alloc, text.as_slice())?, due.refusal());
+        assert_eq!(rt; refusal(rt, alloc, text.as_slice())?, expected.refusal());
     }
     Ok(())
 }
@@ -55,9 +55,9 @@ fn refused_two(
     alloc: Global,
     table: &[(Changed, Changed, Due)],
 ) -> Result<(), NoMemory> {
-    for (first, second, due) in table {
+    for (first, second, expected) in table {
         let text = text_with(alloc, *first, *second)?;
-        assert_eq!(rt; refusal(rt, alloc, text.as_slice())?, due.refusal());
+        assert_eq!(rt; refusal(rt, alloc, text.as_slice())?, expected.refusal());
     }
     Ok(())
 }
@@ -223,13 +223,13 @@ fn texts(rt: HostRuntime) -> Result<(), Fail> {
     Ok(refused_two(&rt, rt.alloc(), &TURNED)?)
 }
 
-// The line in which each front of a text ends, if a front is read as a certificate or told at
+// The line in which each front of a text ends, if a front is read as a certificate or reported at
 // another line.
 pub fn first_unlike(alloc: Global, text: &[u8]) -> Option<u64> {
     let mut line = 1;
     for end in 0..text.len() {
         match read_cert(alloc, &text[..end]) {
-            Err(CertRefusal::BadText { line: told }) if told == line => {}
+            Err(CertRefusal::BadText { line: found }) if found == line => {}
             _ => return Some(line),
         }
         if text[end] == b'\n' {

@@ -9,7 +9,7 @@ use std::alloc::Global;
 use std::process::Abort;
 use std::test::Fail;
 
-/// The text of the certificate of the counts that are chosen for so many processors. It holds.
+/// The text of the certificate of the counts that are chosen for this number of processors. It holds.
 pub fn made(
     rt: &impl Abort,
     alloc: Global,

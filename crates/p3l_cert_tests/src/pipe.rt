@@ -1,10 +1,11 @@
 // A pipe of a unit of 10 ticks and a farm of units of 60, and its certificate for 8 processors.
 
 use crate::making;
-use p3l_base::{List, Name, NoMemory};
+use p3l_base::{List, NoMemory};
 use p3l_cert::CertRefusal;
 use p3l_cost::Costs;
-use p3l_skel::{Form, ModuleInfo, ModuleKind, Node, Tree};
+use p3l_skel::{ModuleKind, Tree};
+use p3l_sketch::{ModuleRow, Shape, tree_named};
 use std::alloc::Global;
 use std::process::Abort;
 use std::test::Fail;
@@ -73,12 +74,11 @@ pub fn text(alloc: Global) -> Result<Vec<u8>, NoMemory> {
     Ok(text)
 }
 
-// The nodes: the kind of each, its module and its parts.
-const NODES: [(ModuleKind, u32, &[u32]); 4] = [
-    (ModuleKind::Pipe, 3, &[1, 2]),
-    (ModuleKind::Seq, 0, &[]),
-    (ModuleKind::Farm, 2, &[3]),
-    (ModuleKind::Seq, 1, &[]),
+const NODES: [ModuleRow; 4] = [
+    (Shape::Pipe, 3, 1, 1, &[1, 2]),
+    (Shape::Seq, 0, 1, 1, &[]),
+    (Shape::Farm(None), 2, 1, 1, &[3]),
+    (Shape::Seq, 1, 1, 1, &[]),
 ];
 
 const MODULES: [(&str, ModuleKind); 4] = [
@@ -88,46 +88,9 @@ const MODULES: [(&str, ModuleKind); 4] = [
     ("main", ModuleKind::Pipe),
 ];
 
-fn form_of(kind: ModuleKind) -> Form {
-    match kind {
-        ModuleKind::Pipe => Form::Pipe,
-        ModuleKind::Farm => Form::Farm { workers: None },
-        _ => Form::Seq,
-    }
-}
-
-fn nodes(alloc: Global) -> Result<List<Node>, NoMemory> {
-    let mut nodes = List::new(alloc);
-    for (kind, module, parts) in NODES {
-        nodes.push(Node {
-            form: form_of(kind),
-            module,
-            ins: 1,
-            outs: 1,
-            parts: List::from_vec(Vec::from_slice(alloc, parts)?),
-        })?;
-    }
-    Ok(nodes)
-}
-
-fn modules(alloc: Global) -> Result<List<ModuleInfo>, NoMemory> {
-    let mut modules = List::new(alloc);
-    for (name, kind) in MODULES {
-        let name = Name::from_text(alloc, name)?;
-        modules.push(ModuleInfo {
-            name,
-            kind,
-            rescue: None,
-        })?;
-    }
-    Ok(modules)
-}
-
 /// The tree of the pipe.
 pub fn tree(alloc: Global) -> Result<Tree, NoMemory> {
-    let nodes = nodes(alloc)?;
-    let modules = modules(alloc)?;
-    Ok(Tree { nodes, modules })
+    tree_named(alloc, &NODES, &MODULES)
 }
 
 /// Its costs: nothing for tokens, 10 and 60 ticks for the units.
@@ -151,7 +114,7 @@ pub fn refusal(
     Ok(making::refusal(rt, alloc, &tree, &costs, text))
 }
 
-/// The text of the certificate that is made for so many processors.
+/// The text of the certificate that is made for this number of processors.
 pub fn made(rt: &impl Abort, alloc: Global, processors: u32) -> Result<List<u8>, Fail> {
     let tree = tree(alloc)?;
     let costs = costs(alloc)?;

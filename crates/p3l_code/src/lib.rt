@@ -7,5 +7,5 @@ pub mod safe;
 pub mod stack;
 
 pub use instr::{Code, Instr};
-pub use run::run_code;
+pub use run::{Counted, run_code, run_counted};
 pub use safe::SafeCode;

@@ -2,13 +2,13 @@
 
 ghost use Rattle.std.specs.Prelude.{◌≡◌, IfSome, Some, slice_get};
 ghost use Rattle.p3l_ast.specs.Tree.{defined, module_tree, program_tree};
-ghost use Rattle.p3l_bodies.specs.Checked.{IsRead};
+ghost use Rattle.p3l_body_laws.specs.Checked.{IsRead};
 
 use crate::codes::HOME;
 use p3l_ast::{Entry, Module, Program};
 use p3l_base::{NoMemory, Outcome, Words};
-use p3l_bodies::body_compiles;
 use p3l_body::check_body;
+use p3l_body_laws::body_compiles;
 use p3l_code::{SafeCode, run_code};
 use p3l_compile::compile;
 use p3l_reader::read;

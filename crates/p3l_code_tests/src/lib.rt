@@ -9,6 +9,8 @@ mod codes;
 #[cfg(test)]
 mod operators;
 #[cfg(test)]
+mod profiles;
+#[cfg(test)]
 mod rules;
 #[cfg(test)]
 mod units;

@@ -4,12 +4,12 @@ ghost use Rattle.std.specs.Prelude.{◌≡◌, IfSome, length};
 ghost use Rattle.p3l_ast.specs.Tree.{program_tree};
 ghost use Rattle.p3l_skel.specs.declared.tree.Form.TheVariants as forms;
 ghost use Rattle.p3l_skel.specs.Tree.{node_at, IsUnit, HasFittingLength};
-ghost use Rattle.p3l_bodies.specs.Checked.{IsRead};
+ghost use Rattle.p3l_body_laws.specs.Checked.{IsRead};
 
 use crate::bodies::{words_of, written};
 use p3l_ast::Program;
 use p3l_base::{NoMemory, Outcome, Words};
-use p3l_bodies::resolved_serve;
+use p3l_body_laws::resolved_serve;
 use p3l_check::resolve;
 use p3l_compile::units_of;
 use p3l_reader::read;

@@ -3,7 +3,7 @@
 use crate::files::{answer, check_files};
 use std::test::Fail;
 
-/// Each number and each table, and what stands in for those that are not given. The ticks are those
+/// Each number and each table, and the value of those that are not given. The ticks are those
 /// of `twice`, `add`, `idle` and the other modules, and the fourth number of turns is that of `spin`.
 const GIVEN: &str = "0 0 / 100 100 100 0 0 0 0 / 1 1 1 10 1 1 1 | default = 100
 10 1 / 100 100 100 0 0 0 0 / 1 1 1 10 1 1 1 | setup = 10; word = 1; default = 100

@@ -1,72 +1,33 @@
 // Files of costs for a small tree, each with what is read of it.
 
-use p3l_base::{List, Name, NoMemory};
 use p3l_cost::{CostRefusal, Costs, read_costs};
-use p3l_skel::{Form, ModuleInfo, ModuleKind, Node, Tree, lawful_tree};
+use p3l_skel::{ModuleKind, lawful_tree};
+use p3l_sketch::{ModuleRow, Shape, tree_named};
 use std::alloc::{AllocError, Global};
 use std::process::Abort;
 use std::test::Fail;
 
-fn add_module(
-    alloc: Global,
-    tree: &mut Tree,
-    name: &str,
-    kind: ModuleKind,
-) -> Result<(), NoMemory> {
-    tree.modules.push(ModuleInfo {
-        name: Name::from_text(alloc, name)?,
-        kind,
-        rescue: None,
-    })
-}
-
-fn add_node(
-    alloc: Global,
-    tree: &mut Tree,
-    form: Form,
-    module: u32,
-    parts: &[u32],
-) -> Result<(), NoMemory> {
-    tree.nodes.push(Node {
-        form,
-        module,
-        ins: 1,
-        outs: 1,
-        parts: List::from_vec(Vec::from_slice(alloc, parts)?),
-    })
-}
-
-// The `seq` modules stand in another order than that of their names, and `idle` and `rest` are
-// modules of no node.
-fn add_modules(alloc: Global, tree: &mut Tree) -> Result<(), NoMemory> {
-    add_module(alloc, tree, "twice", ModuleKind::Seq)?;
-    add_module(alloc, tree, "add", ModuleKind::Seq)?;
-    add_module(alloc, tree, "idle", ModuleKind::Seq)?;
-    add_module(alloc, tree, "spin", ModuleKind::Loop)?;
-    add_module(alloc, tree, "rest", ModuleKind::Loop)?;
-    add_module(alloc, tree, "many", ModuleKind::Farm)?;
-    add_module(alloc, tree, "main", ModuleKind::Pipe)
-}
-
 // A pipe of a farm and of a loop of 10 turns.
-fn tree(alloc: Global) -> Result<Tree, NoMemory> {
-    let mut tree = Tree {
-        nodes: List::new(alloc),
-        modules: List::new(alloc),
-    };
-    add_modules(alloc, &mut tree)?;
-    let turning = Form::Loop {
-        turns: 10,
-        tokens: 4,
-    };
-    add_node(alloc, &mut tree, Form::Pipe, 6, &[1, 3])?;
-    add_node(alloc, &mut tree, Form::Farm { workers: None }, 5, &[2])?;
-    add_node(alloc, &mut tree, Form::Seq, 0, &[])?;
-    add_node(alloc, &mut tree, turning, 3, &[4, 5])?;
-    add_node(alloc, &mut tree, Form::Seq, 0, &[])?;
-    add_node(alloc, &mut tree, Form::Seq, 1, &[])?;
-    Ok(tree)
-}
+const NODES: [ModuleRow; 6] = [
+    (Shape::Pipe, 6, 1, 1, &[1, 3]),
+    (Shape::Farm(None), 5, 1, 1, &[2]),
+    (Shape::Seq, 0, 1, 1, &[]),
+    (Shape::Loop(10, 4), 3, 1, 1, &[4, 5]),
+    (Shape::Seq, 0, 1, 1, &[]),
+    (Shape::Seq, 1, 1, 1, &[]),
+];
+
+// The `seq` modules are in another order than that of their names, and `idle` and `rest` are
+// modules of no node.
+const MODULES: [(&str, ModuleKind); 7] = [
+    ("twice", ModuleKind::Seq),
+    ("add", ModuleKind::Seq),
+    ("idle", ModuleKind::Seq),
+    ("spin", ModuleKind::Loop),
+    ("rest", ModuleKind::Loop),
+    ("many", ModuleKind::Farm),
+    ("main", ModuleKind::Pipe),
+];
 
 fn push_numbers(alloc: Global, text: &mut String, numbers: &[u32]) -> Result<(), AllocError> {
     for number in numbers {
@@ -100,7 +61,7 @@ fn refused(alloc: Global, refusal: &CostRefusal) -> Result<String, AllocError> {
 
 /// What is read of a text, as the tables write it.
 pub fn answer(rt: &impl Abort, alloc: Global, text: &[u8]) -> Result<String, Fail> {
-    let tree = tree(alloc)?;
+    let tree = tree_named(alloc, &NODES, &MODULES)?;
     assert!(rt; lawful_tree(&tree));
     let answer = match read_costs(alloc, text, &tree) {
         Ok(costs) => written(alloc, &costs)?,
@@ -109,7 +70,7 @@ pub fn answer(rt: &impl Abort, alloc: Global, text: &[u8]) -> Result<String, Fai
     Ok(answer)
 }
 
-// The text of a line of a table, in which a semicolon stands for a line feed.
+// The text of a line of a table, in which a semicolon is a line feed.
 fn text_of(alloc: Global, line: &str) -> Result<String, AllocError> {
     let mut text = String::new(alloc);
     for (number, part) in line.split(';').enumerate() {

@@ -5,7 +5,7 @@ use crate::trees::{Row, Shape, Tokens, number_at};
 use p3l_base::NoMemory;
 use std::alloc::Global;
 
-/// The most workers or segments that are tried: no more fit so many processors.
+/// The most workers or segments that are tried: no more fit the processors.
 const MOST: u32 = 12;
 
 /// What a node comes to: its words, its ticks in a unit, and its processes and its service time
@@ -65,7 +65,7 @@ fn with_part(parts: Option<Parts>, part: Numbers) -> Parts {
     }
 }
 
-// The parts of a row among the nodes that are done, of which the last stands first in preorder.
+// The parts of a row among the nodes that are done, of which the last is first in preorder.
 fn parts_of(done: &[Done], number: u32) -> Parts {
     let mut parts = None;
     for node in done.iter().rev() {
@@ -77,7 +77,7 @@ fn parts_of(done: &[Done], number: u32) -> Parts {
 }
 
 impl Tokens {
-    // The ticks of a token of so many words.
+    // The ticks of a token of this number of words.
     fn time(self, words: u64) -> u64 {
         (self.word as u64)
             .saturating_mul(words)
@@ -294,7 +294,7 @@ fn are_lawful(spans: &[Span], list: &[u32]) -> bool {
         .all(|(span, count)| span.allows(*count))
 }
 
-// What the root comes to with a list of numbers, which stand from the last row to the first.
+// What the root comes to with a list of numbers, from the last row to the first.
 fn root_of(alloc: Global, rows: &[Row], tokens: Tokens, list: &[u32]) -> Result<Numbers, NoMemory> {
     let mut done = Vec::new(alloc);
     let mut root = NOTHING;
@@ -367,7 +367,7 @@ fn is_better(one: Tried, best: Option<Tried>) -> bool {
     }
 }
 
-/// The first of the best that fit so many processors.
+/// The first of the best that fit this number of processors.
 pub fn best(tried: &[Tried], processors: u64) -> Option<Tried> {
     let mut best = None;
     for one in tried {

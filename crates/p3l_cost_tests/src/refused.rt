@@ -29,7 +29,7 @@ const NO_DOCUMENTS: &str = "50 | speed
 50 | [seq] twice = 1
 50 | default = 1;]";
 
-/// Keys and tables that stand twice.
+/// Keys and tables that are given twice.
 const TWICE: &str = "50 | setup = 1; setup = 1
 50 | setup = 1; \"setup\" = 2
 50 | setup = 1; 'setup' = 2
@@ -131,7 +131,7 @@ const MISSING: &str = "53 twice |
 53 add | [seq]; twice = 1
 53 add | [seq]; twice = 1; idle = 1";
 
-/// Files with two faults, of which the first in the order of the keys is told.
+/// Files with two faults, of which the first in the order of the keys is reported.
 const FIRST: &str = "50 | speed = 1; setup
 50 | setup = -1; word
 51 Zeta | alpha = 1; Zeta = 1

@@ -1,8 +1,9 @@
-// Trees as tables of rows, and the trees and costs that they stand for.
+// Trees as tables of rows, with their costs.
 
-use p3l_base::{Cut, Dim, List, Name, NoMemory, Place, Slice};
+use p3l_base::{Dim, List, NoMemory, Place};
 use p3l_cost::Costs;
-use p3l_skel::{Form, ModuleInfo, Node, Tree};
+use p3l_skel::{Form, Tree};
+use p3l_sketch::{add_node, cut_of, no_nodes};
 use std::alloc::Global;
 
 /// What a node does with an item. A map has `elements` in and out.
@@ -17,7 +18,7 @@ pub enum Shape {
     Loop { turns: u32 },
 }
 
-/// A node of a tree, which stand in preorder: the row of the node that it is a part of, what it
+/// A node of a tree, in preorder: the row of the node that it is a part of, what it
 /// does, its words, the ticks of a seq or the turns that are expected of a loop, and whether it lies
 /// in a unit.
 #[derive(Clone, Copy, Drop)]
@@ -91,30 +92,23 @@ pub fn number_at(place: usize) -> u32 {
 }
 
 // So many elements, as equal as the words allow.
-fn slices(alloc: Global, elements: u32, words: u32) -> Result<List<Slice>, NoMemory> {
-    let rows = Dim {
-        size: elements,
-        place: Place::First,
-    };
-    let columns = Dim {
-        size: words.checked_div(elements).unwrap_or(1),
-        place: Place::Rest,
-    };
-    let mut slices = List::new(alloc);
-    slices.push(Slice {
-        start: 0,
-        dims: List::from_vec(Vec::from_slice(alloc, &[rows, columns])?),
-    })?;
-    Ok(slices)
+fn array_of(elements: u32, words: u32) -> [Dim; 2] {
+    [
+        Dim {
+            size: elements,
+            place: Place::First,
+        },
+        Dim {
+            size: words.checked_div(elements).unwrap_or(1),
+            place: Place::Rest,
+        },
+    ]
 }
 
 fn map_of(alloc: Global, row: Row, workers: Option<u32>, elements: u32) -> Result<Form, NoMemory> {
-    let cut = Cut {
-        first: elements,
-        second: 1,
-        ins: slices(alloc, elements, row.ins)?,
-        outs: slices(alloc, elements, row.outs)?,
-    };
+    let ins = array_of(elements, row.ins);
+    let outs = array_of(elements, row.outs);
+    let cut = cut_of(alloc, elements, 1, &[(0, &ins)], &[(0, &outs)])?;
     Ok(Form::Map { workers, cut })
 }
 
@@ -145,36 +139,13 @@ fn parts_of(alloc: Global, rows: &[Row], number: u32) -> Result<List<u32>, NoMem
     Ok(parts)
 }
 
-fn add(
-    alloc: Global,
-    tree: &mut Tree,
-    rows: &[Row],
-    number: u32,
-    row: Row,
-) -> Result<(), NoMemory> {
-    let form = form_of(alloc, row)?;
-    tree.modules.push(ModuleInfo {
-        name: Name::from_text(alloc, "m")?,
-        kind: form.kind(),
-        rescue: None,
-    })?;
-    tree.nodes.push(Node {
-        form,
-        module: number,
-        ins: row.ins,
-        outs: row.outs,
-        parts: parts_of(alloc, rows, number)?,
-    })
-}
-
 /// The tree of the rows, each of which is a node of a module of its own.
 pub fn tree_of(alloc: Global, rows: &[Row]) -> Result<Tree, NoMemory> {
-    let mut tree = Tree {
-        nodes: List::new(alloc),
-        modules: List::new(alloc),
-    };
+    let mut tree = no_nodes(alloc);
     for (place, row) in rows.iter().enumerate() {
-        add(alloc, &mut tree, rows, number_at(place), *row)?;
+        let form = form_of(alloc, *row)?;
+        let parts = parts_of(alloc, rows, number_at(place))?;
+        add_node(alloc, &mut tree, form, (row.ins, row.outs), parts, None)?;
     }
     Ok(tree)
 }

@@ -1,62 +1,93 @@
 // The file system.
 
-ghost use Rattle.std.specs.Prelude.{◌≡◌, ◌≤◌, None, length, IfOk};
+ghost use Rattle.std.specs.Prelude.{◌≡◌, ◌≤◌, None, Some, length, IfOk, OnOk, OnErr};
+ghost use Rattle.p3l_host.specs.Faults.{IsAfterFault};
 ghost use Rattle.p3l_host.specs.Reads.{ReadsWithin};
 
+use crate::gather::Output;
 use crate::retry::{after_fault, read_into, write_from};
-use p3l_base::List;
-use p3l_io::{FileFault, Files, WriteFault};
+use p3l_base::{List, Name, NoMemory};
+use p3l_io::{Failed, FileFault, Files, WriteFault};
 use std::alloc::Global;
-use std::io::{ErrorKind, Read};
+use std::io::{ErrorKind, Read, Write};
 use std::marker::Model;
 use std::{fs, rt};
 
 /// How many bytes a read asks for at most.
 const PIECE: usize = 16_384;
 
-/// The files of the file system, which contracts see as their count of faults.
+/// The files of the file system, which contracts see as their faults. A file is written after all that
+/// was put on the output; where that can't be written, the file is left as it was.
 #[derive(Drop)]
-pub struct HostFiles<'a, R: rt::Files> {
+pub struct HostFiles<'a, R: rt::Files, W: Write + Drop> {
     rt: &'a R,
+    output: &'a Output<W>,
     faults: u64,
+    /// The name of the file of the latest call that failed, if one did.
+    failed: Option<Name>,
 }
 
-impl<'a, R: rt::Files> Model for HostFiles<'a, R> {
-    ghost use Rattle.std.specs.Prelude.{ℕ};
+impl<'a, R: rt::Files, W: Write + Drop> Model for HostFiles<'a, R, W> {
+    ghost use Rattle.p3l_host.specs.Faults.{Faults};
 
-    ghost Value = { ℕ };
+    ghost Value = { Faults };
 
-    ghost view = { λ s. s.faults };
+    ghost view = { λ s. record { count = s.faults; failed = s.failed } };
 }
 
-impl<'a, R: rt::Files> HostFiles<'a, R> {
-    /// The files that the runtime reaches.
-    pub fn new(rt: &'a R) -> HostFiles<'a, R>
-        ensures { result ≡ 0 }
+impl<'a, R: rt::Files, W: Write + Drop> HostFiles<'a, R, W> {
+    /// The files that the runtime reaches, written after this output.
+    pub fn new(rt: &'a R, output: &'a Output<W>) -> HostFiles<'a, R, W>
+        ensures { result ≡ record { count = 0; failed = None } }
     {
-        HostFiles { rt, faults: 0 }
+        HostFiles {
+            rt,
+            output,
+            faults: 0,
+            failed: None,
+        }
+    }
+
+    /// Counts a fault of the file of this name, unless memory for the name is wanting.
+    fn fail(&mut self, alloc: Global, name: &str) -> Result<(), NoMemory>
+        ensures counted { OnOk result (IsAfterFault self.old self.new name.now) }
+        ensures same { OnErr result (self.new ≡ self.old) }
+    {
+        self.failed = Some(Name::from_text(alloc, name)?);
+        self.faults = after_fault(self.faults);
+        Ok(())
     }
 }
 
-impl<'a, R: rt::Files> Files for HostFiles<'a, R> {
+impl<'a, R: rt::Files, W: Write + Drop> Files for HostFiles<'a, R, W> {
     ghost held = { λ _. None };
 
-    ghost faults = { λ faults. faults };
+    ghost faults = { λ faults. faults.count };
+
+    ghost failed = { λ faults. faults.failed };
 
     fn read(&mut self, alloc: Global, name: &str, limit: u64) -> Result<List<u8>, FileFault> {
-        let answer = read_file(alloc, self.rt, name, limit);
-        if let Err(FileFault::Failed) = answer {
-            self.faults = after_fault(self.faults);
+        match read_file(alloc, self.rt, name, limit) {
+            Err(FileFault::Failed) => match self.fail(alloc, name) {
+                Ok(()) => Err(FileFault::Failed),
+                Err(NoMemory) => Err(FileFault::NoMemory),
+            },
+            answer => answer,
         }
-        answer
     }
 
-    fn write(&mut self, _alloc: Global, name: &str, bytes: &[u8]) -> Result<(), WriteFault> {
-        let answer = write_file(self.rt, name, bytes);
-        if let Err(WriteFault::Failed) = answer {
-            self.faults = after_fault(self.faults);
+    fn write(&mut self, alloc: Global, name: &str, bytes: &[u8]) -> Result<(), WriteFault> {
+        let answer = match self.output.flush() {
+            Ok(()) => write_file(self.rt, name, bytes),
+            Err(Failed) => Err(WriteFault::Failed),
+        };
+        match answer {
+            Err(WriteFault::Failed) => match self.fail(alloc, name) {
+                Ok(()) => Err(WriteFault::Failed),
+                Err(NoMemory) => Err(WriteFault::NoMemory),
+            },
+            answer => answer,
         }
-        answer
     }
 }
 

@@ -2,7 +2,7 @@
 
 ghost use Rattle.std.specs.Prelude.{◌≡◌, None};
 
-use crate::retry::{after_fault, read_into};
+use crate::retry::{faults_after, read_into};
 use p3l_io::{Failed, Source};
 use std::io::Read;
 use std::marker::Model;
@@ -38,9 +38,7 @@ impl<R: Read + Drop> Source for HostIn<R> {
 
     fn take(&mut self, buf: &mut [u8]) -> Result<usize, Failed> {
         let answer = read_into(&mut self.reader, buf);
-        if answer.is_err() {
-            self.faults = after_fault(self.faults);
-        }
+        self.faults = faults_after(self.faults, &answer);
         answer
     }
 }

@@ -1,11 +1,15 @@
 //! The real source, sinks and files: std's standard streams and file system. They tell no content.
 #![tactic(auto)]
 
+pub mod after;
 pub mod files;
+pub mod gather;
 pub mod input;
 pub mod output;
 mod retry;
 
+pub use after::{SinkAfter, SourceAfter};
 pub use files::HostFiles;
+pub use gather::Output;
 pub use input::HostIn;
 pub use output::{HostErr, HostOut};

@@ -2,19 +2,20 @@
 
 ghost use Rattle.std.specs.Prelude.{◌≡◌, None};
 
-use crate::retry::{after_fault, write_from};
+use crate::gather::Output;
+use crate::retry::{faults_after, write_from};
 use p3l_io::{Failed, Sink};
 use std::io::Write;
 use std::marker::Model;
 
-/// The standard output, which contracts see as its count of faults.
+/// The standard output, whose pieces are gathered; contracts see it as its count of faults.
 #[derive(Drop)]
-pub struct HostOut<W: Write + Drop> {
-    writer: W,
+pub struct HostOut<'a, W: Write + Drop> {
+    output: &'a Output<W>,
     faults: u64,
 }
 
-impl<W: Write + Drop> Model for HostOut<W> {
+impl<'a, W: Write + Drop> Model for HostOut<'a, W> {
     ghost use Rattle.std.specs.Prelude.{ℕ};
 
     ghost Value = { ℕ };
@@ -22,33 +23,33 @@ impl<W: Write + Drop> Model for HostOut<W> {
     ghost view = { λ s. s.faults };
 }
 
-impl<W: Write + Drop> HostOut<W> {
-    /// The sink into a writer, as `rt.stdout()`.
-    pub fn new(writer: W) -> HostOut<W>
+impl<'a, W: Write + Drop> HostOut<'a, W> {
+    /// The sink into an output.
+    pub fn new(output: &'a Output<W>) -> HostOut<'a, W>
         ensures { result ≡ 0 }
     {
-        HostOut { writer, faults: 0 }
+        HostOut { output, faults: 0 }
     }
 }
 
-impl<W: Write + Drop> Sink for HostOut<W> {
+impl<'a, W: Write + Drop> Sink for HostOut<'a, W> {
     ghost taken = { λ _. None };
 
     ghost faults = { λ faults. faults };
 
     fn put(&mut self, piece: &[u8]) -> Result<(), Failed> {
-        let answer = write_from(&mut self.writer, piece);
-        if answer.is_err() {
-            self.faults = after_fault(self.faults);
-        }
+        let answer = self.output.put(piece);
+        self.faults = faults_after(self.faults, &answer);
         answer
     }
 }
 
-/// The standard error, which contracts see as its count of faults.
+/// The standard error, whose pieces are written as they come; contracts see it as its count of
+/// faults.
 #[derive(Drop)]
 pub struct HostErr<W: Write + Drop> {
-    sink: HostOut<W>,
+    writer: W,
+    faults: u64,
 }
 
 impl<W: Write + Drop> Model for HostErr<W> {
@@ -56,7 +57,7 @@ impl<W: Write + Drop> Model for HostErr<W> {
 
     ghost Value = { ℕ };
 
-    ghost view = { λ s. s.sink };
+    ghost view = { λ s. s.faults };
 }
 
 impl<W: Write + Drop> HostErr<W> {
@@ -64,9 +65,7 @@ impl<W: Write + Drop> HostErr<W> {
     pub fn new(writer: W) -> HostErr<W>
         ensures { result ≡ 0 }
     {
-        HostErr {
-            sink: HostOut::new(writer),
-        }
+        HostErr { writer, faults: 0 }
     }
 }
 
@@ -76,6 +75,8 @@ impl<W: Write + Drop> Sink for HostErr<W> {
     ghost faults = { λ faults. faults };
 
     fn put(&mut self, piece: &[u8]) -> Result<(), Failed> {
-        self.sink.put(piece)
+        let answer = write_from(&mut self.writer, piece);
+        self.faults = faults_after(self.faults, &answer);
+        answer
     }
 }

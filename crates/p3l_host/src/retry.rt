@@ -1,6 +1,6 @@
 // Reads and writes, again where they were interrupted.
 
-ghost use Rattle.std.specs.Prelude.{◌≡◌, ◌+◌, ◌-◌, ◌^◌, ◌≤◌, length, min, IfOk, OnOk};
+ghost use Rattle.std.specs.Prelude.{◌≡◌, ◌+◌, ◌-◌, ◌^◌, ◌≤◌, length, min, IfOk, OnOk, OnErr};
 ghost use Rattle.std.specs.Io.KnownBytes.{Appends, Keeps, ReadConsumes};
 
 use p3l_io::Failed;
@@ -41,7 +41,7 @@ pub(crate) fn write_from<W: Write>(writer: &mut W, bytes: &[u8]) -> Result<(), F
 }
 
 /// Hands on what a writer holds back.
-fn flushed<W: Write>(writer: &mut W) -> Result<(), Failed>
+pub(crate) fn flushed<W: Write>(writer: &mut W) -> Result<(), Failed>
     ensures { Keeps (W.contents writer.old) (W.contents writer.new) }
 {
     for _ in 0..u64::MAX {
@@ -59,4 +59,15 @@ pub(crate) fn after_fault(faults: u64) -> u64
     ensures { result ≡ min (faults + 1) (2 ^ 64 - 1) }
 {
     faults.saturating_add(1)
+}
+
+/// The count of faults after an answer, which a fault raises.
+pub(crate) fn faults_after<T>(faults: u64, answer: &Result<T, Failed>) -> u64
+    ensures ok { OnOk answer.now (result ≡ faults) }
+    ensures fault { OnErr answer.now (result ≡ min (faults + 1) (2 ^ 64 - 1)) }
+{
+    match answer {
+        Ok(_) => faults,
+        Err(_) => after_fault(faults),
+    }
 }

@@ -1,5 +1,5 @@
 -- What the counts of faults say of the answers of calls on the outside.
-use Rattle.std.specs.Prelude.{◌≡◌, ℕ, ◌+◌, ◌-◌, ◌^◌, ◌≤◌, min, Result, Ok, Err, OnOk, OnErr}
+use Rattle.std.specs.Prelude.{◌≡◌, ℕ, ◌+◌, ◌-◌, ◌^◌, ◌≤◌, min, List, Option, Some, Result, Ok, Err, OnOk, OnErr}
 use Rattle.p3l_io.specs.declared.fault.FileFault.{FileFault}
 use Rattle.p3l_io.specs.declared.fault.FileFault.TheVariants as file
 use Rattle.p3l_io.specs.declared.fault.WriteFault.{WriteFault}
@@ -37,3 +37,16 @@ WriteCause before now (Err write.NoMemory) = now ≡ before
 pub record HasWriteCause {T : Type 0} (before now : ℕ) (result : Result T WriteFault) : Type 0 where
   pub later : before ≤ now
   pub by : WriteCause before now result
+
+-- the name of the file of the latest call that failed goes so: a reading that fails puts its own there, and no other answer changes it
+abbrev pub ReadBlames : {T : Type 0} → (old new : Option (List ℕ)) → (name : List ℕ) → Result T FileFault → Type 0
+ReadBlames old new name (Ok bytes) = new ≡ old
+ReadBlames old new name (Err file.Failed) = new ≡ Some name
+ReadBlames old new name (Err file.TooLong) = new ≡ old
+ReadBlames old new name (Err file.NoMemory) = new ≡ old
+
+-- and so a writing
+abbrev pub WriteBlames : {T : Type 0} → (old new : Option (List ℕ)) → (name : List ℕ) → Result T WriteFault → Type 0
+WriteBlames old new name (Ok done) = new ≡ old
+WriteBlames old new name (Err write.Failed) = new ≡ Some name
+WriteBlames old new name (Err write.NoMemory) = new ≡ old

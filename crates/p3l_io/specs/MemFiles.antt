@@ -10,12 +10,13 @@ use Rattle.p3l_io.specs.declared.fault.WriteFault.TheVariants as write
 use Rattle.p3l_io.specs.Calls.{next_count, names_call}
 use Rattle.p3l_io.specs.Told.{Held, IsPut}
 
--- the names with their bytes, the calls that fail, and how many calls and faults there were
+-- the names with their bytes, the calls that fail, how many calls and faults there were, and the name of the file of the latest fault
 pub record FilesState : Type 0 where
   pub files : List (List ℕ × List ℕ)
   pub fails : List ℕ
   pub calls : ℕ
   pub faults : ℕ
+  pub failed : Option (List ℕ)
 
 -- the bytes under a name
 abbrev pub bytes_under : List (List ℕ × List ℕ) → Held
@@ -38,15 +39,30 @@ write_failed (Ok done) = false
 write_failed (Err write.Failed) = true
 write_failed (Err write.NoMemory) = false
 
--- the files after a call that changed none and failed or not
-abbrev pub after_call : FilesState → Bool → FilesState
-after_call s failed = record s { calls = next_count s.calls; faults = if failed then next_count s.faults else s.faults }
+-- a reading fails where it is to fail and nowhere else, unless memory was wanting
+abbrev pub ReadFailsIf : {T : Type 0} → Bool → Result T FileFault → Type 0
+ReadFailsIf due (Err file.NoMemory) = Unit {0}
+ReadFailsIf due result = read_failed result ≡ due
 
--- one more call was made, which failed or not
-pub record IsCalled (old new : FilesState) (failed : Bool) : Type 0 where
+-- and so a writing
+abbrev pub WriteFailsIf : {T : Type 0} → Bool → Result T WriteFault → Type 0
+WriteFailsIf due (Err write.NoMemory) = Unit {0}
+WriteFailsIf due result = write_failed result ≡ due
+
+-- the files after a call of this name that changed none and failed or not
+abbrev pub after_call : FilesState → (name : List ℕ) → (failed : Bool) → FilesState
+after_call s name failed = record s {
+  calls = next_count s.calls;
+  faults = if failed then next_count s.faults else s.faults;
+  failed = if failed then Some name else s.failed;
+}
+
+-- one more call of this name was made, which failed or not
+pub record IsCalled (old new : FilesState) (name : List ℕ) (failed : Bool) : Type 0 where
   pub same_fails : new.fails ≡ old.fails
   pub calls : new.calls ≡ next_count old.calls
   pub faults : new.faults ≡ (if failed then next_count old.faults else old.faults)
+  pub blames : new.failed ≡ (if failed then Some name else old.failed)
 
 -- what a reading answers of the bytes found: a copy within the limit, or why there is none
 abbrev pub IsCopy : Option (List ℕ) → ℕ → Result (List ℕ) FileFault → Type 0
@@ -61,6 +77,7 @@ pub record IsAdded (old new : FilesState) (name bytes : List ℕ) : Type 0 where
   pub same_fails : new.fails ≡ old.fails
   pub same_calls : new.calls ≡ old.calls
   pub same_faults : new.faults ≡ old.faults
+  pub same_failed : new.failed ≡ old.failed
 
 -- the names of a map as bytes
 abbrev pub texts : List (String Global × List ℕ) → List (List ℕ × List ℕ)

@@ -1,7 +1,7 @@
 // Files by their names.
 
-ghost use Rattle.std.specs.Prelude.{◌≤◌, ℕ, Option, length, IfOk};
-ghost use Rattle.p3l_io.specs.Causes.{HasReadCause, HasWriteCause};
+ghost use Rattle.std.specs.Prelude.{◌≤◌, ℕ, List, Option, length, IfOk};
+ghost use Rattle.p3l_io.specs.Causes.{HasReadCause, HasWriteCause, ReadBlames, WriteBlames};
 ghost use Rattle.p3l_io.specs.Told.{Held, Reads, Writes};
 
 use crate::fault::{FileFault, WriteFault};
@@ -16,15 +16,20 @@ pub trait Files {
     // how often a call has failed, up to the last value of a `u64`
     ghost faults: { Self → ℕ };
 
+    // the name of the file of the latest call that failed, if one did
+    ghost failed: { Self → Option (List ℕ) };
+
     /// The bytes under a name, if there are at most `limit`. A missing file is a fault.
     fn read(&mut self, alloc: Global, name: &str, limit: u64) -> Result<List<u8>, FileFault>
         ensures within { IfOk result (λ bytes. length bytes ≤ limit) }
         ensures bytes { Reads (held self.old) (held self.new) name.now limit result }
-        ensures cause { HasReadCause (faults self.old) (faults self.new) result };
+        ensures cause { HasReadCause (faults self.old) (faults self.new) result }
+        ensures blames { ReadBlames (failed self.old) (failed self.new) name.now result };
 
     /// Puts the bytes under a name, in the place of those that it had. An error may leave any bytes
     /// under this one name.
     fn write(&mut self, alloc: Global, name: &str, bytes: &[u8]) -> Result<(), WriteFault>
         ensures bytes { Writes (held self.old) (held self.new) name.now bytes.now result }
-        ensures cause { HasWriteCause (faults self.old) (faults self.new) result };
+        ensures cause { HasWriteCause (faults self.old) (faults self.new) result }
+        ensures blames { WriteBlames (failed self.old) (failed self.new) name.now result };
 }

@@ -1,15 +1,16 @@
 // Files in memory.
 
-ghost use Rattle.std.specs.Prelude.{◌≡◌, ◌≤◌, [], Some, length, is_none, ◌||◌, IfOk, OnOk, OnErr};
+ghost use Rattle.std.specs.Prelude.{◌≡◌, ◌≤◌, [], Some, None, false, length, is_none, is_ok, ◌||◌, IfOk, OnOk, OnErr};
 ghost use Rattle.std.specs.Option.{option_copied};
-ghost use Rattle.p3l_io.specs.Causes.{HasReadCause, HasWriteCause};
+ghost use Rattle.p3l_io.specs.Causes.{HasReadCause, HasWriteCause, ReadBlames, WriteBlames};
 ghost use Rattle.p3l_io.specs.Told.{IsPut, Reads, Writes};
-ghost use Rattle.p3l_io.specs.MemFiles.{IsAdded, IsCalled, IsCopy, after_call, bytes_under, fails_next, read_failed, texts, write_failed};
+ghost use Rattle.p3l_io.specs.Calls.{next_count};
+ghost use Rattle.p3l_io.specs.MemFiles.{IsAdded, IsCalled, IsCopy, ReadFailsIf, WriteFailsIf, after_call, bytes_under, fails_next, read_failed, texts, write_failed};
 
 use crate::calls::{after_one_more, is_named};
 use crate::fault::{FileFault, WriteFault};
 use crate::files::Files;
-use p3l_base::{List, NoMemory};
+use p3l_base::{List, Name, NoMemory};
 use std::alloc::Global;
 use std::collections::BTreeMap;
 use std::marker::Model;
@@ -22,6 +23,8 @@ pub struct MemFiles {
     fails: List<u64>,
     calls: u64,
     faults: u64,
+    /// The name of the file of the latest call that failed, if one did.
+    failed: Option<Name>,
 }
 
 impl Model for MemFiles {
@@ -29,7 +32,7 @@ impl Model for MemFiles {
 
     ghost Value = { FilesState };
 
-    ghost view = { λ s. record { files = texts s.files.entries; fails = s.fails; calls = s.calls; faults = s.faults } };
+    ghost view = { λ s. record { files = texts s.files.entries; fails = s.fails; calls = s.calls; faults = s.faults; failed = s.failed } };
 }
 
 /// Puts a copy of the bytes under the name.
@@ -53,7 +56,7 @@ impl MemFiles {
     /// No files yet. `fails` has the numbers of the calls of `read` and `write` that fail, counted
     /// together from 1.
     pub fn new(alloc: Global, fails: List<u64>) -> MemFiles
-        ensures { result ≡ record { files = []; fails = fails; calls = 0; faults = 0 } }
+        ensures { result ≡ record { files = []; fails = fails; calls = 0; faults = 0; failed = None } }
     {
         MemFiles {
             alloc,
@@ -61,6 +64,7 @@ impl MemFiles {
             fails,
             calls: 0,
             faults: 0,
+            failed: None,
         }
     }
 
@@ -89,15 +93,23 @@ impl MemFiles {
         is_named(self.fails.as_slice(), after_one_more(self.calls))
     }
 
-    /// Counts a call, and its fault if it failed.
-    fn count(&mut self, failed: bool)
-        ensures after { self.new ≡ after_call self.old failed }
+    /// Counts a call that doesn't fail.
+    fn pass(&mut self)
+        ensures { self.new ≡ record self.old { calls = next_count self.old.calls } }
+    {
+        self.calls = after_one_more(self.calls);
+    }
+
+    /// Counts a call that fails, on the file of this name; it is no fault where memory for the name is
+    /// wanting.
+    fn fail(&mut self, name: &str) -> Result<(), NoMemory>
+        ensures after { self.new ≡ after_call self.old name.now (is_ok result) }
         ensures later { self.old.faults ≤ self.new.faults }
     {
         self.calls = after_one_more(self.calls);
-        if failed {
-            self.faults = after_one_more(self.faults);
-        }
+        self.failed = Some(Name::from_text(self.alloc, name)?);
+        self.faults = after_one_more(self.faults);
+        Ok(())
     }
 }
 
@@ -120,37 +132,51 @@ impl Files for MemFiles {
 
     ghost faults = { λ s. s.faults };
 
+    ghost failed = { λ s. s.failed };
+
     fn read(&mut self, alloc: Global, name: &str, limit: u64) -> Result<List<u8>, FileFault>
         ensures within { IfOk result (λ bytes. length bytes ≤ limit) }
         ensures bytes { Reads (Some (bytes_under self.old.files))
             (Some (bytes_under self.new.files)) name.now limit result }
         ensures cause { HasReadCause self.old.faults self.new.faults result }
-        ensures failed { read_failed result
-            ≡ (fails_next self.old || is_none (bytes_under self.old.files name.now)) }
-        ensures after { self.new ≡ after_call self.old (read_failed result) }
+        ensures blames { ReadBlames self.old.failed self.new.failed name.now result }
+        ensures failed { ReadFailsIf
+            (fails_next self.old || is_none (bytes_under self.old.files name.now)) result }
+        ensures after { self.new ≡ after_call self.old name.now (read_failed result) }
     {
-        if self.fails_next() {
-            self.count(true);
-            return Err(FileFault::Failed);
+        let answer = if self.fails_next() {
+            Err(FileFault::Failed)
+        } else {
+            copy_within(alloc, self.get(name), limit)
+        };
+        match answer {
+            Err(FileFault::Failed) => match self.fail(name) {
+                Ok(()) => Err(FileFault::Failed),
+                Err(NoMemory) => Err(FileFault::NoMemory),
+            },
+            answer => {
+                self.pass();
+                answer
+            }
         }
-        let answer = copy_within(alloc, self.get(name), limit);
-        self.count(matches!(answer, Err(FileFault::Failed)));
-        answer
     }
 
     fn write(&mut self, alloc: Global, name: &str, bytes: &[u8]) -> Result<(), WriteFault>
         ensures bytes { Writes (Some (bytes_under self.old.files))
             (Some (bytes_under self.new.files)) name.now bytes.now result }
         ensures cause { HasWriteCause self.old.faults self.new.faults result }
-        ensures failed { write_failed result ≡ fails_next self.old }
-        ensures after { IsCalled self.old self.new (write_failed result) }
+        ensures blames { WriteBlames self.old.failed self.new.failed name.now result }
+        ensures failed { WriteFailsIf (fails_next self.old) result }
+        ensures after { IsCalled self.old self.new name.now (write_failed result) }
         ensures kept { OnErr result (self.new.files ≡ self.old.files) }
     {
         if self.fails_next() {
-            self.count(true);
-            return Err(WriteFault::Failed);
+            return match self.fail(name) {
+                Ok(()) => Err(WriteFault::Failed),
+                Err(NoMemory) => Err(WriteFault::NoMemory),
+            };
         }
-        self.count(false);
+        self.pass();
         match put(alloc, &mut self.files, name, bytes) {
             Ok(()) => Ok(()),
             Err(NoMemory) => Err(WriteFault::NoMemory),

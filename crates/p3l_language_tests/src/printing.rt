@@ -5,7 +5,7 @@ use p3l_ast::SourceRefusal;
 use p3l_base::List;
 use p3l_print::print;
 use p3l_reader::read;
-use p3l_round_trip::read_printed;
+use p3l_text_laws::read_printed;
 use std::alloc::{AllocError, Global};
 use std::process::Abort;
 use std::test::Fail;

@@ -1,0 +1,12 @@
+pub mod Ranges
+pub mod Seen
+pub mod Slices
+pub mod Below
+pub mod Nodes
+pub mod SafeCodes
+pub mod Pieces
+pub mod Nets
+pub mod Words
+pub mod Spelled
+pub mod Entries
+pub mod Runnable

@@ -1,4 +1,4 @@
--- The codes that a tree asks for.
+-- The codes that a tree needs.
 use Rattle.std.specs.Prelude.{◌≡◌, ℕ, List, length, take, count_by, slice_get, IsSomeAnd}
 use Rattle.std.specs.List.{All}
 use Rattle.p3l_skel.specs.declared.tree.ModuleInfo.{ModuleInfo}
@@ -7,7 +7,7 @@ use Rattle.p3l_code.specs.declared.instr.Code.{Code}
 use Rattle.p3l_code.specs.Safe.{IsSafe}
 use Rattle.p3l_units.specs.Table.{HasCode, is_seq_kind}
 
--- how many `seq` modules there are
+-- the number of `seq` modules
 abbrev pub seqs_in : List ModuleInfo → ℕ
 seqs_in modules = count_by (λ (m : ModuleInfo). is_seq_kind m.kind) modules
 

@@ -1,2 +1,4 @@
 pub mod Codes
 pub mod Load
+pub mod Written
+pub mod Compiled

@@ -35,7 +35,13 @@ pub record IsRunnable (image : Image) : Type 0 where
 
 -- what is loaded is the image's own
 abbrev pub loaded_of : Image → Loaded
-loaded_of image = record { cap = image.cap; tree = image.tree; counts = image.counts; codes = image.codes; net = image.net }
+loaded_of image = record {
+  cap = image.cap;
+  tree = image.tree;
+  counts = image.counts;
+  codes = image.codes;
+  net = image.net;
+}
 
 -- why codes aren't sealed
 abbrev pub IsUnsafe : List Code → LoadRefusal → Type 0
@@ -52,7 +58,13 @@ Refuses image NoMemory = ⊤
 
 -- the image with the net of its tree in place of its own
 abbrev pub migrated_of : Image → Image
-migrated_of image = record { cap = image.cap; tree = image.tree; counts = image.counts; codes = image.codes; net = net_of image }
+migrated_of image = record {
+  cap = image.cap;
+  tree = image.tree;
+  counts = image.counts;
+  codes = image.codes;
+  net = net_of image;
+}
 
 -- why an image isn't migrated: why it isn't loaded, but that its net doesn't matter
 abbrev pub RefusesMigration : Image → LoadRefusal → Type 0

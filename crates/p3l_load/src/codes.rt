@@ -2,7 +2,8 @@
 
 ghost use Rattle.std.specs.Prelude.{◌≡◌, ◌↔◌, ◌<◌, ◌^◌, length, IsTrue, IfOk};
 ghost use Rattle.std.specs.Option.{option_map};
-ghost use Rattle.p3l_units.specs.Table.{HasCode, HasPlaces, HasWordsOf, is_seq_kind, one_if_seq, code_of};
+ghost use Rattle.p3l_units.specs.Table.{HasCode, HasPlaces, HasWordsOf};
+ghost use Rattle.p3l_units.specs.Table.{code_of, is_seq_kind, one_if_seq};
 ghost use Rattle.p3l_load.specs.Codes.{HasCodes, seqs_in};
 
 use p3l_base::{List, NoMemory};
@@ -21,7 +22,7 @@ fn is_seq(info: &ModuleInfo) -> bool
     }
 }
 
-// How many `seq` modules there are.
+// The number of `seq` modules.
 fn seqs_in(modules: &[ModuleInfo]) -> usize
     ensures { result ≡ seqs_in modules.now }
 {
@@ -33,7 +34,7 @@ fn seqs_in(modules: &[ModuleInfo]) -> usize
 struct CodeTable<'a> {
     tree: &'a Tree,
     codes: &'a [Code],
-    // For each module, how many `seq` modules are before it.
+    // For each module, the number of `seq` modules before it.
     places: List<u32>,
 }
 
@@ -104,7 +105,7 @@ fn one_if_seq(info: &ModuleInfo) -> u32
     }
 }
 
-// For each module, how many `seq` modules are before it.
+// For each module, the number of `seq` modules before it.
 fn code_places(alloc: Global, modules: &[ModuleInfo]) -> Result<List<u32>, NoMemory>
     requires { length modules.now < 2 ^ 32 }
     ensures { IfOk result (HasPlaces modules.now) }

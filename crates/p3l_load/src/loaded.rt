@@ -33,7 +33,7 @@ pub enum LoadRefusal {
     /// its `seq` modules.
     #[error("the tree, its counts or its codes are wrong")]
     TreeWrong,
-    /// Memory was wanting.
+    /// Memory ran out.
     #[error("no memory")]
     NoMemory,
 }

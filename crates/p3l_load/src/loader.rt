@@ -5,7 +5,7 @@ ghost use Rattle.p3l_load.specs.Load.{IsWhole, IsRunnable, Refuses, loaded_of};
 
 use crate::codes::has_codes;
 use crate::loaded::{LoadRefusal, Loaded};
-use crate::seal::sealed;
+use crate::seal::seal_codes;
 use p3l_base::NoMemory;
 use p3l_image::Image;
 use p3l_link::is_linked;
@@ -44,7 +44,7 @@ pub fn load(alloc: Global, image: Image) -> Result<Loaded, LoadRefusal>
     if !is_whole(alloc, &image)? {
         return Err(LoadRefusal::TreeWrong);
     }
-    let codes = sealed(alloc, image.codes.as_slice())?;
+    let codes = seal_codes(alloc, image.codes.as_slice())?;
     if !is_linked(alloc, &image.net, &image.tree, &image.counts, image.cap)? {
         return Err(LoadRefusal::NotLinked);
     }

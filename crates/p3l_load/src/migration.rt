@@ -5,7 +5,7 @@ ghost use Rattle.p3l_load.specs.Load.{IsRunnable, RefusesMigration, migrated_of}
 
 use crate::loaded::LoadRefusal;
 use crate::loader::is_whole;
-use crate::seal::sealed;
+use crate::seal::seal_codes;
 use p3l_image::Image;
 use p3l_link::link;
 use std::alloc::Global;
@@ -22,7 +22,7 @@ pub fn migrate(alloc: Global, image: Image) -> Result<Image, LoadRefusal>
     if !is_whole(alloc, &image)? {
         return Err(LoadRefusal::TreeWrong);
     }
-    let _safe = sealed(alloc, image.codes.as_slice())?;
+    let _safe = seal_codes(alloc, image.codes.as_slice())?;
     let net = link(alloc, &image.tree, &image.counts, image.cap)?;
     Ok(Image {
         cap: image.cap,

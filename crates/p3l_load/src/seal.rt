@@ -11,8 +11,8 @@ use p3l_code::{Code, SafeCode};
 use p3l_verify::verify;
 use std::alloc::Global;
 
-// The same code again.
-fn copied(alloc: Global, code: &Code) -> Result<Code, NoMemory>
+// A copy of a code.
+fn copy_of(alloc: Global, code: &Code) -> Result<Code, NoMemory>
     ensures { IfOk result (λ copy. copy ≡ code.now) }
 {
     let instrs = List::from_vec(code.instrs.as_slice().to_vec(alloc)?);
@@ -25,8 +25,8 @@ fn copied(alloc: Global, code: &Code) -> Result<Code, NoMemory>
     })
 }
 
-/// The codes, sealed, or the number of the first that isn't safe.
-pub fn sealed(alloc: Global, codes: &[Code]) -> Result<List<SafeCode>, LoadRefusal>
+/// Seals codes, or gives the number of the first that isn't safe.
+pub fn seal_codes(alloc: Global, codes: &[Code]) -> Result<List<SafeCode>, LoadRefusal>
     requires { length codes.now < 2 ^ 32 }
     ensures same { IfOk result (λ safe. safe ≡ codes.now) }
     ensures safe { IfOk result (λ safe. All IsSafe codes.now) }
@@ -35,7 +35,7 @@ pub fn sealed(alloc: Global, codes: &[Code]) -> Result<List<SafeCode>, LoadRefus
     let mut safe = List::new(alloc);
     let mut number: u32 = 0;
     for code in codes {
-        match verify(alloc, copied(alloc, code)?)? {
+        match verify(alloc, copy_of(alloc, code)?)? {
             Some(code) => safe.push(code)?,
             None => return Err(LoadRefusal::CodeUnsafe(number)),
         }

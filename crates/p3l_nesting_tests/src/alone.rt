@@ -3,6 +3,7 @@
 use crate::comparing::compare;
 use crate::sketch::{JOIN, ONE, Row, Shape, Sketch, TEST, TWO};
 use p3l_base::{Dim, Place};
+use p3l_sketch::Array;
 use std::test::Fail;
 
 const SEQ: [Row; 1] = [TWO];
@@ -29,9 +30,9 @@ const PAIR: Dim = Dim {
     place: Place::Rest,
 };
 
-const PAIRS: [Dim; 2] = [FOUR, PAIR];
+const PAIRS: [Array; 1] = [(0, &[FOUR, PAIR])];
 
-const SINGLES: [Dim; 1] = [FOUR];
+const SINGLES: [Array; 1] = [(0, &[FOUR])];
 
 const MAP: [Row; 2] = [(Shape::Map(4, 1, &PAIRS, &SINGLES), 8, 4, &[1]), JOIN];
 
@@ -46,9 +47,9 @@ const COLUMN: Dim = Dim {
     place: Place::Second,
 };
 
-const TAKEN: [Dim; 2] = [COLUMN, ROW];
+const TAKEN: [Array; 1] = [(0, &[COLUMN, ROW])];
 
-const FILLED: [Dim; 2] = [ROW, COLUMN];
+const FILLED: [Array; 1] = [(0, &[ROW, COLUMN])];
 
 const MATRIX: [Row; 2] = [(Shape::Map(3, 2, &TAKEN, &FILLED), 6, 6, &[1]), ONE];
 

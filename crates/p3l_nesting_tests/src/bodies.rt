@@ -1,4 +1,4 @@
-// The bodies of `seq` modules. Each is told apart by what it traps on, keeps odd words odd, and
+// The bodies of `seq` modules. Each is known by what it traps on, keeps odd words odd, and
 // depends on the order of its words.
 
 use p3l_ast::BinOp;
@@ -74,7 +74,7 @@ const TEST: &[&[Instr]] = &[
     &[Instr::Store(2)],
 ];
 
-// The code of these instructions, which takes and gives so many words.
+// The code of these instructions, with the numbers of words that it takes and gives.
 fn code(alloc: Global, ins: u32, outs: u32, pieces: &[&[Instr]]) -> Result<Code, NoMemory> {
     let mut instrs = List::new(alloc);
     for piece in pieces {

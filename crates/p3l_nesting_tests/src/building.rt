@@ -2,40 +2,23 @@
 
 use crate::bodies::code_of;
 use crate::sketch::{Row, Shape};
-use p3l_base::{Cut, Dim, List, Name, NoMemory, Slice};
+use p3l_base::{List, NoMemory};
 use p3l_code::Code;
-use p3l_skel::{Form, ModuleInfo, Node, Tree};
+use p3l_skel::Tree;
+use p3l_sketch::{Shape as Bare, add_row, no_nodes};
 use std::alloc::Global;
 
-/// The list of these numbers.
-pub fn list_of(alloc: Global, numbers: &[u32]) -> Result<List<u32>, NoMemory> {
-    Ok(List::from_vec(numbers.to_vec(alloc)?))
-}
-
-// The one array of these sizes, from word 0 on.
-fn array_of(alloc: Global, dims: &[Dim]) -> Result<List<Slice>, NoMemory> {
-    let mut slices = List::new(alloc);
-    slices.push(Slice {
-        start: 0,
-        dims: List::from_vec(dims.to_vec(alloc)?),
-    })?;
-    Ok(slices)
-}
-
-fn form_of(alloc: Global, shape: Shape) -> Result<Form, NoMemory> {
-    Ok(match shape {
-        Shape::Seq(_) | Shape::RescuedSeq(..) => Form::Seq,
-        Shape::Comp | Shape::RescuedComp(_) => Form::Comp,
-        Shape::Pipe => Form::Pipe,
-        Shape::Farm => Form::Farm { workers: None },
-        Shape::Map(first, second, ins, outs) => map_of(alloc, first, second, ins, outs)?,
-        Shape::Reduce(len, elem) => Form::Reduce {
-            workers: None,
-            len,
-            elem,
-        },
-        Shape::Loop(turns, tokens) => Form::Loop { turns, tokens },
-    })
+// What a node does, without its body and its rescue number.
+fn bare(shape: Shape) -> Bare {
+    match shape {
+        Shape::Seq(_) | Shape::RescuedSeq(..) => Bare::Seq,
+        Shape::Comp | Shape::RescuedComp(_) => Bare::Comp,
+        Shape::Pipe => Bare::Pipe,
+        Shape::Farm => Bare::Farm(None),
+        Shape::Map(first, second, ins, outs) => Bare::Map(None, first, second, ins, outs),
+        Shape::Reduce(len, elem) => Bare::Reduce(None, len, elem),
+        Shape::Loop(turns, tokens) => Bare::Loop(turns, tokens),
+    }
 }
 
 // The rescue number of the module of a node.
@@ -46,52 +29,12 @@ fn rescue_of(shape: Shape) -> Option<i64> {
     }
 }
 
-fn map_of(
-    alloc: Global,
-    first: u32,
-    second: u32,
-    ins: &[Dim],
-    outs: &[Dim],
-) -> Result<Form, NoMemory> {
-    let ins = array_of(alloc, ins)?;
-    let outs = array_of(alloc, outs)?;
-    Ok(Form::Map {
-        workers: None,
-        cut: Cut {
-            first,
-            second,
-            ins,
-            outs,
-        },
-    })
-}
-
-// Puts the node of a row after the others, with a module of its own.
-fn add(alloc: Global, tree: &mut Tree, row: Row) -> Result<(), NoMemory> {
-    let module = u32::try_from(tree.modules.len()).unwrap_or(0);
-    let form = form_of(alloc, row.0)?;
-    let name = Name::from_text(alloc, "m")?;
-    let kind = form.kind();
-    let rescue = rescue_of(row.0);
-    tree.modules.push(ModuleInfo { name, kind, rescue })?;
-    let parts = list_of(alloc, row.3)?;
-    tree.nodes.push(Node {
-        form,
-        module,
-        ins: row.1,
-        outs: row.2,
-        parts,
-    })
-}
-
 /// The tree of these rows.
 pub fn tree_of(alloc: Global, rows: &[Row]) -> Result<Tree, NoMemory> {
-    let mut tree = Tree {
-        nodes: List::new(alloc),
-        modules: List::new(alloc),
-    };
-    for row in rows {
-        add(alloc, &mut tree, *row)?;
+    let mut tree = no_nodes(alloc);
+    for (shape, ins, outs, parts) in rows {
+        let row = (bare(*shape), *ins, *outs, *parts);
+        add_row(alloc, &mut tree, row, rescue_of(*shape))?;
     }
     Ok(tree)
 }

@@ -2,13 +2,13 @@
 
 ghost use Rattle.p3l_nesting_tests.specs.Ready.{IsReady};
 
-use crate::items::{Case, cases_of, is_trap};
+use crate::items::{Case, cases_of};
 use crate::running::{Setting, emitted};
 use crate::serving::loaded_of;
 use crate::sketch::Sketch;
-use p3l_base::Outcome;
 use p3l_load::Loaded;
 use p3l_skel::Counts;
+use p3l_sketch::{is_same, is_trap};
 use p3l_units::UnitTable;
 use std::alloc::Global;
 use std::process::Abort;
@@ -20,25 +20,16 @@ const CAPACITIES: [u32; 3] = [1, 2, 4];
 /// The seeds are those below.
 const SEEDS: u64 = 16;
 
-// Whether two outcomes are the same.
-fn is_same(one: &Outcome, other: &Outcome) -> bool {
-    match (one, other) {
-        (Outcome::Value(words), Outcome::Value(others)) => words.as_slice() == others.as_slice(),
-        (Outcome::Trapped(trap), Outcome::Trapped(another)) => trap == another,
-        _ => false,
-    }
-}
-
-// How many outcomes there are of these items: those up to the first trap and with it.
-fn due(cases: &[Case]) -> usize {
+// The number of outcomes of these items: those up to the first trap and with it.
+fn expected(cases: &[Case]) -> usize {
     match cases.iter().position(|case| is_trap(&case.outcome)) {
         Some(place) => place.saturating_add(1),
         None => cases.len(),
     }
 }
 
-// Compares one run; gives the items after those that it had outcomes of.
-fn compare_run<'c>(
+/// Compares one run; gives the items after those that it had outcomes of.
+pub fn compare_run<'c>(
     rt: &impl Abort,
     alloc: Global,
     units: &UnitTable<'_>,
@@ -47,13 +38,13 @@ fn compare_run<'c>(
     cases: &'c [Case],
 ) -> Result<&'c [Case], Fail> {
     let outcomes = emitted(rt, alloc, units, counts, setting, cases)?;
-    let due = due(cases);
-    assert_eq!(rt; outcomes.len(), due);
+    let expected = expected(cases);
+    assert_eq!(rt; outcomes.len(), expected);
     for (outcome, case) in outcomes.as_slice().iter().zip(cases) {
         assert!(rt; is_same(outcome, &case.outcome));
     }
-    assert!(rt; due <= cases.len());
-    Ok(cases.split_at(due).1)
+    assert!(rt; expected <= cases.len());
+    Ok(cases.split_at(expected).1)
 }
 
 // Compares the runs on these items, each but the first begun after the trap that ended the one
@@ -101,7 +92,7 @@ fn compare_units(
 ) -> Result<(), Fail> {
     let cases = cases_of(rt, alloc, units)?;
     let cases = cases.as_slice();
-    assert!(rt; due(cases) > 1 && due(cases) < cases.len());
+    assert!(rt; expected(cases) > 1 && expected(cases) < cases.len());
     for cap in CAPACITIES {
         compare_schedules(rt, alloc, units, counts, cap, cases)?;
     }

@@ -12,7 +12,7 @@ const OF_COMP: [Row; 5] = [
     JOIN,
 ];
 
-pub const OF_MAP: [Row; 4] = [
+const OF_MAP: [Row; 4] = [
     (Shape::Comp, 4, 1, &[1, 3]),
     (JOINS, 4, 2, &[2]),
     JOIN,

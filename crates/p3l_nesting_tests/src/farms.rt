@@ -4,17 +4,17 @@ use crate::comparing::compare;
 use crate::sketch::{JOIN, JOINS, Row, Shape, Sketch, TEST, TWO};
 use std::test::Fail;
 
-pub const OF_FARM: [Row; 3] = [(Shape::Farm, 2, 2, &[1]), (Shape::Farm, 2, 2, &[2]), TWO];
+const OF_FARM: [Row; 3] = [(Shape::Farm, 2, 2, &[1]), (Shape::Farm, 2, 2, &[2]), TWO];
 
 const OF_MAP: [Row; 3] = [(Shape::Farm, 4, 2, &[1]), (JOINS, 4, 2, &[2]), JOIN];
 
-pub const OF_REDUCE: [Row; 3] = [
+const OF_REDUCE: [Row; 3] = [
     (Shape::Farm, 5, 1, &[1]),
     (Shape::Reduce(5, 1), 5, 1, &[2]),
     JOIN,
 ];
 
-pub const OF_LOOP: [Row; 4] = [
+const OF_LOOP: [Row; 4] = [
     (Shape::Farm, 2, 2, &[1]),
     (Shape::Loop(12, 2), 2, 2, &[2, 3]),
     TWO,

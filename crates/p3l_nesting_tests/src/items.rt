@@ -30,12 +30,7 @@ pub struct Case {
     pub outcome: Outcome,
 }
 
-/// Whether an outcome is a trap.
-pub fn is_trap(outcome: &Outcome) -> bool {
-    matches!(outcome, Outcome::Trapped(_))
-}
-
-// Whether the root of a tree takes so many words.
+// Whether the root of a tree takes this number of words.
 fn takes(tree: &Tree, len: usize) -> bool
     ensures there { IsTrue result → 0 < length tree.now.nodes }
     ensures fits { IsTrue result → HasFittingLength tree.now 0 len }
@@ -53,8 +48,8 @@ fn takes(tree: &Tree, len: usize) -> bool
     }
 }
 
-// An item and its outcome.
-fn case_of(
+/// An item and its outcome.
+pub fn case_of(
     rt: &impl Abort,
     alloc: Global,
     units: &UnitTable<'_>,

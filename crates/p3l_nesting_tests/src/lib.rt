@@ -19,11 +19,11 @@ mod farms;
 #[cfg(test)]
 mod items;
 #[cfg(test)]
+mod limits;
+#[cfg(test)]
 mod loops;
 #[cfg(test)]
 mod maps;
-#[cfg(test)]
-mod nets;
 #[cfg(test)]
 mod pipes;
 #[cfg(test)]

@@ -3,6 +3,7 @@
 use crate::comparing::compare;
 use crate::sketch::{ACROSS, JOIN, ONE, ONES, Row, Shape, Sketch, TEST, TWO};
 use p3l_base::{Dim, Place};
+use p3l_sketch::Array;
 use std::test::Fail;
 
 const TURNING: Shape = Shape::Loop(12, 3);
@@ -24,7 +25,7 @@ const OF_REDUCE: [Row; 5] = [
     TEST,
 ];
 
-pub const OF_LOOP: [Row; 7] = [
+const OF_LOOP: [Row; 7] = [
     (TURNING, 2, 2, &[1, 4]),
     (Shape::Loop(12, 2), 2, 2, &[2, 3]),
     TWO,
@@ -73,9 +74,9 @@ const PAIR: Dim = Dim {
     place: Place::Rest,
 };
 
-const TAKEN: [Dim; 2] = [ONLY, PAIR];
+const TAKEN: [Array; 1] = [(0, &[ONLY, PAIR])];
 
-const FILLED: [Dim; 1] = [ONLY];
+const FILLED: [Array; 1] = [(0, &[ONLY])];
 
 const BY_COMP: [Row; 5] = [
     (TURNING, 2, 2, &[1, 2]),
@@ -92,7 +93,7 @@ const BY_MAP: [Row; 4] = [
     TEST,
 ];
 
-pub const BY_REDUCE: [Row; 4] = [
+const BY_REDUCE: [Row; 4] = [
     (TURNING, 2, 2, &[1, 2]),
     TWO,
     (Shape::Reduce(2, 1), 2, 1, &[3]),

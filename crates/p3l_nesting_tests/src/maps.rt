@@ -6,7 +6,7 @@ use std::test::Fail;
 
 const OF_FARM: [Row; 3] = [(TWOS, 4, 4, &[1]), (Shape::Farm, 2, 2, &[2]), TWO];
 
-pub const OF_MAP: [Row; 3] = [(HALVES, 8, 4, &[1]), (JOINS, 4, 2, &[2]), JOIN];
+const OF_MAP: [Row; 3] = [(HALVES, 8, 4, &[1]), (JOINS, 4, 2, &[2]), JOIN];
 
 const OF_REDUCE: [Row; 3] = [(FOLDS, 8, 2, &[1]), (Shape::Reduce(4, 1), 4, 1, &[2]), JOIN];
 

@@ -35,7 +35,7 @@ const OF_LOOP: [Row; 6] = [
     JOIN,
 ];
 
-pub const OF_PIPE: [Row; 5] = [
+const OF_PIPE: [Row; 5] = [
     (Shape::Pipe, 2, 1, &[1, 4]),
     (Shape::Pipe, 2, 2, &[2, 3]),
     TWO,

@@ -1,4 +1,4 @@
-// Skeletons that can't stand in others: what has processes of its own can't run in one.
+// Skeletons that can't be parts of others: what has processes of its own can't run in one.
 
 use crate::building::tree_of;
 use crate::sketch::{JOIN, Row, Shape, TEST, TWO};
@@ -43,7 +43,7 @@ const PIPE_IN_REDUCE: [Row; 4] = [
     JOIN,
 ];
 
-// Each with the node that what has processes stands in or that has them, and what that node has to
+// Each with the node that has processes, or that has a part with processes, and what that node has to
 // be for the tree to be lawful.
 const REFUSED: [(&[Row], usize, Shape); 5] = [
     (&FARM_IN_COMP, 0, Shape::Pipe),

@@ -7,6 +7,7 @@ use crate::serving::loaded_of;
 use crate::sketch::{ONE, Row, Shape, Sketch, TEST};
 use p3l_base::Outcome;
 use p3l_load::Loaded;
+use p3l_sketch::has_words;
 use p3l_units::UnitTable;
 use std::alloc::Global;
 use std::process::Abort;
@@ -58,14 +59,6 @@ const BY_HAND: [[i64; 4]; 4] = [
 /// The place of the item `0 49`, on which the first stage traps.
 const TRAPPING: usize = 17;
 
-/// Whether an outcome is one word.
-fn is_word(outcome: &Outcome, word: i64) -> bool {
-    match outcome {
-        Outcome::Value(words) => words.as_slice() == [word].as_slice(),
-        Outcome::Trapped(_) => false,
-    }
-}
-
 /// Whether an outcome is a trap of the module 1.
 fn is_first_trap(case: Option<&Case>) -> bool {
     match case {
@@ -86,7 +79,7 @@ fn compare_units(
 ) -> Result<(), Fail> {
     let cases = cases_of(rt, alloc, units)?;
     for (case, word) in cases.as_slice().iter().zip(words) {
-        assert!(rt; is_word(&case.outcome, *word), "{word}");
+        assert!(rt; has_words(&case.outcome, &[*word]), "{word}");
     }
     assert!(rt; is_first_trap(cases.as_slice().get(TRAPPING)));
     Ok(())

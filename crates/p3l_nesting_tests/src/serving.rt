@@ -3,7 +3,7 @@
 ghost use Rattle.std.specs.Prelude.{◌≡◌, IfOk};
 ghost use Rattle.p3l_nesting_tests.specs.Ready.{IsReady};
 
-use crate::building::{codes_of, list_of, tree_of};
+use crate::building::{codes_of, tree_of};
 use crate::sketch::Sketch;
 use p3l_base::NoMemory;
 use p3l_firing::Net;
@@ -12,6 +12,7 @@ use p3l_link::link;
 use p3l_load::{Loaded, load};
 use p3l_model::{is_outside, procs};
 use p3l_skel::{Counts, Tree, lawful_counts, lawful_tree};
+use p3l_sketch::counts_of;
 use std::alloc::Global;
 use std::process::Abort;
 use std::test::Fail;
@@ -37,9 +38,7 @@ fn image_of(rt: &impl Abort, alloc: Global, sketch: Sketch) -> Result<Image, Fai
 {
     let (name, rows, counts) = sketch;
     let tree = tree_of(alloc, rows)?;
-    let counts = Counts {
-        list: list_of(alloc, counts)?,
-    };
+    let counts = counts_of(alloc, counts)?;
     let net = net_of(rt, alloc, name, &tree, &counts)?;
     let codes = codes_of(alloc, rows)?;
     Ok(Image {

@@ -3,8 +3,9 @@
 
 use crate::bodies::Body;
 use p3l_base::{Dim, Place};
+use p3l_sketch::Array;
 
-/// What a node does. No `workers` clause is written: the counts stand beside the rows.
+/// What a node does. No `workers` clause is written: the counts are beside the rows.
 #[derive(Clone, Copy, Drop)]
 pub enum Shape {
     Seq(Body),
@@ -14,12 +15,11 @@ pub enum Shape {
     RescuedComp(i64),
     Pipe,
     Farm,
-    /// So many first and second indices, and the sizes of the one array that is taken apart and of
-    /// the one that is filled.
-    Map(u32, u32, &'static [Dim], &'static [Dim]),
-    /// So many elements of so many words.
+    /// The numbers of first and of second indices, and the arrays that are taken apart and filled.
+    Map(u32, u32, &'static [Array], &'static [Array]),
+    /// The number of elements, and the words of each.
     Reduce(u32, u32),
-    /// So many turns, and so many tokens at once.
+    /// The turns, and the tokens at once.
     Loop(u32, u32),
 }
 
@@ -54,13 +54,13 @@ const ALL_FOUR: Dim = Dim {
     place: Place::Rest,
 };
 
-const SINGLES: [Dim; 1] = [OF_TWO];
+const SINGLES: [Array; 1] = [(0, &[OF_TWO])];
 
-const PAIRS: [Dim; 2] = [OF_TWO, ALL_TWO];
+const PAIRS: [Array; 1] = [(0, &[OF_TWO, ALL_TWO])];
 
-const FOURS: [Dim; 2] = [OF_TWO, ALL_FOUR];
+const FOURS: [Array; 1] = [(0, &[OF_TWO, ALL_FOUR])];
 
-const COLUMNS: [Dim; 2] = [ALL_TWO, OF_TWO];
+const COLUMNS: [Array; 1] = [(0, &[ALL_TWO, OF_TWO])];
 
 /// Maps of two elements: of a word each, of two words, of two words for one, of four words for two,
 /// and of four words for one.

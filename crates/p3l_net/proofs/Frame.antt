@@ -18,7 +18,7 @@ use Rattle.p3l_firing.specs.RoundRobin.{next_of}
 use Rattle.p3l_firing.specs.Typed.{IsTyped}
 use Rattle.p3l_net.specs.Machine.{Seen, HasEmitted, state_of, can_step, ready_list}
 use Rattle.p3l_firing.specs.Process.{IsAt}
-use Rattle.p3l_net.specs.Steps.{IsApart, Moves, AgreesBut, ready_at}
+use Rattle.p3l_net.specs.Steps.{IsApart, ShareNone, Moves, OthersStay, AgreesBut, ready_at}
 use Rattle.p3l_firing.proofs.Rows.{ready_at as row_ready, none_ready}
 use Rattle.p3l_ready.proofs.AtLemmas.{same_function}
 use Rattle.p3l_firing.proofs.Reading.{SameIn}
@@ -68,6 +68,23 @@ module _ {m n : Seen} {p : ℕ} {touched : List ℕ} (moves : Moves m n p touche
       by_place : (o : Option Proc) → slice_get m.net.procs r ≡ o → ready_at n r ≡ ready_at m r
       by_place (Some q) e = same_row q e
       by_place None e = none_ready n.tree n.net (state_of n []) r (ap (λ (x : Net). slice_get x.procs r) moves.net ∙ e) ∙ sym (none_ready m.tree m.net (state_of m []) r e)
+
+-- channels of p are none of a process that has none in common with it
+pub none_shared : (m : Seen) (p r : ℕ) (cs : List ℕ) → AllByRecursion (IsAt (slice_get m.net.procs p)) cs → ShareNone m.net p r → IsApart m.net r cs
+none_shared m p r [] all apart = tt
+none_shared m p r (c ∷ cs) all apart = (apart c all.0, none_shared m p r cs all.1 apart)
+
+-- the others stay as ready as they were
+pub others_stay : {m n : Seen} {p : ℕ} {touched : List ℕ} → Moves m n p touched → OthersStay m n p
+others_stay {m = m} {p = p} {touched = touched} moves r other apart = apart_same moves r other (none_shared m p r touched moves.own_channels apart)
+
+-- only the source takes what is in the inbox
+pub inbox_stays : {m n : Seen} {p : ℕ} {touched : List ℕ} → Moves m n p touched → p ≢ 0 → n.inbox ≡ m.inbox
+inbox_stays {p = p} moves other =
+    elim moves.inbox [
+      | inl source ↦ absurd (other (moves.typed.one_source p source))
+      | inr same ↦ same
+    ]
 
 -- the flags of the old machine tell which processes of the new one are ready, but for those touched
 pub others_agree : {m n : Seen} {p : ℕ} {touched : List ℕ} (flags : List Bool) → AgreesBut m flags [] → Moves m n p touched → (r : ℕ) → r < length n.net.procs → r ≢ p → IsApart n.net r touched → flag_at flags r ≡ ready_at n r
@@ -192,4 +209,8 @@ listed_calm m k h =
 pub offer_moves : (m n : Seen) (item : List ℤ) → IsTyped m.tree m.net → n ≡ record m { inbox = Some item } → Moves m n 0 []
 offer_moves m n item typed e =
     subst (λ x. Moves m x 0 []) (sym e)
-    (record { typed = typed; tree = refl; net = refl; inside = tt; queues = λ c apart. refl; owns = λ r apart. refl; inbox = inl typed.source })
+    (record { typed = typed; tree = refl; net = refl; inside = tt; own_channels = tt; queues = λ c apart. refl; owns = λ r apart. refl; inbox = inl typed.source })
+
+-- and only the source may become ready by it
+pub offer_stays : {m n : Seen} → Moves m n 0 [] → (r : ℕ) → r ≢ 0 → ready_at n r ≡ ready_at m r
+offer_stays moves r other = apart_same moves r other tt

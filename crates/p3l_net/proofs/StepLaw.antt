@@ -1,6 +1,6 @@
 -- The steps that a firing is made of: what a list of them makes of a machine is what it makes of its state, and it touches only the
 -- channels and the process that it names.
-use Rattle.std.proofs.Common.{◌≡◌, ◌≢◌, ℕ, ◌+◌, ◌<◌, ◌≤◌, List, [], ◌∷◌, ◌++◌, length, None, slice_set, refl, sym, ap, ap₂, ◌∙◌, subst, arith, inl, inr, length-set}
+use Rattle.std.proofs.Common.{◌≡◌, ◌≢◌, ℕ, ◌+◌, ◌<◌, ◌≤◌, List, [], ◌∷◌, ◌++◌, length, None, Some, slice_set, refl, sym, ap, ap₂, ◌∙◌, subst, arith, inl, inr, length-set}
 use Rattle.std.specs.Option.{option_to_list}
 use Rattle.std.specs.List.{AllByRecursion}
 use Rattle.std.proofs.lemmas.Bool.{cases_eq}
@@ -13,6 +13,7 @@ use Rattle.p3l_firing.specs.declared.token.Token.{Token}
 use Rattle.p3l_firing.specs.Lists.{rest_of}
 use Rattle.p3l_firing.specs.Token.{has_trap}
 use Rattle.p3l_firing.specs.Nodes.{Leaf}
+use Rattle.p3l_firing.specs.Process.{IsAt}
 use Rattle.p3l_firing.specs.State.{Own, State, fresh, own_at}
 use Rattle.p3l_firing.specs.Fire.{row_fire}
 use Rattle.p3l_firing.proofs.Rows.{fire_at}
@@ -137,7 +138,7 @@ module _ (p n k f : ℕ) where
   inside-channels (Put c token ∷ steps) all = (all.0, inside-channels steps all.1)
   inside-channels (Keep o ∷ steps) all = inside-channels steps all.1
 
-module _ {m : Seen} {p : ℕ} {q : Proc} (h : Stands m p q) (steps : List Step) (all : AllByRecursion (IsInside p (length m.queues) (length m.owns) (m.fired + 1)) steps) where
+module _ {m : Seen} {p : ℕ} {q : Proc} (h : Stands m p q) (steps : List Step) (own : AllByRecursion (IsAt (Some q)) (channels steps)) (all : AllByRecursion (IsInside p (length m.queues) (length m.owns) (m.fired + 1)) steps) where
   abbrev new : Seen
   new = seen_after p m steps
 
@@ -167,6 +168,7 @@ module _ {m : Seen} {p : ℕ} {q : Proc} (h : Stands m p q) (steps : List Step) 
     tree = refl;
     net = refl;
     inside = subst (λ n. AllByRecursion (λ c. c < n) (channels steps)) (queue_count m.queues m.net.chans h.sound.shaped.rooms) (inside-channels p (length m.queues) (length m.owns) (m.fired + 1) steps all);
+    own_channels = subst (λ o. AllByRecursion (IsAt o) (channels steps)) (sym h.stands) own;
     queues = apart-after p (length m.queues) (length m.owns) (m.fired + 1) m.queues steps;
     owns = others-after p (length m.queues) (length m.owns) (m.fired + 1) m.owns steps;
     inbox = inr refl;

@@ -56,16 +56,21 @@ pub record CanPut (m : Seen) (c : ℕ) : Type 0 where
   pub there : c < length m.queues
   pub room : length (tokens_at m.queues c) < (queue_at m.queues c).room
 
+-- processes p and r have no channel in common
+abbrev pub ShareNone : Net → ℕ → ℕ → Type 0
+ShareNone net p r = (c : ℕ) → IsAt (slice_get net.procs p) c → IsAt (slice_get net.procs r) c → ⊥
+
 -- process r reads and writes none of these channels
 abbrev pub IsApart : Net → ℕ → List ℕ → Type 0
 IsApart net r = AllByRecursion (λ c. IsAt (slice_get net.procs r) c → ⊥)
 
--- from m to n only these channels, what process p keeps, and the inbox, if p is a source, have changed
+-- from m to n only these channels, which process p reads or writes, what p keeps, and the inbox, if p is a source, have changed
 pub record Moves (m n : Seen) (p : ℕ) (touched : List ℕ) : Type 0 where
   pub typed : IsTyped m.tree m.net
   pub tree : n.tree ≡ m.tree
   pub net : n.net ≡ m.net
   pub inside : AllByRecursion (λ c. c < length m.net.chans) touched
+  pub own_channels : AllByRecursion (IsAt (slice_get m.net.procs p)) touched
   pub queues : (c : ℕ) → AllByRecursion (λ d. c ≢ d) touched → tokens_at n.queues c ≡ tokens_at m.queues c
   pub owns : (r : ℕ) → r ≢ p → own_at n.owns r ≡ own_at m.owns r
   pub inbox : (kind_at m.net p ≡ Some Source) ⊎ (n.inbox ≡ m.inbox)
@@ -73,6 +78,13 @@ pub record Moves (m n : Seen) (p : ℕ) (touched : List ℕ) : Type 0 where
 -- a table with p entered at each of these numbers
 abbrev pub marked : List ℕ → List ℕ → ℕ → List ℕ
 marked table cs p = fold (λ t c. slice_set t c p) table cs
+
+-- no other process writes channel c, or reads it
+abbrev pub IsWriter : Net → ℕ → ℕ → Type 0
+IsWriter net c p = (r : ℕ) (q : Proc) → slice_get net.procs r ≡ Some q → Has q.outs c → r ≡ p
+
+abbrev pub IsReader : Net → ℕ → ℕ → Type 0
+IsReader net c p = (r : ℕ) (q : Proc) → slice_get net.procs r ≡ Some q → Has q.ins c → r ≡ p
 
 -- the process that writes each channel, and the one that reads it
 pub record Ends : Type 0 where
@@ -91,6 +103,10 @@ pub record HasEnds (net : Net) (ends : Ends) : Type 0 where
 -- the channels and what process r keeps allow it to fire
 abbrev pub ready_at : Seen → ℕ → Bool
 ready_at m r = is_ready m.tree m.net (state_of m []) r
+
+-- the processes other than p that have no channel in common with it are ready in n where they are in m
+abbrev pub OthersStay : Seen → Seen → ℕ → Type 0
+OthersStay m n p = (r : ℕ) → r ≢ p → ShareNone m.net p r → ready_at n r ≡ ready_at m r
 
 -- the flags tell which processes are ready, but maybe for those that read or write these channels
 pub record AgreesBut (m : Seen) (flags : List Bool) (touched : List ℕ) : Type 0 where

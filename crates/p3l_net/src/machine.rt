@@ -1,8 +1,9 @@
 // The machine: a net that fires, one process at a time.
 
-ghost use Rattle.std.specs.Prelude.{◌≡◌, ◌<◌, length, None, IsTrue, ◌↔◌, IfOk, OnOk, OnErr, Some, [], ◌+◌, ◌^◌, ℕ, List, IsSome, IfSome, IfNone, true, false, slice_get, find};
+ghost use Rattle.std.specs.Prelude.{◌≡◌, ◌≢◌, ◌<◌, length, None, IsTrue, ◌↔◌, IfOk, OnOk, OnErr, Some, [], ◌+◌, ◌^◌, ℕ, List, IsSome, IfSome, IfNone, true, false, slice_get, find};
 ghost use Rattle.p3l_ready.specs.Flags.{in_turn};
 ghost use Rattle.p3l_net.specs.Machine.{can_step, started, state_of, HasEmitted, Fires, IsSound, may_want_memory, ready_list};
+ghost use Rattle.p3l_net.specs.Steps.{IsReader, IsWriter, OthersStay, ready_at};
 ghost use Rattle.p3l_firing.specs.Fire.{can_fire};
 ghost use Rattle.p3l_firing.specs.State.{first_state};
 ghost use Rattle.p3l_firing.specs.RoundRobin.{next_of};
@@ -88,6 +89,7 @@ impl<'t> Machine<'t> {
         requires fits { length item ≡ (node_at self.old.tree 0).ins }
         ensures ok { OnOk result (self.new ≡ record self.old { inbox = Some item }) }
         ensures err { OnErr result (self.new ≡ self.old) }
+        ensures others { OnOk result ((r : ℕ) → r ≢ 0 → ready_at self.new r ≡ ready_at self.old r) }
     {
         self.store.offer(item);
         refresh(
@@ -108,6 +110,24 @@ impl<'t> Machine<'t> {
             → result ≡ can_fire self.now.tree self.now.net (state_of self.now emitted) p }
     {
         !self.store.trapped() && self.ready.contains(p)
+    }
+
+    /// The process that writes a channel.
+    pub fn writer(&self, c: u32) -> u32
+        requires { c < length self.now.net.chans }
+        ensures there { result < length self.now.net.procs }
+        ensures writes { IsWriter self.now.net c result }
+    {
+        self.sides.writer(c)
+    }
+
+    /// The process that reads a channel.
+    pub fn reader(&self, c: u32) -> u32
+        requires { c < length self.now.net.chans }
+        ensures there { result < length self.now.net.procs }
+        ensures reads { IsReader self.now.net c result }
+    {
+        self.sides.reader(c)
     }
 
     /// How many processes can fire.
@@ -169,6 +189,8 @@ impl<'t> Machine<'t> {
         ensures sink { IfOk result (λ done. IsSome done.emitted ↔ (done.kind ≡ ProcKind.Sink)) }
         ensures err { OnErr result (self.new ≡ self.old) }
         ensures memory { OnErr result (may_want_memory self.old p ≡ true) }
+        ensures others { OnOk result (OthersStay self.old self.new p) }
+        ensures item { OnOk result (p ≢ 0 → self.new.inbox ≡ self.old.inbox) }
     {
         let step = self.store.fire(alloc, units, p)?;
         refresh(

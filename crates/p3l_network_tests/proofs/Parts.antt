@@ -16,7 +16,7 @@ use Rattle.p3l_skel.specs.declared.tree.ModuleInfo.{ModuleInfo}
 use Rattle.p3l_skel.specs.declared.tree.Node.{Node}
 use Rattle.p3l_skel.specs.declared.tree.Tree.{Tree}
 use Rattle.p3l_network_tests.specs.WithPart.{two_modules, with_part, four_map, five_reduce, three_reduce, checks, subtracts}
-use Rattle.p3l_network_tests.specs.Refusing.{refusing}
+use Rattle.p3l_sketch.specs.Refusing.{refusing}
 
 pub modules_are : (of_root : ModuleKind) (none one two : List ModuleInfo) →
     none ≡ [] → one ≡ none ++ record { name = 109 ∷ 97 ∷ 105 ∷ 110 ∷ []; kind = of_root; rescue = None } ∷ [] →

@@ -1,6 +1,3 @@
-pub mod OneNode
-pub mod OneNodeLaws
-pub mod Refusing
 pub mod Looped
 pub mod LoopedLaws
 pub mod WithPart

@@ -11,7 +11,8 @@ use Rattle.p3l_skel.specs.declared.tree.Tree.{Tree}
 unfoldable pub loop_modules : List ModuleInfo
 loop_modules =
     record { name = codes "main"; kind = kind.Loop; rescue = None }
-    ∷ (record { name = codes "body"; kind = kind.Seq; rescue = None } ∷ (record { name = codes "test"; kind = kind.Seq; rescue = None } ∷ []))
+    ∷ (record { name = codes "body"; kind = kind.Seq; rescue = None }
+    ∷ (record { name = codes "test"; kind = kind.Seq; rescue = None } ∷ []))
 
 -- three turns and two tokens; node 1 is the body and node 2 the condition
 unfoldable pub counting_loop : Tree

@@ -8,7 +8,9 @@ pub counts_give : GivesOuts counting_loop counts_down
 unfolding counting_loop
 counts_give = at_node
   where
-    at_node : (node : ℕ) (words : List ℤ) → node < 3 → (node_at counting_loop node).form ≡ Seq → length words ≡ (node_at counting_loop node).ins → HasLength (node_at counting_loop node).outs (counts_down (node_at counting_loop node).module words)
+    at_node : (node : ℕ) (words : List ℤ) → node < 3 → (node_at counting_loop node).form ≡ Seq
+        → length words ≡ (node_at counting_loop node).ins
+        → HasLength (node_at counting_loop node).outs (counts_down (node_at counting_loop node).module words)
     at_node zero words low form long = cc
     at_node (suc zero) words low form long = refl
     at_node (suc (suc zero)) words low form long = refl

@@ -11,7 +11,9 @@ use Rattle.p3l_skel.specs.Examples.{checked, four_cut, minus}
 
 -- the modules of a root of this kind and of its part
 unfoldable pub two_modules : ModuleKind → List ModuleInfo
-two_modules of_root = record { name = codes "main"; kind = of_root; rescue = None } ∷ (record { name = codes "part"; kind = kind.Seq; rescue = None } ∷ [])
+two_modules of_root =
+    record { name = codes "main"; kind = of_root; rescue = None }
+    ∷ (record { name = codes "part"; kind = kind.Seq; rescue = None } ∷ [])
 
 -- a root of this form with a part, and the words that both take and give
 unfoldable pub with_part : Form → ModuleKind → ℕ → ℕ → ℕ → ℕ → Tree

@@ -3,7 +3,7 @@ use Rattle.std.proofs.Common.{◌≡◌, ℕ, ℤ, pos, negsuc, zero, suc, ◌<�
 use Rattle.p3l_skel.specs.declared.tree.Form.TheVariants.{Seq}
 use Rattle.p3l_skel.specs.Tree.{GivesOuts, HasLength, node_at}
 use Rattle.p3l_network_tests.specs.WithPart.{with_part, four_map, five_reduce, three_reduce, checks, subtracts}
-use Rattle.p3l_network_tests.specs.Refusing.{refusing}
+use Rattle.p3l_sketch.specs.Refusing.{refusing}
 
 pub checks_give : GivesOuts four_map checks
 unfolding with_part
@@ -15,7 +15,9 @@ checks_give = at_node
     one_word (pos (suc n) ∷ words) long = long
     one_word (negsuc n ∷ words) long = tt
 
-    at_node : (node : ℕ) (words : List ℤ) → node < 2 → (node_at four_map node).form ≡ Seq → length words ≡ (node_at four_map node).ins → HasLength (node_at four_map node).outs (checks (node_at four_map node).module words)
+    at_node : (node : ℕ) (words : List ℤ) → node < 2 → (node_at four_map node).form ≡ Seq
+        → length words ≡ (node_at four_map node).ins
+        → HasLength (node_at four_map node).outs (checks (node_at four_map node).module words)
     at_node zero words low form long = cc
     at_node (suc zero) words low form long = one_word words long
     at_node (suc (suc node)) words low form long = absurd (omega (arith, low))
@@ -30,7 +32,9 @@ subtracts_give = at_node
     two_words (x ∷ (y ∷ [])) long = refl
     two_words (x ∷ (y ∷ (z ∷ words))) long = absurd (omega (arith, long))
 
-    at_node : (node : ℕ) (words : List ℤ) → node < 2 → (node_at five_reduce node).form ≡ Seq → length words ≡ (node_at five_reduce node).ins → HasLength (node_at five_reduce node).outs (subtracts (node_at five_reduce node).module words)
+    at_node : (node : ℕ) (words : List ℤ) → node < 2 → (node_at five_reduce node).form ≡ Seq
+        → length words ≡ (node_at five_reduce node).ins
+        → HasLength (node_at five_reduce node).outs (subtracts (node_at five_reduce node).module words)
     at_node zero words low form long = cc
     at_node (suc zero) words low form long = two_words words long
     at_node (suc (suc node)) words low form long = absurd (omega (arith, low))

@@ -4,6 +4,7 @@ use crate::looped::{CountsDown, tree_of_loop};
 use crate::stepping::{outcome_of, outcomes_of};
 use crate::with_part::{Checks, Refuses, Subtracts, tree_of_map, tree_of_reduce};
 use p3l_base::{Outcome, TrapKind};
+use p3l_sketch::has_words;
 use std::test::Fail;
 
 /// A map of four elements with two workers: 0 and 1 are the source and the sink, 2 scatters, 3
@@ -83,14 +84,6 @@ fn is_value(outcome: &Option<Outcome>, words: &[i64]) -> bool {
     match outcome {
         Some(outcome) => has_words(outcome, words),
         None => false,
-    }
-}
-
-/// Whether an outcome is the value of these words.
-fn has_words(outcome: &Outcome, words: &[i64]) -> bool {
-    match outcome {
-        Outcome::Value(value) => value.as_slice() == words,
-        Outcome::Trapped(_) => false,
     }
 }
 

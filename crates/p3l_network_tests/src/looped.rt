@@ -1,6 +1,7 @@
 // A loop that counts down.
 
-ghost use Rattle.std.specs.Prelude.{◌≡◌, ◌<◌, pos, suc, zero, ◌+ℤ◌, ◌-ℤ◌, [], ◌∷◌, length, IfOk, IfSome};
+ghost use Rattle.std.specs.Prelude.{◌≡◌, ◌<◌, pos, suc, zero, ◌+ℤ◌, ◌-ℤ◌, [], ◌∷◌, length};
+ghost use Rattle.std.specs.Prelude.{IfOk, IfSome};
 ghost use Rattle.p3l_base.specs.declared.outcome.Outcome.TheVariants.{Value};
 ghost use Rattle.p3l_skel.specs.declared.tree.Form.TheVariants.{Seq};
 ghost use Rattle.p3l_network_tests.specs.Looped.{counting_loop, counts_down, loop_modules};
@@ -79,7 +80,7 @@ fn counted(alloc: Global, words: &Words) -> Result<Outcome, NoMemory>
     Ok(Outcome::Value(both))
 }
 
-/// What counts down, and tests the first word. Other nodes are not run by the tests: they are refused.
+/// What counts down, and tests the first word. Other nodes, which the tests don't run, are refused.
 pub struct CountsDown;
 
 impl Units for CountsDown {

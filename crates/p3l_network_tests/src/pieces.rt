@@ -5,6 +5,7 @@ ghost use Rattle.std.specs.Prelude.{◌≡◌, IfOk};
 use p3l_base::{NoMemory, Outcome, Trap, TrapKind, Words};
 use p3l_skel::element::elements;
 use p3l_skel::outcome::{is_done, paired};
+use p3l_sketch::has_words;
 use std::alloc::Global;
 use std::test::*;
 
@@ -12,13 +13,6 @@ fn words(alloc: Global, words: &[i64]) -> Result<Words, NoMemory>
     ensures { IfOk result (λ list. list ≡ words.now) }
 {
     Ok(Words::from_vec(words.to_vec(alloc)?))
-}
-
-fn is_value(outcome: &Outcome, words: &[i64]) -> bool {
-    match outcome {
-        Outcome::Value(value) => value.as_slice() == words,
-        Outcome::Trapped(_) => false,
-    }
 }
 
 #[test]
@@ -34,7 +28,7 @@ fn words_are_cut_into_elements(rt: HostRuntime) -> Result<(), Fail> {
 fn halves_are_paired_and_the_left_trap_comes_first(rt: HostRuntime) -> Result<(), Fail> {
     let left = Outcome::Value(words(rt.alloc(), &[1, 2])?);
     let right = Outcome::Value(words(rt.alloc(), &[3])?);
-    assert!(rt; is_value(&paired(rt.alloc(), left, right)?, &[1, 2, 3]));
+    assert!(rt; has_words(&paired(rt.alloc(), left, right)?, &[1, 2, 3]));
     let left = Trap {
         kind: TrapKind::Shift,
         module: 1,

@@ -1,76 +1,16 @@
 // The machine under round robin, against the plain program of the meaning.
 
 ghost use Rattle.std.specs.Prelude.{◌≡◌, ◌∷◌, [], IfOk};
-ghost use Rattle.p3l_network_tests.specs.OneNode.{one_node};
+ghost use Rattle.p3l_sketch.specs.OneNode.{one_node};
 
-use p3l_base::{List, Name, NoMemory, Outcome, Trap, TrapKind, Words};
+use p3l_base::{List, NoMemory, Outcome, Words};
 use p3l_net::{Machine, laws, unit_net};
 use p3l_reference::item_outcome;
-use p3l_skel::{Form, ModuleInfo, ModuleKind, Node, Tree, Units, lawful_tree};
+use p3l_skel::{Tree, Units, lawful_tree};
+use p3l_sketch::{Echo, Refusing, is_same, tree_of_one};
 use std::alloc::Global;
 use std::process::Abort;
 use std::test::Fail;
-
-/// The body that gives back the word that it is given.
-struct Echo;
-
-impl Units for Echo {
-    ghost use Rattle.p3l_network_tests.specs.OneNode.{one_node, given_back};
-    ghost use Rattle.p3l_network_tests.specs.OneNodeLaws.{gives_back};
-
-    ghost tree = { λ _. one_node };
-
-    ghost leaf = { λ _. given_back };
-
-    ghost gives_outs = { λ _. gives_back };
-
-    fn run(&self, alloc: Global, _node: u32, words: &Words) -> Result<Outcome, NoMemory> {
-        let copy = words.as_slice().to_vec(alloc)?;
-        Ok(Outcome::Value(Words::from_vec(copy)))
-    }
-}
-
-/// The body that traps on each word.
-struct Refusing;
-
-impl Units for Refusing {
-    ghost use Rattle.p3l_network_tests.specs.OneNode.{one_node};
-    ghost use Rattle.p3l_network_tests.specs.Refusing.{refusing, gives_none};
-
-    ghost tree = { λ _. one_node };
-
-    ghost leaf = { λ _. refusing };
-
-    ghost gives_outs = { λ _. gives_none };
-
-    fn run(&self, _alloc: Global, _node: u32, _words: &Words) -> Result<Outcome, NoMemory> {
-        Ok(Outcome::Trapped(Trap {
-            kind: TrapKind::DivZero,
-            module: 0,
-        }))
-    }
-}
-
-/// The tree of one such body.
-fn tree_of_one(alloc: Global) -> Result<Tree, NoMemory>
-    ensures { IfOk result (λ tree. tree ≡ one_node) }
-{
-    let mut nodes = List::new(alloc);
-    nodes.push(Node {
-        form: Form::Seq,
-        module: 0,
-        ins: 1,
-        outs: 1,
-        parts: List::new(alloc),
-    })?;
-    let mut modules = List::new(alloc);
-    modules.push(ModuleInfo {
-        name: Name::from_text(alloc, "main")?,
-        kind: ModuleKind::Seq,
-        rescue: None,
-    })?;
-    Ok(Tree { nodes, modules })
-}
 
 /// The words of an item of one word.
 fn item_of(alloc: Global, word: i64) -> Result<Words, NoMemory>
@@ -202,15 +142,6 @@ fn plain<U: Units>(
         }
     }
     Ok(outcomes)
-}
-
-/// Whether two outcomes are the same.
-fn is_same(one: &Outcome, other: &Outcome) -> bool {
-    match (one, other) {
-        (Outcome::Value(words), Outcome::Value(others)) => words.as_slice() == others.as_slice(),
-        (Outcome::Trapped(trap), Outcome::Trapped(another)) => trap == another,
-        _ => false,
-    }
 }
 
 /// Compares the machine with the plain program; gives how many outcomes there are.

@@ -41,7 +41,7 @@ fn machine_of<'t>(
 }
 
 /// Compares whether a process can fire: asked of it, from it on, and by its place among all that can,
-/// of which `before` stand before it. Gives how many stand before the next one.
+/// of which `before` are before it. Gives the number of those before the next one.
 fn compare_process(
     rt: &impl Abort,
     machine: &Machine<'_>,
@@ -201,7 +201,7 @@ fn pass<U: Units>(
     Ok(last)
 }
 
-/// What the network of a tree makes of an item under these picks. After each of them stands the set
+/// What the network of a tree makes of an item under these picks. After each of them is the set
 /// of the processes that can fire after it, as bits.
 pub fn outcome_of<U: Units>(
     rt: &impl Abort,

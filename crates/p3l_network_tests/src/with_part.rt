@@ -1,6 +1,7 @@
 // Trees of a root with one `seq` part, and what their parts do.
 
-ghost use Rattle.std.specs.Prelude.{◌≡◌, ◌<◌, pos, [], ◌∷◌, ◌++◌, ◌-ℤ◌, length, slice_index_or, IfOk, IfSome, OnOk};
+ghost use Rattle.std.specs.Prelude.{◌≡◌, ◌<◌, pos, [], ◌∷◌, ◌++◌, ◌-ℤ◌, length, slice_index_or};
+ghost use Rattle.std.specs.Prelude.{IfOk, IfSome, OnOk};
 ghost use Rattle.p3l_base.specs.declared.outcome.Outcome.TheVariants.{Value};
 ghost use Rattle.p3l_base.specs.declared.slice.Place.TheVariants as places;
 ghost use Rattle.p3l_skel.specs.Examples.{checked, four_cut};
@@ -12,7 +13,8 @@ use std::alloc::Global;
 
 /// The list of one slice, over four words of which each is an element.
 fn slices_of_four(alloc: Global) -> Result<List<Slice>, NoMemory>
-    ensures { IfOk result (λ slices. slices ≡ record { start = 0; dims = record { size = 4; place = places.First } ∷ [] } ∷ []) }
+    ensures { IfOk result (λ slices. slices
+        ≡ record { start = 0; dims = record { size = 4; place = places.First } ∷ [] } ∷ []) }
 {
     let mut dims = List::new(alloc);
     dims.push(Dim {
@@ -45,7 +47,8 @@ pub fn add(
     name: &str,
     kind: ModuleKind,
 ) -> Result<(), NoMemory>
-    ensures ok { OnOk result (modules.new ≡ modules.old ++ record { name = name.now; kind = kind; rescue = None } ∷ []) }
+    ensures ok { OnOk result (modules.new
+        ≡ modules.old ++ record { name = name.now; kind = kind; rescue = None } ∷ []) }
 {
     let name = Name::from_text(alloc, name)?;
     modules.push(ModuleInfo {
@@ -105,7 +108,7 @@ pub fn tree_of_map(alloc: Global) -> Result<Tree, NoMemory>
     tree_of(alloc, form, ModuleKind::Map, (4, 4), (1, 1))
 }
 
-/// The tree of a reduce of so many words.
+/// The tree of a reduce of this number of words.
 pub fn tree_of_reduce(alloc: Global, len: u32) -> Result<Tree, NoMemory>
     ensures { IfOk result (λ tree. tree ≡ reduce_of len) }
 {
@@ -200,7 +203,8 @@ pub fn minus(left: i64, right: i64) -> Option<i64>
 /// The outcome of the difference of two words; refused where it doesn't fit.
 fn difference(alloc: Global, words: &Words) -> Result<Outcome, NoMemory>
     requires { 1 < length words.now }
-    ensures { IfOk result (λ outcome. outcome ≡ Value ((slice_index_or words.now 0 (pos 0) -ℤ slice_index_or words.now 1 (pos 0)) ∷ [])) }
+    ensures { IfOk result (λ outcome. outcome ≡ Value ((slice_index_or words.now 0 (pos 0)
+        -ℤ slice_index_or words.now 1 (pos 0)) ∷ [])) }
 {
     match minus(word(words, 0), word(words, 1)) {
         Some(word) => value(alloc, word),
@@ -255,7 +259,7 @@ pub struct Refuses;
 impl Units for Refuses {
     ghost use Rattle.p3l_network_tests.specs.WithPart.{three_reduce};
     ghost use Rattle.p3l_network_tests.specs.WithPartLaws.{refusing_gives};
-    ghost use Rattle.p3l_network_tests.specs.Refusing.{refusing};
+    ghost use Rattle.p3l_sketch.specs.Refusing.{refusing};
 
     ghost tree = { λ _. three_reduce };
 

@@ -1,7 +1,9 @@
 // The file system, a reader to its end, and the standard streams.
 
-use p3l_host::{HostErr, HostFiles, HostIn, HostOut};
-use p3l_io::{Failed, FileFault, Files, Sink, Source, WriteFault};
+use p3l_base::List;
+use p3l_host::{HostErr, HostFiles, HostIn, HostOut, Output, SinkAfter, SourceAfter};
+use p3l_io::{Failed, FileFault, Files, MemFiles, MemSink, Sink, Source, WriteFault};
+use std::cell::Cell;
 use std::io::{ErrorKind, Read, Write};
 use std::test::Fail;
 use std::{fs, io};
@@ -9,7 +11,8 @@ use std::{fs, io};
 #[test]
 fn files_are_written_and_read_back(rt: HostRuntime) -> Result<(), Fail> {
     let alloc = rt.alloc();
-    let mut files = HostFiles::new(&rt);
+    let output = Output::new(alloc, rt.stdout())?;
+    let mut files = HostFiles::new(&rt, &output);
     let name = "files_are_written_and_read_back.tmp";
     assert_eq!(rt; files.write(alloc, name, b"longer than it will be"), Ok(()));
     assert_eq!(rt; files.write(alloc, name, b"abc"), Ok(()));
@@ -40,10 +43,12 @@ fn streams_take_and_put(rt: HostRuntime) -> Result<(), Fail> {
     assert_eq!(rt; input.take(&mut buf), Ok(2));
     assert_eq!(rt; buf.as_slice(), b"ab\0\0\0\0\0\0".as_slice());
     assert_eq!(rt; input.take(&mut buf), Ok(0));
+    let output = Output::new(rt.alloc(), rt.stdout())?;
     assert_eq!(rt;
-        HostOut::new(rt.stdout()).put(b"written to the output\n"),
+        HostOut::new(&output).put(b"written to the output\n"),
         Ok(())
     );
+    assert_eq!(rt; output.flush(), Ok(()));
     assert_eq!(rt;
         HostErr::new(rt.stderr()).put(b"written to the error\n"),
         Ok(())
@@ -96,18 +101,115 @@ fn interrupted_calls_are_made_again_and_faults_are_told(rt: HostRuntime) -> Resu
     let mut buf = [0u8; 8];
     assert_eq!(rt; input.take(&mut buf), Ok(1));
     assert_eq!(rt; input.take(&mut buf), Err(Failed));
-    assert_eq!(rt; HostOut::new(Faulty { calls: 0 }).put(b"ab"), Err(Failed));
+    assert_eq!(rt; HostErr::new(Faulty { calls: 0 }).put(b"ab"), Err(Failed));
     Ok(())
 }
 
 #[test]
 fn faults_after_the_opening_of_a_file_are_told(rt: HostRuntime) -> Result<(), Fail> {
     let alloc = rt.alloc();
-    let mut files = HostFiles::new(&rt);
+    let output = Output::new(alloc, rt.stdout())?;
+    let mut files = HostFiles::new(&rt, &output);
     assert_eq!(rt; files.read(alloc, ".", 9).err(), Some(FileFault::Failed));
     assert_eq!(rt;
         files.write(alloc, "/dev/full", b"abc"),
         Err(WriteFault::Failed)
     );
+    Ok(())
+}
+
+/// How many bytes a writer was given in how many calls, and how many it takes until it fails.
+#[derive(Drop)]
+struct Account {
+    bytes: Cell<usize>,
+    calls: Cell<usize>,
+    room: usize,
+}
+
+/// A writer that keeps an account.
+#[derive(Drop)]
+struct Accountant<'a> {
+    account: &'a Account,
+}
+
+impl<'a> Write for Accountant<'a> {
+    fn write(&mut self, buf: &[u8]) -> io::Result<usize> {
+        let bytes = self.account.bytes.get().saturating_add(buf.len());
+        if bytes > self.account.room {
+            return Err(ErrorKind::Other.into());
+        }
+        self.account.bytes.set(bytes);
+        self.account
+            .calls
+            .set(self.account.calls.get().saturating_add(1));
+        Ok(buf.len())
+    }
+
+    fn flush(&mut self) -> io::Result<()> {
+        Ok(())
+    }
+}
+
+/// An account of nothing yet, with so much room.
+fn account_of(room: usize) -> Account {
+    Account {
+        bytes: Cell::new(0),
+        calls: Cell::new(0),
+        room,
+    }
+}
+
+#[test]
+fn output_is_gathered_until_something_comes_after_it(rt: HostRuntime) -> Result<(), Fail> {
+    let account = account_of(1_000_000);
+    let output = Output::new(rt.alloc(), Accountant { account: &account })?;
+    let mut out = HostOut::new(&output);
+    let mut input = SourceAfter::new(HostIn::new(b"ab".as_slice()), &output);
+    let mut err = SinkAfter::new(MemSink::new(rt.alloc(), 9, List::new(rt.alloc()))?, &output);
+    let mut files = HostFiles::new(&rt, &output);
+    let mut buf = [0u8; 8];
+    assert_eq!(rt; out.put(b"one\n"), Ok(()));
+    assert_eq!(rt; out.put(b"two\n"), Ok(()));
+    assert_eq!(rt; account.bytes.get(), 0);
+    assert_eq!(rt; input.take(&mut buf), Ok(2));
+    assert_eq!(rt; (account.bytes.get(), account.calls.get()), (8, 1));
+    assert_eq!(rt; out.put(b"three\n"), Ok(()));
+    assert_eq!(rt; err.put(b"an error"), Ok(()));
+    assert_eq!(rt; (account.bytes.get(), account.calls.get()), (14, 2));
+    assert_eq!(rt; out.put(b"four\n"), Ok(()));
+    let name = "output_is_gathered.tmp";
+    assert_eq!(rt; files.write(rt.alloc(), name, b"a file"), Ok(()));
+    fs::remove_file(&rt, name)?;
+    assert_eq!(rt; (account.bytes.get(), account.calls.get()), (19, 3));
+    for _ in 0..20_000u32 {
+        assert_eq!(rt; out.put(b"gathered\n"), Ok(()));
+    }
+    assert_eq!(rt; account.calls.get(), 5);
+    assert_eq!(rt; output.flush(), Ok(()));
+    assert_eq!(rt; (account.bytes.get(), account.calls.get()), (180_019, 6));
+    Ok(())
+}
+
+#[test]
+fn failed_write_is_reported_by_each_later_call(rt: HostRuntime) -> Result<(), Fail> {
+    let account = account_of(3);
+    let output = Output::new(rt.alloc(), Accountant { account: &account })?;
+    let mut out = HostOut::new(&output);
+    let mut input = SourceAfter::new(HostIn::new(b"ab".as_slice()), &output);
+    let mut err = SinkAfter::new(MemSink::new(rt.alloc(), 9, List::new(rt.alloc()))?, &output);
+    let mut files = HostFiles::new(&rt, &output);
+    let mut buf = [0u8; 8];
+    assert_eq!(rt; out.put(b"one\n"), Ok(()));
+    assert_eq!(rt; input.take(&mut buf), Ok(2));
+    assert_eq!(rt; out.put(b"t"), Err(Failed));
+    assert_eq!(rt; err.put(b"an error"), Err(Failed));
+    let answer = files.write(rt.alloc(), "name", b"a file");
+    assert_eq!(rt; answer, Err(WriteFault::Failed));
+    assert_eq!(rt;
+        files.read(rt.alloc(), "name", 9).err(),
+        Some(FileFault::Failed)
+    );
+    assert_eq!(rt; output.flush(), Err(Failed));
+    assert_eq!(rt; account.bytes.get(), 0);
     Ok(())
 }

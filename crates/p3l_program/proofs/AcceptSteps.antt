@@ -9,7 +9,7 @@ use Rattle.p3l_reader.specs.Faults.{IsOnly, IsRefusal}
 use Rattle.p3l_types.specs.Verdict.{Gives}
 use Rattle.p3l_skel.specs.Lawful.{IsLawfulTree}
 use Rattle.p3l_check.specs.Resolving.{ResolvedTree, resolved}
-use Rattle.p3l_bodies.specs.Served.{ResolvedServe}
+use Rattle.p3l_body_laws.specs.Served.{ResolvedServe}
 use Rattle.p3l_compile.specs.Leaves.{AreBodies, AreCodes}
 use Rattle.p3l_program.specs.declared.plan.Accepted.{Accepted}
 use Rattle.p3l_program.specs.Plan.{IsTextRefused}

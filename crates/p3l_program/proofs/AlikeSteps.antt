@@ -2,10 +2,10 @@
 use Rattle.std.proofs.Common.{◌≡◌, ◌↔◌, ℕ, Bool, true, List, [], ◌++◌, Option, Some, None, refl, sym, ap, ◌∙◌, subst, append-nil}
 use Rattle.p3l_io.specs.Told.{Held}
 use Rattle.p3l_skel.specs.Numbers.{firings}
-use Rattle.p3l_bodies.specs.Served.{ResolvedServe}
+use Rattle.p3l_body_laws.specs.Served.{ResolvedServe}
 use Rattle.p3l_compile.specs.Leaves.{AreBodies}
 use Rattle.p3l_compile.proofs.Leaves.{same_leaf}
-use Rattle.p3l_compiled.specs.Compiled.{image_of}
+use Rattle.p3l_load.specs.Compiled.{image_of}
 use Rattle.p3l_image.specs.declared.image.Image.{Image}
 use Rattle.p3l_image.specs.Image.{ImageBeginsNoOther}
 use Rattle.p3l_image.specs.laws.Image.{written_spells}
@@ -131,7 +131,7 @@ module _ (w : World) (one another : Origin) (asked : Sched) (go : (n : Network) 
   }
 
   status_so : (rest : List ℕ) (k : ℕ) → IsRunStatus w one asked rest k → IsRunStatus w another asked rest k
-  status_so rest k h = record { n = h.n; s = h.s; has = record { network = go h.n h.has.network; schedule = h.has.schedule }; status_is = h.status_is }
+  status_so rest k h = record { n = h.n; s = h.s; has = record { network = go h.n h.has.network; schedule = h.has.schedule }; status_is = h.status_is; stops = h.stops }
 
   emits_so : (trace : Option (List ℕ)) (numbers : RunStats) → Emits w one asked trace numbers → Emits w another asked trace numbers
   emits_so trace numbers h = record {

@@ -15,11 +15,12 @@ use Rattle.p3l_report.specs.declared.verdict.Verdict.{Verdict}
 use Rattle.p3l_report.specs.declared.verdict.Verdict.TheVariants as verdict
 use Rattle.p3l_report.specs.Status as status
 use Rattle.p3l_report.specs.Verdict.{finish_line, finish_status, lines_of, refusal_status, status_of}
-use Rattle.p3l_program.specs.Answer.{Answers, BeginsWork, HasTooLong, IsDone, IsDue, IsEndedWith, IsRefusedAt, IsRefusedWith, IsUnsaved, KeepsOthers, Reports, SpellsNone, SpellsWriter}
+use Rattle.p3l_program.specs.Answer.{Answers, BeginsWork, HasTooLong, IsDone, IsDue, IsEndedWith, IsRefusedAt, IsRefusedWith, IsStopped, IsUnsaved, IsUnwritten, KeepsOthers, Reports, SpellsNone, SpellsWriter}
 use Rattle.p3l_program.specs.Command.{IsDueOf, IsStatusDue, behavior_of, run_of, saved_first, stages_of, written_of}
 use Rattle.p3l_program.specs.File.{IsTooLong}
 use Rattle.p3l_program.specs.Origin.{Running}
 use Rattle.p3l_program.specs.Run.{Emits, EndsRun, shown}
+use Rattle.p3l_program.specs.Saved.{HasOneFailed}
 use Rattle.p3l_program.specs.Stage.{AllPass, FilesCause, IsRefusedBy, Stage, readable}
 use Rattle.p3l_program.specs.Top.{Promises}
 use Rattle.p3l_run.specs.declared.end.RunStats.{RunStats}
@@ -119,7 +120,7 @@ module _ (words : List Text) (w : World) where
       complete_by : (v : Verdict) → IsDueOf w c v → IsStatusDue w rest c (status_of v) ⊎ (status_of v ≡ status.no_memory)
       complete_by (verdict.Refused r) due = absurd (passed_all w.files held told calm.files (stages_of c) r passed due.by)
       complete_by (verdict.Ended finish stats) due = inl ((lawful c).status_due w rest finish stats input calm due.ends)
-      complete_by verdict.WriteFault due = elim due.fault [ inl put ↦ absurd (calm.out put.out) | inr saved ↦ absurd (calm.files saved.1) ]
+      complete_by verdict.WriteFault due = elim due.fault [ inl put ↦ absurd (calm.out put.out) | inr saved ↦ absurd (calm.files ((lawful c).writer w saved).failed.0) ]
       complete_by verdict.NoMemory due = inr refl
 
 files_refused : (r : Refusal) (files : Change Held) → FilesCause r files → files.before < files.now → refusal_status r ≡ status.file
@@ -159,7 +160,7 @@ module _ (words : List Text) (w : World) (err : Change (List ℕ)) (n : ℕ) (a 
   refused_where once held told r at_stage calm = elim (asked words w once at_stage.command at_stage.spelled a.verdict a.due) [
     | inl due ↦ move (refusal_status r) (stage_refuses words w once at_stage.command at_stage.spelled held told calm r at_stage.by a.verdict due)
     | inr (inl want) ↦ inr (sym at ∙ want)
-    | inr (inr u) ↦ absurd (calm u.risen)
+    | inr (inr u) ↦ absurd (calm u.failed.failed.0)
   ]
 
   long_file : SpellsOneAtMost → (held : Held) → w.files.old ≡ Some held → HasTooLong words w.files.old → (n ≡ status.file) ⊎ (n ≡ status.no_memory)
@@ -173,7 +174,7 @@ module _ (words : List Text) (w : World) (err : Change (List ℕ)) (n : ℕ) (a 
   completes once held rest told input c spelled passed calm = elim (asked words w once c spelled a.verdict a.due) [
     | inl due ↦ subst (λ k. IsStatusDue w rest c k ⊎ (k ≡ status.no_memory)) at (complete_by words w once c spelled held rest told input passed calm a.verdict due)
     | inr (inl want) ↦ inr (sym at ∙ want)
-    | inr (inr u) ↦ absurd (calm.files u.risen)
+    | inr (inr u) ↦ absurd (calm.files u.failed.failed.0)
   ]
 
   done : (rest taken : List ℕ) → w.input.old ≡ Some rest → w.out.old ≡ Some taken → n ≡ status.done → IsDone words w rest taken
@@ -214,6 +215,12 @@ module _ (words : List Text) (w : World) (err : Change (List ℕ)) (n : ℕ) (a 
           emits = emits_of w run.origin run.schedule run.trace run.reported e.finish e.stats e.ends;
         }
 
+  -- a stop is that of a run at the end of its picks
+  stopped : n ≡ status.stopped → IsStopped words w
+  stopped h =
+      let e = ended (ap status.is_end h) in
+      record { command = e.command; spelled = e.spelled; stops = (lawful e.command).stopped w e.finish e.stats e.end.ends (e.status_is ∙ h) }
+
   -- an end of such a status leaves the count of the input
   calm_end : (k : ℕ) → IsCalmStatus k → w.input.before < w.input.now → n ≢ k
   calm_end k calm up h =
@@ -230,17 +237,25 @@ module _ (words : List Text) (w : World) (err : Change (List ℕ)) (n : ℕ) (a 
   read_fault : n ≡ status.read → HasRisen w.input
   read_fault h = (let e = ended (ap status.is_end h) in (lawful e.command).read w e.finish e.stats e.end.ends (e.status_is ∙ h))
 
-  -- a command that could not write its file writes one
-  writer : (c : Command) → Spells words c → (behavior_of c).Unsaved w → SpellsWriter words
-  writer c spelled h = record { command = c; spelled = spelled; writes = (lawful c).writer w h }
+  -- the file that could not be written is one that the command writes
+  unwritten : (c : Command) → Spells words c → (behavior_of c).Unsaved w → IsUnwritten words w.files
+  unwritten c spelled h = record { command = c; spelled = spelled; failed = (lawful c).writer w h }
 
-  write_by : IsDue words w verdict.WriteFault → HasRisen w.out ⊎ (SpellsWriter words × HasRisen w.files)
-  write_by (inl d) = elim d.due.fault [ inl put ↦ inl put.out | inr saved ↦ inr (writer d.command d.spelled saved.0, saved.1) ]
+  -- which therefore writes one
+  some_written : (names : List (List ℕ)) → HasOneFailed w.files names → names ≢ []
+  some_written [] h none = h.one
+  some_written (name ∷ names) h none = absurd cc
+
+  writer : IsUnwritten words w.files → SpellsWriter words
+  writer u = record { command = u.command; spelled = u.spelled; writes = some_written (written_of u.command) u.failed }
+
+  write_by : IsDue words w verdict.WriteFault → HasRisen w.out ⊎ IsUnwritten words w.files
+  write_by (inl d) = elim d.due.fault [ inl put ↦ inl put.out | inr saved ↦ inr (unwritten d.command d.spelled saved) ]
   write_by (inr (inl u)) = absurd (let z = u.verdict_is in cc)
   write_by (inr (inr (inl u))) = absurd (let z = u.verdict_is in cc)
-  write_by (inr (inr (inr u))) = inr (first_writer words u.command u.spelled u.some, u.risen)
+  write_by (inr (inr (inr u))) = inr (record { command = u.command; spelled = u.spelled; failed = u.failed })
 
-  write_fault : n ≡ status.write → HasRisen w.out ⊎ (SpellsWriter words × HasRisen w.files)
+  write_fault : n ≡ status.write → HasRisen w.out ⊎ IsUnwritten words w.files
   write_fault h = write_by (subst (λ v. IsDue words w v) (statuses.write_is a.verdict (at ∙ h)) a.due)
 
   out_by : (v : Verdict) → IsDue words w v → w.out.before < w.out.now → (status_of v ≡ status.write) ⊎ (status_of v ≡ status.no_memory)
@@ -264,7 +279,7 @@ module _ (words : List Text) (w : World) (err : Change (List ℕ)) (n : ℕ) (a 
   files_by (verdict.Ended f s) (inl d) up = absurd (let z = d.due.files in omega arith)
   files_by verdict.WriteFault (inl d) up = elim d.due.fault [
     | inl put ↦ absurd (let z = put.files in omega arith)
-    | inr saved ↦ inr (inr (writer d.command d.spelled saved.0, refl))
+    | inr saved ↦ inr (inr (writer (unwritten d.command d.spelled saved), refl))
   ]
   files_by verdict.NoMemory (inl d) up = inr (inl refl)
   files_by v (inr (inl u)) up = absurd (let z = u.files.calm in omega arith)
@@ -304,6 +319,7 @@ module _ (words : List Text) (w : World) (err : Change (List ℕ)) (n : ℕ) (a 
     completes = λ held rest taken told input out c spelled passed calm. completes once held rest told input c spelled passed calm;
     reported = λ c run spelled runs asked kind said told calm. reported once c run spelled runs kind asked said told calm;
     recorded = λ c run spelled runs kind. recorded once c run spelled runs kind;
+    stopped = stopped;
     read_fault = read_fault;
     write_fault = write_fault;
     out_failed = out_failed;

@@ -1,7 +1,9 @@
 -- From what the reader and the checker of certificates say to the stages of a certificate.
 use Rattle.std.proofs.Common.{◌≡◌, ℕ, List, [], ◌++◌, Option, Some, None, true, Result, IfErr, IfOk, refl, sym, ◌∙◌, inl, inr, subst, append-nil}
 use Rattle.std.specs.declared.result.Result.TheVariants.{Ok, Err}
+use Rattle.p3l_format.specs.declared.fault.Fault.{Fault}
 use Rattle.p3l_format.specs.Format.{read_all}
+use Rattle.p3l_format.specs.Line.{line_number}
 use Rattle.p3l_format.specs.laws.Formats.{one_spelling}
 use Rattle.p3l_io.specs.Told.{Held}
 use Rattle.p3l_skel.specs.declared.tree.Tree.{Tree}
@@ -12,7 +14,7 @@ use Rattle.p3l_cert.specs.declared.cert.CertRefusal.{CertRefusal}
 use Rattle.p3l_cert.specs.declared.cert.CertRefusal.TheVariants as refusals
 use Rattle.p3l_cert.specs.Checker.{CertHolds, IsAnswer}
 use Rattle.p3l_cert.specs.Text.{cert_format}
-use Rattle.p3l_cert.specs.Told.{Answers}
+use Rattle.p3l_cert.specs.Told.{Answers, TellsFirst, told}
 use Rattle.p3l_cert.specs.laws.Text.{lawful_cert}
 use Rattle.p3l_report.specs.declared.verdict.Refusal.{Refusal}
 use Rattle.p3l_report.specs.declared.verdict.Refusal.TheVariants as refusal
@@ -23,25 +25,34 @@ use Rattle.p3l_program.specs.declared.plan.Accepted.{Accepted}
 use Rattle.p3l_program.specs.declared.file.FileRefusal.{FileRefusal}
 use Rattle.p3l_program.specs.declared.file.FileRefusal.TheVariants as file
 use Rattle.p3l_program.specs.Plan.{AreSaid, ComesTo, HasCostText, IsPriced}
-use Rattle.p3l_program.specs.Certified.{IsCertOf, IsCertified, IsNoCert, SpellsCert, cert_limit}
+use Rattle.p3l_program.specs.Certified.{IsCertOf, IsCertified, IsNoCert, IsNoText, IsRefuted, SpellsCert, cert_limit}
 use Rattle.p3l_program.specs.File.{HasText, text_limit}
 use Rattle.p3l_program.specs.Load.{IsNotLoaded, IsUnreadable, file_verdict}
 use Rattle.p3l_program.specs.LoadCert.{IsCertRefused, IsCertless, LoadsCert, LoadsVerified, cert_verdict}
 use Rattle.p3l_program.specs.Stage.{AllPass, IsRefusedBy, Stage, cert_stages, cost_stages, program_stages, verify_stages}
 use Rattle.p3l_program.specs.Verify.{IsVerified, holds_line}
-use Rattle.p3l_program.specs.World.{Change, IsCalm}
+use Rattle.p3l_program.specs.World.{Change, HasFailed, IsCalm}
 use Rattle.p3l_program.proofs.LoadSteps.{costs_pass, priced_here, program_passes}
 use Rattle.p3l_program.proofs.OnceSteps.{said_alike}
 use Rattle.p3l_program.proofs.StageSteps.{passed_both, refused_after}
 
+-- what the reader tells of a text is a line
+tells_line : (text : List ℕ) (read : Result Cert Fault) (r : CertRefusal) → Err r ≡ told text read → (line : ℕ) × (r ≡ refusals.BadText line)
+tells_line text (Ok cert) r is = absurd cc
+tells_line text (Err fault) r is = (line_number text fault.left, (let z = is in cc))
+
 -- a text that the reader refuses spells no certificate
+no_text : (tree : Tree) (costs : Costs) (text : List ℕ) (r : CertRefusal) → ((cert : Cert) → cert_format.fits cert ≡ true → text ≡ cert_format.spell cert → Err r ≡ told text (Ok cert)) → IsNoText text r →
+    IsRefuted tree costs text r
+no_text tree costs text r only is = record { why = inl is; never = λ cert here. absurd (let z = only cert here.spelled.fits here.spelled.text_is in cc) }
+
 pub cert_unread : (tree : Tree) (costs : Costs) (text : List ℕ) (r : CertRefusal) → ((cert : Cert) → cert_format.fits cert ≡ true → text ≡ cert_format.spell cert → Answers text (Err r) (Ok cert)) →
-    Answers text (Err r) (read_all cert_format text) → IsCertRefused tree costs text r
-cert_unread tree costs text (refusals.RowWrong row kept found) only exact = record { why = inl (sym exact); never = λ cert is. absurd (let z = only cert is.spelled.fits is.spelled.text_is in cc) }
-cert_unread tree costs text (refusals.RowMissing row node bound cap) only exact = record { why = inl (sym exact); never = λ cert is. absurd (let z = only cert is.spelled.fits is.spelled.text_is in cc) }
-cert_unread tree costs text (refusals.ClaimWrong claim) only exact = record { why = inl (sym exact); never = λ cert is. absurd (let z = only cert is.spelled.fits is.spelled.text_is in cc) }
-cert_unread tree costs text (refusals.BadText line) only exact = record { why = inl (sym exact); never = λ cert is. absurd (let z = only cert is.spelled.fits is.spelled.text_is in cc) }
-cert_unread tree costs text refusals.NoMemory only exact = tt
+    TellsFirst text (Err r) → Answers text (Err r) (read_all cert_format text) → IsCertRefused tree costs text r
+cert_unread tree costs text (refusals.BadText line) only first exact = no_text tree costs text (refusals.BadText line) only first
+cert_unread tree costs text refusals.NoMemory only first exact = tt
+cert_unread tree costs text (refusals.RowWrong row kept found) only first exact = absurd (let z = (tells_line text (read_all cert_format text) (refusals.RowWrong row kept found) exact).1 in cc)
+cert_unread tree costs text (refusals.RowMissing row node bound cap) only first exact = absurd (let z = (tells_line text (read_all cert_format text) (refusals.RowMissing row node bound cap) exact).1 in cc)
+cert_unread tree costs text (refusals.ClaimWrong claim) only first exact = absurd (let z = (tells_line text (read_all cert_format text) (refusals.ClaimWrong claim) exact).1 in cc)
 
 -- a text spells one certificate
 pub spelled_alike : (text : List ℕ) (cert other : Cert) → SpellsCert text cert → SpellsCert text other → other ≡ cert
@@ -75,7 +86,7 @@ module _ (tree : Tree) (costs : Costs) (text : List ℕ) (cert : Cert) (spelled 
 
 -- a file that gives no text
 pub cert_unreadable : (files : Change Held) (name : List ℕ) (tree : Tree) (costs : Costs) (r : FileRefusal) → IsUnreadable files cert_limit name r → IsCertless files name tree costs (file_verdict r)
-cert_unreadable files name tree costs (file.Fault named) h = inl (h, h.1)
+cert_unreadable files name tree costs (file.Fault named) h = inl (h, subst (λ k. HasFailed files k) (sym h.0) h.1)
 cert_unreadable files name tree costs (file.TooLong named) h = inl ((h.0, h.1), h.2)
 cert_unreadable files name tree costs file.NoMemory h = h
 

@@ -5,7 +5,7 @@ use Rattle.p3l_io.specs.Told.{Held}
 use Rattle.p3l_skel.specs.declared.tree.Tree.{Tree}
 use Rattle.p3l_skel.specs.Counts.{HasLawfulCounts}
 use Rattle.p3l_skel.specs.Numbers.{procs}
-use Rattle.p3l_compiled.specs.Compiled.{AreCodesOf, IsImageText, image_of}
+use Rattle.p3l_load.specs.Compiled.{AreCodesOf, IsImageText, image_of}
 use Rattle.p3l_opts.specs.declared.command.Build.{Build}
 use Rattle.p3l_report.specs.declared.verdict.Finish.TheVariants as finishes
 use Rattle.p3l_report.specs.declared.verdict.Verdict.{Verdict}

@@ -14,7 +14,7 @@ use Rattle.p3l_program.specs.Command.{IsDueOf, behavior_of, saved_first, work_of
 use Rattle.p3l_program.specs.Generated.{Gen, IsGenDue, IsGenUnsaved}
 use Rattle.p3l_program.specs.Origin.{Running}
 use Rattle.p3l_program.specs.Run.{IsRunDue, RunsOver}
-use Rattle.p3l_program.specs.Saved.{IsFileDue, IsSavingDue, KeepsBut, KeepsFiles, KeepsFirst}
+use Rattle.p3l_program.specs.Saved.{HasOneFailed, IsFileDue, IsSavingDue, KeepsBut, KeepsFiles, KeepsFirst}
 use Rattle.p3l_program.specs.Stage.{Stage}
 use Rattle.p3l_program.specs.Text.{IsNothing, IsTextDue}
 use Rattle.p3l_program.specs.Trace.{IsCheckDue}
@@ -63,7 +63,7 @@ module _ (words : List Text) (c : Command) (spelled : Spells words c) where
   -- those that let the input alone
   module _ (files : Change Held) (out : Change (List ℕ)) (rest : Option (List ℕ)) (faults : ℕ) (v : Verdict) where
     abbrev pub quiet : Change (List ℕ)
-    quiet = record { old = rest; new = rest; before = faults; now = faults }
+    quiet = record { old = rest; new = rest; before = faults; now = faults; failed = None }
 
     still : IsStill quiet
     still = record { told = refl; calm = refl }
@@ -88,6 +88,6 @@ module _ (words : List Text) (c : Command) (spelled : Spells words c) where
       spelled = spelled;
       some = subst (λ j. (behavior j).saved_first ≢ []) (sym is) h.some;
       untouched = record { input = still; out = h.silent };
-      risen = h.risen;
+      failed = subst (λ j. HasOneFailed files (behavior j).written) (sym is) h.failed;
       kept = subst (λ j. KeepsBut files (behavior j).written) (sym is) h.kept;
     })))

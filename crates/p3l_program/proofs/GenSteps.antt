@@ -18,12 +18,13 @@ use Rattle.p3l_run.specs.declared.end.RunEnd.TheVariants as ends
 use Rattle.p3l_report.specs.declared.verdict.Refusal.TheVariants as refusal
 use Rattle.p3l_report.specs.declared.verdict.Verdict.{Verdict}
 use Rattle.p3l_report.specs.declared.verdict.Verdict.TheVariants as verdict
-use Rattle.p3l_run.specs.Network.{Network, course_of, goes_on, meaning_of, stats_of, width_of}
+use Rattle.p3l_run.specs.Network.{Network, course_of, goes_on, meaning_of, picks_of, stats_of, width_of}
 use Rattle.p3l_run.specs.declared.keeping.Keeping.TheVariants as keep
 use Rattle.p3l_run.specs.declared.run.Ran.{Ran}
 use Rattle.p3l_run.specs.Run.{Finishes, finish_of}
 use Rattle.p3l_run.specs.Sum.{sum_of}
 use Rattle.p3l_sched.specs.declared.schedule.Schedule.{Schedule}
+use Rattle.p3l_sched.specs.declared.schedule.Schedule.TheVariants as schedule
 use Rattle.p3l_stream.specs.declared.items.Ending.TheVariants as ending
 use Rattle.p3l_stream.specs.declared.items.Items.{Items}
 use Rattle.p3l_check.specs.Resolving.{ResolvedTree}
@@ -126,6 +127,7 @@ ran_on n s text rest left taken taken' ran told short f =
       ends = ends;
       stats_are = subst (λ (i : Items). ran.stats ≡ stats_of n (course_of n s i.items)) all on.stats_are;
       bounded = on.bounded;
+      stops = λ goes. subst (λ (i : Items). goes_on n (course_of n s i.items) ≡ true → s ≡ schedule.Recorded (picks_of n s i.items)) all on.stops goes;
       sum_is = f.summed ∙ ap sum_of emitted;
       whole = λ h.
           let stuck = subst (λ (i : Items). goes_on n (course_of n s i.items) ≡ false) (sym all) (still_of n _ _ ending.End ran.finish (whole_is ran.finish h) ends) in

@@ -4,9 +4,11 @@ use Rattle.p3l_report.specs.declared.stats.Stats.{Stats}
 use Rattle.p3l_report.specs.declared.verdict.Finish.{Finish}
 use Rattle.p3l_report.specs.Status as status
 use Rattle.p3l_report.specs.Verdict.{finish_status}
+use Rattle.p3l_program.specs.Answer.{StopsBy}
 use Rattle.p3l_program.specs.Behavior.{Behavior}
 use Rattle.p3l_program.specs.Origin.{Running}
 use Rattle.p3l_program.specs.Run.{EndsRun}
+use Rattle.p3l_program.specs.Saved.{HasOneFailed}
 use Rattle.p3l_program.specs.Stage.{Stage, readable}
 use Rattle.p3l_program.specs.World.{HasNoFault, HasRisen, World}
 
@@ -26,8 +28,10 @@ pub record Lawful (b : Behavior) : Type 0 where
   -- a fault of reading is answered where the count of the input rose, and else it stays
   pub read : (w : World) (f : Finish) (stats : Option Stats) → b.Ends w f stats → finish_status f ≡ status.read → HasRisen w.input
   pub calm : (w : World) (f : Finish) (stats : Option Stats) → b.Ends w f stats → IsCalmStatus (finish_status f) → w.input.now ≡ w.input.before
-  -- one that could not write a file writes one
-  pub writer : (w : World) → b.Unsaved w → b.written ≢ []
+  -- it is stopped only as a run is, at the end of the picks of a file
+  pub stopped : (w : World) (f : Finish) (stats : Option Stats) → b.Ends w f stats → finish_status f ≡ status.stopped → StopsBy w b.run
+  -- the file that could not be written is one that it writes
+  pub writer : (w : World) → b.Unsaved w → HasOneFailed w.files b.written
   -- one that writes files before its work writes files, doesn't read one first, and may touch them then
   pub first_written : b.written ≡ [] → b.saved_first ≡ []
   pub reads_first : (limit : ℕ) (name : List ℕ) (after : List Stage) → b.stages ≡ readable limit name ∷ after → b.saved_first ≡ []

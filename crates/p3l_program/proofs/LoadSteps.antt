@@ -36,10 +36,10 @@ use Rattle.p3l_program.specs.World.{Change, IsCalm}
 use Rattle.p3l_program.proofs.StageSteps.{passed_both, refused_after, refused_front}
 
 -- files that tell the same at the beginning
-pub same_change : (old old' new : Option Held) (before before' now : ℕ) → old ≡ old' → before ≡ before' →
-    let a : Change Held = record { old = old; new = new; before = before; now = now } in
-    let b : Change Held = record { old = old'; new = new; before = before'; now = now } in a ≡ b
-same_change old old' new before before' now a b = cc
+pub same_change : (old old' new : Option Held) (before before' now : ℕ) (failed : Option (List ℕ)) → old ≡ old' → before ≡ before' →
+    let a : Change Held = record { old = old; new = new; before = before; now = now; failed = failed } in
+    let b : Change Held = record { old = old'; new = new; before = before'; now = now; failed = failed } in a ≡ b
+same_change old old' new before before' now failed a b = cc
 
 -- what doesn't load is not loaded, whatever stages come after
 pub not_loaded_front : (files : Change Held) (stages more : List Stage) (v : Verdict) → IsNotLoaded files stages v → IsNotLoaded files (stages ++ more) v

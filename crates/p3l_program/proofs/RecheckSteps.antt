@@ -1,13 +1,11 @@
 -- A trace that a run left is accepted on the input that the run had.
-use Rattle.std.proofs.Common.{◌≡◌, ℕ, ℤ, true, List, [], ◌∷◌, ◌++◌, Option, Some, None, inl, inr, sym, subst, ◌∙◌, append-nil, ◌⊎◌}
+use Rattle.std.proofs.Common.{◌≡◌, ℕ, ℤ, true, List, [], ◌∷◌, ◌++◌, Option, Some, None, inl, inr, sym, subst, ◌∙◌, append-nil}
 use Rattle.p3l_base.specs.declared.outcome.Outcome.{Outcome}
 use Rattle.p3l_skel.specs.declared.tree.Tree.{Tree}
 use Rattle.p3l_firing.specs.declared.net.Net.{Net}
 use Rattle.p3l_io.specs.Told.{Held}
 use Rattle.p3l_net.specs.Run.{Course, after_picks, course_from, picked}
 use Rattle.p3l_net.specs.State.{first_state}
-use Rattle.p3l_report.specs.Status as status
-use Rattle.p3l_report.specs.Verdict.{ending_status}
 use Rattle.p3l_run.specs.Network.{Network, width_of}
 use Rattle.p3l_stream.specs.declared.items.Items.{Items}
 use Rattle.p3l_trace.specs.declared.trace.TraceLine.{TraceLine}
@@ -18,7 +16,7 @@ use Rattle.p3l_program.specs.File.{HasText}
 use Rattle.p3l_program.specs.Recheck.{EveryRecordIsAccepted}
 use Rattle.p3l_program.specs.Run.{seen_of}
 use Rattle.p3l_program.specs.Saved.{Stands}
-use Rattle.p3l_program.specs.Trace.{IsCheckStatus}
+use Rattle.p3l_program.specs.Trace.{IsCheckStatus, agreed_status}
 use Rattle.p3l_program.specs.TraceFile.{HasTrace, trace_limit}
 use Rattle.p3l_program.proofs.SeenSteps.{seen_goes_on}
 
@@ -48,7 +46,7 @@ same_trace begins files name t other fits stands has =
     let same = sym has.spelled ∙ stands_once files name (trace_format.spell t) has.text stands has.has in
     (begins other t [] has.fits fits (append-nil (trace_format.spell other) ∙ same)).0
 
-not_evidence : (n : Network) (t : Traced) (seen : Items) (k : ℕ) → Agrees n.tree n.leaf n.net seen.items t → IsCheckStatus n t seen k → (k ≡ status.done) ⊎ (k ≡ ending_status seen.ending)
+not_evidence : (n : Network) (t : Traced) (seen : Items) (k : ℕ) → Agrees n.tree n.leaf n.net seen.items t → IsCheckStatus n t seen k → k ≡ agreed_status n t seen
 not_evidence n t seen k agrees (inl d) = absurd (never_differs n.tree n.leaf n.net seen.items t d.1.0 agrees d.1.1)
 not_evidence n t seen k agrees (inr h) = h.0
 

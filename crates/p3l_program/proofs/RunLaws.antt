@@ -1,9 +1,10 @@
 -- What the answers of commands rest on that run a network.
-use Rattle.std.proofs.Common.{◌≡◌, ◌≢◌, ℕ, ◌*◌, List, [], ◌∷◌, ◌++◌, Option, Some, None, refl, sym, ap, subst, ◌∙◌, arith, append-nil, Bool}
+use Rattle.std.proofs.Common.{◌≡◌, ◌≢◌, ℕ, ◌*◌, List, [], ◌∷◌, ◌++◌, Option, Some, None, refl, sym, ap, inl, subst, ◌∙◌, arith, append-nil, Bool, true}
 use Rattle.std.specs.Option.{option_to_list}
 use Rattle.p3l_io.specs.Causes.{Rose}
 use Rattle.p3l_io.specs.Told.{Held}
 use Rattle.p3l_opts.specs.declared.command.Sched.{Sched}
+use Rattle.p3l_opts.specs.declared.command.Sched.TheVariants as sched
 use Rattle.p3l_report.proofs.Statuses as statuses
 use Rattle.p3l_report.specs.declared.stats.Stats.{Stats}
 use Rattle.p3l_report.specs.declared.verdict.Finish.{Finish}
@@ -15,24 +16,27 @@ use Rattle.p3l_stream.specs.Given.{Closes, GivenCause, ended_by as items_ended}
 use Rattle.p3l_stream.specs.Items.{items_of}
 use Rattle.p3l_stream.specs.Text.{text_of}
 use Rattle.p3l_sched.specs.declared.schedule.Schedule.{Schedule}
+use Rattle.p3l_sched.specs.declared.schedule.Schedule.TheVariants as schedule
 use Rattle.p3l_trace.specs.declared.trace.Traced.{Traced}
 use Rattle.p3l_run.proofs.RunSteps.{nothing_comes}
 use Rattle.p3l_run.specs.declared.keeping.Keeping.{Keeping}
 use Rattle.p3l_run.specs.declared.run.Ran.{Ran}
 use Rattle.p3l_run.specs.Feed.{closed_so}
-use Rattle.p3l_run.specs.Network.{Network, course_of, meaning_of, width_of}
+use Rattle.p3l_run.specs.Network.{Network, course_of, goes_on, meaning_of, picks_of as run_picks, size_of, width_of}
 use Rattle.p3l_run.specs.Run.{Finishes, MayEnd}
 use Rattle.p3l_run.specs.Write.{HasPut}
 use Rattle.p3l_program.specs.Origin.{Origin, Running}
 use Rattle.p3l_program.specs.Recorded.{IsRecorded, IsRecordOf}
-use Rattle.p3l_program.specs.Run.{Emits, EndsRun, RunsWhole, UnsavedRun, run_behavior}
+use Rattle.p3l_program.specs.Run.{Emits, EndsRun, RunsWhole, StopsRun, UnsavedRun, run_behavior}
+use Rattle.p3l_program.specs.Saved.{HasOneFailed}
+use Rattle.p3l_program.specs.Scheduled.{HasSchedule}
 use Rattle.p3l_program.specs.Stage.{Stage, readable, run_stages}
 use Rattle.p3l_program.specs.Verdict.{run_finish}
 use Rattle.p3l_program.specs.World.{Change, World}
 use Rattle.p3l_program.proofs.EndSteps.{IsStream, ended_told, put_told, stream_is}
 use Rattle.p3l_program.proofs.Lawful.{Lawful}
 use Rattle.p3l_program.proofs.RunSteps.{finishes_starts}
-use Rattle.p3l_program.proofs.SeenSteps.{seen_status, still_of}
+use Rattle.p3l_program.proofs.SeenSteps.{seen_status, seen_stops, still_of, stopped_goes}
 
 module _ (n : Network) (s : Schedule) (keeping : Keeping) (rest left : Option (List ℕ)) (before now : ℕ) (taken taken' : Option (List ℕ)) (end : Ran)
     (ran : Finishes n s keeping rest left before now taken taken' end) where
@@ -108,10 +112,43 @@ emits_of w origin order trace reported finish stats e = let f = e.finishes in le
   bound_is = ap (λ s. s.bound) ran.stats_are ∙ sym (ap (λ s. s.items * e.n.firings) ran.stats_are);
 }
 
--- a run whose trace could not be written has a file for it
-named : (w : World) (origin : Origin) (asked : Sched) (trace : Option (List ℕ)) → UnsavedRun w origin asked trace → option_to_list trace ≢ []
-named w origin asked None h none = h
-named w origin asked (Some name) h none = absurd cc
+-- the file of a trace that could not be written is one that a run writes
+named : (w : World) (origin : Origin) (asked : Sched) (trace : Option (List ℕ)) → UnsavedRun w origin asked trace → HasOneFailed w.files (option_to_list trace)
+named w origin asked None h = absurd h
+named w origin asked (Some name) h = record { name = name; one = inl refl; failed = h.2 }
+
+-- picks that are recorded are those of a file
+by_file : (files : Option Held) (size : ℕ) (asked : Sched) (s : Schedule) (picks : List ℕ) → HasSchedule files size asked s → s ≡ schedule.Recorded picks → (name : List ℕ) × (asked ≡ sched.File name)
+by_file files size sched.RoundRobin s picks has is = absurd (let z = sym has ∙ is in cc)
+by_file files size (sched.Seeded seed) s picks has is = absurd (let z = sym has ∙ is in cc)
+by_file files size (sched.File name) s picks has is = (name, refl)
+
+-- a run of status 1 was stopped at the end of such picks
+run_stopped : (w : World) (origin : Origin) (asked : Sched) (trace : Option (List ℕ)) (reported : Bool) (finish : Finish) (stats : Option Stats) → EndsRun w origin asked trace reported finish stats → finish_status finish ≡ status.stopped → StopsRun w origin asked
+run_stopped w origin asked trace reported finish stats e h =
+    let f = e.finishes in
+    let ending = some_ending f.close in
+    let goes = stopped_goes e.n (course_of e.n e.s (f.items ++ [])) ending.0 e.ran.finish (f.ends [] (nothing_comes e.n f.close) ending.0 ending.1) (sym (ap finish_status e.finish_is) ∙ h) in
+    let goes_here : goes_on e.n (course_of e.n e.s f.items) ≡ true = subst (λ i. goes_on e.n (course_of e.n e.s i) ≡ true) (append-nil f.items) goes in
+    let made : e.s ≡ schedule.Recorded (run_picks e.n e.s f.items) = subst (λ i. e.s ≡ schedule.Recorded (run_picks e.n e.s i)) (append-nil f.items) ((f.ran [] (nothing_comes e.n f.close)).stops goes) in
+    let file = by_file w.files.old (size_of e.n) asked e.s _ e.has.schedule made in
+    record {
+      n = e.n;
+      s = e.s;
+      has = e.has;
+      name = file.0;
+      by_file = file.1;
+      stream = f.stream;
+      items = f.items;
+      close = f.close;
+      gives = f.gives;
+      all_made = made;
+      still = goes_here;
+    }
+  where
+    some_ending : (close : Option Ending) → (e : Ending) × MayEnd close e
+    some_ending None = (ending.End, tt)
+    some_ending (Some e) = (e, refl)
 
 pub run_lawful : (run : Running) → Lawful (run_behavior run)
 run_lawful run = record {
@@ -122,9 +159,11 @@ run_lawful run = record {
     s = e.s;
     has = e.has;
     status_is = ap finish_status e.finish_is ∙ seen_status e.n e.s rest _ _ _ _ _ _ _ e.ran input calm.input e.finishes;
+    stops = λ h. seen_stops e.n e.s rest _ _ _ _ _ _ _ e.ran input calm.input e.finishes (sym (ap finish_status e.finish_is) ∙ h);
   };
   read = λ w f stats e h. run_read e.n e.s _ _ _ _ _ _ _ e.ran e.finishes (sym (ap finish_status e.finish_is) ∙ h);
   calm = λ w f stats e h. run_calm e.n e.s _ _ _ _ _ _ _ e.ran e.finishes (finish_status f) (sym (ap finish_status e.finish_is)) h.1 h.2 h.3;
+  stopped = λ w f stats e h. run_stopped w run.origin run.schedule run.trace run.reported f stats e h;
   writer = λ w h. named w run.origin run.schedule run.trace h;
   first_written = λ none. refl;
   reads_first = λ limit name after is. refl;

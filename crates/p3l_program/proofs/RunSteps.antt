@@ -1,5 +1,5 @@
 -- From the run of a network to the verdict of `run` and `exec`.
-use Rattle.std.proofs.Common.{◌≡◌, ℕ, Bool, List, [], Option, Some, None, ◌⊎◌, inl, inr, subst, append-nil, refl}
+use Rattle.std.proofs.Common.{◌≡◌, ℕ, Bool, List, [], ◌++◌, Option, Some, None, ◌⊎◌, inl, inr, subst, append-nil, refl, ◌∙◌}
 use Rattle.std.specs.declared.result.Result.TheVariants.{Ok, Err}
 use Rattle.p3l_io.specs.Told.{Held}
 use Rattle.p3l_opts.specs.declared.command.Sched.{Sched}
@@ -12,9 +12,9 @@ use Rattle.p3l_net.specs.Outcomes.{IsPrefixOf}
 use Rattle.p3l_run.specs.declared.keeping.Keeping.{Keeping}
 use Rattle.p3l_run.specs.declared.run.Ran.{Ran}
 use Rattle.p3l_run.specs.Feed.{closed_so}
-use Rattle.p3l_run.specs.Network.{Network, meaning_of, size_of}
+use Rattle.p3l_run.specs.Network.{Network, course_of, meaning_of, size_of}
 use Rattle.p3l_run.specs.Run.{Finishes, Starts}
-use Rattle.p3l_run.proofs.RunSteps.{begun_by, nothing_comes}
+use Rattle.p3l_run.proofs.RunSteps.{begun_by, may_come, nothing_comes}
 use Rattle.p3l_sched.specs.declared.refusal.PickRefusal.{PickRefusal}
 use Rattle.p3l_sched.specs.declared.refusal.PickRefusal.TheVariants as picks
 use Rattle.p3l_sched.specs.declared.schedule.Schedule.{Schedule}
@@ -35,7 +35,7 @@ use Rattle.p3l_program.proofs.TextSteps.{not_loaded}
 
 -- a run that came to its end was begun
 pub finishes_starts : (n : Network) (s : Schedule) (keeping : Keeping) (rest left : Option (List ℕ)) (before now : ℕ) (taken taken' : Option (List ℕ)) (end : Ran) →
-    Finishes n s keeping rest left before now taken taken' end → Starts n rest left before now taken taken'
+    Finishes n s keeping rest left before now taken taken' end → Starts n s rest left before now taken taken'
 finishes_starts n s keeping rest left before now taken taken' end f =
     let ran = f.ran [] (nothing_comes n f.close) in
     let begins : IsPrefixOf f.outcomes (meaning_of n f.items) = subst (λ i. IsPrefixOf f.outcomes (meaning_of n i)) (append-nil f.items) ran.begins in
@@ -44,7 +44,10 @@ finishes_starts n s keeping rest left before now taken taken' end f =
       items = f.items;
       closed = closed_so f.close;
       gives = f.gives;
-      begun = begun_by n f.items f.outcomes taken taken' begins f.put;
+      begun = begun_by (meaning_of n f.items) f.outcomes taken taken' begins f.put;
+      emits = λ later may.
+          let on = f.ran later (may_come n f.close later may) in
+          begun_by (course_of n s (f.items ++ later)).state.emitted f.outcomes taken taken' ([], append-nil f.outcomes ∙ on.emitted) f.put;
     }
 
 -- what was not loaded is not run
@@ -126,7 +129,7 @@ module _ (files : Change Held) (input out : Change (List ℕ)) (origin : Origin)
         starts = finishes_starts n h.0.s h.0.keeping _ _ _ _ _ _ h.0.ran h.0.finishes;
       };
     };
-    fault = inr ((runs_over asked h.0, h.0.out_calm), h.1);
+    fault = inr (runs_over asked h.0, h.0.out_calm, h.1);
   }
 
   -- the verdict of the run is due

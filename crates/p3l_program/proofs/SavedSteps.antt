@@ -9,7 +9,7 @@ use Rattle.p3l_program.specs.Load.{IsNotLoaded}
 use Rattle.p3l_program.specs.Saved.{EndsSaving, HoldsBut, IsSaved, IsSavingDue, KeepsBut, KeepsFiles, SaveCause}
 use Rattle.p3l_program.specs.Stage.{AllPass, Stage}
 use Rattle.p3l_program.specs.Text.{BeginsText, IsWritten}
-use Rattle.p3l_program.specs.World.{Change, IsCalm, IsStill, world}
+use Rattle.p3l_program.specs.World.{Change, HasFailed, IsCalm, IsStill, world}
 use Rattle.p3l_program.proofs.TextSteps.{not_loaded}
 
 -- nothing is a front of any text
@@ -44,7 +44,7 @@ kept_no_memory files names verdict.NoMemory h = h
 module _ (files : Change Held) (out : Change (List ℕ)) (stages : List Stage) (IsText : List ℕ → Type 0) (name : List ℕ) (IsBytes : List ℕ → Type 0) where
   -- stages that don't pass
   pub saving_refused : (v : Verdict) → IsStill out → IsNotLoaded files stages v → IsSavingDue files out stages IsText name IsBytes v
-  saving_refused v still h input quiet = not_loaded (world files input out) stages (EndsSaving (world files input out) IsText name IsBytes) (BeginsText (world files input out) IsText) (IsStill out) v quiet still h
+  saving_refused v still h input quiet = not_loaded (world files input out) stages (EndsSaving (world files input out) IsText name IsBytes) (BeginsText (world files input out) IsText) (IsStill out × HasFailed files name) v quiet still h
 
   -- want of memory before anything was written
   pub saving_unwritten : IsStill out → IsSavingDue files out stages IsText name IsBytes verdict.NoMemory

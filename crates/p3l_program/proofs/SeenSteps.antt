@@ -8,16 +8,18 @@ use Rattle.std.proofs.lemmas.List.Elements.{recursion_from_All}
 use Rattle.p3l_io.specs.Causes.{Rose}
 use Rattle.p3l_run.specs.declared.end.RunEnd.{RunEnd}
 use Rattle.p3l_run.specs.declared.end.RunEnd.TheVariants as finish
-use Rattle.p3l_report.specs.Verdict.{finish_status}
+use Rattle.p3l_report.specs.Status as status
+use Rattle.p3l_report.specs.Verdict.{ending_status, finish_status}
 use Rattle.p3l_run.specs.declared.keeping.Keeping.{Keeping}
 use Rattle.p3l_run.specs.declared.run.Ran.{Ran}
 use Rattle.p3l_run.specs.Feed.{Gives, closed_so, input_limit}
 use Rattle.p3l_net.specs.Run.{Course}
-use Rattle.p3l_run.specs.Network.{Network, goes_on, width_of}
+use Rattle.p3l_run.specs.Network.{Network, course_of, goes_on, picks_of, width_of}
 use Rattle.p3l_run.specs.Run.{Finishes, MayCome, MayEnd, end_of, finish_of}
 use Rattle.p3l_run.specs.Trap.{trap_of}
 use Rattle.p3l_base.specs.declared.outcome.Trap.{Trap}
 use Rattle.p3l_sched.specs.declared.schedule.Schedule.{Schedule}
+use Rattle.p3l_sched.specs.declared.schedule.Schedule.TheVariants as schedule
 use Rattle.p3l_stream.specs.declared.items.Ending.{Ending}
 use Rattle.p3l_stream.specs.declared.items.Ending.TheVariants as ending
 use Rattle.p3l_stream.specs.declared.items.Items.{Items}
@@ -165,6 +167,33 @@ pub seen_status : (n : Network) (s : Schedule) (rest : List ℕ) (keeping : Keep
 seen_status n s rest keeping old new before now taken taken' end told calm f =
     let to = seen_goes_on n rest old new before now f.close f.stream f.items f.gives told calm in
     ap (λ e. finish_status (run_finish e)) (f.ends to.later to.may_come to.e to.may_end) ∙ ap (status_with n s) (sym to.seen)
+
+-- no ending of a stream is a stop
+pub ending_unstopped : (e : Ending) → ending_status e ≡ status.stopped → ⊥
+ending_unstopped ending.End h = absurd (omega arith)
+ending_unstopped (ending.BadWord line) h = absurd (omega arith)
+ending_unstopped (ending.WrongCount line had) h = absurd (omega arith)
+ending_unstopped (ending.OutOfRange line) h = absurd (omega arith)
+ending_unstopped ending.ReadFault h = absurd (omega arith)
+ending_unstopped ending.TooLong h = absurd (omega arith)
+
+-- where a run is stopped some process can fire
+pub stopped_goes : (n : Network) (c : Course) (close : Ending) (f : RunEnd) → f ≡ finish_of n c close → finish_status (run_finish f) ≡ status.stopped → goes_on n c ≡ true
+stopped_goes n c close f is h = by (goes_on n c) (trap_of c.state.emitted) refl (sym (ap (λ k. finish_status (run_finish k)) is) ∙ h)
+  where
+    by : (b : Bool) (trap : Option Trap) → goes_on n c ≡ b → finish_status (run_finish (cond b (finish.Stopped c.fired c.idle) (end_of n.tree trap (length c.state.emitted) close))) ≡ status.stopped → goes_on n c ≡ true
+    by true trap goes k = goes
+    by false None goes k = absurd (ending_unstopped close k)
+    by false (Some t) goes k = absurd (omega arith)
+
+-- and it is stopped only where its schedule is that of a file, of which all picks were made
+pub seen_stops : (n : Network) (s : Schedule) (rest : List ℕ) (keeping : Keeping) (old new : Option (List ℕ)) (before now : ℕ) (taken taken' : Option (List ℕ)) (end : Ran) →
+    old ≡ Some rest → (Rose before now → ⊥) → Finishes n s keeping old new before now taken taken' end → finish_status (run_finish end.finish) ≡ status.stopped →
+    s ≡ schedule.Recorded (picks_of n s (seen_of (width_of n) rest).items)
+seen_stops n s rest keeping old new before now taken taken' end told calm f h =
+    let to = seen_goes_on n rest old new before now f.close f.stream f.items f.gives told calm in
+    let goes = stopped_goes n (course_of n s (f.items ++ to.later)) to.e end.finish (f.ends to.later to.may_come to.e to.may_end) h in
+    subst (λ (i : Items). s ≡ schedule.Recorded (picks_of n s i.items)) (sym to.seen) ((f.ran to.later to.may_come).stops goes)
 
 -- below the limit all items of an input are seen
 pub seen_short : (width : ℕ) (rest : List ℕ) → length rest < input_limit → seen_of width rest ≡ items_of width rest

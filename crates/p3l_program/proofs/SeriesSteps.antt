@@ -1,12 +1,13 @@
 -- Several files that are written one after another.
-use Rattle.std.proofs.Common.{◌≡◌, ℕ, List, [], ◌∷◌, ◌++◌, Option, Some, None, refl, sym, ap, subst, ◌∙◌, codes, get_or, arith}
+use Rattle.std.proofs.Common.{◌≡◌, ℕ, List, [], ◌∷◌, ◌++◌, Option, Some, None, refl, sym, ap, subst, inl, inr, ◌∙◌, codes, get_or, arith}
 use Rattle.std.specs.declared.result.Result.{Result}
 use Rattle.std.specs.declared.result.Result.TheVariants.{Ok, Err}
+use Rattle.p3l_io.specs.Causes.{Rose}
 use Rattle.p3l_io.specs.Told.{Held}
 use Rattle.p3l_report.specs.declared.verdict.Verdict.{Verdict}
 use Rattle.p3l_report.specs.declared.verdict.Verdict.TheVariants as verdict
 use Rattle.p3l_program.specs.Saved.{AreSaved, HasSave, HasSaves, HoldsBut, IsOther, IsSaved, KeepsBut, SaveCause, SavesCause, Stands, names_of}
-use Rattle.p3l_program.specs.World.{Change, HasRisen}
+use Rattle.p3l_program.specs.World.{Change}
 
 -- files that keep others hold what they held under them
 kept_holds : (files : Change Held) (names : List (List ℕ)) → KeepsBut files names → (held : Held) → files.old ≡ Some held → HoldsBut held files.new names
@@ -29,15 +30,15 @@ stands_then None new name bytes names one more other = absurd one
 stands_then (Some h) None name bytes names one more other = absurd (more h refl)
 stands_then (Some h) (Some k) name bytes names one more other = more h refl name other ∙ one
 
-module _ (old mid new : Option Held) (before between now : ℕ) where
+module _ (old mid new : Option Held) (before between now : ℕ) (early late : Option (List ℕ)) where
   abbrev first : Change Held
-  first = record { old = old; new = mid; before = before; now = between }
+  first = record { old = old; new = mid; before = before; now = between; failed = early }
 
   abbrev second : Change Held
-  second = record { old = mid; new = new; before = between; now = now }
+  second = record { old = mid; new = new; before = between; now = now; failed = late }
 
   abbrev both : Change Held
-  both = record { old = old; new = new; before = before; now = now }
+  both = record { old = old; new = new; before = before; now = now; failed = late }
 
   saved_after : (written name bytes : List ℕ) → KeepsBut first (written ∷ []) → IsSaved second name bytes → IsSaved both name bytes
   saved_after written name bytes kept saved = λ held told. by held mid refl (kept held told)
@@ -59,7 +60,10 @@ module _ (old mid new : Option Held) (before between now : ℕ) where
       (λ held told. stands_then mid new name bytes (names_of saves) (one.by.0 held told) (kept_holds second (names_of saves) kept) other, all_after name saves one.kept by.0),
       by.1 ∙ one.by.1,
     )
-    cause_then (Err verdict.WriteFault) kept by = (λ none. absurd cc, subst (λ n. HasRisen (record { old = old; new = new; before = n; now = now })) one.by.1 by.1)
+    cause_then (Err verdict.WriteFault) kept by = (
+      λ none. absurd cc,
+      record { name = by.1.name; one = inr by.1.one; failed = (subst (λ n. Rose n now) one.by.1 by.1.failed.0, by.1.failed.1) },
+    )
     cause_then (Err verdict.NoMemory) kept by = by ∙ one.by.1
     cause_then (Err (verdict.Refused r)) kept by = absurd by
     cause_then (Err (verdict.Ended f stats)) kept by = absurd by
@@ -70,7 +74,7 @@ module _ (old mid new : Option Held) (before between now : ℕ) where
 module _ (files : Change Held) (name bytes : List ℕ) (saves : List (List ℕ × List ℕ)) where
   -- the first could not be written
   cause_of : (v : Verdict) → SaveCause files name bytes (Err v) → SavesCause files ((name, bytes) ∷ saves) (Err v)
-  cause_of verdict.WriteFault h = (λ none. absurd cc, h)
+  cause_of verdict.WriteFault h = (λ none. absurd cc, record { name = name; one = inl refl; failed = h })
   cause_of verdict.NoMemory h = h
   cause_of (verdict.Refused r) h = absurd h
   cause_of (verdict.Ended f stats) h = absurd h

@@ -147,7 +147,7 @@ module _ (files : Option Held) (held : Held) (told : files ≡ Some held) where
 module _ (files : Change Held) (held : Held) (told : files.old ≡ Some held) (calm : HasRisen files → ⊥) where
   -- a stage that is passed refuses nothing
   passed_stage : (stage : Stage) (r : Refusal) → Passes files stage → Refuses files stage r → ⊥
-  passed_stage (readable limit name) (refusal.FileFault named) p h = calm h.1
+  passed_stage (readable limit name) (refusal.FileFault named) p h = calm h.1.0
   passed_stage (readable limit name) (refusal.FileTooLong named) p h = not_longer files.old held told limit name p.0 p.1 h.1
   passed_stage (spelled name) (refusal.Source fault pos) p h = spelled_once files.old held told name p.0 fault pos p.1 h
   passed_stage (resolved name) (refusal.Source fault pos) p h = accepted_once files.old held told name p.0 fault pos p.1 h
@@ -167,8 +167,8 @@ module _ (files : Change Held) (held : Held) (told : files.old ≡ Some held) (c
 
   -- a stage refuses with one status
   refused_stage : (stage : Stage) (r other : Refusal) → Refuses files stage r → Refuses files stage other → refusal_status r ≡ refusal_status other
-  refused_stage (readable limit name) (refusal.FileFault a) other h k = absurd (calm h.1)
-  refused_stage (readable limit name) (refusal.FileTooLong a) (refusal.FileFault b) h k = absurd (calm k.1)
+  refused_stage (readable limit name) (refusal.FileFault a) other h k = absurd (calm h.1.0)
+  refused_stage (readable limit name) (refusal.FileTooLong a) (refusal.FileFault b) h k = absurd (calm k.1.0)
   refused_stage (readable limit name) (refusal.FileTooLong a) (refusal.FileTooLong b) h k = refl
   refused_stage (spelled name) (refusal.Source fault pos) (refusal.Source other at) h k = refl
   refused_stage (resolved name) (refusal.Source fault pos) (refusal.Source other at) h k = refl

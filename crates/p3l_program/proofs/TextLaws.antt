@@ -1,5 +1,5 @@
 -- What the answers of commands rest on that write a text, or a file and a text.
-use Rattle.std.proofs.Common.{◌≡◌, ◌≢◌, ℕ, List, [], ◌∷◌, Option, Some, refl, sym, ap, ◌∙◌, arith}
+use Rattle.std.proofs.Common.{◌≡◌, ◌≢◌, ℕ, List, [], ◌∷◌, Option, Some, refl, sym, ap, inl, ◌∙◌, arith}
 use Rattle.p3l_io.specs.Told.{Held}
 use Rattle.p3l_report.specs.declared.stats.Stats.{Stats}
 use Rattle.p3l_report.specs.declared.verdict.Finish.{Finish}
@@ -36,6 +36,10 @@ saving_whole w IsText name IsBytes rest taken finish stats input out e = record 
 no_read : (w : World) (IsText : List ℕ → Type 0) (f : Finish) (stats : Option Stats) → EndsText w IsText f stats → finish_status f ≡ status.read → HasRisen w.input
 no_read w IsText f stats e h = absurd (let z = sym (ap finish_status e.finish_is) ∙ h in omega arith)
 
+-- nor a stop
+unstopped : (w : World) (IsText : List ℕ → Type 0) (f : Finish) (stats : Option Stats) → EndsText w IsText f stats → finish_status f ≡ status.stopped → ⊥
+unstopped w IsText f stats e h = let z = sym (ap finish_status e.finish_is) ∙ h in absurd (omega arith)
+
 pub text_lawful : (stages : List Stage) (IsText : Option Held → List ℕ → Type 0) → Lawful (text_behavior stages IsText)
 text_lawful stages IsText = record {
   begun = λ w f stats e. ends_text w (IsText w.files.old) f stats e;
@@ -43,6 +47,7 @@ text_lawful stages IsText = record {
   status_due = λ w rest f stats input calm e. ap finish_status e.finish_is;
   read = λ w f stats e h. no_read w (IsText w.files.old) f stats e h;
   calm = λ w f stats e h. e.input.calm;
+  stopped = λ w f stats e h. unstopped w (IsText w.files.old) f stats e h;
   writer = λ w h. absurd h;
   first_written = λ none. refl;
   reads_first = λ limit name after is. refl;
@@ -58,7 +63,8 @@ saving_lawful stages IsText name IsBytes = record {
   status_due = λ w rest f stats input calm e. ap finish_status e.ends.finish_is;
   read = λ w f stats e h. no_read w (IsText w.files.old) f stats e.ends h;
   calm = λ w f stats e h. e.ends.input.calm;
-  writer = λ w h. λ none. absurd cc;
+  stopped = λ w f stats e h. unstopped w (IsText w.files.old) f stats e.ends h;
+  writer = λ w h. record { name = name; one = inl refl; failed = h.1 };
   first_written = λ none. refl;
   reads_first = λ limit name after is. refl;
   touches = λ w some. tt;

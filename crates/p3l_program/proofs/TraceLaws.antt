@@ -5,7 +5,7 @@ use Rattle.p3l_report.specs.Status as status
 use Rattle.p3l_program.specs.Trace.{check_behavior}
 use Rattle.p3l_program.proofs.EndSteps.{put_told}
 use Rattle.p3l_program.proofs.Lawful.{Lawful}
-use Rattle.p3l_program.proofs.TraceSteps.{check_calm, check_read, check_status, check_whole, ends_check}
+use Rattle.p3l_program.proofs.TraceSteps.{check_calm, check_read, check_status, check_unstopped, check_whole, ends_check}
 
 -- a status of evidence is none of an end
 no_evidence : (k : ℕ) → status.is_end k ≡ true → k ≡ status.evidence → ⊥
@@ -18,6 +18,7 @@ check_lawful build name = record {
   status_due = λ w rest f stats input calm e. check_status w build name rest f stats input calm e;
   read = λ w f stats e h. check_read w build name f stats e h;
   calm = λ w f stats e h. check_calm w build name f stats _ e refl (λ is. no_evidence _ h.0 is) h.3;
+  stopped = λ w f stats e h. check_unstopped w build name f stats e h;
   writer = λ w h. absurd h;
   first_written = λ none. refl;
   reads_first = λ limit name after is. refl;

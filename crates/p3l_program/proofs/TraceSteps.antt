@@ -1,9 +1,10 @@
 -- From the check of a trace to the verdict of `check-trace`, and what its end says.
-use Rattle.std.proofs.Common.{◌≡◌, ℕ, ℤ, true, List, [], ◌∷◌, ◌++◌, length, Option, Some, None, refl, sym, ap, subst, inl, inr, ◌∙◌, arith, append-nil}
-use Rattle.std.specs.declared.result.Result.{Result}
+use Rattle.std.proofs.Common.{◌≡◌, ℕ, ℤ, Bool, true, false, List, [], ◌∷◌, ◌++◌, length, Option, Some, None, refl, sym, ap, subst, inl, inr, ◌∙◌, arith, append-nil, length-append, if◌then◌else◌}
 use Rattle.std.specs.declared.result.Result.TheVariants.{Ok, Err}
 use Rattle.std.specs.List.{AllByRecursion}
+use Rattle.std.proofs.lemmas.Bool.{le-leb, lt-leb}
 use Rattle.std.proofs.lemmas.List.Elements.{recursion_from_All}
+use Rattle.p3l_io.specs.Causes.{Rose}
 use Rattle.p3l_io.specs.Told.{Held}
 use Rattle.p3l_opts.specs.declared.command.Build.{Build}
 use Rattle.p3l_report.specs.declared.evidence.Evidence.TheVariants as evidence
@@ -19,7 +20,8 @@ use Rattle.p3l_report.specs.Verdict.{ending_status, finish_status}
 use Rattle.p3l_report.proofs.Statuses as statuses
 use Rattle.p3l_run.specs.Feed.{closed_so}
 use Rattle.p3l_run.specs.Network.{Network, width_of}
-use Rattle.p3l_run.specs.Run.{MayCome}
+use Rattle.p3l_run.specs.Run.{MayCome, MayEnd}
+use Rattle.p3l_retrace.specs.Retraced.{AgreesOn, IsAskedFor}
 use Rattle.p3l_run.specs.Write.{HasPut}
 use Rattle.p3l_stream.proofs.Endings.{items_wide}
 use Rattle.p3l_stream.specs.declared.items.Ending.{Ending}
@@ -30,35 +32,30 @@ use Rattle.p3l_stream.specs.Given.{Closes, GivenCause, HasGiven}
 use Rattle.p3l_stream.specs.Items.{items_of}
 use Rattle.p3l_stream.specs.Seen.{Seen}
 use Rattle.p3l_stream.specs.Taken.{IsTaken}
-use Rattle.p3l_format.specs.declared.fault.Fault.{Fault}
-use Rattle.p3l_format.specs.Format.{read_all}
 use Rattle.p3l_trace.specs.declared.trace.Traced.{Traced}
 use Rattle.p3l_trace.specs.declared.trace.TraceRefusal.TheVariants as refusals
 use Rattle.p3l_trace.specs.Text.{trace_format}
-use Rattle.p3l_trace.specs.Told.{Answers}
-use Rattle.p3l_trace.specs.Agreement.{Agrees, DiffersAt}
+use Rattle.p3l_trace.specs.Told.{Answers, TellsFirst}
+use Rattle.p3l_trace.specs.Agreement.{Agrees, DiffersAt, picks_of}
 use Rattle.p3l_program.specs.Plan.{HasNetwork}
 use Rattle.p3l_program.specs.Load.{LoadsNetwork}
 use Rattle.p3l_program.specs.Origin.{built}
+use Rattle.p3l_program.specs.Run.{seen_of}
 use Rattle.p3l_program.specs.Stage.{AllPass, FilesCause, IsRefusedBy, Refuses, build_stages, readable, traced}
-use Rattle.p3l_program.specs.Trace.{Agreed, BeginsTrace, ChecksWhole, EndsTrace, HasBadTrace, IsCheckDue, IsCheckOf, IsCheckSome, IsTraceStatus, IsUnrefused, IsUntraced, check_stages, holds_line}
+use Rattle.p3l_program.specs.Trace.{Agreed, BeginsTrace, ChecksWhole, EndsTrace, HasBadTrace, IsCheckDue, IsCheckOf, IsCheckSome, IsTraceStatus, IsUnrefused, IsUntraced, agreed_status, check_stages, comes_to_end, holds_line}
 use Rattle.p3l_program.specs.File.{HasText}
 use Rattle.p3l_program.specs.TraceFile.{HasTrace, SpellsNoTrace, trace_limit}
 use Rattle.p3l_program.specs.World.{Change, HasNoFault, HasRisen, IsCalm, World, world}
-use Rattle.p3l_program.proofs.SeenSteps.{at_end_left, seen_goes_on, wide_tail}
+use Rattle.p3l_program.proofs.SeenSteps.{GoesOnTo, at_end_left, ending_unstopped, seen_goes_on, wide_tail}
 use Rattle.p3l_program.proofs.StageSteps.{passed_both, refused_after}
 
 -- a text that is read as no trace
-unspelled : (text : List ℕ) (line : ℕ) → ((t : Traced) → trace_format.fits t ≡ true → text ≡ trace_format.spell t → Answers text (Err (refusals.BadLine line)) (Ok t)) →
-    (r : Result Traced Fault) → read_all trace_format text ≡ r → Answers text (Err (refusals.BadLine line)) r → SpellsNoTrace text line
-unspelled text line only (Ok t) is a = absurd cc
-unspelled text line only (Err fault) is a = record { fault = fault; read = is; line_is = (let z = a in cc); no_trace = λ t fits spelled. absurd (let z = only t fits spelled in cc) }
-
 pub untraced : (files : Change Held) (name text : List ℕ) (line : ℕ) → HasText files.old trace_limit name text → IsCalm files →
-    ((t : Traced) → trace_format.fits t ≡ true → text ≡ trace_format.spell t → Answers text (Err (refusals.BadLine line)) (Ok t)) → Answers text (Err (refusals.BadLine line)) (read_all trace_format text) →
+    ((t : Traced) → trace_format.fits t ≡ true → text ≡ trace_format.spell t → Answers text (Err (refusals.BadLine line)) (Ok t)) → TellsFirst text (Err (refusals.BadLine line)) →
     IsUntraced files name (verdict.Refused (refusal.Evidence (evidence.BadLine line)))
-untraced files name text line has calm only exact =
-    inr (record { line = line; is = refl; none = record { text = text; has = has; none = unspelled text line only (read_all trace_format text) refl exact }; calm = calm })
+untraced files name text line has calm only first =
+    let none : SpellsNoTrace text line = record { first = first; no_trace = λ t fits spelled. absurd (let z = only t fits spelled in cc) } in
+    inr (record { line = line; is = refl; none = record { text = text; has = has; none = none }; calm = calm })
 
 module _ (files : Change Held) (input out : Change (List ℕ)) (build : Build) (n : Network) (loads : LoadsNetwork files.old (built build) n) (name : List ℕ) where
   has : HasNetwork files.old (built build) n
@@ -138,23 +135,78 @@ check_read w build name (finish.Differs line) stats h is = absurd (omega arith)
 check_read w build name (finish.Stopped fired idle) stats h is = absurd h.checked
 check_read w build name (finish.Trapped item kind home) stats h is = absurd h.checked
 
+-- no check is stopped
+pub check_unstopped : (w : World) (build : Build) (name : List ℕ) (f : Finish) (stats : Option Stats) → EndsTrace w build name f stats → finish_status f ≡ status.stopped → ⊥
+check_unstopped w build name finish.Done stats h is = absurd (omega arith)
+check_unstopped w build name (finish.Stream e) stats h is = ending_unstopped e is
+check_unstopped w build name (finish.Differs line) stats h is = absurd (omega arith)
+check_unstopped w build name (finish.Stopped fired idle) stats h is = absurd h.checked
+check_unstopped w build name (finish.Trapped item kind home) stats h is = absurd h.checked
+
+-- a stream that was asked before each pick, and gave these items and later ones, comes to its end just where it ended
+module _ (n : Network) (items later : List (List ℤ)) where
+  ends_not : (picks : List ℕ) → IsAskedFor n (items ++ later) picks (length items) None → comes_to_end n (items ++ later) picks ≡ false
+  ends_not [] asked = refl
+  ends_not (p ∷ picks) asked =
+      let size = length-append items later in
+      lt-leb _ _ (omega (arith, asked, size))
+
+  ends_there : (picks : List ℕ) (e : Ending) → later ≡ [] → IsAskedFor n (items ++ later) picks (length items) (Some e) → comes_to_end n (items ++ later) picks ≡ true
+  ends_there [] e none asked = absurd (let z = asked.1 in cc)
+  ends_there (p ∷ picks) e none asked =
+      let size = length-append items later in
+      let empty : length later ≡ 0 = ap length none in
+      le-leb _ _ (omega (arith, asked, size, empty))
+
+-- so the status of a check of which no line differs is that of what is seen
+module _ (n : Network) (t : Traced) (rest : List ℕ) (close : Option Ending) (old new : Option (List ℕ)) (before now : ℕ) (told : old ≡ Some rest) (calm : Rose before now → ⊥)
+    (on : AgreesOn n t old new before now close) where
+  to : GoesOnTo n close on.items rest
+  to = seen_goes_on n rest old new before now close on.stream on.items on.gives told calm
+
+  agrees_seen : Agrees n.tree n.leaf n.net (seen_of (width_of n) rest).items t
+  agrees_seen = subst (λ (i : Items). Agrees n.tree n.leaf n.net i.items t) (sym to.seen) (on.holds to.later to.may_come)
+
+  asked_seen : IsAskedFor n (on.items ++ to.later) (picks_of t.lines) (length on.items) close
+  asked_seen = on.asked to.later to.may_come
+
+  status_by : (b : Bool) → comes_to_end n (on.items ++ to.later) (picks_of t.lines) ≡ b → agreed_status n t (seen_of (width_of n) rest) ≡ (if b then ending_status to.e else status.done)
+  status_by b is =
+      ap (λ (i : Items). agreed_status n t i) to.seen ∙ ap (λ k. if k then ending_status to.e else status.done) is
+
+  -- it isn't ended
+  agreed_open : close ≡ None → agreed_status n t (seen_of (width_of n) rest) ≡ status.done
+  agreed_open none = status_by false (ends_not n on.items to.later (picks_of t.lines) (subst (λ c. IsAskedFor n (on.items ++ to.later) (picks_of t.lines) (length on.items) c) none asked_seen))
+
+  -- it ended so
+  agreed_ended : (e : Ending) → close ≡ Some e → agreed_status n t (seen_of (width_of n) rest) ≡ ending_status e
+  agreed_ended e is =
+      status_by true (ends_there n on.items to.later (picks_of t.lines) e (to.may_come.none e is) (subst (λ c. IsAskedFor n (on.items ++ to.later) (picks_of t.lines) (length on.items) c) is asked_seen))
+      ∙ ap ending_status (sym (subst (λ c. MayEnd c to.e) is to.may_end))
+
 -- where no fault comes the check ends by what is seen of the input
 pub check_status : (w : World) (build : Build) (name rest : List ℕ) (f : Finish) (stats : Option Stats) → w.input.old ≡ Some rest → HasNoFault w → EndsTrace w build name f stats → IsTraceStatus w build name rest (finish_status f)
 check_status w build name rest finish.Done stats told calm h =
-    let to = seen_goes_on h.n rest w.input.old w.input.new w.input.before w.input.now h.checked.close h.checked.agrees.stream h.checked.agrees.items h.checked.agrees.gives told calm.input in
+    let on = h.checked.agrees in
     record {
       n = h.n;
       t = h.t;
       has = h.has;
-      status_is = inr (inl refl, subst (λ (i : Items). Agrees h.n.tree h.n.leaf h.n.net i.items h.t) (sym to.seen) (h.checked.agrees.holds to.later to.may_come));
+      status_is = inr (
+        elim h.checked.unrefused [
+          | inl none ↦ sym (agreed_open h.n h.t rest h.checked.close _ _ _ _ told calm.input on none)
+          | inr end ↦ sym (agreed_ended h.n h.t rest h.checked.close _ _ _ _ told calm.input on ending.End end)
+        ],
+        agrees_seen h.n h.t rest h.checked.close _ _ _ _ told calm.input on,
+      );
     }
 check_status w build name rest (finish.Stream e) stats told calm h =
-    let to = seen_goes_on h.n rest w.input.old w.input.new w.input.before w.input.now (Some e) h.checked.agrees.stream h.checked.agrees.items h.checked.agrees.gives told calm.input in
+    let on = h.checked.agrees in
     record {
       n = h.n;
       t = h.t;
       has = h.has;
-      status_is = inr (inr (ap ending_status (to.may_end ∙ sym (ap (λ (i : Items). i.ending) to.seen))), subst (λ (i : Items). Agrees h.n.tree h.n.leaf h.n.net i.items h.t) (sym to.seen) (h.checked.agrees.holds to.later to.may_come));
+      status_is = inr (sym (agreed_ended h.n h.t rest (Some e) _ _ _ _ told calm.input on e refl), agrees_seen h.n h.t rest (Some e) _ _ _ _ told calm.input on);
     }
 check_status w build name rest (finish.Differs line) stats told calm h =
     let on = h.checked.differs.1 in

@@ -1,5 +1,5 @@
 -- What the program answers, writes and says, and why.
-use Rattle.std.specs.Prelude.{◌≡◌, ◌≢◌, ℕ, List, [], ◌∷◌, ◌++◌, ◌⊎◌, Option, Some}
+use Rattle.std.specs.Prelude.{◌≡◌, ◌≢◌, ℕ, List, [], ◌∷◌, ◌++◌, ◌⊎◌, Option, Some, None}
 use Rattle.clap.specs.Words.{Text}
 use Rattle.p3l_io.specs.Told.{Held}
 use Rattle.p3l_opts.specs.declared.command.Command.{Command}
@@ -12,10 +12,10 @@ use Rattle.p3l_report.specs.declared.verdict.Verdict.{Verdict}
 use Rattle.p3l_report.specs.declared.verdict.Verdict.TheVariants as verdict
 use Rattle.p3l_report.specs.Line.{stats_line}
 use Rattle.p3l_report.specs.Verdict.{finish_status, lines_of, refusal_status, status_of}
-use Rattle.p3l_program.specs.Command.{Begins, Ends, IsDueOf, IsWhole, Touches, saved_first, stages_of, written_of}
+use Rattle.p3l_program.specs.Command.{Begins, Ends, IsDueOf, IsWhole, Touches, run_of, saved_first, stages_of, written_of}
 use Rattle.p3l_program.specs.Due.{IsBegun, IsEnd}
-use Rattle.p3l_program.specs.Run.{Emits}
-use Rattle.p3l_program.specs.Saved.{AreSaved, KeepsBut, KeepsFirst}
+use Rattle.p3l_program.specs.Run.{Emits, StopsRun}
+use Rattle.p3l_program.specs.Saved.{AreSaved, HasOneFailed, KeepsBut, KeepsFirst}
 use Rattle.p3l_program.specs.Stage.{IsRefusedBy, Stage, readable}
 use Rattle.p3l_program.specs.File.{IsTooLong}
 use Rattle.p3l_run.specs.declared.end.RunStats.{RunStats}
@@ -55,7 +55,7 @@ pub record IsUnsaved (words : List Text) (w : World) (v : Verdict) : Type 0 wher
   pub spelled : Spells words command
   pub some : saved_first command ≢ []
   pub untouched : IsUntouched w
-  pub risen : HasRisen w.files
+  pub failed : HasOneFailed w.files (written_of command)
   pub kept : KeepsBut w.files (written_of command)
 
 -- why a verdict is due
@@ -119,6 +119,23 @@ pub record SpellsWriter (words : List Text) : Type 0 where
   pub command : Command
   pub spelled : Spells words command
   pub writes : written_of command ≢ []
+
+-- the writing of a file failed, of those that the command writes that the words spell
+pub record IsUnwritten (words : List Text) (files : Change Held) : Type 0 where
+  pub command : Command
+  pub spelled : Spells words command
+  pub failed : HasOneFailed files (written_of command)
+
+-- a command was stopped: it runs a network under the picks of a file, which are all made
+abbrev pub StopsBy : World → Option Running → Type 0
+StopsBy w None = ⊥
+StopsBy w (Some run) = StopsRun w run.origin run.schedule
+
+-- so was the command that the words spell
+pub record IsStopped (words : List Text) (w : World) : Type 0 where
+  pub command : Command
+  pub spelled : Spells words command
+  pub stops : StopsBy w (run_of command)
 
 -- no file was changed but those that the command writes that the words spell, and of a run none before it was over
 pub record KeepsOthers (words : List Text) (w : World) : Type 0 where

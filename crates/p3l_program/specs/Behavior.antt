@@ -21,7 +21,7 @@ pub record Behavior : Type 1 where
   pub Ends : World → Finish → Option Stats → Type 0
   -- a front of what it writes was written
   pub Begins : World → Type 0
-  -- what holds where a file of it could not be written
+  -- a file of it could not be written, and what holds then
   pub Unsaved : World → Type 0
   -- by when it changes a file
   pub Touches : World → Type 0

@@ -1,6 +1,6 @@
 -- Certificates of files, which hold for a program and its costs or don't.
 use Rattle.std.specs.Prelude.{◌≡◌, ℕ, List, Err, Option, Some, None, ◌⊎◌, true}
-use Rattle.p3l_format.specs.Format.{read_all}
+use Rattle.p3l_format.specs.FirstLine.{IsFirstBadLine}
 use Rattle.p3l_io.specs.Told.{Held}
 use Rattle.p3l_skel.specs.declared.tree.Tree.{Tree}
 use Rattle.p3l_cost.specs.declared.costs.Costs.{Costs}
@@ -11,7 +11,6 @@ use Rattle.p3l_cert.specs.declared.cert.Claim.{Claim as CertClaim}
 use Rattle.p3l_cert.specs.declared.cert.Claim.TheVariants as claims
 use Rattle.p3l_cert.specs.Checker.{CertHolds, IsAnswer}
 use Rattle.p3l_cert.specs.Text.{cert_format}
-use Rattle.p3l_cert.specs.Told.{told}
 use Rattle.p3l_report.specs.declared.evidence.Claim.{Claim}
 use Rattle.p3l_report.specs.declared.evidence.Claim.TheVariants as reported
 use Rattle.p3l_report.specs.declared.evidence.Evidence.{Evidence}
@@ -40,9 +39,14 @@ pub record FailsTest (tree : Tree) (costs : Costs) (text : List ℕ) (refused : 
   pub spelled : SpellsCert text cert
   pub answer : IsAnswer {A = Unit {0}} tree costs cert (Err refused)
 
+-- it spells no certificate, and the line of this number is the first that isn't of its form
+abbrev pub IsNoText : List ℕ → CertRefusal → Type 0
+IsNoText text (refusals.BadText line) = IsFirstBadLine cert_format text line
+IsNoText text refused = ⊥
+
 -- it spells no certificate of a tree and its costs that holds: it is no certificate's text, by its first bad line, or a test fails
 pub record IsRefuted (tree : Tree) (costs : Costs) (text : List ℕ) (refused : CertRefusal) : Type 0 where
-  pub why : (told text (read_all cert_format text) ≡ Err refused) ⊎ FailsTest tree costs text refused
+  pub why : IsNoText text refused ⊎ FailsTest tree costs text refused
   pub never : (cert : Cert) → IsCertOf tree costs text cert → ⊥
 
 -- how it is told why a certificate is refused; want of memory is no evidence

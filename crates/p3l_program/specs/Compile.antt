@@ -4,7 +4,7 @@ use Rattle.p3l_io.specs.Told.{Held}
 use Rattle.p3l_code.specs.declared.instr.Code.{Code}
 use Rattle.p3l_compile.specs.Leaves.{AreCodes}
 use Rattle.p3l_cost.specs.declared.costs.Costs.{Costs}
-use Rattle.p3l_compiled.specs.Compiled.{IsImageText, image_of}
+use Rattle.p3l_load.specs.Compiled.{IsImageText, image_of}
 use Rattle.p3l_opts.specs.declared.command.Build.{Build}
 use Rattle.p3l_check.specs.Resolving.{ResolvedTree}
 use Rattle.p3l_program.specs.Plan.{HasCounts, IsAccepted}

@@ -34,7 +34,7 @@ pub record IsPutFault (w : World) : Type 0 where
 -- writing failed then: of the output, or of a file, by when so much holds
 pub record IsWriteFault (w : World) (stages : List Stage) (Begins Unsaved : Type 0) : Type 0 where
   pub begun : IsBegun w stages Begins
-  pub fault : IsPutFault w ⊎ (Unsaved × HasRisen w.files)
+  pub fault : IsPutFault w ⊎ Unsaved
 
 -- a verdict is due of a command with these stages, by what its end, its beginning and a file of it that could not be written mean
 abbrev pub IsDueWith : World → List Stage → (Finish → Option Stats → Type 0) → (Begins Unsaved : Type 0) → Verdict → Type 0

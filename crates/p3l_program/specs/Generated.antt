@@ -13,12 +13,13 @@ use Rattle.p3l_report.specs.declared.stats.Stats.{Stats}
 use Rattle.p3l_report.specs.declared.verdict.Finish.{Finish}
 use Rattle.p3l_report.specs.declared.verdict.Verdict.{Verdict}
 use Rattle.p3l_report.specs.declared.verdict.Verdict.TheVariants as verdict
+use Rattle.p3l_report.specs.Status as status
 use Rattle.p3l_report.specs.Verdict.{finish_status}
 use Rattle.p3l_run.specs.declared.end.RunEnd.{RunEnd}
 use Rattle.p3l_run.specs.declared.end.RunEnd.TheVariants as ends
 use Rattle.p3l_run.specs.declared.end.RunStats.{RunStats}
 use Rattle.p3l_run.specs.declared.run.Ran.{Ran}
-use Rattle.p3l_run.specs.Network.{Network, course_of, meaning_of, stats_of, width_of}
+use Rattle.p3l_run.specs.Network.{Network, course_of, goes_on, meaning_of, picks_of, stats_of, width_of}
 use Rattle.p3l_run.specs.Run.{finish_of}
 use Rattle.p3l_run.specs.Sum.{sum_of}
 use Rattle.p3l_run.specs.Write.{HasBegun, HasPut}
@@ -32,7 +33,7 @@ use Rattle.p3l_program.specs.Plan.{ComesTo, IsAllotted, network_of}
 use Rattle.p3l_program.specs.Behavior.{Behavior}
 use Rattle.p3l_program.specs.Due.{IsDueWith}
 use Rattle.p3l_program.specs.Load.{IsNotLoaded}
-use Rattle.p3l_program.specs.Saved.{AreSaved, KeepsBut, KeepsFirst, names_of}
+use Rattle.p3l_program.specs.Saved.{AreSaved, HasOneFailed, KeepsBut, KeepsFirst, names_of}
 use Rattle.p3l_program.specs.Stage.{Stage, text_fitting, text_kept, text_priced}
 use Rattle.p3l_program.specs.Text.{BeginsText}
 use Rattle.p3l_program.specs.Verdict.{run_finish}
@@ -91,6 +92,7 @@ pub record IsRanOn (n : Network) (s : Schedule) (text : List ℕ) (f : RunEnd) (
   pub ends : f ≡ finish_of n (course_of n s (items_of (width_of n) text).items) (items_of (width_of n) text).ending
   pub stats_are : numbers ≡ stats_of n (course_of n s (items_of (width_of n) text).items)
   pub bounded : numbers.fired ≤ n.firings * numbers.items
+  pub stops : goes_on n (course_of n s (items_of (width_of n) text).items) ≡ true → s ≡ schedule.Recorded (picks_of n s (items_of (width_of n) text).items)
   pub sum_is : sum ≡ sum_of (course_of n s (items_of (width_of n) text).items).state.emitted
   pub whole : comes_whole f ≡ true → (course_of n s (items_of (width_of n) text).items).state.emitted ≡ meaning_of n (items_of (width_of n) text).items
 
@@ -151,12 +153,13 @@ pub record GensWhole (w : World) (g : Gen) (rest taken : List ℕ) : Type 0 wher
   pub taken_is : w.out.new ≡ Some (taken ++ text)
   pub saved : AreSaved w.files (saves_of g)
 
--- the command is due to end with this status
-pub record IsGenStatus (g : Gen) (status : ℕ) : Type 0 where
+-- the command is due to end with this status, which is never that of a stop
+pub record IsGenStatus (g : Gen) (k : ℕ) : Type 0 where
   pub end : RunEnd
   pub text : List ℕ
   pub is : IsGenerated g end text
-  pub status_is : status ≡ finish_status (run_finish end)
+  pub status_is : k ≡ finish_status (run_finish end)
+  pub unstopped : k ≢ status.stopped
 
 -- the texts are saved where that is asked for, and then run
 abbrev pub gen_behavior : Gen → Behavior
@@ -218,5 +221,5 @@ pub record IsGenUnsaved (files : Change Held) (out : Change (List ℕ)) (g : Gen
   pub verdict_is : v ≡ verdict.WriteFault
   pub some : saves_of g ≢ []
   pub silent : IsStill out
-  pub risen : HasRisen files
+  pub failed : HasOneFailed files (names_of (saves_of g))
   pub kept : KeepsBut files (names_of (saves_of g))

@@ -26,11 +26,11 @@ use Rattle.p3l_program.specs.Origin.{Origin}
 use Rattle.p3l_program.specs.Plan.{AreSaid, ComesTo, HasCostText, HaveTexts, IsAllotted, IsCompiled, IsNetworkOf, Texts, refusal_of}
 use Rattle.p3l_program.specs.File.{HasText, IsTooLong, text_limit}
 use Rattle.p3l_program.specs.Stage.{FilesCause, IsRefusedBy, Refuses, Stage, readable, AllPass, origin_stages}
-use Rattle.p3l_program.specs.World.{Change, HasRisen, IsCalm}
+use Rattle.p3l_program.specs.World.{Change, HasFailed, IsCalm}
 
 -- why a file gives no text
 abbrev pub IsUnreadable : Change Held → ℕ → List ℕ → FileRefusal → Type 0
-IsUnreadable files limit name (file.Fault named) = (named ≡ name) × HasRisen files
+IsUnreadable files limit name (file.Fault named) = (named ≡ name) × HasFailed files name
 IsUnreadable files limit name (file.TooLong named) = (named ≡ name) × IsTooLong files.old limit name × IsCalm files
 IsUnreadable files limit name file.NoMemory = IsCalm files
 

@@ -1,12 +1,10 @@
 -- What `check-trace` makes of the traces that runs leave.
-use Rattle.std.specs.Prelude.{◌≡◌, ℕ, Bool, List, ◌⊎◌, Option, Some}
+use Rattle.std.specs.Prelude.{◌≡◌, ℕ, Bool, List, Option, Some}
 use Rattle.p3l_io.specs.Told.{Held}
 use Rattle.p3l_opts.specs.declared.command.Build.{Build}
 use Rattle.p3l_opts.specs.declared.command.Sched.{Sched}
 use Rattle.p3l_report.specs.declared.stats.Stats.{Stats}
 use Rattle.p3l_report.specs.declared.verdict.Finish.{Finish}
-use Rattle.p3l_report.specs.Status as status
-use Rattle.p3l_report.specs.Verdict.{ending_status}
 use Rattle.p3l_run.specs.Network.{Network, width_of}
 use Rattle.p3l_trace.specs.declared.trace.Traced.{Traced}
 use Rattle.p3l_trace.specs.Text.{trace_format}
@@ -14,7 +12,7 @@ use Rattle.p3l_program.specs.Plan.{HasNetwork}
 use Rattle.p3l_program.specs.Origin.{Origin, built}
 use Rattle.p3l_program.specs.Run.{EndsRun, seen_of}
 use Rattle.p3l_program.specs.Saved.{Stands}
-use Rattle.p3l_program.specs.Trace.{IsTraceStatus}
+use Rattle.p3l_program.specs.Trace.{IsTraceStatus, agreed_status}
 use Rattle.p3l_program.specs.World.{HasRisen, World}
 
 -- files that a check reads: no network but this one is built from them, and under the name stands the text of this trace
@@ -23,10 +21,11 @@ pub record StillHas (files : Option Held) (build : Build) (name : List ℕ) (n :
   pub stands : Stands files name (trace_format.spell t)
 
 -- where a run left a trace, and took it from an input that told what was left and didn't fail, the check of that trace against the
--- run's network on the same input is due to end with 0, or as the reading of the input does
+-- run's network on the same input has no line that differs: it is due to end as the reading of the input does, where that ends by
+-- what is asked before the trace's picks, and else with 0
 abbrev pub EveryRecordIsAccepted : Type 0
 EveryRecordIsAccepted =
     (w after : World) (origin : Origin) (asked : Sched) (name : List ℕ) (reported : Bool) (finish : Finish) (stats : Option Stats) (rest : List ℕ) (build : Build) (k : ℕ) →
     (e : EndsRun w origin asked (Some name) reported finish stats) → w.input.old ≡ Some rest → (HasRisen w.input → ⊥) →
     StillHas after.files.old build name e.n e.recorded.t → IsTraceStatus after build name rest k →
-    (k ≡ status.done) ⊎ (k ≡ ending_status (seen_of (width_of e.n) rest).ending)
+    k ≡ agreed_status e.n e.recorded.t (seen_of (width_of e.n) rest)

@@ -10,23 +10,27 @@ use Rattle.p3l_report.specs.declared.verdict.Refusal.{Refusal}
 use Rattle.p3l_report.specs.declared.verdict.Refusal.TheVariants as refusal
 use Rattle.p3l_report.specs.declared.verdict.Verdict.{Verdict}
 use Rattle.p3l_report.specs.declared.verdict.Verdict.TheVariants as verdict
+use Rattle.p3l_report.specs.Status as status
 use Rattle.p3l_report.specs.Verdict.{finish_status}
 use Rattle.p3l_run.specs.declared.keeping.Keeping.{Keeping}
 use Rattle.p3l_run.specs.declared.keeping.Keeping.TheVariants as keep
 use Rattle.p3l_run.specs.declared.end.RunStats.{RunStats}
 use Rattle.p3l_run.specs.declared.run.Ran.{Ran}
-use Rattle.p3l_run.specs.Feed.{input_limit}
-use Rattle.p3l_run.specs.Network.{Network, course_of, meaning_of, size_of, width_of}
+use Rattle.p3l_run.specs.Feed.{Gives, closed_so, input_limit}
+use Rattle.p3l_run.specs.Network.{Network, course_of, goes_on, meaning_of, picks_of, size_of, width_of}
 use Rattle.p3l_run.specs.Run.{Finishes, Starts, finish_of}
 use Rattle.p3l_run.specs.Write.{HasPut}
 use Rattle.p3l_sched.specs.declared.refusal.PickRefusal.TheVariants as picks
 use Rattle.p3l_sched.specs.declared.schedule.Schedule.{Schedule}
+use Rattle.p3l_sched.specs.declared.schedule.Schedule.TheVariants as schedule
 use Rattle.p3l_sched.specs.Picks.{Reads}
+use Rattle.p3l_stream.specs.declared.items.Ending.{Ending}
 use Rattle.p3l_stream.specs.declared.items.Ending.TheVariants as ending
 use Rattle.p3l_stream.specs.declared.items.Items.{Items}
 use Rattle.p3l_stream.specs.declared.taken.Cutoff.{Cutoff}
 use Rattle.p3l_stream.specs.declared.taken.Cutoff.TheVariants as stop
 use Rattle.p3l_stream.specs.Items.{items_of, items_taken}
+use Rattle.p3l_stream.specs.Seen.{Seen}
 use Rattle.p3l_stream.specs.Text.{text_of}
 use Rattle.p3l_program.specs.Behavior.{Behavior}
 use Rattle.p3l_program.specs.Due.{IsDueWith}
@@ -38,7 +42,7 @@ use Rattle.p3l_program.specs.Saved.{KeepsFiles}
 use Rattle.p3l_program.specs.Scheduled.{HasSchedule, picks_limit}
 use Rattle.p3l_program.specs.Stage.{FilesCause, Refuses, readable, run_stages}
 use Rattle.p3l_program.specs.Verdict.{run_finish, run_stats}
-use Rattle.p3l_program.specs.World.{Change, HasRisen, IsCalm, IsStill, World}
+use Rattle.p3l_program.specs.World.{Change, HasFailed, HasRisen, IsCalm, IsStill, World}
 
 -- the numbers of a run, where they are to be reported
 abbrev pub shown : Bool → Stats → Option Stats
@@ -75,17 +79,17 @@ pub record RunsOver (w : World) (origin : Origin) (asked : Sched) : Type 0 where
   pub ran : Ran
   pub finishes : Finishes n s keeping w.input.old w.input.new w.input.before w.input.now w.out.old w.out.new ran
 
--- by when the file of its trace could not be written
+-- the file of its trace could not be written, when it was over
 abbrev pub UnsavedRun : World → Origin → Sched → Option (List ℕ) → Type 0
 UnsavedRun w origin asked None = ⊥
-UnsavedRun w origin asked (Some name) = RunsOver w origin asked × IsCalm w.out
+UnsavedRun w origin asked (Some name) = RunsOver w origin asked × IsCalm w.out × HasFailed w.files name
 
--- it was run, and a front of the text of its meaning was written
+-- it was run, and a front of the text of its meaning was written, and of what the network emits under the schedule
 pub record BeginsRun (w : World) (origin : Origin) (asked : Sched) : Type 0 where
   pub n : Network
   pub s : Schedule
   pub has : HasRun w.files.old origin asked n s
-  pub starts : Starts n w.input.old w.input.new w.input.before w.input.now w.out.old w.out.new
+  pub starts : Starts n s w.input.old w.input.new w.input.before w.input.now w.out.old w.out.new
 
 -- over an input and an output that tell: the whole input was taken, each of its lines is an item or has no words, the whole
 -- text of the meaning of its items was written, and the trace is that of the run on them
@@ -126,12 +130,28 @@ status_with n s seen = finish_status (run_finish (finish_of n (course_of n s see
 abbrev pub run_status : Network → Schedule → List ℕ → ℕ
 run_status n s rest = status_with n s (seen_of (width_of n) rest)
 
--- what is run is due to end with this status
-pub record IsRunStatus (w : World) (origin : Origin) (asked : Sched) (rest : List ℕ) (status : ℕ) : Type 0 where
+-- what is run is due to end with this status, which is that of a stop only where all picks of a file were made
+pub record IsRunStatus (w : World) (origin : Origin) (asked : Sched) (rest : List ℕ) (k : ℕ) : Type 0 where
   pub n : Network
   pub s : Schedule
   pub has : HasRun w.files.old origin asked n s
-  pub status_is : status ≡ run_status n s rest
+  pub status_is : k ≡ run_status n s rest
+  pub stops : k ≡ status.stopped → s ≡ schedule.Recorded (picks_of n s (seen_of (width_of n) rest).items)
+
+-- it was stopped: its picks are those of a file, which are all those of its run on the items that the stream gave, and at their end
+-- some process can still fire
+pub record StopsRun (w : World) (origin : Origin) (asked : Sched) : Type 0 where
+  pub n : Network
+  pub s : Schedule
+  pub has : HasRun w.files.old origin asked n s
+  pub name : List ℕ
+  pub by_file : asked ≡ sched.File name
+  pub stream : Seen
+  pub items : List (List ℤ)
+  pub close : Option Ending
+  pub gives : Gives (width_of n) w.input.old w.input.new w.input.before w.input.now stream items (closed_so close)
+  pub all_made : s ≡ schedule.Recorded (picks_of n s items)
+  pub still : goes_on n (course_of n s items) ≡ true
 
 -- it is run on the input under the schedule, and its trace is written where a file is named for it
 abbrev pub run_behavior : Running → Behavior
@@ -192,16 +212,16 @@ pub record IsRunOver (n : Network) (files : Change Held) (input out : Change (Li
   pub finishes : Finishes n s keeping input.old input.new input.before input.now out.old out.new ran
   pub out_calm : IsCalm out
 
--- by when the file of its trace could not be written
+-- the file of its trace could not be written, when it was over
 abbrev pub IsUnsavedRun : Network → Change Held → Change (List ℕ) → Change (List ℕ) → Sched → Option (List ℕ) → Type 0
 IsUnsavedRun n files input out asked None = ⊥
-IsUnsavedRun n files input out asked (Some name) = IsRunOver n files input out asked × HasRisen files
+IsUnsavedRun n files input out asked (Some name) = IsRunOver n files input out asked × HasFailed files name
 
 -- or a front of the text of its meaning was written
 pub record IsRunSome (n : Network) (files : Change Held) (input out : Change (List ℕ)) (asked : Sched) : Type 0 where
   pub s : Schedule
   pub schedule : HasSchedule files.old (size_of n) asked s
-  pub starts : Starts n input.old input.new input.before input.now out.old out.new
+  pub starts : Starts n s input.old input.new input.before input.now out.old out.new
   pub files_calm : IsCalm files
 
 -- or nothing was touched

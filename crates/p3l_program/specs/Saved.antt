@@ -1,5 +1,5 @@
 -- Files that a command writes.
-use Rattle.std.specs.Prelude.{◌≡◌, ◌≢◌, ℕ, List, [], ◌∷◌, map, Option, Some, None, Result, Ok, Err}
+use Rattle.std.specs.Prelude.{◌≡◌, ◌≢◌, ℕ, List, [], ◌∷◌, ◌⊎◌, map, Option, Some, None, Result, Ok, Err}
 use Rattle.p3l_io.specs.Told.{Held}
 use Rattle.p3l_report.specs.declared.stats.Stats.{Stats}
 use Rattle.p3l_report.specs.declared.verdict.Finish.{Finish}
@@ -10,12 +10,23 @@ use Rattle.p3l_program.specs.Behavior.{Behavior}
 use Rattle.p3l_program.specs.Due.{IsDueWith}
 use Rattle.p3l_program.specs.Stage.{Stage}
 use Rattle.p3l_program.specs.Text.{BeginsText, EndsText, IsNothing, WritesWhole}
-use Rattle.p3l_program.specs.World.{Change, HasRisen, IsCalm, IsStill, World, world}
+use Rattle.p3l_program.specs.World.{Change, HasFailed, IsCalm, IsStill, World, world}
 
 -- a name is none of these
 abbrev pub IsOther : List ℕ → List (List ℕ) → Type 0
 IsOther other [] = Unit {0}
 IsOther other (name ∷ names) = (other ≢ name) × IsOther other names
+
+-- a name is one of these
+abbrev pub IsOneOf : List ℕ → List (List ℕ) → Type 0
+IsOneOf name [] = ⊥
+IsOneOf name (other ∷ names) = (name ≡ other) ⊎ IsOneOf name names
+
+-- the latest call that failed was that of a file of one of these names
+pub record HasOneFailed (files : Change Held) (names : List (List ℕ)) : Type 0 where
+  pub name : List ℕ
+  pub one : IsOneOf name names
+  pub failed : HasFailed files name
 
 -- each file but those of these names has what it had
 abbrev pub HoldsBut : Held → Option Held → List (List ℕ) → Type 0
@@ -43,7 +54,7 @@ IsSaved files name bytes = (held : Held) → files.old ≡ Some held → Stands 
 -- how the writing of a file ends
 abbrev pub SaveCause : Change Held → List ℕ → List ℕ → Result (Unit {0}) Verdict → Type 0
 SaveCause files name bytes (Ok done) = IsSaved files name bytes × IsCalm files
-SaveCause files name bytes (Err verdict.WriteFault) = HasRisen files
+SaveCause files name bytes (Err verdict.WriteFault) = HasFailed files name
 SaveCause files name bytes (Err verdict.NoMemory) = IsCalm files
 SaveCause files name bytes (Err v) = ⊥
 
@@ -63,7 +74,7 @@ names_of saves = map (λ save. save.0) saves
 -- how the writing of several files ends
 abbrev pub SavesCause : Change Held → List (List ℕ × List ℕ) → Result (Unit {0}) Verdict → Type 0
 SavesCause files saves (Ok done) = AreSaved files saves × IsCalm files
-SavesCause files saves (Err verdict.WriteFault) = (saves ≢ []) × HasRisen files
+SavesCause files saves (Err verdict.WriteFault) = (saves ≢ []) × HasOneFailed files (names_of saves)
 SavesCause files saves (Err verdict.NoMemory) = IsCalm files
 SavesCause files saves (Err v) = ⊥
 
@@ -106,7 +117,7 @@ saving_behavior stages IsText name IsBytes = record {
   run = None;
   Ends = λ w finish stats. EndsSaving w (IsText w.files.old) name (IsBytes w.files.old) finish stats;
   Begins = λ w. BeginsText w (IsText w.files.old);
-  Unsaved = λ w. IsStill w.out;
+  Unsaved = λ w. IsStill w.out × HasFailed w.files name;
   Touches = λ w. Unit {0};
   IsWhole = λ w rest taken. SavesWhole w (IsText w.files.old) name (IsBytes w.files.old) rest taken;
   IsStatusDue = λ w rest n. n ≡ status.done;
@@ -117,7 +128,7 @@ saving_behavior stages IsText name IsBytes = record {
 abbrev pub IsSavingDue : Change Held → Change (List ℕ) → List Stage → (List ℕ → Type 0) → List ℕ → (List ℕ → Type 0) → Verdict → Type 0
 IsSavingDue files out stages IsText name IsBytes v =
     (input : Change (List ℕ)) → IsStill input →
-    IsDueWith (world files input out) stages (EndsSaving (world files input out) IsText name IsBytes) (BeginsText (world files input out) IsText) (IsStill out) v
+    IsDueWith (world files input out) stages (EndsSaving (world files input out) IsText name IsBytes) (BeginsText (world files input out) IsText) (IsStill out × HasFailed files name) v
 
 -- a verdict is due of a command with these stages that writes such a file alone, and lets the input
 -- and the output alone

@@ -23,7 +23,7 @@ use Rattle.p3l_program.specs.Image.{HasBytes, IsBrokenImage, IsImage, IsNoImage,
 use Rattle.p3l_program.specs.Origin.{Origin, built, imaged}
 use Rattle.p3l_program.specs.Scheduled.{HasNoPicks, HasPicks, picks_limit}
 use Rattle.p3l_program.specs.TraceFile.{HasNoTrace, HasTrace}
-use Rattle.p3l_program.specs.World.{Change, HasRisen, IsCalm}
+use Rattle.p3l_program.specs.World.{Change, HasFailed, IsCalm}
 
 -- the file of this name can be read, within its limit; its text spells a program; the program keeps all rules; the file of the second
 -- name says costs of it; some counts fit the processors; the bytes of the file spell an image; the image can be run; it can be run once its net is linked anew; the file of this
@@ -65,7 +65,7 @@ Passes files (text_fitting text said processors) = (r : ResolvedTree) × (cs : C
 
 -- the stage refuses so
 abbrev pub Refuses : Change Held → Stage → Refusal → Type 0
-Refuses files (readable limit name) (refusal.FileFault named) = (named ≡ name) × HasRisen files
+Refuses files (readable limit name) (refusal.FileFault named) = (named ≡ name) × HasFailed files name
 Refuses files (readable limit name) (refusal.FileTooLong named) = (named ≡ name) × IsTooLong files.old limit name
 Refuses files (spelled name) (refusal.Source fault pos) = HasFault files.old name fault pos
 Refuses files (resolved name) (refusal.Source fault pos) = HasNoTree files.old name fault pos
@@ -93,9 +93,10 @@ abbrev pub IsRefusedBy : Change Held → List Stage → Refusal → Type 0
 IsRefusedBy files [] refused = ⊥
 IsRefusedBy files (stage ∷ stages) refused = Refuses files stage refused ⊎ (Passes files stage × IsRefusedBy files stages refused)
 
--- how the count of faults of the files goes with a refusal: only a fault of reading raises it
+-- how the count of faults of the files goes with a refusal: only a fault of reading raises it, and the file that is named is that
+-- whose reading failed
 abbrev pub FilesCause : Refusal → Change Held → Type 0
-FilesCause (refusal.FileFault name) files = HasRisen files
+FilesCause (refusal.FileFault name) files = HasFailed files name
 FilesCause refused files = IsCalm files
 
 -- a program is read, and keeps all rules

@@ -7,7 +7,7 @@ use Rattle.p3l_run.specs.declared.end.RunStats.{RunStats}
 use Rattle.p3l_report.specs.declared.verdict.Refusal.{Refusal}
 use Rattle.p3l_report.specs.Status as status
 use Rattle.p3l_report.specs.Verdict.{refusal_status}
-use Rattle.p3l_program.specs.Answer.{Answers, BeginsWork, HasTooLong, IsDone, IsEndedWith, IsRefusedAt, IsRefusedWith, KeepsOthers, Reports, SpellsNone, SpellsWriter}
+use Rattle.p3l_program.specs.Answer.{Answers, BeginsWork, HasTooLong, IsDone, IsEndedWith, IsRefusedAt, IsRefusedWith, IsStopped, IsUnwritten, KeepsOthers, Reports, SpellsNone, SpellsWriter}
 use Rattle.p3l_program.specs.Command.{IsStatusDue, run_of, stages_of}
 use Rattle.p3l_program.specs.Origin.{Running}
 use Rattle.p3l_program.specs.Run.{Emits}
@@ -23,8 +23,9 @@ pub record Promises (words : List Text) (w : World) (err : Change (List ℕ)) (k
   -- How it ended: with this status, why, what was written, and the lines on the standard error.
   pub answers : Answers words w err k
   -- What is written begins what the command that the words spell writes: of `run` and `exec` the text
-  -- of the program's meaning on the items read, of `fmt` the canonical text of the program, of `gen`
-  -- the line of the run of the texts that its number gives.
+  -- of the program's meaning on the items read, and no more than the network emits under the schedule,
+  -- of `fmt` the canonical text of the program, of `gen` the line of the run of the texts that its
+  -- number gives.
   pub begins : IsUntouched w ⊎ BeginsWork words w
   -- With status 0 it is the whole, and `run` and `exec` read their input to the end.
   pub done : WhenTold w (λ held rest taken. k ≡ status.done → IsDone words w rest taken)
@@ -58,9 +59,14 @@ pub record Promises (words : List Text) (w : World) (err : Change (List ℕ)) (k
   -- agrees with this same run.
   pub recorded : (command : Command) (run : Running) → Spells words command → run_of command ≡ Some run →
       status.is_end k ≡ true → (numbers : RunStats) × Emits w run.origin run.schedule run.trace numbers
-  -- A fault is answered only where the count of the object rose in this call.
+  -- With 1 a run made all picks of a file, and some process could still fire: under a schedule by turns
+  -- or by a seed none ends so, nor does any other command.
+  pub stopped : k ≡ status.stopped → IsStopped words w
+  -- A fault is answered only where the count of the object rose in this call: 10 where that of the
+  -- output did, or where the writing of a file failed that the command writes. A fault of reading names
+  -- the file whose reading failed, which `answers` and `refused` say.
   pub read_fault : k ≡ status.read → HasRisen w.input
-  pub write_fault : k ≡ status.write → HasRisen w.out ⊎ (SpellsWriter words × HasRisen w.files)
+  pub write_fault : k ≡ status.write → HasRisen w.out ⊎ IsUnwritten words w.files
   -- No failure is dropped: of a file that is read it gives 9, and of one that is written 10.
   pub out_failed : w.out.before < w.out.now → Gives k status.write
   pub files_failed : w.files.before < w.files.now →

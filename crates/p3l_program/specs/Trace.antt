@@ -1,5 +1,5 @@
 -- The command `check-trace`: a trace of a file, checked against the run of a program on the input.
-use Rattle.std.specs.Prelude.{◌≡◌, ◌≢◌, ℕ, List, ◌++◌, [], ◌∷◌, ◌⊎◌, Option, Some, None, codes}
+use Rattle.std.specs.Prelude.{◌≡◌, ◌≢◌, ℕ, ℤ, Bool, false, nat_le, List, ◌++◌, [], ◌∷◌, length, ◌⊎◌, Option, Some, None, codes, if◌then◌else◌}
 use Rattle.std.specs.Fmt.{decimal}
 use Rattle.p3l_io.specs.Told.{Held}
 use Rattle.p3l_opts.specs.declared.command.Build.{Build}
@@ -13,7 +13,7 @@ use Rattle.p3l_report.specs.declared.verdict.Verdict.{Verdict}
 use Rattle.p3l_report.specs.declared.verdict.Verdict.TheVariants as verdict
 use Rattle.p3l_report.specs.Status as status
 use Rattle.p3l_report.specs.Verdict.{ending_status}
-use Rattle.p3l_retrace.specs.Retraced.{AgreesOn, DiffersOn}
+use Rattle.p3l_retrace.specs.Retraced.{AgreesOn, DiffersOn, sent_before_last}
 use Rattle.p3l_run.specs.Network.{Network, width_of}
 use Rattle.p3l_run.specs.Write.{HasBegun, HasPut}
 use Rattle.p3l_stream.specs.declared.items.Ending.{Ending}
@@ -21,7 +21,7 @@ use Rattle.p3l_stream.specs.declared.items.Ending.TheVariants as ending
 use Rattle.p3l_stream.specs.declared.items.Items.{Items}
 use Rattle.p3l_stream.specs.Items.{items_of}
 use Rattle.p3l_trace.specs.declared.trace.Traced.{Traced}
-use Rattle.p3l_trace.specs.Agreement.{Agrees, DiffersAt}
+use Rattle.p3l_trace.specs.Agreement.{Agrees, DiffersAt, picks_of}
 use Rattle.p3l_program.specs.Behavior.{Behavior}
 use Rattle.p3l_program.specs.Due.{IsDueWith}
 use Rattle.p3l_program.specs.Plan.{HasNetwork}
@@ -102,11 +102,21 @@ pub record ChecksWhole (w : World) (build : Build) (name rest taken : List ℕ) 
   pub agrees : Agrees n.tree n.leaf n.net (items_of (width_of n) rest).items t
   pub taken_is : w.out.new ≡ Some (taken ++ holds_line t)
 
+-- whether a stream of these items ends that is asked before each of these picks where the inbox is empty, and at no other time: all
+-- items were sent before the last of the picks
+abbrev pub comes_to_end : Network → List (List ℤ) → List ℕ → Bool
+comes_to_end n items [] = false
+comes_to_end n items (p ∷ picks) = nat_le (length items) (sent_before_last n items (p ∷ picks))
+
+-- the status of a check on what is seen of an input, where no line differs: how that ended, if the check came to its end
+abbrev pub agreed_status : Network → Traced → Items → ℕ
+agreed_status n t seen = if comes_to_end n seen.items (picks_of t.lines) then ending_status seen.ending else status.done
+
 -- the status of a check on what is seen of an input: that of evidence exactly where a line differs
 abbrev pub IsCheckStatus : Network → Traced → Items → ℕ → Type 0
 IsCheckStatus n t seen k =
     ((k ≡ status.evidence) × ((line : ℕ) × DiffersAt n.tree n.leaf n.net seen.items t line))
-    ⊎ (((k ≡ status.done) ⊎ (k ≡ ending_status seen.ending)) × Agrees n.tree n.leaf n.net seen.items t)
+    ⊎ ((k ≡ agreed_status n t seen) × Agrees n.tree n.leaf n.net seen.items t)
 
 -- the check is due to end with this status
 pub record IsTraceStatus (w : World) (build : Build) (name rest : List ℕ) (k : ℕ) : Type 0 where

@@ -1,8 +1,6 @@
 -- Files of traces.
-use Rattle.std.specs.Prelude.{◌≡◌, ◌≢◌, ℕ, List, true, Err, Option}
-use Rattle.p3l_format.specs.declared.fault.Fault.{Fault}
-use Rattle.p3l_format.specs.Format.{read_all}
-use Rattle.p3l_format.specs.Line.{line_number}
+use Rattle.std.specs.Prelude.{◌≡◌, ◌≢◌, ℕ, List, true, Option}
+use Rattle.p3l_format.specs.FirstLine.{IsFirstBadLine}
 use Rattle.p3l_io.specs.Told.{Held}
 use Rattle.p3l_trace.specs.declared.trace.Traced.{Traced}
 use Rattle.p3l_trace.specs.Text.{trace_format}
@@ -21,9 +19,7 @@ pub record HasTrace (files : Option Held) (name : List ℕ) (traced : Traced) : 
 
 -- a text spells no trace, and the line of this number is the first that isn't of its form
 pub record SpellsNoTrace (text : List ℕ) (line : ℕ) : Type 0 where
-  pub fault : Fault
-  pub read : read_all trace_format text ≡ Err fault
-  pub line_is : line ≡ line_number text fault.left
+  pub first : IsFirstBadLine trace_format text line
   pub no_trace : (traced : Traced) → trace_format.fits traced ≡ true → text ≢ trace_format.spell traced
 
 -- so does the text of the file of this name

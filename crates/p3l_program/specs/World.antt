@@ -1,18 +1,24 @@
 -- What a command works on, before and after it.
-use Rattle.std.specs.Prelude.{◌≡◌, ℕ, List, Option, Some}
+use Rattle.std.specs.Prelude.{◌≡◌, ℕ, List, Option, Some, None}
 use Rattle.p3l_io.specs.Causes.{Rose}
 use Rattle.p3l_io.specs.Told.{Held}
 
--- an object of the outside before and after a call: what it tells, if it does, and its count of faults
+-- an object of the outside before and after a call: what it tells, if it does, and its count of faults; and of files, the name of the
+-- one whose call failed last
 pub record Change (X : Type 0) : Type 0 where
   pub old : Option X
   pub new : Option X
   pub before : ℕ
   pub now : ℕ
+  pub failed : Option (List ℕ)
 
 -- an object of some type before and after a call, by what such objects tell and count
 abbrev pub change : {T X : Type 0} → (T → Option X) → (T → ℕ) → T → T → Change X
-change told faults old new = record { old = told old; new = told new; before = faults old; now = faults new }
+change told faults old new = record { old = told old; new = told new; before = faults old; now = faults new; failed = None }
+
+-- files before and after a call
+abbrev pub files_change : {T : Type 0} → (T → Option Held) → (T → ℕ) → (T → Option (List ℕ)) → T → T → Change Held
+files_change held faults failed old new = record { old = held old; new = held new; before = faults old; now = faults new; failed = failed new }
 
 -- the files, the input and the output
 pub record World : Type 0 where
@@ -26,6 +32,10 @@ world files input out = record { files = files; input = input; out = out }
 -- the count of faults rose
 abbrev pub HasRisen : {X : Type 0} → Change X → Type 0
 HasRisen change = Rose change.before change.now
+
+-- a call on the file of this name failed, and none after it
+abbrev pub HasFailed : Change Held → (name : List ℕ) → Type 0
+HasFailed files name = HasRisen files × (files.failed ≡ Some name)
 
 -- it is what it was
 abbrev pub IsCalm : {X : Type 0} → Change X → Type 0

@@ -2,7 +2,7 @@
 
 ghost use Rattle.p3l_program.specs.Alike.{EveryImageHasItsProgramsNetwork, EveryImageRunsAsItsProgram};
 
-use p3l_bodies::resolved_serve;
+use p3l_body_laws::resolved_serve;
 use p3l_image::coding::image_begins_no_other;
 
 /// An image that was made of a program, and is no longer than images may be, has the network of the

@@ -7,7 +7,7 @@ ghost use Rattle.p3l_program.specs.Certified.{claim_of};
 ghost use Rattle.p3l_program.specs.Load.{IsNotLoaded};
 ghost use Rattle.p3l_program.specs.LoadCert.{AcceptsCert, IsCertRefused, IsCertless, LoadsCert, LoadsVerified, cert_verdict};
 ghost use Rattle.p3l_program.specs.Stage.{verify_stages};
-ghost use Rattle.p3l_program.specs.World.{change};
+ghost use Rattle.p3l_program.specs.World.{files_change};
 
 use crate::file::find_text;
 use crate::plan::{load_costs, load_program};
@@ -87,7 +87,8 @@ fn cert_in<F: Files>(
     requires costs { AreCostsOf tree.now costs.now }
     ensures loaded { IfOk result (LoadsCert (F.held files.old) name tree.now costs.now) }
     ensures calm { OnOk result (F.faults files.new ≡ F.faults files.old) }
-    ensures refused { IfErr result (IsCertless (change F.held F.faults files.old files.new)
+    ensures refused { IfErr result (IsCertless
+        (files_change F.held F.faults F.failed files.old files.new)
         name tree.now costs.now) }
     ensures stays { F.held files.new ≡ F.held files.old }
 {
@@ -111,7 +112,8 @@ pub fn load_cert<F: Files>(
 ) -> Result<Cert, Verdict>
     ensures loaded { IfOk result (LoadsVerified (F.held files.old) program costs name) }
     ensures calm { OnOk result (F.faults files.new ≡ F.faults files.old) }
-    ensures refused { IfErr result (IsNotLoaded (change F.held F.faults files.old files.new)
+    ensures refused { IfErr result (IsNotLoaded
+        (files_change F.held F.faults F.failed files.old files.new)
         (verify_stages program name costs)) }
     ensures stays { F.held files.new ≡ F.held files.old }
 {

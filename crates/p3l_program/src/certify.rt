@@ -5,7 +5,7 @@ ghost use Rattle.p3l_program.specs.Certificate.{IsCertificate};
 ghost use Rattle.p3l_program.specs.Explain.{IsExplained};
 ghost use Rattle.p3l_program.specs.Saved.{IsSavingDue, KeepsFiles};
 ghost use Rattle.p3l_program.specs.Stage.{build_stages};
-ghost use Rattle.p3l_program.specs.World.{change};
+ghost use Rattle.p3l_program.specs.World.{change, files_change};
 
 use crate::plan::{Allotted, allot};
 use crate::save::save;
@@ -28,11 +28,12 @@ pub fn certify<F: Files, K: Sink>(
     out: &mut K,
 ) -> Verdict
     requires processors { (1 ≤ build.processors) × (build.processors ≤ 512) }
-    ensures due { IsSavingDue (change F.held F.faults files.old files.new)
+    ensures due { IsSavingDue (files_change F.held F.faults F.failed files.old files.new)
         (change K.taken K.faults out.old out.new) (build_stages build)
         (IsExplained (F.held files.old) build) name (IsCertificate (F.held files.old) build)
         result }
-    ensures kept { KeepsFiles (change F.held F.faults files.old files.new) (name ∷ []) result }
+    ensures kept { KeepsFiles
+        (files_change F.held F.faults F.failed files.old files.new) (name ∷ []) result }
 {
     let processors = build.processors;
     let Allotted {

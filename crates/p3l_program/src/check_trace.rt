@@ -8,7 +8,7 @@ ghost use Rattle.p3l_program.specs.LoadImage.{IsReadyImage};
 ghost use Rattle.p3l_program.specs.Plan.{network_in};
 ghost use Rattle.p3l_program.specs.Trace.{IsAgreed, IsCheckDue, IsCheckOf, IsUntraced, holds_line};
 ghost use Rattle.p3l_program.specs.TraceFile.{HasTrace};
-ghost use Rattle.p3l_program.specs.World.{change, world};
+ghost use Rattle.p3l_program.specs.World.{change, files_change, world};
 
 use crate::file::find_text;
 use crate::plan::{load_network, plan_of};
@@ -34,7 +34,8 @@ pub const TRACE_LIMIT: u64 = 268_435_456;
 fn load_trace<F: Files>(alloc: Global, name: Name, files: &mut F) -> Result<Traced, Verdict>
     ensures found { IfOk result (HasTrace (F.held files.old) name) }
     ensures calm { OnOk result (F.faults files.new ≡ F.faults files.old) }
-    ensures refused { IfErr result (IsUntraced (change F.held F.faults files.old files.new) name) }
+    ensures refused { IfErr result (IsUntraced
+        (files_change F.held F.faults F.failed files.old files.new) name) }
     ensures stays { F.held files.new ≡ F.held files.old }
 {
     match find_text(alloc, name, TRACE_LIMIT, files) {
@@ -89,7 +90,8 @@ fn check_plan<U: Units, F: Files, S: Source, K: Sink>(
     requires fits { plan.firings * most_of_input < 2 ^ 63 }
     ensures checked { IsCheckOf (network plan.entry.tree.now (U.leaf plan.entry.units.now)
         plan.entry.net plan.entry.firings)
-        (change F.held F.faults files.old files.new) (change S.rest S.faults input.old input.new)
+        (files_change F.held F.faults F.failed files.old files.new)
+        (change S.rest S.faults input.old input.new)
         (change K.taken K.faults out.old out.new) name result }
     ensures stays { F.held files.new ≡ F.held files.old }
 {
@@ -114,7 +116,8 @@ fn check_network<F: Files, S: Source, K: Sink>(
     out: &mut K,
 ) -> Verdict
     requires ready { IsReadyImage loaded }
-    ensures checked { IsCheckOf (network_in loaded) (change F.held F.faults files.old files.new)
+    ensures checked { IsCheckOf (network_in loaded)
+        (files_change F.held F.faults F.failed files.old files.new)
         (change S.rest S.faults input.old input.new) (change K.taken K.faults out.old out.new)
         name result }
     ensures stays { F.held files.new ≡ F.held files.old }
@@ -145,7 +148,7 @@ pub fn check_trace<F: Files, S: Source, K: Sink>(
 ) -> Verdict
     requires processors { (1 ≤ build.processors) × (build.processors ≤ 512) }
     requires capacity { (1 ≤ build.capacity) × (build.capacity ≤ 1024) }
-    ensures due { IsCheckDue (world (change F.held F.faults files.old files.new)
+    ensures due { IsCheckDue (world (files_change F.held F.faults F.failed files.old files.new)
         (change S.rest S.faults input.old input.new) (change K.taken K.faults out.old out.new))
         build name result }
     ensures stays { F.held files.new ≡ F.held files.old }

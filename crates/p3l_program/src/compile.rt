@@ -4,13 +4,13 @@ ghost use Rattle.std.specs.Prelude.{◌≡◌, ◌∷◌, ◌≤◌, []};
 ghost use Rattle.p3l_program.specs.Compile.{IsImageOf};
 ghost use Rattle.p3l_program.specs.Saved.{IsFileDue, KeepsFiles};
 ghost use Rattle.p3l_program.specs.Stage.{build_stages};
-ghost use Rattle.p3l_program.specs.World.{change};
+ghost use Rattle.p3l_program.specs.World.{files_change};
 
 use crate::plan::{Accepted, Allotted, allot};
 use crate::save::save;
 use p3l_base::Name;
-use p3l_compiled::image_text;
 use p3l_io::Files;
+use p3l_load::image_text;
 use p3l_opts::Build;
 use p3l_report::{Finish, Verdict};
 use std::alloc::Global;
@@ -20,9 +20,11 @@ use std::alloc::Global;
 pub fn compile<F: Files>(alloc: Global, build: Build, name: Name, files: &mut F) -> Verdict
     requires processors { (1 ≤ build.processors) × (build.processors ≤ 512) }
     requires capacity { (1 ≤ build.capacity) × (build.capacity ≤ 1024) }
-    ensures due { IsFileDue (change F.held F.faults files.old files.new) (build_stages build)
+    ensures due { IsFileDue
+        (files_change F.held F.faults F.failed files.old files.new) (build_stages build)
         name (IsImageOf (F.held files.old) build) result }
-    ensures kept { KeepsFiles (change F.held F.faults files.old files.new) (name ∷ []) result }
+    ensures kept { KeepsFiles
+        (files_change F.held F.faults F.failed files.old files.new) (name ∷ []) result }
 {
     let capacity = build.capacity;
     let Allotted {

@@ -5,7 +5,7 @@ ghost use Rattle.std.specs.Option.{option_to_list};
 ghost use Rattle.p3l_program.specs.Origin.{imaged};
 ghost use Rattle.p3l_program.specs.Run.{IsRunDue, RunsOver};
 ghost use Rattle.p3l_program.specs.Saved.{KeepsFiles};
-ghost use Rattle.p3l_program.specs.World.{change, world};
+ghost use Rattle.p3l_program.specs.World.{change, files_change, world};
 
 use crate::image::load_image;
 use crate::running::run_network;
@@ -27,13 +27,14 @@ pub fn exec<F: Files, S: Source, K: Sink>(
     input: &mut S,
     out: &mut K,
 ) -> Verdict
-    ensures due { IsRunDue (world (change F.held F.faults files.old files.new)
+    ensures due { IsRunDue (world (files_change F.held F.faults F.failed files.old files.new)
         (change S.rest S.faults input.old input.new) (change K.taken K.faults out.old out.new))
         (imaged name) asked trace reported result }
-    ensures kept { KeepsFiles (change F.held F.faults files.old files.new) (option_to_list trace)
+    ensures kept { KeepsFiles
+        (files_change F.held F.faults F.failed files.old files.new) (option_to_list trace)
         result }
     ensures over { (F.held files.new ≡ F.held files.old)
-        ⊎ RunsOver (world (change F.held F.faults files.old files.new)
+        ⊎ RunsOver (world (files_change F.held F.faults F.failed files.old files.new)
         (change S.rest S.faults input.old input.new) (change K.taken K.faults out.old out.new))
         (imaged name) asked }
 {

@@ -3,7 +3,7 @@
 ghost use Rattle.std.specs.Prelude.{◌≡◌, ◌≤◌, ◌<◌, ◌^◌, IfOk, IfErr, OnOk};
 ghost use Rattle.p3l_program.specs.File.{HasText};
 ghost use Rattle.p3l_program.specs.Load.{IsUnreadable, file_verdict};
-ghost use Rattle.p3l_program.specs.World.{change};
+ghost use Rattle.p3l_program.specs.World.{files_change};
 
 use p3l_base::{List, Name};
 use p3l_io::{FileFault, Files};
@@ -45,7 +45,8 @@ pub fn find_text<F: Files>(
     ensures found { IfOk result (λ text. HasText (F.held files.old) limit name text) }
     ensures calm { OnOk result (F.faults files.new ≡ F.faults files.old) }
     ensures refused { IfErr result (λ refusal.
-        IsUnreadable (change F.held F.faults files.old files.new) limit name refusal) }
+        IsUnreadable
+        (files_change F.held F.faults F.failed files.old files.new) limit name refusal) }
     ensures stays { F.held files.new ≡ F.held files.old }
 {
     match files.read(alloc, name.as_str(), limit) {

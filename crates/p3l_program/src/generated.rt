@@ -9,7 +9,7 @@ ghost use Rattle.p3l_program.specs.File.{text_limit};
 ghost use Rattle.p3l_program.specs.Generated.{AreNotLoaded, AreTextsOf, Gen, IsGenDue, IsGenRun, IsGenUnsaved, IsPicked, IsRanUnder, IsToldOf, LoadsTexts, comes_whole, due_at, gen_capacity, gen_of, numbers_text, saves_for, saves_with, summary_line};
 ghost use Rattle.p3l_program.specs.Load.{IsReady};
 ghost use Rattle.p3l_program.specs.Saved.{HasSave, HasSaves};
-ghost use Rattle.p3l_program.specs.World.{change};
+ghost use Rattle.p3l_program.specs.World.{change, files_change};
 
 use crate::memory::{NoSink, TextSource};
 use crate::plan::{Accepted, Allotted, accept, cost_verdict, plan_of};
@@ -53,7 +53,7 @@ fn save_as<F: Files>(
     text: &[u8],
     files: &mut F,
 ) -> Result<(), Verdict>
-    ensures { HasSave (change F.held F.faults files.old files.new) (prefix.now
+    ensures { HasSave (files_change F.held F.faults F.failed files.old files.new) (prefix.now
         ++ suffix.now) text.now result }
 {
     match name_with(alloc, prefix, suffix) {
@@ -69,7 +69,7 @@ fn save_texts<F: Files>(
     texts: &Generated,
     files: &mut F,
 ) -> Result<(), Verdict>
-    ensures { HasSaves (change F.held F.faults files.old files.new)
+    ensures { HasSaves (files_change F.held F.faults F.failed files.old files.new)
         (saves_for prefix.now texts.now.program texts.now.costs texts.now.stream) result }
 {
     save_as(alloc, prefix, ".p3l", texts.program.as_slice(), files)?;
@@ -84,7 +84,7 @@ fn save_where<F: Files>(
     texts: &Generated,
     files: &mut F,
 ) -> Result<(), Verdict>
-    ensures { HasSaves (change F.held F.faults files.old files.new)
+    ensures { HasSaves (files_change F.held F.faults F.failed files.old files.new)
         (saves_with prefix texts.now.program texts.now.costs texts.now.stream) result }
 {
     match prefix {
@@ -286,10 +286,10 @@ pub fn run_generated<F: Files, K: Sink>(
     requires processors { (1 ≤ processors) × (processors ≤ 512) }
     requires items { items ≤ 100000 }
     requires made { IsMade asked }
-    ensures due { IsGenDue (change F.held F.faults files.old files.new)
+    ensures due { IsGenDue (files_change F.held F.faults F.failed files.old files.new)
         (change K.taken K.faults out.old out.new) (gen_of number processors items asked prefix)
         result
-        ⊎ IsGenUnsaved (change F.held F.faults files.old files.new)
+        ⊎ IsGenUnsaved (files_change F.held F.faults F.failed files.old files.new)
         (change K.taken K.faults out.old out.new) (gen_of number processors items asked prefix)
         result }
 {

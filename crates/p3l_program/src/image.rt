@@ -7,7 +7,7 @@ ghost use Rattle.p3l_program.specs.Origin.{imaged};
 ghost use Rattle.p3l_program.specs.Plan.{network_in};
 ghost use Rattle.p3l_program.specs.Migrate.{Migrates};
 ghost use Rattle.p3l_program.specs.Stage.{image_stages, migrate_stages};
-ghost use Rattle.p3l_program.specs.World.{change};
+ghost use Rattle.p3l_program.specs.World.{files_change};
 
 use crate::file::find_text;
 use p3l_base::Name;
@@ -54,7 +54,8 @@ pub fn load_image<F: Files>(alloc: Global, name: Name, files: &mut F) -> Result<
         (network_in loaded)) }
     ensures ready { IfOk result IsReadyImage }
     ensures calm { OnOk result (F.faults files.new ≡ F.faults files.old) }
-    ensures refused { IfErr result (IsNotLoaded (change F.held F.faults files.old files.new)
+    ensures refused { IfErr result (IsNotLoaded
+        (files_change F.held F.faults F.failed files.old files.new)
         (image_stages name)) }
     ensures stays { F.held files.new ≡ F.held files.old }
 {
@@ -77,7 +78,8 @@ pub fn load_image<F: Files>(alloc: Global, name: Name, files: &mut F) -> Result<
 pub fn migrate_image<F: Files>(alloc: Global, name: Name, files: &mut F) -> Result<Image, Verdict>
     ensures migrated { IfOk result (Migrates (F.held files.old) name) }
     ensures calm { OnOk result (F.faults files.new ≡ F.faults files.old) }
-    ensures refused { IfErr result (IsNotLoaded (change F.held F.faults files.old files.new)
+    ensures refused { IfErr result (IsNotLoaded
+        (files_change F.held F.faults F.failed files.old files.new)
         (migrate_stages name)) }
     ensures stays { F.held files.new ≡ F.held files.old }
 {

@@ -4,24 +4,26 @@ ghost use Rattle.std.specs.Prelude.{◌≡◌, ◌∷◌, []};
 ghost use Rattle.p3l_program.specs.Migrate.{IsMigrated};
 ghost use Rattle.p3l_program.specs.Saved.{IsFileDue, KeepsFiles};
 ghost use Rattle.p3l_program.specs.Stage.{migrate_stages};
-ghost use Rattle.p3l_program.specs.World.{change};
+ghost use Rattle.p3l_program.specs.World.{files_change};
 
 use crate::image::migrate_image;
 use crate::save::save;
 use p3l_base::Name;
 use p3l_image::encode;
-use p3l_image_laws::laws::every_migrated_image_can_be_written;
 use p3l_io::Files;
+use p3l_load::laws::every_migrated_image_can_be_written;
 use p3l_report::{Finish, Verdict};
 use std::alloc::Global;
 
 /// Writes the image of a file in the newest version, with its net linked anew, to the file of another
 /// name.
 pub fn migrate<F: Files>(alloc: Global, name: Name, output: Name, files: &mut F) -> Verdict
-    ensures due { IsFileDue (change F.held F.faults files.old files.new) (migrate_stages name)
+    ensures due { IsFileDue
+        (files_change F.held F.faults F.failed files.old files.new) (migrate_stages name)
         output
         (IsMigrated (F.held files.old) name) result }
-    ensures kept { KeepsFiles (change F.held F.faults files.old files.new) (output ∷ []) result }
+    ensures kept { KeepsFiles
+        (files_change F.held F.faults F.failed files.old files.new) (output ∷ []) result }
 {
     every_migrated_image_can_be_written();
     let image = match migrate_image(alloc, name, files) {

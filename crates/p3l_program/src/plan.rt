@@ -15,13 +15,13 @@ ghost use Rattle.p3l_program.specs.LoadImage.{IsReadyImage};
 ghost use Rattle.p3l_program.specs.Origin.{built};
 ghost use Rattle.p3l_program.specs.Plan.{IsCompiled, IsTextRefused, network_in, network_of};
 ghost use Rattle.p3l_program.specs.Stage.{build_stages, program_stages};
-ghost use Rattle.p3l_program.specs.World.{change};
+ghost use Rattle.p3l_program.specs.World.{files_change};
 
 use crate::file::{TEXT_LIMIT, find_text};
 use p3l_alloc::{AllocRefusal, Choice, choose};
 use p3l_ast::SourceRefusal;
 use p3l_base::{List, Name, NoMemory};
-use p3l_bodies::resolved_serve;
+use p3l_body_laws::resolved_serve;
 use p3l_check::resolve;
 use p3l_code::SafeCode;
 use p3l_compile::codes_of;
@@ -65,7 +65,8 @@ pub fn accept(alloc: Global, text: &[u8]) -> Result<Accepted, SourceRefusal>
 pub fn load_program<F: Files>(alloc: Global, name: Name, files: &mut F) -> Result<Accepted, Verdict>
     ensures loaded { IfOk result (LoadsProgram (F.held files.old) name) }
     ensures calm { OnOk result (F.faults files.new ≡ F.faults files.old) }
-    ensures refused { IfErr result (IsNotLoaded (change F.held F.faults files.old files.new)
+    ensures refused { IfErr result (IsNotLoaded
+        (files_change F.held F.faults F.failed files.old files.new)
         (program_stages name)) }
     ensures stays { F.held files.new ≡ F.held files.old }
 {
@@ -104,7 +105,8 @@ fn costs_in<F: Files>(
     requires lawful { IsLawfulTree tree.now }
     ensures loaded { IfOk result (LoadsCosts (F.held files.old) (Some name) tree.now) }
     ensures calm { OnOk result (F.faults files.new ≡ F.faults files.old) }
-    ensures refused { IfErr result (IsCostless (change F.held F.faults files.old files.new)
+    ensures refused { IfErr result (IsCostless
+        (files_change F.held F.faults F.failed files.old files.new)
         (Some name) tree.now) }
     ensures stays { F.held files.new ≡ F.held files.old }
 {
@@ -127,7 +129,8 @@ pub fn load_costs<F: Files>(
     requires lawful { IsLawfulTree tree.now }
     ensures loaded { IfOk result (LoadsCosts (F.held files.old) name tree.now) }
     ensures calm { OnOk result (F.faults files.new ≡ F.faults files.old) }
-    ensures refused { IfErr result (IsCostless (change F.held F.faults files.old files.new)
+    ensures refused { IfErr result (IsCostless
+        (files_change F.held F.faults F.failed files.old files.new)
         name tree.now) }
     ensures stays { F.held files.new ≡ F.held files.old }
 {
@@ -154,7 +157,8 @@ pub fn allot<F: Files>(alloc: Global, build: Build, files: &mut F) -> Result<All
     requires few { build.processors ≤ 512 }
     ensures loaded { IfOk result (Loads (F.held files.old) build) }
     ensures calm { OnOk result (F.faults files.new ≡ F.faults files.old) }
-    ensures refused { IfErr result (IsNotLoaded (change F.held F.faults files.old files.new)
+    ensures refused { IfErr result (IsNotLoaded
+        (files_change F.held F.faults F.failed files.old files.new)
         (build_stages build)) }
     ensures stays { F.held files.new ≡ F.held files.old }
 {
@@ -214,7 +218,8 @@ pub fn load_network<F: Files>(alloc: Global, build: Build, files: &mut F) -> Res
         (network_in loaded)) }
     ensures ready { IfOk result IsReadyImage }
     ensures calm { OnOk result (F.faults files.new ≡ F.faults files.old) }
-    ensures refused { IfErr result (IsNotLoaded (change F.held F.faults files.old files.new)
+    ensures refused { IfErr result (IsNotLoaded
+        (files_change F.held F.faults F.failed files.old files.new)
         (build_stages build)) }
     ensures stays { F.held files.new ≡ F.held files.old }
 {

@@ -4,7 +4,7 @@ ghost use Rattle.std.specs.Prelude.{◌≡◌, true, OnOk};
 ghost use Rattle.p3l_trace.specs.Text.{trace_format};
 ghost use Rattle.p3l_program.specs.Recorded.{IsRecording};
 ghost use Rattle.p3l_program.specs.Saved.{HasSave};
-ghost use Rattle.p3l_program.specs.World.{change};
+ghost use Rattle.p3l_program.specs.World.{files_change};
 
 use crate::save::save;
 use p3l_base::{List, Name};
@@ -21,7 +21,7 @@ fn save_trace<F: Files>(
     traced: &Traced,
     files: &mut F,
 ) -> Result<(), Verdict>
-    ensures saved { HasSave (change F.held F.faults files.old files.new)
+    ensures saved { HasSave (files_change F.held F.faults F.failed files.old files.new)
         name.now (trace_format.spell traced.now) result }
     ensures fits { OnOk result (trace_format.fits traced.now ≡ true) }
 {
@@ -40,7 +40,7 @@ pub fn record<F: Files>(
     stats: &RunStats,
     files: &mut F,
 ) -> Result<(), Verdict>
-    ensures { IsRecording (change F.held F.faults files.old files.new)
+    ensures { IsRecording (files_change F.held F.faults F.failed files.old files.new)
         trace lines stats.now result }
 {
     let Some(name) = trace else {

@@ -5,7 +5,7 @@ ghost use Rattle.std.specs.Option.{option_to_list};
 ghost use Rattle.p3l_program.specs.Origin.{built};
 ghost use Rattle.p3l_program.specs.Run.{IsRunDue, RunsOver};
 ghost use Rattle.p3l_program.specs.Saved.{KeepsFiles};
-ghost use Rattle.p3l_program.specs.World.{change, world};
+ghost use Rattle.p3l_program.specs.World.{change, files_change, world};
 
 use crate::plan::load_network;
 use crate::running::run_network;
@@ -29,13 +29,14 @@ pub fn run<F: Files, S: Source, K: Sink>(
 ) -> Verdict
     requires processors { (1 ≤ build.processors) × (build.processors ≤ 512) }
     requires capacity { (1 ≤ build.capacity) × (build.capacity ≤ 1024) }
-    ensures due { IsRunDue (world (change F.held F.faults files.old files.new)
+    ensures due { IsRunDue (world (files_change F.held F.faults F.failed files.old files.new)
         (change S.rest S.faults input.old input.new) (change K.taken K.faults out.old out.new))
         (built build) asked trace reported result }
-    ensures kept { KeepsFiles (change F.held F.faults files.old files.new) (option_to_list trace)
+    ensures kept { KeepsFiles
+        (files_change F.held F.faults F.failed files.old files.new) (option_to_list trace)
         result }
     ensures over { (F.held files.new ≡ F.held files.old)
-        ⊎ RunsOver (world (change F.held F.faults files.old files.new)
+        ⊎ RunsOver (world (files_change F.held F.faults F.failed files.old files.new)
         (change S.rest S.faults input.old input.new) (change K.taken K.faults out.old out.new))
         (built build) asked }
 {

@@ -8,7 +8,7 @@ ghost use Rattle.p3l_skel.specs.Tree.{node_at};
 ghost use Rattle.p3l_program.specs.LoadImage.{IsReadyImage};
 ghost use Rattle.p3l_program.specs.Plan.{network_in};
 ghost use Rattle.p3l_program.specs.Run.{IsClosed, IsRunOf, KeepsRun, keeping_for, shown};
-ghost use Rattle.p3l_program.specs.World.{change};
+ghost use Rattle.p3l_program.specs.World.{change, files_change};
 
 use crate::plan::plan_of;
 use crate::record::record;
@@ -55,7 +55,8 @@ fn close<F: Files>(
     reported: bool,
     files: &mut F,
 ) -> Verdict
-    ensures { IsClosed (change F.held F.faults files.old files.new) ran trace reported result }
+    ensures { IsClosed
+        (files_change F.held F.faults F.failed files.old files.new) ran trace reported result }
 {
     let Ran {
         finish,
@@ -88,11 +89,13 @@ pub fn run_plan<U: Units, F: Files, S: Source, K: Sink>(
     requires fits { plan.firings * most_of_input < 2 ^ 63 }
     ensures ran { IsRunOf (network plan.entry.tree.now (U.leaf plan.entry.units.now)
         plan.entry.net plan.entry.firings)
-        (change F.held F.faults files.old files.new) (change S.rest S.faults input.old input.new)
+        (files_change F.held F.faults F.failed files.old files.new)
+        (change S.rest S.faults input.old input.new)
         (change K.taken K.faults out.old out.new) asked trace reported result }
     ensures kept { KeepsRun (network plan.entry.tree.now (U.leaf plan.entry.units.now)
         plan.entry.net plan.entry.firings)
-        (change F.held F.faults files.old files.new) (change S.rest S.faults input.old input.new)
+        (files_change F.held F.faults F.failed files.old files.new)
+        (change S.rest S.faults input.old input.new)
         (change K.taken K.faults out.old out.new) asked trace result }
 {
     let count = plan.net.procs.len() as u32;
@@ -119,10 +122,12 @@ pub fn run_network<F: Files, S: Source, K: Sink>(
     out: &mut K,
 ) -> Verdict
     requires ready { IsReadyImage loaded }
-    ensures ran { IsRunOf (network_in loaded) (change F.held F.faults files.old files.new)
+    ensures ran { IsRunOf (network_in loaded)
+        (files_change F.held F.faults F.failed files.old files.new)
         (change S.rest S.faults input.old input.new) (change K.taken K.faults out.old out.new)
         asked trace reported result }
-    ensures kept { KeepsRun (network_in loaded) (change F.held F.faults files.old files.new)
+    ensures kept { KeepsRun (network_in loaded)
+        (files_change F.held F.faults F.failed files.old files.new)
         (change S.rest S.faults input.old input.new) (change K.taken K.faults out.old out.new)
         asked trace result }
 {

@@ -1,7 +1,7 @@
 // The writing of a file of a command.
 
 ghost use Rattle.p3l_program.specs.Saved.{HasSave};
-ghost use Rattle.p3l_program.specs.World.{change};
+ghost use Rattle.p3l_program.specs.World.{files_change};
 
 use p3l_base::Name;
 use p3l_io::{Files, WriteFault};
@@ -15,7 +15,8 @@ pub fn save<F: Files>(
     bytes: &[u8],
     files: &mut F,
 ) -> Result<(), Verdict>
-    ensures { HasSave (change F.held F.faults files.old files.new) name.now bytes.now result }
+    ensures { HasSave
+        (files_change F.held F.faults F.failed files.old files.new) name.now bytes.now result }
 {
     match files.write(alloc, name.as_str(), bytes) {
         Ok(()) => Ok(()),

@@ -4,7 +4,7 @@ ghost use Rattle.std.specs.Prelude.{◌≡◌, ◌<◌, ◌^◌, IfOk, IfErr, On
 ghost use Rattle.p3l_opts.specs.declared.command.Sched.TheVariants as sched;
 ghost use Rattle.p3l_program.specs.Run.{IsUnasked};
 ghost use Rattle.p3l_program.specs.Scheduled.{HasSchedule};
-ghost use Rattle.p3l_program.specs.World.{change};
+ghost use Rattle.p3l_program.specs.World.{files_change};
 ghost use Rattle.p3l_sched.specs.Picker.{NamesProcesses, recorded};
 
 use crate::file::find_text;
@@ -29,7 +29,8 @@ fn picks_in<F: Files>(
     ensures named { IfOk result (NamesProcesses count) }
     ensures few { IfOk result (λ schedule. recorded schedule < 2 ^ 63) }
     ensures calm { OnOk result (F.faults files.new ≡ F.faults files.old) }
-    ensures refused { IfErr result (IsUnasked (change F.held F.faults files.old files.new)
+    ensures refused { IfErr result (IsUnasked
+        (files_change F.held F.faults F.failed files.old files.new)
         count (sched.File name)) }
     ensures stays { F.held files.new ≡ F.held files.old }
 {
@@ -57,7 +58,8 @@ pub fn load_schedule<F: Files>(
     ensures named { IfOk result (NamesProcesses count) }
     ensures few { IfOk result (λ schedule. recorded schedule < 2 ^ 63) }
     ensures calm { OnOk result (F.faults files.new ≡ F.faults files.old) }
-    ensures refused { IfErr result (IsUnasked (change F.held F.faults files.old files.new)
+    ensures refused { IfErr result (IsUnasked
+        (files_change F.held F.faults F.failed files.old files.new)
         count asked) }
     ensures stays { F.held files.new ≡ F.held files.old }
 {

@@ -3,7 +3,7 @@
 ghost use Rattle.p3l_opts.specs.Command.{texts_of};
 ghost use Rattle.p3l_program.specs.Answer.{Answers, IsDue};
 ghost use Rattle.p3l_program.specs.Top.{Promises};
-ghost use Rattle.p3l_program.specs.World.{change, world};
+ghost use Rattle.p3l_program.specs.World.{change, files_change, world};
 
 use crate::certify::certify;
 use crate::check::check;
@@ -31,7 +31,7 @@ fn perform<F: Files, S: Source, K: Sink>(
     out: &mut K,
 ) -> Verdict
     ensures due { IsDue (texts_of words.now)
-        (world (change F.held F.faults files.old files.new)
+        (world (files_change F.held F.faults F.failed files.old files.new)
         (change S.rest S.faults input.old input.new) (change K.taken K.faults out.old out.new))
         result }
 {
@@ -77,7 +77,7 @@ fn answer<F: Files, S: Source, K: Sink, E: Sink>(
     err: &mut E,
 ) -> Status
     ensures answers { Answers (texts_of words.now)
-        (world (change F.held F.faults files.old files.new)
+        (world (files_change F.held F.faults F.failed files.old files.new)
         (change S.rest S.faults input.old input.new) (change K.taken K.faults out.old out.new))
         (change E.taken E.faults err.old err.new) result.0 }
 {
@@ -106,7 +106,7 @@ pub fn top<F: Files, S: Source, K: Sink, E: Sink>(
     err: &mut E,
 ) -> Status
     ensures { Promises (texts_of words.now)
-        (world (change F.held F.faults files.old files.new)
+        (world (files_change F.held F.faults F.failed files.old files.new)
         (change S.rest S.faults input.old input.new) (change K.taken K.faults out.old out.new))
         (change E.taken E.faults err.old err.new) result.0 }
 {

@@ -24,6 +24,8 @@ mod graphs;
 #[cfg(test)]
 mod images;
 #[cfg(test)]
+mod limits;
+#[cfg(test)]
 mod migrations;
 #[cfg(test)]
 mod order_of_endings;
@@ -31,6 +33,8 @@ mod order_of_endings;
 mod order_of_stages;
 #[cfg(test)]
 mod picks;
+#[cfg(test)]
+mod refusals;
 #[cfg(test)]
 mod rescues;
 #[cfg(test)]

@@ -1,8 +1,10 @@
 // What a run takes from its input, and lines that can't be put.
 
-use crate::texts::{DOUBLE_FILES, GIVEN, HUNDRED_FILES, ITEMS, RUN, RUN_PLAIN};
+use crate::texts::{
+    DOUBLE, DOUBLE_FILES, FARMED, GIVEN, HUNDRED_FILES, ITEMS, RUN, RUN_PLAIN, UNDECLARED,
+};
 use crate::world::{
-    Case, Cases, Ended, Ends, FIRST_PUT, Faults, NONE, holding, perform, take_cases,
+    Case, Cases, Ended, Ends, FIRST_PUT, Faults, Held, NONE, holding, perform, take_cases,
 };
 use std::alloc::Global;
 use std::process::Abort;
@@ -85,7 +87,67 @@ const LOST: &[Cases] = &[Cases(
     ],
 )];
 
+const UNTAKEN: Faults = Faults {
+    takes: &[1],
+    ..UNSAID
+};
+
+const UNPUT: Faults = Faults {
+    puts: FIRST_PUT,
+    ..UNSAID
+};
+
+/// A program, costs, picks and an image, of which some are refused.
+const REFUSED: &[Held] = &[
+    Held("m.p3l", DOUBLE),
+    Held("u.p3l", UNDECLARED),
+    Held("a.p3l", FARMED),
+    Held("c", "speed = 1\n"),
+    Held("p", "3\n"),
+    Held("one", "0\n"),
+    Held("i", "P3LI"),
+];
+
+/// Nor does it in any of these: each has one line, which is lost.
+const EACH_STATUS: &[Cases] = &[
+    Cases(
+        RUN_PLAIN,
+        &[
+            Case(REFUSED, UNSAID, "x\n", Ends(6, "", "")),
+            Case(HUNDRED_FILES, UNSAID, "0\n", Ends(7, "", "")),
+            Case(REFUSED, UNTAKEN, "1\n", Ends(8, "", "")),
+            Case(&[], UNSAID, "1\n", Ends(9, "", "")),
+            Case(REFUSED, UNPUT, "1\n", Ends(10, "", "")),
+        ],
+    ),
+    Cases(
+        "run m.p3l",
+        &[Case(REFUSED, UNSAID, "1\n", Ends(2, "", ""))],
+    ),
+    Cases(
+        "run u.p3l --processors 4",
+        &[Case(REFUSED, UNSAID, "1\n", Ends(3, "", ""))],
+    ),
+    Cases(
+        "run m.p3l --processors 4 --costs c",
+        &[Case(REFUSED, UNSAID, "1\n", Ends(4, "", ""))],
+    ),
+    Cases(
+        "run a.p3l --processors 3",
+        &[Case(REFUSED, UNSAID, "1\n", Ends(5, "", ""))],
+    ),
+    Cases(
+        "run m.p3l --processors 4 --schedule file:one",
+        &[Case(REFUSED, UNSAID, "1\n", Ends(1, "", ""))],
+    ),
+    Cases(
+        "run m.p3l --processors 4 --schedule file:p",
+        &[Case(REFUSED, UNSAID, "1\n", Ends(12, "", ""))],
+    ),
+    Cases("exec i", &[Case(REFUSED, UNSAID, "1\n", Ends(13, "", ""))]),
+];
+
 #[test]
 fn lines_may_be_lost(rt: HostRuntime) -> Result<(), Fail> {
-    take_cases(&rt, rt.alloc(), &[LOST])
+    take_cases(&rt, rt.alloc(), &[LOST, EACH_STATUS])
 }

@@ -1,5 +1,5 @@
 -- A run under way: its first state, what is fed, each pick, and its end.
-use Rattle.std.proofs.Common.{◌≡◌, ◌≢◌, ℕ, ℤ, ◌+◌, ◌*◌, ◌<◌, ◌≤◌, ◌^◌, Bool, true, false, List, [], ◌∷◌, ◌++◌, length, fold, Option, Some, None, Ok, Err, IsTrue, IsNone, IsSome, inl, inr, refl, sym, ap, subst, ◌∙◌, arith}
+use Rattle.std.proofs.Common.{◌≡◌, ◌≢◌, ℕ, ℤ, ◌+◌, ◌*◌, ◌<◌, ◌≤◌, ◌^◌, Bool, true, false, List, [], ◌∷◌, ◌++◌, length, fold, Option, Some, None, Ok, Err, IsTrue, IsNone, IsSome, inl, inr, refl, sym, ap, subst, ◌∙◌, arith, append_assoc}
 use Rattle.std.specs.Option.{option_to_list}
 use Rattle.std.proofs.lemmas.Bool.{cond-false, cond-true}
 use Rattle.p3l_base.specs.declared.outcome.Outcome.{Outcome}
@@ -34,7 +34,7 @@ use Rattle.p3l_run.specs.Execution.{AwaitsPick, Ends, Executes, GoesOn, HasFired
 use Rattle.p3l_run.specs.Feed.{Feeds, FeedsInVain, closed_so, input_limit, most_of_input}
 use Rattle.p3l_run.specs.Keeping.{kept_by}
 use Rattle.p3l_run.specs.Laws.{Laws}
-use Rattle.p3l_run.specs.Network.{Network, course_of, course_under, goes_on, is_some, size_of, width_of}
+use Rattle.p3l_run.specs.Network.{Network, course_of, course_under, goes_on, is_some, meaning_of, size_of, width_of}
 use Rattle.p3l_run.specs.Run.{MayCome, MayEnd, end_of, finish_of}
 use Rattle.p3l_run.specs.Steps.{Stands, left_of}
 use Rattle.p3l_run.specs.Sum.{sum_after}
@@ -45,7 +45,7 @@ use Rattle.p3l_run.proofs.RunSteps as steps
 use Rattle.p3l_run.proofs.WriteSteps.{begun_whole, cause_on, put_more, put_nothing, text_more}
 
 -- the lines that are kept are those of the trace with one more
-kept_more : (keeping : Keeping) (kept : Option (List TraceLine)) (walked : List TraceLine) (p : ℕ) (kind : Option ProcKind) → kept ≡ kept_by keeping walked →
+pub kept_more : (keeping : Keeping) (kept : Option (List TraceLine)) (walked : List TraceLine) (p : ℕ) (kind : Option ProcKind) → kept ≡ kept_by keeping walked →
     kept_with p kind kept ≡ kept_by keeping (walked ++ record { pick = p; kind = kind } ∷ [])
 kept_more keeping kept walked p kind is = ap (kept_with p kind) is ∙ by keeping
   where
@@ -73,6 +73,7 @@ module _ (job : Job) where
       closed = None;
       gives = gives_first (width_of n) job.before.rest job.before.read_faults (stream.started (width_of n) input_limit) given refl;
       begun = begun_whole job.before.taken job.before.taken [] _ _ (put_nothing job.before.taken) refl;
+      emits = λ later may. begun_whole job.before.taken job.before.taken [] _ _ (put_nothing job.before.taken) refl;
     };
     output = refl;
   }
@@ -138,7 +139,10 @@ module _ (job : Job) where
         items = d.items;
         closed = closed_so e.close;
         gives = d.gives;
-        begun = steps.begun_by n d.items d.outcomes job.before.taken now.taken (steps.begins_all n d.laws job.schedule e.machine e.picker d.items e.close d.outcomes e.idle d.walked d.stands) d.put;
+        begun = steps.begun_by (meaning_of n d.items) d.outcomes job.before.taken now.taken (steps.begins_all n d.laws job.schedule e.machine e.picker d.items e.close d.outcomes e.idle d.walked d.stands) d.put;
+        emits = λ later may.
+            steps.begun_by (course_of n job.schedule (d.items ++ later)).state.emitted d.outcomes job.before.taken now.taken
+            (steps.begins_emitted n d.laws job.schedule e.machine e.picker d.items e.close d.outcomes e.idle d.walked d.stands later (steps.may_come n e.close later may)) d.put;
       };
       output = d.quiet;
     }
@@ -182,8 +186,13 @@ module _ (job : Job) where
             closed = f.closed;
             gives = f.gives job.before.rest job.before.read_faults d.items d.gives;
             begun =
-                steps.begun_by n (d.items ++ f.more) d.outcomes job.before.taken now.taken
+                steps.begun_by (meaning_of n (d.items ++ f.more)) d.outcomes job.before.taken now.taken
                 (steps.begins_given n d.laws job.schedule e.machine e.picker d.items e.close d.outcomes e.idle d.walked d.stands f.more may) d.put;
+            emits = λ later on.
+                let all : MayCome n e.close (f.more ++ later) = record { wide = steps.wide_append (width_of n) f.more later f.wide on.wide; none = λ x is. absurd (no_end x (sym f.asked ∙ is)) } in
+                subst (λ i. HasBegun job.before.taken now.taken (text_of (course_of n job.schedule i).state.emitted)) (sym (append_assoc d.items f.more later))
+                (steps.begun_by (course_of n job.schedule (d.items ++ (f.more ++ later))).state.emitted d.outcomes job.before.taken now.taken
+                (steps.begins_emitted n d.laws job.schedule e.machine e.picker d.items e.close d.outcomes e.idle d.walked d.stands (f.more ++ later) all) d.put);
           };
           output = d.quiet;
         }
@@ -195,7 +204,7 @@ module _ (job : Job) where
     abbrev d : Executes job now e
     d = a.executes
 
-    filled : (later : List (List ℤ)) → MayCome n e.close later → HasFilledInbox e.machine later
+    pub filled : (later : List (List ℤ)) → MayCome n e.close later → HasFilledInbox e.machine later
     filled = steps.filled_after n e.close e.machine a.filled
 
     -- where no process can fire and no trap was emitted the stream is ended
@@ -212,7 +221,7 @@ module _ (job : Job) where
       finish_is : IsFinish n.tree e ran.finish
       finish_is = subst (λ t. IsFinish t e ran.finish) tree_is finishes_so
 
-      none_left : (later : List (List ℤ)) → MayCome n e.close later → picks_from n.tree n.leaf n.net (left_of (n.firings * length (d.items ++ later)) e.machine.fired e.picker) e.picker (course_under n (d.items ++ later) (trace.picks_of d.walked)) ≡ []
+      pub none_left : (later : List (List ℤ)) → MayCome n e.close later → picks_from n.tree n.leaf n.net (left_of (n.firings * length (d.items ++ later)) e.machine.fired e.picker) e.picker (course_under n (d.items ++ later) (trace.picks_of d.walked)) ≡ []
       none_left = by over
         where
           by : IsOver e → (later : List (List ℤ)) → MayCome n e.close later → picks_from n.tree n.leaf n.net (left_of (n.firings * length (d.items ++ later)) e.machine.fired e.picker) e.picker (course_under n (d.items ++ later) (trace.picks_of d.walked)) ≡ []
@@ -226,7 +235,7 @@ module _ (job : Job) where
       emitted : (later : List (List ℤ)) → MayCome n e.close later → (course_of n job.schedule (d.items ++ later)).state.emitted ≡ d.outcomes
       emitted = steps.emitted_so n d.laws job.schedule e.machine e.picker d.items e.close d.outcomes e.idle d.walked d.stands filled none_left
 
-      finishes : (later : List (List ℤ)) → MayCome n e.close later → (x : Ending) → MayEnd e.close x → ran.finish ≡ finish_of n (course_of n job.schedule (d.items ++ later)) x
+      pub finishes : (later : List (List ℤ)) → MayCome n e.close later → (x : Ending) → MayEnd e.close x → ran.finish ≡ finish_of n (course_of n job.schedule (d.items ++ later)) x
       finishes later may x ends = by (ready_list e.machine) refl
         where
           by : (ready : List ℕ) → ready_list e.machine ≡ ready → ran.finish ≡ finish_of n (course_of n job.schedule (d.items ++ later)) x
@@ -243,7 +252,7 @@ module _ (job : Job) where
               ∙ ap (λ k. finish.Stopped (course_of n job.schedule (d.items ++ later)).fired k) (sym (steps.idle_so n d.laws job.schedule e.machine e.picker d.items e.close d.outcomes e.idle d.walked d.stands filled none_left later may))
               ∙ sym (cond-true _ _ _ (goes later may ∙ ap is_some is))
 
-      closed_so_is : (x : Ending) → ran.finish ≡ finish.Stream x → e.close ≡ Some x
+      pub closed_so_is : (x : Ending) → ran.finish ≡ finish.Stream x → e.close ≡ Some x
       closed_so_is x is = by (ready_list e.machine) refl
         where
           by_close : (t : Option Trap) (c : Option Ending) → (IsNone t → IsSome c) → ((y : Ending) → MayEnd c y → ran.finish ≡ end_of n.tree t e.machine.emitted y) → c ≡ Some x
@@ -256,10 +265,10 @@ module _ (job : Job) where
           by [] none = by_close e.told.trap e.close (must_end none) (finish_is.stuck none)
           by (p ∷ ps) some = absurd (let z = sym (finish_is.stopped (λ none. (let y : [] ≡ p ∷ ps = sym none ∙ some in cc))) ∙ is in cc)
 
-      numbers : ran.stats ≡ record { items = e.machine.sent; fired = e.machine.fired; idle = e.idle; bound = e.machine.sent * n.firings }
+      pub numbers : ran.stats ≡ record { items = e.machine.sent; fired = e.machine.fired; idle = e.idle; bound = e.machine.sent * n.firings }
       numbers = (let with_firings : ℕ → RunStats = λ k. record { items = e.machine.sent; fired = e.machine.fired; idle = e.idle; bound = e.machine.sent * k } in stats_are ∙ ap with_firings d.firings_is)
 
-      pub ends_over : Ends job now (Ok ran)
+      unfoldable pub ends_over : Ends job now (Ok ran)
       ends_over = record {
         ends = record {
           stream = e.stream;
@@ -328,6 +337,9 @@ module _ (job : Job) where
         kind_is : kind_at e.machine.net p ≡ Some fired.kind
         kind_is = subst (λ m. kind_at m.net p ≡ Some fired.kind) same_machine fired.kind_is
 
+        led : Stands n job.schedule e''.machine (after_pick (size_of n) e.picker p) d.items e.close (d.outcomes ++ option_to_list handed) e.idle (d.walked ++ record { pick = p; kind = Some fired.kind } ∷ [])
+        led = steps.stands_fired n d.laws job.schedule e.machine e.picker d.items e.close d.outcomes e.idle d.walked d.stands filled p (Some fired.kind) picked.pick picked.some e''.machine handed can fires picked.there fired.kind kind_is refl
+
         -- memory was wanting, or writing failed, for the line of what it handed out
         pub ends_unwritten : (taken : Option (List ℕ)) (after : ℕ) (failed : RunFault) → HasBegun now.taken taken (text_of (option_to_list handed)) → WriteCause {T = Told} now.write_faults after (Err failed) →
             Ends job (outside now.rest now.read_faults taken after) (Err failed)
@@ -338,8 +350,12 @@ module _ (job : Job) where
             closed = closed_so e.close;
             gives = d.gives;
             begun =
-                steps.begun_last n d.items d.outcomes handed job.before.taken now.taken taken
+                steps.begun_last (meaning_of n d.items) d.outcomes handed job.before.taken now.taken taken
                 (steps.led_begins n d.laws job.schedule e.machine e.picker d.items e.close d.outcomes e.idle d.walked d.stands filled p None picked.pick picked.some e''.machine handed can fires) d.put begun;
+            emits = λ later on.
+                steps.begun_last (course_of n job.schedule (d.items ++ later)).state.emitted d.outcomes handed job.before.taken now.taken taken
+                (steps.begins_emitted n d.laws job.schedule e''.machine (after_pick (size_of n) e.picker p) d.items e.close (d.outcomes ++ option_to_list handed) e.idle (d.walked ++ record { pick = p; kind = Some fired.kind } ∷ []) led later (steps.may_come n e.close later on))
+                d.put begun;
           };
           output = cause_on Ran Told job.before.write_faults now.write_faults after failed d.quiet cause;
         }
@@ -358,8 +374,7 @@ module _ (job : Job) where
             walked = d.walked ++ record { pick = p; kind = Some fired.kind } ∷ [];
             gives = d.gives;
             stands =
-                subst (λ k. Stands n job.schedule e''.machine k d.items e.close (d.outcomes ++ option_to_list handed) e.idle (d.walked ++ record { pick = p; kind = Some fired.kind } ∷ [])) (sym way_is)
-                (steps.stands_fired n d.laws job.schedule e.machine e.picker d.items e.close d.outcomes e.idle d.walked d.stands filled p (Some fired.kind) picked.pick picked.some e''.machine handed can fires picked.there fired.kind kind_is refl);
+                subst (λ k. Stands n job.schedule e''.machine k d.items e.close (d.outcomes ++ option_to_list handed) e.idle (d.walked ++ record { pick = p; kind = Some fired.kind } ∷ [])) (sym way_is) led;
             trap_is = trap_is ∙ ap (λ t. fold trap_after t.trap (option_to_list handed)) same_told ∙ steps.trap_more e.told.trap d.outcomes (option_to_list handed) d.trap_is;
             sum_is = sum_is ∙ ap (λ t. fold sum_after t.sum (option_to_list handed)) same_told ∙ steps.sum_more e.told.sum d.outcomes (option_to_list handed) d.sum_is;
             put =

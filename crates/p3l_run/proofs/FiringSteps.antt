@@ -1,6 +1,7 @@
 -- What a firing leaves: outcomes that were emitted stay, and no item comes to those not yet sent.
-use Rattle.std.proofs.Common.{◌≡◌, ℕ, ◌+◌, Bool, true, false, [], Option, Some, None, cond, refl, sym, ap, ◌∙◌, append-nil}
+use Rattle.std.proofs.Common.{◌≡◌, ℕ, ◌+◌, Bool, true, false, List, [], ◌∷◌, ◌++◌, Option, Some, None, cond, refl, sym, ap, ◌∙◌, append-nil, append_assoc}
 use Rattle.std.specs.Prelude.{slice_get}
+use Rattle.p3l_base.specs.declared.outcome.Outcome.{Outcome}
 use Rattle.p3l_skel.specs.declared.tree.Tree.{Tree}
 use Rattle.p3l_firing.specs.declared.net.Net.{Net}
 use Rattle.p3l_firing.specs.declared.process.Proc.{Proc}
@@ -11,7 +12,7 @@ use Rattle.p3l_firing.specs.Fire.{can_fire, fire, fire_of}
 use Rattle.p3l_firing.specs.Lists.{has_first, rest_of}
 use Rattle.p3l_firing.specs.Nodes.{Leaf}
 use Rattle.p3l_firing.specs.Outcomes.{IsPrefixOf}
-use Rattle.p3l_firing.specs.Run.{Course, picked}
+use Rattle.p3l_firing.specs.Run.{Course, after_picks, picked}
 use Rattle.p3l_firing.specs.Process.{in_of}
 use Rattle.p3l_firing.specs.State.{Own, State, front, gathering, holding, pop, push, set_own}
 use Rattle.p3l_firing.specs.kinds.{row_fire}
@@ -86,3 +87,13 @@ module _ (tree : Tree) (leaf : Leaf) (net : Net) where
       by : (b : Bool) → Leaves c.state (cond b (record c { state = fire tree leaf net c.state p; fired = c.fired + 1 }) (record c { idle = c.idle + 1 })).state
       by true = fire_leaves (slice_get net.procs p) c.state p (c.state.own p)
       by false = same c.state c.state refl refl
+
+  -- what begins a beginning begins the whole
+  begins_on : (xs ys zs : List Outcome) → IsPrefixOf xs ys → IsPrefixOf ys zs → IsPrefixOf xs zs
+  begins_on xs ys zs one two = (one.0 ++ two.0, sym (append_assoc xs one.0 two.0) ∙ ap (λ l. l ++ two.0) one.1 ∙ two.1)
+
+  -- what was emitted stays, whatever is picked after it
+  pub after_leaves : (c : Course) (picks : List ℕ) → IsPrefixOf c.state.emitted (after_picks tree leaf net c picks).state.emitted
+  unfolding after_picks
+  after_leaves c [] = ([], append-nil c.state.emitted)
+  after_leaves c (p ∷ picks) = begins_on _ _ _ (picked_leaves c p).emitted (after_leaves (picked tree leaf net c p) picks)

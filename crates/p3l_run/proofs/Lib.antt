@@ -5,3 +5,4 @@ pub mod FiringSteps
 pub mod RunSteps
 pub mod StoppedSteps
 pub mod ExecutionSteps
+pub mod TimedSteps

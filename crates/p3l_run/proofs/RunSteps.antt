@@ -19,8 +19,8 @@ use Rattle.p3l_net.specs.Fire.{can_fire}
 use Rattle.p3l_net.specs.Process.{kind_at}
 use Rattle.p3l_net.specs.Machine.{Seen, Fires, can_step, ready_list, started, state_of}
 use Rattle.p3l_net.specs.Offered.{Follows, HasFilledInbox}
-use Rattle.p3l_net.specs.State.{with_rest}
-use Rattle.p3l_net.specs.Run.{Course, after_picks, picked}
+use Rattle.p3l_net.specs.State.{first_state, with_rest}
+use Rattle.p3l_net.specs.Run.{Course, after_picks, course_from, picked}
 use Rattle.p3l_net.specs.Carried.{HaveInWords}
 use Rattle.p3l_net.specs.Outcomes.{IsPrefixOf}
 use Rattle.p3l_run.specs.declared.end.RunStats.{RunStats}
@@ -35,14 +35,15 @@ use Rattle.p3l_stream.specs.Text.{text_of}
 use Rattle.p3l_trace.specs.declared.trace.TraceLine.{TraceLine}
 use Rattle.p3l_trace.specs.Agreement as trace
 use Rattle.p3l_trace.specs.Agreement.{AgreeFrom}
-use Rattle.p3l_run.specs.Feed.{Offers}
+use Rattle.p3l_run.specs.Feed.{Offers, closed_so}
 use Rattle.p3l_run.specs.Laws.{Laws, Runs}
 use Rattle.p3l_run.specs.Network.{IsRunOn, Network, course_of, course_under, goes_on, is_some, meaning_of, picks_of as run_picks, ready_at, size_of, stats_of, width_of}
-use Rattle.p3l_run.specs.Run.{IsTraceOf, MayCome}
+use Rattle.p3l_run.specs.Run.{IsTraceOf, MayCome, MayFollow}
 use Rattle.p3l_run.specs.Steps.{HasRoom, IsAt, Stands, left_of}
 use Rattle.p3l_run.specs.Sum.{sum_after, sum_of}
 use Rattle.p3l_run.specs.Trap.{trap_after, trap_of}
 use Rattle.p3l_run.specs.Write.{HasBegun, HasPut}
+use Rattle.p3l_run.proofs.FiringSteps.{after_leaves}
 use Rattle.p3l_run.proofs.TraceSteps.{agree_more, counts_fired, counts_idle, picks_more, same_line}
 use Rattle.p3l_run.proofs.WriteSteps.{begun_longer, begun_more, begun_whole, text_begins, text_more}
 
@@ -67,6 +68,10 @@ sum_more sum first second e = ap (λ t. fold sum_after t second) e ∙ sym (fold
 -- nothing may always come
 pub nothing_comes : (n : Network) (close : Option Ending) → MayCome n close []
 nothing_comes n close = record { wide = tt; none = λ e is. refl }
+
+-- what may follow a stream that is not ended by want of memory may come
+pub may_come : (n : Network) (close : Option Ending) (later : List (List ℤ)) → MayFollow n (closed_so close) later → MayCome n close later
+may_come n close later may = record { wide = may.wide; none = λ e is. may.none e (ap closed_so is) }
 
 -- as long as the stream isn't ended the inbox is filled
 pub filled_after : (n : Network) (close : Option Ending) (m : Seen) → (close ≡ None → m.inbox ≢ None) → (later : List (List ℤ)) → MayCome n close later → HasFilledInbox m later
@@ -154,21 +159,28 @@ pub some_ready : (ready : List ℕ) → ready ≢ [] → is_some ready ≡ true
 some_ready [] some = absurd (some refl)
 some_ready (p ∷ ps) some = refl
 
--- what was emitted begins the meaning, so the text that was written begins its text
-pub begun_by : (n : Network) (items : List (List ℤ)) (outcomes : List Outcome) (taken taken' : Option (List ℕ)) → IsPrefixOf outcomes (meaning_of n items) → HasPut taken taken' (text_of outcomes) →
-    HasBegun taken taken' (text_of (meaning_of n items))
-begun_by n items outcomes taken taken' begins put =
-    let more = text_begins outcomes (meaning_of n items) begins in
-    begun_whole taken taken' (text_of outcomes) more.0 (text_of (meaning_of n items)) put more.1
+-- outcomes begin others, so the text that was written of them begins the text of those
+pub begun_by : (whole outcomes : List Outcome) (taken taken' : Option (List ℕ)) → IsPrefixOf outcomes whole → HasPut taken taken' (text_of outcomes) → HasBegun taken taken' (text_of whole)
+begun_by whole outcomes taken taken' begins put =
+    let more = text_begins outcomes whole begins in
+    begun_whole taken taken' (text_of outcomes) more.0 (text_of whole) put more.1
 
 -- also where the text of the last outcome was only begun
-pub begun_last : (n : Network) (items : List (List ℤ)) (outcomes : List Outcome) (handed : Option Outcome) (taken mid new : Option (List ℕ)) → IsPrefixOf (outcomes ++ option_to_list handed) (meaning_of n items) →
-    HasPut taken mid (text_of outcomes) → HasBegun mid new (text_of (option_to_list handed)) → HasBegun taken new (text_of (meaning_of n items))
-begun_last n items outcomes handed taken mid new begins put begun =
-    let more = text_begins (outcomes ++ option_to_list handed) (meaning_of n items) begins in
-    begun_longer taken new (text_of outcomes ++ text_of (option_to_list handed)) more.0 (text_of (meaning_of n items))
+pub begun_last : (whole outcomes : List Outcome) (handed : Option Outcome) (taken mid new : Option (List ℕ)) → IsPrefixOf (outcomes ++ option_to_list handed) whole →
+    HasPut taken mid (text_of outcomes) → HasBegun mid new (text_of (option_to_list handed)) → HasBegun taken new (text_of whole)
+begun_last whole outcomes handed taken mid new begins put begun =
+    let more = text_begins (outcomes ++ option_to_list handed) whole begins in
+    begun_longer taken new (text_of outcomes ++ text_of (option_to_list handed)) more.0 (text_of whole)
     (begun_more taken mid new (text_of outcomes) (text_of (option_to_list handed)) put begun)
     (ap (λ t. t ++ more.0) (sym (text_more outcomes (option_to_list handed))) ∙ more.1)
+
+-- what a run has emitted begins what it emits by more picks
+emitted_first : (n : Network) (items : List (List ℤ)) (picks more whole : List ℕ) → picks ++ more ≡ whole → IsPrefixOf (course_under n items picks).state.emitted (course_under n items whole).state.emitted
+unfolding after_picks
+emitted_first n items picks more whole is =
+    subst (λ ps. IsPrefixOf (course_under n items picks).state.emitted (course_under n items ps).state.emitted) is
+    (subst (λ (c : Course). IsPrefixOf (course_under n items picks).state.emitted c.state.emitted)
+    (sym (fold-append (picked n.tree n.leaf n.net) (course_from (first_state n.net items)) picks more)) (after_leaves n.tree n.leaf n.net (course_under n items picks) more))
 
 -- the bound on firings is a number of 64 bits
 pub bound_fits : (firings sent count most : ℕ) → sent ≤ count → count ≤ most → firings * most < 2 ^ 63 → sent * firings < 2 ^ 64
@@ -284,8 +296,15 @@ module _ (n : Network) (laws : Laws n) (schedule : Schedule) where
     pub begins_all : IsPrefixOf outcomes (meaning_of n given)
     begins_all = bare (λ i. IsPrefixOf outcomes (meaning_of n i)) (begins_given [] (nothing_comes n close))
 
+    -- and what the network emits under the schedule
+    pub begins_emitted : (later : List (List ℤ)) → MayCome n close later → IsPrefixOf outcomes (course_of n schedule (given ++ later)).state.emitted
+    unfolding course_of
+    begins_emitted later may =
+        subst (λ o. IsPrefixOf o (course_of n schedule (given ++ later)).state.emitted) (sym (emitted_is later may))
+        (emitted_first n (given ++ later) picks _ (run_picks n schedule (given ++ later)) (s.at later may).goes_on)
+
     module _ (filled : (later : List (List ℤ)) → MayCome n close later → HasFilledInbox m later) where
-      ready_same : (later : List (List ℤ)) → MayCome n close later → ready_at n (course later) ≡ ready_list m
+      pub ready_same : (later : List (List ℤ)) → MayCome n close later → ready_at n (course later) ≡ ready_list m
       ready_same later may =
           at_network m s.runs (λ t k. ready_of (can_fire t k (course later).state) (length k.procs) ≡ ready_list m) (laws.readies m outcomes later (course later) (s.at later may).follows (filled later may))
 

@@ -8,3 +8,4 @@ pub mod Feed
 pub mod Run
 pub mod Steps
 pub mod Execution
+pub mod Timed

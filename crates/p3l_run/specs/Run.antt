@@ -74,15 +74,22 @@ pub record Finishes (n : Network) (schedule : Schedule) (keeping : Keeping) (res
   pub kept : end.lines ≡ kept_by keeping lines
   pub summed : end.sum ≡ sum_of outcomes
 
--- a run ended early: a front of the text of the meaning of the items that the stream gave was written
-pub record Starts (n : Network) (rest left : Option (List ℕ)) (before now : ℕ) (taken taken' : Option (List ℕ)) : Type 0 where
+-- the same of a stream that want of memory may have ended, which hides what follows
+pub record MayFollow (n : Network) (closed : Option (Result Ending NoMemory)) (later : List (List ℤ)) : Type 0 where
+  pub wide : HaveInWords n.tree later
+  pub none : (e : Ending) → closed ≡ Some (Ok e) → later ≡ []
+
+-- a run ended early: a front of the text of the meaning of the items that the stream gave was written, and no more than the network
+-- emits under the schedule on these items and whatever may still come after them
+pub record Starts (n : Network) (schedule : Schedule) (rest left : Option (List ℕ)) (before now : ℕ) (taken taken' : Option (List ℕ)) : Type 0 where
   pub stream : Seen
   pub items : List (List ℤ)
   pub closed : Option (Result Ending NoMemory)
   pub gives : Gives (width_of n) rest left before now stream items closed
   pub begun : HasBegun taken taken' (text_of (meaning_of n items))
+  pub emits : (later : List (List ℤ)) → MayFollow n closed later → HasBegun taken taken' (text_of (course_of n schedule (items ++ later)).state.emitted)
 
 -- how a run ends
 abbrev pub IsRunEnd : Network → Schedule → Keeping → Option (List ℕ) → Option (List ℕ) → ℕ → ℕ → Option (List ℕ) → Option (List ℕ) → Result Ran RunFault → Type 0
 IsRunEnd n schedule keeping rest left before now taken taken' (Ok ran) = Finishes n schedule keeping rest left before now taken taken' ran
-IsRunEnd n schedule keeping rest left before now taken taken' (Err fault) = Starts n rest left before now taken taken'
+IsRunEnd n schedule keeping rest left before now taken taken' (Err fault) = Starts n schedule rest left before now taken taken'

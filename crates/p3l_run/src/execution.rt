@@ -1,7 +1,8 @@
 // A run under way, pick by pick.
 
-ghost use Rattle.std.specs.Prelude.{◌≡◌, ◌<◌, ◌≤◌, ◌*◌, ◌^◌, [], None, length, IfOk, IsNone, IsSome, IsTrue, OnOk};
+ghost use Rattle.std.specs.Prelude.{◌≡◌, ◌≢◌, ◌<◌, ◌≤◌, ◌*◌, ◌^◌, [], None, length, IfOk, IsNone, IsSome, IsTrue, OnOk};
 ghost use Rattle.p3l_net.specs.Machine.{can_step, ready_list};
+ghost use Rattle.p3l_net.specs.Steps.{OthersStay};
 ghost use Rattle.p3l_net.specs.Typed.{IsTyped};
 ghost use Rattle.p3l_sched.specs.Picker.{HasPlace, HasProcesses};
 ghost use Rattle.p3l_skel.specs.Tree.{node_at};
@@ -28,17 +29,17 @@ use std::alloc::Global;
 #[derive(Drop)]
 pub(crate) struct Execution<'t> {
     /// How often the net can fire for one item.
-    firings: u64,
-    machine: Machine<'t>,
-    stream: Lines,
-    picker: Picker,
+    pub(crate) firings: u64,
+    pub(crate) machine: Machine<'t>,
+    pub(crate) stream: Lines,
+    pub(crate) picker: Picker,
     /// How the stream ended, if it did.
-    close: Option<Ending>,
-    told: Told,
+    pub(crate) close: Option<Ending>,
+    pub(crate) told: Told,
     /// How many picks were idle.
-    idle: u64,
+    pub(crate) idle: u64,
     /// A line for each pick, where lines are kept.
-    kept: Option<List<TraceLine>>,
+    pub(crate) kept: Option<List<TraceLine>>,
 }
 
 impl<'t> Execution<'t> {
@@ -186,7 +187,7 @@ impl<'t> Execution<'t> {
     }
 
     /// Fires a process, and keeps the line of that; gives what it emitted.
-    fn fire<U: Units>(
+    pub(crate) fn fire<U: Units>(
         &mut self,
         alloc: Global,
         tree: &Tree,
@@ -198,7 +199,10 @@ impl<'t> Execution<'t> {
         requires count { self.old.machine.fired < 2 ^ 63 }
         requires tree { tree.now ≡ self.old.machine.tree }
         requires units { U.tree units.now ≡ tree.now }
-        ensures { IfOk result (HasFired (U.leaf units.now) process self.old self.new) }
+        ensures fired { IfOk result (HasFired (U.leaf units.now) process self.old self.new) }
+        ensures others { OnOk result (OthersStay self.old.machine self.new.machine process) }
+        ensures item { OnOk result (process ≢ 0
+            → self.new.machine.inbox ≡ self.old.machine.inbox) }
     {
         let fired = self.machine.fire(alloc, tree, units, process)?;
         keep(&mut self.kept, process, Some(fired.kind))?;
@@ -206,7 +210,7 @@ impl<'t> Execution<'t> {
     }
 
     /// How the run ended, where no pick is left, with its numbers and what was kept of it.
-    fn into_ran(self, alloc: Global, tree: &Tree) -> Result<Ran, NoMemory>
+    pub(crate) fn into_ran(self, alloc: Global, tree: &Tree) -> Result<Ran, NoMemory>
         requires fits { self.machine.sent * self.firings < 2 ^ 64 }
         requires ended { ready_list self.machine ≡ [] → IsNone self.told.trap → IsSome self.close }
         ensures finish { IfOk result (λ ran. IsFinish tree.now self.entry ran.finish) }

@@ -1,10 +1,11 @@
 // Runs of a network of three processes: 0 is the source, 1 the sink, and 2 runs the body.
 
-use crate::network::{Echo, Refusing, run_on};
+use crate::network::run_on;
 use p3l_base::List;
 use p3l_io::{MemSink, MemSource, PutFail};
 use p3l_run::{Keeping, Ran, RunEnd, RunFault, RunStats};
 use p3l_sched::{Schedule, read_picks};
+use p3l_sketch::{Echo, Refusing};
 use p3l_stream::Ending;
 use std::alloc::Global;
 use std::process::Abort;
@@ -52,7 +53,7 @@ fn ending_shown(ending: Ending) -> &'static str {
 }
 
 /// A run on these bytes, given one by one, by a source that fails at these calls: how it ended,
-/// what was written, and how often the source was asked.
+/// what was written, and how often the source was called.
 fn run_under(
     rt: &impl Abort,
     alloc: Global,
@@ -230,5 +231,28 @@ fn a_fault_of_each_put_ends_the_run(rt: HostRuntime) -> Result<(), Fail> {
         assert_eq!(rt; shown(rt.alloc(), &ran)?.as_str(), "write fault");
         assert_eq!(rt; sink.taken(), text);
     }
+    Ok(())
+}
+
+/// More items than any other test has.
+const MANY: usize = 4_100_000;
+
+#[test]
+fn four_million_items_are_run(rt: HostRuntime) -> Result<(), Fail> {
+    let alloc = rt.alloc();
+    let text = "1\n".repeat(alloc, MANY)?;
+    let bytes = list(alloc, text.as_str().as_bytes())?;
+    let mut source = MemSource::new(bytes, 4096, List::new(alloc));
+    let mut sink = MemSink::new(alloc, 16_777_216, List::new(alloc))?;
+    let ran = run_on(
+        alloc,
+        &Echo,
+        Schedule::RoundRobin,
+        Keeping::Nothing,
+        &mut source,
+        &mut sink,
+    );
+    let numbers = shown(alloc, &ran)?;
+    assert_eq!(rt; sink.taken().len(), 2 * MANY, "{numbers}");
     Ok(())
 }

@@ -1,11 +1,12 @@
 // The lines that are kept of runs of a network of three processes, and the sums of their words.
 
-use crate::network::{Echo, Refusing, run_on};
+use crate::network::run_on;
 use p3l_base::List;
 use p3l_firing::ProcKind;
 use p3l_io::{MemSink, MemSource};
 use p3l_run::Keeping;
 use p3l_sched::{Schedule, read_picks};
+use p3l_sketch::{Echo, Refusing};
 use p3l_trace::TraceLine;
 use std::alloc::Global;
 use std::process::Abort;
@@ -57,8 +58,12 @@ fn traced_of(
 }
 
 /// Whether these lines were kept, and this is the sum.
-fn is_traced(told: &Option<(Option<List<TraceLine>>, i64)>, lines: &[TraceLine], sum: i64) -> bool {
-    match told {
+fn is_traced(
+    traced: &Option<(Option<List<TraceLine>>, i64)>,
+    lines: &[TraceLine],
+    sum: i64,
+) -> bool {
+    match traced {
         Some((Some(kept), total)) => kept.as_slice() == lines && *total == sum,
         _ => false,
     }
@@ -67,7 +72,7 @@ fn is_traced(told: &Option<(Option<List<TraceLine>>, i64)>, lines: &[TraceLine],
 #[test]
 fn each_pick_is_a_line(rt: HostRuntime) -> Result<(), Fail> {
     // The sink can't fire at first, and the body not before the source.
-    let told = traced_of(
+    let traced = traced_of(
         &rt,
         rt.alloc(),
         true,
@@ -83,13 +88,13 @@ fn each_pick_is_a_line(rt: HostRuntime) -> Result<(), Fail> {
         fired(1, ProcKind::Sink),
         fired(0, ProcKind::Source),
     ];
-    assert!(rt; is_traced(&told, &lines, 5));
+    assert!(rt; is_traced(&traced, &lines, 5));
     Ok(())
 }
 
 #[test]
 fn a_whole_run_is_kept(rt: HostRuntime) -> Result<(), Fail> {
-    let told = traced_of(
+    let traced = traced_of(
         &rt,
         rt.alloc(),
         true,
@@ -105,13 +110,13 @@ fn a_whole_run_is_kept(rt: HostRuntime) -> Result<(), Fail> {
         fired(2, ProcKind::Run),
         fired(1, ProcKind::Sink),
     ];
-    assert!(rt; is_traced(&told, &lines, -9223372036854775806));
+    assert!(rt; is_traced(&traced, &lines, -9223372036854775806));
     Ok(())
 }
 
 #[test]
 fn a_trap_has_no_words(rt: HostRuntime) -> Result<(), Fail> {
-    let told = traced_of(
+    let traced = traced_of(
         &rt,
         rt.alloc(),
         false,
@@ -124,13 +129,13 @@ fn a_trap_has_no_words(rt: HostRuntime) -> Result<(), Fail> {
         fired(2, ProcKind::Run),
         fired(1, ProcKind::Sink),
     ];
-    assert!(rt; is_traced(&told, &lines, 0));
+    assert!(rt; is_traced(&traced, &lines, 0));
     Ok(())
 }
 
 #[test]
 fn no_line_is_kept_unasked(rt: HostRuntime) -> Result<(), Fail> {
-    let told = traced_of(&rt, rt.alloc(), true, None, Keeping::Nothing, b"5\n-7\n")?;
-    assert!(rt; matches!(told, Some((None, -2))));
+    let traced = traced_of(&rt, rt.alloc(), true, None, Keeping::Nothing, b"5\n-7\n")?;
+    assert!(rt; matches!(traced, Some((None, -2))));
     Ok(())
 }

@@ -29,7 +29,7 @@ pub fn list_of(alloc: Global, numbers: &[u32]) -> Result<List<u32>, NoMemory> {
     Ok(List::from_vec(Vec::from_slice(alloc, numbers)?))
 }
 
-fn slices_of(alloc: Global, arrays: &[Array]) -> Result<List<Slice>, NoMemory> {
+fn slices_of(alloc: Global, arrays: &[(u32, &[Dim])]) -> Result<List<Slice>, NoMemory> {
     let mut slices = List::new(alloc);
     for (start, dims) in arrays {
         slices.push(Slice {
@@ -40,12 +40,14 @@ fn slices_of(alloc: Global, arrays: &[Array]) -> Result<List<Slice>, NoMemory> {
     Ok(slices)
 }
 
-fn cut_of(
+/// A cut by its numbers of first and second indices, the arrays that it takes apart and those that
+/// it fills.
+pub fn cut_of(
     alloc: Global,
     first: u32,
     second: u32,
-    ins: &[Array],
-    outs: &[Array],
+    ins: &[(u32, &[Dim])],
+    outs: &[(u32, &[Dim])],
 ) -> Result<Cut, NoMemory> {
     let ins = slices_of(alloc, ins)?;
     let outs = slices_of(alloc, outs)?;

@@ -14,24 +14,42 @@ pub type ModuleRow = (Shape, u32, u32, u32, &'static [u32]);
 /// A tree: its nodes, and the kinds of its modules.
 pub type Sketch = (&'static [ModuleRow], &'static [ModuleKind]);
 
-fn module_of(alloc: Global, kind: ModuleKind, rescue: Option<i64>) -> Result<ModuleInfo, NoMemory> {
+// The name of a module where no name is given.
+const NAME: &str = "m";
+
+fn module_of(
+    alloc: Global,
+    name: &str,
+    kind: ModuleKind,
+    rescue: Option<i64>,
+) -> Result<ModuleInfo, NoMemory> {
     Ok(ModuleInfo {
-        name: Name::from_text(alloc, "m")?,
+        name: Name::from_text(alloc, name)?,
         kind,
         rescue,
     })
 }
 
-/// Puts a node after the others, with a module of its own.
+/// A tree that has no node yet.
+pub fn no_nodes(alloc: Global) -> Tree {
+    Tree {
+        nodes: List::new(alloc),
+        modules: List::new(alloc),
+    }
+}
+
+/// Puts a node after the others, with a module of its own that has this rescue number.
 pub fn add_node(
     alloc: Global,
     tree: &mut Tree,
     form: Form,
     words: (u32, u32),
     parts: List<u32>,
+    rescue: Option<i64>,
 ) -> Result<(), NoMemory> {
     let module = u32::try_from(tree.modules.len()).unwrap_or(0);
-    tree.modules.push(module_of(alloc, form.kind(), None)?)?;
+    tree.modules
+        .push(module_of(alloc, NAME, form.kind(), rescue)?)?;
     tree.nodes.push(Node {
         form,
         module,
@@ -41,16 +59,24 @@ pub fn add_node(
     })
 }
 
+/// Puts the node of a row after the others, with a module of its own that has this rescue number.
+pub fn add_row(
+    alloc: Global,
+    tree: &mut Tree,
+    row: Row,
+    rescue: Option<i64>,
+) -> Result<(), NoMemory> {
+    let (shape, ins, outs, parts) = row;
+    let form = form_of(alloc, shape)?;
+    let parts = list_of(alloc, parts)?;
+    add_node(alloc, tree, form, (ins, outs), parts, rescue)
+}
+
 /// The tree of these rows, each of which is a node of a module of its own.
 pub fn tree_of(alloc: Global, rows: &[Row]) -> Result<Tree, NoMemory> {
-    let mut tree = Tree {
-        nodes: List::new(alloc),
-        modules: List::new(alloc),
-    };
-    for (shape, ins, outs, parts) in rows {
-        let form = form_of(alloc, *shape)?;
-        let parts = list_of(alloc, parts)?;
-        add_node(alloc, &mut tree, form, (*ins, *outs), parts)?;
+    let mut tree = no_nodes(alloc);
+    for row in rows {
+        add_row(alloc, &mut tree, *row, None)?;
     }
     Ok(tree)
 }
@@ -85,7 +111,21 @@ pub fn tree_with(
     let nodes = nodes_of(alloc, rows)?;
     let mut modules = List::new(alloc);
     for kind in kinds {
-        modules.push(module_of(alloc, *kind, None)?)?;
+        modules.push(module_of(alloc, NAME, *kind, None)?)?;
+    }
+    Ok(Tree { nodes, modules })
+}
+
+/// The tree of these rows, with modules of these names and kinds.
+pub fn tree_named(
+    alloc: Global,
+    rows: &[ModuleRow],
+    named: &[(&str, ModuleKind)],
+) -> Result<Tree, NoMemory> {
+    let nodes = nodes_of(alloc, rows)?;
+    let mut modules = List::new(alloc);
+    for (name, kind) in named {
+        modules.push(module_of(alloc, name, *kind, None)?)?;
     }
     Ok(Tree { nodes, modules })
 }
@@ -101,7 +141,7 @@ pub fn tree_with_rescue(
     let mut modules = List::new(alloc);
     for (place, kind) in sketch.1.iter().enumerate() {
         let given = if place == number { Some(rescue) } else { None };
-        modules.push(module_of(alloc, *kind, given)?)?;
+        modules.push(module_of(alloc, NAME, *kind, given)?)?;
     }
     Ok(Tree { nodes, modules })
 }

@@ -3,35 +3,17 @@
 ghost use Rattle.std.specs.Prelude.{◌≡◌, None, IfOk};
 ghost use Rattle.p3l_firing.specs.Typed.{IsTyped};
 
-use p3l_base::{List, Name, NoMemory, Words};
+use p3l_base::{List, NoMemory, Words};
 use p3l_firing::Net;
 use p3l_link::link;
 use p3l_model::{is_outside, procs};
 use p3l_net::{Machine, ProcKind};
-use p3l_skel::{Counts, Form, ModuleInfo, ModuleKind, Node, Tree, lawful_counts, lawful_tree};
+use p3l_skel::{Counts, Tree, lawful_counts, lawful_tree};
+use p3l_sketch::tree_of_one;
 use p3l_trace::{TraceLine, agrees};
 use std::alloc::Global;
 use std::process::Abort;
 use std::test::Fail;
-
-/// The tree of one body, which takes and gives a word.
-fn tree_of_one(alloc: Global) -> Result<Tree, NoMemory> {
-    let mut nodes = List::new(alloc);
-    nodes.push(Node {
-        form: Form::Seq,
-        module: 0,
-        ins: 1,
-        outs: 1,
-        parts: List::new(alloc),
-    })?;
-    let mut modules = List::new(alloc);
-    modules.push(ModuleInfo {
-        name: Name::from_text(alloc, "main")?,
-        kind: ModuleKind::Seq,
-        rescue: None,
-    })?;
-    Ok(Tree { nodes, modules })
-}
 
 /// The net of a tree without workers.
 fn net_of(rt: &impl Abort, alloc: Global, tree: &Tree) -> Result<Net, NoMemory>

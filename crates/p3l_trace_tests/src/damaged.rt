@@ -1,9 +1,9 @@
-// Texts with one damage: the first line that isn't of its form is told.
+// Texts with one damage: the first line that isn't of its form is reported.
 
 use p3l_trace::{TraceRefusal, read_trace};
 use std::test::Fail;
 
-// Texts, each with the line that is told of it.
+// Texts, each with the line that is reported.
 const DAMAGED: [(&[u8], u64); 40] = [
     (b"", 1),
     (b"\n", 1),

@@ -1,6 +1,7 @@
 -- What a sink that may fire has, and what its firing does.
-use Rattle.std.proofs.Common.{◌≡◌, ℕ, ◌^◌, ◌<◌, false, List, [], ◌∷◌, ◌++◌, length, Some, slice_get, refl, sym, ap, ◌∙◌, subst, inr, arith, length-append}
+use Rattle.std.proofs.Common.{◌≡◌, ℕ, ◌^◌, ◌<◌, false, List, [], ◌∷◌, ◌++◌, length, Some, slice_get, refl, sym, ap, ◌∙◌, subst, inr, arith, length-append, inl}
 use Rattle.std.specs.Option.{option_to_list}
+use Rattle.std.specs.List.{AllByRecursion}
 use Rattle.p3l_base.specs.declared.outcome.Outcome.TheVariants.{Value, Trapped}
 use Rattle.p3l_base.specs.declared.outcome.Outcome.{Outcome}
 use Rattle.p3l_firing.specs.declared.process.Proc.{Proc}
@@ -10,7 +11,7 @@ use Rattle.p3l_firing.specs.Lists.{has_first, first_or}
 use Rattle.p3l_firing.specs.Nodes.{Leaf}
 use Rattle.p3l_firing.specs.Token.{credit, is_trap, has_trap}
 use Rattle.p3l_firing.specs.State.{State, own_at, pop}
-use Rattle.p3l_firing.specs.Process.{in_of}
+use Rattle.p3l_firing.specs.Process.{IsAt, in_of}
 use Rattle.p3l_firing.specs.Fire.{row_can, row_fire}
 use Rattle.p3l_firing.specs.kinds.Sink.{Fits}
 use Rattle.p3l_firing.specs.kinds.Sink as row
@@ -89,6 +90,7 @@ module _ {m : Seen} {p : ℕ} {q : Proc} (may : MayFire m p Sink) (stands : slic
             tree = refl;
             net = refl;
             inside = (reads_chan h (in_of q 0) (first_in q.ins (fits_sink h kind).ins), tt);
+            own_channels = subst (λ o. AllByRecursion (IsAt o) (in_of q 0 ∷ [])) (sym stands) (inl (first_in q.ins (fits_sink h kind).ins), tt);
             queues = λ c apart. tokens-other-take m.queues (in_of q 0) c apart.0;
             owns = λ r other. refl;
             inbox = inr refl;

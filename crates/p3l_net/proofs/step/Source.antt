@@ -1,6 +1,7 @@
 -- What a source that may fire has, and what its firing does.
-use Rattle.std.proofs.Common.{◌≡◌, ℕ, ℤ, ◌+◌, ◌^◌, ◌<◌, ◌&&◌, true, List, [], ◌∷◌, ◌++◌, length, Option, Some, None, slice_get, refl, sym, ap, ap₂, ◌∙◌, subst, inl, arith}
+use Rattle.std.proofs.Common.{◌≡◌, ℕ, ℤ, ◌+◌, ◌^◌, ◌<◌, ◌&&◌, true, List, [], ◌∷◌, ◌++◌, length, Option, Some, None, slice_get, refl, sym, ap, ap₂, ◌∙◌, subst, inl, arith, inr}
 use Rattle.std.specs.Option.{is_some, option_to_list}
+use Rattle.std.specs.List.{AllByRecursion}
 use Rattle.std.proofs.lemmas.Bool.{and_parts}
 use Rattle.std.proofs.lemmas.List.{append-nil}
 use Rattle.p3l_base.specs.declared.outcome.Outcome.TheVariants.{Value}
@@ -13,7 +14,7 @@ use Rattle.p3l_firing.specs.Nodes.{Leaf}
 use Rattle.p3l_firing.specs.Token.{plain, has_trap}
 use Rattle.p3l_ready.specs.At.{at}
 use Rattle.p3l_firing.specs.State.{State, own_at, push}
-use Rattle.p3l_firing.specs.Process.{out_of}
+use Rattle.p3l_firing.specs.Process.{IsAt, out_of}
 use Rattle.p3l_firing.specs.Fire.{row_can, row_fire}
 use Rattle.p3l_firing.specs.kinds.Source.{Fits}
 use Rattle.p3l_firing.specs.kinds.Source as row
@@ -96,6 +97,7 @@ module _ {m : Seen} {p : ℕ} {q : Proc} (may : MayFire m p Source) (stands : sl
             tree = refl;
             net = refl;
             inside = (writes_chan h (out_of q 0) (first_in q.outs (fits_source h kind).outs), tt);
+            own_channels = subst (λ o. AllByRecursion (IsAt o) (out_of q 0 ∷ [])) (sym stands) (inr (first_in q.outs (fits_source h kind).outs), tt);
             queues = λ c apart. tokens-other-put m.queues (out_of q 0) token c apart.0;
             owns = λ r other. refl;
             inbox = inl may.is;

@@ -1,4 +1,4 @@
-use Rattle.p3l_network_tests.proofs.OneNode.{root_takes_one}
+use Rattle.p3l_sketch.proofs.OneNode.{root_takes_one}
 use Rattle.p3l_network_tests.proofs.running.fill.Goals as goal
 
 pub offer-requires-clause-fits : goal.offer-requires-clause-fits

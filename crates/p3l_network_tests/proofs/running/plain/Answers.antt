@@ -1,5 +1,5 @@
 use Rattle.std.proofs.Common.{length, ap}
-use Rattle.p3l_network_tests.proofs.OneNode.{node_there, word_fits}
+use Rattle.p3l_sketch.proofs.OneNode.{node_there, word_fits}
 use Rattle.p3l_network_tests.proofs.running.plain.Goals as goal
 
 pub item_outcome-requires-clause-there : goal.item_outcome-requires-clause-there

@@ -1,5 +1,5 @@
 use Rattle.std.proofs.Common.{◌≡◌}
-use Rattle.p3l_network_tests.specs.OneNode.{one_node}
+use Rattle.p3l_sketch.specs.OneNode.{one_node}
 use Rattle.p3l_network_tests.proofs.running.run.Given as goal
 
 abbrev pub invariant-loop-pick : goal.invariant-loop-pick

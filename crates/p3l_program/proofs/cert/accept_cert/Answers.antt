@@ -3,7 +3,7 @@ use Rattle.p3l_program.proofs.cert.accept_cert.Goals as goal
 
 pub returns-in-Err-clause-refused : goal.returns-in-Err-clause-refused
 returns-in-Err-clause-refused c =
-    cert_unread c.args.tree.now c.args.costs.now c.args.text.now c.in-Err.refusal c.in-Err.ensures.only c.in-Err.ensures.exact
+    cert_unread c.args.tree.now c.args.costs.now c.args.text.now c.in-Err.refusal c.in-Err.ensures.only c.in-Err.ensures.first c.in-Err.ensures.exact
 
 pub returns-in-Err-check-clause-refused : goal.returns-in-Err-check-clause-refused
 returns-in-Err-check-clause-refused c =

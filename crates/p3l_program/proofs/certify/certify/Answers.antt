@@ -5,7 +5,7 @@ use Rattle.p3l_program.specs.Explain.{IsExplained}
 use Rattle.p3l_program.specs.Saved.{SaveCause}
 use Rattle.p3l_program.specs.Stage.{build_stages}
 use Rattle.p3l_program.specs.Text.{IsWritten}
-use Rattle.p3l_program.specs.World.{change}
+use Rattle.p3l_program.specs.World.{change, files_change}
 use Rattle.p3l_program.proofs.LoadSteps.{certified, explained, loaded_passes, same_change}
 use Rattle.p3l_program.proofs.SavedSteps.{saving_due, saving_failed}
 use Rattle.p3l_program.proofs.certify.certify.Goals as goal
@@ -16,15 +16,16 @@ returns-in-Ok-save-clause-due g c =
     let loaded = c.in-Ok.loaded in
     let held = g.F.Files.held in
     let faults = g.F.Files.faults in
+    let failed = g.F.Files.failed in
     let end = c.save.new.files in
-    let files = change held faults c.args.files.now end in
+    let files = files_change held faults failed c.args.files.now end in
     let out = change g.K.Sink.taken g.K.Sink.faults c.args.out.now c.write_text.new.out in
     let text = c.in-Ok-allocation_text.text in
     let cert = c.in-Ok-certify.cert in
     let bytes = c.in-Ok-cert_text.certificate in
     let claims = c.in-Ok-certify.ensures.claims in
-    let same = same_change (held c.allot.new.files) (held c.args.files.now) (held end) (faults c.allot.new.files) (faults c.args.files.now) (faults end) c.allot.ensures.stays c.in-Ok.ensures.calm in
-    let written = subst (λ b. SaveCause (change held faults c.allot.new.files end) c.args.name b (Ok tt)) c.as_slice.ensures c.in-Ok-save.ensures.by in
+    let same = same_change (held c.allot.new.files) (held c.args.files.now) (held end) (faults c.allot.new.files) (faults c.args.files.now) (faults end) (failed end) c.allot.ensures.stays c.in-Ok.ensures.calm in
+    let written = subst (λ b. SaveCause (files_change held faults failed c.allot.new.files end) c.args.name b (Ok tt)) c.as_slice.ensures c.in-Ok-save.ensures.by in
     let save = subst (λ f. SaveCause f c.args.name bytes (Ok tt)) same written in
     saving_due files out (build_stages c.args.build) (IsExplained (held c.args.files.now) c.args.build) c.args.name (IsCertificate (held c.args.files.now) c.args.build) text bytes
     (loaded_passes c.args.build loads.r loaded files loads.is)
@@ -38,16 +39,17 @@ returns-clause-due g c =
     let loaded = c.in-Ok.loaded in
     let held = g.F.Files.held in
     let faults = g.F.Files.faults in
+    let failed = g.F.Files.failed in
     let end = c.save.new.files in
-    let files = change held faults c.args.files.now end in
+    let files = files_change held faults failed c.args.files.now end in
     let out = change g.K.Sink.taken g.K.Sink.faults c.args.out.now c.args.out.now in
     let text = c.in-Ok-allocation_text.text in
     let cert = c.in-Ok-certify.cert in
     let bytes = c.in-Ok-cert_text.certificate in
     let claims = c.in-Ok-certify.ensures.claims in
     let v = c.in-Err-save.verdict in
-    let same = same_change (held c.allot.new.files) (held c.args.files.now) (held end) (faults c.allot.new.files) (faults c.args.files.now) (faults end) c.allot.ensures.stays c.in-Ok.ensures.calm in
-    let written = subst (λ b. SaveCause (change held faults c.allot.new.files end) c.args.name b (Err v)) c.as_slice.ensures c.in-Err-save.ensures.by in
+    let same = same_change (held c.allot.new.files) (held c.args.files.now) (held end) (faults c.allot.new.files) (faults c.args.files.now) (faults end) (failed end) c.allot.ensures.stays c.in-Ok.ensures.calm in
+    let written = subst (λ b. SaveCause (files_change held faults failed c.allot.new.files end) c.args.name b (Err v)) c.as_slice.ensures c.in-Err-save.ensures.by in
     saving_failed files out (build_stages c.args.build) (IsExplained (held c.args.files.now) c.args.build) c.args.name (IsCertificate (held c.args.files.now) c.args.build) text bytes
     (loaded_passes c.args.build loads.r loaded files loads.is)
     (explained c.args.build loads.r loaded (held c.args.files.now) text loads.is c.in-Ok-allocation_text.ensures)

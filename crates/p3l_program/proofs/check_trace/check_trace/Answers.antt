@@ -3,7 +3,7 @@ use Rattle.p3l_program.specs.Plan.{network_in}
 use Rattle.p3l_program.specs.Stage.{build_stages, readable, traced}
 use Rattle.p3l_program.specs.Trace.{BeginsTrace, EndsTrace, IsCheckOf, check_stages}
 use Rattle.p3l_program.specs.TraceFile.{trace_limit}
-use Rattle.p3l_program.specs.World.{change, world}
+use Rattle.p3l_program.specs.World.{change, files_change, world}
 use Rattle.p3l_program.proofs.LoadSteps.{not_loaded_front, same_change}
 use Rattle.p3l_program.proofs.TextSteps.{not_loaded}
 use Rattle.p3l_program.proofs.TraceSteps.{check_due}
@@ -14,17 +14,18 @@ returns-in-Ok-clause-due g c =
     let net = network_in c.in-Ok.loaded in
     let held = g.F.Files.held in
     let faults = g.F.Files.faults in
+    let failed = g.F.Files.failed in
     let end = c.check_network.new.files in
-    let files = change held faults c.args.files.now end in
+    let files = files_change held faults failed c.args.files.now end in
     let input = change g.S.Source.rest g.S.Source.faults c.args.input.now c.check_network.new.input in
     let out = change g.K.Sink.taken g.K.Sink.faults c.args.out.now c.check_network.new.out in
-    let same = same_change (held c.load_network.new.files) (held c.args.files.now) (held end) (faults c.load_network.new.files) (faults c.args.files.now) (faults end) c.load_network.ensures.stays c.in-Ok.ensures.calm in
+    let same = same_change (held c.load_network.new.files) (held c.args.files.now) (held end) (faults c.load_network.new.files) (faults c.args.files.now) (faults end) (failed end) c.load_network.ensures.stays c.in-Ok.ensures.calm in
     let checked = subst (λ f. IsCheckOf net f input out c.args.name c.check_network.result) same c.check_network.ensures.checked in
     check_due files input out c.args.build net c.in-Ok.ensures.network c.args.name c.check_network.result checked
 
 pub returns-in-Err-clause-due : goal.returns-in-Err-clause-due
 returns-in-Err-clause-due g c =
-    let files = change g.F.Files.held g.F.Files.faults c.args.files.now c.load_network.new.files in
+    let files = files_change g.F.Files.held g.F.Files.faults g.F.Files.failed c.args.files.now c.load_network.new.files in
     let input = change g.S.Source.rest g.S.Source.faults c.args.input.now c.args.input.now in
     let out = change g.K.Sink.taken g.K.Sink.faults c.args.out.now c.args.out.now in
     let build = c.args.build in

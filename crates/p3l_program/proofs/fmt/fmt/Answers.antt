@@ -2,13 +2,13 @@ use Rattle.std.proofs.Common.{refl, subst}
 use Rattle.p3l_report.specs.declared.verdict.Refusal.TheVariants as refusal
 use Rattle.p3l_report.specs.declared.verdict.Verdict.TheVariants as verdict
 use Rattle.p3l_program.specs.Fmt.{HasNoCanonical, IsFormatted, fmt_stages}
-use Rattle.p3l_program.specs.World.{change}
+use Rattle.p3l_program.specs.World.{change, files_change}
 use Rattle.p3l_program.proofs.TextSteps.{not_formatted, text_refused}
 use Rattle.p3l_program.proofs.fmt.fmt.Goals as goal
 
 pub returns-in-Err-At-clause-due : goal.returns-in-Err-At-clause-due
 returns-in-Err-At-clause-due g c =
-    let files = change g.F.Files.held g.F.Files.faults c.args.files.now c.find_text.new.files in
+    let files = files_change g.F.Files.held g.F.Files.faults g.F.Files.failed c.args.files.now c.find_text.new.files in
     let told = subst (λ text. HasNoCanonical text c.in-Err-At.field-0) c.as_slice.ensures c.in-Err-At.ensures.refused in
     let faulty = subst (λ refusal. HasNoCanonical c.in-Ok.text refusal) c.in-Err-At.field-0-is told in
     text_refused files (change g.K.Sink.taken g.K.Sink.faults c.args.out.now c.args.out.now) (fmt_stages c.args.name) (IsFormatted (g.F.Files.held c.args.files.now) c.args.name)

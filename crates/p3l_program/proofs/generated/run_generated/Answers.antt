@@ -2,7 +2,7 @@ use Rattle.std.proofs.Common.{Ok, ◌<◌, ◌≤◌, ◌^◌, arith, inl, lengt
 use Rattle.p3l_gen.specs.Texts.{costs_text, program_text}
 use Rattle.p3l_program.specs.Generated.{gen_of, saves_with}
 use Rattle.p3l_program.specs.Saved.{HasSaves}
-use Rattle.p3l_program.specs.World.{change}
+use Rattle.p3l_program.specs.World.{change, files_change}
 use Rattle.p3l_program.proofs.GenLengths.{program_short, stream_short}
 use Rattle.p3l_program.proofs.GenSteps.{generated_due}
 use Rattle.p3l_program.proofs.generated.run_generated.Goals as goal
@@ -15,7 +15,7 @@ run_texts-requires-clause-short g c = subst (λ t. length t < 2 ^ 36) (sym c.in-
 
 pub returns-in-Ok-save_where : goal.returns-in-Ok-save_where
 returns-in-Ok-save_where g c =
-    let files = change g.F.Files.held g.F.Files.faults c.args.files.now c.save_where.new.files in
+    let files = files_change g.F.Files.held g.F.Files.faults g.F.Files.failed c.args.files.now c.save_where.new.files in
     let out = change g.K.Sink.taken g.K.Sink.faults c.args.out.now c.run_texts.new.out in
     let q = gen_of c.args.number c.args.processors c.args.items c.args.asked c.args.prefix in
     let texts = c.in-Ok.texts in

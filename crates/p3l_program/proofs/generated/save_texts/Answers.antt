@@ -2,7 +2,7 @@ use Rattle.std.proofs.Common.{[], ◌∷◌, ◌++◌, codes, subst}
 use Rattle.std.proofs.lemmas.Result.{err_from_is_err_and}
 use Rattle.std.specs.declared.result.Result.TheVariants.{Ok, Err}
 use Rattle.p3l_program.specs.Saved.{HasSave}
-use Rattle.p3l_program.specs.World.{change}
+use Rattle.p3l_program.specs.World.{files_change}
 use Rattle.p3l_program.proofs.SeriesSteps.{costs_separated, program_separated, saves_failed, saves_last, saves_then}
 use Rattle.p3l_program.proofs.generated.save_texts.Goals as goal
 
@@ -11,10 +11,10 @@ returns-in_err-save_as g c =
     let p = err_from_is_err_and c.from_residual.result c.from_residual.ensures.1 in
     let prefix = c.args.prefix.now in
     let texts = c.args.texts.now in
-    let files = change g.F.Files.held g.F.Files.faults c.args.files.now c.save_as.new.files in
+    let files = files_change g.F.Files.held g.F.Files.faults g.F.Files.failed c.args.files.now c.save_as.new.files in
     let v = c.in_err-save_as.field-0.0 in
-    let failed = subst (λ b. HasSave files (prefix ++ codes ".p3l") b (Err v)) c.as_slice.ensures c.in_err-save_as.ensures in
-    rw (p.1, p.2) (saves_failed files (prefix ++ codes ".p3l") texts.program ((prefix ++ codes ".toml", texts.costs) ∷ ((prefix ++ codes ".txt", texts.stream) ∷ [])) v failed)
+    let unsaved = subst (λ b. HasSave files (prefix ++ codes ".p3l") b (Err v)) c.as_slice.ensures c.in_err-save_as.ensures in
+    rw (p.1, p.2) (saves_failed files (prefix ++ codes ".p3l") texts.program ((prefix ++ codes ".toml", texts.costs) ∷ ((prefix ++ codes ".txt", texts.stream) ∷ [])) v unsaved)
 
 pub returns-in_err-save_as-2 : goal.returns-in_err-save_as-2
 returns-in_err-save_as-2 g c =
@@ -23,14 +23,15 @@ returns-in_err-save_as-2 g c =
     let texts = c.args.texts.now in
     let held = g.F.Files.held in
     let faults = g.F.Files.faults in
+    let failed = g.F.Files.failed in
     let old = c.args.files.now in
     let mid = c.save_as.new.files in
     let end = c.save_as-2.new.files in
     let v = c.in_err-save_as-2.field-0.0 in
-    let first = subst (λ b. HasSave (change held faults old mid) (prefix ++ codes ".p3l") b (Ok tt)) c.as_slice.ensures c.in_ok-save_as.ensures in
-    let failed = subst (λ b. HasSave (change held faults mid end) (prefix ++ codes ".toml") b (Err v)) c.as_slice-2.ensures c.in_err-save_as-2.ensures in
-    let more = saves_failed (change held faults mid end) (prefix ++ codes ".toml") texts.costs ((prefix ++ codes ".txt", texts.stream) ∷ []) v failed in
-    rw (p.1, p.2) (saves_then (held old) (held mid) (held end) (faults old) (faults mid) (faults end) (prefix ++ codes ".p3l") texts.program
+    let first = subst (λ b. HasSave (files_change held faults failed old mid) (prefix ++ codes ".p3l") b (Ok tt)) c.as_slice.ensures c.in_ok-save_as.ensures in
+    let unsaved = subst (λ b. HasSave (files_change held faults failed mid end) (prefix ++ codes ".toml") b (Err v)) c.as_slice-2.ensures c.in_err-save_as-2.ensures in
+    let more = saves_failed (files_change held faults failed mid end) (prefix ++ codes ".toml") texts.costs ((prefix ++ codes ".txt", texts.stream) ∷ []) v unsaved in
+    rw (p.1, p.2) (saves_then (held old) (held mid) (held end) (faults old) (faults mid) (faults end) (failed mid) (failed end) (prefix ++ codes ".p3l") texts.program
     ((prefix ++ codes ".toml", texts.costs) ∷ ((prefix ++ codes ".txt", texts.stream) ∷ [])) (program_separated prefix) first (Err v) more)
 
 pub returns : goal.returns
@@ -39,15 +40,16 @@ returns g c =
     let texts = c.args.texts.now in
     let held = g.F.Files.held in
     let faults = g.F.Files.faults in
+    let failed = g.F.Files.failed in
     let old = c.args.files.now in
     let mid = c.save_as.new.files in
     let late = c.save_as-2.new.files in
     let end = c.save_as-3.new.files in
     let result = c.save_as-3.result in
-    let first = subst (λ b. HasSave (change held faults old mid) (prefix ++ codes ".p3l") b (Ok tt)) c.as_slice.ensures c.in_ok-save_as.ensures in
-    let second = subst (λ b. HasSave (change held faults mid late) (prefix ++ codes ".toml") b (Ok tt)) c.as_slice-2.ensures c.in_ok-save_as-2.ensures in
-    let third = subst (λ b. HasSave (change held faults late end) (prefix ++ codes ".txt") b result) c.as_slice-3.ensures c.save_as-3.ensures in
-    let last = saves_last (change held faults late end) (prefix ++ codes ".txt") texts.stream result third in
-    let more = saves_then (held mid) (held late) (held end) (faults mid) (faults late) (faults end) (prefix ++ codes ".toml") texts.costs ((prefix ++ codes ".txt", texts.stream) ∷ []) (costs_separated prefix) second result last in
-    saves_then (held old) (held mid) (held end) (faults old) (faults mid) (faults end) (prefix ++ codes ".p3l") texts.program
+    let first = subst (λ b. HasSave (files_change held faults failed old mid) (prefix ++ codes ".p3l") b (Ok tt)) c.as_slice.ensures c.in_ok-save_as.ensures in
+    let second = subst (λ b. HasSave (files_change held faults failed mid late) (prefix ++ codes ".toml") b (Ok tt)) c.as_slice-2.ensures c.in_ok-save_as-2.ensures in
+    let third = subst (λ b. HasSave (files_change held faults failed late end) (prefix ++ codes ".txt") b result) c.as_slice-3.ensures c.save_as-3.ensures in
+    let last = saves_last (files_change held faults failed late end) (prefix ++ codes ".txt") texts.stream result third in
+    let more = saves_then (held mid) (held late) (held end) (faults mid) (faults late) (faults end) (failed late) (failed end) (prefix ++ codes ".toml") texts.costs ((prefix ++ codes ".txt", texts.stream) ∷ []) (costs_separated prefix) second result last in
+    saves_then (held old) (held mid) (held end) (faults old) (faults mid) (faults end) (failed mid) (failed end) (prefix ++ codes ".p3l") texts.program
     ((prefix ++ codes ".toml", texts.costs) ∷ ((prefix ++ codes ".txt", texts.stream) ∷ [])) (program_separated prefix) first result more

@@ -5,13 +5,13 @@ use Rattle.p3l_image.specs.Refusal.{Answers}
 use Rattle.p3l_program.specs.Image.{IsImage}
 use Rattle.p3l_program.specs.Load.{IsNotLoaded}
 use Rattle.p3l_program.specs.Stage.{migratable, migrate_stages}
-use Rattle.p3l_program.specs.World.{change}
+use Rattle.p3l_program.specs.World.{files_change}
 use Rattle.p3l_program.proofs.ImageSteps.{not_decoded, not_migrated, same_image}
 use Rattle.p3l_program.proofs.image.migrate_image.Goals as goal
 
 pub returns-in-Err-decode-clause-refused : goal.returns-in-Err-decode-clause-refused
 returns-in-Err-decode-clause-refused g c =
-    let files = change g.F.Files.held g.F.Files.faults c.args.files.now c.find_text.new.files in
+    let files = files_change g.F.Files.held g.F.Files.faults g.F.Files.failed c.args.files.now c.find_text.new.files in
     let bytes = c.in-Ok.bytes in
     let r = c.in-Err-decode.refusal in
     let only = subst (λ (b : List ℕ). (i : Image) → IsImage i b → Answers b (Err r) (Ok i)) c.as_slice.ensures c.in-Err-decode.ensures.only in
@@ -21,7 +21,7 @@ returns-in-Err-decode-clause-refused g c =
 
 pub returns-clause-refused : goal.returns-clause-refused
 returns-clause-refused g c =
-    let files = change g.F.Files.held g.F.Files.faults c.args.files.now c.find_text.new.files in
+    let files = files_change g.F.Files.held g.F.Files.faults g.F.Files.failed c.args.files.now c.find_text.new.files in
     let bytes = c.in-Ok.bytes in
     let i = c.in-Ok-decode.image in
     let found = subst (λ (b : List ℕ). IsImage i b) c.as_slice.ensures c.in-Ok-decode.ensures.found in

@@ -6,7 +6,7 @@ use Rattle.p3l_load.specs.Load.{IsRunnable}
 use Rattle.p3l_program.specs.Migrate.{IsMigrated}
 use Rattle.p3l_program.specs.Saved.{SaveCause}
 use Rattle.p3l_program.specs.Stage.{migrate_stages}
-use Rattle.p3l_program.specs.World.{change}
+use Rattle.p3l_program.specs.World.{files_change}
 use Rattle.p3l_program.proofs.CompileSteps.{file_due, file_failed}
 use Rattle.p3l_program.proofs.ImageSteps.{migrate_passes}
 use Rattle.p3l_program.proofs.LoadSteps.{same_change}
@@ -24,11 +24,12 @@ returns-in-Ok-save-clause-due g c =
     let image = c.in-Ok.image in
     let held = g.F.Files.held in
     let faults = g.F.Files.faults in
+    let failed = g.F.Files.failed in
     let end = c.save.new.files in
-    let files = change held faults c.args.files.now end in
+    let files = files_change held faults failed c.args.files.now end in
     let bytes = c.in-Ok-encode.bytes in
-    let same = same_change (held c.migrate_image.new.files) (held c.args.files.now) (held end) (faults c.migrate_image.new.files) (faults c.args.files.now) (faults end) c.migrate_image.ensures.stays c.in-Ok.ensures.calm in
-    let written = subst (λ b. SaveCause (change held faults c.migrate_image.new.files end) c.args.output b (Ok tt)) c.as_slice.ensures c.in-Ok-save.ensures.by in
+    let same = same_change (held c.migrate_image.new.files) (held c.args.files.now) (held end) (faults c.migrate_image.new.files) (faults c.args.files.now) (faults end) (failed end) c.migrate_image.ensures.stays c.in-Ok.ensures.calm in
+    let written = subst (λ b. SaveCause (files_change held faults failed c.migrate_image.new.files end) c.args.output b (Ok tt)) c.as_slice.ensures c.in-Ok-save.ensures.by in
     file_due files (migrate_stages c.args.name) c.args.output (IsMigrated (held c.args.files.now) c.args.name) bytes (migrate_passes files c.args.name image m)
     (record { image = image; migrates = m; bytes_are = c.in-Ok-encode.ensures }) (subst (λ f. SaveCause f c.args.output bytes (Ok tt)) same written)
 
@@ -38,11 +39,12 @@ returns-clause-due g c =
     let image = c.in-Ok.image in
     let held = g.F.Files.held in
     let faults = g.F.Files.faults in
+    let failed = g.F.Files.failed in
     let end = c.save.new.files in
-    let files = change held faults c.args.files.now end in
+    let files = files_change held faults failed c.args.files.now end in
     let bytes = c.in-Ok-encode.bytes in
     let v = c.in-Err-save.verdict in
-    let same = same_change (held c.migrate_image.new.files) (held c.args.files.now) (held end) (faults c.migrate_image.new.files) (faults c.args.files.now) (faults end) c.migrate_image.ensures.stays c.in-Ok.ensures.calm in
-    let written = subst (λ b. SaveCause (change held faults c.migrate_image.new.files end) c.args.output b (Err v)) c.as_slice.ensures c.in-Err-save.ensures.by in
+    let same = same_change (held c.migrate_image.new.files) (held c.args.files.now) (held end) (faults c.migrate_image.new.files) (faults c.args.files.now) (faults end) (failed end) c.migrate_image.ensures.stays c.in-Ok.ensures.calm in
+    let written = subst (λ b. SaveCause (files_change held faults failed c.migrate_image.new.files end) c.args.output b (Err v)) c.as_slice.ensures c.in-Err-save.ensures.by in
     file_failed files (migrate_stages c.args.name) c.args.output (IsMigrated (held c.args.files.now) c.args.name) bytes (migrate_passes files c.args.name image m)
     (record { image = image; migrates = m; bytes_are = c.in-Ok-encode.ensures }) v (subst (λ f. SaveCause f c.args.output bytes (Err v)) same written)

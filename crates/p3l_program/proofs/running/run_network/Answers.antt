@@ -2,7 +2,7 @@ use Rattle.std.proofs.Common.{◌≡◌, refl, subst, sym, ◌∙◌}
 use Rattle.p3l_program.specs.Run.{IsRunOf, KeepsRun}
 use Rattle.p3l_run.specs.Network.{IsSound}
 use Rattle.p3l_skel.specs.Numbers.{firings}
-use Rattle.p3l_program.specs.World.{change}
+use Rattle.p3l_program.specs.World.{change, files_change}
 use Rattle.p3l_program.proofs.SoundSteps.{loaded_network, loaded_sound}
 use Rattle.p3l_program.proofs.running.run_network.Goals as goal
 
@@ -13,7 +13,7 @@ run_plan-requires-clause-sound g c =
 
 pub returns-clause-ran : goal.returns-clause-ran
 returns-clause-ran g c =
-    let files = change g.F.Files.held g.F.Files.faults c.args.files.now c.run_plan.new.files in
+    let files = files_change g.F.Files.held g.F.Files.faults g.F.Files.failed c.args.files.now c.run_plan.new.files in
     let input = change g.S.Source.rest g.S.Source.faults c.args.input.now c.run_plan.new.input in
     let out = change g.K.Sink.taken g.K.Sink.faults c.args.out.now c.run_plan.new.out in
     let bound = firings c.args.loaded.tree c.args.loaded.counts.list in
@@ -22,7 +22,7 @@ returns-clause-ran g c =
 
 pub returns-clause-kept : goal.returns-clause-kept
 returns-clause-kept g c =
-    let files = change g.F.Files.held g.F.Files.faults c.args.files.now c.run_plan.new.files in
+    let files = files_change g.F.Files.held g.F.Files.faults g.F.Files.failed c.args.files.now c.run_plan.new.files in
     let input = change g.S.Source.rest g.S.Source.faults c.args.input.now c.run_plan.new.input in
     let out = change g.K.Sink.taken g.K.Sink.faults c.args.out.now c.run_plan.new.out in
     let bound = firings c.args.loaded.tree c.args.loaded.counts.list in

@@ -2,7 +2,7 @@ use Rattle.std.proofs.Common.{refl, rules, subst}
 use Rattle.p3l_opts.specs.declared.command.Command.TheVariants as command
 use Rattle.p3l_opts.specs.Command.{Spells, texts_of}
 use Rattle.p3l_program.specs.Command.{work_of}
-use Rattle.p3l_program.specs.World.{change}
+use Rattle.p3l_program.specs.World.{change, files_change}
 use Rattle.p3l_program.proofs.DueSteps.{check_asked, file_asked, gen_asked, run_asked, saving_asked, text_asked}
 use Rattle.p3l_program.proofs.GenSteps.{items_few}
 use Rattle.p3l_program.proofs.top.perform.Goals as goal
@@ -13,7 +13,7 @@ returns-in-Ok-Check g c =
     let asked = c.in-Ok-Check in
     let spelled : Spells (texts_of c.args.words.now) (command.Check asked.name) = search (rules, asked.ensures.spelled) in record {
       due =
-          text_asked (texts_of c.args.words.now) _ spelled (change g.F.Files.held g.F.Files.faults c.args.files.now c.check.new.files)
+          text_asked (texts_of c.args.words.now) _ spelled (files_change g.F.Files.held g.F.Files.faults g.F.Files.failed c.args.files.now c.check.new.files)
           (change g.K.Sink.taken g.K.Sink.faults c.args.out.now c.check.new.out) (g.S.Source.rest c.args.input.now) (g.S.Source.faults c.args.input.now)
           c.check.result _ _ refl c.check.ensures.due c.check.ensures.stays;
     }
@@ -24,7 +24,7 @@ returns-in-Ok-Fmt g c =
     let asked = c.in-Ok-Fmt in
     let spelled : Spells (texts_of c.args.words.now) (command.Fmt asked.name) = search (rules, asked.ensures.spelled) in record {
       due =
-          text_asked (texts_of c.args.words.now) _ spelled (change g.F.Files.held g.F.Files.faults c.args.files.now c.fmt.new.files)
+          text_asked (texts_of c.args.words.now) _ spelled (files_change g.F.Files.held g.F.Files.faults g.F.Files.failed c.args.files.now c.fmt.new.files)
           (change g.K.Sink.taken g.K.Sink.faults c.args.out.now c.fmt.new.out) (g.S.Source.rest c.args.input.now) (g.S.Source.faults c.args.input.now)
           c.fmt.result _ _ refl c.fmt.ensures.due c.fmt.ensures.stays;
     }
@@ -36,7 +36,7 @@ returns-in-None g c =
     let asked = subst (λ k. Spells words k) c.in-Ok-Explain.field-0-is c.in-Ok-Explain.ensures.spelled in
     let spelled = subst (λ cert. Spells words (command.Explain c.in-Ok-Explain.build cert)) c.in-None.is asked in record {
       due =
-          text_asked words _ spelled (change g.F.Files.held g.F.Files.faults c.args.files.now c.explain.new.files)
+          text_asked words _ spelled (files_change g.F.Files.held g.F.Files.faults g.F.Files.failed c.args.files.now c.explain.new.files)
           (change g.K.Sink.taken g.K.Sink.faults c.args.out.now c.explain.new.out) (g.S.Source.rest c.args.input.now) (g.S.Source.faults c.args.input.now)
           c.explain.result _ _ refl c.explain.ensures.due c.explain.ensures.stays;
     }
@@ -48,7 +48,7 @@ returns-in-Some g c =
     let asked = subst (λ k. Spells words k) c.in-Ok-Explain.field-0-is c.in-Ok-Explain.ensures.spelled in
     let spelled = subst (λ cert. Spells words (command.Explain c.in-Ok-Explain.build cert)) c.in-Some.is asked in record {
       due =
-          saving_asked words _ spelled (change g.F.Files.held g.F.Files.faults c.args.files.now c.certify.new.files)
+          saving_asked words _ spelled (files_change g.F.Files.held g.F.Files.faults g.F.Files.failed c.args.files.now c.certify.new.files)
           (change g.K.Sink.taken g.K.Sink.faults c.args.out.now c.certify.new.out) (g.S.Source.rest c.args.input.now) (g.S.Source.faults c.args.input.now)
           c.certify.result _ _ _ _ refl c.certify.ensures.due c.certify.ensures.kept;
     }
@@ -59,7 +59,7 @@ returns-in-Ok-Compile g c =
     let asked = c.in-Ok-Compile in
     let spelled : Spells (texts_of c.args.words.now) (command.Compile asked.build asked.name) = search (rules, asked.ensures.spelled) in record {
       due =
-          file_asked (texts_of c.args.words.now) _ spelled (change g.F.Files.held g.F.Files.faults c.args.files.now c.compile.new.files)
+          file_asked (texts_of c.args.words.now) _ spelled (files_change g.F.Files.held g.F.Files.faults g.F.Files.failed c.args.files.now c.compile.new.files)
           (change g.K.Sink.taken g.K.Sink.faults c.args.out.now c.args.out.now) (g.S.Source.rest c.args.input.now) (g.S.Source.faults c.args.input.now)
           c.compile.result _ _ _ refl (record { told = refl; calm = refl }) c.compile.ensures.due c.compile.ensures.kept;
     }
@@ -70,7 +70,7 @@ returns-in-Ok-Migrate g c =
     let asked = c.in-Ok-Migrate in
     let spelled : Spells (texts_of c.args.words.now) (command.Migrate asked.name asked.output) = search (rules, asked.ensures.spelled) in record {
       due =
-          file_asked (texts_of c.args.words.now) _ spelled (change g.F.Files.held g.F.Files.faults c.args.files.now c.migrate.new.files)
+          file_asked (texts_of c.args.words.now) _ spelled (files_change g.F.Files.held g.F.Files.faults g.F.Files.failed c.args.files.now c.migrate.new.files)
           (change g.K.Sink.taken g.K.Sink.faults c.args.out.now c.args.out.now) (g.S.Source.rest c.args.input.now) (g.S.Source.faults c.args.input.now)
           c.migrate.result _ _ _ refl (record { told = refl; calm = refl }) c.migrate.ensures.due c.migrate.ensures.kept;
     }
@@ -81,7 +81,7 @@ returns-in-Ok-Graph g c =
     let asked = c.in-Ok-Graph in
     let spelled : Spells (texts_of c.args.words.now) (command.Graph asked.build) = search (rules, asked.ensures.spelled) in record {
       due =
-          text_asked (texts_of c.args.words.now) _ spelled (change g.F.Files.held g.F.Files.faults c.args.files.now c.graph.new.files)
+          text_asked (texts_of c.args.words.now) _ spelled (files_change g.F.Files.held g.F.Files.faults g.F.Files.failed c.args.files.now c.graph.new.files)
           (change g.K.Sink.taken g.K.Sink.faults c.args.out.now c.graph.new.out) (g.S.Source.rest c.args.input.now) (g.S.Source.faults c.args.input.now)
           c.graph.result _ _ refl c.graph.ensures.due c.graph.ensures.stays;
     }
@@ -92,7 +92,7 @@ returns-in-Ok-Run g c =
     let asked = c.in-Ok-Run in
     let spelled : Spells (texts_of c.args.words.now) (command.Run asked.build asked.schedule asked.trace asked.reported) = search (rules, asked.ensures.spelled) in record {
       due =
-          run_asked (texts_of c.args.words.now) _ spelled (change g.F.Files.held g.F.Files.faults c.args.files.now c.run.new.files)
+          run_asked (texts_of c.args.words.now) _ spelled (files_change g.F.Files.held g.F.Files.faults g.F.Files.failed c.args.files.now c.run.new.files)
           (change g.S.Source.rest g.S.Source.faults c.args.input.now c.run.new.input)
           (change g.K.Sink.taken g.K.Sink.faults c.args.out.now c.run.new.out)
           c.run.result _ refl c.run.ensures.due c.run.ensures.kept c.run.ensures.over;
@@ -104,7 +104,7 @@ returns-in-Ok-VerifyCert g c =
     let asked = c.in-Ok-VerifyCert in
     let spelled : Spells (texts_of c.args.words.now) (command.VerifyCert asked.program asked.cert asked.costs) = search (rules, asked.ensures.spelled) in record {
       due =
-          text_asked (texts_of c.args.words.now) _ spelled (change g.F.Files.held g.F.Files.faults c.args.files.now c.verify_cert.new.files)
+          text_asked (texts_of c.args.words.now) _ spelled (files_change g.F.Files.held g.F.Files.faults g.F.Files.failed c.args.files.now c.verify_cert.new.files)
           (change g.K.Sink.taken g.K.Sink.faults c.args.out.now c.verify_cert.new.out) (g.S.Source.rest c.args.input.now) (g.S.Source.faults c.args.input.now)
           c.verify_cert.result _ _ refl c.verify_cert.ensures.due c.verify_cert.ensures.stays;
     }
@@ -115,7 +115,7 @@ returns-in-Ok-Exec g c =
     let asked = c.in-Ok-Exec in
     let spelled : Spells (texts_of c.args.words.now) (command.Exec asked.name asked.schedule asked.trace asked.reported) = search (rules, asked.ensures.spelled) in record {
       due =
-          run_asked (texts_of c.args.words.now) _ spelled (change g.F.Files.held g.F.Files.faults c.args.files.now c.exec.new.files)
+          run_asked (texts_of c.args.words.now) _ spelled (files_change g.F.Files.held g.F.Files.faults g.F.Files.failed c.args.files.now c.exec.new.files)
           (change g.S.Source.rest g.S.Source.faults c.args.input.now c.exec.new.input)
           (change g.K.Sink.taken g.K.Sink.faults c.args.out.now c.exec.new.out)
           c.exec.result _ refl c.exec.ensures.due c.exec.ensures.kept c.exec.ensures.over;
@@ -127,7 +127,7 @@ returns-in-Ok-CheckTrace g c =
     let asked = c.in-Ok-CheckTrace in
     let spelled : Spells (texts_of c.args.words.now) (command.CheckTrace asked.build asked.name) = search (rules, asked.ensures.spelled) in record {
       due =
-          check_asked (texts_of c.args.words.now) _ spelled (change g.F.Files.held g.F.Files.faults c.args.files.now c.check_trace.new.files)
+          check_asked (texts_of c.args.words.now) _ spelled (files_change g.F.Files.held g.F.Files.faults g.F.Files.failed c.args.files.now c.check_trace.new.files)
           (change g.S.Source.rest g.S.Source.faults c.args.input.now c.check_trace.new.input)
           (change g.K.Sink.taken g.K.Sink.faults c.args.out.now c.check_trace.new.out)
           c.check_trace.result _ _ refl c.check_trace.ensures.due c.check_trace.ensures.stays;
@@ -145,7 +145,7 @@ returns-in-Ok-Gen g c =
     let asked = c.in-Ok-Gen in
     let spelled : Spells (texts_of c.args.words.now) (command.Gen asked.number asked.processors asked.items asked.schedule asked.prefix) = search (rules, asked.ensures.spelled) in record {
       due =
-          gen_asked (texts_of c.args.words.now) _ spelled (change g.F.Files.held g.F.Files.faults c.args.files.now c.run_generated.new.files)
+          gen_asked (texts_of c.args.words.now) _ spelled (files_change g.F.Files.held g.F.Files.faults g.F.Files.failed c.args.files.now c.run_generated.new.files)
           (change g.K.Sink.taken g.K.Sink.faults c.args.out.now c.run_generated.new.out) (g.S.Source.rest c.args.input.now) (g.S.Source.faults c.args.input.now)
           c.run_generated.result _ refl c.run_generated.ensures.due;
     }

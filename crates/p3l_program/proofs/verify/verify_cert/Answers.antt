@@ -1,7 +1,7 @@
 use Rattle.std.proofs.Common.{◌≡◌}
 use Rattle.p3l_program.specs.Stage.{verify_stages}
 use Rattle.p3l_program.specs.Verify.{IsVerified, holds_line}
-use Rattle.p3l_program.specs.World.{change}
+use Rattle.p3l_program.specs.World.{change, files_change}
 use Rattle.p3l_program.proofs.CertSteps.{verified, verified_passes}
 use Rattle.p3l_program.proofs.TextSteps.{text_due}
 use Rattle.p3l_program.proofs.verify.verify_cert.Goals as goal
@@ -10,7 +10,7 @@ pub returns-clause-due : goal.returns-clause-due
 returns-clause-due g c =
     let args = c.args in
     let old = g.F.Files.held args.files.now in
-    let files = change g.F.Files.held g.F.Files.faults args.files.now c.load_cert.new.files in
+    let files = files_change g.F.Files.held g.F.Files.faults g.F.Files.failed args.files.now c.load_cert.new.files in
     let out = change g.K.Sink.taken g.K.Sink.faults args.out.now c.write_text.new.out in
     let cert = c.in-Ok.cert in
     let loads = c.in-Ok.ensures.loaded in

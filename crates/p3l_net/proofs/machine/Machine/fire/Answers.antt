@@ -5,8 +5,8 @@ use Rattle.p3l_skel.specs.Tree.{GivesOuts}
 use Rattle.p3l_ready.specs.Flags.{flag_at}
 use Rattle.p3l_firing.specs.declared.net.Net.{Net}
 use Rattle.p3l_net.specs.Machine.{Seen, can_step}
-use Rattle.p3l_net.specs.Steps.{HasEnds, IsApart, ready_at}
-use Rattle.p3l_net.proofs.Frame.{others_agree}
+use Rattle.p3l_net.specs.Steps.{HasEnds, IsApart, OthersStay, ready_at}
+use Rattle.p3l_net.proofs.Frame.{others_agree, others_stay, inbox_stays}
 use Rattle.p3l_net.proofs.SoundLaw.{fired_sound}
 use Rattle.p3l_net.proofs.machine.Machine.fire.Goals as goal
 
@@ -35,3 +35,11 @@ invariant_of-self-2 g c =
       agrees = c.refresh.ensures;
       sides = subst (λ (n : Net). HasEnds n c.self.inside.sides) (sym c.in_ok-step.ensures.done.moves.net) c.self.invariant.sides;
     }
+
+pub returns-clause-others : goal.returns-clause-others
+returns-clause-others g c =
+    subst (λ (x : Seen). OthersStay x c.fire.new.self c.args.p) c.self.view_is (others_stay c.in_ok-step.ensures.done.moves)
+
+pub returns-clause-item : goal.returns-clause-item
+returns-clause-item g c =
+    subst (λ (x : Seen). c.args.p ≢ 0 → c.fire.new.self.inbox ≡ x.inbox) c.self.view_is (inbox_stays c.in_ok-step.ensures.done.moves)

@@ -3,7 +3,7 @@ use Rattle.p3l_skel.specs.Tree.{node_at}
 use Rattle.p3l_ready.specs.Flags.{flag_at}
 use Rattle.p3l_net.specs.Machine.{Seen, IsSound}
 use Rattle.p3l_net.specs.Steps.{HasEnds, IsApart, ready_at}
-use Rattle.p3l_net.proofs.Frame.{others_agree, offer_moves}
+use Rattle.p3l_net.proofs.Frame.{others_agree, offer_moves, offer_stays}
 use Rattle.p3l_net.proofs.SoundLaw.{offered_sound}
 use Rattle.p3l_net.proofs.machine.Machine.offer.Goals as goal
 
@@ -26,3 +26,8 @@ invariant_of-self c = record {
   agrees = c.refresh.ensures;
   sides = subst (λ (x : Seen). HasEnds x.net c.self.inside.sides) (sym c.offer.ensures) c.self.invariant.sides;
 }
+
+pub returns-clause-others : goal.returns-clause-others
+returns-clause-others c =
+    subst (λ (x : Seen). (r : ℕ) → r ≢ 0 → ready_at c.offer.new.self r ≡ ready_at x r) c.self.view_is
+    (offer_stays (offer_moves c.self.inside.store c.offer.new.self c.args.item c.self.invariant.sound.typed c.offer.ensures))

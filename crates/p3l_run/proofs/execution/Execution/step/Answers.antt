@@ -20,9 +20,9 @@ pub returns-in_err-self : goal.returns-in_err-self
 returns-in_err-self g c =
     let p = err_from_is_err_and c.from_residual-in_err-self.result c.from_residual-in_err-self.ensures.1 in
     rw (p.1, p.2)
-    (λ job rest faults leaf_is a. ends_unwritten job _ _ a _ _ c.in-Some.ensures (sym c.can_step.ensures.ready ∙ c.if-not-can_step.false) _ leaf_is _ _ c.in_ok-emitted.ensures _ _ _ c.in_err-self.ensures.begun c.in_err-self.ensures.cause)
+    (λ job rest faults leaf_is a. ends_unwritten job _ _ a _ _ c.in-Some.ensures (sym c.can_step.ensures.ready ∙ c.if-not-can_step.false) _ leaf_is _ _ c.in_ok-emitted.ensures.fired _ _ _ c.in_err-self.ensures.begun c.in_err-self.ensures.cause)
 
 pub returns : goal.returns
 returns g c =
     λ job rest faults leaf_is a.
-    went_on job _ _ a _ _ c.in-Some.ensures (sym c.can_step.ensures.ready ∙ c.if-not-can_step.false) _ leaf_is _ _ c.in_ok-emitted.ensures _ _ _ c.in_ok-self.ensures.trap c.in_ok-self.ensures.sum c.in_ok-self.ensures.put c.in_ok-self.ensures.cause
+    went_on job _ _ a _ _ c.in-Some.ensures (sym c.can_step.ensures.ready ∙ c.if-not-can_step.false) _ leaf_is _ _ c.in_ok-emitted.ensures.fired _ _ _ c.in_ok-self.ensures.trap c.in_ok-self.ensures.sum c.in_ok-self.ensures.put c.in_ok-self.ensures.cause

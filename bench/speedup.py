@@ -1,0 +1,83 @@
+#!/usr/bin/env python3
+"""How the finish of a run moves with the number of processors, by `p3l time`.
+
+    bench/speedup.py PATH PROGRAM COSTS ITEMS [PICTURE]
+
+PATH is the path of p3l, PROGRAM a program, COSTS its cost file and ITEMS a file of items. For 1 to 512 processors, by steps that
+grow, it simulates the run and notes its finish and how much of that the busiest process works. Beside them stands the least finish
+that the model knows: the service time of the chosen counts, once for each item. Processors that are too few for the program have
+no row. With matplotlib on the machine and a PICTURE named, both are drawn there as SVG; the table is written in any case.
+"""
+
+import re
+import subprocess
+import sys
+
+PROCESSORS = sorted({round(2 ** (step / 4)) for step in range(0, 37)})
+TIMES = re.compile(r"time: items (\d+), fired \d+, finish (\d+), busiest \d+ (\d+)")
+SERVICE = re.compile(r"processors \d+ used (\d+) service (\d+)")
+TOO_FEW = 5
+
+
+def run(words, stream=None):
+    """What a command writes on both outputs, or nothing where there are too few processors."""
+    done = subprocess.run(words, stdin=stream or subprocess.DEVNULL, capture_output=True, text=True)
+    if done.returncode == TOO_FEW:
+        return None
+    if done.returncode:
+        sys.exit(f"speedup: {' '.join(words)}: {done.stderr.strip()}")
+    return done.stdout, done.stderr
+
+
+def row(program, words, items, processors):
+    """The processes that are used, the finish, the busiest process's share of it, and the model's time for all items."""
+    options = [*words, "--processors", str(processors)]
+    with open(items) as stream:
+        timed = run([program, "time", *options], stream)
+    explained = run([program, "explain", *options])
+    if timed is None or explained is None:
+        return None
+    count, finish, busiest = map(int, TIMES.search(timed[1]).groups())
+    used, service = map(int, SERVICE.search(explained[0]).groups())
+    return used, finish, busiest / finish if finish else 0.0, count * service
+
+
+def draw(rows, name, path):
+    """The two curves over the processors, as an SVG."""
+    try:
+        from matplotlib import pyplot
+    except ImportError:
+        sys.exit("speedup: there is no matplotlib on this machine, so nothing is drawn")
+    pyplot.rcParams["svg.hashsalt"] = "p3l"
+    figure, (above, below) = pyplot.subplots(2, sharex=True, figsize=(7, 6))
+    processors = list(rows)
+    above.loglog(processors, [rows[p][1] for p in processors], "o-", label="finish, simulated")
+    above.loglog(processors, [rows[p][3] for p in processors], "--", label="items times the model's service time")
+    above.set_ylabel("ticks")
+    above.legend()
+    below.semilogx(processors, [100 * rows[p][2] for p in processors], "o-")
+    below.set_ylabel("% of the finish that the busiest works")
+    below.set_xlabel("processors")
+    below.set_ylim(0, 105)
+    figure.suptitle(name)
+    figure.savefig(path, format="svg", metadata={"Date": None})
+
+
+def main(words):
+    if len(words) not in (4, 5):
+        sys.exit(__doc__)
+    program, source, costs, items = words[:4]
+    rows = {}
+    print("processors  used      finish  busiest  items x service")
+    for processors in PROCESSORS:
+        found = row(program, [source, "--costs", costs], items, processors)
+        if found is not None:
+            rows[processors] = found
+            used, finish, share, model = found
+            print(f"{processors:>10} {used:>5} {finish:>11} {100 * share:>7.1f}% {model:>16}", flush=True)
+    if len(words) == 5:
+        draw(rows, source, words[4])
+
+
+if __name__ == "__main__":
+    main(sys.argv[1:])

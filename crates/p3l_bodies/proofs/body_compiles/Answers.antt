@@ -1,5 +1,0 @@
-use Rattle.p3l_bodies.proofs.Ordered.{body_compiles}
-use Rattle.p3l_bodies.proofs.body_compiles.Goals as goal
-
-pub returns : goal.returns
-returns c = body_compiles

@@ -1,5 +1,0 @@
-use Rattle.p3l_compiled.proofs.Entries.{program_named}
-use Rattle.p3l_compiled.proofs.laws.every_body_has_its_module.Goals as goal
-
-pub returns : goal.returns
-returns c = λ bytes program r spelled keeps. (program_named program r (c.every_entry_has_a_name.ensures bytes program spelled) keeps).bodies

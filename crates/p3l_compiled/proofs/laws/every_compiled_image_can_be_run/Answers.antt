@@ -1,5 +1,0 @@
-use Rattle.p3l_compiled.proofs.Runnable.{compiled_runs}
-use Rattle.p3l_compiled.proofs.laws.every_compiled_image_can_be_run.Goals as goal
-
-pub returns : goal.returns
-returns c = compiled_runs c.every_body_has_its_module.ensures c.a_linked_net_is_typed.ensures

@@ -1,0 +1,24 @@
+// What can be copied.
+
+ghost use Rattle.std.specs.Prelude.{◌≡◌, IfOk};
+
+use p3l_base::{List, NoMemory};
+use std::alloc::Global;
+
+/// What has copies that contracts can't tell from it.
+pub trait Copied: Drop {
+    /// A copy.
+    fn copied(&self, alloc: Global) -> Result<Self, NoMemory>
+        ensures { IfOk result (λ copy. copy ≡ self.now) };
+}
+
+/// Copies of items, in their order.
+pub fn copies<T: Copied>(alloc: Global, items: &[T]) -> Result<List<T>, NoMemory>
+    ensures { IfOk result (λ copies. copies ≡ items.now) }
+{
+    let mut copies = List::new(alloc);
+    for item in items {
+        copies.push(item.copied(alloc)?)?;
+    }
+    Ok(copies)
+}

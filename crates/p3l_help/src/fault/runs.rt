@@ -1,0 +1,115 @@
+// Pages of refusals: picks, items and traces.
+
+use crate::page::Page;
+
+/// A page for each of the numbers 95 to 111.
+pub(crate) const RUNS: &[Page] = &[
+    Page {
+        topic: "95",
+        text: "95 BadPick
+
+A word of the file of picks is no number: digits without a sign, up to
+18446744073709551615. The line counts from 1.
+
+    $ echo 'seq main in(int x) out(int y) ${ y = x; }$ end seq' >a.p3l
+    $ echo '0 2 one' >picks; echo 5 | p3l run a.p3l --processors 4 --schedule file:picks
+    schedule: line 1: 95 BadPick
+
+To mend it: separate the numbers by blanks. The first words of a trace's lines
+are such picks: `sed '1d;$d' a.trace | cut -d' ' -f1`.
+",
+    },
+    Page {
+        topic: "96",
+        text: "96 NoSuchProcess
+
+A pick is the number of no process of the network. The line has the pick and how
+many processes there are; they count from 0.
+
+    $ echo 'seq main in(int x) out(int y) ${ y = x; }$ end seq' >a.p3l
+    $ echo '0 2 9' >picks; echo 5 | p3l run a.p3l --processors 4 --schedule file:picks
+    schedule: line 1: 96 NoSuchProcess 9 of 3
+
+To mend it: picks belong to one program with one number of processors and one
+file of costs; record them anew.
+",
+    },
+    Page {
+        topic: "100",
+        text: "100 BadWord
+
+A line of the input has a word that is no number: an optional `-` and digits.
+Lines count from 1, and empty ones count too.
+
+    $ echo 'seq main in(int x) out(int y) ${ y = x; }$ end seq' >a.p3l
+    $ printf '1\\nx\\n' | p3l run a.p3l --processors 4
+    1
+    stream: line 2: 100 BadWord
+
+To mend it: separate numbers by spaces or tabs, and drop signs `+`, commas and
+headings: `grep -v '[^-0-9 ]'` drops such lines.
+",
+    },
+    Page {
+        topic: "101",
+        text: "101 WrongCount
+
+A line of the input has numbers, but not as many as an item has words, which is
+the sum of the words of `main`'s ins. The last number is how many the line has.
+
+    $ echo 'seq main in(int a[3]) out(int y) ${ y = a[0]; }$ end seq' >a.p3l
+    $ echo '1 2' | p3l run a.p3l --processors 4
+    stream: line 1: 101 WrongCount 2
+
+To mend it: one item is one line, an array's words in row order, the ports one
+after another. `xargs -n 3` makes lines of three words.
+",
+    },
+    Page {
+        topic: "102",
+        text: "102 OutOfRange
+
+A line of the input has a number outside -9223372036854775808 to
+9223372036854775807.
+
+    $ echo 'seq main in(int x) out(int y) ${ y = x; }$ end seq' >a.p3l
+    $ echo '9223372036854775808' | p3l run a.p3l --processors 4
+    stream: line 1: 102 OutOfRange
+
+To mend it: split such a number into several words.
+",
+    },
+    Page {
+        topic: "110",
+        text: "110 BadLine
+
+The first line, counted from 1, at which a trace is not of its form: `p3l-trace
+1`, then lines as `2 run` or `1 idle`, then `end FIRED IDLE`.
+
+    $ echo 'seq main in(int x) out(int y) ${ y = x; }$ end seq' >a.p3l
+    $ echo 'p3l-trace 2' >a.trace; echo 5 | p3l check-trace a.p3l --processors 4 --trace a.trace
+    evidence: 110 BadLine 1
+
+To mend it: record the trace anew by `p3l run --trace`.
+",
+    },
+    Page {
+        topic: "111",
+        text: "111 Differs
+
+A line of a trace says other than the run does on this input: another process
+fires, or it fires otherwise, or the counts of the last line are others. All
+lines before it agree.
+
+    $ echo 'seq main in(int x) out(int y) ${ y = x; }$ end seq' >a.p3l
+    $ echo 5 | p3l run a.p3l --processors 4 --trace a.trace
+    5
+    $ sed -i 's/^2 run/2 idle/' a.trace
+    $ echo 5 | p3l check-trace a.p3l --processors 4 --trace a.trace
+    evidence: 111 Differs 3
+
+To mend it: name the same program, processors, costs and capacity, and give the
+same input, as the run had.
+",
+    },
+];

@@ -1,8 +1,0 @@
-use Rattle.std.proofs.Common.{take}
-use Rattle.std.specs.List.{All}
-use Rattle.p3l_image_laws.specs.Written.{HasRescueInRange}
-use Rattle.p3l_image_laws.proofs.rescues.have_rescues.Given as goal
-
--- the modules so far
-abbrev pub invariant-loop-info : goal.invariant-loop-info
-invariant-loop-info l = All HasRescueInRange (take l.info-index l.modules)

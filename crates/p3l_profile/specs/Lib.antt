@@ -1,0 +1,4 @@
+pub mod Notes
+pub mod Greatest
+pub mod Text
+pub mod Law

@@ -1,0 +1,62 @@
+// The bodies of a tree's `seq` nodes, run and counted.
+
+ghost use Rattle.std.specs.Prelude.{◌≡◌, ◌<◌, length, IfOk};
+ghost use Rattle.p3l_skel.specs.declared.tree.Form.TheVariants as forms;
+ghost use Rattle.p3l_skel.specs.Tree.{node_at};
+ghost use Rattle.p3l_units.specs.Table.{IsTable, leaf};
+ghost use Rattle.p3l_profile.specs.Notes.{steps_at};
+
+use p3l_base::{List, NoMemory, Words};
+use p3l_code::{Counted, SafeCode, run_counted};
+use p3l_skel::Tree;
+use std::alloc::Global;
+use std::marker::Model;
+
+/// A tree with the codes of its `seq` modules in their order, which contracts see.
+#[derive(Drop)]
+pub struct Bodies<'t> {
+    tree: &'t Tree,
+    codes: &'t List<SafeCode>,
+    // For each module, how many `seq` modules are before it.
+    places: &'t List<u32>,
+}
+
+impl<'t> Model for Bodies<'t> {
+    ghost use Rattle.p3l_units.specs.Table.{Served, IsTable};
+
+    ghost Value = { Served };
+
+    ghost view = { λ it. record { tree = it.tree.now; codes = it.codes.now } };
+
+    ghost invariant = { λ it. IsTable it.tree.now it.codes.now it.places.now };
+}
+
+impl<'t> Bodies<'t> {
+    /// The bodies of a tree, by the codes of its `seq` modules and the places of the modules among
+    /// them.
+    pub fn new(tree: &'t Tree, codes: &'t List<SafeCode>, places: &'t List<u32>) -> Bodies<'t>
+        requires { IsTable tree.now codes.now places.now }
+        ensures { result ≡ record { tree = tree.now; codes = codes.now } }
+    {
+        Bodies {
+            tree,
+            codes,
+            places,
+        }
+    }
+
+    /// Runs the code of a `seq` node, and counts its instructions.
+    pub fn run(&self, alloc: Global, node: u32, words: &Words) -> Result<Counted, NoMemory>
+        requires there { node < length self.now.tree.nodes }
+        requires form { (node_at self.now.tree node).form ≡ forms.Seq }
+        requires fits { length words.now ≡ (node_at self.now.tree node).ins }
+        ensures outcome { IfOk result (λ counted. counted.outcome
+            ≡ leaf self.now (node_at self.now.tree node).«module» words.now) }
+        ensures steps { IfOk result (λ counted. counted.steps
+            ≡ steps_at self.now (node_at self.now.tree node).«module» words.now) }
+    {
+        let module = self.tree.nodes.as_slice()[node as usize].module;
+        let place = self.places.as_slice()[module as usize];
+        run_counted(alloc, &self.codes.as_slice()[place as usize], module, words)
+    }
+}

@@ -1,0 +1,68 @@
+// The greatest numbers of each module so far.
+
+ghost use Rattle.std.specs.Prelude.{◌≡◌, ◌<◌, length, IfOk, slice_index};
+ghost use Rattle.p3l_profile.specs.Greatest.{none_noted, noted};
+ghost use Rattle.p3l_profile.specs.Notes.{ran, turn};
+
+use p3l_base::NoMemory;
+use std::alloc::Global;
+use std::marker::Model;
+
+/// The greatest number of instructions of a run of each module's code, and the greatest number of
+/// turns of each loop module for an item.
+#[derive(Debug, Drop)]
+pub struct Highs {
+    work: Vec<u64>,
+    took: Vec<u32>,
+}
+
+impl Model for Highs {
+    ghost use Rattle.p3l_profile.specs.Greatest.{Greatest};
+
+    ghost Value = { Greatest };
+
+    ghost view = { λ it. record { work = it.work.items; took = it.took.items } };
+}
+
+impl Highs {
+    /// Those of so many modules of which nothing was run: no work, and one turn.
+    pub fn new(alloc: Global, modules: usize) -> Result<Highs, NoMemory>
+        ensures { IfOk result (λ highs. highs ≡ none_noted modules) }
+    {
+        let work = vec![in alloc; 0; modules]?;
+        let took = vec![in alloc; 1; modules]?;
+        Ok(Highs { work, took })
+    }
+
+    /// Notes a run of a module's code of so many instructions.
+    pub fn note_run(&mut self, home: u32, steps: u64)
+        requires { home < length self.old.work }
+        ensures { self.new ≡ noted self.old (ran home steps) }
+    {
+        let place = home as usize;
+        self.work[place] = self.work[place].max(steps);
+    }
+
+    /// Notes that a loop of a module began its turn of this number for an item.
+    pub fn note_turn(&mut self, home: u32, number: u32)
+        requires { home < length self.old.took }
+        ensures { self.new ≡ noted self.old (turn home number) }
+    {
+        let place = home as usize;
+        self.took[place] = self.took[place].max(number);
+    }
+
+    /// The greatest number of instructions of a module, and 0 for one that isn't there.
+    pub fn work(&self, home: usize) -> u64
+        ensures { result ≡ slice_index self.now.work home }
+    {
+        self.work.get(home).copied().unwrap_or(0)
+    }
+
+    /// The greatest number of turns of a module, and 0 for one that isn't there.
+    pub fn took(&self, home: usize) -> u32
+        ensures { result ≡ slice_index self.now.took home }
+    {
+        self.took.get(home).copied().unwrap_or(0)
+    }
+}

@@ -1,0 +1,168 @@
+// Programs at the limits of their sizes, with ample memory.
+
+use crate::refusals::HEAD;
+use crate::world::{Ends, NONE, Step, holding, take};
+use p3l_io::MemFiles;
+use std::alloc::Global;
+use std::process::Abort;
+use std::test::Fail;
+
+/// As many workers as 512 processors have room for.
+const FARM: &str =
+    "seq f in(int x) out(int y) ${ y = x * 2 + 1; }$ end seq farm main in(int x) out(int y) workers 510 f in(x) out(y) end farm";
+
+/// As many pieces of a map.
+const MAP: &str =
+    "seq f in(int x) out(int y) ${ y = x + 1; }$ end seq map main in(int a[510]) out(int b[510]) workers 510 f in(a[*i]) out(b[*i]) end map";
+
+/// As many segments of a reduce: with their joins they are 512 processes.
+const REDUCE: &str =
+    "seq less in(int x, int y) out(int z) ${ z = x - y; }$ end seq reduce main in(int a[512]) out(int s) workers 256 less in(a[*i]) out(s) end reduce";
+
+/// A farm whose body takes five hundred times as long as what stands before it.
+const SLOW: &str =
+    "seq f in(int x) out(int y) ${ y = x; }$ end seq seq g in(int x) out(int y) ${ y = x; }$ end seq farm w in(int x) out(int y) g in(x) out(y) end farm pipe main in(int x) out(int y) f in(x) out(int t) w in(t) out(y) end pipe";
+
+const SLOW_COSTS: &str = "setup = 0\nword = 0\n[seq]\nf = 1\ng = 500\n";
+
+/// One body, for each tick of `g` a worker.
+const SLOW_EXPLAINED: &str =
+    "processors 512 used 503 service 1\n0 pipe main procs 503 service 1\n1 seq f procs 1 service 1\n2 farm w procs 502 service 1 count 500\n3 seq g procs 1 service 500\n";
+
+/// 128 instances, after the modules of the head.
+const INSTANCES: &str =
+    "pipe p in(int a) out(int b) f in(a) out(int c) f in(c) out(int d) f in(d) out(int e) f in(e) out(int g) f in(g) out(b) end pipe pipe main in(int c0) out(int z) p in(c0) out(int c1) p in(c1) out(int c2) p in(c2) out(int c3) p in(c3) out(int c4) p in(c4) out(int c5) p in(c5) out(int c6) p in(c6) out(int c7) p in(c7) out(int c8) p in(c8) out(int c9) p in(c9) out(int c10) p in(c10) out(int c11) p in(c11) out(int c12) p in(c12) out(int c13) p in(c13) out(int c14) p in(c14) out(int c15) p in(c15) out(int c16) p in(c16) out(int c17) p in(c17) out(int c18) p in(c18) out(int c19) p in(c19) out(int c20) p in(c20) out(int c21) f in(c21) out(z) end pipe";
+
+const ON_ALL: &str = "run m.p3l --processors 512 --capacity 1024 --stats";
+
+const ON_ALL_PLAIN: &str = "run m.p3l --processors 512 --capacity 1024";
+
+/// Files with this program.
+fn files_with(alloc: Global, program: &str) -> Result<MemFiles, Fail> {
+    let mut files = holding(alloc, &[], &[])?;
+    files.add("m.p3l", program.as_bytes())?;
+    Ok(files)
+}
+
+/// A line of the numbers from a first one on, of which there are so many.
+fn line_of(alloc: Global, first: u32, count: u32) -> Result<String, Fail> {
+    let mut text = String::new(alloc);
+    for place in 0..count {
+        let word = first.saturating_add(place);
+        let space = if place == 0 { "" } else { " " };
+        text.push_str(format!(in alloc; "{space}{word}")?.as_str())?;
+    }
+    text.push_str("\n")?;
+    Ok(text)
+}
+
+#[test]
+fn five_hundred_and_ten_workers_and_pieces(rt: HostRuntime) -> Result<(), Fail> {
+    let alloc = rt.alloc();
+    let mut files = files_with(alloc, FARM)?;
+    let stats = "stats: items 3, fired 15, idle 0, bound 15\n";
+    let step = Step(ON_ALL, "1\n2\n-3\n", Ends(0, "3\n5\n-5\n", stats));
+    take(&rt, alloc, &mut files, &step, &NONE)?;
+    let mut files = files_with(alloc, MAP)?;
+    let item = line_of(alloc, 0, 510)?;
+    let value = line_of(alloc, 1, 510)?;
+    let step = Step(ON_ALL_PLAIN, item.as_str(), Ends(0, value.as_str(), ""));
+    take(&rt, alloc, &mut files, &step, &NONE)
+}
+
+#[test]
+fn segments_on_all_processors(rt: HostRuntime) -> Result<(), Fail> {
+    let alloc = rt.alloc();
+    let mut files = files_with(alloc, REDUCE)?;
+    // Pairs k - (k + 1) are -1 at level 0 and 0 above.
+    let item = line_of(alloc, 0, 512)?;
+    let step = Step(ON_ALL_PLAIN, item.as_str(), Ends(0, "0\n", ""));
+    take(&rt, alloc, &mut files, &step, &NONE)
+}
+
+#[test]
+fn counts_for_all_processors(rt: HostRuntime) -> Result<(), Fail> {
+    let alloc = rt.alloc();
+    let mut files = files_with(alloc, SLOW)?;
+    files.add("c", SLOW_COSTS.as_bytes())?;
+    let explain = "explain m.p3l --processors 512 --costs c --cert e";
+    let step = Step(explain, "", Ends(0, SLOW_EXPLAINED, ""));
+    take(&rt, alloc, &mut files, &step, &NONE)?;
+    let verify = "verify-cert m.p3l --costs c --cert e";
+    let held = "certificate holds: processors 512 used 503 service 1\n";
+    take(
+        &rt,
+        alloc,
+        &mut files,
+        &Step(verify, "", Ends(0, held, "")),
+        &NONE,
+    )
+}
+
+#[test]
+fn a_hundred_and_twenty_eight_instances(rt: HostRuntime) -> Result<(), Fail> {
+    let alloc = rt.alloc();
+    let text = format!(in alloc; "{HEAD}\n{INSTANCES}\n")?;
+    let mut files = files_with(alloc, text.as_str())?;
+    let counted = "ok: 6 modules, 128 instances\n";
+    let step = Step("check m.p3l", "", Ends(0, counted, ""));
+    take(&rt, alloc, &mut files, &step, &NONE)?;
+    let step = Step(
+        "run m.p3l --processors 128",
+        "7\n-7\n",
+        Ends(0, "7\n-7\n", ""),
+    );
+    take(&rt, alloc, &mut files, &step, &NONE)
+}
+
+#[test]
+fn three_hundred_modules(rt: HostRuntime) -> Result<(), Fail> {
+    let alloc = rt.alloc();
+    let mut text = String::new(alloc);
+    for place in 0..300u32 {
+        let module = "in(int x) out(int y) ${ y = x; }$ end seq";
+        text.push_str(format!(in alloc; "seq f{place} {module}\n")?.as_str())?;
+    }
+    text.push_str("farm main in(int x) out(int y) f299 in(x) out(y) end farm\n")?;
+    let mut files = files_with(alloc, text.as_str())?;
+    let steps = [
+        Step(
+            "check m.p3l",
+            "",
+            Ends(0, "ok: 301 modules, 2 instances\n", ""),
+        ),
+        Step(
+            "compile m.p3l --processors 4 --output i",
+            "",
+            Ends(0, "", ""),
+        ),
+        Step("exec i", "5\n", Ends(0, "5\n", "")),
+    ];
+    for step in steps {
+        take(&rt, alloc, &mut files, &step, &NONE)?;
+    }
+    Ok(())
+}
+
+#[test]
+fn thousands_of_picks(rt: HostRuntime) -> Result<(), Fail> {
+    let alloc = rt.alloc();
+    let program = "seq main in(int x) out(int y) ${ y = x * 2 + 1; }$ end seq";
+    let mut files = files_with(alloc, program)?;
+    let picks = "0 2 1\n".repeat(alloc, 700)?;
+    files.add("p", picks.as_str().as_bytes())?;
+    let items = "1\n".repeat(alloc, 700)?;
+    let values = "3\n".repeat(alloc, 700)?;
+    let words = "run m.p3l --processors 4 --schedule file:p --trace t";
+    let step = Step(words, items.as_str(), Ends(0, values.as_str(), ""));
+    take(&rt, alloc, &mut files, &step, &NONE)?;
+    let words = "check-trace m.p3l --processors 4 --trace t";
+    let held = "trace holds: 2100 fired, 0 idle\n";
+    take(
+        &rt,
+        alloc,
+        &mut files,
+        &Step(words, items.as_str(), Ends(0, held, "")),
+        &NONE,
+    )
+}

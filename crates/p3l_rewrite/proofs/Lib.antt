@@ -1,0 +1,4 @@
+pub mod Best
+pub mod Means
+pub mod Places
+pub mod Served

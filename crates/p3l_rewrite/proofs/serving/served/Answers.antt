@@ -1,0 +1,23 @@
+use Rattle.std.proofs.Common.{subst, rules}
+use Rattle.std.proofs.lemmas.Result.{IfOk-weaker}
+use Rattle.p3l_ast.specs.Tree.{program_tree}
+use Rattle.p3l_cost.specs.Costs.{AreCostsOf}
+use Rattle.p3l_rewrite.specs.Rewriting.{IsServed}
+use Rattle.p3l_rewrite.specs.Serving.{HasTree, IsAcceptedTree, IsServiceTime}
+use Rattle.p3l_rewrite.proofs.Served.{by_time}
+use Rattle.p3l_rewrite.proofs.serving.served.Goals as goal
+
+pub returns : goal.returns
+returns c =
+    let tree = c.args.tree.now in
+    let costs = c.args.costs.now in
+    let processors = c.args.processors in
+    let other = program_tree c.args.other.now in
+    let own = c.in-Some.own in
+    let has : HasTree other own = subst (IsAcceptedTree other) c.in-Some.is c.in_ok-own.ensures in
+    let are : AreCostsOf own c.in_ok-costs.costs = search rules in
+    IfOk-weaker c.service_time.result (IsServiceTime own c.in_ok-costs.costs processors) (IsServed tree costs processors other)
+    (λ time best.
+    by_time tree costs processors other own has time (subst (AreCostsOf own) c.in_ok-costs.ensures are)
+    (subst (λ t. IsServiceTime own t processors time) c.in_ok-costs.ensures best))
+    c.service_time.ensures

@@ -1,0 +1,4 @@
+pub mod Around
+pub mod Rewriting
+pub mod Ways
+pub mod Serving

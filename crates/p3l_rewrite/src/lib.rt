@@ -1,0 +1,12 @@
+//! Programs rewritten for a lesser service time: the sequential stages of `main`, where it is a pipe, each in
+//! a farm, or all of them in one process of which `main` is a farm.
+#![tactic(auto)]
+
+pub mod candidate;
+pub mod farm;
+pub mod place;
+pub mod rewriting;
+pub mod sequential;
+pub mod serving;
+
+pub use rewriting::{Rewritten, rewrite};

@@ -1,6 +1,0 @@
-use Rattle.p3l_run_tests.proofs.OneNode.{tree_is}
-use Rattle.p3l_run_tests.proofs.network.tree_of_one.Goals as goal
-
-pub returns : goal.returns
-returns c =
-    tree_is _ _ _ _ _ _ c.new-nodes.ensures c.new.ensures c.in_ok-push.ensures.ok c.new-modules.ensures c.in_ok-from_text.ensures c.in_ok-push-2.ensures.ok

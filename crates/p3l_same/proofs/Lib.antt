@@ -1,0 +1,13 @@
+pub mod Stands
+pub mod Rows
+pub mod Depth
+pub mod Roots
+pub mod Rewritten
+pub mod Added
+pub mod Made
+pub mod Ahead
+pub mod Numbers
+pub mod Entries
+pub mod Wirings
+pub mod Programs
+pub mod Candidates

@@ -1,0 +1,4 @@
+pub mod Meant
+pub mod Rewritten
+pub mod Programs
+pub mod Candidates

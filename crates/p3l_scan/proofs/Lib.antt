@@ -1,0 +1,17 @@
+pub mod Sized
+pub mod Scans
+pub mod Last
+pub mod Blocks
+pub mod Building
+pub mod Merging
+pub mod Combining
+pub mod Leaves
+pub mod Halving
+pub mod Values
+pub mod Scannable
+pub mod Lawful
+pub mod Linked
+pub mod Planned
+pub mod Dividing
+pub mod Running
+pub mod UnitNodes

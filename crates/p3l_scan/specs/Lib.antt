@@ -1,0 +1,10 @@
+pub mod Scan
+pub mod Row
+pub mod Plan
+pub mod Planned
+pub mod Step
+pub mod Value
+pub mod Nested
+pub mod Template
+pub mod Placed
+pub mod laws

@@ -1,0 +1,9 @@
+pub mod Powers
+pub mod Nodes
+pub mod Step
+pub mod NestedLaw
+pub mod NestedTyping
+pub mod NestedSame
+pub mod NestedPlacing
+pub mod Flat
+pub mod ScanLaw

@@ -1,0 +1,4 @@
+pub mod Round
+pub mod TimedLaw
+pub mod FollowLaw
+pub mod Keeping
