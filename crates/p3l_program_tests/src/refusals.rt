@@ -26,7 +26,7 @@ const FAULTS: &str = "2:5: 1 BadByte | seq @
 2:17: 11 BadSize | farm v in(int a[65537]) out(int b) f in(a) out(b) end farm
 2:22: 12 TooWide | farm v in(int a, int c[65536]) out(int b) f in(a) out(b) end farm
 2:20: 20 Twice | const K = 1; const K = 2;
-2:16: 21 NoMain | const main = 1;
+3:1: 21 NoMain | const main = 1;
 2:29: 22 UsedBeforeDefined | pipe p in(int a) out(int b) p in(a) out(b) end pipe
 2:29: 23 Arity | pipe p in(int a) out(int b) f in(a, a) out(b) end pipe
 2:37: 24 TypeDiffers | farm v in(int a[2]) out(int b) f in(a) out(a) end farm
