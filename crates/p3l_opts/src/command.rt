@@ -41,6 +41,10 @@ pub enum Command {
     /// its input and runs it. It has the number, the processors, the items, how picks are made, and
     /// what the names of saved files begin with.
     Gen(u32, u32, u32, Sched, Option<Name>),
+    /// `rewrite PROGRAM --processors P [--costs FILE]`: writes a program with the same meaning and no
+    /// greater service time. It has the name of the program's file, the processors, and the name of
+    /// the file of costs; without one, the standard costs hold.
+    Rewrite(Name, u32, Option<Name>),
 }
 
 /// How a program's network is built.

@@ -59,6 +59,7 @@ fn command_of(alloc: Global, verb: Verb, matches: &ArgMatches) -> Result<Command
         Verb::VerifyCert => verify_cert_of(alloc, matches),
         Verb::CheckTrace => check_trace_of(alloc, matches),
         Verb::Gen => gen_of(alloc, matches),
+        Verb::Rewrite => rewrite_of(alloc, matches),
     }
 }
 
@@ -230,4 +231,19 @@ fn made_in(alloc: Global, matches: &ArgMatches, id: &str) -> Result<Sched, OptsR
         Sched::Seeded(seed) => Ok(Sched::Seeded(seed)),
         Sched::File(_) => Err(OptsRefusal::Usage),
     }
+}
+
+/// The command `rewrite` with the values that were found.
+fn rewrite_of(alloc: Global, matches: &ArgMatches) -> Result<Command, OptsRefusal>
+    ensures verb { IfOk result (λ command. verb_of command ≡ Verb.Rewrite) }
+    ensures values { IfOk result (HasValues (rows_of (found_of matches.now))) }
+    ensures usage { IsErrOf result OptsRefusal.Usage → (command : Command)
+        → verb_of command ≡ Verb.Rewrite → HasValues (rows_of (found_of matches.now)) command → ⊥ }
+{
+    let program = name_of(alloc, matches, "program")?;
+    let Some(processors) = processors_in(matches, "processors") else {
+        return Err(OptsRefusal::Usage);
+    };
+    let costs = name_if_given(alloc, matches, "costs")?;
+    Ok(Command::Rewrite(program, processors, costs))
 }

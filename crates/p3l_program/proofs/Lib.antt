@@ -5,7 +5,9 @@ mod TextSteps
 mod SavedSteps
 mod SeriesSteps
 mod GenLengths
+mod TreeSteps
 mod LoadSteps
+mod RewriteSteps
 mod ImageSteps
 mod CompileSteps
 mod OnceSteps

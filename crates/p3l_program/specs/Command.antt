@@ -15,6 +15,7 @@ use Rattle.p3l_program.specs.Generated.{gen_of}
 use Rattle.p3l_program.specs.Graph.{IsDrawn}
 use Rattle.p3l_program.specs.Migrate.{IsMigrated}
 use Rattle.p3l_program.specs.Origin.{Running, built, imaged, running}
+use Rattle.p3l_program.specs.Rewrite.{IsRewritten, plain_build}
 use Rattle.p3l_program.specs.Stage.{Stage, build_stages, migrate_stages, program_stages, verify_stages}
 use Rattle.p3l_program.specs.Text.{IsNothing}
 use Rattle.p3l_program.specs.Verify.{IsVerified}
@@ -40,6 +41,8 @@ work_of (command.VerifyCert program cert costs) =
 work_of (command.CheckTrace build name) = check_trace build name
 work_of (command.Gen number processors items schedule prefix) =
     run_generated (gen_of number processors items schedule prefix)
+work_of (command.Rewrite program processors costs) =
+    write_text (build_stages (plain_build program processors costs)) (λ files. IsRewritten files (plain_build program processors costs))
 
 abbrev pub behavior_of : Command → Behavior
 behavior_of command = behavior (work_of command)

@@ -21,6 +21,7 @@ pub mod Origin
 pub mod Plan
 pub mod Recheck
 pub mod Recorded
+pub mod Rewrite
 pub mod Run
 pub mod Saved
 pub mod Scheduled

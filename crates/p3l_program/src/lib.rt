@@ -20,6 +20,7 @@ pub mod migrate;
 mod plan;
 pub mod recheck;
 mod record;
+pub mod rewrite;
 pub mod run;
 mod running;
 mod save;

@@ -15,6 +15,7 @@ use crate::fmt::fmt;
 use crate::generated::run_generated;
 use crate::graph::graph;
 use crate::migrate::migrate;
+use crate::rewrite::rewrite;
 use crate::run::run;
 use crate::verify::verify_cert;
 use p3l_io::{Files, Sink, Source};
@@ -63,6 +64,9 @@ fn perform<F: Files, S: Source, K: Sink>(
             run_generated(
                 alloc, number, processors, items, schedule, prefix, files, out,
             )
+        }
+        Ok(Command::Rewrite(program, processors, costs)) => {
+            rewrite(alloc, program, processors, costs, files, out)
         }
     }
 }

@@ -149,3 +149,14 @@ returns-in-Ok-Gen g c =
           (change g.K.Sink.taken g.K.Sink.faults c.args.out.now c.run_generated.new.out) (g.S.Source.rest c.args.input.now) (g.S.Source.faults c.args.input.now)
           c.run_generated.result _ refl c.run_generated.ensures.due;
     }
+
+pub returns-in-Ok-Rewrite : goal.returns-in-Ok-Rewrite
+unfolding work_of
+returns-in-Ok-Rewrite g c =
+    let asked = c.in-Ok-Rewrite in
+    let spelled : Spells (texts_of c.args.words.now) (command.Rewrite asked.program asked.processors asked.costs) = search (rules, asked.ensures.spelled) in record {
+      due =
+          text_asked (texts_of c.args.words.now) _ spelled (files_change g.F.Files.held g.F.Files.faults g.F.Files.failed c.args.files.now c.rewrite.new.files)
+          (change g.K.Sink.taken g.K.Sink.faults c.args.out.now c.rewrite.new.out) (g.S.Source.rest c.args.input.now) (g.S.Source.faults c.args.input.now)
+          c.rewrite.result _ _ refl c.rewrite.ensures.due c.rewrite.ensures.stays;
+    }
