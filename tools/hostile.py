@@ -82,6 +82,7 @@ def cases(made):
     yield Case("source, run", ["run", "m.p3l", *PROCESSORS], "m.p3l", PROGRAM, MIB, {0, 3, 5, 6, 7, 9, 11})
     yield Case("source, fmt", ["fmt", "m.p3l"], "m.p3l", PROGRAM, MIB, {0, 3, 9, 11})
     yield Case("costs", ["explain", "m.p3l", *PROCESSORS, *costs], "costs", COSTS, MIB, {0, 4, 9, 11})
+    yield Case("source, rewrite", ["rewrite", "m.p3l", *PROCESSORS], "m.p3l", PROGRAM, MIB, {0, 3, 5, 9, 11})
     yield Case("picks", ["run", "m.p3l", *PROCESSORS, "--schedule", "file:picks"], "picks", PICKS, 64 * MIB, {0, 1, 9, 11, 12})
     yield Case("stream", ["run", "m.p3l", *PROCESSORS], None, STREAM, 64 * MIB, {0, 6, 7, 11})
     if "cert" in made:

@@ -160,6 +160,21 @@ counts that are chosen, and the sum of all words that came out, which wraps at 6
 example: p3l gen 7 --processors 16 --save seven
 ";
 
+/// What `rewrite` does.
+const REWRITE: &str = "usage: p3l rewrite PROGRAM --processors P [--costs FILE]
+
+Writes a program that means the same and whose service time is no greater, in its canonical text,
+without comments. Where main is a pipe, its stages without farms, pipes and loops may each get a
+farm, or all of them become one comp in a farm, if such a program takes less time for an item on
+so many processors; else the program itself is written.
+
+  PROGRAM          the file of the program
+  --processors P   how many processors there are, 1 to 512
+  --costs FILE     the costs by which programs are compared; without them the standard costs
+
+example: p3l rewrite m.p3l --processors 16 > faster.p3l
+";
+
 /// A page for each command, by its first word.
 pub(crate) const COMMANDS: &[Page] = &[
     Page {
@@ -205,5 +220,9 @@ pub(crate) const COMMANDS: &[Page] = &[
     Page {
         topic: "gen",
         text: GEN,
+    },
+    Page {
+        topic: "rewrite",
+        text: REWRITE,
     },
 ];

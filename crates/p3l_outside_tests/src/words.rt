@@ -57,6 +57,11 @@ fn shown(alloc: Global, command: &Command) -> Result<String, Fail> {
                 picks.as_str()
             )?
         }
+        Command::Rewrite(program, processors, costs) => {
+            let program = program.as_str();
+            let costs = or_hyphen(costs);
+            format!(in alloc; "rewrite {program} {processors} {costs}")?
+        }
     })
 }
 
@@ -90,7 +95,7 @@ fn schedule_shown(alloc: Global, schedule: &Sched) -> Result<String, Fail> {
 
 #[test]
 fn words_spell_commands(rt: HostRuntime) -> Result<(), Fail> {
-    let table: [(&[&str], &str); 29] = [
+    let table: [(&[&str], &str); 31] = [
         (&["check", "m.p3l"], "check m.p3l"),
         (&["fmt", "m.p3l"], "fmt m.p3l"),
         (&["fmt", "--", "--odd"], "fmt --odd"),
@@ -228,6 +233,11 @@ fn words_spell_commands(rt: HostRuntime) -> Result<(), Fail> {
             ],
             "gen 4294967295 1 100000 rr s",
         ),
+        (&["rewrite", "m", "--processors", "512"], "rewrite m 512 -"),
+        (
+            &["rewrite", "--costs", "c", "--processors=1", "m"],
+            "rewrite m 1 c",
+        ),
         (&["check", "check"], "check check"),
         (&["check", "-"], "check -"),
     ];
@@ -240,7 +250,7 @@ fn words_spell_commands(rt: HostRuntime) -> Result<(), Fail> {
 
 #[test]
 fn other_words_spell_none(rt: HostRuntime) -> Result<(), Fail> {
-    let table: [&[&str]; 50] = [
+    let table: [&[&str]; 54] = [
         &[],
         &["walk"],
         &[""],
@@ -297,6 +307,10 @@ fn other_words_spell_none(rt: HostRuntime) -> Result<(), Fail> {
         &["gen", "1", "--processors", "4", "--items", "0"],
         &["gen", "1", "--processors", "4", "--items", "100001"],
         &["gen", "1", "--processors", "4", "--schedule", "file:p"],
+        &["rewrite", "m"],
+        &["rewrite", "--processors", "4"],
+        &["rewrite", "m", "--processors", "513"],
+        &["rewrite", "m", "--processors", "4", "--capacity", "1"],
         &["m.p3l", "check"],
     ];
     for words in table {
