@@ -100,16 +100,19 @@ fn load_priced<F: Files>(alloc: Global, build: Build, files: &mut F) -> Result<P
     ensures stays { F.held files.new ≡ F.held files.old }
 {
     let processors = build.processors;
-    let Source { program, tree } = match load_source(alloc, build.program, files) {
+    let source = match load_source(alloc, build.program, files) {
         Ok(source) => source,
         Err(verdict) => return Err(verdict),
     };
-    let costs = match load_costs(alloc, build.costs, &tree, files) {
+    let costs = match load_costs(alloc, build.costs, &source.tree, files) {
         Ok(costs) => costs,
         Err(verdict) => return Err(verdict),
     };
-    match choose(alloc, &tree, &costs, processors) {
-        Ok(_) => Ok(Priced { program, costs }),
+    match choose(alloc, &source.tree, &costs, processors) {
+        Ok(_) => Ok(Priced {
+            program: source.program,
+            costs,
+        }),
         Err(AllocRefusal::TooFew { need }) => Err(Verdict::Refused(Refusal::TooFew { need })),
         Err(AllocRefusal::NoMemory) => Err(Verdict::NoMemory),
     }
