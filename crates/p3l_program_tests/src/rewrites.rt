@@ -1,12 +1,11 @@
 // Programs rewritten for a lesser service time, as they were written by hand.
 
 use crate::texts::{
-    DOUBLE_FILES, FARMED, FARMED_COSTS, ITEMS, NO_COSTS, NO_PROGRAM, REFUSED_KEY,
-    REFUSED_NAME, TOO_FEW, UNDECLARED, USAGE, WRITE_FAULT,
+    DOUBLE_FILES, FARMED, FARMED_COSTS, ITEMS, NO_COSTS, NO_PROGRAM, REFUSED_KEY, REFUSED_NAME,
+    TOO_FEW, UNDECLARED, USAGE, WRITE_FAULT,
 };
 use crate::world::{
-    Case, Cases, Ends, FIRST_FILE, Held, NO_PUT, NONE, SECOND_FILE, Step, holding, take,
-    take_cases,
+    Case, Cases, Ends, FIRST_FILE, Held, NO_PUT, NONE, SECOND_FILE, Step, holding, take, take_cases,
 };
 use std::test::Fail;
 
@@ -106,7 +105,11 @@ const AFTER: &[Step] = &[
         ITEMS,
         Ends(0, "6\n9\n-6\n", ""),
     ),
-    Step("rewrite m.p3l --processors 8 --costs c", "", Ends(0, FUSED_TEXT, "")),
+    Step(
+        "rewrite m.p3l --processors 8 --costs c",
+        "",
+        Ends(0, FUSED_TEXT, ""),
+    ),
 ];
 
 const AFTER_FILES: &[Held] = &[Held("m.p3l", FUSED_TEXT), Held("c", FARMED_COSTS)];
@@ -131,10 +134,18 @@ const TRAPPING_FUSED: &str =
 
 const TRAPPED: Ends = Ends(7, "50\n", "trap: item 2: division by zero in g\n");
 
-const TRAPPING_FILES: &[Held] = &[Held("m.p3l", TRAPPING), Held("n.p3l", TRAPPING_FUSED), Held("c", FARMED_COSTS)];
+const TRAPPING_FILES: &[Held] = &[
+    Held("m.p3l", TRAPPING),
+    Held("n.p3l", TRAPPING_FUSED),
+    Held("c", FARMED_COSTS),
+];
 
 const TRAPS: &[Step] = &[
-    Step("rewrite m.p3l --processors 8 --costs c", "", Ends(0, TRAPPING_FUSED, "")),
+    Step(
+        "rewrite m.p3l --processors 8 --costs c",
+        "",
+        Ends(0, TRAPPING_FUSED, ""),
+    ),
     Step("run m.p3l --processors 8 --costs c", "3\n1\n5\n", TRAPPED),
     Step("run n.p3l --processors 8 --costs c", "3\n1\n5\n", TRAPPED),
 ];
