@@ -19,6 +19,7 @@ name_of verb.Graph = codes "graph"
 name_of verb.VerifyCert = codes "verify-cert"
 name_of verb.CheckTrace = codes "check-trace"
 name_of verb.Gen = codes "gen"
+name_of verb.Profile = codes "profile"
 
 -- the words that may stand after it
 abbrev pub rules_of : Verb → List Rule
@@ -81,6 +82,7 @@ rules_of verb.Gen =
     ∷ rule_for (codes "schedule") Optional
     ∷ rule_for (codes "save") Optional
     ∷ []
+rules_of verb.Profile = rule_for (codes "program") Positional ∷ []
 
 -- the command as `clap` is told of it
 unfoldable pub app_for : Verb → App

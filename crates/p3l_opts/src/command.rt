@@ -41,6 +41,8 @@ pub enum Command {
     /// its input and runs it. It has the number, the processors, the items, how picks are made, and
     /// what the names of saved files begin with.
     Gen(u32, u32, u32, Sched, Option<Name>),
+    /// `profile PROGRAM`: writes the cost file of what a program does on the items of the input.
+    Profile(Name),
 }
 
 /// How a program's network is built.

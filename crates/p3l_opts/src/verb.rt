@@ -23,6 +23,7 @@ pub enum Verb {
     VerifyCert,
     CheckTrace,
     Gen,
+    Profile,
 }
 
 /// Whether a word is this text.
@@ -69,6 +70,9 @@ pub fn verb_of(word: &str) -> Option<Verb>
     }
     if is_word(word, "gen") {
         return Some(Verb::Gen);
+    }
+    if is_word(word, "profile") {
+        return Some(Verb::Profile);
     }
     None
 }
@@ -173,5 +177,6 @@ pub(crate) fn clap_command<'a>(alloc: Global, verb: Verb) -> Result<Command<'a>,
                 ("save", Spelling::Optional),
             ],
         ),
+        Verb::Profile => command_with(alloc, "profile", &[("program", Spelling::Positional)]),
     }
 }

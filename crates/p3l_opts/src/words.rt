@@ -59,6 +59,7 @@ fn command_of(alloc: Global, verb: Verb, matches: &ArgMatches) -> Result<Command
         Verb::VerifyCert => verify_cert_of(alloc, matches),
         Verb::CheckTrace => check_trace_of(alloc, matches),
         Verb::Gen => gen_of(alloc, matches),
+        Verb::Profile => Ok(Command::Profile(name_of(alloc, matches, "program")?)),
     }
 }
 

@@ -15,6 +15,7 @@ use crate::fmt::fmt;
 use crate::generated::run_generated;
 use crate::graph::graph;
 use crate::migrate::migrate;
+use crate::profile::profile;
 use crate::run::run;
 use crate::verify::verify_cert;
 use p3l_io::{Files, Sink, Source};
@@ -64,6 +65,7 @@ fn perform<F: Files, S: Source, K: Sink>(
                 alloc, number, processors, items, schedule, prefix, files, out,
             )
         }
+        Ok(Command::Profile(name)) => profile(alloc, name, files, input, out),
     }
 }
 

@@ -1,0 +1,90 @@
+// The command `profile`: the cost file of what a program does on the items of the input.
+
+ghost use Rattle.std.specs.Prelude.{◌≡◌};
+ghost use Rattle.std.specs.List.{All};
+ghost use Rattle.p3l_skel.specs.Lawful.{IsLawfulTree};
+ghost use Rattle.p3l_units.specs.Table.{HasCode};
+ghost use Rattle.p3l_program.specs.Profile.{IsClosedProfile, IsProfileDue, IsProfileOf, coded};
+ghost use Rattle.p3l_program.specs.World.{change, files_change, world};
+
+use crate::plan::{Accepted, load_program};
+use crate::text::write_text;
+use p3l_base::{List, Name};
+use p3l_code::SafeCode;
+use p3l_io::{Files, Sink, Source};
+use p3l_profile::Profile;
+use p3l_profile::laws::a_profile_tells_the_greatest;
+use p3l_report::{Finish, Verdict};
+use p3l_sample::{Sampled, sample};
+use p3l_skel::Tree;
+use p3l_stream::Ending;
+use std::alloc::Global;
+
+/// The verdict of a profile that ended so: its cost file is written where the input came to its end.
+fn close<K: Sink>(
+    alloc: Global,
+    tree: &Tree,
+    profile: &Profile,
+    sampled: Sampled,
+    out: &mut K,
+) -> Verdict
+    ensures { IsClosedProfile tree.now profile.now.greatest sampled
+        (change K.taken K.faults out.old out.new) result }
+{
+    match sampled {
+        Sampled::Trapped { item, kind, module } => {
+            Verdict::Ended(Finish::Trapped { item, kind, module }, None)
+        }
+        Sampled::Stream(ending) => {
+            if ending != Ending::End {
+                return Verdict::Ended(Finish::Stream(ending), None);
+            }
+            match profile.text(alloc, tree) {
+                Ok(text) => write_text(text.as_slice(), out),
+                Err(_) => Verdict::NoMemory,
+            }
+        }
+    }
+}
+
+/// Profiles a tree on its codes on the items of the input.
+fn profile_tree<S: Source, K: Sink>(
+    alloc: Global,
+    tree: &Tree,
+    codes: &List<SafeCode>,
+    input: &mut S,
+    out: &mut K,
+) -> Verdict
+    requires lawful { IsLawfulTree tree.now }
+    requires codes { All (HasCode (record { tree = tree.now; codes = codes.now })) tree.now.nodes }
+    ensures { IsProfileOf (coded tree.now codes.now) (change S.rest S.faults input.old input.new)
+        (change K.taken K.faults out.old out.new) result }
+{
+    a_profile_tells_the_greatest();
+    let Ok(mut profile) = Profile::new(alloc, tree) else {
+        return Verdict::NoMemory;
+    };
+    match sample(alloc, tree, codes, &mut profile, input) {
+        Ok(sampled) => close(alloc, tree, &profile, sampled, out),
+        Err(_) => Verdict::NoMemory,
+    }
+}
+
+/// Writes the cost file of what the program of a file does on the items of the input.
+pub fn profile<F: Files, S: Source, K: Sink>(
+    alloc: Global,
+    name: Name,
+    files: &mut F,
+    input: &mut S,
+    out: &mut K,
+) -> Verdict
+    ensures due { IsProfileDue (world (files_change F.held F.faults F.failed files.old files.new)
+        (change S.rest S.faults input.old input.new) (change K.taken K.faults out.old out.new))
+        name result }
+    ensures stays { F.held files.new ≡ F.held files.old }
+{
+    match load_program(alloc, name, files) {
+        Err(verdict) => verdict,
+        Ok(Accepted { tree, codes }) => profile_tree(alloc, &tree, &codes, input, out),
+    }
+}
