@@ -17,6 +17,7 @@ mod AlikeSteps
 mod SoundSteps
 mod SeenSteps
 mod TraceSteps
+mod ProfileSteps
 mod RecheckSteps
 mod GenSteps
 mod EndSteps
@@ -24,6 +25,7 @@ mod Lawful
 mod TextLaws
 mod RunLaws
 mod TraceLaws
+mod ProfileLaws
 mod GenLaws
 mod WorkLaws
 mod FirstSteps

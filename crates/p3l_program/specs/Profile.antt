@@ -9,7 +9,7 @@ use Rattle.p3l_skel.specs.declared.tree.Tree.{Tree}
 use Rattle.p3l_skel.specs.Item.{item}
 use Rattle.p3l_skel.specs.Tree.{node_at}
 use Rattle.p3l_check.specs.Resolving.{ResolvedTree}
-use Rattle.p3l_code.specs.declared.code.Code.{Code}
+use Rattle.p3l_code.specs.declared.instr.Code.{Code}
 use Rattle.p3l_compile.specs.Leaves.{AreCodes, body_leaf}
 use Rattle.p3l_units.specs.Table.{Served, leaf}
 use Rattle.p3l_stream.specs.declared.items.Ending.{Ending}
