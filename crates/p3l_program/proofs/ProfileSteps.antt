@@ -91,7 +91,9 @@ module _ (tree : Tree) (codes : List Code) (told : TellsTheGreatest) (g : Greate
         words = s.words;
         gives = s.gives;
         values = s.values;
+        home = home;
         traps = s.traps;
+        name_is = refl;
         number_is = s.number_is;
         out_still = c.2;
       }))
@@ -102,7 +104,7 @@ module _ (tree : Tree) (codes : List Code) (told : TellsTheGreatest) (g : Greate
   profile_of (sampled.Stream close) s (verdict.Refused refused) c = absurd c
   profile_of (sampled.Trapped number kind home) s (verdict.Refused refused) c = absurd c
   profile_of (sampled.Trapped number kind home) s verdict.WriteFault c = absurd c
-  profile_of (sampled.Trapped number kind home) s verdict.NoMemory c = absurd c
+  profile_of (sampled.Trapped number kind home) s verdict.NoMemory c = inl c
 
 -- the codes of a program are those of its tree
 pub program_codes : (r : ResolvedTree) (accepted : Accepted) → (compiled : IsCompiled r accepted) → AreBodies accepted.tree r.seqs
@@ -281,8 +283,8 @@ module _ (r : ResolvedTree) (codes : List Code) (input : Change (List ℕ)) (res
       let to : GoesOnTo (net_for r) (Some close) all.items rest = seen_goes_on (net_for r) rest input.old input.new input.before input.now (Some close) all.stream all.items all.gives told calm in
       sym (ap (profile_status p) to.seen ∙ value_status p all.items to.later to.e all.values (to.may_come.none close refl) ∙ ap ending_status (sym to.may_end))
 
-  trapped_status : (out : Change (List ℕ)) (number : ℕ) (kind : TrapKind) (home : ℕ) → TrapsSo p input out number kind home → status.trap ≡ profile_status p seen
-  trapped_status out number kind home t =
+  trapped_status : (out : Change (List ℕ)) (number : ℕ) (kind : TrapKind) (name : List ℕ) → TrapsSo p input out number kind name → status.trap ≡ profile_status p seen
+  trapped_status out number kind name t =
       let to : GoesOnTo (net_for r) None (t.items ++ t.words ∷ []) rest = seen_goes_on (net_for r) rest input.old input.new input.before input.now None t.stream (t.items ++ t.words ∷ []) t.gives told calm in
       sym (ap (profile_status p) to.seen ∙ trap_status p t.items to.later t.words to.e t.values (ap is_trap t.traps))
 

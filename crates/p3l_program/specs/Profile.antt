@@ -18,6 +18,7 @@ use Rattle.p3l_stream.specs.declared.items.Items.{Items}
 use Rattle.p3l_stream.specs.Items.{items_of}
 use Rattle.p3l_stream.specs.Seen.{Seen}
 use Rattle.p3l_run.specs.Feed.{Gives}
+use Rattle.p3l_run.specs.Run.{module_name}
 use Rattle.p3l_run.specs.Write.{HasBegun, HasPut}
 use Rattle.p3l_report.specs.declared.stats.Stats.{Stats}
 use Rattle.p3l_report.specs.declared.verdict.Finish.{Finish}
@@ -94,14 +95,17 @@ pub record StopsSo (p : Subject) (input out : Change (List ℕ)) (close : Ending
   pub all : GivesAll p input close
   pub out_still : IsStill out
 
--- the input gave items of which the last, with this number from 1, has this trap, and none before it has one
-pub record TrapsSo (p : Subject) (input out : Change (List ℕ)) (number : ℕ) (kind : TrapKind) (home : ℕ) : Type 0 where
+-- the input gave items of which the last, with this number from 1, has this trap in the module of this name, and none before it
+-- has one
+pub record TrapsSo (p : Subject) (input out : Change (List ℕ)) (number : ℕ) (kind : TrapKind) (name : List ℕ) : Type 0 where
   pub stream : Seen
   pub items : List (List ℤ)
   pub words : List ℤ
   pub gives : Gives (subject_width p) input.old input.new input.before input.now stream (items ++ words ∷ []) None
   pub values : HaveValues p items
+  pub home : ℕ
   pub traps : outcome_on p words ≡ Trapped (record { kind = kind; «module» = home })
+  pub name_is : name ≡ module_name p.tree home
   pub number_is : number ≡ length items + 1
   pub out_still : IsStill out
 
@@ -109,7 +113,7 @@ pub record TrapsSo (p : Subject) (input out : Change (List ℕ)) (number : ℕ) 
 abbrev pub IsProfiled : Subject → Change (List ℕ) → Change (List ℕ) → Finish → Type 0
 IsProfiled p input out finish.Done = IsNoted p input out
 IsProfiled p input out (finish.Stream close) = StopsSo p input out close
-IsProfiled p input out (finish.Trapped number kind home) = TrapsSo p input out number kind home
+IsProfiled p input out (finish.Trapped number kind name) = TrapsSo p input out number kind name
 IsProfiled p input out f = ⊥
 
 -- the file of this name has a program, and no other, whose bodies were compiled to these codes
@@ -203,7 +207,8 @@ ClosesSome tree g close out = (close ≡ ending.End) × HasBegun out.old out.new
 -- the same of one whose items ended so
 abbrev pub IsClosedProfile : Tree → Greatest → Sampled → Change (List ℕ) → Verdict → Type 0
 IsClosedProfile tree g (sampled.Trapped number kind home) out (verdict.Ended f stats) =
-    (stats ≡ None) × (f ≡ finish.Trapped number kind home) × IsStill out
+    (stats ≡ None) × (f ≡ finish.Trapped number kind (module_name tree home)) × IsStill out
+IsClosedProfile tree g (sampled.Trapped number kind home) out verdict.NoMemory = IsStill out
 IsClosedProfile tree g (sampled.Stream close) out (verdict.Ended f stats) = (stats ≡ None) × IsCalm out × ClosesSo tree g close out f
 IsClosedProfile tree g (sampled.Stream close) out verdict.WriteFault = ClosesSome tree g close out × HasRisen out
 IsClosedProfile tree g (sampled.Stream close) out verdict.NoMemory = IsStill out ⊎ ClosesSome tree g close out

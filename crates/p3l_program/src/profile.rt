@@ -1,15 +1,17 @@
 // The command `profile`: the cost file of what a program does on the items of the input.
 
-ghost use Rattle.std.specs.Prelude.{◌≡◌};
+ghost use Rattle.std.specs.Prelude.{◌≡◌, IfOk};
 ghost use Rattle.std.specs.List.{All};
 ghost use Rattle.p3l_skel.specs.Lawful.{IsLawfulTree};
 ghost use Rattle.p3l_units.specs.Table.{HasCode};
+ghost use Rattle.p3l_run.specs.Run.{module_name};
+ghost use Rattle.p3l_sample.specs.declared.stream.Sampled.TheVariants as sampled;
 ghost use Rattle.p3l_program.specs.Profile.{IsClosedProfile, IsProfileDue, IsProfileOf, coded};
 ghost use Rattle.p3l_program.specs.World.{change, files_change, world};
 
 use crate::plan::{Accepted, load_program};
 use crate::text::write_text;
-use p3l_base::{List, Name};
+use p3l_base::{List, Name, NoMemory};
 use p3l_code::SafeCode;
 use p3l_io::{Files, Sink, Source};
 use p3l_profile::Profile;
@@ -20,8 +22,38 @@ use p3l_skel::Tree;
 use p3l_stream::Ending;
 use std::alloc::Global;
 
-/// The verdict of a profile that ended so: its cost file is written where the input came to its end.
+/// The name of the module of a number, and none where there are not so many.
+fn name_of(alloc: Global, tree: &Tree, number: u32) -> Result<Name, NoMemory>
+    ensures { IfOk result (λ name. name ≡ module_name tree.now number) }
+{
+    match tree.modules.as_slice().get(number as usize) {
+        Some(found) => Name::from_text(alloc, found.name.as_str()),
+        None => Name::from_text(alloc, ""),
+    }
+}
+
+/// Writes the cost file of a profile whose input ended so, if this is its end.
 fn close<K: Sink>(
+    alloc: Global,
+    tree: &Tree,
+    profile: &Profile,
+    ending: Ending,
+    out: &mut K,
+) -> Verdict
+    ensures { IsClosedProfile tree.now profile.now.greatest (sampled.Stream ending)
+        (change K.taken K.faults out.old out.new) result }
+{
+    if ending != Ending::End {
+        return Verdict::Ended(Finish::Stream(ending), None);
+    }
+    match profile.text(alloc, tree) {
+        Ok(text) => write_text(text.as_slice(), out),
+        Err(_) => Verdict::NoMemory,
+    }
+}
+
+/// The verdict of a profile that ended so; its cost file is written where the input came to its end.
+fn finish<K: Sink>(
     alloc: Global,
     tree: &Tree,
     profile: &Profile,
@@ -32,18 +64,11 @@ fn close<K: Sink>(
         (change K.taken K.faults out.old out.new) result }
 {
     match sampled {
-        Sampled::Trapped { item, kind, module } => {
-            Verdict::Ended(Finish::Trapped { item, kind, module }, None)
-        }
-        Sampled::Stream(ending) => {
-            if ending != Ending::End {
-                return Verdict::Ended(Finish::Stream(ending), None);
-            }
-            match profile.text(alloc, tree) {
-                Ok(text) => write_text(text.as_slice(), out),
-                Err(_) => Verdict::NoMemory,
-            }
-        }
+        Sampled::Stream(ending) => close(alloc, tree, profile, ending, out),
+        Sampled::Trapped { item, kind, module } => match name_of(alloc, tree, module) {
+            Ok(module) => Verdict::Ended(Finish::Trapped { item, kind, module }, None),
+            Err(_) => Verdict::NoMemory,
+        },
     }
 }
 
@@ -65,7 +90,7 @@ fn profile_tree<S: Source, K: Sink>(
         return Verdict::NoMemory;
     };
     match sample(alloc, tree, codes, &mut profile, input) {
-        Ok(sampled) => close(alloc, tree, &profile, sampled, out),
+        Ok(sampled) => finish(alloc, tree, &profile, sampled, out),
         Err(_) => Verdict::NoMemory,
     }
 }
