@@ -160,6 +160,18 @@ counts that are chosen, and the sum of all words that came out, which wraps at 6
 example: p3l gen 7 --processors 16 --save seven
 ";
 
+/// What `profile` does.
+const PROFILE: &str = "usage: p3l profile PROGRAM
+
+Computes what the program makes of the items of the standard input, and writes the costs of its modules as
+these items show them to the standard output: of each body the most instructions of a run, of each loop the
+most turns for an item. Nothing is written where an item comes to a trap, or a line is no item.
+
+  PROGRAM          the file of the program
+
+example: p3l profile m.p3l < sample > m.toml
+";
+
 /// A page for each command, by its first word.
 pub(crate) const COMMANDS: &[Page] = &[
     Page {
@@ -205,5 +217,9 @@ pub(crate) const COMMANDS: &[Page] = &[
     Page {
         topic: "gen",
         text: GEN,
+    },
+    Page {
+        topic: "profile",
+        text: PROFILE,
     },
 ];

@@ -18,6 +18,7 @@ commands:
   check PROGRAM                           say whether a program keeps the rules of the language
   fmt PROGRAM                             write a program in its canonical text, without comments
   gen N --processors P ..                 generate a program with its items by a number, and run it
+  profile PROGRAM                         write the costs that a program shows on the standard input
 
 help:
   help COMMAND      what a command does, its words and an example; p3l COMMAND --help says the same

@@ -83,6 +83,7 @@ const NAMED: [(&str, &[&str]); 11] = [
             "--save PREFIX",
         ],
     ),
+    ("profile", &["PROGRAM"]),
 ];
 
 // A help must name the command in its usage and its example, and have a line for each of its words.

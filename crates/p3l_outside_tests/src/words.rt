@@ -57,6 +57,7 @@ fn shown(alloc: Global, command: &Command) -> Result<String, Fail> {
                 picks.as_str()
             )?
         }
+        Command::Profile(program) => format!(in alloc; "profile {}", program.as_str())?,
     })
 }
 
@@ -90,7 +91,7 @@ fn schedule_shown(alloc: Global, schedule: &Sched) -> Result<String, Fail> {
 
 #[test]
 fn words_spell_commands(rt: HostRuntime) -> Result<(), Fail> {
-    let table: [(&[&str], &str); 29] = [
+    let table: [(&[&str], &str); 31] = [
         (&["check", "m.p3l"], "check m.p3l"),
         (&["fmt", "m.p3l"], "fmt m.p3l"),
         (&["fmt", "--", "--odd"], "fmt --odd"),
@@ -228,6 +229,8 @@ fn words_spell_commands(rt: HostRuntime) -> Result<(), Fail> {
             ],
             "gen 4294967295 1 100000 rr s",
         ),
+        (&["profile", "m.p3l"], "profile m.p3l"),
+        (&["profile", "--", "--odd"], "profile --odd"),
         (&["check", "check"], "check check"),
         (&["check", "-"], "check -"),
     ];
@@ -240,7 +243,7 @@ fn words_spell_commands(rt: HostRuntime) -> Result<(), Fail> {
 
 #[test]
 fn other_words_spell_none(rt: HostRuntime) -> Result<(), Fail> {
-    let table: [&[&str]; 50] = [
+    let table: [&[&str]; 53] = [
         &[],
         &["walk"],
         &[""],
@@ -297,6 +300,9 @@ fn other_words_spell_none(rt: HostRuntime) -> Result<(), Fail> {
         &["gen", "1", "--processors", "4", "--items", "0"],
         &["gen", "1", "--processors", "4", "--items", "100001"],
         &["gen", "1", "--processors", "4", "--schedule", "file:p"],
+        &["profile"],
+        &["profile", "m.p3l", "n.p3l"],
+        &["profile", "m.p3l", "--costs", "c"],
         &["m.p3l", "check"],
     ];
     for words in table {
