@@ -85,6 +85,8 @@ def cases(made):
     yield Case("source, rewrite", ["rewrite", "m.p3l", *PROCESSORS], "m.p3l", PROGRAM, MIB, {0, 3, 5, 9, 11})
     yield Case("picks", ["run", "m.p3l", *PROCESSORS, "--schedule", "file:picks"], "picks", PICKS, 64 * MIB, {0, 1, 9, 11, 12})
     yield Case("stream", ["run", "m.p3l", *PROCESSORS], None, STREAM, 64 * MIB, {0, 6, 7, 11})
+    yield Case("source, profile", ["profile", "m.p3l"], "m.p3l", PROGRAM, MIB, {0, 3, 6, 7, 9, 11})
+    yield Case("stream, profile", ["profile", "m.p3l"], None, STREAM, 64 * MIB, {0, 6, 7, 11})
     if "cert" in made:
         yield Case("certificate", ["verify-cert", "m.p3l", *costs, "--cert", "cert"], "cert", made["cert"], 256 * MIB, {0, 9, 11, 13})
     if "image" in made:

@@ -37,6 +37,7 @@ RUNS = [
     (["check-trace", *COSTED, "--trace", "made.trace"], b"1\n2\n-3\n", ["run", *COSTED, "--trace", "made.trace"]),
     (["gen", "7", "--processors", "16", "--items", "3"], b"", []),
     (["rewrite", *COSTED], b"", []),
+    (["profile", "loop.p3l"], b"64 0\n3 0\n", []),
 ]
 
 

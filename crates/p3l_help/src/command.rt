@@ -173,6 +173,16 @@ so many processors; else the program itself is written.
   --costs FILE     the costs by which programs are compared; without them the standard costs
 
 example: p3l rewrite m.p3l --processors 16 > faster.p3l
+/// What `profile` does.
+const PROFILE: &str = "usage: p3l profile PROGRAM
+
+Computes what the program makes of the items of the standard input, and writes the costs of its modules as
+these items show them to the standard output: of each body the most instructions of a run, of each loop the
+most turns for an item. Nothing is written where an item comes to a trap, or a line is no item.
+
+  PROGRAM          the file of the program
+
+example: p3l profile m.p3l < sample > m.toml
 ";
 
 /// A page for each command, by its first word.
@@ -224,5 +234,7 @@ pub(crate) const COMMANDS: &[Page] = &[
     Page {
         topic: "rewrite",
         text: REWRITE,
+        topic: "profile",
+        text: PROFILE,
     },
 ];

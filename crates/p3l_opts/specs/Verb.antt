@@ -20,6 +20,7 @@ name_of verb.VerifyCert = codes "verify-cert"
 name_of verb.CheckTrace = codes "check-trace"
 name_of verb.Gen = codes "gen"
 name_of verb.Rewrite = codes "rewrite"
+name_of verb.Profile = codes "profile"
 
 -- the words that may stand after it
 abbrev pub rules_of : Verb → List Rule
@@ -87,6 +88,7 @@ rules_of verb.Rewrite =
     ∷ rule_for (codes "processors") Mandatory
     ∷ rule_for (codes "costs") Optional
     ∷ []
+rules_of verb.Profile = rule_for (codes "program") Positional ∷ []
 
 -- the command as `clap` is told of it
 unfoldable pub app_for : Verb → App

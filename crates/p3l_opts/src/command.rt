@@ -45,6 +45,8 @@ pub enum Command {
     /// greater service time. It has the name of the program's file, the processors, and the name of
     /// the file of costs; without one, the standard costs hold.
     Rewrite(Name, u32, Option<Name>),
+    /// `profile PROGRAM`: writes the cost file of what a program does on the items of the input.
+    Profile(Name),
 }
 
 /// How a program's network is built.

@@ -24,6 +24,7 @@ pub enum Verb {
     CheckTrace,
     Gen,
     Rewrite,
+    Profile,
 }
 
 /// Whether a word is this text.
@@ -73,6 +74,8 @@ pub fn verb_of(word: &str) -> Option<Verb>
     }
     if is_word(word, "rewrite") {
         return Some(Verb::Rewrite);
+    if is_word(word, "profile") {
+        return Some(Verb::Profile);
     }
     None
 }
@@ -186,5 +189,6 @@ pub(crate) fn clap_command<'a>(alloc: Global, verb: Verb) -> Result<Command<'a>,
                 ("costs", Spelling::Optional),
             ],
         ),
+        Verb::Profile => command_with(alloc, "profile", &[("program", Spelling::Positional)]),
     }
 }

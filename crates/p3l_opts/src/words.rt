@@ -60,6 +60,7 @@ fn command_of(alloc: Global, verb: Verb, matches: &ArgMatches) -> Result<Command
         Verb::CheckTrace => check_trace_of(alloc, matches),
         Verb::Gen => gen_of(alloc, matches),
         Verb::Rewrite => rewrite_of(alloc, matches),
+        Verb::Profile => Ok(Command::Profile(name_of(alloc, matches, "program")?)),
     }
 }
 

@@ -84,6 +84,7 @@ const NAMED: [(&str, &[&str]); 11] = [
         ],
     ),
     ("rewrite", &["PROGRAM", "--processors P", "--costs FILE"]),
+    ("profile", &["PROGRAM"]),
 ];
 
 // A help must name the command in its usage and its example, and have a line for each of its words.

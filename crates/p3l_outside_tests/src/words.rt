@@ -62,6 +62,7 @@ fn shown(alloc: Global, command: &Command) -> Result<String, Fail> {
             let costs = or_hyphen(costs);
             format!(in alloc; "rewrite {program} {processors} {costs}")?
         }
+        Command::Profile(program) => format!(in alloc; "profile {}", program.as_str())?,
     })
 }
 
@@ -238,6 +239,8 @@ fn words_spell_commands(rt: HostRuntime) -> Result<(), Fail> {
             &["rewrite", "--costs", "c", "--processors=1", "m"],
             "rewrite m 1 c",
         ),
+        (&["profile", "m.p3l"], "profile m.p3l"),
+        (&["profile", "--", "--odd"], "profile --odd"),
         (&["check", "check"], "check check"),
         (&["check", "-"], "check -"),
     ];
@@ -251,6 +254,7 @@ fn words_spell_commands(rt: HostRuntime) -> Result<(), Fail> {
 #[test]
 fn other_words_spell_none(rt: HostRuntime) -> Result<(), Fail> {
     let table: [&[&str]; 54] = [
+    let table: [&[&str]; 53] = [
         &[],
         &["walk"],
         &[""],
@@ -311,6 +315,9 @@ fn other_words_spell_none(rt: HostRuntime) -> Result<(), Fail> {
         &["rewrite", "--processors", "4"],
         &["rewrite", "m", "--processors", "513"],
         &["rewrite", "m", "--processors", "4", "--capacity", "1"],
+        &["profile"],
+        &["profile", "m.p3l", "n.p3l"],
+        &["profile", "m.p3l", "--costs", "c"],
         &["m.p3l", "check"],
     ];
     for words in table {

@@ -19,6 +19,7 @@ mod AlikeSteps
 mod SoundSteps
 mod SeenSteps
 mod TraceSteps
+mod ProfileSteps
 mod RecheckSteps
 mod GenSteps
 mod EndSteps
@@ -26,6 +27,7 @@ mod Lawful
 mod TextLaws
 mod RunLaws
 mod TraceLaws
+mod ProfileLaws
 mod GenLaws
 mod WorkLaws
 mod FirstSteps

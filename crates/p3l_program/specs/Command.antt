@@ -19,7 +19,7 @@ use Rattle.p3l_program.specs.Rewrite.{IsRewritten, plain_build}
 use Rattle.p3l_program.specs.Stage.{Stage, build_stages, migrate_stages, program_stages, verify_stages}
 use Rattle.p3l_program.specs.Text.{IsNothing}
 use Rattle.p3l_program.specs.Verify.{IsVerified}
-use Rattle.p3l_program.specs.Work.{Work, behavior, check_trace, run_generated, run_network, save_file, write_text}
+use Rattle.p3l_program.specs.Work.{Work, behavior, check_trace, profile_input, run_generated, run_network, save_file, write_text}
 use Rattle.p3l_program.specs.World.{World}
 
 -- the work of each command
@@ -43,6 +43,7 @@ work_of (command.Gen number processors items schedule prefix) =
     run_generated (gen_of number processors items schedule prefix)
 work_of (command.Rewrite program processors costs) =
     write_text (build_stages (plain_build program processors costs)) (λ files. IsRewritten files (plain_build program processors costs))
+work_of (command.Profile name) = profile_input name
 
 abbrev pub behavior_of : Command → Behavior
 behavior_of command = behavior (work_of command)

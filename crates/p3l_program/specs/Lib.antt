@@ -19,6 +19,7 @@ pub mod LoadImage
 pub mod Migrate
 pub mod Origin
 pub mod Plan
+pub mod Profile
 pub mod Recheck
 pub mod Recorded
 pub mod Rewrite

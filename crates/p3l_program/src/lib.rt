@@ -18,6 +18,7 @@ mod image;
 mod memory;
 pub mod migrate;
 mod plan;
+pub mod profile;
 pub mod recheck;
 mod record;
 pub mod rewrite;

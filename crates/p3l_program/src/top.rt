@@ -16,6 +16,7 @@ use crate::generated::run_generated;
 use crate::graph::graph;
 use crate::migrate::migrate;
 use crate::rewrite::rewrite;
+use crate::profile::profile;
 use crate::run::run;
 use crate::verify::verify_cert;
 use p3l_io::{Files, Sink, Source};
@@ -68,6 +69,7 @@ fn perform<F: Files, S: Source, K: Sink>(
         Ok(Command::Rewrite(program, processors, costs)) => {
             rewrite(alloc, program, processors, costs, files, out)
         }
+        Ok(Command::Profile(name)) => profile(alloc, name, files, input, out),
     }
 }
 

@@ -37,6 +37,8 @@ const HELD: Ends = Ends(0, "trace holds: 3 fired, 0 idle\n", "");
 
 const CHECKED: Ends = Ends(0, "ok: 1 modules, 1 instances\n", "");
 
+const PROFILED: Ends = Ends(0, "setup = 10\nword = 1\n[seq]\nmain = 7\n", "");
+
 const OF_A_RUN: &[Cases] = &[Cases(
     "run m.p3l --processors 16 --costs c --schedule file:p --stats",
     &[
@@ -103,6 +105,13 @@ const OF_READING: &[Cases] = &[
         ],
     ),
     Cases("fmt m.p3l", &[Case(ALL, FIRST_FILE, "", NO_PROGRAM)]),
+    Cases(
+        "profile m.p3l",
+        &[
+            Case(ALL, FIRST_FILE, "1\n", NO_PROGRAM),
+            Case(ALL, SECOND_FILE, "1\n", PROFILED),
+        ],
+    ),
 ];
 
 const EACH: &[&[Cases]] = &[

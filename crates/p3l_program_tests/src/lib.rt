@@ -34,6 +34,8 @@ mod order_of_stages;
 #[cfg(test)]
 mod picks;
 #[cfg(test)]
+mod profiles;
+#[cfg(test)]
 mod refusals;
 #[cfg(test)]
 mod rescues;

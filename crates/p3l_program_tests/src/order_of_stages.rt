@@ -206,6 +206,18 @@ const READING_IS_REFUSED: &[Cases] = &[
             Case(BROKEN, NO_PUT, "", WRITE_FAULT),
         ],
     ),
+    Cases(
+        "profile none.p3l --processors 4",
+        &[Case(DOUBLE_FILES, NO_TAKE, "1\n", USAGE)],
+    ),
+    Cases(
+        "profile m.p3l",
+        &[
+            Case(SHORT, NO_TAKE, "1\n", NO_PROGRAM),
+            Case(BROKEN, NO_TAKE, "1\n", REFUSED_NAME),
+            Case(DOUBLE_FILES, NO_TAKE, "1\n", READ_FAULT),
+        ],
+    ),
 ];
 
 #[test]
