@@ -13,6 +13,7 @@ mod CertSteps
 mod PickSteps
 mod RunSteps
 mod RecordSteps
+mod TimeSteps
 mod AlikeSteps
 mod SoundSteps
 mod SeenSteps
@@ -24,6 +25,7 @@ mod Lawful
 mod TextLaws
 mod RunLaws
 mod TraceLaws
+mod TimeLaws
 mod GenLaws
 mod WorkLaws
 mod FirstSteps
