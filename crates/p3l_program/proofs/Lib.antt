@@ -19,6 +19,7 @@ mod SoundSteps
 mod SeenSteps
 mod TraceSteps
 mod RecheckSteps
+mod ReplaySteps
 mod GenSteps
 mod EndSteps
 mod Lawful

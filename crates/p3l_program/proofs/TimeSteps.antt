@@ -62,7 +62,7 @@ module _ (n : Network) (prices : List ℕ) (input out : Change (List ℕ)) where
   job keeping = timed_job n keeping before
 
   -- to its end
-  module _ (run_law : EveryTimedRunIsARun) (within_law : EveryFinishIsWithinBusy) (keeping : Keeping) (ran : Ran) (k : Clock) (e : EndsInTime (job keeping) prices after ran k) where
+  module _ (few : size_of n ≤ 1048576) (run_law : EveryTimedRunIsARun) (within_law : EveryFinishIsWithinBusy) (keeping : Keeping) (ran : Ran) (k : Clock) (e : EndsInTime (job keeping) prices after ran k) where
     over_at : (later : List (List ℤ)) → MayCome n e.ends.ends.close later → goes_on n (course_of n (schedule.Recorded e.picks) (e.ends.ends.items ++ later)) ≡ false
     unfolding course_of
     over_at later may =
@@ -73,6 +73,7 @@ module _ (n : Network) (prices : List ℕ) (input out : Change (List ℕ)) where
 
     pub runs_in_time : RunsInTime n prices input out keeping e.picks ran
     runs_in_time = record {
+      few = few;
       finishes = e.ends.ends;
       timed = e.timed;
       made = e.made;
@@ -90,14 +91,14 @@ module _ (n : Network) (prices : List ℕ) (input out : Change (List ℕ)) where
     picks_are : lines.picks_of e.ends.ends.lines ≡ e.picks
     picks_are = (e.ends.ends.traced [] (nothing_comes n e.ends.ends.close)).picks ∙ e.made [] (nothing_comes n e.ends.ends.close)
 
-  module _ (run_law : EveryTimedRunIsARun) (within_law : EveryFinishIsWithinBusy) (files : Change Held) (size : length prices ≡ size_of n) (ran : Ran) (k : Clock) where
+  module _ (few : size_of n ≤ 1048576) (run_law : EveryTimedRunIsARun) (within_law : EveryFinishIsWithinBusy) (files : Change Held) (size : length prices ≡ size_of n) (ran : Ran) (k : Clock) where
     saved_so : (name : List ℕ) (e : EndsInTime (job keep.Lines) prices after ran k) (result : _) → IsPicking files (Some name) ran.lines result → HasSave files name (picks_text e.picks) result
     saved_so name e result h =
-        subst (λ ps. HasSave files name (picks_text ps) result) (picks_are run_law within_law keep.Lines ran k e)
+        subst (λ ps. HasSave files name (picks_text ps) result) (picks_are few run_law within_law keep.Lines ran k e)
         (subst (λ l. IsPicking files (Some name) l result) e.ends.ends.kept h)
 
     busy_same : (keeping : Keeping) (e : EndsInTime (job keeping) prices after ran k) (told : Option Stats) → AreTold ran.stats k told
-        → Rattle.p3l_program.specs.Time.AreTimes n prices input out keeping e.picks ran (runs_in_time run_law within_law keeping ran k e) told
+        → Rattle.p3l_program.specs.Time.AreTimes n prices input out keeping e.picks ran (runs_in_time few run_law within_law keeping ran k e) told
     busy_same keeping e told t = record {
       moment = k.moment;
       moment_is = e.finish;
@@ -112,26 +113,26 @@ module _ (n : Network) (prices : List ℕ) (input out : Change (List ℕ)) where
 
     pub closed_time : (name : Option (List ℕ)) (e : EndsInTime (job (keeping_for name)) prices after ran k) (v : Verdict) → IsCalm out → IsTimeClosed files ran k name v → IsTimeOf n prices files input out name v
     closed_time None e (verdict.Ended finish told) calm h =
-        (record { picks = e.picks; ran = ran; runs = runs_in_time run_law within_law keep.Nothing ran k e; finish_is = h.0; numbers = busy_same keep.Nothing e told h.1; saved = tt }, h.2.1.calm, calm)
+        (record { picks = e.picks; ran = ran; runs = runs_in_time few run_law within_law keep.Nothing ran k e; finish_is = h.0; numbers = busy_same keep.Nothing e told h.1; saved = tt }, h.2.1.calm, calm)
     closed_time None e (verdict.Refused r) calm h = absurd (let z = h.0 in cc)
     closed_time None e verdict.WriteFault calm h = absurd (let z = h.0 in cc)
     closed_time None e verdict.NoMemory calm h = absurd (let z = h.0 in cc)
     closed_time (Some name) e (verdict.Ended finish told) calm h =
         let save = saved_so name e (Ok tt) h.2 in
-        (record { picks = e.picks; ran = ran; runs = runs_in_time run_law within_law keep.Lines ran k e; finish_is = h.0; numbers = busy_same keep.Lines e told h.1; saved = save.by.0 }, save.by.1, calm)
+        (record { picks = e.picks; ran = ran; runs = runs_in_time few run_law within_law keep.Lines ran k e; finish_is = h.0; numbers = busy_same keep.Lines e told h.1; saved = save.by.0 }, save.by.1, calm)
     closed_time (Some name) e (verdict.Refused r) calm h = absurd (saved_so name e (Err (verdict.Refused r)) h).by
-    closed_time (Some name) e verdict.WriteFault calm h = inr (over_now run_law within_law keep.Lines ran k e, calm, (saved_so name e (Err verdict.WriteFault) h).by)
-    closed_time (Some name) e verdict.NoMemory calm h = inr (begun_now run_law within_law keep.Lines ran k e)
+    closed_time (Some name) e verdict.WriteFault calm h = inr (over_now few run_law within_law keep.Lines ran k e, calm, (saved_so name e (Err verdict.WriteFault) h).by)
+    closed_time (Some name) e verdict.NoMemory calm h = inr (begun_now few run_law within_law keep.Lines ran k e)
 
     pub closed_time_kept : (name : Option (List ℕ)) (e : EndsInTime (job (keeping_for name)) prices after ran k) (v : Verdict) → IsTimeClosed files ran k name v → KeepsTime n prices files input out name v
     closed_time_kept None e (verdict.Ended finish told) h = record { kept = kept_by files [] (verdict.Ended finish told) h.2.1.told; over = inl h.2.1.told }
     closed_time_kept None e (verdict.Refused r) h = absurd (let z = h.0 in cc)
     closed_time_kept None e verdict.WriteFault h = absurd (let z = h.0 in cc)
     closed_time_kept None e verdict.NoMemory h = absurd (let z = h.0 in cc)
-    closed_time_kept (Some name) e (verdict.Ended finish told) h = record { kept = (saved_so name e (Ok tt) h.2).kept; over = inr (over_now run_law within_law keep.Lines ran k e) }
+    closed_time_kept (Some name) e (verdict.Ended finish told) h = record { kept = (saved_so name e (Ok tt) h.2).kept; over = inr (over_now few run_law within_law keep.Lines ran k e) }
     closed_time_kept (Some name) e (verdict.Refused r) h = absurd (saved_so name e (Err (verdict.Refused r)) h).by
-    closed_time_kept (Some name) e verdict.WriteFault h = record { kept = (saved_so name e (Err verdict.WriteFault) h).kept; over = inr (over_now run_law within_law keep.Lines ran k e) }
-    closed_time_kept (Some name) e verdict.NoMemory h = record { kept = (saved_so name e (Err verdict.NoMemory) h).kept; over = inr (over_now run_law within_law keep.Lines ran k e) }
+    closed_time_kept (Some name) e verdict.WriteFault h = record { kept = (saved_so name e (Err verdict.WriteFault) h).kept; over = inr (over_now few run_law within_law keep.Lines ran k e) }
+    closed_time_kept (Some name) e verdict.NoMemory h = record { kept = (saved_so name e (Err verdict.NoMemory) h).kept; over = inr (over_now few run_law within_law keep.Lines ran k e) }
 
   -- or not
   pub early_time : (files : Change Held) (keeping : Keeping) (name : Option (List ℕ)) (failed : RunFault) → IsCalm files → EndsEarly (job keeping) after failed → IsTimeOf n prices files input out name (fault_verdict failed)

@@ -22,6 +22,7 @@ pub mod Picks
 pub mod Plan
 pub mod Recheck
 pub mod Recorded
+pub mod Replay
 pub mod Run
 pub mod Saved
 pub mod Scheduled

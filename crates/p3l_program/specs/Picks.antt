@@ -1,16 +1,11 @@
 -- The picks of a run, as a text of which a schedule is made.
-use Rattle.std.specs.Prelude.{◌≡◌, ℕ, List, [], ◌∷◌, ◌++◌, ◌≤◌, ◌<◌, ◌^◌, codes, length, Option, Some, None, Result, Ok}
+use Rattle.std.specs.Prelude.{◌≡◌, ℕ, List, [], ◌∷◌, ◌++◌, codes, Option, Some, None, Result, Ok}
 use Rattle.std.specs.Fmt.{decimal}
-use Rattle.std.specs.List.{AllByRecursion}
 use Rattle.p3l_io.specs.Told.{Held}
 use Rattle.p3l_report.specs.declared.verdict.Verdict.{Verdict}
-use Rattle.p3l_sched.specs.declared.schedule.Schedule.{Schedule}
-use Rattle.p3l_sched.specs.declared.schedule.Schedule.TheVariants.{Recorded}
 use Rattle.p3l_trace.specs.declared.trace.TraceLine.{TraceLine}
 use Rattle.p3l_trace.specs.Agreement.{picks_of}
-use Rattle.p3l_program.specs.File.{HasText}
 use Rattle.p3l_program.specs.Saved.{HasSave, IsSaved}
-use Rattle.p3l_program.specs.Scheduled.{HasPicks, picks_limit}
 use Rattle.p3l_program.specs.World.{Change, IsStill}
 
 -- what stands after a pick: a space where others follow, and a line feed after the last
@@ -32,9 +27,3 @@ ArePicksSaved files (Some name) picks = IsSaved files name (picks_text picks)
 abbrev pub IsPicking : Change Held → Option (List ℕ) → Option (List TraceLine) → Result (Unit {0}) Verdict → Type 0
 IsPicking files (Some name) (Some lines) result = HasSave files name (picks_text (picks_of lines)) result
 IsPicking files name lines result = (result ≡ Ok tt) × IsStill files
-
--- where a file has the text of picks of so many processes, within the limit of such files, the schedule of the file is these picks
-abbrev pub EverySavedPicksAreRead : Type 0
-EverySavedPicksAreRead =
-    (files : Option Held) (name picks : List ℕ) (count : ℕ) (s : Schedule) → count < 2 ^ 64 → AllByRecursion (λ pick. pick < count) picks →
-    HasText files picks_limit name (picks_text picks) → HasPicks files count name s → s ≡ Recorded picks

@@ -45,6 +45,7 @@ pub record HasPrices (files : Option Held) (build : Build) (n : Network) (prices
 -- they had been recorded, on the items that the stream gave and whatever may still come after them. They are the picks of the timed
 -- run, each is made, no process can fire after them; and it lasts no less than any process is busy, and no more than all are
 pub record RunsInTime (n : Network) (prices : List ℕ) (input out : Change (List ℕ)) (keeping : Keeping) (picks : List ℕ) (ran : Ran) : Type 0 where
+  pub few : size_of n ≤ 1048576
   pub finishes : Finishes n (schedule.Recorded picks) keeping input.old input.new input.before input.now out.old out.new ran
   pub timed : (later : List (List ℤ)) → MayCome n finishes.close later → AreTimed n prices (finishes.items ++ later) picks
   pub made : (later : List (List ℤ)) → MayCome n finishes.close later → picks_of n (schedule.Recorded picks) (finishes.items ++ later) ≡ picks

@@ -21,6 +21,7 @@ mod picks;
 mod plan;
 pub mod recheck;
 mod record;
+pub mod replay;
 pub mod run;
 mod running;
 mod save;
