@@ -183,6 +183,22 @@ most turns for an item. Nothing is written where an item comes to a trap, or a l
   PROGRAM          the file of the program
 
 example: p3l profile m.p3l < sample > m.toml
+/// What `time` does.
+const TIME: &str = "usage: p3l time PROGRAM --processors P [--costs FILE] [--capacity C] [--picks FILE]
+
+Runs a program on the standard input in virtual time, and writes its items as run does. Each process
+takes as long for a firing as the costs say, in ticks, and all processes work side by side: the one
+that is done first fires first. At the end one line on the standard error says how many items there
+were and how often processes fired, the tick of the last firing, and the process that was busy
+longest with how long it was. No time is measured: the same words and items give the same line.
+
+  PROGRAM          the file of the program
+  --processors P   how many processors there are, 1 to 512
+  --costs FILE     the costs of modules and words, in ticks; without them the standard costs
+  --capacity C     how many tokens a channel holds at most, 1 to 1,024 (4 if not given)
+  --picks FILE     write there in what order the processes fired, as run takes it: --schedule file:FILE
+
+example: p3l time m.p3l --processors 16 --costs m.toml <in.txt
 ";
 
 /// A page for each command, by its first word.
@@ -236,5 +252,7 @@ pub(crate) const COMMANDS: &[Page] = &[
         text: REWRITE,
         topic: "profile",
         text: PROFILE,
+        topic: "time",
+        text: TIME,
     },
 ];

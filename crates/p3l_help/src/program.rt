@@ -20,6 +20,7 @@ commands:
   gen N --processors P ..                 generate a program with its items by a number, and run it
   rewrite PROGRAM --processors P ..       write a program that means the same and takes no more time
   profile PROGRAM                         write the costs that a program shows on the standard input
+  time PROGRAM --processors P ..          run a program in virtual time, and say how long it took
 
 help:
   help COMMAND      what a command does, its words and an example; p3l COMMAND --help says the same

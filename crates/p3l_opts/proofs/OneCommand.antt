@@ -30,6 +30,7 @@ verb_named text =
     else if bytes_eq text (codes "gen") then Some verb.Gen
     else Some verb.Rewrite
     else Some verb.Profile
+    else Some verb.Time
 
 named : (v : Verb) → verb_named (name_of v) ≡ Some v
 unfolding verb_named
@@ -46,6 +47,7 @@ named verb.CheckTrace = refl
 named verb.Gen = refl
 named verb.Rewrite = refl
 named verb.Profile = refl
+named verb.Time = refl
 
 -- verbs of one name are the same
 one_verb : (v w : Verb) → name_of v ≡ name_of w → v ≡ w
@@ -129,6 +131,7 @@ one_command found (command.Gen m p k s t) (command.Gen n q l s' t') v ha hb = λ
 one_command found (command.Rewrite p n c) (command.Rewrite q m d) v ha hb = λ i.
     command.Rewrite (one_name _ _ _ ha.0 hb.0 i) (one_count 512 _ _ _ (omega arith) ha.1 hb.1 i) ((ha.2 ∙ sym hb.2) i)
 one_command found (command.Profile p) (command.Profile q) v ha hb = ap command.Profile (one_name _ _ _ ha hb)
+one_command found (command.Time x p) (command.Time y q) v ha hb = λ i. command.Time (one_build _ _ x y ha.0 hb.0 i) ((ha.1 ∙ sym hb.1) i)
 one_command found a b v ha hb = cc
 
 pub spells_one_at_most : SpellsOneAtMost

@@ -31,6 +31,7 @@ verb_of (command.CheckTrace build trace) = verb.CheckTrace
 verb_of (command.Gen number processors items schedule save) = verb.Gen
 verb_of (command.Rewrite program processors costs) = verb.Rewrite
 verb_of (command.Profile program) = verb.Profile
+verb_of (command.Time build picks) = verb.Time
 
 -- the text is a number from 1 to `most`, in decimal digits without a sign and without a leading zero
 pub record HasCount (most : ℕ) (text : Option Text) (count : ℕ) : Type 0 where
@@ -118,6 +119,7 @@ HasValues found (command.Gen number processors items schedule save) = HasGen fou
 HasValues found (command.Rewrite program processors costs) =
     (first_of (codes "program") found ≡ Some program) × HasProcessors (first_of (codes "processors") found) processors × (costs ≡ first_of (codes "costs") found)
 HasValues found (command.Profile program) = first_of (codes "program") found ≡ Some program
+HasValues found (command.Time build picks) = HasBuild found (first_of (codes "capacity") found) build × (picks ≡ first_of (codes "picks") found)
 
 -- the first word names the command, `clap` takes those after it, and its values are what they spell
 pub record Spells (words : List Text) (command : Command) : Type 0 where

@@ -21,6 +21,7 @@ name_of verb.CheckTrace = codes "check-trace"
 name_of verb.Gen = codes "gen"
 name_of verb.Rewrite = codes "rewrite"
 name_of verb.Profile = codes "profile"
+name_of verb.Time = codes "time"
 
 -- the words that may stand after it
 abbrev pub rules_of : Verb → List Rule
@@ -89,6 +90,13 @@ rules_of verb.Rewrite =
     ∷ rule_for (codes "costs") Optional
     ∷ []
 rules_of verb.Profile = rule_for (codes "program") Positional ∷ []
+rules_of verb.Time =
+    rule_for (codes "program") Positional
+    ∷ rule_for (codes "processors") Mandatory
+    ∷ rule_for (codes "costs") Optional
+    ∷ rule_for (codes "capacity") Optional
+    ∷ rule_for (codes "picks") Optional
+    ∷ []
 
 -- the command as `clap` is told of it
 unfoldable pub app_for : Verb → App

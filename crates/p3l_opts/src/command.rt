@@ -47,6 +47,10 @@ pub enum Command {
     Rewrite(Name, u32, Option<Name>),
     /// `profile PROGRAM`: writes the cost file of what a program does on the items of the input.
     Profile(Name),
+    /// `time PROGRAM --processors P [--costs FILE] [--capacity C] [--picks FILE]`: runs a program on
+    /// the input in virtual time. It has how the network is built, and the name of the file for the
+    /// picks.
+    Time(Build, Option<Name>),
 }
 
 /// How a program's network is built.

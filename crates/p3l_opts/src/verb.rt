@@ -25,6 +25,7 @@ pub enum Verb {
     Gen,
     Rewrite,
     Profile,
+    Time,
 }
 
 /// Whether a word is this text.
@@ -76,6 +77,8 @@ pub fn verb_of(word: &str) -> Option<Verb>
         return Some(Verb::Rewrite);
     if is_word(word, "profile") {
         return Some(Verb::Profile);
+    if is_word(word, "time") {
+        return Some(Verb::Time);
     }
     None
 }
@@ -183,6 +186,9 @@ pub(crate) fn clap_command<'a>(alloc: Global, verb: Verb) -> Result<Command<'a>,
         Verb::Rewrite => command_with(
             alloc,
             "rewrite",
+        Verb::Time => command_with(
+            alloc,
+            "time",
             &[
                 ("program", Spelling::Positional),
                 ("processors", Spelling::Mandatory),
@@ -190,5 +196,9 @@ pub(crate) fn clap_command<'a>(alloc: Global, verb: Verb) -> Result<Command<'a>,
             ],
         ),
         Verb::Profile => command_with(alloc, "profile", &[("program", Spelling::Positional)]),
+                ("capacity", Spelling::Optional),
+                ("picks", Spelling::Optional),
+            ],
+        ),
     }
 }

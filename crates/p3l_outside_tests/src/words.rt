@@ -63,6 +63,11 @@ fn shown(alloc: Global, command: &Command) -> Result<String, Fail> {
             format!(in alloc; "rewrite {program} {processors} {costs}")?
         }
         Command::Profile(program) => format!(in alloc; "profile {}", program.as_str())?,
+        Command::Time(build, picks) => {
+            let built = build_shown(alloc, build)?;
+            let picks = or_hyphen(picks);
+            format!(in alloc; "time {} {picks}", built.as_str())?
+        }
     })
 }
 
@@ -241,6 +246,14 @@ fn words_spell_commands(rt: HostRuntime) -> Result<(), Fail> {
         ),
         (&["profile", "m.p3l"], "profile m.p3l"),
         (&["profile", "--", "--odd"], "profile --odd"),
+        (
+            &["time", "--picks=p", "m", "--processors", "4"],
+            "time m 4 - 4 p",
+        ),
+        (
+            &["time", "m", "--processors", "4", "--costs", "c"],
+            "time m 4 c 4 -",
+        ),
         (&["check", "check"], "check check"),
         (&["check", "-"], "check -"),
     ];
@@ -318,6 +331,9 @@ fn other_words_spell_none(rt: HostRuntime) -> Result<(), Fail> {
         &["profile"],
         &["profile", "m.p3l", "n.p3l"],
         &["profile", "m.p3l", "--costs", "c"],
+        &["time", "m"],
+        &["time", "m", "--processors", "4", "--stats"],
+        &["time", "m", "--processors", "4", "--schedule", "rr"],
         &["m.p3l", "check"],
     ];
     for words in table {

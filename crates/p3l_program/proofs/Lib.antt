@@ -15,12 +15,14 @@ mod CertSteps
 mod PickSteps
 mod RunSteps
 mod RecordSteps
+mod TimeSteps
 mod AlikeSteps
 mod SoundSteps
 mod SeenSteps
 mod TraceSteps
 mod ProfileSteps
 mod RecheckSteps
+mod ReplaySteps
 mod GenSteps
 mod EndSteps
 mod Lawful
@@ -28,6 +30,7 @@ mod TextLaws
 mod RunLaws
 mod TraceLaws
 mod ProfileLaws
+mod TimeLaws
 mod GenLaws
 mod WorkLaws
 mod FirstSteps

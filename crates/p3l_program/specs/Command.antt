@@ -20,6 +20,7 @@ use Rattle.p3l_program.specs.Stage.{Stage, build_stages, migrate_stages, program
 use Rattle.p3l_program.specs.Text.{IsNothing}
 use Rattle.p3l_program.specs.Verify.{IsVerified}
 use Rattle.p3l_program.specs.Work.{Work, behavior, check_trace, profile_input, run_generated, run_network, save_file, write_text}
+use Rattle.p3l_program.specs.Work.{Work, behavior, check_trace, run_generated, run_in_time, run_network, save_file, write_text}
 use Rattle.p3l_program.specs.World.{World}
 
 -- the work of each command
@@ -44,6 +45,7 @@ work_of (command.Gen number processors items schedule prefix) =
 work_of (command.Rewrite program processors costs) =
     write_text (build_stages (plain_build program processors costs)) (λ files. IsRewritten files (plain_build program processors costs))
 work_of (command.Profile name) = profile_input name
+work_of (command.Time build picks) = run_in_time build picks
 
 abbrev pub behavior_of : Command → Behavior
 behavior_of command = behavior (work_of command)

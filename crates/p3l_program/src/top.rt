@@ -18,6 +18,7 @@ use crate::migrate::migrate;
 use crate::rewrite::rewrite;
 use crate::profile::profile;
 use crate::run::run;
+use crate::time::time;
 use crate::verify::verify_cert;
 use p3l_io::{Files, Sink, Source};
 use p3l_opts::{Command, OptsRefusal, one_command_at_most, parse};
@@ -70,6 +71,7 @@ fn perform<F: Files, S: Source, K: Sink>(
             rewrite(alloc, program, processors, costs, files, out)
         }
         Ok(Command::Profile(name)) => profile(alloc, name, files, input, out),
+        Ok(Command::Time(build, picks)) => time(alloc, build, picks, files, input, out),
     }
 }
 

@@ -52,3 +52,6 @@ returns-in-Rewrite c = rw c.in-Rewrite.is (IfOk-weaker c.command_with-in-Rewrite
 pub returns-in-Profile : goal.returns-in-Profile
 unfolding app_for
 returns-in-Profile c = rw c.in-Profile.is (IfOk-weaker c.command_with-in-Profile.result _ _ (λ r e. e) c.command_with-in-Profile.ensures)
+pub returns-in-Time : goal.returns-in-Time
+unfolding app_for
+returns-in-Time c = rw c.in-Time.is (IfOk-weaker c.command_with-in-Time.result _ _ (λ r e. e) c.command_with-in-Time.ensures)
