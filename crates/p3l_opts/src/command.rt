@@ -41,6 +41,11 @@ pub enum Command {
     /// its input and runs it. It has the number, the processors, the items, how picks are made, and
     /// what the names of saved files begin with.
     Gen(u32, u32, u32, Sched, Option<Name>),
+    /// `scan PROGRAM --segments M [--schedule S] [--capacity C] [--stats]`: folds all fronts of the list
+    /// of each item. It has the name of the program's file, the segments, 1 to 512, how picks are made,
+    /// the tokens that a channel holds at most, 1 to 1,024, and whether the numbers of the run are
+    /// reported.
+    Scan(Name, u32, Sched, u32, bool),
 }
 
 /// How a program's network is built.

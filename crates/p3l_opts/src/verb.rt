@@ -23,6 +23,7 @@ pub enum Verb {
     VerifyCert,
     CheckTrace,
     Gen,
+    Scan,
 }
 
 /// Whether a word is this text.
@@ -69,6 +70,9 @@ pub fn verb_of(word: &str) -> Option<Verb>
     }
     if is_word(word, "gen") {
         return Some(Verb::Gen);
+    }
+    if is_word(word, "scan") {
+        return Some(Verb::Scan);
     }
     None
 }
@@ -171,6 +175,17 @@ pub(crate) fn clap_command<'a>(alloc: Global, verb: Verb) -> Result<Command<'a>,
                 ("items", Spelling::Optional),
                 ("schedule", Spelling::Optional),
                 ("save", Spelling::Optional),
+            ],
+        ),
+        Verb::Scan => command_with(
+            alloc,
+            "scan",
+            &[
+                ("program", Spelling::Positional),
+                ("segments", Spelling::Mandatory),
+                ("schedule", Spelling::Optional),
+                ("capacity", Spelling::Optional),
+                ("stats", Spelling::Flag),
             ],
         ),
     }

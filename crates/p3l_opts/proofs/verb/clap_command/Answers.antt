@@ -45,3 +45,7 @@ returns-in-CheckTrace c = rw c.in-CheckTrace.is (IfOk-weaker c.command_with-in-C
 pub returns-in-Gen : goal.returns-in-Gen
 unfolding app_for
 returns-in-Gen c = rw c.in-Gen.is (IfOk-weaker c.command_with-in-Gen.result _ _ (λ r e. e) c.command_with-in-Gen.ensures)
+
+pub returns-in-Scan : goal.returns-in-Scan
+unfolding app_for
+returns-in-Scan c = rw c.in-Scan.is (IfOk-weaker c.command_with-in-Scan.result _ _ (λ r e. e) c.command_with-in-Scan.ensures)
