@@ -57,6 +57,14 @@ fn shown(alloc: Global, command: &Command) -> Result<String, Fail> {
                 picks.as_str()
             )?
         }
+        Command::Scan(program, segments, schedule, capacity, stats) => {
+            let picks = schedule_shown(alloc, schedule)?;
+            let program = program.as_str();
+            format!(in alloc;
+                "scan {program} {segments} {} {capacity} {stats}",
+                picks.as_str()
+            )?
+        }
     })
 }
 
@@ -90,7 +98,7 @@ fn schedule_shown(alloc: Global, schedule: &Sched) -> Result<String, Fail> {
 
 #[test]
 fn words_spell_commands(rt: HostRuntime) -> Result<(), Fail> {
-    let table: [(&[&str], &str); 29] = [
+    let table: [(&[&str], &str); 32] = [
         (&["check", "m.p3l"], "check m.p3l"),
         (&["fmt", "m.p3l"], "fmt m.p3l"),
         (&["fmt", "--", "--odd"], "fmt --odd"),
@@ -228,6 +236,24 @@ fn words_spell_commands(rt: HostRuntime) -> Result<(), Fail> {
             ],
             "gen 4294967295 1 100000 rr s",
         ),
+        (&["scan", "m", "--segments", "1"], "scan m 1 rr 4 false"),
+        (
+            &["scan", "--segments=512", "--stats", "--", "--odd"],
+            "scan --odd 512 rr 4 true",
+        ),
+        (
+            &[
+                "scan",
+                "m",
+                "--schedule",
+                "file:p",
+                "--capacity",
+                "1024",
+                "--segments",
+                "3",
+            ],
+            "scan m 3 file:p 1024 false",
+        ),
         (&["check", "check"], "check check"),
         (&["check", "-"], "check -"),
     ];
@@ -240,7 +266,7 @@ fn words_spell_commands(rt: HostRuntime) -> Result<(), Fail> {
 
 #[test]
 fn other_words_spell_none(rt: HostRuntime) -> Result<(), Fail> {
-    let table: [&[&str]; 50] = [
+    let table: [&[&str]; 58] = [
         &[],
         &["walk"],
         &[""],
@@ -297,6 +323,14 @@ fn other_words_spell_none(rt: HostRuntime) -> Result<(), Fail> {
         &["gen", "1", "--processors", "4", "--items", "0"],
         &["gen", "1", "--processors", "4", "--items", "100001"],
         &["gen", "1", "--processors", "4", "--schedule", "file:p"],
+        &["scan", "m"],
+        &["scan", "--segments", "4"],
+        &["scan", "m", "--segments", "0"],
+        &["scan", "m", "--segments", "513"],
+        &["scan", "m", "--segments", "04"],
+        &["scan", "m", "--segments", "4", "--processors", "4"],
+        &["scan", "m", "--segments", "4", "--trace", "t"],
+        &["scan", "m", "--segments", "4", "--capacity", "0"],
         &["m.p3l", "check"],
     ];
     for words in table {
