@@ -290,11 +290,11 @@ module _ (job : Job) (prices : List ℕ) where
           subst (AreTimed n prices (x.items ++ later)) (append-nil it.picks) (at.front [] (fires_none n.tree n.leaf n.net (price_at prices) t over))
 
       -- so it is over
-      pub ended_in_time : (tree : Tree) → tree ≡ n.tree → (ran : Ran) → IsFinish tree e ran.finish → ran.stats ≡ stats_at e → ran.lines ≡ e.kept → ran.sum ≡ e.told.sum → EndsInTime job prices now ran k
+      pub ended_in_time : (named : Tree) → named ≡ n.named → (ran : Ran) → IsFinish named e ran.finish → ran.stats ≡ stats_at e → ran.lines ≡ e.kept → ran.sum ≡ e.told.sum → EndsInTime job prices now ran k
       unfolding ends_over
-      ended_in_time tree tree_is ran finish_is stats_are lines_are sum_is = record {
+      ended_in_time named named_is ran finish_is stats_are lines_are sum_is = record {
         picks = it.picks;
-        ends = ends_over (under job it.picks) now e (record { executes = x; filled = a.filled }) (inl stuck) tree tree_is ran finish_is stats_are lines_are sum_is;
+        ends = ends_over (under job it.picks) now e (record { executes = x; filled = a.filled }) (inl stuck) named named_is ran finish_is stats_are lines_are sum_is;
         timed = are_timed;
         finish = λ later may. (it.at later may).times.moment;
         busy = it.busy;
