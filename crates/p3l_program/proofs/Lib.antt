@@ -15,6 +15,7 @@ mod RunSteps
 mod RecordSteps
 mod AlikeSteps
 mod SoundSteps
+mod ScanSteps
 mod SeenSteps
 mod TraceSteps
 mod RecheckSteps

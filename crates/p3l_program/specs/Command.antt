@@ -14,7 +14,7 @@ use Rattle.p3l_program.specs.Fmt.{IsFormatted, fmt_stages}
 use Rattle.p3l_program.specs.Generated.{gen_of}
 use Rattle.p3l_program.specs.Graph.{IsDrawn}
 use Rattle.p3l_program.specs.Migrate.{IsMigrated}
-use Rattle.p3l_program.specs.Origin.{Running, built, imaged, running}
+use Rattle.p3l_program.specs.Origin.{Running, built, imaged, running, scanned}
 use Rattle.p3l_program.specs.Stage.{Stage, build_stages, migrate_stages, program_stages, verify_stages}
 use Rattle.p3l_program.specs.Text.{IsNothing}
 use Rattle.p3l_program.specs.Verify.{IsVerified}
@@ -40,6 +40,7 @@ work_of (command.VerifyCert program cert costs) =
 work_of (command.CheckTrace build name) = check_trace build name
 work_of (command.Gen number processors items schedule prefix) =
     run_generated (gen_of number processors items schedule prefix)
+work_of (command.Scan name segments schedule capacity reported) = run_network (running (scanned name segments capacity) schedule None reported)
 
 abbrev pub behavior_of : Command → Behavior
 behavior_of command = behavior (work_of command)

@@ -23,6 +23,7 @@ pub mod Recheck
 pub mod Recorded
 pub mod Run
 pub mod Saved
+pub mod Scan
 pub mod Scheduled
 pub mod Stage
 pub mod Text

@@ -23,6 +23,7 @@ mod record;
 pub mod run;
 mod running;
 mod save;
+pub mod scan;
 mod schedule;
 mod text;
 pub mod top;

@@ -38,6 +38,8 @@ mod refusals;
 #[cfg(test)]
 mod rescues;
 #[cfg(test)]
+mod scans;
+#[cfg(test)]
 mod skeletons;
 #[cfg(test)]
 mod spelled;
