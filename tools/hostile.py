@@ -36,6 +36,7 @@ LINES = [
     rb"file (fault|too long): .*",
     rb"schedule: line \d+: (95 BadPick|96 NoSuchProcess \d+ of \d+)",
     rb"evidence: \d+ \w+( .*)?",
+    rb"scan: (120 NotReduce|121 BadSegments)",
     rb"stats: items \d+, fired \d+, idle \d+, bound \d+",
     rb"(read|write) fault|no memory|input too long",
 ]
@@ -80,6 +81,7 @@ def cases(made):
     costs = ["--costs", "costs"]
     yield Case("source", ["check", "m.p3l"], "m.p3l", PROGRAM, MIB, {0, 3, 9, 11})
     yield Case("source, run", ["run", "m.p3l", *PROCESSORS], "m.p3l", PROGRAM, MIB, {0, 3, 5, 6, 7, 9, 11})
+    yield Case("source, scan", ["scan", "m.p3l", "--segments", "1"], "m.p3l", PROGRAM, MIB, {3, 9, 11, 15})
     yield Case("source, fmt", ["fmt", "m.p3l"], "m.p3l", PROGRAM, MIB, {0, 3, 9, 11})
     yield Case("costs", ["explain", "m.p3l", *PROCESSORS, *costs], "costs", COSTS, MIB, {0, 4, 9, 11})
     yield Case("source, rewrite", ["rewrite", "m.p3l", *PROCESSORS], "m.p3l", PROGRAM, MIB, {0, 3, 5, 9, 11})

@@ -199,6 +199,21 @@ longest with how long it was. No time is measured: the same words and items give
   --picks FILE     write there in what order the processes fired, as run takes it: --schedule file:FILE
 
 example: p3l time m.p3l --processors 16 --costs m.toml <in.txt
+/// What `scan` does.
+const SCAN: &str = "usage: p3l scan PROGRAM --segments M [--schedule S] [--capacity C] [--stats]
+
+Reads items from the standard input, one a line, and writes for each the folds of all fronts of its
+list: where the program's module `main` is a reduce by addition, the running totals. The list is cut
+into segments, each is scanned by one process, and neighbours are then merged two by two. What is
+written does not depend on how many segments there are; main's `workers` clause is not used.
+
+  PROGRAM          the file of the program
+  --segments M     how many segments: 1, 2, 4, .. 512, which must divide the length of the list
+  --schedule S     how processes take turns: rr (the default), seed:N or file:NAME
+  --capacity C     how many tokens a channel holds at most, 1 to 1,024 (4 if not given)
+  --stats          put a line on the run's numbers on the standard error
+
+example: p3l scan m.p3l --segments 4 < items
 ";
 
 /// A page for each command, by its first word.
@@ -254,5 +269,7 @@ pub(crate) const COMMANDS: &[Page] = &[
         text: PROFILE,
         topic: "time",
         text: TIME,
+        topic: "scan",
+        text: SCAN,
     },
 ];

@@ -24,6 +24,7 @@ simple_and_free verb.Gen = refl
 simple_and_free verb.Rewrite = refl
 simple_and_free verb.Profile = refl
 simple_and_free verb.Time = refl
+simple_and_free verb.Scan = refl
 
 simple : (v : Verb) → is_simple (app_for v) ≡ true
 unfolding app_for clap_on_literals
@@ -41,6 +42,7 @@ simple verb.Gen = refl
 simple verb.Rewrite = refl
 simple verb.Profile = refl
 simple verb.Time = refl
+simple verb.Scan = refl
 
 pub as_simple_and_free : (v : Verb) (a : App) → a ≡ app_for v → is_simple_and_free a ≡ true
 as_simple_and_free v a e = ap is_simple_and_free e ∙ simple_and_free v

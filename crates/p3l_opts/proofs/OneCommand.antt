@@ -31,6 +31,7 @@ verb_named text =
     else Some verb.Rewrite
     else Some verb.Profile
     else Some verb.Time
+    else Some verb.Scan
 
 named : (v : Verb) → verb_named (name_of v) ≡ Some v
 unfolding verb_named
@@ -48,6 +49,7 @@ named verb.Gen = refl
 named verb.Rewrite = refl
 named verb.Profile = refl
 named verb.Time = refl
+named verb.Scan = refl
 
 -- verbs of one name are the same
 one_verb : (v w : Verb) → name_of v ≡ name_of w → v ≡ w
@@ -132,6 +134,9 @@ one_command found (command.Rewrite p n c) (command.Rewrite q m d) v ha hb = λ i
     command.Rewrite (one_name _ _ _ ha.0 hb.0 i) (one_count 512 _ _ _ (omega arith) ha.1 hb.1 i) ((ha.2 ∙ sym hb.2) i)
 one_command found (command.Profile p) (command.Profile q) v ha hb = ap command.Profile (one_name _ _ _ ha hb)
 one_command found (command.Time x p) (command.Time y q) v ha hb = λ i. command.Time (one_build _ _ x y ha.0 hb.0 i) ((ha.1 ∙ sym hb.1) i)
+one_command found (command.Scan p m s c r) (command.Scan q n s' c' r') v ha hb = λ i.
+    command.Scan (one_name _ _ _ ha.program_is hb.program_is i) (one_count 512 _ _ _ (omega arith) ha.segments_are hb.segments_are i) (one_schedule _ _ _ ha.picks hb.picks i)
+    (one_capacity _ _ _ ha.capacity_is hb.capacity_is i) ((ha.reported ∙ sym hb.reported) i)
 one_command found a b v ha hb = cc
 
 pub spells_one_at_most : SpellsOneAtMost

@@ -22,6 +22,7 @@ name_of verb.Gen = codes "gen"
 name_of verb.Rewrite = codes "rewrite"
 name_of verb.Profile = codes "profile"
 name_of verb.Time = codes "time"
+name_of verb.Scan = codes "scan"
 
 -- the words that may stand after it
 abbrev pub rules_of : Verb → List Rule
@@ -96,6 +97,12 @@ rules_of verb.Time =
     ∷ rule_for (codes "costs") Optional
     ∷ rule_for (codes "capacity") Optional
     ∷ rule_for (codes "picks") Optional
+rules_of verb.Scan =
+    rule_for (codes "program") Positional
+    ∷ rule_for (codes "segments") Mandatory
+    ∷ rule_for (codes "schedule") Optional
+    ∷ rule_for (codes "capacity") Optional
+    ∷ rule_for (codes "stats") Flag
     ∷ []
 
 -- the command as `clap` is told of it

@@ -26,6 +26,7 @@ pub enum Verb {
     Rewrite,
     Profile,
     Time,
+    Scan,
 }
 
 /// Whether a word is this text.
@@ -79,6 +80,8 @@ pub fn verb_of(word: &str) -> Option<Verb>
         return Some(Verb::Profile);
     if is_word(word, "time") {
         return Some(Verb::Time);
+    if is_word(word, "scan") {
+        return Some(Verb::Scan);
     }
     None
 }
@@ -198,6 +201,15 @@ pub(crate) fn clap_command<'a>(alloc: Global, verb: Verb) -> Result<Command<'a>,
         Verb::Profile => command_with(alloc, "profile", &[("program", Spelling::Positional)]),
                 ("capacity", Spelling::Optional),
                 ("picks", Spelling::Optional),
+        Verb::Scan => command_with(
+            alloc,
+            "scan",
+            &[
+                ("program", Spelling::Positional),
+                ("segments", Spelling::Mandatory),
+                ("schedule", Spelling::Optional),
+                ("capacity", Spelling::Optional),
+                ("stats", Spelling::Flag),
             ],
         ),
     }

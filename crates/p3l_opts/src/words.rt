@@ -8,7 +8,7 @@ ghost use Rattle.p3l_opts.specs.Verb.{name_of};
 use crate::command::{Build, Command, OptsRefusal, Sched};
 use crate::matches::{
     DEFAULT_CAPACITY, capacity_in, is_given, items_in, matches_of, name_if_given, name_of,
-    number_of, processors_in, schedule_in,
+    number_of, processors_in, schedule_in, segments_in,
 };
 use crate::verb::{Verb, verb_of};
 use clap::ArgMatches;
@@ -62,6 +62,7 @@ fn command_of(alloc: Global, verb: Verb, matches: &ArgMatches) -> Result<Command
         Verb::Rewrite => rewrite_of(alloc, matches),
         Verb::Profile => Ok(Command::Profile(name_of(alloc, matches, "program")?)),
         Verb::Time => time_of(alloc, matches),
+        Verb::Scan => scan_of(alloc, matches),
     }
 }
 
@@ -260,4 +261,21 @@ fn rewrite_of(alloc: Global, matches: &ArgMatches) -> Result<Command, OptsRefusa
     };
     let costs = name_if_given(alloc, matches, "costs")?;
     Ok(Command::Rewrite(program, processors, costs))
+/// The command `scan` with the values that were found.
+fn scan_of(alloc: Global, matches: &ArgMatches) -> Result<Command, OptsRefusal>
+    ensures verb { IfOk result (λ command. verb_of command ≡ Verb.Scan) }
+    ensures values { IfOk result (HasValues (rows_of (found_of matches.now))) }
+    ensures usage { IsErrOf result OptsRefusal.Usage → (command : Command)
+        → verb_of command ≡ Verb.Scan → HasValues (rows_of (found_of matches.now)) command → ⊥ }
+{
+    let Some(segments) = segments_in(matches, "segments") else {
+        return Err(OptsRefusal::Usage);
+    };
+    let Some(capacity) = capacity_in(matches, "capacity") else {
+        return Err(OptsRefusal::Usage);
+    };
+    let program = name_of(alloc, matches, "program")?;
+    let schedule = schedule_in(alloc, matches, "schedule")?;
+    let stats = is_given(matches, "stats");
+    Ok(Command::Scan(program, segments, schedule, capacity, stats))
 }

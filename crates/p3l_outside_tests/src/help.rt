@@ -24,7 +24,7 @@ fn says(alloc: Global, text: &str, before: &str, word: &str) -> Result<bool, NoM
 }
 
 /// What the help of each command names: its values and options.
-const NAMED: [(&str, &[&str]); 11] = [
+const NAMED: [(&str, &[&str]); 12] = [
     ("check", &["PROGRAM"]),
     ("fmt", &["PROGRAM"]),
     (
@@ -93,6 +93,14 @@ const NAMED: [(&str, &[&str]); 11] = [
             "--costs FILE",
             "--capacity C",
             "--picks FILE",
+    (
+        "scan",
+        &[
+            "PROGRAM",
+            "--segments M",
+            "--schedule S",
+            "--capacity C",
+            "--stats",
         ],
     ),
 ];
@@ -114,7 +122,7 @@ fn compare(
 }
 
 /// Each number of refusal, with the name that the program prints after it.
-const NUMBERED: [(&str, &str); 52] = [
+const NUMBERED: [(&str, &str); 54] = [
     ("1", "BadByte"),
     ("2", "BadToken"),
     ("3", "Expected"),
@@ -167,6 +175,8 @@ const NUMBERED: [(&str, &str); 52] = [
     ("102", "OutOfRange"),
     ("110", "BadLine"),
     ("111", "Differs"),
+    ("120", "NotReduce"),
+    ("121", "BadSegments"),
 ];
 
 #[test]

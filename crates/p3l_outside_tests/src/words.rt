@@ -67,6 +67,13 @@ fn shown(alloc: Global, command: &Command) -> Result<String, Fail> {
             let built = build_shown(alloc, build)?;
             let picks = or_hyphen(picks);
             format!(in alloc; "time {} {picks}", built.as_str())?
+        Command::Scan(program, segments, schedule, capacity, stats) => {
+            let picks = schedule_shown(alloc, schedule)?;
+            let program = program.as_str();
+            format!(in alloc;
+                "scan {program} {segments} {} {capacity} {stats}",
+                picks.as_str()
+            )?
         }
     })
 }
@@ -102,6 +109,7 @@ fn schedule_shown(alloc: Global, schedule: &Sched) -> Result<String, Fail> {
 #[test]
 fn words_spell_commands(rt: HostRuntime) -> Result<(), Fail> {
     let table: [(&[&str], &str); 31] = [
+    let table: [(&[&str], &str); 32] = [
         (&["check", "m.p3l"], "check m.p3l"),
         (&["fmt", "m.p3l"], "fmt m.p3l"),
         (&["fmt", "--", "--odd"], "fmt --odd"),
@@ -253,6 +261,23 @@ fn words_spell_commands(rt: HostRuntime) -> Result<(), Fail> {
         (
             &["time", "m", "--processors", "4", "--costs", "c"],
             "time m 4 c 4 -",
+        (&["scan", "m", "--segments", "1"], "scan m 1 rr 4 false"),
+        (
+            &["scan", "--segments=512", "--stats", "--", "--odd"],
+            "scan --odd 512 rr 4 true",
+        ),
+        (
+            &[
+                "scan",
+                "m",
+                "--schedule",
+                "file:p",
+                "--capacity",
+                "1024",
+                "--segments",
+                "3",
+            ],
+            "scan m 3 file:p 1024 false",
         ),
         (&["check", "check"], "check check"),
         (&["check", "-"], "check -"),
@@ -268,6 +293,7 @@ fn words_spell_commands(rt: HostRuntime) -> Result<(), Fail> {
 fn other_words_spell_none(rt: HostRuntime) -> Result<(), Fail> {
     let table: [&[&str]; 54] = [
     let table: [&[&str]; 53] = [
+    let table: [&[&str]; 58] = [
         &[],
         &["walk"],
         &[""],
@@ -334,6 +360,14 @@ fn other_words_spell_none(rt: HostRuntime) -> Result<(), Fail> {
         &["time", "m"],
         &["time", "m", "--processors", "4", "--stats"],
         &["time", "m", "--processors", "4", "--schedule", "rr"],
+        &["scan", "m"],
+        &["scan", "--segments", "4"],
+        &["scan", "m", "--segments", "0"],
+        &["scan", "m", "--segments", "513"],
+        &["scan", "m", "--segments", "04"],
+        &["scan", "m", "--segments", "4", "--processors", "4"],
+        &["scan", "m", "--segments", "4", "--trace", "t"],
+        &["scan", "m", "--segments", "4", "--capacity", "0"],
         &["m.p3l", "check"],
     ];
     for words in table {

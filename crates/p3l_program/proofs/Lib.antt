@@ -18,6 +18,7 @@ mod RecordSteps
 mod TimeSteps
 mod AlikeSteps
 mod SoundSteps
+mod ScanSteps
 mod SeenSteps
 mod TraceSteps
 mod ProfileSteps

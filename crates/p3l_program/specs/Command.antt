@@ -16,6 +16,7 @@ use Rattle.p3l_program.specs.Graph.{IsDrawn}
 use Rattle.p3l_program.specs.Migrate.{IsMigrated}
 use Rattle.p3l_program.specs.Origin.{Running, built, imaged, running}
 use Rattle.p3l_program.specs.Rewrite.{IsRewritten, plain_build}
+use Rattle.p3l_program.specs.Origin.{Running, built, imaged, running, scanned}
 use Rattle.p3l_program.specs.Stage.{Stage, build_stages, migrate_stages, program_stages, verify_stages}
 use Rattle.p3l_program.specs.Text.{IsNothing}
 use Rattle.p3l_program.specs.Verify.{IsVerified}
@@ -46,6 +47,7 @@ work_of (command.Rewrite program processors costs) =
     write_text (build_stages (plain_build program processors costs)) (λ files. IsRewritten files (plain_build program processors costs))
 work_of (command.Profile name) = profile_input name
 work_of (command.Time build picks) = run_in_time build picks
+work_of (command.Scan name segments schedule capacity reported) = run_network (running (scanned name segments capacity) schedule None reported)
 
 abbrev pub behavior_of : Command → Behavior
 behavior_of command = behavior (work_of command)

@@ -27,6 +27,7 @@ pub mod Rewrite
 pub mod Replay
 pub mod Run
 pub mod Saved
+pub mod Scan
 pub mod Scheduled
 pub mod Stage
 pub mod Text

@@ -27,6 +27,7 @@ pub mod replay;
 pub mod run;
 mod running;
 mod save;
+pub mod scan;
 mod schedule;
 mod text;
 pub mod time;

@@ -19,6 +19,7 @@ use crate::rewrite::rewrite;
 use crate::profile::profile;
 use crate::run::run;
 use crate::time::time;
+use crate::scan::scan;
 use crate::verify::verify_cert;
 use p3l_io::{Files, Sink, Source};
 use p3l_opts::{Command, OptsRefusal, one_command_at_most, parse};
@@ -72,6 +73,9 @@ fn perform<F: Files, S: Source, K: Sink>(
         }
         Ok(Command::Profile(name)) => profile(alloc, name, files, input, out),
         Ok(Command::Time(build, picks)) => time(alloc, build, picks, files, input, out),
+        Ok(Command::Scan(name, segments, schedule, capacity, reported)) => scan(
+            alloc, name, segments, schedule, capacity, reported, files, input, out,
+        ),
     }
 }
 

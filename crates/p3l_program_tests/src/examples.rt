@@ -109,11 +109,10 @@ fn a_loop(rt: HostRuntime) -> Result<(), Fail> {
 
 #[test]
 fn recipes(rt: HostRuntime) -> Result<(), Fail> {
-    let table: [(&Example, &str); 6] = [
+    let table: [(&Example, &str); 5] = [
         (&HASH, "stats: items 2, fired 6, idle 0, bound 6\n"),
         (&VECTOR, "stats: items 2, fired 26, idle 0, bound 26\n"),
         (&HISTOGRAM, "stats: items 2, fired 6, idle 0, bound 6\n"),
-        (&PREFIX, "stats: items 2, fired 6, idle 0, bound 6\n"),
         // Of 1, 1, 1, 4, 11 and 35 turns; an item that takes all 64 fires 197 times.
         (&ROOT, "stats: items 6, fired 189, idle 0, bound 1182\n"),
         (&SLIDING, "stats: items 2, fired 28, idle 0, bound 34\n"),
@@ -122,6 +121,25 @@ fn recipes(rt: HostRuntime) -> Result<(), Fail> {
         compare_runs(&rt, rt.alloc(), example, numbers)?;
     }
     Ok(())
+}
+
+const SCANNED: &[&str] = &["scan", "m.p3l", "--segments", "4", "--stats"];
+
+const SCANNED_BY_A_SEED: &[&str] = &[
+    "scan",
+    "m.p3l",
+    "--segments",
+    "8",
+    "--schedule",
+    "seed:7",
+];
+
+#[test]
+fn a_scan(rt: HostRuntime) -> Result<(), Fail> {
+    let alloc = rt.alloc();
+    let numbers = "stats: items 2, fired 58, idle 0, bound 58\n";
+    compare(&rt, alloc, SCANNED, &PREFIX, PREFIX.output, numbers)?;
+    compare(&rt, alloc, SCANNED_BY_A_SEED, &PREFIX, PREFIX.output, "")
 }
 
 #[test]

@@ -2,8 +2,8 @@
 
 use crate::spelled::DOUBLE_IMAGE;
 use crate::texts::{
-    CERTIFICATE, COUNTED, DOUBLE, FARMED, FARMED_COSTS, ITEMS, NO_COSTS, NO_IMAGE, NO_PICKS,
-    NO_PROGRAM, TRACE, WRITE_FAULT,
+    CERTIFICATE, COUNTED, DOUBLE, FARMED, FARMED_COSTS, ITEMS, LESS_OF_FOUR, NO_COSTS, NO_IMAGE,
+    NO_PICKS, NO_PROGRAM, TRACE, WRITE_FAULT,
 };
 use crate::world::{
     Case, Cases, Ends, FIRST_FILE, FOURTH_FILE, Held, NONE, SECOND_FILE, Step, THIRD_FILE, holding,
@@ -96,6 +96,16 @@ const OF_CHECKING: &[Cases] = &[Cases(
     ],
 )];
 
+const LISTED: &[Held] = &[Held("m.p3l", LESS_OF_FOUR), Held("p", "0\n")];
+
+const OF_A_SCAN: &[Cases] = &[Cases(
+    "scan m.p3l --segments 1 --schedule file:p",
+    &[
+        Case(LISTED, FIRST_FILE, "1 2 3 4\n", NO_PROGRAM),
+        Case(LISTED, SECOND_FILE, "1 2 3 4\n", NO_PICKS),
+    ],
+)];
+
 const OF_READING: &[Cases] = &[
     Cases(
         "check m.p3l",
@@ -121,6 +131,7 @@ const EACH: &[&[Cases]] = &[
     OF_AN_EXPLANATION,
     OF_VERIFYING,
     OF_CHECKING,
+    OF_A_SCAN,
     OF_READING,
 ];
 

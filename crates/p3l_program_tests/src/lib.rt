@@ -43,6 +43,7 @@ mod refusals;
 mod rescues;
 #[cfg(test)]
 mod rewrites;
+mod scans;
 #[cfg(test)]
 mod skeletons;
 #[cfg(test)]

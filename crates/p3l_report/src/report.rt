@@ -13,6 +13,7 @@ use crate::line::{
     refused_line, trapped_line,
 };
 use crate::line_fault::LineFault;
+use crate::scan_fault::scan_line;
 use crate::verdict::{Finish, Refusal, Verdict};
 use p3l_base::NoMemory;
 use p3l_io::Sink;
@@ -46,6 +47,7 @@ fn line_of_refusal(alloc: Global, refusal: &Refusal) -> Result<Line, NoMemory>
             *count,
         ),
         Refusal::Evidence(evidence) => evidence_line(alloc, evidence),
+        Refusal::Scan(fault) => Ok(scan_line(*fault)),
     }
 }
 

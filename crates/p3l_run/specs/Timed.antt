@@ -3,6 +3,7 @@ use Rattle.std.specs.Prelude.{◌≡◌, ◌≢◌, ℕ, ℤ, ◌+◌, ◌<◌, 
 use Rattle.p3l_base.specs.declared.memory.NoMemory.{NoMemory}
 use Rattle.p3l_firing.specs.Nodes.{Leaf}
 use Rattle.p3l_net.specs.Machine.{Seen}
+use Rattle.p3l_skel.specs.declared.tree.Tree.{Tree}
 use Rattle.p3l_sched.specs.declared.picker.Way.TheVariants as way
 use Rattle.p3l_sched.specs.declared.schedule.Schedule.TheVariants as schedule
 use Rattle.p3l_trace.specs.Agreement as trace
@@ -137,9 +138,10 @@ abbrev pub IsTimedEnd : Job → List ℕ → Outside → Result TimedRan RunFaul
 IsTimedEnd job prices now (Ok end) = EndsInTime job prices now end.ran end.timer
 IsTimedEnd job prices now (Err failed) = EndsEarly job now failed
 
--- whatever job is under way, with these bodies of modules, an execution comes to the end of its run
-abbrev pub CompletesInTime : Leaf → Outside → Outside → Execution → Clock → Result TimedRan RunFault → Type 0
-CompletesInTime leaf before now e k result = (job : Job) (prices : List ℕ) → job.network.leaf ≡ leaf → InTime job prices before e k → IsTimedEnd job prices now result
+-- whatever job is under way, with these bodies of modules and this tree to name traps, an execution comes to the end of its run
+abbrev pub CompletesInTime : Leaf → Tree → Outside → Outside → Execution → Clock → Result TimedRan RunFault → Type 0
+CompletesInTime leaf named before now e k result =
+    (job : Job) (prices : List ℕ) → job.network.leaf ≡ leaf → job.network.named ≡ named → InTime job prices before e k → IsTimedEnd job prices now result
 
 -- a run of a network in virtual time, of which so much is kept
 abbrev pub timed_job : Network → Keeping → Outside → Job

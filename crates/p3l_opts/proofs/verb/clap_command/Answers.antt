@@ -55,3 +55,6 @@ returns-in-Profile c = rw c.in-Profile.is (IfOk-weaker c.command_with-in-Profile
 pub returns-in-Time : goal.returns-in-Time
 unfolding app_for
 returns-in-Time c = rw c.in-Time.is (IfOk-weaker c.command_with-in-Time.result _ _ (λ r e. e) c.command_with-in-Time.ensures)
+pub returns-in-Scan : goal.returns-in-Scan
+unfolding app_for
+returns-in-Scan c = rw c.in-Scan.is (IfOk-weaker c.command_with-in-Scan.result _ _ (λ r e. e) c.command_with-in-Scan.ensures)

@@ -180,4 +180,14 @@ returns-in-Ok-Time g c =
           (change g.S.Source.rest g.S.Source.faults c.args.input.now c.time.new.input)
           (change g.K.Sink.taken g.K.Sink.faults c.args.out.now c.time.new.out)
           c.time.result _ _ refl c.time.ensures.due c.time.ensures.kept c.time.ensures.over;
+pub returns-in-Ok-Scan : goal.returns-in-Ok-Scan
+unfolding work_of
+returns-in-Ok-Scan g c =
+    let asked = c.in-Ok-Scan in
+    let spelled : Spells (texts_of c.args.words.now) (command.Scan asked.name asked.segments asked.schedule asked.capacity asked.reported) = search (rules, asked.ensures.spelled) in record {
+      due =
+          run_asked (texts_of c.args.words.now) _ spelled (files_change g.F.Files.held g.F.Files.faults g.F.Files.failed c.args.files.now c.scan.new.files)
+          (change g.S.Source.rest g.S.Source.faults c.args.input.now c.scan.new.input)
+          (change g.K.Sink.taken g.K.Sink.faults c.args.out.now c.scan.new.out)
+          c.scan.result _ refl c.scan.ensures.due c.scan.ensures.kept c.scan.ensures.over;
     }

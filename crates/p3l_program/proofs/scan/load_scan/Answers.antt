@@ -1,0 +1,13 @@
+use Rattle.std.proofs.Common.{[], ◌∷◌, subst, sym}
+use Rattle.p3l_scan.specs.Plan.{IsScannable}
+use Rattle.p3l_scan.specs.Planned.{IsPlanOf}
+use Rattle.p3l_skel.specs.Lawful.{IsLawfulTree}
+use Rattle.p3l_program.specs.Stage.{program_stages, scannable}
+use Rattle.p3l_program.specs.World.{files_change}
+use Rattle.p3l_program.proofs.LoadSteps.{not_loaded_front}
+use Rattle.p3l_program.proofs.ScanSteps.{not_scanned}
+use Rattle.p3l_program.proofs.scan.load_scan.Goals as goal
+
+pub returns-in-Err-clause-refused : goal.returns-in-Err-clause-refused
+returns-in-Err-clause-refused g c =
+    not_loaded_front (files_change g.F.Files.held g.F.Files.faults g.F.Files.failed c.args.files.now c.load_program.new.files) (program_stages c.args.name) (scannable c.args.name c.args.segments ∷ []) c.in-Err.verdict c.in-Err.ensures.refused
