@@ -173,6 +173,8 @@ so many processors; else the program itself is written.
   --costs FILE     the costs by which programs are compared; without them the standard costs
 
 example: p3l rewrite m.p3l --processors 16 > faster.p3l
+";
+
 /// What `profile` does.
 const PROFILE: &str = "usage: p3l profile PROGRAM
 
@@ -183,8 +185,11 @@ most turns for an item. Nothing is written where an item comes to a trap, or a l
   PROGRAM          the file of the program
 
 example: p3l profile m.p3l < sample > m.toml
+";
+
 /// What `time` does.
-const TIME: &str = "usage: p3l time PROGRAM --processors P [--costs FILE] [--capacity C] [--picks FILE]
+const TIME: &str =
+    "usage: p3l time PROGRAM --processors P [--costs FILE] [--capacity C] [--picks FILE]
 
 Runs a program on the standard input in virtual time, and writes its items as run does. Each process
 takes as long for a firing as the costs say, in ticks, and all processes work side by side: the one
@@ -199,6 +204,8 @@ longest with how long it was. No time is measured: the same words and items give
   --picks FILE     write there in what order the processes fired, as run takes it: --schedule file:FILE
 
 example: p3l time m.p3l --processors 16 --costs m.toml <in.txt
+";
+
 /// What `scan` does.
 const SCAN: &str = "usage: p3l scan PROGRAM --segments M [--schedule S] [--capacity C] [--stats]
 
@@ -265,10 +272,16 @@ pub(crate) const COMMANDS: &[Page] = &[
     Page {
         topic: "rewrite",
         text: REWRITE,
+    },
+    Page {
         topic: "profile",
         text: PROFILE,
+    },
+    Page {
         topic: "time",
         text: TIME,
+    },
+    Page {
         topic: "scan",
         text: SCAN,
     },

@@ -28,9 +28,9 @@ verb_named text =
     else if bytes_eq text (codes "verify-cert") then Some verb.VerifyCert
     else if bytes_eq text (codes "check-trace") then Some verb.CheckTrace
     else if bytes_eq text (codes "gen") then Some verb.Gen
-    else Some verb.Rewrite
-    else Some verb.Profile
-    else Some verb.Time
+    else if bytes_eq text (codes "rewrite") then Some verb.Rewrite
+    else if bytes_eq text (codes "profile") then Some verb.Profile
+    else if bytes_eq text (codes "time") then Some verb.Time
     else Some verb.Scan
 
 named : (v : Verb) → verb_named (name_of v) ≡ Some v

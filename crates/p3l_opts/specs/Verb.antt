@@ -97,6 +97,7 @@ rules_of verb.Time =
     ∷ rule_for (codes "costs") Optional
     ∷ rule_for (codes "capacity") Optional
     ∷ rule_for (codes "picks") Optional
+    ∷ []
 rules_of verb.Scan =
     rule_for (codes "program") Positional
     ∷ rule_for (codes "segments") Mandatory

@@ -76,10 +76,13 @@ pub fn verb_of(word: &str) -> Option<Verb>
     }
     if is_word(word, "rewrite") {
         return Some(Verb::Rewrite);
+    }
     if is_word(word, "profile") {
         return Some(Verb::Profile);
+    }
     if is_word(word, "time") {
         return Some(Verb::Time);
+    }
     if is_word(word, "scan") {
         return Some(Verb::Scan);
     }
@@ -189,9 +192,6 @@ pub(crate) fn clap_command<'a>(alloc: Global, verb: Verb) -> Result<Command<'a>,
         Verb::Rewrite => command_with(
             alloc,
             "rewrite",
-        Verb::Time => command_with(
-            alloc,
-            "time",
             &[
                 ("program", Spelling::Positional),
                 ("processors", Spelling::Mandatory),
@@ -199,8 +199,17 @@ pub(crate) fn clap_command<'a>(alloc: Global, verb: Verb) -> Result<Command<'a>,
             ],
         ),
         Verb::Profile => command_with(alloc, "profile", &[("program", Spelling::Positional)]),
+        Verb::Time => command_with(
+            alloc,
+            "time",
+            &[
+                ("program", Spelling::Positional),
+                ("processors", Spelling::Mandatory),
+                ("costs", Spelling::Optional),
                 ("capacity", Spelling::Optional),
                 ("picks", Spelling::Optional),
+            ],
+        ),
         Verb::Scan => command_with(
             alloc,
             "scan",

@@ -261,6 +261,8 @@ fn rewrite_of(alloc: Global, matches: &ArgMatches) -> Result<Command, OptsRefusa
     };
     let costs = name_if_given(alloc, matches, "costs")?;
     Ok(Command::Rewrite(program, processors, costs))
+}
+
 /// The command `scan` with the values that were found.
 fn scan_of(alloc: Global, matches: &ArgMatches) -> Result<Command, OptsRefusal>
     ensures verb { IfOk result (λ command. verb_of command ≡ Verb.Scan) }

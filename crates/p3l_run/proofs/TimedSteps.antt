@@ -295,6 +295,7 @@ module _ (job : Job) (prices : List ℕ) where
       made_all = all_made n x.laws e.machine x.items e.close x.outcomes x.walked it.picks (stands now e k it) it.walked_are filled
 
       pub ended_in_time : (tree : Tree) → tree ≡ n.tree → (ran : Ran) → IsFinish tree e ran.finish → ran.stats ≡ stats_at e → ran.lines ≡ e.kept → ran.sum ≡ e.told.sum → EndsInTime job prices now ran k
+
       pub ended_in_time : (named : Tree) → named ≡ n.named → (ran : Ran) → IsFinish named e ran.finish → ran.stats ≡ stats_at e → ran.lines ≡ e.kept → ran.sum ≡ e.told.sum → EndsInTime job prices now ran k
       unfolding ends_over
       ended_in_time named named_is ran finish_is stats_are lines_are sum_is = record {
