@@ -24,7 +24,7 @@ fn says(alloc: Global, text: &str, before: &str, word: &str) -> Result<bool, NoM
 }
 
 /// What the help of each command names: its values and options.
-const NAMED: [(&str, &[&str]); 12] = [
+const NAMED: [(&str, &[&str]); 15] = [
     ("check", &["PROGRAM"]),
     ("fmt", &["PROGRAM"]),
     (
@@ -93,6 +93,8 @@ const NAMED: [(&str, &[&str]); 12] = [
             "--costs FILE",
             "--capacity C",
             "--picks FILE",
+        ],
+    ),
     (
         "scan",
         &[

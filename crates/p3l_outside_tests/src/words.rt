@@ -67,6 +67,7 @@ fn shown(alloc: Global, command: &Command) -> Result<String, Fail> {
             let built = build_shown(alloc, build)?;
             let picks = or_hyphen(picks);
             format!(in alloc; "time {} {picks}", built.as_str())?
+        }
         Command::Scan(program, segments, schedule, capacity, stats) => {
             let picks = schedule_shown(alloc, schedule)?;
             let program = program.as_str();
@@ -108,8 +109,7 @@ fn schedule_shown(alloc: Global, schedule: &Sched) -> Result<String, Fail> {
 
 #[test]
 fn words_spell_commands(rt: HostRuntime) -> Result<(), Fail> {
-    let table: [(&[&str], &str); 31] = [
-    let table: [(&[&str], &str); 32] = [
+    let table: [(&[&str], &str); 38] = [
         (&["check", "m.p3l"], "check m.p3l"),
         (&["fmt", "m.p3l"], "fmt m.p3l"),
         (&["fmt", "--", "--odd"], "fmt --odd"),
@@ -261,6 +261,7 @@ fn words_spell_commands(rt: HostRuntime) -> Result<(), Fail> {
         (
             &["time", "m", "--processors", "4", "--costs", "c"],
             "time m 4 c 4 -",
+        ),
         (&["scan", "m", "--segments", "1"], "scan m 1 rr 4 false"),
         (
             &["scan", "--segments=512", "--stats", "--", "--odd"],
@@ -291,9 +292,7 @@ fn words_spell_commands(rt: HostRuntime) -> Result<(), Fail> {
 
 #[test]
 fn other_words_spell_none(rt: HostRuntime) -> Result<(), Fail> {
-    let table: [&[&str]; 54] = [
-    let table: [&[&str]; 53] = [
-    let table: [&[&str]; 58] = [
+    let table: [&[&str]; 68] = [
         &[],
         &["walk"],
         &[""],

@@ -20,8 +20,7 @@ use Rattle.p3l_program.specs.Stage.{Stage}
 use Rattle.p3l_program.specs.Text.{IsNothing, IsTextDue}
 use Rattle.p3l_program.specs.Time.{IsTimeDue, TimesOver}
 use Rattle.p3l_program.specs.Trace.{IsCheckDue}
-use Rattle.p3l_program.specs.Work.{Work, behavior, check_trace, profile_input, run_generated, run_network, save_file, write_text}
-use Rattle.p3l_program.specs.Work.{Work, behavior, check_trace, run_generated, run_in_time, run_network, save_file, write_text}
+use Rattle.p3l_program.specs.Work.{Work, behavior, check_trace, profile_input, run_generated, run_in_time, run_network, save_file, write_text}
 use Rattle.p3l_program.specs.World.{Change, IsStill, World, world}
 use Rattle.p3l_program.proofs.FirstSteps.{first_no_memory, unsaved_no_memory}
 use Rattle.p3l_program.proofs.SavedSteps.{kept_by}
@@ -66,6 +65,7 @@ module _ (words : List Text) (c : Command) (spelled : Spells words c) where
     -- and one that profiles a program on the input
     pub profile_asked : (name : List ℕ) → work_of c ≡ profile_input name → IsProfileDue (world files input out) name v → files.new ≡ files.old → IsDue words (world files input out) v
     profile_asked name is due same = of_work (world files input out) (profile_input name) v is due (kept_by files [] v same) (inl same)
+
     -- and one that runs a program in virtual time
     pub time_asked : (build : Build) (name : Option (List ℕ)) → work_of c ≡ run_in_time build name → IsTimeDue (world files input out) build name v →
         KeepsFiles files (option_to_list name) v → (files.new ≡ files.old) ⊎ TimesOver (world files input out) build → IsDue words (world files input out) v

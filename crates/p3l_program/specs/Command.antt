@@ -14,14 +14,12 @@ use Rattle.p3l_program.specs.Fmt.{IsFormatted, fmt_stages}
 use Rattle.p3l_program.specs.Generated.{gen_of}
 use Rattle.p3l_program.specs.Graph.{IsDrawn}
 use Rattle.p3l_program.specs.Migrate.{IsMigrated}
-use Rattle.p3l_program.specs.Origin.{Running, built, imaged, running}
-use Rattle.p3l_program.specs.Rewrite.{IsRewritten, plain_build}
 use Rattle.p3l_program.specs.Origin.{Running, built, imaged, running, scanned}
+use Rattle.p3l_program.specs.Rewrite.{IsRewritten, plain_build}
 use Rattle.p3l_program.specs.Stage.{Stage, build_stages, migrate_stages, program_stages, verify_stages}
 use Rattle.p3l_program.specs.Text.{IsNothing}
 use Rattle.p3l_program.specs.Verify.{IsVerified}
-use Rattle.p3l_program.specs.Work.{Work, behavior, check_trace, profile_input, run_generated, run_network, save_file, write_text}
-use Rattle.p3l_program.specs.Work.{Work, behavior, check_trace, run_generated, run_in_time, run_network, save_file, write_text}
+use Rattle.p3l_program.specs.Work.{Work, behavior, check_trace, profile_input, run_generated, run_in_time, run_network, save_file, write_text}
 use Rattle.p3l_program.specs.World.{World}
 
 -- the work of each command

@@ -23,8 +23,8 @@ pub mod Plan
 pub mod Profile
 pub mod Recheck
 pub mod Recorded
-pub mod Rewrite
 pub mod Replay
+pub mod Rewrite
 pub mod Run
 pub mod Saved
 pub mod Scan

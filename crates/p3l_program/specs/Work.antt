@@ -16,9 +16,8 @@ use Rattle.p3l_program.specs.Trace.{check_behavior}
 -- after these stages, a text by what the files hold is written, and nothing is read; a file of a name
 -- is written, with bytes by what the files hold, and then such a text; a network is run on the input;
 -- the trace of a file is checked against the run of a program on the input; what is generated is run;
--- a program is profiled on the input, and its cost file is written
--- the trace of a file is checked against the run of a program on the input; what is generated is run; a program is run on the input
--- in virtual time
+-- a program is profiled on the input, and its cost file is written; a program is run on the input in
+-- virtual time
 pub data Work : Type 1 where
   write_text : List Stage → (Option Held → List ℕ → Type 0) → Work
   save_file : List Stage → (Option Held → List ℕ → Type 0) → List ℕ → (Option Held → List ℕ → Type 0) → Work

@@ -125,14 +125,7 @@ fn recipes(rt: HostRuntime) -> Result<(), Fail> {
 
 const SCANNED: &[&str] = &["scan", "m.p3l", "--segments", "4", "--stats"];
 
-const SCANNED_BY_A_SEED: &[&str] = &[
-    "scan",
-    "m.p3l",
-    "--segments",
-    "8",
-    "--schedule",
-    "seed:7",
-];
+const SCANNED_BY_A_SEED: &[&str] = &["scan", "m.p3l", "--segments", "8", "--schedule", "seed:7"];
 
 #[test]
 fn a_scan(rt: HostRuntime) -> Result<(), Fail> {

@@ -43,6 +43,7 @@ mod refusals;
 mod rescues;
 #[cfg(test)]
 mod rewrites;
+#[cfg(test)]
 mod scans;
 #[cfg(test)]
 mod skeletons;

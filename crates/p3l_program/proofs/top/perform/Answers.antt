@@ -3,8 +3,7 @@ use Rattle.p3l_opts.specs.declared.command.Command.TheVariants as command
 use Rattle.p3l_opts.specs.Command.{Spells, texts_of}
 use Rattle.p3l_program.specs.Command.{work_of}
 use Rattle.p3l_program.specs.World.{change, files_change}
-use Rattle.p3l_program.proofs.DueSteps.{check_asked, file_asked, gen_asked, profile_asked, run_asked, saving_asked, text_asked}
-use Rattle.p3l_program.proofs.DueSteps.{check_asked, file_asked, gen_asked, run_asked, saving_asked, text_asked, time_asked}
+use Rattle.p3l_program.proofs.DueSteps.{check_asked, file_asked, gen_asked, profile_asked, run_asked, saving_asked, text_asked, time_asked}
 use Rattle.p3l_program.proofs.GenSteps.{items_few}
 use Rattle.p3l_program.proofs.top.perform.Goals as goal
 
@@ -160,6 +159,8 @@ returns-in-Ok-Rewrite g c =
           text_asked (texts_of c.args.words.now) _ spelled (files_change g.F.Files.held g.F.Files.faults g.F.Files.failed c.args.files.now c.rewrite.new.files)
           (change g.K.Sink.taken g.K.Sink.faults c.args.out.now c.rewrite.new.out) (g.S.Source.rest c.args.input.now) (g.S.Source.faults c.args.input.now)
           c.rewrite.result _ _ refl c.rewrite.ensures.due c.rewrite.ensures.stays;
+    }
+
 pub returns-in-Ok-Profile : goal.returns-in-Ok-Profile
 unfolding work_of
 returns-in-Ok-Profile g c =
@@ -170,6 +171,8 @@ returns-in-Ok-Profile g c =
           (change g.S.Source.rest g.S.Source.faults c.args.input.now c.profile.new.input)
           (change g.K.Sink.taken g.K.Sink.faults c.args.out.now c.profile.new.out)
           c.profile.result _ refl c.profile.ensures.due c.profile.ensures.stays;
+    }
+
 pub returns-in-Ok-Time : goal.returns-in-Ok-Time
 unfolding work_of
 returns-in-Ok-Time g c =
@@ -180,6 +183,8 @@ returns-in-Ok-Time g c =
           (change g.S.Source.rest g.S.Source.faults c.args.input.now c.time.new.input)
           (change g.K.Sink.taken g.K.Sink.faults c.args.out.now c.time.new.out)
           c.time.result _ _ refl c.time.ensures.due c.time.ensures.kept c.time.ensures.over;
+    }
+
 pub returns-in-Ok-Scan : goal.returns-in-Ok-Scan
 unfolding work_of
 returns-in-Ok-Scan g c =
