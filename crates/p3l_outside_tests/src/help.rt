@@ -24,7 +24,7 @@ fn says(alloc: Global, text: &str, before: &str, word: &str) -> Result<bool, NoM
 }
 
 /// What the help of each command names: its values and options.
-const NAMED: [(&str, &[&str]); 11] = [
+const NAMED: [(&str, &[&str]); 12] = [
     ("check", &["PROGRAM"]),
     ("fmt", &["PROGRAM"]),
     (
