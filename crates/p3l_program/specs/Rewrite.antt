@@ -1,5 +1,6 @@
 -- The command `rewrite`: a program with the same meaning and no greater service time.
-use Rattle.std.specs.Prelude.{◌≡◌, ℕ, List, Option}
+use Rattle.std.specs.Prelude.{◌≡◌, ℕ, List, Option, Err}
+use Rattle.p3l_ast.specs.declared.refusal.SourceRefusal.{SourceRefusal}
 use Rattle.p3l_ast.specs.Tree.{ProgramTree, program_tree}
 use Rattle.p3l_io.specs.Told.{Held}
 use Rattle.p3l_skel.specs.declared.tree.Tree.{Tree}
@@ -8,7 +9,8 @@ use Rattle.p3l_cost.specs.declared.costs.Costs.{Costs}
 use Rattle.p3l_cost.specs.Costs.{AreCostsOf}
 use Rattle.p3l_opts.specs.declared.command.Build.{Build}
 use Rattle.p3l_print.specs.Program.{canonical}
-use Rattle.p3l_check.specs.Resolving.{ResolvedTree}
+use Rattle.p3l_types.specs.Verdict.{Gives}
+use Rattle.p3l_check.specs.Resolving.{ResolvedTree, resolved}
 use Rattle.p3l_rewrite.specs.Rewriting.{IsRewriting}
 use Rattle.p3l_program.specs.declared.rewrite.Priced.{Priced}
 use Rattle.p3l_program.specs.declared.rewrite.Source.{Source}
@@ -37,6 +39,10 @@ pub record IsRewritten (files : Option Held) (build : Build) (text : List ℕ) :
   pub time : ℕ
   pub is : IsRewriting has.priced.accepted.program cs build.processors other time
   pub text_is : text ≡ canonical other
+
+-- a program breaks a rule, the first of them so, unless memory was wanting
+abbrev pub BreaksRules : ProgramTree → SourceRefusal → Type 0
+BreaksRules program refusal = Gives {A = ResolvedTree} (Err refusal) (resolved program)
 
 -- the tree that an accepted text comes to, which it does alone
 pub record ComesToTree (text : List ℕ) (r : ResolvedTree) (tree : Tree) : Type 0 where

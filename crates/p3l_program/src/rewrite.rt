@@ -1,15 +1,13 @@
 // The command `rewrite`: a program with the same meaning and no greater service time.
 
-ghost use Rattle.std.specs.Prelude.{◌≡◌, ◌≤◌, length, IfOk, IfErr, OnOk, Err};
+ghost use Rattle.std.specs.Prelude.{◌≡◌, ◌≤◌, length, IfOk, IfErr, OnOk};
 ghost use Rattle.p3l_ast.specs.Tree.{program_tree};
-ghost use Rattle.p3l_check.specs.Resolving.{ResolvedTree, resolved};
 ghost use Rattle.p3l_rewrite.specs.Rewriting.{MayBeRewritten};
 ghost use Rattle.p3l_rewrite.specs.Serving.{HasTree};
-ghost use Rattle.p3l_types.specs.Verdict.{Gives};
 ghost use Rattle.p3l_program.specs.File.{text_limit};
 ghost use Rattle.p3l_program.specs.Load.{IsNotLoaded};
 ghost use Rattle.p3l_program.specs.Plan.{IsTextRefused};
-ghost use Rattle.p3l_program.specs.Rewrite.{IsBestText, IsRewritten, IsSourceOf, LoadsPriced, LoadsSource, plain_build};
+ghost use Rattle.p3l_program.specs.Rewrite.{BreaksRules, IsBestText, IsRewritten, IsSourceOf, LoadsPriced, LoadsSource, plain_build};
 ghost use Rattle.p3l_program.specs.Stage.{build_stages, program_stages};
 ghost use Rattle.p3l_program.specs.Text.{IsTextDue};
 ghost use Rattle.p3l_program.specs.World.{change, files_change};
@@ -40,8 +38,7 @@ pub struct Source {
 /// The tree of a program that keeps all rules; else the first fault.
 fn tree_of(alloc: Global, program: &Program) -> Result<Tree, SourceRefusal>
     ensures kept { IfOk result (HasTree (program_tree program.now)) }
-    ensures broken { IfErr result (λ refusal.
-        Gives {ResolvedTree} (Err refusal) (resolved (program_tree program.now))) }
+    ensures broken { IfErr result (BreaksRules (program_tree program.now)) }
 {
     match resolve(alloc, program) {
         Ok(resolved) => Ok(resolved.tree),
