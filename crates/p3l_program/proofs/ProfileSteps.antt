@@ -1,18 +1,19 @@
 -- From the profile of a tree to the verdict of `profile`, and what its end says.
 use Rattle.std.proofs.Common.{◌≡◌, ℕ, ℤ, Bool, true, false, List, [], ◌∷◌, ◌++◌, ◌||◌, length, Option, Some, None, refl, sym, ap, subst, inl, inr, ◌∙◌, arith, append-nil, if◌then◌else◌}
 use Rattle.std.specs.declared.result.Result.TheVariants.{Ok}
-use Rattle.std.specs.List.{AllByRecursion, list_any}
+use Rattle.std.specs.List.{All, AllByRecursion, list_any}
 use Rattle.p3l_base.specs.declared.outcome.Outcome.{Outcome}
 use Rattle.p3l_base.specs.declared.outcome.Outcome.TheVariants.{Value, Trapped}
 use Rattle.p3l_base.specs.declared.outcome.TrapKind.{TrapKind}
 use Rattle.p3l_io.specs.Told.{Held}
 use Rattle.p3l_skel.specs.declared.tree.Tree.{Tree}
+use Rattle.p3l_skel.specs.Lawful.{IsLawfulTree}
 use Rattle.p3l_skel.specs.Tree.{node_at}
 use Rattle.p3l_check.specs.Resolving.{ResolvedTree}
 use Rattle.p3l_code.specs.declared.instr.Code.{Code}
 use Rattle.p3l_compile.specs.Leaves.{AreBodies, AreCodes, body_leaf}
 use Rattle.p3l_compile.proofs.Leaves.{have_codes, same_leaf}
-use Rattle.p3l_units.specs.Table.{Served}
+use Rattle.p3l_units.specs.Table.{HasCode, Served}
 use Rattle.p3l_report.specs.declared.stats.Stats.{Stats}
 use Rattle.p3l_report.specs.declared.verdict.Finish.{Finish}
 use Rattle.p3l_report.specs.declared.verdict.Finish.TheVariants as finish
@@ -64,15 +65,15 @@ module _ (tree : Tree) (codes : List Code) (told : TellsTheGreatest) (g : Greate
   all_given close h = record { stream = h.s; items = h.items; gives = h.gives; values = h.noted.values }
 
   noted_so : (close : Ending) → Ended close → (close ≡ ending.End) × HasPut out.old out.new (text_of tree g) → IsNoted (coded tree codes) input out
-  noted_so close h c = (let ends = subst Ended c.0 h in record {
+  noted_so close h c = (let ends = subst (λ e. Ended e) c.0 h in record {
     all = all_given ending.End ends;
-    put = subst (HasPut out.old out.new) (file_is ends.items ends.noted.noted) c.1;
+    put = subst (λ text. HasPut out.old out.new text) (file_is ends.items ends.noted.noted) c.1;
   })
 
   notes_some : (close : Ending) → Ended close → ClosesSome tree g close out → NotesSome (coded tree codes) input out
-  notes_some close h c = (let ends = subst Ended c.0 h in record {
+  notes_some close h c = (let ends = subst (λ e. Ended e) c.0 h in record {
     all = all_given ending.End ends;
-    begun = subst (HasBegun out.old out.new) (file_is ends.items ends.noted.noted) c.1;
+    begun = subst (λ text. HasBegun out.old out.new text) (file_is ends.items ends.noted.noted) c.1;
   })
 
   profiled_so : (close : Ending) → Ended close → (f : Finish) → ClosesSo tree g close out f → IsProfiled (coded tree codes) input out f
@@ -84,22 +85,19 @@ module _ (tree : Tree) (codes : List Code) (told : TellsTheGreatest) (g : Greate
 
   -- and this is how its profile ends
   pub profile_of : (end : Sampled) → IsSampled tree served start g input.old input.new input.before input.now end → (v : Verdict) → IsClosedProfile tree g end out v → IsProfileOf (coded tree codes) input out v
-  profile_of (sampled.Trapped number kind home) s (verdict.Ended f stats) c = (
-    c.0,
-    c.2.calm,
-    subst (IsProfiled (coded tree codes) input out) (sym c.1) (record {
-      stream = s.s;
-      items = s.items;
-      words = s.words;
-      gives = s.gives;
-      values = s.values;
-      home = home;
-      traps = s.traps;
-      name_is = refl;
-      number_is = s.number_is;
-      out_still = c.2;
-    }),
-  )
+  profile_of (sampled.Trapped number kind home) s (verdict.Ended f stats) c =
+      (c.0, c.2.calm, subst (λ f. IsProfiled (coded tree codes) input out f) (sym c.1) (record {
+        stream = s.s;
+        items = s.items;
+        words = s.words;
+        gives = s.gives;
+        values = s.values;
+        home = home;
+        traps = s.traps;
+        name_is = refl;
+        number_is = s.number_is;
+        out_still = c.2;
+      }))
   profile_of (sampled.Stream close) s (verdict.Ended f stats) c = (c.0, c.1, profiled_so close s f c.2)
   profile_of (sampled.Stream close) s verdict.WriteFault c = (notes_some close s c.0, c.1)
   profile_of (sampled.Stream close) s verdict.NoMemory (inl c) = inl c
@@ -109,9 +107,19 @@ module _ (tree : Tree) (codes : List Code) (told : TellsTheGreatest) (g : Greate
   profile_of (sampled.Trapped number kind home) s verdict.WriteFault c = absurd c
   profile_of (sampled.Trapped number kind home) s verdict.NoMemory c = inl c
 
--- the codes of a program are those of its tree
-pub program_codes : (r : ResolvedTree) (accepted : Accepted) → (compiled : IsCompiled r accepted) → AreBodies accepted.tree r.seqs
-program_codes r accepted compiled = subst (λ t. AreBodies t r.seqs) (sym compiled.tree_is) compiled.bodies
+-- the bodies of a program that was compiled are those of its tree, so this has their codes
+module _ (r : ResolvedTree) (accepted : Accepted) (compiled : IsCompiled r accepted) where
+  pub tree_bodies : AreBodies accepted.tree r.seqs
+  tree_bodies = subst (λ t. AreBodies t r.seqs) (sym compiled.tree_is) compiled.bodies
+
+  pub tree_codes : All (HasCode (record { tree = accepted.tree; codes = accepted.codes })) accepted.tree.nodes
+  tree_codes = have_codes accepted.tree r.seqs accepted.codes tree_bodies compiled.codes
+
+  pub tree_lawful : IsLawfulTree accepted.tree
+  tree_lawful = subst (λ t. IsLawfulTree t) (sym compiled.tree_is) compiled.lawful
+
+abbrev subject : Tree → (ℕ → List ℤ → Outcome) → List Code → Subject
+subject tree leaf codes = record { tree = tree; leaf = leaf; codes = codes }
 
 -- a program that was loaded and profiled
 module _ (files : Change Held) (input out : Change (List ℕ)) (name : List ℕ) (r : ResolvedTree) (accepted : Accepted) (is : IsProgram files.old name r accepted) where
@@ -121,8 +129,8 @@ module _ (files : Change Held) (input out : Change (List ℕ)) (name : List ℕ)
   -- what its codes do is what its bodies mean
   same : coded accepted.tree accepted.codes ≡ subject_of r accepted.codes
   same =
-      ap (λ l. record { tree = accepted.tree; leaf = l; codes = accepted.codes }) (same_leaf accepted.tree r.seqs accepted.codes (program_codes r accepted compiled) compiled.codes)
-      ∙ ap (λ t. record { tree = t; leaf = body_leaf t r.seqs; codes = accepted.codes }) compiled.tree_is
+      ap (λ l. subject accepted.tree l accepted.codes) (same_leaf accepted.tree r.seqs accepted.codes (tree_bodies r accepted compiled) compiled.codes)
+      ∙ ap (λ t. subject t (body_leaf t r.seqs) accepted.codes) compiled.tree_is
 
   has : HasCodes files.old name r accepted.codes
   has = record { text = is.text; has = is.has; accepted = is.comes.accepted; only = is.comes.only; compiled = compiled.codes }
@@ -191,25 +199,25 @@ profile_calm w name (finish.Differs line) stats h trap read = absurd h.profiled
 
 -- a fault of reading is answered where the count of the input rose
 pub profile_read : (w : World) (name : List ℕ) (f : Finish) (stats : Option Stats) → EndsProfile w name f stats → finish_status f ≡ status.read → HasRisen w.input
-profile_read w name finish.Done stats h is = absurd (omega (arith, is))
+profile_read w name finish.Done stats h is = absurd (omega arith)
 profile_read w name (finish.Stream close) stats h is =
     subst (λ e. GivenCause (Some (Ok e)) w.input.before w.input.now) (statuses.read_is close is) h.profiled.all.gives.cause
-profile_read w name (finish.Trapped number kind home) stats h is = absurd (omega (arith, is))
+profile_read w name (finish.Trapped number kind home) stats h is = absurd (omega arith)
 profile_read w name (finish.Stopped fired idle) stats h is = absurd h.profiled
 profile_read w name (finish.Differs line) stats h is = absurd h.profiled
 
 -- no profile is stopped
 pub profile_unstopped : (w : World) (name : List ℕ) (f : Finish) (stats : Option Stats) → EndsProfile w name f stats → finish_status f ≡ status.stopped → ⊥
-profile_unstopped w name finish.Done stats h is = omega (arith, is)
+profile_unstopped w name finish.Done stats h is = absurd (omega arith)
 profile_unstopped w name (finish.Stream close) stats h is = ending_unstopped close is
-profile_unstopped w name (finish.Trapped number kind home) stats h is = omega (arith, is)
+profile_unstopped w name (finish.Trapped number kind home) stats h is = absurd (omega arith)
 profile_unstopped w name (finish.Stopped fired idle) stats h is = h.profiled
 profile_unstopped w name (finish.Differs line) stats h is = h.profiled
 
 -- the items of an input that came to its end are those that it gave
 module _ (p : Subject) (input : Change (List ℕ)) (rest : List ℕ) (told : input.old ≡ Some rest) (all : GivesAll p input ending.End) where
   closes : Closes (subject_width p) all.stream all.gives.bytes all.items (closed_so (Some ending.End))
-  closes = subst (Closes (subject_width p) all.stream all.gives.bytes all.items) all.gives.closed_is all.gives.given.closes
+  closes = subst (λ c. Closes (subject_width p) all.stream all.gives.bytes all.items c) all.gives.closed_is all.gives.given.closes
 
   ended : (input.new ≡ Some []) × (all.gives.bytes ≡ rest)
   ended = ended_told input.old input.new rest all.gives.bytes told all.gives.read (all.gives.at_end closes.0)
@@ -237,7 +245,7 @@ profile_whole w name rest taken finish.Done stats put input is h =
       taken_is = subst (λ (i : Items). w.out.new ≡ Some (taken ++ cost_file p i.items)) (sym same) (put (cost_file p all.items) h.profiled.put);
     }
 profile_whole w name rest taken (finish.Stream close) stats put input is h = absurd (h.profiled.other (statuses.done_is close is))
-profile_whole w name rest taken (finish.Trapped number kind home) stats put input is h = absurd (omega (arith, is))
+profile_whole w name rest taken (finish.Trapped number kind home) stats put input is h = absurd (omega arith)
 profile_whole w name rest taken (finish.Stopped fired idle) stats put input is h = absurd h.profiled
 profile_whole w name rest taken (finish.Differs line) stats put input is h = absurd h.profiled
 

@@ -6,6 +6,7 @@ use self::texts::{
     AVERAGES, Example, FARMS, GREATEST, HALVE, HASH, HISTOGRAM, LINE, MATRIX, NORM, PREFIX, ROOT,
     SIGNAL, SLIDING, TOTAL, VECTOR,
 };
+use crate::world::{Held, NONE, holding, perform};
 use p3l_base::List;
 use p3l_io::{MemFiles, MemSink, MemSource};
 use p3l_program::top::top;
@@ -145,6 +146,30 @@ fn all_keep_the_rules(rt: HostRuntime) -> Result<(), Fail> {
     ];
     for (example, output) in table {
         compare(&rt, rt.alloc(), CHECKED, example, output, "")?;
+    }
+    Ok(())
+}
+
+/// The costs that an example shows on its input are costs of it.
+fn compare_costs(rt: &impl Abort, alloc: Global, example: &Example) -> Result<(), Fail> {
+    let mut files = holding(alloc, &[Held("m.p3l", example.program)], &[])?;
+    let costs = perform(alloc, "profile m.p3l", example.input, &mut files, &NONE)?;
+    assert_eq!(rt; costs.status, 0);
+    files.add("c", costs.output.as_slice())?;
+    let words = "explain m.p3l --processors 512 --costs c";
+    let explained = perform(alloc, words, "", &mut files, &NONE)?;
+    assert_eq!(rt; explained.status, 0);
+    Ok(())
+}
+
+#[test]
+fn costs_that_are_shown_are_read(rt: HostRuntime) -> Result<(), Fail> {
+    let examples = [
+        &AVERAGES, &FARMS, &GREATEST, &HALVE, &HASH, &HISTOGRAM, &LINE, &MATRIX, &NORM, &PREFIX,
+        &ROOT, &SIGNAL, &SLIDING, &TOTAL, &VECTOR,
+    ];
+    for example in examples {
+        compare_costs(&rt, rt.alloc(), example)?;
     }
     Ok(())
 }
