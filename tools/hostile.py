@@ -38,6 +38,7 @@ LINES = [
     rb"evidence: \d+ \w+( .*)?",
     rb"scan: (120 NotReduce|121 BadSegments)",
     rb"stats: items \d+, fired \d+, idle \d+, bound \d+",
+    rb"time: items \d+, fired \d+, finish \d+, busiest \d+ \d+",
     rb"(read|write) fault|no memory|input too long",
 ]
 NAMED = re.compile(rb"(?:(?:" + rb"|".join(LINES) + rb")\n)*\Z", re.DOTALL)

@@ -40,6 +40,7 @@ RUNS = [
     (["rewrite", *COSTED], b"", []),
     (["profile", "loop.p3l"], b"64 0\n3 0\n", []),
     (["scan", "less.p3l", "--segments", "4", "--stats"], b"1 2 3 4\n5 5 5 5\n", []),
+    (["time", *COSTED, "--picks", "made.picks"], b"1\n2\n-3\n", []),
 ]
 
 

@@ -201,7 +201,7 @@ longest with how long it was. No time is measured: the same words and items give
   --processors P   how many processors there are, 1 to 512
   --costs FILE     the costs of modules and words, in ticks; without them the standard costs
   --capacity C     how many tokens a channel holds at most, 1 to 1,024 (4 if not given)
-  --picks FILE     write there in what order the processes fired, as run takes it: --schedule file:FILE
+  --picks FILE     write there in what order processes fired, for run --schedule file:FILE
 
 example: p3l time m.p3l --processors 16 --costs m.toml <in.txt
 ";

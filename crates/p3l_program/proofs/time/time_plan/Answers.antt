@@ -1,4 +1,5 @@
-use Rattle.std.proofs.Common.{refl, subst, length, map, length-map}
+use Rattle.std.proofs.Common.{refl, subst}
+use Rattle.std.proofs.lemmas.List.{length-map}
 use Rattle.p3l_run.specs.Network.{Network, network}
 use Rattle.p3l_run.specs.Timed.{EndsInTime}
 use Rattle.p3l_timed.specs.Price.{price_of, prices_of}
