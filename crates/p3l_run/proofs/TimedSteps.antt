@@ -289,13 +289,12 @@ module _ (job : Job) (prices : List ℕ) where
           let over = (in_time e.machine x.outcomes later t k (follows later may) (filled later may) at.times).none none in
           subst (AreTimed n prices (x.items ++ later)) (append-nil it.picks) (at.front [] (fires_none n.tree n.leaf n.net (price_at prices) t over))
 
-      -- so it is over
+      -- all picks were made
       made_all : (later : List (List ℤ)) → MayCome n e.close later → picks_under n (schedules.Recorded it.picks) (x.items ++ later) ≡ it.picks
       unfolding picks_of
       made_all = all_made n x.laws e.machine x.items e.close x.outcomes x.walked it.picks (stands now e k it) it.walked_are filled
 
-      pub ended_in_time : (tree : Tree) → tree ≡ n.tree → (ran : Ran) → IsFinish tree e ran.finish → ran.stats ≡ stats_at e → ran.lines ≡ e.kept → ran.sum ≡ e.told.sum → EndsInTime job prices now ran k
-
+      -- so it is over
       pub ended_in_time : (named : Tree) → named ≡ n.named → (ran : Ran) → IsFinish named e ran.finish → ran.stats ≡ stats_at e → ran.lines ≡ e.kept → ran.sum ≡ e.told.sum → EndsInTime job prices now ran k
       unfolding ends_over
       ended_in_time named named_is ran finish_is stats_are lines_are sum_is = record {
