@@ -8,6 +8,9 @@ use Rattle.std.proofs.lemmas.Bool.{lt-ltb, ne_eqb}
 use Rattle.std.proofs.lemmas.Fmt.{decimal_is_IsNumeral}
 use Rattle.std.proofs.lemmas.Str.Parse.{IsDigitsTest, IsNumeralModel, digit_from_value, numerals_by_value}
 use Rattle.p3l_io.specs.Told.{Held}
+use Rattle.p3l_base.specs.declared.outcome.Outcome.{Outcome}
+use Rattle.p3l_skel.specs.declared.tree.Tree.{Tree}
+use Rattle.p3l_net.specs.Run.{Course, picked}
 use Rattle.p3l_firing.specs.declared.net.Net.{Net}
 use Rattle.p3l_run.specs.Network.{Network, course_of, size_of, stats_of, width_of}
 use Rattle.p3l_run.specs.declared.keeping.Keeping.{Keeping}
@@ -94,10 +97,10 @@ reads_again count picks few below = (let r = read_from count few [] picks tt ref
 
 -- ---- the picks of a run are below the number of its processes
 
-all_there : (tree : _) (leaf : _) (net : Net) (c : _) (ls : List TraceLine) → AgreeFrom tree leaf net c ls → AllByRecursion (λ pick. pick < length net.procs) (lines.picks_of ls)
+all_there : (tree : Tree) (leaf : ℕ → List ℤ → Outcome) (net : Net) (c : Course) (ls : List TraceLine) → AgreeFrom tree leaf net c ls → AllByRecursion (λ pick. pick < length net.procs) (lines.picks_of ls)
 unfolding AgreeFrom
 all_there tree leaf net c [] agree = tt
-all_there tree leaf net c (line ∷ ls) agree = (agree.0.there, all_there tree leaf net _ ls agree.1)
+all_there tree leaf net c (line ∷ ls) agree = (agree.0.there, all_there tree leaf net (picked tree leaf net c line.pick) ls agree.1)
 
 -- the same of a run in virtual time
 picks_there : (w : World) (build : Build) (name : List ℕ) (finish : Finish) (told : Option Stats) (e : EndsTime w build (Some name) finish told) → AllByRecursion (λ pick. pick < size_of e.n) e.to.picks

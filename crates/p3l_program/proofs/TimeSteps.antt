@@ -3,7 +3,11 @@ use Rattle.std.proofs.Common.{◌≡◌, ℕ, ℤ, ◌<◌, ◌≤◌, Bool, tru
 use Rattle.std.specs.List.{range_with_len}
 use Rattle.std.proofs.lemmas.Bool.{cond-false}
 use Rattle.std.specs.Option.{option_to_list}
+use Rattle.std.specs.declared.result.Result.{Result}
 use Rattle.std.specs.declared.result.Result.TheVariants.{Ok, Err}
+use Rattle.p3l_check.specs.Resolving.{ResolvedTree}
+use Rattle.p3l_skel.specs.declared.tree.Tree.{Tree}
+use Rattle.p3l_firing.specs.declared.net.Net.{Net}
 use Rattle.p3l_cost.specs.declared.costs.Costs.{Costs}
 use Rattle.p3l_firing.specs.Fire.{can_fire}
 use Rattle.p3l_io.specs.Told.{Held}
@@ -30,18 +34,16 @@ use Rattle.p3l_timed.specs.Timed.{busy_of}
 use Rattle.p3l_trace.specs.declared.trace.TraceLine.{TraceLine}
 use Rattle.p3l_trace.specs.Agreement as lines
 use Rattle.p3l_program.specs.declared.plan.Allotted.{Allotted}
-use Rattle.p3l_program.specs.declared.plan.Linked.{Linked}
 use Rattle.p3l_program.specs.Load.{IsLoaded, IsNotLoaded, LoadsNetwork}
 use Rattle.p3l_program.specs.Origin.{built}
 use Rattle.p3l_program.specs.Picks.{ArePicksSaved, IsPicking, picks_text}
-use Rattle.p3l_program.specs.Plan.{IsBuilt, network_of}
+use Rattle.p3l_program.specs.Plan.{network_of}
 use Rattle.p3l_program.specs.Run.{IsRunNot, keeping_for}
 use Rattle.p3l_program.specs.Saved.{HasSave}
 use Rattle.p3l_program.specs.Stage.{AllPass, build_stages}
-use Rattle.p3l_program.specs.Time.{AreTold, BeginsTime, EndsTime, HasPrices, IsTimeBegun, IsTimeClosed, IsTimeDue, IsTimeOf, IsTimeOver, IsUnsavedTime, KeepsTime, RunsInTime, TimesOver, UnsavedTime}
+use Rattle.p3l_program.specs.Time.{AreTimes, AreTold, BeginsTime, EndsTime, HasPrices, IsTimeBegun, IsTimeClosed, IsTimeDue, IsTimeOf, IsTimeOver, IsUnsavedTime, KeepsTime, RunsInTime, TimesOver, UnsavedTime}
 use Rattle.p3l_program.specs.Verdict.{fault_verdict}
 use Rattle.p3l_program.specs.World.{Change, IsCalm, IsStill, world}
-use Rattle.p3l_program.proofs.LoadSteps.{is_built}
 use Rattle.p3l_program.proofs.RunSteps.{finishes_starts}
 use Rattle.p3l_program.proofs.SavedSteps.{kept_by}
 use Rattle.p3l_program.proofs.TextSteps.{not_loaded}
@@ -93,13 +95,13 @@ module _ (n : Network) (prices : List ℕ) (input out : Change (List ℕ)) where
     picks_are = (e.ends.ends.traced [] (nothing_comes n e.ends.ends.close)).picks ∙ e.made [] (nothing_comes n e.ends.ends.close)
 
   module _ (few : size_of n ≤ 1048576) (run_law : EveryTimedRunIsARun) (within_law : EveryFinishIsWithinBusy) (files : Change Held) (size : length prices ≡ size_of n) (ran : Ran) (k : Clock) where
-    saved_so : (name : List ℕ) (e : EndsInTime (job keep.Lines) prices after ran k) (result : _) → IsPicking files (Some name) ran.lines result → HasSave files name (picks_text e.picks) result
+    saved_so : (name : List ℕ) (e : EndsInTime (job keep.Lines) prices after ran k) (result : Result (Unit {0}) Verdict) → IsPicking files (Some name) ran.lines result → HasSave files name (picks_text e.picks) result
     saved_so name e result h =
         subst (λ ps. HasSave files name (picks_text ps) result) (picks_are few run_law within_law keep.Lines ran k e)
         (subst (λ l. IsPicking files (Some name) l result) e.ends.ends.kept h)
 
     busy_same : (keeping : Keeping) (e : EndsInTime (job keeping) prices after ran k) (told : Option Stats) → AreTold ran.stats k told
-        → Rattle.p3l_program.specs.Time.AreTimes n prices input out keeping e.picks ran (runs_in_time few run_law within_law keeping ran k e) told
+        → AreTimes n prices input out keeping e.picks ran (runs_in_time few run_law within_law keeping ran k e) told
     busy_same keeping e told t = record {
       moment = k.moment;
       moment_is = e.finish;
@@ -189,7 +191,7 @@ module _ (files : Change Held) (input out : Change (List ℕ)) (build : Build) (
   time_due name verdict.NoMemory (inr h) = inr (record { passed = passed; begins = begins_time h })
 
 -- what was loaded has the prices of its costs
-pub loaded_prices : (files : Option Held) (build : Build) (loaded : Allotted) (r : _) (is : IsLoaded files build r loaded) (n : Network) (tree : _) (net : _) (cs : Costs) → n ≡ network_of r loaded.choice.counts.list build.capacity → n.tree ≡ tree → n.net ≡ net → cs ≡ loaded.costs
+pub loaded_prices : (files : Option Held) (build : Build) (loaded : Allotted) (r : ResolvedTree) (is : IsLoaded files build r loaded) (n : Network) (tree : Tree) (net : Net) (cs : Costs) → n ≡ network_of r loaded.choice.counts.list build.capacity → n.tree ≡ tree → n.net ≡ net → cs ≡ loaded.costs
     → HasPrices files build n (prices_of tree cs net)
 loaded_prices files build loaded r is n tree net cs n_is tree_is net_is costs_are = record {
   network = record {
