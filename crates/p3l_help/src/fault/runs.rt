@@ -130,13 +130,11 @@ with its items as another program.
         topic: "121",
         text: "121 BadSegments
 
-The segments are no power of two, or don't divide the length of the reduce's list.
-This one has six elements, so 1 and 2 segments do.
+The segments are no power of two, or don't divide the length of the list that
+`main` folds. This one has six elements, so 1 and 2 segments do.
 
-    $ cat >a.p3l <<'END'
-    seq add in(int x, int y) out(int z) ${ z = x + y; }$ end seq
-    reduce main in(int a[6]) out(int s) add in(a[*i]) out(s) end reduce
-    END
+    $ echo 'seq add in(int x, int y) out(int z) ${ z = x + y; }$ end seq
+    > reduce main in(int a[6]) out(int s) add in(a[*i]) out(s) end reduce' >a.p3l
     $ echo 1 2 3 4 5 6 | p3l scan a.p3l --segments 4
     scan: 121 BadSegments
 
