@@ -3,8 +3,8 @@
 
 use crate::texts::{DOUBLE, DOUBLE_FILES, HUNDRED_FILES, READ_FAULT, WRITE_FAULT};
 use crate::world::{
-    Case, Cases, Ends, Held, NO_PUT, NO_TAKE, NONE, Program, Programs, Step, THIRD_TAKE,
-    take_all, take_cases, take_programs,
+    Case, Cases, Ends, Held, NO_PUT, NO_TAKE, NONE, Program, Programs, Step, THIRD_TAKE, take_all,
+    take_cases, take_programs,
 };
 use std::test::Fail;
 
@@ -29,8 +29,7 @@ const OF_DOUBLE: &str = "setup = 10\nword = 1\n[seq]\nmain = 7\n";
 
 const OF_NOTHING: &str = "setup = 10\nword = 1\n[seq]\nmain = 0\n";
 
-const OF_HALVED: &str =
-    "setup = 10\nword = 1\n[seq]\nhalf = 9\nmore = 5\n[turns]\nmain = 6\n";
+const OF_HALVED: &str = "setup = 10\nword = 1\n[seq]\nhalf = 9\nmore = 5\n[turns]\nmain = 6\n";
 
 const OF_HALVED_NOTHING: &str =
     "setup = 10\nword = 1\n[seq]\nhalf = 0\nmore = 0\n[turns]\nmain = 1\n";
