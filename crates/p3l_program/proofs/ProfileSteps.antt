@@ -85,19 +85,22 @@ module _ (tree : Tree) (codes : List Code) (told : TellsTheGreatest) (g : Greate
 
   -- and this is how its profile ends
   pub profile_of : (end : Sampled) → IsSampled tree served start g input.old input.new input.before input.now end → (v : Verdict) → IsClosedProfile tree g end out v → IsProfileOf (coded tree codes) input out v
-  profile_of (sampled.Trapped number kind home) s (verdict.Ended f stats) c =
-      (c.0, c.2.calm, subst (λ f. IsProfiled (coded tree codes) input out f) (sym c.1) (record {
-        stream = s.s;
-        items = s.items;
-        words = s.words;
-        gives = s.gives;
-        values = s.values;
-        home = home;
-        traps = s.traps;
-        name_is = refl;
-        number_is = s.number_is;
-        out_still = c.2;
-      }))
+  profile_of (sampled.Trapped number kind home) s (verdict.Ended f stats) c = (
+    c.0,
+    c.2.calm,
+    subst (λ f. IsProfiled (coded tree codes) input out f) (sym c.1) (record {
+      stream = s.s;
+      items = s.items;
+      words = s.words;
+      gives = s.gives;
+      values = s.values;
+      home = home;
+      traps = s.traps;
+      name_is = refl;
+      number_is = s.number_is;
+      out_still = c.2;
+    }),
+  )
   profile_of (sampled.Stream close) s (verdict.Ended f stats) c = (c.0, c.1, profiled_so close s f c.2)
   profile_of (sampled.Stream close) s verdict.WriteFault c = (notes_some close s c.0, c.1)
   profile_of (sampled.Stream close) s verdict.NoMemory (inl c) = inl c
