@@ -40,6 +40,6 @@ returns-in-Err g c =
     let input = change g.S.Source.rest g.S.Source.faults c.args.input.now c.run_in_time.new.input in
     let out = change g.K.Sink.taken g.K.Sink.faults c.args.out.now c.run_in_time.new.out in
     record {
-      ran = early_time n prices input out files c.keeping_for-keeping.keeping c.args.picks c.in-Err.fault refl c.in-Err.ensures;
+      ran = early_time n prices input out files _ c.args.picks c.in-Err.fault refl c.in-Err.ensures;
       kept = stays_time n prices files input out c.args.picks _ refl;
     }
