@@ -1,5 +1,5 @@
 -- A run whose picks a timer makes: it is the run under these picks, as if they had been recorded.
-use Rattle.std.specs.Prelude.{◌≡◌, ◌≢◌, ℕ, ℤ, ◌+◌, true, false, Bool, List, [], ◌++◌, length, Option, None, Result, Ok, Err, slice_index}
+use Rattle.std.specs.Prelude.{◌≡◌, ◌≢◌, ℕ, ℤ, ◌+◌, ◌<◌, true, false, Bool, List, [], ◌++◌, length, Option, None, Result, Ok, Err, slice_index}
 use Rattle.p3l_base.specs.declared.memory.NoMemory.{NoMemory}
 use Rattle.p3l_firing.specs.Nodes.{Leaf}
 use Rattle.p3l_net.specs.Machine.{Seen}
@@ -18,7 +18,7 @@ use Rattle.p3l_run.specs.declared.in_time.TimedRan.{TimedRan}
 use Rattle.p3l_run.specs.declared.keeping.Keeping.{Keeping}
 use Rattle.p3l_run.specs.declared.run.Ran.{Ran}
 use Rattle.p3l_run.specs.Execution.{Ends, Executes, Job, Outside, outside}
-use Rattle.p3l_run.specs.Network.{Network}
+use Rattle.p3l_run.specs.Network.{Network, picks_of}
 use Rattle.p3l_run.specs.Run.{MayCome}
 
 -- the job under these picks
@@ -64,6 +64,9 @@ pub record EndsInTime (job : Job) (prices : List ℕ) (now : Outside) (ran : Ran
   pub finish : (later : List (List ℤ)) → MayCome job.network ends.ends.close later →
       k.moment ≡ finish_of job.network.tree job.network.leaf job.network.net (price_at prices) (ends.ends.items ++ later) picks
   pub busy : (p : ℕ) → slice_index k.busy p ≡ busy_of (price_at prices) picks p
+  pub made : (later : List (List ℤ)) → MayCome job.network ends.ends.close later → picks_of job.network (schedule.Recorded picks) (ends.ends.items ++ later) ≡ picks
+  pub prices_are : k.prices ≡ prices
+  pub some : 0 < length k.prices
 
 -- a run that ended early, under the picks so far
 pub record EndsEarly (job : Job) (now : Outside) (failed : RunFault) : Type 0 where
