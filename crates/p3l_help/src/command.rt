@@ -161,7 +161,8 @@ example: p3l gen 7 --processors 16 --save seven
 ";
 
 /// What `time` does.
-const TIME: &str = "usage: p3l time PROGRAM --processors P [--costs FILE] [--capacity C] [--picks FILE]
+const TIME: &str =
+    "usage: p3l time PROGRAM --processors P [--costs FILE] [--capacity C] [--picks FILE]
 
 Runs a program on the standard input in virtual time, and writes its items as run does. Each process
 takes as long for a firing as the costs say, in ticks, and all processes work side by side: the one

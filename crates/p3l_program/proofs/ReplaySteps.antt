@@ -79,9 +79,18 @@ read_from count few gap (p ∷ []) is_gap none below =
     (10 ∷ [], (gap, decimal p, 10 ∷ [], record { text_is = ap (λ t. gap ++ t) (append-nil (decimal p ++ 10 ∷ [])); are_gap = is_gap; is_word = decimal_word p (omega (arith, below.0)); ends = refl }, pick_again count _ p few below.0, feed, refl), (refl, tt))
 read_from count few gap (p ∷ q ∷ picks) is_gap none below =
     let later = read_from count few (32 ∷ []) (q ∷ picks) (refl, tt) refl below.1 in
-    let feed = ap (λ k. 1 + k) none in
-    (later.0, (gap, decimal p, 32 ∷ picks_text (q ∷ picks), record { text_is = ap (λ t. gap ++ t) (append_assoc (decimal p) (32 ∷ []) (picks_text (q ∷ picks))); are_gap = is_gap; is_word = decimal_word p (omega (arith, below.0)); ends = refl },
-      pick_again count _ p few below.0, subst (λ line. AreRead count line (32 ∷ picks_text (q ∷ picks)) (q ∷ picks) 1 later.0) (sym feed) later.1), later.2)
+    let feed = ap (λ k. 1 + k) none in (
+      later.0,
+      (
+        gap,
+        decimal p,
+        32 ∷ picks_text (q ∷ picks),
+        record { text_is = ap (λ t. gap ++ t) (append_assoc (decimal p) (32 ∷ []) (picks_text (q ∷ picks))); are_gap = is_gap; is_word = decimal_word p (omega (arith, below.0)); ends = refl },
+        pick_again count _ p few below.0,
+        subst (λ line. AreRead count line (32 ∷ picks_text (q ∷ picks)) (q ∷ picks) 1 later.0) (sym feed) later.1,
+      ),
+      later.2,
+    )
 
 pub reads_again : (count : ℕ) (picks : List ℕ) → count < 2 ^ 64 → AllByRecursion (λ pick. pick < count) picks → Reads (picks_text picks) count (Ok picks)
 reads_again count picks few below = (let r = read_from count few [] picks tt refl below in (1, r.0, r.1, r.2))
@@ -152,9 +161,9 @@ replayed w build name finish told held e has =
             finish_is =
                 r.finish_is
                 ∙ ap run_finish (here_finish
-                  ∙ ap (λ (n : Network). finish_of n (course_of n r.s (seen_of (width_of n) rest).items) (seen_of (width_of n) rest).ending) same
-                  ∙ ap (λ s. finish_of e.n (course_of e.n s (seen_of (width_of e.n) rest).items) (seen_of (width_of e.n) rest).ending) s_is
-                  ∙ sym my_finish)
+                ∙ ap (λ (n : Network). finish_of n (course_of n r.s (seen_of (width_of n) rest).items) (seen_of (width_of n) rest).ending) same
+                ∙ ap (λ s. finish_of e.n (course_of e.n s (seen_of (width_of e.n) rest).items) (seen_of (width_of e.n) rest).ending) s_is
+                ∙ sym my_finish)
                 ∙ sym e.to.finish_is;
             outcomes_are =
                 here

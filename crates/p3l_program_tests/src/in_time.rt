@@ -49,16 +49,18 @@ const BY_PICKS: Step = Step(
 );
 
 const WHOLE_RUNS: &[Course] = &[
-    Course(ALL, NONE, &[Step(TIME, ITEMS, IN_THIRTY), BY_PICKS], &[PICKS], &[]),
+    Course(
+        ALL,
+        NONE,
+        &[Step(TIME, ITEMS, IN_THIRTY), BY_PICKS],
+        &[PICKS],
+        &[],
+    ),
     // The picks are written where they are asked for alone.
     Course(
         ALL,
         NONE,
-        &[Step(
-            "time m.p3l --processors 4 --costs c",
-            ITEMS,
-            IN_THIRTY,
-        )],
+        &[Step("time m.p3l --processors 4 --costs c", ITEMS, IN_THIRTY)],
         &[],
         NO_P,
     ),
