@@ -11,7 +11,7 @@ use Rattle.p3l_program.proofs.rewrite.rewrite.Goals as goal
 pub best_text-requires : goal.best_text-requires
 best_text-requires g c =
     let build = plain_build c.args.program c.args.processors c.args.costs in
-    may_be (g.F.Files.held c.args.files.now) build c.in-Ok.priced c.in-Ok.ensures.loaded c.requires.0 c.requires.1
+    may_be (g.F.Files.held c.args.files.now) build c.in-Ok.priced c.in-Ok.ensures.loaded c.requires.processors.0 c.requires.processors.1
 
 pub returns-clause-due : goal.returns-clause-due
 returns-clause-due g c =
