@@ -1,5 +1,5 @@
 -- What the answers of `profile` rest on.
-use Rattle.std.proofs.Common.{◌≡◌, ℕ, List, [], ◌∷◌, Option, Some, refl}
+use Rattle.std.proofs.Common.{ℕ, List, refl}
 use Rattle.p3l_program.specs.Profile.{profile_behavior}
 use Rattle.p3l_program.proofs.EndSteps.{put_told}
 use Rattle.p3l_program.proofs.Lawful.{Lawful}

@@ -1,7 +1,7 @@
 -- From the profile of a tree to the verdict of `profile`, and what its end says.
 use Rattle.std.proofs.Common.{◌≡◌, ℕ, ℤ, Bool, true, false, List, [], ◌∷◌, ◌++◌, ◌||◌, length, Option, Some, None, refl, sym, ap, subst, inl, inr, ◌∙◌, arith, append-nil, if◌then◌else◌}
 use Rattle.std.specs.declared.result.Result.TheVariants.{Ok}
-use Rattle.std.specs.List.{All, AllByRecursion, list_any}
+use Rattle.std.specs.List.{All, list_any}
 use Rattle.p3l_base.specs.declared.outcome.Outcome.{Outcome}
 use Rattle.p3l_base.specs.declared.outcome.Outcome.TheVariants.{Value, Trapped}
 use Rattle.p3l_base.specs.declared.outcome.TrapKind.{TrapKind}
@@ -11,7 +11,7 @@ use Rattle.p3l_skel.specs.Lawful.{IsLawfulTree}
 use Rattle.p3l_skel.specs.Tree.{node_at}
 use Rattle.p3l_check.specs.Resolving.{ResolvedTree}
 use Rattle.p3l_code.specs.declared.instr.Code.{Code}
-use Rattle.p3l_compile.specs.Leaves.{AreBodies, AreCodes, body_leaf}
+use Rattle.p3l_compile.specs.Leaves.{AreBodies, body_leaf}
 use Rattle.p3l_compile.proofs.Leaves.{have_codes, same_leaf}
 use Rattle.p3l_units.specs.Table.{HasCode, Served}
 use Rattle.p3l_report.specs.declared.stats.Stats.{Stats}
@@ -35,7 +35,7 @@ use Rattle.p3l_profile.specs.Law.{TellsTheGreatest, notes_of}
 use Rattle.p3l_profile.specs.Text.{text_of}
 use Rattle.p3l_sample.specs.declared.stream.Sampled.{Sampled}
 use Rattle.p3l_sample.specs.declared.stream.Sampled.TheVariants as sampled
-use Rattle.p3l_sample.specs.Sampling.{EndsSo, IsSampled, IsValue, TrapsAt}
+use Rattle.p3l_sample.specs.Sampling.{EndsSo, IsSampled, IsValue}
 use Rattle.p3l_program.specs.declared.plan.Accepted.{Accepted}
 use Rattle.p3l_program.specs.Load.{IsProgram}
 use Rattle.p3l_program.specs.Plan.{IsCompiled, network_of}

@@ -11,7 +11,7 @@ use Rattle.p3l_skel.specs.Tree.{node_at}
 use Rattle.p3l_check.specs.Resolving.{ResolvedTree}
 use Rattle.p3l_code.specs.declared.instr.Code.{Code}
 use Rattle.p3l_compile.specs.Leaves.{AreCodes, body_leaf}
-use Rattle.p3l_units.specs.Table.{Served, leaf}
+use Rattle.p3l_units.specs.Table.{leaf}
 use Rattle.p3l_stream.specs.declared.items.Ending.{Ending}
 use Rattle.p3l_stream.specs.declared.items.Ending.TheVariants as ending
 use Rattle.p3l_stream.specs.declared.items.Items.{Items}

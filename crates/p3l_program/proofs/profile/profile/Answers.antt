@@ -1,8 +1,7 @@
-use Rattle.std.proofs.Common.{◌≡◌, refl, subst, sym, ◌∙◌}
-use Rattle.p3l_program.specs.Profile.{BeginsProfile, EndsProfile, IsProfileDue}
+use Rattle.std.proofs.Common.{refl}
+use Rattle.p3l_program.specs.Profile.{BeginsProfile, EndsProfile}
 use Rattle.p3l_program.specs.Stage.{program_stages}
 use Rattle.p3l_program.specs.World.{change, files_change, world}
-use Rattle.p3l_program.proofs.LoadSteps.{same_change}
 use Rattle.p3l_program.proofs.ProfileSteps.{profile_due, tree_codes, tree_lawful}
 use Rattle.p3l_program.proofs.TextSteps.{not_loaded}
 use Rattle.p3l_program.proofs.profile.profile.Goals as goal

@@ -1,5 +1,4 @@
-use Rattle.std.proofs.Common.{length, sym, subst}
-use Rattle.p3l_profile.specs.Greatest.{none_noted}
+use Rattle.std.proofs.Common.{subst}
 use Rattle.p3l_sample.specs.Sampling.{IsSampled}
 use Rattle.p3l_program.specs.World.{change}
 use Rattle.p3l_program.proofs.ProfileSteps.{profile_of}
