@@ -29,6 +29,7 @@ verb_of (command.Graph build) = verb.Graph
 verb_of (command.VerifyCert program cert costs) = verb.VerifyCert
 verb_of (command.CheckTrace build trace) = verb.CheckTrace
 verb_of (command.Gen number processors items schedule save) = verb.Gen
+verb_of (command.Time build picks) = verb.Time
 
 -- the text is a number from 1 to `most`, in decimal digits without a sign and without a leading zero
 pub record HasCount (most : ℕ) (text : Option Text) (count : ℕ) : Type 0 where
@@ -113,6 +114,7 @@ HasValues found (command.VerifyCert program cert costs) =
     (first_of (codes "program") found ≡ Some program) × (first_of (codes "cert") found ≡ Some cert) × (costs ≡ first_of (codes "costs") found)
 HasValues found (command.CheckTrace build trace) = HasBuild found (first_of (codes "capacity") found) build × (first_of (codes "trace") found ≡ Some trace)
 HasValues found (command.Gen number processors items schedule save) = HasGen found number processors items schedule save
+HasValues found (command.Time build picks) = HasBuild found (first_of (codes "capacity") found) build × (picks ≡ first_of (codes "picks") found)
 
 -- the first word names the command, `clap` takes those after it, and its values are what they spell
 pub record Spells (words : List Text) (command : Command) : Type 0 where

@@ -41,6 +41,10 @@ pub enum Command {
     /// its input and runs it. It has the number, the processors, the items, how picks are made, and
     /// what the names of saved files begin with.
     Gen(u32, u32, u32, Sched, Option<Name>),
+    /// `time PROGRAM --processors P [--costs FILE] [--capacity C] [--picks FILE]`: runs a program on
+    /// the input in virtual time. It has how the network is built, and the name of the file for the
+    /// picks.
+    Time(Build, Option<Name>),
 }
 
 /// How a program's network is built.

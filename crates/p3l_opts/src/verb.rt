@@ -23,6 +23,7 @@ pub enum Verb {
     VerifyCert,
     CheckTrace,
     Gen,
+    Time,
 }
 
 /// Whether a word is this text.
@@ -69,6 +70,9 @@ pub fn verb_of(word: &str) -> Option<Verb>
     }
     if is_word(word, "gen") {
         return Some(Verb::Gen);
+    }
+    if is_word(word, "time") {
+        return Some(Verb::Time);
     }
     None
 }
@@ -171,6 +175,17 @@ pub(crate) fn clap_command<'a>(alloc: Global, verb: Verb) -> Result<Command<'a>,
                 ("items", Spelling::Optional),
                 ("schedule", Spelling::Optional),
                 ("save", Spelling::Optional),
+            ],
+        ),
+        Verb::Time => command_with(
+            alloc,
+            "time",
+            &[
+                ("program", Spelling::Positional),
+                ("processors", Spelling::Mandatory),
+                ("costs", Spelling::Optional),
+                ("capacity", Spelling::Optional),
+                ("picks", Spelling::Optional),
             ],
         ),
     }

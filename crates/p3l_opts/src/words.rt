@@ -59,6 +59,7 @@ fn command_of(alloc: Global, verb: Verb, matches: &ArgMatches) -> Result<Command
         Verb::VerifyCert => verify_cert_of(alloc, matches),
         Verb::CheckTrace => check_trace_of(alloc, matches),
         Verb::Gen => gen_of(alloc, matches),
+        Verb::Time => time_of(alloc, matches),
     }
 }
 
@@ -215,6 +216,18 @@ fn gen_of(alloc: Global, matches: &ArgMatches) -> Result<Command, OptsRefusal>
     let schedule = made_in(alloc, matches, "schedule")?;
     let save = name_if_given(alloc, matches, "save")?;
     Ok(Command::Gen(number, processors, items, schedule, save))
+}
+
+/// The command `time` with the values that were found.
+fn time_of(alloc: Global, matches: &ArgMatches) -> Result<Command, OptsRefusal>
+    ensures verb { IfOk result (λ command. verb_of command ≡ Verb.Time) }
+    ensures values { IfOk result (HasValues (rows_of (found_of matches.now))) }
+    ensures usage { IsErrOf result OptsRefusal.Usage → (command : Command)
+        → verb_of command ≡ Verb.Time → HasValues (rows_of (found_of matches.now)) command → ⊥ }
+{
+    let build = build_of(alloc, matches)?;
+    let picks = name_if_given(alloc, matches, "picks")?;
+    Ok(Command::Time(build, picks))
 }
 
 /// The schedule that the words have for a value, or round robin, unless its picks stand in a file.

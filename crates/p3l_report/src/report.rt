@@ -107,7 +107,7 @@ fn line_of_numbers(alloc: Global, verdict: &Verdict) -> Result<Option<Line>, NoM
     ensures { IfOk result (λ line. optional_text line ≡ reported_line verdict.now) }
 {
     match verdict {
-        Verdict::Ended(_, Some(stats)) => Ok(Some(numbers_line(alloc, stats)?)),
+        Verdict::Ended(_, Some(stats)) => Ok(Some(numbers_line(alloc, *stats)?)),
         _ => Ok(None),
     }
 }

@@ -45,3 +45,7 @@ returns-in-CheckTrace c = rw c.in-CheckTrace.is (IfOk-weaker c.command_with-in-C
 pub returns-in-Gen : goal.returns-in-Gen
 unfolding app_for
 returns-in-Gen c = rw c.in-Gen.is (IfOk-weaker c.command_with-in-Gen.result _ _ (λ r e. e) c.command_with-in-Gen.ensures)
+
+pub returns-in-Time : goal.returns-in-Time
+unfolding app_for
+returns-in-Time c = rw c.in-Time.is (IfOk-weaker c.command_with-in-Time.result _ _ (λ r e. e) c.command_with-in-Time.ensures)
