@@ -18,7 +18,7 @@ use Rattle.p3l_program.specs.Origin.{Running, built, imaged, running}
 use Rattle.p3l_program.specs.Stage.{Stage, build_stages, migrate_stages, program_stages, verify_stages}
 use Rattle.p3l_program.specs.Text.{IsNothing}
 use Rattle.p3l_program.specs.Verify.{IsVerified}
-use Rattle.p3l_program.specs.Work.{Work, behavior, check_trace, run_generated, run_network, save_file, write_text}
+use Rattle.p3l_program.specs.Work.{Work, behavior, check_trace, run_generated, run_in_time, run_network, save_file, write_text}
 use Rattle.p3l_program.specs.World.{World}
 
 -- the work of each command
@@ -40,6 +40,7 @@ work_of (command.VerifyCert program cert costs) =
 work_of (command.CheckTrace build name) = check_trace build name
 work_of (command.Gen number processors items schedule prefix) =
     run_generated (gen_of number processors items schedule prefix)
+work_of (command.Time build picks) = run_in_time build picks
 
 abbrev pub behavior_of : Command → Behavior
 behavior_of command = behavior (work_of command)

@@ -18,14 +18,17 @@ pub mod LoadCert
 pub mod LoadImage
 pub mod Migrate
 pub mod Origin
+pub mod Picks
 pub mod Plan
 pub mod Recheck
 pub mod Recorded
+pub mod Replay
 pub mod Run
 pub mod Saved
 pub mod Scheduled
 pub mod Stage
 pub mod Text
+pub mod Time
 pub mod Top
 pub mod Trace
 pub mod TraceFile

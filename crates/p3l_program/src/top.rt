@@ -16,6 +16,7 @@ use crate::generated::run_generated;
 use crate::graph::graph;
 use crate::migrate::migrate;
 use crate::run::run;
+use crate::time::time;
 use crate::verify::verify_cert;
 use p3l_io::{Files, Sink, Source};
 use p3l_opts::{Command, OptsRefusal, one_command_at_most, parse};
@@ -64,6 +65,7 @@ fn perform<F: Files, S: Source, K: Sink>(
                 alloc, number, processors, items, schedule, prefix, files, out,
             )
         }
+        Ok(Command::Time(build, picks)) => time(alloc, build, picks, files, input, out),
     }
 }
 

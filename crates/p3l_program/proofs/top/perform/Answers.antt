@@ -3,7 +3,7 @@ use Rattle.p3l_opts.specs.declared.command.Command.TheVariants as command
 use Rattle.p3l_opts.specs.Command.{Spells, texts_of}
 use Rattle.p3l_program.specs.Command.{work_of}
 use Rattle.p3l_program.specs.World.{change, files_change}
-use Rattle.p3l_program.proofs.DueSteps.{check_asked, file_asked, gen_asked, run_asked, saving_asked, text_asked}
+use Rattle.p3l_program.proofs.DueSteps.{check_asked, file_asked, gen_asked, run_asked, saving_asked, text_asked, time_asked}
 use Rattle.p3l_program.proofs.GenSteps.{items_few}
 use Rattle.p3l_program.proofs.top.perform.Goals as goal
 
@@ -148,4 +148,16 @@ returns-in-Ok-Gen g c =
           gen_asked (texts_of c.args.words.now) _ spelled (files_change g.F.Files.held g.F.Files.faults g.F.Files.failed c.args.files.now c.run_generated.new.files)
           (change g.K.Sink.taken g.K.Sink.faults c.args.out.now c.run_generated.new.out) (g.S.Source.rest c.args.input.now) (g.S.Source.faults c.args.input.now)
           c.run_generated.result _ refl c.run_generated.ensures.due;
+    }
+
+pub returns-in-Ok-Time : goal.returns-in-Ok-Time
+unfolding work_of
+returns-in-Ok-Time g c =
+    let asked = c.in-Ok-Time in
+    let spelled : Spells (texts_of c.args.words.now) (command.Time asked.build asked.picks) = search (rules, asked.ensures.spelled) in record {
+      due =
+          time_asked (texts_of c.args.words.now) _ spelled (files_change g.F.Files.held g.F.Files.faults g.F.Files.failed c.args.files.now c.time.new.files)
+          (change g.S.Source.rest g.S.Source.faults c.args.input.now c.time.new.input)
+          (change g.K.Sink.taken g.K.Sink.faults c.args.out.now c.time.new.out)
+          c.time.result _ _ refl c.time.ensures.due c.time.ensures.kept c.time.ensures.over;
     }
