@@ -37,6 +37,7 @@ LINES = [
     rb"schedule: line \d+: (95 BadPick|96 NoSuchProcess \d+ of \d+)",
     rb"evidence: \d+ \w+( .*)?",
     rb"stats: items \d+, fired \d+, idle \d+, bound \d+",
+    rb"time: items \d+, fired \d+, finish \d+, busiest \d+ \d+",
     rb"(read|write) fault|no memory|input too long",
 ]
 NAMED = re.compile(rb"(?:(?:" + rb"|".join(LINES) + rb")\n)*\Z", re.DOTALL)

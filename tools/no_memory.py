@@ -36,6 +36,7 @@ RUNS = [
     (["run", *COSTED, "--trace", "trace"], b"1\n2\n-3\n", []),
     (["check-trace", *COSTED, "--trace", "made.trace"], b"1\n2\n-3\n", ["run", *COSTED, "--trace", "made.trace"]),
     (["gen", "7", "--processors", "16", "--items", "3"], b"", []),
+    (["time", *COSTED, "--picks", "made.picks"], b"1\n2\n-3\n", []),
 ]
 
 

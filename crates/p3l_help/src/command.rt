@@ -160,6 +160,25 @@ counts that are chosen, and the sum of all words that came out, which wraps at 6
 example: p3l gen 7 --processors 16 --save seven
 ";
 
+/// What `time` does.
+const TIME: &str =
+    "usage: p3l time PROGRAM --processors P [--costs FILE] [--capacity C] [--picks FILE]
+
+Runs a program on the standard input in virtual time, and writes its items as run does. Each process
+takes as long for a firing as the costs say, in ticks, and all processes work side by side: the one
+that is done first fires first. At the end one line on the standard error says how many items there
+were and how often processes fired, the tick of the last firing, and the process that was busy
+longest with how long it was. No time is measured: the same words and items give the same line.
+
+  PROGRAM          the file of the program
+  --processors P   how many processors there are, 1 to 512
+  --costs FILE     the costs of modules and words, in ticks; without them the standard costs
+  --capacity C     how many tokens a channel holds at most, 1 to 1,024 (4 if not given)
+  --picks FILE     write there in what order processes fired, for run --schedule file:FILE
+
+example: p3l time m.p3l --processors 16 --costs m.toml <in.txt
+";
+
 /// A page for each command, by its first word.
 pub(crate) const COMMANDS: &[Page] = &[
     Page {
@@ -205,5 +224,9 @@ pub(crate) const COMMANDS: &[Page] = &[
     Page {
         topic: "gen",
         text: GEN,
+    },
+    Page {
+        topic: "time",
+        text: TIME,
     },
 ];

@@ -18,6 +18,7 @@ commands:
   check PROGRAM                           say whether a program keeps the rules of the language
   fmt PROGRAM                             write a program in its canonical text, without comments
   gen N --processors P ..                 generate a program with its items by a number, and run it
+  time PROGRAM --processors P ..          run a program in virtual time, and say how long it took
 
 help:
   help COMMAND      what a command does, its words and an example; p3l COMMAND --help says the same

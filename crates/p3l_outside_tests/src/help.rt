@@ -83,6 +83,16 @@ const NAMED: [(&str, &[&str]); 11] = [
             "--save PREFIX",
         ],
     ),
+    (
+        "time",
+        &[
+            "PROGRAM",
+            "--processors P",
+            "--costs FILE",
+            "--capacity C",
+            "--picks FILE",
+        ],
+    ),
 ];
 
 // A help must name the command in its usage and its example, and have a line for each of its words.

@@ -57,6 +57,11 @@ fn shown(alloc: Global, command: &Command) -> Result<String, Fail> {
                 picks.as_str()
             )?
         }
+        Command::Time(build, picks) => {
+            let built = build_shown(alloc, build)?;
+            let picks = or_hyphen(picks);
+            format!(in alloc; "time {} {picks}", built.as_str())?
+        }
     })
 }
 
@@ -228,6 +233,14 @@ fn words_spell_commands(rt: HostRuntime) -> Result<(), Fail> {
             ],
             "gen 4294967295 1 100000 rr s",
         ),
+        (
+            &["time", "--picks=p", "m", "--processors", "4"],
+            "time m 4 - 4 p",
+        ),
+        (
+            &["time", "m", "--processors", "4", "--costs", "c"],
+            "time m 4 c 4 -",
+        ),
         (&["check", "check"], "check check"),
         (&["check", "-"], "check -"),
     ];
@@ -297,6 +310,9 @@ fn other_words_spell_none(rt: HostRuntime) -> Result<(), Fail> {
         &["gen", "1", "--processors", "4", "--items", "0"],
         &["gen", "1", "--processors", "4", "--items", "100001"],
         &["gen", "1", "--processors", "4", "--schedule", "file:p"],
+        &["time", "m"],
+        &["time", "m", "--processors", "4", "--stats"],
+        &["time", "m", "--processors", "4", "--schedule", "rr"],
         &["m.p3l", "check"],
     ];
     for words in table {

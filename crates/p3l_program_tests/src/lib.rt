@@ -24,6 +24,8 @@ mod graphs;
 #[cfg(test)]
 mod images;
 #[cfg(test)]
+mod in_time;
+#[cfg(test)]
 mod limits;
 #[cfg(test)]
 mod migrations;
