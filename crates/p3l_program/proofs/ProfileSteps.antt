@@ -65,12 +65,14 @@ module _ (tree : Tree) (codes : List Code) (told : TellsTheGreatest) (g : Greate
   all_given close h = record { stream = h.s; items = h.items; gives = h.gives; values = h.noted.values }
 
   noted_so : (close : Ending) → Ended close → (close ≡ ending.End) × HasPut out.old out.new (text_of tree g) → IsNoted (coded tree codes) input out
+  unfolding all_given
   noted_so close h c = (let ends = subst (λ e. Ended e) c.0 h in record {
     all = all_given ending.End ends;
     put = subst (λ text. HasPut out.old out.new text) (file_is ends.items ends.noted.noted) c.1;
   })
 
   notes_some : (close : Ending) → Ended close → ClosesSome tree g close out → NotesSome (coded tree codes) input out
+  unfolding all_given
   notes_some close h c = (let ends = subst (λ e. Ended e) c.0 h in record {
     all = all_given ending.End ends;
     begun = subst (λ text. HasBegun out.old out.new text) (file_is ends.items ends.noted.noted) c.1;
