@@ -60,7 +60,7 @@ fn fronts_are_folded(rt: HostRuntime) -> Result<(), Fail> {
 /// Pairs of a least and a greatest number, each joined to the next.
 const SPANS: &str = "seq join in(int a[2], int b[2]) out(int c[2])
 ${ c[0] = a[0]; if (b[0] < a[0]) { c[0] = b[0]; } c[1] = a[1]; if (b[1] > a[1]) { c[1] = b[1]; } }$ end seq
-reduce main in(int l[4][2]) out(int s[2]) join in(l[*i]) out(s) end reduce";
+reduce main in(int l[4][2]) out(int s[2]) join in(l[*i][]) out(s) end reduce";
 
 const SPANNED: Ends = Ends(0, "3 3 2 3 2 7 0 7\n", "");
 
