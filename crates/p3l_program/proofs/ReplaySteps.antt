@@ -73,11 +73,11 @@ pick_again count line pick few below = rw (number_again pick (omega arith), lt-l
 -- the picks of a text that begins with a gap on its first line
 read_from : (count : ℕ) → count < 2 ^ 64 → (gap picks : List ℕ) → AreGap gap → count_by is_feed gap ≡ 0 → AllByRecursion (λ pick. pick < count) picks
     → (rest : List ℕ) × AreRead count 1 (gap ++ picks_text picks) picks 1 rest × AreGap rest
-read_from count few gap [] is_gap none below = (gap ++ [], (refl, refl), subst AreGap (sym (append-nil gap)) is_gap)
-read_from count few gap (p ∷ []) is_gap none below =
+read_from count few gap [] blank none below = (gap ++ [], (refl, refl), subst AreGap (sym (append-nil gap)) blank)
+read_from count few gap (p ∷ []) blank none below =
     let feed = ap (λ k. 1 + k) none in
-    (10 ∷ [], (gap, decimal p, 10 ∷ [], record { text_is = ap (λ t. gap ++ t) (append-nil (decimal p ++ 10 ∷ [])); are_gap = is_gap; is_word = decimal_word p (omega (arith, below.0)); ends = refl }, pick_again count _ p few below.0, feed, refl), (refl, tt))
-read_from count few gap (p ∷ q ∷ picks) is_gap none below =
+    (10 ∷ [], (gap, decimal p, 10 ∷ [], record { text_is = ap (λ t. gap ++ t) (append-nil (decimal p ++ 10 ∷ [])); are_gap = blank; is_word = decimal_word p (omega (arith, below.0)); ends = refl }, pick_again count _ p few below.0, (feed, refl)), (refl, tt))
+read_from count few gap (p ∷ q ∷ picks) blank none below =
     let later = read_from count few (32 ∷ []) (q ∷ picks) (refl, tt) refl below.1 in
     let feed = ap (λ k. 1 + k) none in (
       later.0,
@@ -85,7 +85,7 @@ read_from count few gap (p ∷ q ∷ picks) is_gap none below =
         gap,
         decimal p,
         32 ∷ picks_text (q ∷ picks),
-        record { text_is = ap (λ t. gap ++ t) (append_assoc (decimal p) (32 ∷ []) (picks_text (q ∷ picks))); are_gap = is_gap; is_word = decimal_word p (omega (arith, below.0)); ends = refl },
+        record { text_is = ap (λ t. gap ++ t) (append_assoc (decimal p) (32 ∷ []) (picks_text (q ∷ picks))); are_gap = blank; is_word = decimal_word p (omega (arith, below.0)); ends = refl },
         pick_again count _ p few below.0,
         subst (λ line. AreRead count line (32 ∷ picks_text (q ∷ picks)) (q ∷ picks) 1 later.0) (sym feed) later.1,
       ),

@@ -102,6 +102,7 @@ module _ (n : Network) (prices : List ℕ) (input out : Change (List ℕ)) where
 
     busy_same : (keeping : Keeping) (e : EndsInTime (job keeping) prices after ran k) (told : Option Stats) → AreTold ran.stats k told
         → AreTimes n prices input out keeping e.picks ran (runs_in_time few run_law within_law keeping ran k e) told
+    unfolding runs_in_time
     busy_same keeping e told t = record {
       moment = k.moment;
       moment_is = e.finish;
