@@ -36,7 +36,9 @@ LINES = [
     rb"file (fault|too long): .*",
     rb"schedule: line \d+: (95 BadPick|96 NoSuchProcess \d+ of \d+)",
     rb"evidence: \d+ \w+( .*)?",
+    rb"scan: (120 NotReduce|121 BadSegments)",
     rb"stats: items \d+, fired \d+, idle \d+, bound \d+",
+    rb"time: items \d+, fired \d+, finish \d+, busiest \d+ \d+",
     rb"(read|write) fault|no memory|input too long",
 ]
 NAMED = re.compile(rb"(?:(?:" + rb"|".join(LINES) + rb")\n)*\Z", re.DOTALL)
@@ -80,10 +82,14 @@ def cases(made):
     costs = ["--costs", "costs"]
     yield Case("source", ["check", "m.p3l"], "m.p3l", PROGRAM, MIB, {0, 3, 9, 11})
     yield Case("source, run", ["run", "m.p3l", *PROCESSORS], "m.p3l", PROGRAM, MIB, {0, 3, 5, 6, 7, 9, 11})
+    yield Case("source, scan", ["scan", "m.p3l", "--segments", "1"], "m.p3l", PROGRAM, MIB, {3, 9, 11, 15})
     yield Case("source, fmt", ["fmt", "m.p3l"], "m.p3l", PROGRAM, MIB, {0, 3, 9, 11})
     yield Case("costs", ["explain", "m.p3l", *PROCESSORS, *costs], "costs", COSTS, MIB, {0, 4, 9, 11})
+    yield Case("source, rewrite", ["rewrite", "m.p3l", *PROCESSORS], "m.p3l", PROGRAM, MIB, {0, 3, 5, 9, 11})
     yield Case("picks", ["run", "m.p3l", *PROCESSORS, "--schedule", "file:picks"], "picks", PICKS, 64 * MIB, {0, 1, 9, 11, 12})
     yield Case("stream", ["run", "m.p3l", *PROCESSORS], None, STREAM, 64 * MIB, {0, 6, 7, 11})
+    yield Case("source, profile", ["profile", "m.p3l"], "m.p3l", PROGRAM, MIB, {0, 3, 6, 7, 9, 11})
+    yield Case("stream, profile", ["profile", "m.p3l"], None, STREAM, 64 * MIB, {0, 6, 7, 11})
     if "cert" in made:
         yield Case("certificate", ["verify-cert", "m.p3l", *costs, "--cert", "cert"], "cert", made["cert"], 256 * MIB, {0, 9, 11, 13})
     if "image" in made:

@@ -16,9 +16,10 @@ HERE = os.path.dirname(os.path.abspath(__file__))
 DOUBLE = b"seq main in(int x) out(int y)\n${ y = x * 2 + 1; }$\nend seq\n"
 LOOP = b"seq half in(int x, int c) out(int y, int d) ${ y = x / 2; d = c + 1; }$ end seq seq more in(int x, int c) out(int again) ${ again = x > 1; }$ end seq farm halves in(int x, int c) out(int y, int d) workers 4 half in(x, c) out(y, d) end farm loop main in(int x, int c) out(int y, int d) turns 10 tokens 4 halves in(x, c) out(y, d) while more in(y, d) out(int again) end loop"
 FARM = b"seq f in(int x) out(int y) ${ y = x + 1; }$ end seq seq g in(int x) out(int y) ${ y = x * 3; }$ end seq farm w in(int x) out(int y) g in(x) out(y) end farm pipe main in(int x) out(int z) f in(x) out(int y) w in(y) out(z) end pipe"
+LESS = b"seq less in(int x, int y) out(int z) ${ z = x - y; }$ end seq reduce main in(int a[4]) out(int s) less in(a[*i]) out(s) end reduce"
 COSTS = b"setup = 0\nword = 0\n[seq]\nf = 10\ng = 60\n"
 PICKS = b"0 1 2 3 4 5 7 8 9 " * 200 + b"0 1 2 3 4 5 6 7 8 9 " * 200
-FILES = {"double.p3l": DOUBLE, "loop.p3l": LOOP, "farm.p3l": FARM, "costs": COSTS, "picks": PICKS}
+FILES = {"double.p3l": DOUBLE, "loop.p3l": LOOP, "farm.p3l": FARM, "less.p3l": LESS, "costs": COSTS, "picks": PICKS}
 COSTED = ["farm.p3l", "--processors", "8", "--costs", "costs"]
 # The words of each run, its stream, and the words by which its files are made before.
 RUNS = [
@@ -36,6 +37,10 @@ RUNS = [
     (["run", *COSTED, "--trace", "trace"], b"1\n2\n-3\n", []),
     (["check-trace", *COSTED, "--trace", "made.trace"], b"1\n2\n-3\n", ["run", *COSTED, "--trace", "made.trace"]),
     (["gen", "7", "--processors", "16", "--items", "3"], b"", []),
+    (["rewrite", *COSTED], b"", []),
+    (["profile", "loop.p3l"], b"64 0\n3 0\n", []),
+    (["scan", "less.p3l", "--segments", "4", "--stats"], b"1 2 3 4\n5 5 5 5\n", []),
+    (["time", *COSTED, "--picks", "made.picks"], b"1\n2\n-3\n", []),
 ]
 
 

@@ -160,6 +160,69 @@ counts that are chosen, and the sum of all words that came out, which wraps at 6
 example: p3l gen 7 --processors 16 --save seven
 ";
 
+/// What `rewrite` does.
+const REWRITE: &str = "usage: p3l rewrite PROGRAM --processors P [--costs FILE]
+
+Writes a program that means the same and whose service time is no greater, in its canonical text,
+without comments. Where main is a pipe, its stages without farms, pipes and loops may each get a
+farm, or all of them become one comp in a farm, if such a program takes less time for an item on
+so many processors; else the program itself is written.
+
+  PROGRAM          the file of the program
+  --processors P   how many processors there are, 1 to 512
+  --costs FILE     the costs by which programs are compared; without them the standard costs
+
+example: p3l rewrite m.p3l --processors 16 > faster.p3l
+";
+
+/// What `profile` does.
+const PROFILE: &str = "usage: p3l profile PROGRAM
+
+Computes what the program makes of the items of the standard input, and writes the costs of its modules as
+these items show them to the standard output: of each body the most instructions of a run, of each loop the
+most turns for an item. Nothing is written where an item comes to a trap, or a line is no item.
+
+  PROGRAM          the file of the program
+
+example: p3l profile m.p3l < sample > m.toml
+";
+
+/// What `time` does.
+const TIME: &str =
+    "usage: p3l time PROGRAM --processors P [--costs FILE] [--capacity C] [--picks FILE]
+
+Runs a program on the standard input in virtual time, and writes its items as run does. Each process
+takes as long for a firing as the costs say, in ticks, and all processes work side by side: the one
+that is done first fires first. At the end one line on the standard error says how many items there
+were and how often processes fired, the tick of the last firing, and the process that was busy
+longest with how long it was. No time is measured: the same words and items give the same line.
+
+  PROGRAM          the file of the program
+  --processors P   how many processors there are, 1 to 512
+  --costs FILE     the costs of modules and words, in ticks; without them the standard costs
+  --capacity C     how many tokens a channel holds at most, 1 to 1,024 (4 if not given)
+  --picks FILE     write there in what order processes fired, for run --schedule file:FILE
+
+example: p3l time m.p3l --processors 16 --costs m.toml <in.txt
+";
+
+/// What `scan` does.
+const SCAN: &str = "usage: p3l scan PROGRAM --segments M [--schedule S] [--capacity C] [--stats]
+
+Reads items from the standard input, one a line, and writes for each the folds of all fronts of its
+list: where the program's module `main` is a reduce by addition, the running totals. The list is cut
+into segments, each is scanned by one process, and neighbours are then merged two by two. What is
+written does not depend on how many segments there are; main's `workers` clause is not used.
+
+  PROGRAM          the file of the program
+  --segments M     how many segments: 1, 2, 4, .. 512, which must divide the length of the list
+  --schedule S     how processes take turns: rr (the default), seed:N or file:NAME
+  --capacity C     how many tokens a channel holds at most, 1 to 1,024 (4 if not given)
+  --stats          put a line on the run's numbers on the standard error
+
+example: p3l scan m.p3l --segments 4 < items
+";
+
 /// A page for each command, by its first word.
 pub(crate) const COMMANDS: &[Page] = &[
     Page {
@@ -205,5 +268,21 @@ pub(crate) const COMMANDS: &[Page] = &[
     Page {
         topic: "gen",
         text: GEN,
+    },
+    Page {
+        topic: "rewrite",
+        text: REWRITE,
+    },
+    Page {
+        topic: "profile",
+        text: PROFILE,
+    },
+    Page {
+        topic: "time",
+        text: TIME,
+    },
+    Page {
+        topic: "scan",
+        text: SCAN,
     },
 ];

@@ -18,6 +18,10 @@ commands:
   check PROGRAM                           say whether a program keeps the rules of the language
   fmt PROGRAM                             write a program in its canonical text, without comments
   gen N --processors P ..                 generate a program with its items by a number, and run it
+  rewrite PROGRAM --processors P ..       write a program that means the same and takes no more time
+  profile PROGRAM                         write the costs that a program shows on the standard input
+  time PROGRAM --processors P ..          run a program in virtual time, and say how long it took
+  scan PROGRAM --segments M ..            fold all fronts of the lists of the standard input
 
 help:
   help COMMAND      what a command does, its words and an example; p3l COMMAND --help says the same
@@ -71,6 +75,8 @@ says more of it.
       an image, a certificate or a trace is refused, or a trace differs
   14  input too long
       the input came to 68,719,476,736 bytes
+  15  scan: NUMBER NAME
+      the program can't be scanned, or not in so many segments
 
 Kinds of traps: division by zero, division overflow (the least number by -1),
 index out of range, shift out of range (by less than 0 or more than 63), budget

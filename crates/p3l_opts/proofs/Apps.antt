@@ -21,6 +21,10 @@ simple_and_free verb.Graph = refl
 simple_and_free verb.VerifyCert = refl
 simple_and_free verb.CheckTrace = refl
 simple_and_free verb.Gen = refl
+simple_and_free verb.Rewrite = refl
+simple_and_free verb.Profile = refl
+simple_and_free verb.Time = refl
+simple_and_free verb.Scan = refl
 
 simple : (v : Verb) → is_simple (app_for v) ≡ true
 unfolding app_for clap_on_literals
@@ -35,6 +39,10 @@ simple verb.Graph = refl
 simple verb.VerifyCert = refl
 simple verb.CheckTrace = refl
 simple verb.Gen = refl
+simple verb.Rewrite = refl
+simple verb.Profile = refl
+simple verb.Time = refl
+simple verb.Scan = refl
 
 pub as_simple_and_free : (v : Verb) (a : App) → a ≡ app_for v → is_simple_and_free a ≡ true
 as_simple_and_free v a e = ap is_simple_and_free e ∙ simple_and_free v

@@ -27,7 +27,11 @@ verb_named text =
     else if bytes_eq text (codes "graph") then Some verb.Graph
     else if bytes_eq text (codes "verify-cert") then Some verb.VerifyCert
     else if bytes_eq text (codes "check-trace") then Some verb.CheckTrace
-    else Some verb.Gen
+    else if bytes_eq text (codes "gen") then Some verb.Gen
+    else if bytes_eq text (codes "rewrite") then Some verb.Rewrite
+    else if bytes_eq text (codes "profile") then Some verb.Profile
+    else if bytes_eq text (codes "time") then Some verb.Time
+    else Some verb.Scan
 
 named : (v : Verb) → verb_named (name_of v) ≡ Some v
 unfolding verb_named
@@ -42,6 +46,10 @@ named verb.Graph = refl
 named verb.VerifyCert = refl
 named verb.CheckTrace = refl
 named verb.Gen = refl
+named verb.Rewrite = refl
+named verb.Profile = refl
+named verb.Time = refl
+named verb.Scan = refl
 
 -- verbs of one name are the same
 one_verb : (v w : Verb) → name_of v ≡ name_of w → v ≡ w
@@ -122,6 +130,13 @@ one_command found (command.CheckTrace x t) (command.CheckTrace y u) v ha hb = λ
 one_command found (command.Gen m p k s t) (command.Gen n q l s' t') v ha hb = λ i.
     command.Gen (one_number _ _ _ ha.number_is hb.number_is i) (one_count 512 _ _ _ (omega arith) ha.processors_are hb.processors_are i) (one_items _ _ _ ha.items_are hb.items_are i)
     (one_schedule _ _ _ ha.picks hb.picks i) ((ha.saved ∙ sym hb.saved) i)
+one_command found (command.Rewrite p n c) (command.Rewrite q m d) v ha hb = λ i.
+    command.Rewrite (one_name _ _ _ ha.0 hb.0 i) (one_count 512 _ _ _ (omega arith) ha.1 hb.1 i) ((ha.2 ∙ sym hb.2) i)
+one_command found (command.Profile p) (command.Profile q) v ha hb = ap command.Profile (one_name _ _ _ ha hb)
+one_command found (command.Time x p) (command.Time y q) v ha hb = λ i. command.Time (one_build _ _ x y ha.0 hb.0 i) ((ha.1 ∙ sym hb.1) i)
+one_command found (command.Scan p m s c r) (command.Scan q n s' c' r') v ha hb = λ i.
+    command.Scan (one_name _ _ _ ha.program_is hb.program_is i) (one_count 512 _ _ _ (omega arith) ha.segments_are hb.segments_are i) (one_schedule _ _ _ ha.picks hb.picks i)
+    (one_capacity _ _ _ ha.capacity_is hb.capacity_is i) ((ha.reported ∙ sym hb.reported) i)
 one_command found a b v ha hb = cc
 
 pub spells_one_at_most : SpellsOneAtMost

@@ -29,6 +29,10 @@ verb_of (command.Graph build) = verb.Graph
 verb_of (command.VerifyCert program cert costs) = verb.VerifyCert
 verb_of (command.CheckTrace build trace) = verb.CheckTrace
 verb_of (command.Gen number processors items schedule save) = verb.Gen
+verb_of (command.Rewrite program processors costs) = verb.Rewrite
+verb_of (command.Profile program) = verb.Profile
+verb_of (command.Time build picks) = verb.Time
+verb_of (command.Scan program segments schedule capacity stats) = verb.Scan
 
 -- the text is a number from 1 to `most`, in decimal digits without a sign and without a leading zero
 pub record HasCount (most : ℕ) (text : Option Text) (count : ℕ) : Type 0 where
@@ -39,6 +43,10 @@ pub record HasCount (most : ℕ) (text : Option Text) (count : ℕ) : Type 0 whe
 -- the same of a number of processors
 abbrev pub HasProcessors : Option Text → ℕ → Type 0
 HasProcessors = HasCount 512
+
+-- the same of a number of segments
+abbrev pub HasSegments : Option Text → ℕ → Type 0
+HasSegments = HasCount 512
 
 -- the same of a capacity, which is 4 where no word spells it
 abbrev pub HasCapacity : Option Text → ℕ → Type 0
@@ -99,6 +107,14 @@ pub record HasGen (found : List Row) (number processors items : ℕ) (schedule :
   pub made : IsMade schedule
   pub saved : save ≡ first_of (codes "save") found
 
+-- what is scanned in so many segments, and how that is run
+pub record HasScan (found : List Row) (program : Text) (segments : ℕ) (schedule : Sched) (capacity : ℕ) (stats : Bool) : Type 0 where
+  pub program_is : first_of (codes "program") found ≡ Some program
+  pub segments_are : HasSegments (first_of (codes "segments") found) segments
+  pub picks : HasSchedule (first_of (codes "schedule") found) schedule
+  pub capacity_is : HasCapacity (first_of (codes "capacity") found) capacity
+  pub reported : stats ≡ says_true (first_of (codes "stats") found)
+
 -- the values of a command are those that were found, of which those that no word spells have their defaults
 abbrev pub HasValues : List Row → Command → Type 0
 HasValues found (command.Check program) = first_of (codes "program") found ≡ Some program
@@ -113,6 +129,11 @@ HasValues found (command.VerifyCert program cert costs) =
     (first_of (codes "program") found ≡ Some program) × (first_of (codes "cert") found ≡ Some cert) × (costs ≡ first_of (codes "costs") found)
 HasValues found (command.CheckTrace build trace) = HasBuild found (first_of (codes "capacity") found) build × (first_of (codes "trace") found ≡ Some trace)
 HasValues found (command.Gen number processors items schedule save) = HasGen found number processors items schedule save
+HasValues found (command.Rewrite program processors costs) =
+    (first_of (codes "program") found ≡ Some program) × HasProcessors (first_of (codes "processors") found) processors × (costs ≡ first_of (codes "costs") found)
+HasValues found (command.Profile program) = first_of (codes "program") found ≡ Some program
+HasValues found (command.Time build picks) = HasBuild found (first_of (codes "capacity") found) build × (picks ≡ first_of (codes "picks") found)
+HasValues found (command.Scan program segments schedule capacity stats) = HasScan found program segments schedule capacity stats
 
 -- the first word names the command, `clap` takes those after it, and its values are what they spell
 pub record Spells (words : List Text) (command : Command) : Type 0 where

@@ -19,6 +19,10 @@ name_of verb.Graph = codes "graph"
 name_of verb.VerifyCert = codes "verify-cert"
 name_of verb.CheckTrace = codes "check-trace"
 name_of verb.Gen = codes "gen"
+name_of verb.Rewrite = codes "rewrite"
+name_of verb.Profile = codes "profile"
+name_of verb.Time = codes "time"
+name_of verb.Scan = codes "scan"
 
 -- the words that may stand after it
 abbrev pub rules_of : Verb → List Rule
@@ -80,6 +84,26 @@ rules_of verb.Gen =
     ∷ rule_for (codes "items") Optional
     ∷ rule_for (codes "schedule") Optional
     ∷ rule_for (codes "save") Optional
+    ∷ []
+rules_of verb.Rewrite =
+    rule_for (codes "program") Positional
+    ∷ rule_for (codes "processors") Mandatory
+    ∷ rule_for (codes "costs") Optional
+    ∷ []
+rules_of verb.Profile = rule_for (codes "program") Positional ∷ []
+rules_of verb.Time =
+    rule_for (codes "program") Positional
+    ∷ rule_for (codes "processors") Mandatory
+    ∷ rule_for (codes "costs") Optional
+    ∷ rule_for (codes "capacity") Optional
+    ∷ rule_for (codes "picks") Optional
+    ∷ []
+rules_of verb.Scan =
+    rule_for (codes "program") Positional
+    ∷ rule_for (codes "segments") Mandatory
+    ∷ rule_for (codes "schedule") Optional
+    ∷ rule_for (codes "capacity") Optional
+    ∷ rule_for (codes "stats") Flag
     ∷ []
 
 -- the command as `clap` is told of it

@@ -41,6 +41,21 @@ pub enum Command {
     /// its input and runs it. It has the number, the processors, the items, how picks are made, and
     /// what the names of saved files begin with.
     Gen(u32, u32, u32, Sched, Option<Name>),
+    /// `rewrite PROGRAM --processors P [--costs FILE]`: writes a program with the same meaning and no
+    /// greater service time. It has the name of the program's file, the processors, and the name of
+    /// the file of costs; without one, the standard costs hold.
+    Rewrite(Name, u32, Option<Name>),
+    /// `profile PROGRAM`: writes the cost file of what a program does on the items of the input.
+    Profile(Name),
+    /// `time PROGRAM --processors P [--costs FILE] [--capacity C] [--picks FILE]`: runs a program on
+    /// the input in virtual time. It has how the network is built, and the name of the file for the
+    /// picks.
+    Time(Build, Option<Name>),
+    /// `scan PROGRAM --segments M [--schedule S] [--capacity C] [--stats]`: folds all fronts of the list
+    /// of each item. It has the name of the program's file, the segments, 1 to 512, how picks are made,
+    /// the tokens that a channel holds at most, 1 to 1,024, and whether the numbers of the run are
+    /// reported.
+    Scan(Name, u32, Sched, u32, bool),
 }
 
 /// How a program's network is built.

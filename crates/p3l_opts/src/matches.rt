@@ -2,7 +2,7 @@
 
 ghost use Rattle.std.specs.Prelude.{◌≡◌, ◌≢◌, ℕ, [], Some, None, IfOk, IfSome, IfNone, IsErrOf, option_map};
 ghost use Rattle.clap.specs.Words.{first_of, found_of, kind_of, rows_of};
-ghost use Rattle.p3l_opts.specs.Command.{HasCapacity, HasItems, HasNumber, HasProcessors, HasSchedule, says_true, texts_of};
+ghost use Rattle.p3l_opts.specs.Command.{HasCapacity, HasItems, HasNumber, HasProcessors, HasSchedule, HasSegments, says_true, texts_of};
 ghost use Rattle.p3l_opts.specs.declared.command.Sched.{Sched};
 ghost use Rattle.p3l_opts.specs.Verb.{faults, rows};
 
@@ -16,6 +16,9 @@ use std::alloc::Global;
 
 /// The most processors that a program can be given.
 const MOST_PROCESSORS: u32 = 512;
+
+/// The most segments that a list can be scanned in.
+const MOST_SEGMENTS: u32 = 512;
 
 /// The most tokens that a channel can be told to hold.
 const MOST_CAPACITY: u32 = 1024;
@@ -103,6 +106,18 @@ pub(crate) fn processors_in(matches: &ArgMatches, id: &str) -> Option<u32>
 {
     match text_of(matches, id) {
         Some(text) => count_of(text, MOST_PROCESSORS),
+        None => None,
+    }
+}
+
+/// The number of segments that the words have for a value.
+pub(crate) fn segments_in(matches: &ArgMatches, id: &str) -> Option<u32>
+    ensures some { IfSome result (HasSegments (first_of id.now (rows_of (found_of matches.now)))) }
+    ensures none { IfNone result ((count : ℕ)
+        → HasSegments (first_of id.now (rows_of (found_of matches.now))) count → ⊥) }
+{
+    match text_of(matches, id) {
+        Some(text) => count_of(text, MOST_SEGMENTS),
         None => None,
     }
 }

@@ -23,6 +23,10 @@ pub enum Verb {
     VerifyCert,
     CheckTrace,
     Gen,
+    Rewrite,
+    Profile,
+    Time,
+    Scan,
 }
 
 /// Whether a word is this text.
@@ -69,6 +73,18 @@ pub fn verb_of(word: &str) -> Option<Verb>
     }
     if is_word(word, "gen") {
         return Some(Verb::Gen);
+    }
+    if is_word(word, "rewrite") {
+        return Some(Verb::Rewrite);
+    }
+    if is_word(word, "profile") {
+        return Some(Verb::Profile);
+    }
+    if is_word(word, "time") {
+        return Some(Verb::Time);
+    }
+    if is_word(word, "scan") {
+        return Some(Verb::Scan);
     }
     None
 }
@@ -171,6 +187,38 @@ pub(crate) fn clap_command<'a>(alloc: Global, verb: Verb) -> Result<Command<'a>,
                 ("items", Spelling::Optional),
                 ("schedule", Spelling::Optional),
                 ("save", Spelling::Optional),
+            ],
+        ),
+        Verb::Rewrite => command_with(
+            alloc,
+            "rewrite",
+            &[
+                ("program", Spelling::Positional),
+                ("processors", Spelling::Mandatory),
+                ("costs", Spelling::Optional),
+            ],
+        ),
+        Verb::Profile => command_with(alloc, "profile", &[("program", Spelling::Positional)]),
+        Verb::Time => command_with(
+            alloc,
+            "time",
+            &[
+                ("program", Spelling::Positional),
+                ("processors", Spelling::Mandatory),
+                ("costs", Spelling::Optional),
+                ("capacity", Spelling::Optional),
+                ("picks", Spelling::Optional),
+            ],
+        ),
+        Verb::Scan => command_with(
+            alloc,
+            "scan",
+            &[
+                ("program", Spelling::Positional),
+                ("segments", Spelling::Mandatory),
+                ("schedule", Spelling::Optional),
+                ("capacity", Spelling::Optional),
+                ("stats", Spelling::Flag),
             ],
         ),
     }

@@ -8,7 +8,7 @@ ghost use Rattle.p3l_opts.specs.Verb.{name_of};
 use crate::command::{Build, Command, OptsRefusal, Sched};
 use crate::matches::{
     DEFAULT_CAPACITY, capacity_in, is_given, items_in, matches_of, name_if_given, name_of,
-    number_of, processors_in, schedule_in,
+    number_of, processors_in, schedule_in, segments_in,
 };
 use crate::verb::{Verb, verb_of};
 use clap::ArgMatches;
@@ -59,6 +59,10 @@ fn command_of(alloc: Global, verb: Verb, matches: &ArgMatches) -> Result<Command
         Verb::VerifyCert => verify_cert_of(alloc, matches),
         Verb::CheckTrace => check_trace_of(alloc, matches),
         Verb::Gen => gen_of(alloc, matches),
+        Verb::Rewrite => rewrite_of(alloc, matches),
+        Verb::Profile => Ok(Command::Profile(name_of(alloc, matches, "program")?)),
+        Verb::Time => time_of(alloc, matches),
+        Verb::Scan => scan_of(alloc, matches),
     }
 }
 
@@ -217,6 +221,18 @@ fn gen_of(alloc: Global, matches: &ArgMatches) -> Result<Command, OptsRefusal>
     Ok(Command::Gen(number, processors, items, schedule, save))
 }
 
+/// The command `time` with the values that were found.
+fn time_of(alloc: Global, matches: &ArgMatches) -> Result<Command, OptsRefusal>
+    ensures verb { IfOk result (λ command. verb_of command ≡ Verb.Time) }
+    ensures values { IfOk result (HasValues (rows_of (found_of matches.now))) }
+    ensures usage { IsErrOf result OptsRefusal.Usage → (command : Command)
+        → verb_of command ≡ Verb.Time → HasValues (rows_of (found_of matches.now)) command → ⊥ }
+{
+    let build = build_of(alloc, matches)?;
+    let picks = name_if_given(alloc, matches, "picks")?;
+    Ok(Command::Time(build, picks))
+}
+
 /// The schedule that the words have for a value, or round robin, unless its picks stand in a file.
 fn made_in(alloc: Global, matches: &ArgMatches, id: &str) -> Result<Sched, OptsRefusal>
     ensures ok { IfOk result (λ schedule.
@@ -230,4 +246,38 @@ fn made_in(alloc: Global, matches: &ArgMatches, id: &str) -> Result<Sched, OptsR
         Sched::Seeded(seed) => Ok(Sched::Seeded(seed)),
         Sched::File(_) => Err(OptsRefusal::Usage),
     }
+}
+
+/// The command `rewrite` with the values that were found.
+fn rewrite_of(alloc: Global, matches: &ArgMatches) -> Result<Command, OptsRefusal>
+    ensures verb { IfOk result (λ command. verb_of command ≡ Verb.Rewrite) }
+    ensures values { IfOk result (HasValues (rows_of (found_of matches.now))) }
+    ensures usage { IsErrOf result OptsRefusal.Usage → (command : Command)
+        → verb_of command ≡ Verb.Rewrite → HasValues (rows_of (found_of matches.now)) command → ⊥ }
+{
+    let program = name_of(alloc, matches, "program")?;
+    let Some(processors) = processors_in(matches, "processors") else {
+        return Err(OptsRefusal::Usage);
+    };
+    let costs = name_if_given(alloc, matches, "costs")?;
+    Ok(Command::Rewrite(program, processors, costs))
+}
+
+/// The command `scan` with the values that were found.
+fn scan_of(alloc: Global, matches: &ArgMatches) -> Result<Command, OptsRefusal>
+    ensures verb { IfOk result (λ command. verb_of command ≡ Verb.Scan) }
+    ensures values { IfOk result (HasValues (rows_of (found_of matches.now))) }
+    ensures usage { IsErrOf result OptsRefusal.Usage → (command : Command)
+        → verb_of command ≡ Verb.Scan → HasValues (rows_of (found_of matches.now)) command → ⊥ }
+{
+    let Some(segments) = segments_in(matches, "segments") else {
+        return Err(OptsRefusal::Usage);
+    };
+    let Some(capacity) = capacity_in(matches, "capacity") else {
+        return Err(OptsRefusal::Usage);
+    };
+    let program = name_of(alloc, matches, "program")?;
+    let schedule = schedule_in(alloc, matches, "schedule")?;
+    let stats = is_given(matches, "stats");
+    Ok(Command::Scan(program, segments, schedule, capacity, stats))
 }

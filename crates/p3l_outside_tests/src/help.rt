@@ -24,7 +24,7 @@ fn says(alloc: Global, text: &str, before: &str, word: &str) -> Result<bool, NoM
 }
 
 /// What the help of each command names: its values and options.
-const NAMED: [(&str, &[&str]); 11] = [
+const NAMED: [(&str, &[&str]); 15] = [
     ("check", &["PROGRAM"]),
     ("fmt", &["PROGRAM"]),
     (
@@ -83,6 +83,28 @@ const NAMED: [(&str, &[&str]); 11] = [
             "--save PREFIX",
         ],
     ),
+    ("rewrite", &["PROGRAM", "--processors P", "--costs FILE"]),
+    ("profile", &["PROGRAM"]),
+    (
+        "time",
+        &[
+            "PROGRAM",
+            "--processors P",
+            "--costs FILE",
+            "--capacity C",
+            "--picks FILE",
+        ],
+    ),
+    (
+        "scan",
+        &[
+            "PROGRAM",
+            "--segments M",
+            "--schedule S",
+            "--capacity C",
+            "--stats",
+        ],
+    ),
 ];
 
 // A help must name the command in its usage and its example, and have a line for each of its words.
@@ -102,7 +124,7 @@ fn compare(
 }
 
 /// Each number of refusal, with the name that the program prints after it.
-const NUMBERED: [(&str, &str); 52] = [
+const NUMBERED: [(&str, &str); 54] = [
     ("1", "BadByte"),
     ("2", "BadToken"),
     ("3", "Expected"),
@@ -155,6 +177,8 @@ const NUMBERED: [(&str, &str); 52] = [
     ("102", "OutOfRange"),
     ("110", "BadLine"),
     ("111", "Differs"),
+    ("120", "NotReduce"),
+    ("121", "BadSegments"),
 ];
 
 #[test]

@@ -57,6 +57,25 @@ fn shown(alloc: Global, command: &Command) -> Result<String, Fail> {
                 picks.as_str()
             )?
         }
+        Command::Rewrite(program, processors, costs) => {
+            let program = program.as_str();
+            let costs = or_hyphen(costs);
+            format!(in alloc; "rewrite {program} {processors} {costs}")?
+        }
+        Command::Profile(program) => format!(in alloc; "profile {}", program.as_str())?,
+        Command::Time(build, picks) => {
+            let built = build_shown(alloc, build)?;
+            let picks = or_hyphen(picks);
+            format!(in alloc; "time {} {picks}", built.as_str())?
+        }
+        Command::Scan(program, segments, schedule, capacity, stats) => {
+            let picks = schedule_shown(alloc, schedule)?;
+            let program = program.as_str();
+            format!(in alloc;
+                "scan {program} {segments} {} {capacity} {stats}",
+                picks.as_str()
+            )?
+        }
     })
 }
 
@@ -90,7 +109,7 @@ fn schedule_shown(alloc: Global, schedule: &Sched) -> Result<String, Fail> {
 
 #[test]
 fn words_spell_commands(rt: HostRuntime) -> Result<(), Fail> {
-    let table: [(&[&str], &str); 29] = [
+    let table: [(&[&str], &str); 38] = [
         (&["check", "m.p3l"], "check m.p3l"),
         (&["fmt", "m.p3l"], "fmt m.p3l"),
         (&["fmt", "--", "--odd"], "fmt --odd"),
@@ -228,6 +247,39 @@ fn words_spell_commands(rt: HostRuntime) -> Result<(), Fail> {
             ],
             "gen 4294967295 1 100000 rr s",
         ),
+        (&["rewrite", "m", "--processors", "512"], "rewrite m 512 -"),
+        (
+            &["rewrite", "--costs", "c", "--processors=1", "m"],
+            "rewrite m 1 c",
+        ),
+        (&["profile", "m.p3l"], "profile m.p3l"),
+        (&["profile", "--", "--odd"], "profile --odd"),
+        (
+            &["time", "--picks=p", "m", "--processors", "4"],
+            "time m 4 - 4 p",
+        ),
+        (
+            &["time", "m", "--processors", "4", "--costs", "c"],
+            "time m 4 c 4 -",
+        ),
+        (&["scan", "m", "--segments", "1"], "scan m 1 rr 4 false"),
+        (
+            &["scan", "--segments=512", "--stats", "--", "--odd"],
+            "scan --odd 512 rr 4 true",
+        ),
+        (
+            &[
+                "scan",
+                "m",
+                "--schedule",
+                "file:p",
+                "--capacity",
+                "1024",
+                "--segments",
+                "3",
+            ],
+            "scan m 3 file:p 1024 false",
+        ),
         (&["check", "check"], "check check"),
         (&["check", "-"], "check -"),
     ];
@@ -240,7 +292,7 @@ fn words_spell_commands(rt: HostRuntime) -> Result<(), Fail> {
 
 #[test]
 fn other_words_spell_none(rt: HostRuntime) -> Result<(), Fail> {
-    let table: [&[&str]; 50] = [
+    let table: [&[&str]; 68] = [
         &[],
         &["walk"],
         &[""],
@@ -297,6 +349,24 @@ fn other_words_spell_none(rt: HostRuntime) -> Result<(), Fail> {
         &["gen", "1", "--processors", "4", "--items", "0"],
         &["gen", "1", "--processors", "4", "--items", "100001"],
         &["gen", "1", "--processors", "4", "--schedule", "file:p"],
+        &["rewrite", "m"],
+        &["rewrite", "--processors", "4"],
+        &["rewrite", "m", "--processors", "513"],
+        &["rewrite", "m", "--processors", "4", "--capacity", "1"],
+        &["profile"],
+        &["profile", "m.p3l", "n.p3l"],
+        &["profile", "m.p3l", "--costs", "c"],
+        &["time", "m"],
+        &["time", "m", "--processors", "4", "--stats"],
+        &["time", "m", "--processors", "4", "--schedule", "rr"],
+        &["scan", "m"],
+        &["scan", "--segments", "4"],
+        &["scan", "m", "--segments", "0"],
+        &["scan", "m", "--segments", "513"],
+        &["scan", "m", "--segments", "04"],
+        &["scan", "m", "--segments", "4", "--processors", "4"],
+        &["scan", "m", "--segments", "4", "--trace", "t"],
+        &["scan", "m", "--segments", "4", "--capacity", "0"],
         &["m.p3l", "check"],
     ];
     for words in table {

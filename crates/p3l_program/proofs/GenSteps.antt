@@ -37,7 +37,7 @@ use Rattle.p3l_program.specs.Saved.{AreSaved, HasSaves, HoldFirst, KeepsFirst, n
 use Rattle.p3l_program.specs.Stage.{AllPass}
 use Rattle.p3l_program.specs.Text.{BeginsText}
 use Rattle.p3l_program.specs.World.{Change, IsStill, world}
-use Rattle.p3l_program.proofs.LoadSteps.{said_once}
+use Rattle.p3l_program.proofs.TreeSteps.{said_once}
 use Rattle.p3l_program.proofs.SavedSteps.{kept_by}
 use Rattle.p3l_program.proofs.SeenSteps.{seen_goes_on, seen_short, still_of}
 use Rattle.p3l_program.proofs.TextSteps.{not_loaded}

@@ -78,3 +78,22 @@ pub read_or_refused : (text : List ℕ) (count : ℕ) (read : List ℕ) (r : Pic
 read_or_refused text count read refusals.NoMemory some one two = some refl
 read_or_refused text count read (refusals.BadPick line) some one two = reads_once text count read (refusals.BadPick line) one two
 read_or_refused text count read (refusals.NoSuchProcess line pick of_count) some one two = reads_once text count read (refusals.NoSuchProcess line pick of_count) one two
+
+-- and they are read as one list
+read_alike : (count line : ℕ) (text : List ℕ) (picks : List ℕ) (last : ℕ) (rest : List ℕ) (others : List ℕ) (end : ℕ) (left : List ℕ) →
+    AreRead count line text picks last rest → AreGap rest → AreRead count line text others end left → AreGap left → picks ≡ others
+read_alike count line text [] last rest [] end left one gap two other = refl
+read_alike count line text [] last rest (q ∷ qs) end left one gap two other = absurd (no_word text two.0 two.1 two.2 (subst AreGap (sym one.1) gap) two.3)
+read_alike count line text (p ∷ ps) last rest [] end left one gap two other = absurd (no_word text one.0 one.1 one.2 (subst AreGap (sym two.1) other) one.3)
+read_alike count line text (p ∷ ps) last rest (q ∷ qs) end left one gap two other =
+    let same = word_once text two.0 two.1 two.2 one.0 one.1 one.2 two.3 one.3 in
+    let picked : pick_of count (line + count_by is_feed one.0) one.1 ≡ Ok q =
+    subst (λ v. pick_of count (line + count_by is_feed one.0) v ≡ Ok q) same.1
+    (subst (λ h. pick_of count (line + count_by is_feed h) two.1 ≡ Ok q) same.0 two.4) in
+    let first : p ≡ q = (let e = sym one.4 ∙ picked in cc) in
+    let later : AreRead count (line + count_by is_feed one.0) two.2 qs end left = subst (λ h. AreRead count (line + count_by is_feed h) two.2 qs end left) same.0 two.5 in
+    let tail = read_alike count (line + count_by is_feed one.0) one.2 ps last rest qs end left one.5 gap (subst (λ t. AreRead count (line + count_by is_feed one.0) t qs end left) same.2 later) other in
+    cc
+
+pub picks_once : (text : List ℕ) (count : ℕ) (picks others : List ℕ) → Reads text count (Ok picks) → Reads text count (Ok others) → picks ≡ others
+picks_once text count picks others one two = read_alike count 1 text picks one.0 one.1 others two.0 two.1 one.2 one.3 two.2 two.3

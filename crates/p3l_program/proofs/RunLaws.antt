@@ -1,5 +1,5 @@
 -- What the answers of commands rest on that run a network.
-use Rattle.std.proofs.Common.{◌≡◌, ◌≢◌, ℕ, ◌*◌, List, [], ◌∷◌, ◌++◌, Option, Some, None, refl, sym, ap, inl, subst, ◌∙◌, arith, append-nil, Bool, true}
+use Rattle.std.proofs.Common.{◌≡◌, ◌≢◌, ℕ, ℤ, ◌*◌, List, [], ◌∷◌, ◌++◌, Option, Some, None, refl, sym, ap, inl, subst, ◌∙◌, arith, append-nil, Bool, true}
 use Rattle.std.specs.Option.{option_to_list}
 use Rattle.p3l_io.specs.Causes.{Rose}
 use Rattle.p3l_io.specs.Told.{Held}
@@ -49,12 +49,12 @@ module _ (n : Network) (s : Schedule) (keeping : Keeping) (rest left : Option (L
   run_cause : (k : ℕ) → (st : IsStream end.finish k) → GivenCause (closed_so (Some st.e)) before now
   run_cause k st = subst (λ c. GivenCause (closed_so c) before now) (closed_by k st) ran.gives.cause
 
-  run_read : finish_status (run_finish end.finish) ≡ status.read → Rose before now
+  pub run_read : finish_status (run_finish end.finish) ≡ status.read → Rose before now
   run_read h =
       let st = run_stream status.read h (λ e. absurd (omega arith)) (λ e. absurd (omega arith)) in
       subst (λ e. GivenCause (closed_so (Some e)) before now) (statuses.read_is st.e st.status_is) (run_cause status.read st)
 
-  run_calm : (k : ℕ) → finish_status (run_finish end.finish) ≡ k → (k ≢ status.stopped) → (k ≢ status.trap) → (k ≢ status.read) → now ≡ before
+  pub run_calm : (k : ℕ) → finish_status (run_finish end.finish) ≡ k → (k ≢ status.stopped) → (k ≢ status.trap) → (k ≢ status.read) → now ≡ before
   run_calm k h stopped trap read = (let st = run_stream k h stopped trap in by st.e (λ e. read (sym st.status_is ∙ ap ending_status e)) (run_cause k st))
     where
       by : (e : Ending) → (e ≡ ending.ReadFault → ⊥) → GivenCause (closed_so (Some e)) before now → now ≡ before
@@ -70,33 +70,50 @@ recorded_so : (files : Change Held) (trace : Option (List ℕ)) (One Other : Tra
 recorded_so files None One Other go h = tt
 recorded_so files (Some name) One Other go h = record { t = h.t; is = go h.t h.is; fits = h.fits; saved = h.saved }
 
--- a run of status 0 is whole
+-- over an input and an output that told, a run of a network on these items is whole
+pub record IsWholeRun (n : Network) (items : List (List ℤ)) (rest taken : List ℕ) (left taken' : Option (List ℕ)) : Type 0 where
+  pub input_ended : left ≡ Some []
+  pub all_items : (items_of (width_of n) rest).ending ≡ ending.End
+  pub taken_is : taken' ≡ Some (taken ++ text_of (meaning_of n (items_of (width_of n) rest).items))
+  pub items_are : items ++ [] ≡ (items_of (width_of n) rest).items
+
+-- a run of status 0 is
+pub whole_of : (n : Network) (s : Schedule) (keeping : Keeping) (old left : Option (List ℕ)) (before now : ℕ) (out taken' : Option (List ℕ)) (end : Ran) (f : Finishes n s keeping old left before now out taken' end) (rest taken : List ℕ) → old ≡ Some rest → out ≡ Some taken →
+    finish_status (run_finish end.finish) ≡ status.done → IsWholeRun n f.items rest taken left taken'
+whole_of n s keeping old left before now out taken' end f rest taken input told h =
+    let g = f.gives in
+    let st = run_stream n s keeping old left before now out taken' end f status.done h (λ z. absurd (omega arith)) (λ z. absurd (omega arith)) in
+    let is_end : st.e ≡ ending.End = statuses.done_is st.e st.status_is in
+    let close : f.close ≡ Some ending.End = closed_by n s keeping old left before now out taken' end f status.done st ∙ ap Some is_end in
+    let closes : Closes (width_of n) f.stream g.bytes f.items (closed_so (Some ending.End)) = subst (λ c. Closes (width_of n) f.stream g.bytes f.items c) (g.closed_is ∙ ap closed_so close) g.given.closes in
+    let ended = ended_told old left rest g.bytes input g.read (g.at_end closes.0) in
+    let all : items_of (width_of n) rest ≡ items_ended f.items ending.End = ap (items_of (width_of n)) (sym ended.1) ∙ closes.1 in
+    let may : MayEnd f.close ending.End = subst (λ c. MayEnd c ending.End) (sym close) refl in
+    let ran = f.ran [] (nothing_comes n f.close) in
+    let still = still_of n (course_of n s (f.items ++ [])) ending.End st.e end.finish st.finish_is (f.ends [] (nothing_comes n f.close) ending.End may) in
+    record {
+      input_ended = ended.0;
+      all_items = ap (λ i. i.ending) all;
+      taken_is =
+          put_told out taken' taken (text_of f.outcomes) told f.put
+          ∙ ap (λ o. Some (taken ++ text_of o)) (ran.whole still ∙ ap (meaning_of n) (append-nil f.items))
+          ∙ ap (λ i. Some (taken ++ text_of (meaning_of n i.items))) (sym all);
+      items_are = append-nil f.items ∙ sym (ap (λ i. i.items) all);
+    }
+
 run_whole : (w : World) (origin : Origin) (order : Sched) (trace : Option (List ℕ)) (rest taken : List ℕ) (reported : Bool) (finish : Finish) (stats : Option Stats) → w.input.old ≡ Some rest → w.out.old ≡ Some taken → finish_status finish ≡ status.done →
     EndsRun w origin order trace reported finish stats → RunsWhole w origin order trace rest taken
 run_whole w origin order trace rest taken reported finish stats input out h e =
     let f = e.finishes in
-    let g = f.gives in
-    let st = run_stream e.n e.s _ _ _ _ _ _ _ e.ran f status.done (sym (ap finish_status e.finish_is) ∙ h) (λ z. absurd (omega arith)) (λ z. absurd (omega arith)) in
-    let is_end : st.e ≡ ending.End = statuses.done_is st.e st.status_is in
-    let close : f.close ≡ Some ending.End = closed_by e.n e.s _ _ _ _ _ _ _ e.ran f status.done st ∙ ap Some is_end in
-    let closes : Closes (width_of e.n) f.stream g.bytes f.items (closed_so (Some ending.End)) = subst (λ c. Closes (width_of e.n) f.stream g.bytes f.items c) (g.closed_is ∙ ap closed_so close) g.given.closes in
-    let told = ended_told w.input.old w.input.new rest g.bytes input g.read (g.at_end closes.0) in
-    let all : items_of (width_of e.n) rest ≡ items_ended f.items ending.End = ap (items_of (width_of e.n)) (sym told.1) ∙ closes.1 in
-    let may : MayEnd f.close ending.End = subst (λ c. MayEnd c ending.End) (sym close) refl in
-    let ran = f.ran [] (nothing_comes e.n f.close) in
-    let still = still_of e.n (course_of e.n e.s (f.items ++ [])) ending.End st.e e.ran.finish st.finish_is (f.ends [] (nothing_comes e.n f.close) ending.End may) in
-    let items : f.items ++ [] ≡ (items_of (width_of e.n) rest).items = append-nil f.items ∙ sym (ap (λ i. i.items) all) in
+    let whole = whole_of e.n e.s _ _ _ _ _ _ _ e.ran f rest taken input out (sym (ap finish_status e.finish_is) ∙ h) in
     record {
       n = e.n;
       s = e.s;
       has = e.has;
-      input_ended = told.0;
-      all_items = ap (λ i. i.ending) all;
-      taken_is =
-          put_told w.out.old w.out.new taken (text_of f.outcomes) out f.put
-          ∙ ap (λ o. Some (taken ++ text_of o)) (ran.whole still ∙ ap (meaning_of e.n) (append-nil f.items))
-          ∙ ap (λ i. Some (taken ++ text_of (meaning_of e.n i.items))) (sym all);
-      recorded = recorded_so w.files trace _ (IsRecordOf e.n e.s (items_of (width_of e.n) rest).items) (λ t is. subst (λ i. IsRecordOf e.n e.s i t) items (is [] (nothing_comes e.n f.close))) e.recorded;
+      input_ended = whole.input_ended;
+      all_items = whole.all_items;
+      taken_is = whole.taken_is;
+      recorded = recorded_so w.files trace _ (IsRecordOf e.n e.s (items_of (width_of e.n) rest).items) (λ t is. subst (λ i. IsRecordOf e.n e.s i t) whole.items_are (is [] (nothing_comes e.n f.close))) e.recorded;
     }
 
 -- the text of what the network emits was written, and the trace of this run

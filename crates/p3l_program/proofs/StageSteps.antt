@@ -14,7 +14,12 @@ use Rattle.p3l_report.specs.declared.evidence.Evidence.{Evidence}
 use Rattle.p3l_report.specs.declared.evidence.Evidence.TheVariants as evidence
 use Rattle.p3l_report.specs.declared.verdict.Refusal.{Refusal}
 use Rattle.p3l_report.specs.declared.verdict.Refusal.TheVariants as refusal
+use Rattle.p3l_report.specs.declared.scan_fault.ScanFault.{ScanFault}
+use Rattle.p3l_report.specs.declared.scan_fault.ScanFault.TheVariants as scan
 use Rattle.p3l_report.specs.Verdict.{refusal_status}
+use Rattle.p3l_scan.specs.Plan.{IsReduce, IsScannable}
+use Rattle.p3l_scan.specs.Planned.{IsUnscannable}
+use Rattle.p3l_skel.specs.declared.tree.Tree.{Tree}
 use Rattle.std.specs.declared.result.Result.TheVariants.{Ok}
 use Rattle.p3l_run.specs.Network.{Network, size_of}
 use Rattle.p3l_sched.specs.declared.refusal.PickRefusal.{PickRefusal}
@@ -23,13 +28,13 @@ use Rattle.p3l_sched.specs.declared.schedule.Schedule.{Schedule}
 use Rattle.p3l_sched.specs.Picks.{Reads}
 use Rattle.p3l_trace.specs.declared.trace.Traced.{Traced}
 use Rattle.p3l_check.specs.Resolving.{ResolvedTree}
-use Rattle.p3l_program.specs.Plan.{HasCostText, HasCosts, HasCounts, HasNetwork, HasNoCosts, HasNoTree, HasTooFew, HasTree, HaveTexts, IsAccepted, IsAllotted, IsNetworkOf, IsPriced, Texts}
+use Rattle.p3l_program.specs.Plan.{HasCostText, HasCosts, HasCounts, HasNetwork, HasNoCosts, HasNoScan, HasNoTree, HasScan, HasTooFew, HasTree, HaveTexts, IsAccepted, IsAllotted, IsNetworkOf, IsPriced, Texts, refusal_of_scan}
 use Rattle.p3l_program.specs.Certified.{HasCert, HasNoCert, IsCertified}
 use Rattle.p3l_program.specs.File.{HasFault, HasProgram, HasText, Holds, IsTooLong}
 use Rattle.p3l_program.specs.Image.{HasBytes, IsBrokenImage, IsImage, IsMigratable, IsNoImage, IsRunnableImage, IsUnmigratable}
-use Rattle.p3l_program.specs.Origin.{Origin, built, imaged}
+use Rattle.p3l_program.specs.Origin.{Origin, built, imaged, scanned}
 use Rattle.p3l_program.specs.Scheduled.{HasNoPicks, HasPicks}
-use Rattle.p3l_program.specs.Stage.{AllPass, IsRefusedBy, Passes, Refuses, Stage, certified, fitting, priced, readable, resolved, scheduled, spelled, text_fitting, text_kept, text_priced, decoded, loaded, migratable, traced}
+use Rattle.p3l_program.specs.Stage.{AllPass, IsRefusedBy, Passes, Refuses, Stage, certified, fitting, priced, readable, resolved, scheduled, spelled, text_fitting, text_kept, text_priced, decoded, loaded, migratable, traced, scannable}
 use Rattle.p3l_program.specs.TraceFile.{HasNoTrace, HasTrace}
 use Rattle.p3l_program.specs.World.{Change, HasRisen}
 
@@ -48,6 +53,11 @@ refused_after files (stage ∷ stages) more r p h = inr (p.0, refused_after file
 pub passed_both : (files : Change Held) (stages more : List Stage) → AllPass files stages → AllPass files more → AllPass files (stages ++ more)
 passed_both files [] more p q = q
 passed_both files (stage ∷ stages) more p q = (p.0, passed_both files stages more p.1 q)
+
+-- a root that can be scanned is a reduce, and has such segments
+can_or_not : (tree : Tree) (segments : ℕ) (fault : ScanFault) → IsScannable tree segments → IsUnscannable tree segments (refusal_of_scan fault) → ⊥
+can_or_not tree segments scan.NotReduce can never = never (subst IsReduce (sym can.form) tt)
+can_or_not tree segments scan.BadSegments can never = never.1 can
 
 -- the texts of what is run
 abbrev texts_with : List ℕ → Option (List ℕ) → Texts
@@ -122,6 +132,14 @@ module _ (files : Option Held) (held : Held) (told : files ≡ Some held) where
       ∙ ap (λ s. texts_with others.text s) (same_said build.costs others.said texts.said b.1 a.1)
   same_texts (imaged name) texts others a b =
       ap (λ t. texts_with t texts.said) (same_text name others.text texts.text b.0.holds a.0.holds) ∙ ap (λ s. texts_with others.text s) (a.1 ∙ sym b.1)
+  same_texts (scanned name segments capacity) texts others a b =
+      ap (λ t. texts_with t texts.said) (same_text name others.text texts.text b.0.holds a.0.holds) ∙ ap (λ s. texts_with others.text s) (a.1 ∙ sym b.1)
+
+  -- a program that can be scanned is not refused
+  scanned_once : (name : List ℕ) (segments : ℕ) (r : ResolvedTree) (fault : ScanFault) → HasScan files name segments r → HasNoScan files name segments fault → ⊥
+  scanned_once name segments r fault has none =
+      let accepted : IsAccepted none.text r = subst (λ t. IsAccepted t r) (same_text name none.text has.has.text none.has.holds has.has.has.holds) has.has.accepted in
+      can_or_not r.tree segments fault has.can (subst (λ o. IsUnscannable o.tree segments (refusal_of_scan fault)) (sym (none.refused.only r accepted)) none.refused.refused)
 
   -- where a file has picks for the network it is not refused
   scheduled_once : (origin : Origin) (name : List ℕ) (n : Network) (s : Schedule) (refused : PickRefusal) → HasNetwork files origin n → HasPicks files (size_of n) name s → HasNoPicks files origin name refused → ⊥
@@ -163,6 +181,7 @@ module _ (files : Change Held) (held : Held) (told : files.old ≡ Some held) (c
   passed_stage (text_kept text) (refusal.Source fault pos) p h = h.never p.0 p.1
   passed_stage (text_priced text said) (refusal.Costs fault) p h = h.never p.0 p.1 p.2
   passed_stage (text_fitting text said processors) (refusal.TooFew need) p h = h.never p.0 p.1 p.2 p.3
+  passed_stage (scannable name segments) (refusal.Scan fault) p h = scanned_once files.old held told name segments p.0 fault p.1 h
   passed_stage stage r p h = absurd h
 
   -- a stage refuses with one status
@@ -186,6 +205,7 @@ module _ (files : Change Held) (held : Held) (told : files.old ≡ Some held) (c
   refused_stage (text_kept text) (refusal.Source fault pos) (refusal.Source other at) h k = refl
   refused_stage (text_priced text said) (refusal.Costs fault) (refusal.Costs other) h k = refl
   refused_stage (text_fitting text said processors) (refusal.TooFew need) (refusal.TooFew other) h k = refl
+  refused_stage (scannable name segments) (refusal.Scan fault) (refusal.Scan other) h k = refl
   refused_stage stage r other h k = absurd (search (h, k))
 
   -- where all stages pass none refuses

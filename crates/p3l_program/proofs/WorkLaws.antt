@@ -7,13 +7,15 @@ use Rattle.p3l_report.specs.declared.stats.Stats.{Stats}
 use Rattle.p3l_report.specs.Verdict.{finish_status}
 use Rattle.p3l_program.specs.Command.{behavior_of, work_of}
 use Rattle.p3l_program.specs.Trace.{check_behavior}
-use Rattle.p3l_program.specs.Work.{Work, behavior, check_trace, run_generated, run_network, save_file, write_text}
+use Rattle.p3l_program.specs.Work.{Work, behavior, check_trace, profile_input, run_generated, run_in_time, run_network, save_file, write_text}
 use Rattle.p3l_program.specs.World.{World}
 use Rattle.p3l_program.proofs.EndSteps.{put_told}
 use Rattle.p3l_program.proofs.GenLaws.{gen_lawful}
 use Rattle.p3l_program.proofs.Lawful.{Lawful}
+use Rattle.p3l_program.proofs.ProfileLaws.{profile_lawful}
 use Rattle.p3l_program.proofs.RunLaws.{run_lawful}
 use Rattle.p3l_program.proofs.TextLaws.{saving_lawful, text_lawful}
+use Rattle.p3l_program.proofs.TimeLaws.{time_lawful}
 use Rattle.p3l_program.proofs.TraceLaws.{check_lawful}
 
 lawful_work : (k : Work) → Lawful (behavior k)
@@ -22,6 +24,8 @@ lawful_work (save_file stages IsText name IsBytes) = saving_lawful stages IsText
 lawful_work (run_network run) = run_lawful run
 lawful_work (check_trace build name) = check_lawful build name
 lawful_work (run_generated g) = gen_lawful g
+lawful_work (profile_input name) = profile_lawful name
+lawful_work (run_in_time build name) = time_lawful build name
 
 pub lawful : (c : Command) → Lawful (behavior_of c)
 lawful c = lawful_work (work_of c)

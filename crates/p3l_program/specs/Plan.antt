@@ -22,17 +22,26 @@ use Rattle.p3l_alloc.specs.Chosen.{IsShort}
 use Rattle.p3l_opts.specs.declared.command.Build.{Build}
 use Rattle.p3l_report.specs.declared.cost_fault.CostFault.{CostFault}
 use Rattle.p3l_report.specs.declared.cost_fault.CostFault.TheVariants as fault
+use Rattle.p3l_report.specs.declared.scan_fault.ScanFault.{ScanFault}
+use Rattle.p3l_report.specs.declared.scan_fault.ScanFault.TheVariants as scan
+use Rattle.p3l_skel.specs.Item.{item}
 use Rattle.p3l_skel.specs.Numbers.{firings}
 use Rattle.p3l_units.specs.Table.{leaf}
 use Rattle.p3l_image.specs.declared.image.Image.{Image}
 use Rattle.p3l_link.specs.Net.{linked_net}
 use Rattle.p3l_load.specs.declared.loaded.Loaded.{Loaded}
 use Rattle.p3l_load.specs.Load.{loaded_of}
-use Rattle.p3l_run.specs.Network.{Network, network}
+use Rattle.p3l_run.specs.Network.{Network, network, network_named}
+use Rattle.p3l_scan.specs.declared.plan.ScanPlan.{ScanPlan}
+use Rattle.p3l_scan.specs.declared.refusal.ScanRefusal.{ScanRefusal}
+use Rattle.p3l_scan.specs.declared.refusal.ScanRefusal.TheVariants as unscannable
+use Rattle.p3l_scan.specs.Plan.{IsScannable}
+use Rattle.p3l_scan.specs.Planned.{IsPlanOf, IsUnscannable}
+use Rattle.p3l_scan.specs.Step.{step_leaf}
 use Rattle.p3l_program.specs.declared.plan.Accepted.{Accepted}
 use Rattle.p3l_program.specs.File.{HasText, text_limit}
 use Rattle.p3l_program.specs.Image.{IsRunnableImage, image_limit}
-use Rattle.p3l_program.specs.Origin.{Origin, built, imaged}
+use Rattle.p3l_program.specs.Origin.{Origin, built, imaged, scanned}
 
 -- the text spells a program that keeps all rules, with this tree and these bodies
 pub record IsAccepted (text : List ℕ) (r : ResolvedTree) : Type 0 where
@@ -117,6 +126,18 @@ pub record IsUnpriced (text said : List ℕ) (f : CostFault) : Type 0 where
   pub refused : IsRead r.tree said (Err (refusal_of f))
   pub never : (other : ResolvedTree) (cs : Costs) → IsPriced text (Some said) other cs → ⊥
 
+-- how a fault of a scan is told
+abbrev pub refusal_of_scan : ScanFault → ScanRefusal
+refusal_of_scan scan.NotReduce = unscannable.NotReduce
+refusal_of_scan scan.BadSegments = unscannable.BadSegments
+
+-- a text spells one program that keeps all rules, which can't be scanned in so many segments, for this fault
+pub record IsUnscanned (text : List ℕ) (segments : ℕ) (fault : ScanFault) : Type 0 where
+  pub r : ResolvedTree
+  pub accepted : IsAccepted text r
+  pub only : (other : ResolvedTree) → IsAccepted text other → other ≡ r
+  pub refused : IsUnscannable r.tree segments (refusal_of_scan fault)
+
 -- no counts of the program fit so many processors, and the least number that some need
 pub record IsOverfull (text : List ℕ) (said : Option (List ℕ)) (processors need : ℕ) : Type 0 where
   pub r : ResolvedTree
@@ -155,6 +176,17 @@ pub record HasTooFew (files : Option Held) (build : Build) (need : ℕ) : Type 0
   pub says : HasCostText files build.costs said
   pub refused : IsOverfull text said build.processors need
 
+-- the file of this name has a program that can be scanned in so many segments
+pub record HasScan (files : Option Held) (name : List ℕ) (segments : ℕ) (r : ResolvedTree) : Type 0 where
+  pub has : HasTree files name r
+  pub can : IsScannable r.tree segments
+
+-- it has one that can't, for this fault
+pub record HasNoScan (files : Option Held) (name : List ℕ) (segments : ℕ) (fault : ScanFault) : Type 0 where
+  pub text : List ℕ
+  pub has : HasText files text_limit name text
+  pub refused : IsUnscanned text segments fault
+
 -- the network of an accepted program under these counts, whose channels hold so many tokens
 abbrev pub network_of : ResolvedTree → List ℕ → (capacity : ℕ) → Network
 network_of r counts capacity = network r.tree (body_leaf r.tree r.seqs) (linked_net r.tree counts capacity) (firings r.tree counts)
@@ -162,6 +194,13 @@ network_of r counts capacity = network r.tree (body_leaf r.tree r.seqs) (linked_
 -- the network that was loaded from an image, whose `seq` modules do what its codes do
 abbrev pub network_in : Loaded → Network
 network_in loaded = network loaded.tree (leaf (record { tree = loaded.tree; codes = loaded.codes })) loaded.net (firings loaded.tree loaded.counts.list)
+
+-- the network of the scan of an accepted program's root by a plan, whose channels hold so many tokens: its steps run the operator of
+-- the program, whose modules name the traps
+abbrev pub scan_network : ResolvedTree → ScanPlan → (capacity : ℕ) → Network
+scan_network r plan capacity =
+    network_named r.tree plan.tree (step_leaf plan.elem (item r.tree (body_leaf r.tree r.seqs) plan.op)) (linked_net plan.tree plan.counts.list capacity)
+    (firings plan.tree plan.counts.list)
 
 -- what the files that are run have: the text of a program, and of its costs where a file of costs is named; or the bytes of an image
 pub record Texts : Type 0 where
@@ -171,6 +210,7 @@ pub record Texts : Type 0 where
 abbrev pub HaveTexts : Option Held → Origin → Texts → Type 0
 HaveTexts files (built build) texts = HasText files text_limit build.program texts.text × HasCostText files build.costs texts.said
 HaveTexts files (imaged name) texts = HasText files image_limit name texts.text × (texts.said ≡ None)
+HaveTexts files (scanned name segments capacity) texts = HasText files text_limit name texts.text × (texts.said ≡ None)
 
 -- the network of an accepted program with the counts that are chosen for it
 pub record IsBuilt (build : Build) (texts : Texts) (n : Network) : Type 0 where
@@ -186,10 +226,19 @@ pub record IsImaged (texts : Texts) (n : Network) : Type 0 where
   pub runs : IsRunnableImage i texts.text
   pub network_is : n ≡ network_in (loaded_of i)
 
+-- the network of the scan of an accepted program in so many segments, whose root can be scanned so
+pub record IsScanned (segments capacity : ℕ) (texts : Texts) (n : Network) : Type 0 where
+  pub r : ResolvedTree
+  pub accepted : IsAccepted texts.text r
+  pub plan : ScanPlan
+  pub planned : IsPlanOf r.tree segments plan
+  pub network_is : n ≡ scan_network r plan capacity
+
 -- the network of what is run
 abbrev pub IsNetworkOf : Origin → Texts → Network → Type 0
 IsNetworkOf (built build) texts n = IsBuilt build texts n
 IsNetworkOf (imaged name) texts n = IsImaged texts n
+IsNetworkOf (scanned name segments capacity) texts n = IsScanned segments capacity texts n
 
 -- the network that files and words ask for
 pub record HasNetwork (files : Option Held) (origin : Origin) (n : Network) : Type 0 where

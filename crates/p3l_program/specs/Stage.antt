@@ -16,11 +16,11 @@ use Rattle.p3l_sched.specs.declared.refusal.PickRefusal.TheVariants as picks
 use Rattle.p3l_sched.specs.declared.schedule.Schedule.{Schedule}
 use Rattle.p3l_trace.specs.declared.trace.Traced.{Traced}
 use Rattle.p3l_check.specs.Resolving.{ResolvedTree}
-use Rattle.p3l_program.specs.Plan.{HasCosts, HasCounts, HasNetwork, HasNoCosts, HasNoTree, HasTooFew, HasTree, IsAccepted, IsAllotted, IsNotAccepted, IsOverfull, IsPriced, IsUnpriced}
+use Rattle.p3l_program.specs.Plan.{HasCosts, HasCounts, HasNetwork, HasNoCosts, HasNoScan, HasNoTree, HasScan, HasTooFew, HasTree, IsAccepted, IsAllotted, IsNotAccepted, IsOverfull, IsPriced, IsUnpriced}
 use Rattle.p3l_program.specs.Certified.{HasCert, HasNoCert, cert_limit}
 use Rattle.p3l_program.specs.File.{HasFault, HasProgram, HasText, IsTooLong, text_limit}
 use Rattle.p3l_program.specs.Image.{HasBytes, IsBrokenImage, IsImage, IsNoImage, IsMigratable, IsRunnableImage, IsUnmigratable, image_limit}
-use Rattle.p3l_program.specs.Origin.{Origin, built, imaged}
+use Rattle.p3l_program.specs.Origin.{Origin, built, imaged, scanned}
 use Rattle.p3l_program.specs.Scheduled.{HasNoPicks, HasPicks, picks_limit}
 use Rattle.p3l_program.specs.TraceFile.{HasNoTrace, HasTrace}
 use Rattle.p3l_program.specs.World.{Change, HasFailed, IsCalm}
@@ -29,7 +29,7 @@ use Rattle.p3l_program.specs.World.{Change, HasFailed, IsCalm}
 -- name says costs of it; some counts fit the processors; the bytes of the file spell an image; the image can be run; it can be run once its net is linked anew; the file of this
 -- name has picks for the network of what is run; the file of the last name has a certificate that holds for a program and its costs;
 -- the file of this name spells a trace; the text spells a program that keeps all rules, the second text says costs of it, and some
--- counts of it fit so many processors
+-- counts of it fit so many processors; the program of the file of this name can be scanned in so many segments
 pub data Stage : Type 0 where
   readable : ℕ → List ℕ → Stage
   spelled : List ℕ → Stage
@@ -45,6 +45,7 @@ pub data Stage : Type 0 where
   text_kept : List ℕ → Stage
   text_priced : List ℕ → List ℕ → Stage
   text_fitting : List ℕ → List ℕ → ℕ → Stage
+  scannable : List ℕ → (segments : ℕ) → Stage
 
 -- the stage is passed
 abbrev pub Passes : Change Held → Stage → Type 0
@@ -62,6 +63,7 @@ Passes files (traced name) = (t : Traced) × HasTrace files.old name t
 Passes files (text_kept text) = (r : ResolvedTree) × IsAccepted text r
 Passes files (text_priced text said) = (r : ResolvedTree) × (cs : Costs) × IsPriced text (Some said) r cs
 Passes files (text_fitting text said processors) = (r : ResolvedTree) × (cs : Costs) × (counts : List ℕ) × IsAllotted text (Some said) processors r cs counts
+Passes files (scannable name segments) = (r : ResolvedTree) × HasScan files.old name segments r
 
 -- the stage refuses so
 abbrev pub Refuses : Change Held → Stage → Refusal → Type 0
@@ -81,6 +83,7 @@ Refuses files (traced name) (refusal.Evidence (evidence.BadLine line)) = HasNoTr
 Refuses files (text_kept text) (refusal.Source fault pos) = IsNotAccepted text fault pos
 Refuses files (text_priced text said) (refusal.Costs fault) = IsUnpriced text said fault
 Refuses files (text_fitting text said processors) (refusal.TooFew need) = IsOverfull text (Some said) processors need
+Refuses files (scannable name segments) (refusal.Scan fault) = HasNoScan files.old name segments fault
 Refuses files stage refused = ⊥
 
 -- all stages are passed
@@ -127,10 +130,15 @@ image_stages name = readable image_limit name ∷ (decoded name ∷ (loaded name
 abbrev pub migrate_stages : List ℕ → List Stage
 migrate_stages name = readable image_limit name ∷ (decoded name ∷ (migratable name ∷ []))
 
--- what is run is built or loaded
+-- a program is read, keeps all rules and can be scanned in so many segments
+abbrev pub scan_stages : List ℕ → (segments : ℕ) → List Stage
+scan_stages name segments = program_stages name ++ scannable name segments ∷ []
+
+-- what is run is built or loaded, or its scan is planned
 abbrev pub origin_stages : Origin → List Stage
 origin_stages (built build) = build_stages build
 origin_stages (imaged name) = image_stages name
+origin_stages (scanned name segments capacity) = scan_stages name segments
 
 -- a file of picks is read, where one is named, and has picks for the network
 abbrev pub schedule_stages : Origin → Sched → List Stage
@@ -138,6 +146,6 @@ schedule_stages origin sched.RoundRobin = []
 schedule_stages origin (sched.Seeded seed) = []
 schedule_stages origin (sched.File name) = readable picks_limit name ∷ (scheduled origin name ∷ [])
 
--- what is run is built or loaded, and has a schedule
+-- what is run is built or loaded, or its scan is planned, and it has a schedule
 abbrev pub run_stages : Origin → Sched → List Stage
 run_stages origin schedule = origin_stages origin ++ schedule_stages origin schedule

@@ -1,5 +1,6 @@
 -- What the ends, the numbers and the faults of runs are in verdicts.
 use Rattle.p3l_report.specs.declared.stats.Stats.{Stats}
+use Rattle.p3l_report.specs.declared.stats.Stats.TheVariants as stats
 use Rattle.p3l_report.specs.declared.verdict.Finish.{Finish}
 use Rattle.p3l_report.specs.declared.verdict.Finish.TheVariants as finish
 use Rattle.p3l_report.specs.declared.verdict.Verdict.{Verdict}
@@ -18,7 +19,7 @@ run_finish (end.Stream close) = finish.Stream close
 
 -- the numbers of a run, as they are reported
 abbrev pub run_stats : RunStats → Stats
-run_stats s = record { items = s.items; fired = s.fired; idle = s.idle; bound = s.bound }
+run_stats s = stats.Scheduled s.items s.fired s.idle s.bound
 
 -- the verdict of a run that failed
 abbrev pub fault_verdict : RunFault → Verdict

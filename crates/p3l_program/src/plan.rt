@@ -15,6 +15,7 @@ ghost use Rattle.p3l_program.specs.LoadImage.{IsReadyImage};
 ghost use Rattle.p3l_program.specs.Origin.{built};
 ghost use Rattle.p3l_program.specs.Plan.{IsCompiled, IsTextRefused, network_in, network_of};
 ghost use Rattle.p3l_program.specs.Stage.{build_stages, program_stages};
+ghost use Rattle.p3l_program.specs.Time.{LoadsLinked};
 ghost use Rattle.p3l_program.specs.World.{files_change};
 
 use crate::file::{TEXT_LIMIT, find_text};
@@ -182,41 +183,50 @@ pub fn allot<F: Files>(alloc: Global, build: Build, files: &mut F) -> Result<All
     }
 }
 
+/// The network of a program, with the costs by which its counts were chosen.
+#[derive(Drop)]
+pub struct Linked {
+    pub network: Loaded,
+    pub costs: Costs,
+}
+
 /// What an image of a loaded program holds: its tree under the counts that are chosen, with channels
-/// of this capacity, and the codes of its bodies.
-fn link_allotted(alloc: Global, loaded: Allotted, capacity: u32) -> Result<Loaded, NoMemory>
+/// of this capacity, and the codes of its bodies; and its costs.
+fn link_allotted(alloc: Global, loaded: Allotted, capacity: u32) -> Result<Linked, NoMemory>
     requires ready { IsReady loaded }
     requires some { 1 ≤ capacity }
     requires few { capacity ≤ 1024 }
-    ensures ready { IfOk result IsReadyImage }
+    ensures ready { IfOk result (λ linked. IsReadyImage linked.network) }
     ensures network { IfOk result (λ linked. (r : ResolvedTree) → IsCompiled r loaded.program
-        → network_in linked ≡ network_of r loaded.choice.counts.list capacity) }
+        → network_in linked.network ≡ network_of r loaded.choice.counts.list capacity) }
+    ensures tree { IfOk result (λ linked. linked.network.tree ≡ loaded.program.tree) }
+    ensures costs { IfOk result (λ linked. linked.costs ≡ loaded.costs) }
 {
     let Allotted {
         program,
+        costs,
         choice,
-        ..
     } = loaded;
     let Accepted { tree, codes } = program;
     let counts = choice.counts;
     let net = link(alloc, &tree, &counts, capacity)?;
-    Ok(Loaded {
+    let network = Loaded {
         cap: capacity,
         tree,
         counts,
         codes,
         net,
-    })
+    };
+    Ok(Linked { network, costs })
 }
 
 /// The network of the program of a file, under the counts that are chosen for it and with channels of
-/// the capacity that is asked for, or the verdict that there is none.
-pub fn load_network<F: Files>(alloc: Global, build: Build, files: &mut F) -> Result<Loaded, Verdict>
+/// the capacity that is asked for, with its costs, or the verdict that there is none.
+pub fn load_linked<F: Files>(alloc: Global, build: Build, files: &mut F) -> Result<Linked, Verdict>
     requires processors { (1 ≤ build.processors) × (build.processors ≤ 512) }
     requires capacity { (1 ≤ build.capacity) × (build.capacity ≤ 1024) }
-    ensures network { IfOk result (λ loaded. LoadsNetwork (F.held files.old) (built build)
-        (network_in loaded)) }
-    ensures ready { IfOk result IsReadyImage }
+    ensures loaded { IfOk result (LoadsLinked (F.held files.old) build) }
+    ensures ready { IfOk result (λ linked. IsReadyImage linked.network) }
     ensures calm { OnOk result (F.faults files.new ≡ F.faults files.old) }
     ensures refused { IfErr result (IsNotLoaded
         (files_change F.held F.faults F.failed files.old files.new)
@@ -229,8 +239,27 @@ pub fn load_network<F: Files>(alloc: Global, build: Build, files: &mut F) -> Res
         Err(verdict) => return Err(verdict),
     };
     match link_allotted(alloc, allotted, capacity) {
-        Ok(network) => Ok(network),
+        Ok(linked) => Ok(linked),
         Err(_) => Err(Verdict::NoMemory),
+    }
+}
+
+/// The network of the program of a file, as `load_linked` loads it, without its costs.
+pub fn load_network<F: Files>(alloc: Global, build: Build, files: &mut F) -> Result<Loaded, Verdict>
+    requires processors { (1 ≤ build.processors) × (build.processors ≤ 512) }
+    requires capacity { (1 ≤ build.capacity) × (build.capacity ≤ 1024) }
+    ensures network { IfOk result (λ loaded. LoadsNetwork (F.held files.old) (built build)
+        (network_in loaded)) }
+    ensures ready { IfOk result IsReadyImage }
+    ensures calm { OnOk result (F.faults files.new ≡ F.faults files.old) }
+    ensures refused { IfErr result (IsNotLoaded
+        (files_change F.held F.faults F.failed files.old files.new)
+        (build_stages build)) }
+    ensures stays { F.held files.new ≡ F.held files.old }
+{
+    match load_linked(alloc, build, files) {
+        Ok(linked) => Ok(linked.network),
+        Err(verdict) => Err(verdict),
     }
 }
 

@@ -3,7 +3,7 @@
 ghost use Rattle.std.specs.Prelude.{◌≡◌, ◌<◌, ◌≤◌, ◌*◌, ◌^◌};
 ghost use Rattle.p3l_report.specs.declared.verdict.Verdict.TheVariants as verdict;
 ghost use Rattle.p3l_run.specs.Feed.{most_of_input};
-ghost use Rattle.p3l_run.specs.Network.{IsSound, network};
+ghost use Rattle.p3l_run.specs.Network.{IsSound, network, network_named};
 ghost use Rattle.p3l_skel.specs.Tree.{node_at};
 ghost use Rattle.p3l_program.specs.LoadImage.{IsReadyImage};
 ghost use Rattle.p3l_program.specs.Plan.{network_in};
@@ -20,9 +20,9 @@ use p3l_link::laws::every_linked_net_is_carried;
 use p3l_load::Loaded;
 use p3l_opts::Sched;
 use p3l_report::{Finish, Stats, Verdict};
-use p3l_run::run::run;
+use p3l_run::run::run_named;
 use p3l_run::{Keeping, Plan, Ran};
-use p3l_skel::Units;
+use p3l_skel::{Tree, Units};
 use p3l_units::UnitTable;
 use std::alloc::Global;
 
@@ -38,7 +38,7 @@ fn ended(finish: Finish, stats: Stats, reported: bool) -> Verdict
 }
 
 /// What is kept of the picks of a run: their lines, where a file is named for the trace.
-fn keeping_for(trace: &Option<Name>) -> Keeping
+pub fn keeping_for(trace: &Option<Name>) -> Keeping
     ensures { result ≡ keeping_for trace.now }
 {
     match trace {
@@ -71,10 +71,11 @@ fn close<F: Files>(
 }
 
 /// Runs a plan on the items of the input under the schedule that is asked for, writes each value
-/// as it comes out, and at the end the trace.
+/// as it comes out, and at the end the trace; the modules of a tree name a trap.
 pub fn run_plan<U: Units, F: Files, S: Source, K: Sink>(
     alloc: Global,
     plan: Plan<'_, U>,
+    named: &Tree,
     asked: Sched,
     trace: Option<Name>,
     reported: bool,
@@ -87,13 +88,13 @@ pub fn run_plan<U: Units, F: Files, S: Source, K: Sink>(
     requires width { plan.width ≡ (node_at plan.tree.now 0).ins }
     requires wide { 1 ≤ plan.width }
     requires fits { plan.firings * most_of_input < 2 ^ 63 }
-    ensures ran { IsRunOf (network plan.entry.tree.now (U.leaf plan.entry.units.now)
-        plan.entry.net plan.entry.firings)
+    ensures ran { IsRunOf (network_named named.now plan.entry.tree.now
+        (U.leaf plan.entry.units.now) plan.entry.net plan.entry.firings)
         (files_change F.held F.faults F.failed files.old files.new)
         (change S.rest S.faults input.old input.new)
         (change K.taken K.faults out.old out.new) asked trace reported result }
-    ensures kept { KeepsRun (network plan.entry.tree.now (U.leaf plan.entry.units.now)
-        plan.entry.net plan.entry.firings)
+    ensures kept { KeepsRun (network_named named.now plan.entry.tree.now
+        (U.leaf plan.entry.units.now) plan.entry.net plan.entry.firings)
         (files_change F.held F.faults F.failed files.old files.new)
         (change S.rest S.faults input.old input.new)
         (change K.taken K.faults out.old out.new) asked trace result }
@@ -104,7 +105,7 @@ pub fn run_plan<U: Units, F: Files, S: Source, K: Sink>(
         Err(verdict) => return verdict,
     };
     let keeping = keeping_for(&trace);
-    match run(alloc, plan, schedule, keeping, input, out) {
+    match run_named(alloc, plan, named, schedule, keeping, input, out) {
         Err(fault) => fault_verdict(fault),
         Ok(ran) => close(alloc, ran, trace, reported, files),
     }
@@ -143,5 +144,7 @@ pub fn run_network<F: Files, S: Source, K: Sink>(
         return Verdict::NoMemory;
     };
     let plan = plan_of(&tree, &counts, &units, net);
-    run_plan(alloc, plan, asked, trace, reported, files, input, out)
+    run_plan(
+        alloc, plan, &tree, asked, trace, reported, files, input, out,
+    )
 }

@@ -15,7 +15,11 @@ use crate::fmt::fmt;
 use crate::generated::run_generated;
 use crate::graph::graph;
 use crate::migrate::migrate;
+use crate::profile::profile;
+use crate::rewrite::rewrite;
 use crate::run::run;
+use crate::scan::scan;
+use crate::time::time;
 use crate::verify::verify_cert;
 use p3l_io::{Files, Sink, Source};
 use p3l_opts::{Command, OptsRefusal, one_command_at_most, parse};
@@ -64,6 +68,14 @@ fn perform<F: Files, S: Source, K: Sink>(
                 alloc, number, processors, items, schedule, prefix, files, out,
             )
         }
+        Ok(Command::Rewrite(program, processors, costs)) => {
+            rewrite(alloc, program, processors, costs, files, out)
+        }
+        Ok(Command::Profile(name)) => profile(alloc, name, files, input, out),
+        Ok(Command::Time(build, picks)) => time(alloc, build, picks, files, input, out),
+        Ok(Command::Scan(name, segments, schedule, capacity, reported)) => scan(
+            alloc, name, segments, schedule, capacity, reported, files, input, out,
+        ),
     }
 }
 

@@ -21,7 +21,7 @@ pub fn run_finish(end: RunEnd) -> Finish
 pub fn run_stats(stats: RunStats) -> Stats
     ensures { result ≡ run_stats stats }
 {
-    Stats {
+    Stats::Scheduled {
         items: stats.items,
         fired: stats.fired,
         idle: stats.idle,

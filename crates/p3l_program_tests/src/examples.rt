@@ -6,6 +6,7 @@ use self::texts::{
     AVERAGES, Example, FARMS, GREATEST, HALVE, HASH, HISTOGRAM, LINE, MATRIX, NORM, PREFIX, ROOT,
     SIGNAL, SLIDING, TOTAL, VECTOR,
 };
+use crate::world::{Held, NONE, holding, perform};
 use p3l_base::List;
 use p3l_io::{MemFiles, MemSink, MemSource};
 use p3l_program::top::top;
@@ -109,11 +110,10 @@ fn a_loop(rt: HostRuntime) -> Result<(), Fail> {
 
 #[test]
 fn recipes(rt: HostRuntime) -> Result<(), Fail> {
-    let table: [(&Example, &str); 6] = [
+    let table: [(&Example, &str); 5] = [
         (&HASH, "stats: items 2, fired 6, idle 0, bound 6\n"),
         (&VECTOR, "stats: items 2, fired 26, idle 0, bound 26\n"),
         (&HISTOGRAM, "stats: items 2, fired 6, idle 0, bound 6\n"),
-        (&PREFIX, "stats: items 2, fired 6, idle 0, bound 6\n"),
         // Of 1, 1, 1, 4, 11 and 35 turns; an item that takes all 64 fires 197 times.
         (&ROOT, "stats: items 6, fired 189, idle 0, bound 1182\n"),
         (&SLIDING, "stats: items 2, fired 28, idle 0, bound 34\n"),
@@ -122,6 +122,18 @@ fn recipes(rt: HostRuntime) -> Result<(), Fail> {
         compare_runs(&rt, rt.alloc(), example, numbers)?;
     }
     Ok(())
+}
+
+const SCANNED: &[&str] = &["scan", "m.p3l", "--segments", "4", "--stats"];
+
+const SCANNED_BY_A_SEED: &[&str] = &["scan", "m.p3l", "--segments", "8", "--schedule", "seed:7"];
+
+#[test]
+fn a_scan(rt: HostRuntime) -> Result<(), Fail> {
+    let alloc = rt.alloc();
+    let numbers = "stats: items 2, fired 58, idle 0, bound 58\n";
+    compare(&rt, alloc, SCANNED, &PREFIX, PREFIX.output, numbers)?;
+    compare(&rt, alloc, SCANNED_BY_A_SEED, &PREFIX, PREFIX.output, "")
 }
 
 #[test]
@@ -134,6 +146,30 @@ fn all_keep_the_rules(rt: HostRuntime) -> Result<(), Fail> {
     ];
     for (example, output) in table {
         compare(&rt, rt.alloc(), CHECKED, example, output, "")?;
+    }
+    Ok(())
+}
+
+/// The costs that an example shows on its input are costs of it.
+fn compare_costs(rt: &impl Abort, alloc: Global, example: &Example) -> Result<(), Fail> {
+    let mut files = holding(alloc, &[Held("m.p3l", example.program)], &[])?;
+    let costs = perform(alloc, "profile m.p3l", example.input, &mut files, &NONE)?;
+    assert_eq!(rt; costs.status, 0);
+    files.add("c", costs.output.as_slice())?;
+    let words = "explain m.p3l --processors 512 --costs c";
+    let explained = perform(alloc, words, "", &mut files, &NONE)?;
+    assert_eq!(rt; explained.status, 0);
+    Ok(())
+}
+
+#[test]
+fn costs_that_are_shown_are_read(rt: HostRuntime) -> Result<(), Fail> {
+    let examples = [
+        &AVERAGES, &FARMS, &GREATEST, &HALVE, &HASH, &HISTOGRAM, &LINE, &MATRIX, &NORM, &PREFIX,
+        &ROOT, &SIGNAL, &SLIDING, &TOTAL, &VECTOR,
+    ];
+    for example in examples {
+        compare_costs(&rt, rt.alloc(), example)?;
     }
     Ok(())
 }

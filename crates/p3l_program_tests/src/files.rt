@@ -2,8 +2,8 @@
 
 use crate::spelled::DOUBLE_IMAGE;
 use crate::texts::{
-    CERTIFICATE, COUNTED, DOUBLE, FARMED, FARMED_COSTS, ITEMS, NO_COSTS, NO_IMAGE, NO_PICKS,
-    NO_PROGRAM, TRACE, WRITE_FAULT,
+    CERTIFICATE, COUNTED, DOUBLE, FARMED, FARMED_COSTS, ITEMS, LESS_OF_FOUR, NO_COSTS, NO_IMAGE,
+    NO_PICKS, NO_PROGRAM, TRACE, WRITE_FAULT,
 };
 use crate::world::{
     Case, Cases, Ends, FIRST_FILE, FOURTH_FILE, Held, NONE, SECOND_FILE, Step, THIRD_FILE, holding,
@@ -36,6 +36,8 @@ const NO_TRACE: Ends = Ends(9, "", "file fault: t\n");
 const HELD: Ends = Ends(0, "trace holds: 3 fired, 0 idle\n", "");
 
 const CHECKED: Ends = Ends(0, "ok: 1 modules, 1 instances\n", "");
+
+const PROFILED: Ends = Ends(0, "setup = 10\nword = 1\n[seq]\nmain = 7\n", "");
 
 const OF_A_RUN: &[Cases] = &[Cases(
     "run m.p3l --processors 16 --costs c --schedule file:p --stats",
@@ -94,6 +96,16 @@ const OF_CHECKING: &[Cases] = &[Cases(
     ],
 )];
 
+const LISTED: &[Held] = &[Held("m.p3l", LESS_OF_FOUR), Held("p", "0\n")];
+
+const OF_A_SCAN: &[Cases] = &[Cases(
+    "scan m.p3l --segments 1 --schedule file:p",
+    &[
+        Case(LISTED, FIRST_FILE, "1 2 3 4\n", NO_PROGRAM),
+        Case(LISTED, SECOND_FILE, "1 2 3 4\n", NO_PICKS),
+    ],
+)];
+
 const OF_READING: &[Cases] = &[
     Cases(
         "check m.p3l",
@@ -103,6 +115,13 @@ const OF_READING: &[Cases] = &[
         ],
     ),
     Cases("fmt m.p3l", &[Case(ALL, FIRST_FILE, "", NO_PROGRAM)]),
+    Cases(
+        "profile m.p3l",
+        &[
+            Case(ALL, FIRST_FILE, "1\n", NO_PROGRAM),
+            Case(ALL, SECOND_FILE, "1\n", PROFILED),
+        ],
+    ),
 ];
 
 const EACH: &[&[Cases]] = &[
@@ -112,6 +131,7 @@ const EACH: &[&[Cases]] = &[
     OF_AN_EXPLANATION,
     OF_VERIFYING,
     OF_CHECKING,
+    OF_A_SCAN,
     OF_READING,
 ];
 

@@ -24,6 +24,8 @@ mod graphs;
 #[cfg(test)]
 mod images;
 #[cfg(test)]
+mod in_time;
+#[cfg(test)]
 mod limits;
 #[cfg(test)]
 mod migrations;
@@ -34,9 +36,15 @@ mod order_of_stages;
 #[cfg(test)]
 mod picks;
 #[cfg(test)]
+mod profiles;
+#[cfg(test)]
 mod refusals;
 #[cfg(test)]
 mod rescues;
+#[cfg(test)]
+mod rewrites;
+#[cfg(test)]
+mod scans;
 #[cfg(test)]
 mod skeletons;
 #[cfg(test)]

@@ -3,8 +3,9 @@
 
 use crate::spelled::DOUBLE_IMAGE;
 use crate::texts::{
-    DOUBLE, DOUBLE_FILES, FARMED, NO_COSTS, NO_IMAGE, NO_PICKS, NO_PROGRAM, READ_FAULT,
-    REFUSED_KEY, REFUSED_NAME, REFUSED_PICK, TOO_FEW, UNDECLARED, USAGE, WRITE_FAULT,
+    BAD_SEGMENTS, DOUBLE, DOUBLE_FILES, FARMED, LESS_OF_FIVE, LESS_OF_FOUR, NO_COSTS, NO_IMAGE,
+    NO_PICKS, NO_PROGRAM, NOT_REDUCE, READ_FAULT, REFUSED_KEY, REFUSED_NAME, REFUSED_PICK, TOO_FEW,
+    UNDECLARED, USAGE, WRITE_FAULT,
 };
 use crate::world::{Case, Cases, Ends, FIRST_PUT, Faults, Held, NO_PUT, NO_TAKE, NONE, take_cases};
 use std::test::Fail;
@@ -206,6 +207,56 @@ const READING_IS_REFUSED: &[Cases] = &[
             Case(BROKEN, NO_PUT, "", WRITE_FAULT),
         ],
     ),
+    Cases(
+        "profile none.p3l --processors 4",
+        &[Case(DOUBLE_FILES, NO_TAKE, "1\n", USAGE)],
+    ),
+    Cases(
+        "profile m.p3l",
+        &[
+            Case(SHORT, NO_TAKE, "1\n", NO_PROGRAM),
+            Case(BROKEN, NO_TAKE, "1\n", REFUSED_NAME),
+            Case(DOUBLE_FILES, NO_TAKE, "1\n", READ_FAULT),
+        ],
+    ),
+];
+
+/// A list of five elements, and no picks.
+const FIVE: &[Held] = &[Held("m.p3l", LESS_OF_FIVE)];
+
+/// A list of four, and no picks; and picks of a process that isn't there.
+const FOUR: &[Held] = &[Held("m.p3l", LESS_OF_FOUR)];
+
+const FOUR_AND_PICKS: &[Held] = &[Held("m.p3l", LESS_OF_FOUR), Held("p", "99\n")];
+
+const A_SCAN_IS_REFUSED: &[Cases] = &[
+    Cases(
+        "scan none.p3l --segments 0",
+        &[Case(DOUBLE_FILES, NO_TAKE, "1\n", USAGE)],
+    ),
+    Cases(
+        "scan m.p3l --segments 2 --schedule file:p",
+        &[
+            Case(SHORT, NO_TAKE, "1\n", NO_PROGRAM),
+            Case(BROKEN, NO_TAKE, "1\n", REFUSED_NAME),
+            Case(DOUBLE_FILES, NO_TAKE, "1\n", NOT_REDUCE),
+            Case(FIVE, NO_TAKE, "1\n", BAD_SEGMENTS),
+            Case(FOUR, NO_TAKE, "1\n", NO_PICKS),
+            Case(
+                FOUR_AND_PICKS,
+                NO_TAKE,
+                "1\n",
+                Ends(12, "", "schedule: line 1: 96 NoSuchProcess 99 of 9\n"),
+            ),
+        ],
+    ),
+    Cases(
+        "scan m.p3l --segments 2",
+        &[
+            Case(FOUR, NO_TAKE, "1 2 3 4\n", READ_FAULT),
+            Case(FOUR, NO_PUT, "1 2 3 4\nx\n", WRITE_FAULT),
+        ],
+    ),
 ];
 
 #[test]
@@ -236,6 +287,11 @@ fn verifying_is_refused_by_the_first_of_its_stages(rt: HostRuntime) -> Result<()
 #[test]
 fn checking_is_refused_by_the_first_of_its_stages(rt: HostRuntime) -> Result<(), Fail> {
     take_cases(&rt, rt.alloc(), &[CHECKING_IS_REFUSED])
+}
+
+#[test]
+fn a_scan_is_refused_by_the_first_of_its_stages(rt: HostRuntime) -> Result<(), Fail> {
+    take_cases(&rt, rt.alloc(), &[A_SCAN_IS_REFUSED])
 }
 
 #[test]

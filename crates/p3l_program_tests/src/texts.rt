@@ -98,3 +98,14 @@ pub const HALVES: &str =
 
 /// Compiling of m.p3l.
 pub const COMPILED: Step = Step("compile m.p3l --processors 4 --output i", "", SILENT);
+
+/// A list of five elements folded by subtraction, and one of four.
+pub const LESS_OF_FIVE: &str =
+    "seq less in(int x, int y) out(int z) ${ z = x - y; }$ end seq reduce main in(int a[5]) out(int s) workers 2 less in(a[*i]) out(s) end reduce";
+
+pub const LESS_OF_FOUR: &str =
+    "seq less in(int x, int y) out(int z) ${ z = x - y; }$ end seq reduce main in(int a[4]) out(int s) less in(a[*i]) out(s) end reduce";
+
+pub const NOT_REDUCE: Ends = Ends(15, "", "scan: 120 NotReduce\n");
+
+pub const BAD_SEGMENTS: Ends = Ends(15, "", "scan: 121 BadSegments\n");

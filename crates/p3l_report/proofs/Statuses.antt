@@ -6,6 +6,7 @@ use Rattle.p3l_ast.specs.declared.refusal.Fault.{Fault}
 use Rattle.p3l_stream.specs.declared.items.Ending.{Ending}
 use Rattle.p3l_stream.specs.declared.items.Ending.TheVariants as ending
 use Rattle.p3l_report.specs.declared.cost_fault.CostFault.{CostFault}
+use Rattle.p3l_report.specs.declared.scan_fault.ScanFault.{ScanFault}
 use Rattle.p3l_report.specs.declared.stats.Stats.{Stats}
 use Rattle.p3l_report.specs.declared.verdict.Refusal.{Refusal}
 use Rattle.p3l_report.specs.declared.verdict.Refusal.TheVariants as refusal
@@ -165,6 +166,11 @@ pub schedule_is : (r : Refusal) → refusal_status r ≡ status.schedule → (li
 schedule_is (refusal.BadPick line) h = (line, inl refl)
 schedule_is (refusal.NoSuchProcess line pick count) h = (line, inr (pick, (count, refl)))
 schedule_is _ h = absurd (omega arith)
+
+-- 15 is a program that can't be scanned alone
+pub scan_is : (r : Refusal) → refusal_status r ≡ status.scan → (fault : ScanFault) × (r ≡ refusal.Scan fault)
+scan_is (refusal.Scan fault) h = (fault, refl)
+scan_is _ h = absurd (omega arith)
 
 -- 11 is want of memory alone
 pub no_memory_is : (v : Verdict) → status_of v ≡ status.no_memory → v ≡ verdict.NoMemory

@@ -1,5 +1,6 @@
 pub mod CostFault
 pub mod Evidence
+pub mod ScanFault
 pub mod Status
 pub mod LineFault
 pub mod Trap

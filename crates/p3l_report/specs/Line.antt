@@ -7,6 +7,7 @@ use Rattle.p3l_ast.specs.Refusal as source
 use Rattle.p3l_base.specs.declared.outcome.TrapKind.{TrapKind}
 use Rattle.p3l_report.specs.declared.line_fault.LineFault.{LineFault}
 use Rattle.p3l_report.specs.declared.stats.Stats.{Stats}
+use Rattle.p3l_report.specs.declared.stats.Stats.TheVariants as stats
 use Rattle.p3l_report.specs.LineFault.{number_of, name_of}
 use Rattle.p3l_report.specs.Trap.{kind_text}
 
@@ -48,8 +49,11 @@ abbrev pub trap_line : ℕ → TrapKind → List ℕ → List ℕ
 trap_line item kind home =
     codes "trap: item " ++ (decimal item ++ (codes ": " ++ (kind_text kind ++ (codes " in " ++ (home ++ codes "\n")))))
 
--- stats: items N, fired F, idle I, bound B
+-- stats: items N, fired F, idle I, bound B; and of a run in virtual time
+-- time: items N, fired F, finish T, busiest P B
 abbrev pub stats_line : Stats → List ℕ
-stats_line stats =
-    codes "stats: items " ++ (decimal stats.items ++ (codes ", fired " ++ (decimal stats.fired
-    ++ (codes ", idle " ++ (decimal stats.idle ++ (codes ", bound " ++ (decimal stats.bound ++ codes "\n")))))))
+stats_line (stats.Scheduled items fired idle bound) =
+    codes "stats: items " ++ (decimal items ++ (codes ", fired " ++ (decimal fired ++ (codes ", idle " ++ (decimal idle ++ (codes ", bound " ++ (decimal bound ++ codes "\n")))))))
+stats_line (stats.Timed items fired finish busiest busy) =
+    codes "time: items " ++ (decimal items ++ (codes ", fired " ++ (decimal fired ++ (codes ", finish " ++ (decimal finish
+    ++ (codes ", busiest " ++ (decimal busiest ++ (codes " " ++ (decimal busy ++ codes "\n")))))))))

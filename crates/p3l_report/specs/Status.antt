@@ -61,9 +61,13 @@ evidence = 13
 abbrev pub too_long : ℕ
 too_long = 14
 
+-- the program can't be scanned in so many segments
+abbrev pub scan : ℕ
+scan = 15
+
 -- the statuses of commands that are refused before anything is touched; of evidence that is so with some refusals alone
 abbrev pub is_refusal : ℕ → Bool
-is_refusal n = n == usage || n == source || n == costs || n == too_few || n == file || n == schedule
+is_refusal n = n == usage || n == source || n == costs || n == too_few || n == file || n == schedule || n == scan
 
 -- the statuses of commands that come to their end; so does one whose trace differs
 abbrev pub is_end : ℕ → Bool

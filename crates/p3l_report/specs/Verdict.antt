@@ -13,6 +13,7 @@ use Rattle.p3l_report.specs.declared.verdict.Verdict.TheVariants as verdict
 use Rattle.p3l_report.specs.CostFault.{cost_line}
 use Rattle.p3l_report.specs.Evidence.{evidence_line}
 use Rattle.p3l_report.specs.Line.{counted_line, named_line, need_line, pick_line, source_line, stats_line, stopped_line, told_line, trap_line}
+use Rattle.p3l_report.specs.ScanFault.{scan_line}
 use Rattle.p3l_report.specs.Status as status
 
 -- the status of a refusal
@@ -26,6 +27,7 @@ refusal_status (refusal.TooFew need) = status.too_few
 refusal_status (refusal.BadPick line) = status.schedule
 refusal_status (refusal.NoSuchProcess line pick count) = status.schedule
 refusal_status (refusal.Evidence why) = status.evidence
+refusal_status (refusal.Scan why) = status.scan
 
 -- the status of a run whose stream ended so
 abbrev pub ending_status : Ending → ℕ
@@ -62,6 +64,7 @@ refusal_line (refusal.TooFew need) = need_line need
 refusal_line (refusal.BadPick line) = told_line (codes "schedule") line fault.BadPick
 refusal_line (refusal.NoSuchProcess line pick count) = pick_line line fault.NoSuchProcess pick count
 refusal_line (refusal.Evidence why) = evidence_line why
+refusal_line (refusal.Scan why) = scan_line why
 
 -- the line of a run whose stream ended so, or no bytes where none is due
 abbrev pub ending_line : Ending → List ℕ

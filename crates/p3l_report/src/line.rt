@@ -120,15 +120,32 @@ pub fn trapped_line(alloc: Global, item: u64, kind: TrapKind, home: &Name) -> Re
 }
 
 /// The line of the numbers of a run.
-pub fn numbers_line(alloc: Global, stats: &Stats) -> Result<Line, NoMemory>
-    ensures { IfOk result (λ line. line_text line ≡ stats_line stats.now) }
+pub fn numbers_line(alloc: Global, stats: Stats) -> Result<Line, NoMemory>
+    ensures { IfOk result (λ line. line_text line ≡ stats_line stats) }
 {
-    let items = stats.items;
-    let fired = stats.fired;
-    let idle = stats.idle;
-    let bound = stats.bound;
-    let text = format!(in alloc;
-        "stats: items {items}, fired {fired}, idle {idle}, bound {bound}\n"
-    )?;
-    Ok(Line::Made(text))
+    match stats {
+        Stats::Scheduled {
+            items,
+            fired,
+            idle,
+            bound,
+        } => {
+            let text = format!(in alloc;
+                "stats: items {items}, fired {fired}, idle {idle}, bound {bound}\n"
+            )?;
+            Ok(Line::Made(text))
+        }
+        Stats::Timed {
+            items,
+            fired,
+            finish,
+            busiest,
+            busy,
+        } => {
+            let text = format!(in alloc;
+                "time: items {items}, fired {fired}, finish {finish}, busiest {busiest} {busy}\n"
+            )?;
+            Ok(Line::Made(text))
+        }
+    }
 }

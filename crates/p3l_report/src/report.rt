@@ -13,6 +13,7 @@ use crate::line::{
     refused_line, trapped_line,
 };
 use crate::line_fault::LineFault;
+use crate::scan_fault::scan_line;
 use crate::verdict::{Finish, Refusal, Verdict};
 use p3l_base::NoMemory;
 use p3l_io::Sink;
@@ -46,6 +47,7 @@ fn line_of_refusal(alloc: Global, refusal: &Refusal) -> Result<Line, NoMemory>
             *count,
         ),
         Refusal::Evidence(evidence) => evidence_line(alloc, evidence),
+        Refusal::Scan(fault) => Ok(scan_line(*fault)),
     }
 }
 
@@ -107,7 +109,7 @@ fn line_of_numbers(alloc: Global, verdict: &Verdict) -> Result<Option<Line>, NoM
     ensures { IfOk result (λ line. optional_text line ≡ reported_line verdict.now) }
 {
     match verdict {
-        Verdict::Ended(_, Some(stats)) => Ok(Some(numbers_line(alloc, stats)?)),
+        Verdict::Ended(_, Some(stats)) => Ok(Some(numbers_line(alloc, *stats)?)),
         _ => Ok(None),
     }
 }

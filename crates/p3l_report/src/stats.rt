@@ -1,14 +1,30 @@
 // The numbers of a run.
 
-/// The numbers of a run.
+/// The numbers of a run, as they are reported.
 #[derive(Clone, Copy, Debug, Drop, PartialEq, Eq)]
-pub struct Stats {
-    /// How many items the source process has sent.
-    pub items: u64,
-    /// How many firings there were.
-    pub fired: u64,
-    /// How many picks could not fire.
-    pub idle: u64,
-    /// The bound on the firings: the items, each with the firings that it can need.
-    pub bound: u64,
+pub enum Stats {
+    /// Of a run under a schedule.
+    Scheduled {
+        /// How many items the source process has sent.
+        items: u64,
+        /// How many firings there were.
+        fired: u64,
+        /// How many picks could not fire.
+        idle: u64,
+        /// The bound on the firings: the items, each with the firings that it can need.
+        bound: u64,
+    },
+    /// Of a run in virtual time.
+    Timed {
+        /// How many items the source process has sent.
+        items: u64,
+        /// How many firings there were.
+        fired: u64,
+        /// The moment of the last firing, in ticks.
+        finish: u128,
+        /// The process that was busy longest, the lowest of equals.
+        busiest: u32,
+        /// How long it was busy, in ticks.
+        busy: u128,
+    },
 }

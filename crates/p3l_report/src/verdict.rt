@@ -5,6 +5,7 @@ ghost use Rattle.p3l_report.specs.Verdict.{ending_status, finish_status, refusal
 
 use crate::cost_fault::CostFault;
 use crate::evidence::Evidence;
+use crate::scan_fault::ScanFault;
 use crate::stats::Stats;
 use p3l_ast::{Fault, Pos};
 use p3l_base::{Name, TrapKind};
@@ -35,6 +36,8 @@ pub enum Refusal {
     NoSuchProcess { line: u64, pick: u64, count: u32 },
     /// An image, a certificate or a trace is refused.
     Evidence(Evidence),
+    /// The program can't be scanned in so many segments.
+    Scan(ScanFault),
 }
 
 /// How a command came to its end, with all written that was due by then.
@@ -87,6 +90,7 @@ impl Refusal {
             Refusal::TooFew { .. } => Status(5),
             Refusal::BadPick { .. } | Refusal::NoSuchProcess { .. } => Status(12),
             Refusal::Evidence(_) => Status(13),
+            Refusal::Scan(_) => Status(15),
         }
     }
 }

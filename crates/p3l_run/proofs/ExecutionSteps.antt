@@ -217,9 +217,9 @@ module _ (job : Job) where
         by_trap (Some t) c calm is ends = absurd (let z : true ≡ false = calm in cc)
 
     -- no pick is left
-    module _ (over : IsOver e) (tree : Tree) (tree_is : tree ≡ n.tree) (ran : Ran) (finishes_so : IsFinish tree e ran.finish) (stats_are : ran.stats ≡ stats_at e) (lines_are : ran.lines ≡ e.kept) (sum_is : ran.sum ≡ e.told.sum) where
-      finish_is : IsFinish n.tree e ran.finish
-      finish_is = subst (λ t. IsFinish t e ran.finish) tree_is finishes_so
+    module _ (over : IsOver e) (named : Tree) (named_is : named ≡ n.named) (ran : Ran) (finishes_so : IsFinish named e ran.finish) (stats_are : ran.stats ≡ stats_at e) (lines_are : ran.lines ≡ e.kept) (sum_is : ran.sum ≡ e.told.sum) where
+      finish_is : IsFinish n.named e ran.finish
+      finish_is = subst (λ t. IsFinish t e ran.finish) named_is finishes_so
 
       pub none_left : (later : List (List ℤ)) → MayCome n e.close later → picks_from n.tree n.leaf n.net (left_of (n.firings * length (d.items ++ later)) e.machine.fired e.picker) e.picker (course_under n (d.items ++ later) (trace.picks_of d.walked)) ≡ []
       none_left = by over
@@ -242,9 +242,9 @@ module _ (job : Job) where
           by [] is =
               let count : e.machine.emitted ≡ length d.outcomes = (d.stands.at later may).follows.emitted.count in
               finish_is.stuck is x ends
-              ∙ ap (λ k. end_of n.tree e.told.trap k x) count
-              ∙ ap (λ t. end_of n.tree t (length d.outcomes) x) d.trap_is
-              ∙ ap (λ o. end_of n.tree (trap_of o) (length o) x) (sym (emitted later may))
+              ∙ ap (λ k. end_of n.named e.told.trap k x) count
+              ∙ ap (λ t. end_of n.named t (length d.outcomes) x) d.trap_is
+              ∙ ap (λ o. end_of n.named (trap_of o) (length o) x) (sym (emitted later may))
               ∙ sym (cond-false _ _ _ (goes later may ∙ ap is_some is))
           by (p ∷ ps) is =
               finish_is.stopped (λ none. (let z : [] ≡ p ∷ ps = sym none ∙ is in cc))
@@ -255,7 +255,7 @@ module _ (job : Job) where
       pub closed_so_is : (x : Ending) → ran.finish ≡ finish.Stream x → e.close ≡ Some x
       closed_so_is x is = by (ready_list e.machine) refl
         where
-          by_close : (t : Option Trap) (c : Option Ending) → (IsNone t → IsSome c) → ((y : Ending) → MayEnd c y → ran.finish ≡ end_of n.tree t e.machine.emitted y) → c ≡ Some x
+          by_close : (t : Option Trap) (c : Option Ending) → (IsNone t → IsSome c) → ((y : Ending) → MayEnd c y → ran.finish ≡ end_of n.named t e.machine.emitted y) → c ≡ Some x
           by_close None None must ends = absurd (let z : false ≡ true = must refl in cc)
           by_close None (Some y) must ends = (let z : finish.Stream y ≡ finish.Stream x = sym (ends y refl) ∙ is in let same : y ≡ x = cc in ap (λ k. Some k) same)
           by_close (Some t) None must ends = absurd (let z = sym (ends x tt) ∙ is in cc)

@@ -46,7 +46,7 @@ use Rattle.p3l_run.specs.declared.write.Told.{Told}
 use Rattle.p3l_run.specs.Execution.{Ends, Executes, HasFired, IsFinish, Job, Outside, outside, started, stats_at}
 use Rattle.p3l_run.specs.Feed.{Feeds, FeedsInVain, Offers, closed_so, input_limit, most_of_input}
 use Rattle.p3l_run.specs.Laws.{Laws}
-use Rattle.p3l_run.specs.Network.{Network, course_of, course_under, meaning_of, ready_at, size_of, width_of}
+use Rattle.p3l_run.specs.Network.{Network, picks_of as picks_under, course_of, course_under, meaning_of, ready_at, size_of, width_of}
 use Rattle.p3l_run.specs.Run.{MayCome}
 use Rattle.p3l_run.specs.Steps.{Stands}
 use Rattle.p3l_run.specs.Timed.{AreTimed, AtTime, AwaitsInTime, EndsEarly, EndsInTime, GoesInTime, InTime, NoneIsDue, timing, under}
@@ -289,15 +289,23 @@ module _ (job : Job) (prices : List ℕ) where
           let over = (in_time e.machine x.outcomes later t k (follows later may) (filled later may) at.times).none none in
           subst (AreTimed n prices (x.items ++ later)) (append-nil it.picks) (at.front [] (fires_none n.tree n.leaf n.net (price_at prices) t over))
 
+      -- all picks were made
+      made_all : (later : List (List ℤ)) → MayCome n e.close later → picks_under n (schedules.Recorded it.picks) (x.items ++ later) ≡ it.picks
+      unfolding picks_of
+      made_all = all_made n x.laws e.machine x.items e.close x.outcomes x.walked it.picks (stands now e k it) it.walked_are filled
+
       -- so it is over
-      pub ended_in_time : (tree : Tree) → tree ≡ n.tree → (ran : Ran) → IsFinish tree e ran.finish → ran.stats ≡ stats_at e → ran.lines ≡ e.kept → ran.sum ≡ e.told.sum → EndsInTime job prices now ran k
+      pub ended_in_time : (named : Tree) → named ≡ n.named → (ran : Ran) → IsFinish named e ran.finish → ran.stats ≡ stats_at e → ran.lines ≡ e.kept → ran.sum ≡ e.told.sum → EndsInTime job prices now ran k
       unfolding ends_over
-      ended_in_time tree tree_is ran finish_is stats_are lines_are sum_is = record {
+      ended_in_time named named_is ran finish_is stats_are lines_are sum_is = record {
         picks = it.picks;
-        ends = ends_over (under job it.picks) now e (record { executes = x; filled = a.filled }) (inl stuck) tree tree_is ran finish_is stats_are lines_are sum_is;
+        ends = ends_over (under job it.picks) now e (record { executes = x; filled = a.filled }) (inl stuck) named named_is ran finish_is stats_are lines_are sum_is;
         timed = are_timed;
         finish = λ later may. (it.at later may).times.moment;
         busy = it.busy;
+        made = made_all;
+        prices_are = it.prices_are;
+        some = some_prices now e k it;
       }
 
     -- a process fired, which was due next

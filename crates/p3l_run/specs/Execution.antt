@@ -133,9 +133,9 @@ pub record HasFired (leaf : Leaf) (p : ℕ) (old new : Execution) (handed : Opti
   pub fires : Fires leaf old.machine new.machine p handed
   pub rest : new ≡ record old { machine = new.machine; kept = kept_with p (Some kind) old.kept }
 
--- how an execution ends that stands so, and has no pick left
-pub record IsFinish (tree : Tree) (e : Execution) (f : RunEnd) : Type 0 where
-  pub stuck : ready_list e.machine ≡ [] → (close : Ending) → MayEnd e.close close → f ≡ end_of tree e.told.trap e.machine.emitted close
+-- how an execution ends that stands so, and has no pick left, where the modules of this tree name its trap
+pub record IsFinish (named : Tree) (e : Execution) (f : RunEnd) : Type 0 where
+  pub stuck : ready_list e.machine ≡ [] → (close : Ending) → MayEnd e.close close → f ≡ end_of named e.told.trap e.machine.emitted close
   pub stopped : ready_list e.machine ≢ [] → f ≡ finish.Stopped e.machine.fired e.idle
 
 -- the numbers of an execution
@@ -182,6 +182,6 @@ abbrev pub RunsOut : Leaf → Outside → Outside → Execution → Execution �
 RunsOut leaf before now old new (Ok done) = (job : Job) → job.network.leaf ≡ leaf → Executes job before old → AwaitsPick job now new × IsOver new
 RunsOut leaf before now old new (Err failed) = (job : Job) → job.network.leaf ≡ leaf → Executes job before old → Ends job now (Err failed)
 
--- whatever job it executes, with these bodies of modules, an execution comes to the end of its run
-abbrev pub Completes : Leaf → Outside → Outside → Execution → Result Ran RunFault → Type 0
-Completes leaf before now e result = (job : Job) → job.network.leaf ≡ leaf → Executes job before e → Ends job now result
+-- whatever job it executes, with these bodies of modules and this tree to name traps, an execution comes to the end of its run
+abbrev pub Completes : Leaf → Tree → Outside → Outside → Execution → Result Ran RunFault → Type 0
+Completes leaf named before now e result = (job : Job) → job.network.leaf ≡ leaf → job.network.named ≡ named → Executes job before e → Ends job now result

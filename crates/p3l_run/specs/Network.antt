@@ -16,9 +16,11 @@ use Rattle.p3l_sched.specs.declared.schedule.Schedule.TheVariants.{Recorded}
 use Rattle.p3l_sched.specs.Course as schedules
 use Rattle.p3l_sched.specs.Picker.{ready_of}
 
--- a tree, what its `seq` modules do with words, the net that runs it, and how often that can fire for one item
+-- a tree, the tree whose modules name its traps, what its `seq` modules do with words, the net that runs it, and how often that
+-- can fire for one item
 pub record Network : Type 0 where
   pub tree : Tree
+  pub named : Tree
   pub leaf : ℕ → List ℤ → Outcome
   pub net : Net
   pub firings : ℕ
@@ -84,6 +86,10 @@ pub record IsRunOn (n : Network) (schedule : Schedule) (items : List (List ℤ))
   pub stats_are : stats ≡ stats_of n (course_of n schedule items)
   pub bounded : stats.fired ≤ n.firings * stats.items
 
--- the network of these parts
+-- the network of these parts, whose traps are named by the modules of the first tree
+abbrev pub network_named : Tree → Tree → (ℕ → List ℤ → Outcome) → Net → ℕ → Network
+network_named named tree leaf net firings = record { tree = tree; named = named; leaf = leaf; net = net; firings = firings }
+
+-- the network of these parts, whose traps are named by its own modules
 abbrev pub network : Tree → (ℕ → List ℤ → Outcome) → Net → ℕ → Network
-network tree leaf net firings = record { tree = tree; leaf = leaf; net = net; firings = firings }
+network tree leaf net firings = network_named tree tree leaf net firings

@@ -30,7 +30,8 @@ use Rattle.p3l_run.specs.Write.{HasBegun, HasPut}
 abbrev pub module_name : Tree → ℕ → List ℕ
 module_name tree k = (slice_index_or tree.modules k no_module).name
 
--- how a run ends in which no process can fire, and whose stream ended so: by the trap that was emitted last, if there is one
+-- how a run ends in which no process can fire, and whose stream ended so: by the trap that was emitted last, if there is one,
+-- which a module of this tree names
 abbrev pub end_of : Tree → Option Trap → ℕ → Ending → RunEnd
 end_of tree None emitted close = finish.Stream close
 end_of tree (Some trap) emitted close = finish.Trapped emitted trap.kind (module_name tree trap.module)
@@ -38,7 +39,7 @@ end_of tree (Some trap) emitted close = finish.Trapped emitted trap.kind (module
 -- how a run ends that stands so, and whose stream ended so: it was stopped where some process can fire
 abbrev pub finish_of : Network → Course → Ending → RunEnd
 finish_of n c close =
-    cond (goes_on n c) (finish.Stopped c.fired c.idle) (end_of n.tree (trap_of c.state.emitted) (length c.state.emitted) close)
+    cond (goes_on n c) (finish.Stopped c.fired c.idle) (end_of n.named (trap_of c.state.emitted) (length c.state.emitted) close)
 
 -- these items may still come after those given, none where the stream ended
 pub record MayCome (n : Network) (close : Option Ending) (later : List (List ℤ)) : Type 0 where

@@ -1,8 +1,9 @@
 -- A run whose picks a timer makes: it is the run under these picks, as if they had been recorded.
-use Rattle.std.specs.Prelude.{◌≡◌, ◌≢◌, ℕ, ℤ, ◌+◌, true, false, Bool, List, [], ◌++◌, length, Option, None, Result, Ok, Err, slice_index}
+use Rattle.std.specs.Prelude.{◌≡◌, ◌≢◌, ℕ, ℤ, ◌+◌, ◌<◌, true, false, Bool, List, [], ◌++◌, length, Option, None, Result, Ok, Err, slice_index}
 use Rattle.p3l_base.specs.declared.memory.NoMemory.{NoMemory}
 use Rattle.p3l_firing.specs.Nodes.{Leaf}
 use Rattle.p3l_net.specs.Machine.{Seen}
+use Rattle.p3l_skel.specs.declared.tree.Tree.{Tree}
 use Rattle.p3l_sched.specs.declared.picker.Way.TheVariants as way
 use Rattle.p3l_sched.specs.declared.schedule.Schedule.TheVariants as schedule
 use Rattle.p3l_trace.specs.Agreement as trace
@@ -18,7 +19,7 @@ use Rattle.p3l_run.specs.declared.in_time.TimedRan.{TimedRan}
 use Rattle.p3l_run.specs.declared.keeping.Keeping.{Keeping}
 use Rattle.p3l_run.specs.declared.run.Ran.{Ran}
 use Rattle.p3l_run.specs.Execution.{Ends, Executes, Job, Outside, outside}
-use Rattle.p3l_run.specs.Network.{Network}
+use Rattle.p3l_run.specs.Network.{Network, picks_of}
 use Rattle.p3l_run.specs.Run.{MayCome}
 
 -- the job under these picks
@@ -64,6 +65,9 @@ pub record EndsInTime (job : Job) (prices : List ℕ) (now : Outside) (ran : Ran
   pub finish : (later : List (List ℤ)) → MayCome job.network ends.ends.close later →
       k.moment ≡ finish_of job.network.tree job.network.leaf job.network.net (price_at prices) (ends.ends.items ++ later) picks
   pub busy : (p : ℕ) → slice_index k.busy p ≡ busy_of (price_at prices) picks p
+  pub made : (later : List (List ℤ)) → MayCome job.network ends.ends.close later → picks_of job.network (schedule.Recorded picks) (ends.ends.items ++ later) ≡ picks
+  pub prices_are : k.prices ≡ prices
+  pub some : 0 < length k.prices
 
 -- a run that ended early, under the picks so far
 pub record EndsEarly (job : Job) (now : Outside) (failed : RunFault) : Type 0 where
@@ -134,9 +138,10 @@ abbrev pub IsTimedEnd : Job → List ℕ → Outside → Result TimedRan RunFaul
 IsTimedEnd job prices now (Ok end) = EndsInTime job prices now end.ran end.timer
 IsTimedEnd job prices now (Err failed) = EndsEarly job now failed
 
--- whatever job is under way, with these bodies of modules, an execution comes to the end of its run
-abbrev pub CompletesInTime : Leaf → Outside → Outside → Execution → Clock → Result TimedRan RunFault → Type 0
-CompletesInTime leaf before now e k result = (job : Job) (prices : List ℕ) → job.network.leaf ≡ leaf → InTime job prices before e k → IsTimedEnd job prices now result
+-- whatever job is under way, with these bodies of modules and this tree to name traps, an execution comes to the end of its run
+abbrev pub CompletesInTime : Leaf → Tree → Outside → Outside → Execution → Clock → Result TimedRan RunFault → Type 0
+CompletesInTime leaf named before now e k result =
+    (job : Job) (prices : List ℕ) → job.network.leaf ≡ leaf → job.network.named ≡ named → InTime job prices before e k → IsTimedEnd job prices now result
 
 -- a run of a network in virtual time, of which so much is kept
 abbrev pub timed_job : Network → Keeping → Outside → Job

@@ -70,11 +70,12 @@ impl<'t> Execution<'t> {
         })
     }
 
-    /// Makes all picks that are left, and says how the run ended.
+    /// Makes all picks that are left, and says how the run ended; the modules of a tree name its trap.
     pub(crate) fn complete<U: Units, S: Source, K: Sink>(
         mut self,
         alloc: Global,
         tree: &Tree,
+        named: &Tree,
         units: &U,
         input: &mut S,
         out: &mut K,
@@ -84,13 +85,13 @@ impl<'t> Execution<'t> {
         requires job { IsUnderWay (U.leaf units.now)
             (outside (S.rest input.old) (S.faults input.old) (K.taken out.old) (K.faults out.old))
             self }
-        ensures { Completes (U.leaf units.now)
+        ensures { Completes (U.leaf units.now) named.now
             (outside (S.rest input.old) (S.faults input.old) (K.taken out.old) (K.faults out.old))
             (outside (S.rest input.new) (S.faults input.new) (K.taken out.new) (K.faults out.new))
             self.entry result }
     {
         self.run_out(alloc, tree, units, input, out)?;
-        Ok(self.into_ran(alloc, tree)?)
+        Ok(self.into_ran(alloc, named)?)
     }
 
     /// Makes one pick after another until none is left, and asks for an item before each where the
@@ -209,16 +210,17 @@ impl<'t> Execution<'t> {
         Ok(fired.emitted)
     }
 
-    /// How the run ended, where no pick is left, with its numbers and what was kept of it.
-    pub(crate) fn into_ran(self, alloc: Global, tree: &Tree) -> Result<Ran, NoMemory>
+    /// How the run ended, where no pick is left, with its numbers and what was kept of it; the modules
+    /// of a tree name its trap.
+    pub(crate) fn into_ran(self, alloc: Global, named: &Tree) -> Result<Ran, NoMemory>
         requires fits { self.machine.sent * self.firings < 2 ^ 64 }
         requires ended { ready_list self.machine ≡ [] → IsNone self.told.trap → IsSome self.close }
-        ensures finish { IfOk result (λ ran. IsFinish tree.now self.entry ran.finish) }
+        ensures finish { IfOk result (λ ran. IsFinish named.now self.entry ran.finish) }
         ensures stats { IfOk result (λ ran. ran.stats ≡ stats_at self.entry) }
         ensures lines { IfOk result (λ ran. ran.lines ≡ self.entry.kept) }
         ensures sum { IfOk result (λ ran. ran.sum ≡ self.entry.told.sum) }
     {
-        let finish = self.finish(alloc, tree)?;
+        let finish = self.finish(alloc, named)?;
         let stats = stats_of(&self.machine, self.firings, self.idle);
         Ok(Ran {
             finish,
@@ -228,16 +230,16 @@ impl<'t> Execution<'t> {
         })
     }
 
-    /// How the run ended, where no pick is left.
-    fn finish(&self, alloc: Global, tree: &Tree) -> Result<RunEnd, NoMemory>
+    /// How the run ended, where no pick is left; the modules of a tree name its trap.
+    fn finish(&self, alloc: Global, named: &Tree) -> Result<RunEnd, NoMemory>
         requires { ready_list self.now.machine ≡ [] → IsNone self.now.told.trap
             → IsSome self.now.close }
-        ensures { IfOk result (IsFinish tree.now self.now) }
+        ensures { IfOk result (IsFinish named.now self.now) }
     {
         if self.machine.ready() == 0 {
             return finish_with(
                 alloc,
-                tree,
+                named,
                 self.told.trap,
                 self.machine.emitted(),
                 self.close,

@@ -127,7 +127,7 @@ impl<'t> Execution<'t> {
         requires job { IsInTime (U.leaf units.now)
             (outside (S.rest input.old) (S.faults input.old) (K.taken out.old) (K.faults out.old))
             self timer }
-        ensures { CompletesInTime (U.leaf units.now)
+        ensures { CompletesInTime (U.leaf units.now) tree.now
             (outside (S.rest input.old) (S.faults input.old) (K.taken out.old) (K.faults out.old))
             (outside (S.rest input.new) (S.faults input.new) (K.taken out.new) (K.faults out.new))
             self.entry timer result }

@@ -4,7 +4,7 @@ ghost use Rattle.std.specs.Prelude.{◌≡◌, ◌<◌, ◌≤◌, ◌*◌, ◌^
 ghost use Rattle.p3l_sched.specs.Picker.{NamesProcesses, recorded};
 ghost use Rattle.p3l_skel.specs.Tree.{node_at};
 ghost use Rattle.p3l_run.specs.Feed.{most_of_input};
-ghost use Rattle.p3l_run.specs.Network.{IsSound, network};
+ghost use Rattle.p3l_run.specs.Network.{IsSound, network, network_named};
 ghost use Rattle.p3l_run.specs.Run.{IsRunEnd};
 ghost use Rattle.p3l_run.specs.Write.{WriteCause};
 
@@ -17,7 +17,7 @@ use crate::plan::Plan;
 use p3l_base::List;
 use p3l_io::{Sink, Source};
 use p3l_sched::Schedule;
-use p3l_skel::Units;
+use p3l_skel::{Tree, Units};
 use p3l_stream::laws::a_stream_gives_its_items;
 use p3l_trace::TraceLine;
 use std::alloc::Global;
@@ -37,7 +37,7 @@ pub struct Ran {
 ///
 /// An item is asked for where the inbox is empty; a pick that can't fire is idle. The run ends where
 /// no process can fire, or the recorded picks are ended. Each pick is a line of the trace, where lines
-/// are to be kept: the process, and its kind if it fired.
+/// are to be kept: the process, and its kind if it fired. A module of the tree names a trap.
 pub fn run<U: Units, S: Source, K: Sink>(
     alloc: Global,
     plan: Plan<'_, U>,
@@ -59,6 +59,34 @@ pub fn run<U: Units, S: Source, K: Sink>(
         (K.taken out.old) (K.taken out.new) result }
     ensures output { WriteCause (K.faults out.old) (K.faults out.new) result }
 {
+    let named = plan.tree;
+    run_named(alloc, plan, named, schedule, keeping, input, out)
+}
+
+/// Runs a network as `run` does, but a module of another tree names a trap: where the bodies that are
+/// run do what that tree's do, and hand on their traps.
+pub fn run_named<U: Units, S: Source, K: Sink>(
+    alloc: Global,
+    plan: Plan<'_, U>,
+    named: &Tree,
+    schedule: Schedule,
+    keeping: Keeping,
+    input: &mut S,
+    out: &mut K,
+) -> Result<Ran, RunFault>
+    requires units { U.tree plan.units.now ≡ plan.tree.now }
+    requires sound { IsSound (network plan.tree.now (U.leaf plan.units.now) plan.net plan.firings) }
+    requires width { plan.width ≡ (node_at plan.tree.now 0).ins }
+    requires wide { 1 ≤ plan.width }
+    requires fits { plan.firings * most_of_input < 2 ^ 63 }
+    requires picks { NamesProcesses (length plan.net.procs) schedule }
+    requires few { recorded schedule < 2 ^ 63 }
+    ensures ends { IsRunEnd (network_named named.now plan.entry.tree.now
+        (U.leaf plan.entry.units.now) plan.entry.net plan.entry.firings) schedule keeping
+        (S.rest input.old) (S.rest input.new) (S.faults input.old) (S.faults input.new)
+        (K.taken out.old) (K.taken out.new) result }
+    ensures output { WriteCause (K.faults out.old) (K.faults out.new) result }
+{
     laws();
     a_stream_gives_its_items();
     let execution = Execution::start(
@@ -70,5 +98,5 @@ pub fn run<U: Units, S: Source, K: Sink>(
         schedule,
         keeping,
     )?;
-    execution.complete(alloc, plan.tree, plan.units, input, out)
+    execution.complete(alloc, plan.tree, named, plan.units, input, out)
 }

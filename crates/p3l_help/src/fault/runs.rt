@@ -1,8 +1,8 @@
-// Pages of refusals: picks, items and traces.
+// Pages of refusals: picks, items, traces and scans.
 
 use crate::page::Page;
 
-/// A page for each of the numbers 95 to 111.
+/// A page for each of the numbers 95 to 121.
 pub(crate) const RUNS: &[Page] = &[
     Page {
         topic: "95",
@@ -110,6 +110,35 @@ lines before it agree.
 
 To mend it: name the same program, processors, costs and capacity, and give the
 same input, as the run had.
+",
+    },
+    Page {
+        topic: "120",
+        text: "120 NotReduce
+
+The module `main` of a program that is to be scanned is no reduce.
+
+    $ echo 'seq main in(int x) out(int y) ${ y = x; }$ end seq' >a.p3l
+    $ echo 5 | p3l scan a.p3l --segments 1
+    scan: 120 NotReduce
+
+To mend it: let `main` be a reduce of the list, and write what else is to be done
+with its items as another program.
+",
+    },
+    Page {
+        topic: "121",
+        text: "121 BadSegments
+
+The segments are no power of two, or don't divide the length of the list that
+`main` folds. This one has six elements, so 1 and 2 segments do.
+
+    $ echo 'seq add in(int x, int y) out(int z) ${ z = x + y; }$ end seq
+    > reduce main in(int a[6]) out(int s) add in(a[*i]) out(s) end reduce' >a.p3l
+    $ echo 1 2 3 4 5 6 | p3l scan a.p3l --segments 4
+    scan: 121 BadSegments
+
+To mend it: give such a number of segments, or a longer list.
 ",
     },
 ];

@@ -268,19 +268,19 @@ end comp
 };
 
 pub const PREFIX: Example = Example {
-    program: "// The prefix sums of eight numbers: each result is the sum of all up to its place.
+    program: "// The running totals of eight numbers, by `p3l scan prefix.p3l --segments 4`: each result is the sum of
+// all up to its place. `p3l run` gives the last of them alone.
 const N = 8;
 
-seq main in(int a[N]) out(int sums[N])
+seq add in(int x, int y) out(int z)
 ${
-  int i;
-  int sum;
-  for (i = 0; i < N; i = i + 1) {
-    sum = sum + a[i];
-    sums[i] = sum;
-  }
+  z = x + y;
 }$
 end seq
+
+reduce main in(int a[N]) out(int sum)
+  add in(a[*i]) out(sum)
+end reduce
 ",
     input: "1 2 3 4 5 6 7 8
 5 -5 5 -5 5 -5 5 -5

@@ -45,3 +45,19 @@ returns-in-CheckTrace c = rw c.in-CheckTrace.is (IfOk-weaker c.command_with-in-C
 pub returns-in-Gen : goal.returns-in-Gen
 unfolding app_for
 returns-in-Gen c = rw c.in-Gen.is (IfOk-weaker c.command_with-in-Gen.result _ _ (λ r e. e) c.command_with-in-Gen.ensures)
+
+pub returns-in-Rewrite : goal.returns-in-Rewrite
+unfolding app_for
+returns-in-Rewrite c = rw c.in-Rewrite.is (IfOk-weaker c.command_with-in-Rewrite.result _ _ (λ r e. e) c.command_with-in-Rewrite.ensures)
+
+pub returns-in-Profile : goal.returns-in-Profile
+unfolding app_for
+returns-in-Profile c = rw c.in-Profile.is (IfOk-weaker c.command_with-in-Profile.result _ _ (λ r e. e) c.command_with-in-Profile.ensures)
+
+pub returns-in-Time : goal.returns-in-Time
+unfolding app_for
+returns-in-Time c = rw c.in-Time.is (IfOk-weaker c.command_with-in-Time.result _ _ (λ r e. e) c.command_with-in-Time.ensures)
+
+pub returns-in-Scan : goal.returns-in-Scan
+unfolding app_for
+returns-in-Scan c = rw c.in-Scan.is (IfOk-weaker c.command_with-in-Scan.result _ _ (λ r e. e) c.command_with-in-Scan.ensures)

@@ -1,6 +1,6 @@
-use Rattle.std.proofs.Common.{◌≡◌, refl, subst, sym, ◌∙◌}
+use Rattle.std.proofs.Common.{◌≡◌, refl, subst, sym, ap, ◌∙◌}
 use Rattle.p3l_program.specs.Run.{IsRunOf, KeepsRun}
-use Rattle.p3l_run.specs.Network.{IsSound}
+use Rattle.p3l_run.specs.Network.{IsSound, Network}
 use Rattle.p3l_skel.specs.Numbers.{firings}
 use Rattle.p3l_program.specs.World.{change, files_change}
 use Rattle.p3l_program.proofs.SoundSteps.{loaded_network, loaded_sound}
@@ -17,7 +17,7 @@ returns-clause-ran g c =
     let input = change g.S.Source.rest g.S.Source.faults c.args.input.now c.run_plan.new.input in
     let out = change g.K.Sink.taken g.K.Sink.faults c.args.out.now c.run_plan.new.out in
     let bound = firings c.args.loaded.tree c.args.loaded.counts.list in
-    let same = c.plan_of-plan.ensures.network ∙ loaded_network c.args.loaded c.requires.ready c.in-Ok.units c.in-Ok.ensures bound refl in
+    let same = ap (λ (n : Network). record n { named = c.args.loaded.tree }) c.plan_of-plan.ensures.network ∙ loaded_network c.args.loaded c.requires.ready c.in-Ok.units c.in-Ok.ensures bound refl in
     subst (λ n. IsRunOf n files input out c.args.asked c.args.trace c.args.reported c.run_plan.result) same c.run_plan.ensures.ran
 
 pub returns-clause-kept : goal.returns-clause-kept
@@ -26,5 +26,5 @@ returns-clause-kept g c =
     let input = change g.S.Source.rest g.S.Source.faults c.args.input.now c.run_plan.new.input in
     let out = change g.K.Sink.taken g.K.Sink.faults c.args.out.now c.run_plan.new.out in
     let bound = firings c.args.loaded.tree c.args.loaded.counts.list in
-    let same = c.plan_of-plan.ensures.network ∙ loaded_network c.args.loaded c.requires.ready c.in-Ok.units c.in-Ok.ensures bound refl in
+    let same = ap (λ (n : Network). record n { named = c.args.loaded.tree }) c.plan_of-plan.ensures.network ∙ loaded_network c.args.loaded c.requires.ready c.in-Ok.units c.in-Ok.ensures bound refl in
     subst (λ n. KeepsRun n files input out c.args.asked c.args.trace c.run_plan.result) same c.run_plan.ensures.kept

@@ -3,7 +3,7 @@ use Rattle.p3l_opts.specs.declared.command.Command.TheVariants as command
 use Rattle.p3l_opts.specs.Command.{Spells, texts_of}
 use Rattle.p3l_program.specs.Command.{work_of}
 use Rattle.p3l_program.specs.World.{change, files_change}
-use Rattle.p3l_program.proofs.DueSteps.{check_asked, file_asked, gen_asked, run_asked, saving_asked, text_asked}
+use Rattle.p3l_program.proofs.DueSteps.{check_asked, file_asked, gen_asked, profile_asked, run_asked, saving_asked, text_asked, time_asked}
 use Rattle.p3l_program.proofs.GenSteps.{items_few}
 use Rattle.p3l_program.proofs.top.perform.Goals as goal
 
@@ -148,4 +148,51 @@ returns-in-Ok-Gen g c =
           gen_asked (texts_of c.args.words.now) _ spelled (files_change g.F.Files.held g.F.Files.faults g.F.Files.failed c.args.files.now c.run_generated.new.files)
           (change g.K.Sink.taken g.K.Sink.faults c.args.out.now c.run_generated.new.out) (g.S.Source.rest c.args.input.now) (g.S.Source.faults c.args.input.now)
           c.run_generated.result _ refl c.run_generated.ensures.due;
+    }
+
+pub returns-in-Ok-Rewrite : goal.returns-in-Ok-Rewrite
+unfolding work_of
+returns-in-Ok-Rewrite g c =
+    let asked = c.in-Ok-Rewrite in
+    let spelled : Spells (texts_of c.args.words.now) (command.Rewrite asked.program asked.processors asked.costs) = search (rules, asked.ensures.spelled) in record {
+      due =
+          text_asked (texts_of c.args.words.now) _ spelled (files_change g.F.Files.held g.F.Files.faults g.F.Files.failed c.args.files.now c.rewrite.new.files)
+          (change g.K.Sink.taken g.K.Sink.faults c.args.out.now c.rewrite.new.out) (g.S.Source.rest c.args.input.now) (g.S.Source.faults c.args.input.now)
+          c.rewrite.result _ _ refl c.rewrite.ensures.due c.rewrite.ensures.stays;
+    }
+
+pub returns-in-Ok-Profile : goal.returns-in-Ok-Profile
+unfolding work_of
+returns-in-Ok-Profile g c =
+    let asked = c.in-Ok-Profile in
+    let spelled : Spells (texts_of c.args.words.now) (command.Profile asked.name) = search (rules, asked.ensures.spelled) in record {
+      due =
+          profile_asked (texts_of c.args.words.now) _ spelled (files_change g.F.Files.held g.F.Files.faults g.F.Files.failed c.args.files.now c.profile.new.files)
+          (change g.S.Source.rest g.S.Source.faults c.args.input.now c.profile.new.input)
+          (change g.K.Sink.taken g.K.Sink.faults c.args.out.now c.profile.new.out)
+          c.profile.result _ refl c.profile.ensures.due c.profile.ensures.stays;
+    }
+
+pub returns-in-Ok-Time : goal.returns-in-Ok-Time
+unfolding work_of
+returns-in-Ok-Time g c =
+    let asked = c.in-Ok-Time in
+    let spelled : Spells (texts_of c.args.words.now) (command.Time asked.build asked.picks) = search (rules, asked.ensures.spelled) in record {
+      due =
+          time_asked (texts_of c.args.words.now) _ spelled (files_change g.F.Files.held g.F.Files.faults g.F.Files.failed c.args.files.now c.time.new.files)
+          (change g.S.Source.rest g.S.Source.faults c.args.input.now c.time.new.input)
+          (change g.K.Sink.taken g.K.Sink.faults c.args.out.now c.time.new.out)
+          c.time.result _ _ refl c.time.ensures.due c.time.ensures.kept c.time.ensures.over;
+    }
+
+pub returns-in-Ok-Scan : goal.returns-in-Ok-Scan
+unfolding work_of
+returns-in-Ok-Scan g c =
+    let asked = c.in-Ok-Scan in
+    let spelled : Spells (texts_of c.args.words.now) (command.Scan asked.name asked.segments asked.schedule asked.capacity asked.reported) = search (rules, asked.ensures.spelled) in record {
+      due =
+          run_asked (texts_of c.args.words.now) _ spelled (files_change g.F.Files.held g.F.Files.faults g.F.Files.failed c.args.files.now c.scan.new.files)
+          (change g.S.Source.rest g.S.Source.faults c.args.input.now c.scan.new.input)
+          (change g.K.Sink.taken g.K.Sink.faults c.args.out.now c.scan.new.out)
+          c.scan.result _ refl c.scan.ensures.due c.scan.ensures.kept c.scan.ensures.over;
     }

@@ -1,4 +1,4 @@
-use Rattle.std.proofs.Common.{◌∙◌}
+use Rattle.std.proofs.Common.{sym}
 use Rattle.std.proofs.lemmas.Result.{err_from_is_err_and}
 use Rattle.p3l_run.specs.Execution.{outside}
 use Rattle.p3l_run.proofs.ExecutionSteps.{ends_early, ends_over, must_end, sent_fits}
@@ -7,7 +7,7 @@ use Rattle.p3l_run.proofs.execution.Execution.complete.Goals as goal
 pub returns-in_err-run_out : goal.returns-in_err-run_out
 returns-in_err-run_out g c =
     let p = err_from_is_err_and c.from_residual.result c.from_residual.ensures.1 in
-    rw (p.1, p.2) c.in_err-run_out.ensures
+    rw (p.1, p.2) (λ job leaf_is named_is d. c.in_err-run_out.ensures job leaf_is d)
 
 pub into_ran-requires : goal.into_ran-requires
 into_ran-requires g c =
@@ -18,11 +18,11 @@ into_ran-requires g c =
 pub returns-in_err-into_ran : goal.returns-in_err-into_ran
 returns-in_err-into_ran g c =
     let p = err_from_is_err_and c.from_residual-in_err-into_ran.result c.from_residual-in_err-into_ran.ensures.1 in
-    rw (p.1, p.2) (λ job leaf_is d. ends_early job (outside (g.S.Source.rest c.run_out.new.input) (g.S.Source.faults c.run_out.new.input) (g.K.Sink.taken c.run_out.new.out) (g.K.Sink.faults c.run_out.new.out)) c.run_out.new.self (c.in_ok-run_out.ensures job leaf_is d).0.executes)
+    rw (p.1, p.2) (λ job leaf_is named_is d. ends_early job (outside (g.S.Source.rest c.run_out.new.input) (g.S.Source.faults c.run_out.new.input) (g.K.Sink.taken c.run_out.new.out) (g.K.Sink.faults c.run_out.new.out)) c.run_out.new.self (c.in_ok-run_out.ensures job leaf_is d).0.executes)
 
 pub returns : goal.returns
 returns g c =
-    λ job leaf_is d.
+    λ job leaf_is named_is d.
     let over = c.in_ok-run_out.ensures job leaf_is d in
     let ran = c.in_ok-into_ran.ensures in
-    ends_over job (outside (g.S.Source.rest c.run_out.new.input) (g.S.Source.faults c.run_out.new.input) (g.K.Sink.taken c.run_out.new.out) (g.K.Sink.faults c.run_out.new.out)) c.run_out.new.self over.0 over.1 c.args.tree.now (c.requires.tree ∙ d.stands.runs.tree) _ ran.finish ran.stats ran.lines ran.sum
+    ends_over job (outside (g.S.Source.rest c.run_out.new.input) (g.S.Source.faults c.run_out.new.input) (g.K.Sink.taken c.run_out.new.out) (g.K.Sink.faults c.run_out.new.out)) c.run_out.new.self over.0 over.1 c.args.named.now (sym named_is) _ ran.finish ran.stats ran.lines ran.sum

@@ -1,4 +1,4 @@
-use Rattle.std.proofs.Common.{◌∙◌}
+use Rattle.std.proofs.Common.{sym}
 use Rattle.std.proofs.lemmas.Result.{err_from_is_err_and}
 use Rattle.p3l_run.specs.Execution.{AwaitsPick, outside}
 use Rattle.p3l_run.specs.Timed.{under}
@@ -9,7 +9,7 @@ use Rattle.p3l_run.proofs.execution.Execution.complete_in_time.Goals as goal
 pub returns-in_err-run_in_time : goal.returns-in_err-run_in_time
 returns-in_err-run_in_time g c =
     let p = err_from_is_err_and c.from_residual.result c.from_residual.ensures.1 in
-    rw (p.1, p.2) c.in_err-run_in_time.ensures
+    rw (p.1, p.2) (λ job prices leaf_is named_is is. c.in_err-run_in_time.ensures job prices leaf_is is)
 
 pub into_ran-requires : goal.into_ran-requires
 into_ran-requires g c =
@@ -22,11 +22,11 @@ into_ran-requires g c =
 pub returns-in_err-ran : goal.returns-in_err-ran
 returns-in_err-ran g c =
     let p = err_from_is_err_and c.from_residual-in_err-ran.result c.from_residual-in_err-ran.ensures.1 in
-    rw (p.1, p.2) (λ job prices leaf_is is. early_in_time job prices _ _ _ (c.in_ok-run_in_time.ensures job prices leaf_is is).0.is)
+    rw (p.1, p.2) (λ job prices leaf_is named_is is. early_in_time job prices _ _ _ (c.in_ok-run_in_time.ensures job prices leaf_is is).0.is)
 
 pub returns : goal.returns
 returns g c =
-    λ job prices leaf_is is.
+    λ job prices leaf_is named_is is.
     let over = c.in_ok-run_in_time.ensures job prices leaf_is is in
     let ran = c.in_ok-ran.ensures in
-    ended_in_time job prices _ _ _ over.0 over.1 c.args.tree.now (c.requires.tree ∙ is.executes.stands.runs.tree) _ ran.finish ran.stats ran.lines ran.sum
+    ended_in_time job prices _ _ _ over.0 over.1 c.args.tree.now (sym named_is) _ ran.finish ran.stats ran.lines ran.sum

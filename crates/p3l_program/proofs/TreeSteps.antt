@@ -1,0 +1,131 @@
+-- From an accepted text with its tree to the stages of its costs and its counts.
+use Rattle.std.proofs.Common.{◌≡◌, ℕ, List, [], ◌∷◌, ◌++◌, Option, Some, None, ap, ◌∙◌, inl, inr, subst}
+use Rattle.std.specs.declared.result.Result.TheVariants.{Ok, Err}
+use Rattle.p3l_io.specs.Told.{Held}
+use Rattle.p3l_skel.specs.declared.tree.Tree.{Tree}
+use Rattle.p3l_skel.specs.Numbers.{Fits}
+use Rattle.p3l_cost.specs.declared.costs.Costs.{Costs}
+use Rattle.p3l_cost.specs.declared.refusal.CostRefusal.TheVariants as costs
+use Rattle.p3l_cost.specs.File.{IsRead, Says, costs_in}
+use Rattle.p3l_alloc.specs.Chosen.{IsShort}
+use Rattle.p3l_opts.specs.declared.command.Build.{Build}
+use Rattle.p3l_report.specs.declared.cost_fault.CostFault.{CostFault}
+use Rattle.p3l_report.specs.declared.cost_fault.CostFault.TheVariants as fault
+use Rattle.p3l_report.specs.declared.verdict.Refusal.{Refusal}
+use Rattle.p3l_report.specs.declared.verdict.Refusal.TheVariants as refusal
+use Rattle.p3l_report.specs.declared.verdict.Verdict.{Verdict}
+use Rattle.p3l_report.specs.declared.verdict.Verdict.TheVariants as verdict
+use Rattle.p3l_check.specs.Resolving.{ResolvedTree}
+use Rattle.p3l_program.specs.Plan.{AreSaid, HasCostText, HasCounts, IsPriced, refusal_of}
+use Rattle.p3l_program.specs.File.{HasText, text_limit}
+use Rattle.p3l_program.specs.Load.{IsCostless, IsNotLoaded}
+use Rattle.p3l_program.specs.Rewrite.{ComesToTree}
+use Rattle.p3l_program.specs.Stage.{AllPass, FilesCause, IsRefusedBy, Stage, build_stages, cost_stages, fitting, program_stages}
+use Rattle.p3l_program.specs.World.{Change, IsCalm}
+use Rattle.p3l_program.proofs.StageSteps.{passed_both, refused_after}
+
+-- a text that says costs is not refused
+pub said_once : (tree : Tree) (said : List ℕ) (cs : Costs) (f : CostFault) → Says tree said (Ok cs) → IsRead tree said (Err (refusal_of f)) → ⊥
+said_once tree said cs fault.NotToml says none = none says.document says.is
+said_once tree said cs (fault.BadKey key) says none = two says none
+  where
+    two : Says tree said (Ok cs) → Says tree said (Err (costs.BadKey key)) → ⊥
+    two a b = let p = a.is.parsed in let q = b.is.parsed in let one : a.document ≡ b.document = cc in let x = a.says in let y = ap (costs_in tree) one ∙ b.says in absurd cc
+said_once tree said cs (fault.BadValue key) says none = two says none
+  where
+    two : Says tree said (Ok cs) → Says tree said (Err (costs.BadValue key)) → ⊥
+    two a b = let p = a.is.parsed in let q = b.is.parsed in let one : a.document ≡ b.document = cc in let x = a.says in let y = ap (costs_in tree) one ∙ b.says in absurd cc
+said_once tree said cs (fault.Missing key) says none = two says none
+  where
+    two : Says tree said (Ok cs) → Says tree said (Err (costs.Missing key)) → ⊥
+    two a b = let p = a.is.parsed in let q = b.is.parsed in let one : a.document ≡ b.document = cc in let x = a.says in let y = ap (costs_in tree) one ∙ b.says in absurd cc
+
+module _ (files : Change Held) (name : List ℕ) (r : ResolvedTree) (tree : Tree) (text : List ℕ) (has : HasText files.old text_limit name text) (comes : ComesToTree text r tree) where
+  pub program_passes : AllPass files (program_stages name)
+  program_passes = ((text, has), ((r, record { text = text; has = has; accepted = comes.accepted }), tt))
+
+  -- costs of a tree that is the program's are the program's, and no other ones are
+  pub priced_here : (said : Option (List ℕ)) (cs : Costs) → AreSaid tree said cs → IsPriced text said r cs
+  priced_here said cs are = record { accepted = comes.accepted; costs = subst (λ t. AreSaid t said cs) comes.tree_is are }
+
+  costless_some : (costs : List ℕ) (more : List Stage) (refused : Refusal) → IsCostless files (Some costs) tree (verdict.Refused refused) →
+      IsRefusedBy files (cost_stages name (Some costs) ++ more) refused × FilesCause refused files
+  costless_some costs more refused (inl h) = (inl h.0, h.1)
+  costless_some costs more (refusal.Costs f) (inr h) = (
+    inr (
+      (h.said, h.has),
+      inl (record {
+        text = text;
+        has = has;
+        said = h.said;
+        says = h.has;
+        refused = record {
+          r = r;
+          accepted = comes.accepted;
+          refused = here;
+          never = λ other cs p. said_once r.tree h.said cs f (subst (λ t. Says t.tree h.said (Ok cs)) (comes.only other p.accepted) p.costs) here;
+        };
+      }),
+    ),
+    h.calm,
+  )
+    where
+      here : IsRead r.tree h.said (Err (refusal_of f))
+      here = subst (λ t. IsRead t h.said (Err (refusal_of f))) comes.tree_is h.no_costs
+  costless_some costs more refused (inr h) = absurd (h.no_costs)
+
+  -- where no costs are loaded their stages don't pass, whatever stages come after
+  pub costless : (costs : Option (List ℕ)) (more : List Stage) (v : Verdict) → IsCostless files costs tree v → IsNotLoaded files (program_stages name ++ (cost_stages name costs ++ more)) v
+  costless None more (verdict.Refused refused) h = absurd h
+  costless (Some costs) more (verdict.Refused refused) h =
+      let s = costless_some costs more refused h in
+      (refused_after files (program_stages name) (cost_stages name (Some costs) ++ more) refused program_passes s.0, s.1)
+  costless None more verdict.NoMemory h = h
+  costless (Some costs) more verdict.NoMemory h = h
+  costless None more (verdict.Ended finish stats) h = absurd h
+  costless (Some costs) more (verdict.Ended finish stats) h = absurd h
+  costless None more verdict.WriteFault h = absurd h
+  costless (Some costs) more verdict.WriteFault h = absurd h
+
+  pub costs_pass : (costs said : Option (List ℕ)) (cs : Costs) → HasCostText files.old costs said → AreSaid tree said cs → AllPass files (cost_stages name costs)
+  costs_pass None said cs says are = tt
+  costs_pass (Some costs) None cs says are = absurd says
+  costs_pass (Some costs) (Some t) cs says are = ((t, says), ((r, cs, record { text = text; has = has; said = Some t; says = says; priced = priced_here (Some t) cs are }), tt))
+
+module _ (files : Change Held) (build : Build) (r : ResolvedTree) (tree : Tree) (text : List ℕ) (has : HasText files.old text_limit build.program text) (comes : ComesToTree text r tree) where
+  module _ (said : Option (List ℕ)) (says : HasCostText files.old build.costs said) (cs : Costs) (are : AreSaid tree said cs) where
+    pub too_few : (need : ℕ) → IsShort tree build.processors need → IsCalm files → IsNotLoaded files (build_stages build) (verdict.Refused (refusal.TooFew need))
+    too_few need short calm =
+        let here : IsShort r.tree build.processors need = subst (λ t. IsShort t build.processors need) comes.tree_is short in (
+          refused_after files (program_stages build.program) (cost_stages build.program build.costs ++ fitting build ∷ []) (refusal.TooFew need) (program_passes files build.program r tree text has comes)
+              (refused_after files (cost_stages build.program build.costs) (fitting build ∷ []) (refusal.TooFew need) (costs_pass files build.program r tree text has comes build.costs said cs says are)
+              (inl (record {
+                text = text;
+                has = has;
+                said = said;
+                says = says;
+                refused = record {
+                  r = r;
+                  cs = cs;
+                  priced = priced_here files build.program r tree text has comes said cs are;
+                  short = here;
+                  never = λ other others counts p.
+                      let fits = p.chosen.optimal.fit in
+                      here.none counts (subst (λ t. Fits t.tree build.processors counts) (comes.only other p.priced.accepted) fits);
+                };
+              }))),
+          calm,
+        )
+
+module _ (files : Change Held) (build : Build) (r : ResolvedTree) (cs : Costs) (counts : List ℕ) (has : HasCounts files.old build r cs counts) where
+  priced_pass : (costs said : Option (List ℕ)) → HasCostText files.old costs said → IsPriced has.text said r cs → AllPass files (cost_stages build.program costs)
+  priced_pass None said says priced = tt
+  priced_pass (Some costs) None says priced = absurd says
+  priced_pass (Some costs) (Some t) says priced = ((t, says), ((r, cs, record { text = has.text; has = has.has; said = Some t; says = says; priced = priced }), tt))
+
+  -- where counts are chosen all stages of a build pass
+  pub counts_pass : AllPass files (build_stages build)
+  counts_pass =
+      let accepted = has.allotted.priced.accepted in
+      passed_both files (program_stages build.program) (cost_stages build.program build.costs ++ fitting build ∷ []) ((has.text, has.has), ((r, record { text = has.text; has = has.has; accepted = accepted }), tt))
+      (passed_both files (cost_stages build.program build.costs) (fitting build ∷ []) (priced_pass build.costs has.said has.says has.allotted.priced) ((r, cs, counts, has), tt))

@@ -1,0 +1,189 @@
+-- The command `time`: a program run on the input in virtual time.
+use Rattle.std.specs.Prelude.{◌≡◌, ◌<◌, ◌≤◌, ℕ, ℤ, false, List, [], ◌++◌, ◌⊎◌, length, Ok, Err, Option, Some, None, slice_index}
+use Rattle.std.specs.Option.{option_to_list}
+use Rattle.p3l_io.specs.Told.{Held}
+use Rattle.p3l_opts.specs.declared.command.Build.{Build}
+use Rattle.p3l_report.specs.declared.stats.Stats.{Stats}
+use Rattle.p3l_report.specs.declared.stats.Stats.TheVariants as stats
+use Rattle.p3l_report.specs.declared.verdict.Finish.{Finish}
+use Rattle.p3l_report.specs.declared.verdict.Verdict.{Verdict}
+use Rattle.p3l_report.specs.declared.verdict.Verdict.TheVariants as verdict
+use Rattle.p3l_run.specs.declared.end.RunStats.{RunStats}
+use Rattle.p3l_run.specs.declared.keeping.Keeping.{Keeping}
+use Rattle.p3l_run.specs.declared.run.Ran.{Ran}
+use Rattle.p3l_run.specs.Network.{Network, course_of, goes_on, meaning_of, picks_of, size_of, width_of}
+use Rattle.p3l_run.specs.Run.{Finishes, MayCome, Starts}
+use Rattle.p3l_run.specs.Timed.{AreTimed}
+use Rattle.p3l_sched.specs.declared.schedule.Schedule.TheVariants as schedule
+use Rattle.p3l_stream.specs.declared.items.Ending.TheVariants as ending
+use Rattle.p3l_stream.specs.Items.{items_of}
+use Rattle.p3l_stream.specs.Text.{text_of}
+use Rattle.p3l_timed.specs.Clock.{Clock, IsBusiest}
+use Rattle.p3l_timed.specs.Laws.{IsWithinBusy}
+use Rattle.p3l_timed.specs.Price.{price_at, prices_of}
+use Rattle.p3l_timed.specs.Timed.{busy_of, finish_of}
+use Rattle.p3l_cost.specs.Costs.{AreCostsOf}
+use Rattle.p3l_program.specs.declared.plan.Linked.{Linked}
+use Rattle.p3l_program.specs.Behavior.{Behavior}
+use Rattle.p3l_program.specs.Due.{IsDueWith}
+use Rattle.p3l_program.specs.Load.{LoadsNetwork}
+use Rattle.p3l_program.specs.Origin.{built}
+use Rattle.p3l_program.specs.Picks.{ArePicksSaved, IsPicking}
+use Rattle.p3l_program.specs.Plan.{HasNetwork, network_in}
+use Rattle.p3l_program.specs.Run.{IsRunNot, keeping_for, run_status, seen_of}
+use Rattle.p3l_program.specs.Saved.{KeepsFiles}
+use Rattle.p3l_program.specs.Stage.{build_stages}
+use Rattle.p3l_program.specs.Verdict.{run_finish}
+use Rattle.p3l_program.specs.World.{Change, HasFailed, HasRisen, IsCalm, World}
+
+-- the network that files and words ask for, and the prices of its processes by the costs that files and words ask for
+pub record HasPrices (files : Option Held) (build : Build) (n : Network) (prices : List ℕ) : Type 0 where
+  pub network : HasNetwork files (built build) n
+  pub prices_are : prices ≡ prices_of n.tree network.is.cs n.net
+
+-- THE RUN IN VIRTUAL TIME, to its end, of a network at these prices on an input and an output: it is the run under these picks as if
+-- they had been recorded, on the items that the stream gave and whatever may still come after them. They are the picks of the timed
+-- run, each is made, no process can fire after them; and it lasts no less than any process is busy, and no more than all are
+pub record RunsInTime (n : Network) (prices : List ℕ) (input out : Change (List ℕ)) (keeping : Keeping) (picks : List ℕ) (ran : Ran) : Type 0 where
+  pub few : size_of n ≤ 1048576
+  pub finishes : Finishes n (schedule.Recorded picks) keeping input.old input.new input.before input.now out.old out.new ran
+  pub timed : (later : List (List ℤ)) → MayCome n finishes.close later → AreTimed n prices (finishes.items ++ later) picks
+  pub made : (later : List (List ℤ)) → MayCome n finishes.close later → picks_of n (schedule.Recorded picks) (finishes.items ++ later) ≡ picks
+  pub over : (later : List (List ℤ)) → MayCome n finishes.close later → goes_on n (course_of n (schedule.Recorded picks) (finishes.items ++ later)) ≡ false
+  pub within : (later : List (List ℤ)) → MayCome n finishes.close later → IsWithinBusy n.tree n.leaf n.net (price_at prices) (finishes.items ++ later) picks
+
+-- process p was busy longest under these picks, and it is the first of those
+pub record IsBusiestOf (n : Network) (prices picks : List ℕ) (p : ℕ) : Type 0 where
+  pub there : p < size_of n
+  pub most : (q : ℕ) → busy_of (price_at prices) picks q ≤ busy_of (price_at prices) picks p
+  pub first : (q : ℕ) → q < p → busy_of (price_at prices) picks q < busy_of (price_at prices) picks p
+
+-- THE NUMBERS of such a run: how many items were sent, and how often processes fired, the moment of the last firing, and the process
+-- that was busy longest with how long it was
+pub record AreTimes (n : Network) (prices : List ℕ) (input out : Change (List ℕ)) (keeping : Keeping) (picks : List ℕ) (ran : Ran) (runs : RunsInTime n prices input out keeping picks ran) (told : Option Stats) : Type 0 where
+  pub moment : ℕ
+  pub moment_is : (later : List (List ℤ)) → MayCome n runs.finishes.close later → moment ≡ finish_of n.tree n.leaf n.net (price_at prices) (runs.finishes.items ++ later) picks
+  pub p : ℕ
+  pub busiest : IsBusiestOf n prices picks p
+  pub told_is : told ≡ Some (stats.Timed ran.stats.items ran.stats.fired moment p (busy_of (price_at prices) picks p))
+
+-- a network was run in virtual time to this end, with these numbers, and its picks were written where a file is named for them
+pub record TimesTo (n : Network) (prices : List ℕ) (files : Change Held) (input out : Change (List ℕ)) (name : Option (List ℕ)) (finish : Finish) (told : Option Stats) : Type 0 where
+  pub picks : List ℕ
+  pub ran : Ran
+  pub runs : RunsInTime n prices input out (keeping_for name) picks ran
+  pub finish_is : finish ≡ run_finish ran.finish
+  pub numbers : AreTimes n prices input out (keeping_for name) picks ran runs told
+  pub saved : ArePicksSaved files name picks
+
+-- or to some end, whatever became of its picks
+pub record IsTimeOver (n : Network) (prices : List ℕ) (input out : Change (List ℕ)) : Type 0 where
+  pub keeping : Keeping
+  pub picks : List ℕ
+  pub ran : Ran
+  pub runs : RunsInTime n prices input out keeping picks ran
+
+-- or a front of the text of its meaning was written, and of what the network emits under some picks
+pub record IsTimeBegun (n : Network) (input out : Change (List ℕ)) : Type 0 where
+  pub picks : List ℕ
+  pub starts : Starts n (schedule.Recorded picks) input.old input.new input.before input.now out.old out.new
+
+-- the network that files and words ask for was run in virtual time to this end
+pub record EndsTime (w : World) (build : Build) (name : Option (List ℕ)) (finish : Finish) (told : Option Stats) : Type 0 where
+  pub n : Network
+  pub prices : List ℕ
+  pub has : HasPrices w.files.old build n prices
+  pub to : TimesTo n prices w.files w.input w.out name finish told
+
+pub record TimesOver (w : World) (build : Build) : Type 0 where
+  pub n : Network
+  pub prices : List ℕ
+  pub has : HasPrices w.files.old build n prices
+  pub over : IsTimeOver n prices w.input w.out
+
+pub record BeginsTime (w : World) (build : Build) : Type 0 where
+  pub n : Network
+  pub prices : List ℕ
+  pub has : HasPrices w.files.old build n prices
+  pub begun : IsTimeBegun n w.input w.out
+
+-- the file of its picks could not be written, when it was over
+abbrev pub UnsavedTime : World → Build → Option (List ℕ) → Type 0
+UnsavedTime w build None = ⊥
+UnsavedTime w build (Some name) = TimesOver w build × IsCalm w.out × HasFailed w.files name
+
+-- over an input and an output that tell: the whole input was taken, each of its lines is an item or has no words, the whole text of the
+-- meaning of its items was written, and the picks are those of the timed run on them
+pub record TimesWhole (w : World) (build : Build) (name : Option (List ℕ)) (rest taken : List ℕ) : Type 0 where
+  pub n : Network
+  pub prices : List ℕ
+  pub has : HasPrices w.files.old build n prices
+  pub picks : List ℕ
+  pub timed : AreTimed n prices (items_of (width_of n) rest).items picks
+  pub input_ended : w.input.new ≡ Some []
+  pub all_items : (items_of (width_of n) rest).ending ≡ ending.End
+  pub taken_is : w.out.new ≡ Some (taken ++ text_of (meaning_of n (items_of (width_of n) rest).items))
+  pub saved : ArePicksSaved w.files name picks
+
+-- the run in virtual time of what is seen of an input is due to end with this status
+pub record IsTimeStatus (w : World) (build : Build) (rest : List ℕ) (k : ℕ) : Type 0 where
+  pub n : Network
+  pub prices : List ℕ
+  pub has : HasPrices w.files.old build n prices
+  pub picks : List ℕ
+  pub timed : AreTimed n prices (seen_of (width_of n) rest).items picks
+  pub status_is : k ≡ run_status n (schedule.Recorded picks) rest
+
+-- it is run on the input in virtual time, and its picks are written where a file is named for them
+abbrev pub time_behavior : Build → Option (List ℕ) → Behavior
+time_behavior build name = record {
+  stages = build_stages build;
+  written = option_to_list name;
+  saved_first = [];
+  run = None;
+  Ends = λ w finish told. EndsTime w build name finish told;
+  Begins = λ w. BeginsTime w build;
+  Unsaved = λ w. UnsavedTime w build name;
+  Touches = λ w. TimesOver w build;
+  IsWhole = λ w rest taken. TimesWhole w build name rest taken;
+  IsStatusDue = λ w rest k. IsTimeStatus w build rest k;
+}
+
+-- a verdict is due of the command
+abbrev pub IsTimeDue : World → Build → Option (List ℕ) → Verdict → Type 0
+IsTimeDue w build name v = IsDueWith w (build_stages build) (EndsTime w build name) (BeginsTime w build) (UnsavedTime w build name) v
+
+-- a network was loaded with its costs
+pub record LoadsLinked (files : Option Held) (build : Build) (linked : Linked) : Type 0 where
+  pub network : LoadsNetwork files (built build) (network_in linked.network)
+  pub priced : HasPrices files build (network_in linked.network) (prices_of linked.network.tree linked.costs linked.network.net)
+  pub lawful : AreCostsOf linked.network.tree linked.costs
+
+-- the numbers of a run are told by its timer
+pub record AreTold (numbers : RunStats) (k : Clock) (told : Option Stats) : Type 0 where
+  pub p : ℕ
+  pub there : p < length k.prices
+  pub busiest : IsBusiest k.busy p
+  pub told_is : told ≡ Some (stats.Timed numbers.items numbers.fired k.moment p (slice_index k.busy p))
+
+-- how a run that came to its end is told, once its picks were written where a file is named for them
+abbrev pub IsTimeClosed : Change Held → Ran → Clock → Option (List ℕ) → Verdict → Type 0
+IsTimeClosed files ran k name (verdict.Ended finish told) = (finish ≡ run_finish ran.finish) × AreTold ran.stats k told × IsPicking files name ran.lines (Ok tt)
+IsTimeClosed files ran k name v = IsPicking files name ran.lines (Err v)
+
+-- the file of its picks could not be written, when it was over
+abbrev pub IsUnsavedTime : Network → List ℕ → Change Held → Change (List ℕ) → Change (List ℕ) → Option (List ℕ) → Type 0
+IsUnsavedTime n prices files input out None = ⊥
+IsUnsavedTime n prices files input out (Some name) = IsTimeOver n prices input out × IsCalm out × HasFailed files name
+
+-- how the run of a network in virtual time ends
+abbrev pub IsTimeOf : Network → List ℕ → Change Held → Change (List ℕ) → Change (List ℕ) → Option (List ℕ) → Verdict → Type 0
+IsTimeOf n prices files input out name (verdict.Refused refused) = ⊥
+IsTimeOf n prices files input out name (verdict.Ended finish told) = TimesTo n prices files input out name finish told × IsCalm files × IsCalm out
+IsTimeOf n prices files input out name verdict.WriteFault = (IsTimeBegun n input out × IsCalm files × HasRisen out) ⊎ IsUnsavedTime n prices files input out name
+IsTimeOf n prices files input out name verdict.NoMemory = IsRunNot files input out ⊎ IsTimeBegun n input out
+
+-- which files it changes: that of the picks alone, when it is over
+pub record KeepsTime (n : Network) (prices : List ℕ) (files : Change Held) (input out : Change (List ℕ)) (name : Option (List ℕ)) (v : Verdict) : Type 0 where
+  pub kept : KeepsFiles files (option_to_list name) v
+  pub over : (files.new ≡ files.old) ⊎ IsTimeOver n prices input out

@@ -1,0 +1,115 @@
+// The command `profile`: the cost file of what a program does on the items of the input.
+
+ghost use Rattle.std.specs.Prelude.{◌≡◌, IfOk};
+ghost use Rattle.std.specs.List.{All};
+ghost use Rattle.p3l_skel.specs.Lawful.{IsLawfulTree};
+ghost use Rattle.p3l_units.specs.Table.{HasCode};
+ghost use Rattle.p3l_run.specs.Run.{module_name};
+ghost use Rattle.p3l_sample.specs.declared.stream.Sampled.TheVariants as sampled;
+ghost use Rattle.p3l_program.specs.Profile.{IsClosedProfile, IsProfileDue, IsProfileOf, coded};
+ghost use Rattle.p3l_program.specs.World.{change, files_change, world};
+
+use crate::plan::{Accepted, load_program};
+use crate::text::write_text;
+use p3l_base::{List, Name, NoMemory};
+use p3l_code::SafeCode;
+use p3l_io::{Files, Sink, Source};
+use p3l_profile::Profile;
+use p3l_profile::laws::a_profile_tells_the_greatest;
+use p3l_report::{Finish, Verdict};
+use p3l_sample::{Sampled, sample};
+use p3l_skel::Tree;
+use p3l_stream::Ending;
+use std::alloc::Global;
+
+/// The name of the module of a number, and none where there are not so many.
+fn name_of(alloc: Global, tree: &Tree, number: u32) -> Result<Name, NoMemory>
+    ensures { IfOk result (λ name. name ≡ module_name tree.now number) }
+{
+    match tree.modules.as_slice().get(number as usize) {
+        Some(found) => Name::from_text(alloc, found.name.as_str()),
+        None => Name::from_text(alloc, ""),
+    }
+}
+
+/// Writes the cost file of a profile whose input ended so, if this is its end.
+fn close<K: Sink>(
+    alloc: Global,
+    tree: &Tree,
+    profile: &Profile,
+    ending: Ending,
+    out: &mut K,
+) -> Verdict
+    ensures { IsClosedProfile tree.now profile.now.greatest (sampled.Stream ending)
+        (change K.taken K.faults out.old out.new) result }
+{
+    if ending != Ending::End {
+        return Verdict::Ended(Finish::Stream(ending), None);
+    }
+    match profile.text(alloc, tree) {
+        Ok(text) => write_text(text.as_slice(), out),
+        Err(_) => Verdict::NoMemory,
+    }
+}
+
+/// The verdict of a profile that ended so; its cost file is written where the input came to its end.
+fn finish<K: Sink>(
+    alloc: Global,
+    tree: &Tree,
+    profile: &Profile,
+    sampled: Sampled,
+    out: &mut K,
+) -> Verdict
+    ensures { IsClosedProfile tree.now profile.now.greatest sampled
+        (change K.taken K.faults out.old out.new) result }
+{
+    match sampled {
+        Sampled::Stream(ending) => close(alloc, tree, profile, ending, out),
+        Sampled::Trapped { item, kind, module } => match name_of(alloc, tree, module) {
+            Ok(module) => Verdict::Ended(Finish::Trapped { item, kind, module }, None),
+            Err(_) => Verdict::NoMemory,
+        },
+    }
+}
+
+/// Profiles a tree on its codes on the items of the input.
+fn profile_tree<S: Source, K: Sink>(
+    alloc: Global,
+    tree: &Tree,
+    codes: &List<SafeCode>,
+    input: &mut S,
+    out: &mut K,
+) -> Verdict
+    requires lawful { IsLawfulTree tree.now }
+    requires codes { All (HasCode (record { tree = tree.now; codes = codes.now })) tree.now.nodes }
+    ensures { IsProfileOf (coded tree.now codes.now) (change S.rest S.faults input.old input.new)
+        (change K.taken K.faults out.old out.new) result }
+{
+    a_profile_tells_the_greatest();
+    let Ok(mut profile) = Profile::new(alloc, tree) else {
+        return Verdict::NoMemory;
+    };
+    match sample(alloc, tree, codes, &mut profile, input) {
+        Ok(sampled) => finish(alloc, tree, &profile, sampled, out),
+        Err(_) => Verdict::NoMemory,
+    }
+}
+
+/// Writes the cost file of what the program of a file does on the items of the input.
+pub fn profile<F: Files, S: Source, K: Sink>(
+    alloc: Global,
+    name: Name,
+    files: &mut F,
+    input: &mut S,
+    out: &mut K,
+) -> Verdict
+    ensures due { IsProfileDue (world (files_change F.held F.faults F.failed files.old files.new)
+        (change S.rest S.faults input.old input.new) (change K.taken K.faults out.old out.new))
+        name result }
+    ensures stays { F.held files.new ≡ F.held files.old }
+{
+    match load_program(alloc, name, files) {
+        Err(verdict) => verdict,
+        Ok(Accepted { tree, codes }) => profile_tree(alloc, &tree, &codes, input, out),
+    }
+}

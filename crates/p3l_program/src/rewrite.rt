@@ -1,0 +1,157 @@
+// The command `rewrite`: a program with the same meaning and no greater service time.
+
+ghost use Rattle.std.specs.Prelude.{◌≡◌, ◌≤◌, length, IfOk, IfErr, OnOk};
+ghost use Rattle.p3l_ast.specs.Tree.{program_tree};
+ghost use Rattle.p3l_rewrite.specs.Rewriting.{MayBeRewritten};
+ghost use Rattle.p3l_rewrite.specs.Serving.{HasTree};
+ghost use Rattle.p3l_program.specs.File.{text_limit};
+ghost use Rattle.p3l_program.specs.Load.{IsNotLoaded};
+ghost use Rattle.p3l_program.specs.Plan.{IsTextRefused};
+ghost use Rattle.p3l_program.specs.Rewrite.{BreaksRules, IsBestText, IsRewritten, IsSourceOf, LoadsPriced, LoadsSource, plain_build};
+ghost use Rattle.p3l_program.specs.Stage.{build_stages, program_stages};
+ghost use Rattle.p3l_program.specs.Text.{IsTextDue};
+ghost use Rattle.p3l_program.specs.World.{change, files_change};
+
+use crate::file::{TEXT_LIMIT, find_text};
+use crate::plan::load_costs;
+use crate::text::write_text;
+use p3l_alloc::{AllocRefusal, choose};
+use p3l_ast::{Program, SourceRefusal};
+use p3l_base::{List, Name, NoMemory};
+use p3l_check::resolve;
+use p3l_cost::Costs;
+use p3l_io::{Files, Sink};
+use p3l_opts::Build;
+use p3l_print::print;
+use p3l_reader::read;
+use p3l_report::{Refusal, Verdict};
+use p3l_skel::Tree;
+use std::alloc::Global;
+
+/// A program that keeps all rules, as it is written, and its tree.
+#[derive(Drop)]
+pub struct Source {
+    pub program: Program,
+    pub tree: Tree,
+}
+
+/// The tree of a program that keeps all rules; else the first fault.
+fn tree_of(alloc: Global, program: &Program) -> Result<Tree, SourceRefusal>
+    ensures kept { IfOk result (HasTree (program_tree program.now)) }
+    ensures broken { IfErr result (BreaksRules (program_tree program.now)) }
+{
+    match resolve(alloc, program) {
+        Ok(resolved) => Ok(resolved.tree),
+        Err(refusal) => Err(refusal),
+    }
+}
+
+/// The program that a text spells, with its tree, if it keeps all rules; else the first fault.
+fn source_of(alloc: Global, text: &[u8]) -> Result<Source, SourceRefusal>
+    requires { length text.now ≤ text_limit }
+    ensures kept { IfOk result (IsSourceOf text.now) }
+    ensures refused { IfErr result (IsTextRefused text.now) }
+{
+    let program = read(alloc, text)?;
+    let tree = tree_of(alloc, &program)?;
+    Ok(Source { program, tree })
+}
+
+/// The program of the file of this name, as it is written, or the verdict that there is none.
+fn load_source<F: Files>(alloc: Global, name: Name, files: &mut F) -> Result<Source, Verdict>
+    ensures loaded { IfOk result (LoadsSource (F.held files.old) name) }
+    ensures calm { OnOk result (F.faults files.new ≡ F.faults files.old) }
+    ensures refused { IfErr result (IsNotLoaded
+        (files_change F.held F.faults F.failed files.old files.new)
+        (program_stages name)) }
+    ensures stays { F.held files.new ≡ F.held files.old }
+{
+    match find_text(alloc, name, TEXT_LIMIT, files) {
+        Err(refusal) => Err(Verdict::from(refusal)),
+        Ok(text) => match source_of(alloc, text.as_slice()) {
+            Ok(source) => Ok(source),
+            Err(SourceRefusal::At { fault, pos }) => {
+                Err(Verdict::Refused(Refusal::Source { fault, pos }))
+            }
+            Err(SourceRefusal::NoMemory) => Err(Verdict::NoMemory),
+        },
+    }
+}
+
+/// A program with its costs.
+#[derive(Drop)]
+pub struct Priced {
+    pub program: Program,
+    pub costs: Costs,
+}
+
+/// The program and its costs, if some counts fit the processors, or the verdict that there are none.
+fn load_priced<F: Files>(alloc: Global, build: Build, files: &mut F) -> Result<Priced, Verdict>
+    requires some { 1 ≤ build.processors }
+    requires few { build.processors ≤ 512 }
+    ensures loaded { IfOk result (LoadsPriced (F.held files.old) build) }
+    ensures calm { OnOk result (F.faults files.new ≡ F.faults files.old) }
+    ensures refused { IfErr result (IsNotLoaded
+        (files_change F.held F.faults F.failed files.old files.new)
+        (build_stages build)) }
+    ensures stays { F.held files.new ≡ F.held files.old }
+{
+    let processors = build.processors;
+    let source = match load_source(alloc, build.program, files) {
+        Ok(source) => source,
+        Err(verdict) => return Err(verdict),
+    };
+    let costs = match load_costs(alloc, build.costs, &source.tree, files) {
+        Ok(costs) => costs,
+        Err(verdict) => return Err(verdict),
+    };
+    match choose(alloc, &source.tree, &costs, processors) {
+        Ok(_) => Ok(Priced {
+            program: source.program,
+            costs,
+        }),
+        Err(AllocRefusal::TooFew { need }) => Err(Verdict::Refused(Refusal::TooFew { need })),
+        Err(AllocRefusal::NoMemory) => Err(Verdict::NoMemory),
+    }
+}
+
+/// The canonical text of the best way to write a program.
+fn best_text(alloc: Global, priced: &Priced, processors: u32) -> Result<List<u8>, NoMemory>
+    requires { MayBeRewritten (program_tree priced.now.program) priced.now.costs processors }
+    ensures { IfOk result
+        (IsBestText (program_tree priced.now.program) priced.now.costs processors) }
+{
+    let best = p3l_rewrite::rewrite(alloc, &priced.program, &priced.costs, processors)?;
+    print(alloc, &best.program)
+}
+
+/// Writes the best way to write the program of a file.
+pub fn rewrite<F: Files, K: Sink>(
+    alloc: Global,
+    program: Name,
+    processors: u32,
+    costs: Option<Name>,
+    files: &mut F,
+    out: &mut K,
+) -> Verdict
+    requires processors { (1 ≤ processors) × (processors ≤ 512) }
+    ensures due { IsTextDue (files_change F.held F.faults F.failed files.old files.new)
+        (change K.taken K.faults out.old out.new)
+        (build_stages (plain_build program processors costs))
+        (IsRewritten (F.held files.old) (plain_build program processors costs)) result }
+    ensures stays { F.held files.new ≡ F.held files.old }
+{
+    let build = Build {
+        program,
+        processors,
+        costs,
+        capacity: 4,
+    };
+    match load_priced(alloc, build, files) {
+        Err(verdict) => verdict,
+        Ok(priced) => match best_text(alloc, &priced, processors) {
+            Err(_) => Verdict::NoMemory,
+            Ok(text) => write_text(text.as_slice(), out),
+        },
+    }
+}

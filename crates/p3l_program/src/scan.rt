@@ -1,0 +1,143 @@
+// The command `scan`: a program whose `main` is a reduce, run on the input so that the folds of all
+// fronts of each list are written.
+
+ghost use Rattle.std.specs.Prelude.{◌≡◌, ◌≤◌, ◌⊎◌, [], None, IfOk, IfErr, OnOk};
+ghost use Rattle.p3l_check.specs.Resolving.{ResolvedTree};
+ghost use Rattle.p3l_program.specs.Load.{IsNotLoaded};
+ghost use Rattle.p3l_program.specs.Origin.{scanned};
+ghost use Rattle.p3l_program.specs.Plan.{IsCompiled, refusal_of_scan, scan_network};
+ghost use Rattle.p3l_program.specs.Run.{IsRunDue, IsRunOf, KeepsRun, RunsOver};
+ghost use Rattle.p3l_program.specs.Saved.{KeepsFiles};
+ghost use Rattle.p3l_program.specs.Scan.{IsReadyScan, LoadsScan};
+ghost use Rattle.p3l_program.specs.Stage.{scan_stages};
+ghost use Rattle.p3l_program.specs.World.{change, files_change, world};
+
+use crate::plan::{Accepted, load_program, plan_of};
+use crate::running::run_plan;
+use p3l_base::Name;
+use p3l_compile::table_of;
+use p3l_io::{Files, Sink, Source};
+use p3l_link::laws::every_linked_net_is_carried;
+use p3l_link::link;
+use p3l_opts::Sched;
+use p3l_report::{Refusal, ScanFault, Verdict};
+use p3l_scan::{ScanPlan, ScanRefusal, ScanUnits, can_scan, scan_plan};
+use std::alloc::Global;
+
+/// A program whose `main` can be scanned, with the plan of its scan.
+#[derive(Drop)]
+pub struct Planned {
+    pub program: Accepted,
+    pub plan: ScanPlan,
+}
+
+/// How a scan that is refused is told.
+fn scan_fault(refusal: ScanRefusal) -> ScanFault
+    ensures { refusal_of_scan result ≡ refusal }
+{
+    match refusal {
+        ScanRefusal::NotReduce => ScanFault::NotReduce,
+        ScanRefusal::BadSegments => ScanFault::BadSegments,
+    }
+}
+
+/// The program of a file with the plan of its scan in so many segments, or the verdict that there is
+/// none.
+fn load_scan<F: Files>(
+    alloc: Global,
+    name: Name,
+    segments: u32,
+    files: &mut F,
+) -> Result<Planned, Verdict>
+    requires { segments ≤ 512 }
+    ensures loaded { IfOk result (LoadsScan (F.held files.old) name segments) }
+    ensures calm { OnOk result (F.faults files.new ≡ F.faults files.old) }
+    ensures refused { IfErr result (IsNotLoaded
+        (files_change F.held F.faults F.failed files.old files.new)
+        (scan_stages name segments)) }
+    ensures stays { F.held files.new ≡ F.held files.old }
+{
+    let program = match load_program(alloc, name, files) {
+        Ok(program) => program,
+        Err(verdict) => return Err(verdict),
+    };
+    match can_scan(&program.tree, segments) {
+        Err(refusal) => Err(Verdict::Refused(Refusal::Scan(scan_fault(refusal)))),
+        Ok(()) => match scan_plan(alloc, &program.tree, segments) {
+            Ok(plan) => Ok(Planned { program, plan }),
+            Err(_) => Err(Verdict::NoMemory),
+        },
+    }
+}
+
+/// Runs the plan of a program's scan, whose channels hold so many tokens; the program's modules name
+/// a trap.
+fn run_scan<F: Files, S: Source, K: Sink>(
+    alloc: Global,
+    loaded: Planned,
+    capacity: u32,
+    asked: Sched,
+    reported: bool,
+    files: &mut F,
+    input: &mut S,
+    out: &mut K,
+) -> Verdict
+    requires ready { IsReadyScan loaded }
+    requires capacity { (1 ≤ capacity) × (capacity ≤ 1024) }
+    ensures ran { (r : ResolvedTree) → IsCompiled r loaded.program
+        → IsRunOf (scan_network r loaded.plan capacity)
+        (files_change F.held F.faults F.failed files.old files.new)
+        (change S.rest S.faults input.old input.new) (change K.taken K.faults out.old out.new)
+        asked None reported result }
+    ensures kept { (r : ResolvedTree) → IsCompiled r loaded.program
+        → KeepsRun (scan_network r loaded.plan capacity)
+        (files_change F.held F.faults F.failed files.old files.new)
+        (change S.rest S.faults input.old input.new) (change K.taken K.faults out.old out.new)
+        asked None result }
+{
+    every_linked_net_is_carried();
+    let Planned { program, plan } = loaded;
+    let Accepted { tree, codes } = program;
+    let Ok(net) = link(alloc, &plan.tree, &plan.counts, capacity) else {
+        return Verdict::NoMemory;
+    };
+    let Ok(table) = table_of(alloc, &tree, codes) else {
+        return Verdict::NoMemory;
+    };
+    let Ok(units) = ScanUnits::new(&plan, table) else {
+        return Verdict::NoMemory;
+    };
+    let run = plan_of(&plan.tree, &plan.counts, &units, net);
+    run_plan(alloc, run, &tree, asked, None, reported, files, input, out)
+}
+
+/// Scans the lists of the input in so many segments, by the reduce that is the `main` of the program
+/// of a file; the numbers of the run are to be reported or not.
+pub fn scan<F: Files, S: Source, K: Sink>(
+    alloc: Global,
+    name: Name,
+    segments: u32,
+    asked: Sched,
+    capacity: u32,
+    reported: bool,
+    files: &mut F,
+    input: &mut S,
+    out: &mut K,
+) -> Verdict
+    requires segments { segments ≤ 512 }
+    requires capacity { (1 ≤ capacity) × (capacity ≤ 1024) }
+    ensures due { IsRunDue (world (files_change F.held F.faults F.failed files.old files.new)
+        (change S.rest S.faults input.old input.new) (change K.taken K.faults out.old out.new))
+        (scanned name segments capacity) asked None reported result }
+    ensures kept { KeepsFiles (files_change F.held F.faults F.failed files.old files.new) []
+        result }
+    ensures over { (F.held files.new ≡ F.held files.old)
+        ⊎ RunsOver (world (files_change F.held F.faults F.failed files.old files.new)
+        (change S.rest S.faults input.old input.new) (change K.taken K.faults out.old out.new))
+        (scanned name segments capacity) asked }
+{
+    match load_scan(alloc, name, segments, files) {
+        Err(verdict) => verdict,
+        Ok(loaded) => { run_scan(alloc, loaded, capacity, asked, reported, files, input, out) }
+    }
+}
