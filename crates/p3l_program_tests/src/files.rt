@@ -115,13 +115,6 @@ const OF_READING: &[Cases] = &[
         ],
     ),
     Cases("fmt m.p3l", &[Case(ALL, FIRST_FILE, "", NO_PROGRAM)]),
-    Cases(
-        "profile m.p3l",
-        &[
-            Case(ALL, FIRST_FILE, "1\n", NO_PROGRAM),
-            Case(ALL, SECOND_FILE, "1\n", PROFILED),
-        ],
-    ),
 ];
 
 const EACH: &[&[Cases]] = &[
@@ -131,13 +124,25 @@ const EACH: &[&[Cases]] = &[
     OF_AN_EXPLANATION,
     OF_VERIFYING,
     OF_CHECKING,
-    OF_A_SCAN,
     OF_READING,
 ];
 
 #[test]
 fn each_file_of_a_command_fails_in_turn(rt: HostRuntime) -> Result<(), Fail> {
     take_cases(&rt, rt.alloc(), EACH)
+}
+
+const OF_A_PROFILE: &[Cases] = &[Cases(
+    "profile m.p3l",
+    &[
+        Case(ALL, FIRST_FILE, "1\n", NO_PROGRAM),
+        Case(ALL, SECOND_FILE, "1\n", PROFILED),
+    ],
+)];
+
+#[test]
+fn each_file_of_a_scan_or_a_profile_fails_in_turn(rt: HostRuntime) -> Result<(), Fail> {
+    take_cases(&rt, rt.alloc(), &[OF_A_SCAN, OF_A_PROFILE])
 }
 
 const TOO_LONG: Ends = Ends(9, "", "file too long: long\n");

@@ -11,9 +11,9 @@ use std::test::Fail;
 const FARM: &str =
     "seq f in(int x) out(int y) ${ y = x * 2 + 1; }$ end seq farm main in(int x) out(int y) workers 510 f in(x) out(y) end farm";
 
-/// As many pieces of a map.
+/// As many pieces of a map, which hands on what it takes.
 const MAP: &str =
-    "seq f in(int x) out(int y) ${ y = x + 1; }$ end seq map main in(int a[510]) out(int b[510]) workers 510 f in(a[*i]) out(b[*i]) end map";
+    "seq f in(int x) out(int y) ${ y = x; }$ end seq map main in(int a[510]) out(int b[510]) workers 510 f in(a[*i]) out(b[*i]) end map";
 
 /// As many segments of a reduce: with their joins they are 512 processes.
 const REDUCE: &str =
@@ -65,8 +65,8 @@ fn five_hundred_and_ten_workers_and_pieces(rt: HostRuntime) -> Result<(), Fail> 
     take(&rt, alloc, &mut files, &step, &NONE)?;
     let mut files = files_with(alloc, MAP)?;
     let item = line_of(alloc, 0, 510)?;
-    let value = line_of(alloc, 1, 510)?;
-    let step = Step(ON_ALL_PLAIN, item.as_str(), Ends(0, value.as_str(), ""));
+    let line = item.as_str();
+    let step = Step(ON_ALL_PLAIN, line, Ends(0, line, ""));
     take(&rt, alloc, &mut files, &step, &NONE)
 }
 
@@ -147,14 +147,14 @@ fn three_hundred_modules(rt: HostRuntime) -> Result<(), Fail> {
 #[test]
 fn thousands_of_picks(rt: HostRuntime) -> Result<(), Fail> {
     let alloc = rt.alloc();
-    let program = "seq main in(int x) out(int y) ${ y = x * 2 + 1; }$ end seq";
+    let program = "seq main in(int x) out(int y) ${ y = x; }$ end seq";
     let mut files = files_with(alloc, program)?;
     let picks = "0 2 1\n".repeat(alloc, 700)?;
     files.add("p", picks.as_str().as_bytes())?;
-    let items = "1\n".repeat(alloc, 700)?;
-    let values = "3\n".repeat(alloc, 700)?;
+    let text = "1\n".repeat(alloc, 700)?;
+    let items = text.as_str();
     let words = "run m.p3l --processors 4 --schedule file:p --trace t";
-    let step = Step(words, items.as_str(), Ends(0, values.as_str(), ""));
+    let step = Step(words, items, Ends(0, items, ""));
     take(&rt, alloc, &mut files, &step, &NONE)?;
     let words = "check-trace m.p3l --processors 4 --trace t";
     let held = "trace holds: 2100 fired, 0 idle\n";
@@ -162,7 +162,7 @@ fn thousands_of_picks(rt: HostRuntime) -> Result<(), Fail> {
         &rt,
         alloc,
         &mut files,
-        &Step(words, items.as_str(), Ends(0, held, "")),
+        &Step(words, items, Ends(0, held, "")),
         &NONE,
     )
 }
