@@ -11,9 +11,10 @@ use std::test::Fail;
 const FARM: &str =
     "seq f in(int x) out(int y) ${ y = x * 2 + 1; }$ end seq farm main in(int x) out(int y) workers 510 f in(x) out(y) end farm";
 
-/// As many pieces of a map, which hands on what it takes.
+/// A map of 508 pieces, whose results are added by a stage of its own: with its ends, the pieces and
+/// that stage are 511 processes.
 const MAP: &str =
-    "seq f in(int x) out(int y) ${ y = x; }$ end seq map main in(int a[510]) out(int b[510]) workers 510 f in(a[*i]) out(b[*i]) end map";
+    "seq f in(int x) out(int y) ${ y = x + 1; }$ end seq seq sum in(int a[508]) out(int s) ${ int i; for (i = 0; i < 508; i = i + 1) { s = s + a[i]; } }$ end seq map m in(int a[508]) out(int b[508]) workers 508 f in(a[*i]) out(b[*i]) end map pipe main in(int a[508]) out(int s) m in(a) out(int b[508]) sum in(b) out(s) end pipe";
 
 /// As many segments of a reduce: with their joins they are 512 processes.
 const REDUCE: &str =
@@ -57,16 +58,21 @@ fn line_of(alloc: Global, first: u32, count: u32) -> Result<String, Fail> {
 }
 
 #[test]
-fn five_hundred_and_ten_workers_and_pieces(rt: HostRuntime) -> Result<(), Fail> {
+fn five_hundred_and_ten_workers(rt: HostRuntime) -> Result<(), Fail> {
     let alloc = rt.alloc();
     let mut files = files_with(alloc, FARM)?;
     let stats = "stats: items 3, fired 15, idle 0, bound 15\n";
     let step = Step(ON_ALL, "1\n2\n-3\n", Ends(0, "3\n5\n-5\n", stats));
-    take(&rt, alloc, &mut files, &step, &NONE)?;
+    take(&rt, alloc, &mut files, &step, &NONE)
+}
+
+#[test]
+fn five_hundred_and_eight_pieces(rt: HostRuntime) -> Result<(), Fail> {
+    let alloc = rt.alloc();
     let mut files = files_with(alloc, MAP)?;
-    let item = line_of(alloc, 0, 510)?;
-    let line = item.as_str();
-    let step = Step(ON_ALL_PLAIN, line, Ends(0, line, ""));
+    // The sum of 1 to 508.
+    let item = line_of(alloc, 0, 508)?;
+    let step = Step(ON_ALL_PLAIN, item.as_str(), Ends(0, "129286\n", ""));
     take(&rt, alloc, &mut files, &step, &NONE)
 }
 
