@@ -40,7 +40,7 @@ step_cut word Second n ds i j i₀ j₀ at start token below inner =
     let one : 1 * cut_size ds ≡ cut_size ds = omega arith in
     rw (append-nil (cut_places (start + j * array_size ds) ds i j), one) (inner j below)
 
--- the cut of an array that stands in a token gives the words it was made of, in order
+-- the cut of an array in a token gives the words it was made of, in order
 pub cut_of_array : (word : ℕ → ℕ → ℕ → ℤ) (dims : List Dim) (i j i₀ j₀ at start : ℕ) (token front back : List ℤ) → AreFreeIndices dims i j → length front ≡ start → token ≡ front ++ (array_words word dims i₀ j₀ at ++ back) → words_at token (cut_places start dims i j) ≡ map (word (last_first dims i i₀) (last_second dims j j₀)) (range_with_len at (cut_size dims))
 cut_of_array word [] i j i₀ j₀ at start token front back free here parts =
     ap (λ w. w ∷ []) (ap (λ xs. get_or xs start (pos 0)) parts ∙ get_or_at front (word i₀ j₀ at) back (pos 0) start here)

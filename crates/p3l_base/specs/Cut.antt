@@ -38,12 +38,12 @@ one_at_second Second = 1
 one_at_second Rest = 0
 one_at_second First = 0
 
--- how often First stands among the dimensions
+-- how often First occurs among the dimensions
 abbrev pub first_count : List Dim → ℕ
 first_count [] = 0
 first_count (d ∷ ds) = one_at_first d.place + first_count ds
 
--- how often Second stands among the dimensions
+-- how often Second occurs among the dimensions
 abbrev pub second_count : List Dim → ℕ
 second_count [] = 0
 second_count (d ∷ ds) = one_at_second d.place + second_count ds
@@ -69,24 +69,24 @@ pub record HasLawfulOuts (cut : Cut) : Type 0 where
   pub some_second : 1 ≤ cut.second
   pub some_out : 1 ≤ length cut.outs
   pub out_sizes : All (HasFreeSizes cut.first cut.second) cut.outs
-  -- First stands once in each of them
+  -- First occurs once in each of them
   pub out_first : All (λ (s : Slice). first_count s.dims ≡ 1) cut.outs
-  -- and so does Second; or it stands in none, and there is one second index
+  -- and so does Second; or it occurs in none, and there is one second index
   pub out_second : All (λ (s : Slice). second_count s.dims ≡ 1) cut.outs
       ⊎ ((cut.second ≡ 1) × All (λ (s : Slice). second_count s.dims ≡ 0) cut.outs)
   pub out_tiles : FollowOneAnother 0 cut.outs
 
--- the slices that a cut's elements take fit a token of so many words
+-- the slices that a cut's elements take fit a token of `ins` words
 pub record HasLawfulIns (cut : Cut) (ins : ℕ) : Type 0 where
   pub some_in : 1 ≤ length cut.ins
   pub in_sizes : All (HasFreeSizes cut.first cut.second) cut.ins
   pub in_first : All (λ (s : Slice). first_count s.dims ≤ 1) cut.ins
   pub in_second : All (λ (s : Slice). second_count s.dims ≤ 1) cut.ins
-  -- Second stands in an in slice only where it stands in the out slices
+  -- Second occurs in an in slice only where it occurs in the out slices
   pub in_second_of_outs : All (λ (s : Slice). second_count s.dims ≡ 0) cut.outs → All (λ (s : Slice). second_count s.dims ≡ 0) cut.ins
   pub in_within : All (λ (s : Slice). LiesWithin s ins) cut.ins
 
--- a lawful cut of a map with so many words in and out, for a part with its own
+-- a lawful cut of a map with `ins` words in and `outs` words out, for a part with its own
 pub record IsLawfulCut (cut : Cut) (ins outs part_ins part_outs : ℕ) : Type 0 where
   pub lawful_outs : HasLawfulOuts cut
   pub lawful_ins : HasLawfulIns cut ins

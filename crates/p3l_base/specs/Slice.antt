@@ -42,7 +42,7 @@ abbrev pub cut_words : Slice → List ℤ → ℕ → ℕ → List ℤ
 cut_words slice words i j =
     words_at words (cut_places slice.start slice.dims i j)
 
--- the slice's whole array lies in a token of so many words
+-- the slice's whole array lies in a token of n words
 abbrev pub LiesWithin : Slice → ℕ → Type 0
 LiesWithin slice words = slice.start + array_size slice.dims ≤ words
 

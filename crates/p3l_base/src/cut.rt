@@ -47,7 +47,7 @@ pub fn join(alloc: Global, cut: &Cut, results: &List<Words>) -> Result<Words, No
     Ok(Words::from_vec(token))
 }
 
-// Where a walk over an array stands: the free indices, and the place in their element's result.
+// Where a walk over an array is: the free indices, and the place in their element's result.
 #[derive(Clone, Copy, Drop)]
 struct Corner {
     first: u32,
@@ -143,7 +143,7 @@ fn fill_array(
     Ok(())
 }
 
-// The word of the results where a walk stands.
+// The word of the results where a walk is.
 fn result_at(cut: &Cut, results: &[Words], corner: Corner) -> i64
     requires first { corner.first < cut.now.first }
     requires second { corner.second < cut.now.second }

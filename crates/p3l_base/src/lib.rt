@@ -1,4 +1,4 @@
-//! What every layer speaks of: lists, words, names, outcomes of items, and want of memory.
+//! What every layer speaks of: lists, words, names, outcomes of items, and out of memory.
 #![tactic(auto)]
 
 pub mod cut;

@@ -65,6 +65,13 @@ impl<T> List<T> {
         Ok(())
     }
 
+    /// The items as a vector, without copying them.
+    pub fn into_vec(self) -> Vec<T>
+        ensures { result.items ≡ self }
+    {
+        self.items
+    }
+
     /// The items in order.
     pub fn as_slice(&self) -> &[T]
         ensures { result.now ≡ self.now }

@@ -1,8 +1,8 @@
-// Want of memory.
+// Out of memory.
 
 use std::alloc::{AllocError, AllocFailed};
 
-/// Memory was wanting: the one answer that no clause ties to a cause.
+/// Out of memory: the one answer that no clause ties to a cause.
 #[derive(Clone, Copy, Debug, Drop, PartialEq, Eq)]
 pub struct NoMemory;
 

@@ -1,4 +1,4 @@
-// Slices: where the words of one element stand in a token.
+// Slices: where the words of one element are in a token.
 
 ghost use Rattle.std.specs.Prelude.{◌≡◌, ◌+◌, ◌-◌, ◌^◌, ◌<◌, ◌≤◌, ◌++◌, length, OnOk, IfOk};
 ghost use Rattle.std.specs.List.{range_with_len};

@@ -9,9 +9,10 @@ use p3l_ast::{Entry, Module, Program};
 use p3l_base::{NoMemory, Outcome, Words};
 use p3l_body::check_body;
 use p3l_body_laws::body_compiles;
-use p3l_code::{SafeCode, run_code};
+use p3l_code::SafeCode;
 use p3l_compile::compile;
 use p3l_reader::read;
+use p3l_registers::Executable;
 use p3l_types::Consts;
 use std::alloc::{AllocError, Global};
 use std::process::Abort;
@@ -54,7 +55,7 @@ fn compiled(alloc: Global, text: &str) -> Result<Option<SafeCode>, NoMemory> {
     first_compiled(alloc, text, &program)
 }
 
-/// What the first module of a text makes of words.
+/// What the first module of a text makes of words, in registers.
 fn outcome(alloc: Global, text: &str, words: &Words) -> Result<Option<Outcome>, NoMemory> {
     let Some(safe) = compiled(alloc, text)? else {
         return Ok(None);
@@ -62,7 +63,11 @@ fn outcome(alloc: Global, text: &str, words: &Words) -> Result<Option<Outcome>, 
     if words.as_slice().len() != safe.code().ins as usize {
         return Ok(None);
     }
-    Ok(Some(run_code(alloc, &safe, HOME, words)?))
+    let executable = Executable::new(alloc, safe)?;
+    if !executable.is_in_registers() {
+        return Ok(None);
+    }
+    Ok(Some(executable.run(alloc, HOME, words)?))
 }
 
 /// An outcome as the tables write it: the words, or the name of the trap.

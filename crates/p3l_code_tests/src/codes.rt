@@ -8,8 +8,7 @@ use std::alloc::Global;
 /// The number of the module that the codes belong to.
 pub const HOME: u32 = 7;
 
-/// A code of these instructions, which takes and gives so many words and has so many words of
-/// memory.
+/// A code of these instructions, with its numbers of words taken, given and of memory.
 pub fn code(
     alloc: Global,
     budget: u32,
@@ -27,7 +26,7 @@ pub fn code(
     })
 }
 
-/// What a code makes of words; nothing where it is not safe, or does not take so many words.
+/// What a code makes of words; nothing where it is not safe, or takes another number of words.
 pub fn outcome(alloc: Global, code: Code, words: &[i64]) -> Result<Option<Outcome>, NoMemory> {
     let words = Words::from_vec(words.to_vec(alloc)?);
     let Some(safe) = verify(alloc, code)? else {

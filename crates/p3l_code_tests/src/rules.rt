@@ -78,7 +78,7 @@ fn codes_that_break_a_rule(rt: HostRuntime) -> Result<(), Fail> {
     Ok(())
 }
 
-/// A code that pushes so many words and takes them off again.
+/// A code that pushes words up to this depth and takes them off again.
 fn deep(alloc: Global, depth: u32) -> Result<Code, NoMemory> {
     let mut instrs = Vec::new(alloc);
     for _ in 0..depth {

@@ -32,7 +32,8 @@ fn comp_ins(tree: &Tree) -> Option<u32>
     }
 }
 
-/// What the root of a tree makes of words; nothing where it is no comp, or does not take so many.
+/// What the root of a tree makes of words; nothing where it is no comp, or takes
+/// another number of them.
 fn root_outcome(
     alloc: Global,
     units: &UnitTable<'_>,

@@ -61,7 +61,7 @@ abbrev pub is_seq : Form → Bool
 is_seq forms.Seq = true
 is_seq _ = false
 
--- whether a module's `seq` nodes take and give so many words
+-- whether a module's `seq` nodes take and give these numbers of words
 abbrev pub agrees : ℕ → ℕ → ℕ → List Node → Bool
 agrees m ins outs [] = true
 agrees m ins outs (node ∷ nodes) =
@@ -71,7 +71,7 @@ agrees m ins outs (node ∷ nodes) =
 abbrev pub unfit : ℕ → Outcome
 unfit m = Trapped (record { kind = Index; «module» = m })
 
--- an outcome for the words that a module takes, where it takes and gives so many
+-- an outcome for the words that a module takes, where it takes and gives these numbers of them
 abbrev pub if_fits : Tree → ℕ → ℕ → ℕ → List ℤ → Outcome → Outcome
 if_fits tree m ins outs words outcome =
     if nat_eq (length words) ins && agrees m ins outs tree.nodes then outcome else unfit m

@@ -8,7 +8,8 @@ ghost use Rattle.p3l_skel.specs.Lawful.{IsLawfulTree};
 ghost use Rattle.p3l_units.specs.Table.{HasCode, HasPlaces, leaf, LeavesAreRuns, one_if_seq};
 
 use p3l_base::{List, NoMemory, Outcome, Words};
-use p3l_code::{SafeCode, run_code};
+use p3l_code::SafeCode;
+use p3l_registers::Executable;
 use p3l_skel::{ModuleKind, Tree};
 use std::alloc::Global;
 use std::marker::Model;
@@ -18,7 +19,7 @@ use std::marker::Model;
 #[derive(Drop)]
 pub struct UnitTable<'t> {
     tree: &'t Tree,
-    codes: List<SafeCode>,
+    codes: List<Executable>,
     // For each module, how many `seq` modules are before it.
     places: List<u32>,
 }
@@ -45,6 +46,7 @@ impl<'t> UnitTable<'t> {
         ensures { IfOk result (λ table. table ≡ record { tree = tree.now; codes = codes }) }
     {
         let places = code_places(alloc, tree)?;
+        let codes = executables(alloc, codes)?;
         Ok(UnitTable {
             tree,
             codes,
@@ -70,8 +72,19 @@ impl<'t> UnitTable<'t> {
     {
         let module = self.tree.nodes.as_slice()[node as usize].module;
         let place = self.places.as_slice()[module as usize];
-        run_code(alloc, &self.codes.as_slice()[place as usize], module, words)
+        self.codes.as_slice()[place as usize].run(alloc, module, words)
     }
+}
+
+// The codes, each made ready to run.
+fn executables(alloc: Global, codes: List<SafeCode>) -> Result<List<Executable>, NoMemory>
+    ensures { IfOk result (λ executables. executables ≡ codes) }
+{
+    let mut executables = List::new(alloc);
+    for code in codes.into_vec() {
+        executables.push(Executable::new(alloc, code)?)?;
+    }
+    Ok(executables)
 }
 
 // For each module, how many `seq` modules are before it.
