@@ -13,3 +13,5 @@ pub mod Cyclic
 pub mod Frame
 pub mod FollowLaw
 pub mod SoundLaw
+pub mod Saving
+pub mod CountLaw

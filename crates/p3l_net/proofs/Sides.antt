@@ -15,7 +15,7 @@ use Rattle.p3l_net.specs.Steps.{HasEnds, Ends, marked}
 use Rattle.p3l_firing.proofs.Fitting.{all_of_one}
 use Rattle.p3l_firing.proofs.Places.{has_counted}
 
--- the numbers that were entered stand at their places, and the others stay
+-- the numbers that were entered are at their places, and the others stay
 pub marked_long : (t cs : List ℕ) (p : ℕ) → length (marked t cs p) ≡ length t
 marked_long t [] p = refl
 marked_long t (c ∷ cs) p = marked_long (slice_set t c p) cs p ∙ length-set t c p

@@ -1,5 +1,5 @@
 -- A machine stays sound.
-use Rattle.std.proofs.Common.{◌≡◌, ℕ, ℤ, ◌≤◌, true, List, [], length, Option, Some, sym, ap, ap₂, subst, le_refl}
+use Rattle.std.proofs.Common.{◌≡◌, ℕ, ℤ, ◌+◌, ◌^◌, ◌<◌, true, List, [], length, Option, Some, sym, ap, ap₂, subst, arith}
 use Rattle.std.specs.Option.{option_to_list}
 use Rattle.std.proofs.lemmas.List.{length-replicate}
 use Rattle.p3l_base.specs.declared.outcome.Outcome.{Outcome}
@@ -31,9 +31,9 @@ started_sound tree net typed = record {
   shaped = record {
     rooms = rooms-opened net.chans;
     keeps = length-replicate (length net.procs) fresh;
-    numbers = λ p. subst (λ (o : Own). o.number ≤ 0) (sym (ap (λ (f : ℕ → Own). f p) (owns-first (length net.procs)))) (le_refl 0);
-    sent = le_refl 0;
-    emitted = le_refl 0;
+    numbers = λ p. subst (λ (o : Own). o.number < 0 + 2 ^ 63) (sym (ap (λ (f : ℕ → Own). f p) (owns-first (length net.procs)))) (omega arith);
+    sent = omega arith;
+    emitted = omega arith;
   };
   fitting = subst (IsFitting tree net typed.widths) (sym (started_state tree net)) (fitting_first tree net typed [] tt);
 }

@@ -1,4 +1,4 @@
--- What is known of the process that stands at a number of a sound machine.
+-- What is known of the process at a number of a sound machine.
 use Rattle.std.proofs.Common.{◌≡◌, ◌≢◌, ℕ, ◌+◌, ◌^◌, ◌<◌, ◌≤◌, true, List, [], ◌∷◌, length, Some, zero, suc, slice_get, get_or, nat_lt, sym, ap, ◌∙◌, subst, arith, length-set}
 use Rattle.std.specs.Option.{option_map}
 use Rattle.std.specs.Result.{IfOk, OnOk, OnErr}
@@ -42,7 +42,7 @@ pub standing : {m : Seen} {p : ℕ} {q : Proc} → IsSound m → slice_get m.net
 standing sound stands = record { sound = sound; stands = stands }
 
 module _ {m : Seen} {p : ℕ} {q : Proc} (h : Stands m p q) where
-  -- it is of the kind that stands there
+  -- it is of the kind that is placed there
   pub kind_of : {k : ProcKind} → kind_at m.net p ≡ Some k → q.kind ≡ k
   kind_of {k = k} kind =
       let same : option_map (λ (x : Proc). x.kind) (Some q) ≡ Some k = ap (option_map (λ (x : Proc). x.kind)) (sym h.stands) ∙ kind in
@@ -100,10 +100,10 @@ module _ {m : Seen} {p : ℕ} {q : Proc} (h : Stands m p q) where
   first_fits c full = all_first (FitsToken h.sound.typed.widths c) credit (tokens_at m.queues c) full (h.sound.fitting.tokens c)
 
   -- its number is small enough to be counted
-  pub own_few : m.fired < 2 ^ 63 → (own_at m.owns p).number < 2 ^ 63
+  pub own_few : m.fired < 2 ^ 63 → (own_at m.owns p).number + 1 < 2 ^ 64
   own_few count = let few = h.sound.shaped.numbers p in omega (arith, few, count)
 
-  pub own_less : (own_at m.owns p).number + 1 ≤ m.fired + 1
+  pub own_less : (own_at m.owns p).number + 1 < m.fired + 1 + 2 ^ 63
   own_less = let few = h.sound.shaped.numbers p in omega (arith, few)
 
 -- after a token was taken there is as much room elsewhere, and another channel has its token still

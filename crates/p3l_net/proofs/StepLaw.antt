@@ -1,6 +1,6 @@
 -- The steps that a firing is made of: what a list of them makes of a machine is what it makes of its state, and it touches only the
 -- channels and the process that it names.
-use Rattle.std.proofs.Common.{◌≡◌, ◌≢◌, ℕ, ◌+◌, ◌<◌, ◌≤◌, List, [], ◌∷◌, ◌++◌, length, None, Some, slice_set, refl, sym, ap, ap₂, ◌∙◌, subst, arith, inl, inr, length-set}
+use Rattle.std.proofs.Common.{◌≡◌, ◌≢◌, ℕ, ◌+◌, ◌<◌, ◌^◌, List, [], ◌∷◌, ◌++◌, length, None, Some, slice_set, refl, sym, ap, ap₂, ◌∙◌, subst, arith, inl, inr, length-set}
 use Rattle.std.specs.Option.{option_to_list}
 use Rattle.std.specs.List.{AllByRecursion}
 use Rattle.std.proofs.lemmas.Bool.{cases_eq}
@@ -67,11 +67,11 @@ seen_after p m steps =
 abbrev pub state_after : ℕ → State → List Step → State
 state_after p s steps = record s { tokens = tokens_after s.tokens steps; own = own_after p s.own steps }
 
--- a step is inside a machine with so many queues, processes and firings
+-- a step is inside a machine with these numbers of queues and processes, and of what a process counts less
 abbrev pub IsInside : ℕ → ℕ → ℕ → ℕ → Step → Type 0
-IsInside p queues owns fired (Take c) = c < queues
-IsInside p queues owns fired (Put c token) = c < queues
-IsInside p queues owns fired (Keep o) = (p < owns) × (o.number ≤ fired)
+IsInside p queues owns most (Take c) = c < queues
+IsInside p queues owns most (Put c token) = c < queues
+IsInside p queues owns most (Keep o) = (p < owns) × (o.number < most)
 
 module _ (p n k f : ℕ) where
   tokens-after : (queues : List Queue) (steps : List Step) → length queues ≡ n → AllByRecursion (IsInside p n k f) steps → tokens_at (queues_after queues steps) ≡ tokens_after (tokens_at queues) steps
@@ -112,7 +112,7 @@ module _ (p n k f : ℕ) where
   others-after owns (Keep o ∷ steps) r e = others-after (slice_set owns p o) steps r e ∙ get_or-set_other owns p r o fresh e
 
   abbrev few : List Own → Type 0
-  few owns = (r : ℕ) → (own_at owns r).number ≤ f
+  few owns = (r : ℕ) → (own_at owns r).number < f
 
   numbers-after : (owns : List Own) (steps : List Step) → length owns ≡ k → AllByRecursion (IsInside p n k f) steps → few owns → few (owns_after p owns steps)
   numbers-after owns [] long all h = h
@@ -121,8 +121,8 @@ module _ (p n k f : ℕ) where
   numbers-after owns (Keep o ∷ steps) long all h =
       numbers-after (slice_set owns p o) steps (length-set owns p o ∙ long) all.1
       (λ r. elim (cases_eq r p) [
-        | inl e ↦ subst (λ i. (own_at (slice_set owns p o) i).number ≤ f) (sym e) (subst (λ (x : Own). x.number ≤ f) (sym (get_or-set_same owns p o fresh (subst (λ x. p < x) (sym long) all.0.0))) all.0.1)
-        | inr e ↦ subst (λ (x : Own). x.number ≤ f) (sym (get_or-set_other owns p r o fresh e)) (h r)
+        | inl e ↦ subst (λ i. (own_at (slice_set owns p o) i).number < f) (sym e) (subst (λ (x : Own). x.number < f) (sym (get_or-set_same owns p o fresh (subst (λ x. p < x) (sym long) all.0.0))) all.0.1)
+        | inr e ↦ subst (λ (x : Own). x.number < f) (sym (get_or-set_other owns p r o fresh e)) (h r)
       ])
 
   -- channels that are not touched stay
@@ -138,7 +138,7 @@ module _ (p n k f : ℕ) where
   inside-channels (Put c token ∷ steps) all = (all.0, inside-channels steps all.1)
   inside-channels (Keep o ∷ steps) all = inside-channels steps all.1
 
-module _ {m : Seen} {p : ℕ} {q : Proc} (h : Stands m p q) (steps : List Step) (own : AllByRecursion (IsAt (Some q)) (channels steps)) (all : AllByRecursion (IsInside p (length m.queues) (length m.owns) (m.fired + 1)) steps) where
+module _ {m : Seen} {p : ℕ} {q : Proc} (h : Stands m p q) (steps : List Step) (own : AllByRecursion (IsAt (Some q)) (channels steps)) (all : AllByRecursion (IsInside p (length m.queues) (length m.owns) (m.fired + 1 + 2 ^ 63)) steps) where
   abbrev new : Seen
   new = seen_after p m steps
 
@@ -147,7 +147,7 @@ module _ {m : Seen} {p : ℕ} {q : Proc} (h : Stands m p q) (steps : List Step) 
   unfolding state_of
   seen-state es =
       let with : (ℕ → List Token) → (ℕ → Own) → State = λ t o. record { tokens = t; own = o; unsent = option_to_list m.inbox; sent = m.sent; emitted = es } in
-      ap₂ with (tokens-after p (length m.queues) (length m.owns) (m.fired + 1) m.queues steps refl all) (own-after p (length m.queues) (length m.owns) (m.fired + 1) m.owns steps refl all)
+      ap₂ with (tokens-after p (length m.queues) (length m.owns) (m.fired + 1 + 2 ^ 63) m.queues steps refl all) (own-after p (length m.queues) (length m.owns) (m.fired + 1 + 2 ^ 63) m.owns steps refl all)
 
   pub seen-shaped : IsShaped new
   seen-shaped =
@@ -155,9 +155,9 @@ module _ {m : Seen} {p : ℕ} {q : Proc} (h : Stands m p q) (steps : List Step) 
       let sent = shaped.sent in
       let emitted = shaped.emitted in
       record {
-        rooms = rooms-after p (length m.queues) (length m.owns) (m.fired + 1) m.queues steps ∙ shaped.rooms;
-        keeps = keeps-after p (length m.queues) (length m.owns) (m.fired + 1) m.owns steps ∙ shaped.keeps;
-        numbers = numbers-after p (length m.queues) (length m.owns) (m.fired + 1) m.owns steps refl all (λ r. let few = shaped.numbers r in omega (arith, few));
+        rooms = rooms-after p (length m.queues) (length m.owns) (m.fired + 1 + 2 ^ 63) m.queues steps ∙ shaped.rooms;
+        keeps = keeps-after p (length m.queues) (length m.owns) (m.fired + 1 + 2 ^ 63) m.owns steps ∙ shaped.keeps;
+        numbers = numbers-after p (length m.queues) (length m.owns) (m.fired + 1 + 2 ^ 63) m.owns steps refl all (λ r. let few = shaped.numbers r in omega (arith, few));
         sent = omega (arith, sent);
         emitted = omega (arith, emitted);
       }
@@ -167,10 +167,10 @@ module _ {m : Seen} {p : ℕ} {q : Proc} (h : Stands m p q) (steps : List Step) 
     typed = h.sound.typed;
     tree = refl;
     net = refl;
-    inside = subst (λ n. AllByRecursion (λ c. c < n) (channels steps)) (queue_count m.queues m.net.chans h.sound.shaped.rooms) (inside-channels p (length m.queues) (length m.owns) (m.fired + 1) steps all);
+    inside = subst (λ n. AllByRecursion (λ c. c < n) (channels steps)) (queue_count m.queues m.net.chans h.sound.shaped.rooms) (inside-channels p (length m.queues) (length m.owns) (m.fired + 1 + 2 ^ 63) steps all);
     own_channels = subst (λ o. AllByRecursion (IsAt o) (channels steps)) (sym h.stands) own;
-    queues = apart-after p (length m.queues) (length m.owns) (m.fired + 1) m.queues steps;
-    owns = others-after p (length m.queues) (length m.owns) (m.fired + 1) m.owns steps;
+    queues = apart-after p (length m.queues) (length m.owns) (m.fired + 1 + 2 ^ 63) m.queues steps;
+    owns = others-after p (length m.queues) (length m.owns) (m.fired + 1 + 2 ^ 63) m.owns steps;
     inbox = inr refl;
   }
 

@@ -1,4 +1,4 @@
--- The forms of the nodes that processes stand for.
+-- The forms of the nodes that processes belong to.
 use Rattle.std.specs.Prelude.{◌≡◌, ℕ, ◌*◌, ⊤}
 use Rattle.p3l_skel.specs.declared.tree.Form.{Form}
 use Rattle.p3l_skel.specs.declared.tree.Form.TheVariants.{Seq, Comp, Pipe, Farm, Map, Reduce, Loop}
@@ -23,6 +23,6 @@ IsReduce (Map workers cut) = ⊥
 IsReduce (Reduce workers len elem) = ⊤
 IsReduce (Loop turns tokens) = ⊥
 
--- so many words are elements of `elem` words each
+-- this number of words is that of elements of `elem` words each
 abbrev pub IsInElements : ℕ → ℕ → Type 0
 IsInElements elem words = (count : ℕ) × (words ≡ count * elem)

@@ -24,3 +24,5 @@ pub mod Operators
 pub mod Machine
 pub mod Steps
 pub mod Offered
+pub mod Shot
+pub mod Fitting

@@ -1,5 +1,5 @@
 -- What contracts see of a machine, and the state that it is in.
-use Rattle.std.specs.Prelude.{◌≡◌, ℕ, ℤ, ◌+◌, ◌≤◌, List, [], ◌++◌, Bool, false, not, ◌&&◌, Option, None, Some, slice_get, length, map, replicate, filter}
+use Rattle.std.specs.Prelude.{◌≡◌, ℕ, ℤ, ◌+◌, ◌^◌, ◌<◌, List, [], ◌++◌, Bool, false, not, ◌&&◌, Option, None, Some, slice_get, length, map, replicate, filter}
 use Rattle.std.specs.List.{range_with_len}
 use Rattle.std.specs.Option.{option_to_list}
 use Rattle.p3l_base.specs.declared.outcome.Outcome.{Outcome}
@@ -70,13 +70,14 @@ started tree net =
       trapped = false;
     }
 
--- the parts of a machine are as large as its net asks, and no more was sent or emitted than fired, nor counted by a process
+-- the parts of a machine are as large as its net says, and less was sent, emitted and counted by a process than 2^63 more than fired:
+-- a machine that was restored had done less than that before
 pub record IsShaped (m : Seen) : Type 0 where
   pub rooms : map (λ (q : Queue). q.room) m.queues ≡ map (λ (c : Chan). c.cap) m.net.chans
   pub keeps : length m.owns ≡ length m.net.procs
-  pub numbers : (p : ℕ) → (own_at m.owns p).number ≤ m.fired
-  pub sent : m.sent ≤ m.fired
-  pub emitted : m.emitted ≤ m.fired
+  pub numbers : (p : ℕ) → (own_at m.owns p).number < m.fired + 2 ^ 63
+  pub sent : m.sent < m.fired + 2 ^ 63
+  pub emitted : m.emitted < m.fired + 2 ^ 63
 
 -- what every machine keeps: its net is typed, and its state fits the net
 pub record IsSound (m : Seen) : Type 0 where

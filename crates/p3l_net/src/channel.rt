@@ -1,12 +1,15 @@
 // Channels of the machine: rings of tokens, whose room is taken when they are made.
 
 ghost use Rattle.std.specs.Prelude.{◌≡◌, ◌<◌, ◌≤◌, [], ◌∷◌, ◌++◌, length, IfOk, nat_lt};
+ghost use Rattle.std.specs.List.{All};
 ghost use Rattle.p3l_net.specs.Channel.{opened};
+ghost use Rattle.p3l_net.specs.Shot.{HasFewTags, queue_of, saved_queue};
 ghost use Rattle.p3l_firing.specs.Token.{credit};
 ghost use Rattle.p3l_firing.specs.Lists.{has_first, first_or};
 
+use crate::shot::{SavedToken, save_tokens};
 use circular_buffer::HeapCircularBuffer;
-use p3l_base::NoMemory;
+use p3l_base::{List, NoMemory};
 use p3l_firing::{Chan, Token};
 use std::alloc::Global;
 use std::marker::Model;
@@ -37,6 +40,34 @@ impl Channel {
             ring.push_back(Token::credit(alloc));
         }
         Ok(Channel { ring })
+    }
+
+    /// The channel with the tokens that were saved.
+    pub(crate) fn restore(
+        alloc: Global,
+        chan: &Chan,
+        saved: &[SavedToken],
+    ) -> Result<Channel, NoMemory>
+        requires room { length saved.now ≤ chan.now.cap }
+        requires tags { All HasFewTags saved.now }
+        ensures { IfOk result (λ channel. channel ≡ queue_of chan.now saved.now) }
+    {
+        let mut ring = HeapCircularBuffer::with_capacity(alloc, chan.cap as usize)?;
+        for token in saved {
+            ring.push_back(token.restore(alloc)?);
+        }
+        Ok(Channel { ring })
+    }
+
+    /// Its tokens, as they are saved.
+    pub(crate) fn save(&self, alloc: Global) -> Result<List<SavedToken>, NoMemory>
+        ensures { IfOk result (λ saved. saved ≡ saved_queue self.now) }
+    {
+        let (front, back) = self.ring.as_slices();
+        let mut saved = List::new(alloc);
+        save_tokens(alloc, front, &mut saved)?;
+        save_tokens(alloc, back, &mut saved)?;
+        Ok(saved)
     }
 
     /// Whether there is a token.

@@ -1,12 +1,14 @@
 // All channels of a machine, by their numbers.
 
-ghost use Rattle.std.specs.Prelude.{◌≡◌, ◌<◌, ◌≤◌, length, map, IfOk, nat_lt, slice_index_or, EachIndex};
+ghost use Rattle.std.specs.Prelude.{◌≡◌, ◌<◌, ◌≤◌, [], length, map, IfOk, nat_lt, slice_index_or, EachIndex};
 ghost use Rattle.p3l_net.specs.Channel.{queue_at, tokens_at, opened, appended, prepended, taken};
 ghost use Rattle.p3l_firing.specs.Lists.{has_first, first_or};
 ghost use Rattle.p3l_firing.specs.State.{no_chan};
 ghost use Rattle.p3l_firing.specs.Token.{credit};
+ghost use Rattle.p3l_net.specs.Shot.{HasRoom, queues_of, saved_queue};
 
 use crate::channel::Channel;
+use crate::shot::SavedToken;
 use p3l_base::{List, NoMemory};
 use p3l_firing::{Chan, Token};
 use std::alloc::Global;
@@ -39,6 +41,37 @@ impl Channels {
             list.push(Channel::open(alloc, chan)?)?;
         }
         Ok(Channels { list })
+    }
+
+    /// The channels of a net with the tokens that were saved.
+    pub(crate) fn restore(
+        alloc: Global,
+        chans: &List<Chan>,
+        saved: &List<List<SavedToken>>,
+    ) -> Result<Channels, NoMemory>
+        requires all { length saved.now ≡ length chans.now }
+        requires fit { EachIndex chans.now (λ c. HasRoom
+            (slice_index_or chans.now c no_chan) (slice_index_or saved.now c [])) }
+        ensures { IfOk result (λ channels. channels ≡ queues_of chans.now saved.now) }
+    {
+        let chans = chans.as_slice();
+        let lists = saved.as_slice();
+        let mut list = Vec::with_capacity(alloc, chans.len())?;
+        for c in 0..chans.len() {
+            list.push(Channel::restore(alloc, &chans[c], lists[c].as_slice())?)?;
+        }
+        Ok(Channels { list })
+    }
+
+    /// The tokens of each channel, as they are saved.
+    pub(crate) fn save(&self, alloc: Global) -> Result<List<List<SavedToken>>, NoMemory>
+        ensures { IfOk result (λ saved. saved ≡ map saved_queue self.now) }
+    {
+        let mut saved = List::new(alloc);
+        for channel in &self.list {
+            saved.push(channel.save(alloc)?)?;
+        }
+        Ok(saved)
     }
 
     /// Whether a channel has a token.

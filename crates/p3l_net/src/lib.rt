@@ -3,12 +3,15 @@
 
 mod channel;
 mod channels;
+mod copies;
 pub mod ends;
 mod kinds;
 pub mod laws;
 pub mod machine;
 mod own;
 mod refresh;
+mod saved_tags;
+pub mod shot;
 mod store;
 mod touched;
 
@@ -16,3 +19,4 @@ pub use machine::Machine;
 pub use p3l_firing::{
     Chan, Fired, MOST_TAGS, Net, Proc, ProcKind, Tags, Token, net, process, single, token, unit_net,
 };
+pub use shot::{Own, SavedToken, Shot};

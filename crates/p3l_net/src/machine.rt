@@ -4,6 +4,7 @@ ghost use Rattle.std.specs.Prelude.{◌≡◌, ◌≢◌, ◌<◌, length, None,
 ghost use Rattle.p3l_ready.specs.Flags.{in_turn};
 ghost use Rattle.p3l_net.specs.Machine.{can_step, started, state_of, HasEmitted, Fires, IsSound, may_want_memory, ready_list};
 ghost use Rattle.p3l_net.specs.Steps.{IsReader, IsWriter, OthersStay, ready_at};
+ghost use Rattle.p3l_net.specs.Shot.{CanRestore, IsCountable, restored, shot_of};
 ghost use Rattle.p3l_firing.specs.Fire.{can_fire};
 ghost use Rattle.p3l_firing.specs.State.{first_state};
 ghost use Rattle.p3l_firing.specs.RoundRobin.{next_of};
@@ -13,6 +14,7 @@ ghost use Rattle.p3l_skel.specs.Tree.{node_at};
 
 use crate::ends::Sides;
 use crate::refresh::{look_at_all, refresh};
+use crate::shot::Shot;
 use crate::store::Store;
 use p3l_base::{NoMemory, Outcome, Words};
 use p3l_firing::{Fired, Net, ProcKind};
@@ -60,6 +62,39 @@ impl<'t> Machine<'t> {
             ready,
             sides,
         })
+    }
+
+    /// The machine in the state that was saved, in which nothing has fired.
+    pub fn restore(
+        alloc: Global,
+        tree: &'t Tree,
+        net: Net,
+        shot: Shot,
+    ) -> Result<Machine<'t>, NoMemory>
+        requires { CanRestore tree.now net shot }
+        ensures { IfOk result (λ machine. machine ≡ restored tree.now net shot) }
+    {
+        let sides = Sides::of(alloc, &net)?;
+        let store = Store::restore(alloc, tree, net, shot)?;
+        let mut ready = ReadySet::new(alloc, store.size())?;
+        look_at_all(&store, &mut ready);
+        Ok(Machine {
+            store,
+            ready,
+            sides,
+        })
+    }
+
+    /// What is saved of the state that it is in.
+    pub fn save(&self, alloc: Global) -> Result<Shot, NoMemory>
+        requires { self.now.trapped ≡ false }
+        ensures saved { IfOk result (λ shot. shot ≡ shot_of self.now) }
+        ensures back { IfOk result (λ shot. restored self.now.tree self.now.net shot
+            ≡ record self.now { fired = 0 }) }
+        ensures fits { IfOk result (λ shot. IsCountable shot
+            → CanRestore self.now.tree self.now.net shot) }
+    {
+        self.store.save(alloc)
     }
 
     /// How many processes there are.

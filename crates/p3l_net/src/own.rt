@@ -1,11 +1,14 @@
 // What the processes of a machine keep.
 
-ghost use Rattle.std.specs.Prelude.{◌≡◌, ℕ, ◌+◌, ◌<◌, ◌^◌, [], ◌∷◌, ◌++◌, length, replicate, slice_set, true, false, IfSome, IfNone, IfOk, IfErr, OnOk, OnErr};
+ghost use Rattle.std.specs.Prelude.{◌≡◌, ℕ, ◌+◌, ◌<◌, ◌^◌, [], ◌∷◌, ◌++◌, length, map, replicate, slice_set, true, false, IfSome, IfNone, IfOk, IfErr, OnOk, OnErr};
+ghost use Rattle.std.specs.List.{All};
 ghost use Rattle.p3l_firing.specs.State.{fresh, own_at, counted, holding, gathering, released};
 ghost use Rattle.p3l_firing.specs.kinds.Tail.{has_number, pick_number, after_release};
+ghost use Rattle.p3l_net.specs.Shot.{HasFewTags, own_of, saved_own};
 ghost use Rattle.p3l_net.specs.Turns.{IsDue};
 
-use p3l_base::NoMemory;
+use crate::shot::{Own as SavedOwn, save_tokens};
+use p3l_base::{List, NoMemory};
 use p3l_firing::Token;
 use std::alloc::{AllocFailed, Global};
 use std::marker::Model;
@@ -38,6 +41,33 @@ impl Keep {
         })
     }
 
+    // With room for one token at least.
+    fn restore(alloc: Global, saved: &SavedOwn) -> Result<Keep, NoMemory>
+        requires { All HasFewTags saved.now.held }
+        ensures { IfOk result (λ keep. keep ≡ own_of saved.now) }
+    {
+        let tokens = saved.held.as_slice();
+        let mut held = Vec::with_capacity(alloc, tokens.len().max(1))?;
+        for token in tokens {
+            held.push(token.restore(alloc)?)?;
+        }
+        Ok(Keep {
+            number: saved.number,
+            held,
+        })
+    }
+
+    fn save(&self, alloc: Global) -> Result<SavedOwn, NoMemory>
+        ensures { IfOk result (λ saved. saved ≡ saved_own self.now) }
+    {
+        let mut held = List::new(alloc);
+        save_tokens(alloc, self.held.as_slice(), &mut held)?;
+        Ok(SavedOwn {
+            number: self.number,
+            held,
+        })
+    }
+
     fn number(&self) -> u64
         ensures { result ≡ self.now.number }
     {
@@ -51,7 +81,7 @@ impl Keep {
     }
 
     fn count(&mut self)
-        requires { self.old.number < 2 ^ 63 }
+        requires { self.old.number + 1 < 2 ^ 64 }
         ensures { self.new ≡ counted self.old }
     {
         self.number += 1;
@@ -73,7 +103,7 @@ impl Keep {
         self.held.push(token)
     }
 
-    // The place of the first token held whose number is due.
+    // The place of the token held that is expected: the first of its number.
     fn place_due(&self) -> Option<usize>
         ensures due { IfSome result (λ k. IsDue self.now.number self.now.held k) }
         ensures none { IfNone result (has_number self.now.number self.now.held ≡ false) }
@@ -94,7 +124,7 @@ impl Keep {
 
     fn let_out(&mut self) -> Token
         requires due { has_number self.old.number self.old.held ≡ true }
-        requires few { self.old.number < 2 ^ 63 }
+        requires few { self.old.number + 1 < 2 ^ 64 }
         ensures token { result ≡ pick_number self.old.number self.old.held }
         ensures after { self.new ≡ after_release self.old }
     {
@@ -134,7 +164,7 @@ impl Model for Keeps {
 }
 
 impl Keeps {
-    /// What so many processes keep before anything has fired.
+    /// What `size` processes keep before anything has fired.
     pub(crate) fn new(alloc: Global, size: usize) -> Result<Keeps, NoMemory>
         ensures { IfOk result (λ keeps. keeps ≡ replicate size fresh) }
     {
@@ -143,6 +173,30 @@ impl Keeps {
             list.push(Keep::new(alloc)?)?;
         }
         Ok(Keeps { list })
+    }
+
+    /// What each process keeps, as it was saved.
+    pub(crate) fn restore(alloc: Global, saved: &List<SavedOwn>) -> Result<Keeps, NoMemory>
+        requires { All (λ own. All HasFewTags own.held) saved.now }
+        ensures { IfOk result (λ keeps. keeps ≡ map own_of saved.now) }
+    {
+        let saved = saved.as_slice();
+        let mut list = Vec::with_capacity(alloc, saved.len())?;
+        for own in saved {
+            list.push(Keep::restore(alloc, own)?)?;
+        }
+        Ok(Keeps { list })
+    }
+
+    /// What each process keeps, as it is saved.
+    pub(crate) fn save(&self, alloc: Global) -> Result<List<SavedOwn>, NoMemory>
+        ensures { IfOk result (λ saved. saved ≡ map saved_own self.now) }
+    {
+        let mut saved = List::new(alloc);
+        for keep in &self.list {
+            saved.push(keep.save(alloc)?)?;
+        }
+        Ok(saved)
     }
 
     /// The number that a process keeps.
@@ -164,7 +218,7 @@ impl Keeps {
     /// A process counts one more.
     pub(crate) fn count(&mut self, p: u32)
         requires there { p < length self.old }
-        requires few { (own_at self.old p).number < 2 ^ 63 }
+        requires few { (own_at self.old p).number + 1 < 2 ^ 64 }
         ensures { self.new ≡ slice_set self.old p (counted (own_at self.old p)) }
     {
         self.list[p as usize].count();
@@ -189,7 +243,7 @@ impl Keeps {
         self.list[p as usize].gather(token)
     }
 
-    /// Whether a process holds the token whose number is due.
+    /// Whether a process holds the token that is expected.
     pub(crate) fn holds_due(&self, p: u32) -> bool
         requires { p < length self.now }
         ensures { result ≡ has_number (own_at self.now p).number (own_at self.now p).held }
@@ -197,11 +251,11 @@ impl Keeps {
         self.list[p as usize].holds_due()
     }
 
-    /// A process lets the first token out that it holds whose number is due, and counts one more.
+    /// A process lets the expected token out that it holds, and counts one more.
     pub(crate) fn let_out(&mut self, p: u32) -> Token
         requires there { p < length self.old }
         requires due { has_number (own_at self.old p).number (own_at self.old p).held ≡ true }
-        requires few { (own_at self.old p).number < 2 ^ 63 }
+        requires few { (own_at self.old p).number + 1 < 2 ^ 64 }
         ensures token { result ≡ pick_number (own_at self.old p).number (own_at self.old p).held }
         ensures after { self.new ≡ slice_set self.old p (after_release (own_at self.old p)) }
     {

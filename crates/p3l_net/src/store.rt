@@ -9,14 +9,17 @@ ghost use Rattle.p3l_firing.specs.kinds.Tail.{has_number, pick_number, after_rel
 ghost use Rattle.p3l_firing.specs.Typed.{IsTyped};
 ghost use Rattle.p3l_net.specs.Channel.{queue_at, tokens_at};
 ghost use Rattle.p3l_net.specs.Machine.{started};
+ghost use Rattle.p3l_net.specs.Shot.{IsHeld, restored, shot_of};
 ghost use Rattle.p3l_skel.specs.Tree.{node_at};
 ghost use Rattle.p3l_net.specs.Steps.{CanTake, CanPut, ticked, without_first, with_last, with_own, item_sent, one_emitted, room_at};
 
 use crate::channels::Channels;
 use crate::own::Keeps;
+use crate::shot::Shot;
 use p3l_base::{NoMemory, Outcome, Trap, Words};
 use p3l_firing::token::is_trap;
 use p3l_firing::{Net, Proc, Token};
+use p3l_skel::outcome::copied;
 use p3l_skel::{Node, Tree};
 use std::alloc::Global;
 use std::marker::Model;
@@ -61,6 +64,54 @@ impl<'t> Store<'t> {
             sent: 0,
             emitted: 0,
             trapped: false,
+        })
+    }
+
+    /// The state that is to be restored.
+    pub(crate) fn restore(
+        alloc: Global,
+        tree: &'t Tree,
+        net: Net,
+        shot: Shot,
+    ) -> Result<Store<'t>, NoMemory>
+        requires { IsHeld net shot }
+        ensures { IfOk result (λ store. store ≡ restored tree.now net shot) }
+    {
+        let channels = Channels::restore(alloc, &net.chans, &shot.chans)?;
+        let keeps = Keeps::restore(alloc, &shot.owns)?;
+        Ok(Store {
+            tree,
+            net,
+            channels,
+            keeps,
+            inbox: shot.inbox,
+            fired: 0,
+            sent: shot.sent,
+            emitted: shot.emitted,
+            trapped: false,
+        })
+    }
+
+    // The item in the inbox, as it is saved.
+    fn saved_inbox(&self, alloc: Global) -> Result<Option<Words>, NoMemory>
+        ensures { IfOk result (λ inbox. inbox ≡ self.now.inbox) }
+    {
+        match &self.inbox {
+            Some(item) => Ok(Some(copied(alloc, item)?)),
+            None => Ok(None),
+        }
+    }
+
+    /// What is saved of the state.
+    pub(crate) fn save(&self, alloc: Global) -> Result<Shot, NoMemory>
+        ensures { IfOk result (λ shot. shot ≡ shot_of self.now) }
+    {
+        Ok(Shot {
+            chans: self.channels.save(alloc)?,
+            owns: self.keeps.save(alloc)?,
+            inbox: self.saved_inbox(alloc)?,
+            sent: self.sent,
+            emitted: self.emitted,
         })
     }
 
@@ -152,7 +203,7 @@ impl<'t> Store<'t> {
     /// Process `p` counts one more.
     pub(crate) fn count(&mut self, p: u32)
         requires there { p < length self.old.owns }
-        requires few { (own_at self.old.owns p).number < 2 ^ 63 }
+        requires few { (own_at self.old.owns p).number + 1 < 2 ^ 64 }
         ensures { self.new ≡ with_own self.old p (counted (own_at self.old.owns p)) }
     {
         self.keeps.count(p);
@@ -187,7 +238,7 @@ impl<'t> Store<'t> {
         }
     }
 
-    /// Whether process `p` holds the token whose number is due.
+    /// Whether process `p` holds the token that is expected.
     pub(crate) fn holds_due(&self, p: u32) -> bool
         requires { p < length self.now.owns }
         ensures { result
@@ -196,12 +247,12 @@ impl<'t> Store<'t> {
         self.keeps.holds_due(p)
     }
 
-    /// Process `p` lets the first token out that it holds whose number is due, and counts one more.
+    /// Process `p` lets the expected token out that it holds, and counts one more.
     pub(crate) fn let_out(&mut self, p: u32) -> Token
         requires there { p < length self.old.owns }
         requires due { has_number (own_at self.old.owns p).number (own_at self.old.owns p).held
             ≡ true }
-        requires few { (own_at self.old.owns p).number < 2 ^ 63 }
+        requires few { (own_at self.old.owns p).number + 1 < 2 ^ 64 }
         ensures token { result
             ≡ pick_number (own_at self.old.owns p).number (own_at self.old.owns p).held }
         ensures after { self.new ≡ with_own self.old p (after_release (own_at self.old.owns p)) }
@@ -247,7 +298,7 @@ impl<'t> Store<'t> {
     /// last.
     pub(crate) fn pass_piece(&mut self, p: u32, more: bool)
         requires there { p < length self.old.owns }
-        requires few { (own_at self.old.owns p).number < 2 ^ 63 }
+        requires few { (own_at self.old.owns p).number + 1 < 2 ^ 64 }
         ensures { self.new
             ≡ with_own self.old p (cond more (counted (own_at self.old.owns p)) fresh) }
     {
@@ -300,7 +351,7 @@ impl<'t> Store<'t> {
     /// Takes the item out of the inbox, and counts it as sent.
     pub(crate) fn next_item(&mut self) -> Words
         requires some { IsTrue (is_some self.old.inbox) }
-        requires few { self.old.sent < 2 ^ 63 }
+        requires few { self.old.sent + 1 < 2 ^ 64 }
         ensures item { self.old.inbox ≡ Some result }
         ensures after { self.new ≡ item_sent self.old }
     {
@@ -311,7 +362,7 @@ impl<'t> Store<'t> {
 
     /// Counts an outcome as emitted.
     pub(crate) fn emit(&mut self, outcome: &Outcome)
-        requires { self.old.emitted < 2 ^ 63 }
+        requires { self.old.emitted + 1 < 2 ^ 64 }
         ensures { self.new ≡ one_emitted self.old outcome.now }
     {
         self.emitted += 1;

@@ -9,7 +9,7 @@ use std::test::Fail;
 
 /// A map of four elements with two workers: 0 and 1 are the source and the sink, 2 scatters, 3
 /// gathers, and 4 and 5 work. The second worker is done with its first element before the first.
-const MAP: [(u32, u32); 16] = [
+pub const MAP: [(u32, u32); 16] = [
     (0, 0b100),
     (2, 0b100),
     (2, 0b10100),
@@ -42,7 +42,7 @@ const REDUCE: [(u32, u32); 8] = [
 
 /// A loop of two tokens: 2 is its head, 3 its tail and 4 its body. The first item goes round three
 /// times, the second once: it is held until the first is let out.
-const LOOP: [(u32, u32); 18] = [
+pub const LOOP: [(u32, u32); 18] = [
     (0, 0b100),
     (2, 0b10001),
     (0, 0b10000),
@@ -80,7 +80,7 @@ const SPENT: [(u32, u32); 12] = [
 ];
 
 /// Whether these words were handed out.
-fn is_value(outcome: &Option<Outcome>, words: &[i64]) -> bool {
+pub fn is_value(outcome: &Option<Outcome>, words: &[i64]) -> bool {
     match outcome {
         Some(outcome) => has_words(outcome, words),
         None => false,

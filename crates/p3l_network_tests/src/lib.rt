@@ -9,6 +9,8 @@ mod looped;
 #[cfg(test)]
 mod pieces;
 #[cfg(test)]
+mod restored;
+#[cfg(test)]
 mod running;
 #[cfg(test)]
 mod stepping;

@@ -21,7 +21,7 @@ fn item_of(alloc: Global, word: i64) -> Result<Words, NoMemory>
     Ok(words)
 }
 
-/// Offers the item at `next`, if the machine wants one and there is one; gives the place of the
+/// Offers the item at `next`, if the inbox is empty and there is one; gives the place of the
 /// next one.
 fn fill(
     alloc: Global,

@@ -2,6 +2,7 @@
 
 ghost use Rattle.std.specs.Prelude.{◌≡◌, ◌<◌, None, length, IfOk};
 ghost use Rattle.p3l_firing.specs.Typed.{IsTyped};
+ghost use Rattle.p3l_link.specs.Net.{linked_net};
 
 use p3l_base::{List, NoMemory, Outcome, Words};
 use p3l_firing::Net;
@@ -13,8 +14,9 @@ use std::alloc::Global;
 use std::process::Abort;
 
 /// The net of a tree with these numbers of workers, and with room for one token in each channel.
-fn net_of(rt: &impl Abort, alloc: Global, tree: &Tree, counts: &Counts) -> Result<Net, NoMemory>
-    ensures { IfOk result (λ net. IsTyped tree.now net) }
+pub fn net_of(rt: &impl Abort, alloc: Global, tree: &Tree, counts: &Counts) -> Result<Net, NoMemory>
+    ensures net { IfOk result (λ net. net ≡ linked_net tree.now counts.now.list 1) }
+    ensures typed { IfOk result (λ net. IsTyped tree.now net) }
 {
     assert!(rt; lawful_tree(tree));
     assert!(rt; lawful_counts(tree, counts));
@@ -40,7 +42,7 @@ fn machine_of<'t>(
     Machine::start(alloc, tree, net)
 }
 
-/// Compares whether a process can fire: asked of it, from it on, and by its place among all that can,
+/// Compares whether a process can fire: by itself, from it on, and by its place among all that can,
 /// of which `before` are before it. Gives the number of those before the next one.
 fn compare_process(
     rt: &impl Abort,
@@ -73,7 +75,7 @@ fn compare_ready(rt: &impl Abort, machine: &Machine<'_>, ready: u32) {
 }
 
 /// Fires a process that can fire, and compares what can fire after it; gives what was handed out.
-fn fire<U: Units>(
+pub fn fire<U: Units>(
     rt: &impl Abort,
     alloc: Global,
     machine: &mut Machine<'_>,
@@ -84,7 +86,8 @@ fn fire<U: Units>(
 ) -> Result<Option<Outcome>, NoMemory>
     requires machine { machine.old.tree ≡ tree.now }
     requires units { U.tree units.now ≡ tree.now }
-    ensures { machine.new.tree ≡ machine.old.tree }
+    ensures tree { machine.new.tree ≡ machine.old.tree }
+    ensures net { machine.new.net ≡ machine.old.net }
 {
     assert!(rt; process < machine.size());
     assert!(rt; machine.can_step(process));
@@ -95,7 +98,7 @@ fn fire<U: Units>(
 }
 
 /// Offers an item of the root's in words.
-fn offer(
+pub fn offer(
     rt: &impl Abort,
     alloc: Global,
     machine: &mut Machine<'_>,
@@ -104,7 +107,8 @@ fn offer(
 ) -> Result<(), NoMemory>
     requires machine { machine.old.tree ≡ tree.now }
     requires empty { machine.old.inbox ≡ None }
-    ensures { machine.new.tree ≡ machine.old.tree }
+    ensures tree { machine.new.tree ≡ machine.old.tree }
+    ensures net { machine.new.net ≡ machine.old.net }
 {
     let words = Words::from_vec(item.to_vec(alloc)?);
     let root = tree.node(0);
@@ -114,9 +118,9 @@ fn offer(
     machine.offer(alloc, words)
 }
 
-/// Offers the first of these items, if the machine wants one and there is one; gives those that are
+/// Offers the first of these items, if the inbox is empty and there is one; gives those that are
 /// left.
-fn fill<'i>(
+pub fn fill<'i>(
     rt: &impl Abort,
     alloc: Global,
     machine: &mut Machine<'_>,
@@ -124,7 +128,8 @@ fn fill<'i>(
     items: &'i [[i64; 2]],
 ) -> Result<&'i [[i64; 2]], NoMemory>
     requires { machine.old.tree ≡ tree.now }
-    ensures { machine.new.tree ≡ machine.old.tree }
+    ensures tree { machine.new.tree ≡ machine.old.tree }
+    ensures net { machine.new.net ≡ machine.old.net }
 {
     if !machine.wants_item() {
         return Ok(items);
@@ -136,7 +141,7 @@ fn fill<'i>(
     Ok(rest)
 }
 
-/// Fires processes one after another, and offers an item before each where the machine wants one;
+/// Fires processes one after another, and offers an item before each where the inbox is empty;
 /// gives what was handed out.
 fn pass_all<U: Units>(
     rt: &impl Abort,
@@ -162,7 +167,7 @@ fn pass_all<U: Units>(
 }
 
 /// What the network of a tree hands out of items under these picks, as `outcome_of`; each item is
-/// offered as soon as the machine wants one.
+/// offered as soon as the inbox is empty.
 pub fn outcomes_of<U: Units>(
     rt: &impl Abort,
     alloc: Global,

@@ -24,7 +24,7 @@ use Rattle.p3l_net.specs.Steps.{CanTake, CanPut, Done, MayFire, ready_at, room_a
 use Rattle.p3l_net.proofs.StepLaw.{Step, Step.Take, Step.Put, Step.Keep, seen_after, state_after, done_as}
 use Rattle.p3l_net.proofs.Standing.{here, is_kind, fits_as, writes_there, own_there, own_less, ready_as, can_take, can_put, room-seen}
 
--- whether the first token is the one that is due
+-- whether the first token is the one that is expected
 pub due_front : (n : ℕ) (tokens : List Token) → has_first tokens ≡ true → front_is n tokens ≡ nat_eq (newest_tag (first_or credit tokens)) n
 unfolding front_is
 due_front n [] h = cc

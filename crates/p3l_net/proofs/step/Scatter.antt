@@ -1,5 +1,5 @@
 -- What a scatter that may fire has, and the steps of its firing.
-use Rattle.std.proofs.Common.{◌≡◌, ℕ, ◌+◌, ◌-◌, ◌*◌, ◌<◌, ◌≤◌, Bool, true, false, cond, nat_lt, List, [], ◌∷◌, length, Some, None, slice_get, refl, sym, ap, ◌∙◌, subst, arith, inl, inr}
+use Rattle.std.proofs.Common.{◌≡◌, ℕ, ◌+◌, ◌-◌, ◌*◌, ◌^◌, ◌<◌, ◌≤◌, Bool, true, false, cond, nat_lt, List, [], ◌∷◌, length, Some, None, slice_get, refl, sym, ap, ◌∙◌, subst, arith, inl, inr}
 use Rattle.std.proofs.lemmas.Bool.{cond-true, cond-false}
 use Rattle.p3l_base.specs.declared.outcome.Outcome.{Outcome}
 use Rattle.p3l_base.specs.declared.outcome.Outcome.TheVariants.{Value, Trapped}
@@ -66,7 +66,7 @@ module _ {m : Seen} {p : ℕ} {q : Proc} (h : Stands m p q) (kind : q.kind ≡ S
         let less = (keeps_as h Scatter kind).number holds in
         omega (arith, some, count, less)
 
-    -- what the cut asks of the token that it holds
+    -- what the cut needs of the token that it holds
     pub cut_fits : IfValue (first_or credit (own_at m.owns p).held).body (λ words. HasLawfulIns (cut_of (node_at m.tree q.node).form) (length words))
     cut_fits =
         let fits = fits_scatter in
@@ -79,9 +79,9 @@ module _ {m : Seen} {p : ℕ} {q : Proc} (h : Stands m p q) (kind : q.kind ≡ S
         by_value (Trapped trap) long takes lawful = tt
 
 -- the number of what is kept after an element is small
-pub small_after : (b : Bool) (o : Own) (n : ℕ) → o.number + 1 ≤ n → (cond b (counted o) fresh).number ≤ n
+pub small_after : (b : Bool) (o : Own) (n : ℕ) → o.number + 1 < n → (cond b (counted o) fresh).number < n
 small_after true o n less = less
-small_after false o n less = omega arith
+small_after false o n less = omega (arith, less)
 
 module _ {m : Seen} {p : ℕ} {q : Proc} (may : MayFire m p Scatter) (stands : slice_get m.net.procs p ≡ Some q) where
   h : Stands m p q
@@ -116,7 +116,7 @@ module _ {m : Seen} {p : ℕ} {q : Proc} (may : MayFire m p Scatter) (stands : s
 
     pub fired_sent : (leaf : Leaf) (n : Seen) → n ≡ seen_after p m sent_steps → (touched : List ℕ) → touched ≡ line_of (own_at m.owns p) q ∷ [] → Done leaf m n p touched None
     fired_sent leaf n is touched named =
-        done_as h sent_steps (inr (line_among (own_at m.owns p) q (fits_scatter h kind)), tt) (puts.there, ((own_there h, small_after _ (own_at m.owns p) (m.fired + 1) (own_less h)), tt)) leaf Scatter kind (λ es. sent_is es ∙ sym (row_sent leaf es)) n is touched named
+        done_as h sent_steps (inr (line_among (own_at m.owns p) q (fits_scatter h kind)), tt) (puts.there, ((own_there h, small_after _ (own_at m.owns p) (m.fired + 1 + 2 ^ 63) (own_less h)), tt)) leaf Scatter kind (λ es. sent_is es ∙ sym (row_sent leaf es)) n is touched named
 
   module _ (none : has_first (own_at m.owns p).held ≡ false) where
     pub takes : CanTake m (in_of q 0)

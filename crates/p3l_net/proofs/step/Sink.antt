@@ -1,5 +1,5 @@
 -- What a sink that may fire has, and what its firing does.
-use Rattle.std.proofs.Common.{◌≡◌, ℕ, ◌^◌, ◌<◌, false, List, [], ◌∷◌, ◌++◌, length, Some, slice_get, refl, sym, ap, ◌∙◌, subst, inr, arith, length-append, inl}
+use Rattle.std.proofs.Common.{◌≡◌, ℕ, ◌+◌, ◌^◌, ◌<◌, false, List, [], ◌∷◌, ◌++◌, length, Some, slice_get, refl, sym, ap, ◌∙◌, subst, inr, arith, length-append, inl}
 use Rattle.std.specs.Option.{option_to_list}
 use Rattle.std.specs.List.{AllByRecursion}
 use Rattle.p3l_base.specs.declared.outcome.Outcome.TheVariants.{Value, Trapped}
@@ -52,7 +52,7 @@ module _ {m : Seen} {p : ℕ} {q : Proc} (may : MayFire m p Sink) (stands : slic
   pub takes : CanTake m (in_of q 0)
   takes = can_take h (in_of q 0) (first_in q.ins (fits_sink h kind).ins) (sym (is_ready h kind) ∙ may.ready)
 
-  pub few : m.emitted < 2 ^ 63
+  pub few : m.emitted + 1 < 2 ^ 64
   few = let emitted = may.sound.shaped.emitted in let count = may.count in omega (arith, emitted, count)
 
   module _ (calm : m.trapped ≡ false) (leaf : Leaf) where

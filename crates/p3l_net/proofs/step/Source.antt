@@ -54,7 +54,7 @@ module _ {m : Seen} {p : ℕ} {q : Proc} (may : MayFire m p Source) (stands : sl
   pub some : is_some m.inbox ≡ true
   some = both.0
 
-  pub few : m.sent < 2 ^ 63
+  pub few : m.sent + 1 < 2 ^ 64
   few = let sent = may.sound.shaped.sent in let count = may.count in omega (arith, sent, count)
 
   pub puts : CanPut m (out_of q 0)

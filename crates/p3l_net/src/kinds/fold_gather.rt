@@ -16,24 +16,14 @@ ghost use Rattle.p3l_net.specs.Machine.{Stands};
 ghost use Rattle.p3l_net.specs.Operators.{IsOperator, outs_of};
 ghost use Rattle.p3l_net.specs.Steps.{Done, MayFire, ready_at};
 
+use crate::copies::same;
 use crate::kinds::join::combined_of;
 use crate::store::Store;
 use crate::touched::Touched;
 use p3l_base::{NoMemory, Outcome};
 use p3l_firing::{Proc, ProcKind, Token};
 use p3l_skel::Units;
-use p3l_skel::outcome::copied;
 use std::alloc::Global;
-
-// The same outcome again.
-fn same(alloc: Global, outcome: &Outcome) -> Result<Outcome, NoMemory>
-    ensures { IfOk result (λ copy. copy ≡ outcome.now) }
-{
-    match outcome {
-        Outcome::Value(words) => Ok(Outcome::Value(copied(alloc, words)?)),
-        Outcome::Trapped(trap) => Ok(Outcome::Trapped(*trap)),
-    }
-}
 
 // The fold by halves of what these tokens came to, of which there is one at least.
 #[cycle(folded)]

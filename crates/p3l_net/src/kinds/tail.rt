@@ -144,7 +144,7 @@ impl<'t> Store<'t> {
         }
     }
 
-    // The tail `p` lets the token out whose number is due, without its two tags, and gives its credit
+    // The tail `p` lets the token out that is expected, without its two tags, and gives its credit
     // back.
     fn let_token_out(&mut self, alloc: Global, p: u32) -> Touched
         requires may { MayFire self.old p ProcKind.Tail }

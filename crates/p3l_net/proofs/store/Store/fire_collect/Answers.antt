@@ -1,4 +1,4 @@
-use Rattle.std.proofs.Common.{◌<◌, ◌^◌, [], ◌∷◌, length, sym, ap, ap₂, ◌∙◌, subst}
+use Rattle.std.proofs.Common.{◌+◌, ◌<◌, ◌^◌, [], ◌∷◌, length, sym, ap, ap₂, ◌∙◌, subst}
 use Rattle.std.specs.Option.{is_some}
 use Rattle.std.specs.List.{AllByRecursion}
 use Rattle.p3l_firing.specs.declared.token.Token.{Token}
@@ -44,7 +44,7 @@ count-requires-clause-there c =
 
 pub count-requires-clause-few : goal.count-requires-clause-few
 count-requires-clause-few c =
-    subst (λ (x : Seen). (own_at x.owns c.args.p).number < 2 ^ 63) (sym (c.put.ensures ∙ ap (λ (x : Seen). with_last x c.output-output.result c.peeled.result) c.take-token.ensures.after)) (own_few (here c.requires c.process-process.ensures) c.requires.count)
+    subst (λ (x : Seen). (own_at x.owns c.args.p).number + 1 < 2 ^ 64) (sym (c.put.ensures ∙ ap (λ (x : Seen). with_last x c.output-output.result c.peeled.result) c.take-token.ensures.after)) (own_few (here c.requires c.process-process.ensures) c.requires.count)
 
 pub tick-requires : goal.tick-requires
 tick-requires c =

@@ -1,4 +1,4 @@
-use Rattle.std.proofs.Common.{◌<◌, ◌^◌, [], ◌∷◌, sym, ap, ◌∙◌, subst}
+use Rattle.std.proofs.Common.{◌+◌, ◌<◌, ◌^◌, [], ◌∷◌, sym, ap, ◌∙◌, subst}
 use Rattle.p3l_firing.specs.declared.token.Token.{Token}
 use Rattle.p3l_firing.specs.Lists.{first_or}
 use Rattle.p3l_firing.specs.Token.{credit}
@@ -19,7 +19,7 @@ pub take-token-requires : goal.take-token-requires
 take-token-requires c = subst (CanTake c.args.self.now) (sym c.input-input.ensures) (takes c.requires.may c.process-process.ensures)
 
 pub emit-requires : goal.emit-requires
-emit-requires c = subst (λ (x : Seen). x.emitted < 2 ^ 63) (sym c.take-token.ensures.after) (few c.requires.may c.process-process.ensures)
+emit-requires c = subst (λ (x : Seen). x.emitted + 1 < 2 ^ 64) (sym c.take-token.ensures.after) (few c.requires.may c.process-process.ensures)
 
 pub tick-requires : goal.tick-requires
 tick-requires c =

@@ -1,4 +1,4 @@
-use Rattle.std.proofs.Common.{◌<◌, ◌^◌, [], ◌∷◌, length, sym, ap, ap₂, ◌∙◌, subst, arith, length-set}
+use Rattle.std.proofs.Common.{◌+◌, ◌<◌, ◌^◌, [], ◌∷◌, length, sym, ap, ap₂, ◌∙◌, subst, arith, length-set}
 use Rattle.p3l_firing.specs.declared.token.Token.{Token}
 use Rattle.p3l_firing.specs.Lists.{first_or}
 use Rattle.p3l_firing.specs.Token.{credit, tagged, admitted}
@@ -62,7 +62,7 @@ pub count-requires-clause-there : goal.count-requires-clause-there
 count-requires-clause-there c = subst (λ (x : Seen). c.args.p < length x.owns) (sym (c.put.ensures ∙ ap (λ (x : Seen). with_last x c.output-body.result c.tagged-admitted.result) (c.take-credit.ensures.after ∙ ap (λ (x : Seen). without_first x c.nth_input-credits.result) c.take-token.ensures.after))) (own_there (here c.requires.may c.process-process.ensures))
 
 pub count-requires-clause-few : goal.count-requires-clause-few
-count-requires-clause-few c = subst (λ (x : Seen). (own_at x.owns c.args.p).number < 2 ^ 63) (sym (c.put.ensures ∙ ap (λ (x : Seen). with_last x c.output-body.result c.tagged-admitted.result) (c.take-credit.ensures.after ∙ ap (λ (x : Seen). without_first x c.nth_input-credits.result) c.take-token.ensures.after))) (own_few (here c.requires.may c.process-process.ensures) c.requires.may.count)
+count-requires-clause-few c = subst (λ (x : Seen). (own_at x.owns c.args.p).number + 1 < 2 ^ 64) (sym (c.put.ensures ∙ ap (λ (x : Seen). with_last x c.output-body.result c.tagged-admitted.result) (c.take-credit.ensures.after ∙ ap (λ (x : Seen). without_first x c.nth_input-credits.result) c.take-token.ensures.after))) (own_few (here c.requires.may c.process-process.ensures) c.requires.may.count)
 
 pub tick-requires : goal.tick-requires
 tick-requires c =

@@ -1,0 +1,17 @@
+// Copies of outcomes.
+
+ghost use Rattle.std.specs.Prelude.{◌≡◌, IfOk};
+
+use p3l_base::{NoMemory, Outcome};
+use p3l_skel::outcome::copied;
+use std::alloc::Global;
+
+/// The same outcome again.
+pub(crate) fn same(alloc: Global, outcome: &Outcome) -> Result<Outcome, NoMemory>
+    ensures { IfOk result (λ copy. copy ≡ outcome.now) }
+{
+    match outcome {
+        Outcome::Value(words) => Ok(Outcome::Value(copied(alloc, words)?)),
+        Outcome::Trapped(trap) => Ok(Outcome::Trapped(*trap)),
+    }
+}
