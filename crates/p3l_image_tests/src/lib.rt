@@ -10,3 +10,5 @@ mod loading;
 mod old;
 #[cfg(test)]
 mod small;
+#[cfg(test)]
+mod snapshots;

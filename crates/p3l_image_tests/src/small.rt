@@ -1,4 +1,4 @@
-// The image of one `seq` module, and what is told of its damages.
+// The image of one `seq` module, and what is reported of its damages.
 
 use p3l_ast::BinOp;
 use p3l_code::Instr;
@@ -90,7 +90,7 @@ pub fn refusal(alloc: Global, bytes: &[u8]) -> Option<ImageRefusal> {
     decode(alloc, bytes).err()
 }
 
-// Whether bytes are told to end in the field at a place.
+// Whether bytes are reported to end in the field at a place.
 fn is_short(alloc: Global, bytes: &[u8], place: usize) -> bool {
     refusal(alloc, bytes) == Some(ImageRefusal::Short(place as u64))
 }

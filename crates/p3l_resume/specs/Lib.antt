@@ -1,0 +1,6 @@
+pub mod Words
+pub mod Token
+pub mod Shot
+pub mod Saved
+pub mod Refusal
+pub mod laws

@@ -1,0 +1,4 @@
+pub mod Words
+pub mod Token
+pub mod Shot
+pub mod Saved
