@@ -1,0 +1,5 @@
+pub mod Run
+pub mod Orderly
+pub mod Picks
+pub mod Linked
+pub mod Widths
