@@ -1,0 +1,9 @@
+pub mod Snapshot
+pub mod Finding
+pub mod Numbered
+pub mod Run
+pub mod Pipe
+pub mod Farm
+pub mod Loop
+pub mod Walk
+pub mod laws
