@@ -8,3 +8,4 @@ pub mod Bodies
 pub mod Texts
 pub mod Nesting
 pub mod Reading
+pub mod Joining

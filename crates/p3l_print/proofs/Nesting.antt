@@ -461,8 +461,8 @@ script_kept (for_ x is e w y js f t c) b g k =
 
 -- symbols that change nothing
 
-record IsSteady (n : Nest) (f : List Symbol → List Symbol) : Type 0 where
-  enters : (r : List Symbol) → IsWithin n r → IsWithin n (f r)
+pub record IsSteady (n : Nest) (f : List Symbol → List Symbol) : Type 0 where
+  pub enters : (r : List Symbol) → IsWithin n r → IsWithin n (f r)
   leaves : (r : List Symbol) → IsWithin n (f r) → IsWithin n r
 
 both_steady : (n : Nest) (f g : List Symbol → List Symbol) → IsSteady n f → IsSteady n g → IsSteady n (λ r. f (g r))
@@ -603,14 +603,14 @@ rest_fixed x t e =
     (both_steady at_rest (λ r. sign marks.Assign ∷ r) (λ r. t ∷ sign marks.Semicolon ∷ r) (at_rest_sign marks.Assign refl)
     (both_steady at_rest (λ r. t ∷ r) (λ r. sign marks.Semicolon ∷ r) (one_steady at_rest t resting e) (at_rest_sign marks.Semicolon refl))))
 
-rest_chained : (k : Kind) (h : Signature) (x : Option Rescue) (cs : List Call) → IsSteady at_rest (λ r. sign (kind_mark k) ∷ spell_signature h (spell_rescue_clause x (each spell_call cs (spell_end k r))))
+pub rest_chained : (k : Kind) (h : Signature) (x : Option Rescue) (cs : List Call) → IsSteady at_rest (λ r. sign (kind_mark k) ∷ spell_signature h (spell_rescue_clause x (each spell_call cs (spell_end k r))))
 rest_chained k h x cs =
     both_steady at_rest (λ r. sign (kind_mark k) ∷ r) (λ r. spell_signature h (spell_rescue_clause x (each spell_call cs (spell_end k r)))) (rest_kind k)
     (both_steady at_rest (spell_signature h) (λ r. spell_rescue_clause x (each spell_call cs (spell_end k r))) (rest_signature h)
     (both_steady at_rest (spell_rescue_clause x) (λ r. each spell_call cs (spell_end k r)) (rest_rescue x)
     (both_steady at_rest (each spell_call cs) (spell_end k) (each_steady at_rest spell_call rest_call cs) (rest_end k))))
 
-rest_spread : (k : Kind) (h : Signature) (w : Option Num) (c : Call) → IsSteady at_rest (λ r. sign (kind_mark k) ∷ spell_signature h (spell_clause marks.Workers w (spell_call c (spell_end k r))))
+pub rest_spread : (k : Kind) (h : Signature) (w : Option Num) (c : Call) → IsSteady at_rest (λ r. sign (kind_mark k) ∷ spell_signature h (spell_clause marks.Workers w (spell_call c (spell_end k r))))
 rest_spread k h w c =
     both_steady at_rest (λ r. sign (kind_mark k) ∷ r) (λ r. spell_signature h (spell_clause marks.Workers w (spell_call c (spell_end k r)))) (rest_kind k)
     (both_steady at_rest (spell_signature h) (λ r. spell_clause marks.Workers w (spell_call c (spell_end k r))) (rest_signature h)
@@ -629,9 +629,9 @@ rest_turned h t n b c =
     both_steady at_rest (λ r. sign marks.Loop ∷ r) (λ r. spell_signature h (sign marks.Turns ∷ num_symbol t ∷ spell_clause marks.Tokens n (spell_call b (sign marks.While ∷ spell_call c (spell_end kinds.Loop r))))) (at_rest_sign marks.Loop refl) a7
 
 -- an entry passes no limit, and in its canonical form neither
-record PassageKeeps (i : Passage) (r : List Symbol) : Type 0 where
-  leaves : IsWithin at_rest r
-  enters : (s : List Symbol) → IsWithin at_rest s → IsWithin at_rest (spell_passage (canonical_passage i) s)
+pub record PassageKeeps (i : Passage) (r : List Symbol) : Type 0 where
+  pub leaves : IsWithin at_rest r
+  pub enters : (s : List Symbol) → IsWithin at_rest s → IsWithin at_rest (spell_passage (canonical_passage i) s)
 
 steady_keeps : (i : Passage) (r : List Symbol) → IsSteady at_rest (spell_passage i) → canonical_passage i ≡ i → IsWithin at_rest (spell_passage i r) → PassageKeeps i r
 steady_keeps i r k same h = record { leaves = k.leaves r h; enters = λ s l. subst (λ j. IsWithin at_rest (spell_passage j s)) (sym same) (k.enters s l) }
@@ -649,7 +649,7 @@ bodied_keeps g b x ls c r proper h =
           (body_open, (each_steady (at_statement 0) spell_local local_steady ls).enters (spell_script (canonical_script c) (sign marks.CloseBody ∷ spell_end kinds.Seq s)) statements);
     }
 
-passage_keeps : (i : Passage) (r : List Symbol) → IsPassage i → IsWithin at_rest (spell_passage i r) → PassageKeeps i r
+pub passage_keeps : (i : Passage) (r : List Symbol) → IsPassage i → IsWithin at_rest (spell_passage i r) → PassageKeeps i r
 passage_keeps (fixed x v p) r proper h = steady_keeps (fixed x v p) r (rest_fixed x (digits v p) refl) refl h
 passage_keeps (bodied g b x ls c) r proper h = bodied_keeps g b x ls c r proper.1 h
 passage_keeps (chained k g x cs) r proper h = steady_keeps (chained k g x cs) r (rest_chained k g x cs) refl h

@@ -9,7 +9,7 @@ use Rattle.p3l_lexer.proofs.Spelling.{tokens_of}
 use Rattle.p3l_grammar.specs.Symbol.{Symbol, word, digits, sign, faulty, symbol, symbol_at, symbols}
 use Rattle.p3l_grammar.specs.declared.nest.Nest.{Nest}
 use Rattle.p3l_grammar.specs.Limits.{at_rest, after_symbol, IsKept, IsWithin}
-use Rattle.p3l_grammar.specs.Written.{spell_text, text_tree}
+use Rattle.p3l_grammar.specs.Written.{Passage, IsText, spell_text, text_tree}
 use Rattle.p3l_print.specs.Program.{canonical, IsTextOf}
 use Rattle.p3l_print.proofs.Canonical.{canonical_passages, passages_are}
 use Rattle.p3l_print.proofs.Unplacing.{canonical_same}
@@ -50,6 +50,20 @@ same_within n (s ∷ ss) (t ∷ ts) h w =
     let e = same_after n s t h.0 in
     (subst IsKept e w.0, same_within (after_symbol n t) ss ts h.1 (subst (λ m. IsWithin m ss) e w.1))
 
+-- what is written with the symbols of entries that pass no limit is a text of a program of these entries
+pub written_is_text : (program : ProgramTree) (forms : List Passage) → IsText forms → map entry_unplaced (text_tree forms) ≡ map entry_unplaced program.entries
+    → Writes (canonical program) (spell_text forms []) → IsWithin at_rest (spell_text forms []) → IsTextOf (canonical program) program
+written_is_text program forms proper tree_is writes within =
+    let found = tokens_of (canonical program) (lexemes_of (spell_text forms [])) writes in
+    let same = same_symbols (spell_text forms []) found.0 found.2 in
+    let derived = derives_alike forms (symbols found.0) proper same in
+    let kept = same_within at_rest (spell_text forms []) (symbols found.0) same within in
+    let entries = derived.same ∙ tree_is in record {
+      placed = record { entries = derived.entries; end = position_after (canonical program) };
+      spells = record { tokens = found.0; are_tokens = found.1; derives = derived.derives; within = kept; end_is = refl };
+      same = λ i. record { entries = entries i; end = nowhere };
+    }
+
 pub canonical_is_text : (program : ProgramTree) (bytes : List ℕ) → IsTextOf bytes program → IsTextOf (canonical program) program
 canonical_is_text program bytes h =
     let given = h.spells in
@@ -62,12 +76,5 @@ canonical_is_text program bytes h =
     let placed : tree ≡ h.placed = λ i. record { entries = given.derives.tree_is i; end = h.placed.end } in
     let text : canonical program ≡ canonical tree = canonical_same program h.placed (sym h.same) ∙ ap canonical (sym placed) in
     let writes : Writes (canonical program) (spell_text forms []) = subst (λ t. Writes t (spell_text forms [])) (sym text) (text_writes written writable) in
-    let found = tokens_of (canonical program) (lexemes_of (spell_text forms [])) writes in
-    let same = same_symbols (spell_text forms []) found.0 found.2 in
-    let derived = derives_alike forms (symbols found.0) proper.0 same in
-    let within = same_within at_rest (spell_text forms []) (symbols found.0) same (text_within written given.derives.is_text (subst (IsWithin at_rest) spelled given.within)) in
-    let entries = derived.same ∙ ap (map entry_unplaced) (proper.1 ∙ given.derives.tree_is) ∙ ap (λ p. p.entries) h.same in record {
-      placed = record { entries = derived.entries; end = position_after (canonical program) };
-      spells = record { tokens = found.0; are_tokens = found.1; derives = derived.derives; within = within; end_is = refl };
-      same = λ i. record { entries = entries i; end = nowhere };
-    }
+    let within = text_within written given.derives.is_text (subst (IsWithin at_rest) spelled given.within) in
+    written_is_text program forms proper.0 (ap (map entry_unplaced) (proper.1 ∙ given.derives.tree_is) ∙ ap (λ p. p.entries) h.same) writes within

@@ -274,7 +274,7 @@ turning_writes b c r s t h w =
 
 -- entries
 
-passage_writes : (i : Passage) (r s : List Symbol) (rest : List ℕ) → AreWritable (spell_passage i r) → Writes rest s → Writes (entry_text (passage_tree i) ++ rest) (spell_passage (canonical_passage i) s)
+pub passage_writes : (i : Passage) (r s : List Symbol) (rest : List ℕ) → AreWritable (spell_passage i r) → Writes rest s → Writes (entry_text (passage_tree i) ++ rest) (spell_passage (canonical_passage i) s)
 unfolding goes_on punctuation_of operator_of
 passage_writes (fixed x v p) r s rest h w =
     let n = h.1.1.1.0 in
@@ -326,7 +326,7 @@ passage_writes (turned g u n b c) r s rest h w =
     (λ t z. turns_writes u n r3 s3 t p z)
     (λ t z. turning_writes b c (spell_end kinds.Loop r) (spell_end kinds.Loop s) t (clause_passes marks.Tokens n r3 p.1.1) z) w
 
-passage_passes : (i : Passage) (r : List Symbol) → AreWritable (spell_passage i r) → AreWritable r
+pub passage_passes : (i : Passage) (r : List Symbol) → AreWritable (spell_passage i r) → AreWritable r
 passage_passes (fixed x v p) r h = h.1.1.1.1.1
 passage_passes (bodied g b x ls c) r h =
     let r3 = sign marks.CloseBody ∷ spell_end kinds.Seq r in

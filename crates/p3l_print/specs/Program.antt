@@ -20,3 +20,8 @@ pub record IsTextOf (bytes : List ℕ) (program : ProgramTree) : Type 0 where
   pub placed : ProgramTree
   pub spells : Spells bytes placed
   pub same : program_unplaced placed ≡ program_unplaced program
+
+-- some text spells the program, wherever its names and numbers may stand in it
+pub record HasText (program : ProgramTree) : Type 0 where
+  pub text : List ℕ
+  pub is_text : IsTextOf text program

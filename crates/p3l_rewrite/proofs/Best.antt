@@ -7,11 +7,10 @@ use Rattle.p3l_skel.specs.Tree.{node_at}
 use Rattle.p3l_skel.specs.Numbers.{Fits}
 use Rattle.p3l_check.specs.Resolving.{ResolvedTree}
 use Rattle.p3l_cost.specs.declared.costs.Costs.{Costs}
-use Rattle.p3l_cost.specs.Costs.{AreCostsOf}
 use Rattle.p3l_model.specs.Optimal.{IsChosen}
 use Rattle.p3l_model.specs.Service.{service}
-use Rattle.p3l_same.proofs.Added.{ok_same}
-use Rattle.p3l_rewrite.specs.Rewriting.{IsAccepted, with_added, with_modules, costs_for, Serves, IsBest, StaysBest, MayBeRewritten}
+use Rattle.p3l_rewrite.proofs.Added.{ok_same}
+use Rattle.p3l_rewrite.specs.Rewriting.{IsAccepted, with_added, with_modules, costs_for, Serves, IsBest, StaysBest}
 use Rattle.p3l_rewrite.specs.Serving.{HasTree, IsBestTime}
 
 -- a program has one tree
@@ -126,14 +125,12 @@ module _ (tree : Tree) (costs : Costs) (processors : ℕ) where
       first k n q low (inr h) it = absurd (omega (arith, low, h.0))
 
 -- a program serves in its own place
-pub own_serves : (program : ProgramTree) (tree : Tree) (costs : Costs) (processors time : ℕ) → MayBeRewritten program costs processors → HasTree program tree → IsBestTime tree costs processors time
+pub own_serves : (program : ProgramTree) (tree : Tree) (costs : Costs) (processors time : ℕ) → HasTree program tree → IsBestTime tree costs processors time
     → Serves tree costs processors program time
-own_serves program tree costs processors time asked has best =
+own_serves program tree costs processors time has best =
     let own : costs_for tree costs has.accepted.whole.tree ≡ costs = ap (costs_for tree costs) (sym has.tree_is) ∙ own_costs tree costs in
-    let same : asked.accepted.whole ≡ has.accepted.whole = one_whole program asked.accepted has.accepted in
     record {
       accepted = has.accepted;
-      costs_are = subst (AreCostsOf has.accepted.whole.tree) (sym own) (subst (λ (w : ResolvedTree). AreCostsOf w.tree costs) same asked.costs_are);
       counts = best.counts;
       chosen = subst (λ t. IsChosen t (costs_for tree costs has.accepted.whole.tree) processors best.counts) has.tree_is (subst (λ c. IsChosen tree c processors best.counts) (sym own) best.chosen);
       time_is =

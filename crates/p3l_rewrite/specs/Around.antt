@@ -3,7 +3,7 @@ use Rattle.std.specs.Prelude.{map}
 use Rattle.std.specs.Borrow.{Bor}
 use Rattle.p3l_ast.specs.declared.module.Module.{Module}
 use Rattle.p3l_ast.specs.Tree.{ModuleTree, module_tree, entry_tree}
-use Rattle.p3l_same.specs.Candidates as trees
+use Rattle.p3l_rewrite.specs.Candidates as trees
 use Rattle.p3l_rewrite.specs.declared.place.Around.{Around}
 
 abbrev pub around_tree : Around → trees.Around

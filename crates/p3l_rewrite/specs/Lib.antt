@@ -1,4 +1,10 @@
+pub mod Meant
+pub mod Trees
+pub mod Programs
+pub mod Candidates
+pub mod Texts
 pub mod Around
 pub mod Rewriting
+pub mod Costs
 pub mod Ways
 pub mod Serving

@@ -1,6 +1,8 @@
 -- What a program is rewritten to.
 use Rattle.std.specs.Prelude.{◌≡◌, ℕ, ◌-◌, ◌<◌, ◌≤◌, List, [], ◌∷◌, ◌++◌, take, drop, replicate, length, slice_get, Option, Some, None, Ok}
 use Rattle.p3l_ast.specs.Tree.{ProgramTree}
+use Rattle.p3l_grammar.specs.Grammar.{Spells}
+use Rattle.p3l_print.specs.Program.{HasText}
 use Rattle.p3l_skel.specs.declared.tree.Tree.{Tree}
 use Rattle.p3l_skel.specs.Tree.{node_at}
 use Rattle.p3l_skel.specs.Lawful.{IsLawfulTree}
@@ -10,8 +12,8 @@ use Rattle.p3l_cost.specs.declared.costs.Costs.{Costs}
 use Rattle.p3l_cost.specs.Costs.{AreCostsOf}
 use Rattle.p3l_model.specs.Optimal.{IsChosen}
 use Rattle.p3l_model.specs.Service.{service}
-use Rattle.p3l_same.specs.Programs.{HaveOneMeaning, ModulesStay}
-use Rattle.p3l_same.specs.Candidates.{others}
+use Rattle.p3l_rewrite.specs.Programs.{HaveOneMeaning, ModulesStay}
+use Rattle.p3l_rewrite.specs.Candidates.{others}
 
 -- a program keeps the rules
 pub record IsAccepted (program : ProgramTree) : Type 0 where
@@ -30,7 +32,7 @@ pub record MeansTheSame (program other : ProgramTree) : Type 0 where
 abbrev pub with_added : ℕ → ℕ → ℕ → List ℕ → List ℕ
 with_added root added number numbers = take root numbers ++ replicate added number ++ drop root numbers
 
--- costs where so many modules are added from a module on: these have no ticks and one turn
+-- costs where some modules are added from a module on: these have no ticks and one turn
 abbrev pub with_modules : ℕ → ℕ → Costs → Costs
 with_modules root added costs = record {
   setup = costs.setup;
@@ -43,10 +45,9 @@ with_modules root added costs = record {
 abbrev pub costs_for : Tree → Costs → Tree → Costs
 costs_for tree costs other = with_modules (node_at tree 0).«module» (length other.modules - length tree.modules) costs
 
--- a program keeps the rules and fits so many processors, and has this service time
+-- a program keeps the rules and fits the processors, and has this service time of its chosen counts
 pub record Serves (tree : Tree) (costs : Costs) (processors : ℕ) (other : ProgramTree) (time : ℕ) : Type 0 where
   pub accepted : IsAccepted other
-  pub costs_are : AreCostsOf accepted.whole.tree (costs_for tree costs accepted.whole.tree)
   pub counts : List ℕ
   pub chosen : IsChosen accepted.whole.tree (costs_for tree costs accepted.whole.tree) processors counts
   pub time_is : time ≡ service accepted.whole.tree (costs_for tree costs accepted.whole.tree) counts 0
@@ -74,7 +75,7 @@ StaysBest tree costs processors old old_time one new new_time =
     (programs : List ProgramTree) → IsBest tree costs processors programs old old_time →
     IsBest tree costs processors (programs ++ listed one) new new_time
 
--- what is asked of a program, its costs and processors
+-- a program that keeps the rules, with its costs, and processors that some counts of it fit
 pub record MayBeRewritten (program : ProgramTree) (costs : Costs) (processors : ℕ) : Type 0 where
   pub accepted : IsAccepted program
   pub costs_are : AreCostsOf accepted.whole.tree costs
@@ -83,8 +84,10 @@ pub record MayBeRewritten (program : ProgramTree) (costs : Costs) (processors : 
   pub some : 1 ≤ processors
   pub few : processors ≤ 512
 
--- the best of the ways to write a program: it means the same, and its service time is no greater
+-- the best of the ways to write a program: it means the same, its service time is no greater, and where some text
+-- spells the program it has a text too
 pub record IsRewriting (program : ProgramTree) (costs : Costs) (processors : ℕ) (other : ProgramTree) (time : ℕ) : Type 0 where
   pub same : MeansTheSame program other
   pub best : (r : ResolvedTree) → resolved program ≡ Ok r → IsBest r.tree costs processors (program ∷ others program r.tree) other time
   pub no_greater : (r : ResolvedTree) (counts : List ℕ) → resolved program ≡ Ok r → IsChosen r.tree costs processors counts → time ≤ service r.tree costs counts 0
+  pub has_text : (text : List ℕ) → Spells text program → HasText other

@@ -4,7 +4,7 @@ ghost use Rattle.std.specs.Prelude.{◌≡◌, [], ◌∷◌, ◌++◌, IfOk, On
 ghost use Rattle.std.specs.List.{list_all};
 ghost use Rattle.p3l_ast.specs.Tree.{module_tree, entry_tree, program_tree, defined};
 ghost use Rattle.p3l_skel.specs.Tree.{node_at, is_sequential};
-ghost use Rattle.p3l_same.specs.Candidates.{longer, farm_with, has_name, next_farms, farms_of, farm_called, with_calls, farmed_entries, work_of, farmed_of, fused_of, others_around, others};
+ghost use Rattle.p3l_rewrite.specs.Candidates.{longer, farm_with, has_name, next_farms, farms_of, farm_called, with_calls, farmed_entries, work_of, farmed_of, fused_of, others_around, others};
 ghost use Rattle.p3l_rewrite.specs.Around.{around_tree};
 ghost use Rattle.p3l_rewrite.specs.Rewriting.{listed};
 ghost use Rattle.p3l_rewrite.specs.Ways.{ways_list};
@@ -271,7 +271,7 @@ fn ways_around(
 }
 
 /// The ways to write a program of this tree.
-#[tactic(auto, unfolding(p3l_same::specs::Candidates::others))]
+#[tactic(auto, unfolding(crate::specs::Candidates::others))]
 pub fn find_ways(alloc: Global, program: &Program, tree: &Tree) -> Result<Ways, NoMemory>
     ensures { IfOk result (λ ways. ways_list ways ≡ others (program_tree program.now) tree.now) }
 {

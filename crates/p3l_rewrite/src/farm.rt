@@ -2,7 +2,7 @@
 
 ghost use Rattle.std.specs.Prelude.{◌≡◌, [], ◌∷◌, ◌++◌, IfOk, map};
 ghost use Rattle.p3l_ast.specs.Tree.{module_tree};
-ghost use Rattle.p3l_same.specs.Candidates.{plain, plain_out, longer, no_clauses, call_with, farm_with, farm_of, is_among, farm_called};
+ghost use Rattle.p3l_rewrite.specs.Candidates.{plain, plain_out, longer, no_clauses, call_with, farm_with, farm_of, is_among, farm_called};
 
 use p3l_ast::{Arg, Call, Clauses, Inside, Kind, Module, OutArg, Port, Spot};
 use p3l_base::{List, Name, NoMemory};

@@ -4,6 +4,7 @@
 
 pub mod candidate;
 pub mod farm;
+pub mod laws;
 pub mod place;
 pub mod rewriting;
 pub mod sequential;

@@ -2,7 +2,7 @@
 
 ghost use Rattle.std.specs.Prelude.{◌≡◌, map, option_map};
 ghost use Rattle.p3l_ast.specs.Tree.{module_tree, entry_tree};
-ghost use Rattle.p3l_same.specs.Candidates.{around_main, named_in};
+ghost use Rattle.p3l_rewrite.specs.Candidates.{around_main, named_in};
 ghost use Rattle.p3l_rewrite.specs.Around.{around_tree, named_tree};
 
 use p3l_ast::{Entry, Module};

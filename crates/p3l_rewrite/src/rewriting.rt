@@ -1,7 +1,8 @@
 // The best way to write a program.
 
-ghost use Rattle.std.specs.Prelude.{◌≤◌, [], ◌∷◌, IfOk, option_map};
+ghost use Rattle.std.specs.Prelude.{◌≤◌, [], ◌∷◌, IfOk, IfSome, option_map};
 ghost use Rattle.p3l_ast.specs.Tree.{program_tree};
+ghost use Rattle.p3l_rewrite.specs.Costs.{KeepsCosts};
 ghost use Rattle.p3l_rewrite.specs.Rewriting.{IsAccepted, IsBest, StaysBest, MayBeRewritten, IsRewriting};
 ghost use Rattle.p3l_rewrite.specs.Serving.{HasTree};
 
@@ -30,6 +31,7 @@ fn better(
     best: Rewritten,
     other: Option<Program>,
 ) -> Result<Rewritten, NoMemory>
+    requires keeps { IfSome (option_map program_tree other) (KeepsCosts tree.now costs.now) }
     requires some { 1 ≤ processors }
     requires few { processors ≤ 512 }
     ensures { IfOk result (λ better. StaysBest tree.now costs.now processors
@@ -59,7 +61,7 @@ fn own_tree(alloc: Global, program: &Program) -> Result<Tree, NoMemory>
     }
 }
 
-/// A copy of a program that fits so many processors, with its service time.
+/// A copy of a program that fits the processors, with its service time.
 fn own(
     alloc: Global,
     program: &Program,
@@ -67,7 +69,7 @@ fn own(
     costs: &Costs,
     processors: u32,
 ) -> Result<Rewritten, NoMemory>
-    requires asked { MayBeRewritten (program_tree program.now) costs.now processors }
+    requires may { MayBeRewritten (program_tree program.now) costs.now processors }
     requires tree { HasTree (program_tree program.now) tree.now }
     ensures { IfOk result (λ own. IsBest tree.now costs.now processors
         (program_tree program.now ∷ []) (program_tree own.program) own.service) }
@@ -81,7 +83,7 @@ fn own(
     }
 }
 
-/// The best way to write a program that keeps the rules and fits so many processors: it means the same, and
+/// The best way to write a program that keeps the rules and fits the processors: it means the same, has a text, and
 /// its service time is no greater. The costs are those of the program's tree; modules that are added cost
 /// nothing of their own.
 pub fn rewrite(

@@ -5,7 +5,7 @@ ghost use Rattle.p3l_skel.specs.Tree.{sequential_to, sequential_row};
 
 use p3l_skel::{Form, Tree};
 
-/// Whether a node is sequential, as far as so many levels show.
+/// Whether a node is sequential, as far as some levels show.
 pub fn is_sequential(tree: &Tree, levels: u32, number: u32) -> bool
     ensures { result ≡ sequential_to tree.now levels number }
 {

@@ -4,6 +4,7 @@ ghost use Rattle.std.specs.Prelude.{◌≡◌, ◌-◌, ◌≤◌, ◌++◌, IfO
 ghost use Rattle.p3l_ast.specs.Tree.{program_tree};
 ghost use Rattle.p3l_skel.specs.Lawful.{IsLawfulTree};
 ghost use Rattle.p3l_cost.specs.Costs.{AreCostsOf};
+ghost use Rattle.p3l_rewrite.specs.Costs.{KeepsCosts};
 ghost use Rattle.p3l_rewrite.specs.Rewriting.{IsAccepted, with_added, costs_for, IsServed};
 ghost use Rattle.p3l_rewrite.specs.Serving.{IsAcceptedTree, IsServiceTime};
 
@@ -11,7 +12,7 @@ use p3l_alloc::{AllocRefusal, choose};
 use p3l_ast::{Program, SourceRefusal};
 use p3l_base::{List, NoMemory};
 use p3l_check::resolve;
-use p3l_cost::{Costs, lawful_costs};
+use p3l_cost::Costs;
 use p3l_skel::Tree;
 use std::alloc::Global;
 
@@ -26,7 +27,7 @@ pub fn accepted_tree(alloc: Global, program: &Program) -> Result<Option<Tree>, N
     }
 }
 
-/// The least service time of a tree on so many processors, if it fits them.
+/// The least service time of a tree on some processors, if it fits them.
 pub fn service_time(
     alloc: Global,
     tree: &Tree,
@@ -98,7 +99,7 @@ fn costs_for(alloc: Global, tree: &Tree, costs: &Costs, other: &Tree) -> Result<
 }
 
 /// The service time of a program in place of one of this tree and these costs, if it keeps the rules and fits
-/// so many processors.
+/// the processors.
 pub fn served(
     alloc: Global,
     tree: &Tree,
@@ -106,6 +107,7 @@ pub fn served(
     processors: u32,
     other: &Program,
 ) -> Result<Option<u128>, NoMemory>
+    requires keeps { KeepsCosts tree.now costs.now (program_tree other.now) }
     requires some { 1 ≤ processors }
     requires few { processors ≤ 512 }
     ensures { IfOk result (IsServed tree.now costs.now processors (program_tree other.now)) }
@@ -114,8 +116,5 @@ pub fn served(
         return Ok(None);
     };
     let costs = costs_for(alloc, tree, costs, &own)?;
-    if !lawful_costs(&own, &costs) {
-        return Ok(None);
-    }
     service_time(alloc, &own, &costs, processors)
 }

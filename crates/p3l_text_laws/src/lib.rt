@@ -1,12 +1,13 @@
-//! The law that joins printing and reading: what was printed is read as the same program.
+//! The laws that join printing and reading: what was printed is read as the same program, and is its own canonical
+//! text.
 #![tactic(auto)]
 
 ghost use Rattle.std.specs.Prelude.{◌≡◌, ◌≤◌, length, IfOk, IfErr};
 ghost use Rattle.p3l_ast.specs.Tree.{program_tree};
 ghost use Rattle.p3l_ast.specs.Unplaced.{program_unplaced};
 ghost use Rattle.p3l_ast.specs.declared.refusal.SourceRefusal.TheVariants.{NoMemory};
-ghost use Rattle.p3l_print.specs.Program.{canonical};
-ghost use Rattle.p3l_text_laws.specs.Text.{HasText};
+ghost use Rattle.p3l_print.specs.Program.{canonical, HasText};
+ghost use Rattle.p3l_text_laws.specs.Canonical.{CanonicalTextsStay};
 
 use p3l_ast::{Program, SourceRefusal};
 use p3l_print::print;
@@ -26,3 +27,9 @@ pub fn read_printed(alloc: Global, program: &Program) -> Result<Program, SourceR
     let text = print(alloc, program)?;
     read(alloc, text.as_slice())
 }
+
+/// A law of texts: what spells a program but for positions is read as one with the same canonical text. So a canonical text
+/// that is read and printed stays what it was.
+pub fn canonical_texts_stay()
+    ensures { CanonicalTextsStay }
+{}

@@ -1,6 +1,6 @@
 use Rattle.std.proofs.Common.{◌≡◌, [], map, drop}
 use Rattle.p3l_ast.specs.Tree.{module_tree, entry_tree}
-use Rattle.p3l_same.specs.Candidates.{farms_of}
+use Rattle.p3l_rewrite.specs.Candidates.{farms_of}
 use Rattle.p3l_rewrite.proofs.candidate.farms_of.Given as goal
 
 -- the farms so far, and those of the calls that are left

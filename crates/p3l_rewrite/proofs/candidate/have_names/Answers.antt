@@ -4,7 +4,7 @@ use Rattle.std.proofs.lemmas.Iterator.Search.{all_from_yields_List}
 use Rattle.std.proofs.lemmas.List.Folds.{list_all-map}
 use Rattle.p3l_ast.specs.declared.module.Module.{Module}
 use Rattle.p3l_ast.specs.Tree.{module_tree}
-use Rattle.p3l_same.specs.Candidates.{has_name}
+use Rattle.p3l_rewrite.specs.Candidates.{has_name}
 use Rattle.p3l_rewrite.proofs.candidate.have_names.Goals as goal
 
 pub returns : goal.returns

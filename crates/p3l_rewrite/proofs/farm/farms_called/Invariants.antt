@@ -1,6 +1,6 @@
 use Rattle.std.proofs.Common.{◌≡◌, map, take}
 use Rattle.p3l_ast.specs.Tree.{module_tree}
-use Rattle.p3l_same.specs.Candidates.{farm_called}
+use Rattle.p3l_rewrite.specs.Candidates.{farm_called}
 use Rattle.p3l_rewrite.proofs.farm.farms_called.Given as goal
 
 abbrev pub invariant-loop-call : goal.invariant-loop-call

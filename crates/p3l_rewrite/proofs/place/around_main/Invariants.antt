@@ -1,6 +1,6 @@
 use Rattle.std.proofs.Common.{◌≡◌, map, take, drop, option_map}
 use Rattle.p3l_ast.specs.Tree.{entry_tree}
-use Rattle.p3l_same.specs.Candidates.{around_main}
+use Rattle.p3l_rewrite.specs.Candidates.{around_main}
 use Rattle.p3l_rewrite.proofs.Places.{after_all}
 use Rattle.p3l_rewrite.proofs.place.around_main.Given as goal
 

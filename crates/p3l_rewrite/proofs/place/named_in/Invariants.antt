@@ -1,6 +1,6 @@
 use Rattle.std.proofs.Common.{◌≡◌, map, drop}
 use Rattle.p3l_ast.specs.Tree.{entry_tree}
-use Rattle.p3l_same.specs.Candidates.{named_in}
+use Rattle.p3l_rewrite.specs.Candidates.{named_in}
 use Rattle.p3l_rewrite.proofs.place.named_in.Given as goal
 
 -- the module is among the entries that are left

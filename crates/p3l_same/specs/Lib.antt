@@ -1,4 +1,0 @@
-pub mod Meant
-pub mod Rewritten
-pub mod Programs
-pub mod Candidates
