@@ -9,12 +9,13 @@ use Rattle.p3l_body.specs.declared.var.Var.{Var}
 use Rattle.p3l_body.specs.Eval.{words_in, start_of, outcome_of as outcome_in, eval}
 use Rattle.p3l_body.specs.Seq.{SeqTree}
 use Rattle.p3l_code.specs.declared.instr.Code.{Code}
+use Rattle.p3l_code.specs.declared.instr.Instr.{Instr}
 use Rattle.p3l_code.specs.Safe.{IsSafe}
 use Rattle.p3l_code.specs.Machine.{after, started, outcome_of, exec}
 use Rattle.p3l_code.proofs.Unroll.{unrolls}
 use Rattle.p3l_code.proofs.Fine.{leads_all}
 use Rattle.p3l_compile.specs.Scope.{names_of}
-use Rattle.p3l_compile.specs.Condition.{total, IsCompilable, Compiles, body_code}
+use Rattle.p3l_compile.specs.Condition.{total, IsCompilable, Compiles, body_code, code_of}
 use Rattle.p3l_compile.proofs.Correct.{compiled_means}
 use Rattle.p3l_compile.proofs.Safety.{compiled_safe}
 use Rattle.p3l_compile.proofs.Started.{total_append, starts, outs_taken}
@@ -24,6 +25,10 @@ use Rattle.p3l_compile.proofs.Entered.{laid}
 ended : (home : ℕ) (outs : List Var) (r : Result Valuation TrapKind) → outcome_of home (after r (λ s. Some (Ok (flat_map (words_in s) outs)))) ≡ outcome_in home outs r
 ended home outs (Ok s) = refl
 ended home outs (Err trap) = refl
+
+-- the code of these parts
+abbrev made : ℕ → ℕ → ℕ → ℕ → List Instr → Code
+made budget ins outs memory instrs = record { budget = budget; ins = ins; outs = outs; memory = memory; instrs = instrs }
 
 module _ (seq : SeqTree) (code : Code) (can : IsCompilable seq) (budget : code.budget ≡ seq.budget) (ins : code.ins ≡ total seq.ins) (outs : code.outs ≡ total seq.outs) (memory : code.memory ≡ total ((seq.ins ++ seq.outs) ++ seq.locals)) (whole : code.instrs ≡ body_code seq) where
   ports : code.ins + code.outs ≤ code.memory
@@ -48,6 +53,14 @@ module _ (seq : SeqTree) (code : Code) (can : IsCompilable seq) (budget : code.b
       ∙ ap (λ n. outcome_of seq.home (after (run_of n seq.body (start_of seq words)) (λ s. Some (Ok (flat_map (words_in s) seq.outs))))) budget
       ∙ ended seq.home seq.outs (run_of seq.budget seq.body (start_of seq words))
 
+  is : code ≡ code_of seq
+  is =
+      ap (λ n. made n code.ins code.outs code.memory code.instrs) budget
+      ∙ ap (λ n. made seq.budget n code.outs code.memory code.instrs) ins
+      ∙ ap (λ n. made seq.budget (total seq.ins) n code.memory code.instrs) outs
+      ∙ ap (λ n. made seq.budget (total seq.ins) (total seq.outs) n code.instrs) memory
+      ∙ ap (λ l. made seq.budget (total seq.ins) (total seq.outs) (total ((seq.ins ++ seq.outs) ++ seq.locals)) l) whole
+
   pub compiles : Compiles seq code
-  unfolding means
-  compiles = record { takes = ins; gives = outs; means = means }
+  unfolding means is
+  compiles = record { is = is; means = means }

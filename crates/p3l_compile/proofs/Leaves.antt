@@ -3,7 +3,6 @@ use Rattle.std.proofs.Common.{◌≡◌, ℕ, ℤ, zero, suc, ◌+◌, ◌<◌, 
 use Rattle.std.specs.Prelude.{nat_eq, slice_get, IfSome, IsSomeAnd}
 use Rattle.std.specs.List.{All, AllByRecursion}
 use Rattle.std.proofs.lemmas.Bool.Decides.{nat_tests}
-use Rattle.p3l_skel.specs.declared.tree.Form.TheVariants as forms
 use Rattle.p3l_skel.specs.declared.tree.ModuleInfo.{ModuleInfo}
 use Rattle.p3l_skel.specs.declared.tree.Node.{Node}
 use Rattle.p3l_skel.specs.declared.tree.Tree.{Tree}
@@ -14,7 +13,7 @@ use Rattle.p3l_units.specs.Table.{Served, is_seq_kind, if_seq, seqs_before, HasW
 use Rattle.p3l_units.specs.laws.Leaf.{all_agree}
 use Rattle.p3l_body.specs.Eval.{eval}
 use Rattle.p3l_body.specs.Seq.{SeqTree}
-use Rattle.p3l_compile.specs.Condition.{total, IsCompilable, Compiles}
+use Rattle.p3l_compile.specs.Condition.{total, IsCompilable, Compiles, code_of}
 use Rattle.p3l_compile.specs.Leaves.{body_of, meaning, body_leaf, FitsNode, AreBodies, LeavesAreEvals, AreCodes}
 
 -- a body and its code, or neither
@@ -70,8 +69,8 @@ module _ (tree : Tree) (seqs : List SeqTree) (codes : List Code) (bodies : AreBo
   same_run m words None (Some code) found p home = absurd p
   same_run m words (Some seq) None found p home = absurd p
   same_run m words (Some seq) (Some code) found p home =
-      ap (λ n. if_fits tree m n code.outs words (exec code m words)) p.takes
-      ∙ ap (λ n. if_fits tree m (total seq.ins) n words (exec code m words)) p.gives
+      ap (λ (c : Code). if_fits tree m c.ins code.outs words (exec code m words)) p.is
+      ∙ ap (λ (c : Code). if_fits tree m (total seq.ins) c.outs words (exec code m words)) p.is
       ∙ by (nat_eq (length words) (total seq.ins)) refl
     where
       by : (b : Bool) → nat_eq (length words) (total seq.ins) ≡ b → cond (b && agrees m (total seq.ins) (total seq.outs) tree.nodes) (exec code m words) (unfit m) ≡ cond b (eval seq words) (unfit m)
@@ -89,7 +88,7 @@ module _ (tree : Tree) (seqs : List SeqTree) (codes : List Code) (bodies : AreBo
   unfolding Paired
   code_there node None c p fits = absurd fits
   code_there node (Some seq) None p fits = absurd p
-  code_there node (Some seq) (Some code) p fits = record { takes = p.takes ∙ fits.takes; gives = p.gives ∙ fits.gives }
+  code_there node (Some seq) (Some code) p fits = record { takes = ap (λ (c : Code). c.ins) p.is ∙ fits.takes; gives = ap (λ (c : Code). c.outs) p.is ∙ fits.gives }
 
   pub have_codes : All (HasCode (record { tree = tree; codes = codes })) tree.nodes
   unfolding paired
@@ -108,6 +107,13 @@ eval_at tree seqs node (Some seq) found fits = λ words size.
 pub leaves_are_evals : LeavesAreEvals
 leaves_are_evals tree seqs k bodies inside form =
     eval_at tree seqs (node_at tree k) (body_of tree seqs (node_at tree k).module) refl (bodies.words k no_node inside form)
+
+-- codes of bodies are their codes
+pub all_codes : (seqs : List SeqTree) (codes : List Code) → AreCodes seqs codes → codes ≡ map code_of seqs
+all_codes [] [] are = refl
+all_codes [] (code ∷ codes) are = absurd are
+all_codes (seq ∷ seqs) [] are = absurd are
+all_codes (seq ∷ seqs) (code ∷ codes) are = ap (λ c. c ∷ codes) are.0.is ∙ ap (λ l. code_of seq ∷ l) (all_codes seqs codes are.1)
 
 -- one code more
 pub codes_more : (seqs : List SeqTree) (codes : List Code) (seq : SeqTree) (code : Code) → AreCodes seqs codes → Compiles seq code → AreCodes (seqs ++ seq ∷ []) (codes ++ code ∷ [])

@@ -56,9 +56,17 @@ pub record IsCompilable (seq : SeqTree) : Type 0 where
 abbrev pub body_code : SeqTree → List Instr
 body_code seq = statement_code (names_of seq) 0 seq.body ++ End ∷ []
 
--- a code takes the ins of a body and gives its outs, and on all in words its outcome is the body's
--- meaning
+-- THE CODE of a body: its instructions with its budget, and the words of its ins, its outs and all its variables
+abbrev pub code_of : SeqTree → Code
+code_of seq = record {
+  budget = seq.budget;
+  ins = total seq.ins;
+  outs = total seq.outs;
+  memory = total ((seq.ins ++ seq.outs) ++ seq.locals);
+  instrs = body_code seq;
+}
+
+-- a code is that of a body, and on all in words its outcome is the body's meaning
 pub record Compiles (seq : SeqTree) (code : Code) : Type 0 where
-  pub takes : code.ins ≡ total seq.ins
-  pub gives : code.outs ≡ total seq.outs
+  pub is : code ≡ code_of seq
   pub means : (words : List ℤ) → length words ≡ total seq.ins → exec code seq.home words ≡ eval seq words

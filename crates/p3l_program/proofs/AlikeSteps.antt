@@ -1,5 +1,5 @@
 -- The network of an image that was made of a program is the program's.
-use Rattle.std.proofs.Common.{◌≡◌, ◌↔◌, ℕ, Bool, true, List, [], ◌++◌, Option, Some, None, refl, sym, ap, ◌∙◌, subst, append-nil}
+use Rattle.std.proofs.Common.{◌≡◌, ◌↔◌, ℕ, Bool, List, [], Option, Some, None, refl, sym, ap, ◌∙◌, subst, append-nil}
 use Rattle.p3l_io.specs.Told.{Held}
 use Rattle.p3l_skel.specs.Numbers.{firings}
 use Rattle.p3l_body_laws.specs.Served.{ResolvedServe}
@@ -99,7 +99,7 @@ pub has_network : ResolvedServe → ImageBeginsNoOther → EveryImageHasItsProgr
 has_network serve begins held others build name bytes own there n =
     (from_image serve begins held others build name bytes own there n, to_image serve begins held others build name bytes own there n)
 
--- what is due of one network is due of another way to it
+-- what is expected of one network is expected of another way to it
 module _ (w : World) (one another : Origin) (asked : Sched) (go : (n : Network) → HasNetwork w.files.old one n → HasNetwork w.files.old another n) where
   ends_so : (trace : Option (List ℕ)) (reported : Bool) (finish : Finish) (stats : Option Stats) → EndsRun w one asked trace reported finish stats → EndsRun w another asked trace reported finish stats
   ends_so trace reported finish stats h = record {

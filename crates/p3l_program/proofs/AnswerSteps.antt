@@ -1,5 +1,5 @@
 -- What an answer says of its status.
-use Rattle.std.proofs.Common.{◌≡◌, ◌≢◌, ℕ, ◌<◌, Bool, true, List, [], ◌∷◌, ◌++◌, ◌⊎◌, Option, Some, refl, sym, ap, subst, inl, inr, ◌∙◌, arith}
+use Rattle.std.proofs.Common.{◌≡◌, ◌≢◌, ℕ, ◌<◌, true, List, [], ◌∷◌, ◌++◌, ◌⊎◌, Option, Some, refl, sym, ap, subst, inl, inr, ◌∙◌, arith}
 use Rattle.clap.specs.Words.{Text}
 use Rattle.p3l_io.specs.Told.{Held}
 use Rattle.p3l_opts.specs.declared.command.Command.{Command}
@@ -47,14 +47,14 @@ module _ (words : List Text) (w : World) where
   begins_by v (inr (inr (inl u))) = inl u.untouched
   begins_by v (inr (inr (inr u))) = inl u.untouched
 
-  -- an end is due of a command that came to it
+  -- an end is expected of a command that came to it
   ended_by : (finish : Finish) (stats : Option Stats) (n : ℕ) → finish_status finish ≡ n → IsDue words w (verdict.Ended finish stats) → IsEndedWith words w n
   ended_by finish stats n h (inl a) = record { command = a.command; spelled = a.spelled; finish = finish; stats = stats; status_is = h; end = a.due }
   ended_by finish stats n h (inr (inl u)) = absurd (let z = u.verdict_is in cc)
   ended_by finish stats n h (inr (inr (inl u))) = absurd (let z = u.verdict_is in cc)
   ended_by finish stats n h (inr (inr (inr u))) = absurd (let z = u.verdict_is in cc)
 
-  -- a refusal is due of words that are no command, or of a stage
+  -- a refusal is expected of words that are no command, or of a stage
   refused_by : (r : Refusal) (n : ℕ) → refusal_status r ≡ n → IsDue words w (verdict.Refused r) → IsRefusedWith words w n
   refused_by r n h (inl a) = record {
     refused = r;
@@ -75,7 +75,7 @@ module _ (words : List Text) (w : World) where
 
   -- what a command whose stages pass, or one of them refuses, ends with
   module _ (once : SpellsOneAtMost) (c : Command) (spelled : Spells words c) where
-    -- the verdict is due of this command, or memory was wanting, or a file that it writes before its work could not be written
+    -- the verdict is expected of this command, or memory ran out, or a file that it writes before its work could not be written
     asked : (v : Verdict) → IsDue words w v → IsDueOf w c v ⊎ ((status_of v ≡ status.no_memory) ⊎ IsUnsaved words w v)
     asked v (inl a) = inl (subst (λ k. IsDueOf w k v) (once words a.command c a.spelled spelled) a.due)
     asked v (inr (inl u)) = absurd (u.none c spelled)

@@ -36,7 +36,7 @@ use Rattle.p3l_program.proofs.LoadSteps.{costs_pass, priced_here, program_passes
 use Rattle.p3l_program.proofs.OnceSteps.{said_alike}
 use Rattle.p3l_program.proofs.StageSteps.{passed_both, refused_after}
 
--- what the reader tells of a text is a line
+-- what the reader says of a text is a line
 tells_line : (text : List ℕ) (read : Result Cert Fault) (r : CertRefusal) → Err r ≡ told text read → (line : ℕ) × (r ≡ refusals.BadText line)
 tells_line text (Ok cert) r is = absurd cc
 tells_line text (Err fault) r is = (line_number text fault.left, (let z = is in cc))
@@ -195,6 +195,6 @@ module _ (files : Change Held) (name : List ℕ) (costs : Option (List ℕ)) (ce
       (passed_both files (cost_stages name costs) (cert_stages name costs cert_file) (said_pass costs h.said h.says h.certified.priced)
       ((h.written, h.held), ((loads.r, loads.cs, cert, h), tt)))
 
-  -- and its line is due
+  -- and its line is expected
   pub verified : (text : List ℕ) → text ≡ holds_line cert.processors cert.used cert.service → IsVerified files.old name costs cert_file text
   verified text is = record { r = loads.r; cs = loads.cs; cert = cert; has = loads.has; optimal = loads.optimal; text_is = is }

@@ -65,7 +65,7 @@ module _ (files : Change Held) (stages : List Stage) (name : List ℕ) (IsBytes 
   pub file_refused : (v : Verdict) → IsNotLoaded files stages v → IsFileDue files stages name IsBytes v
   file_refused v h out still = saving_refused files out stages IsNothing name IsBytes v still h
 
-  -- want of memory before anything was written
+  -- running out of memory before anything was written
   pub file_unwritten : IsFileDue files stages name IsBytes verdict.NoMemory
   file_unwritten out still = saving_unwritten files out stages IsNothing name IsBytes still
 

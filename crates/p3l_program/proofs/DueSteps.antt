@@ -1,5 +1,5 @@
--- Verdicts that are due, and want of memory in their place.
-use Rattle.std.proofs.Common.{◌≡◌, ◌≢◌, ℕ, List, [], ◌∷◌, ◌⊎◌, Option, Some, None, refl, sym, subst, inl, inr}
+-- Verdicts that are expected, and running out of memory in their place.
+use Rattle.std.proofs.Common.{◌≡◌, ◌≢◌, ℕ, List, [], ◌∷◌, ◌⊎◌, Option, None, refl, sym, subst, inl, inr}
 use Rattle.std.specs.Option.{option_to_list}
 use Rattle.clap.specs.Words.{Text}
 use Rattle.p3l_opts.specs.declared.command.Build.{Build}
@@ -8,9 +8,9 @@ use Rattle.p3l_opts.specs.Command.{Spells}
 use Rattle.p3l_io.specs.Told.{Held}
 use Rattle.p3l_report.specs.declared.verdict.Verdict.{Verdict}
 use Rattle.p3l_report.specs.declared.verdict.Verdict.TheVariants as verdict
-use Rattle.p3l_program.specs.Answer.{IsAsked, IsDue, IsUnsaved}
+use Rattle.p3l_program.specs.Answer.{IsDue}
 use Rattle.p3l_program.specs.Behavior.{IsDueBy}
-use Rattle.p3l_program.specs.Command.{IsDueOf, behavior_of, saved_first, work_of, written_of}
+use Rattle.p3l_program.specs.Command.{IsDueOf, saved_first, work_of, written_of}
 use Rattle.p3l_program.specs.Generated.{Gen, IsGenDue, IsGenUnsaved}
 use Rattle.p3l_program.specs.Origin.{Running}
 use Rattle.p3l_program.specs.Profile.{IsProfileDue}
@@ -26,7 +26,7 @@ use Rattle.p3l_program.proofs.FirstSteps.{first_no_memory, unsaved_no_memory}
 use Rattle.p3l_program.proofs.SavedSteps.{kept_by}
 use Rattle.p3l_program.proofs.WorkLaws.{lawful}
 
--- where memory is wanting for the lines, the verdict is want of memory
+-- where memory runs out for the lines, so says the verdict
 command_no_memory : (w : World) (c : Command) (v : Verdict) → IsDueOf w c v → IsDueOf w c verdict.NoMemory
 command_no_memory w c (verdict.Refused r) h = inl h.untouched
 command_no_memory w c (verdict.Ended finish stats) h = inr (record { passed = h.passed; begins = (lawful c).begun w finish stats h.ends })
@@ -40,7 +40,7 @@ due_no_memory words w v (inr (inr (inl u))) = inr (inr (inl (record { verdict_is
 due_no_memory words w v (inr (inr (inr u))) =
     inl (record { command = u.command; spelled = u.spelled; due = inl u.untouched; kept = unsaved_no_memory w.files (written_of u.command) (saved_first u.command) u.some u.kept; touched = inr ((lawful u.command).touches w u.some) })
 
--- a verdict is due of words that spell a command, by the shape of its work
+-- a verdict is expected of words that spell a command, by the shape of its work
 module _ (words : List Text) (c : Command) (spelled : Spells words c) where
   of_work : (w : World) (k : Work) (v : Verdict) → work_of c ≡ k → IsDueBy w (behavior k) v → KeepsFirst w.files (behavior k).written (behavior k).saved_first v →
       (w.files.new ≡ w.files.old) ⊎ (behavior k).Touches w → IsDue words w v

@@ -23,7 +23,7 @@ module _ (files : Change Held) (names : List (List ℕ)) where
   pub first_by : (saves : List (List ℕ × List ℕ)) (v : Verdict) → saves ≡ [] → names ≡ [] → files.new ≡ files.old → KeepsFirst files names saves v
   first_by saves v none written same = subst (λ s. KeepsFirst files names s v) (sym none) (subst (λ n. KeepsFirst files n [] v) (sym written) (kept_by files [] v same))
 
-  -- where memory is wanting for the lines no more is changed
+  -- where memory runs out for the lines no more is changed
   pub first_no_memory : (saves : List (List ℕ × List ℕ)) (v : Verdict) → KeepsFirst files names saves v → KeepsFirst files names saves verdict.NoMemory
   first_no_memory [] v h = kept_no_memory files names v h
   first_no_memory (save ∷ saves) v h = (h.0, tt)

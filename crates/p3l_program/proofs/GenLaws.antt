@@ -1,5 +1,5 @@
 -- What the answers of `gen` rest on.
-use Rattle.std.proofs.Common.{◌≡◌, ◌≢◌, ℕ, List, [], ◌∷◌, Option, Some, None, refl, sym, ap, subst, ◌∙◌, arith, append-nil}
+use Rattle.std.proofs.Common.{◌≡◌, ℕ, List, [], Option, Some, None, refl, sym, ap, subst, ◌∙◌, arith, append-nil}
 use Rattle.p3l_gen.specs.Texts.{costs_text, program_text, stream_text}
 use Rattle.p3l_opts.specs.declared.command.Sched.{Sched}
 use Rattle.p3l_opts.specs.declared.command.Sched.TheVariants as sched
@@ -14,10 +14,9 @@ use Rattle.p3l_stream.specs.Items.{items_of}
 use Rattle.p3l_run.specs.declared.end.RunEnd.{RunEnd}
 use Rattle.p3l_run.specs.declared.end.RunEnd.TheVariants as ends
 use Rattle.p3l_run.specs.Network.{course_of, width_of}
-use Rattle.p3l_program.specs.Generated.{EndsGen, Gen, GensWhole, IsGenerated, IsPicked, gen_behavior, gen_capacity, saves_of, saves_with}
+use Rattle.p3l_program.specs.Generated.{EndsGen, Gen, GensWhole, IsGenerated, IsPicked, gen_behavior, gen_capacity, saves_with}
 use Rattle.p3l_program.specs.Plan.{network_of}
 use Rattle.p3l_program.specs.Saved.{names_of}
-use Rattle.p3l_program.specs.Stage.{Stage, readable}
 use Rattle.p3l_program.specs.Verdict.{run_finish}
 use Rattle.p3l_program.specs.World.{World}
 use Rattle.p3l_program.proofs.EndSteps.{put_told, stream_is}

@@ -5,7 +5,7 @@ use Rattle.std.proofs.Math.Nat.{mul-suc}
 use Rattle.std.proofs.lemmas.Fmt.{length-decimal-le}
 use Rattle.p3l_gen.specs.Texts.{factor_of, line_text, program_head, program_tail, program_text, stream_text, word_text, words_each}
 
--- a row of texts of so many bytes at most
+-- a row of texts of this number of bytes at most
 row_short : (f : ℕ → List ℕ) (most n low : ℕ) → ((k : ℕ) → k < low + n → length (f k) ≤ most) → length (flat_map f (range_with_len low n)) ≤ most * n
 row_short f most zero low short = omega arith
 row_short f most (suc n) low short =

@@ -115,7 +115,7 @@ whole_is (ends.Stream ending.TooLong) h = absurd cc
 whole_is (ends.Stopped fired idle) h = absurd cc
 whole_is (ends.Trapped item kind home) h = absurd cc
 
--- a run on a source that tells a text below the limit, and never fails, is one on all items of the text
+-- a run on a source that reports a text below the limit, and never fails, is one on all items of the text
 pub ran_on : (n : Network) (s : Schedule) (text : List ℕ) (rest left taken taken' : Option (List ℕ)) (ran : Ran) → rest ≡ Some text → length text < 2 ^ 36 → Finishes n s keep.Nothing rest left 0 0 taken taken' ran → IsRanOn n s text ran.finish ran.stats ran.sum
 ran_on n s text rest left taken taken' ran told short f =
     let to = seen_goes_on n text rest left 0 0 f.close f.stream f.items f.gives told (λ rose. absurd (omega arith)) in
@@ -134,7 +134,7 @@ ran_on n s text rest left taken taken' ran told short f =
           sym emitted ∙ subst (λ (i : Items). f.outcomes ≡ meaning_of n i.items) all (on.whole stuck);
     }
 
--- the run of what is generated, as it was told
+-- the run of what is generated, as it was reported
 module _ (out : Change (List ℕ)) (g : Gen) where
   -- what doesn't load
   pub gen_refused : (v : Verdict) → IsStill out → AreNotLoaded (program_text g.number) costs_text g.processors v → IsGenRun out g v
@@ -158,7 +158,7 @@ module _ (out : Change (List ℕ)) (g : Gen) where
       begins = record { text = text; is = (f, is); begun = h; input = still };
     })
 
--- the line of a run of what was loaded is that of what is asked for
+-- the line of a run of what was loaded is that of what is requested
 pub generated_by : (g : Gen) (loaded : Allotted) (ran : Ran) → (loads : LoadsTexts (program_text g.number) costs_text g.processors loaded) →
     IsRanUnder (network_of loads.r loaded.choice.counts.list gen_capacity) g.asked (stream_text g.number g.items) ran →
     IsGenerated g ran.finish (due_at ran.finish (summary_line g.number ran.stats loaded.choice.service loaded.choice.used ran.sum))
@@ -188,6 +188,6 @@ module _ (files : Change Held) where
   first_saved [] v h = kept_by files [] v h.kept
   first_saved (save ∷ saves) v h = (h.kept, held_first (save ∷ saves) v h.by.0)
 
-  -- so the verdict of their run is due of what is asked for
+  -- so the verdict of their run is expected of what is requested
   pub generated_due : (out : Change (List ℕ)) (g : Gen) (v : Verdict) → HasSaves files (saves_of g) (Ok tt) → IsGenRun out g v → IsGenDue files out g v
   generated_due out g v saves run = record { due = λ input quiet. run files input saves.by.1 saves.by.0 quiet; kept = first_saved (saves_of g) v saves }

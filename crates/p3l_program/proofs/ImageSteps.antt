@@ -127,7 +127,7 @@ module _ (name : List ℕ) (loaded : Loaded) where
         let here : IsReadyImage (loaded_of loads.i) = record { lawful = runs.whole.lawful; fit = runs.whole.counted; codes = runs.whole.coded.words; net_is = runs.linked; typed = runs.typed; room = loads.room } in
         subst IsReadyImage (sym loads.loaded_is) here
 
-    -- its network is the one that is asked for
+    -- its network is the one that is requested
     is_imaged : IsImaged (record { text = loads.bytes; said = None }) (network_in loaded)
     is_imaged = record { i = loads.i; runs = loads.runs; network_is = ap network_in loads.loaded_is }
 

@@ -23,7 +23,7 @@ use Rattle.p3l_report.specs.declared.verdict.Verdict.TheVariants as verdict
 use Rattle.p3l_check.specs.Resolving.{ResolvedTree}
 use Rattle.p3l_program.specs.declared.plan.Accepted.{Accepted}
 use Rattle.p3l_program.specs.declared.plan.Allotted.{Allotted}
-use Rattle.p3l_program.specs.Plan.{AreSaid, ComesTo, HasCostText, IsAllotted, IsBuilt, IsNotAccepted, IsPriced, network_of}
+use Rattle.p3l_program.specs.Plan.{AreSaid, ComesTo, HasCostText, IsBuilt, IsNotAccepted, IsPriced, network_of}
 use Rattle.p3l_program.specs.Certificate.{IsCertificate}
 use Rattle.p3l_program.specs.Explain.{IsExplained}
 use Rattle.p3l_program.specs.File.{HasText, text_limit}
@@ -34,7 +34,7 @@ use Rattle.p3l_program.specs.World.{Change, IsCalm}
 use Rattle.p3l_program.proofs.StageSteps.{refused_front}
 use Rattle.p3l_program.proofs.TreeSteps as trees
 
--- files that tell the same at the beginning
+-- files that report the same at the beginning
 pub same_change : (old old' new : Option Held) (before before' now : ℕ) (failed : Option (List ℕ)) → old ≡ old' → before ≡ before' →
     let a : Change Held = record { old = old; new = new; before = before; now = now; failed = failed } in
     let b : Change Held = record { old = old'; new = new; before = before'; now = now; failed = failed } in a ≡ b
@@ -124,6 +124,6 @@ module _ (build : Build) (r : ResolvedTree) (loaded : Allotted) where
     text_is = text_is;
   }
 
-  -- and its network is the one that is asked for
+  -- and its network is the one that is requested
   pub is_built : (files : Option Held) → (is : IsLoaded files build r loaded) → IsBuilt build (record { text = is.text; said = is.said }) (network_of r loaded.choice.counts.list build.capacity)
   is_built files is = record { r = r; cs = loaded.costs; counts = loaded.choice.counts.list; allotted = is.allotted; network_is = refl }

@@ -12,7 +12,7 @@ use Rattle.p3l_skel.specs.Tree.{node_at}
 use Rattle.p3l_check.specs.Resolving.{ResolvedTree}
 use Rattle.p3l_code.specs.declared.instr.Code.{Code}
 use Rattle.p3l_compile.specs.Leaves.{AreBodies, body_leaf}
-use Rattle.p3l_compile.proofs.Leaves.{have_codes, same_leaf}
+use Rattle.p3l_compile.proofs.Leaves.{all_codes, have_codes, same_leaf}
 use Rattle.p3l_units.specs.Table.{HasCode, Served}
 use Rattle.p3l_report.specs.declared.stats.Stats.{Stats}
 use Rattle.p3l_report.specs.declared.verdict.Finish.{Finish}
@@ -22,7 +22,7 @@ use Rattle.p3l_report.specs.declared.verdict.Verdict.TheVariants as verdict
 use Rattle.p3l_report.specs.Status as status
 use Rattle.p3l_report.specs.Verdict.{ending_status, finish_status}
 use Rattle.p3l_report.proofs.Statuses as statuses
-use Rattle.p3l_run.specs.Feed.{Gives, closed_so}
+use Rattle.p3l_run.specs.Feed.{closed_so}
 use Rattle.p3l_run.specs.Network.{Network}
 use Rattle.p3l_run.specs.Write.{HasBegun, HasPut}
 use Rattle.p3l_stream.specs.declared.items.Ending.{Ending}
@@ -39,7 +39,7 @@ use Rattle.p3l_sample.specs.Sampling.{EndsSo, IsSampled, IsValue}
 use Rattle.p3l_program.specs.declared.plan.Accepted.{Accepted}
 use Rattle.p3l_program.specs.Load.{IsProgram}
 use Rattle.p3l_program.specs.Plan.{IsCompiled, network_of}
-use Rattle.p3l_program.specs.Profile.{BeginsProfile, ClosesSo, ClosesSome, EndsProfile, GivesAll, HasCodes, HaveValues, IsClosedProfile, IsNoted, IsProfileDue, IsProfileOf, IsProfileStatus, IsProfiled, NotesSome, ProfilesWhole, StopsSo, Subject, TrapsSo, coded, cost_file, is_trap, outcome_on, profile_status, subject_of, subject_width}
+use Rattle.p3l_program.specs.Profile.{BeginsProfile, ClosesSo, ClosesSome, EndsProfile, GivesAll, HasProgram, HaveValues, IsClosedProfile, IsNoted, IsProfileDue, IsProfileOf, IsProfileStatus, IsProfiled, NotesSome, ProfilesWhole, StopsSo, Subject, TrapsSo, coded, cost_file, is_trap, outcome_on, profile_status, subject_of, subject_width}
 use Rattle.p3l_program.specs.Run.{seen_of}
 use Rattle.p3l_program.specs.World.{Change, HasNoFault, HasRisen, IsCalm, World, world}
 use Rattle.p3l_program.proofs.EndSteps.{ended_told}
@@ -131,22 +131,23 @@ module _ (files : Change Held) (input out : Change (List ℕ)) (name : List ℕ)
   compiled : IsCompiled r accepted
   compiled = is.comes.compiled
 
-  -- what its codes do is what its bodies mean
-  same : coded accepted.tree accepted.codes ≡ subject_of r accepted.codes
+  -- its codes are those of its bodies, and do what these mean
+  same : coded accepted.tree accepted.codes ≡ subject_of r
   same =
       ap (λ l. subject accepted.tree l accepted.codes) (same_leaf accepted.tree r.seqs accepted.codes (tree_bodies r accepted compiled) compiled.codes)
       ∙ ap (λ t. subject t (body_leaf t r.seqs) accepted.codes) compiled.tree_is
+      ∙ ap (subject r.tree (body_leaf r.tree r.seqs)) (all_codes r.seqs accepted.codes compiled.codes)
 
-  has : HasCodes files.old name r accepted.codes
-  has = record { text = is.text; has = is.has; accepted = is.comes.accepted; only = is.comes.only; compiled = compiled.codes }
+  has : HasProgram files.old name r
+  has = record { text = is.text; has = is.has; accepted = is.comes.accepted; only = is.comes.only }
 
-  begins : IsCalm files → (NotesSome (subject_of r accepted.codes) input out) → BeginsProfile (world files input out) name
-  begins calm some = record { r = r; codes = accepted.codes; has = has; begun = inr some }
+  begins : IsCalm files → (NotesSome (subject_of r) input out) → BeginsProfile (world files input out) name
+  begins calm some = record { r = r; has = has; begun = inr some }
 
-  due : IsCalm files → (v : Verdict) → IsProfileOf (subject_of r accepted.codes) input out v → IsProfileDue (world files input out) name v
+  due : IsCalm files → (v : Verdict) → IsProfileOf (subject_of r) input out v → IsProfileDue (world files input out) name v
   due calm (verdict.Ended f stats) h = record {
     passed = program_passes files name r accepted is.text is.has is.comes;
-    ends = record { r = r; codes = accepted.codes; has = has; stats_are = h.0; profiled = h.2 };
+    ends = record { r = r; has = has; stats_are = h.0; profiled = h.2 };
     files = calm;
     out = h.1;
   }
@@ -156,12 +157,12 @@ module _ (files : Change Held) (input out : Change (List ℕ)) (name : List ℕ)
   }
   due calm verdict.NoMemory (inl h) = inr (record {
     passed = program_passes files name r accepted is.text is.has is.comes;
-    begins = record { r = r; codes = accepted.codes; has = has; begun = inl h };
+    begins = record { r = r; has = has; begun = inl h };
   })
   due calm verdict.NoMemory (inr h) = inr (record { passed = program_passes files name r accepted is.text is.has is.comes; begins = begins calm h })
   due calm (verdict.Refused refused) h = absurd h
 
-  -- the verdict of the profile is due
+  -- the verdict of the profile is expected
   pub profile_due : IsCalm files → (v : Verdict) → IsProfileOf (coded accepted.tree accepted.codes) input out v → IsProfileDue (world files input out) name v
   profile_due calm v h = due calm v (subst (λ p. IsProfileOf p input out v) same h)
 
@@ -169,20 +170,19 @@ module _ (files : Change Held) (input out : Change (List ℕ)) (name : List ℕ)
 pub ends_profile : (w : World) (name : List ℕ) (f : Finish) (stats : Option Stats) → EndsProfile w name f stats → BeginsProfile w name
 ends_profile w name finish.Done stats h = record {
   r = h.r;
-  codes = h.codes;
   has = h.has;
   begun = inr (record {
     all = h.profiled.all;
     begun = record {
-      written = cost_file (subject_of h.r h.codes) h.profiled.all.items;
+      written = cost_file (subject_of h.r) h.profiled.all.items;
       more = [];
       put = h.profiled.put;
-      text_is = append-nil (cost_file (subject_of h.r h.codes) h.profiled.all.items);
+      text_is = append-nil (cost_file (subject_of h.r) h.profiled.all.items);
     };
   });
 }
-ends_profile w name (finish.Stream close) stats h = record { r = h.r; codes = h.codes; has = h.has; begun = inl h.profiled.out_still }
-ends_profile w name (finish.Trapped number kind home) stats h = record { r = h.r; codes = h.codes; has = h.has; begun = inl h.profiled.out_still }
+ends_profile w name (finish.Stream close) stats h = record { r = h.r; has = h.has; begun = inl h.profiled.out_still }
+ends_profile w name (finish.Trapped number kind home) stats h = record { r = h.r; has = h.has; begun = inl h.profiled.out_still }
 ends_profile w name (finish.Stopped fired idle) stats h = absurd h.profiled
 ends_profile w name (finish.Differs line) stats h = absurd h.profiled
 
@@ -237,12 +237,11 @@ module _ (p : Subject) (input : Change (List ℕ)) (rest : List ℕ) (told : inp
 pub profile_whole : (w : World) (name rest taken : List ℕ) (f : Finish) (stats : Option Stats) → ((text : List ℕ) → HasPut w.out.old w.out.new text → w.out.new ≡ Some (taken ++ text)) → w.input.old ≡ Some rest → finish_status f ≡ status.done →
     EndsProfile w name f stats → ProfilesWhole w name rest taken
 profile_whole w name rest taken finish.Done stats put input is h =
-    let p = subject_of h.r h.codes in
+    let p = subject_of h.r in
     let all = h.profiled.all in
     let same = all_items p w.input rest input all in
     record {
       r = h.r;
-      codes = h.codes;
       has = h.has;
       input_ended = at_end p w.input rest input all;
       all_items = ap (λ (i : Items). i.ending) same;
@@ -283,13 +282,13 @@ module _ (p : Subject) where
       profile_status p (ended_by ((items ++ words ∷ []) ++ later) close) ≡ status.trap
   trap_status items later words close h is = ap (λ b. if b then status.trap else ending_status close) (one_traps items later words h is)
 
--- a network with items of so many words; which processes it has makes no difference here
+-- a network with items of this number of words; which processes it has makes no difference here
 abbrev net_for : ResolvedTree → Network
 net_for r = network_of r [] 0
 
-module _ (r : ResolvedTree) (codes : List Code) (input : Change (List ℕ)) (rest : List ℕ) (told : input.old ≡ Some rest) (calm : HasRisen input → ⊥) where
+module _ (r : ResolvedTree) (input : Change (List ℕ)) (rest : List ℕ) (told : input.old ≡ Some rest) (calm : HasRisen input → ⊥) where
   abbrev p : Subject
-  p = subject_of r codes
+  p = subject_of r
 
   abbrev seen : Items
   seen = seen_of (node_at r.tree 0).ins rest
@@ -308,21 +307,18 @@ module _ (r : ResolvedTree) (codes : List Code) (input : Change (List ℕ)) (res
 pub profile_status_due : (w : World) (name rest : List ℕ) (f : Finish) (stats : Option Stats) → w.input.old ≡ Some rest → HasNoFault w → EndsProfile w name f stats → IsProfileStatus w name rest (finish_status f)
 profile_status_due w name rest finish.Done stats told calm h = record {
   r = h.r;
-  codes = h.codes;
   has = h.has;
-  status_is = ended_status h.r h.codes w.input rest told calm.input ending.End h.profiled.all;
+  status_is = ended_status h.r w.input rest told calm.input ending.End h.profiled.all;
 }
 profile_status_due w name rest (finish.Stream close) stats told calm h = record {
   r = h.r;
-  codes = h.codes;
   has = h.has;
-  status_is = ended_status h.r h.codes w.input rest told calm.input close h.profiled.all;
+  status_is = ended_status h.r w.input rest told calm.input close h.profiled.all;
 }
 profile_status_due w name rest (finish.Trapped number kind home) stats told calm h = record {
   r = h.r;
-  codes = h.codes;
   has = h.has;
-  status_is = trapped_status h.r h.codes w.input rest told calm.input w.out number kind home h.profiled;
+  status_is = trapped_status h.r w.input rest told calm.input w.out number kind home h.profiled;
 }
 profile_status_due w name rest (finish.Stopped fired idle) stats told calm h = absurd h.profiled
 profile_status_due w name rest (finish.Differs line) stats told calm h = absurd h.profiled

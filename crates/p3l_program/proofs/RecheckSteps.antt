@@ -35,7 +35,7 @@ never_differs tree leaf net items t line agrees (inr d) = d.other agrees.counts
 abbrev pub BeginsNoOtherTrace : Type 0
 BeginsNoOtherTrace = (v w : Traced) (more : List ℕ) → trace_format.fits v ≡ true → trace_format.fits w ≡ true → trace_format.spell v ++ more ≡ trace_format.spell w → (v ≡ w) × (more ≡ [])
 
--- one text stands under a name
+-- one text is held under a name
 stands_once : (files : Option Held) (name text other : List ℕ) → Stands files name text → HasText files trace_limit name other → other ≡ text
 stands_once None name text other stands has = absurd stands
 stands_once (Some held) name text other stands has = let a = has.holds in cc

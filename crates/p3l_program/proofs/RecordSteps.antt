@@ -28,7 +28,7 @@ use Rattle.p3l_program.proofs.SavedSteps.{kept_by}
 pub stays_kept : (n : Network) (files : Change Held) (input out : Change (List ℕ)) (asked : Sched) (trace : Option (List ℕ)) (v : Verdict) → files.new ≡ files.old → KeepsRun n files input out asked trace v
 stays_kept n files input out asked trace v same = record { kept = kept_by files (option_to_list trace) v same; over = inl same }
 
--- what is no end of a run is told by the writing of its trace alone
+-- what is no end of a run is reported by the writing of its trace alone
 pub closed_err : (files : Change Held) (ran : Ran) (trace : Option (List ℕ)) (reported : Bool) (v : Verdict) → IsRecording files trace ran.lines ran.stats (Err v) → IsClosed files ran trace reported v
 closed_err files ran trace reported (verdict.Refused r) h = h
 closed_err files ran trace reported verdict.WriteFault h = h

@@ -1,5 +1,5 @@
 -- Picks that were written are read again, and a run under them ends as the one in virtual time that left them.
-use Rattle.std.proofs.Common.{◌≡◌, ℕ, ℤ, ◌+◌, ◌<◌, ◌^◌, Bool, true, List, [], ◌∷◌, ◌++◌, count_by, length, Option, Some, Ok, refl, sym, ap, subst, ◌∙◌, arith, append_assoc, append-nil, rules}
+use Rattle.std.proofs.Common.{◌≡◌, ℕ, ℤ, ◌+◌, ◌<◌, ◌^◌, true, List, [], ◌∷◌, ◌++◌, count_by, length, Option, Some, Ok, refl, sym, ap, subst, ◌∙◌, arith, append_assoc, append-nil, rules}
 use Rattle.std.specs.List.{AllByRecursion, list_all}
 use Rattle.std.specs.Char.{is_ascii_digit}
 use Rattle.std.specs.Fmt.{decimal}
@@ -15,7 +15,7 @@ use Rattle.p3l_firing.specs.declared.net.Net.{Net}
 use Rattle.p3l_run.specs.Network.{Network, course_of, size_of, stats_of, width_of}
 use Rattle.p3l_run.specs.declared.keeping.Keeping.{Keeping}
 use Rattle.p3l_run.specs.declared.run.Ran.{Ran}
-use Rattle.p3l_run.specs.Run.{Finishes, MayCome, finish_of}
+use Rattle.p3l_run.specs.Run.{Finishes, finish_of}
 use Rattle.p3l_io.specs.Causes.{Rose}
 use Rattle.p3l_opts.specs.declared.command.Build.{Build}
 use Rattle.p3l_report.specs.declared.stats.Stats.{Stats}
@@ -23,13 +23,13 @@ use Rattle.p3l_report.specs.declared.verdict.Finish.{Finish}
 use Rattle.p3l_run.proofs.RunSteps.{nothing_comes}
 use Rattle.p3l_sched.specs.declared.schedule.Schedule.{Schedule}
 use Rattle.p3l_sched.specs.declared.schedule.Schedule.TheVariants.{Recorded}
-use Rattle.p3l_sched.specs.Picks.{AreGap, AreOfWord, AreRead, EndsWord, IsAtWord, IsWord, Reads, is_feed, is_gap, number_of, pick_of}
+use Rattle.p3l_sched.specs.Picks.{AreGap, AreOfWord, AreRead, IsWord, Reads, is_feed, number_of, pick_of}
 use Rattle.p3l_stream.specs.declared.items.Items.{Items}
 use Rattle.p3l_trace.specs.declared.trace.TraceLine.{TraceLine}
 use Rattle.p3l_trace.specs.Agreement.{AgreeFrom, AllAgree}
 use Rattle.p3l_trace.specs.Agreement as lines
 use Rattle.p3l_program.specs.File.{HasText}
-use Rattle.p3l_program.specs.Picks.{mark_before, picks_text}
+use Rattle.p3l_program.specs.Picks.{picks_text}
 use Rattle.p3l_program.specs.Replay.{EveryTimedRunIsReplayed}
 use Rattle.p3l_program.specs.Run.{seen_of}
 use Rattle.p3l_program.specs.Scheduled.{HasPicks, picks_limit}
@@ -133,7 +133,7 @@ module _ (n : Network) (s : Schedule) (keeping : Keeping) (old left : Option (Li
       f.ends to.later to.may_come to.e to.may_end
       ∙ ap (λ (i : Items). finish_of n (course_of n s i.items) i.ending) (sym to.seen)
 
--- one text stands under a name
+-- one text is held under a name
 one_text : (held : Held) (name text other : List ℕ) → HasText (Some held) picks_limit name text → HasText (Some held) picks_limit name other → other ≡ text
 one_text held name text other a b = (let x = a.holds in let y = b.holds in cc)
 

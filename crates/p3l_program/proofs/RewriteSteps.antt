@@ -67,12 +67,16 @@ module _ (files : Option Held) (build : Build) (priced : Priced) (loads : LoadsP
 
   -- and the text of the best way to write it is that of the files
   pub rewritten : (text : List ℕ) → IsBestText (program_tree priced.program) priced.costs build.processors text → IsRewritten files build text
-  rewritten text best = record {
-    r = loads.r;
-    cs = priced.costs;
-    has = record { text = loads.has.text; has = loads.has.has; said = loads.has.said; says = loads.has.says; priced = loads.has.allotted.priced };
-    other = best.other;
-    time = best.time;
-    is = subst (λ program. IsRewriting program priced.costs build.processors best.other best.time) (sym loads.program_is) best.is;
-    text_is = best.text_is;
-  }
+  rewritten text best =
+      let accepted = loads.has.allotted.priced.accepted in
+      let is = subst (λ program. IsRewriting program priced.costs build.processors best.other best.time) (sym loads.program_is) best.is in
+      let has = is.has_text loads.has.text accepted.spelled in record {
+        r = loads.r;
+        cs = priced.costs;
+        has = record { text = loads.has.text; has = loads.has.has; said = loads.has.said; says = loads.has.says; priced = loads.has.allotted.priced };
+        other = best.other;
+        time = best.time;
+        is = is;
+        text_is = best.text_is;
+        spells = best.spells has.text has.is_text;
+      }

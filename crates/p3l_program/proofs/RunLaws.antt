@@ -1,5 +1,5 @@
 -- What the answers of commands rest on that run a network.
-use Rattle.std.proofs.Common.{◌≡◌, ◌≢◌, ℕ, ℤ, ◌*◌, List, [], ◌∷◌, ◌++◌, Option, Some, None, refl, sym, ap, inl, subst, ◌∙◌, arith, append-nil, Bool, true}
+use Rattle.std.proofs.Common.{◌≡◌, ◌≢◌, ℕ, ℤ, ◌*◌, List, [], ◌++◌, Option, Some, None, refl, sym, ap, inl, subst, ◌∙◌, arith, append-nil, Bool, true}
 use Rattle.std.specs.Option.{option_to_list}
 use Rattle.p3l_io.specs.Causes.{Rose}
 use Rattle.p3l_io.specs.Told.{Held}
@@ -30,7 +30,6 @@ use Rattle.p3l_program.specs.Recorded.{IsRecorded, IsRecordOf}
 use Rattle.p3l_program.specs.Run.{Emits, EndsRun, RunsWhole, StopsRun, UnsavedRun, run_behavior}
 use Rattle.p3l_program.specs.Saved.{HasOneFailed}
 use Rattle.p3l_program.specs.Scheduled.{HasSchedule}
-use Rattle.p3l_program.specs.Stage.{Stage, readable, run_stages}
 use Rattle.p3l_program.specs.Verdict.{run_finish}
 use Rattle.p3l_program.specs.World.{Change, World}
 use Rattle.p3l_program.proofs.EndSteps.{IsStream, ended_told, put_told, stream_is}
@@ -70,7 +69,7 @@ recorded_so : (files : Change Held) (trace : Option (List ℕ)) (One Other : Tra
 recorded_so files None One Other go h = tt
 recorded_so files (Some name) One Other go h = record { t = h.t; is = go h.t h.is; fits = h.fits; saved = h.saved }
 
--- over an input and an output that told, a run of a network on these items is whole
+-- over an input and an output that reported, a run of a network on these items is whole
 pub record IsWholeRun (n : Network) (items : List (List ℤ)) (rest taken : List ℕ) (left taken' : Option (List ℕ)) : Type 0 where
   pub input_ended : left ≡ Some []
   pub all_items : (items_of (width_of n) rest).ending ≡ ending.End

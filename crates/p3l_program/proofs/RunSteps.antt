@@ -34,7 +34,7 @@ use Rattle.p3l_program.proofs.StageSteps.{passed_both, refused_after}
 use Rattle.p3l_program.proofs.TextSteps.{not_loaded}
 
 -- a run that came to its end was begun
-pub finishes_starts : (n : Network) (s : Schedule) (keeping : Keeping) (rest left : Option (List ℕ)) (before now : ℕ) (taken taken' : Option (List ℕ)) (end : Ran) →
+unfoldable pub finishes_starts : (n : Network) (s : Schedule) (keeping : Keeping) (rest left : Option (List ℕ)) (before now : ℕ) (taken taken' : Option (List ℕ)) (end : Ran) →
     Finishes n s keeping rest left before now taken taken' end → Starts n s rest left before now taken taken'
 finishes_starts n s keeping rest left before now taken taken' end f =
     let ran = f.ran [] (nothing_comes n f.close) in
@@ -132,7 +132,7 @@ module _ (files : Change Held) (input out : Change (List ℕ)) (origin : Origin)
     fault = inr (runs_over asked h.0, h.0.out_calm, h.1);
   }
 
-  -- the verdict of the run is due
+  -- the verdict of the run is expected
   pub run_due : (asked : Sched) (trace : Option (List ℕ)) (reported : Bool) (v : Verdict) → IsRunOf n files input out asked trace reported v → IsRunDue (world files input out) origin asked trace reported v
   run_due asked trace reported (verdict.Refused r) h =
       (let by = refused_by asked r h.0 in record { by = by.0; untouched = record { input = h.1.input_still; out = h.1.out_still }; files = by.1 })

@@ -34,7 +34,7 @@ kept_by files names (verdict.Ended finish stats) h = kept_all files names h
 kept_by files names verdict.WriteFault h = kept_all files names h
 kept_by files names verdict.NoMemory h = kept_all files names h
 
--- where memory is wanting for the lines, of files no more is changed
+-- where memory runs out for the lines, of files no more is changed
 pub kept_no_memory : (files : Change Held) (names : List (List ℕ)) (v : Verdict) → KeepsFiles files names v → KeepsFiles files names verdict.NoMemory
 kept_no_memory files names (verdict.Refused r) h = kept_all files names h
 kept_no_memory files names (verdict.Ended finish stats) h = h
@@ -46,7 +46,7 @@ module _ (files : Change Held) (out : Change (List ℕ)) (stages : List Stage) (
   pub saving_refused : (v : Verdict) → IsStill out → IsNotLoaded files stages v → IsSavingDue files out stages IsText name IsBytes v
   saving_refused v still h input quiet = not_loaded (world files input out) stages (EndsSaving (world files input out) IsText name IsBytes) (BeginsText (world files input out) IsText) (IsStill out × HasFailed files name) v quiet still h
 
-  -- want of memory before anything was written
+  -- running out of memory before anything was written
   pub saving_unwritten : IsStill out → IsSavingDue files out stages IsText name IsBytes verdict.NoMemory
   saving_unwritten still input quiet = inl (record { input = quiet; out = still })
 

@@ -1,5 +1,5 @@
 -- From the loading of a program to the network of its scan.
-use Rattle.std.proofs.Common.{◌≡◌, ℕ, ℤ, ◌*◌, ◌/◌, ◌≤◌, List, [], ◌∷◌, Option, None, refl, sym, ap, ◌∙◌, inl, inr, subst, arith}
+use Rattle.std.proofs.Common.{◌≡◌, ℕ, ℤ, ◌*◌, ◌/◌, ◌≤◌, List, [], ◌∷◌, Option, None, refl, sym, ap, ◌∙◌, inl, subst, arith}
 use Rattle.p3l_base.specs.declared.outcome.Outcome.{Outcome}
 use Rattle.p3l_check.specs.Resolving.{ResolvedTree}
 use Rattle.p3l_compile.specs.Leaves.{body_leaf}
@@ -31,7 +31,7 @@ use Rattle.p3l_program.specs.declared.scan.Planned.{Planned}
 use Rattle.p3l_program.specs.File.{HasText, text_limit}
 use Rattle.p3l_program.specs.Load.{IsNotLoaded, LoadsNetwork}
 use Rattle.p3l_program.specs.Origin.{scanned}
-use Rattle.p3l_program.specs.Plan.{ComesTo, IsScanned, Texts, refusal_of_scan, scan_network}
+use Rattle.p3l_program.specs.Plan.{ComesTo, IsScanned, refusal_of_scan, scan_network}
 use Rattle.p3l_program.specs.Scan.{IsPlanned, IsReadyScan}
 use Rattle.p3l_program.specs.Stage.{AllPass, program_stages, scan_stages, scannable}
 use Rattle.p3l_program.specs.World.{Change, IsCalm}
@@ -44,7 +44,7 @@ abbrev parted : ResolvedTree → (capacity : ℕ) → Tree → List ℕ → (ele
 parted r capacity tree counts elem op =
     network_named r.tree tree (step_leaf elem (item r.tree (body_leaf r.tree r.seqs) op)) (linked_net tree counts capacity) (firings tree counts)
 
--- a lawful tree has one plan in so many segments
+-- a lawful tree has one plan in this number of segments
 module _ (r : ResolvedTree) (lawful : IsLawfulTree r.tree) (segments capacity : ℕ) (p q : ScanPlan) (a : IsPlanOf r.tree segments p) (b : IsPlanOf r.tree segments q) where
   same_levels : a.can.levels ≡ b.can.levels
   same_levels = log_is r.tree lawful segments a.can b.can.levels (omega (arith, b.can.power)) (omega (arith, b.can.power, power_pos b.can.levels))

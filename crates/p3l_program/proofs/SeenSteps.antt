@@ -153,7 +153,7 @@ pub at_end_left : (rest : Option (List ℕ)) (left : List ℕ) → rest ≡ Some
 at_end_left None left told h = absurd cc
 at_end_left (Some other) left told h = let same : other ≡ left = cc in sym same ∙ h
 
--- what is seen of an input that tells what is left, where no fault came, goes on from the items that its stream gave
+-- what is seen of an input that reports what is left, where no fault came, goes on from the items that its stream gave
 pub seen_goes_on : (n : Network) (rest : List ℕ) (old new : Option (List ℕ)) (before now : ℕ) (close : Option Ending) (s : Seen) (items : List (List ℤ)) → Gives (width_of n) old new before now s items (closed_so close) →
     old ≡ Some rest → (Rose before now → ⊥) → GoesOnTo n close items rest
 seen_goes_on n rest None new before now close s items g told calm = absurd cc
@@ -161,7 +161,7 @@ seen_goes_on n rest (Some other) new before now close s items g told calm =
     let same : other ≡ rest = cc in
     goes_on_to n rest s items g.bytes g.read.0 g.given g.limit (sym same ∙ g.read.2) (λ h. at_end_left new g.read.0 g.read.1 (g.at_end h)) close before now g.closed_is g.cause calm
 
--- so the status of a run on an input that tells what is left, where no fault came, is that of what is seen
+-- so the status of a run on an input that reports what is left, where no fault came, is that of what is seen
 pub seen_status : (n : Network) (s : Schedule) (rest : List ℕ) (keeping : Keeping) (old new : Option (List ℕ)) (before now : ℕ) (taken taken' : Option (List ℕ)) (end : Ran) →
     old ≡ Some rest → (Rose before now → ⊥) → Finishes n s keeping old new before now taken taken' end → finish_status (run_finish end.finish) ≡ run_status n s rest
 seen_status n s rest keeping old new before now taken taken' end told calm f =

@@ -63,7 +63,7 @@ module _ (files : Change Held) (out : Change (List ℕ)) (stages : List Stage) (
     begins = record { text = text; is = is; begun = h; input = still };
   })
 
-  -- want of memory before anything was written
+  -- running out of memory before anything was written
   pub text_unwritten : IsStill out → IsTextDue files out stages IsText verdict.NoMemory
   text_unwritten still input quiet = inl (record { input = quiet; out = still })
 

@@ -1,13 +1,12 @@
 -- What the answers of `time` rest on.
-use Rattle.std.proofs.Common.{◌≡◌, ◌≢◌, ℕ, ℤ, true, false, List, [], ◌∷◌, ◌++◌, Option, Some, None, refl, sym, ap, inl, subst, ◌∙◌}
+use Rattle.std.proofs.Common.{◌≡◌, ℕ, true, false, List, [], ◌++◌, Option, Some, None, refl, sym, ap, inl, subst, ◌∙◌}
 use Rattle.std.specs.Option.{option_to_list}
 use Rattle.p3l_opts.specs.declared.command.Build.{Build}
 use Rattle.p3l_report.specs.declared.stats.Stats.{Stats}
 use Rattle.p3l_report.specs.declared.verdict.Finish.{Finish}
 use Rattle.p3l_report.specs.Status as status
 use Rattle.p3l_report.specs.Verdict.{finish_status}
-use Rattle.p3l_run.specs.declared.keeping.Keeping.{Keeping}
-use Rattle.p3l_run.specs.Network.{course_of, width_of}
+use Rattle.p3l_run.specs.Network.{course_of}
 use Rattle.p3l_run.specs.Run.{MayEnd}
 use Rattle.p3l_run.specs.Timed.{AreTimed}
 use Rattle.p3l_run.proofs.RunSteps.{nothing_comes}
@@ -17,13 +16,12 @@ use Rattle.p3l_stream.specs.declared.items.Ending.TheVariants as ending
 use Rattle.p3l_stream.specs.declared.items.Items.{Items}
 use Rattle.p3l_program.specs.Run.{keeping_for}
 use Rattle.p3l_program.specs.Saved.{HasOneFailed}
-use Rattle.p3l_program.specs.Stage.{Stage, readable}
 use Rattle.p3l_program.specs.Time.{EndsTime, IsTimeStatus, TimesWhole, UnsavedTime, time_behavior}
 use Rattle.p3l_program.specs.World.{HasNoFault, World}
 use Rattle.p3l_program.proofs.Lawful.{Lawful}
 use Rattle.p3l_program.proofs.RunLaws.{run_calm, run_read, whole_of}
-use Rattle.p3l_program.proofs.RunSteps.{finishes_starts}
 use Rattle.p3l_program.proofs.SeenSteps.{seen_goes_on, seen_status, stopped_goes}
+use Rattle.p3l_program.proofs.TimeSteps.{over_begun}
 
 module _ (w : World) (build : Build) (name : Option (List ℕ)) (finish : Finish) (told : Option Stats) (e : EndsTime w build name finish told) where
   -- a run of status 0 is whole
@@ -44,7 +42,7 @@ module _ (w : World) (build : Build) (name : Option (List ℕ)) (finish : Finish
         saved = to.saved;
       }
 
-  -- where no fault comes it ends with the status that is due
+  -- where no fault comes it ends with the status that is expected
   time_status : (rest : List ℕ) → w.input.old ≡ Some rest → HasNoFault w → IsTimeStatus w build rest (finish_status finish)
   time_status rest input calm =
       let to = e.to in
@@ -83,7 +81,7 @@ named w build (Some name) h = record { name = name; one = inl refl; failed = h.2
 
 pub time_lawful : (build : Build) (name : Option (List ℕ)) → Lawful (time_behavior build name)
 time_lawful build name = record {
-  begun = λ w f told e. record { n = e.n; prices = e.prices; has = e.has; begun = record { picks = e.to.picks; starts = finishes_starts e.n (schedule.Recorded e.to.picks) _ _ _ _ _ _ _ e.to.ran e.to.runs.finishes } };
+  begun = λ w f told e. record { n = e.n; prices = e.prices; has = e.has; begun = over_begun e.n e.prices w.input w.out (record { keeping = keeping_for name; picks = e.to.picks; ran = e.to.ran; runs = e.to.runs }) };
   whole = λ w rest taken f told input out h e. time_whole w build name f told e rest taken input out h;
   status_due = λ w rest f told input calm e. time_status w build name f told e rest input calm;
   read = λ w f told e h. run_read e.n (schedule.Recorded e.to.picks) _ _ _ _ _ _ _ e.to.ran e.to.runs.finishes (sym (ap finish_status e.to.finish_is) ∙ h);

@@ -1,5 +1,5 @@
 -- From the run of a network in virtual time to the verdict of `time`.
-use Rattle.std.proofs.Common.{◌≡◌, ℕ, ℤ, ◌<◌, ◌≤◌, Bool, true, false, filter, List, [], ◌∷◌, ◌++◌, length, slice_index, Option, Some, None, ◌⊎◌, inl, inr, refl, sym, ap, subst, ◌∙◌}
+use Rattle.std.proofs.Common.{◌≡◌, ℕ, ℤ, ◌<◌, ◌≤◌, Bool, false, filter, List, [], ◌∷◌, ◌++◌, length, slice_index, Option, Some, None, ◌⊎◌, inl, inr, refl, sym, ap, subst, ◌∙◌}
 use Rattle.std.specs.List.{range_with_len}
 use Rattle.std.proofs.lemmas.Bool.{cond-false}
 use Rattle.std.specs.Option.{option_to_list}
@@ -22,26 +22,27 @@ use Rattle.p3l_run.specs.declared.run.Ran.{Ran}
 use Rattle.p3l_run.specs.declared.fault.RunFault.{RunFault}
 use Rattle.p3l_run.specs.declared.fault.RunFault.TheVariants as fault
 use Rattle.p3l_run.specs.Execution.{Job, Outside, outside}
-use Rattle.p3l_run.specs.Network.{Network, course_of, course_under, goes_on, is_some, picks_of, ready_at, size_of}
+use Rattle.p3l_run.specs.Network.{Network, course_of, course_under, goes_on, is_some, size_of}
 use Rattle.p3l_run.specs.Run.{MayCome}
-use Rattle.p3l_run.specs.Timed.{EndsEarly, EndsInTime, timed_job, under}
-use Rattle.p3l_run.proofs.RunSteps.{nothing_comes}
+use Rattle.p3l_run.specs.Timed.{EndsEarly, EndsInTime, timed_job}
+use Rattle.p3l_run.proofs.RunSteps.{may_come, nothing_comes}
 use Rattle.p3l_sched.specs.declared.schedule.Schedule.TheVariants as schedule
 use Rattle.p3l_timed.specs.Clock.{Clock}
 use Rattle.p3l_timed.specs.Laws.{EveryFinishIsWithinBusy, EveryTimedRunIsARun}
 use Rattle.p3l_timed.specs.Price.{price_at, prices_of}
-use Rattle.p3l_timed.specs.Timed.{busy_of}
+use Rattle.p3l_timed.specs.Timed.{busy_of, timing_from}
+use Rattle.p3l_timed.proofs.TimedLaw.{all_begins}
 use Rattle.p3l_trace.specs.declared.trace.TraceLine.{TraceLine}
 use Rattle.p3l_trace.specs.Agreement as lines
 use Rattle.p3l_program.specs.declared.plan.Allotted.{Allotted}
 use Rattle.p3l_program.specs.Load.{IsLoaded, IsNotLoaded, LoadsNetwork}
 use Rattle.p3l_program.specs.Origin.{built}
-use Rattle.p3l_program.specs.Picks.{ArePicksSaved, IsPicking, picks_text}
+use Rattle.p3l_program.specs.Picks.{IsPicking, picks_text}
 use Rattle.p3l_program.specs.Plan.{network_of}
-use Rattle.p3l_program.specs.Run.{IsRunNot, keeping_for}
+use Rattle.p3l_program.specs.Run.{keeping_for}
 use Rattle.p3l_program.specs.Saved.{HasSave}
 use Rattle.p3l_program.specs.Stage.{AllPass, build_stages}
-use Rattle.p3l_program.specs.Time.{AreTimes, AreTold, BeginsTime, EndsTime, HasPrices, IsTimeBegun, IsTimeClosed, IsTimeDue, IsTimeOf, IsTimeOver, IsUnsavedTime, KeepsTime, RunsInTime, TimesOver, UnsavedTime}
+use Rattle.p3l_program.specs.Time.{AreTimes, AreTold, BeginsTime, EndsTime, HasPrices, IsTimeBegun, IsTimeClosed, IsTimeDue, IsTimeOf, IsTimeOver, KeepsTime, RunsInTime, TimesOver, UnsavedTime}
 use Rattle.p3l_program.specs.Verdict.{fault_verdict}
 use Rattle.p3l_program.specs.World.{Change, IsCalm, IsStill, world}
 use Rattle.p3l_program.proofs.RunSteps.{finishes_starts}
@@ -55,6 +56,18 @@ none_goes can none (p ∷ ps) = cond-false (can p) _ _ (none p) ∙ none_goes ca
 
 -- a network at prices was run in virtual time, on an input and an output
 module _ (n : Network) (prices : List ℕ) (input out : Change (List ℕ)) where
+  -- what came to its end was begun
+  pub over_begun : IsTimeOver n prices input out → IsTimeBegun n prices input out
+  unfolding finishes_starts
+  over_begun h = record {
+    picks = h.picks;
+    starts = finishes_starts n (schedule.Recorded h.picks) h.keeping _ _ _ _ _ _ h.ran h.runs.finishes;
+    begins = λ later on.
+        let items = h.runs.finishes.items ++ later in
+        let timed = h.runs.timed later (may_come n h.runs.finishes.close later on) in
+        all_begins n.tree n.leaf n.net (price_at prices) (timing_from n.tree n.net (price_at prices) items) h.picks timed;
+  }
+
   abbrev pub before : Outside
   before = outside input.old input.before out.old out.before
 
@@ -87,8 +100,8 @@ module _ (n : Network) (prices : List ℕ) (input out : Change (List ℕ)) where
     pub over_now : IsTimeOver n prices input out
     over_now = record { keeping = keeping; picks = e.picks; ran = ran; runs = runs_in_time }
 
-    pub begun_now : IsTimeBegun n input out
-    begun_now = record { picks = e.picks; starts = finishes_starts n (schedule.Recorded e.picks) keeping _ _ _ _ _ _ ran e.ends.ends }
+    pub begun_now : IsTimeBegun n prices input out
+    begun_now = over_begun over_now
 
     -- the picks of the lines that were kept are those of the run
     picks_are : lines.picks_of e.ends.ends.lines ≡ e.picks
@@ -139,15 +152,15 @@ module _ (n : Network) (prices : List ℕ) (input out : Change (List ℕ)) where
     closed_time_kept (Some name) e verdict.NoMemory h = record { kept = (saved_so name e (Err verdict.NoMemory) h).kept; over = inr (over_now few run_law within_law keep.Lines ran k e) }
 
   -- or not
-  pub early_time : (files : Change Held) (keeping : Keeping) (name : Option (List ℕ)) (failed : RunFault) → IsCalm files → EndsEarly (job keeping) after failed → IsTimeOf n prices files input out name (fault_verdict failed)
-  early_time files keeping name fault.Write calm e = inl (record { picks = e.picks; starts = e.ends.ends }, calm, e.ends.output)
-  early_time files keeping name fault.NoMemory calm e = inr (record { picks = e.picks; starts = e.ends.ends })
+  pub early_time : (files : Change Held) (keeping : Keeping) (name : Option (List ℕ)) (failed : RunFault) → IsCalm files → EndsEarly (job keeping) prices after failed → IsTimeOf n prices files input out name (fault_verdict failed)
+  early_time files keeping name fault.Write calm e = inl (record { picks = e.picks; starts = e.ends.ends; begins = e.begins }, calm, e.ends.output)
+  early_time files keeping name fault.NoMemory calm e = inr (record { picks = e.picks; starts = e.ends.ends; begins = e.begins })
 
 -- a network that is left with files as they were
 pub stays_time : (n : Network) (prices : List ℕ) (files : Change Held) (input out : Change (List ℕ)) (name : Option (List ℕ)) (v : Verdict) → files.new ≡ files.old → KeepsTime n prices files input out name v
 stays_time n prices files input out name v same = record { kept = kept_by files (option_to_list name) v same; over = inl same }
 
--- what is no end of a run is told by the writing of its picks alone
+-- what is no end of a run is reported by the writing of its picks alone
 pub closed_time_err : (files : Change Held) (ran : Ran) (k : Clock) (name : Option (List ℕ)) (v : Verdict) → IsPicking files name ran.lines (Err v) → IsTimeClosed files ran k name v
 closed_time_err files ran k name (verdict.Refused r) h = h
 closed_time_err files ran k name verdict.WriteFault h = h
@@ -173,21 +186,18 @@ module _ (files : Change Held) (input out : Change (List ℕ)) (build : Build) (
   times_over : IsTimeOver n prices input out → TimesOver (world files input out) build
   times_over h = record { n = n; prices = prices; has = has; over = h }
 
-  begins_time : IsTimeBegun n input out → BeginsTime (world files input out) build
+  begins_time : IsTimeBegun n prices input out → BeginsTime (world files input out) build
   begins_time h = record { n = n; prices = prices; has = has; begun = h }
 
   pub time_touched : (name : Option (List ℕ)) (v : Verdict) → KeepsTime n prices files input out name v → (files.new ≡ files.old) ⊎ TimesOver (world files input out) build
   time_touched name v h = elim h.over [ inl same ↦ inl same | inr over ↦ inr (times_over over) ]
-
-  over_begun : IsTimeOver n prices input out → IsTimeBegun n input out
-  over_begun h = record { picks = h.picks; starts = finishes_starts n (schedule.Recorded h.picks) h.keeping _ _ _ _ _ _ h.ran h.runs.finishes }
 
   pub time_due : (name : Option (List ℕ)) (v : Verdict) → IsTimeOf n prices files input out name v → IsTimeDue (world files input out) build name v
   time_due name (verdict.Refused r) h = absurd h
   time_due name (verdict.Ended finish told) h = record { passed = passed; ends = record { n = n; prices = prices; has = has; to = h.0 }; files = h.1; out = h.2 }
   time_due name verdict.WriteFault (inl h) = record { begun = record { passed = passed; begins = begins_time h.0 }; fault = inl (record { files = h.1; out = h.2 }) }
   time_due None verdict.WriteFault (inr h) = absurd h
-  time_due (Some name) verdict.WriteFault (inr h) = record { begun = record { passed = passed; begins = begins_time (over_begun h.0) }; fault = inr (times_over h.0, h.1, h.2) }
+  time_due (Some name) verdict.WriteFault (inr h) = record { begun = record { passed = passed; begins = begins_time (over_begun n prices input out h.0) }; fault = inr (times_over h.0, h.1, h.2) }
   time_due name verdict.NoMemory (inl h) = inl (record { input = h.input_still; out = h.out_still })
   time_due name verdict.NoMemory (inr h) = inr (record { passed = passed; begins = begins_time h })
 

@@ -79,7 +79,7 @@ module _ (files : Change Held) (input out : Change (List ℕ)) (build : Build) (
   begins_check : IsCheckSome n files input out name → BeginsTrace (world files input out) build name
   begins_check h = record { n = n; t = h.t; has = record { network = has; trace = h.trace }; begun = h.begun }
 
-  -- the verdict of the check is due
+  -- the verdict of the check is expected
   pub check_due : (v : Verdict) → IsCheckOf n files input out name v → IsCheckDue (world files input out) build name v
   check_due (verdict.Refused r) h = (let by = refused_by r h.0 in record { by = by.0; untouched = record { input = h.1.input_still; out = h.1.out_still }; files = by.1 })
   check_due (verdict.Ended f stats) h = record {

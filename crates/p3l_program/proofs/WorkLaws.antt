@@ -1,15 +1,7 @@
 -- What the answers of each command rest on, by the shape of its work.
-use Rattle.std.proofs.Common.{◌≡◌, ◌≢◌, ℕ, List, [], ◌∷◌, Option, Some, refl}
-use Rattle.p3l_opts.specs.declared.command.Build.{Build}
 use Rattle.p3l_opts.specs.declared.command.Command.{Command}
-use Rattle.p3l_report.specs.declared.verdict.Finish.{Finish}
-use Rattle.p3l_report.specs.declared.stats.Stats.{Stats}
-use Rattle.p3l_report.specs.Verdict.{finish_status}
 use Rattle.p3l_program.specs.Command.{behavior_of, work_of}
-use Rattle.p3l_program.specs.Trace.{check_behavior}
 use Rattle.p3l_program.specs.Work.{Work, behavior, check_trace, profile_input, run_generated, run_in_time, run_network, save_file, write_text}
-use Rattle.p3l_program.specs.World.{World}
-use Rattle.p3l_program.proofs.EndSteps.{put_told}
 use Rattle.p3l_program.proofs.GenLaws.{gen_lawful}
 use Rattle.p3l_program.proofs.Lawful.{Lawful}
 use Rattle.p3l_program.proofs.ProfileLaws.{profile_lawful}

@@ -21,7 +21,7 @@ EveryImageHasItsProgramsNetwork =
     (held others : Held) (build : Build) (name bytes : List ℕ) → IsImageOf (Some held) build bytes → HasText (Some others) image_limit name bytes →
     (n : Network) → HasNetwork (Some others) (imaged name) n ↔ HasNetwork (Some held) (built build) n
 
--- the running of an image and that of a program are due the same: the same ends with the same numbers, texts, traces and statuses
+-- the running of an image and that of a program are expected to end the same way: the same ends with the same numbers, texts, traces and statuses
 pub record RunsAlike (w : World) (name : List ℕ) (build : Build) (asked : Sched) : Type 0 where
   pub ends : (trace : Option (List ℕ)) (reported : Bool) (finish : Finish) (stats : Option Stats) → EndsRun w (imaged name) asked trace reported finish stats ↔ EndsRun w (built build) asked trace reported finish stats
   pub begins : BeginsRun w (imaged name) asked ↔ BeginsRun w (built build) asked
@@ -30,7 +30,7 @@ pub record RunsAlike (w : World) (name : List ℕ) (build : Build) (asked : Sche
   pub status : (rest : List ℕ) (k : ℕ) → IsRunStatus w (imaged name) asked rest k ↔ IsRunStatus w (built build) asked rest k
   pub emits : (trace : Option (List ℕ)) (numbers : RunStats) → Emits w (imaged name) asked trace numbers ↔ Emits w (built build) asked trace numbers
 
--- where files hold a program and the image that was made of it, `exec` of the image is due what `run` of the program is
+-- where files hold a program and the image that was made of it, of `exec` of the image is expected what is expected of `run` of the program
 abbrev pub EveryImageRunsAsItsProgram : Type 0
 EveryImageRunsAsItsProgram =
     (w : World) (held : Held) (build : Build) (name bytes : List ℕ) (asked : Sched) → w.files.old ≡ Some held →

@@ -27,7 +27,7 @@ use Rattle.p3l_program.specs.Origin.{Running}
 abbrev pub SpellsNone : List Text → Type 0
 SpellsNone words = (command : Command) → Spells words command → ⊥
 
--- the words spell a command of which the verdict is due
+-- the words spell a command of which the verdict is expected
 pub record IsAsked (words : List Text) (w : World) (v : Verdict) : Type 0 where
   pub command : Command
   pub spelled : Spells words command
@@ -42,7 +42,7 @@ pub record IsUsage (words : List Text) (w : World) (v : Verdict) : Type 0 where
   pub untouched : IsUntouched w
   pub files : IsStill w.files
 
--- memory for reading them was wanting
+-- memory for reading them ran out
 pub record IsUnread (w : World) (v : Verdict) : Type 0 where
   pub verdict_is : v ≡ verdict.NoMemory
   pub untouched : IsUntouched w
@@ -58,7 +58,7 @@ pub record IsUnsaved (words : List Text) (w : World) (v : Verdict) : Type 0 wher
   pub failed : HasOneFailed w.files (written_of command)
   pub kept : KeepsBut w.files (written_of command)
 
--- why a verdict is due
+-- why a verdict is expected
 abbrev pub IsDue : List Text → World → Verdict → Type 0
 IsDue words w v = IsAsked words w v ⊎ (IsUsage words w v ⊎ (IsUnread w v ⊎ IsUnsaved words w v))
 

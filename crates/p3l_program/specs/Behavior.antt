@@ -1,4 +1,4 @@
--- What a command does: what stands before its work, the files that it writes, and how it ends.
+-- What a command does: what comes before its work, the files that it writes, and how it ends.
 use Rattle.std.specs.Prelude.{ℕ, List, Option}
 use Rattle.p3l_report.specs.declared.stats.Stats.{Stats}
 use Rattle.p3l_report.specs.declared.verdict.Finish.{Finish}
@@ -9,7 +9,7 @@ use Rattle.p3l_program.specs.Stage.{Stage}
 use Rattle.p3l_program.specs.World.{World}
 
 pub record Behavior : Type 1 where
-  -- what stands before its work
+  -- what comes before its work
   pub stages : List Stage
   -- the names of the files that it writes
   pub written : List (List ℕ)
@@ -25,11 +25,11 @@ pub record Behavior : Type 1 where
   pub Unsaved : World → Type 0
   -- by when it changes a file
   pub Touches : World → Type 0
-  -- all that it writes was written, over an input and an output that tell
+  -- all that it writes was written, over an input and an output that report
   pub IsWhole : World → (rest taken : List ℕ) → Type 0
   -- it ends with this status where its stages pass and no fault comes
   pub IsStatusDue : World → (rest : List ℕ) → ℕ → Type 0
 
--- a verdict is due of it
+-- a verdict is expected of it
 abbrev pub IsDueBy : World → Behavior → Verdict → Type 0
 IsDueBy w b v = IsDueWith w b.stages (b.Ends w) (b.Begins w) (b.Unsaved w) v

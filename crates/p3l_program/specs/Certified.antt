@@ -49,7 +49,7 @@ pub record IsRefuted (tree : Tree) (costs : Costs) (text : List ℕ) (refused : 
   pub why : IsNoText text refused ⊎ FailsTest tree costs text refused
   pub never : (cert : Cert) → IsCertOf tree costs text cert → ⊥
 
--- how it is told why a certificate is refused; want of memory is no evidence
+-- how it is reported why a certificate is refused; running out of memory is no evidence
 abbrev pub claim_of : CertClaim → Claim
 claim_of claims.Counts = reported.Counts
 claim_of claims.Service = reported.Service

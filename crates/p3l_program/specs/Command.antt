@@ -50,7 +50,7 @@ work_of (command.Scan name segments schedule capacity reported) = run_network (r
 abbrev pub behavior_of : Command → Behavior
 behavior_of command = behavior (work_of command)
 
--- what stands before a command's work
+-- what comes before a command's work
 abbrev pub stages_of : Command → List Stage
 stages_of command = (behavior_of command).stages
 
@@ -78,14 +78,14 @@ Begins w command = (behavior_of command).Begins w
 abbrev pub Touches : World → Command → Type 0
 Touches w command = (behavior_of command).Touches w
 
--- all that it writes was written, over an input and an output that tell
+-- all that it writes was written, over an input and an output that report
 abbrev pub IsWhole : World → List ℕ → List ℕ → Command → Type 0
 IsWhole w rest taken command = (behavior_of command).IsWhole w rest taken
 
--- the status that it is due to end with where its stages pass and no fault comes
+-- the status that it is expected to end with where its stages pass and no fault comes
 abbrev pub IsStatusDue : World → List ℕ → Command → ℕ → Type 0
 IsStatusDue w rest command n = (behavior_of command).IsStatusDue w rest n
 
--- a verdict is due of it
+-- a verdict is expected of it
 abbrev pub IsDueOf : World → Command → Verdict → Type 0
 IsDueOf w command v = IsDueBy w (behavior_of command) v

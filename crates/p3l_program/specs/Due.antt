@@ -1,4 +1,4 @@
--- When a verdict is due: what was written by then, and how the counts of faults went.
+-- When a verdict is expected: what was written by then, and how the counts of faults went.
 use Rattle.std.specs.Prelude.{List, Option, ◌⊎◌}
 use Rattle.p3l_report.specs.declared.stats.Stats.{Stats}
 use Rattle.p3l_report.specs.declared.verdict.Finish.{Finish}
@@ -36,7 +36,7 @@ pub record IsWriteFault (w : World) (stages : List Stage) (Begins Unsaved : Type
   pub begun : IsBegun w stages Begins
   pub fault : IsPutFault w ⊎ Unsaved
 
--- a verdict is due of a command with these stages, by what its end, its beginning and a file of it that could not be written mean
+-- a verdict is expected of a command with these stages, by what its end, its beginning and a file of it that could not be written mean
 abbrev pub IsDueWith : World → List Stage → (Finish → Option Stats → Type 0) → (Begins Unsaved : Type 0) → Verdict → Type 0
 IsDueWith w stages Ends Begins Unsaved (verdict.Refused refused) = IsRefusal w stages refused
 IsDueWith w stages Ends Begins Unsaved (verdict.Ended finish stats) = IsEnd w stages (Ends finish stats)

@@ -9,7 +9,7 @@ use Rattle.p3l_check.specs.Resolving.{ResolvedTree}
 use Rattle.p3l_alloc.specs.Explanation.{allocation_text}
 use Rattle.p3l_program.specs.Plan.{HasCounts}
 
--- the text of the counts that are chosen for the program that files and words ask for
+-- the text of the counts that are chosen for the program that files and words request
 pub record IsExplained (files : Option Held) (build : Build) (text : List ℕ) : Type 0 where
   pub r : ResolvedTree
   pub cs : Costs

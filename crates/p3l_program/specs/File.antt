@@ -1,4 +1,4 @@
--- What files hold, as far as they tell it.
+-- What files hold, as far as they report it.
 use Rattle.std.specs.Prelude.{◌≡◌, ℕ, ◌<◌, ◌≤◌, List, length, Option, Some, None}
 use Rattle.p3l_ast.specs.declared.position.Pos.{Pos}
 use Rattle.p3l_ast.specs.declared.refusal.Fault.{Fault}
@@ -10,7 +10,7 @@ use Rattle.p3l_io.specs.Told.{Held}
 abbrev pub text_limit : ℕ
 text_limit = 1048576
 
--- where the files tell what they hold, these bytes stand under the name
+-- where the files report what they hold, these bytes are held under the name
 abbrev pub Holds : Option Held → List ℕ → List ℕ → Type 0
 Holds None name bytes = Unit {0}
 Holds (Some held) name bytes = held name ≡ Some bytes
@@ -26,7 +26,7 @@ pub record HoldsLonger (held : Held) (limit : ℕ) (name : List ℕ) : Type 0 wh
   pub holds : held name ≡ Some bytes
   pub longer : limit < length bytes
 
--- the same, where the files tell what they hold
+-- the same, where the files report what they hold
 abbrev pub IsTooLong : Option Held → ℕ → List ℕ → Type 0
 IsTooLong None limit name = Unit {0}
 IsTooLong (Some held) limit name = HoldsLonger held limit name

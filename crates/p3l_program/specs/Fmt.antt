@@ -32,7 +32,7 @@ pub record IsFaulty (text : List ℕ) (fault : Fault) (pos : Pos) : Type 0 where
   pub first : IsFirstFault text fault pos
   pub no_program : (program : ProgramTree) → Spells text program → ⊥
 
--- why there is no canonical text, unless memory was wanting
+-- why there is no canonical text, unless memory ran out
 abbrev pub HasNoCanonical : List ℕ → SourceRefusal → Type 0
 HasNoCanonical text (source.At fault pos) = IsFaulty text fault pos
 HasNoCanonical text source.NoMemory = Unit {0}

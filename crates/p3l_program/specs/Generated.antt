@@ -39,7 +39,7 @@ use Rattle.p3l_program.specs.Text.{BeginsText}
 use Rattle.p3l_program.specs.Verdict.{run_finish}
 use Rattle.p3l_program.specs.World.{Change, HasRisen, IsCalm, IsStill, World, world}
 
--- what is asked for: the number of the texts, for so many processors, with so many items, under this schedule, and what the names of
+-- what is requested: the number of the texts, for this number of processors, with this number of items, under this schedule, and what the names of
 -- the files begin with that the texts are saved to, if they are
 pub record Gen : Type 0 where
   pub number : ℕ
@@ -60,7 +60,7 @@ abbrev pub saves_with : Option (List ℕ) → (program costs stream : List ℕ) 
 saves_with None program costs stream = []
 saves_with (Some prefix) program costs stream = saves_for prefix program costs stream
 
--- those that are asked for
+-- those that are requested
 abbrev pub saves_of : Gen → List (List ℕ × List ℕ)
 saves_of g = saves_with g.prefix (program_text g.number) costs_text (stream_text g.number g.items)
 
@@ -96,7 +96,7 @@ pub record IsRanOn (n : Network) (s : Schedule) (text : List ℕ) (f : RunEnd) (
   pub sum_is : sum ≡ sum_of (course_of n s (items_of (width_of n) text).items).state.emitted
   pub whole : comes_whole f ≡ true → (course_of n s (items_of (width_of n) text).items).state.emitted ≡ meaning_of n (items_of (width_of n) text).items
 
--- the same under the schedule that is asked for
+-- the same under the schedule that is requested
 pub record IsRanUnder (n : Network) (asked : Sched) (text : List ℕ) (ran : Ran) : Type 0 where
   pub s : Schedule
   pub picked : IsPicked asked s
@@ -113,11 +113,11 @@ summary_line number numbers service used sum =
     codes "gen " ++ (decimal number ++ (codes ": " ++ (numbers_text numbers
     ++ (codes ", service " ++ (decimal service ++ (codes ", used " ++ (decimal used ++ (codes ", sum " ++ (signed_decimal sum ++ codes "\n")))))))))
 
--- it is due where the run comes to the end of its items
+-- it is expected where the run comes to the end of its items
 abbrev pub due_at : RunEnd → List ℕ → List ℕ
 due_at f line = if comes_whole f then line else []
 
--- the run of what is generated came to this end, of which this text is due
+-- the run of what is generated came to this end, of which this text is expected
 pub record IsGenerated (g : Gen) (f : RunEnd) (text : List ℕ) : Type 0 where
   pub r : ResolvedTree
   pub cs : Costs
@@ -134,7 +134,7 @@ pub record IsGenerated (g : Gen) (f : RunEnd) (text : List ℕ) : Type 0 where
 abbrev pub IsGenText : Gen → List ℕ → Type 0
 IsGenText g text = (f : RunEnd) × IsGenerated g f text
 
--- the texts were saved where that is asked for, and run to this end, and its text was written; nothing was taken
+-- the texts were saved where that is requested, and run to this end, and its text was written; nothing was taken
 pub record EndsGen (w : World) (g : Gen) (f : Finish) (stats : Option Stats) : Type 0 where
   pub end : RunEnd
   pub finish_is : f ≡ run_finish end
@@ -145,7 +145,7 @@ pub record EndsGen (w : World) (g : Gen) (f : Finish) (stats : Option Stats) : T
   pub input : IsStill w.input
   pub saved : AreSaved w.files (saves_of g)
 
--- over an input and an output that tell: the run came to the end of the items, and its line was written, whole
+-- over an input and an output that report: the run came to the end of the items, and its line was written, whole
 pub record GensWhole (w : World) (g : Gen) (rest taken : List ℕ) : Type 0 where
   pub text : List ℕ
   pub is : IsGenerated g (ends.Stream ending.End) text
@@ -153,7 +153,7 @@ pub record GensWhole (w : World) (g : Gen) (rest taken : List ℕ) : Type 0 wher
   pub taken_is : w.out.new ≡ Some (taken ++ text)
   pub saved : AreSaved w.files (saves_of g)
 
--- the command is due to end with this status, which is never that of a stop
+-- the command is expected to end with this status, which is never that of a stop
 pub record IsGenStatus (g : Gen) (k : ℕ) : Type 0 where
   pub end : RunEnd
   pub text : List ℕ
@@ -161,7 +161,7 @@ pub record IsGenStatus (g : Gen) (k : ℕ) : Type 0 where
   pub status_is : k ≡ finish_status (run_finish end)
   pub unstopped : k ≢ status.stopped
 
--- the texts are saved where that is asked for, and then run
+-- the texts are saved where that is requested, and then run
 abbrev pub gen_behavior : Gen → Behavior
 gen_behavior g = record {
   stages = gen_stages g;
@@ -198,19 +198,19 @@ pub record LoadsTexts (text said : List ℕ) (processors : ℕ) (loaded : Allott
 abbrev pub AreNotLoaded : (text said : List ℕ) (processors : ℕ) → Verdict → Type 0
 AreNotLoaded text said processors v = (files : Change Held) → IsCalm files → IsNotLoaded files (text_stages text said processors) v
 
--- the texts are those that are asked for
+-- the texts are those that are requested
 pub record AreTextsOf (g : Gen) (texts : Generated) : Type 0 where
   pub program_is : texts.program ≡ program_text g.number
   pub costs_are : texts.costs ≡ costs_text
   pub stream_is : texts.stream ≡ stream_text g.number g.items
 
--- a verdict is due of the running of what is asked for, whatever the files are, in which the texts stand that are to be saved; the
+-- a verdict is expected of the running of what is requested, whatever the files are, which hold the texts that are to be saved; the
 -- input is let alone
 abbrev pub IsGenRun : Change (List ℕ) → Gen → Verdict → Type 0
 IsGenRun out g v = (files : Change Held) (input : Change (List ℕ)) → IsCalm files → AreSaved files (saves_of g) → IsStill input →
     IsDueWith (world files input out) (gen_stages g) (EndsGen (world files input out) g) (BeginsText (world files input out) (IsGenText g)) ⊥ v
 
--- a verdict is due of what is asked for, which lets the input alone
+-- a verdict is expected of what is requested, which lets the input alone
 pub record IsGenDue (files : Change Held) (out : Change (List ℕ)) (g : Gen) (v : Verdict) : Type 0 where
   pub due : (input : Change (List ℕ)) → IsStill input →
       IsDueWith (world files input out) (gen_stages g) (EndsGen (world files input out) g) (BeginsText (world files input out) (IsGenText g)) ⊥ v

@@ -7,7 +7,7 @@ use Rattle.p3l_run.specs.Network.{Network}
 use Rattle.p3l_program.specs.Origin.{built}
 use Rattle.p3l_program.specs.Plan.{HasNetwork}
 
--- the picture of the network that files and words ask for: that which `run` runs
+-- the picture of the network that files and words request: that which `run` runs
 pub record IsDrawn (files : Option Held) (build : Build) (text : List ℕ) : Type 0 where
   pub network : Network
   pub has : HasNetwork files (built build) network

@@ -40,7 +40,7 @@ file_verdict (file.Fault name) = verdict.Refused (refusal.FileFault name)
 file_verdict (file.TooLong name) = verdict.Refused (refusal.FileTooLong name)
 file_verdict file.NoMemory = verdict.NoMemory
 
--- the stages before a command's work don't pass: one refuses, or memory was wanting
+-- the stages before a command's work don't pass: one refuses, or memory ran out
 abbrev pub IsNotLoaded : Change Held → List Stage → Verdict → Type 0
 IsNotLoaded files stages (verdict.Refused refused) = IsRefusedBy files stages refused × FilesCause refused files
 IsNotLoaded files stages verdict.NoMemory = IsCalm files
@@ -118,7 +118,7 @@ pub record IsReady (loaded : Allotted) : Type 0 where
   pub fit : HasLawfulCounts r.tree loaded.choice.counts.list
   pub few : procs r.tree loaded.choice.counts.list 0 ≤ 512
 
--- the network that words and files ask for, which is the only one; all that stands before it passes
+-- the network that words and files request, which is the only one; all that comes before it passes
 pub record LoadsNetwork (told : Option Held) (origin : Origin) (n : Network) : Type 0 where
   pub texts : Texts
   pub have : HaveTexts told origin texts

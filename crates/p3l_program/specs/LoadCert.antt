@@ -23,7 +23,7 @@ pub record AcceptsCert (tree : Tree) (costs : Costs) (text : List ℕ) (cert : C
   pub is : IsCertOf tree costs text cert
   pub optimal : IsOptimal tree costs cert.processors cert.counts.list
 
--- a text is refused, or memory was wanting
+-- a text is refused, or memory ran out
 abbrev pub IsCertRefused : Tree → Costs → List ℕ → CertRefusal → Type 0
 IsCertRefused tree costs text refusals.NoMemory = Unit {0}
 IsCertRefused tree costs text refused = IsRefuted tree costs text refused

@@ -3,8 +3,8 @@ use Rattle.std.specs.Prelude.{ℕ, Bool, List, Option}
 use Rattle.p3l_opts.specs.declared.command.Build.{Build}
 use Rattle.p3l_opts.specs.declared.command.Sched.{Sched}
 
--- a program that is built; the image of the file of this name; or the program of the file of this name, scanned in so many segments
--- through channels that hold so many tokens
+-- a program that is built; the image of the file of this name; or the program of the file of this name, scanned in this number of segments
+-- through channels that hold this number of tokens
 pub data Origin : Type 0 where
   built : Build → Origin
   imaged : List ℕ → Origin

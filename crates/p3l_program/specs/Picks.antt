@@ -8,7 +8,7 @@ use Rattle.p3l_trace.specs.Agreement.{picks_of}
 use Rattle.p3l_program.specs.Saved.{HasSave, IsSaved}
 use Rattle.p3l_program.specs.World.{Change, IsStill}
 
--- what stands after a pick: a space where others follow, and a line feed after the last
+-- what comes after a pick: a space where others follow, and a line feed after the last
 abbrev pub mark_before : List ℕ → List ℕ
 mark_before [] = codes "\n"
 mark_before (pick ∷ picks) = codes " "

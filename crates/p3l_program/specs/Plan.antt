@@ -85,7 +85,7 @@ pub record ComesTo (text : List ℕ) (r : ResolvedTree) (program : Accepted) : T
   pub only : (other : ResolvedTree) → IsAccepted text other → other ≡ r
   pub compiled : IsCompiled r program
 
--- a text is refused for a fault, or memory was wanting
+-- a text is refused for a fault, or memory ran out
 abbrev pub IsTextRefused : List ℕ → SourceRefusal → Type 0
 IsTextRefused text (source.At fault pos) = IsNotAccepted text fault pos
 IsTextRefused text source.NoMemory = Unit {0}
@@ -107,12 +107,12 @@ pub record IsPriced (text : List ℕ) (said : Option (List ℕ)) (r : ResolvedTr
   pub accepted : IsAccepted text r
   pub costs : AreSaid r.tree said cs
 
--- and with the counts that are chosen for so many processors
+-- and with the counts that are chosen for this number of processors
 pub record IsAllotted (text : List ℕ) (said : Option (List ℕ)) (processors : ℕ) (r : ResolvedTree) (cs : Costs) (counts : List ℕ) : Type 0 where
   pub priced : IsPriced text said r cs
   pub chosen : IsChosen r.tree cs processors counts
 
--- how a fault of costs is told
+-- how a fault of costs is reported
 abbrev pub refusal_of : CostFault → CostRefusal
 refusal_of fault.NotToml = costs.NotToml
 refusal_of (fault.BadKey key) = costs.BadKey key
@@ -126,19 +126,19 @@ pub record IsUnpriced (text said : List ℕ) (f : CostFault) : Type 0 where
   pub refused : IsRead r.tree said (Err (refusal_of f))
   pub never : (other : ResolvedTree) (cs : Costs) → IsPriced text (Some said) other cs → ⊥
 
--- how a fault of a scan is told
+-- how a fault of a scan is reported
 abbrev pub refusal_of_scan : ScanFault → ScanRefusal
 refusal_of_scan scan.NotReduce = unscannable.NotReduce
 refusal_of_scan scan.BadSegments = unscannable.BadSegments
 
--- a text spells one program that keeps all rules, which can't be scanned in so many segments, for this fault
+-- a text spells one program that keeps all rules, which can't be scanned in this number of segments, for this fault
 pub record IsUnscanned (text : List ℕ) (segments : ℕ) (fault : ScanFault) : Type 0 where
   pub r : ResolvedTree
   pub accepted : IsAccepted text r
   pub only : (other : ResolvedTree) → IsAccepted text other → other ≡ r
   pub refused : IsUnscannable r.tree segments (refusal_of_scan fault)
 
--- no counts of the program fit so many processors, and the least number that some need
+-- no counts of the program fit this number of processors, and the least number that some need
 pub record IsOverfull (text : List ℕ) (said : Option (List ℕ)) (processors need : ℕ) : Type 0 where
   pub r : ResolvedTree
   pub cs : Costs
@@ -176,7 +176,7 @@ pub record HasTooFew (files : Option Held) (build : Build) (need : ℕ) : Type 0
   pub says : HasCostText files build.costs said
   pub refused : IsOverfull text said build.processors need
 
--- the file of this name has a program that can be scanned in so many segments
+-- the file of this name has a program that can be scanned in this number of segments
 pub record HasScan (files : Option Held) (name : List ℕ) (segments : ℕ) (r : ResolvedTree) : Type 0 where
   pub has : HasTree files name r
   pub can : IsScannable r.tree segments
@@ -187,7 +187,7 @@ pub record HasNoScan (files : Option Held) (name : List ℕ) (segments : ℕ) (f
   pub has : HasText files text_limit name text
   pub refused : IsUnscanned text segments fault
 
--- the network of an accepted program under these counts, whose channels hold so many tokens
+-- the network of an accepted program under these counts, whose channels hold this number of tokens
 abbrev pub network_of : ResolvedTree → List ℕ → (capacity : ℕ) → Network
 network_of r counts capacity = network r.tree (body_leaf r.tree r.seqs) (linked_net r.tree counts capacity) (firings r.tree counts)
 
@@ -195,7 +195,7 @@ network_of r counts capacity = network r.tree (body_leaf r.tree r.seqs) (linked_
 abbrev pub network_in : Loaded → Network
 network_in loaded = network loaded.tree (leaf (record { tree = loaded.tree; codes = loaded.codes })) loaded.net (firings loaded.tree loaded.counts.list)
 
--- the network of the scan of an accepted program's root by a plan, whose channels hold so many tokens: its steps run the operator of
+-- the network of the scan of an accepted program's root by a plan, whose channels hold this number of tokens: its steps run the operator of
 -- the program, whose modules name the traps
 abbrev pub scan_network : ResolvedTree → ScanPlan → (capacity : ℕ) → Network
 scan_network r plan capacity =
@@ -226,7 +226,7 @@ pub record IsImaged (texts : Texts) (n : Network) : Type 0 where
   pub runs : IsRunnableImage i texts.text
   pub network_is : n ≡ network_in (loaded_of i)
 
--- the network of the scan of an accepted program in so many segments, whose root can be scanned so
+-- the network of the scan of an accepted program in this number of segments, whose root can be scanned so
 pub record IsScanned (segments capacity : ℕ) (texts : Texts) (n : Network) : Type 0 where
   pub r : ResolvedTree
   pub accepted : IsAccepted texts.text r
@@ -240,7 +240,7 @@ IsNetworkOf (built build) texts n = IsBuilt build texts n
 IsNetworkOf (imaged name) texts n = IsImaged texts n
 IsNetworkOf (scanned name segments capacity) texts n = IsScanned segments capacity texts n
 
--- the network that files and words ask for
+-- the network that files and words request
 pub record HasNetwork (files : Option Held) (origin : Origin) (n : Network) : Type 0 where
   pub texts : Texts
   pub have : HaveTexts files origin texts

@@ -1,5 +1,5 @@
 -- The command `profile`: the cost file of what a program does on the items of the input.
-use Rattle.std.specs.Prelude.{◌≡◌, ◌≢◌, ℕ, ℤ, ◌+◌, Bool, true, false, List, [], ◌∷◌, ◌++◌, ◌⊎◌, length, Ok, Option, Some, None, if◌then◌else◌}
+use Rattle.std.specs.Prelude.{◌≡◌, ◌≢◌, ℕ, ℤ, ◌+◌, Bool, true, false, List, [], ◌∷◌, ◌++◌, ◌⊎◌, length, map, Ok, Option, Some, None, if◌then◌else◌}
 use Rattle.std.specs.List.{AllByRecursion, list_any}
 use Rattle.p3l_base.specs.declared.outcome.Outcome.{Outcome}
 use Rattle.p3l_base.specs.declared.outcome.Outcome.TheVariants.{Value, Trapped}
@@ -10,7 +10,8 @@ use Rattle.p3l_skel.specs.Item.{item}
 use Rattle.p3l_skel.specs.Tree.{node_at}
 use Rattle.p3l_check.specs.Resolving.{ResolvedTree}
 use Rattle.p3l_code.specs.declared.instr.Code.{Code}
-use Rattle.p3l_compile.specs.Leaves.{AreCodes, body_leaf}
+use Rattle.p3l_compile.specs.Condition.{code_of}
+use Rattle.p3l_compile.specs.Leaves.{body_leaf}
 use Rattle.p3l_units.specs.Table.{leaf}
 use Rattle.p3l_stream.specs.declared.items.Ending.{Ending}
 use Rattle.p3l_stream.specs.declared.items.Ending.TheVariants as ending
@@ -47,9 +48,9 @@ pub record Subject : Type 0 where
   pub leaf : ℕ → List ℤ → Outcome
   pub codes : List Code
 
--- a program whose bodies were compiled to these codes
-abbrev pub subject_of : ResolvedTree → List Code → Subject
-subject_of r codes = record { tree = r.tree; leaf = body_leaf r.tree r.seqs; codes = codes }
+-- a program: its tree, what its bodies mean, and their codes
+abbrev pub subject_of : ResolvedTree → Subject
+subject_of r = record { tree = r.tree; leaf = body_leaf r.tree r.seqs; codes = map code_of r.seqs }
 
 -- a tree whose `seq` modules do what their codes do
 abbrev pub coded : Tree → List Code → Subject
@@ -116,39 +117,35 @@ IsProfiled p input out (finish.Stream close) = StopsSo p input out close
 IsProfiled p input out (finish.Trapped number kind name) = TrapsSo p input out number kind name
 IsProfiled p input out f = ⊥
 
--- the file of this name has a program, and no other, whose bodies were compiled to these codes
-pub record HasCodes (files : Option Held) (name : List ℕ) (r : ResolvedTree) (codes : List Code) : Type 0 where
+-- the file of this name has a program, and no other
+pub record HasProgram (files : Option Held) (name : List ℕ) (r : ResolvedTree) : Type 0 where
   pub text : List ℕ
   pub has : HasText files text_limit name text
   pub accepted : IsAccepted text r
   pub only : (other : ResolvedTree) → IsAccepted text other → other ≡ r
-  pub compiled : AreCodes r.seqs codes
 
 -- the program was profiled, to this end
 pub record EndsProfile (w : World) (name : List ℕ) (finish : Finish) (stats : Option Stats) : Type 0 where
   pub r : ResolvedTree
-  pub codes : List Code
-  pub has : HasCodes w.files.old name r codes
+  pub has : HasProgram w.files.old name r
   pub stats_are : stats ≡ None
-  pub profiled : IsProfiled (subject_of r codes) w.input w.out finish
+  pub profiled : IsProfiled (subject_of r) w.input w.out finish
 
 -- nothing was written, or a front of the cost file
 pub record BeginsProfile (w : World) (name : List ℕ) : Type 0 where
   pub r : ResolvedTree
-  pub codes : List Code
-  pub has : HasCodes w.files.old name r codes
-  pub begun : IsStill w.out ⊎ NotesSome (subject_of r codes) w.input w.out
+  pub has : HasProgram w.files.old name r
+  pub begun : IsStill w.out ⊎ NotesSome (subject_of r) w.input w.out
 
--- over an input and an output that tell: each line of the whole input is an item without a trap or has no words, and the
+-- over an input and an output that report: each line of the whole input is an item without a trap or has no words, and the
 -- cost file for these items was written
 pub record ProfilesWhole (w : World) (name rest taken : List ℕ) : Type 0 where
   pub r : ResolvedTree
-  pub codes : List Code
-  pub has : HasCodes w.files.old name r codes
+  pub has : HasProgram w.files.old name r
   pub input_ended : w.input.new ≡ Some []
   pub all_items : (items_of (node_at r.tree 0).ins rest).ending ≡ ending.End
-  pub values : HaveValues (subject_of r codes) (items_of (node_at r.tree 0).ins rest).items
-  pub taken_is : w.out.new ≡ Some (taken ++ cost_file (subject_of r codes) (items_of (node_at r.tree 0).ins rest).items)
+  pub values : HaveValues (subject_of r) (items_of (node_at r.tree 0).ins rest).items
+  pub taken_is : w.out.new ≡ Some (taken ++ cost_file (subject_of r) (items_of (node_at r.tree 0).ins rest).items)
 
 -- an outcome is a trap
 abbrev pub is_trap : Outcome → Bool
@@ -161,12 +158,11 @@ abbrev pub profile_status : Subject → Items → ℕ
 profile_status p seen =
     if list_any (λ words. is_trap (outcome_on p words)) seen.items then status.trap else ending_status seen.ending
 
--- the profile is due to end with this status
+-- the profile is expected to end with this status
 pub record IsProfileStatus (w : World) (name rest : List ℕ) (k : ℕ) : Type 0 where
   pub r : ResolvedTree
-  pub codes : List Code
-  pub has : HasCodes w.files.old name r codes
-  pub status_is : k ≡ profile_status (subject_of r codes) (seen_of (node_at r.tree 0).ins rest)
+  pub has : HasProgram w.files.old name r
+  pub status_is : k ≡ profile_status (subject_of r) (seen_of (node_at r.tree 0).ins rest)
 
 -- the cost file of a program for the items of the input is written
 abbrev pub profile_behavior : List ℕ → Behavior
@@ -183,7 +179,7 @@ profile_behavior name = record {
   IsStatusDue = λ w rest n. IsProfileStatus w name rest n;
 }
 
--- a verdict is due of the command
+-- a verdict is expected of the command
 abbrev pub IsProfileDue : World → List ℕ → Verdict → Type 0
 IsProfileDue w name v = IsDueWith w (program_stages name) (EndsProfile w name) (BeginsProfile w name) ⊥ v
 

@@ -15,13 +15,13 @@ use Rattle.p3l_program.specs.Saved.{Stands}
 use Rattle.p3l_program.specs.Trace.{IsTraceStatus, agreed_status}
 use Rattle.p3l_program.specs.World.{HasRisen, World}
 
--- files that a check reads: no network but this one is built from them, and under the name stands the text of this trace
+-- files that a check reads: no network but this one is built from them, and the text of this trace is held under the name
 pub record StillHas (files : Option Held) (build : Build) (name : List ℕ) (n : Network) (t : Traced) : Type 0 where
   pub network : (other : Network) → HasNetwork files (built build) other → other ≡ n
   pub stands : Stands files name (trace_format.spell t)
 
--- where a run left a trace, and took it from an input that told what was left and didn't fail, the check of that trace against the
--- run's network on the same input has no line that differs: it is due to end as the reading of the input does, where that ends by
+-- where a run left a trace, and took it from an input that reported what was left and didn't fail, the check of that trace against the
+-- run's network on the same input has no line that differs: it is expected to end as the reading of the input does, where that ends by
 -- what is asked before the trace's picks, and else with 0
 abbrev pub EveryRecordIsAccepted : Type 0
 EveryRecordIsAccepted =

@@ -5,13 +5,11 @@ use Rattle.p3l_opts.specs.declared.command.Build.{Build}
 use Rattle.p3l_opts.specs.declared.command.Sched.TheVariants as sched
 use Rattle.p3l_report.specs.declared.stats.Stats.{Stats}
 use Rattle.p3l_report.specs.declared.verdict.Finish.{Finish}
-use Rattle.p3l_run.specs.Network.{Network, size_of}
-use Rattle.p3l_sched.specs.declared.schedule.Schedule.{Schedule}
+use Rattle.p3l_run.specs.Network.{size_of}
 use Rattle.p3l_sched.specs.declared.schedule.Schedule.TheVariants.{Recorded}
 use Rattle.p3l_program.specs.File.{HasText}
 use Rattle.p3l_program.specs.Origin.{built}
 use Rattle.p3l_program.specs.Picks.{picks_text}
-use Rattle.p3l_program.specs.Plan.{HasNetwork}
 use Rattle.p3l_program.specs.Run.{EndsRun}
 use Rattle.p3l_program.specs.Scheduled.{HasPicks, picks_limit}
 use Rattle.p3l_program.specs.Time.{EndsTime}
@@ -25,7 +23,7 @@ pub record EndsAlike {w after : World} {build : Build} {name : List ℕ} {finish
   pub numbers_are : r.ran.stats ≡ e.to.ran.stats
 
 -- where `time` left its picks in a file that is no longer than such files may be, they are the schedule that `run` reads there; and
--- where `run` of the same words under them has the same network, and both took an input that told the same and didn't fail, it ends
+-- where `run` of the same words under them has the same network, and both took an input that reported the same and didn't fail, it ends
 -- alike
 pub record IsReplayed {w : World} {build : Build} {name : List ℕ} {finish : Finish} {told : Option Stats} (e : EndsTime w build (Some name) finish told) (held : Held) : Type 0 where
   pub reads : HasPicks (Some held) (size_of e.n) name (Recorded e.to.picks)

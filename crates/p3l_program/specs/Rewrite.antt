@@ -8,7 +8,7 @@ use Rattle.p3l_skel.specs.Lawful.{IsLawfulTree}
 use Rattle.p3l_cost.specs.declared.costs.Costs.{Costs}
 use Rattle.p3l_cost.specs.Costs.{AreCostsOf}
 use Rattle.p3l_opts.specs.declared.command.Build.{Build}
-use Rattle.p3l_print.specs.Program.{canonical}
+use Rattle.p3l_print.specs.Program.{canonical, IsTextOf}
 use Rattle.p3l_types.specs.Verdict.{Gives}
 use Rattle.p3l_check.specs.Resolving.{ResolvedTree, resolved}
 use Rattle.p3l_rewrite.specs.Rewriting.{IsRewriting}
@@ -30,7 +30,8 @@ plain_build program processors costs = record {
 -- the canonical text of the best way to write the program that the files have, by its costs and for so many
 -- processors: a program that keeps all rules and means the same for all items, traps with kind and module
 -- included, in which the modules before `main` keep their numbers; its service time is no greater than the
--- program's, and it is the first, in the order of the ways, with the least
+-- program's, and it is the first, in the order of the ways, with the least; what the text spells is this program,
+-- wherever its names and numbers stand in it
 pub record IsRewritten (files : Option Held) (build : Build) (text : List ℕ) : Type 0 where
   pub r : ResolvedTree
   pub cs : Costs
@@ -39,6 +40,7 @@ pub record IsRewritten (files : Option Held) (build : Build) (text : List ℕ) :
   pub time : ℕ
   pub is : IsRewriting has.priced.accepted.program cs build.processors other time
   pub text_is : text ≡ canonical other
+  pub spells : IsTextOf text other
 
 -- a program breaks a rule, the first of them so, unless memory was wanting
 abbrev pub BreaksRules : ProgramTree → SourceRefusal → Type 0
@@ -72,9 +74,10 @@ pub record LoadsPriced (files : Option Held) (build : Build) (priced : Priced) :
   pub lawful : IsLawfulTree r.tree
   pub costs_are : AreCostsOf r.tree priced.costs
 
--- the canonical text of the best way to write a program
+-- the canonical text of the best way to write a program, which spells that if some text does
 pub record IsBestText (program : ProgramTree) (costs : Costs) (processors : ℕ) (text : List ℕ) : Type 0 where
   pub other : ProgramTree
   pub time : ℕ
   pub is : IsRewriting program costs processors other time
   pub text_is : text ≡ canonical other
+  pub spells : (written : List ℕ) → IsTextOf written other → IsTextOf text other

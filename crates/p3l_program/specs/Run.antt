@@ -54,7 +54,7 @@ abbrev pub keeping_for : Option (List ℕ) → Keeping
 keeping_for None = keep.Nothing
 keeping_for (Some name) = keep.Lines
 
--- the network and the schedule that files and words ask for
+-- the network and the schedule that files and words request
 pub record HasRun (files : Option Held) (origin : Origin) (asked : Sched) (n : Network) (s : Schedule) : Type 0 where
   pub network : HasNetwork files origin n
   pub schedule : HasSchedule files (size_of n) asked s
@@ -91,7 +91,7 @@ pub record BeginsRun (w : World) (origin : Origin) (asked : Sched) : Type 0 wher
   pub has : HasRun w.files.old origin asked n s
   pub starts : Starts n s w.input.old w.input.new w.input.before w.input.now w.out.old w.out.new
 
--- over an input and an output that tell: the whole input was taken, each of its lines is an item or has no words, the whole
+-- over an input and an output that report: the whole input was taken, each of its lines is an item or has no words, the whole
 -- text of the meaning of its items was written, and the trace is that of the run on them
 pub record RunsWhole (w : World) (origin : Origin) (asked : Sched) (trace : Option (List ℕ)) (rest taken : List ℕ) : Type 0 where
   pub n : Network
@@ -103,7 +103,7 @@ pub record RunsWhole (w : World) (origin : Origin) (asked : Sched) (trace : Opti
   pub recorded : IsRecorded w.files trace (IsRecordOf n s (items_of (width_of n) rest).items)
 
 -- the text of what the network emits on these items under the schedule was written, and the trace of this run, with these numbers, of
--- which the firings are at most so many for each item sent
+-- which the firings are at most this number for each item sent
 pub record Emits (w : World) (origin : Origin) (asked : Sched) (trace : Option (List ℕ)) (numbers : RunStats) : Type 0 where
   pub n : Network
   pub s : Schedule
@@ -130,7 +130,7 @@ status_with n s seen = finish_status (run_finish (finish_of n (course_of n s see
 abbrev pub run_status : Network → Schedule → List ℕ → ℕ
 run_status n s rest = status_with n s (seen_of (width_of n) rest)
 
--- what is run is due to end with this status, which is that of a stop only where all picks of a file were made
+-- what is run is expected to end with this status, which is that of a stop only where all picks of a file were made
 pub record IsRunStatus (w : World) (origin : Origin) (asked : Sched) (rest : List ℕ) (k : ℕ) : Type 0 where
   pub n : Network
   pub s : Schedule
@@ -168,11 +168,11 @@ run_behavior run = record {
   IsStatusDue = λ w rest n. IsRunStatus w run.origin run.schedule rest n;
 }
 
--- a verdict is due of the running of it
+-- a verdict is expected of the running of it
 abbrev pub IsRunDue : World → Origin → Sched → Option (List ℕ) → Bool → Verdict → Type 0
 IsRunDue w origin asked trace reported v = IsDueWith w (run_stages origin asked) (EndsRun w origin asked trace reported) (BeginsRun w origin asked) (UnsavedRun w origin asked trace) v
 
--- a text has no picks of so many processes
+-- a text has no picks of this number of processes
 abbrev pub IsBadPicks : List ℕ → ℕ → Refusal → Type 0
 IsBadPicks text count (refusal.BadPick line) = Reads text count (Err (picks.BadPick line))
 IsBadPicks text count (refusal.NoSuchProcess line pick of_count) = Reads text count (Err (picks.NoSuchProcess line pick of_count))
@@ -191,7 +191,7 @@ IsUnasked files count (sched.File name) (verdict.Refused refused) =
 IsUnasked files count (sched.File name) verdict.NoMemory = IsCalm files
 IsUnasked files count asked v = ⊥
 
--- a network was run under the schedule that is asked for, to this end, and its trace was written
+-- a network was run under the schedule that is requested, to this end, and its trace was written
 pub record IsRunTo (n : Network) (files : Change Held) (input out : Change (List ℕ)) (asked : Sched) (trace : Option (List ℕ)) (reported : Bool) (finish : Finish) (stats : Option Stats) : Type 0 where
   pub s : Schedule
   pub schedule : HasSchedule files.old (size_of n) asked s
@@ -229,12 +229,12 @@ pub record IsRunNot (files : Change Held) (input out : Change (List ℕ)) : Type
   pub input_still : IsStill input
   pub out_still : IsStill out
 
--- how a run that came to its end is told, once its trace was written where a file is named for it
+-- how a run that came to its end is reported, once its trace was written where a file is named for it
 abbrev pub IsClosed : Change Held → Ran → Option (List ℕ) → Bool → Verdict → Type 0
 IsClosed files ran trace reported (verdict.Ended finish stats) = (finish ≡ run_finish ran.finish) × (stats ≡ shown reported (run_stats ran.stats)) × IsRecording files trace ran.lines ran.stats (Ok tt)
 IsClosed files ran trace reported v = IsRecording files trace ran.lines ran.stats (Err v)
 
--- how the run of a network under the schedule that is asked for ends
+-- how the run of a network under the schedule that is requested ends
 abbrev pub IsRunOf : Network → Change Held → Change (List ℕ) → Change (List ℕ) → Sched → Option (List ℕ) → Bool → Verdict → Type 0
 IsRunOf n files input out asked trace reported (verdict.Refused refused) = IsUnasked files (size_of n) asked (verdict.Refused refused) × IsRunNot files input out
 IsRunOf n files input out asked trace reported (verdict.Ended finish stats) = IsRunTo n files input out asked trace reported finish stats

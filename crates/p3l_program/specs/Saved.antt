@@ -42,12 +42,12 @@ abbrev pub KeepsFiles : Change Held → List (List ℕ) → Verdict → Type 0
 KeepsFiles files names (verdict.Refused refused) = files.new ≡ files.old
 KeepsFiles files names v = KeepsBut files names
 
--- the bytes stand under the name
+-- the bytes are held under the name
 abbrev pub Stands : Option Held → List ℕ → List ℕ → Type 0
 Stands None name bytes = ⊥
 Stands (Some held) name bytes = held name ≡ Some bytes
 
--- they do where the files tell what they hold
+-- they do where the files report what they hold
 abbrev pub IsSaved : Change Held → List ℕ → List ℕ → Type 0
 IsSaved files name bytes = (held : Held) → files.old ≡ Some held → Stands files.new name bytes
 
@@ -63,7 +63,7 @@ pub record HasSave (files : Change Held) (name bytes : List ℕ) (result : Resul
   pub kept : KeepsBut files (name ∷ [])
   pub by : SaveCause files name bytes result
 
--- the bytes stand under their names, of files that are each a name and its bytes
+-- the bytes are held under their names, of files that are each a name and its bytes
 abbrev pub AreSaved : Change Held → List (List ℕ × List ℕ) → Type 0
 AreSaved files [] = Unit {0}
 AreSaved files (save ∷ saves) = IsSaved files save.0 save.1 × AreSaved files saves
@@ -83,7 +83,7 @@ pub record HasSaves (files : Change Held) (saves : List (List ℕ × List ℕ)) 
   pub kept : KeepsBut files (names_of saves)
   pub by : SavesCause files saves result
 
--- with this verdict files that a command wrote before its work have what was written, but where memory was wanting
+-- with this verdict files that a command wrote before its work have what was written, but where memory ran out
 abbrev pub HoldFirst : Change Held → List (List ℕ × List ℕ) → Verdict → Type 0
 HoldFirst files saves verdict.NoMemory = Unit {0}
 HoldFirst files saves v = AreSaved files saves
@@ -101,7 +101,7 @@ pub record EndsSaving (w : World) (IsText : List ℕ → Type 0) (name : List �
   pub is : IsBytes bytes
   pub saved : IsSaved w.files name bytes
 
--- over files, an input and an output that tell: they were, whole
+-- over files, an input and an output that report: they were, whole
 pub record SavesWhole (w : World) (IsText : List ℕ → Type 0) (name : List ℕ) (IsBytes : List ℕ → Type 0) (rest taken : List ℕ) : Type 0 where
   pub text : WritesWhole w IsText rest taken
   pub bytes : List ℕ
@@ -123,14 +123,14 @@ saving_behavior stages IsText name IsBytes = record {
   IsStatusDue = λ w rest n. n ≡ status.done;
 }
 
--- a verdict is due of a command with these stages that writes such a file and then such a text, and
+-- a verdict is expected of a command with these stages that writes such a file and then such a text, and
 -- lets the input alone
 abbrev pub IsSavingDue : Change Held → Change (List ℕ) → List Stage → (List ℕ → Type 0) → List ℕ → (List ℕ → Type 0) → Verdict → Type 0
 IsSavingDue files out stages IsText name IsBytes v =
     (input : Change (List ℕ)) → IsStill input →
     IsDueWith (world files input out) stages (EndsSaving (world files input out) IsText name IsBytes) (BeginsText (world files input out) IsText) (IsStill out × HasFailed files name) v
 
--- a verdict is due of a command with these stages that writes such a file alone, and lets the input
+-- a verdict is expected of a command with these stages that writes such a file alone, and lets the input
 -- and the output alone
 abbrev pub IsFileDue : Change Held → List Stage → List ℕ → (List ℕ → Type 0) → Verdict → Type 0
 IsFileDue files stages name IsBytes v = (out : Change (List ℕ)) → IsStill out → IsSavingDue files out stages IsNothing name IsBytes v

@@ -7,7 +7,7 @@ use Rattle.p3l_program.specs.declared.scan.Planned.{Planned}
 use Rattle.p3l_program.specs.Load.{IsProgram}
 use Rattle.p3l_program.specs.Plan.{IsCompiled}
 
--- the program of a file, with the plan of its scan in so many segments
+-- the program of a file, with the plan of its scan in this number of segments
 pub record IsPlanned (files : Option Held) (name : List ℕ) (segments : ℕ) (r : ResolvedTree) (loaded : Planned) : Type 0 where
   pub program : IsProgram files name r loaded.program
   pub planned : IsPlanOf r.tree segments loaded.plan

@@ -1,4 +1,4 @@
--- Schedules that words and files ask for.
+-- Schedules that words and files request.
 use Rattle.std.specs.Prelude.{◌≡◌, ℕ, List, Ok, Err, Option}
 use Rattle.p3l_io.specs.Told.{Held}
 use Rattle.p3l_opts.specs.declared.command.Sched.{Sched}
@@ -16,7 +16,7 @@ use Rattle.p3l_program.specs.Origin.{Origin}
 abbrev pub picks_limit : ℕ
 picks_limit = 67108864
 
--- the file of this name has picks of so many processes
+-- the file of this name has picks of this number of processes
 pub record HasPicks (files : Option Held) (count : ℕ) (name : List ℕ) (s : Schedule) : Type 0 where
   pub text : List ℕ
   pub has : HasText files picks_limit name text
@@ -24,7 +24,7 @@ pub record HasPicks (files : Option Held) (count : ℕ) (name : List ℕ) (s : S
   pub reads : Reads text count (Ok picks)
   pub is : s ≡ schedule.Recorded picks
 
--- the schedule of a net of so many processes
+-- the schedule of a net of this number of processes
 abbrev pub HasSchedule : Option Held → ℕ → Sched → Schedule → Type 0
 HasSchedule files count sched.RoundRobin s = s ≡ schedule.RoundRobin
 HasSchedule files count (sched.Seeded seed) s = s ≡ schedule.Seeded seed

@@ -1,4 +1,4 @@
--- The stages that stand before the work of a command, in the order of their statuses.
+-- The stages that come before the work of a command, in the order of their statuses.
 use Rattle.std.specs.Prelude.{◌≡◌, ℕ, List, [], ◌∷◌, ◌++◌, ◌⊎◌, Option, Some, None}
 use Rattle.p3l_ast.specs.Tree.{ProgramTree}
 use Rattle.p3l_io.specs.Told.{Held}
@@ -29,7 +29,7 @@ use Rattle.p3l_program.specs.World.{Change, HasFailed, IsCalm}
 -- name says costs of it; some counts fit the processors; the bytes of the file spell an image; the image can be run; it can be run once its net is linked anew; the file of this
 -- name has picks for the network of what is run; the file of the last name has a certificate that holds for a program and its costs;
 -- the file of this name spells a trace; the text spells a program that keeps all rules, the second text says costs of it, and some
--- counts of it fit so many processors; the program of the file of this name can be scanned in so many segments
+-- counts of it fit this number of processors; the program of the file of this name can be scanned in this number of segments
 pub data Stage : Type 0 where
   readable : ℕ → List ℕ → Stage
   spelled : List ℕ → Stage
@@ -130,7 +130,7 @@ image_stages name = readable image_limit name ∷ (decoded name ∷ (loaded name
 abbrev pub migrate_stages : List ℕ → List Stage
 migrate_stages name = readable image_limit name ∷ (decoded name ∷ (migratable name ∷ []))
 
--- a program is read, keeps all rules and can be scanned in so many segments
+-- a program is read, keeps all rules and can be scanned in this number of segments
 abbrev pub scan_stages : List ℕ → (segments : ℕ) → List Stage
 scan_stages name segments = program_stages name ++ scannable name segments ∷ []
 

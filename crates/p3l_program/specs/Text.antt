@@ -33,7 +33,7 @@ pub record BeginsText (w : World) (IsText : List ℕ → Type 0) : Type 0 where
   pub begun : HasBegun w.out.old w.out.new text
   pub input : IsStill w.input
 
--- over an input and an output that tell: the whole of such a text was written, and nothing was taken
+-- over an input and an output that report: the whole of such a text was written, and nothing was taken
 pub record WritesWhole (w : World) (IsText : List ℕ → Type 0) (rest taken : List ℕ) : Type 0 where
   pub text : List ℕ
   pub is : IsText text
@@ -55,7 +55,7 @@ text_behavior stages IsText = record {
   IsStatusDue = λ w rest n. n ≡ status.done;
 }
 
--- a verdict is due of a command with these stages that writes such a text, and lets the input alone
+-- a verdict is expected of a command with these stages that writes such a text, and lets the input alone
 abbrev pub IsTextDue : Change Held → Change (List ℕ) → List Stage → (List ℕ → Type 0) → Verdict → Type 0
 IsTextDue files out stages IsText v =
     (input : Change (List ℕ)) → IsStill input →

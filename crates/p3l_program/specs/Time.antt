@@ -12,8 +12,8 @@ use Rattle.p3l_run.specs.declared.end.RunStats.{RunStats}
 use Rattle.p3l_run.specs.declared.keeping.Keeping.{Keeping}
 use Rattle.p3l_run.specs.declared.run.Ran.{Ran}
 use Rattle.p3l_run.specs.Network.{Network, course_of, goes_on, meaning_of, picks_of, size_of, width_of}
-use Rattle.p3l_run.specs.Run.{Finishes, MayCome, Starts}
-use Rattle.p3l_run.specs.Timed.{AreTimed}
+use Rattle.p3l_run.specs.Run.{Finishes, MayCome, MayFollow, Starts}
+use Rattle.p3l_run.specs.Timed.{AreTimed, BeginTimed}
 use Rattle.p3l_sched.specs.declared.schedule.Schedule.TheVariants as schedule
 use Rattle.p3l_stream.specs.declared.items.Ending.TheVariants as ending
 use Rattle.p3l_stream.specs.Items.{items_of}
@@ -36,7 +36,7 @@ use Rattle.p3l_program.specs.Stage.{build_stages}
 use Rattle.p3l_program.specs.Verdict.{run_finish}
 use Rattle.p3l_program.specs.World.{Change, HasFailed, HasRisen, IsCalm, World}
 
--- the network that files and words ask for, and the prices of its processes by the costs that files and words ask for
+-- the network that files and words request, and the prices of its processes by the costs that files and words request
 pub record HasPrices (files : Option Held) (build : Build) (n : Network) (prices : List ℕ) : Type 0 where
   pub network : HasNetwork files (built build) n
   pub prices_are : prices ≡ prices_of n.tree network.is.cs n.net
@@ -83,12 +83,14 @@ pub record IsTimeOver (n : Network) (prices : List ℕ) (input out : Change (Lis
   pub ran : Ran
   pub runs : RunsInTime n prices input out keeping picks ran
 
--- or a front of the text of its meaning was written, and of what the network emits under some picks
-pub record IsTimeBegun (n : Network) (input out : Change (List ℕ)) : Type 0 where
+-- or a front of the text of its meaning was written, and of what the network emits under picks with which the timed run begins, of the
+-- items that the stream gave and whatever may still come after them
+pub record IsTimeBegun (n : Network) (prices : List ℕ) (input out : Change (List ℕ)) : Type 0 where
   pub picks : List ℕ
   pub starts : Starts n (schedule.Recorded picks) input.old input.new input.before input.now out.old out.new
+  pub begins : (later : List (List ℤ)) → MayFollow n starts.closed later → BeginTimed n prices (starts.items ++ later) picks
 
--- the network that files and words ask for was run in virtual time to this end
+-- the network that files and words request was run in virtual time to this end
 pub record EndsTime (w : World) (build : Build) (name : Option (List ℕ)) (finish : Finish) (told : Option Stats) : Type 0 where
   pub n : Network
   pub prices : List ℕ
@@ -105,14 +107,14 @@ pub record BeginsTime (w : World) (build : Build) : Type 0 where
   pub n : Network
   pub prices : List ℕ
   pub has : HasPrices w.files.old build n prices
-  pub begun : IsTimeBegun n w.input w.out
+  pub begun : IsTimeBegun n prices w.input w.out
 
 -- the file of its picks could not be written, when it was over
 abbrev pub UnsavedTime : World → Build → Option (List ℕ) → Type 0
 UnsavedTime w build None = ⊥
 UnsavedTime w build (Some name) = TimesOver w build × IsCalm w.out × HasFailed w.files name
 
--- over an input and an output that tell: the whole input was taken, each of its lines is an item or has no words, the whole text of the
+-- over an input and an output that report: the whole input was taken, each of its lines is an item or has no words, the whole text of the
 -- meaning of its items was written, and the picks are those of the timed run on them
 pub record TimesWhole (w : World) (build : Build) (name : Option (List ℕ)) (rest taken : List ℕ) : Type 0 where
   pub n : Network
@@ -125,7 +127,7 @@ pub record TimesWhole (w : World) (build : Build) (name : Option (List ℕ)) (re
   pub taken_is : w.out.new ≡ Some (taken ++ text_of (meaning_of n (items_of (width_of n) rest).items))
   pub saved : ArePicksSaved w.files name picks
 
--- the run in virtual time of what is seen of an input is due to end with this status
+-- the run in virtual time of what is seen of an input is expected to end with this status
 pub record IsTimeStatus (w : World) (build : Build) (rest : List ℕ) (k : ℕ) : Type 0 where
   pub n : Network
   pub prices : List ℕ
@@ -149,7 +151,7 @@ time_behavior build name = record {
   IsStatusDue = λ w rest k. IsTimeStatus w build rest k;
 }
 
--- a verdict is due of the command
+-- a verdict is expected of the command
 abbrev pub IsTimeDue : World → Build → Option (List ℕ) → Verdict → Type 0
 IsTimeDue w build name v = IsDueWith w (build_stages build) (EndsTime w build name) (BeginsTime w build) (UnsavedTime w build name) v
 
@@ -159,14 +161,14 @@ pub record LoadsLinked (files : Option Held) (build : Build) (linked : Linked) :
   pub priced : HasPrices files build (network_in linked.network) (prices_of linked.network.tree linked.costs linked.network.net)
   pub lawful : AreCostsOf linked.network.tree linked.costs
 
--- the numbers of a run are told by its timer
+-- the numbers of a run are reported by its timer
 pub record AreTold (numbers : RunStats) (k : Clock) (told : Option Stats) : Type 0 where
   pub p : ℕ
   pub there : p < length k.prices
   pub busiest : IsBusiest k.busy p
   pub told_is : told ≡ Some (stats.Timed numbers.items numbers.fired k.moment p (slice_index k.busy p))
 
--- how a run that came to its end is told, once its picks were written where a file is named for them
+-- how a run that came to its end is reported, once its picks were written where a file is named for them
 abbrev pub IsTimeClosed : Change Held → Ran → Clock → Option (List ℕ) → Verdict → Type 0
 IsTimeClosed files ran k name (verdict.Ended finish told) = (finish ≡ run_finish ran.finish) × AreTold ran.stats k told × IsPicking files name ran.lines (Ok tt)
 IsTimeClosed files ran k name v = IsPicking files name ran.lines (Err v)
@@ -180,8 +182,8 @@ IsUnsavedTime n prices files input out (Some name) = IsTimeOver n prices input o
 abbrev pub IsTimeOf : Network → List ℕ → Change Held → Change (List ℕ) → Change (List ℕ) → Option (List ℕ) → Verdict → Type 0
 IsTimeOf n prices files input out name (verdict.Refused refused) = ⊥
 IsTimeOf n prices files input out name (verdict.Ended finish told) = TimesTo n prices files input out name finish told × IsCalm files × IsCalm out
-IsTimeOf n prices files input out name verdict.WriteFault = (IsTimeBegun n input out × IsCalm files × HasRisen out) ⊎ IsUnsavedTime n prices files input out name
-IsTimeOf n prices files input out name verdict.NoMemory = IsRunNot files input out ⊎ IsTimeBegun n input out
+IsTimeOf n prices files input out name verdict.WriteFault = (IsTimeBegun n prices input out × IsCalm files × HasRisen out) ⊎ IsUnsavedTime n prices files input out name
+IsTimeOf n prices files input out name verdict.NoMemory = IsRunNot files input out ⊎ IsTimeBegun n prices input out
 
 -- which files it changes: that of the picks alone, when it is over
 pub record KeepsTime (n : Network) (prices : List ℕ) (files : Change Held) (input out : Change (List ℕ)) (name : Option (List ℕ)) (v : Verdict) : Type 0 where

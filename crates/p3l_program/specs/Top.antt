@@ -1,5 +1,5 @@
 -- What the program promises: how its status, what it read and wrote and its files go together.
-use Rattle.std.specs.Prelude.{◌≡◌, ◌≢◌, ◌<◌, ℕ, List, ◌⊎◌, Option, Some, true}
+use Rattle.std.specs.Prelude.{◌≡◌, ◌≢◌, ◌<◌, ℕ, List, ◌⊎◌, Some, true}
 use Rattle.clap.specs.Words.{Text}
 use Rattle.p3l_opts.specs.declared.command.Command.{Command}
 use Rattle.p3l_opts.specs.Command.{Spells}
@@ -49,7 +49,7 @@ pub record Promises (words : List Text) (w : World) (err : Change (List ℕ)) (k
   -- the limit, and a command that writes a text with 0.
   pub completes : WhenTold w (λ held rest taken. (command : Command) → Spells words command →
       AllPass w.files (stages_of command) → HasNoFault w → IsStatusDue w rest command k ⊎ (k ≡ status.no_memory))
-  -- The line of the numbers comes where the words ask for it, and they are the run's: they come with
+  -- The line of the numbers comes where the words request it, and they are the run's: they come with
   -- what the network emitted, and with the bound on its firings.
   pub reported : (command : Command) (run : Running) → Spells words command → run_of command ≡ Some run →
       run.reported ≡ true → status.is_end k ≡ true → (said : List ℕ) → err.old ≡ Some said → (HasRisen err → ⊥) →

@@ -35,7 +35,7 @@ use Rattle.p3l_program.specs.World.{Change, HasRisen, IsCalm, IsStill, World, wo
 abbrev pub holds_line : Traced → List ℕ
 holds_line t = codes "trace holds: " ++ (decimal t.fired ++ (codes " fired, " ++ (decimal t.idle ++ codes " idle\n")))
 
--- the network and the trace that files and words ask for
+-- the network and the trace that files and words request
 pub record HasCheck (files : Option Held) (build : Build) (name : List ℕ) (n : Network) (t : Traced) : Type 0 where
   pub network : HasNetwork files (built build) n
   pub trace : HasTrace files name t
@@ -94,7 +94,7 @@ pub record BeginsTrace (w : World) (build : Build) (name : List ℕ) : Type 0 wh
   pub has : HasCheck w.files.old build name n t
   pub begun : IsStill w.out ⊎ WritesSome w n t
 
--- over an input and an output that tell: the trace is that of a run on all items of the input, and the line was written
+-- over an input and an output that report: the trace is that of a run on all items of the input, and the line was written
 pub record ChecksWhole (w : World) (build : Build) (name rest taken : List ℕ) : Type 0 where
   pub n : Network
   pub t : Traced
@@ -118,7 +118,7 @@ IsCheckStatus n t seen k =
     ((k ≡ status.evidence) × ((line : ℕ) × DiffersAt n.tree n.leaf n.net seen.items t line))
     ⊎ ((k ≡ agreed_status n t seen) × Agrees n.tree n.leaf n.net seen.items t)
 
--- the check is due to end with this status
+-- the check is expected to end with this status
 pub record IsTraceStatus (w : World) (build : Build) (name rest : List ℕ) (k : ℕ) : Type 0 where
   pub n : Network
   pub t : Traced
@@ -144,7 +144,7 @@ check_behavior build name = record {
   IsStatusDue = λ w rest n. IsTraceStatus w build name rest n;
 }
 
--- a verdict is due of the command
+-- a verdict is expected of the command
 abbrev pub IsCheckDue : World → Build → List ℕ → Verdict → Type 0
 IsCheckDue w build name v = IsDueWith w (check_stages build name) (EndsTrace w build name) (BeginsTrace w build name) ⊥ v
 

@@ -1,5 +1,5 @@
 -- The shapes of work: what a command does is one of these.
-use Rattle.std.specs.Prelude.{ℕ, Bool, List, Option}
+use Rattle.std.specs.Prelude.{ℕ, List, Option}
 use Rattle.p3l_io.specs.Told.{Held}
 use Rattle.p3l_opts.specs.declared.command.Build.{Build}
 use Rattle.p3l_program.specs.Behavior.{Behavior}

@@ -3,7 +3,7 @@ use Rattle.std.specs.Prelude.{◌≡◌, ℕ, List, Option, Some, None}
 use Rattle.p3l_io.specs.Causes.{Rose}
 use Rattle.p3l_io.specs.Told.{Held}
 
--- an object of the outside before and after a call: what it tells, if it does, and its count of faults; and of files, the name of the
+-- an object of the outside before and after a call: what it reports, if it does, and its count of faults; and of files, the name of the
 -- one whose call failed last
 pub record Change (X : Type 0) : Type 0 where
   pub old : Option X
@@ -12,7 +12,7 @@ pub record Change (X : Type 0) : Type 0 where
   pub now : ℕ
   pub failed : Option (List ℕ)
 
--- an object of some type before and after a call, by what such objects tell and count
+-- an object of some type before and after a call, by what such objects report and count
 abbrev pub change : {T X : Type 0} → (T → Option X) → (T → ℕ) → T → T → Change X
 change told faults old new = record { old = told old; new = told new; before = faults old; now = faults new; failed = None }
 
@@ -51,7 +51,7 @@ pub record IsUntouched (w : World) : Type 0 where
   pub input : IsStill w.input
   pub out : IsStill w.out
 
--- where the files, the input and the output tell what they hold, what is left and what they took
+-- where the files, the input and the output report what they hold, what is left and what they took
 abbrev pub WhenTold : World → (Held → List ℕ → List ℕ → Type 0) → Type 0
 WhenTold w P = (held : Held) (rest taken : List ℕ) → w.files.old ≡ Some held → w.input.old ≡ Some rest → w.out.old ≡ Some taken → P held rest taken
 

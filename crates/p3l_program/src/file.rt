@@ -35,7 +35,7 @@ impl From<FileRefusal> for Verdict {
     }
 }
 
-/// The text of the file of this name, of so many bytes at most, or why there is none.
+/// The text of the file of this name, of this number of bytes at most, or why there is none.
 pub fn find_text<F: Files>(
     alloc: Global,
     name: Name,

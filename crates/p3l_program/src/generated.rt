@@ -94,7 +94,7 @@ fn save_where<F: Files>(
 }
 
 /// The program that a text spells, with the costs that another says and the counts that are chosen
-/// for so many processors, or the verdict that there are none.
+/// for this number of processors, or the verdict that there are none.
 fn load_texts(
     alloc: Global,
     program: &[u8],
@@ -129,7 +129,7 @@ fn load_texts(
     }
 }
 
-/// The schedule that is asked for, where its picks are made.
+/// The schedule that is requested, where its picks are made.
 fn schedule_of(asked: Sched) -> Schedule
     requires { IsMade asked }
     ensures { IsPicked asked result }
@@ -271,8 +271,8 @@ fn run_texts<K: Sink>(
     }
 }
 
-/// Generates the texts of a number with so many items, saves them to files whose names begin so, if
-/// that is asked for, and runs them.
+/// Generates the texts of a number with this number of items, saves them to files whose names begin
+/// so, if that is requested, and runs them.
 pub fn run_generated<F: Files, K: Sink>(
     alloc: Global,
     number: u32,

@@ -221,7 +221,7 @@ fn link_allotted(alloc: Global, loaded: Allotted, capacity: u32) -> Result<Linke
 }
 
 /// The network of the program of a file, under the counts that are chosen for it and with channels of
-/// the capacity that is asked for, with its costs, or the verdict that there is none.
+/// the capacity that is requested, with its costs, or the verdict that there is none.
 pub fn load_linked<F: Files>(alloc: Global, build: Build, files: &mut F) -> Result<Linked, Verdict>
     requires processors { (1 ≤ build.processors) × (build.processors ≤ 512) }
     requires capacity { (1 ≤ build.capacity) × (build.capacity ≤ 1024) }

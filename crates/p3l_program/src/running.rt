@@ -1,4 +1,4 @@
-// A network that is run under the schedule that words and files ask for, whatever it was made from.
+// A network that is run under the schedule that words and files request, whatever it was made from.
 
 ghost use Rattle.std.specs.Prelude.{◌≡◌, ◌<◌, ◌≤◌, ◌*◌, ◌^◌};
 ghost use Rattle.p3l_report.specs.declared.verdict.Verdict.TheVariants as verdict;
@@ -47,7 +47,7 @@ pub fn keeping_for(trace: &Option<Name>) -> Keeping
     }
 }
 
-/// Ends a run: writes its trace where a file is named for it, and tells how it ended.
+/// Ends a run: writes its trace where a file is named for it, and reports how it ended.
 fn close<F: Files>(
     alloc: Global,
     ran: Ran,
@@ -70,7 +70,7 @@ fn close<F: Files>(
     }
 }
 
-/// Runs a plan on the items of the input under the schedule that is asked for, writes each value
+/// Runs a plan on the items of the input under the schedule that is requested, writes each value
 /// as it comes out, and at the end the trace; the modules of a tree name a trap.
 pub fn run_plan<U: Units, F: Files, S: Source, K: Sink>(
     alloc: Global,

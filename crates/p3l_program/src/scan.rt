@@ -31,7 +31,7 @@ pub struct Planned {
     pub plan: ScanPlan,
 }
 
-/// How a scan that is refused is told.
+/// How a scan that is refused is reported.
 fn scan_fault(refusal: ScanRefusal) -> ScanFault
     ensures { refusal_of_scan result ≡ refusal }
 {
@@ -41,8 +41,8 @@ fn scan_fault(refusal: ScanRefusal) -> ScanFault
     }
 }
 
-/// The program of a file with the plan of its scan in so many segments, or the verdict that there is
-/// none.
+/// The program of a file with the plan of its scan in this number of segments, or the verdict that
+/// there is none.
 fn load_scan<F: Files>(
     alloc: Global,
     name: Name,
@@ -70,8 +70,8 @@ fn load_scan<F: Files>(
     }
 }
 
-/// Runs the plan of a program's scan, whose channels hold so many tokens; the program's modules name
-/// a trap.
+/// Runs the plan of a program's scan, whose channels hold this number of tokens; the program's
+/// modules name a trap.
 fn run_scan<F: Files, S: Source, K: Sink>(
     alloc: Global,
     loaded: Planned,
@@ -111,8 +111,8 @@ fn run_scan<F: Files, S: Source, K: Sink>(
     run_plan(alloc, run, &tree, asked, None, reported, files, input, out)
 }
 
-/// Scans the lists of the input in so many segments, by the reduce that is the `main` of the program
-/// of a file; the numbers of the run are to be reported or not.
+/// Scans the lists of the input in this number of segments, by the reduce that is the `main` of the
+/// program of a file; the numbers of the run are to be reported or not.
 pub fn scan<F: Files, S: Source, K: Sink>(
     alloc: Global,
     name: Name,

@@ -1,4 +1,4 @@
-// The schedule that words and files ask for.
+// The schedule that words and files request.
 
 ghost use Rattle.std.specs.Prelude.{◌≡◌, ◌<◌, ◌^◌, IfOk, IfErr, OnOk};
 ghost use Rattle.p3l_opts.specs.declared.command.Sched.TheVariants as sched;
@@ -18,7 +18,7 @@ use std::alloc::Global;
 /// The most bytes of a file of picks.
 pub const PICKS_LIMIT: u64 = 67_108_864;
 
-/// The picks of so many processes in the file of this name.
+/// The picks of this number of processes in the file of this name.
 fn picks_in<F: Files>(
     alloc: Global,
     name: Name,
@@ -47,7 +47,7 @@ fn picks_in<F: Files>(
     }
 }
 
-/// The schedule of a network of so many processes.
+/// The schedule of a network of this number of processes.
 pub fn load_schedule<F: Files>(
     alloc: Global,
     asked: Sched,

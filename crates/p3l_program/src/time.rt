@@ -46,7 +46,7 @@ fn time_stats(stats: &RunStats, timer: &Timer) -> Stats
     }
 }
 
-/// Ends a run in virtual time: writes its picks where a file is named for them, and tells how it
+/// Ends a run in virtual time: writes its picks where a file is named for them, and reports how it
 /// ended.
 fn close<F: Files>(alloc: Global, end: TimedRan, picks: Option<Name>, files: &mut F) -> Verdict
     requires some { 0 < length end.timer.prices }

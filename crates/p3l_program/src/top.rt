@@ -26,7 +26,7 @@ use p3l_opts::{Command, OptsRefusal, one_command_at_most, parse};
 use p3l_report::{Refusal, Status, Verdict, put_no_memory, put_report, report_of};
 use std::alloc::Global;
 
-/// Does what the words ask for, up to the lines on the standard error.
+/// Does what the words request, up to the lines on the standard error.
 fn perform<F: Files, S: Source, K: Sink>(
     alloc: Global,
     words: &[&str],
@@ -79,7 +79,7 @@ fn perform<F: Files, S: Source, K: Sink>(
     }
 }
 
-/// Does what the words ask for, and puts the lines that are due on the standard error.
+/// Does what the words request, and puts the lines that are expected on the standard error.
 fn answer<F: Files, S: Source, K: Sink, E: Sink>(
     alloc: Global,
     words: &[&str],
@@ -106,7 +106,7 @@ fn answer<F: Files, S: Source, K: Sink, E: Sink>(
     }
 }
 
-/// The program: does what the words ask for with the files, the input, the output and the standard
+/// The program: does what the words request with the files, the input, the output and the standard
 /// error, and gives the status that it ends with. What it promises of these, clause by clause, is
 /// `Promises`.
 pub fn top<F: Files, S: Source, K: Sink, E: Sink>(

@@ -8,6 +8,7 @@ use Rattle.p3l_firing.specs.declared.process.ProcKind.{ProcKind}
 use Rattle.p3l_firing.specs.Nodes.{Leaf}
 use Rattle.p3l_skel.specs.declared.tree.Tree.{Tree}
 use Rattle.p3l_skel.specs.Tree.{node_at}
+use Rattle.p3l_net.specs.Carried.{HaveInWords}
 use Rattle.p3l_net.specs.Machine as machine
 use Rattle.p3l_net.specs.Machine.{Fires, can_step, ready_list}
 use Rattle.p3l_net.specs.Offered.{HasFilledInbox}
@@ -65,7 +66,7 @@ module _ (job : Job) where
   n = job.network
 
   -- nothing was asked and nothing written
-  pub ends_unstarted : HasGiven (width_of n) (stream.started (width_of n) input_limit) [] [] → Ends job job.before (Err fault.NoMemory)
+  unfoldable pub ends_unstarted : HasGiven (width_of n) (stream.started (width_of n) input_limit) [] [] → Ends job job.before (Err fault.NoMemory)
   ends_unstarted given = record {
     ends = record {
       stream = stream.started (width_of n) input_limit;
@@ -99,7 +100,7 @@ module _ (job : Job) where
       }))
 
   module _ (now : Outside) (e : Execution) (d : Executes job now e) where
-    same_width : (node_at e.machine.tree 0).ins ≡ width_of n
+    pub same_width : (node_at e.machine.tree 0).ins ≡ width_of n
     same_width = ap (λ t. (node_at t 0).ins) d.stands.runs.tree
 
     pub wide : e.stream.words ≡ (node_at e.machine.tree 0).ins
@@ -132,7 +133,7 @@ module _ (job : Job) where
         (steps.bound_fits n.firings e.machine.sent (length d.items) most_of_input (steps.few_sent n d.laws job.schedule e.machine e.picker d.items e.close d.outcomes e.idle d.walked d.stands) few_items d.fits)
 
     -- memory was wanting
-    pub ends_early : Ends job now (Err fault.NoMemory)
+    unfoldable pub ends_early : Ends job now (Err fault.NoMemory)
     ends_early = record {
       ends = record {
         stream = e.stream;
@@ -175,30 +176,40 @@ module _ (job : Job) where
         )
 
     -- memory was wanting for that
-    pub ends_unfed : (s : stream.Seen) (left : Option (List ℕ)) (after : ℕ) → FeedsInVain (node_at e.machine.tree 0).ins e.stream s now.rest left now.read_faults after e.close → Ends job (outside left after now.taken now.write_faults) (Err fault.NoMemory)
-    ends_unfed s left after vain =
-        let f : FeedsInVain (width_of n) e.stream s now.rest left now.read_faults after e.close = subst (λ k. FeedsInVain k e.stream s now.rest left now.read_faults after e.close) same_width vain in
-        let may : MayCome n e.close f.more = record { wide = f.wide; none = λ x is. absurd (no_end x (sym f.asked ∙ is)) } in
-        record {
-          ends = record {
-            stream = s;
-            items = d.items ++ f.more;
-            closed = f.closed;
-            gives = f.gives job.before.rest job.before.read_faults d.items d.gives;
-            begun =
-                steps.begun_by (meaning_of n (d.items ++ f.more)) d.outcomes job.before.taken now.taken
-                (steps.begins_given n d.laws job.schedule e.machine e.picker d.items e.close d.outcomes e.idle d.walked d.stands f.more may) d.put;
-            emits = λ later on.
-                let all : MayCome n e.close (f.more ++ later) = record { wide = steps.wide_append (width_of n) f.more later f.wide on.wide; none = λ x is. absurd (no_end x (sym f.asked ∙ is)) } in
-                subst (λ i. HasBegun job.before.taken now.taken (text_of (course_of n job.schedule i).state.emitted)) (sym (append_assoc d.items f.more later))
-                (steps.begun_by (course_of n job.schedule (d.items ++ (f.more ++ later))).state.emitted d.outcomes job.before.taken now.taken
-                (steps.begins_emitted n d.laws job.schedule e.machine e.picker d.items e.close d.outcomes e.idle d.walked d.stands (f.more ++ later) all) d.put);
-          };
-          output = d.quiet;
-        }
-      where
-        no_end : (x : Ending) → ◌≡◌ {A = Option Ending} None (Some x) → ⊥
-        no_end x h = cc
+    module _ (s : stream.Seen) (left : Option (List ℕ)) (after : ℕ) (vain : FeedsInVain (node_at e.machine.tree 0).ins e.stream s now.rest left now.read_faults after e.close) where
+      abbrev pub fed_in_vain : FeedsInVain (width_of n) e.stream s now.rest left now.read_faults after e.close
+      fed_in_vain = subst (λ k. FeedsInVain k e.stream s now.rest left now.read_faults after e.close) same_width vain
+
+      pub unended_then : (x : Ending) → e.close ≡ Some x → ⊥
+      unended_then x is = no_end (sym fed_in_vain.asked ∙ is)
+        where
+          no_end : ◌≡◌ {A = Option Ending} None (Some x) → ⊥
+          no_end h = cc
+
+      pub comes_then : (later : List (List ℤ)) → HaveInWords n.tree later → MayCome n e.close (fed_in_vain.more ++ later)
+      comes_then later in_words = record {
+        wide = steps.wide_append (width_of n) fed_in_vain.more later fed_in_vain.wide in_words;
+        none = λ x is. absurd (unended_then x is);
+      }
+
+      unfoldable pub ends_unfed : Ends job (outside left after now.taken now.write_faults) (Err fault.NoMemory)
+      ends_unfed = record {
+        ends = record {
+          stream = s;
+          items = d.items ++ fed_in_vain.more;
+          closed = fed_in_vain.closed;
+          gives = fed_in_vain.gives job.before.rest job.before.read_faults d.items d.gives;
+          begun =
+              steps.begun_by (meaning_of n (d.items ++ fed_in_vain.more)) d.outcomes job.before.taken now.taken
+              (steps.begins_given n d.laws job.schedule e.machine e.picker d.items e.close d.outcomes e.idle d.walked d.stands fed_in_vain.more
+              (record { wide = fed_in_vain.wide; none = λ x is. absurd (unended_then x is) })) d.put;
+          emits = λ later on.
+              subst (λ i. HasBegun job.before.taken now.taken (text_of (course_of n job.schedule i).state.emitted)) (sym (append_assoc d.items fed_in_vain.more later))
+              (steps.begun_by (course_of n job.schedule (d.items ++ (fed_in_vain.more ++ later))).state.emitted d.outcomes job.before.taken now.taken
+              (steps.begins_emitted n d.laws job.schedule e.machine e.picker d.items e.close d.outcomes e.idle d.walked d.stands (fed_in_vain.more ++ later) (comes_then later on.wide)) d.put);
+        };
+        output = d.quiet;
+      }
 
   module _ (now : Outside) (e : Execution) (a : AwaitsPick job now e) where
     abbrev d : Executes job now e

@@ -35,9 +35,9 @@ use Rattle.p3l_timed.specs.Clock as clock
 use Rattle.p3l_timed.specs.Due.{IsNext}
 use Rattle.p3l_timed.specs.Follow.{Times}
 use Rattle.p3l_timed.specs.Price.{price_at}
-use Rattle.p3l_timed.specs.Timed.{FiresInTime, Timing, busy_of, timed_step, timing_from}
+use Rattle.p3l_timed.specs.Timed.{Timing, busy_of, timed_step, timing_from}
 use Rattle.p3l_timed.proofs.FollowLaw.{firing_keeps, in_time, offer_keeps, same_keeps, starts}
-use Rattle.p3l_timed.proofs.TimedLaw.{busy_last, busy_stays, fires_first, fires_none, no_step, same_course, timed_more}
+use Rattle.p3l_timed.proofs.TimedLaw.{begins_all, begins_more, begins_none, busy_last, busy_stays, no_step, same_course, timed_more}
 use Rattle.p3l_run.specs.declared.execution.Execution.{Execution}
 use Rattle.p3l_run.specs.declared.fault.RunFault.{RunFault}
 use Rattle.p3l_run.specs.declared.fault.RunFault.TheVariants as fault
@@ -47,11 +47,11 @@ use Rattle.p3l_run.specs.Execution.{Ends, Executes, HasFired, IsFinish, Job, Out
 use Rattle.p3l_run.specs.Feed.{Feeds, FeedsInVain, Offers, closed_so, input_limit, most_of_input}
 use Rattle.p3l_run.specs.Laws.{Laws}
 use Rattle.p3l_run.specs.Network.{Network, picks_of as picks_under, course_of, course_under, meaning_of, ready_at, size_of, width_of}
-use Rattle.p3l_run.specs.Run.{MayCome}
+use Rattle.p3l_run.specs.Run.{MayCome, MayFollow}
 use Rattle.p3l_run.specs.Steps.{Stands}
-use Rattle.p3l_run.specs.Timed.{AreTimed, AtTime, AwaitsInTime, EndsEarly, EndsInTime, GoesInTime, InTime, NoneIsDue, timing, under}
+use Rattle.p3l_run.specs.Timed.{AreTimed, AtTime, AwaitsInTime, BeginTimed, EndsEarly, EndsInTime, GoesInTime, InTime, NoneIsDue, timing, under}
 use Rattle.p3l_run.specs.Write.{HasBegun, HasPut, WriteCause}
-use Rattle.p3l_run.proofs.ExecutionSteps.{ends_over, ends_early, ends_unfed, kept_more}
+use Rattle.p3l_run.proofs.ExecutionSteps.{comes_then, ends_over, ends_early, ends_unfed, ends_unstarted, fed_in_vain, kept_more}
 use Rattle.p3l_run.proofs.FeedSteps.{fed_fired, gives_first}
 use Rattle.p3l_run.proofs.RunSteps as steps
 use Rattle.p3l_run.proofs.TraceSteps.{picks_more}
@@ -60,8 +60,15 @@ use Rattle.p3l_run.specs.Trap.{trap_after}
 use Rattle.p3l_run.proofs.WriteSteps.{cause_on, put_more, put_nothing, text_more}
 
 -- an end that came early
-pub early_under : (job : Job) (picks : List ℕ) (now : Outside) (failed : RunFault) → Ends (under job picks) now (Err failed) → EndsEarly job now failed
-early_under job picks now failed ends = record { picks = picks; ends = ends }
+early_under : (job : Job) (prices picks : List ℕ) (now : Outside) (failed : RunFault) (ends : Ends (under job picks) now (Err failed))
+    → ((later : List (List ℤ)) → MayFollow job.network ends.ends.closed later → BeginTimed job.network prices (ends.ends.items ++ later) picks) → EndsEarly job prices now failed
+early_under job prices picks now failed ends begins = record { picks = picks; ends = ends; begins = begins }
+
+-- before anything was asked for and anything fired
+pub unstarted_in_time : (job : Job) (prices : List ℕ) → HasGiven (width_of job.network) (stream.started (width_of job.network) input_limit) [] [] → EndsEarly job prices job.before fault.NoMemory
+unfolding ends_unstarted
+unstarted_in_time job prices given = early_under job prices [] _ _ (ends_unstarted (under job []) given)
+    (λ later on. begins_none job.network.tree job.network.leaf job.network.net (price_at prices) (timing_from job.network.tree job.network.net (price_at prices) later))
 
 module _ (n : Network) (laws : Laws n) where
   -- RECORDED PICKS, all of which were made, and one more, where some process can fire after them
@@ -195,14 +202,14 @@ module _ (job : Job) (prices : List ℕ) where
         let renews_old : IsRenewed e.machine k new = subst (λ x. IsRenewed x k new) same renews in
         subst (λ x. AtTime n prices new x ((d.items ++ []) ++ later) is.picks) (sym same)
         (subst (λ xs. AtTime n prices new e.machine (xs ++ later) is.picks) (sym (append-nil d.items))
-        (record { times = same_keeps e.machine _ k new was.times renews_old; front = was.front }))
+        (record { times = same_keeps e.machine _ k new was.times renews_old; begins = was.begins }))
     fed_at m new close (item ∷ []) offers wide asked kept renews later may =
         let open_now = asked (λ x. cons_none x) in
         let was = is.at (item ∷ later) (record { wide = (wide.0, may.wide); none = λ x c. absurd (none_open x (sym open_now ∙ c)) }) in
         let renews_new : IsRenewed (record e.machine { inbox = Some item }) k new = subst (λ x. IsRenewed x k new) offers.1 renews in
         subst (λ x. AtTime n prices new x ((d.items ++ item ∷ []) ++ later) is.picks) (sym offers.1)
         (subst (λ xs. AtTime n prices new (record e.machine { inbox = Some item }) xs is.picks) (sym (append_assoc d.items (item ∷ []) later))
-        (record { times = offer_keeps e.machine item _ k new typed was.times offers.0 renews_new; front = was.front }))
+        (record { times = offer_keeps e.machine item _ k new typed was.times offers.0 renews_new; begins = was.begins }))
       where
         cons_none : item ∷ [] ≡ [] → ⊥
         cons_none x = cc
@@ -253,11 +260,18 @@ module _ (job : Job) (prices : List ℕ) where
           same,
         )
 
-    pub unfed_in_time : (s : stream.Seen) (left : Option (List ℕ)) (after : ℕ) → FeedsInVain (node_at e.machine.tree 0).ins e.stream s now.rest left now.read_faults after e.close → EndsEarly job (outside left after now.taken now.write_faults) fault.NoMemory
-    unfed_in_time s left after vain = early_under job is.picks _ _ (ends_unfed (under job is.picks) now e d s left after vain)
+    pub unfed_in_time : (s : stream.Seen) (left : Option (List ℕ)) (after : ℕ) → FeedsInVain (node_at e.machine.tree 0).ins e.stream s now.rest left now.read_faults after e.close → EndsEarly job prices (outside left after now.taken now.write_faults) fault.NoMemory
+    unfolding ends_unfed
+    unfed_in_time s left after vain =
+        early_under job prices is.picks _ _ (ends_unfed (under job is.picks) now e d s left after vain)
+        (λ later on.
+        let more = (fed_in_vain (under job is.picks) now e d s left after vain).more in
+        subst (λ items. BeginTimed n prices items is.picks) (sym (append_assoc d.items more later))
+        (is.at (more ++ later) (comes_then (under job is.picks) now e d s left after vain later on.wide)).begins)
 
-    pub early_in_time : EndsEarly job now fault.NoMemory
-    early_in_time = early_under job is.picks _ _ (ends_early (under job is.picks) now e d)
+    pub early_in_time : EndsEarly job prices now fault.NoMemory
+    unfolding ends_early
+    early_in_time = early_under job prices is.picks _ _ (ends_early (under job is.picks) now e d) (λ later on. (is.at later (steps.may_come n e.close later on)).begins)
 
   module _ (now : Outside) (e : Execution) (k : Clock) (a : AwaitsInTime job prices now e k) where
     abbrev it : InTime job prices now e k
@@ -287,7 +301,7 @@ module _ (job : Job) (prices : List ℕ) where
           let at = it.at later may in
           let t = timing n prices (x.items ++ later) it.picks in
           let over = (in_time e.machine x.outcomes later t k (follows later may) (filled later may) at.times).none none in
-          subst (AreTimed n prices (x.items ++ later)) (append-nil it.picks) (at.front [] (fires_none n.tree n.leaf n.net (price_at prices) t over))
+          begins_all n.tree n.leaf n.net (price_at prices) (timing_from n.tree n.net (price_at prices) (x.items ++ later)) it.picks at.begins over
 
       -- all picks were made
       made_all : (later : List (List ℤ)) → MayCome n e.close later → picks_under n (schedules.Recorded it.picks) (x.items ++ later) ≡ it.picks
@@ -333,6 +347,13 @@ module _ (job : Job) (prices : List ℕ) where
       recorded_one : Stands n (schedules.Recorded (it.picks ++ p ∷ [])) e.machine (way.Reads (p ∷ [])) x.items e.close x.outcomes 0 x.walked
       recorded_one = one_recorded n x.laws e.machine x.items e.close x.outcomes x.walked it.picks (stands now e k it) it.walked_are filled p in_size some
 
+      begins_next : (later : List (List ℤ)) → MayCome n e.close later → BeginTimed n prices (x.items ++ later) (it.picks ++ p ∷ [])
+      begins_next later may =
+          let at = it.at later may in
+          let items : List (List ℤ) = x.items ++ later in
+          let due = (in_time e.machine x.outcomes later (timing n prices items it.picks) k (follows later may) (filled later may) at.times).next p next in
+          begins_more n.tree n.leaf n.net (price_at prices) (timing_from n.tree n.net (price_at prices) items) it.picks p at.begins due
+
       module _ (leaf : Leaf) (leaf_is : n.leaf ≡ leaf) (e' : Execution) (handed : Option Outcome) (fired : HasFired leaf p e e' handed) where
         fires : Fires n.leaf e.machine e'.machine p handed
         fires = subst (λ l. Fires l e.machine e'.machine p handed) (sym leaf_is) fired.fires
@@ -373,23 +394,25 @@ module _ (job : Job) (prices : List ℕ) where
         stands_more = steps.stands_fired n x.laws (schedules.Recorded (it.picks ++ p ∷ [])) e.machine (way.Reads (p ∷ [])) x.items e.close x.outcomes 0 x.walked recorded_one filled p (Some fired.kind) refl some e'.machine handed can fires there fired.kind fired.kind_is refl
 
         pub ends_unwritten_in_time : (taken : Option (List ℕ)) (after : ℕ) (failed : RunFault) → HasBegun now.taken taken (text_of (option_to_list handed)) → WriteCause {T = Told} now.write_faults after (Err failed)
-            → EndsEarly job (outside now.rest now.read_faults taken after) failed
-        ends_unwritten_in_time taken after failed begun cause = early_under job (it.picks ++ p ∷ []) _ _ (record {
-          ends = record {
-            stream = e.stream;
-            items = x.items;
-            closed = closed_so e.close;
-            gives = x.gives;
-            begun =
-                steps.begun_last (meaning_of n x.items) x.outcomes handed job.before.taken now.taken taken
-                (steps.led_begins n x.laws (schedules.Recorded (it.picks ++ p ∷ [])) e.machine (way.Reads (p ∷ [])) x.items e.close x.outcomes 0 x.walked recorded_one filled p None refl some e'.machine handed can fires) x.put begun;
-            emits = λ later on.
-                steps.begun_last (course_of n (schedules.Recorded (it.picks ++ p ∷ [])) (x.items ++ later)).state.emitted x.outcomes handed job.before.taken now.taken taken
-                (steps.begins_emitted n x.laws (schedules.Recorded (it.picks ++ p ∷ [])) e'.machine (way.Reads []) x.items e.close (x.outcomes ++ option_to_list handed) 0 (x.walked ++ line ∷ []) stands_more later (steps.may_come n e.close later on))
-                x.put begun;
-          };
-          output = cause_on Ran Told job.before.write_faults now.write_faults after failed x.quiet cause;
-        })
+            → EndsEarly job prices (outside now.rest now.read_faults taken after) failed
+        ends_unwritten_in_time taken after failed begun cause =
+            early_under job prices (it.picks ++ p ∷ []) _ _ (record {
+              ends = record {
+                stream = e.stream;
+                items = x.items;
+                closed = closed_so e.close;
+                gives = x.gives;
+                begun =
+                    steps.begun_last (meaning_of n x.items) x.outcomes handed job.before.taken now.taken taken
+                    (steps.led_begins n x.laws (schedules.Recorded (it.picks ++ p ∷ [])) e.machine (way.Reads (p ∷ [])) x.items e.close x.outcomes 0 x.walked recorded_one filled p None refl some e'.machine handed can fires) x.put begun;
+                emits = λ later on.
+                    steps.begun_last (course_of n (schedules.Recorded (it.picks ++ p ∷ [])) (x.items ++ later)).state.emitted x.outcomes handed job.before.taken now.taken taken
+                    (steps.begins_emitted n x.laws (schedules.Recorded (it.picks ++ p ∷ [])) e'.machine (way.Reads []) x.items e.close (x.outcomes ++ option_to_list handed) 0 (x.walked ++ line ∷ []) stands_more later (steps.may_come n e.close later on))
+                    x.put begun;
+              };
+              output = cause_on Ran Told job.before.write_faults now.write_faults after failed x.quiet cause;
+            })
+            (λ later on. begins_next later (steps.may_come n e.close later on))
 
         module _ (k' : Clock) (item : p ≢ 0 → e'.machine.inbox ≡ e.machine.inbox) (tells : clock.HasFired e'.machine p k k') where
           at_next : (later : List (List ℤ)) → MayCome n e.close later → AtTime n prices k' e'.machine (x.items ++ later) (it.picks ++ p ∷ [])
@@ -398,7 +421,6 @@ module _ (job : Job) (prices : List ℕ) where
               let items : List (List ℤ) = x.items ++ later in
               let t : Timing = timing n prices items it.picks in
               let more : timing n prices items (it.picks ++ p ∷ []) ≡ timed_step n.tree n.leaf n.net (price_at prices) t p = timed_more n.tree n.leaf n.net (price_at prices) (timing_from n.tree n.net (price_at prices) items) it.picks p in
-              let due = (in_time e.machine x.outcomes later t k (follows later may) (filled later may) at.times).next p next in
               let keeps = firing_keeps e.machine x.outcomes later t k (follows later may) (filled later may) at.times e'.machine k' n.leaf p handed (typed now e k it) can fires item tells in
               let keeps_here : Times k' e'.machine (timed_step n.tree n.leaf n.net (price_at prices) t p) =
               subst (λ y. Times k' e'.machine (timed_step y n.leaf n.net (price_at prices) t p)) x.stands.runs.tree
@@ -406,9 +428,7 @@ module _ (job : Job) (prices : List ℕ) where
               (subst (λ ps. Times k' e'.machine (timed_step e.machine.tree n.leaf e.machine.net (price_at ps) t p)) it.prices_are keeps)) in
               record {
                 times = subst (Times k' e'.machine) (sym more) keeps_here;
-                front = λ rest goes.
-                    subst (AreTimed n prices items) (sym (append_assoc it.picks (p ∷ []) rest))
-                    (at.front (p ∷ rest) (fires_first n.tree n.leaf n.net (price_at prices) t p rest due (subst (λ y. FiresInTime n.tree n.leaf n.net (price_at prices) y rest) more goes)));
+                begins = begins_next later may;
               }
 
           busy_next : (q : ℕ) → slice_index k'.busy q ≡ busy_of (price_at prices) (it.picks ++ p ∷ []) q
@@ -530,6 +550,6 @@ module _ (job : Job) (prices : List ℕ) where
             let none = no_step job.network.tree job.network.leaf job.network.net (price_at prices) t0 in
             record {
               times = subst (Times k (machine.started job.network.tree job.network.net)) (sym none) (starts job.network.tree job.network.net later prices k fresh);
-              front = λ rest goes. subst (λ y. FiresInTime job.network.tree job.network.leaf job.network.net (price_at prices) y rest) none goes;
+              begins = begins_none job.network.tree job.network.leaf job.network.net (price_at prices) t0;
             };
       })) begun

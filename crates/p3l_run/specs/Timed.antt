@@ -11,7 +11,7 @@ use Rattle.p3l_moments.specs.Moments.{due_at}
 use Rattle.p3l_timed.specs.Clock.{Clock}
 use Rattle.p3l_timed.specs.Follow.{Times}
 use Rattle.p3l_timed.specs.Price.{price_at}
-use Rattle.p3l_timed.specs.Timed.{FiresInTime, IsTimed, Timing, busy_of, finish_of, timed_after, timing_from}
+use Rattle.p3l_timed.specs.Timed.{BeginsTimed, IsTimed, Timing, busy_of, finish_of, timed_after, timing_from}
 use Rattle.p3l_run.specs.declared.execution.Execution.{Execution}
 use Rattle.p3l_run.specs.declared.fault.RunFault.{RunFault}
 use Rattle.p3l_run.specs.declared.fault.RunFault.TheVariants as fault
@@ -20,7 +20,7 @@ use Rattle.p3l_run.specs.declared.keeping.Keeping.{Keeping}
 use Rattle.p3l_run.specs.declared.run.Ran.{Ran}
 use Rattle.p3l_run.specs.Execution.{Ends, Executes, Job, Outside, outside}
 use Rattle.p3l_run.specs.Network.{Network, picks_of}
-use Rattle.p3l_run.specs.Run.{MayCome}
+use Rattle.p3l_run.specs.Run.{MayCome, MayFollow}
 
 -- the job under these picks
 abbrev pub under : Job → List ℕ → Job
@@ -34,10 +34,14 @@ timing n prices items picks = timed_after n.tree n.leaf n.net (price_at prices) 
 abbrev pub AreTimed : Network → List ℕ → List (List ℤ) → List ℕ → Type 0
 AreTimed n prices items picks = IsTimed n.tree n.leaf n.net (price_at prices) items picks
 
--- a timer and a machine are where the timed run on these items stands after these picks, which are the first of its picks
+-- the timed run of a network on items begins with these picks
+abbrev pub BeginTimed : Network → List ℕ → List (List ℤ) → List ℕ → Type 0
+BeginTimed n prices items picks = BeginsTimed n.tree n.leaf n.net (price_at prices) items picks
+
+-- a timer and a machine are where the timed run on these items is after these picks, with which it begins
 pub record AtTime (n : Network) (prices : List ℕ) (k : Clock) (m : Seen) (items : List (List ℤ)) (picks : List ℕ) : Type 0 where
   pub times : Times k m (timing n prices items picks)
-  pub front : (rest : List ℕ) → FiresInTime n.tree n.leaf n.net (price_at prices) (timing n prices items picks) rest → AreTimed n prices items (picks ++ rest)
+  pub begins : BeginTimed n prices items picks
 
 -- a job is under way in virtual time
 pub record InTime (job : Job) (prices : List ℕ) (now : Outside) (e : Execution) (k : Clock) : Type 0 where
@@ -69,10 +73,12 @@ pub record EndsInTime (job : Job) (prices : List ℕ) (now : Outside) (ran : Ran
   pub prices_are : k.prices ≡ prices
   pub some : 0 < length k.prices
 
--- a run that ended early, under the picks so far
-pub record EndsEarly (job : Job) (now : Outside) (failed : RunFault) : Type 0 where
+-- a run that ended early, at these prices, under the picks so far: with them begins the timed run of the items that the stream gave,
+-- and whatever may still come after them
+pub record EndsEarly (job : Job) (prices : List ℕ) (now : Outside) (failed : RunFault) : Type 0 where
   pub picks : List ℕ
   pub ends : Ends (under job picks) now (Err failed)
+  pub begins : (later : List (List ℤ)) → MayFollow job.network ends.ends.closed later → BeginTimed job.network prices (ends.ends.items ++ later) picks
 
 -- none is due
 abbrev pub NoneIsDue : Clock → Type 0
@@ -85,7 +91,7 @@ FeedsInTime rest left before after old new k k' (Ok done) =
     → AwaitsInTime job prices (outside left after taken faults) new k' × (new.machine.fired ≡ old.machine.fired)
 FeedsInTime rest left before after old new k k' (Err want) =
     (job : Job) (prices : List ℕ) (taken : Option (List ℕ)) (faults : ℕ) → InTime job prices (outside rest before taken faults) old k
-    → EndsEarly job (outside left after taken faults) fault.NoMemory
+    → EndsEarly job prices (outside left after taken faults) fault.NoMemory
 
 -- the process that is due next fired, and the job is under way still; or none was due
 abbrev pub GoesInTime : Job → List ℕ → Outside → Execution → Execution → Clock → Bool → Type 0
@@ -99,7 +105,7 @@ StepsInTime leaf taken taken' before after old new k k' (Ok going) =
     → GoesInTime job prices (outside rest faults taken' after) old new k' going
 StepsInTime leaf taken taken' before after old new k k' (Err failed) =
     (job : Job) (prices : List ℕ) (rest : Option (List ℕ)) (faults : ℕ) → job.network.leaf ≡ leaf → AwaitsInTime job prices (outside rest faults taken before) old k
-    → EndsEarly job (outside rest faults taken' after) failed
+    → EndsEarly job prices (outside rest faults taken' after) failed
 
 -- some job is under way, with these bodies of modules; and was fed
 pub record IsInTime (leaf : Leaf) (now : Outside) (e : Execution) (k : Clock) : Type 0 where
@@ -123,7 +129,7 @@ LeadsInTime leaf before now old new k k' = (job : Job) (prices : List ℕ) → j
 -- whatever job is under way, all that is due in it fires
 abbrev pub RunsInTime : Leaf → Outside → Outside → Execution → Execution → Clock → Clock → Result (Unit {0}) RunFault → Type 0
 RunsInTime leaf before now old new k k' (Ok done) = (job : Job) (prices : List ℕ) → job.network.leaf ≡ leaf → InTime job prices before old k → AwaitsInTime job prices now new k' × NoneIsDue k'
-RunsInTime leaf before now old new k k' (Err failed) = (job : Job) (prices : List ℕ) → job.network.leaf ≡ leaf → InTime job prices before old k → EndsEarly job now failed
+RunsInTime leaf before now old new k k' (Err failed) = (job : Job) (prices : List ℕ) → job.network.leaf ≡ leaf → InTime job prices before old k → EndsEarly job prices now failed
 
 -- some job is under way, and may be fed
 pub record MayFeed (rest : Option (List ℕ)) (faults : ℕ) (e : Execution) (k : Clock) : Type 0 where
@@ -136,7 +142,7 @@ pub record MayFeed (rest : Option (List ℕ)) (faults : ℕ) (e : Execution) (k 
 -- how a run in virtual time ends
 abbrev pub IsTimedEnd : Job → List ℕ → Outside → Result TimedRan RunFault → Type 0
 IsTimedEnd job prices now (Ok end) = EndsInTime job prices now end.ran end.timer
-IsTimedEnd job prices now (Err failed) = EndsEarly job now failed
+IsTimedEnd job prices now (Err failed) = EndsEarly job prices now failed
 
 -- whatever job is under way, with these bodies of modules and this tree to name traps, an execution comes to the end of its run
 abbrev pub CompletesInTime : Leaf → Tree → Outside → Outside → Execution → Clock → Result TimedRan RunFault → Type 0

@@ -19,7 +19,7 @@ use Rattle.p3l_firing.proofs.Rows.{none_ready}
 use Rattle.p3l_moments.specs.Moments.{IsNoLater}
 use Rattle.p3l_timed.specs.Due.{IsNext, nothing_due, without}
 use Rattle.p3l_timed.specs.Laws.{IsRun, IsWithinBusy}
-use Rattle.p3l_timed.specs.Timed.{FiresInTime, IsTimed, Timing, all_busy, busy_of, moment_of, timed_after, timed_step, timing_from}
+use Rattle.p3l_timed.specs.Timed.{FiresInTime, FiresNext, IsTimed, Timing, all_busy, busy_of, moment_of, timed_after, timed_step, timing_from}
 use Rattle.p3l_timed.proofs.Round.{due_from, due_where, without_own, without_other}
 
 some_due : (o : Option ℕ) → o ≢ None → (d : ℕ) × (o ≡ Some d)
@@ -113,13 +113,26 @@ module _ (tree : Tree) (leaf : Leaf) (net : Net) (price : ℕ → ℕ) where
   timed_more t [] p = refl
   timed_more t (q ∷ picks) p = timed_more (timed_step tree leaf net price t q) picks p
 
-  pub fires_first : (t : Timing) (p : ℕ) (rest : List ℕ) → IsNext t.due p → FiresInTime tree leaf net price (timed_step tree leaf net price t p) rest → FiresInTime tree leaf net price t (p ∷ rest)
-  unfolding FiresInTime
-  fires_first t p rest next more = (next, more)
+  -- no picks begin a timed run, and so does one more than some that begin it
+  pub begins_none : (t : Timing) → FiresNext tree leaf net price t []
+  unfolding FiresNext
+  begins_none t = tt
 
-  pub fires_none : (t : Timing) → ((q : ℕ) → t.due q ≡ None) → FiresInTime tree leaf net price t []
-  unfolding FiresInTime
-  fires_none t none = none
+  pub begins_more : (t : Timing) (picks : List ℕ) (p : ℕ) → FiresNext tree leaf net price t picks → IsNext (timed_after tree leaf net price t picks).due p → FiresNext tree leaf net price t (picks ++ p ∷ [])
+  unfolding FiresNext timed_after
+  begins_more t [] p begins next = (next, tt)
+  begins_more t (q ∷ picks) p begins next = (begins.0, begins_more (timed_step tree leaf net price t q) picks p begins.1 next)
+
+  -- they are all of it where none is due after them
+  pub begins_all : (t : Timing) (picks : List ℕ) → FiresNext tree leaf net price t picks → ((q : ℕ) → (timed_after tree leaf net price t picks).due q ≡ None) → FiresInTime tree leaf net price t picks
+  unfolding FiresNext FiresInTime timed_after
+  begins_all t [] begins none = none
+  begins_all t (q ∷ picks) begins none = (begins.0, begins_all (timed_step tree leaf net price t q) picks begins.1 none)
+
+  pub all_begins : (t : Timing) (picks : List ℕ) → FiresInTime tree leaf net price t picks → FiresNext tree leaf net price t picks
+  unfolding FiresNext FiresInTime
+  all_begins t [] fires = tt
+  all_begins t (q ∷ picks) fires = (fires.0, all_begins (timed_step tree leaf net price t q) picks fires.1)
 
   pub no_step : (t : Timing) → timed_after tree leaf net price t [] ≡ t
   unfolding timed_after

@@ -49,9 +49,18 @@ unfoldable pub FiresInTime : Tree → Leaf → Net → (ℕ → ℕ) → Timing 
 FiresInTime tree leaf net price t [] = (q : ℕ) → t.due q ≡ None
 FiresInTime tree leaf net price t (p ∷ picks) = IsNext t.due p × FiresInTime tree leaf net price (timed_step tree leaf net price t p) picks
 
+-- these are firings each of the process that is due next, whatever is due after them
+unfoldable pub FiresNext : Tree → Leaf → Net → (ℕ → ℕ) → Timing → List ℕ → Type 0
+FiresNext tree leaf net price t [] = Unit {0}
+FiresNext tree leaf net price t (p ∷ picks) = IsNext t.due p × FiresNext tree leaf net price (timed_step tree leaf net price t p) picks
+
 -- THE TIMED RUN of a net on items: these are its picks
 abbrev pub IsTimed : Tree → Leaf → Net → (ℕ → ℕ) → List (List ℤ) → List ℕ → Type 0
 IsTimed tree leaf net price items picks = FiresInTime tree leaf net price (timing_from tree net price items) picks
+
+-- it begins with these picks
+abbrev pub BeginsTimed : Tree → Leaf → Net → (ℕ → ℕ) → List (List ℤ) → List ℕ → Type 0
+BeginsTimed tree leaf net price items picks = FiresNext tree leaf net price (timing_from tree net price items) picks
 
 -- the moment of its last firing
 abbrev pub finish_of : Tree → Leaf → Net → (ℕ → ℕ) → List (List ℤ) → List ℕ → ℕ

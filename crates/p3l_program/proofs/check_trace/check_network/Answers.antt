@@ -1,4 +1,4 @@
-use Rattle.std.proofs.Common.{◌≡◌, refl, subst, sym, ◌∙◌}
+use Rattle.std.proofs.Common.{refl, subst, sym, ◌∙◌}
 use Rattle.p3l_program.specs.Trace.{IsCheckOf}
 use Rattle.p3l_run.specs.Network.{IsSound}
 use Rattle.p3l_skel.specs.Numbers.{firings}

@@ -1,4 +1,4 @@
-use Rattle.std.proofs.Common.{◌≡◌, refl, subst, sym, ap, ◌∙◌}
+use Rattle.std.proofs.Common.{refl, subst, sym, ap, ◌∙◌}
 use Rattle.p3l_program.specs.Run.{IsRunOf, KeepsRun}
 use Rattle.p3l_run.specs.Network.{IsSound, Network}
 use Rattle.p3l_skel.specs.Numbers.{firings}

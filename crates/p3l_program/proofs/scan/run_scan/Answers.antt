@@ -1,10 +1,8 @@
-use Rattle.std.proofs.Common.{◌≡◌, None, subst, sym, ap, ◌∙◌}
-use Rattle.p3l_check.specs.Resolving.{ResolvedTree}
+use Rattle.std.proofs.Common.{None, subst, sym, ap, ◌∙◌}
 use Rattle.p3l_compile.specs.Leaves.{AreBodies}
 use Rattle.p3l_run.specs.Network.{IsSound, Network}
 use Rattle.p3l_scan.specs.Planned.{IsPlanOf}
 use Rattle.p3l_skel.specs.Lawful.{IsLawfulTree}
-use Rattle.p3l_program.specs.Plan.{IsCompiled, scan_network}
 use Rattle.p3l_program.specs.Run.{IsRunOf, KeepsRun}
 use Rattle.p3l_program.specs.World.{change, files_change}
 use Rattle.p3l_program.proofs.ScanSteps.{scan_sound, units_network}

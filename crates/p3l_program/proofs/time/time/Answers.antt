@@ -1,7 +1,7 @@
 use Rattle.std.proofs.Common.{refl, subst}
 use Rattle.p3l_program.specs.Plan.{network_in}
 use Rattle.p3l_program.specs.Time.{IsTimeOf, KeepsTime}
-use Rattle.p3l_timed.specs.Price.{HasSmallPrices, prices_of}
+use Rattle.p3l_timed.specs.Price.{prices_of}
 use Rattle.p3l_firing.specs.Typed.{IsTyped}
 use Rattle.p3l_program.specs.World.{change, files_change}
 use Rattle.p3l_program.proofs.LoadSteps.{same_change}

@@ -1,27 +1,26 @@
-use Rattle.std.proofs.Common.{◌≡◌, [], refl, ap, subst}
+use Rattle.std.proofs.Common.{◌≡◌, refl, ap, subst}
 use Rattle.std.proofs.lemmas.Result.{err_from_is_err_and}
 use Rattle.p3l_sched.specs.declared.schedule.Schedule.TheVariants as schedules
 use Rattle.p3l_run.specs.Execution.{Job, outside, started}
 use Rattle.p3l_run.specs.Network.{network}
 use Rattle.p3l_firing.specs.declared.net.Net.{Net}
 use Rattle.p3l_run.specs.declared.execution.Execution.{Execution}
-use Rattle.p3l_run.specs.Timed.{IsTimedEnd, timed_job, under}
+use Rattle.p3l_run.specs.Timed.{IsTimedEnd, timed_job}
 use Rattle.p3l_timed.specs.Price.{prices_of}
-use Rattle.p3l_run.proofs.ExecutionSteps.{ends_unstarted}
-use Rattle.p3l_run.proofs.TimedSteps.{early_under, in_time_first}
+use Rattle.p3l_run.proofs.TimedSteps.{in_time_first, unstarted_in_time}
 use Rattle.p3l_run.proofs.in_time.run_in_time.Goals as goal
 
 pub returns-in_err-execution : goal.returns-in_err-execution
 returns-in_err-execution g c =
     let job : Job = timed_job (network c.args.plan.tree.now (g.U.Units.leaf c.args.plan.units.now) c.args.plan.net c.args.plan.firings) c.args.keeping (outside (g.S.Source.rest c.args.input.now) (g.S.Source.faults c.args.input.now) (g.K.Sink.taken c.args.out.now) (g.K.Sink.faults c.args.out.now)) in
     let p = err_from_is_err_and c.from_residual.result c.from_residual.ensures.1 in
-    rw (p.1, p.2) (early_under job [] _ _ (ends_unstarted (under job []) (c.a_stream_gives_its_items.ensures.starts _ _)))
+    rw (p.1, p.2) (unstarted_in_time job _ (c.a_stream_gives_its_items.ensures.starts _ _))
 
 pub returns-in_err-timer : goal.returns-in_err-timer
 returns-in_err-timer g c =
     let job : Job = timed_job (network c.args.plan.tree.now (g.U.Units.leaf c.args.plan.units.now) c.args.plan.net c.args.plan.firings) c.args.keeping (outside (g.S.Source.rest c.args.input.now) (g.S.Source.faults c.args.input.now) (g.K.Sink.taken c.args.out.now) (g.K.Sink.faults c.args.out.now)) in
     let p = err_from_is_err_and c.from_residual-in_err-timer.result c.from_residual-in_err-timer.ensures.1 in
-    rw (p.1, p.2) (early_under job [] _ _ (ends_unstarted (under job []) (c.a_stream_gives_its_items.ensures.starts _ _)))
+    rw (p.1, p.2) (unstarted_in_time job _ (c.a_stream_gives_its_items.ensures.starts _ _))
 
 pub complete_in_time-requires-clause-job : goal.complete_in_time-requires-clause-job
 complete_in_time-requires-clause-job g c =

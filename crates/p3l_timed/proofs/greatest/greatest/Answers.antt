@@ -1,6 +1,4 @@
-use Rattle.std.proofs.Common.{◌≡◌, ◌+◌, ◌<◌, ◌≤◌, ℕ, length, slice_index, sym, subst, arith, inl, inr}
-use Rattle.std.proofs.lemmas.Bool.{cases_lt}
-use Rattle.std.proofs.lemmas.List.{get_or_past}
+use Rattle.std.proofs.Common.{arith}
 use Rattle.p3l_timed.proofs.Keeping.{greater_step, greatest_end}
 use Rattle.p3l_timed.proofs.greatest.greatest.Goals as goal
 
