@@ -26,7 +26,7 @@ const PLANS: [(&[Row], u32, Planned); 6] = [
     (&ONE, 1, Err(ScanRefusal::NotReduce)),
 ];
 
-// How often the plan of these rows in so many segments fires for an item.
+// How often the plan of these rows in this number of segments fires for an item.
 fn planned(rt: &impl Abort, alloc: Global, rows: &[Row], segments: u32) -> Result<Planned, Fail> {
     let tree = tree_of(alloc, rows)?;
     assert!(rt; lawful_tree(&tree));

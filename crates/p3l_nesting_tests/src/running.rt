@@ -68,7 +68,7 @@ fn machine_of<'t>(
     Machine::start(alloc, tree, net)
 }
 
-// Offers the first of these items, if the machine wants one and there is one; gives those that are
+// Offers the first of these items, if the inbox is empty and there is one; gives those that are
 // left.
 fn fill<'c>(
     rt: &impl Abort,

@@ -23,8 +23,8 @@ fn says(alloc: Global, text: &str, before: &str, word: &str) -> Result<bool, NoM
     Ok(has(text, part.as_str()))
 }
 
-/// What the help of each command names: its values and options.
-const NAMED: [(&str, &[&str]); 15] = [
+/// What the help of each command that runs nothing names: its values and options.
+const WITHOUT_RUNS: [(&str, &[&str]); 8] = [
     ("check", &["PROGRAM"]),
     ("fmt", &["PROGRAM"]),
     (
@@ -41,6 +41,17 @@ const NAMED: [(&str, &[&str]); 15] = [
             "--capacity C",
         ],
     ),
+    ("migrate", &["IMAGE", "--output FILE"]),
+    (
+        "graph",
+        &["PROGRAM", "--processors P", "--costs FILE", "--capacity C"],
+    ),
+    ("verify-cert", &["PROGRAM", "--cert FILE", "--costs FILE"]),
+    ("rewrite", &["PROGRAM", "--processors P", "--costs FILE"]),
+];
+
+/// What the help of each command that runs something names: its values and options.
+const WITH_RUNS: [(&str, &[&str]); 7] = [
     (
         "run",
         &[
@@ -57,12 +68,6 @@ const NAMED: [(&str, &[&str]); 15] = [
         "exec",
         &["IMAGE", "--schedule S", "--trace FILE", "--stats"],
     ),
-    ("migrate", &["IMAGE", "--output FILE"]),
-    (
-        "graph",
-        &["PROGRAM", "--processors P", "--costs FILE", "--capacity C"],
-    ),
-    ("verify-cert", &["PROGRAM", "--cert FILE", "--costs FILE"]),
     (
         "check-trace",
         &[
@@ -83,7 +88,6 @@ const NAMED: [(&str, &[&str]); 15] = [
             "--save PREFIX",
         ],
     ),
-    ("rewrite", &["PROGRAM", "--processors P", "--costs FILE"]),
     ("profile", &["PROGRAM"]),
     (
         "time",
@@ -123,88 +127,65 @@ fn compare(
     Ok(())
 }
 
-/// Each number of refusal, with the name that the program prints after it.
-const NUMBERED: [(&str, &str); 54] = [
-    ("1", "BadByte"),
-    ("2", "BadToken"),
-    ("3", "Expected"),
-    ("4", "NumberTooBig"),
-    ("5", "NameTooLong"),
-    ("6", "SourceTooLong"),
-    ("8", "TooNested"),
-    ("10", "UnknownName"),
-    ("11", "BadSize"),
-    ("12", "TooWide"),
-    ("20", "Twice"),
-    ("21", "NoMain"),
-    ("22", "UsedBeforeDefined"),
-    ("23", "Arity"),
-    ("24", "TypeDiffers"),
-    ("25", "Wiring"),
-    ("26", "FreeIndex"),
-    ("27", "BadOperator"),
-    ("28", "NotInComp"),
-    ("29", "LoopTypes"),
-    ("30", "BadWorkers"),
-    ("31", "TooManyInstances"),
-    ("32", "TooDeep"),
-    ("33", "TooHeavy"),
-    ("40", "Undeclared"),
-    ("41", "DeclaredTwice"),
-    ("42", "NotArray"),
-    ("43", "IsArray"),
-    ("44", "WriteToIn"),
-    ("50", "NotToml"),
-    ("51", "BadKey"),
-    ("52", "BadValue"),
-    ("53", "Missing"),
-    ("70", "RowWrong"),
-    ("71", "RowMissing"),
-    ("72", "ClaimWrong"),
-    ("73", "BadText"),
-    ("80", "BadMagic"),
-    ("81", "Version"),
-    ("82", "Short"),
-    ("83", "BadField"),
-    ("84", "TrailingBytes"),
-    ("90", "CodeUnsafe"),
-    ("91", "NotLinked"),
-    ("92", "TreeWrong"),
-    ("95", "BadPick"),
-    ("96", "NoSuchProcess"),
-    ("100", "BadWord"),
-    ("101", "WrongCount"),
-    ("102", "OutOfRange"),
-    ("110", "BadLine"),
-    ("111", "Differs"),
-    ("120", "NotReduce"),
-    ("121", "BadSegments"),
-];
-
-#[test]
-fn the_help_of_a_command_has_its_words_and_an_example(rt: HostRuntime) -> Result<(), Fail> {
-    for (command, words) in NAMED {
-        let help = all_pages().answer(&["help", command]);
-        assert!(rt; help.is_some());
-        compare(&rt, rt.alloc(), command, help.unwrap(), words)?;
-        for asked in [
-            [command, "--help", "more"],
-            [command, "m.p3l", "-h"],
-            [command, "-h", "--version"],
-        ] {
-            assert!(rt; all_pages().answer(&asked) == help);
-        }
+/// The help of a command must be the answer to each way to ask for it, and have its words.
+fn helps(rt: &impl Abort, alloc: Global, command: &str, words: &[&str]) -> Result<(), NoMemory> {
+    let help = all_pages().answer(&["help", command]);
+    assert!(rt; help.is_some());
+    compare(rt, alloc, command, help.unwrap(), words)?;
+    for ways in [
+        [command, "--help", "more"],
+        [command, "m.p3l", "-h"],
+        [command, "-h", "--version"],
+    ] {
+        assert!(rt; all_pages().answer(&ways) == help);
     }
     Ok(())
 }
 
 #[test]
-fn the_help_of_the_program_lists_the_commands(rt: HostRuntime) -> Result<(), Fail> {
+fn the_help_of_a_command_without_runs_has_its_words(rt: HostRuntime) -> Result<(), Fail> {
+    for (command, words) in WITHOUT_RUNS {
+        helps(&rt, rt.alloc(), command, words)?;
+    }
+    Ok(())
+}
+
+#[test]
+fn the_help_of_a_command_with_runs_has_its_words(rt: HostRuntime) -> Result<(), Fail> {
+    for (command, words) in WITH_RUNS {
+        helps(&rt, rt.alloc(), command, words)?;
+    }
+    Ok(())
+}
+
+/// The help of the program must have a line of this command.
+fn lists(rt: &impl Abort, alloc: Global, command: &str) -> Result<(), NoMemory> {
     let help = all_pages().answer(&["--help"]);
     assert!(rt; help.is_some());
-    for (command, _) in NAMED {
-        assert!(rt; says(rt.alloc(), help.unwrap(), "\n  ", command)?);
+    assert!(rt; says(alloc, help.unwrap(), "\n  ", command)?);
+    Ok(())
+}
+
+#[test]
+fn the_help_of_the_program_lists_commands_without_runs(rt: HostRuntime) -> Result<(), Fail> {
+    for (command, _) in WITHOUT_RUNS {
+        lists(&rt, rt.alloc(), command)?;
     }
+    Ok(())
+}
+
+#[test]
+fn the_help_of_the_program_lists_commands_with_runs(rt: HostRuntime) -> Result<(), Fail> {
+    for (command, _) in WITH_RUNS {
+        lists(&rt, rt.alloc(), command)?;
+    }
+    Ok(())
+}
+
+#[test]
+fn words_for_the_help_of_the_program_are_answered_with_it(rt: HostRuntime) {
+    let help = all_pages().answer(&["--help"]);
+    assert!(rt; help.is_some());
     for words in [
         ["help", "help"],
         ["-h", "run"],
@@ -214,18 +195,120 @@ fn the_help_of_the_program_lists_the_commands(rt: HostRuntime) -> Result<(), Fai
         assert!(rt; all_pages().answer(&words) == help);
     }
     assert!(rt; all_pages().answer(&["help"]) == help);
+}
+
+/// The page of a number of refusal must begin with it and the name that the program prints after
+/// it, and have a run that shows it and how to mend it.
+fn shows(rt: &impl Abort, alloc: Global, number: &str, name: &str) -> Result<(), NoMemory> {
+    let help = all_pages().answer(&["help", number]);
+    assert!(rt; help.is_some());
+    let page = help.unwrap();
+    let title = format!(in alloc; "{number} {name}\n")?;
+    assert!(rt; page.as_bytes().starts_with(title.as_bytes()));
+    assert!(rt; has(page, "\n    $ ") && has(page, "\nTo mend it: "));
     Ok(())
 }
 
 #[test]
-fn each_number_has_a_page_that_names_it_and_shows_it(rt: HostRuntime) -> Result<(), Fail> {
-    for (number, name) in NUMBERED {
-        let help = all_pages().answer(&["help", number]);
-        assert!(rt; help.is_some());
-        let page = help.unwrap();
-        let title = format!(in rt.alloc(); "{number} {name}\n")?;
-        assert!(rt; page.as_bytes().starts_with(title.as_bytes()));
-        assert!(rt; has(page, "\n    $ ") && has(page, "\nTo mend it: "));
+fn each_number_of_a_text_has_a_page(rt: HostRuntime) -> Result<(), Fail> {
+    let table: [(&str, &str); 10] = [
+        ("1", "BadByte"),
+        ("2", "BadToken"),
+        ("3", "Expected"),
+        ("4", "NumberTooBig"),
+        ("5", "NameTooLong"),
+        ("6", "SourceTooLong"),
+        ("8", "TooNested"),
+        ("10", "UnknownName"),
+        ("11", "BadSize"),
+        ("12", "TooWide"),
+    ];
+    for (number, name) in table {
+        shows(&rt, rt.alloc(), number, name)?;
+    }
+    Ok(())
+}
+
+#[test]
+fn each_number_of_a_program_has_a_page(rt: HostRuntime) -> Result<(), Fail> {
+    let table: [(&str, &str); 14] = [
+        ("20", "Twice"),
+        ("21", "NoMain"),
+        ("22", "UsedBeforeDefined"),
+        ("23", "Arity"),
+        ("24", "TypeDiffers"),
+        ("25", "Wiring"),
+        ("26", "FreeIndex"),
+        ("27", "BadOperator"),
+        ("28", "NotInComp"),
+        ("29", "LoopTypes"),
+        ("30", "BadWorkers"),
+        ("31", "TooManyInstances"),
+        ("32", "TooDeep"),
+        ("33", "TooHeavy"),
+    ];
+    for (number, name) in table {
+        shows(&rt, rt.alloc(), number, name)?;
+    }
+    Ok(())
+}
+
+#[test]
+fn each_number_of_a_body_or_of_costs_has_a_page(rt: HostRuntime) -> Result<(), Fail> {
+    let table: [(&str, &str); 9] = [
+        ("40", "Undeclared"),
+        ("41", "DeclaredTwice"),
+        ("42", "NotArray"),
+        ("43", "IsArray"),
+        ("44", "WriteToIn"),
+        ("50", "NotToml"),
+        ("51", "BadKey"),
+        ("52", "BadValue"),
+        ("53", "Missing"),
+    ];
+    for (number, name) in table {
+        shows(&rt, rt.alloc(), number, name)?;
+    }
+    Ok(())
+}
+
+#[test]
+fn each_number_of_a_certificate_or_an_image_has_a_page(rt: HostRuntime) -> Result<(), Fail> {
+    let table: [(&str, &str); 12] = [
+        ("70", "RowWrong"),
+        ("71", "RowMissing"),
+        ("72", "ClaimWrong"),
+        ("73", "BadText"),
+        ("80", "BadMagic"),
+        ("81", "Version"),
+        ("82", "Short"),
+        ("83", "BadField"),
+        ("84", "TrailingBytes"),
+        ("90", "CodeUnsafe"),
+        ("91", "NotLinked"),
+        ("92", "TreeWrong"),
+    ];
+    for (number, name) in table {
+        shows(&rt, rt.alloc(), number, name)?;
+    }
+    Ok(())
+}
+
+#[test]
+fn each_number_of_picks_lines_traces_and_scans_has_a_page(rt: HostRuntime) -> Result<(), Fail> {
+    let table: [(&str, &str); 9] = [
+        ("95", "BadPick"),
+        ("96", "NoSuchProcess"),
+        ("100", "BadWord"),
+        ("101", "WrongCount"),
+        ("102", "OutOfRange"),
+        ("110", "BadLine"),
+        ("111", "Differs"),
+        ("120", "NotReduce"),
+        ("121", "BadSegments"),
+    ];
+    for (number, name) in table {
+        shows(&rt, rt.alloc(), number, name)?;
     }
     Ok(())
 }

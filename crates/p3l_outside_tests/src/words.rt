@@ -3,6 +3,7 @@
 use p3l_base::Name;
 use p3l_opts::{Build, Command, OptsRefusal, Sched, parse};
 use std::alloc::Global;
+use std::process::Abort;
 use std::test::Fail;
 
 /// A command as one text: its values in their order, and a hyphen for a name that isn't there.
@@ -107,13 +108,32 @@ fn schedule_shown(alloc: Global, schedule: &Sched) -> Result<String, Fail> {
     })
 }
 
+/// These words must spell this command.
+fn spell(rt: &impl Abort, alloc: Global, words: &[&str], command: &str) -> Result<(), Fail> {
+    let parsed = parse(alloc, words).expect(rt, "the words spell a command");
+    assert_eq!(rt; shown(alloc, &parsed)?.as_str(), command);
+    Ok(())
+}
+
 #[test]
-fn words_spell_commands(rt: HostRuntime) -> Result<(), Fail> {
-    let table: [(&[&str], &str); 38] = [
+fn words_spell_check_and_fmt(rt: HostRuntime) -> Result<(), Fail> {
+    let table: [(&[&str], &str); 6] = [
         (&["check", "m.p3l"], "check m.p3l"),
         (&["fmt", "m.p3l"], "fmt m.p3l"),
         (&["fmt", "--", "--odd"], "fmt --odd"),
         (&["fmt", ""], "fmt "),
+        (&["check", "check"], "check check"),
+        (&["check", "-"], "check -"),
+    ];
+    for (words, command) in table {
+        spell(&rt, rt.alloc(), words, command)?;
+    }
+    Ok(())
+}
+
+#[test]
+fn words_spell_run(rt: HostRuntime) -> Result<(), Fail> {
+    let table: [(&[&str], &str); 8] = [
         (
             &["run", "m.p3l", "--processors", "4"],
             "run m.p3l 4 - 4 rr - false",
@@ -146,6 +166,16 @@ fn words_spell_commands(rt: HostRuntime) -> Result<(), Fail> {
             &["run", "run", "--processors", "2"],
             "run run 2 - 4 rr - false",
         ),
+    ];
+    for (words, command) in table {
+        spell(&rt, rt.alloc(), words, command)?;
+    }
+    Ok(())
+}
+
+#[test]
+fn words_spell_run_with_its_options(rt: HostRuntime) -> Result<(), Fail> {
+    let table: [(&[&str], &str); 5] = [
         (
             &[
                 "run",
@@ -197,6 +227,16 @@ fn words_spell_commands(rt: HostRuntime) -> Result<(), Fail> {
             &["run", "m", "--schedule", "rr", "--processors", "4"],
             "run m 4 - 4 rr - false",
         ),
+    ];
+    for (words, command) in table {
+        spell(&rt, rt.alloc(), words, command)?;
+    }
+    Ok(())
+}
+
+#[test]
+fn words_spell_what_is_built_and_read_again(rt: HostRuntime) -> Result<(), Fail> {
+    let table: [(&[&str], &str); 8] = [
         (
             &[
                 "explain",
@@ -235,6 +275,16 @@ fn words_spell_commands(rt: HostRuntime) -> Result<(), Fail> {
             &["check-trace", "a", "--trace", "t", "--processors", "3"],
             "check-trace a 3 - 4 t",
         ),
+    ];
+    for (words, command) in table {
+        spell(&rt, rt.alloc(), words, command)?;
+    }
+    Ok(())
+}
+
+#[test]
+fn words_spell_gen_rewrite_and_profile(rt: HostRuntime) -> Result<(), Fail> {
+    let table: [(&[&str], &str); 6] = [
         (&["gen", "0", "--processors", "16"], "gen 0 16 1000 rr -"),
         (
             &[
@@ -254,6 +304,16 @@ fn words_spell_commands(rt: HostRuntime) -> Result<(), Fail> {
         ),
         (&["profile", "m.p3l"], "profile m.p3l"),
         (&["profile", "--", "--odd"], "profile --odd"),
+    ];
+    for (words, command) in table {
+        spell(&rt, rt.alloc(), words, command)?;
+    }
+    Ok(())
+}
+
+#[test]
+fn words_spell_time_and_scan(rt: HostRuntime) -> Result<(), Fail> {
+    let table: [(&[&str], &str); 5] = [
         (
             &["time", "--picks=p", "m", "--processors", "4"],
             "time m 4 - 4 p",
@@ -280,19 +340,21 @@ fn words_spell_commands(rt: HostRuntime) -> Result<(), Fail> {
             ],
             "scan m 3 file:p 1024 false",
         ),
-        (&["check", "check"], "check check"),
-        (&["check", "-"], "check -"),
     ];
     for (words, command) in table {
-        let parsed = parse(rt.alloc(), words).expect(&rt, "the words spell a command");
-        assert_eq!(rt; shown(rt.alloc(), &parsed)?.as_str(), command);
+        spell(&rt, rt.alloc(), words, command)?;
     }
     Ok(())
 }
 
+/// These words must spell no command.
+fn spell_none(rt: &impl Abort, alloc: Global, words: &[&str]) {
+    assert_eq!(rt; parse(alloc, words).err(), Some(OptsRefusal::Usage));
+}
+
 #[test]
-fn other_words_spell_none(rt: HostRuntime) -> Result<(), Fail> {
-    let table: [&[&str]; 68] = [
+fn words_without_a_command_or_its_values_spell_none(rt: HostRuntime) {
+    let table: [&[&str]; 11] = [
         &[],
         &["walk"],
         &[""],
@@ -301,6 +363,18 @@ fn other_words_spell_none(rt: HostRuntime) -> Result<(), Fail> {
         &["run", "m.p3l"],
         &["run", "--processors", "4"],
         &["run", "m.p3l", "--processors"],
+        &["fmt"],
+        &["check"],
+        &["m.p3l", "check"],
+    ];
+    for words in table {
+        spell_none(&rt, rt.alloc(), words);
+    }
+}
+
+#[test]
+fn faulty_numbers_of_processors_spell_none(rt: HostRuntime) {
+    let table: [&[&str]; 10] = [
         &["run", "m.p3l", "--processors", ""],
         &["run", "m.p3l", "--processors", "0"],
         &["run", "m.p3l", "--processors", "513"],
@@ -311,6 +385,15 @@ fn other_words_spell_none(rt: HostRuntime) -> Result<(), Fail> {
         &["run", "m.p3l", "--processors", "0x4"],
         &["run", "m.p3l", "--processors", "4294967300"],
         &["run", "m.p3l", "--processors", "18446744073709551620"],
+    ];
+    for words in table {
+        spell_none(&rt, rt.alloc(), words);
+    }
+}
+
+#[test]
+fn words_that_are_too_many_spell_none(rt: HostRuntime) {
+    let table: [&[&str]; 10] = [
         &["run", "m.p3l", "--processors", "4", "--processors", "4"],
         &["run", "m.p3l", "--processors", "4", "--stats", "--stats"],
         &["run", "m.p3l", "--processors", "4", "--stats=yes"],
@@ -318,11 +401,18 @@ fn other_words_spell_none(rt: HostRuntime) -> Result<(), Fail> {
         &["run", "m.p3l", "--proc", "4"],
         &["run", "m.p3l", "--processors", "4", "--help"],
         &["run", "m.p3l", "--processors", "4", "-V"],
-        &["fmt"],
         &["fmt", "m.p3l", "n.p3l"],
         &["fmt", "m.p3l", "--stats"],
-        &["check"],
         &["check", "m.p3l", "--processors", "4"],
+    ];
+    for words in table {
+        spell_none(&rt, rt.alloc(), words);
+    }
+}
+
+#[test]
+fn faulty_schedules_and_capacities_spell_none(rt: HostRuntime) {
+    let table: [&[&str]; 7] = [
         &["run", "m", "--processors", "4", "--schedule", "seed:007"],
         &["run", "m", "--processors", "4", "--schedule", "seed:"],
         &[
@@ -337,6 +427,15 @@ fn other_words_spell_none(rt: HostRuntime) -> Result<(), Fail> {
         &["run", "m", "--processors", "4", "--schedule", ""],
         &["run", "m", "--processors", "4", "--capacity", "0"],
         &["run", "m", "--processors", "4", "--capacity", "1025"],
+    ];
+    for words in table {
+        spell_none(&rt, rt.alloc(), words);
+    }
+}
+
+#[test]
+fn words_of_other_commands_spell_none(rt: HostRuntime) {
+    let table: [&[&str]; 7] = [
         &["explain", "m", "--processors", "4", "--capacity", "1"],
         &["compile", "m", "--processors", "4"],
         &["exec", "i", "--processors", "4"],
@@ -344,6 +443,15 @@ fn other_words_spell_none(rt: HostRuntime) -> Result<(), Fail> {
         &["graph", "m", "--output", "g"],
         &["verify-cert", "m"],
         &["check-trace", "m", "--processors", "4"],
+    ];
+    for words in table {
+        spell_none(&rt, rt.alloc(), words);
+    }
+}
+
+#[test]
+fn faulty_words_of_gen_and_rewrite_spell_none(rt: HostRuntime) {
+    let table: [&[&str]; 9] = [
         &["gen", "4294967296", "--processors", "4"],
         &["gen", "01", "--processors", "4"],
         &["gen", "1", "--processors", "4", "--items", "0"],
@@ -353,12 +461,30 @@ fn other_words_spell_none(rt: HostRuntime) -> Result<(), Fail> {
         &["rewrite", "--processors", "4"],
         &["rewrite", "m", "--processors", "513"],
         &["rewrite", "m", "--processors", "4", "--capacity", "1"],
+    ];
+    for words in table {
+        spell_none(&rt, rt.alloc(), words);
+    }
+}
+
+#[test]
+fn faulty_words_of_profile_and_time_spell_none(rt: HostRuntime) {
+    let table: [&[&str]; 6] = [
         &["profile"],
         &["profile", "m.p3l", "n.p3l"],
         &["profile", "m.p3l", "--costs", "c"],
         &["time", "m"],
         &["time", "m", "--processors", "4", "--stats"],
         &["time", "m", "--processors", "4", "--schedule", "rr"],
+    ];
+    for words in table {
+        spell_none(&rt, rt.alloc(), words);
+    }
+}
+
+#[test]
+fn faulty_words_of_scan_spell_none(rt: HostRuntime) {
+    let table: [&[&str]; 8] = [
         &["scan", "m"],
         &["scan", "--segments", "4"],
         &["scan", "m", "--segments", "0"],
@@ -367,10 +493,8 @@ fn other_words_spell_none(rt: HostRuntime) -> Result<(), Fail> {
         &["scan", "m", "--segments", "4", "--processors", "4"],
         &["scan", "m", "--segments", "4", "--trace", "t"],
         &["scan", "m", "--segments", "4", "--capacity", "0"],
-        &["m.p3l", "check"],
     ];
     for words in table {
-        assert_eq!(rt; parse(rt.alloc(), words).err(), Some(OptsRefusal::Usage));
+        spell_none(&rt, rt.alloc(), words);
     }
-    Ok(())
 }

@@ -38,6 +38,8 @@ mod picks;
 #[cfg(test)]
 mod profiles;
 #[cfg(test)]
+mod reads;
+#[cfg(test)]
 mod refusals;
 #[cfg(test)]
 mod rescues;

@@ -25,3 +25,10 @@ one_sound tree net leaf typed carried is same =
       carried = (unit.0, subst (λ n. IsCarried one_node leaf (unit_net 4) n unit.0) three_firings unit.1);
     } in
     subst (λ t. IsSound (network t leaf net 3)) (sym is) (subst (λ k. IsSound (network one_node leaf k 3)) (sym same) sound)
+
+pub one_typed : (tree : Tree) (net : Net) → ((tree : Tree) (cap : ℕ) → 0 < cap → IsLawfulTree tree → 0 < length tree.nodes → (node_at tree 0).form ≡ Seq → IsTyped tree (unit_net cap)) →
+    tree ≡ one_node → net ≡ unit_net 4 → IsTyped tree net
+unfolding one_node
+one_typed tree net typed is same =
+    let sound = typed one_node 4 (omega arith) one_lawful (omega arith) refl in
+    subst (λ t. IsTyped t net) (sym is) (subst (λ k. IsTyped one_node k) (sym same) sound)

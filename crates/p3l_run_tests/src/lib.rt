@@ -3,6 +3,8 @@
 #![tactic(auto)]
 
 #[cfg(test)]
+mod feeding;
+#[cfg(test)]
 mod network;
 #[cfg(test)]
 mod running;

@@ -1,0 +1,93 @@
+// How often readers and writers are called: once for a piece, and again where they were interrupted.
+
+use crate::lists::list;
+use p3l_base::List;
+use p3l_host::{HostErr, HostOut, Output};
+use p3l_io::{MemSource, Sink};
+use p3l_stream::{Lines, Next};
+use std::cell::Cell;
+use std::io;
+use std::io::{ErrorKind, Write};
+use std::test::Fail;
+
+/// How often a writer was called to write and to flush, and how many bytes it was given.
+#[derive(Drop)]
+struct Calls {
+    writes: Cell<usize>,
+    bytes: Cell<usize>,
+    flushes: Cell<usize>,
+}
+
+/// Nothing yet.
+fn nothing() -> Calls {
+    Calls {
+        writes: Cell::new(0),
+        bytes: Cell::new(0),
+        flushes: Cell::new(0),
+    }
+}
+
+/// One more in a cell, or several.
+fn add(cell: &Cell<usize>, more: usize) {
+    cell.set(cell.get().saturating_add(more));
+}
+
+/// A writer that takes all that it is given, and whose first flush is interrupted.
+#[derive(Drop)]
+struct Counting<'a> {
+    calls: &'a Calls,
+}
+
+impl<'a> Write for Counting<'a> {
+    fn write(&mut self, buf: &[u8]) -> io::Result<usize> {
+        add(&self.calls.writes, 1);
+        add(&self.calls.bytes, buf.len());
+        Ok(buf.len())
+    }
+
+    fn flush(&mut self) -> io::Result<()> {
+        add(&self.calls.flushes, 1);
+        match self.calls.flushes.get() {
+            1 => Err(ErrorKind::Interrupted.into()),
+            _ => Ok(()),
+        }
+    }
+}
+
+#[test]
+fn a_line_of_the_error_is_written_whole_by_one_call(rt: HostRuntime) -> Result<(), Fail> {
+    let calls = nothing();
+    let mut err = HostErr::new(Counting { calls: &calls });
+    assert_eq!(rt; err.put(b"stopped: 4 fired, 0 idle\n"), Ok(()));
+    assert_eq!(rt; (calls.writes.get(), calls.bytes.get()), (1, 25));
+    assert_eq!(rt; calls.flushes.get(), 2);
+    Ok(())
+}
+
+#[test]
+fn an_interrupted_flush_is_no_fault(rt: HostRuntime) -> Result<(), Fail> {
+    let calls = nothing();
+    let output = Output::new(rt.alloc(), Counting { calls: &calls })?;
+    assert_eq!(rt; HostOut::new(&output).put(b"1\n"), Ok(()));
+    assert_eq!(rt; output.flush(), Ok(()));
+    assert_eq!(rt; (calls.writes.get(), calls.bytes.get()), (1, 2));
+    assert_eq!(rt; calls.flushes.get(), 2);
+    Ok(())
+}
+
+/// Ten thousand bytes are three pieces of 4,096 at most; a fourth call finds the end.
+#[test]
+fn a_stream_is_taken_in_pieces(rt: HostRuntime) -> Result<(), Fail> {
+    let text = "1\n".repeat(rt.alloc(), 5_000)?;
+    let bytes = list(rt.alloc(), text.as_str().as_bytes())?;
+    let mut source = MemSource::new(bytes, 16_384, List::new(rt.alloc()));
+    let mut lines = Lines::new(rt.alloc(), 1, 1_000_000)?;
+    let mut items: usize = 0;
+    for _ in 0..6_000u32 {
+        if let Next::Item(_) = lines.next(&mut source)? {
+            items = items.saturating_add(1);
+        }
+    }
+    assert_eq!(rt; (items, source.calls()), (5_000, 4));
+    Ok(())
+}
