@@ -55,7 +55,7 @@ adds_loop k e t p used a before after some can adds =
       cost = ap (λ x. 2 + x) adds.cost;
     }
 
--- so many levels are enough for the parts of a node
+-- d levels are enough for the parts of a node
 siblings_within : (tree : Tree) (d : ℕ) (ps : List ℕ) (from next i x : ℕ) → AreSubtrees (IsSubtree d tree) ps from next → i < length ps → IsWithin tree d (get_or ps i x)
 siblings_within tree d [] from next i x h inside = absurd (omega arith)
 siblings_within tree d (p ∷ ps) from next zero x h inside = record { next = h.1.0; deep = h.1.1 }
@@ -100,7 +100,7 @@ stages_few tree rows below t most p ps all early small can =
     let few = can.few in
     let least = f.below can.counts can.serves (omega arith) in omega arith
 
--- the counts of the first stages have been added, and the others have so many processes left
+-- the counts of the first stages have been added, and the others have `left` processes left
 pub record IsWalked (tree : Tree) (rows : List (List ℕ)) (below : ℕ → Costed) (t p : ℕ) (parts : List ℕ) (i left later : ℕ) (before now : List ℕ) : Type 0 where
   pub few : left ≤ p
   pub later_is : later ≡ sum_by (least_of tree rows t) (drop i parts)
@@ -121,7 +121,7 @@ walk_start tree rows below t p later parts before is can = record {
   cost = λ ys l. omega arith;
 }
 
--- what stands from a stage on
+-- what comes from a stage on
 from_stage : (below : ℕ → Costed) (parts : List ℕ) (i : ℕ) → i < length parts → stages below (drop i parts) ≡ Both (below (get_or parts i 0)) (stages below (drop (i + 1) parts))
 unfolding stages
 from_stage below parts i inside = rw (drop-cons parts i 0 inside, add-one) refl

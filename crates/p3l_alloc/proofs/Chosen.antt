@@ -20,7 +20,7 @@ use Rattle.p3l_alloc.specs.Table.{row_in, IsTableFrom}
 use Rattle.p3l_alloc.specs.Walk.{first_within, AddsFirst, CanServe, IsFirst}
 use Rattle.p3l_alloc.proofs.First.{row_fewest}
 
--- what the row of the root tells of the soonest service time
+-- what the row of the root says of the soonest service time
 pub record IsBest (a : Costed) (most t p : ℕ) : Type 0 where
   pub small : p ≤ most
   pub can : CanServe a t p

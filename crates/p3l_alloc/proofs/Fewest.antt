@@ -24,7 +24,7 @@ use Rattle.p3l_model.proofs.Nested.{procs_by-small}
 use Rattle.p3l_model.proofs.Timed.{takes-own, agrees-own, lawful_some}
 use Rattle.p3l_alloc.specs.Need.{least_count, least_at, IsLeastProcs}
 
--- so many workers make no more processes of a node of this form
+-- n workers make no more processes of a node of this form
 abbrev FewerAt : Form → ℕ → ℕ → Type 0
 FewerAt Seq n m = ⊤
 FewerAt Comp n m = ⊤

@@ -87,7 +87,7 @@ share-mono (Elements c) n m u v some more less =
     let fewer = le_ceil c n (div_ceil c m) (omega arith) (omega arith) in
     mul-le-mul fewer less
 
--- the last number of workers that leaves each so many processes is no smaller than the others
+-- the last number of workers that leaves `each` processes to each is no smaller than the others
 pub last_grows : (p n each : ℕ) → 1 ≤ n → n ≤ p - 2 → each ≡ (p - 2) / n → n ≤ (p - 2) / each
 last_grows p n each some room is =
     let one : 1 ≤ each = rw is (le-div 1 (p - 2) n some (omega arith)) in
@@ -127,7 +127,7 @@ module _ (r : Span) (h : Sharing) (e p : ℕ) (a : Costed) (row : List ℕ) (par
     reached = λ less. absurd (omega arith);
   }
 
-  -- the last number of workers that leaves each so many processes is the best of them
+  -- the last number of workers that leaves `each` processes to each is the best of them
   shared-below : (n each last m : ℕ) (xs : List ℕ) → 1 ≤ n → each ≡ (p - 2) / n → n ≤ m → m ≤ last → FitsRun (Workers r h e a) p (m ∷ xs) → shared_time h e last (slice_index_or row each never) ≤ run_service (Workers r h e a) (m ∷ xs)
   shared-below n each last m xs some is from to f =
       let o = opened m xs f in

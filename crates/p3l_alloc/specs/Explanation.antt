@@ -55,7 +55,7 @@ node_line tree costs counts k =
 abbrev pub node_lines : Tree → Costs → List ℕ → List ℕ → List ℕ
 node_lines tree costs counts nodes = flat_map (node_line tree costs counts) nodes
 
--- the text of counts for so many processors: the nodes outside units stand in preorder
+-- the text of counts for this number of processors: the nodes outside units are in preorder
 abbrev pub allocation_text : Tree → Costs → (processors : ℕ) → List ℕ → (used time : ℕ) → List ℕ
 allocation_text tree costs processors counts used time =
     whole_line processors used time ++ node_lines tree costs counts (outside tree)

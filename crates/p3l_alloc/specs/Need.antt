@@ -14,7 +14,7 @@ least_count form = unwrap_or (workers_of form) 1
 abbrev pub least_at : Tree → ℕ → ℕ
 least_at tree node = least_count (node_at tree node).form
 
--- no lawful counts have fewer processes, and some have so many
+-- no lawful counts have fewer processes, and some have this number
 pub record IsLeastProcs (tree : Tree) (need : ℕ) : Type 0 where
   pub below : (counts : List ℕ) → HasLawfulCounts tree counts → need ≤ procs tree counts 0
   pub reached : (counts : List ℕ) × HasLawfulCounts tree counts × (procs tree counts 0 ≡ need)

@@ -25,17 +25,17 @@ least_of tree rows time part = first_within time (row_in tree rows part)
 abbrev pub latest : ℕ
 latest = 1267650600228229401496703205375
 
--- the time within which the part of so many workers has to stay, as far as times are counted
+-- the time within which the part of n workers has to stay, as far as times are counted
 abbrev pub part_time : Sharing → ℕ → ℕ → ℕ
 part_time h time n = min (part_bound h time n) latest
 
--- the counts are the first that stay within a time and so many processes
+-- the counts are the first that stay within a time t and p processes
 pub record IsFirst (a : Costed) (t p : ℕ) (xs : List ℕ) : Type 0 where
   pub serves : Serves a t xs
   pub few : run_procs a xs ≤ p
   pub first : (ys : List ℕ) → Serves a t ys → run_procs a ys ≤ p → IsNoLater xs ys
 
--- some counts stay within a time and so many processes
+-- some counts stay within a time t and p processes
 pub record CanServe (a : Costed) (t p : ℕ) : Type 0 where
   pub counts : List ℕ
   pub serves : Serves a t counts
@@ -46,7 +46,7 @@ pub record IsFewest (a : Costed) (t cap l : ℕ) : Type 0 where
   pub below : (xs : List ℕ) → Serves a t xs → run_procs a xs ≤ cap → l ≤ run_procs a xs
   pub reached : (xs : List ℕ) × Serves a t xs × (run_procs a xs ≡ l)
 
--- a list has grown by the first counts, which take so many processes
+-- a list has grown by the first counts, which take `used` processes
 pub record AddsFirst (a : Costed) (t p : ℕ) (before after : List ℕ) (used : ℕ) : Type 0 where
   pub counts : List ℕ
   pub joined : after ≡ before ++ counts
@@ -60,14 +60,14 @@ pub record IsFirstCount (r : Span) (h : Sharing) (row : List ℕ) (t p n : ℕ) 
   pub here : slice_index_or row ((p - 2) / n) never ≤ part_time h t n
   pub before : (m : ℕ) → IsIn r m → m < n → part_time h t m < slice_index_or row ((p - 2) / m) never
 
--- the first number of segments that stays within a time and so many processes
+-- the first number of segments that stays within a time t and p processes
 pub record IsFirstSegments (r : Span) (fold : FoldCost) (t p m : ℕ) : Type 0 where
   pub inside : AreSegments r m
   pub few : joined_procs m ≤ p
   pub soon : segments_service fold m ≤ t
   pub before : (n : ℕ) → AreSegments r n → n < m → joined_procs n ≤ p → t < segments_service fold n
 
--- so many levels are enough for a node
+-- `levels` levels are enough for a node
 pub record IsWithin (tree : Tree) (levels node : ℕ) : Type 0 where
   pub next : ℕ
   pub deep : IsSubtree levels tree node next

@@ -46,8 +46,8 @@ impl From<NoMemory> for AllocRefusal {
     }
 }
 
-/// The best numbers of workers for so many processors: those with the least service time, of these
-/// those with the fewest processes, and of these the first in preorder.
+/// The best numbers of workers for a number of processors: those with the least service time, of
+/// these those with the fewest processes, and of these the first in preorder.
 pub fn choose(
     alloc: Global,
     tree: &Tree,

@@ -10,15 +10,15 @@ ghost use Rattle.p3l_alloc.specs.Soonest.{IsSoonest, HasPart, over_part, shared_
 
 use p3l_model::{FoldCost, NEVER, NodeCost, Sharing, Span};
 
-/// The entry of a row for so many processes; past the row none fit.
+/// The entry of a row for `processes` processes; past the row none fit.
 pub fn soonest(row: &[u128], processes: u32) -> u128
     ensures { result ≡ slice_index_or row.now processes never }
 {
     row.get(processes as usize).copied().unwrap_or(NEVER)
 }
 
-/// The soonest service time of a node within so many processes, from the row of its first part. Of
-/// a pipe it is that of no stages.
+/// The soonest service time of a node within `processes` processes, from the row of its first part.
+/// Of a pipe it is that of no stages.
 pub fn entry(cost: &NodeCost, part: &[u128], processes: u32) -> u128
     requires { processes ≤ 512 }
     ensures { (a : Costed) → HasPart cost.now a processes part.now
@@ -62,7 +62,7 @@ fn loop_entry(turns: u32, ends: u128, body: &[u128], processes: u32) -> u128
     ends.max((turns as u128).saturating_mul(time)).min(NEVER)
 }
 
-// The service time with so many workers, where their part has this one.
+// The service time with `workers` workers, where their part has this one.
 fn shared(sharing: Sharing, ends: u128, workers: u32, part: u128) -> u128
     requires { 1 ≤ workers }
     ensures { result ≡ shared_time sharing ends workers part }
@@ -93,7 +93,7 @@ fn workers_entry(span: Span, sharing: Sharing, ends: u128, part: &[u128], proces
     best
 }
 
-// The processes of a reduce with so many segments.
+/// The processes of a reduce with this number of segments.
 pub fn segments_procs(segments: u32) -> u64
     ensures { result ≡ joined_procs segments }
 {
@@ -127,7 +127,7 @@ pub fn power_of_two(level: u32) -> u32
     1 << level
 }
 
-/// Whether a reduce may have so many segments within so many processes.
+/// Whether a reduce may have these segments within these processes.
 pub fn can_segment(span: Span, segments: u32, processes: u32) -> bool
     ensures { IsTrue result
         ↔ ((span.low ≤ segments) × (segments ≤ span.high) × (joined_procs segments ≤ processes)) }

@@ -77,7 +77,7 @@ fn put_node(
     Ok(())
 }
 
-/// The name of the module of a number, and none where there are not so many.
+/// The name of the module of a number, and none where there is none of this number.
 fn name_of(tree: &Tree, number: u32) -> &str
     ensures { result.now ≡ module_name tree.now number }
 {
@@ -88,7 +88,7 @@ fn name_of(tree: &Tree, number: u32) -> &str
 }
 
 /// Puts the lines of a node outside units and of those outside units below it after a text, down
-/// to so many levels.
+/// to `levels` levels.
 fn put_nodes(
     alloc: Global,
     text: &mut String,
@@ -120,9 +120,9 @@ fn put_nodes(
     Ok(())
 }
 
-/// The text that explains a choice of counts for so many processors: `processors P used U service
-/// T`, and in preorder a line `NODE KIND NAME procs U service T` for each node that has processes
-/// of its own, with ` count C` for a farm, a map and a reduce.
+/// The text that explains a choice of counts for a number of processors: `processors P used U
+/// service T`, and in preorder a line `NODE KIND NAME procs U service T` for each node that has
+/// processes of its own, with ` count C` for a farm, a map and a reduce.
 pub fn allocation_text(
     alloc: Global,
     tree: &Tree,

@@ -1,4 +1,4 @@
-//! The best numbers of workers for so many processors, by the cost model.
+//! The best numbers of workers for a number of processors, by the cost model.
 //!
 //! A table holds, for each node of the tree and each number of processes, the soonest service time
 //! that the node can have within them. It is made from the last node to the first, so that a node's

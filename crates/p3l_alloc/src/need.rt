@@ -19,7 +19,7 @@ pub fn least_procs(tree: &Tree) -> u64
     least_from(tree, NESTING, 0)
 }
 
-// The processes of a node and of so many levels below it, each with as few workers as it may have.
+// The processes of a node and of `levels` levels below it, each with as few workers as it may have.
 fn least_from(tree: &Tree, levels: u32, number: u32) -> u64
     ensures { result ≡ fitted (procs_by tree.now (least_at tree.now) levels number) }
 {

@@ -26,7 +26,7 @@ pub fn row_in<'a>(tree: &Tree, rows: &'a [List<u128>], node: u32) -> &'a [u128]
     }
 }
 
-/// The rows of all nodes, from the last to the first, for up to so many processes.
+/// The rows of all nodes, from the last to the first, for up to `most` processes.
 pub fn table(
     alloc: Global,
     tree: &Tree,

@@ -42,7 +42,8 @@ fn least_of_all(tree: &Tree, rows: &[List<u128>], parts: &[u32], time: u128) -> 
     sum
 }
 
-// The time within which the part of so many workers has to stay, as far as times are counted.
+// The time within which the part of this number of workers has to stay, as far as times are
+// counted.
 fn part_time(sharing: Sharing, time: u128, workers: u32) -> u128
     requires some { 1 ≤ workers }
     requires sharing { IsSharing sharing }
@@ -80,7 +81,7 @@ fn first_workers(
     None
 }
 
-// The first number of segments that stays within a time and so many processes.
+// The first number of segments that stays within a time and a number of processes.
 fn first_segments(span: Span, fold: &FoldCost, time: u128, processes: u32) -> Option<u32>
     requires processes { processes ≤ 512 }
     requires time { time < never }
@@ -97,8 +98,8 @@ fn first_segments(span: Span, fold: &FoldCost, time: u128, processes: u32) -> Op
     None
 }
 
-/// Adds the first counts of a node with which it stays within a time and so many processes; gives
-/// how many processes they take.
+/// Adds the first counts of a node with which it stays within a time and a number of processes;
+/// gives how many processes they take.
 #[cycle(walk)]
 pub fn first_counts(
     tree: &Tree,

@@ -59,7 +59,7 @@ chosen_same e one other first second s p q = given_same (value_of s e) (λ x. (c
 abbrev Grows : (Phrase → Statements → Valuation → Result Valuation TrapKind) → Type 0
 Grows loop = (e : Phrase) (body : Statements) (s t : Valuation) → loop e body s ≡ Ok t → s.turns ≤ t.turns
 
--- from so many turns on two loops do the same
+-- from n turns on two loops do the same
 abbrev Agree : ℕ → (Phrase → Statements → Valuation → Result Valuation TrapKind) → (Phrase → Statements → Valuation → Result Valuation TrapKind) → Type 0
 Agree n loop other = (e : Phrase) (body : Statements) (s : Valuation) → n ≤ s.turns → loop e body s ≡ other e body s
 

@@ -58,7 +58,7 @@ pub binary_value : (s : Valuation) (e left right : Expr) (o : BinOp) (a b : Box 
 binary_value s e left right o a b h k l =
     ap (λ x. value_of s (phrase x)) h ∙ value_binary s o a b ∙ ap (λ x. combined o (value_of s (phrase x)) (value_of s (phrase b.value))) (sym k) ∙ ap (λ x. combined o (value_of s (phrase left)) (value_of s (phrase x))) (sym l)
 
--- every operator asks for its left operand first
+-- every operator evaluates its left operand first
 pub combined_exit : (o : BinOp) (left right : Result ℤ TrapKind) (trap : TrapKind) (v : Result ℤ TrapKind) → Err trap ≡ left → v ≡ combined o left right → Err trap ≡ v
 combined_exit o left right trap v h t = go o ∙ ap (λ x. combined o x right) h ∙ sym t
   where

@@ -1,4 +1,4 @@
--- Programs without the positions of what stands in them.
+-- Programs without the positions of what is in them.
 use Rattle.std.specs.Prelude.{map, option_map}
 use Rattle.p3l_ast.specs.declared.position.Pos.{Pos}
 use Rattle.p3l_ast.specs.declared.position.Spot.{Spot}

@@ -1,4 +1,4 @@
-//! The program of a source text: what is written, where each name stands, and why a text is
+//! The program of a source text: what is written, where each name is, and why a text is
 //! refused.
 #![tactic(auto)]
 

@@ -1,4 +1,4 @@
-// Ports, and the numbers that stand in their sizes.
+// Ports, and the numbers in their sizes.
 
 use crate::position::{Pos, Spot};
 use p3l_base::List;

@@ -10,7 +10,7 @@ pub struct Pos {
     pub col: u32,
 }
 
-/// A name and where it stands.
+/// A name and where it is.
 #[derive(Debug, Drop)]
 pub struct Spot {
     pub name: Name,

@@ -10,7 +10,7 @@ use std::alloc::{AllocError, AllocFailed};
 /// What is wrong with a source text, in the order of the numbers.
 #[derive(Clone, Copy, Debug, Drop, PartialEq, Eq)]
 pub enum Fault {
-    /// A byte that stands in no token.
+    /// A byte that is in no token.
     BadByte,
     /// A number with letters or a leading zero, a lone `$`, or a comment that is not closed.
     BadToken,
@@ -40,7 +40,7 @@ pub enum Fault {
     Arity,
     /// An argument whose sizes are not those of the port.
     TypeDiffers,
-    /// An argument that is not the one which the skeleton asks for.
+    /// An argument that is not the one which the skeleton requires.
     Wiring,
     /// A free index that does not fit.
     FreeIndex,
@@ -149,7 +149,7 @@ impl Fault {
 /// Why a source text is refused.
 #[derive(Clone, Copy, Debug, Drop, PartialEq, Eq)]
 pub enum SourceRefusal {
-    /// A fault and where it stands.
+    /// A fault and where it is.
     At { fault: Fault, pos: Pos },
     NoMemory,
 }

@@ -9,7 +9,7 @@ use Rattle.p3l_types.specs.Constants.{Constants}
 use Rattle.p3l_body.specs.declared.scope.Known.{Known}
 use Rattle.p3l_body.specs.Scope.{Names, known_of}
 
--- a name where it stands in a statement, with how many brackets, and whether it is assigned to
+-- a name where it is in a statement, with how many brackets, and whether it is assigned to
 pub record Mention : Type 0 where
   pub at : Spot
   pub brackets : ℕ

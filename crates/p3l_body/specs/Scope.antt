@@ -37,7 +37,7 @@ abbrev pub fresh : Fault → Constants → Names → Spot → Verdict
 fresh fault constants names spot =
     broken_if (is_some (known_of constants names spot.name)) fault spot.pos
 
--- a variable after others of so many words: its shape is lawful, and there are no more than 65,536
+-- a variable after others of n words: its shape is lawful, and there are no more than 65,536
 -- words in all
 abbrev pub measured : Constants → ℕ → Port → Result Var SourceRefusal
 measured constants words port =
@@ -50,7 +50,7 @@ abbrev pub declared_one : Fault → Constants → Names → ℕ → Port → Res
 declared_one fault constants names words port =
     given (measured constants words port) (λ var. given (fresh fault constants names port.at) (λ x. Ok var))
 
--- the variables of a list of declarations, of which so many words are declared before
+-- the variables of a list of declarations, of which n words are declared before
 abbrev pub declared : Fault → Bool → Constants → Names → ℕ → List Port → Result (List Var) SourceRefusal
 declared fault is_fixed constants names words [] = Ok []
 declared fault is_fixed constants names words (port ∷ ports) =

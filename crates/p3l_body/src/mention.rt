@@ -16,7 +16,7 @@ pub struct Names<'a> {
     pub scope: &'a Scope,
 }
 
-/// The rules of a name that stands for this, with so many brackets.
+/// The rules of a name that stands for this, with this many brackets.
 fn check_known(
     known: Option<Known>,
     spot: &Spot,

@@ -19,7 +19,7 @@ pub struct Ports {
     pub outs: List<Var>,
 }
 
-/// The ports of a module, whose names then stand in the scope.
+/// The ports of a module, whose names are then in the scope.
 pub fn ports_of(
     alloc: Global,
     consts: &Consts,

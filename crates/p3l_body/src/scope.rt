@@ -76,7 +76,7 @@ impl Scope {
     }
 }
 
-/// A variable after others of so many words.
+/// A variable after others of `words` words.
 fn measured(alloc: Global, consts: &Consts, words: u64, port: &Port) -> Result<Var, SourceRefusal>
     requires { words ≤ 65536 }
     ensures var { Gives result (measured consts.now words port.now) }
@@ -111,7 +111,7 @@ fn check_fresh(
     }
 }
 
-/// A declaration of a variable after others of so many words.
+/// A declaration of a variable after others of `words` words.
 pub fn declare_one(
     alloc: Global,
     fault: Fault,

@@ -61,7 +61,7 @@ shape_some constants port =
     if_given (sizes_of constants 0 port.sizes) _ AreSome (λ (shape : Shape). AreSome shape.sizes) (sizes_some constants 0 port.sizes)
     (λ sizes some. ok_if (nat_le (product sizes) 65536) (record { sizes = sizes }) _ (λ (shape : Shape). AreSome shape.sizes) (λ e. some))
 
--- a variable after others of so many words
+-- a variable after others of `words` words
 record IsMeasured (words : ℕ) (port : Port) (var : Var) : Type 0 where
   called : var.name ≡ port.at.name
   some : AreSome var.shape.sizes

@@ -72,7 +72,7 @@ same_count : (is : Phrases) → brackets_of is ≡ count_of is
 same_count none = refl
 same_count (more e is) = omega (arith, same_count is)
 
--- a name with so many brackets that keeps its rule
+-- a name with n brackets that keeps its rule
 record IsFit (slot : Option Slot) (n : ℕ) (is_assigned : Bool) : Type 0 where
   access : IsAccess slot n
   target : is_assigned ≡ true → IsTarget slot n

@@ -49,7 +49,8 @@ after_prefix Flip t base b w o = refl
 after_target : (b w o : ℕ) → after_symbol (nest false b b w o) (sign marks.OpenBracket) ≡ nest false b (suc b) w 0
 after_target b w o = let h : nat_le b b ≡ true = grind (arith, nat_tests) in rw h refl
 
--- the symbols of an expression with so many operators and so deep indices, and what follows them
+-- the symbols of an expression with `count` operators and indices at most `deep` deep, and what
+-- follows them
 record Passed (t : Bool) (base b w o : ℕ) (deep count : ℕ) (r : List Symbol) : Type 0 where
   flat : b + deep ≤ 64
   total : ℕ

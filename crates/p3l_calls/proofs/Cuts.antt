@@ -157,7 +157,7 @@ outs-fit indices place start (var ∷ vars) (port ∷ ports) (out ∷ outs) slic
     } in
     subst (FitOuts indices start (var ∷ vars) (port ∷ ports)) is first
 
--- where a port stands in its token
+-- where a port is in its token
 located-fits : (start : ℕ) (vars : List Var) (name : List ℕ) (array : Located) → AllSized vars → lookup (bytes_eq name) (locations start vars) ≡ Some array →
     IsSized array.shape × (array.start + product array.shape.sizes ≤ start + total vars)
 unfolding AllSized
@@ -247,7 +247,7 @@ ins-fit indices vars (port ∷ ports) (arg ∷ args) slices good sized n e =
     } in
     subst (FitIns indices (total vars) (port ∷ ports)) is first
 
--- a free index that stands somewhere has a size
+-- a free index that is somewhere has a size
 pick-first : (f s : ℕ) (p : Place) (n rest : ℕ) → HasIndexSize f s p n → IsSize n → 1 ≤ one_at_first p + rest → (1 ≤ rest → 1 ≤ f) → 1 ≤ f
 pick-first f s First n rest h g m k = omega (arith, h, g.0)
 pick-first f s Rest n rest h g m k = k (omega arith)
@@ -285,7 +285,7 @@ tokens-some : (slices : List Slice) → 1 ≤ token_size slices → 1 ≤ length
 tokens-some [] h = absurd (omega arith)
 tokens-some (slice ∷ slices) h = omega arith
 
--- the slice that stands first
+-- the slice that comes first
 nothing : Slice
 nothing = record { start = 0; dims = [] }
 

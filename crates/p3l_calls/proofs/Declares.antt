@@ -64,7 +64,7 @@ one-sized fault constants names words port var e =
     let few : words + product found.0.sizes ≤ 65536 = ltb-false 65536 (words + product found.0.sizes) measure.0 in
     subst (λ (v : Var). IsSized v.shape × (words + product v.shape.sizes ≤ 65536)) (measure.1 ∙ same) (shape-sized constants port found.0 found.1, few)
 
--- declarations after others of so many words
+-- declarations after others of n words
 pub declared-sized : (fault : Fault) (is_fixed : Bool) (constants : Constants) (names : Names) (words : ℕ) (ports : List Port) (vars : List Var) →
     words ≤ 65536 → declared fault is_fixed constants names words ports ≡ Ok vars →
     All (λ (v : Var). IsSized v.shape) vars × (words + total vars ≤ 65536)

@@ -154,7 +154,7 @@ dims-length indices subs [] = refl
 dims-length indices [] (size ∷ sizes) = omega (arith, dims-length indices [] sizes)
 dims-length indices (sub ∷ subs) (size ∷ sizes) = omega (arith, dims-length indices subs sizes)
 
--- how often the free indices stand in brackets
+-- how often the free indices occur in brackets
 firsts : List Index → List Sub → ℕ
 firsts indices [] = 0
 firsts indices (sub ∷ subs) = one_at_first (place_in indices (Some sub)) + firsts indices subs
@@ -214,7 +214,7 @@ seconds-count i j (Free spot ∷ subs) h =
     two-second (bytes_eq i.name spot.name) (bytes_eq j.name spot.name) (apart i.name j.name spot.name h) in
     omega (arith, here, seconds-count i j subs h, count-cons (is_free_of j.name) (Free spot) subs)
 
--- in dimensions they stand as often as in brackets
+-- in dimensions they occur as often as in brackets
 plain-counts : (indices : List Index) (sizes : List ℕ) → (first_count (dims_of indices [] sizes) ≡ 0) × (second_count (dims_of indices [] sizes) ≡ 0)
 plain-counts indices [] = (refl, refl)
 plain-counts indices (size ∷ sizes) = let rest = plain-counts indices sizes in (omega (arith, rest.0), omega (arith, rest.1))

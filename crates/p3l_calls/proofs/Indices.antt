@@ -1,4 +1,4 @@
--- Brackets that are looked at one after another, with the sizes that they stand at.
+-- Brackets that are looked at one after another, with the sizes of their dimensions.
 use Rattle.std.proofs.Common.{◌≡◌, ℕ, ◌+◌, ◌<◌, ◌≤◌, List, [], ◌∷◌, ◌++◌, length, get_or, drop, Ok, Err, refl, sym, ap, ◌∙◌, append_assoc}
 use Rattle.std.proofs.lemmas.List.{drop_more, drop_all, append-nil}
 use Rattle.p3l_ast.specs.declared.refusal.SourceRefusal.{SourceRefusal}

@@ -1,4 +1,4 @@
--- Entries that are checked one after another, with the variables and ports that stand in their places.
+-- Entries that are checked one after another, with the variables and ports in their places.
 use Rattle.std.proofs.Common.{◌≡◌, ℕ, zero, suc, ◌+◌, ◌<◌, List, [], ◌∷◌, length, get_or, drop, Ok, Err, Option, Some, None, refl, sym, ap, ◌∙◌, add-one}
 use Rattle.std.specs.Prelude.{slice_get}
 use Rattle.std.proofs.lemmas.List.{drop_more}
@@ -8,7 +8,7 @@ use Rattle.p3l_types.specs.Verdict.{Verdict, given}
 use Rattle.p3l_body.specs.declared.var.Var.{Var}
 use Rattle.p3l_calls.specs.Plain.{first, after_first, in_order}
 
--- what stands in place k
+-- what is in place k
 pub first-drop : {A : Type 0} (xs : List A) (k : ℕ) → first (drop k xs) ≡ slice_get xs k
 first-drop [] zero = refl
 first-drop [] (suc k) = refl

@@ -14,7 +14,7 @@ use Rattle.p3l_body.specs.Scope.{Names, declared_one}
 use Rattle.p3l_calls.specs.Plain.{plain_ins}
 
 -- the outs of a condition: one new port without sizes, where the callee gives a scalar, or the fault
--- stands at the call's name; and then the port is declared
+-- is at the call's name; and then the port is declared
 abbrev pub condition_out : Constants → Names → Pos → List Var → List OutArg → Verdict
 condition_out constants names place (port ∷ []) (Fresh fresh ∷ []) =
     given (broken_if (not (length fresh.sizes == 0 && length port.shape.sizes == 0)) LoopTypes place)

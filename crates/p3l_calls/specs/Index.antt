@@ -1,4 +1,4 @@
--- The free indices of a map, which stand in the brackets of its arguments.
+-- The free indices of a map, which are in the brackets of its arguments.
 use Rattle.std.specs.Prelude.{ℕ, ◌==◌, ◌&&◌, not, Bool, true, false, List, [], ◌∷◌, ◌++◌, length, count_by, Option, Some, None, bytes_eq, if◌then◌else◌}
 use Rattle.std.specs.List.{list_all, list_any}
 use Rattle.p3l_base.specs.declared.slice.Place.{Place}
@@ -9,12 +9,12 @@ use Rattle.p3l_ast.specs.declared.call.Sub.TheVariants.{Whole, Free}
 use Rattle.p3l_types.specs.Verdict.{Verdict, broken_if, given, kept}
 use Rattle.p3l_calls.specs.declared.index.Index.{Index}
 
--- the free index in a bracket, if there is one, with the size that it stands at
+-- the free index in a bracket, if there is one, with the size of its dimension
 abbrev pub index_in : Sub → ℕ → List Index
 index_in Whole size = []
 index_in (Free spot) size = record { name = spot.name; size = size } ∷ []
 
--- the free indices in brackets, each with the size that it stands at
+-- the free indices in brackets, each with the size of its dimension
 abbrev pub indices_in : List Sub → List ℕ → List Index
 indices_in subs [] = []
 indices_in [] (size ∷ sizes) = []
@@ -45,11 +45,11 @@ abbrev pub is_free_of : List ℕ → Sub → Bool
 is_free_of name Whole = false
 is_free_of name (Free spot) = bytes_eq name spot.name
 
--- how many free indices stand in brackets
+-- how many free indices are in brackets
 abbrev pub free_count : List Sub → ℕ
 free_count subs = count_by is_free subs
 
--- a free index of this name stands in the brackets
+-- a free index of this name occurs in the brackets
 abbrev pub stands_in : List Sub → List ℕ → Bool
 stands_in subs name = list_any (is_free_of name) subs
 
@@ -57,7 +57,7 @@ stands_in subs name = list_any (is_free_of name) subs
 abbrev pub has_indices : List Index → List Sub → Bool
 has_indices indices subs = free_count subs == length indices && list_all (λ (i : Index). stands_in subs i.name) indices
 
--- a free index in a bracket after others is one of these, and does not stand in those others
+-- a free index in a bracket after others is one of these, and does not occur in those others
 abbrev pub member_rule : List Index → List Sub → Sub → Verdict
 member_rule indices before Whole = kept
 member_rule indices before (Free spot) =
@@ -69,12 +69,12 @@ members_rule indices before [] = kept
 members_rule indices before (sub ∷ subs) =
     given (member_rule indices before sub) (λ x. members_rule indices (before ++ sub ∷ []) subs)
 
--- a free index stands at its one size
+-- a free index has its one size
 abbrev pub size_rule : List Index → Sub → ℕ → Verdict
 size_rule indices Whole size = kept
 size_rule indices (Free spot) size = broken_if (not (is_sized indices spot.name size)) FreeIndex spot.pos
 
--- brackets and the sizes that they stand at
+-- brackets and the sizes of their dimensions
 abbrev pub sizes_rule : List Index → List Sub → List ℕ → Verdict
 sizes_rule indices subs [] = kept
 sizes_rule indices [] (size ∷ sizes) = kept

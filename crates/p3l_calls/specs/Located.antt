@@ -1,4 +1,4 @@
--- Where the ports of a module stand in its token.
+-- Where the ports of a module are in its token.
 use Rattle.std.specs.Prelude.{ℕ, ◌+◌, List, [], ◌∷◌, ◌++◌, Option, bytes_eq, is_some, if◌then◌else◌}
 use Rattle.std.specs.Map.{lookup}
 use Rattle.p3l_types.specs.Shape.{product}
@@ -9,7 +9,7 @@ use Rattle.p3l_calls.specs.declared.located.Located.{Located}
 abbrev pub Locations : Type 0
 Locations = List (List ℕ × Located)
 
--- the ports after so many words
+-- the ports after n words
 abbrev pub locations : ℕ → List Var → Locations
 locations start [] = []
 locations start (var ∷ vars) =

@@ -40,7 +40,7 @@ slice_of indices start arg shape = record { start = start; dims = dims_of indice
 abbrev pub leaves : Option Var → List Sub → Shape → Bool
 leaves port subs shape = option_map_or (has_shape port) (sliced subs shape) false
 
--- an out argument is the out port that is asked for, with a bracket for each size; it has the map's
+-- an out argument is the out port that is expected, with a bracket for each size; it has the map's
 -- free indices, one or two, each once and at its one size; and an element of it is what the callee gives
 abbrev pub map_out_rule : List Index → Var → Option Var → Arg → Verdict
 map_out_rule indices var port arg =
@@ -71,7 +71,7 @@ map_out indices start (Some var) port (Old arg) =
     given (map_out_rule indices var port arg) (λ x. Ok (slice_of indices start arg var.shape))
 
 -- the slices of out arguments one after another, where the first starts at this word. They are the
--- out ports in order: where the entries end, so must the names, or the fault stands at the call's name.
+-- out ports in order: where the entries end, so must the names, or the fault is at the call's name.
 abbrev pub map_outs : List Index → Pos → ℕ → List Var → List Var → List OutArg → Result (List Slice) SourceRefusal
 map_outs indices place start vars ports [] = given (broken_if (nat_lt 0 (length vars)) Wiring place) (λ x. Ok [])
 map_outs indices place start vars ports (out ∷ outs) =

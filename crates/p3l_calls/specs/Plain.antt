@@ -22,9 +22,9 @@ abbrev pub after_first : {A : Type 0} → List A → List A
 after_first [] = []
 after_first (x ∷ xs) = xs
 
--- entries by their rule one after another, each with the next of the variables whose names are asked
--- for and the next of the callee's ports. Where the entries end, so must the names, or the fault
--- stands at the call's name.
+-- entries by their rule one after another, each with the next of the variables whose names are
+-- expected and the next of the callee's ports. Where the entries end, so must the names, or the
+-- fault is at the call's name.
 abbrev pub in_order : {A : Type 0} → (Option Var → Option Var → A → Verdict) → Pos → List Var → List Var → List A → Verdict
 in_order rule place vars ports [] = broken_if (nat_lt 0 (length vars)) Wiring place
 in_order rule place vars ports (entry ∷ entries) =
@@ -34,15 +34,15 @@ in_order rule place vars ports (entry ∷ entries) =
 abbrev pub is_plain : List ℕ → Arg → Bool
 is_plain name arg = bytes_eq name arg.at.name && length arg.subs == 0
 
--- an argument is the variable that is asked for, and then it has the shape of the callee's port;
--- nothing is asked for past the last variable
+-- an argument is the variable that is expected, and then it has the shape of the callee's port;
+-- nothing is expected past the last variable
 abbrev pub plain_rule : Option Var → Option Var → Arg → Verdict
 plain_rule None port arg = Err (At Wiring arg.at.pos)
 plain_rule (Some var) port arg =
     given (broken_if (not (is_plain var.name arg)) Wiring arg.at.pos)
     (λ x. broken_if (not (has_shape port var.shape)) TypeDiffers arg.at.pos)
 
--- where an argument is asked for, no port is declared
+-- where an argument is expected, no port is declared
 abbrev pub plain_out_rule : Option Var → Option Var → OutArg → Verdict
 plain_out_rule var port (Fresh fresh) = Err (At Wiring fresh.at.pos)
 plain_out_rule var port (Old arg) = plain_rule var port arg

@@ -59,13 +59,13 @@ reduce_rule array element out callee call =
     ∷ (broken_if (not (is_operator element callee && bytes_eq out.shape.sizes element)) BadOperator call.at.pos
     ∷ [])))
 
--- a reduce whose in port has these sizes: it must be an array, or the fault stands at the reduce's name
+-- a reduce whose in port has these sizes: it must be an array, or the fault is at the reduce's name
 abbrev pub folded : Pos → Var → List ℕ → Var → Ports → Call → Result Elements SourceRefusal
 folded home array [] out callee call = Err (At BadOperator home)
 folded home array (len ∷ element) out callee call =
     given (reduce_rule array element out callee call) (λ x. Ok (record { len = len; elem = product element }))
 
--- a reduce with these ports: one in and one out, or the fault stands at the reduce's name
+-- a reduce with these ports: one in and one out, or the fault is at the reduce's name
 abbrev pub reduced : Pos → List Var → List Var → Ports → Call → Result Elements SourceRefusal
 reduced home (array ∷ []) (out ∷ []) callee call = folded home array array.shape.sizes out callee call
 reduced home ins outs callee call = Err (At BadOperator home)

@@ -15,7 +15,7 @@ use Rattle.p3l_body.specs.Scope.{Names, named, declared_one}
 use Rattle.p3l_calls.specs.Port.{has_shape}
 use Rattle.p3l_calls.specs.Plain.{first, after_first, plain_ins}
 
--- a new port after others of so many words in its list: it is declared, by the rules of ports, and
+-- a new port after others of n words in its list: it is declared, by the rules of ports, and
 -- then it has the shape of the callee's port
 abbrev pub fresh_out : Constants → Names → ℕ → Option Var → OutArg → Result Var SourceRefusal
 fresh_out constants names words port (Old arg) = Err (At Wiring arg.at.pos)

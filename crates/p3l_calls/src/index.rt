@@ -33,7 +33,7 @@ fn push_index(
     Ok(())
 }
 
-/// The free indices in brackets, each with the size that it stands at.
+/// The free indices in brackets, each with the size of its dimension.
 #[tactic(auto, using(crate::proofs::Indices::brackets))]
 pub(crate) fn indices_in(
     alloc: Global,
@@ -99,21 +99,21 @@ fn is_free_of(name: &Name, sub: &Sub) -> bool
     }
 }
 
-/// How many free indices stand in brackets.
+/// How many free indices are in brackets.
 pub(crate) fn free_count(subs: &[Sub]) -> usize
     ensures { result ≡ free_count subs.now }
 {
     subs.iter().filter(|sub| is_free(sub)).count()
 }
 
-/// Whether a free index of this name stands in the brackets.
+/// Whether a free index of this name occurs in the brackets.
 fn stands_in(subs: &[Sub], name: &Name) -> bool
     ensures { result ≡ stands_in subs.now name.now }
 {
     subs.iter().any(|sub| is_free_of(name, sub))
 }
 
-/// Whether each of the indices stands in the brackets.
+/// Whether each of the indices occurs in the brackets.
 fn all_stand_in(indices: &[Index], subs: &[Sub]) -> bool
     ensures { result ≡ list_all (λ (i : Index). stands_in subs.now i.name) indices.now }
 {
@@ -127,7 +127,7 @@ pub(crate) fn has_indices(indices: &[Index], subs: &[Sub]) -> bool
     free_count(subs) == indices.len() && all_stand_in(indices, subs)
 }
 
-/// A free index in a bracket is one of these, and stands in none of the brackets before.
+/// A free index in a bracket is one of these, and in none of the brackets before.
 fn check_member(indices: &[Index], before: &[Sub], sub: &Sub) -> Result<(), SourceRefusal>
     ensures { result ≡ member_rule indices.now before.now sub.now }
 {
@@ -140,7 +140,7 @@ fn check_member(indices: &[Index], before: &[Sub], sub: &Sub) -> Result<(), Sour
     Ok(())
 }
 
-/// Each free index in the brackets is one of these and stands there once.
+/// Each free index in the brackets is one of these and occurs there once.
 pub(crate) fn check_members(indices: &[Index], subs: &[Sub]) -> Result<(), SourceRefusal>
     ensures { result ≡ members_rule indices.now [] subs.now }
 {
@@ -150,7 +150,7 @@ pub(crate) fn check_members(indices: &[Index], subs: &[Sub]) -> Result<(), Sourc
     Ok(())
 }
 
-/// A free index stands at its one size.
+/// A free index has its one size.
 fn check_size(indices: &[Index], sub: &Sub, size: u32) -> Result<(), SourceRefusal>
     ensures { result ≡ size_rule indices.now sub.now size }
 {
@@ -163,7 +163,7 @@ fn check_size(indices: &[Index], sub: &Sub, size: u32) -> Result<(), SourceRefus
     Ok(())
 }
 
-/// Each free index in the brackets stands at its one size.
+/// Each free index in the brackets has its one size.
 #[tactic(auto, using(crate::proofs::Indices::brackets))]
 pub(crate) fn check_sizes(
     indices: &[Index],

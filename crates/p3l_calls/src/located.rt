@@ -1,4 +1,4 @@
-// Where the ports of a module stand in its token.
+// Where the ports of a module are in its token.
 
 ghost use Rattle.std.specs.Prelude.{◌≡◌, [], OnOk, IfOk, ℕ, List, bytes_eq, option_copied};
 ghost use Rattle.std.specs.Map.{lookup};

@@ -43,7 +43,7 @@ fn check_plain_out(vars: &[Var], ports: &[Var], k: usize, out: &OutArg) -> Resul
     }
 }
 
-/// Names that are asked for must end where the entries of a call end.
+/// Names that are expected must end where the entries of a call end.
 pub(crate) fn check_end(vars: &[Var], entries: usize, call: Pos) -> Result<(), SourceRefusal>
     ensures { result ≡ broken_if (nat_lt entries (length vars.now)) Wiring call }
 {

@@ -127,7 +127,7 @@ fn folded(
 }
 
 /// The elements that a reduce with these ports folds, if its call keeps the rules; `home` is where the
-/// reduce's own name stands.
+/// reduce's own name is.
 pub fn elements_of(
     home: Pos,
     ports: &Ports,

@@ -15,7 +15,7 @@ use p3l_body::{Ports, Scope, Var, declare_one, enter};
 use p3l_types::{Consts, words_of};
 use std::alloc::Global;
 
-/// A new port in the place of the callee's port of this number, after others of so many words.
+/// A new port in the place of the callee's port of this number, after others of `words` words.
 fn fresh_out(
     alloc: Global,
     consts: &Consts,
@@ -42,7 +42,7 @@ fn fresh_out(
     Ok(var)
 }
 
-/// The new ports that the outs of a call are, whose names then stand in the scope.
+/// The new ports that the outs of a call are, whose names are then in the scope.
 #[tactic(auto, using(crate::proofs::Fresh::ports))]
 fn fresh_outs(
     alloc: Global,
@@ -66,7 +66,7 @@ fn fresh_outs(
 }
 
 /// Checks a call of a pipe or a comp that another follows. It is handed the variables `taken`, in
-/// order; its outs are new ports, which the next call takes, and whose names then stand in the scope.
+/// order; its outs are new ports, which the next call takes, and whose names are then in the scope.
 pub fn check_stage(
     alloc: Global,
     consts: &Consts,

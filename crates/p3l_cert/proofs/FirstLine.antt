@@ -98,6 +98,6 @@ cert_whole : Each IsWhole cert_format
 unfolding cert_format
 cert_whole = each_text_then IsWhole IsWhole IsWhole header body_format whole_append (whole_line header header_is_line) body_whole
 
--- the line that is told of a refused text
+-- the line that is reported of a refused text
 pub cert_first_bad : (s : List ℕ) (f : Fault) → read_all cert_format s ≡ Err f → IsFirstBadLine cert_format s (line_number s f.left)
 cert_first_bad s f e = first_bad cert_format cert_tells cert_whole s f e

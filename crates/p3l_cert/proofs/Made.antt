@@ -79,7 +79,7 @@ same_key j k one two =
 
 -- ---- some of the keys
 
--- rows of the first keys, so many
+-- rows of the first i keys
 pub record IsMade (keys : List Key) (i : ℕ) (rows : List Row) : Type 0 where
   pub ordered : AreRows rows
   pub all : (j : ℕ) (d : Key) → j < i → Has rows (get_or keys j d)

@@ -1,4 +1,4 @@
--- The keys that are asked for are of nodes outside units.
+-- The keys that are needed are of nodes outside units.
 use Rattle.std.proofs.Common.{◌≡◌, ℕ, zero, suc, ◌==◌, ◌<◌, ◌≤◌, true, List, [], ◌∷◌, take, Some, get_or, length, refl, sym, ap, ◌∙◌, subst, arith}
 use Rattle.std.specs.Prelude.{slice_index}
 use Rattle.std.specs.List.{All, Any, Contains, flat_map}

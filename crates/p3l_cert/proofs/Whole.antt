@@ -39,7 +39,7 @@ use Rattle.p3l_cert.proofs.Needs.{keys_closed, keys_small, first_key}
 use Rattle.p3l_cert.proofs.Optimal.{rows_true, rule_some}
 use Rattle.p3l_cert.proofs.Outside.{IsCosted, root_deep, root_costed_keys}
 
--- ---- what is asked for
+-- ---- which keys are needed
 
 abbrev first_of : Tree → Costs → ℕ → ℕ → List Key
 first_of tree costs service processors = keys_from tree costs nesting (key 0 service processors)
@@ -95,7 +95,7 @@ module _ (tree : Tree) (costs : Costs) (lawful : IsLawfulTree tree) (priced : Ar
   asked_before : (P : Key → Type 0) → 0 < time → All P (asked tree costs time processors) → P (key 0 (time - 1) processors)
   asked_before P later all = first_key tree costs lawful priced P nesting (key 0 (time - 1) processors) (root_deep tree costs lawful priced) (asked_second tree costs P time processors later all)
 
-  -- ---- the rows of what is asked for, in order
+  -- ---- the rows of the keys needed, in order
 
   module _ (keys : List Key) (perm : IsPermutation (asked tree costs time processors) keys) (rows : List Row) (are : AreRowsOf keys rows) where
     has_asked : All (Has rows) (asked tree costs time processors)

@@ -9,7 +9,7 @@ use Rattle.p3l_cert.specs.Keys.{asked}
 use Rattle.p3l_cert.specs.Rows.{AreRows}
 use Rattle.p3l_cert.specs.Rule.{key_of, Follows}
 
--- ascending rows, one for each key that is asked for, and no others; they follow by their rules
+-- ascending rows, one for each key that is needed, and no others; they follow by their rules
 pub record AreRowsAsked (tree : Tree) (costs : Costs) (service processors : ℕ) (rows : List Row) : Type 0 where
   pub ordered : AreRows rows
   pub all : All (Has rows) (asked tree costs service processors)

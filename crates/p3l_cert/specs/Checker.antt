@@ -72,7 +72,7 @@ top_fault cert =
 unfoldable pub cert_fault : Tree → Costs → Cert → Option CertRefusal
 cert_fault tree costs cert = or_else (claims_fault tree costs cert) (or_else (rows_fault tree costs cert.rows 0 cert.rows) (top_fault cert))
 
--- a call answered with the first fault, unless memory was wanting
+-- a call answered with the first fault, unless out of memory
 abbrev pub Answers : {A : Type 0} → Result A CertRefusal → Option CertRefusal → Type 0
 Answers (Ok v) fault = fault ≡ None
 Answers (Err NoMemory) fault = ⊤

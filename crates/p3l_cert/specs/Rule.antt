@@ -43,7 +43,7 @@ and_then (Err k) f = Err k
 
 -- ---- by what there is at the keys of parts
 
--- the stages of a pipe, with so many processes before them
+-- the stages of a pipe, with `before` processes before them
 unfoldable pub stages_rule : (Key → Result ℕ Key) → ℕ → ℕ → ℕ → List ℕ → Result ℕ Key
 stages_rule look t cap before [] = Ok before
 stages_rule look t cap before (p ∷ ps) = and_then (look (key p t cap)) (λ least. stages_rule look t cap (capped cap (before + least)) ps)
@@ -64,7 +64,7 @@ low_of r = max 1 r.low
 abbrev pub run_of : Span → ℕ → ℕ
 run_of r cap = (min r.high (cap - 2) + 1) - low_of r
 
--- with so many segments
+-- with m segments
 abbrev pub segments_step : Span → FoldCost → ℕ → ℕ → ℕ → ℕ
 segments_step r fold t cap m =
     if nat_le r.low m && (nat_le m r.high && nat_le (timed (segments_service fold m)) t) then joined_procs m else cap + 1
@@ -88,12 +88,12 @@ rule_of look (Loop turns e) parts t cap =
 
 -- ---- by the rows of a certificate
 
--- what a node of the tree costs, if it stands outside units
+-- what a node of the tree costs, if it is outside units
 unfoldable pub cost_at : Tree → Costs → ℕ → Option NodeCost
 cost_at tree costs node =
     if nat_lt node (length tree.nodes) && list_any (λ k. k == node) (outside tree) then Some (node_cost tree costs node) else None
 
--- no rule finds 0, so that no row of another node stands
+-- no rule finds 0, so that no row of another node is accepted
 abbrev pub rule_at : (Key → Result ℕ Key) → Tree → Option NodeCost → Key → Result ℕ Key
 rule_at look tree None k = Ok 0
 rule_at look tree (Some cost) k = rule_of look cost (node_at tree k.node).parts k.bound k.cap

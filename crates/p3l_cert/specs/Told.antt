@@ -1,4 +1,4 @@
--- What is told of a text that is no certificate.
+-- What is reported of a text that is no certificate.
 use Rattle.std.specs.Prelude.{◌≡◌, ℕ, List, Result, Ok, Err, ⊤}
 use Rattle.p3l_cert.specs.declared.cert.Cert.{Cert}
 use Rattle.p3l_cert.specs.declared.cert.CertRefusal.{CertRefusal}
@@ -13,12 +13,12 @@ abbrev pub told : List ℕ → Result Cert Fault → Result Cert CertRefusal
 told text (Ok cert) = Ok cert
 told text (Err fault) = Err (refusals.BadText (line_number text fault.left))
 
--- a call answered what reading gives, unless memory was wanting
+-- a call answered what reading gives, unless out of memory
 abbrev pub Answers : List ℕ → Result Cert CertRefusal → Result Cert Fault → Type 0
 Answers text (Err refusals.NoMemory) read = ⊤
 Answers text answer read = answer ≡ told text read
 
--- a line that is told is the first that isn't of a certificate's form
+-- a line that is reported is the first that isn't of a certificate's form
 abbrev pub TellsFirst : List ℕ → Result Cert CertRefusal → Type 0
 TellsFirst text (Err (refusals.BadText line)) = IsFirstBadLine cert_format text line
 TellsFirst text answer = ⊤

@@ -44,7 +44,7 @@ pub enum Claim {
     Service,
     /// They make `used` processes.
     Used,
-    /// So many fit the processors.
+    /// That many processes fit the processors.
     Fits,
     /// The rows of the root say that fewer processes or a sooner service time are not to be had.
     Least,

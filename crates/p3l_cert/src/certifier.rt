@@ -92,8 +92,8 @@ fn copied(alloc: Global, numbers: &[u32]) -> Result<List<u32>, NoMemory>
     Ok(List::from_vec(items))
 }
 
-/// The certificate of optimal numbers of workers for so many processors, with their service time and
-/// the processes that they make: exactly the rows from which it follows.
+/// The certificate of optimal numbers of workers for a number of processors, with their service
+/// time and the processes that they make: exactly the rows from which it follows.
 pub fn certify(
     alloc: Global,
     tree: &Tree,

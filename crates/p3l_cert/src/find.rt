@@ -15,7 +15,7 @@ fn is_key(row: &Row, key: Key) -> bool
     row.node == key.node && row.bound == key.bound && row.cap == key.cap
 }
 
-// Whether a row comes before that of a key.
+/// Whether a row comes before that of a key.
 pub fn is_below(row: &Row, key: Key) -> bool
     ensures { result ≡ is_below row.now key }
 {

@@ -94,7 +94,7 @@ fn read_numbers(bytes: &[u8]) -> Result<(Row, &[u8]), ReadError>
     ))
 }
 
-// The row in front, where a fault is told at its own place.
+// The row in front, where a fault is reported at its own place.
 #[tactic(auto, unfolding(p3l_format::specs::Text::text_then, p3l_format::specs::Format::within))]
 fn read_row(above: Option<Row>, bytes: &[u8]) -> Result<(Row, &[u8]), ReadError>
     ensures { Gives (λ x. (x.0, x.1.now))

@@ -33,7 +33,7 @@ fn stages_rule(rows: &[Row], bound: u128, cap: u32, parts: &[u32]) -> Result<u32
     Ok(before)
 }
 
-// The service time within which the part of so many workers has to stay.
+/// The service time within which the part of this number of workers has to stay.
 pub fn part_bound(sharing: Sharing, bound: u128, workers: u32) -> u128
     requires sharing { IsSharing sharing }
     requires some { 1 ≤ workers }
@@ -47,7 +47,7 @@ pub fn part_bound(sharing: Sharing, bound: u128, workers: u32) -> u128
     }
 }
 
-// With so many workers, where fewer have come to `best` at least.
+// With `workers` workers, where fewer have come to `best` at least.
 fn workers_step(
     rows: &[Row],
     part: u32,
@@ -103,7 +103,7 @@ fn workers_rule(
     Ok(best)
 }
 
-// With so many segments.
+// With `segments` segments.
 fn segments_step(span: Span, fold: &FoldCost, bound: u128, cap: u32, segments: u32) -> u32
     requires some { 1 ≤ segments }
     requires few { segments ≤ 512 }
@@ -116,7 +116,7 @@ fn segments_step(span: Span, fold: &FoldCost, bound: u128, cap: u32, segments: u
     cap + 1
 }
 
-// The processes of a reduce with so many segments.
+// The processes of a reduce with this number of segments.
 fn joined_procs(segments: u32) -> u32
     requires { segments ≤ 512 }
     ensures { result ≡ joined_procs segments }
@@ -158,7 +158,7 @@ fn loop_rule(rows: &[Row], body: u32, bound: u128, cap: u32) -> Result<u32, Key>
     Ok((2 + least).min(cap + 1))
 }
 
-// The first of some parts, and 0 where there is none.
+/// The first of some parts, and 0 where there is none.
 pub fn first_of(parts: &[u32]) -> u32
     ensures { result ≡ slice_index parts.now 0 }
 {

@@ -16,7 +16,7 @@ use p3l_model::{NodeCost, is_outside, node_cost};
 use p3l_skel::Tree;
 use std::alloc::Global;
 
-// What a node costs, if it stands outside units.
+// What a node costs, if it is outside units.
 #[tactic(auto, unfolding(crate::specs::Rule::cost_at))]
 fn cost_at(tree: &Tree, costs: &Costs, node: u32) -> Option<NodeCost>
     requires { node < length tree.now.nodes }
@@ -40,7 +40,7 @@ pub fn table(alloc: Global, tree: &Tree, costs: &Costs) -> Result<List<Option<No
     Ok(table)
 }
 
-// The cost of a node in a table, and none past its end.
+/// The cost of a node in a table, and none past its end.
 pub fn cost_in(table: &[Option<NodeCost>], node: u32) -> Option<&NodeCost>
     ensures { option_map (λ cost. cost.now) result ≡ get_or table.now node None }
 {

@@ -18,7 +18,7 @@ use p3l_format::{
 use p3l_skel::Counts;
 use std::alloc::Global;
 
-// The counts in a line, where a fault is told at its own place.
+// The counts in a line, where a fault is reported at its own place.
 #[tactic(auto, unfolding(p3l_format::specs::Text::text_then))]
 fn read_counts(alloc: Global, bytes: &[u8]) -> Result<(List<u32>, &[u8]), ReadError>
     ensures { Gives (λ x. (x.0, x.1.now))
@@ -168,9 +168,9 @@ pub fn read_cert(alloc: Global, text: &[u8]) -> Result<Cert, CertRefusal>
     // What is spelled so is read, unless memory runs out.
     ensures only { (cert : TheCert) → cert_format.fits cert ≡ true
         → text.now ≡ cert_format.spell cert → Answers text.now result (Ok cert) }
-    // The line that is told is the first that isn't of its form, whatever reads it.
+    // The line that is reported is the first that isn't of its form, whatever reads it.
     ensures first { TellsFirst text.now result }
-    // Which line the format's own reading tells.
+    // Which line the format's own reading reports.
     ensures exact { Answers text.now result (read_all cert_format text.now) }
 {
     match p3l_format::decode(&CertField { alloc }, alloc, text) {

@@ -16,7 +16,7 @@ use Rattle.p3l_unfold.specs.declared.wired.Wired.{Wired}
 use Rattle.p3l_unfold.specs.Wiring.{no_module, module_at, TakesAndGives, IsCallChain, IsSequentialModule, IsWiredMap, IsWiredReduce, IsWiredLoop, IsWiredForm, IsWiredModule}
 use Rattle.p3l_check.specs.Wired.{AreWired}
 
--- a module that may stand after others: its calls are of them, and fit it
+-- a module that may come after others: its calls are of them, and fit it
 pub record IsNext (wired : List Wired) (kind : ModuleKind) (m : Wired) : Type 0 where
   pub kind_is : kind ≡ kind_of m.form
   pub ins : IsSize m.ins
@@ -126,7 +126,7 @@ module _ (infos : List ModuleInfo) (wired : List Wired) (info : ModuleInfo) (m :
     sequential = next.sequential ∙ sequential-kept wired m m.form m.ins m.outs m.calls next.earlier next.form;
   }
 
-  -- modules and one that may stand after them
+  -- modules and one that may come after them
   pub wired-more : AreWired infos wired → HasLawfulRescue info → IsNext wired info.kind m → AreWired (infos ++ info ∷ []) (wired ++ m ∷ [])
   wired-more wiring rescue next = record {
     rescues = rescues-kept infos info wiring.rescues rescue;

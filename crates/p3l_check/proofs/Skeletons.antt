@@ -41,7 +41,7 @@ use Rattle.p3l_check.proofs.Ranges.{IsWithin, upto-within, reduce-within, turns-
 use Rattle.p3l_check.proofs.Called.{IsCalled, called-is, operator-is}
 use Rattle.p3l_check.proofs.Staged.{HavePorts, AreStaged, staged-are}
 
--- what a module is made of fits the modules before it, where it takes and gives so many words
+-- what a module is made of fits the modules before it, where it takes `ins` words and gives `outs`
 pub record IsFitting (modules : Modules) (kind : Kind) (ins outs : ℕ) (skeleton : Skeleton) : Type 0 where
   pub kind_is : kind_in kind ≡ kind_of skeleton.form
   pub workers : IfSome (workers_of skeleton.form) (IsCountInRange skeleton.form)

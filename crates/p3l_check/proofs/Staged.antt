@@ -22,7 +22,7 @@ use Rattle.p3l_check.proofs.Called.{IsCalled, called-is}
 abbrev pub HavePorts : Modules → Type 0
 HavePorts modules = (k : ℕ) → k < length modules.wired → HasTotals (ports_at modules k) (module_at modules.wired k).ins (module_at modules.wired k).outs
 
--- the callees of calls that are handed so many words
+-- the callees of calls that are handed `taken` words
 pub record AreStaged (in_process : Bool) (modules : Modules) (taken filled : ℕ) (ks : List ℕ) : Type 0 where
   pub some : 1 ≤ length ks
   pub inside : AllByRecursion (λ c. c < length modules.wired) ks

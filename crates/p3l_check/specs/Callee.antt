@@ -35,7 +35,7 @@ one_each_rule call = broken_if (not (length call.ins == 1 && length call.outs ==
 abbrev pub operator_rule : Ports → Spot → Verdict
 operator_rule callee at = broken_if (not (length callee.ins == 2 && length callee.outs == 1)) BadOperator at.pos
 
--- an earlier module that may run where the call stands
+-- an earlier module that may run where the call is
 abbrev pub runnable_callee : Bool → Before → Call → Result ℕ SourceRefusal
 runnable_callee in_process before call =
     given (callee_of before call.at) (λ k. given (process_rule in_process before.modules k call.at) (λ x. Ok k))

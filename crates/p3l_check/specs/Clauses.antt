@@ -14,7 +14,7 @@ use Rattle.p3l_types.specs.Verdict.{given}
 use Rattle.p3l_types.specs.Constants.{Constants, place_of}
 use Rattle.p3l_body.specs.Seq.{limited, budget_of, rescue_of}
 
--- the workers of a farm or a map: 1 to so many; none without a clause
+-- the workers of a farm or a map: 1 to a bound; none without a clause
 abbrev pub workers_upto : ℕ → Constants → Option Num → Result (Option ℕ) SourceRefusal
 workers_upto most constants None = Ok None
 workers_upto most constants (Some num) = given (limited 1 most constants num) (λ n. Ok (Some n))
@@ -58,7 +58,7 @@ abbrev pub no_rescue : Pos → Option Rescue → Result (Option ℤ) SourceRefus
 no_rescue pos None = Ok None
 no_rescue pos (Some rescue) = Err (At Expected pos)
 
--- the rescue number of a module that stands at a place, if it has one; the rule of a `seq` module's budget
+-- the rescue number of a module at a place, if it has one; the rule of a `seq` module's budget
 -- comes before it
 abbrev pub rescue_in : Kind → Pos → Constants → Clauses → Result (Option ℤ) SourceRefusal
 rescue_in kinds.Seq pos constants clauses =

@@ -1,4 +1,4 @@
--- The calls that stand inside a module; what no text spells is Expected at the module's name.
+-- The calls inside a module; what no text spells is Expected at the module's name.
 use Rattle.std.specs.Prelude.{List, [], ◌∷◌, Result, Ok, Err}
 use Rattle.p3l_ast.specs.declared.position.Pos.{Pos}
 use Rattle.p3l_ast.specs.declared.refusal.Fault.TheVariants.{Expected}

@@ -6,7 +6,7 @@ use Rattle.std.specs.Option.{option_map_or}
 use Rattle.p3l_ast.specs.declared.position.Spot.{Spot}
 use Rattle.p3l_ast.specs.Tree.{EntryTree, constant, defined}
 
--- the name of an entry, and where it stands
+-- the name of an entry, and where it is
 abbrev pub entry_spot : EntryTree → Spot
 entry_spot (constant at value) = at
 entry_spot (defined m) = m.at

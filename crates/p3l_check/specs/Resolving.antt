@@ -25,7 +25,7 @@ use Rattle.p3l_check.specs.Entry.{Checked, none_checked, checked_entries}
 abbrev pub main_name : List ℕ
 main_name = codes "main"
 
--- where the entry of the name `main` stands
+-- where the entry of the name `main` is
 abbrev pub main_place : Pos → List EntryTree → Pos
 main_place end [] = end
 main_place end (entry ∷ entries) =
@@ -48,7 +48,7 @@ limit_of at limit.TooManyInstances = At TooManyInstances at
 limit_of at limit.TooHeavy = At TooHeavy at
 limit_of at limit.NoMemory = NoMemory
 
--- the limits of the instances of a root that stands at this place: nesting, number, work
+-- the limits of the instances of a root at this place: nesting, number, work
 abbrev pub limits_rule : Pos → Modules → ℕ → Verdict
 limits_rule at modules root =
     first_of (

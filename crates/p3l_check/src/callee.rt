@@ -83,7 +83,7 @@ fn check_operator(callee: &Ports, at: &Spot) -> Result<(), SourceRefusal>
     })
 }
 
-/// The number of an earlier module that may run where the call stands.
+/// The number of an earlier module that may run where the call is.
 fn runnable_callee(
     in_process: bool,
     env: Environment<'_>,

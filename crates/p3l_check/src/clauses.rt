@@ -22,7 +22,7 @@ const USUAL_TOKENS: u32 = 4;
 /// The numbers of workers that a reduce may have.
 const POWERS: [u32; 10] = [1, 2, 4, 8, 16, 32, 64, 128, 256, 512];
 
-/// The workers of a clause, 1 to so many.
+/// The workers of a clause, 1 to `most`.
 fn workers_upto(
     most: u32,
     consts: &Consts,
@@ -43,7 +43,7 @@ pub fn farm_workers(consts: &Consts, clause: &Option<Num>) -> Result<Option<u32>
     workers_upto(MOST_WORKERS, consts, clause)
 }
 
-/// The workers of a map with so many elements.
+/// The workers of a map with `elements` elements.
 pub fn map_workers(
     elements: u64,
     consts: &Consts,
@@ -54,7 +54,7 @@ pub fn map_workers(
     workers_upto(elements.min(MOST_WORKERS as u64) as u32, consts, clause)
 }
 
-/// Whether a reduce may have so many workers, whatever its length.
+/// Whether a reduce may have this number of workers, whatever its length.
 fn is_power(workers: u32) -> bool
     ensures { result ≡ is_power workers }
 {
@@ -75,7 +75,7 @@ fn as_power(num: &Num, workers: u32) -> Result<Option<u32>, SourceRefusal>
     }
 }
 
-/// The workers of a reduce with so many elements.
+/// The workers of a reduce with `len` elements.
 pub fn reduce_workers(
     len: u32,
     consts: &Consts,
@@ -89,7 +89,7 @@ pub fn reduce_workers(
     }
 }
 
-/// The turns of a loop that stands at this place.
+/// The turns of a loop at this place.
 pub fn turns_of(pos: Pos, consts: &Consts, clause: &Option<Num>) -> Result<u32, SourceRefusal>
     ensures { result ≡ turns_of pos consts.now clause.now }
 {
@@ -125,7 +125,7 @@ fn no_rescue(pos: Pos, clause: &Option<Rescue>) -> Result<Option<i64>, SourceRef
     }
 }
 
-/// The rescue number of a module that stands at this place, if it has one, after the rule of a
+/// The rescue number of a module at this place, if it has one, after the rule of a
 /// `seq` module's budget.
 pub fn rescue_in(
     kind: Kind,

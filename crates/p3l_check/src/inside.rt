@@ -1,4 +1,4 @@
-// The calls that stand inside a module.
+// The calls inside a module.
 
 ghost use Rattle.std.specs.Prelude.{◌≡◌, Ok, Err, IfOk, IfErr};
 ghost use Rattle.p3l_ast.specs.Tree.{inside_tree};
@@ -16,7 +16,7 @@ fn unspelled(pos: Pos) -> SourceRefusal
     }
 }
 
-/// The calls of a pipe or a comp that stands at this place.
+/// The calls of a pipe or a comp at this place.
 pub fn calls_of(pos: Pos, inside: &Inside) -> Result<&[Call], SourceRefusal>
     ensures calls { IfOk result (λ calls. calls_of pos (inside_tree inside.now) ≡ Ok calls.now) }
     ensures refused { IfErr result (λ refusal. calls_of pos (inside_tree inside.now)
@@ -31,7 +31,7 @@ pub fn calls_of(pos: Pos, inside: &Inside) -> Result<&[Call], SourceRefusal>
     }
 }
 
-/// The one call of a farm, a map or a reduce that stands at this place.
+/// The one call of a farm, a map or a reduce at this place.
 pub fn call_of(pos: Pos, inside: &Inside) -> Result<&Call, SourceRefusal>
     ensures call { IfOk result (λ call. call_of pos (inside_tree inside.now) ≡ Ok call.now) }
     ensures refused { IfErr result (λ refusal. call_of pos (inside_tree inside.now) ≡ Err refusal) }
@@ -45,7 +45,7 @@ pub fn call_of(pos: Pos, inside: &Inside) -> Result<&Call, SourceRefusal>
     }
 }
 
-/// The body and the condition of a loop that stands at this place.
+/// The body and the condition of a loop at this place.
 pub fn turning_of(pos: Pos, inside: &Inside) -> Result<(&Call, &Call), SourceRefusal>
     ensures calls { IfOk result (λ pair. turning_of pos (inside_tree inside.now)
         ≡ Ok (pair.0.now, pair.1.now)) }

@@ -27,7 +27,7 @@ use p3l_unfold::Wired;
 use std::alloc::Global;
 use std::mem;
 
-/// The most modules, so that 32 bits number them: memory is wanting for more.
+/// The most modules, so that 32 bits number them: more are out of memory.
 const MOST_MODULES: u32 = u32::MAX;
 
 /// What the entries so far come to: constants, modules, and the bodies of `seq` modules.

@@ -29,7 +29,7 @@ pub struct Resolved<'a> {
 /// The name of the module that a stream of items goes into.
 const MAIN: &str = "main";
 
-/// Where the entry of the name `main` stands.
+/// Where the entry of the name `main` is.
 #[tactic(auto, using(crate::proofs::MainPlace::places))]
 fn main_place(end: Pos, entries: &[Entry]) -> Pos
     ensures { result ≡ main_place end (map entry_tree entries.now) }

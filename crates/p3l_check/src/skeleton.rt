@@ -305,7 +305,7 @@ fn of_calls(form: Form, calls: List<u32>, sequential: bool) -> Skeleton
     }
 }
 
-/// A module by the rules of its kind, after those of its ports, whose names stand in the scope.
+/// A module by the rules of its kind, after those of its ports, whose names are in the scope.
 pub fn skeleton_of(
     alloc: Global,
     env: Environment<'_>,

@@ -18,7 +18,7 @@ pub does_or : (code : Code) (i : Instr) (pc turns : ℕ) (stack memory stack' me
 does_or code i pc turns stack memory stack' memory' (Ok _) leaves = λ next. leaves code next pc turns
 does_or code i pc turns stack memory stack' memory' (Err trap) leaves = λ next. leaves code next pc turns
 
--- the first instruction of so many and one more
+-- the first of `more` + 1 instructions
 one_more : (code : Code) (more pc : ℕ) (stack memory : List ℤ) (turns : ℕ) (i : Instr) → slice_get code.instrs pc ≡ Some i → run_by code (suc more) pc stack memory turns ≡ act code (run_by code more) i pc stack memory turns
 unfolding run_by
 one_more code more pc stack memory turns i at = ap (λ o. present o (λ i. act code (run_by code more) i pc stack memory turns)) at

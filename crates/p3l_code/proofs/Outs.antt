@@ -10,7 +10,7 @@ use Rattle.p3l_code.specs.declared.instr.Instr.TheVariants.{Push, Load, Store, S
 use Rattle.p3l_code.specs.declared.instr.Code.{Code}
 use Rattle.p3l_code.specs.Machine.{Ending, Next, present, after, popped, index_of, written, outs_of, act, run_by, most_steps, machine, started, ending, outcome_of, exec}
 
--- an ending's words are so many
+-- an ending has n words
 GivesWords : ℕ → Ending → Type 0
 GivesWords n None = Unit {0}
 GivesWords n (Some (Ok words)) = length words ≡ n

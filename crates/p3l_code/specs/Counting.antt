@@ -6,12 +6,12 @@ use Rattle.p3l_code.specs.declared.run.Next as steps
 use Rattle.p3l_code.specs.declared.run.Next.TheVariants as nexts
 use Rattle.p3l_code.specs.Machine.{Next, act, outs_of, run_by, most_steps, started}
 
--- the first number from one on that passes a test, or the one after so many
+-- the first number from one on that passes a test, or the one after n numbers
 abbrev pub first_from : (ℕ → Bool) → ℕ → ℕ → ℕ
 first_from test zero n = n
 first_from test (suc left) n = if test n then n else first_from test left (suc n)
 
--- whether a run that begins with this memory has ended after so many instructions
+-- whether a run that begins with this memory has ended after n instructions
 abbrev pub has_ended : Code → List ℤ → ℕ → Bool
 has_ended code memory n = is_some (run_by code n 0 [] memory 0)
 
@@ -32,8 +32,8 @@ Does code i pc stack memory turns stack' memory' nexts.Ended =
 Does code i pc stack memory turns stack' memory' (nexts.Stopped trap) =
     (next : Next) → act code next i pc stack memory turns ≡ Some (Err trap)
 
--- a run that began with a memory has done so many instructions and goes on from here: what it does with
--- more of them is what the machine does from here, and it has not ended before
+-- a run that began with a memory has done `done` instructions and goes on from here: what it does
+-- with more of them is what the machine does from here, and it has not ended before
 pub record HasDone (code : Code) (start : List ℤ) (done : ℕ) (pc : ℕ) (stack memory : List ℤ) (turns : ℕ) : Type 0 where
   pub rest : (more : ℕ) → run_by code (more + done) 0 [] start 0 ≡ run_by code more pc stack memory turns
   pub going : (n : ℕ) → n ≤ done → run_by code n 0 [] start 0 ≡ None

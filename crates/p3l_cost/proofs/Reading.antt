@@ -98,7 +98,8 @@ module _ (tree : Tree) (document : Members) where
           let same : n ∷ rest ≡ ns = cc in
           rw (← same) (omega (arith, (more rest q).0), All-cons (λ k. k ≤ most_cost) n rest (ticks_of-few home m n p) (more rest q).1)
 
-  -- what holds of the turns of a loop as it stands, of 1 and of all numbers that an entry may have holds of the turns of a module
+  -- what holds of the turns of a loop as it is, of 1 and of all numbers that an entry may have
+  -- holds of the turns of a module
   turns_of-are : (P : ℕ → Type 0) (home : ℕ) (m : ModuleInfo) → P 1 → P (full_turns tree.nodes home) → ((n : ℕ) → 1 ≤ n → n ≤ turns_or most_cost tree.nodes home → P n) → P (turns_of_module tree document home m)
   turns_of-are P home m one full entry = by (speaks_of Turns m.kind)
     where

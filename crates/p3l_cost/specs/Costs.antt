@@ -11,7 +11,7 @@ use Rattle.p3l_cost.specs.declared.costs.Costs.{Costs}
 abbrev pub most_cost : ℕ
 most_cost = 1000000
 
--- so many turns are expected of a node of this form: no more than a loop allows
+-- n turns may be expected of a node of this form: no more than a loop allows
 abbrev pub IsWithinTurns : Form → ℕ → Type 0
 IsWithinTurns Seq n = ⊤
 IsWithinTurns Comp n = ⊤

@@ -25,12 +25,13 @@ Verdict = Result (Unit {0}) CostRefusal
 abbrev pub kept : Verdict
 kept = Ok tt
 
--- what comes of a value, if the rules that it stands under are kept
+-- what comes of a value, if its rules are kept
 abbrev pub given : {A B : Type 0} → Result A CostRefusal → (A → Result B CostRefusal) → Result B CostRefusal
 given (Ok x) go = go x
 given (Err refusal) go = Err refusal
 
--- an answer is what is meant, value or refusal, unless memory was wanting; no rule of keys and values says that a text is no document
+-- an answer is what is meant, value or refusal, unless out of memory; no rule of keys and values
+-- says that a text is no document
 abbrev pub Gives : {A : Type 0} → Result A CostRefusal → Result A CostRefusal → Type 0
 Gives (Ok x) meant = meant ≡ Ok x
 Gives (Err NotToml) meant = ⊥
@@ -138,7 +139,7 @@ entry_in document section limit name = option_map_or (entry_of section limit nam
 abbrev pub is_used : List Node → ℕ → Bool
 is_used nodes home = list_any (λ (node : Node). node.module == home) nodes
 
--- the ticks of a `seq` module: its entry, else the default, which may be wanting for a module of no node
+-- the ticks of a `seq` module: its entry, else the default, which a module of no node may lack
 abbrev pub ticks_or : Option ℕ → Option ℕ → Bool → List ℕ → Result ℕ CostRefusal
 ticks_or (Some n) default used name = Ok n
 ticks_or None (Some n) used name = Ok n
@@ -189,7 +190,7 @@ pub record IsDocument (text : List ℕ) (document : Members) : Type 0 where
   pub utf8 : IsUtf8 text
   pub parsed : parse_document text ≡ Some document
 
--- why a text is no document, if memory was not wanting
+-- why a text is no document, unless out of memory
 abbrev pub IsNoDocument : List ℕ → CostRefusal → Type 0
 IsNoDocument text NotToml = (document : Members) → IsDocument text document → ⊥
 IsNoDocument text (BadKey key) = ⊥

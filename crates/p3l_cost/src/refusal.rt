@@ -16,7 +16,7 @@ pub enum CostRefusal {
     BadValue(Name),
     /// The ticks of this `seq` module are given neither by an entry nor by `default`.
     Missing(Name),
-    /// Memory was wanting.
+    /// Out of memory.
     NoMemory,
 }
 

@@ -129,7 +129,7 @@ fn check_key(alloc: Global, key: &str, value: &Value, tree: &Tree) -> Result<(),
 }
 
 /// Whether all keys of the document keep the rules; the first in the order of bytes that doesn't
-/// is told.
+/// is reported.
 pub(crate) fn check_keys(alloc: Global, document: &Table, tree: &Tree) -> Result<(), CostRefusal>
     requires few { length tree.now.modules < 2 ^ 32 }
     ensures { Gives result (keys_rule tree.now (table_view document.now)) }

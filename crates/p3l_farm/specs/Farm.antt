@@ -37,7 +37,7 @@ joined (l ∷ ls) = l ++ joined ls
 
 -- what the farm shows of a state
 pub record View : Type 0 where
-  -- what Emit and Collect keep: the next number, and the one that is due
+  -- what Emit and Collect keep: the next number, and the one that is expected
   pub next : ℕ
   pub least : ℕ
   -- the lines of the workers
@@ -59,7 +59,7 @@ unfoldable pub lines_of : List Part → State → List (List Token)
 lines_of [] s = []
 lines_of (P ∷ Ps) s = line P s ∷ lines_of Ps s
 
--- what is due in the workers
+-- the work that is left in the workers
 unfoldable pub dues : List Part → State → ℕ
 dues [] s = 0
 dues (P ∷ Ps) s = due P s + dues Ps s
@@ -112,7 +112,7 @@ farm_shape node n =
       part = λ units roles base parts. farm_part n roles base parts;
     }
 
--- a node of a tree that is a farm of so many workers
+-- a node of a tree that is a farm of n workers
 pub record IsFarmNode (tree : Tree) (node n : ℕ) : Type 0 where
   pub there : node < length tree.nodes
   pub clause : Option ℕ

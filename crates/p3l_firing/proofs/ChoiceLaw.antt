@@ -1,5 +1,5 @@
 -- An emit takes the first of the channels with room that have the fewest tokens, or none has room; a collect takes the first
--- whose first token has the number that is due, or none has such a token.
+-- whose first token has the number that is expected, or none has such a token.
 use Rattle.std.proofs.Common.{◌≡◌, ℕ, zero, suc, ◌<◌, ◌⊎◌, inl, inr, ◌&&◌, true, false, Option, Some, None, nat_le}
 use Rattle.std.proofs.Common.{List, [], ◌∷◌, length, slice_index, refl, sym, ap, ◌∙◌, arith, le_refl, leb-true, leb-false}
 use Rattle.std.proofs.lemmas.Bool.{cases_Bool, cond-true, cond-false, and_parts}

@@ -95,7 +95,7 @@ module _ {tree : Tree} {net : Net} {widths : Widths} (s : State) (fit : IsFittin
       let all : AllFit widths c (rest_of (s.tokens c)) = all_rest _ (s.tokens c) (fit.tokens c) in
       record { rooms = rooms_at_all c _ all few; tokens = tokens_at_all c _ all few; owns = fit.owns; unsent = fit.unsent }
 
-  -- what one process keeps, of the kind that stands there
+  -- what one process keeps, of the kind that is there
   pub fitting-own : (p : ℕ) (q : Proc) (k : ProcKind) (o : Own) → slice_get net.procs p ≡ Some q → q.kind ≡ k → FitsOwn k tree widths q o → IsFitting tree net widths (set_own s p o)
   unfolding set_own
   fitting-own p q k o stands kind h = record {

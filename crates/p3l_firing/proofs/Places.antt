@@ -1,4 +1,4 @@
--- Where channels stand among those of a process, and that no channel stands there twice.
+-- Where channels are among those of a process, and that no channel is there twice.
 use Rattle.std.proofs.Common.{◌≡◌, ◌≢◌, ℕ, zero, suc, ◌+◌, ◌<◌, ◌≤◌, ◌%◌, ◌==◌, List, [], ◌∷◌, ◌++◌, length, Some, slice_get, get_or, cond, refl, sym, ap, subst, arith, inl, inr, eq-eqb}
 use Rattle.std.specs.List.{AllByRecursion, flat_map}
 use Rattle.std.proofs.lemmas.Bool.{cond-true}
@@ -30,7 +30,7 @@ first_in (c ∷ cs) e = inl refl
 pub mod_less : (n m : ℕ) → 0 < m → n % m < m
 mod_less n m h = omega arith
 
--- a number that stands in a list is counted
+-- a number that is in a list is counted
 pub has_counted : (cs : List ℕ) (c : ℕ) → Has cs c → 1 ≤ times c cs
 has_counted [] c h = elim h [ ]
 has_counted (d ∷ cs) c h =
@@ -40,7 +40,7 @@ has_counted (d ∷ cs) c h =
       | inr later ↦ let rest = has_counted cs c later in omega (arith, split, rest)
     ]
 
--- one that stands first, and later again, is counted twice
+-- one that comes first, and later again, is counted twice
 pub twice_counted : (cs : List ℕ) (c : ℕ) → Has cs c → 2 ≤ times c (c ∷ cs)
 twice_counted cs c h =
     let split : times c (c ∷ cs) ≡ cond (c == c) 1 0 + times c cs = sum_by-cons (λ x. cond (x == c) 1 0) c cs in

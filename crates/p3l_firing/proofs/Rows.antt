@@ -48,7 +48,7 @@ and_right_true true y h k = cc
 and_right_true false y h k = refl
 
 module _ (tree : Tree) (net : Net) (s : State) (p : ℕ) where
-  -- where no process stands, none can fire
+  -- where no process is, none can fire
   pub none_ready : slice_get net.procs p ≡ None → is_ready tree net s p ≡ false
   unfolding is_ready ready_of
   none_ready h = ap (λ o. ready_of o tree net s (s.own p)) h
@@ -76,7 +76,7 @@ module _ (tree : Tree) (net : Net) (s : State) (p : ℕ) where
   unfolding can_fire
   not_ready calm h = and_left_true _ _ (not_from_false _ calm) h
 
--- where process q stands at p, p can fire exactly as the row of its kind says, if no trap was emitted
+-- where process q is at p, p can fire exactly as the row of its kind says, if no trap was emitted
 module _ (tree : Tree) (net : Net) (s : State) (p : ℕ) (q : Proc) (stands : slice_get net.procs p ≡ Some q) where
   pub can_at : can_fire tree net s p ≡ true → (not (has_trap s.emitted) ≡ true) × (row_can q.kind tree net s (s.own p) q ≡ true)
   can_at h = (calm_from_can tree net s p h, sym (ready_at tree net s p q stands) ∙ ready_from_can tree net s p h)

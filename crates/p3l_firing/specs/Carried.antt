@@ -1,4 +1,5 @@
--- What the tokens of a net still stand for, told for any net: the linker hands in one such record of its root.
+-- What the tokens of a net still stand for, for any net: the linker hands in one such record of its
+-- root.
 use Rattle.std.specs.Prelude.{◌≡◌, ℕ, ℤ, ◌+◌, ◌*◌, ◌≤◌, Bool, true, false, List, [], ◌++◌, length, map}
 use Rattle.p3l_base.specs.declared.outcome.Outcome.{Outcome}
 use Rattle.p3l_skel.specs.declared.tree.Tree.{Tree}

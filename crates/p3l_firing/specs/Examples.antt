@@ -39,7 +39,7 @@ run_of_part input output = record { kind = Run; node = 1; arg = 0; ins = input �
 abbrev pub run_of_segment : ℕ → ℕ → ℕ → Proc
 run_of_segment arg input output = record { kind = Run; node = 0; arg = arg; ins = input ∷ []; outs = output ∷ [] }
 
--- the root between source and sink, with so many channels of this capacity beside the first two
+-- the root between source and sink, with these channels beside the first two
 abbrev pub between : List Proc → List Chan → Net
 between procs chans = record {
   procs = at_root Source [] (0 ∷ []) ∷ (at_root Sink (1 ∷ []) [] ∷ procs);
@@ -49,7 +49,7 @@ between procs chans = record {
 abbrev pub plain_chan : Chan
 plain_chan = record { cap = 1; credits = 0 }
 
--- the round robin of a net, for at most so many picks
+-- the round robin of a net, for at most n picks
 abbrev pub by_round_robin : Tree → Leaf → Net → List (List ℤ) → ℕ → Course
 by_round_robin tree leaf net items most = run tree leaf net items (round_robin tree leaf net most (first_state net items) 0)
 
@@ -130,7 +130,7 @@ joined_net =
     ∷ (run_of_segment 1 2 8 ∷ (run_of_segment 1 3 9 ∷ (run_of_segment 1 4 10 ∷ (run_of_segment 2 5 11 ∷ []))))))))
     (replicate 10 plain_chan)
 
--- a loop of at most so many turns that halves as long as the first word is above 1, with four tokens
+-- a loop of at most n turns that halves as long as the first word is above 1, with four tokens
 abbrev pub loop_tree : ℕ → Tree
 loop_tree turns = tree_of (Loop turns 4) 2 2 (1 ∷ (2 ∷ [])) (part 1 2 2 ∷ (part 2 2 1 ∷ []))
 

@@ -32,7 +32,7 @@ can_fire tree net s p = not (has_trap s.emitted) && is_ready tree net s p
 unfoldable pub fire : Tree → Leaf → Net → State → ℕ → State
 fire tree leaf net s p = fire_of (slice_get net.procs p) tree leaf net s p (s.own p)
 
--- a firing of process p may want memory
+-- a firing of process p may need memory
 unfoldable pub wants_memory : Net → State → ℕ → Bool
 wants_memory net s p = wants_memory_of (slice_get net.procs p) net s (s.own p)
 

@@ -1,4 +1,5 @@
--- What processes ask of the nodes of a tree: first what the tree alone says, then what its nodes make of outcomes.
+-- What processes need of the nodes of a tree: first what the tree alone says, then what its nodes
+-- make of outcomes.
 use Rattle.std.specs.Prelude.{ℕ, ℤ, ◌-◌, List, []}
 use Rattle.p3l_base.specs.declared.cut.Cut.{Cut}
 use Rattle.p3l_base.specs.declared.outcome.Outcome.{Outcome}

@@ -1,4 +1,4 @@
--- The channels of processes, and what process stands where.
+-- The channels of processes, and which process is at a place.
 use Rattle.std.specs.Prelude.{◌≡◌, ℕ, ◌==◌, ◌⊎◌, List, [], ◌∷◌, Option, None, Some, slice_get, slice_index, count_by}
 use Rattle.std.specs.List.{flat_map}
 use Rattle.std.specs.Option.{option_map}
@@ -24,16 +24,16 @@ all_ins = flat_map (λ q. q.ins)
 abbrev pub all_outs : List Proc → List ℕ
 all_outs = flat_map (λ q. q.outs)
 
--- how often a number stands in a list
+-- how often a number occurs in a list
 abbrev pub times : ℕ → List ℕ → ℕ
 times c = count_by (λ d. d == c)
 
--- a number stands in a list
+-- a number occurs in a list
 abbrev pub Has : List ℕ → ℕ → Type 0
 Has [] c = ⊥
 Has (d ∷ ds) c = (d ≡ c) ⊎ Has ds c
 
--- what stands there reads or writes channel c
+-- what is there reads or writes channel c
 abbrev pub IsAt : Option Proc → ℕ → Type 0
 IsAt None c = ⊥
 IsAt (Some q) c = Has q.ins c ⊎ Has q.outs c

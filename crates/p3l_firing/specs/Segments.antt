@@ -4,7 +4,7 @@ use Rattle.std.specs.List.{flat_map}
 use Rattle.p3l_skel.specs.Item.{elements}
 use Rattle.p3l_skel.specs.Fold.{segments}
 
--- how often a number can be halved before it is 1, at most so often
+-- how often a number can be halved before it is 1, at most `most` times
 unfoldable pub level_up_to : ℕ → ℕ → ℕ
 level_up_to zero n = 0
 level_up_to (suc most) n = cond (nat_lt n 2) 0 (suc (level_up_to most (n / 2)))

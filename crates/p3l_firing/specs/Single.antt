@@ -13,7 +13,7 @@ the_source = record { kind = Source; node = 0; arg = 0; ins = []; outs = 0 ∷ [
 abbrev pub the_sink : Proc
 the_sink = record { kind = Sink; node = 0; arg = 0; ins = 1 ∷ []; outs = [] }
 
--- the run of the root stands between them
+-- the run of the root is between them
 abbrev pub the_run : Proc
 the_run = record { kind = Run; node = 0; arg = 0; ins = 0 ∷ []; outs = 1 ∷ [] }
 

@@ -16,7 +16,7 @@ credit = plain (Value [])
 abbrev pub over : (Outcome → Outcome) → Token → Token
 over f token = record { tags = token.tags; body = f token.body }
 
--- the most tags that a token has: two for each level of nodes that may stand one in another
+-- the most tags that a token has: two for each level of nodes that may be one in another
 abbrev pub most_tags : ℕ
 most_tags = 12
 

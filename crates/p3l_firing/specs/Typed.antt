@@ -1,5 +1,5 @@
--- Nets that are typed for a tree: each process stands as its kind asks, between channels that carry the words and tags that it
--- takes and gives; and the states of such nets.
+-- Nets that are typed for a tree: each process is placed as its kind requires, between channels
+-- that carry the words and tags that it takes and gives; and the states of such nets.
 use Rattle.std.specs.Prelude.{◌≡◌, ℕ, ◌<◌, ◌≤◌, Some, length, slice_get}
 use Rattle.std.specs.List.{AllByRecursion}
 use Rattle.p3l_skel.specs.declared.tree.Tree.{Tree}

@@ -1,5 +1,5 @@
 -- The rows of the kinds, each in its own module, as one table: when a process can fire and what it then does, what it reads, whether it
--- may want memory, how it fits its channels, and what it keeps.
+-- may need memory, how it fits its channels, and what it keeps.
 pub mod Source
 pub mod Sink
 pub mod Run
@@ -79,7 +79,7 @@ row_reads kinds.Join o q = join.reads q
 row_reads kinds.Head o q = head.reads q
 row_reads kinds.Tail o q = tail.reads q
 
--- a firing of a process of each kind may want memory
+-- a firing of a process of each kind may need memory
 unfoldable pub row_wants_memory : ProcKind → Net → State → Own → Proc → Bool
 row_wants_memory kinds.Source net s o q = false
 row_wants_memory kinds.Sink net s o q = false
@@ -94,7 +94,7 @@ row_wants_memory kinds.Join net s o q = true
 row_wants_memory kinds.Head net s o q = false
 row_wants_memory kinds.Tail net s o q = not (tail.can_release net s o q)
 
--- a process fits as its kind asks
+-- a process fits as its kind requires
 abbrev pub FitsKind : ProcKind → Tree → Widths → Proc → Type 0
 FitsKind kinds.Source tree widths q = source.Fits tree widths q
 FitsKind kinds.Sink tree widths q = sink.Fits tree widths q

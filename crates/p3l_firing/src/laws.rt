@@ -24,7 +24,7 @@ ghost use Rattle.p3l_firing.specs.kinds.Collect.{due_in};
 ghost use Rattle.p3l_firing.specs.kinds.Emit.{emptiest};
 
 /// An emit chooses the first of the channels with room that have the fewest tokens, and a collect
-/// the first whose first token has the number that is due.
+/// the first whose first token has the number that is expected.
 pub fn channels_are_chosen()
     ensures emit { (net : Net) (s : State) (cs : List ℕ)
         → Emptiest net s cs (emptiest net s cs) ⊎ Full net s cs (emptiest net s cs) }
@@ -34,7 +34,7 @@ pub fn channels_are_chosen()
 
 /// In a net that is carried, whatever the items, of the root's in words, and the picks: what was emitted begins the meaning
 /// of the items, and is all of it where nothing can fire; no more items are sent than there are, and
-/// the net fires at most so many times for each item sent. The round robin ends where nothing can
+/// the net fires at most `firings` times for each item sent. The round robin ends where nothing can
 /// fire.
 pub fn a_carried_net_means_its_items()
     ensures begins { (tree : Tree) (leaf : Leaf) (net : Net) (firings : ℕ) (carry : Carry)

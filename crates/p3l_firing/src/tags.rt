@@ -6,7 +6,7 @@ ghost use Rattle.p3l_firing.specs.Token.{most_tags, first_tag, later_tags, next_
 use arrayvec::ArrayVec;
 use std::marker::Model;
 
-/// The most tags of a token: two for each level of nodes that may stand one in another.
+/// The most tags of a token: two for each level of nodes that may be one in another.
 pub const MOST_TAGS: usize = 12;
 
 /// The tags of a token, which contracts see as a list from the newest to the oldest. They lie in the

@@ -1,4 +1,4 @@
--- Lines, each ended by a line feed, and the lines in which faults are told.
+-- Lines, each ended by a line feed, and the lines in which faults are reported.
 use Rattle.std.specs.Prelude.{ℕ, List, [], ◌∷◌, length, take, Result, Ok, Err, ◌+◌, ◌-◌, ◌==◌, count_by}
 use Rattle.p3l_format.specs.declared.fault.Cause.TheVariants.{Range}
 use Rattle.p3l_format.specs.declared.fault.Fault.{Fault}
@@ -8,7 +8,7 @@ use Rattle.p3l_format.specs.Format.{Format, fault_at}
 use Rattle.p3l_format.specs.Text.{text_then}
 use Rattle.p3l_format.specs.Decimal.{number_then}
 
--- a fault is told at the start of the line
+-- a fault is reported at the start of the line
 abbrev pub at_line : {A : Type 0} → List ℕ → Result A Fault → Result A Fault
 at_line s (Ok x) = Ok x
 at_line s (Err fault) = Err (fault_at Range s)
@@ -20,11 +20,11 @@ line inner = record {
   read = λ s. at_line s (inner.read s);
 }
 
--- the number of the line in which so many bytes are left, from 1
+-- the number of the line in which n bytes are left, from 1
 abbrev pub line_number : List ℕ → ℕ → ℕ
 line_number bytes left = count_by (λ b. b == 10) (take (length bytes - left) bytes) + 1
 
--- an error in a line, told at its start
+-- an error in a line, reported at its start
 abbrev pub line_error : List ℕ → ReadError → ReadError
 line_error s errors.NoMemory = errors.NoMemory
 line_error s (errors.Wrong fault) = errors.Wrong (fault_at Range s)

@@ -13,12 +13,12 @@ abbrev pub spell_from : {P A : Type 0} → (P → Format ℕ A) → (A → P) �
 spell_from item next p [] = []
 spell_from item next p (v ∷ vs) = (item p).spell v ++ spell_from item next (next v) vs
 
--- no value where the end stands in front, and else what is read
+-- no value where the end is in front, and else what is read
 abbrev pub ended_or : {A : Type 0} → Option (List ℕ) → Result (List A × List ℕ) Fault → Result (List A × List ℕ) Fault
 ended_or (Some rest) read = Ok ([], rest)
 ended_or None read = read
 
--- at most so many values
+-- at most n values
 abbrev pub read_from : {P A : Type 0} → (P → Format ℕ A) → (A → P) → List ℕ → ℕ → P → List ℕ → Result (List A × List ℕ) Fault
 read_from item next stop zero p s = ended_or (after_text stop s) (Err (fault_at Range s))
 read_from item next stop (suc n) p s =

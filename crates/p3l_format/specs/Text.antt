@@ -1,10 +1,10 @@
--- Texts that have to stand before or after a value.
+-- Texts that have to come before or after a value.
 use Rattle.std.specs.Prelude.{ℕ, List, [], ◌∷◌, ◌++◌, Option, Some, None, Result, Ok, Err, ◌==◌, if◌then◌else◌}
 use Rattle.p3l_format.specs.declared.fault.Cause.TheVariants.{Range}
 use Rattle.p3l_format.specs.declared.fault.Fault.{Fault}
 use Rattle.p3l_format.specs.Format.{Format, fault_at, ◌>>=◌}
 
--- what is after a text that stands in front
+-- what is after a text in front
 abbrev pub after_text : List ℕ → List ℕ → Option (List ℕ)
 after_text [] s = Some s
 after_text (b ∷ bs) [] = None

@@ -13,7 +13,7 @@ use crate::text::read_text;
 use p3l_base::NoMemory;
 use std::alloc::Global;
 
-// Where the first byte stands that is no digit.
+// The place of the first byte that is no digit.
 fn first_other(bytes: &[u8]) -> Option<usize>
     ensures { result ≡ position is_no_digit bytes.now }
 {

@@ -1,4 +1,4 @@
-// Lines of a word and a number, and the lines in which faults are told.
+// Lines of a word and a number, and the lines in which faults are reported.
 
 ghost use Rattle.std.specs.Prelude.{◌≡◌, ◌≤◌, ◌++◌, [], ◌∷◌, OnOk, IfOk};
 ghost use Rattle.p3l_format.specs.Format.{Gives};
@@ -13,7 +13,7 @@ use crate::text::read_text;
 use p3l_base::NoMemory;
 use std::alloc::Global;
 
-/// A fault in a line that begins here, told at its start.
+/// A fault in a line that begins here, reported at its start.
 pub fn told_at(bytes: &[u8], error: ReadError) -> ReadError
     ensures { result ≡ line_error bytes.now error }
 {
@@ -23,7 +23,7 @@ pub fn told_at(bytes: &[u8], error: ReadError) -> ReadError
     }
 }
 
-/// The number of the line in which so many bytes are left, from 1.
+/// The number of the line in which `left` bytes are left, from 1.
 pub fn line_at(bytes: &[u8], left: usize) -> u64
     ensures { result ≡ line_number bytes.now left }
 {
@@ -53,7 +53,7 @@ impl<'w> NumberLine<'w> {
         }
     }
 
-    // The same, where a fault is told at its own place.
+    // The same, where a fault is reported at its own place.
     #[tactic(auto, unfolding(crate::specs::Text::text_then))]
     fn read_words<'a>(&self, bytes: &'a [u8]) -> Result<(u128, &'a [u8]), ReadError>
         ensures read { Gives (λ x. (x.0, x.1.now))

@@ -83,7 +83,7 @@ fn put_line(alloc: Global, text: &mut String, first: u64) -> Result<(), NoMemory
     Ok(())
 }
 
-/// The stream of a number with so many items.
+/// The stream of a number with `items` items.
 fn stream_text(alloc: Global, n: u32, items: u32) -> Result<List<u8>, NoMemory>
     ensures { IfOk result (λ text. text ≡ stream_text n items) }
 {

@@ -24,7 +24,7 @@ abbrev pub IsRefused : List Token → List Token → Type 0
 IsRefused before [] = (entries : List EntryTree) → Derives (symbols before) entries → ⊥
 IsRefused before (token ∷ after) = IsViable (symbols (before ++ token ∷ [])) → ⊥
 
--- the tokens begin a program up to where so many of them are left, and no further
+-- the tokens begin a program up to where `left` of them are left, and no further
 pub record IsStop (tokens : List Token) (left : ℕ) : Type 0 where
   pub before : List Token
   pub after : List Token
@@ -157,7 +157,7 @@ mutual
   hole_left (after_unary o h) e left p = hole_left h (unary o e) left p
   hole_left (after_binary o a h) e left p = hole_left h (binary o a e) left p
 
--- what stands after f is whole
+-- what comes after f is whole
 abbrev IsWhole : (List Symbol → List Symbol) → List EntryTree → Type 0
 IsWhole f es = (ws : List Passage) × IsText ws × (f ≡ spell_text ws) × (text_tree ws ≡ es)
 

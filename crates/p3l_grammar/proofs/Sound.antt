@@ -39,7 +39,7 @@ use Rattle.p3l_grammar.proofs.Signatures.{bodied_tree, chained_tree, spread_tree
 use Rattle.p3l_grammar.proofs.Complete.{level_small, adds, adds_none, adds_snoc}
 
 -- After the symbols that f puts before its argument the parser is in this state. Whatever may come next,
--- the state that is reached then stands after it too.
+-- the state that is reached then comes after it too.
 abbrev mutual
   pub IsRead : Parser → (List Symbol → List Symbol) → Type 0
   IsRead (entries es) f = (ws : List Passage) × IsText ws × (f ≡ spell_text ws) × (text_tree ws ≡ es)

@@ -29,7 +29,7 @@ use Rattle.p3l_grammar.specs.Symbol.{symbol, Symbol, word, digits, sign, kind_ma
 use Rattle.p3l_grammar.specs.Written.{Signature, Filling, body_filling, chain_filling, spread_filling, turning_filling, module_of}
 
 mutual
-  -- What comes next. `another` means: one more of these, or what stands after them.
+  -- What comes next. `another` means: one more of these, or what comes after them.
   pub data Parser : Type 0 where
     entries : List EntryTree → Parser
     await : Mark → Parser → Parser
@@ -54,13 +54,13 @@ mutual
     another_stmt : Statements → (Statements → Parser) → Parser
     maybe_else : Statements → Phrase → Statements → (Statements → Parser) → Parser
 
-  -- where an operand stands in its expression
+  -- where an operand is in its expression
   pub data Hole : Type 0 where
     whole : (Phrase → Parser) → Hole
     after_unary : UnOp → Hole → Hole
     after_binary : BinOp → Phrase → Hole → Hole
 
--- how tight an expression has to bind where it stands
+-- how tight an expression has to bind where it is
 abbrev pub need : Hole → ℕ
 need (whole go) = 0
 need (after_unary o h) = 10
@@ -137,7 +137,7 @@ local_from go = port_from (λ p. await marks.Semicolon (go p))
 abbrev pub block : (Statements → Parser) → Parser
 block go = await marks.OpenBrace (another_stmt done (λ b. await marks.CloseBrace (go b)))
 
--- what stands after the name of a place that is read
+-- what comes after the name of a place that is read
 abbrev pub place_from : Spot → (Phrase → Parser) → Parser
 place_from x go = another_index none (λ is. go (read x is))
 
@@ -183,7 +183,7 @@ loop_calls go = call (λ b. await marks.While (call (λ c. go (turning b c))))
 abbrev pub loop_tokens : Num → (Filling → Parser) → Parser
 loop_tokens t go = clause marks.Tokens (λ n. loop_calls (λ i. go (turning_filling t n i)))
 
--- what stands between the head of a module and its end
+-- what is between the head of a module and its end
 abbrev pub filling : Kind → (Filling → Parser) → Parser
 filling kinds.Seq go = clause marks.Budget (λ b. rescue_clause (λ x. body_from (λ i. go (body_filling b x i))))
 filling kinds.Comp go = rescue_clause (λ x. call_list (λ cs. go (chain_filling x cs)))
@@ -193,7 +193,7 @@ filling kinds.Map go = clause marks.Workers (λ w. call (λ c. go (spread_fillin
 filling kinds.Reduce go = clause marks.Workers (λ w. call (λ c. go (spread_filling w c)))
 filling kinds.Loop go = await marks.Turns (any_num (λ t. loop_tokens t go))
 
--- what stands after the keyword of a module
+-- what comes after the keyword of a module
 abbrev pub module_from : Kind → (EntryTree → Parser) → Parser
 module_from k go = head (λ h. filling k (λ f. end_of k (go (module_of k h f))))
 
@@ -227,7 +227,7 @@ abbrev pub entries_step : Symbol → List EntryTree → Option Parser
 entries_step (sign m) es = entry_step m (λ e. entries (es ++ e ∷ []))
 entries_step _ es = None
 
--- a mark is told by how it is written
+-- a mark is known by how it is written
 abbrev pub same_mark : Mark → Mark → Bool
 same_mark a b = bytes_eq (mark_text a) (mark_text b)
 
@@ -316,7 +316,7 @@ abbrev pub infix_of : Symbol → Option BinOp
 infix_of (sign (marks.Operator o)) = Some o
 infix_of _ = None
 
--- what stands before the next symbol is put together down to this level
+-- what comes before the next symbol is put together down to this level
 abbrev pub level_of : Option BinOp → ℕ
 level_of None = 0
 level_of (Some o) = level o

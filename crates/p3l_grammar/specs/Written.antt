@@ -159,7 +159,7 @@ spell_size n r = sign marks.OpenBracket ∷ num_symbol n ∷ sign marks.CloseBra
 abbrev pub spell_port : Port → List Symbol → List Symbol
 spell_port p r = sign marks.Int ∷ word p.at ∷ each spell_size p.sizes r
 
--- what stands after the bracket that opens
+-- what comes after the bracket that opens
 abbrev pub in_brackets : Sub → List Symbol → List Symbol
 in_brackets Whole r = sign marks.CloseBracket ∷ r
 in_brackets (Free x) r = sign (marks.Operator ops.Mul) ∷ word x ∷ sign marks.CloseBracket ∷ r
@@ -279,7 +279,7 @@ script_tree (while_ e b c) = ast.while_ (tree e) (script_tree b) (script_tree c)
 script_tree (for_ x is e w y js f b c) =
     ast.for_ x (trees is) (tree e) (tree w) y (trees js) (tree f) (script_tree b) (script_tree c)
 
--- what stands between the head of a module and its end
+-- what is between the head of a module and its end
 pub record Filling : Type 0 where
   pub clauses : Clauses
   pub inside : InsideTree

@@ -59,7 +59,7 @@ pub struct Nest {
     pub in_body: bool,
     /// Its open brackets.
     pub brackets: usize,
-    /// The semicolons that the head of a `for` still wants.
+    /// The semicolons that the head of a `for` still needs.
     pub wanted: usize,
     /// Whether an expression goes on up to a mark of its statement.
     pub in_term: bool,

@@ -1,4 +1,4 @@
--- The words that ask for a page wherever they stand.
+-- The words that ask for a page wherever they are.
 use Rattle.std.specs.Prelude.{ℕ, cond, List, Option, Some, None, find, position, is_some, take, bytes_eq, codes, ◌||◌}
 use Rattle.std.specs.Borrow.{Bor}
 use Rattle.std.specs.Option.{option_and_then, option_map}
@@ -16,7 +16,7 @@ abbrev pub words_before : Option ℕ → List (Bor (List ℕ)) → List (Bor (Li
 words_before (Some end) words = take end words
 words_before None words = words
 
--- where the first `--` stands
+-- where the first `--` is
 abbrev pub dashes_in : List (Bor (List ℕ)) → Option ℕ
 dashes_in words = position (λ word. bytes_eq word.now (codes "--")) words
 
@@ -32,7 +32,7 @@ asking_among words = option_map (λ word. word.now) (find (λ word. is_some (fla
 abbrev pub first_flag : List (Bor (List ℕ)) → Option Flag
 first_flag words = option_and_then flag_of (asking_among (before_dashes words))
 
--- the topic that is asked for where help would be about this one
+-- the topic that is requested where help would be about this one
 abbrev pub topic_of : List ℕ → Flag → List ℕ
 topic_of about Help = about
 topic_of about Version = codes "version"

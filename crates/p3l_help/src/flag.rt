@@ -1,4 +1,4 @@
-// The words that ask for a page wherever they stand.
+// The words that ask for a page wherever they are.
 
 ghost use Rattle.std.specs.Prelude.{◌≡◌};
 ghost use Rattle.std.specs.Option.{option_map};
@@ -14,7 +14,7 @@ pub enum Flag {
 }
 
 impl Flag {
-    /// The topic that is asked for where help would be about this one.
+    /// The topic that is requested where help would be about this one.
     pub(crate) fn topic(self, about: &str) -> &str
         ensures { result.now ≡ topic_of about.now self }
     {
@@ -36,7 +36,7 @@ pub(crate) fn flag_in(word: &str) -> Option<Flag>
     }
 }
 
-/// Where the first `--` stands.
+/// Where the first `--` is.
 fn dashes_in(words: &[&str]) -> Option<usize>
     ensures { result ≡ dashes_in words.now }
 {

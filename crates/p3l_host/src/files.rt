@@ -13,7 +13,7 @@ use std::io::{ErrorKind, Read, Write};
 use std::marker::Model;
 use std::{fs, rt};
 
-/// How many bytes a read asks for at most.
+/// How many bytes a read requests at most.
 const PIECE: usize = 16_384;
 
 /// The files of the file system, which contracts see as their faults. A file is written after all that
@@ -48,7 +48,7 @@ impl<'a, R: rt::Files, W: Write + Drop> HostFiles<'a, R, W> {
         }
     }
 
-    /// Counts a fault of the file of this name, unless memory for the name is wanting.
+    /// Counts a fault of the file of this name, unless memory for the name runs out.
     fn fail(&mut self, alloc: Global, name: &str) -> Result<(), NoMemory>
         ensures counted { OnOk result (IsAfterFault self.old self.new name.now) }
         ensures same { OnErr result (self.new ≡ self.old) }
@@ -107,7 +107,7 @@ fn read_file<R: rt::Files>(
     }
 }
 
-/// The bytes that a reader gives to its end, if there are at most `limit`. It asks for one byte
+/// The bytes that a reader gives to its end, if there are at most `limit`. It requests one byte
 /// more at most.
 fn read_within<R: Read>(alloc: Global, reader: &mut R, limit: u64) -> Result<List<u8>, FileFault>
     ensures { ReadsWithin (R.remaining reader.old) (R.remaining reader.new) limit result }

@@ -58,9 +58,9 @@ impl<W: Write + Drop> Gathering<W> {
 }
 
 /// The standard output. Its pieces are gathered, and written when there are 64 KiB of them and
-/// where `flush` asks for it: before the program waits for input, before a file or a line of the standard
-/// error is written, and at its end. It is shared by those that put pieces and those that come after them, so
-/// that contracts know nothing of what it has gathered.
+/// where `flush` requests it: before the program waits for input, before a file or a line of the
+/// standard error is written, and at its end. It is shared by those that put pieces and those that
+/// come after them, so that contracts know nothing of what it has gathered.
 ///
 /// A write that fails is reported by that call, and by each later one: no piece is lost in silence.
 #[derive(Drop)]

@@ -23,7 +23,7 @@ unfolding rescue_format nothing
 only_none kind None e = refl
 only_none kind (Some n) e = absurd cc
 
--- that there is none can be told in each version
+-- each version can say that there is none
 none_fits : (version : Version) (kind : ModuleKind) → (rescue_format version kind).fits None ≡ true
 unfolding rescue_format flag_format number_format nothing tagged within one_of coded u8_format
 none_fits One kind = refl

@@ -17,7 +17,7 @@ use Rattle.p3l_image.specs.Net.{net_format}
 abbrev pub magic : ℕ
 magic = 1345539145
 
--- what stands after the magic number and the version
+-- what comes after the magic number and the version
 unfoldable pub body_format : Version → Format ℕ Image
 body_format version = record_of
     (λ p. record { cap = p.0; tree = p.1.0; counts = record { list = p.1.1.0 }; codes = p.1.1.1.0; net = p.1.1.1.1 })

@@ -36,7 +36,7 @@ proc_number Tail = 11
 abbrev pub proc_kind_format : Format ℕ ProcKind
 proc_kind_format = one_of proc_kinds proc_number
 
--- a process of a tree of so many nodes, in a net of so many channels
+-- a process of a tree of `nodes` nodes, in a net of `chans` channels
 unfoldable pub proc_format : (nodes chans : ℕ) → Format ℕ Proc
 proc_format nodes chans = record_of
     (λ p. record { kind = p.0; node = p.1.0; arg = p.1.1.0; ins = p.1.1.1.0; outs = p.1.1.1.1 })
@@ -46,6 +46,6 @@ proc_format nodes chans = record_of
 unfoldable pub procs_format : (nodes chans : ℕ) → Format ℕ (List Proc)
 procs_format nodes chans = counted (u32_in 0 4294967295) (λ _. proc_format nodes chans)
 
--- the net of a tree of so many nodes: its channels, and its processes
+-- the net of a tree of `nodes` nodes: its channels, and its processes
 unfoldable pub net_format : (nodes : ℕ) → Format ℕ Net
 net_format nodes = record_of (λ p. record { chans = p.0; procs = p.1 }) (λ n. (n.chans, n.procs)) (pair chans_format (λ chans. procs_format nodes (length chans)))

@@ -1,4 +1,4 @@
--- What is told of bytes that are no image.
+-- What is reported of bytes that are no image.
 use Rattle.std.specs.Prelude.{◌≡◌, ℕ, ◌-◌, List, [], ◌∷◌, length, slice_index, Result, Ok, Err, ◌==◌, if◌then◌else◌, ⊤}
 use Rattle.std.specs.Int.{w32, from_be_bytes}
 use Rattle.p3l_image.specs.declared.image.Image.{Image}
@@ -12,7 +12,7 @@ use Rattle.p3l_format.specs.declared.fault.Cause.TheVariants.{Short, Range, More
 abbrev pub version_at : List ℕ → ℕ
 version_at bytes = from_be_bytes w32 (slice_index bytes 4 ∷ slice_index bytes 5 ∷ slice_index bytes 6 ∷ slice_index bytes 7 ∷ [])
 
--- what is told of a field that begins at this place
+-- what is reported of a field that begins at this place
 abbrev pub refusal_at : List ℕ → Cause → ℕ → ImageRefusal
 refusal_at bytes Short place = refusals.Short place
 refusal_at bytes More place = refusals.TrailingBytes place
@@ -27,7 +27,7 @@ abbrev pub told : List ℕ → Result Image Fault → Result Image ImageRefusal
 told bytes (Ok image) = Ok image
 told bytes (Err fault) = Err (refusal_of bytes fault)
 
--- a call answered what reading gives, unless memory was wanting
+-- a call answered what reading gives, unless out of memory
 abbrev pub Answers : List ℕ → Result Image ImageRefusal → Result Image Fault → Type 0
 Answers bytes (Err refusals.NoMemory) read = ⊤
 Answers bytes answer read = answer ≡ told bytes read

@@ -17,7 +17,7 @@ use std::alloc::Global;
 
 const MAGIC: u32 = 0x5033_4c49;
 
-// What stands after the magic number and this version.
+// What comes after the magic number and this version.
 #[derive(Clone, Copy, Drop)]
 struct BodyField {
     version: Version,

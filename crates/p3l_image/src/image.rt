@@ -33,10 +33,10 @@ pub enum ImageRefusal {
     /// The number at this place is out of its range, or the name is none.
     #[error("the field at byte {0} is out of its range")]
     BadField(u64),
-    /// Bytes stand after the last field, from this place on.
+    /// Bytes come after the last field, from this place on.
     #[error("bytes stand after the image, from byte {0} on")]
     TrailingBytes(u64),
-    /// Memory was wanting.
+    /// Out of memory.
     #[error("no memory")]
     NoMemory,
 }

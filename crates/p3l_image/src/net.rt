@@ -95,7 +95,7 @@ fn kind_number(kind: ProcKind) -> u8
     }
 }
 
-/// A process of a tree of so many nodes, in a net of so many channels.
+/// A process of a tree of `nodes` nodes, in a net of `chans` channels.
 #[derive(Clone, Copy, Drop)]
 pub struct ProcField {
     pub nodes: usize,
@@ -138,7 +138,7 @@ impl Field for ProcField {
     }
 }
 
-/// The processes of a tree of so many nodes, in a net of so many channels.
+/// The processes of a tree of `nodes` nodes, in a net of `chans` channels.
 #[derive(Clone, Copy, Drop)]
 pub struct ProcsField {
     pub nodes: usize,
@@ -183,7 +183,7 @@ impl Field for ProcsField {
     }
 }
 
-/// A net of a tree of so many nodes: its channels, and its processes.
+/// A net of a tree of `nodes` nodes: its channels, and its processes.
 #[derive(Clone, Copy, Drop)]
 pub struct NetField {
     pub nodes: usize,

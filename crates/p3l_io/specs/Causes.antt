@@ -5,7 +5,7 @@ use Rattle.p3l_io.specs.declared.fault.FileFault.TheVariants as file
 use Rattle.p3l_io.specs.declared.fault.WriteFault.{WriteFault}
 use Rattle.p3l_io.specs.declared.fault.WriteFault.TheVariants as write
 
--- the count is greater than it was, or stands at its last value
+-- the count is greater than it was, or is at its last value
 abbrev pub Rose : ℕ → ℕ → Type 0
 Rose before now = min (before + 1) (2 ^ 64 - 1) ≤ now
 

@@ -26,20 +26,20 @@ bytes_under files name = lookup (λ other. bytes_eq name other) files
 abbrev pub fails_next : FilesState → Bool
 fails_next s = names_call s.fails (next_count s.calls)
 
--- a reading failed, and a file that is too long or memory that is wanting is no failure
+-- a reading failed, and a file that is too long or being out of memory is no failure
 abbrev pub read_failed : {T : Type 0} → Result T FileFault → Bool
 read_failed (Ok bytes) = false
 read_failed (Err file.Failed) = true
 read_failed (Err file.TooLong) = false
 read_failed (Err file.NoMemory) = false
 
--- a writing failed, and memory that is wanting is no failure
+-- a writing failed, and being out of memory is no failure
 abbrev pub write_failed : {T : Type 0} → Result T WriteFault → Bool
 write_failed (Ok done) = false
 write_failed (Err write.Failed) = true
 write_failed (Err write.NoMemory) = false
 
--- a reading fails where it is to fail and nowhere else, unless memory was wanting
+-- a reading fails where it is to fail and nowhere else, unless it is out of memory
 abbrev pub ReadFailsIf : {T : Type 0} → Bool → Result T FileFault → Type 0
 ReadFailsIf due (Err file.NoMemory) = Unit {0}
 ReadFailsIf due result = read_failed result ≡ due

@@ -1,11 +1,11 @@
--- What calls on the outside do to what it tells. What tells nothing goes on so.
+-- What calls on the outside do to what is known of it. What isn't known stays so.
 use Rattle.std.specs.Prelude.{◌≡◌, ◌≢◌, ℕ, ◌<◌, ◌≤◌, List, [], ◌++◌, length, take, drop, Option, Some, None, Result, Ok, Err}
 use Rattle.p3l_io.specs.declared.fault.Failed.{Failed}
 use Rattle.p3l_io.specs.declared.fault.FileFault.{FileFault}
 use Rattle.p3l_io.specs.declared.fault.FileFault.TheVariants as file
 use Rattle.p3l_io.specs.declared.fault.WriteFault.{WriteFault}
 
--- the first `n` bytes that were left stand at the front of the buffer, and are none at the end alone
+-- the first `n` bytes that were left are at the front of the buffer, and are none at the end alone
 pub record Took (rest : List ℕ) (new : Option (List ℕ)) (n : ℕ) (buf : List ℕ) : Type 0 where
   pub within : n ≤ length rest
   pub given : take n buf ≡ take n rest
@@ -44,7 +44,7 @@ Reads (Some held) new name limit result = (new ≡ Some held) × ReadsFile (held
 abbrev pub KeepsOthers : Held → Held → List ℕ → Type 0
 KeepsOthers old new name = (other : List ℕ) → other ≢ name → new other ≡ old other
 
--- the bytes stand under the name, and each other name has what it had
+-- the bytes are under the name, and each other name has what it had
 abbrev pub IsPut : Held → Held → List ℕ → List ℕ → Type 0
 IsPut old new name bytes = (new name ≡ Some bytes) × KeepsOthers old new name
 

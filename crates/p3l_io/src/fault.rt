@@ -11,7 +11,7 @@ pub enum FileFault {
     Failed,
     /// The file is longer than the limit.
     TooLong,
-    /// Memory for its bytes was wanting.
+    /// Out of memory for its bytes.
     NoMemory,
 }
 
@@ -20,6 +20,6 @@ pub enum FileFault {
 pub enum WriteFault {
     /// The writing failed.
     Failed,
-    /// Memory was wanting.
+    /// Out of memory.
     NoMemory,
 }

@@ -101,7 +101,7 @@ impl MemFiles {
     }
 
     /// Counts a call that fails, on the file of this name; it is no fault where memory for the name is
-    /// wanting.
+    /// runs out.
     fn fail(&mut self, name: &str) -> Result<(), NoMemory>
         ensures after { self.new ≡ after_call self.old name.now (is_ok result) }
         ensures later { self.old.faults ≤ self.new.faults }

@@ -8,7 +8,7 @@ use crate::fault::Failed;
 
 /// A sink of bytes.
 pub trait Sink {
-    // the bytes that were put so far, where the sink tells them
+    // the bytes that were put so far, where they are known
     ghost taken: { Self → Option (List ℕ) };
 
     // how often a call has failed, up to the last value of a `u64`

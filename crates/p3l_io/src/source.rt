@@ -8,7 +8,7 @@ use crate::fault::Failed;
 
 /// A source of bytes.
 pub trait Source {
-    // the bytes that are left, where the source tells them
+    // the bytes that are left, where they are known
     ghost rest: { Self → Option (List ℕ) };
 
     // how often a call has failed, up to the last value of a `u64`

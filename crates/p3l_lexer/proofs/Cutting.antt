@@ -96,7 +96,7 @@ close_here a b body (x ∷ y ∷ []) rest t q w =
     rw k refl
 close_here a b body (x ∷ y ∷ z ∷ front) rest t q w = absurd (let e : length (a ∷ b ∷ body) ≡ 3 + (length front + length rest) = ap length w ∙ ap (λ n. suc (suc (suc n))) (length-append front rest) ∙ (omega arith) in let f = ap length q in omega arith)
 
--- whatever stands before the rest ends by the first `*/`
+-- whatever comes before the rest ends by the first `*/`
 abbrev Closes : List ℕ → List ℕ → Type 0
 Closes body rest = (front : List ℕ) → after_close body ≡ Some rest → body ≡ front ++ rest → after_close front ≡ Some []
 

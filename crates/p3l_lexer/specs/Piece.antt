@@ -46,14 +46,14 @@ unfoldable pub number_of : List ℕ → Lexeme
 number_of text =
     if is_number text then (if nat_lt (value_of text) (2 ^ 63) then Digits (pos (value_of text)) else Faulty NumberTooBig) else Faulty BadToken
 
--- punctuation, or else a byte that stands alone
+-- punctuation, or else a single byte
 unfoldable pub sign_or_byte : Option Mark → List ℕ → Option Piece
 sign_or_byte (Some mark) text = Some (Token (Sign mark))
 sign_or_byte None (byte ∷ []) =
     Some (if is_blank byte then Gap else (if nat_eq byte 36 then Token (Faulty BadToken) else Token (Faulty BadByte)))
 sign_or_byte None _ = None
 
--- what stands after the first `*/`
+-- what comes after the first `*/`
 unfoldable pub after_close : List ℕ → Option (List ℕ)
 after_close [] = None
 after_close (first ∷ []) = None

@@ -24,7 +24,7 @@ pub fn letter(byte: u8) -> bool
     byte == b'_' || b'a' <= byte && byte <= b'z' || b'A' <= byte && byte <= b'Z'
 }
 
-/// Whether a byte may stand in a word or a number.
+/// Whether a byte may be in a word or a number.
 pub fn word_byte(byte: u8) -> bool
     ensures { result ≡ is_word_byte byte }
 {

@@ -51,7 +51,7 @@ pub fn close(body: &[u8]) -> Option<usize>
     None
 }
 
-/// Whether a mark of two bytes stands at the front.
+/// Whether a mark of two bytes is at the front.
 #[tactic(auto, unfolding(crate::specs::Cut::begins_with_pair))]
 fn pair(text: &[u8]) -> bool
     ensures pair { result ≡ begins_with_pair text.now }

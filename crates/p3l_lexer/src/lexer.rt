@@ -27,7 +27,7 @@ fn put(alloc: Global, tokens: &mut List<Token>, text: &[u8], at: Pos) -> Result<
     }
 }
 
-/// The tokens of a text in order, each the longest that stands there.
+/// The tokens of a text in order, each the longest that begins there.
 pub fn tokens(alloc: Global, text: &[u8]) -> Result<List<Token>, NoMemory>
     requires { length text.now < 2 ^ 32 - 1 }
     ensures found { IfOk result (λ tokens. IsTokens text.now tokens) }

@@ -55,7 +55,7 @@ pub enum Mark {
     Bang,
     /// `~`
     Tilde,
-    /// The sign of an operator between operands. `-` stands before an operand too, and `*` before
+    /// The sign of an operator between operands. `-` comes before an operand too, and `*` before
     /// the name of a free index.
     Operator(BinOp),
 }

@@ -1,4 +1,5 @@
--- THE LINKED NET IS CARRIED: what its tokens come to is told by the root's part, so all laws over all picks hold of it.
+-- THE LINKED NET IS CARRIED: what its tokens come to is what the root's part says, so all laws over
+-- all picks hold of it.
 use Rattle.std.proofs.Common.{◌≡◌, ℕ, ℤ, zero, suc, ◌+◌, ◌-◌, ◌*◌, ◌≤◌, ◌<◌, ◌&&◌, inl, inr, true, false, List, [], ◌∷◌, ◌++◌, map, length, Some, None, slice_get, refl, sym, ap, ap₂, ◌∙◌, subst, arith, append_assoc, length-append}
 use Rattle.std.proofs.lemmas.Bool.{and_parts, not-true, cases_lt, false≢true}
 use Rattle.p3l_skel.specs.Counts.{count_of, HasLawfulCounts}

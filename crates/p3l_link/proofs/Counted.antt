@@ -1,5 +1,5 @@
 -- The nodes of a lawful tree under lawful counts can be placed (`root_counted`), their templates
--- are lawful (`shape_lawful`), and the part that stands at a seat can be placed one level down
+-- are lawful (`shape_lawful`), and the part at a seat can be placed one level down
 -- (`seat_counted`).
 use Rattle.std.proofs.Common.{◌≡◌, ℕ, zero, suc, ◌+◌, ◌-◌, ◌<◌, List, [], ◌∷◌, ◌++◌, length, get_or, slice_index, refl, sym, ap, ◌∙◌, subst, arith}
 use Rattle.std.specs.List.{AllByRecursion, Contains, flat_map}
@@ -151,7 +151,7 @@ unfolding reduce_shape
 no_seats k len zero base = refl
 no_seats k len (suc d) base = refl
 
--- the part that stands at a seat is the one that the form says, and it is one of those outside
+-- the part at a seat is the one that the form says, and it is one of those outside
 -- units
 row_seat : (tree : Tree) (f : Form) (ins outs : ℕ) (ps : List ℕ) (k n : ℕ) (base : Base) (v : ℕ) →
     IsLawfulForm tree f ins outs ps → v < length ((shape_row f k (length ps) n).seats base) →

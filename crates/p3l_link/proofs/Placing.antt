@@ -30,7 +30,7 @@ with_followed b F G =
 with_none : (b : Net) → with_piece b no_piece ≡ b
 with_none b = ap₂ (λ x y. record { procs = x; chans = y }) (append-nil b.procs) (append-nil b.chans)
 
--- inner parts that stand after a piece begin where it ends
+-- inner parts that come after a piece begin where it ends
 after : (f : ℕ → Base → Piece) (seats : List Seat) (b b' : Net) (F : Piece) → b' ≡ with_piece b F →
     with_piece b' (inner_pieces f seats (length b'.procs) (length b'.chans))
     ≡ with_piece b

@@ -31,7 +31,7 @@ pub record IsSizedPiece (F : Piece) (n : ℕ) : Type 0 where
   pub procs : length F.procs ≡ n
   pub chans : length F.chans + 2 ≤ 2 * n
 
--- what inner parts at so many seats come to, where all have n processes
+-- what inner parts at `seats` seats come to, where all have n processes
 record IsSizedInner (F : Piece) (n seats : ℕ) : Type 0 where
   procs : length F.procs ≡ n
   chans : length F.chans + 2 * seats ≤ 2 * n

@@ -133,7 +133,7 @@ shape_typed tree count k lawful there own =
 -- ROWS OF WIDTHS
 
 -- a channel that carries this width: room for a token, no more credits than room, what has credits
--- carries no words and no tags, and others at most so many tags
+-- carries no words and no tags, and others at most `most` tags
 record FitsRow (most : ℕ) (chan : Chan) (row : Width) : Type 0 where
   room : 0 < chan.cap
   credits : chan.credits ≤ chan.cap
@@ -397,7 +397,7 @@ numbers_once (suc n) c x a b = elim (cases_lt c x) [
       )
 ]
 
--- what holds of each number that stands in a list holds of all
+-- what holds of each number that is in a list holds of all
 all_standing : (P : ℕ → Type 0) (xs : List ℕ) → ((x : ℕ) → 0 < times x xs → P x) → AllByRecursion P xs
 all_standing P [] h = tt
 all_standing P (x ∷ xs) h = (

@@ -25,7 +25,8 @@ use Rattle.p3l_link.specs.Net.{Piece, piece_of, linked_net}
 use Rattle.p3l_link.specs.Part.{role_of, part_of, root_part}
 use Rattle.p3l_link.specs.Whole.{owed_round, root_carry, tokens_in}
 
--- these processes and channels stand in the net from the base on, which is between two channels that were given out before
+-- these processes and channels are in the net from the base on, which is between two channels that
+-- were given out before
 pub record StandsAt (net : Net) (piece : Piece) (base : Base) : Type 0 where
   pub good : IsGoodBase net base
   pub procs : AreStanding net base.proc piece.procs

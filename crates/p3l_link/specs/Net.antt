@@ -11,7 +11,7 @@ use Rattle.p3l_template.specs.Shape.{Base, Seat, Shape, HasRoomFor, added, empty
 use Rattle.p3l_template.specs.Run.{run_shape}
 use Rattle.p3l_link.specs.Shape.{shape_at}
 
--- processes and channels that stand one after the other in a net
+-- processes and channels that are one after the other in a net
 pub record Piece : Type 0 where
   pub procs : List Proc
   pub chans : List Chan
@@ -23,7 +23,7 @@ no_piece = record { procs = []; chans = [] }
 abbrev pub followed : Piece → Piece → Piece
 followed one other = record { procs = one.procs ++ other.procs; chans = one.chans ++ other.chans }
 
--- where the inner part of a seat stands, with its first process p and its first channel c
+-- where the inner part of a seat is placed, with its first process p and its first channel c
 abbrev pub base_at : Seat → (p c : ℕ) → Base
 base_at seat p c = record { input = seat.input; output = seat.output; proc = p; chan = c }
 
@@ -72,7 +72,7 @@ part_piece tree count cap d k v = piece_of tree count cap d (part_at tree k v)
 abbrev pub end_net : ℕ → Net
 end_net cap = record { procs = the_source ∷ (the_sink ∷ []); chans = empty_chan cap ∷ (empty_chan cap ∷ []) }
 
--- the root stands between them
+-- the root is between them
 abbrev pub root_base : Base
 root_base = record { input = 0; output = 1; proc = 2; chan = 2 }
 

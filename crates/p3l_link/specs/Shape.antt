@@ -14,8 +14,8 @@ use Rattle.p3l_map.specs.MapShape.{map_shape}
 use Rattle.p3l_reduce.specs.Reduce.{reduce_shape}
 use Rattle.p3l_loop.specs.Loop.{loop_shape}
 
--- the template of node k, which has this form, so many parts, and n workers or segments: a `seq`, a
--- `comp` and a reduce of one segment are one process
+-- the template of node k, which has this form, this number of parts, and n workers or segments: a
+-- `seq`, a `comp` and a reduce of one segment are one process
 unfoldable pub shape_row : Form → (k parts n : ℕ) → Shape
 shape_row Seq k parts n = run_shape k
 shape_row Comp k parts n = run_shape k
@@ -33,7 +33,7 @@ shape_at tree count k = shape_row (node_at tree k).form k (length (node_at tree 
 abbrev pub shape_of : Tree → List ℕ → ℕ → Shape
 shape_of tree counts k = shape_at tree (count_of tree counts) k
 
--- which part of its node stands at seat v of its template: the stages of a pipe are its parts in
+-- which part of its node is at seat v of its template: the stages of a pipe are its parts in
 -- order, all others are copies of the one part, or of a loop's body
 abbrev pub seat_part : Form → ℕ → ℕ
 seat_part Seq v = 0

@@ -1,4 +1,4 @@
--- A whole net between its source and its sink, seen through the part that stands between them.
+-- A whole net between its source and its sink, seen through the part between them.
 use Rattle.std.specs.Prelude.{ℕ, ℤ, ◌+◌, ◌*◌, Bool, true, ◌&&◌, nat_eq, List, [], ◌∷◌, length}
 use Rattle.p3l_skel.specs.Tree.{node_at}
 use Rattle.p3l_firing.specs.Carried.{Carry}

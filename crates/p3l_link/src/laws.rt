@@ -3,7 +3,7 @@
 ghost use Rattle.p3l_link.specs.Laws.{EveryFiringKeepsFitting, EveryFiringKeepsTheList, EveryNetIsCarried, EveryNodeDoesWhatItMeans, EveryPlacedNodeIsAPart, EveryRootIsAPart, EveryRunBeginsFitting, EveryRunBeginsOrderly, EveryRunBeginsTheMeaning, FiringsAreBounded, OwedIsBoundedByTokens, RoundRobinEnds, StuckMeansEmpty, StuckMeansFinished};
 
 /// A node of a lawful tree that is placed in a net with all that is below it is a lawful part of
-/// that net, whatever else stands in it; and it makes of words what the language says, and fires as
+/// that net, whatever else is in it; and it makes of words what the language says, and fires as
 /// often as is said of the tree.
 pub fn every_placed_node_is_a_part()
     ensures placed { EveryPlacedNodeIsAPart }

@@ -21,7 +21,7 @@ use std::alloc::Global;
 /// The net of a tree under these counts, whose channels hold `cap` tokens each, but for those of a
 /// loop that hold as many as the loop has.
 ///
-/// Process 0 is the source and process 1 the sink; the root stands between channels 0 and 1. Each
+/// Process 0 is the source and process 1 the sink; the root is between channels 0 and 1. Each
 /// node has its own processes and channels first, then those of its parts in order.
 pub fn link(alloc: Global, tree: &Tree, counts: &Counts, cap: u32) -> Result<Net, NoMemory>
     requires tree { IsLawfulTree tree.now }

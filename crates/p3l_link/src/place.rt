@@ -115,7 +115,7 @@ fn place_own(
     }
 }
 
-/// The part of a node that stands at a seat of its template: the stages of a pipe are its parts in
+/// The part of a node at a seat of its template: the stages of a pipe are its parts in
 /// order, all others are copies of its one part, or of a loop's body.
 fn part_at_seat(node: &Node, seat: usize) -> u32
     ensures { result ≡ slice_index node.now.parts (seat_part node.now.form seat) }
@@ -126,7 +126,7 @@ fn part_at_seat(node: &Node, seat: usize) -> u32
     }
 }
 
-/// Adds a node and all that is below it, so many levels at most, between two channels.
+/// Adds a node and all that is below it, `levels` levels at most, between two channels.
 pub(crate) fn place_node(
     alloc: Global,
     tree: &Tree,

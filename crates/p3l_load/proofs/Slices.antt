@@ -83,7 +83,7 @@ outs_fit start (s ∷ ss) low sizes follow =
     both_true (slice_format.fits s) (list_all slice_format.fits ss) (slice_fits s (omega (arith, some, follow.0, low)) own)
     (outs_fit (start + array_size s.dims) ss (omega (arith, low)) (after_first HasSizes s ss sizes) follow.1)
 
--- the first free index has the size of the dimension that it stands at
+-- the first free index has the size of its dimension
 first_here : (first second n more : ℕ) (p : Place) → HasIndexSize first second p n → IsSize n → one_at_first p + more ≡ 1 → (more ≡ 1 → first ≤ 65536) → first ≤ 65536
 first_here first second n more First free size once rest = omega (arith, free, size.1)
 first_here first second n more Rest free size once rest = rest (omega (arith, once))

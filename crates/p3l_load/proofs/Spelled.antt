@@ -47,7 +47,7 @@ tokens_named bytes before (chunk ∷ chunks) cut =
     piece_named chunk.piece chunk.text (position_after before) (tokens_after (before ++ chunk.text) chunks) cut.2.is_piece
     (tokens_named cut.0 (before ++ chunk.text) chunks cut.3)
 
--- ---- what stands after each construct
+-- ---- what comes after each construct
 
 mutual
   after_formula : (e : Formula) (r : List Symbol) → AreNamed (spell e r) → AreNamed r

@@ -13,7 +13,7 @@ use p3l_template::builder::one_channel;
 use p3l_template::{Builder, Ports, Template};
 use std::alloc::Global;
 
-/// A loop with at most so many tokens in it at once, each of which goes round its body until the
+/// A loop with at most `tokens` tokens in it at once, each of which goes round its body until the
 /// condition says that it is done; all leave in the order in which they came.
 #[derive(Clone, Copy, Debug, Drop)]
 pub struct LoopTemplate {

@@ -76,7 +76,7 @@ map_shape node n =
       part = λ units roles base parts. map_part units node n roles base parts;
     }
 
--- a node of a tree that is a map over so many workers
+-- a node of a tree that is a map over n workers
 pub record IsMapNode (tree : Tree) (node n : ℕ) : Type 0 where
   pub there : node < length tree.nodes
   pub clause : Option ℕ

@@ -33,7 +33,7 @@ takes-whole tree ks ms ns size front back =
     subst (λ zs. TakesLawful tree (ks ++ ms) zs []) (take-append-drop size ns)
     (TakesLawful-append tree ks ms (take size ns ++ drop size ns) (drop size ns) [] (takes-more tree ks (take size ns) [] (drop size ns) front) back)
 
--- the counts of the first nodes stand first
+-- the counts of the first nodes come first
 pub count_in-front : (ks ms ns : List ℕ) (x : ℕ) → Contains ks x → count_in (ks ++ ms) ns x ≡ count_in ks (take (length ks) ns) x
 count_in-front [] ms ns x inside = absurd (Contains-nil x inside)
 count_in-front (k ∷ ks) ms [] x inside = refl

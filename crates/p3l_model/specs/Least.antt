@@ -18,7 +18,7 @@ pub record IsLeast (a : Costed) (t cap v : ℕ) : Type 0 where
   pub below : (xs : List ℕ) → Serves a t xs → run_procs a xs ≤ cap → v ≤ run_procs a xs
   pub reached : v ≤ cap → (xs : List ℕ) × Serves a t xs × (run_procs a xs ≡ v)
 
--- lawful counts with so many processes at most
+-- lawful counts with `processors` processes at most
 pub record FitsRun (a : Costed) (processors : ℕ) (xs : List ℕ) : Type 0 where
   pub lawful : IsLawfulRun a xs
   pub few : run_procs a xs ≤ processors

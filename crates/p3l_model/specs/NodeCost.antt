@@ -26,12 +26,12 @@ never = 1267650600228229401496703205376
 abbrev pub timed : ℕ → ℕ
 timed n = min n never
 
--- the service time of so many workers, where their part has this one
+-- the service time of n workers, where their part has this one
 abbrev pub shared : Sharing → ℕ → ℕ → ℕ
 shared Items n part = div_ceil part n
 shared (Elements count) n part = div_ceil count n * part
 
--- the service time of a reduce with so many segments
+-- the service time of a reduce with m segments
 abbrev pub segments_service : FoldCost → ℕ → ℕ
 segments_service fold m = reduce_service (λ w. fold.setup + fold.word * w) fold.len fold.elem fold.operator m
 

@@ -11,7 +11,7 @@ use Rattle.p3l_skel.specs.Tree.{node_at, part_at, by_parts, nesting}
 use Rattle.p3l_skel.specs.Counts.{outside_parts, count_of}
 use Rattle.p3l_cost.specs.declared.costs.Costs.{Costs}
 
--- the ticks in which a token of so many words is taken or handed on
+-- the ticks in which a token of n words is taken or handed on
 abbrev pub transfer : Costs → ℕ → ℕ
 transfer costs words = costs.setup + costs.word * words
 
@@ -58,11 +58,11 @@ loop_ends tree costs k =
     max (2 * (expected_turns tree costs k * transfer costs (node_at tree k).ins))
     (expected_turns tree costs k * (ticks tree costs (part_at tree k 1) + 2 * transfer costs (node_at tree k).ins))
 
--- the service time of a process that folds so many elements of `elem` words each
+-- the service time of a process that folds `len` elements of `elem` words each
 abbrev pub fold_service : (ℕ → ℕ) → ℕ → ℕ → ℕ → ℕ
 fold_service transfer len elem operator = (len - 1) * operator + (transfer (len * elem) + transfer elem)
 
--- that of the process that splits the whole into so many segments, the longest of `long` words
+-- that of the process that splits the whole into m segments, the longest of `long` words
 abbrev pub split_service : (ℕ → ℕ) → ℕ → ℕ → ℕ → ℕ
 split_service transfer whole long m = transfer whole + m * transfer long
 
@@ -70,7 +70,7 @@ split_service transfer whole long m = transfer whole + m * transfer long
 abbrev pub join_service : (ℕ → ℕ) → ℕ → ℕ → ℕ
 join_service transfer elem operator = operator + 3 * transfer elem
 
--- the service time of a reduce with so many segments
+-- the service time of a reduce with m segments
 abbrev pub reduce_service : (ℕ → ℕ) → ℕ → ℕ → ℕ → ℕ → ℕ
 reduce_service transfer len elem operator m =
     if m == 1 then fold_service transfer len elem operator
@@ -85,7 +85,7 @@ greatest_by f (x ∷ xs) = max (f x) (greatest_by f xs)
 abbrev pub inner_greatest : Tree → (ℕ → ℕ) → ℕ → ℕ
 inner_greatest tree below node = greatest_by below (outside_parts (node_at tree node).form (node_at tree node).parts)
 
--- the service time of a node of this form with so many workers, where the slowest of its parts outside
+-- the service time of a node of this form with n workers, where the slowest of its parts outside
 -- units has `inner`
 abbrev pub service_row : Tree → Costs → ℕ → Form → ℕ → ℕ → ℕ
 service_row tree costs k Seq n inner = unit_service tree costs k

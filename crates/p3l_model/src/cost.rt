@@ -74,7 +74,7 @@ pub enum NodeCost {
 }
 
 impl Sharing {
-    /// The service time of so many workers, where their part has this one.
+    /// The service time of `workers` workers, where their part has this one.
     pub fn share(self, workers: u32, part: u128) -> u128
         requires some { 1 ≤ workers }
         requires part { part ≤ never }
@@ -91,7 +91,7 @@ impl Sharing {
 }
 
 impl FoldCost {
-    // The service time of a process that folds so many elements.
+    // The service time of a process that folds `len` elements.
     fn fold(&self, len: u32) -> u128
         ensures { result
             ≡ timed (fold_service (λ w. self.now.setup + self.now.word * w)
@@ -106,8 +106,8 @@ impl FoldCost {
             .min(NEVER)
     }
 
-    // The service time of the process that splits the whole into so many segments, the longest of
-    // which has `long` elements.
+    // The service time of the process that splits the whole into `segments` segments, the longest
+    // of which has `long` elements.
     fn split(&self, segments: u32, long: u32) -> u128
         ensures { result
             ≡ timed (split_service (λ w. self.now.setup + self.now.word * w)
@@ -131,7 +131,7 @@ impl FoldCost {
             .min(NEVER)
     }
 
-    // The ticks in which a token of so many words is taken or handed on.
+    // The ticks in which a token of `words` words is taken or handed on.
     fn transfer(&self, words: u64) -> u128
         ensures value { result ≡ self.now.setup + self.now.word * words }
         ensures small { result < 2 ^ 97 }
@@ -139,7 +139,7 @@ impl FoldCost {
         transfer(self.setup, self.word, words)
     }
 
-    /// The service time with so many segments.
+    /// The service time with `segments` segments.
     pub fn service(&self, segments: u32) -> u128
         requires { 1 ≤ segments }
         ensures { result ≡ timed (segments_service self.now segments) }
@@ -154,7 +154,7 @@ impl FoldCost {
     }
 }
 
-// The ticks in which a token of so many words is taken or handed on.
+// The ticks in which a token of `words` words is taken or handed on.
 fn transfer(setup: u32, word: u32, words: u64) -> u128
     ensures value { result ≡ setup + word * words }
     ensures small { result < 2 ^ 97 }
@@ -170,14 +170,14 @@ fn token_time(costs: &Costs, words: u32) -> u128
     transfer(costs.setup, costs.word, words as u64)
 }
 
-// The number of a module in a list that has one for each, and 0 past the list.
+/// The number of a module in a list that has one for each, and 0 past the list.
 pub fn number_of(list: &List<u32>, home: u32) -> u32
     ensures { result ≡ slice_index list.now home }
 {
     list.as_slice().get(home as usize).copied().unwrap_or(0)
 }
 
-// How many elements a cut has.
+/// How many elements a cut has.
 pub fn element_count(cut: &Cut) -> u64
     ensures { result ≡ element_count cut.now }
 {
@@ -191,7 +191,7 @@ pub fn ticks(tree: &Tree, costs: &Costs, number: u32) -> u128
     ticks_from(tree, costs, NESTING, number)
 }
 
-// The ticks of a node, as far as so many levels show and they count.
+// The ticks of a node, as far as `levels` levels show and they count.
 fn ticks_from(tree: &Tree, costs: &Costs, levels: u32, number: u32) -> u128
     ensures { result ≡ timed (ticks_to tree.now costs.now levels number) }
 {
@@ -228,7 +228,7 @@ fn ticks_over(form: &Form, own: u32, inner: u128) -> u128
     }
 }
 
-// The service time of a process that runs a node.
+/// The service time of a process that runs a node.
 pub fn unit_time(tree: &Tree, costs: &Costs, number: u32, node: &Node) -> u128
     requires { node.now ≡ node_at tree.now number }
     ensures { result ≡ timed (unit_service tree.now costs.now number) }
@@ -237,7 +237,7 @@ pub fn unit_time(tree: &Tree, costs: &Costs, number: u32, node: &Node) -> u128
     ticks(tree, costs, number).saturating_add(ends).min(NEVER)
 }
 
-// The greater of the service times of a farm's two ends.
+/// The greater of the service times of a farm's two ends.
 pub fn farm_time(costs: &Costs, node: &Node) -> u128
     ensures { result
         ≡ timed (max (2 * transfer costs.now node.now.ins) (2 * transfer costs.now node.now.outs)) }
@@ -247,8 +247,8 @@ pub fn farm_time(costs: &Costs, node: &Node) -> u128
     ins.max(outs).min(NEVER)
 }
 
-// The service time of the end of a map where the node's token has so many words, and each of the
-// elements' so many.
+// The service time of the end of a map where the node's token has `words` words, and each of the
+// elements' `each`.
 fn map_end(costs: &Costs, elements: u64, words: u32, each: u32) -> u128
     ensures { result ≡ timed (transfer costs.now words + elements * transfer costs.now each) }
 {
@@ -256,7 +256,7 @@ fn map_end(costs: &Costs, elements: u64, words: u32, each: u32) -> u128
     pieces.saturating_add(token_time(costs, words)).min(NEVER)
 }
 
-// The greater of the service times of a map's two ends.
+/// The greater of the service times of a map's two ends.
 pub fn map_time(tree: &Tree, costs: &Costs, number: u32, node: &Node, cut: &Cut) -> u128
     requires { node.now ≡ node_at tree.now number }
     ensures { result ≡ timed (map_ends tree.now costs.now number cut.now) }
@@ -279,7 +279,7 @@ fn words_of(tree: &Tree, number: u32) -> (u32, u32)
     }
 }
 
-// The greater of the service times of a loop's two ends, with so many turns.
+/// The greater of the service times of a loop's two ends, with `turns` turns.
 pub fn loop_time(tree: &Tree, costs: &Costs, node: &Node, turns: u32) -> u128
     ensures { result
         ≡ timed (max (2 * (turns * transfer costs.now node.now.ins))
@@ -327,7 +327,7 @@ fn cost_over(tree: &Tree, costs: &Costs, number: u32, node: &Node) -> NodeCost
     }
 }
 
-// The costs of a reduce of `len` elements of `elem` words each.
+/// The costs of a reduce of `len` elements of `elem` words each.
 pub fn fold_cost(tree: &Tree, costs: &Costs, node: &Node, len: u32, elem: u32) -> FoldCost
     ensures { result
         ≡ record {

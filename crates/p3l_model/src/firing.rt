@@ -23,7 +23,7 @@ pub fn firings(tree: &Tree, counts: &Counts) -> u64
     firings_from(tree, counts, NESTING, 0) + 2
 }
 
-// The firings of a node and of so many levels below it for one item, as far as they count.
+// The firings of a node and of `levels` levels below it for one item, as far as they count.
 fn firings_from(tree: &Tree, counts: &Counts, levels: u32, number: u32) -> u64
     ensures { result
         ≡ capped (firings_by joined_firings tree.now (count_of tree.now counts.now.list)

@@ -24,7 +24,7 @@ pub fn procs(tree: &Tree, counts: &Counts, node: u32) -> u64
     procs_from(tree, counts, NESTING, node)
 }
 
-// The processes of a node and of so many levels below it.
+// The processes of a node and of `levels` levels below it.
 fn procs_from(tree: &Tree, counts: &Counts, levels: u32, number: u32) -> u64
     ensures { result
         ≡ fitted (procs_by tree.now (count_of tree.now counts.now.list) levels number) }
@@ -42,8 +42,8 @@ fn procs_from(tree: &Tree, counts: &Counts, levels: u32, number: u32) -> u64
     procs_over(&node.form, workers(tree, counts, number), inner)
 }
 
-/// The processes of a node of this form with so many workers, where its parts outside units have
-/// `inner` in all, as far as they fit.
+/// The processes of a node of this form with this number of workers, where its parts outside units
+/// have `inner` in all, as far as they fit.
 pub fn procs_over(form: &Form, workers: u32, inner: u64) -> u64
     ensures { result ≡ fitted (procs_row form.now workers inner) }
 {

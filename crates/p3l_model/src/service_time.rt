@@ -31,7 +31,7 @@ pub fn service(tree: &Tree, costs: &Costs, counts: &Counts, node: u32) -> u128
     service_from(tree, costs, counts, NESTING, node)
 }
 
-// The service time of a node and of so many levels below it.
+// The service time of a node and of `levels` levels below it.
 fn service_from(tree: &Tree, costs: &Costs, counts: &Counts, levels: u32, number: u32) -> u128
     requires tree { IsLawfulTree tree.now }
     requires costs { AreCostsOf tree.now costs.now }
@@ -54,7 +54,7 @@ fn service_from(tree: &Tree, costs: &Costs, counts: &Counts, levels: u32, number
     service_over(tree, costs, number, node, count, inner)
 }
 
-// The service time of a node with so many workers, where the slowest of its parts outside units has
+// The service time of a node with `count` workers, where the slowest of its parts outside units has
 // `inner`, as far as it counts.
 fn service_over(
     tree: &Tree,

@@ -27,7 +27,7 @@ pub fn workers(tree: &Tree, counts: &Counts, node: u32) -> u32
     }
 }
 
-// Looks for a node's count in those of the subtree at `number`, which stand from a place on.
+// Looks for a node's count in those of the subtree at `number`, which begin at a place.
 fn search(
     tree: &Tree,
     levels: u32,

@@ -47,7 +47,7 @@ pub record IsTreeBut (size i : ℕ) (cells : List (Option ℕ)) : Type 0 where
   pub each : (j : ℕ) → 1 ≤ j → j < size → i ≢ j + j → i ≢ suc (j + j) →
       IsSoonest (due_at cells (j + j)) (due_at cells (suc (j + j))) (due_at cells j)
 
--- a tree with so many levels above the cells of the numbers
+-- a tree with `levels` levels above the cells of the numbers
 pub record IsLevelled (levels size : ℕ) (cells : List (Option ℕ)) : Type 0 where
   pub few : levels ≤ 20
   pub power : size ≡ 2 ^ levels

@@ -103,7 +103,7 @@ fn first_least(cells: &[Option<u128>], levels: u32) -> usize
 }
 
 impl Moments {
-    /// So many numbers at least, none of which is due.
+    /// `count` numbers at least, none of which is due.
     pub fn new(alloc: Global, count: u32) -> Result<Moments, NoMemory>
         requires { count ≤ 1048576 }
         ensures { IfOk result (λ moments. (count ≤ length moments) × IsNeverDue moments) }

@@ -57,7 +57,7 @@ module _ (tree : Tree) (costs : Costs) (lawful : IsLawfulTree tree) (priced : Ar
       let product : costs.word * w ≤ 1000000 * 131072 = mul-le-mul word few in
       omega (arith, setup, product)
 
-  -- TICKS are at most so many for each body that is run
+  -- TICKS are at most 1,000,000 for each body that is run
   ticks_sum : (f g : ℕ → ℕ) → ((k : ℕ) → f k ≤ 1000000 * g k) → (ks : List ℕ) → sum_by f ks ≤ 1000000 * sum_by g ks
   ticks_sum f g each [] = omega arith
   ticks_sum f g each (k ∷ ks) =
@@ -145,7 +145,7 @@ module _ (tree : Tree) (costs : Costs) (lawful : IsLawfulTree tree) (priced : Ar
   at_least zero s some = absurd (omega (arith, some))
   at_least (suc n) s some = omega arith
 
-  -- a node of which parts stand in the net runs them all at least once
+  -- a node of which parts are in the net runs them all at least once
   IsOpen : Form → Type 0
   IsOpen Seq = ⊥
   IsOpen Comp = ⊥
@@ -318,7 +318,7 @@ module _ (tree : Tree) (costs : Costs) (lawful : IsLawfulTree tree) (priced : Ar
             (folds_small k own.0 workers len elem form several few m base.output base.chan (base.chan + m) 0 (segment_lengths (suc d) len) (segments_small (suc d) len)),
       )
 
-  -- the parts that stand at its seats run no more than all
+  -- the parts that are at its seats run no more than all
   HasFewParts : ℕ → (Base → List Seat) → Type 0
   HasFewParts k seats = ((base : Base) → seats base ≡ []) ⊎ ((v : ℕ) → runs tree (part_at tree k v) ≤ work)
 

@@ -76,7 +76,7 @@ stop_none : (q : Option BinOp) → StopsAt 0 q → q ≡ None
 stop_none None s = refl
 stop_none (Some o) s = absurd (omega arith)
 
--- after an expression that is not gone on, what stands after it decides
+-- after an expression that is not gone on, what comes after it decides
 pub whole_ends : (e : Phrase) (go : Phrase → Parser) (rest : List Token) → Stops 0 rest → all (value e (whole go)) rest ≡ all (go e) rest
 whole_ends e go [] s = refl
 whole_ends e go (t ∷ rest) s =

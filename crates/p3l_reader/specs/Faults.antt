@@ -51,7 +51,7 @@ abbrev pub IsFaultIn : List Token → Pos → SourceRefusal → Type 0
 IsFaultIn tokens end NoMemory = Unit {0}
 IsFaultIn tokens end (At fault at) = IsFirstIn tokens end fault at
 
--- the same, where the fault stands at the last token or before it
+-- the same, where the fault is at the last token or before it
 abbrev pub IsLastFault : List Token → Pos → SourceRefusal → Type 0
 IsLastFault tokens end NoMemory = Unit {0}
 IsLastFault tokens end (At fault at) = (f : IsFirstIn tokens end fault at) × (0 < length f.after)

@@ -76,7 +76,7 @@ BeginsDigits (t ∷ ts) v rest = IsNumeral (symbol t) v × (ts ≡ rest)
 pub record Reads {A : Type 0} (from : (A → Parser) → Parser) (tokens : List Token) (x : A) (rest : List Token) : Type 0 where
   pub goes : (go : A → Parser) → all (from go) tokens ≡ all (go x) rest
 
--- whatever goes on after an A, the tokens are refused where so many are left
+-- whatever goes on after an A, the tokens are refused where this number of them is left
 abbrev pub Fails : {A : Type 0} → ((A → Parser) → Parser) → List Token → Refusal → Type 0
 Fails from tokens NoMemory = Unit {0}
 Fails from tokens (Expected left) = (go : _) → all (from go) tokens ≡ Err left
@@ -96,7 +96,7 @@ pub record Adds {A : Type 0} (list : List A → (List A → Parser) → Parser) 
 pub record Leaves {A : Type 0} (list : List A → (List A → Parser) → Parser) (tokens : List Token) : Type 0 where
   pub goes : (xs : List A) (go : List A → Parser) → all (list xs go) tokens ≡ all (go xs) tokens
 
--- one more A is begun, and refused where so many are left
+-- one more A is begun, and refused where this number of tokens is left
 abbrev pub Misses : {A : Type 0} → (List A → (List A → Parser) → Parser) → List Token → Refusal → Type 0
 Misses list tokens NoMemory = Unit {0}
 Misses list tokens (Expected left) = (xs : _) (go : _) → all (list xs go) tokens ≡ Err left
@@ -140,12 +140,12 @@ abbrev pub Stops : ℕ → List Token → Type 0
 Stops n [] = Unit {0}
 Stops n (t ∷ ts) = StopsAt n (infix_of (symbol t))
 
--- wherever an operand of this tightness stands, the tokens are this expression and then the rest
+-- wherever an operand of this tightness is, the tokens are this expression and then the rest
 pub record Follows (n : ℕ) (tokens : List Token) (e : Phrase) (rest : List Token) : Type 0 where
   pub goes : (h : Hole) → need h ≤ n → all (operand h) tokens ≡ all (value e h) rest
   pub shorter : length rest < length tokens
 
--- there they are refused where so many are left
+-- there they are refused where this number of them is left
 abbrev pub FailsAt : ℕ → List Token → Refusal → Type 0
 FailsAt n tokens NoMemory = Unit {0}
 FailsAt n tokens (Expected left) = (h : Hole) → need h ≤ n → all (operand h) tokens ≡ Err left
@@ -216,7 +216,7 @@ abbrev pub MissesEntry : List Token → Refusal → Type 0
 MissesEntry tokens NoMemory = Unit {0}
 MissesEntry tokens (Expected left) = (es : List EntryTree) → all (entries es) tokens ≡ Err left
 
--- the text is refused where so many tokens are left
+-- the text is refused where this number of tokens is left
 abbrev pub FailsText : List Token → Refusal → Type 0
 FailsText tokens NoMemory = Unit {0}
 FailsText tokens (Expected left) = all (entries []) tokens ≡ Err left

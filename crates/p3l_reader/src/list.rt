@@ -25,7 +25,7 @@ pub trait Listed: Drop + Sized {
         ensures err { IfErr result (λ e. Misses list tokens.now e) };
 }
 
-/// What stands in a list after its first items, as many as there are.
+/// What is in a list after its first items, as many as there are.
 pub fn list_from<T: Listed>(
     alloc: Global,
     first: List<T>,
@@ -44,7 +44,7 @@ pub fn list_from<T: Listed>(
     Ok((list, rest))
 }
 
-/// A thing that stands in parentheses, with commas between it and others.
+/// A thing in parentheses, with commas between it and others.
 pub trait Separated: Listed {
     ghost use Rattle.std.specs.Prelude.{◌<◌, length, IfOk, IfErr};
     ghost use Rattle.p3l_grammar.specs.Parser.{Parser};

@@ -45,7 +45,7 @@ fn wrong_at(left: &[Token], end: Pos) -> SourceRefusal
     }
 }
 
-/// The last tokens, so many of them.
+/// The last `left` tokens.
 fn last_tokens(tokens: &[Token], left: usize) -> &[Token]
     requires { left ≤ length tokens.now }
     ensures { result.now ≡ drop (length tokens.now - left) tokens.now }

@@ -124,7 +124,7 @@ impl ReadySet {
         }
     }
 
-    // Where the block begins in which the number stands that has `k` others before it, and how many
+    // Where the block of the number with `k` others before it begins, and how many
     // of them are in the block.
     fn block_of(&self, k: u32) -> (u32, u32)
         requires { k < count_from (flag_at self.now) 0 (length self.now) }

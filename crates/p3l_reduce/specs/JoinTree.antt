@@ -7,7 +7,7 @@ use Rattle.p3l_firing.specs.declared.token.Token.{Token}
 use Rattle.p3l_firing.specs.kinds.Join.{paired_by}
 use Rattle.p3l_template.specs.Sum.{sum_of}
 
--- a reduce of so many segments: its cut, the fold of a segment, and the operator
+-- a reduce in segments: its cut, the fold of a segment, and the operator
 pub record Folding : Type 0 where
   pub count : ℕ
   pub segment : ℕ → Outcome → Outcome

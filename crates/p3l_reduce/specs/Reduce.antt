@@ -31,7 +31,7 @@ tee base m q = tee_by base.output (base.chan + m) q
 abbrev pub split_proc : ℕ → ℕ → Base → Proc
 split_proc node m base = record { kind = Split; node = node; arg = 0; ins = base.input ∷ []; outs = numbers_from base.chan m }
 
--- the join of place q, where the channels T stand from number t on
+-- the join of place q, where the channels T begin at number t
 abbrev pub join_at : ℕ → ℕ → ℕ → ℕ → Proc
 join_at node output t q =
     record {
@@ -42,7 +42,7 @@ join_at node output t q =
       outs = tee_by output t q ∷ [];
     }
 
--- the fold of segment s of l elements, where the channels S stand from number first on
+-- the fold of segment s of l elements, where the channels S begin at number first
 abbrev pub fold_at : ℕ → ℕ → ℕ → ℕ → ℕ → ℕ → ℕ → Proc
 fold_at node m output first t s l =
     record { kind = Run; node = node; arg = l; ins = (first + s) ∷ []; outs = tee_by output t (m + s) ∷ [] }
@@ -115,7 +115,7 @@ unfoldable pub reduce_shape : ℕ → ℕ → ℕ → Shape
 reduce_shape node len zero = run_shape node
 reduce_shape node len (suc d) = tree_shape node (2 ^ suc d) d len
 
--- a node of a tree that is a reduce of `len` elements in so many segments
+-- a node of a tree that is a reduce of `len` elements in `segments` segments
 pub record IsReduceNode (tree : Tree) (node segments len : ℕ) : Type 0 where
   pub there : node < length tree.nodes
   pub clause : Option ℕ

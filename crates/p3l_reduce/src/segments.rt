@@ -6,7 +6,7 @@ ghost use Rattle.p3l_firing.specs.Segments.{halved, segment_lengths, level_up_to
 use p3l_base::NoMemory;
 use std::alloc::Global;
 
-// How often the number of segments can be halved, at most so often.
+/// How often the number of segments can be halved, at most `most` times.
 pub(crate) fn level_within(most: u32, segments: u32) -> u32
     ensures value { result ≡ level_up_to most segments }
     ensures bounded { result ≤ most }
@@ -33,7 +33,7 @@ fn halves(alloc: Global, lengths: &[u32]) -> Result<Vec<u32>, NoMemory>
     Ok(cut)
 }
 
-// How many elements the segments have, in order.
+/// How many elements the segments have, in order.
 pub(crate) fn segment_lengths(alloc: Global, level: u32, len: u32) -> Result<Vec<u32>, NoMemory>
     ensures { IfOk result (λ v. v.items ≡ segment_lengths level len) }
 {

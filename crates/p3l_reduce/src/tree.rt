@@ -11,7 +11,8 @@ use p3l_template::builder::one_channel;
 use p3l_template::{Builder, Ports};
 use std::alloc::Global;
 
-// The channel that leads up from place q: the channels of the places from 2 on stand from `from` on.
+// The channel that leads up from place q: the channels of the places from 2 on have the numbers
+// from `from` on.
 fn tee(output: u32, from: u32, q: u32) -> u32
     requires { from + q < 2 ^ 32 }
     ensures { result ≡ tee_by output from q }
@@ -38,7 +39,7 @@ fn join(alloc: Global, node: u32, output: u32, from: u32, q: u32) -> Result<Proc
     })
 }
 
-// The fold of segment s of so many, which has so many elements; the segments' channels stand from
+// Segment s, of `elements` elements, folded; the segments' channels are numbered from
 // `first` on.
 fn fold(
     alloc: Global,
@@ -118,7 +119,7 @@ fn place_folds(
     Ok(())
 }
 
-// The split, the joins and the folds of two to this level, not 0, segments.
+/// The split, the joins and the folds of two to this level, not 0, segments.
 pub(crate) fn place_tree(
     alloc: Global,
     node: u32,

@@ -156,7 +156,7 @@ fn fold_outcome<U: Units>(
     next_outcome(alloc, tree, units, operator, both)
 }
 
-/// What a loop of so many turns at most makes of words.
+/// What a loop of `turns` turns at most makes of words.
 #[cycle(item)]
 fn loop_outcome<U: Units>(
     alloc: Global,

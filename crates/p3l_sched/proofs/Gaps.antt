@@ -27,7 +27,7 @@ gap_by : (byte : ℕ) (bytes : List ℕ) (n : ℕ) (b : Bool) → is_gap byte �
 gap_by byte bytes n true e low rest = (e, rest (omega arith))
 gap_by byte bytes n false e low rest = absurd (omega arith)
 
--- before the first byte of a word stands a gap
+-- before the first byte of a word is a gap
 pub gap_before : (bytes : List ℕ) (n : ℕ) → n ≤ position_or_len is_of_word bytes → AreGap (take n bytes)
 gap_before bytes zero low = tt
 gap_before [] (suc n) low = tt
@@ -38,7 +38,7 @@ word_by : (byte : ℕ) (bytes : List ℕ) (n : ℕ) (b : Bool) → is_gap byte �
 word_by byte bytes n true e low rest = absurd (omega arith)
 word_by byte bytes n false e low rest = (e, rest (omega arith))
 
--- before the first byte of a gap stand bytes of a word
+-- before the first byte of a gap are bytes of a word
 pub word_before : (bytes : List ℕ) (n : ℕ) → n ≤ position_or_len is_gap bytes → AreOfWord (take n bytes)
 word_before bytes zero low = tt
 word_before [] (suc n) low = tt

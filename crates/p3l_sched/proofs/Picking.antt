@@ -45,7 +45,7 @@ module _ (tree : Tree) (leaf : Leaf) (net : Net) where
   picks_from-stuck (suc most) w c is =
       ap (λ r. pick_before r (pick_of (can_fire tree net c.state) (length net.procs) w) (λ q. picks_from tree leaf net most (after_pick (length net.procs) w q) (picked tree leaf net c q))) is
 
--- what passes a test and stands in a list
+-- what passes a test and is in a list
 find_passes : (test : ℕ → Bool) (xs : List ℕ) (p : ℕ) → find test xs ≡ Some p → test p ≡ true
 find_passes test [] p h = cc
 find_passes test (x ∷ xs) p h =
@@ -57,7 +57,7 @@ find_passes test (x ∷ xs) p h =
       | inr e ↦ find_passes test xs p (sym (cond-false (test x) _ _ e) ∙ h)
     ]
 
--- what stands in a filtered list passes the test
+-- what is in a filtered list passes the test
 abbrev Pass : (ℕ → Bool) → List ℕ → Type 0
 Pass test [] = Unit {0}
 Pass test (x ∷ xs) = (test x ≡ true) × Pass test xs

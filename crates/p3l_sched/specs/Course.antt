@@ -17,21 +17,23 @@ pick_before [] pick later = []
 pick_before (p ∷ ps) None later = []
 pick_before (p ∷ ps) (Some pick) later = pick ∷ later pick
 
--- the picks from where a run stands, each made on the state that those before it lead to; they end at the first state in which
--- no process can fire, where recorded picks are ended, and after so many picks
+-- the picks from where a run is, each made on the state that those before it lead to; they end at
+-- the first state in which no process can fire, where recorded picks are ended, and after `most`
+-- picks
 unfoldable pub picks_from : Tree → Leaf → Net → ℕ → Way → Course → List ℕ
 picks_from tree leaf net zero way c = []
 picks_from tree leaf net (suc most) way c =
     pick_before (ready_of (can_fire tree net c.state) (length net.procs)) (pick_of (can_fire tree net c.state) (length net.procs) way)
     (λ p. picks_from tree leaf net most (after_pick (length net.procs) way p) (picked tree leaf net c p))
 
--- how many picks a schedule makes at most, where so many can fire
+-- how many picks a schedule makes at most, where a run has at most `bound`
 abbrev pub most_picks : Schedule → ℕ → ℕ
 most_picks schedule.RoundRobin bound = bound
 most_picks (schedule.Seeded seed) bound = bound
 most_picks (schedule.Recorded picks) bound = length picks
 
--- the picks of a schedule for the run of a net on items, which fires at most so often for each
+-- the picks of a schedule for the run of a net on items, which fires at most `firings` times for
+-- each
 unfoldable pub picks_of : Tree → Leaf → Net → ℕ → Schedule → List (List ℤ) → List ℕ
 picks_of tree leaf net firings schedule items =
     picks_from tree leaf net (most_picks schedule (firings * length items)) (begun schedule) (course_from (first_state net items))

@@ -9,7 +9,7 @@ use Rattle.p3l_sched.specs.declared.picker.Way.TheVariants as way
 use Rattle.p3l_sched.specs.declared.schedule.Schedule.{Schedule}
 use Rattle.p3l_sched.specs.declared.schedule.Schedule.TheVariants as schedule
 
--- the processes that can fire, of so many, in ascending order
+-- the processes that can fire, of the first `size`, in ascending order
 abbrev pub ready_of : (ℕ → Bool) → ℕ → List ℕ
 ready_of can size = filter can (range_with_len 0 size)
 
@@ -19,8 +19,9 @@ begun schedule.RoundRobin = way.Turns 0
 begun (schedule.Seeded seed) = way.Draws (pcg32_of_seed (pcg32_seed 16 seed))
 begun (schedule.Recorded picks) = way.Reads picks
 
--- the next pick among so many processes, of which these can fire: in turn the first of them at or after the cursor, cyclically;
--- of a generator the one whose place is its next word modulo their number; of recorded picks the first that is left
+-- the next pick among `size` processes, of which these can fire: in turn the first of them at or
+-- after the cursor, cyclically; of a generator the one whose place is its next word modulo their
+-- number; of recorded picks the first that is left
 abbrev pub pick_of : (ℕ → Bool) → ℕ → Way → Option ℕ
 pick_of can size (way.Turns cursor) = find can (in_turn size cursor)
 pick_of can size (way.Draws generator) = slice_get (ready_of can size) ((pcg32 generator).0 % length (ready_of can size))
@@ -36,7 +37,7 @@ abbrev pub next_after : ℕ → Way → Option ℕ → Way
 next_after size w None = w
 next_after size w (Some p) = after_pick size w p
 
--- the cursor is one of so many processes
+-- the cursor is one of `size` processes
 abbrev pub HasPlace : ℕ → Way → Type 0
 HasPlace size (way.Turns cursor) = cursor < size
 HasPlace size w = Unit {0}
@@ -46,7 +47,7 @@ abbrev pub IsPickedFrom : (ℕ → Bool) → ℕ → Way → ℕ → Type 0
 IsPickedFrom can size (way.Reads picks) p = picks ≡ p ∷ drop 1 picks
 IsPickedFrom can size w p = can p ≡ true
 
--- each recorded pick is the number of one of so many processes
+-- each recorded pick is the number of one of `size` processes
 abbrev pub NamesProcesses : ℕ → Schedule → Type 0
 NamesProcesses size (schedule.Recorded picks) = AllByRecursion (λ p. p < size) picks
 NamesProcesses size s = Unit {0}

@@ -1,4 +1,4 @@
--- Picks that stand in a text.
+-- Picks in a text.
 use Rattle.std.specs.Prelude.{◌≡◌, ℕ, ◌+◌, ◌^◌, Bool, true, false, not, ◌&&◌, ◌||◌, ◌==◌, nat_lt, List, [], ◌∷◌, ◌++◌, count_by, Option, Some, None, Result, Ok, Err, if◌then◌else◌}
 use Rattle.std.specs.Char.{is_ascii_digit}
 use Rattle.std.specs.List.{list_all}
@@ -45,7 +45,7 @@ pub record IsAtWord (text gap word after : List ℕ) : Type 0 where
   pub is_word : IsWord word
   pub ends : EndsWord after
 
--- the first word with what stands before and after it, or there is none
+-- the first word with what comes before and after it, or there is none
 abbrev pub IsNextWord : List ℕ → Option (List ℕ × List ℕ × List ℕ) → Type 0
 IsNextWord text None = AreGap text
 IsNextWord text (Some (gap, word, after)) = IsAtWord text gap word after

@@ -1,4 +1,4 @@
-//! Schedules: which process is picked next, and picks that stand in a text.
+//! Schedules: which process is picked next, and picks in a text.
 #![tactic(auto)]
 
 pub mod laws;

@@ -1,4 +1,4 @@
-// Picks that stand in a text.
+// Picks in a text.
 
 ghost use Rattle.std.specs.Prelude.{◌<◌, ◌≤◌, IfOk, length};
 ghost use Rattle.std.specs.List.{AllByRecursion};

@@ -14,7 +14,7 @@ pub enum PickRefusal {
     /// A pick is not below the number of processes.
     #[error("line {line} picks process {pick} of {count}")]
     NoSuchProcess { line: u64, pick: u64, count: u32 },
-    /// Memory was wanting.
+    /// Out of memory.
     #[error("no memory")]
     NoMemory,
 }

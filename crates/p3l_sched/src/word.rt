@@ -15,21 +15,21 @@ fn separates(byte: u8) -> bool
     byte == b' ' || byte == b'\t' || byte == b'\r' || byte == b'\n'
 }
 
-/// Where the first byte stands that separates words.
+/// The place of the first byte that separates words.
 fn first_gap(bytes: &[u8]) -> Option<usize>
     ensures { result ≡ position is_gap bytes.now }
 {
     bytes.iter().position(|byte| separates(*byte))
 }
 
-/// Where the first byte of a word stands.
+/// Where the first byte of a word is.
 fn first_of_word(bytes: &[u8]) -> Option<usize>
     ensures { result ≡ position is_of_word bytes.now }
 {
     bytes.iter().position(|byte| !separates(*byte))
 }
 
-/// What stands before the first word, the word, and what is after it.
+/// What comes before the first word, the word, and what is after it.
 pub(crate) fn next_word(text: &[u8]) -> Option<(&[u8], &[u8], &[u8])>
     ensures { IsNextWord text.now (option_map (λ found. (found.0.now, found.1.now, found.2.now))
         result) }
@@ -68,7 +68,7 @@ fn number_of(word: &[u8]) -> Option<u64>
     }
 }
 
-/// The process that a word of this line picks, of so many.
+/// The process that a word of this line picks, of `count` processes.
 pub(crate) fn pick_of(word: &[u8], line: u64, count: u32) -> Result<u32, PickRefusal>
     requires { word.now ≢ [] }
     ensures { result ≡ pick_of count line word.now }

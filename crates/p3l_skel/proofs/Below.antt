@@ -79,7 +79,7 @@ procs_by-step tree count d k some = by_parts-step _ _ d k some
 pub procs_by-past : (tree : Tree) (count : ℕ → ℕ) (d k : ℕ) → 0 < d → length tree.nodes ≤ k → procs_by tree count d k ≡ 0
 procs_by-past tree count d k some past = rw (procs_by-step tree count d k some, node_at-past tree k past) refl
 
--- the node's own count stands first, then those of its parts
+-- the node's own count comes first, then those of its parts
 pub counted_from-parts : (tree : Tree) (d k : ℕ) (more : List ℕ) → 0 < d → counted_from tree d k ++ more ≡ own_counted (node_at tree k).form k ++ (flat_map (counted_from tree (d - 1)) (outside_parts (node_at tree k).form (node_at tree k).parts) ++ more)
 counted_from-parts tree d k more some =
     ap (λ ks. ks ++ more) (counted_from-step tree d k some) ∙ append_assoc (own_counted (node_at tree k).form k) (flat_map (counted_from tree (d - 1)) (outside_parts (node_at tree k).form (node_at tree k).parts)) more

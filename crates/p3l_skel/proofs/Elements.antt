@@ -5,7 +5,7 @@ use Rattle.std.proofs.Math.Nat.{div-eq-sub-div, div-eq_of_lt}
 use Rattle.std.proofs.lemmas.List.Elements.{All-append, All-cons, All-nil}
 use Rattle.p3l_skel.specs.Item.{pieces, elements}
 
--- the first element stands before those of the words after it
+-- the first element comes before those of the words after it
 pub elements-step : (size : ℕ) (words : List ℤ) → 0 < size → size ≤ length words → elements size words ≡ take size words ∷ elements size (drop size words)
 elements-step size words some fits =
     let left : length words - size ≡ length (drop size words) = omega (arith, length-drop size words) in

@@ -32,14 +32,14 @@ length-arrays_words results second [] at = refl
 length-arrays_words results second (s ∷ ss) at =
     omega (arith, length-append (array_words (result_word results second) s.dims 0 0 at) (arrays_words results second ss (at + cut_size s.dims)), length-array_words (result_word results second) s.dims 0 0 at, length-arrays_words results second ss (at + cut_size s.dims))
 
--- what is joined to so many words, whatever the results
+-- what is joined to n words, whatever the results
 gathered-keeps : (join : List (List ℤ) → List ℤ) (n : ℕ) (outcomes : List Outcome) → ((results : List (List ℤ)) → length (join results) ≡ n) → HasLength n (gathered join outcomes)
 gathered-keeps join n [] kept = kept []
 gathered-keeps join n (Trapped trap ∷ outcomes) kept = tt
 gathered-keeps join n (Value words ∷ outcomes) kept =
     gathered-keeps (λ results. join (words ∷ results)) n outcomes (λ results. kept (words ∷ results))
 
--- each outcome of a list has so many words if it is a value
+-- each outcome of a list has n words if it is a value
 AllLong : ℕ → List Outcome → Type 0
 AllLong n [] = Unit {0}
 AllLong n (x ∷ xs) = HasLength n x × AllLong n xs

@@ -1,4 +1,4 @@
--- Lawful counts that stand first in a list of counts.
+-- Lawful counts that come first in a list of counts.
 use Rattle.std.proofs.Common.{◌≡◌, ℕ, suc, ◌+◌, ◌<◌, List, [], ◌∷◌, ◌++◌, take, drop, get_or, length, refl, sym, ◌∙◌, subst, append_assoc}
 use Rattle.std.proofs.Math.Seq.{drop-cons}
 use Rattle.std.proofs.lemmas.List.{take-append-drop, take_more, flat_map_more}
@@ -26,7 +26,7 @@ TakesLawful-unique tree (k ∷ ks) [] rest other one two = absurd one
 TakesLawful-unique tree (k ∷ ks) (n ∷ ns) rest other one two =
     TakesLawful-unique tree ks ns rest other one.1 two.1
 
--- a whole list by what stands before an item, at it and after it
+-- a whole list by what comes before an item, at it and after it
 flat_map-at : (f : ℕ → List ℕ) (items : List ℕ) (i d : ℕ) → i < length items → flat_map f items ≡ flat_map f (take i items) ++ (f (get_or items i d) ++ flat_map f (drop (suc i) items))
 flat_map-at f items i d inside =
     subst (λ xs. flat_map f items ≡ flat_map f (take i items) ++ flat_map f xs) (drop-cons items i d inside)

@@ -11,7 +11,7 @@ combined operator (Trapped trap) right = Trapped trap
 combined operator (Value v) (Trapped trap) = Trapped trap
 combined operator (Value v) (Value w) = operator (v ++ w)
 
--- the fold by halves of at most so many outcomes
+-- the fold by halves of at most n outcomes
 unfoldable pub fold_of_up_to : ℕ → (List ℤ → Outcome) → List Outcome → Outcome
 fold_of_up_to n operator [] = Value []
 fold_of_up_to n operator (one ∷ []) = one

@@ -37,7 +37,7 @@ map_outcomes cut part words =
 abbrev pub mapped : Cut → (List ℤ → Outcome) → List ℤ → Outcome
 mapped cut part words = gathered (joined_words cut) (map_outcomes cut part words)
 
--- so many pieces of `size` words each, in order
+-- n pieces of `size` words each, in order
 abbrev pub pieces : ℕ → ℕ → List ℤ → List (List ℤ)
 pieces zero size words = []
 pieces (suc n) size words = take size words ∷ pieces n size (drop size words)
@@ -56,7 +56,7 @@ is_done [] = false
 is_done (pos zero ∷ more) = true
 is_done (word ∷ more) = false
 
--- what the body and the condition make of words with so many turns left, and `spent` where the
+-- what the body and the condition make of words with n turns left, and `spent` where the
 -- last of them is to be followed by another
 abbrev pub turned : (List ℤ → Outcome) → (List ℤ → Outcome) → Outcome → ℕ → List ℤ → Outcome
 turned body condition spent zero words = spent

@@ -49,7 +49,7 @@ HasTwoParts P (p ∷ []) = ⊥
 HasTwoParts P (p ∷ (q ∷ [])) = P p q
 HasTwoParts P (p ∷ (q ∷ (r ∷ ps))) = ⊥
 
--- a node is there, and takes and gives so many words
+-- a node is there, and takes `ins` words and gives `outs`
 pub record HasWords (tree : Tree) (node ins outs : ℕ) : Type 0 where
   pub in_tree : node < length tree.nodes
   pub takes : (node_at tree node).ins ≡ ins

@@ -10,7 +10,7 @@ use Rattle.p3l_skel.specs.declared.work.Joining.TheVariants as joining
 use Rattle.p3l_skel.specs.Tree.{node_at, by_parts, nesting}
 use Rattle.p3l_skel.specs.Counts.{outside_parts, count_of, HasLawfulCounts}
 
--- the processes of a reduce with so many segments: one that folds the whole, or one for each segment,
+-- the processes of a reduce with m segments: one that folds the whole, or one for each segment,
 -- one that splits, and the others that join the segments' results two by two
 abbrev pub joined_procs : ℕ → ℕ
 joined_procs m = if m == 1 then 1 else 2 * m
@@ -28,7 +28,7 @@ abbrev pub reduce_firings : Joining → ℕ → ℕ
 reduce_firings Flat m = flat_firings m
 reduce_firings joining.Tree m = joined_firings m
 
--- the processes of a node of this form with so many workers, where its parts outside units have
+-- the processes of a node of this form with n workers, where its parts outside units have
 -- `inner` in all
 abbrev pub procs_row : Form → ℕ → ℕ → ℕ
 procs_row Seq n inner = 1
@@ -58,7 +58,7 @@ pub record Fits (tree : Tree) (processors : ℕ) (counts : List ℕ) : Type 0 wh
   pub few : procs tree counts 0 ≤ processors
 
 -- the firings of a node of this form for one item, where its parts outside units have `inner` in
--- all; `reduce` gives those of a reduce with so many segments
+-- all; `reduce` gives those of a reduce with a number of segments
 abbrev pub firings_row : (ℕ → ℕ) → Form → ℕ → ℕ → ℕ
 firings_row reduce Seq n inner = 1
 firings_row reduce Comp n inner = 1
@@ -78,7 +78,7 @@ firings_by reduce tree count =
 abbrev pub firings : Tree → List ℕ → ℕ
 firings tree counts = firings_by joined_firings tree (count_of tree counts) nesting 0 + 2
 
--- the most firings of the whole network for so many items
+-- the most firings of the whole network for `items` items
 abbrev pub bound : Tree → List ℕ → ℕ → ℕ
 bound tree counts items = items * firings tree counts
 

@@ -70,7 +70,7 @@ pub record IsUnit (tree : Tree) (node : ℕ) : Type 0 where
   pub in_tree : node < length tree.nodes
   pub sequential : IsTrue (is_sequential tree node)
 
--- so many words are what a node of this form takes: a reduce takes any positive number of elements
+-- n words are what a node of this form takes: a reduce takes any positive number of elements
 abbrev pub FitsForm : Form → ℕ → ℕ → Type 0
 FitsForm (Reduce w len elem) ins n = (k : ℕ) × (1 ≤ k) × (n ≡ k * elem)
 FitsForm Seq ins n = n ≡ ins
@@ -80,11 +80,11 @@ FitsForm (Farm w) ins n = n ≡ ins
 FitsForm (Map w cut) ins n = n ≡ ins
 FitsForm (Loop turns tokens) ins n = n ≡ ins
 
--- a node takes so many words
+-- a node takes n words
 abbrev pub HasFittingLength : Tree → ℕ → ℕ → Type 0
 HasFittingLength tree node n = FitsForm (node_at tree node).form (node_at tree node).ins n
 
--- a value has so many words
+-- a value has n words
 abbrev pub HasLength : ℕ → Outcome → Type 0
 HasLength n (Value words) = length words ≡ n
 HasLength n (Trapped trap) = ⊤

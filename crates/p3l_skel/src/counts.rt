@@ -29,7 +29,7 @@ impl Form {
         }
     }
 
-    /// Whether a node of this form may have so many workers, whatever its clause says.
+    /// Whether a node of this form may have `count` workers, whatever its clause says.
     pub fn is_count_in_range(&self, count: u32) -> bool
         ensures { IsTrue result ↔ IsCountInRange self.now count }
     {
@@ -46,7 +46,7 @@ impl Form {
         }
     }
 
-    /// Whether a node of this form may have so many workers.
+    /// Whether a node of this form may have `count` workers.
     pub fn is_lawful_count(&self, count: u32) -> bool
         ensures { IsTrue result ↔ IsLawfulCount self.now count }
     {
@@ -71,7 +71,7 @@ pub fn outside_parts(node: &Node) -> &[u32]
 }
 
 /// The place after a node's own number in the counts, from a place on; none where the number is
-/// wanting or not lawful.
+/// missing or not lawful.
 fn after_own(tree: &Tree, number: u32, counts: &[u32], from: usize) -> Option<usize>
     ensures ok { IfSome result (λ next.
         TakesLawful tree.now (own_counted (node_at tree.now number).form number)
@@ -96,7 +96,7 @@ fn after_own(tree: &Tree, number: u32, counts: &[u32], from: usize) -> Option<us
 }
 
 /// The place after the counts of a node outside units and of the nodes below it, from a place on;
-/// none where one is wanting or not lawful.
+/// none where one is missing or not lawful.
 fn after(tree: &Tree, levels: u32, number: u32, counts: &[u32], from: usize) -> Option<usize>
     ensures ok { IfSome result (λ next. TakesLawful tree.now (counted_from tree.now levels number)
         (drop from counts.now) (drop next counts.now)) }

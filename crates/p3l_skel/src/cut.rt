@@ -104,7 +104,7 @@ fn one_at_second(place: Place) -> usize
     }
 }
 
-/// How often First stands among the dimensions.
+/// How often First occurs among the dimensions.
 fn first_len(dims: &[Dim]) -> usize
     ensures { result ≡ first_count dims.now }
 {
@@ -115,7 +115,7 @@ fn first_len(dims: &[Dim]) -> usize
     len
 }
 
-/// How often Second stands among the dimensions.
+/// How often Second occurs among the dimensions.
 fn second_len(dims: &[Dim]) -> usize
     ensures { result ≡ second_count dims.now }
 {
@@ -155,7 +155,7 @@ fn element_len(slices: &[Slice]) -> u64
     len
 }
 
-/// Whether an element takes so many words from the slices.
+/// Whether an element takes `words` words from the slices.
 fn has_element_size(slices: &[Slice], words: u32) -> bool
     requires { All HasSizes slices.now }
     ensures { IsTrue result ↔ (element_size slices.now ≡ words) }
@@ -163,7 +163,7 @@ fn has_element_size(slices: &[Slice], words: u32) -> bool
     element_len(slices) == words as u64
 }
 
-/// Whether a slice lies in a token of so many words.
+/// Whether a slice lies in a token of `words` words.
 fn lies_within(slice: &Slice, words: u32) -> bool
     requires { HasSizes slice.now }
     ensures { IsTrue result ↔ LiesWithin slice.now words }
@@ -171,7 +171,7 @@ fn lies_within(slice: &Slice, words: u32) -> bool
     slice.start as u64 + slice_len(slice) <= words as u64
 }
 
-/// Whether all slices lie in a token of so many words.
+/// Whether all slices lie in a token of `words` words.
 fn lie_within(slices: &[Slice], words: u32) -> bool
     requires { All HasSizes slices.now }
     ensures { IsTrue result ↔ All (λ slice. LiesWithin slice words) slices.now }
@@ -184,7 +184,7 @@ fn lie_within(slices: &[Slice], words: u32) -> bool
     true
 }
 
-/// Whether Second stands so often in each slice.
+/// Whether Second occurs `times` times in each slice.
 fn second_stands(slices: &[Slice], times: usize) -> bool
     ensures { IsTrue result ↔ All (λ slice. second_count slice.dims ≡ times) slices.now }
 {
@@ -193,7 +193,7 @@ fn second_stands(slices: &[Slice], times: usize) -> bool
         .all(|slice| second_len(slice.dims.as_slice()) == times)
 }
 
-/// Whether First and Second stand at most once in each slice.
+/// Whether First and Second occur at most once in each slice.
 fn free_at_most_once(slices: &[Slice]) -> bool
     ensures { IsTrue result
         ↔ (All (λ slice. first_count slice.dims ≤ 1) slices.now
@@ -215,7 +215,7 @@ fn follow_one_another(slices: &[Slice]) -> bool
     arrays_end(slices).is_some()
 }
 
-/// Whether Second stands once in each out slice, or in none, and there is one second index.
+/// Whether Second occurs once in each out slice, or in none, and there is one second index.
 fn has_lawful_second(cut: &Cut) -> bool
     ensures { IsTrue result ↔ (All (λ slice. second_count slice.dims ≡ 1) cut.now.outs
         ⊎ ((cut.now.second ≡ 1) × All (λ slice. second_count slice.dims ≡ 0) cut.now.outs)) }
@@ -241,7 +241,7 @@ fn has_lawful_outs(cut: &Cut) -> bool
         && follow_one_another(outs)
 }
 
-/// Whether the slices that an element takes fit a cut with so many words.
+/// Whether the slices that an element takes fit a cut with `ins` words in.
 fn has_lawful_ins(cut: &Cut, ins: u32) -> bool
     requires { All HasSizes cut.now.ins }
     ensures { IsTrue result ↔ HasLawfulIns cut.now ins }
@@ -254,7 +254,7 @@ fn has_lawful_ins(cut: &Cut, ins: u32) -> bool
         && lie_within(slices, ins)
 }
 
-/// Whether a cut is lawful for a map with so many words in and out, and a part with its own.
+/// Whether a cut is lawful for a map with `ins` and `outs` words, and a part with its own.
 pub fn is_lawful_cut(cut: &Cut, ins: u32, outs: u32, part_ins: u32, part_outs: u32) -> bool
     requires in_sizes { All HasSizes cut.now.ins }
     requires out_sizes { All HasSizes cut.now.outs }

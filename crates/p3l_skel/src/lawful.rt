@@ -78,7 +78,7 @@ fn has_kind(tree: &Tree, home: u32, kind: ModuleKind) -> bool
     }
 }
 
-/// Whether a node is there, and takes and gives so many words.
+/// Whether a node is there, and takes `ins` and gives `outs` words.
 fn has_words(tree: &Tree, number: u32, ins: u32, outs: u32) -> bool
     ensures { IsTrue result ↔ HasWords tree.now number ins outs }
 {
@@ -184,7 +184,7 @@ fn is_lawful_reduce(tree: &Tree, len: u32, elem: u32, node: &Node) -> bool
     }
 }
 
-/// Whether an operator is one of a reduce with so many elements of so many words.
+/// Whether an operator is one of a reduce with `len` elements of `elem` words.
 fn is_reduce_part(tree: &Tree, len: u32, elem: u32, node: &Node, part: u32) -> bool
     ensures { IsTrue result ↔ IsLawfulReduce tree.now len elem node.now.ins node.now.outs part }
 {

@@ -64,7 +64,7 @@ pub fn rescue(
     }
 }
 
-/// So many words, each this number.
+/// `count` words, each this number.
 fn filled(alloc: Global, number: i64, count: u32) -> Result<Words, NoMemory>
     ensures { IfOk result (λ words. words ≡ replicate count number) }
 {

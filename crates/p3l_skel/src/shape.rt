@@ -27,7 +27,7 @@ pub fn subtree_end(tree: &Tree, levels: u32, number: u32) -> Option<u32>
     Some(next)
 }
 
-/// Whether a node is sequential, as far as so many levels show.
+/// Whether a node is sequential, as far as `levels` levels show.
 pub fn is_sequential(tree: &Tree, levels: u32, number: u32) -> bool
     ensures { result ≡ sequential_to tree.now levels number }
 {

@@ -90,8 +90,8 @@ pub struct Counts {
 }
 
 impl Tree {
-    /// The tree of a program of one `seq` module with this name, which takes and gives so many
-    /// words.
+    /// The tree of a program of one `seq` module with this name, which takes `ins` words and gives
+    /// `outs`.
     pub fn of_seq(alloc: Global, name: Name, ins: u32, outs: u32) -> Result<Tree, NoMemory>
         ensures { IfOk result (λ tree. tree ≡ seq_tree name ins outs) }
     {
@@ -112,7 +112,7 @@ impl Tree {
         Ok(Tree { nodes, modules })
     }
 
-    /// The node of a number, if there are so many.
+    /// The node of a number, if there is one.
     pub fn node(&self, number: u32) -> Option<&Node>
         ensures there { IsSome result ↔ (number < length self.now.nodes) }
         ensures found { IfSome result (λ node. node.now ≡ node_at self.now number) }

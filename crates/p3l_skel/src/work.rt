@@ -53,7 +53,7 @@ fn most_segments(form: &Form) -> u32
     }
 }
 
-/// The firings of a reduce with so many segments.
+/// The firings of a reduce with this number of segments.
 fn reduce_firings(joining: Joining, segments: u32) -> u64
     ensures { result ≡ reduce_firings joining segments }
 {
@@ -72,8 +72,8 @@ fn element_count(cut: &Cut) -> u64
     capped(cut.first as u64 * cut.second as u64)
 }
 
-/// The firings for one item of a node of this form, with so many segments where it is a reduce, as
-/// far as they count, where its parts outside units have `inner` in all.
+/// The firings for one item of a node of this form, with `segments` segments where it is a reduce,
+/// as far as they count, where its parts outside units have `inner` in all.
 pub fn firings_over(form: &Form, joining: Joining, segments: u32, inner: u64) -> u64
     requires { inner ≤ 134217729 }
     ensures { result ≡ capped (firings_row (reduce_firings joining) form.now segments inner) }

@@ -32,7 +32,7 @@ finds_at_hand old new rest holds answer within below passed is = record {
   }) is;
 }
 
--- lines without words stand before a line that is found
+-- lines without words come before a line that is found
 finds_after : (old mid new : Seen) (got : List ℕ) (holds : Line) → PassedBlanks old mid → FindsLine mid new (mid.held ++ got) holds → FindsLine old new (old.held ++ got) holds
 finds_after old mid new got holds passed found =
     let words_are : mid.words ≡ old.words = ap (λ (s : Seen). s.words) passed.after in

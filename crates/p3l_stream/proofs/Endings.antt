@@ -52,6 +52,6 @@ lines_wide width number close [] = all_none width
 lines_wide width number close (bytes ∷ lines) =
     put_wide width (line_of width bytes) number (items_of_lines width (number + 1) close lines) (line_wide width (numbers_of (words_of bytes))) (lines_wide width (number + 1) close lines)
 
--- each item has so many words
+-- each item has `width` words
 pub items_wide : (width : ℕ) (how : Cutoff) (bytes : List ℕ) → All (λ words. length words ≡ width) (items_taken width how bytes).items
 items_wide width how bytes = lines_wide width 1 (closing how) (lines_of how bytes)

@@ -1,4 +1,4 @@
--- Where line feeds stand among bytes.
+-- Where line feeds occur among bytes.
 use Rattle.std.proofs.Common.{◌≡◌, ℕ, zero, suc, ◌+◌, ◌-◌, ◌<◌, ◌≤◌, Bool, true, false, not, cond, ltb, List, [], ◌∷◌, ◌++◌, length, take, drop, Option, Some, None, position, refl, ap, sym, ◌∙◌, arith, length-append, length-take, length-drop, take-append-drop}
 use Rattle.std.specs.List.{position_or_len}
 use Rattle.std.proofs.lemmas.Bool.{eqb-true}
@@ -43,7 +43,7 @@ place-after (byte ∷ bytes) more all =
     let rest : place (bytes ++ more) ≡ length bytes + place more = place-after bytes more front.1 in
     ap (λ b. cond (not b) (1 + place (bytes ++ more)) 0) front.0 ∙ omega arith
 
--- what stands before the first line feed is a line
+-- what comes before the first line feed is a line
 pub place-take : (bytes : List ℕ) (n : ℕ) → n ≤ place bytes → n ≤ length bytes → place (take n bytes) ≡ n
 place-take bytes zero low high = refl
 place-take [] (suc n) low high = absurd (omega arith)
@@ -72,13 +72,13 @@ separated_by : (byte : ℕ) (bytes : List ℕ) (n : ℕ) (b : Bool) → is_feed 
 separated_by byte bytes n true feed is below tail = separated_first byte bytes n feed (omega arith)
 separated_by byte bytes n false feed is below tail = separated_later byte bytes (place bytes) n (omega arith) (tail (omega arith))
 
--- a line feed stands at its place
+-- a line feed is at its place
 pub bytes-at_place : (bytes : List ℕ) (n : ℕ) → place bytes ≡ n → n < length bytes → Separated bytes n
 bytes-at_place [] n is below = absurd (omega arith)
 bytes-at_place (byte ∷ bytes) n is below =
     separated_by byte bytes n (is_feed byte) refl is (omega arith) (λ l. bytes-at_place bytes (place bytes) refl l)
 
--- bytes in which a line feed stands after a line have fewer after it than stand after the line
+-- bytes in which a line feed comes after a line have fewer after it than come after the line
 pub fewer_after : (xs ys zs ws : List ℕ) → place xs ≡ length xs → xs ++ ys ≡ zs ++ 10 ∷ ws → length ws < length ys
 fewer_after [] ys zs ws all e = omega (arith, ap length e, length-append {A = ℕ})
 fewer_after (x ∷ xs) ys [] ws all e =

@@ -1,4 +1,4 @@
--- A stream that is asked again and again gives the items of the bytes that it takes.
+-- A stream that is read again and again gives the items of the bytes that it takes.
 use Rattle.std.proofs.Common.{◌≡◌, ◌≢◌, ℕ, ℤ, ◌+◌, Bool, true, false, List, [], ◌∷◌, ◌++◌, length, Option, Some, None, Result, Ok, Err, refl, ap, sym, subst, ◌∙◌, inl, inr, arith, append_assoc, append-nil, length-append}
 use Rattle.std.specs.List.{AllByRecursion}
 use Rattle.std.specs.Str.Lines.{strip_carriage_return}
@@ -23,7 +23,7 @@ use Rattle.p3l_stream.proofs.Endings.{IsWide, line_wide}
 use Rattle.p3l_stream.proofs.LinesAfter.{items_after, items_dropped, items_ended, items_from, items_last, items_none}
 use Rattle.p3l_stream.proofs.Pieces.{not_both}
 
--- a stream from which nothing was asked
+-- a stream from which nothing was read
 pub given_started : (width limit : ℕ) → HasGiven width (started width limit) [] []
 given_started width limit = record {
   width_is = refl;

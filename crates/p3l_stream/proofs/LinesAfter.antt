@@ -1,4 +1,4 @@
--- The items of lines that stand after one another.
+-- The items of lines that come after one another.
 use Rattle.std.proofs.Common.{◌≡◌, ◌≢◌, ℕ, suc, ◌+◌, List, [], ◌∷◌, ◌++◌, length, take, drop, Some, position, refl, ap, sym, ◌∙◌, arith, append_assoc}
 use Rattle.std.specs.Str.Lines.{strip_carriage_return}
 use Rattle.p3l_stream.specs.declared.items.Ending.{Ending}

@@ -27,7 +27,7 @@ takes_piece s rest left buf n room held held' is_open within most limit all gave
       all = λ ends. absurd (not_both s.at_end ends is_open);
     }
 
--- want of memory for a piece
+-- out of memory for a piece
 pub asks_in_vain : (old new : Seen) (rest left : Option (List ℕ)) (result : Result (Result (Unit {0}) Failed) NoMemory) (piece : List ℕ)
     → IsErr result → TakesPiece old new rest left piece old.held → AsksOnce old new rest left result
 asks_in_vain old new rest left (Ok x) piece err took = absurd (not_both true refl (sym err))

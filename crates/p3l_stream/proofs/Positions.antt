@@ -1,4 +1,4 @@
--- Where the first element stands that passes a test.
+-- The place of the first element that passes a test.
 use Rattle.std.proofs.Common.{◌≡◌, ℕ, ◌<◌, ◌≤◌, Bool, true, false, cond, ltb, List, length, Option, Some, None, unwrap_or, refl, arith}
 use Rattle.std.specs.List.{position, position_or_len}
 use Rattle.std.proofs.lemmas.Bool.{ltb-true}

@@ -256,7 +256,7 @@ answers_last old now new rest left holds answer way ends passed is =
     by_line (line.WrongCount had) holds_it is count held_is end_is = answers_line old new _ _ answer (λ e. cc) (found _ (λ e. cc) holds_it count held_is end_is) is
     by_line line.OutOfRange holds_it is count held_is end_is = answers_line old new _ _ answer (λ e. cc) (found _ (λ e. cc) holds_it count held_is end_is) is
 
--- want of memory
+-- out of memory
 pub answers_in_vain : (old new : Seen) (rest left : Option (List ℕ)) (result : Result Next NoMemory) (got : List ℕ) → IsErr result → Takes old new rest left got → Answers old new rest left result
 answers_in_vain old new rest left (Ok answer) got err takes = absurd (not_both true refl (sym err))
 answers_in_vain old new rest left (Err e) got err takes = record { got = got; takes = takes; answer = tt }

@@ -3,7 +3,7 @@ use Rattle.std.proofs.Common.{◌≡◌, ℕ, suc, ◌+◌, ℤ, List, [], ◌�
 use Rattle.std.specs.Fmt.{signed_decimal}
 use Rattle.p3l_stream.specs.Text.{word_text, words_text}
 
--- the text of words after so many others
+-- the text of words after n others
 abbrev pub words_from : ℕ → List ℤ → List ℕ
 words_from index [] = []
 words_from index (word ∷ words) = word_text index word ++ words_from (index + 1) words

@@ -6,7 +6,7 @@ use Rattle.std.proofs.Math.Numerals.{one-add}
 use Rattle.p3l_stream.proofs.Positions.{position-some, unwrap_or-position}
 use Rattle.p3l_stream.specs.Words.{IsFirstWord, is_blank, is_filled, is_of_word, words_of}
 
--- where the first blank stands, or the end
+-- where the first blank is, or the end
 abbrev pub word_len : List ℕ → ℕ
 word_len bytes = position_or_len is_blank bytes
 

@@ -13,7 +13,7 @@ use Rattle.p3l_stream.specs.Lines.{last_line}
 use Rattle.p3l_stream.specs.Seen.{Seen}
 use Rattle.p3l_stream.specs.Taken.{IsTaken}
 
--- nothing is left, where that is told
+-- nothing is left, where that is known
 abbrev pub IsAtEnd : Option (List ℕ) → Type 0
 IsAtEnd None = Unit {0}
 IsAtEnd (Some left) = left ≡ []
@@ -29,7 +29,8 @@ pub record Takes (old new : Seen) (rest left : Option (List ℕ)) (got : List �
   pub once : old.at_end ≡ true → (got ≡ []) × (new.at_end ≡ true)
   pub all : old.at_end ≡ false → new.at_end ≡ true → IsAtEnd left
 
--- a line stands before other bytes, ended by a line feed, or by the end of the input with nothing after it
+-- a line comes before other bytes, ended by a line feed, or by the end of the input with nothing
+-- after it
 abbrev pub IsBefore : Bool → List ℕ → List ℕ → List ℕ → Type 0
 IsBefore at_end bytes first after = (bytes ≡ first ++ 10 ∷ after) ⊎ ((at_end ≡ true) × (bytes ≡ first) × (after ≡ []))
 
@@ -45,7 +46,8 @@ pub record Finds (width before now : ℕ) (at_end : Bool) (bytes held : List ℕ
   pub stands : IsBefore at_end after_blanks first held
   pub counted : now ≡ before + (length blanks + 1)
 
--- the bytes have lines without words alone, and after them this part of a line, which counts as so many
+-- the bytes have lines without words alone, and after them this part of a line, which counts as
+-- `count`
 pub record RunsOut (width before now count : ℕ) (bytes part : List ℕ) : Type 0 where
   pub blanks : List (List ℕ)
   pub are_blank : AreBlank width blanks

@@ -1,4 +1,4 @@
--- Lines as they stand in bytes, each ended by a line feed.
+-- Lines as bytes have them, each ended by a line feed.
 use Rattle.std.specs.Prelude.{◌≡◌, ◌≢◌, ℕ, List, [], ◌∷◌, ◌++◌, None, position}
 use Rattle.std.specs.Str.Lines.{strip_carriage_return}
 use Rattle.p3l_stream.specs.declared.line.Line.{Line}

@@ -52,10 +52,10 @@ Closes width s bytes items (Some (Ok (ending.OutOfRange line))) = AreRefused wid
 -- a fault of reading, or the limit: the items are those of the lines that were ended
 Closes width s bytes items (Some (Ok ending.ReadFault)) = (s.at_end ≡ false) × (s.taken < s.limit) × (items_taken width stop.Fault bytes ≡ ended_by items ending.ReadFault)
 Closes width s bytes items (Some (Ok ending.TooLong)) = (s.at_end ≡ false) × (s.taken ≡ s.limit) × (items_taken width stop.Limit bytes ≡ ended_by items ending.TooLong)
--- want of memory
+-- out of memory
 Closes width s bytes items (Some (Err want)) = Unit {0}
 
--- a stream whose items have so many words took these bytes in all, and answered these items
+-- a stream whose items have `width` words took these bytes in all, and answered these items
 pub record HasGiven (width : ℕ) (s : Seen) (bytes : List ℕ) (items : List (List ℤ)) : Type 0 where
   pub width_is : s.words ≡ width
   pub counted : s.taken ≡ length bytes
@@ -80,7 +80,8 @@ answered (next.OutOfRange line) = Err (ending.OutOfRange line)
 answered next.ReadFault = Err ending.ReadFault
 answered next.TooLong = Err ending.TooLong
 
--- how the count of faults of the source goes while a stream is asked: only a fault of reading, which ends it, raises the count
+-- how the count of faults of the source goes while a stream is read: only a fault of reading, which
+-- ends it, raises the count
 abbrev pub GivenCause : Option (Result Ending NoMemory) → ℕ → ℕ → Type 0
 GivenCause (Some (Ok ending.ReadFault)) before now = Rose before now
 GivenCause closed before now = now ≡ before

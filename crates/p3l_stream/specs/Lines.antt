@@ -30,7 +30,7 @@ lines_between how (part ∷ next ∷ parts) = strip_carriage_return part ∷ lin
 abbrev pub lines_of : Cutoff → List ℕ → List (List ℕ)
 lines_of how bytes = lines_between how (slice_split is_feed bytes)
 
--- what a line holds whose words write these numbers, where an item has so many words
+-- what a line holds whose words write these numbers, where an item has n words
 abbrev pub line_from : ℕ → Result (List ℤ) WordFault → Line
 line_from width (Err fault.Form) = line.BadWord
 line_from width (Err fault.Range) = line.OutOfRange

@@ -11,7 +11,7 @@ use Rattle.p3l_stream.specs.Lines.{last_line}
 use Rattle.p3l_stream.specs.Seen.{Seen}
 use Rattle.p3l_stream.specs.Taken.{IsTaken}
 
--- so many lines were passed, and these bytes are still held
+-- n lines were passed, and these bytes are still held
 abbrev pub moved_past : Seen → ℕ → List ℕ → Seen
 moved_past s count held = record s { held = held; passed = s.passed + count }
 
@@ -60,7 +60,7 @@ pub record PassesLast (old new : Seen) (holds : Line) : Type 0 where
   pub holds_it : held_by old.words old.held ≡ holds
   pub after : new ≡ moved_past old (length (last_line stop.End old.held)) []
 
--- a piece was taken, or the end was met; by want of memory a piece is lost
+-- a piece was taken, or the end was met; out of memory, a piece is lost
 pub record TakesPiece (old new : Seen) (rest left : Option (List ℕ)) (piece held : List ℕ) : Type 0 where
   pub short : length piece ≤ 4096
   pub after : new ≡ record old { held = held; taken = old.taken + length piece; at_end = new.at_end }

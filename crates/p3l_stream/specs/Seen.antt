@@ -17,7 +17,7 @@ pub record Seen : Type 0 where
   pub at_end : Bool
   pub closed : Option (Result Ending NoMemory)
 
--- a stream from which nothing was asked
+-- a stream from which nothing was read
 abbrev pub started : ℕ → ℕ → Seen
 started words limit = record { words = words; limit = limit; held = []; taken = 0; passed = 0; at_end = false; closed = None }
 

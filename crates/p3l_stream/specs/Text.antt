@@ -5,7 +5,7 @@ use Rattle.std.specs.Fmt.{signed_decimal}
 use Rattle.p3l_base.specs.declared.outcome.Outcome.{Outcome}
 use Rattle.p3l_base.specs.declared.outcome.Outcome.TheVariants.{Value, Trapped}
 
--- a word after so many others: in decimal without leading zeros, and after a space if it is not the first
+-- a word after n others: in decimal without leading zeros, and after a space if it is not the first
 abbrev pub word_text : ℕ → ℤ → List ℕ
 word_text zero word = signed_decimal word
 word_text (suc index) word = 32 ∷ signed_decimal word

@@ -59,7 +59,7 @@ impl Buffer {
         &rest[..count]
     }
 
-    /// Where the first line feed stands.
+    /// Where the first line feed is.
     pub(crate) fn first_feed(&mut self) -> Option<usize>
         ensures same { self.new ≡ self.old }
         ensures first { result ≡ position is_feed self.old }

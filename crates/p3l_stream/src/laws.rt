@@ -1,4 +1,5 @@
-// The law of a stream that is asked again and again, as the contract of a function that does nothing.
+// The law of a stream that is read again and again, as the contract of a function that does
+// nothing.
 
 ghost use Rattle.std.specs.Prelude.{◌≡◌, ◌≤◌, ℕ, ℤ, List, [], ◌++◌, Option, None, Ok, Result, length};
 ghost use Rattle.p3l_base.specs.declared.memory.NoMemory.{NoMemory};

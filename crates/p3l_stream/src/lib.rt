@@ -1,4 +1,4 @@
-//! The stream: the items of a source's lines, asked for one by one, and the text that items are
+//! The stream: the items of a source's lines, requested one by one, and the text that items are
 //! written as.
 #![tactic(auto)]
 

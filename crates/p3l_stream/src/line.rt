@@ -23,7 +23,7 @@ pub enum Line {
     OutOfRange,
 }
 
-/// Where the first line feed stands.
+/// Where the first line feed is.
 pub(crate) fn first_feed(bytes: &[u8]) -> Option<usize>
     ensures { result ≡ position is_feed bytes.now }
 {

@@ -15,10 +15,10 @@ use p3l_io::{Failed, Source};
 use std::alloc::Global;
 use std::marker::Model;
 
-/// How many bytes are asked for at a time, at most.
+/// How many bytes are requested at a time, at most.
 const PIECE: usize = 4096;
 
-/// The items of a source's lines, asked for one by one.
+/// The items of a source's lines, requested one by one.
 ///
 /// Contracts see how many words an item has and how many bytes are taken at most, the bytes taken
 /// and not yet answered, the number of all bytes taken, the number of lines passed, whether the
@@ -66,7 +66,7 @@ impl Lines {
     }
 
     /// The item of the next line that has words, or how the stream ends. It then ends so at each
-    /// later call too, also by want of memory.
+    /// later call too, also out of memory.
     pub fn next<S: Source>(&mut self, source: &mut S) -> Result<Next, NoMemory>
         ensures answers { self.old.closed ≡ None
             → Answers self.old self.new (S.rest source.old) (S.rest source.new) result }
@@ -80,7 +80,8 @@ impl Lines {
         ensures same { (close : Result Ending NoMemory) → self.old.closed ≡ Some close
             → (self.new ≡ self.old) × (source.new ≡ source.old) }
 
-        // The source is asked for nothing where there is a line to answer, and nothing after its end.
+        // Nothing is requested of the source where there is a line to answer, and nothing after its
+        // end.
         ensures ready { HasLine self.old.words self.old.held → source.new ≡ source.old }
         ensures at_end { self.old.at_end ≡ true → source.new ≡ source.old }
 

@@ -54,7 +54,7 @@ fn write_words(text: &mut String, words: &[i64]) -> Result<(), NoMemory>
     Ok(())
 }
 
-/// Puts a word after a text that has so many of the item's words.
+/// Puts a word after a text that has `index` of the item's words.
 fn write_word(text: &mut String, index: usize, word: i64) -> Result<(), NoMemory>
     ensures { OnOk result (string_bytes text.new
         ≡ string_bytes text.old ++ as_text.word_text index word) }

@@ -25,14 +25,14 @@ fn separates_words(byte: u8) -> bool
     byte == b' ' || byte == b'\t'
 }
 
-/// Where the first byte stands that separates words.
+/// The place of the first byte that separates words.
 fn first_blank(bytes: &[u8]) -> Option<usize>
     ensures { result ≡ position is_blank bytes.now }
 {
     bytes.iter().position(|byte| separates_words(*byte))
 }
 
-/// Where the first byte of a word stands.
+/// Where the first byte of a word is.
 fn first_of_word(bytes: &[u8]) -> Option<usize>
     ensures { result ≡ position is_of_word bytes.now }
 {

@@ -13,7 +13,7 @@ unfoldable pub read : List Token → ℕ → ℕ → List Token
 read xs c zero = []
 read xs c (suc m) = look c xs ++ read xs (suc c) m
 
--- each of the m numbers from c on stands there once
+-- each of the m numbers from c on occurs there once
 unfoldable pub each_once : List Token → ℕ → ℕ → Bool
 each_once xs c zero = true
 each_once xs c (suc m) = nat_eq (length (look c xs)) 1 && each_once xs (suc c) m
@@ -27,7 +27,7 @@ all_within c d (x ∷ xs) = (nat_le c (newest_tag x) && nat_lt (newest_tag x) d)
 abbrev pub numbered : List Token → ℕ → Bool
 numbered xs c = each_once xs c (length xs) && all_within c (c + length xs) xs
 
--- the same, told of each number
+-- the same, said of each number
 pub record IsNumbered (xs : List Token) (c : ℕ) : Type 0 where
   pub once : (k : ℕ) → c ≤ k → k < c + length xs → length (look k xs) ≡ 1
   pub none : (k : ℕ) → (c ≤ k → c + length xs ≤ k) → length (look k xs) ≡ 0

@@ -1,5 +1,5 @@
--- A part of a net, which stands between two channels and has processes and channels of its own; and what every lawful part
--- keeps, whatever is outside it.
+-- A part of a net, which is between two channels and has processes and channels of its own; and
+-- what every lawful part keeps, whatever is outside it.
 use Rattle.std.specs.Prelude.{◌≡◌, ◌≢◌, ℕ, zero, suc, ◌+◌, ◌-◌, ◌*◌, ◌≤◌, ◌<◌, Bool, true, false, List, [], ◌∷◌, ◌++◌, map, length, get_or, ◌&&◌}
 use Rattle.p3l_base.specs.declared.outcome.Outcome.{Outcome}
 use Rattle.p3l_firing.specs.declared.net.Net.{Net}
@@ -115,7 +115,7 @@ pub record IsLawfulPart (net : Net) (units : Units) (P : Part) : Type 0 where
   -- the step law: a firing inside keeps the order and the line
   pub step : (s : State) (p : ℕ) → IsInside P p → can_fire units.tree net s p ≡ true → P.orderly s ≡ true →
       Keeps P s (fire units.tree units.leaf net s p)
-  -- the work law: a firing inside takes from what is due
+  -- the work law: a firing inside takes from the work that is left
   pub work : (s : State) (p : ℕ) → IsInside P p → can_fire units.tree net s p ≡ true → P.orderly s ≡ true →
       due P (fire units.tree units.leaf net s p) < due P s
   -- the size law

@@ -8,12 +8,12 @@ use Rattle.p3l_template.specs.Part.{Part, IsLawfulPart}
 use Rattle.p3l_template.specs.Shape.{Role, Base, Seat, Shape, no_seat}
 use Rattle.p3l_template.specs.Units.{Units}
 
--- these processes stand in the net from number p on
+-- these processes are in the net from number p on
 unfoldable pub AreStanding : Net → ℕ → List Proc → Type 0
 AreStanding net p [] = Unit {0}
 AreStanding net p (q ∷ qs) = (slice_get net.procs p ≡ Some q) × AreStanding net (suc p) qs
 
--- these channels stand in the net from number c on
+-- these channels are in the net from number c on
 pub record AreLaid (net : Net) (c : ℕ) (chans : List Chan) : Type 0 where
   pub at : (k : ℕ) → k < length chans → chan_at net (c + k) ≡ get_or chans k no_chan
 
@@ -21,7 +21,8 @@ pub record AreLaid (net : Net) (c : ℕ) (chans : List Chan) : Type 0 where
 pub record HaveRoom (net : Net) (c n : ℕ) : Type 0 where
   pub room : (k : ℕ) → c ≤ k → k < c + n → 0 < (chan_at net k).cap
 
--- a lawful part stands at this seat, from process p and channel c on, and does what the node's part there does
+-- a lawful part is placed at this seat, from process p and channel c on, and does what the node's
+-- part there does
 pub record IsSeated (net : Net) (units : Units) (roles : ℕ → Role) (p c : ℕ) (seat : Seat) (P : Part) : Type 0 where
   pub input : P.input ≡ seat.input
   pub output : P.output ≡ seat.output
@@ -31,7 +32,7 @@ pub record IsSeated (net : Net) (units : Units) (roles : ℕ → Role) (p c : �
   pub firings : P.firings ≡ (roles seat.part).firings
   pub lawful : IsLawfulPart net units P
 
--- lawful parts stand at these seats, one after the other
+-- lawful parts are placed at these seats, one after the other
 unfoldable pub AreChained : Net → Units → (ℕ → Role) → ℕ → ℕ → List Seat → List Part → Type 0
 AreChained net units roles p c [] [] = Unit {0}
 AreChained net units roles p c (x ∷ xs) (P ∷ Ps) =
@@ -56,7 +57,7 @@ pub record IsGoodBase (net : Net) (base : Base) : Type 0 where
   pub apart : base.input ≢ base.output
   pub room : 0 < (chan_at net base.output).cap
 
--- the template stands at the base, round these inner parts
+-- the template is placed at the base, round these inner parts
 pub record IsPlaced (net : Net) (units : Units) (roles : ℕ → Role) (shape : Shape) (base : Base) (parts : List Part) :
     Type 0 where
   pub good : IsGoodBase net base

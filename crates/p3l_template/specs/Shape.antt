@@ -13,14 +13,16 @@ pub record Role : Type 0 where
   pub meaning : Outcome → Outcome
   pub firings : ℕ
 
--- where a template is placed: the two channels that it stands between, and its first process and channel
+-- where a template is placed: the two channels that it is between, and its first process and
+-- channel
 pub record Base : Type 0 where
   pub input : ℕ
   pub output : ℕ
   pub proc : ℕ
   pub chan : ℕ
 
--- where an inner part is placed: the two channels that it stands between, and which part of the node it is
+-- where an inner part is placed: the two channels that it is between, and which part of the node it
+-- is
 pub record Seat : Type 0 where
   pub input : ℕ
   pub output : ℕ
@@ -60,7 +62,7 @@ base_of at built = record { input = at.input; output = at.output; proc = length 
 abbrev pub added : Net → List Proc → List Chan → Net
 added built procs chans = record { procs = built.procs ++ procs; chans = built.chans ++ chans }
 
--- so many more processes and channels keep within the limits of a net
+-- `procs` more processes and `chans` channels keep within the limits of a net
 abbrev pub HasRoomFor : Net → ℕ → ℕ → Type 0
 HasRoomFor built procs chans = (length built.procs + procs ≤ 1048576) × (length built.chans + chans ≤ 1048576)
 

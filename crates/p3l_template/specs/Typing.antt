@@ -27,7 +27,7 @@ no_width = record { words = 0; tags = 0 }
 unfoldable pub Carry : Widths → ℕ → List Width → Type 0
 Carry widths c row = (k : ℕ) → k < length row → Carries widths (c + k) (get_or row k no_width).words (get_or row k no_width).tags
 
--- a process of this kind stands inside, not at an end of the net
+-- a process of this kind is inside, not at an end of the net
 abbrev pub IsInner : ProcKind → Type 0
 IsInner Source = ⊥
 IsInner Sink = ⊥
@@ -40,7 +40,8 @@ seat_ins = map (λ seat. seat.input)
 abbrev pub seat_outs : List Seat → List ℕ
 seat_outs = map (λ seat. seat.output)
 
--- where the template stands: its port channels carry the words of its node, with t tags, and its own channels what it says
+-- where the template is placed: its port channels carry the words of its node, with t tags, and its
+-- own channels what it says
 pub record StandsTyped (tree : Tree) (node : ℕ) (widths : Widths) (base : Base) (t : ℕ) (row : List Width) : Type 0 where
   pub input : Carries widths base.input (node_at tree node).ins t
   pub output : Carries widths base.output (node_at tree node).outs t
@@ -83,7 +84,7 @@ pub record IsRunNode (tree : Tree) (node : ℕ) : Type 0 where
   pub there : node < length tree.nodes
   pub takes : Takes (node_at tree node).form (node_at tree node).ins 0 (node_at tree node).ins
 
--- a node of a tree that is a pipe of so many stages
+-- a node of a tree that is a pipe of `stages` stages
 pub record IsPipeNode (tree : Tree) (node stages : ℕ) : Type 0 where
   pub some : 1 ≤ stages
   pub parts : length (node_at tree node).parts ≡ stages

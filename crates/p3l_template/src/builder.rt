@@ -74,7 +74,7 @@ impl Builder {
         Ok(number)
     }
 
-    /// Adds so many channels without credits and gives their numbers.
+    /// Adds `count` channels without credits and gives their numbers.
     pub fn channels(&mut self, alloc: Global, count: u32, cap: u32) -> Result<List<u32>, NoMemory>
         requires { length self.old.chans + count ≤ 1048576 }
         ensures numbers { IfOk result (λ numbers. numbers

@@ -12,7 +12,7 @@ use crate::builder::Builder;
 use p3l_base::{List, NoMemory};
 use std::alloc::Global;
 
-/// The two channels that a part of a net stands between.
+/// The two channels that a part of a net is between.
 #[derive(Clone, Copy, Debug, Drop, PartialEq, Eq)]
 pub struct Ports {
     pub input: u32,

@@ -1,4 +1,4 @@
-// The ports of workers that stand side by side.
+// The ports of workers side by side.
 
 ghost use Rattle.std.specs.Prelude.{◌≡◌, ◌+◌, ◌≤◌, IfOk};
 ghost use Rattle.p3l_template.specs.Built.{all_ports};
@@ -8,8 +8,8 @@ use crate::template::Ports;
 use p3l_base::{List, NoMemory};
 use std::alloc::Global;
 
-// The ports of so many workers: their in channels are those from `first` on, and their out channels
-// stand after them.
+/// The ports of `workers` workers: their in channels are those from `first` on, and their out
+/// channels come after them.
 pub(crate) fn worker_ports(alloc: Global, first: u32, workers: u32) -> Result<List<Ports>, NoMemory>
     requires { (first + workers) + workers ≤ 1048576 }
     ensures { IfOk result (λ ports. ports ≡ all_ports (fan_seats first (first + workers) workers)) }

@@ -84,6 +84,6 @@ trace_whole : Each IsWhole trace_format
 unfolding trace_format
 trace_whole = each_text_then IsWhole IsWhole IsWhole header body_format whole_append (whole_line header header_is_line) body_whole
 
--- the line that is told of a refused text
+-- the line that is reported of a refused text
 pub trace_first_bad : (s : List ℕ) (f : Fault) → read_all trace_format s ≡ Err f → IsFirstBadLine trace_format s (line_number s f.left)
 trace_first_bad s f e = first_bad trace_format trace_tells trace_whole s f e

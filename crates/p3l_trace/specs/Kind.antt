@@ -28,12 +28,12 @@ abbrev pub all_said : List (Option ProcKind)
 all_said =
     Some Source ∷ Some Sink ∷ Some Run ∷ Some Emit ∷ Some Collect ∷ Some Scatter ∷ Some Gather ∷ Some Split ∷ Some FoldGather ∷ Some Join ∷ Some Head ∷ Some Tail ∷ None ∷ []
 
--- this is said where its word stands in front, and else what is read
+-- this is said where its word is in front, and else what is read
 abbrev pub said_or : Option ProcKind → Option (List ℕ) → Result (Option ProcKind × List ℕ) Fault → Result (Option ProcKind × List ℕ) Fault
 said_or said (Some rest) read = Ok (said, rest)
 said_or said None read = read
 
--- the first of these whose word stands in front, and what is after it
+-- the first of these whose word is in front, and what is after it
 abbrev pub first_said : List (Option ProcKind) → List ℕ → Result (Option ProcKind × List ℕ) Fault
 first_said [] s = Err (fault_at Range s)
 first_said (said ∷ more) s = said_or said (after_text (word_of said) s) (first_said more s)

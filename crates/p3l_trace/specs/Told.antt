@@ -1,4 +1,4 @@
--- What is told of a text that is no trace.
+-- What is reported of a text that is no trace.
 use Rattle.std.specs.Prelude.{◌≡◌, ℕ, List, Result, Ok, Err, ⊤}
 use Rattle.p3l_trace.specs.declared.trace.Traced.{Traced}
 use Rattle.p3l_trace.specs.declared.trace.TraceRefusal.{TraceRefusal}
@@ -13,12 +13,12 @@ abbrev pub told : List ℕ → Result Traced Fault → Result Traced TraceRefusa
 told text (Ok traced) = Ok traced
 told text (Err fault) = Err (refusals.BadLine (line_number text fault.left))
 
--- a call answered what reading gives, unless memory was wanting
+-- a call answered what reading gives, unless out of memory
 abbrev pub Answers : List ℕ → Result Traced TraceRefusal → Result Traced Fault → Type 0
 Answers text (Err refusals.NoMemory) read = ⊤
 Answers text answer read = answer ≡ told text read
 
--- a line that is told is the first that isn't of a trace's form
+-- a line that is reported is the first that isn't of a trace's form
 abbrev pub TellsFirst : List ℕ → Result Traced TraceRefusal → Type 0
 TellsFirst text (Err (refusals.BadLine line)) = IsFirstBadLine trace_format text line
 TellsFirst text answer = ⊤

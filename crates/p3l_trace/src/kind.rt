@@ -48,7 +48,7 @@ fn word_of(said: Option<ProcKind>) -> &'static [u8]
     }
 }
 
-// The first of these whose word stands in front, and what is after it.
+// The first of these whose word is in front, and what is after it.
 fn read_first<'a>(
     all: &[Option<ProcKind>],
     bytes: &'a [u8],

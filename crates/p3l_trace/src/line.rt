@@ -15,7 +15,7 @@ use std::alloc::Global;
 #[derive(Clone, Copy, Drop)]
 pub struct LineItem;
 
-// The pick in front, where a fault is told at its own place.
+// The pick in front, where a fault is reported at its own place.
 #[tactic(auto, unfolding(crate::specs::Text::pick_format, p3l_format::specs::Format::pair, p3l_format::specs::Format::as_form, p3l_format::specs::Text::then_text))]
 fn read_pick(bytes: &[u8]) -> Result<(TraceLine, &[u8]), ReadError>
     ensures { Gives (λ x. (x.0, x.1.now)) result (pick_format.read bytes.now) }

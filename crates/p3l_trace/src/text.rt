@@ -130,9 +130,9 @@ pub fn read_trace(alloc: Global, text: &[u8]) -> Result<Traced, TraceRefusal>
     // What is spelled so is read, unless memory runs out.
     ensures only { (traced : TheTraced) → trace_format.fits traced ≡ true
         → text.now ≡ trace_format.spell traced → Answers text.now result (Ok traced) }
-    // The line that is told is the first that isn't of its form, whatever reads it.
+    // The line that is reported is the first that isn't of its form, whatever reads it.
     ensures first { TellsFirst text.now result }
-    // Which line the format's own reading tells.
+    // Which line the format's own reading reports.
     ensures exact { Answers text.now result (read_all trace_format text.now) }
 {
     match p3l_format::decode(&TraceField { alloc }, alloc, text) {

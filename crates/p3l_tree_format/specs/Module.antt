@@ -35,7 +35,7 @@ is_word (b ∷ bs) = is_letter b && list_all is_word_byte bs
 abbrev pub is_name : List ℕ → Bool
 is_name text = is_word text && (bytes_eq text (codes "rescue") || not (is_some (keyword_of text)))
 
--- a length from 1 to 64, and a name of so many bytes
+-- a length from 1 to 64, and a name of that many bytes
 unfoldable pub name_format : Format ℕ (List ℕ)
 name_format = as_form always (λ p. p.1) (λ name. (length name, name)) (pair (u8_in 1 64) (λ n. within is_name (block n)))
 

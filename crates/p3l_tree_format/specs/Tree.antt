@@ -20,11 +20,11 @@ kind_in (Some info) = info.kind
 abbrev pub kind_at : List ModuleInfo → ℕ → ModuleKind
 kind_at modules m = kind_in (slice_get modules m)
 
--- numbers that name nodes, of which there are so many, or channels
+-- numbers below a limit, which name nodes or channels
 abbrev pub indices_format : ℕ → Format ℕ (List ℕ)
 indices_format limit = counted (u32_in 0 4294967295) (λ _. u32_below limit)
 
--- a node of these modules, in a tree of so many nodes
+-- a node of these modules, in a tree of n nodes
 unfoldable pub node_format : List ModuleInfo → ℕ → Format ℕ Node
 node_format modules nodes = record_of
     (λ p. record { «module» = p.0; ins = p.1.0; outs = p.1.1.0; form = p.1.1.1.0; parts = p.1.1.1.1 })

@@ -25,7 +25,7 @@ fn kind_of(modules: &[ModuleInfo], number: u32) -> ModuleKind
     }
 }
 
-/// A node of these modules, in a tree of so many nodes.
+/// A node of these modules, in a tree of this number of nodes.
 #[derive(Clone, Copy, Drop)]
 pub struct NodeField<'m> {
     pub modules: &'m [ModuleInfo],

@@ -17,7 +17,7 @@ Constants = List (List ℕ × ℤ)
 abbrev pub constant_of : Constants → List ℕ → Option ℤ
 constant_of constants name = lookup (bytes_eq name) constants
 
--- where a number stands
+-- where a number is
 abbrev pub place_of : Num → Pos
 place_of (Digits value place) = place
 place_of (Named spot) = spot.pos

@@ -20,14 +20,14 @@ product (size ∷ sizes) = size * product sizes
 abbrev pub is_size : ℕ → Bool
 is_size n = nat_le 1 n && nat_le n 65536
 
--- the size that stands after k others: its name must be a constant, and then its number 1 to
+-- the size that comes after k others: its name must be a constant, and then its number 1 to
 -- 65,536 and the size not a fourth one
 abbrev pub size_of : Constants → ℕ → Num → Result ℕ SourceRefusal
 size_of constants k num =
     given (number_of constants num)
     (λ value. if is_size (natural value) && nat_lt k 3 then Ok (natural value) else Err (At BadSize (place_of num)))
 
--- the sizes that stand after k others
+-- the sizes that come after k others
 abbrev pub sizes_of : Constants → ℕ → List Num → Result (List ℕ) SourceRefusal
 sizes_of constants k [] = Ok []
 sizes_of constants k (num ∷ nums) =

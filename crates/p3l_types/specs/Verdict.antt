@@ -21,12 +21,12 @@ first_of [] = kept
 first_of (Ok x ∷ rules) = first_of rules
 first_of (Err refusal ∷ rules) = Err refusal
 
--- what comes of a value, if the rules that it stands under are kept
+-- what comes of a value, if its rules are kept
 abbrev pub given : {A B : Type 0} → Result A SourceRefusal → (A → Result B SourceRefusal) → Result B SourceRefusal
 given (Ok x) go = go x
 given (Err refusal) go = Err refusal
 
--- an answer is what is meant, value or refusal, unless memory was wanting
+-- an answer is what is meant, value or refusal, unless out of memory
 abbrev pub Gives : {A : Type 0} → Result A SourceRefusal → Result A SourceRefusal → Type 0
 Gives (Ok x) meant = meant ≡ Ok x
 Gives (Err NoMemory) meant = ⊤

@@ -14,7 +14,7 @@ use std::rc::Rc;
 /// were added. No two have one name.
 ///
 /// They are the first `len` entries of a map that their copies share, so that a copy takes no walk,
-/// and constants that stand in the map beforehand are added without one.
+/// and constants that are in the map beforehand are added without one.
 #[derive(Drop)]
 pub struct Consts {
     values: Rc<IndexMap<Name, i64>>,
@@ -144,7 +144,7 @@ pub fn value_of(num: &Num, consts: &Consts) -> Result<i64, SourceRefusal>
     }
 }
 
-/// Where a number stands.
+/// Where a number is.
 pub fn place_of(num: &Num) -> Pos
     ensures { result ≡ place_of num.now }
 {

@@ -40,7 +40,7 @@ pub fn words_of(shape: &Shape) -> u32
     product(shape.sizes.as_slice()) as u32
 }
 
-/// The size that stands after `k` others.
+/// The size that comes after `k` others.
 fn size_of(num: &Num, k: usize, consts: &Consts) -> Result<u32, SourceRefusal>
     ensures { result ≡ size_of consts.now k num.now }
 {

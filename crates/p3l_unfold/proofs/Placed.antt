@@ -1,4 +1,4 @@
--- Instances that stand in a tree, each node of which is lawful.
+-- Instances in a tree, each node of which is lawful.
 use Rattle.std.proofs.Common.{◌≡◌, ℕ, zero, suc, ◌+◌, ◌*◌, ◌<◌, ◌≤◌, Bool, true, false, ◌&&◌, IsTrue, List, [], ◌∷◌, ◌++◌, length, slice_index, slice_index_or, get_or, refl, ap, sym, ◌∙◌, subst, arith, append_assoc, length-append}
 use Rattle.std.proofs.Math.Seq.{get_or-append_seam}
 use Rattle.std.proofs.lemmas.List.{append-nil}
@@ -18,21 +18,21 @@ use Rattle.p3l_unfold.specs.Refusing.{is_nested_within}
 use Rattle.p3l_unfold.proofs.Instances.{instance-step, instance-none}
 use Rattle.p3l_unfold.proofs.Nested.{nested-step, nested-none}
 
--- these nodes stand in a tree from the number `at` on
+-- these nodes are in a tree from the number `at` on
 record Stand (tree : Tree) (at : ℕ) (nodes : List Node) : Type 0 where
   before : List Node
   after : List Node
   nodes_are : tree.nodes ≡ before ++ (nodes ++ after)
   at_is : length before ≡ at
 
--- a node that stands in a tree is the one of its number
+-- a node in a tree is the one of its number
 stand_first : (tree : Tree) (at : ℕ) (n : Node) (ns : List Node) → Stand tree at (n ∷ ns) → (at < length tree.nodes) × (node_at tree at ≡ n)
 stand_first tree at n ns s = (
   rw s.nodes_are (rw length-append (let e : length s.before ≡ at = s.at_is in omega arith)),
   subst (λ k. slice_index_or tree.nodes k no_node ≡ n) s.at_is (ap (λ ms. slice_index_or ms (length s.before) no_node) s.nodes_are ∙ get_or-append_seam s.before n (ns ++ s.after) no_node),
 )
 
--- what stands after the first node
+-- what comes after the first node
 stand_rest : (tree : Tree) (at : ℕ) (n : Node) (ns : List Node) → Stand tree at (n ∷ ns) → Stand tree (at + 1) ns
 stand_rest tree at n ns s = record {
   before = s.before ++ n ∷ [];
@@ -204,7 +204,7 @@ each_append : (P : Node → Type 0) (xs ys : List Node) → AllByRecursion P xs 
 each_append P [] ys hx hy = hy
 each_append P (x ∷ xs) ys hx hy = (hx.0, each_append P xs ys hx.1 hy)
 
--- the instance of a module that is nested no deeper than d stands in a tree
+-- the instance of a module that is nested no deeper than d is in a tree
 pub Stands : Tree → List Wired → ℕ → ℕ → ℕ → Type 0
 Stands tree wired d k at = (k < length wired) × (is_nested_within wired d k ≡ true) × Stand tree at (instance wired d k at)
 
@@ -215,7 +215,7 @@ whole_stands infos wired root inside nested =
     (inside, nested, record { before = []; after = []; nodes_are = sym (append-nil (instance wired nesting root 0)); at_is = refl })
 
 module _ (infos : List ModuleInfo) (wired : List Wired) (wiring : IsWiring infos wired) (tree : Tree) (modules_are : tree.modules ≡ infos) where
-  -- what is asked of a call: its module is there and nested no deeper than d
+  -- what a call requires: its module is there and nested no deeper than d
   CallsFit : ℕ → List ℕ → Type 0
   CallsFit d cs = All (λ c. c < length wired) cs × (list_all (is_nested_within wired d) cs ≡ true)
 

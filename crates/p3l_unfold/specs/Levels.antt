@@ -1,4 +1,4 @@
--- Tables of the modules that are nested no deeper than so many levels.
+-- Tables of the modules that are nested no deeper than n levels.
 use Rattle.std.specs.Prelude.{◌≡◌, ℕ, ◌<◌, Bool, false, List, length, slice_index_or}
 use Rattle.std.specs.List.{All, list_all}
 use Rattle.p3l_unfold.specs.declared.wired.Wired.{Wired}

@@ -19,7 +19,7 @@ no_module = record { form = Pipe; ins = 0; outs = 0; calls = []; sequential = fa
 abbrev pub module_at : List Wired → ℕ → Wired
 module_at wired k = slice_index_or wired k no_module
 
--- a module takes and gives so many words
+-- a module takes `ins` words and gives `outs`
 pub record TakesAndGives (callee : Wired) (ins outs : ℕ) : Type 0 where
   pub takes : callee.ins ≡ ins
   pub gives : callee.outs ≡ outs
@@ -65,7 +65,7 @@ IsWiredForm wired (Reduce w len elem) ins outs calls = HasOnePart (λ c. IsWired
 IsWiredForm wired (Loop turns tokens) ins outs calls =
     HasTwoParts (λ c d. IsWiredLoop turns tokens ins outs (module_at wired c) (module_at wired d)) calls
 
--- module k, whose name and skeleton stand in `infos`, fits the modules before it that it calls
+-- module k, whose name and skeleton are in `infos`, fits the modules before it that it calls
 pub record IsWiredModule (infos : List ModuleInfo) (wired : List Wired) (k : ℕ) (m : Wired) : Type 0 where
   pub kind : HasKind infos k (kind_of m.form)
   pub ins : IsSize m.ins

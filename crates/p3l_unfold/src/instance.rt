@@ -56,7 +56,7 @@ fn extend(nodes: &mut Vec<Node>, more: Vec<Node>) -> Result<(), NoMemory>
     Ok(())
 }
 
-/// The nodes of an instance of module `k`, whose first node has the number `at`, down to so many
+/// The nodes of an instance of module `k`, whose first node has the number `at`, down to `levels`
 /// levels. Refused as soon as there are too many nodes.
 pub(crate) fn instance(
     alloc: Global,

@@ -23,7 +23,7 @@ pub enum UnfoldRefusal {
     TooManyInstances,
     /// One item makes more than 134,217,728 firings or runs of bodies.
     TooHeavy,
-    /// Memory was wanting.
+    /// Out of memory.
     NoMemory,
 }
 

@@ -21,7 +21,7 @@ pub record HasRoom (i : Instr) (depth : ℕ) : Type 0 where
   pub pops_enough : pops i ≤ depth
   pub shallow : depth_after depth i ≤ 1024
 
--- the rules on one instruction at a place with so many words on the stack
+-- the rules on one instruction at a place with `depth` words on the stack
 pub record IsLocal (code : Code) (place : ℕ) (i : Instr) (depth : ℕ) : Type 0 where
   pub within : IsWithin code.memory i
   pub leads : Leads code.instrs place (target_of i)

@@ -75,7 +75,7 @@ fn goes_on(instr: Instr) -> bool
     }
 }
 
-/// Whether an instruction keeps the rules that speak of it alone, at a place with so many words on
+/// Whether an instruction keeps the rules that speak of it alone, at a place with `depth` words on
 /// the stack.
 pub fn is_local(code: &Code, place: usize, instr: Instr, depth: u32) -> bool
     ensures { IsTrue result ↔ IsLocal code.now place instr depth }

@@ -18,7 +18,7 @@ given (Err trap) go = Err trap
 abbrev pub tested : ℤ → Result ℤ TrapKind
 tested x = Ok (truth (holds x))
 
--- an operator between operands: `||` and `&&` do not ask for the right one where the left decides
+-- an operator between operands: `||` and `&&` do not evaluate the right one where the left decides
 abbrev pub combined : BinOp → Result ℤ TrapKind → Result ℤ TrapKind → Result ℤ TrapKind
 combined operators.Or left right = given left (λ x. if holds x then Ok (pos 1) else given right tested)
 combined operators.And left right = given left (λ x. if holds x then given right tested else Ok (pos 0))

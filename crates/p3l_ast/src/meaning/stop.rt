@@ -2,8 +2,8 @@
 
 use p3l_base::TrapKind;
 
-/// Why a run of statements ended with no valuation: its first trap, or want of memory, which is no part
-/// of what the statements mean.
+/// Why a run of statements ended with no valuation: its first trap, or out of memory, which is no
+/// part of what the statements mean.
 #[derive(Clone, Copy, Debug, Drop, PartialEq, Eq)]
 pub enum Stop {
     Trapped(TrapKind),

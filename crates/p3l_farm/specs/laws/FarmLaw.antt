@@ -621,7 +621,7 @@ module _ (net : Net) (units : Units) (roles : ℕ → Role) (node n : ℕ) (pos 
     worker_drained =
         fan_drained net units roles n base Ps fan (farm_part n roles base Ps) holds s placed.chans parts_orderly quiet calm
 
-    -- no line begins with the number that is due
+    -- no line begins with the number that is expected
     no_line : (w : ℕ) → w < n → front_is (s.own (base.proc + 1)).number (line (get_or Ps w no_part) s) ≡ false
     no_line w l =
         elim (cases_Bool (has_first (s.tokens (base.chan + n + w)))) [

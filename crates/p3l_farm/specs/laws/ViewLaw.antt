@@ -1,6 +1,7 @@
 -- What Emit and Collect do to what a farm shows. Emit numbers a token and sends it to any worker (`emit_goes`),
--- Collect takes the one that is due from any worker (`collect_goes`): the list stays, each line goes on rising.
--- Where no line begins with the number that is due, no token is left (`none_ready`).
+-- Collect takes the one that is expected from any worker (`collect_goes`): the list stays, each
+-- line goes on rising. Where no line begins with the number that is expected, no token is left
+-- (`none_ready`).
 use Rattle.std.proofs.Common.{◌≡◌, ℕ, zero, suc, ◌+◌, ◌≤◌, ◌<◌, inl, inr, true, false, List, [], ◌∷◌, ◌++◌, map, length, get_or, refl, sym, ap, ap₂, ◌∙◌, subst, arith, append_assoc, length-append, eqb-true, eq-eqb, lt-ltb, ltb-true}
 use Rattle.std.proofs.lemmas.Bool.{cases_lt, cases_eq, and_parts, and_from}
 use Rattle.p3l_base.specs.declared.outcome.Outcome.{Outcome}
@@ -84,7 +85,7 @@ rising_change w f [] h k = refl
 rising_change zero f (l ∷ ls) h k = and_from _ _ k (and_parts _ _ h).1
 rising_change (suc w) f (l ∷ ls) h k = and_from _ _ (and_parts _ _ h).0 (rising_change w f ls (and_parts _ _ h).1 k)
 
--- in a rising line with no lower number, the least stands in front
+-- in a rising line with no lower number, the least is in front
 front_due : (c : ℕ) (l : List Token) → rising l ≡ true → ((k : ℕ) → k < c → length (look k l) ≡ 0) →
     front_is c l ≡ false → length (look c l) ≡ 0
 unfolding rising front_is
@@ -152,7 +153,7 @@ pub record Goes (m : Outcome → Outcome) (v w : View) : Type 0 where
   pub kept : Kept w
   pub line : view_line m w ≡ view_line m v
 
--- where no line begins with the number that is due, no token is left
+-- where no line begins with the number that is expected, no token is left
 pub none_ready : (v : View) → Kept v → ((w : ℕ) → w < length v.lines → front_is v.least (get_or v.lines w []) ≡ false) →
     joined v.lines ≡ []
 none_ready v k e =
@@ -232,7 +233,7 @@ module _ (m : Outcome → Outcome) (v : View) (k : Kept v) where
       Goes m v (emit_view w x xs)
   emit_goes w x xs l e = emit_split w (split w v.lines l) x xs e
 
-  -- Collect takes the token x, which is due, from worker w
+  -- Collect takes the token x, which is expected, from worker w
   abbrev pub collect_view : ℕ → Token → View
   collect_view w x = record v { least = v.least + 1; lines = change w rest_of v.lines; output = v.output ++ peeled x ∷ [] }
 

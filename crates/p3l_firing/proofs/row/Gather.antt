@@ -53,7 +53,7 @@ length-arrays_words results second [] at = refl
 length-arrays_words results second (s ∷ ss) at =
     omega (arith, length-append (array_words (result_word results second) s.dims 0 0 at) (arrays_words results second ss (at + cut_size s.dims)), length-array_words (result_word results second) s.dims 0 0 at, length-arrays_words results second ss (at + cut_size s.dims))
 
--- what is joined to so many words, whatever the results
+-- what is joined to n words, whatever the results
 gathered_long : (join : List (List ℤ) → List ℤ) (n : ℕ) (outcomes : List Outcome) → ((results : List (List ℤ)) → length (join results) ≡ n) → HasLength n (gathered join outcomes)
 gathered_long join n [] long = long []
 gathered_long join n (Trapped trap ∷ outcomes) long = tt

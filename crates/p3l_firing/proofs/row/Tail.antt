@@ -85,7 +85,7 @@ dropped_all P n (x ∷ xs) all =
       | inr other ↦ subst (AllByRecursion P) (sym (cond-false (nat_eq (second_tag x) n) _ _ other)) (all.0, dropped_all P n xs all.1)
     ]
 
--- what is held has so many words
+-- what is held has n words
 HeldLong : ℕ → Turn → Type 0
 HeldLong n (Held outcome) = HasLength n outcome
 HeldLong n Again = Unit {0}

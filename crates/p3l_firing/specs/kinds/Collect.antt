@@ -22,16 +22,16 @@ unfoldable pub due_in : State → ℕ → List ℕ → Option ℕ
 due_in s n [] = None
 due_in s n (c ∷ cs) = cond (front_is n (s.tokens c)) (Some c) (due_in s n cs)
 
--- it can fire where the token that is due has come, and there is room for it
+-- it can fire where the token that is expected has come, and there is room for it
 unfoldable pub can : Net → State → Own → Proc → Bool
 can net s o q = is_some (due_in s o.number q.ins) && has_room net s (out_of q 0)
 
--- the state after process p took the token that is due from channel c
+-- the state after process p took the token that is expected from channel c
 unfoldable pub taken_from : Option ℕ → State → ℕ → Own → Proc → State
 taken_from None s p o q = s
 taken_from (Some c) s p o q = set_own (push (pop s c) (out_of q 0) (peeled (front s c))) p (counted o)
 
--- it takes the token whose number is due, and hands it on without that tag
+-- it takes the token whose number is expected, and hands it on without that tag
 unfoldable pub fire : State → ℕ → Own → Proc → State
 fire s p o q = taken_from (due_in s o.number q.ins) s p o q
 

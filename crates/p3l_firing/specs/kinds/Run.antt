@@ -25,8 +25,8 @@ fire tree leaf s q = push (pop s (in_of q 0)) (out_of q 0) (over (outcome_of tre
 abbrev pub reads : Proc → List ℕ
 reads q = in_of q 0 ∷ (out_of q 0 ∷ [])
 
--- so many words are what a run takes for a node of this form with `ins` words: all of them; or those of its segment, of
--- `arg` elements, if it is one of several runs of a reduce
+-- `words` words are what a run takes for a node of this form with `ins` words: all of them; or
+-- those of its segment, of `arg` elements, if it is one of several runs of a reduce
 abbrev pub Takes : Form → ℕ → ℕ → ℕ → Type 0
 Takes Seq ins arg words = (arg ≡ 0) × (words ≡ ins)
 Takes Comp ins arg words = (arg ≡ 0) × (words ≡ ins)

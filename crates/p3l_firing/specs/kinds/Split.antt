@@ -21,7 +21,7 @@ can net s o q =
     cond (has_first o.held) (nat_lt o.number (length q.outs) && has_room net s (out_of q o.number))
     (has_first (s.tokens (in_of q 0)))
 
--- what it keeps after the next segment of so many: nothing after the last
+-- what it keeps after the next of its segments: nothing after the last
 unfoldable pub after_segment : ℕ → Own → Own
 after_segment n o = cond (nat_lt (suc o.number) n) (counted o) fresh
 

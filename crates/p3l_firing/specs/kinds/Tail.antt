@@ -44,7 +44,8 @@ unfoldable pub turn_of : (Outcome → Outcome) → Outcome → Bool → Outcome 
 turn_of test spent more (Trapped trap) = Held (Trapped trap)
 turn_of test spent more (Value words) = by_test (test (Value words)) (Value words) spent more
 
--- it can let a token out: it holds the one whose number is due, and there is room for it and for a credit
+-- it can let a token out: it holds the one whose number is expected, and there is room for it and
+-- for a credit
 unfoldable pub can_release : Net → State → Own → Proc → Bool
 can_release net s o q = has_number o.number o.held && (has_room net s (out_of q 0) && has_room net s (out_of q 2))
 
@@ -56,7 +57,8 @@ can net s o q = can_release net s o q || (has_first (s.tokens (in_of q 0)) && ha
 unfoldable pub after_release : Own → Own
 after_release o = record { number = o.number + 1; held = drop_number o.number o.held }
 
--- the state after process p let the token out whose number is due, without its two tags, and gave back its credit
+-- the state after process p let the token out whose number is expected, without its two tags, and
+-- gave back its credit
 unfoldable pub release : State → ℕ → Own → Proc → State
 release s p o q =
     set_own (push (push s (out_of q 0) (peeled (peeled (pick_number o.number o.held)))) (out_of q 2) credit) p (after_release o)

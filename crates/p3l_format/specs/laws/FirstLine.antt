@@ -188,7 +188,7 @@ pub record TellsLine {A : Type 0} (format : Format ℕ A) : Type 0 where
   pub some : (v : A) × (format.fits v ≡ true)
   pub fault : (s : List ℕ) (f : Fault) → format.read s ≡ Err f → IsBadAt format s f.left
 
--- the place where so many bytes are left is in the first line
+-- the place where `left` bytes are left is in the first line
 pub record IsInFront (s : List ℕ) (left : ℕ) : Type 0 where
   pub part : List ℕ
   pub place : List ℕ

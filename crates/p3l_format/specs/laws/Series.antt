@@ -11,7 +11,7 @@ use Rattle.p3l_format.specs.laws.Parts.{bind_ok, ok_is, both_true, first_true, s
 use Rattle.p3l_format.specs.laws.Formats.{lawful_from, joined}
 use Rattle.p3l_format.specs.laws.Text.{after_again, after_is, taken_before}
 
--- what the laws of such values ask
+-- what the laws of such values need
 pub record IsSeries {P A : Type 0} (fine : List ℕ → Bool) (item : P → Format ℕ A) (stop : List ℕ) : Type 0 where
   pub items : (p : P) → IsLawfulBefore fine (item p)
   -- what follows an item is fine

@@ -1,5 +1,5 @@
 -- The tokens that Tail holds. Where one has the number n, the one that Tail picks has this number,
--- and the others stay as they stand (`found`).
+-- and the others stay as they are (`found`).
 -- Where none has it, there is none among the numbered tokens (`not_found`).
 use Rattle.std.proofs.Common.{◌≡◌, ℕ, inl, inr, ◌||◌, cond, nat_eq, true, false, List, [], ◌∷◌, ◌++◌, map, sym, ap, ◌∙◌, eqb-true, eq-eqb}
 use Rattle.std.proofs.lemmas.Bool.{cases_Bool, cond-true, cond-false}

@@ -163,7 +163,7 @@ module _ (base : Base) (s : State) where
       (around_push base s _ (base.chan + 3) _ (mine base 3 (omega arith))
       (around_push base s s base.output _ mine_out (around_refl base s)))
 
--- the firings that are due, from the lengths and the numbers
+-- the firings that are left, from the lengths and the numbers
 unfoldable total : ℕ → ℕ → ℕ → ℕ → ℕ → ℕ → ℕ → ℕ → ℕ
 total fir f a b w g c h = fir * a + ((f * b + w) + (g + ((f + 1) * c + h)))
 

@@ -1,4 +1,4 @@
--- The root stands outside units.
+-- The root is outside units.
 use Rattle.std.proofs.Common.{refl, arith}
 use Rattle.std.specs.List.{Contains}
 use Rattle.p3l_skel.specs.declared.tree.Tree.{Tree}

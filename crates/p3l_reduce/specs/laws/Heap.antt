@@ -1,17 +1,17 @@
 -- The heap of places: m - 1 joins, then the places of m segments, where m is a power of two. `deep_from` says where
--- the levels below a place lie. Every place stands below place 1 (`reach`),
+-- the levels below a place lie. Every place is below place 1 (`reach`),
 -- and there are m - 1 joins (`join_count_is`).
 use Rattle.std.proofs.Common.{◌≡◌, ℕ, zero, suc, ◌+◌, ◌*◌, ◌/◌, ◌^◌, ◌≤◌, ◌<◌, ◌⊎◌, inl, inr, refl, sym, ◌∙◌, subst, arith}
 use Rattle.std.proofs.Math.Nat.{pow-succ'}
 use Rattle.std.proofs.lemmas.Bool.{cases_eq}
 use Rattle.std.proofs.lemmas.Nat.{pow_pos}
 
--- d levels of joins stand from place r down, and below them segments
+-- d levels of joins from place r down, and below them segments
 unfoldable pub Deep : ℕ → ℕ → ℕ → Type 0
 Deep m zero r = (m ≤ r) × (r < m + m)
 Deep m (suc d) r = (0 < r) × (r < m) × Deep m d (r + r) × Deep m d (suc (r + r))
 
--- place q stands at r, or at most d levels below it
+-- place q is at r, or at most d levels below it
 unfoldable pub Below : ℕ → ℕ → ℕ → Type 0
 Below zero r q = q ≡ r
 Below (suc d) r q = (q ≡ r) ⊎ (Below d (r + r) q ⊎ Below d (suc (r + r)) q)
@@ -47,7 +47,7 @@ grow (suc d) r q (inl e) = (inr (inl (inl (omega (arith, e)))), inr (inr (inl (o
 grow (suc d) r q (inr (inl b)) = let g = grow d (r + r) q b in (inr (inl g.0), inr (inl g.1))
 grow (suc d) r q (inr (inr b)) = let g = grow d (suc (r + r)) q b in (inr (inr g.0), inr (inr g.1))
 
--- every place of the heap stands below place 1
+-- every place of the heap is below place 1
 pub reach : (d q : ℕ) → 0 < q → q < 2 ^ suc d → Below d 1 q
 unfolding Below
 reach zero q pos low = let two : 2 ^ 1 ≡ 2 = refl in omega (arith, two, subst (λ z. q < z) two low)

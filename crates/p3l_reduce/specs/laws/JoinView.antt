@@ -102,7 +102,7 @@ pub record Joins (g : Folding) (v w : View) (q : ℕ) (x y : Token) : Type 0 whe
 
 module _ (g : Folding) (v w : View) (q : ℕ) (x y : Token) (pos : 0 < q) (low : q < g.count)
     (j : Joins g v w q x y) where
-  -- the join's own flow stays, where what stands after its two channels does
+  -- the join's own flow stays, where what comes after its two channels does
   join_here : (d : ℕ) → after_node g w d (q + q) ≡ after_node g v d (q + q) →
       after_node g w d (suc (q + q)) ≡ after_node g v d (suc (q + q)) → flow g w (suc d) q ≡ flow g v (suc d) q
   unfolding after_node pairwise

@@ -117,7 +117,7 @@ module _ (net : Net) (units : Units) (roles : ℕ → Role) (node m d len : ℕ)
   joins_are : m ≡ suc (join_count (suc d))
   joins_are = power ∙ join_count_is (suc d)
 
-  -- WHERE ITS PROCESSES STAND
+  -- WHERE ITS PROCESSES ARE
   split_stands : slice_get net.procs base.proc ≡ Some (split_proc node m base)
   unfolding AreStanding
   split_stands = placed.procs.0

@@ -137,7 +137,7 @@ folds_out node m output first t s (l ∷ ls) h =
     ap₂ (λ x y. x ∷ y) (tee_two output t (m + s) (omega arith))
     (folds_out node m output first t (suc s) ls h ∙ ap (λ z. numbers_from z (length ls)) (omega arith))
 
--- its own processes stand inside
+-- its own processes are inside
 joins_inner : (node output t q n : ℕ) → AllByRecursion (λ (p : Proc). IsInner p.kind) (join_procs node output t q n)
 unfolding join_procs
 joins_inner node output t q zero = tt
@@ -154,7 +154,7 @@ all_append : {A : Type 0} (P : A → Type 0) (xs ys : List A) → AllByRecursion
 all_append P [] ys h g = g
 all_append P (x ∷ xs) ys h g = (h.0, all_append P xs ys h.1 g)
 
--- of 2 to the power suc d segments, for a node that has so many
+-- of 2 to the power suc d segments, for a node that has as many
 module _ (tree : Tree) (node d len elem : ℕ) (workers : Option ℕ) (there : node < length tree.nodes)
     (form : (node_at tree node).form ≡ Reduce workers len elem)
     (count : IsLawfulCount (node_at tree node).form (2 ^ suc d)) (level : level_of (2 ^ suc d) ≡ suc d)
@@ -387,7 +387,7 @@ typed_at tree node segments len (suc d) is power small enough =
     (subst (IsLawfulCount (node_at tree node).form) power is.count) (level_exact 9 (suc d) small)
     (subst (λ z. z ≤ len) power enough) is.result
 
--- of so many segments, a power of two
+-- of `segments` segments, a power of two
 pub reduce_typed : (tree : Tree) (node segments len : ℕ) → IsReduceNode tree node segments len →
     IsTypedShape tree node (reduce_shape node len (level_of segments))
 reduce_typed tree node segments len is =

@@ -1,6 +1,7 @@
--- Inner parts that stand one after the other from process p and channel c on. Part v stands at ports v, is lawful and
--- means what they say (`chain_input` to `chain_lawful`), and lies between p, c and the ends (`chain_lies`).
--- A firing between p and the end is one of one part, and the others cannot tell it (`chain_fires`).
+-- Inner parts that are placed one after the other from process p and channel c on. Part v is at
+-- ports v, is lawful and means what they say (`chain_input` to `chain_lawful`), and lies between p,
+-- c and the ends (`chain_lies`). A firing between p and the end is one of one part, and the others
+-- cannot tell it (`chain_fires`).
 use Rattle.std.proofs.Common.{◌≡◌, ℕ, zero, suc, ◌≤◌, ◌<◌, inl, inr, true, List, [], ◌∷◌, length, get_or, ◌&&◌, refl, sym, ap, ap₂, ◌∙◌, subst, arith, le_refl}
 use Rattle.std.proofs.lemmas.Bool.{cases_lt, cases_eq, and_parts, and_from}
 use Rattle.p3l_firing.specs.Fire.{can_fire, fire}
@@ -27,7 +28,7 @@ module _ (net : Net) (units : Units) (roles : ℕ → Role) where
   chain_length p c [] (P ∷ Ps) h = absurd h
   chain_length p c (x ∷ xs) [] h = absurd h
 
-  -- part v stands at ports v, and is lawful
+  -- part v is at ports v, and is lawful
   pub chain_input : (p c : ℕ) (xs : List Seat) (Ps : List Part) → AreChained net units roles p c xs Ps → (v : ℕ) →
       v < length Ps → (get_or Ps v no_part).input ≡ (get_or xs v no_seat).input
   unfolding AreChained

@@ -1,5 +1,5 @@
 -- Workers between two rows of channels, and two processes before them: what a farm and a map share. `fan_of` says where
--- each worker stands, what it means, and what of its line and its firings a step leaves;
+-- each worker is placed, what it means, and what of its line and its firings a step leaves;
 -- the rest is what a part round the workers touches, reads and begins with (`around_moves` to `fan_empty`), who fires in it
 -- and when its workers are drained (`fan_fires`, `fan_drained`), and what its shape owes besides (`fan_lawful`).
 use Rattle.std.proofs.Common.{◌≡◌, ℕ, zero, suc, ◌+◌, ◌-◌, ◌*◌, ◌≤◌, ◌<◌, ◌≢◌, inl, inr, true, false, List, [], ◌++◌, map, length, get_or, replicate, refl, sym, ap, ap₂, ◌∙◌, subst, arith, le_refl}
@@ -215,7 +215,8 @@ pub record Fan (net : Net) (units : Units) (roles : ℕ → Role) (n : ℕ) (bas
       due (get_or Ps w no_part) t ≡ due (get_or Ps w no_part) s
   -- a step of the two processes
   pub alike : (s t : State) → Around base n s t → (w : ℕ) → w < n → IsAlike (get_or Ps w no_part) s t
-  -- a step of a worker keeps the two processes and the ports, each line, and what is due in each other worker
+  -- a step of a worker keeps the two processes and the ports, each line, and what work is left in
+  -- each other worker
   pub own : (s t : State) (one : OneFired Ps s t) (p : ℕ) → p < base.proc + 2 → t.own p ≡ s.own p
   pub input : (s t : State) → OneFired Ps s t → t.tokens base.input ≡ s.tokens base.input
   pub output : (s t : State) → OneFired Ps s t → t.tokens base.output ≡ s.tokens base.output

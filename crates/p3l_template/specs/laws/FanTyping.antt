@@ -103,7 +103,8 @@ fan_writes c output i n =
     let g = ap (times c) (numbers_append i n n) ∙ times_append c (numbers_from i n) (numbers_from (i + n) n) in
     omega (arith, a, b, e, f, g)
 
--- workers that take x words and give y, with so many tags more: such a shape is typed once its two processes fit there
+-- workers that take x words and give y, with `deeper` tags more: such a shape is typed once its two
+-- processes fit there
 pub fan_typed : (tree : Tree) (node n : ℕ) (first last : ProcKind) (shape : Shape) (x y deeper : ℕ) → deeper ≤ 2 →
     IsInner first → IsInner last → (node_at tree (part_at tree node 0)).ins ≡ x →
     (node_at tree (part_at tree node 0)).outs ≡ y →

@@ -1,6 +1,6 @@
 -- Channels of the net's capacity without credits. Each of n such channels has room for a token (`plain_room`).
--- Where they stand in a net from c on, each of them is empty before anything has fired (`plain_empty`).
--- Every template but the loop lays such channels alone.
+-- Where they are in a net from c on, each of them is empty before anything has fired
+-- (`plain_empty`). Every template but the loop lays such channels alone.
 use Rattle.std.proofs.Common.{◌≡◌, ℕ, zero, suc, ◌+◌, ◌≤◌, ◌<◌, [], length, get_or, replicate, refl, sym, ap, ◌∙◌, subst, arith}
 use Rattle.std.proofs.lemmas.List.{length-replicate}
 use Rattle.p3l_template.specs.Shape.{empty_chan}

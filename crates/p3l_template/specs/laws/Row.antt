@@ -1,7 +1,8 @@
--- What stands in a row: there are n numbers from c on, the one at w is c + w (`upto_length`, `upto_at`), and where
--- two lists of processes stand in a net one after the other, each of them stands there (`stands_split`); and where
--- two processes do, each of them (`stands_two`).
--- The templates use the first two for the ports of a process, reduce and linker the third for their own processes.
+-- What is in a row: there are n numbers from c on, the one at w is c + w (`upto_length`,
+-- `upto_at`), and where two lists of processes are in a net one after the other, each of them is
+-- there (`stands_split`); and where two processes do, each of them (`stands_two`). The templates
+-- use the first two for the ports of a process, reduce and linker the third for their own
+-- processes.
 use Rattle.std.proofs.Common.{◌≡◌, ℕ, zero, suc, ◌+◌, ◌<◌, List, [], ◌∷◌, ◌++◌, length, get_or, Some, slice_get, refl, ap, ◌∙◌, subst, arith}
 use Rattle.p3l_firing.specs.declared.net.Net.{Net}
 use Rattle.p3l_firing.specs.declared.process.Proc.{Proc}

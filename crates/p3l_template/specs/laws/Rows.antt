@@ -1,6 +1,6 @@
--- All that a template uses of the table of rows: where process q stands at p, p can fire and fires as the row of q's kind says
--- (`can_at`, `cannot_at`, `fire_at`). Below them, what moving a token from a to b does to each channel, and which channel has
--- room.
+-- All that a template uses of the table of rows: where process q is at p, p can fire and fires as
+-- the row of q's kind says (`can_at`, `cannot_at`, `fire_at`). Below them, what moving a token from
+-- a to b does to each channel, and which channel has room.
 use Rattle.std.proofs.Common.{◌≡◌, ℕ, ◌≢◌, Bool, true, false, not, ◌&&◌, List, [], ◌∷◌, ◌++◌, length, Some, slice_get, nat_eq, refl, sym, ap, ◌∙◌, subst, eq-eqb, ne_eqb, ◌<◌, lt-ltb}
 use Rattle.std.proofs.lemmas.Bool.{and_parts, cond-true, cond-false, not_from_false}
 use Rattle.p3l_firing.specs.declared.net.Net.{Net}

@@ -1,4 +1,5 @@
--- The typing law of run: a node of one process stands between channels of its words, and keeps the tags.
+-- The typing law of run: a node of one process is between channels of its words, and keeps the
+-- tags.
 use Rattle.std.proofs.Common.{◌≡◌, ℕ, [], refl, sym, subst, ◌∙◌, arith}
 use Rattle.p3l_skel.specs.declared.tree.Tree.{Tree}
 use Rattle.p3l_skel.specs.Tree.{node_at}

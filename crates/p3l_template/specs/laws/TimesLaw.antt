@@ -1,5 +1,6 @@
--- How often numbers stand in lists. Over an append the counts add up (`times_append`, `times_cons`); the numbers from c on, and
--- the channels of seats, are such lists (`numbers_append`, `fan_ins`, `fan_outs`).
+-- How often numbers occur in lists. Over an append the counts add up (`times_append`,
+-- `times_cons`); the numbers from c on, and the channels of seats, are such lists
+-- (`numbers_append`, `fan_ins`, `fan_outs`).
 use Rattle.std.proofs.Common.{◌≡◌, ℕ, zero, suc, ◌+◌, ◌<◌, List, [], ◌∷◌, ◌++◌, cond, refl, ap, ap₂, ◌∙◌, subst, arith}
 use Rattle.std.specs.Prelude.{◌==◌}
 use Rattle.std.specs.List.{AllByRecursion}

@@ -13,7 +13,7 @@ yes P p = (λ _. p, λ _. search rules)
 no : (P : Type 0) → (P → ⊥) → IsTrue false ↔ P
 no P never = (λ h. absurd (search rules), λ p. absurd (never p))
 
--- a node stands first below itself
+-- a node comes first below itself
 itself : (tree : Tree) (d k : ℕ) → Contains (outside_from tree d k) k
 itself tree zero k = rw outside_from-zero (Contains-head k [])
 itself tree (suc d) k =

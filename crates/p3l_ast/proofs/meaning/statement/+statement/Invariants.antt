@@ -5,7 +5,7 @@ use Rattle.p3l_ast.specs.Meaning.Statement.{loop_of, run_of}
 use Rattle.p3l_ast.proofs.Weights.{weight}
 use Rattle.p3l_ast.proofs.meaning.statement.+statement.Given as goal
 
--- a loop stands above its body, and statements above each of them
+-- a loop is above its body, and statements above each of them
 abbrev pub decreases-run_statements : goal.decreases-run_statements
 decreases-run_statements l = 3 * weight (statements l.stmts.now) + 1
 

@@ -5,7 +5,7 @@ use Rattle.p3l_stream.specs.Lines.{is_feed}
 use Rattle.p3l_stream.proofs.Feeds.{feed_after, line_by_halves}
 use Rattle.p3l_stream.proofs.buffer.Buffer.first_feed.Goals as goal
 
--- the bytes that were not searched stand after those that were
+-- the bytes that were not searched come after those that were
 after : (bytes : List ℕ) (start searched : ℕ) → start ≤ searched → drop (searched - start) (drop start bytes) ≡ drop searched bytes
 after bytes start searched order = drop-drop (searched - start) start bytes ∙ ap (λ n. drop n bytes) (omega arith)
 
