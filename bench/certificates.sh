@@ -28,12 +28,12 @@ def call(form, name, parts):
 
 
 def pipe_of_farms(count):
-    """A pipe of so many farms."""
+    """A pipe of this number of farms."""
     return MORE + call("farm", "f", ["more"]) + call("pipe", "main", ["f"] * count)
 
 
 def nested_farms(depth):
-    """A farm in a farm, so many times."""
+    """A farm in a farm, this number of times."""
     text, below = MORE, "more"
     for level in range(depth):
         name = "main" if level == depth - 1 else f"f{level}"
@@ -43,7 +43,7 @@ def nested_farms(depth):
 
 
 def deep_nesting(width):
-    """A farm of a pipe of so many farms of a pipe of so many farms."""
+    """A farm of a pipe of this number of farms, each of a pipe of as many."""
     text, below = MORE, "more"
     for level in range(2):
         text += call("farm", f"f{level}", [below]) + call("pipe", f"p{level}", [f"f{level}"] * width)
@@ -92,9 +92,9 @@ for source in sorted(glob.glob(f"{examples}/*.p3l")):
         if ended.returncode == 5:
             continue
         assert ended.returncode == 0, (words, ended)
-        told = ended.stdout.splitlines()[0]
+        head = ended.stdout.splitlines()[0]
         ended = subprocess.run([program, "verify-cert", source, "--cert", cert], capture_output=True, text=True)
-        assert ended.returncode == 0 and ended.stdout == f"certificate holds: {told}\n", (source, processors, ended)
+        assert ended.returncode == 0 and ended.stdout == f"certificate holds: {head}\n", (source, processors, ended)
         held += 1
     os.remove(cert)
 print(f"examples: {held} certificates made and verified", flush=True)

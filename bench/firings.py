@@ -4,7 +4,7 @@
     bench/firings.py PATH_OF_P3L [FIRINGS]
 
 Each network gets as many items as make about FIRINGS firings (5,000,000 if not given). Both read the same numbers from a file
-and write to /dev/null, a write a value. What is told is the time of the whole program, start and stream included.
+and write to /dev/null, a write a value. The times are those of the whole program, start and stream included.
 """
 
 import os
@@ -53,4 +53,5 @@ def main():
                 print(f"{kind} of {n}, capacity {capacity}: {fired} firings{note}: {1e9 * ours / fired:.0f} ns each, in C {1e9 * theirs / other:.0f} ns, ratio {ours / theirs:.1f}")
 
 
-main()
+if __name__ == "__main__":
+    main()

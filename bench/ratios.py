@@ -16,7 +16,6 @@ import os
 import subprocess
 import sys
 import tempfile
-import time
 
 TRIES = 5
 ONE = "seq main in(int x) out(int y) ${ y = x * 3 + 1; }$ end seq\n"
@@ -48,24 +47,24 @@ class Bench:
             it.write(text)
         return path
 
-    def seconds(self, words, items=""):
-        """The least time of some tries."""
-        source = self.file("items", items)
-        times = []
-        for _ in range(TRIES):
-            with open(source) as stream:
-                began = time.monotonic()
-                subprocess.run([self.program, *words], stdin=stream, stdout=subprocess.DEVNULL, check=True)
-                times.append(time.monotonic() - began)
-        return min(times)
-
-    def kilobytes(self, words, items):
-        """The most memory that it held."""
+    def used(self, words, items):
+        """What a run with status 0 used of the machine."""
         with open(self.file("items", items)) as stream:
             child = subprocess.Popen([self.program, *words], stdin=stream, stdout=subprocess.DEVNULL)
             _, status, used = os.wait4(child.pid, 0)
             child.returncode = os.waitstatus_to_exitcode(status)
-        return used.ru_maxrss
+        if child.returncode:
+            sys.exit(f"{words} ended with {child.returncode}")
+        return used
+
+    def seconds(self, words, items=""):
+        """The least time of the processor of some tries: what else the machine does counts for little."""
+        tries = [self.used(words, items) for _ in range(TRIES)]
+        return min(used.ru_utime + used.ru_stime for used in tries)
+
+    def kilobytes(self, words, items):
+        """The most memory that it held."""
+        return self.used(words, items).ru_maxrss
 
     def run(self, text, items, capacity=4):
         path = self.file("m.p3l", text)
@@ -78,7 +77,7 @@ class Bench:
 def main():
     with tempfile.TemporaryDirectory() as folder:
         bench = Bench(os.path.abspath(sys.argv[1]), folder)
-        words = 200_000
+        words = 2_000_000
         start = bench.run(ONE, "")
         each = bench.run(ONE, "7\n" * words) - start
         hundred = bench.run(WIDE, ("7 " * 99 + "7\n") * (words // 100)) - start

@@ -42,7 +42,7 @@ def timed(words, source):
 
 
 def memory_of(words, source):
-    """The most kilobytes that it holds, told by the system when all but a pipe's length of the input is read."""
+    """The most kilobytes that it holds, reported by the system when all but a pipe's length of the input is read."""
     with open(os.devnull, "w") as sink:
         child = subprocess.Popen(words, stdin=subprocess.PIPE, stdout=sink)
         child.stdin.write(open(source, "rb").read())

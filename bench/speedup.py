@@ -4,14 +4,20 @@
     bench/speedup.py PATH PROGRAM COSTS ITEMS [PICTURE]
 
 PATH is the path of p3l, PROGRAM a program, COSTS its cost file and ITEMS a file of items. For 1 to 512 processors, by steps that
-grow, it simulates the run and notes its finish and how much of that the busiest process works. Beside them stands the least finish
-that the model knows: the service time of the chosen counts, once for each item. Processors that are too few for the program have
+grow, it simulates the run and notes its finish and how much of that the busiest process works. Beside them is the finish
+that the model expects: the service time of the chosen counts, once for each item. Processors that are too few for the program have
 no row. With matplotlib on the machine and a PICTURE named, both are drawn there as SVG; the table is written in any case.
 """
 
+import pathlib
 import re
 import subprocess
 import sys
+
+try:
+    from matplotlib import pyplot, ticker
+except ImportError:
+    pyplot = None
 
 PROCESSORS = sorted({round(2 ** (step / 4)) for step in range(0, 37)})
 TIMES = re.compile(r"time: items (\d+), fired \d+, finish (\d+), busiest \d+ (\d+)")
@@ -44,21 +50,25 @@ def row(program, words, items, processors):
 
 def draw(rows, name, path):
     """The two curves over the processors, as an SVG."""
-    try:
-        from matplotlib import pyplot
-    except ImportError:
-        sys.exit("speedup: there is no matplotlib on this machine, so nothing is drawn")
-    pyplot.rcParams["svg.hashsalt"] = "p3l"
-    figure, (above, below) = pyplot.subplots(2, sharex=True, figsize=(7, 6))
+    pyplot.rcParams.update({"svg.hashsalt": "p3l", "svg.fonttype": "none", "font.size": 9})
+    figure, (above, below) = pyplot.subplots(2, sharex=True, figsize=(7, 5), height_ratios=(2, 1), layout="constrained")
     processors = list(rows)
-    above.loglog(processors, [rows[p][1] for p in processors], "o-", label="finish, simulated")
+    above.loglog(processors, [rows[p][1] for p in processors], "o-", markersize=4, label="finish, by p3l time")
     above.loglog(processors, [rows[p][3] for p in processors], "--", label="items times the model's service time")
     above.set_ylabel("ticks")
+    above.yaxis.set_major_locator(ticker.LogLocator(subs=(1, 2, 5)))
+    above.yaxis.set_minor_locator(ticker.NullLocator())
+    above.yaxis.set_major_formatter("{x:,.0f}")
     above.legend()
-    below.semilogx(processors, [100 * rows[p][2] for p in processors], "o-")
-    below.set_ylabel("% of the finish that the busiest works")
+    below.semilogx(processors, [100 * rows[p][2] for p in processors], "o-", markersize=4)
+    below.set_ylabel("busiest process,\n% of the finish")
     below.set_xlabel("processors")
+    below.set_xticks([p for p in (1, 2, 4, 8, 16, 32, 64, 128, 256, 512) if p >= processors[0]])
+    below.xaxis.set_major_formatter("{x:.0f}")
+    below.minorticks_off()
     below.set_ylim(0, 105)
+    for axes in (above, below):
+        axes.grid(alpha=0.3)
     figure.suptitle(name)
     figure.savefig(path, format="svg", metadata={"Date": None})
 
@@ -75,8 +85,10 @@ def main(words):
             rows[processors] = found
             used, finish, share, model = found
             print(f"{processors:>10} {used:>5} {finish:>11} {100 * share:>7.1f}% {model:>16}", flush=True)
+    if len(words) == 5 and pyplot is None:
+        sys.exit("speedup: this Python has no matplotlib, so nothing is drawn")
     if len(words) == 5:
-        draw(rows, source, words[4])
+        draw(rows, pathlib.Path(source).name, words[4])
 
 
 if __name__ == "__main__":

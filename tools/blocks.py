@@ -24,10 +24,10 @@ NUMBER = re.compile(r"\| (\d+) \| \w+ (?=\|)")
 
 
 class Command:
-    """A command of a session, with the lines that it stands on and those that are said to come of it."""
+    """A command of a session, with the lines that show it and those that it is expected to write."""
 
     def __init__(self, indent, line):
-        self.indent, self.shown, self.text, self.told = indent, [line], [line[len(indent) + 2 :]], []
+        self.indent, self.shown, self.text, self.expected = indent, [line], [line[len(indent) + 2 :]], []
 
 
 def pieces_of(text):
@@ -41,11 +41,11 @@ def pieces_of(text):
         if body is not None and body.startswith("$ ") and not fence:
             command = Command(indent, line)
             pieces.append(command)
-        elif command and not fence and body is not None and (body == ">" or body.startswith("> ")) and not command.told:
+        elif command and not fence and body is not None and (body == ">" or body.startswith("> ")) and not command.expected:
             command.shown.append(line)
             command.text.append(body[2:])
         elif command and not fence and body is not None:
-            command.told.append(body)
+            command.expected.append(body)
         else:
             command = None
             pieces.append(line)
@@ -70,22 +70,22 @@ def lines_of(output):
 
 
 def compare(name, text, program):
-    """The text with what its commands wrote in the place of what it says; tells each that differs."""
+    """The text with what its commands wrote in the place of what it says; prints each that differs."""
     pieces = pieces_of(text)
     commands = [it for it in pieces if isinstance(it, Command)]
     wrong = 0
     for command, output in zip(commands, run_all(commands, program) if commands else []):
         wrote = lines_of(output)
-        if wrote != command.told:
+        if wrote != command.expected:
             wrong += 1
             print(f"blocks: {name}: {command.text[0]}")
-            print("\n".join(f"  - {line}" for line in command.told))
+            print("\n".join(f"  - {line}" for line in command.expected))
             print("\n".join(f"  + {line}" for line in wrote))
-        command.told = wrote
+        command.expected = wrote
     lines = []
     for it in pieces:
         if isinstance(it, Command):
-            lines += it.shown + [it.indent + line for line in it.told]
+            lines += it.shown + [it.indent + line for line in it.expected]
         else:
             lines.append(it)
     return "\n".join(lines), len(commands), wrong

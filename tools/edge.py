@@ -16,6 +16,7 @@ import signal
 import subprocess
 import sys
 import tempfile
+import time
 
 DOUBLE = b"seq main in(int x) out(int y)\n${ y = x * 2 + 1; }$\nend seq\n"
 DOUBLE_TEXT = b"seq main in(int x) out(int y)\n${\n  y = x * 2 + 1;\n}$\nend seq\n"
@@ -217,24 +218,37 @@ def try_left(edge):
 
 
 def calls_of(child, which):
-    """How many calls of the system a program has made: `syscr` that read, `syscw` that write."""
-    with open(f"/proc/{child.pid}/io") as told:
-        return int(next(line for line in told if line.startswith(which)).split()[1])
+    """How many calls of the system a program that waits for input has made: `syscr` that read, `syscw` that write."""
+    ends = time.monotonic() + SECONDS
+    while state_of(child) != "S" and time.monotonic() < ends:
+        time.sleep(0.01)
+    with open(f"/proc/{child.pid}/io") as counts:
+        return int(next(line for line in counts if line.startswith(which)).split()[1])
+
+
+def state_of(child):
+    """The letter of a process's state: S where it sleeps, as in a call that reads."""
+    with open(f"/proc/{child.pid}/stat") as fields:
+        return fields.read().rpartition(")")[2].split()[0]
 
 
 def try_calls(edge):
-    """A file of 1 MiB is read by at most 100 calls, and the results that items given at once have are written by one."""
+    """A file of 1 MiB is read by at most 100 calls; items given at once are read by one, and their results written by one."""
+    if not os.access("/proc/self/io", os.R_OK):
+        print("edge: this system doesn't count calls, so they aren't compared")
+        return
     child = edge.start(["run", "wide.p3l", *RUN[2:]], stdin=subprocess.PIPE, stdout=subprocess.PIPE)
     # A result comes out once the source's inbox holds the item after the next one.
     child.stdin.write(b"1\n2\n3\n")
     child.stdin.flush()
     first = child.stdout.readline()
     edge.expect("few calls for a file", (first, calls_of(child, "syscr") <= 100), (b"3\n", True))
-    before = calls_of(child, "syscw")
+    before = [calls_of(child, which) for which in ("syscr", "syscw")]
     child.stdin.write(b"20\n300\n4000\n")
     child.stdin.flush()
     lines = [child.stdout.readline() for _ in range(3)]
-    edge.expect("a call for what comes at once", (lines, calls_of(child, "syscw") - before), ([b"5\n", b"7\n", b"41\n"], 1))
+    made = [calls_of(child, which) - was for which, was in zip(("syscr", "syscw"), before)]
+    edge.expect("a call for what comes at once", (lines, made), ([b"5\n", b"7\n", b"41\n"], [1, 1]))
     child.communicate(timeout=SECONDS)
 
 

@@ -25,12 +25,12 @@ def text_of(literal):
 
 def main():
     source = (ROOT / "crates/p3l_program_tests/src/examples/texts.rt").read_bytes().decode()
-    told = {}
+    tested = {}
     for name, fields in EXAMPLE.findall(source):
         for field, literal in FIELD.findall(fields):
-            told[f"{name.lower()}.{FIELDS[field]}"] = text_of(literal).encode()
+            tested[f"{name.lower()}.{FIELDS[field]}"] = text_of(literal).encode()
     held = {file.name: file.read_bytes() for file in (ROOT / "examples").iterdir()}
-    wrong = sorted(name for name in told.keys() | held.keys() if told.get(name) != held.get(name))
+    wrong = sorted(name for name in tested.keys() | held.keys() if tested.get(name) != held.get(name))
     for name in wrong:
         print(f"examples_same: {name} differs")
     if wrong or not held:

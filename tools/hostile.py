@@ -18,8 +18,10 @@ import tempfile
 import time
 
 PROGRAM = b"seq f in(int x) out(int y) ${ y = x + 1; }$ end seq seq g in(int x) out(int y) ${ y = x * 3; }$ end seq farm w in(int x) out(int y) g in(x) out(y) end farm pipe main in(int x) out(int z) f in(x) out(int y) w in(y) out(z) end pipe"
+REDUCE = b"seq f in(int x, int y) out(int z) ${ z = x - y; }$ end seq reduce main in(int a[4]) out(int s) f in(a[*i]) out(s) end reduce"
 COSTS = b"setup = 0\nword = 0\n[seq]\nf = 10\ng = 60\n"
 STREAM = b"1\n-2 \n\n30\t\r\n4"
+LISTS = b"1 -2 3 4\n\n5 6\t 7 8"
 PICKS = b"0 2 0 1 3 4 5 6 1 2 0 0 1 7 3 2 1\n"
 PROCESSORS = ["--processors", "4"]
 MIB = 1 << 20
@@ -59,7 +61,7 @@ def run(binary, folder, words, stream):
 
 def valid_files(binary, folder):
     """Writes the valid files, and has p3l make those that it makes."""
-    for name, data in [("m.p3l", PROGRAM), ("costs", COSTS), ("picks", PICKS)]:
+    for name, data in [("m.p3l", PROGRAM), ("reduce.p3l", REDUCE), ("costs", COSTS), ("picks", PICKS)]:
         with open(f"{folder}/{name}", "wb") as it:
             it.write(data)
     makes = {
@@ -82,12 +84,15 @@ def cases(made):
     costs = ["--costs", "costs"]
     yield Case("source", ["check", "m.p3l"], "m.p3l", PROGRAM, MIB, {0, 3, 9, 11})
     yield Case("source, run", ["run", "m.p3l", *PROCESSORS], "m.p3l", PROGRAM, MIB, {0, 3, 5, 6, 7, 9, 11})
-    yield Case("source, scan", ["scan", "m.p3l", "--segments", "1"], "m.p3l", PROGRAM, MIB, {3, 9, 11, 15})
+    yield Case("source, scan", ["scan", "reduce.p3l", "--segments", "1"], "reduce.p3l", REDUCE, MIB, {0, 3, 6, 9, 11, 15})
+    yield Case("source, graph", ["graph", "m.p3l", *PROCESSORS], "m.p3l", PROGRAM, MIB, {0, 3, 5, 9, 11})
     yield Case("source, fmt", ["fmt", "m.p3l"], "m.p3l", PROGRAM, MIB, {0, 3, 9, 11})
     yield Case("costs", ["explain", "m.p3l", *PROCESSORS, *costs], "costs", COSTS, MIB, {0, 4, 9, 11})
     yield Case("source, rewrite", ["rewrite", "m.p3l", *PROCESSORS], "m.p3l", PROGRAM, MIB, {0, 3, 5, 9, 11})
     yield Case("picks", ["run", "m.p3l", *PROCESSORS, "--schedule", "file:picks"], "picks", PICKS, 64 * MIB, {0, 1, 9, 11, 12})
     yield Case("stream", ["run", "m.p3l", *PROCESSORS], None, STREAM, 64 * MIB, {0, 6, 7, 11})
+    yield Case("stream, time", ["time", "m.p3l", *PROCESSORS], None, STREAM, 64 * MIB, {0, 6, 7, 11})
+    yield Case("stream, scan", ["scan", "reduce.p3l", "--segments", "2"], None, LISTS, 64 * MIB, {0, 6, 7, 11})
     yield Case("source, profile", ["profile", "m.p3l"], "m.p3l", PROGRAM, MIB, {0, 3, 6, 7, 9, 11})
     yield Case("stream, profile", ["profile", "m.p3l"], None, STREAM, 64 * MIB, {0, 6, 7, 11})
     if "cert" in made:
@@ -158,7 +163,7 @@ def main():
                     it.write(case.valid)
     print(f"tried {tried}, without a named answer {wrong}")
     for name, slowest, row in table:
-        print(f"{name:12} slowest {slowest[1]:.2f} s ({slowest[0]}); " + ", ".join(f"{length} bytes {seconds:.2f} s" for length, seconds in row))
+        print(f"{name:15} slowest {slowest[1]:.2f} s ({slowest[0]}); " + ", ".join(f"{length} bytes {seconds:.2f} s" for length, seconds in row))
     return int(wrong > 0)
 
 

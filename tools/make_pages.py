@@ -2,10 +2,10 @@
 """The man page and the completions of bash, zsh and fish, made from the pages of the program's help.
 
     tools/make_pages.py PREFIX      writes them under PREFIX/share
-    tools/make_pages.py --check     says whether each names every command and option of docs/COMMANDS.md, and whether every
-                                    command and number of docs/COMMANDS.md and of the sources has its page
+    tools/make_pages.py --check     says whether each names every command and option of docs/COMMANDS.md, and whether the
+                                    commands and numbers of docs/COMMANDS.md, of the pages and of the sources are the same
 
-The pages stand in crates/p3l_help/src. Of a command's page the first line is its usage, and a line of two spaces and a word tells that word.
+The pages are in crates/p3l_help/src. Of a command's page the first line is its usage, and a line of two spaces and a word describes that word.
 """
 
 import pathlib
@@ -21,6 +21,9 @@ PAGE = re.compile(r'topic: "([^"]*)",\s*text: (?:(\w+)|"((?:[^"\\]|\\.)*)"),', r
 WORD = re.compile(r"^  (--[a-z]+|[A-Z]+)(?: ([A-Z]+))? {2,}(.*)$")
 LISTED = re.compile(r"^  ([a-z-]+)[^ ]*.*?  +([a-z].*)$", re.M)
 FILES = ("FILE", "PROGRAM", "IMAGE", "PREFIX")
+# How the sources write a number of refusal with its name: as two rows of matches, or within the text of a line.
+NUMBERED = re.compile(r"\b(?:Line)?Fault::(\w+) => (\d+),")
+PRINTED = re.compile(r'"(?:\w+: )?(\d+) ([A-Z]\w+)')
 PLACES = {
     "man": "man/man1/p3l.1",
     "bash": "bash-completion/completions/p3l",
@@ -45,7 +48,7 @@ def pages_in(name, texts):
 
 
 class Word:
-    """A word of a command: an option, or a value that stands alone."""
+    """A word of a command: an option, or a value of its own."""
 
     def __init__(self, name, value, text):
         self.name, self.value, self.text = name, value, text
@@ -54,7 +57,7 @@ class Word:
 
 
 class Command:
-    """A command, as its page tells it."""
+    """A command, as its page describes it."""
 
     def __init__(self, name, summary, page):
         self.name, self.summary, self.page = name, summary, page
@@ -100,18 +103,20 @@ def man_page(pages):
 def bash_completion(pages):
     names = " ".join(command.name for command in pages.commands)
     out = ["# Completions of p3l for bash.", "_p3l() {", "  local word=${COMP_WORDS[COMP_CWORD]} before=${COMP_WORDS[COMP_CWORD - 1]} words="]
-    out += ["  case $before in", "    --schedule) COMPREPLY=($(compgen -W 'rr seed: file:' -- \"$word\")); return ;;"]
+    out += ["  case $before in", "    --schedule)", "      compopt -o nospace 2>/dev/null"]
+    out += ["      COMPREPLY=($(compgen -W 'rr seed: file:' -- \"$word\"))", "      return ;;"]
     options = {option.name: option for command in pages.commands for option in command.options()}.values()
     files = "|".join(sorted(option.name for option in options if option.takes_file))
     others = "|".join(sorted(option.name for option in options if option.value and not option.takes_file and option.value != "S"))
-    out += [f"    {files}) COMPREPLY=($(compgen -f -- \"$word\")); return ;;", f"    {others}) return ;;", "  esac"]
+    out += [f"    {files})", "      compopt -o filenames 2>/dev/null", "      COMPREPLY=($(compgen -f -- \"$word\"))", "      return ;;"]
+    out += [f"    {others}) return ;;", "  esac"]
     out += ["  if ((COMP_CWORD == 1)); then", f"    words='{names} help --help --version'", "  else", "    case ${COMP_WORDS[1]} in"]
     for command in pages.commands:
         listed = " ".join([*(option.name for option in command.options()), "--help"])
         out += [f"      {command.name}) words='{listed}' ;;"]
     out += [f"      help) words='{names} {' '.join(pages.topics)}' ;;", "    esac", "  fi"]
     out += ['  COMPREPLY=($(compgen -W "$words" -- "$word"))', "  if [[ $word != -* && COMP_CWORD -gt 1 && ${COMP_WORDS[1]} != help ]]; then"]
-    out += ['    COMPREPLY+=($(compgen -f -- "$word"))', "  fi", "}", "complete -F _p3l p3l"]
+    out += ["    compopt -o filenames 2>/dev/null", '    COMPREPLY+=($(compgen -f -- "$word"))', "  fi", "}", "complete -F _p3l p3l"]
     return "\n".join(out) + "\n"
 
 
@@ -129,13 +134,13 @@ def zsh_completion(pages):
         rows = []
         for word in command.words:
             action = "_files" if word.takes_file else "(rr seed\\: file\\:)" if word.value == "S" else " "
-            told = quoted(re.sub(r"([\[\]:])", r"\\\1", word.text))
+            text = quoted(re.sub(r"([\[\]:])", r"\\\1", word.text))
             if not word.is_option:
                 rows.append(f"'1:{word.name}:{action}'")
             elif word.value:
-                rows.append(f"'{word.name}[{told}]:{word.value}:{action}'")
+                rows.append(f"'{word.name}[{text}]:{word.value}:{action}'")
             else:
-                rows.append(f"'{word.name}[{told}]'")
+                rows.append(f"'{word.name}[{text}]'")
         out += [f"    {command.name})", "      _arguments " + " \\\n        ".join([*rows, "'--help[say what the command does]'"]), "      ;;"]
     names = " ".join([*(command.name for command in pages.commands), *pages.topics])
     out += ["    help)", f"      _values topic {names}", "      ;;", "  esac", "}", '_p3l "$@"']
@@ -145,6 +150,7 @@ def zsh_completion(pages):
 def fish_completion(pages):
     out = ["# Completions of p3l for fish.", "complete -c p3l -n __fish_use_subcommand -f -l help -d 'list the commands'"]
     out += ["complete -c p3l -n __fish_use_subcommand -f -l version -d 'say the version'"]
+    out += ["complete -c p3l -n 'not __fish_use_subcommand' -f -l help -d 'say what the command does'"]
     for command in pages.commands:
         out.append(f"complete -c p3l -n __fish_use_subcommand -f -a {command.name} -d '{quoted(command.summary)}'")
         for option in command.options():
@@ -173,18 +179,32 @@ def documented():
     return commands, {number: name for number, name in re.findall(r"\| (\d+) \| (\w+) (?=\|)", table)}
 
 
+def refusals():
+    """Each number of refusal that the program can print, with its name, as the sources of its lines have them."""
+    found = {}
+    for file in (ROOT / "crates/p3l_ast/src/refusal.rt", *(ROOT / "crates/p3l_report/src").glob("*.rt")):
+        text = file.read_text()
+        for fault, number in NUMBERED.findall(text):
+            name = re.search(rf'Fault::{fault} => "(\w+)"', text)
+            found[number] = name[1] if name else ""
+        found.update(PRINTED.findall(text))
+    return dict(sorted(found.items(), key=lambda pair: int(pair[0])))
+
+
 def faults_of_pages(pages):
     """Whatever one of the documents and the sources has and the pages lack, or the other way round."""
     commands, numbers = documented()
-    told = {command.name: sorted(option.name for option in command.options()) for command in pages.commands}
-    if told != {name: sorted(options) for name, options in commands.items()}:
-        yield f"commands and options: {told} in the pages, {commands} in docs/COMMANDS.md"
+    paged = {command.name: sorted(option.name for option in command.options()) for command in pages.commands}
+    if paged != {name: sorted(options) for name, options in commands.items()}:
+        yield f"commands and options: {paged} in the pages, {commands} in docs/COMMANDS.md"
     parsed = set(re.findall(r'is_word\(word, "([a-z-]+)"\)', (ROOT / "crates/p3l_opts/src/verb.rt").read_text()))
-    if parsed != set(told):
-        yield f"commands: {sorted(parsed)} in p3l_opts, {sorted(told)} in the pages"
+    if parsed != set(paged):
+        yield f"commands: {sorted(parsed)} in p3l_opts, {sorted(paged)} in the pages"
     titles = dict(page.split("\n")[0].split(" ", 1) for page in pages.numbers.values())
-    if titles != numbers or list(titles) != list(pages.numbers):
-        yield f"numbers: {titles} in the pages, {numbers} in docs/COMMANDS.md"
+    yield from (f"number: the page of {topic} begins as that of {title}" for topic, title in zip(pages.numbers, titles) if topic != title)
+    for place, others in ("docs/COMMANDS.md", numbers), ("the sources of its lines", refusals()):
+        for number, name in sorted(titles.items() ^ others.items()):
+            yield f"number: {number} {name} is in {'the pages' if titles.get(number) == name else place} alone"
     yield from (f"{command.name} has no line in the list of commands" for command in pages.commands if not command.summary)
 
 

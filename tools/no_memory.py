@@ -4,7 +4,7 @@
     tools/no_memory.py PATH_OF_P3L
 
 The program is loaded with tools/refused_memory.c in front of it, which refuses the request of one number. What was written by then must
-be a front of what is written with ample memory, and no line but `no memory` may stand on standard error where the status is 11.
+be a front of what is written with ample memory, and standard error has no line but `no memory` where the status is 11.
 """
 
 import os

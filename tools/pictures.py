@@ -3,7 +3,7 @@
 
     tools/pictures.py P3L
 
-P3L is the path of the program. Each picture is that of the network that `run` runs for the number of processors that stands
+P3L is the path of the program. Each picture is that of the network that `run` runs for the number of processors
 beside the example here. Graphviz's `dot` has to be on the path.
 """
 

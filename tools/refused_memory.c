@@ -7,14 +7,14 @@
 #include <stdlib.h>
 #include <string.h>
 
-static long asked, refuse = -1;
+static long requested, refuse = -1;
 
 static int is_refused(void) {
     if (refuse < 0) {
         const char *number = getenv("REFUSE");
         refuse = number ? atol(number) : 0;
     }
-    return ++asked == refuse;
+    return ++requested == refuse;
 }
 
 extern void *__libc_malloc(size_t);
@@ -38,11 +38,11 @@ int posix_memalign(void **at, size_t to, size_t size) {
     return *at ? 0 : ENOMEM;
 }
 
-__attribute__((destructor)) static void tell(void) {
+__attribute__((destructor)) static void report(void) {
     const char *name = getenv("COUNT");
     FILE *file = name ? fopen(name, "w") : NULL;
     if (file) {
-        fprintf(file, "%ld\n", asked);
+        fprintf(file, "%ld\n", requested);
         fclose(file);
     }
 }

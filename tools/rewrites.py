@@ -4,7 +4,7 @@
     tools/rewrites.py PATH [COUNT]
 
 PATH is the program that was built. For each program of examples/ with its input, and for COUNT generated ones (200 if not given) with
-their costs, on 512 processors: what `rewrite` writes is its own canonical text; `run` of it writes, says and ends as `run` of the program
+their costs, on 512 processors: what `rewrite` writes is its own canonical text; `run` of it writes and ends as `run` of the program
 does; and the service time that `explain` gives it is no greater.
 """
 
@@ -19,7 +19,7 @@ PROCESSORS = ["--processors", "512"]
 
 
 def call(binary, *words, stream=b""):
-    """What a command writes, says and ends with."""
+    """What a command writes on both outputs, and its status."""
     done = subprocess.run([binary, *words], input=stream, capture_output=True, timeout=120)
     return done.stdout, done.stderr, done.returncode
 
@@ -31,9 +31,9 @@ def service(binary, program, costs):
 
 def fault(binary, program, costs, stream, folder):
     """What is wrong with the program that is written for another one, and whether it is another one."""
-    text, said, status = call(binary, "rewrite", program, *PROCESSORS, *costs)
-    if status != 0 or said:
-        return f"status {status}, {said!r}", False
+    text, lines, status = call(binary, "rewrite", program, *PROCESSORS, *costs)
+    if status != 0 or lines:
+        return f"status {status}, {lines!r}", False
     written = os.path.join(folder, "rewritten.p3l")
     pathlib.Path(written).write_bytes(text)
     canonical = call(binary, "fmt", written)

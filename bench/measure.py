@@ -1,0 +1,42 @@
+"""What a run of a command costs, measured so that other work on the machine matters little.
+
+The processor time, user's and system's together, is that of the command alone; the least of several runs, with those that are
+compared in turn, leaves out most of what others do to the caches. The instructions, by valgrind, are the same each time: they are
+the measure for a difference of a few parts in a hundred, and take some fifty times as long.
+"""
+
+import os
+import re
+import subprocess
+
+COLLECTED = re.compile(rb"Collected : (\d+)")
+
+
+def seconds(words, stream):
+    """The processor time of a command that ends with 0, on this file as standard input."""
+    with open(stream, "rb") as given, open(os.devnull, "wb") as sink:
+        child = subprocess.Popen(words, stdin=given, stdout=sink, stderr=sink)
+        _, status, used = os.wait4(child.pid, 0)
+        child.returncode = os.waitstatus_to_exitcode(status)
+    if child.returncode:
+        raise SystemExit(f"status {child.returncode}: {' '.join(words)}")
+    return used.ru_utime + used.ru_stime
+
+
+def instructions(words, stream):
+    """The instructions of a command that ends with 0, on this file as standard input. Programs of `rt try` can't be counted so."""
+    counted = ["valgrind", "--tool=callgrind", "--callgrind-out-file=/dev/null", *words]
+    with open(stream, "rb") as given:
+        done = subprocess.run(counted, stdin=given, stdout=subprocess.DEVNULL, stderr=subprocess.PIPE, check=True)
+    return int(COLLECTED.search(done.stderr)[1])
+
+
+def least(commands, stream, tries=5):
+    """The least processor time of each of these commands, which are run in turn."""
+    rounds = [[seconds(words, stream) for words in commands] for _ in range(tries)]
+    return [min(times) for times in zip(*rounds)]
+
+
+def load():
+    """The processes that were ready to run in the last minute, beside the processors there are."""
+    return f"load {os.getloadavg()[0]:.1f} on {os.cpu_count()} processors"
