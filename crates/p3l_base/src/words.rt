@@ -1,15 +1,19 @@
 // Lists of 64-bit whole numbers.
 
-ghost use Rattle.std.specs.Prelude.{◌≡◌, ◌↔◌, [], ◌∷◌, ◌++◌, length, OnOk, OnErr, IsTrue};
+ghost use Rattle.std.specs.Prelude.{◌≡◌, ◌↔◌, [], ◌∷◌, ◌++◌, length, IfOk, OnOk, OnErr, IsTrue};
 
 use crate::memory::NoMemory;
+use smallvec::SmallVec;
 use std::alloc::Global;
 use std::marker::Model;
+
+/// How many words lie in the value itself; more take memory.
+const WORDS_IN_PLACE: usize = 4;
 
 /// The words of a token, which contracts see as a list of whole numbers.
 #[derive(Debug, Drop)]
 pub struct Words {
-    items: Vec<i64>,
+    items: SmallVec<i64, WORDS_IN_PLACE>,
 }
 
 impl Model for Words {
@@ -26,15 +30,36 @@ impl Words {
         ensures { result ≡ [] }
     {
         Words {
-            items: Vec::new(alloc),
+            items: SmallVec::new(alloc),
         }
     }
 
-    /// The words of a vector, without copying them.
+    /// The words of a vector, whose memory is kept where it has room for more than lie in place.
     pub fn from_vec(items: Vec<i64>) -> Words
         ensures { result ≡ items.items }
     {
-        Words { items }
+        Words {
+            items: SmallVec::from_vec(items),
+        }
+    }
+
+    /// A copy of these words, which takes memory only where more come than lie in place.
+    pub fn from_slice(alloc: Global, words: &[i64]) -> Result<Words, NoMemory>
+        ensures { IfOk result (λ copy. copy ≡ words.now) }
+    {
+        Ok(Words {
+            items: SmallVec::from_slice(alloc, words)?,
+        })
+    }
+
+    /// The words on the left followed by those on the right.
+    pub fn joined(alloc: Global, left: &[i64], right: &[i64]) -> Result<Words, NoMemory>
+        ensures { IfOk result (λ both. both ≡ left.now ++ right.now) }
+    {
+        let mut items = SmallVec::with_capacity(alloc, left.len().saturating_add(right.len()))?;
+        items.extend_from_slice(left)?;
+        items.extend_from_slice(right)?;
+        Ok(Words { items })
     }
 
     /// How many words there are.

@@ -20,21 +20,38 @@ fn look(store: &Store, ready: &mut ReadySet, r: u32)
     ready.put(r, store.is_ready(r));
 }
 
-// Looks again at the processes that read and write channel `c`.
-fn look_at_ends(store: &Store, sides: &Sides, ready: &mut ReadySet, c: u32)
+// Looks again whether process `r` is ready, unless it is `p`, of which that is known.
+fn look_beside(store: &Store, ready: &mut ReadySet, p: u32, r: u32)
+    requires sound { IsSound store.now }
+    requires there { r < length store.now.net.procs }
+    requires size { length ready.old ≡ length store.now.net.procs }
+    requires known { flag_at ready.old p ≡ ready_at store.now p }
+    ensures looked { ready.new ≡ slice_set ready.old r (ready_at store.now r) }
+    ensures known { flag_at ready.new p ≡ ready_at store.now p }
+{
+    if r != p {
+        look(store, ready, r);
+    }
+}
+
+// Looks again at the processes that read and write channel `c`, but not at `p`, of which it is known
+// whether it is ready.
+fn look_at_ends(store: &Store, sides: &Sides, ready: &mut ReadySet, p: u32, c: u32)
     requires sound { IsSound store.now }
     requires there { c < length store.now.net.chans }
     requires size { length ready.old ≡ length store.now.net.procs }
     requires sides { HasEnds store.now.net sides.now }
+    requires known { flag_at ready.old p ≡ ready_at store.now p }
     ensures size { length ready.new ≡ length store.now.net.procs }
+    ensures known { flag_at ready.new p ≡ ready_at store.now p }
     ensures agrees { (cs : List ℕ) → AgreesBut store.now ready.old (c ∷ cs)
         → AgreesBut store.now ready.new cs }
 {
-    look(store, ready, sides.writer(c));
-    look(store, ready, sides.reader(c));
+    look_beside(store, ready, p, sides.writer(c));
+    look_beside(store, ready, p, sides.reader(c));
 }
 
-/// Looks again at process `p`, and at the processes that read and write these channels.
+/// Looks again at process `p`, and at the other processes that read and write these channels.
 pub(crate) fn refresh(store: &Store, sides: &Sides, ready: &mut ReadySet, p: u32, touched: &[u32])
     requires sound { IsSound store.now }
     requires there { p < length store.now.net.procs }
@@ -48,7 +65,7 @@ pub(crate) fn refresh(store: &Store, sides: &Sides, ready: &mut ReadySet, p: u32
 {
     look(store, ready, p);
     for channel in touched {
-        look_at_ends(store, sides, ready, *channel);
+        look_at_ends(store, sides, ready, p, *channel);
     }
 }
 

@@ -26,9 +26,8 @@ fn combine<U: Units>(
     ensures combined { IfOk result (λ outcome. outcome
         ≡ item (U.tree units.now) (U.leaf units.now) op (left.now ++ right.now)) }
 {
-    let mut pair = left.to_vec(alloc)?;
-    pair.extend_from_slice(right)?;
-    units.run(alloc, op, &Words::from_vec(pair))
+    let pair = Words::joined(alloc, left, right)?;
+    units.run(alloc, op, &pair)
 }
 
 /// The folds of a first half, and then its last one combined with each fold of the second half.
@@ -78,7 +77,8 @@ pub(crate) fn scan<U: Units>(
 {
     let size = elem as usize;
     if block.len() == size {
-        return Ok(Outcome::Value(Words::from_vec(block.to_vec(alloc)?)));
+        let copy = Words::from_slice(alloc, block)?;
+        return Ok(Outcome::Value(copy));
     }
     keeps_words(units);
     let (front, back) = block.split_at(block.len() / size / 2 * size);

@@ -40,7 +40,8 @@ pub fn elements(alloc: Global, words: &Words, size: u32) -> Result<List<Words>, 
     let mut rest = words.as_slice();
     while rest.len() >= size {
         let (element, more) = rest.split_at(size);
-        list.push(Words::from_vec(element.to_vec(alloc)?))?;
+        let copy = Words::from_slice(alloc, element)?;
+        list.push(copy)?;
         rest = more;
     }
     Ok(list)

@@ -14,7 +14,7 @@ use std::alloc::Global;
 pub fn copied(alloc: Global, words: &Words) -> Result<Words, NoMemory>
     ensures { IfOk result (λ copy. copy ≡ words.now) }
 {
-    Ok(Words::from_vec(words.as_slice().to_vec(alloc)?))
+    Words::from_slice(alloc, words.as_slice())
 }
 
 /// What an operator is to be run on, of what the two halves of a fold came to: the words of the
@@ -27,9 +27,8 @@ pub fn paired(alloc: Global, left: Outcome, right: Outcome) -> Result<Outcome, N
         (Outcome::Trapped(trap), _) => Ok(Outcome::Trapped(trap)),
         (Outcome::Value(_), Outcome::Trapped(trap)) => Ok(Outcome::Trapped(trap)),
         (Outcome::Value(left), Outcome::Value(right)) => {
-            let mut both = left.as_slice().to_vec(alloc)?;
-            both.extend_from_slice(right.as_slice())?;
-            Ok(Outcome::Value(Words::from_vec(both)))
+            let both = Words::joined(alloc, left.as_slice(), right.as_slice())?;
+            Ok(Outcome::Value(both))
         }
     }
 }

@@ -17,5 +17,5 @@ pub use line::Line;
 pub use lines::Lines;
 pub use next::Next;
 pub use taken::Cutoff;
-pub use text::{item_text, text_of};
+pub use text::{Text, item_text, text_of};
 pub use word::WordFault;

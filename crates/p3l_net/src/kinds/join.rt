@@ -33,9 +33,8 @@ pub(super) fn combined_of<U: Units>(
         (Outcome::Trapped(trap), _) => Ok(Outcome::Trapped(*trap)),
         (Outcome::Value(_), Outcome::Trapped(trap)) => Ok(Outcome::Trapped(*trap)),
         (Outcome::Value(left), Outcome::Value(right)) => {
-            let mut both = left.as_slice().to_vec(alloc)?;
-            both.extend_from_slice(right.as_slice())?;
-            units.run(alloc, operator, &Words::from_vec(both))
+            let both = Words::joined(alloc, left.as_slice(), right.as_slice())?;
+            units.run(alloc, operator, &both)
         }
     }
 }

@@ -73,7 +73,7 @@ fn segment_of(
     match outcome {
         Outcome::Value(words) => {
             let part = segment(words.as_slice(), elem as usize, count, s);
-            Ok(Outcome::Value(Words::from_vec(part.to_vec(alloc)?)))
+            Ok(Outcome::Value(Words::from_slice(alloc, part)?))
         }
         Outcome::Trapped(trap) => Ok(Outcome::Trapped(*trap)),
     }

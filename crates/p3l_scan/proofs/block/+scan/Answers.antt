@@ -1,4 +1,4 @@
-use Rattle.std.proofs.Common.{◌≡◌, ◌-◌, ◌/◌, length, arith, rules, ap, ap₂, sym, ◌∙◌, subst}
+use Rattle.std.proofs.Common.{◌≡◌, ◌-◌, ◌/◌, length, arith, ap, ap₂, sym, ◌∙◌, subst}
 use Rattle.p3l_base.specs.declared.outcome.Outcome.TheVariants.{Value}
 use Rattle.p3l_skel.specs.Item.{elements, item}
 use Rattle.p3l_skel.proofs.Mapped.{if_ok-same}
@@ -13,8 +13,7 @@ pub returns-then-block-size : goal.returns-then-block-size
 returns-then-block-size g t c =
     let operator = item (g.U.Units.tree c.args.units.now) (g.U.Units.leaf c.args.units.now) c.args.op in
     let is = c.if-block-size.true in
-    let words : c.from_vec.result ≡ c.args.block.now = search rules in
-    ap Value words ∙ one-block operator c.args.elem c.args.block.now c.requires.operator.some (omega (arith, is))
+    ap Value c.in_ok-copy.ensures ∙ one-block operator c.args.elem c.args.block.now c.requires.operator.some (omega (arith, is))
 
 pub scan-requires : goal.scan-requires
 scan-requires g t c κs within =
