@@ -28,12 +28,12 @@ use Rattle.p3l_link.proofs.Carried.{root_means, root_sound}
 use Rattle.p3l_link.proofs.LinkedLaws.{fired, fired_fitting, first_fitting, net_carried, owed_bounded, run_bounded, run_begun}
 use Rattle.p3l_link.proofs.Round.{long_all}
 use Rattle.p3l_resume_laws.specs.Linked.{BothPartsAreBounded, CanResume, EveryRestCanResume, EveryResumedRunEmitsWhatIsLeft, EveryResumedRunEnds, EveryRunCanResume, EveryRunStaysBalanced, EveryStartCanResume, EveryStartIsBalanced, IsBalanced, ResumedFiringsAreBounded, left_in}
-use Rattle.p3l_resume_laws.specs.Orderly as carried
-use Rattle.p3l_resume_laws.specs.Run.{run_from}
-use Rattle.p3l_resume_laws.proofs.CutLaw.{unbroken}
-use Rattle.p3l_resume_laws.proofs.EmitsLaw.{emits}
-use Rattle.p3l_resume_laws.proofs.OrderlyLaw.{few_firings, kept_balanced, kept_run}
-use Rattle.p3l_resume_laws.proofs.PicksLaw.{made_stuck}
+use Rattle.p3l_sched.specs.resumption.Orderly as carried
+use Rattle.p3l_sched.specs.resumption.Run.{run_from}
+use Rattle.p3l_sched.proofs.CutLaw.{unbroken}
+use Rattle.p3l_sched.proofs.EmitsLaw.{emits}
+use Rattle.p3l_sched.proofs.OrderlyLaw.{few_firings, kept_balanced, kept_run}
+use Rattle.p3l_sched.proofs.PicksLaw.{made_stuck}
 
 bodies-append : (xs ys : List Token) → bodies (xs ++ ys) ≡ bodies xs ++ bodies ys
 unfolding bodies

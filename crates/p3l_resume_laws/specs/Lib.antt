@@ -1,5 +1,2 @@
-pub mod Run
-pub mod Orderly
-pub mod Picks
 pub mod Linked
 pub mod Widths

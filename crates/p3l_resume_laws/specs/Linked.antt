@@ -16,9 +16,9 @@ use Rattle.p3l_link.specs.Part.{root_part}
 use Rattle.p3l_link.specs.Whole.{tokens_in}
 use Rattle.p3l_sched.specs.declared.picker.Way.{Way}
 use Rattle.p3l_sched.specs.Course.{picks_from}
-use Rattle.p3l_resume_laws.specs.Orderly.{Emits}
-use Rattle.p3l_resume_laws.specs.Picks.{IsMade}
-use Rattle.p3l_resume_laws.specs.Run.{AreFilled, run_from}
+use Rattle.p3l_sched.specs.resumption.Orderly.{Emits}
+use Rattle.p3l_sched.specs.resumption.Picks.{IsMade}
+use Rattle.p3l_sched.specs.resumption.Run.{AreFilled, run_from}
 
 -- a run of a linked net can go on from the state: the root is orderly, every token and every item has the words of its place, and
 -- no trap was emitted

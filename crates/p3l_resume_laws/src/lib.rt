@@ -1,11 +1,7 @@
-//! Laws of runs that go on from any orderly state, as from a snapshot: what they emit, how often
-//! they fire, where they end, and that a run which was saved and resumed is the unbroken one. Each is
-//! the contract of a function that does nothing.
+//! Laws of linked nets from any state in which a run of one can be: what a resumed run emits, how often
+//! it fires, and where it ends; and how many words the channels of a typed net carry. Each is the
+//! contract of a function that does nothing.
 #![tactic(auto)]
 
 pub mod linked;
-pub mod machine;
-pub mod orderly;
-pub mod picks;
-pub mod run;
 pub mod widths;
