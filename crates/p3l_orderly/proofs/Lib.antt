@@ -3,6 +3,15 @@ pub mod SnapshotSteps
 pub mod Slots
 pub mod Rising
 pub mod WalkLaw
+pub mod WalkSteps
+pub mod LayoutSteps
+pub mod TemplatesSteps
+pub mod RootLaw
+pub mod SavedSteps
 pub mod FarmSteps
 pub mod LoopSteps
 pub mod PipeSteps
+pub mod MatchedSteps
+pub mod ReduceSteps
+pub mod GroupSteps
+pub mod MapSteps

@@ -5,5 +5,13 @@ pub mod Run
 pub mod Pipe
 pub mod Farm
 pub mod Loop
+pub mod Reduce
+pub mod Map
+pub mod Groups
 pub mod Walk
+pub mod Layout
+pub mod Walked
+pub mod Templates
+pub mod Saved
+pub mod Root
 pub mod laws

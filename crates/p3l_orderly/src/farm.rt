@@ -31,8 +31,8 @@ fn are_rising(tokens: &[Token]) -> bool
     true
 }
 
-// The lines of the workers, each without its outcomes, whose in channels are those from `chan` on.
-fn all_lines(
+/// The lines of the workers, each without its outcomes, whose in channels are those from `chan` on.
+pub(crate) fn all_lines(
     alloc: Global,
     snapshot: &Snapshot,
     chan: u32,

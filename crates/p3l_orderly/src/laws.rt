@@ -12,12 +12,16 @@ ghost use Rattle.p3l_template.specs.Units.{Units};
 ghost use Rattle.p3l_orderly.specs.Walk.{AreFound, node_found};
 ghost use Rattle.p3l_farm.specs.Farm.{farm_shape};
 ghost use Rattle.p3l_loop.specs.Loop.{loop_shape};
+ghost use Rattle.p3l_reduce.specs.Reduce.{reduce_shape};
+ghost use Rattle.p3l_map.specs.MapShape.{map_shape};
 ghost use Rattle.p3l_template.specs.Pipe.{pipe_shape};
 ghost use Rattle.p3l_template.specs.Run.{run_shape};
 ghost use Rattle.p3l_orderly.specs.Farm.{farm_finds};
 ghost use Rattle.p3l_orderly.specs.Finding.{Finds, IsFoundShape, finding_of};
 ghost use Rattle.p3l_orderly.specs.Loop.{loop_finds};
+ghost use Rattle.p3l_orderly.specs.Map.{map_finds};
 ghost use Rattle.p3l_orderly.specs.Pipe.{pipe_finds};
+ghost use Rattle.p3l_orderly.specs.Reduce.{reduce_finds};
 ghost use Rattle.p3l_orderly.specs.Run.{run_finds};
 
 /// What is found in a node by the tags alone is what its part is, whatever the units make of words.
@@ -26,6 +30,9 @@ pub fn what_is_found_is_what_the_part_is()
     ensures pipe { (k : ℕ) → IsFoundShape (pipe_shape k) pipe_finds }
     ensures farm { (node n : ℕ) → IsFoundShape (farm_shape node n) (farm_finds n) }
     ensures loop_ { (node tokens : ℕ) → IsFoundShape (loop_shape node tokens) (loop_finds node tokens) }
+    ensures reduce { (node len level : ℕ)
+        → IsFoundShape (reduce_shape node len level) (reduce_finds level) }
+    ensures map { (node n : ℕ) → IsFoundShape (map_shape node n) (map_finds node n) }
 {}
 
 /// What is found in a tree, node by node, is what the root's part is in the state; so whether a state

@@ -1,6 +1,8 @@
 use Rattle.p3l_orderly.specs.laws.FarmLaw.{farm_found}
 use Rattle.p3l_orderly.specs.laws.LoopLaw.{loop_found}
+use Rattle.p3l_orderly.specs.laws.MapLaw.{map_found}
 use Rattle.p3l_orderly.specs.laws.PipeLaw.{pipe_found}
+use Rattle.p3l_orderly.specs.laws.ReduceLaw.{reduce_found}
 use Rattle.p3l_orderly.specs.laws.RunLaw.{run_found}
 use Rattle.p3l_orderly.proofs.laws.what_is_found_is_what_the_part_is.Goals as goal
 
@@ -15,3 +17,9 @@ returns-clause-farm c = farm_found
 
 pub returns-clause-loop_ : goal.returns-clause-loop_
 returns-clause-loop_ c = loop_found
+
+pub returns-clause-reduce : goal.returns-clause-reduce
+returns-clause-reduce c = reduce_found
+
+pub returns-clause-map : goal.returns-clause-map
+returns-clause-map c = map_found

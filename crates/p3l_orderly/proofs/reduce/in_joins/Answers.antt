@@ -1,0 +1,28 @@
+use Rattle.std.proofs.Common.{◌≡◌, IfOk, subst, sym, ap, ◌∙◌, arith}
+use Rattle.p3l_orderly.specs.Finding.{if_orderly}
+use Rattle.p3l_orderly.specs.Reduce.{seen_of, found_by}
+use Rattle.p3l_orderly.specs.Snapshot.{state_of}
+use Rattle.p3l_orderly.proofs.ReduceSteps.{power_small, first_place, none_sent, found_whole}
+use Rattle.p3l_orderly.proofs.reduce.in_joins.Goals as goal
+
+pub to_come-requires-clause-count : goal.to_come-requires-clause-count
+to_come-requires-clause-count c = omega (arith, c.power_of_two-count.ensures, power_small c.args.level c.requires.level)
+
+pub to_come-requires-clause-places : goal.to_come-requires-clause-places
+to_come-requires-clause-places c = first_place c.power_of_two-count.result c.args.level c.power_of_two-count.ensures
+
+pub returns-then-not-is_at_segment : goal.returns-then-not-is_at_segment
+returns-then-not-is_at_segment c =
+    let s = state_of c.args.snapshot.now in
+    let base = c.args.place.now in
+    none_sent c.power_of_two-count.result base s c.args.level (sym c.is_at_segment.ensures ∙ c.if-not-is_at_segment.true)
+    ∙ ap (λ m. if_orderly (found_by m c.args.level (seen_of base m s))) c.power_of_two-count.ensures
+
+pub returns : goal.returns
+returns c =
+    let s = state_of c.args.snapshot.now in
+    let base = c.args.place.now in
+    subst (λ z. IfOk c.to_come.result (λ pending. pending ≡ z))
+    (found_whole c.power_of_two-count.result base s c.args.level (sym c.is_at_segment.ensures ∙ c.if-not-is_at_segment.false)
+    ∙ ap (λ m. if_orderly (found_by m c.args.level (seen_of base m s))) c.power_of_two-count.ensures)
+    c.to_come.ensures

@@ -1,0 +1,13 @@
+use Rattle.p3l_skel.specs.Counts.{count_of}
+use Rattle.p3l_orderly.specs.Snapshot.{state_of}
+use Rattle.p3l_orderly.proofs.WalkSteps.{IsLeft}
+use Rattle.p3l_orderly.proofs.walk.+find_in.Given as goal
+
+abbrev pub decreases-find_in : goal.decreases-find_in
+decreases-find_in g l = l.levels
+
+-- with what is found of the parts that are left, what was found is all
+abbrev pub invariant-loop-part : goal.invariant-loop-part
+invariant-loop-part g l =
+    IsLeft (g.T.Table.finds l.table l.tree (count_of l.tree l.counts.list)) l.tree (count_of l.tree l.counts.list) l.levels l.number l.place
+    (state_of l.snapshot) l.part-index l.proc l.chan l.inner

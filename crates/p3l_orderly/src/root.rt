@@ -1,0 +1,140 @@
+// Whether what was saved of a machine is a state in which a run of a linked net can be.
+
+ghost use Rattle.std.specs.Prelude.{◌≡◌, ◌↔◌, ◌+◌, ◌≤◌, ℕ, List, length, IfOk, IsTrue};
+ghost use Rattle.std.specs.Option.{option_to_list};
+ghost use Rattle.p3l_base.specs.declared.outcome.Outcome.{Outcome};
+ghost use Rattle.p3l_skel.specs.Counts.{HasLawfulCounts, count_of};
+ghost use Rattle.p3l_skel.specs.Lawful.{IsLawfulTree};
+ghost use Rattle.p3l_skel.specs.Numbers.{procs};
+ghost use Rattle.p3l_skel.specs.Tree.{nesting};
+ghost use Rattle.p3l_firing.specs.Carried.{HaveInWords};
+ghost use Rattle.p3l_firing.specs.Nodes.{Leaf};
+ghost use Rattle.p3l_firing.specs.declared.net.Net.{Net};
+ghost use Rattle.p3l_link.specs.Laws.{IsOrderly};
+ghost use Rattle.p3l_link.specs.Net.{root_base};
+ghost use Rattle.p3l_net.specs.Machine.{state_of as state_in};
+ghost use Rattle.p3l_net.specs.Shot.{restored};
+ghost use Rattle.p3l_orderly.specs.Finding.{if_orderly};
+ghost use Rattle.p3l_orderly.specs.Root.{IsBalanced};
+ghost use Rattle.p3l_orderly.specs.Saved.{HaveFewTags};
+ghost use Rattle.p3l_orderly.specs.Snapshot.{state_of};
+ghost use Rattle.p3l_orderly.specs.Walked.{walk_found};
+
+use crate::orderly::Place;
+use crate::saved::snapshot_of;
+use crate::snapshot::Snapshot;
+use crate::templates::Templates;
+use crate::walk::{Table, find_in};
+use p3l_base::{List, NoMemory, Words};
+use p3l_firing::Token;
+use p3l_net::Shot;
+use p3l_skel::tree::NESTING;
+use p3l_skel::{Counts, Tree};
+use std::alloc::Global;
+
+// The tokens pending in the root, without their outcomes, if it is orderly.
+fn root_pending<T: Table>(
+    alloc: Global,
+    table: &T,
+    tree: &Tree,
+    counts: &Counts,
+    snapshot: &Snapshot,
+) -> Result<Option<List<Token>>, NoMemory>
+    requires tree { IsLawfulTree tree.now }
+    requires counts { HasLawfulCounts tree.now counts.now.list }
+    requires procs { procs tree.now counts.now.list 0 ≤ 4096 }
+    ensures { IfOk result (λ pending. pending
+        ≡ if_orderly (walk_found (T.finds table.now tree.now (count_of tree.now counts.now.list)) tree.now
+        (count_of tree.now counts.now.list) nesting 0 root_base (state_of snapshot.now))) }
+{
+    let root = Place {
+        input: 0,
+        output: 1,
+        proc: 2,
+        chan: 2,
+    };
+    match find_in(alloc, table, tree, counts, NESTING, 0, snapshot, &root)? {
+        Some(found) => Ok(Some(found.pending)),
+        None => Ok(None),
+    }
+}
+
+// Whether the item of an inbox has the root's in words.
+fn fits_root(tree: &Tree, inbox: &Option<Words>) -> bool
+    ensures { IsTrue result ↔ HaveInWords tree.now (option_to_list inbox.now) }
+{
+    let Some(words) = inbox else {
+        return true;
+    };
+    match tree.node(0) {
+        Some(root) => words.len() == root.ins as usize,
+        None => words.len() == 0,
+    }
+}
+
+// Whether each item sent was emitted, or waits after the root, is pending in it or waits before it.
+fn is_balanced(shot: &Shot, snapshot: &Snapshot, pending: usize) -> bool
+    ensures { IsTrue result
+        ↔ (shot.now.sent
+        ≡ shot.now.emitted
+        + (length ((state_of snapshot.now).tokens 1)
+        + (pending + length ((state_of snapshot.now).tokens 0)))) }
+{
+    let after = snapshot.tokens(1).len() as u128;
+    let before = snapshot.tokens(0).len() as u128;
+    shot.sent as u128 == shot.emitted as u128 + (after + (pending as u128 + before))
+}
+
+/// As `is_orderly`, by the templates of a table.
+pub fn is_orderly_by<T: Table>(
+    alloc: Global,
+    table: &T,
+    tree: &Tree,
+    counts: &Counts,
+    shot: &Shot,
+) -> Result<bool, NoMemory>
+    requires tree { IsLawfulTree tree.now }
+    requires counts { HasLawfulCounts tree.now counts.now.list }
+    requires procs { procs tree.now counts.now.list 0 ≤ 4096 }
+    requires tags { HaveFewTags shot.now }
+    ensures { IfOk result (λ yes. (leaf : Leaf) (net : Net) (emitted : List Outcome)
+        → length shot.now.chans ≡ length net.chans → length emitted ≡ shot.now.emitted
+        → IsTrue yes
+        ↔ (IsOrderly (record { tree = tree.now; leaf = leaf }) counts.now.list
+        (state_in (restored tree.now net shot.now) emitted)
+        × IsBalanced (record { tree = tree.now; leaf = leaf }) counts.now.list
+        (state_in (restored tree.now net shot.now) emitted))) }
+{
+    if !fits_root(tree, &shot.inbox) {
+        return Ok(false);
+    }
+    let snapshot = snapshot_of(alloc, shot)?;
+    match root_pending(alloc, table, tree, counts, &snapshot)? {
+        Some(pending) => Ok(is_balanced(shot, &snapshot, pending.len())),
+        None => Ok(false),
+    }
+}
+
+/// Whether a run of the net of a tree under these counts can be in a state that was saved: the root
+/// is orderly, the item in the inbox has its in words, and each item sent was emitted or is still in
+/// the net. It is so whatever the `seq` modules make of words.
+pub fn is_orderly(
+    alloc: Global,
+    tree: &Tree,
+    counts: &Counts,
+    shot: &Shot,
+) -> Result<bool, NoMemory>
+    requires tree { IsLawfulTree tree.now }
+    requires counts { HasLawfulCounts tree.now counts.now.list }
+    requires procs { procs tree.now counts.now.list 0 ≤ 4096 }
+    requires tags { HaveFewTags shot.now }
+    ensures { IfOk result (λ yes. (leaf : Leaf) (net : Net) (emitted : List Outcome)
+        → length shot.now.chans ≡ length net.chans → length emitted ≡ shot.now.emitted
+        → IsTrue yes
+        ↔ (IsOrderly (record { tree = tree.now; leaf = leaf }) counts.now.list
+        (state_in (restored tree.now net shot.now) emitted)
+        × IsBalanced (record { tree = tree.now; leaf = leaf }) counts.now.list
+        (state_in (restored tree.now net shot.now) emitted))) }
+{
+    is_orderly_by(alloc, &Templates, tree, counts, shot)
+}
