@@ -1,0 +1,4 @@
+pub mod Widths
+pub mod Survey
+pub mod Decided
+pub mod Restoring

@@ -1,0 +1,34 @@
+// Whether the tokens of channels fit.
+
+ghost use Rattle.std.specs.Prelude.{◌≡◌, ◌↔◌, IsTrue, EachIndex};
+ghost use Rattle.p3l_firing.specs.State.{chan_at};
+ghost use Rattle.p3l_net.specs.Shot.{saved_at};
+ghost use Rattle.p3l_fitting.specs.Decided.{QueueFits};
+ghost use Rattle.p3l_fitting.specs.Widths.{width_at};
+
+use crate::shots::tokens;
+use crate::tokens::tokens_fit;
+use crate::width::{Width, width_at};
+use p3l_firing::{Chan, Net};
+use p3l_net::{SavedToken, Shot};
+use p3l_skel::Tree;
+
+/// Whether a channel has room for its tokens, and they have its width.
+fn queue_fits(tree: &Tree, chan: Chan, width: Width, saved: &[SavedToken]) -> bool
+    ensures { IsTrue result ↔ QueueFits tree.now chan width saved.now }
+{
+    saved.len() <= chan.cap as usize && tokens_fit(tree, width, saved)
+}
+
+/// Whether all channels have room for their tokens, and these have the widths of their channels.
+pub(crate) fn queues_fit(tree: &Tree, net: &Net, row: &[Width], shot: &Shot) -> bool
+    ensures { IsTrue result ↔ EachIndex net.now.chans (λ c.
+        QueueFits tree.now (chan_at net.now c) (width_at row.now c) (saved_at shot.now c)) }
+{
+    for (c, chan) in net.chans.as_slice().iter().enumerate() {
+        if !queue_fits(tree, *chan, width_at(row, c), tokens(shot, c)) {
+            return false;
+        }
+    }
+    true
+}
