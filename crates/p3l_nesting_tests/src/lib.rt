@@ -35,6 +35,8 @@ mod rescues;
 #[cfg(test)]
 mod running;
 #[cfg(test)]
+mod saved;
+#[cfg(test)]
 mod serving;
 #[cfg(test)]
 mod sketch;

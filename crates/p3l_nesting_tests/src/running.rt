@@ -11,7 +11,7 @@ use p3l_base::{List, NoMemory, Outcome};
 use p3l_firing::Net;
 use p3l_link::link;
 use p3l_model::{is_outside, procs};
-use p3l_net::Machine;
+use p3l_net::{Machine, Shot};
 use p3l_sched::{Picker, Schedule};
 use p3l_skel::outcome::copied;
 use p3l_skel::{Counts, Tree, lawful_counts};
@@ -183,4 +183,26 @@ pub fn emitted(
         cases,
     )?;
     Ok(outcomes)
+}
+
+/// What is saved of the machine after so many picks by turns, which hand out no trap.
+pub fn saved_after(
+    rt: &impl Abort,
+    alloc: Global,
+    units: &UnitTable<'_>,
+    counts: &Counts,
+    picks: u32,
+    cases: &[Case],
+) -> Result<Shot, NoMemory> {
+    let mut machine = machine_of(rt, alloc, units, counts, 2)?;
+    assert!(rt; machine.size() > 0);
+    let mut picker = picker_of(None);
+    let mut outcomes = List::new(alloc);
+    let mut left = cases;
+    for _pick in 0..picks {
+        left = fill(rt, alloc, units, &mut machine, left)?;
+        step(rt, alloc, units, &mut machine, &mut picker, &mut outcomes)?;
+    }
+    assert!(rt; !machine.trapped());
+    machine.save(alloc)
 }
