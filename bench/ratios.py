@@ -6,10 +6,14 @@
 A row has what is measured, its ratio, and the ratio above which something is wrong: the most of five tries of the shorter run
 against the least of the longer one would still be below it. The script ends with 1 where a ratio is above its bound.
 
-  room of a stack     as many words, in a hundred times as many items: each run of a body takes the room that its code needs
-  a firing by turns   a pipe of a hundred against one of ten: after a firing only what it touched is looked at again
+  room of a stack     `profile`, which runs each body on the stack machine: an item that passes over 20,000 instructions against one
+                      that passes over 1,200. Room is taken for 1,024 words in both
+  a firing by turns   the network of a map of 508 pieces against that of one of eight: after a firing only what it touched is looked
+                      at again, two channels mostly
   constants           four times as many: each is found at once, and not by a walk through all of them
   size of a token     a channel of 1,024 tokens against one of 1: what is reserved for tags is little
+
+The first two are measured on as many items as take long enough.
 """
 
 import os
@@ -18,15 +22,17 @@ import sys
 import tempfile
 
 TRIES = 5
+ENOUGH = 0.3
 ONE = "seq main in(int x) out(int y) ${ y = x * 3 + 1; }$ end seq\n"
-WIDE = "seq main in(int a[100]) out(int y) ${ y = a[0] * 3 + 1; }$ end seq\n"
 MORE = "seq more in(int x) out(int y) ${ y = x * 3 + 1; }$ end seq\n"
 
 
-def pipe(stages):
-    names = ["x"] + [f"v{stage}" for stage in range(1, stages)] + ["y"]
-    calls = [f"more in({was}) out({'' if name == 'y' else 'int '}{name})" for was, name in zip(names, names[1:])]
-    return MORE + "pipe main in(int x) out(int y)\n" + "\n".join(calls) + "\nend pipe\n"
+def passed_over(statements):
+    return "seq main in(int x) out(int y) ${ if (x > 7) { " + "y = y + x; " * statements + "} }$ end seq\n"
+
+
+def pieces(count):
+    return MORE + f"map main in(int x[{count}]) out(int y[{count}]) workers {count}\nmore in(x[*i]) out(y[*i])\nend map\n"
 
 
 def farm(workers):
@@ -57,18 +63,29 @@ class Bench:
             sys.exit(f"{words} ended with {child.returncode}")
         return used
 
-    def seconds(self, words, items=""):
+    def seconds(self, words, items="", tries=TRIES):
         """The least time of the processor of some tries: what else the machine does counts for little."""
-        tries = [self.used(words, items) for _ in range(TRIES)]
-        return min(used.ru_utime + used.ru_stime for used in tries)
+        all_used = [self.used(words, items) for _ in range(tries)]
+        return min(used.ru_utime + used.ru_stime for used in all_used)
+
+    def an_item(self, words, item):
+        """The time for an item, by as many as take long enough."""
+        start, items = self.seconds(words), 1
+        while self.seconds(words, item * items, 1) - start < ENOUGH:
+            items *= 4
+        return (self.seconds(words, item * items) - start) / items
+
+    def profiled(self, text):
+        return self.an_item(["profile", self.file("m.p3l", text)], "7\n")
+
+    def firing(self, count):
+        """The time for a firing in the network of a map of so many pieces: three for each, and four at the ends."""
+        words = ["run", self.file("m.p3l", pieces(count)), "--processors", "512"]
+        return self.an_item(words, "7 " * count + "\n") / (3 * count + 4)
 
     def kilobytes(self, words, items):
         """The most memory that it held."""
         return self.used(words, items).ru_maxrss
-
-    def run(self, text, items, capacity=4):
-        path = self.file("m.p3l", text)
-        return self.seconds(["run", path, "--processors", "512", "--capacity", str(capacity)], items)
 
     def check(self, text):
         return self.seconds(["check", self.file("m.p3l", text)])
@@ -77,19 +94,13 @@ class Bench:
 def main():
     with tempfile.TemporaryDirectory() as folder:
         bench = Bench(os.path.abspath(sys.argv[1]), folder)
-        words = 2_000_000
-        start = bench.run(ONE, "")
-        each = bench.run(ONE, "7\n" * words) - start
-        hundred = bench.run(WIDE, ("7 " * 99 + "7\n") * (words // 100)) - start
-        ten = (bench.run(pipe(10), "7\n" * 20_000) - start) / 12
-        many = (bench.run(pipe(100), "7\n" * 20_000) - start) / 102
         few = bench.check(constants(12_000)) - bench.check(ONE)
         all_four = bench.check(constants(48_000)) - bench.check(ONE)
         path = bench.file("m.p3l", farm(8))
         held = [bench.kilobytes(["run", path, "--processors", "16", "--capacity", str(room)], "7\n" * 5_000) for room in (1, 1024)]
         rows = [
-            ("room of a stack", each / hundred, 40),
-            ("a firing by turns", many / ten, 3),
+            ("room of a stack", bench.profiled(passed_over(5_000)) / bench.profiled(passed_over(300)), 3),
+            ("a firing by turns", bench.firing(508) / bench.firing(8), 4),
             ("constants", all_four / few, 8),
             ("size of a token", held[1] / held[0], 6),
         ]
@@ -100,4 +111,5 @@ def main():
     return 1 if above else 0
 
 
-sys.exit(main())
+if __name__ == "__main__":
+    sys.exit(main())
