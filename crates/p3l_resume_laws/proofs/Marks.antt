@@ -1,8 +1,8 @@
 -- What is said of each token by its place, the channel that it is in or the process that holds it, is kept by every firing of a process
 -- that hands it on.
-use Rattle.std.proofs.Common.{◌≡◌, ℕ, ℤ, ◌+◌, ◌<◌, cond, nat_lt, ◌&&◌, ◌||◌, Bool, true, false, List, [], ◌∷◌, ◌++◌, length, Option, Some, None, refl, sym, subst, inl, inr, arith}
+use Rattle.std.proofs.Common.{◌≡◌, ◌∙◌, ℕ, zero, suc, ℤ, replicate, slice_get, ◌+◌, ◌<◌, cond, nat_lt, ◌&&◌, ◌||◌, Bool, true, false, List, [], ◌∷◌, ◌++◌, length, Option, Some, None, refl, sym, subst, inl, inr, arith}
 use Rattle.std.specs.List.{AllByRecursion}
-use Rattle.std.proofs.lemmas.Bool.{and_parts, cases_Bool, cases_eq, cond-true, cond-false, leb-false, leb-true, ltb-true}
+use Rattle.std.proofs.lemmas.Bool.{and_parts, cases_Bool, cases_eq, cond-true, cond-false, false≢true, leb-false, leb-true, ltb-true}
 use Rattle.p3l_base.specs.declared.outcome.Outcome.{Outcome}
 use Rattle.p3l_base.specs.declared.outcome.Outcome.TheVariants.{Value}
 use Rattle.p3l_skel.specs.declared.tree.Tree.{Tree}
@@ -13,13 +13,13 @@ use Rattle.p3l_firing.specs.declared.process.Proc.{Proc}
 use Rattle.p3l_firing.specs.declared.process.ProcKind.{ProcKind}
 use Rattle.p3l_firing.specs.declared.process.ProcKind.TheVariants as kinds
 use Rattle.p3l_firing.specs.declared.token.Token.{Token}
-use Rattle.p3l_firing.specs.Fire.{row_can, row_fire}
+use Rattle.p3l_firing.specs.Fire.{can_fire, fire, row_can, row_fire}
 use Rattle.p3l_firing.specs.Lists.{has_first, first_or, rest_of}
 use Rattle.p3l_firing.specs.Nodes.{Leaf, element_of, fold_of, joined_of, operator_of, outcome_of, segment_of, spent_of, test_of, turns_of}
 use Rattle.p3l_firing.specs.Process.{Has, in_of, out_of}
-use Rattle.p3l_firing.specs.State.{Own, State, counted, fresh, front, gathering, has_room, holding, pop, push, set_own}
+use Rattle.p3l_firing.specs.State.{Own, State, at_first, chan_at, counted, first_state, fresh, front, gathering, has_room, holding, pop, push, set_own}
 use Rattle.p3l_firing.specs.Token.{admitted, bodies, credit, newest_tag, once_more, over, peeled, plain, tagged}
-use Rattle.p3l_firing.specs.Typed.{FitsKind, FitsOwn, IsFitting}
+use Rattle.p3l_firing.specs.Typed.{FitsKind, IsFitting, IsTyped}
 use Rattle.p3l_firing.specs.Widths.{FitsToken, Widths}
 use Rattle.p3l_firing.specs.kinds.Source as source
 use Rattle.p3l_firing.specs.kinds.Sink as sink
@@ -37,6 +37,7 @@ use Rattle.p3l_firing.specs.kinds.Tail as tail
 use Rattle.p3l_firing.specs.kinds.Tail.{Turn, Turn.Held, Turn.Again, turn_of}
 use Rattle.p3l_firing.proofs.Fitting.{all_first, all_push, all_rest, front_fits}
 use Rattle.p3l_firing.proofs.Places.{has-nth}
+use Rattle.p3l_firing.proofs.Rows.{fire_at, none_ready, ready_at, ready_from_can}
 use Rattle.p3l_firing.proofs.row.Collect.{due_among, due_full}
 use Rattle.p3l_firing.proofs.row.Emit.{chosen_among, some_one}
 use Rattle.p3l_firing.proofs.row.Gather.{longer_has_first}
@@ -345,3 +346,26 @@ module _ (C H : ℕ → Token → Type 0) (tree : Tree) (leaf : Leaf) (widths : 
     row_are kinds.Join fits held can hands = from_join can hands
     row_are kinds.Head fits held can hands = from_head can held hands
     row_are kinds.Tail fits held can hands = from_tail can held hands
+
+module _ (C H : ℕ → Token → Type 0) (tree : Tree) (leaf : Leaf) (net : Net) (typed : IsTyped tree net) (s : State) (fit : IsFitting tree net typed.widths s) (all : AllAre C H s) where
+  are_at : (p : ℕ) (stands : Option Proc) → slice_get net.procs p ≡ stands → can_fire tree net s p ≡ true
+      → ((q : Proc) → stands ≡ Some q → HandsOn C H tree leaf typed.widths p q q.kind) → AllAre C H (fire tree leaf net s p)
+  are_at p None e can hands = absurd (false≢true (sym (none_ready tree net s p e) ∙ ready_from_can tree net s p can))
+  are_at p (Some q) e can hands =
+      subst (AllAre C H) (sym (fire_at tree net s p q e leaf))
+      (row_are C H tree leaf typed.widths p q s (s.own p) fit all q.kind (typed.processes p q e) (all.held p)
+      (sym (ready_at tree net s p q e) ∙ ready_from_can tree net s p can) (hands q refl))
+
+  -- a firing of a process that hands it on keeps it
+  pub fired_are : (p : ℕ) → can_fire tree net s p ≡ true → ((q : Proc) → slice_get net.procs p ≡ Some q → HandsOn C H tree leaf typed.widths p q q.kind)
+      → AllAre C H (fire tree leaf net s p)
+  fired_are p can hands = are_at p (slice_get net.procs p) refl can hands
+
+-- before anything has fired there are credits alone
+pub are_at_first : (C H : ℕ → Token → Type 0) (net : Net) (items : List (List ℤ)) → ((c : ℕ) → 0 < (chan_at net c).credits → C c credit) → AllAre C H (first_state net items)
+unfolding first_state at_first
+are_at_first C H net items each = record { sent = λ c. credits c (chan_at net c).credits (each c); held = λ p. tt }
+  where
+    credits : (c n : ℕ) → (0 < n → C c credit) → AllByRecursion (C c) (replicate n credit)
+    credits c zero h = tt
+    credits c (suc n) h = (h (omega arith), credits c n (λ some. h (omega arith)))
