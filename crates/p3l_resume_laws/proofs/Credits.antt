@@ -61,10 +61,10 @@ abbrev pub IsAny : ℕ → Token → Type 0
 IsAny p x = Unit {0}
 
 module _ (tree : Tree) (lawful : IsLawfulTree tree) (widths : Widths) (q : Proc) where
-  some_ins : (k : ℕ) → k < length tree.nodes → 1 ≤ (node_at tree k).ins
+  pub some_ins : (k : ℕ) → k < length tree.nodes → 1 ≤ (node_at tree k).ins
   some_ins k there = (lawful_at tree lawful k there).ins.0
 
-  some_outs : (k : ℕ) → k < length tree.nodes → 1 ≤ (node_at tree k).outs
+  pub some_outs : (k : ℕ) → k < length tree.nodes → 1 ≤ (node_at tree k).outs
   some_outs k there = (lawful_at tree lawful k there).outs.0
 
   -- no segment is empty
