@@ -90,9 +90,9 @@ pub record HasOnce (base : Base) (F : Piece) : Type 0 where
   pub writes : (c : ℕ) → times c (all_outs F.procs) ≡ times c (base.output ∷ numbers_from base.chan (length F.chans))
 
 -- the same of the inner parts at these seats, whose channels are those from e on
-record HaveOnce (seats : List Seat) (e : ℕ) (F : Piece) : Type 0 where
-  reads : (c : ℕ) → times c (all_ins F.procs) ≡ times c (seat_ins seats) + times c (numbers_from e (length F.chans))
-  writes : (c : ℕ) → times c (all_outs F.procs) ≡ times c (seat_outs seats) + times c (numbers_from e (length F.chans))
+pub record HaveOnce (seats : List Seat) (e : ℕ) (F : Piece) : Type 0 where
+  pub reads : (c : ℕ) → times c (all_ins F.procs) ≡ times c (seat_ins seats) + times c (numbers_from e (length F.chans))
+  pub writes : (c : ℕ) → times c (all_outs F.procs) ≡ times c (seat_outs seats) + times c (numbers_from e (length F.chans))
 
 ins_append : (c : ℕ) (ps qs : List Proc) → times c (all_ins (ps ++ qs)) ≡ times c (all_ins ps) + times c (all_ins qs)
 ins_append c ps qs = ap (times c) (flat_map-append (λ (q : Proc). q.ins) ps qs) ∙ times_append c (all_ins ps) (all_ins qs)
@@ -103,7 +103,7 @@ outs_append c ps qs = ap (times c) (flat_map-append (λ (q : Proc). q.outs) ps q
 numbers_split : (c x n k : ℕ) → times c (numbers_from x (n + k)) ≡ times c (numbers_from x n) + times c (numbers_from (x + n) k)
 numbers_split c x n k = ap (times c) (numbers_append x n k) ∙ times_append c (numbers_from x n) (numbers_from (x + n) k)
 
-inner_once : (f : ℕ → Base → Piece) (seats : List Seat) (p e : ℕ) → ((v : ℕ) → v < length seats → (b : Base) → HasOnce b (f (get_or seats v no_seat).part b)) → HaveOnce seats e (inner_pieces f seats p e)
+pub inner_once : (f : ℕ → Base → Piece) (seats : List Seat) (p e : ℕ) → ((v : ℕ) → v < length seats → (b : Base) → HasOnce b (f (get_or seats v no_seat).part b)) → HaveOnce seats e (inner_pieces f seats p e)
 unfolding inner_pieces numbers_from
 inner_once f [] p e each = record { reads = λ c. refl; writes = λ c. refl }
 inner_once f (x ∷ xs) p e each =

@@ -24,7 +24,7 @@ copies_sum m zero ks = omega arith
 copies_sum m (suc n) ks = let rest = copies_sum m n ks in omega (arith, sum_by-append m ks (copies n ks), rest)
 
 -- a node's own processes, and those of the nodes inside it
-row_sum : (f : Form) (n : ℕ) (m : ℕ → ℕ) (parts : List ℕ) → own_procs f n + sum_by m (copies (copy_count f n) (outside_parts f parts)) ≡ procs_row f n (sum_by m (outside_parts f parts))
+pub row_sum : (f : Form) (n : ℕ) (m : ℕ → ℕ) (parts : List ℕ) → own_procs f n + sum_by m (copies (copy_count f n) (outside_parts f parts)) ≡ procs_row f n (sum_by m (outside_parts f parts))
 row_sum Seq n m parts = let all = copies_sum m 1 [] in omega (arith, all)
 row_sum Comp n m parts = let all = copies_sum m 1 [] in omega (arith, all)
 row_sum Pipe n m parts = let all = copies_sum m 1 parts in omega (arith, all)
@@ -58,7 +58,7 @@ survey_procs tree count (suc d) k t p c =
 abbrev pub IsDeep : ℕ → Width → Type 0
 IsDeep t x = (x.words ≡ 0) ⊎ (t ≤ x.tags)
 
-all_append : {A : Type 0} (P : A → Type 0) (xs ys : List A) → AllByRecursion P xs → AllByRecursion P ys → AllByRecursion P (xs ++ ys)
+pub all_append : {A : Type 0} (P : A → Type 0) (xs ys : List A) → AllByRecursion P xs → AllByRecursion P ys → AllByRecursion P (xs ++ ys)
 all_append P [] ys h k = k
 all_append P (x ∷ xs) ys h k = (h.0, all_append P xs ys h.1 k)
 

@@ -29,7 +29,7 @@ all_from P [] each = tt
 all_from P (c ∷ cs) each = (each 0 (omega arith), all_from P cs (λ k low. each (suc k) (omega arith)))
 
 -- a number that is counted stands in the list
-counted_has : (cs : List ℕ) (c : ℕ) → 1 ≤ times c cs → Has cs c
+pub counted_has : (cs : List ℕ) (c : ℕ) → 1 ≤ times c cs → Has cs c
 counted_has [] c some = absurd (omega (arith, some))
 counted_has (d ∷ cs) c some =
     elim (cases_Bool (d == c)) [

@@ -1,0 +1,318 @@
+-- THE WALK over what a linked net is surveyed to have: at each place that is surveyed there is a loop, and each tail is that of one. By one
+-- recursion on the depth.
+use Rattle.std.proofs.Common.{◌≡◌, ◌≢◌, ℕ, zero, suc, ◌+◌, ◌-◌, ◌^◌, ◌<◌, ◌≤◌, ◌&&◌, true, List, [], ◌∷◌, ◌++◌, length, get_or, sum_by, refl, sym, ap, ap₂, ◌∙◌, subst, subst₂, arith, length-append, append_assoc}
+use Rattle.std.specs.List.{AllByRecursion}
+use Rattle.std.proofs.lemmas.Bool.{and_from, and_parts}
+use Rattle.std.proofs.lemmas.List.{get_or-append-add, get_or_append_left}
+use Rattle.std.proofs.lemmas.List.Sums.{sum_by-cons}
+use Rattle.p3l_skel.specs.Counts.{outside_parts}
+use Rattle.p3l_skel.specs.declared.tree.Form.{Form}
+use Rattle.p3l_skel.specs.declared.tree.Form.TheVariants.{Seq, Comp, Pipe, Farm, Map, Reduce, Loop}
+use Rattle.p3l_skel.specs.declared.tree.Tree.{Tree}
+use Rattle.p3l_skel.specs.Numbers.{procs_by, procs_row}
+use Rattle.p3l_skel.specs.Tree.{node_at, part_at}
+use Rattle.p3l_skel.proofs.Below.{procs_by-step}
+use Rattle.p3l_skel.proofs.Depth.{lawful_at}
+use Rattle.p3l_firing.specs.declared.net.Chan.{Chan}
+use Rattle.p3l_firing.specs.declared.net.Net.{Net}
+use Rattle.p3l_firing.specs.declared.process.Proc.{Proc}
+use Rattle.p3l_firing.specs.declared.process.ProcKind.TheVariants as kinds
+use Rattle.p3l_firing.specs.Segments.{level_of, segment_lengths}
+use Rattle.p3l_firing.specs.State.{State, chan_at, no_chan}
+use Rattle.p3l_firing.specs.Typed.{IsTyped}
+use Rattle.p3l_firing.specs.Widths.{Widths}
+use Rattle.p3l_template.specs.Part.{Part, all_orderly}
+use Rattle.p3l_template.specs.Placed.{AreLaid, AreStanding, IsGoodBase, IsLawfulShape}
+use Rattle.p3l_template.specs.Shape.{Base, Role, Seat, Shape, no_seat}
+use Rattle.p3l_template.specs.Units.{Units}
+use Rattle.p3l_template.specs.laws.Row.{stands_split}
+use Rattle.p3l_reduce.specs.Reduce.{fold_procs, join_procs, reduce_shape}
+use Rattle.p3l_link.specs.Counts.{IsCounted}
+use Rattle.p3l_link.specs.Laws.{IsPartAt}
+use Rattle.p3l_link.specs.Net.{Piece, base_at, inner_pieces, piece_of, whole_piece}
+use Rattle.p3l_link.specs.Part.{inner_parts, part_of, role_of, whole_part}
+use Rattle.p3l_link.specs.Shape.{shape_at, shape_row}
+use Rattle.p3l_link.proofs.Counted.{counted_there, seat_counted, shape_lawful}
+use Rattle.p3l_link.proofs.Size.{piece_sized}
+use Rattle.p3l_link.proofs.Sound.{sound}
+use Rattle.p3l_net.specs.Fitting.{LoopPlace}
+use Rattle.p3l_fitting.specs.Survey.{inner_survey, loop_place, node_survey, own_loops, own_procs}
+use Rattle.p3l_fitting.specs.Widths.{copies, copy_count, deeper, own_widths, seat_nodes, width_at}
+use Rattle.p3l_fitting.specs.declared.survey.Survey.{Survey}
+use Rattle.p3l_fitting.specs.declared.width.Width.{Width}
+use Rattle.p3l_resume_laws.proofs.Forced.{inner_forced, nodes_of, piece_forced, row_forced}
+use Rattle.p3l_resume_laws.proofs.LoopAt.{AreRowsOfLoop, IsAt, IsFewAt, IsLoopAt, loop_at, tail_few}
+use Rattle.p3l_resume_laws.proofs.Rows.{CarryRow}
+use Rattle.p3l_resume_laws.proofs.Surveyed.{IsDeep, all_append, inner_deep, loop_deep, row_sum, survey_deep, survey_procs}
+
+-- LISTS
+
+laid_split : (net : Net) (c : ℕ) (xs ys : List Chan) → AreLaid net c (xs ++ ys) → AreLaid net c xs × AreLaid net (c + length xs) ys
+laid_split net c xs ys all = (
+  record { at = λ k low. all.at k (omega (arith, low, length-append xs ys)) ∙ get_or_append_left xs ys no_chan k low },
+  record {
+    at = λ k low.
+        let e : (c + length xs) + k ≡ c + (length xs + k) = omega arith in
+        ap (chan_at net) e ∙ all.at (length xs + k) (omega (arith, low, length-append xs ys)) ∙ get_or-append-add xs ys k no_chan;
+  },
+)
+
+row_split : (w : Widths) (c : ℕ) (xs ys : List Width) → CarryRow w c (xs ++ ys) → CarryRow w c xs × CarryRow w (c + length xs) ys
+row_split w c [] ys all = let e : c ≡ c + 0 = omega arith in (tt, subst (λ z. CarryRow w z ys) e all)
+row_split w c (x ∷ xs) ys all =
+    let rest = row_split w (suc c) xs ys all.1 in
+    let e : suc c + length xs ≡ c + suc (length xs) = omega arith in
+    ((all.0, rest.0), subst (λ z. CarryRow w z ys) e rest.1)
+
+-- what holds of processes from number p on, by their numbers
+abbrev pub AllFrom : (P : ℕ → Proc → Type 0) → ℕ → List Proc → Type 0
+AllFrom P p [] = Unit {0}
+AllFrom P p (q ∷ qs) = P p q × AllFrom P (suc p) qs
+
+from_append : (P : ℕ → Proc → Type 0) (p : ℕ) (xs ys : List Proc) → AllFrom P p xs → AllFrom P (p + length xs) ys → AllFrom P p (xs ++ ys)
+from_append P p [] ys left right = let e : p + 0 ≡ p = omega arith in subst (λ z. AllFrom P z ys) e right
+from_append P p (x ∷ xs) ys left right =
+    let e : p + suc (length xs) ≡ suc p + length xs = omega arith in
+    (left.0, from_append P (suc p) xs ys left.1 (subst (λ z. AllFrom P z ys) e right))
+
+-- no process is a tail
+NoTail : Proc → Type 0
+NoTail q = q.kind ≡ kinds.Tail → ⊥
+
+from_none : (P : ℕ → Proc → Type 0) (p : ℕ) (xs : List Proc) → ((r : ℕ) (q : Proc) → NoTail q → P r q) → AllByRecursion NoTail xs → AllFrom P p xs
+from_none P p [] each all = tt
+from_none P p (x ∷ xs) each all = (each p x all.0, from_none P (suc p) xs each all.1)
+
+-- TEMPLATES
+
+joins_none : (node output t q n : ℕ) → AllByRecursion NoTail (join_procs node output t q n)
+unfolding join_procs NoTail
+joins_none node output t q zero = tt
+joins_none node output t q (suc n) = (λ e. cc, joins_none node output t (suc q) n)
+
+folds_none : (node m output first t s : ℕ) (ls : List ℕ) → AllByRecursion NoTail (fold_procs node m output first t s ls)
+unfolding fold_procs NoTail
+folds_none node m output first t s [] = tt
+folds_none node m output first t s (l ∷ ls) = (λ e. cc, folds_none node m output first t (suc s) ls)
+
+reduce_none : (k len level : ℕ) (base : Base) → AllByRecursion NoTail ((reduce_shape k len level).procs base)
+unfolding reduce_shape NoTail
+reduce_none k len zero base = (λ e. cc, tt)
+reduce_none k len (suc d) base =
+    let m : ℕ = 2 ^ suc d in
+    (λ e. cc, all_append NoTail (join_procs k base.output (base.chan + m) 1 (m - 1)) _ (joins_none k base.output (base.chan + m) 1 (m - 1))
+    (folds_none k m base.output base.chan (base.chan + m) 0 (segment_lengths (suc d) len)))
+
+-- where a template's part is orderly, so are its inner parts
+reduce_orderly : (part : ℕ → Base → Part) (k len level : ℕ) (base : Base) (p c : ℕ) (s : State) → all_orderly (inner_parts part ((reduce_shape k len level).seats base) p c) s ≡ true
+unfolding reduce_shape inner_parts all_orderly
+reduce_orderly part k len zero base p c s = refl
+reduce_orderly part k len (suc d) base p c s = refl
+
+row_orderly : (units : Units) (roles : ℕ → Role) (part : ℕ → Base → Part) (k n : ℕ) (parts : List ℕ) (base : Base) (s : State) (form : Form) → (whole_part (shape_row form k (length parts) n) units roles part base).orderly s ≡ true → all_orderly (inner_parts part ((shape_row form k (length parts) n).seats base) (base.proc + length ((shape_row form k (length parts) n).procs base)) (base.chan + (shape_row form k (length parts) n).chans base)) s ≡ true
+unfolding shape_row inner_parts all_orderly
+row_orderly units roles part k n parts base s Seq h = refl
+row_orderly units roles part k n parts base s Comp h = refl
+row_orderly units roles part k n parts base s Pipe h = h
+row_orderly units roles part k n parts base s (Farm workers) h = (and_parts _ _ h).0
+row_orderly units roles part k n parts base s (Map workers cut) h = (and_parts _ _ h).1
+row_orderly units roles part k n parts base s (Reduce workers len elem) h = reduce_orderly part k len (level_of n) base _ _ s
+row_orderly units roles part k n parts base s (Loop turns tokens) h = and_from _ _ (and_parts _ _ h).0 refl
+
+module _ (net : Net) (units : Units) (count : ℕ → ℕ) (cap : ℕ) (pos : 0 < cap) (typed : IsTyped units.tree net) (Above : State → Type 0) where
+  abbrev tree : Tree
+  tree = units.tree
+
+  abbrev w : Widths
+  w = typed.widths
+
+  abbrev piece : (d k : ℕ) → Base → Piece
+  piece d k base = piece_of units.tree count cap d k base
+
+  abbrev part : (d k : ℕ) → Base → Part
+  part d k base = part_of units count d k base
+
+  abbrev At : (d k t : ℕ) → Base → Type 0
+  At d k t base = IsAt net units count cap typed Above d k t base
+
+  abbrev Loops : List LoopPlace → Type 0
+  Loops = AllByRecursion (IsLoopAt net units count cap typed Above)
+
+  abbrev Tails : ℕ → List Proc → Type 0
+  Tails = AllFrom (IsFewAt net units count cap typed Above)
+
+  -- the loops that are surveyed are there, and each tail holds few tokens
+  pub record HasPlaces (places : List LoopPlace) (p : ℕ) (procs : List Proc) : Type 0 where
+    pub loops : Loops places
+    pub tails : Tails p procs
+
+  -- what is surveyed has as many channels, and as many processes, as are placed
+  piece_chans : (d k t p c : ℕ) (base : Base) → IsCounted units.tree count d k → length (node_survey units.tree count d k t p c).widths ≡ length (piece d k base).chans
+  piece_chans d k t p c base h = (piece_forced units.tree count cap typed.lawful d k base t p c h).count
+
+  piece_procs : (d k t p c : ℕ) (base : Base) → IsCounted units.tree count d k → (node_survey units.tree count d k t p c).procs ≡ length (piece d k base).procs
+  piece_procs d k t p c base h =
+      let placed = (piece_sized units.tree count cap d k base typed.lawful h).procs in
+      survey_procs units.tree count d k t p c ∙ sym placed
+
+  -- a seat between channels below `low`, of which the second has room for a token
+  record IsUsable (low : ℕ) (x : Seat) : Type 0 where
+    input : x.input < low
+    output : x.output < low
+    apart : x.input ≢ x.output
+    room : 0 < (chan_at net x.output).cap
+
+  -- INNER PARTS of node k, where outside them tokens have t tags
+  module _ (d k t : ℕ) (each : (j : ℕ) (b : Base) → At d j t b → HasPlaces (node_survey units.tree count d j t b.proc b.chan).loops b.proc (piece d j b).procs) (low : ℕ) where
+    abbrev f : ℕ → Base → Piece
+    f v = piece d (part_at units.tree k v)
+
+    abbrev parts : ℕ → Base → Part
+    parts v = part d (part_at units.tree k v)
+
+    abbrev g : ℕ → (p c : ℕ) → Survey
+    g j p c = node_survey units.tree count d j t p c
+
+    record AreAt (xs : List Seat) (p c : ℕ) : Type 0 where
+      counted : (v : ℕ) → v < length xs → IsCounted units.tree count d (part_at units.tree k (get_or xs v no_seat).part)
+      usable : (v : ℕ) → v < length xs → IsUsable low (get_or xs v no_seat)
+      after : low ≤ c
+      procs : AreStanding net p (inner_pieces f xs p c).procs
+      chans : AreLaid net c (inner_pieces f xs p c).chans
+      inside : c + length (inner_pieces f xs p c).chans ≤ length net.chans
+      row : CarryRow w c (inner_survey g (nodes_of units.tree k xs) p c).widths
+      orderly : (s : State) → Above s → all_orderly (inner_parts parts xs p c) s ≡ true
+
+    inner_places : (xs : List Seat) (p c : ℕ) → AreAt xs p c → HasPlaces (inner_survey g (nodes_of units.tree k xs) p c).loops p (inner_pieces f xs p c).procs
+    unfolding inner_pieces inner_survey inner_parts all_orderly
+    inner_places [] p c at = record { loops = tt; tails = tt }
+    inner_places (x ∷ xs) p c at =
+        let b : Base = base_at x p c in
+        let j : ℕ = part_at units.tree k x.part in
+        let F : Piece = f x.part b in
+        let S : Survey = g j p c in
+        let nodes : List ℕ = nodes_of units.tree k xs in
+        let G : Piece = inner_pieces f xs (p + length F.procs) (c + length F.chans) in
+        let counted = at.counted 0 (omega arith) in
+        let long : length S.widths ≡ length F.chans = piece_chans d j t p c b counted in
+        let many : S.procs ≡ length F.procs = piece_procs d j t p c b counted in
+        let usable = at.usable 0 (omega arith) in
+        let after = at.after in
+        let input = usable.input in
+        let output = usable.output in
+        let inside = at.inside in
+        let all = length-append F.chans G.chans in
+        let good : IsGoodBase net b = record { input = omega (arith, input, after); output = omega (arith, output, after); apart = usable.apart; room = usable.room } in
+        let ss = stands_split net p F.procs G.procs at.procs in
+        let oo = laid_split net c F.chans G.chans at.chans in
+        let more : Survey = inner_survey g nodes (p + S.procs) (c + length S.widths) in
+        let rr = row_split w c S.widths more.widths at.row in
+        let is : IsPartAt net units (role_of units count d j) b F (parts x.part b) = sound net units typed.lawful count cap pos d j b counted good ss.0 oo.0 in
+        let here : At d j t b = record {
+          counted = counted;
+          good = good;
+          procs = ss.0;
+          chans = oo.0;
+          inside = omega (arith, inside, all);
+          row = rr.0;
+          orderly = λ s above. (and_parts _ _ (at.orderly s above)).0;
+        } in
+        let rest : AreAt xs (p + length F.procs) (c + length F.chans) = record {
+          counted = λ v l. at.counted (suc v) (omega (arith, l));
+          usable = λ v l. at.usable (suc v) (omega (arith, l));
+          after = omega (arith, after);
+          procs = ss.1;
+          chans = oo.1;
+          inside = omega (arith, inside, all);
+          row = subst₂ (λ m n. CarryRow w (c + n) (inner_survey g nodes (p + m) (c + n)).widths) many long rr.1;
+          orderly = λ s above.
+              subst₂ (λ y z. all_orderly (inner_parts parts xs y z) s ≡ true) is.proc_to is.chan_to (and_parts _ _ (at.orderly s above)).1;
+        } in
+        let one = each j b here in
+        let others = inner_places xs (p + length F.procs) (c + length F.chans) rest in
+        record {
+          loops = all_append _ S.loops more.loops one.loops
+              (subst₂ (λ m n. Loops (inner_survey g nodes (p + m) (c + n)).loops) (sym many) (sym long) others.loops);
+          tails = from_append _ p F.procs G.procs one.tails others.tails;
+        }
+
+    -- as many processes are inside as are counted
+    inner_count : (xs : List Seat) (p c : ℕ) → ((v : ℕ) → v < length xs → IsCounted units.tree count d (part_at units.tree k (get_or xs v no_seat).part))
+        → length (inner_pieces f xs p c).procs ≡ sum_by (procs_by units.tree count d) (nodes_of units.tree k xs)
+    unfolding inner_pieces
+    inner_count [] p c counted = refl
+    inner_count (x ∷ xs) p c counted =
+        let F : Piece = f x.part (base_at x p c) in
+        let G : Piece = inner_pieces f xs (p + length F.procs) (c + length F.chans) in
+        let here = (piece_sized units.tree count cap d (part_at units.tree k x.part) (base_at x p c) typed.lawful (counted 0 (omega arith))).procs in
+        let rest = inner_count xs (p + length F.procs) (c + length F.chans) (λ v l. counted (suc v) (omega (arith, l))) in
+        omega (arith, length-append F.procs G.procs, here, rest, sum_by-cons (procs_by units.tree count d) (part_at units.tree k x.part) (nodes_of units.tree k xs))
+
+  -- A LOOP'S ROWS
+  loop_rows : (d k t p c turns tokens : ℕ) (f : Form) → f ≡ Loop turns tokens → AllByRecursion (IsDeep (t + 2))
+      (own_widths units.tree k (count k) t f (node_at units.tree k).parts
+      ++ (inner_survey (λ q p c. node_survey units.tree count d q (t + deeper f) p c) (copies (copy_count f (count k)) (outside_parts f (node_at units.tree k).parts))
+      (p + own_procs f (count k)) (c + length (own_widths units.tree k (count k) t f (node_at units.tree k).parts))).widths)
+  loop_rows d k t p c turns tokens f is =
+      subst (λ z. AllByRecursion (IsDeep (t + 2))
+      (own_widths units.tree k (count k) t z (node_at units.tree k).parts
+      ++ (inner_survey (λ q p c. node_survey units.tree count d q (t + deeper z) p c) (copies (copy_count z (count k)) (outside_parts z (node_at units.tree k).parts))
+      (p + own_procs z (count k)) (c + length (own_widths units.tree k (count k) t z (node_at units.tree k).parts))).widths)) (sym is)
+      (all_append (IsDeep (t + 2)) (own_widths units.tree k (count k) t (Loop turns tokens) (node_at units.tree k).parts) _
+      (loop_deep units.tree k (count k) t turns tokens (node_at units.tree k).parts)
+      (inner_deep (t + 2) (λ q p c. node_survey units.tree count d q (t + 2) p c) (λ q p c. survey_deep units.tree count d q (t + 2) p c) _ _ _))
+
+  first_row : (k n t turns tokens : ℕ) (f : Form) (parts : List ℕ) (more : List Width) → f ≡ Loop turns tokens → (width_at (own_widths units.tree k n t f parts ++ more) 0).tags ≡ t + 2
+  first_row k n t turns tokens f parts more is = subst (λ z. (width_at (own_widths units.tree k n t z parts ++ more) 0).tags ≡ t + 2) (sym is) (first more)
+    where
+      first : (more : List Width) → (width_at (own_widths units.tree k n t (Loop turns tokens) parts ++ more) 0).tags ≡ t + 2
+      unfolding own_widths
+      first more = refl
+
+  -- NODES
+  module _ (d k t : ℕ) (base : Base) (at : At (suc d) k t base) where
+    abbrev n : ℕ
+    n = count k
+
+    abbrev form : Form
+    form = (node_at units.tree k).form
+
+    abbrev ps : List ℕ
+    ps = (node_at units.tree k).parts
+
+    rows_at : (turns tokens : ℕ) → form ≡ Loop turns tokens → AreRowsOfLoop net units count cap typed Above d k t base at turns tokens
+    unfolding node_survey
+    rows_at turns tokens is = record {
+      long = piece_chans (suc d) k t base.proc base.chan base at.counted;
+      deep = loop_rows d k t base.proc base.chan turns tokens form is;
+      first = first_row k n t turns tokens form ps _ is;
+    }
+
+    -- its own loop, if its form is that of one
+    own_places : (f : Form) → form ≡ f → (r e : ℕ) → r ≡ base.proc + length (piece (suc d) k base).procs → e ≡ base.chan + length (piece (suc d) k base).chans → Loops (own_loops f base.proc base.chan r e)
+    own_places Seq is r e p c = tt
+    own_places Comp is r e p c = tt
+    own_places Pipe is r e p c = tt
+    own_places (Farm workers) is r e p c = tt
+    own_places (Map workers cut) is r e p c = tt
+    own_places (Reduce workers len elem) is r e p c = tt
+    own_places (Loop turns tokens) is r e p c =
+        (subst₂ (λ y z. IsLoopAt net units count cap typed Above (loop_place base.proc base.chan y z)) (sym p) (sym c)
+        (loop_at net units count cap typed Above d k t base at turns tokens is (rows_at turns tokens is)), tt)
+
+    none : (r : ℕ) (q : Proc) → NoTail q → IsFewAt net units count cap typed Above r q
+    unfolding NoTail
+    none r q not e = absurd (not e)
+
+    own_tails : (f : Form) → form ≡ f → Tails base.proc ((shape_row f k (length ps) n).procs base)
+    unfolding shape_row NoTail
+    own_tails Seq is = (λ e. cc, tt)
+    own_tails Comp is = (λ e. cc, tt)
+    own_tails Pipe is = tt
+    own_tails (Farm workers) is = (λ e. cc, (λ e. cc, tt))
+    own_tails (Map workers cut) is = (λ e. cc, (λ e. cc, tt))
+    own_tails (Reduce workers len elem) is = from_none _ base.proc _ none (reduce_none k len (level_of n) base)
+    own_tails (Loop turns tokens) is =
+        let second : base.proc + 1 ≡ suc base.proc = omega arith in
+        (λ e. cc, (λ e s above. subst (λ p. length (s.own p).held ≤ (chan_at net (base.chan + 3)).cap) second
+        (tail_few net units count cap typed Above d k t base at turns tokens is s above), tt))
