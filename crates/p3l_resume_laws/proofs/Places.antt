@@ -32,7 +32,7 @@ use Rattle.p3l_link.specs.Laws.{IsPartAt}
 use Rattle.p3l_link.specs.Net.{Piece, base_at, inner_pieces, piece_of, whole_piece}
 use Rattle.p3l_link.specs.Part.{inner_parts, part_of, role_of, whole_part}
 use Rattle.p3l_link.specs.Shape.{shape_at, shape_row}
-use Rattle.p3l_link.proofs.Counted.{counted_there, seat_counted, shape_lawful}
+use Rattle.p3l_link.proofs.Counted.{counted_own, counted_there, seat_counted, shape_lawful}
 use Rattle.p3l_link.proofs.Size.{piece_sized}
 use Rattle.p3l_link.proofs.Sound.{sound}
 use Rattle.p3l_net.specs.Fitting.{LoopPlace}
@@ -40,7 +40,7 @@ use Rattle.p3l_fitting.specs.Survey.{inner_survey, loop_place, node_survey, own_
 use Rattle.p3l_fitting.specs.Widths.{copies, copy_count, deeper, own_widths, seat_nodes, width_at}
 use Rattle.p3l_fitting.specs.declared.survey.Survey.{Survey}
 use Rattle.p3l_fitting.specs.declared.width.Width.{Width}
-use Rattle.p3l_resume_laws.proofs.Forced.{inner_forced, nodes_of, piece_forced, row_forced}
+use Rattle.p3l_resume_laws.proofs.Forced.{IsForcedRow, nodes_of, piece_forced, row_forced}
 use Rattle.p3l_resume_laws.proofs.LoopAt.{AreRowsOfLoop, IsAt, IsFewAt, IsLoopAt, loop_at, tail_few}
 use Rattle.p3l_resume_laws.proofs.Rows.{CarryRow}
 use Rattle.p3l_resume_laws.proofs.Surveyed.{IsDeep, all_append, inner_deep, loop_deep, row_sum, survey_deep, survey_procs}
@@ -236,17 +236,17 @@ module _ (net : Net) (units : Units) (count : ℕ → ℕ) (cap : ℕ) (pos : 0 
           tails = from_append _ p F.procs G.procs one.tails others.tails;
         }
 
-    -- as many processes are inside as are counted
-    inner_count : (xs : List Seat) (p c : ℕ) → ((v : ℕ) → v < length xs → IsCounted units.tree count d (part_at units.tree k (get_or xs v no_seat).part))
-        → length (inner_pieces f xs p c).procs ≡ sum_by (procs_by units.tree count d) (nodes_of units.tree k xs)
-    unfolding inner_pieces
-    inner_count [] p c counted = refl
-    inner_count (x ∷ xs) p c counted =
-        let F : Piece = f x.part (base_at x p c) in
-        let G : Piece = inner_pieces f xs (p + length F.procs) (c + length F.chans) in
-        let here = (piece_sized units.tree count cap d (part_at units.tree k x.part) (base_at x p c) typed.lawful (counted 0 (omega arith))).procs in
-        let rest = inner_count xs (p + length F.procs) (c + length F.chans) (λ v l. counted (suc v) (omega (arith, l))) in
-        omega (arith, length-append F.procs G.procs, here, rest, sum_by-cons (procs_by units.tree count d) (part_at units.tree k x.part) (nodes_of units.tree k xs))
+  -- as many processes are inside as are counted
+  inner_count : (d k : ℕ) (xs : List Seat) (p c : ℕ) → ((v : ℕ) → v < length xs → IsCounted units.tree count d (part_at units.tree k (get_or xs v no_seat).part))
+      → length (inner_pieces (λ v. piece d (part_at units.tree k v)) xs p c).procs ≡ sum_by (procs_by units.tree count d) (nodes_of units.tree k xs)
+  unfolding inner_pieces
+  inner_count d k [] p c counted = refl
+  inner_count d k (x ∷ xs) p c counted =
+      let F : Piece = piece d (part_at units.tree k x.part) (base_at x p c) in
+      let G : Piece = inner_pieces (λ v. piece d (part_at units.tree k v)) xs (p + length F.procs) (c + length F.chans) in
+      let here = (piece_sized units.tree count cap d (part_at units.tree k x.part) (base_at x p c) typed.lawful (counted 0 (omega arith))).procs in
+      let rest = inner_count d k xs (p + length F.procs) (c + length F.chans) (λ v l. counted (suc v) (omega (arith, l))) in
+      omega (arith, length-append F.procs G.procs, here, rest, sum_by-cons (procs_by units.tree count d) (part_at units.tree k x.part) (nodes_of units.tree k xs))
 
   -- A LOOP'S ROWS
   loop_rows : (d k t p c turns tokens : ℕ) (f : Form) → f ≡ Loop turns tokens → AllByRecursion (IsDeep (t + 2))
@@ -262,12 +262,13 @@ module _ (net : Net) (units : Units) (count : ℕ → ℕ) (cap : ℕ) (pos : 0 
       (loop_deep units.tree k (count k) t turns tokens (node_at units.tree k).parts)
       (inner_deep (t + 2) (λ q p c. node_survey units.tree count d q (t + 2) p c) (λ q p c. survey_deep units.tree count d q (t + 2) p c) _ _ _))
 
+  first_own : (k n t turns tokens : ℕ) (parts : List ℕ) (more : List Width) → (width_at (own_widths units.tree k n t (Loop turns tokens) parts ++ more) 0).tags ≡ t + 2
+  unfolding own_widths
+  first_own k n t turns tokens parts more = refl
+
   first_row : (k n t turns tokens : ℕ) (f : Form) (parts : List ℕ) (more : List Width) → f ≡ Loop turns tokens → (width_at (own_widths units.tree k n t f parts ++ more) 0).tags ≡ t + 2
-  first_row k n t turns tokens f parts more is = subst (λ z. (width_at (own_widths units.tree k n t z parts ++ more) 0).tags ≡ t + 2) (sym is) (first more)
-    where
-      first : (more : List Width) → (width_at (own_widths units.tree k n t (Loop turns tokens) parts ++ more) 0).tags ≡ t + 2
-      unfolding own_widths
-      first more = refl
+  first_row k n t turns tokens f parts more is =
+      subst (λ z. (width_at (own_widths units.tree k n t z parts ++ more) 0).tags ≡ t + 2) (sym is) (first_own k n t turns tokens parts more)
 
   -- NODES
   module _ (d k t : ℕ) (base : Base) (at : At (suc d) k t base) where
@@ -280,7 +281,7 @@ module _ (net : Net) (units : Units) (count : ℕ → ℕ) (cap : ℕ) (pos : 0 
     abbrev ps : List ℕ
     ps = (node_at units.tree k).parts
 
-    rows_at : (turns tokens : ℕ) → form ≡ Loop turns tokens → AreRowsOfLoop net units count cap typed Above d k t base at turns tokens
+    rows_at : (turns tokens : ℕ) (is : form ≡ Loop turns tokens) → AreRowsOfLoop net units count cap typed Above d k t base at turns tokens is
     unfolding node_survey
     rows_at turns tokens is = record {
       long = piece_chans (suc d) k t base.proc base.chan base at.counted;
@@ -316,3 +317,164 @@ module _ (net : Net) (units : Units) (count : ℕ → ℕ) (cap : ℕ) (pos : 0 
         let second : base.proc + 1 ≡ suc base.proc = omega arith in
         (λ e. cc, (λ e s above. subst (λ p. length (s.own p).held ≤ (chan_at net (base.chan + 3)).cap) second
         (tail_few net units count cap typed Above d k t base at turns tokens is s above), tt))
+
+    -- what is placed by the node itself, and what is inside it
+    abbrev shape : Shape
+    shape = shape_at units.tree count k
+
+    abbrev survey_of : ℕ → (p c : ℕ) → Survey
+    survey_of j p c = node_survey units.tree count d j (t + deeper form) p c
+
+    abbrev own : List Width
+    own = own_widths units.tree k n t form ps
+
+    abbrev inside_of : ℕ → Base → Piece
+    inside_of v = piece d (part_at units.tree k v)
+
+    abbrev inner : Piece
+    inner = inner_pieces inside_of (shape.seats base) (base.proc + length (shape.procs base)) (base.chan + shape.chans base)
+
+    -- what is surveyed inside it, from a process and a channel on
+    abbrev inner_at : (ks : List ℕ) (m l : ℕ) → Survey
+    inner_at ks m l = inner_survey survey_of ks (base.proc + m) (base.chan + l)
+
+    there : k < length units.tree.nodes
+    there = counted_there units.tree count (suc d) k at.counted
+
+    law : IsLawfulShape shape
+    law = shape_lawful units.tree count k typed.lawful there (counted_own units.tree count (suc d) k at.counted)
+
+    each_counted : (v : ℕ) → v < length (shape.seats base) → IsCounted units.tree count d (part_at units.tree k (get_or (shape.seats base) v no_seat).part)
+    each_counted v low = seat_counted units.tree count k typed.lawful there base v low d at.counted
+
+    row : IsForcedRow units.tree k n form ps shape
+    unfolding shape_at
+    row = row_forced units.tree k n form refl (lawful_at units.tree typed.lawful k there).form (counted_own units.tree count (suc d) k at.counted)
+
+    nodes_are : nodes_of units.tree k (shape.seats base) ≡ seat_nodes (node_at units.tree k) n
+    nodes_are = row.nodes base
+
+    chans_are : length own ≡ shape.chans base
+    chans_are = row.count t base
+
+    whole_is : piece (suc d) k base ≡ whole_piece shape cap inside_of base
+    unfolding piece_of
+    whole_is = refl
+
+    procs_are : own_procs form n ≡ length (shape.procs base)
+    procs_are =
+        let m = procs_by units.tree count d in
+        let some : 0 < suc d = omega arith in
+        let down : suc d - 1 ≡ d = omega arith in
+        let step : procs_by units.tree count (suc d) k ≡ procs_row form n (sum_by m (outside_parts form ps)) = rw down at (procs_by-step units.tree count (suc d) k some) in
+        let sized = (piece_sized units.tree count cap (suc d) k base typed.lawful at.counted).procs in
+        let placed : length (shape.procs base ++ inner.procs) ≡ procs_by units.tree count (suc d) k = ap (λ (z : Piece). length z.procs) (sym whole_is) ∙ sized in
+        let split = length-append (shape.procs base) inner.procs in
+        let summed = row_sum form n m ps in
+        let counted = inner_count d k (shape.seats base) (base.proc + length (shape.procs base)) (base.chan + shape.chans base) each_counted in
+        let alike = ap (sum_by m) nodes_are in
+        omega (arith, step, placed, split, summed, counted, alike)
+
+    stands : AreStanding net base.proc (shape.procs base ++ inner.procs)
+    stands = subst (λ (z : Piece). AreStanding net base.proc z.procs) whole_is at.procs
+
+    laid : AreLaid net base.chan (shape.laid cap base ++ inner.chans)
+    laid = subst (λ (z : Piece). AreLaid net base.chan z.chans) whole_is at.chans
+
+    ends : base.chan + length (shape.laid cap base ++ inner.chans) ≤ length net.chans
+    ends = subst (λ (z : Piece). base.chan + length z.chans ≤ length net.chans) whole_is at.inside
+
+    many : length (shape.laid cap base ++ inner.chans) ≡ shape.chans base + length inner.chans
+    many = let laid_long = law.laid cap base in omega (arith, length-append (shape.laid cap base) inner.chans, laid_long)
+
+    -- what is surveyed inside it, with the nodes, the processes and the channels as they are placed
+    moved : (P : Survey → Type 0) → P (inner_at (seat_nodes (node_at units.tree k) n) (own_procs form n) (length own)) → P (inner_at (nodes_of units.tree k (shape.seats base)) (length (shape.procs base)) (shape.chans base))
+    moved P h =
+        subst₂ (λ m l. P (inner_at (nodes_of units.tree k (shape.seats base)) m l)) procs_are chans_are
+        (subst (λ ks. P (inner_at ks (own_procs form n) (length own))) (sym nodes_are) h)
+
+    moved_back : (P : Survey → Type 0) → P (inner_at (nodes_of units.tree k (shape.seats base)) (length (shape.procs base)) (shape.chans base)) → P (inner_at (seat_nodes (node_at units.tree k) n) (own_procs form n) (length own))
+    moved_back P h =
+        subst (λ ks. P (inner_at ks (own_procs form n) (length own))) nodes_are
+        (subst₂ (λ m l. P (inner_at (nodes_of units.tree k (shape.seats base)) m l)) (sym procs_are) (sym chans_are) h)
+
+    inner_orderly : (s : State) → Above s → all_orderly (inner_parts (λ v. part d (part_at units.tree k v)) (shape.seats base) (base.proc + length (shape.procs base)) (base.chan + shape.chans base)) s ≡ true
+    unfolding part_of shape_at
+    inner_orderly s above =
+        row_orderly units (λ v. role_of units count d (part_at units.tree k v)) (λ v. part d (part_at units.tree k v)) k n ps base s form (at.orderly s above)
+
+    seat_usable : (v : ℕ) → v < length (shape.seats base) → IsUsable (base.chan + shape.chans base) (get_or (shape.seats base) v no_seat)
+    seat_usable v low =
+        let seats = law.count base in
+        let seat = law.seats net base at.good v (omega (arith, low, seats)) in
+        let output = seat.output in
+        let inside = ends in
+        let all = many in
+        record {
+          input = seat.input;
+          output = seat.output;
+          apart = seat.apart;
+          room = (typed.channels (get_or (shape.seats base) v no_seat).output (omega (arith, output, inside, all))).room;
+        }
+
+    -- what is surveyed of the node, in its parts
+    rows_split : CarryRow w base.chan own × CarryRow w (base.chan + length own) (inner_at (seat_nodes (node_at units.tree k) n) (own_procs form n) (length own)).widths
+    unfolding node_survey
+    rows_split = row_split w base.chan own (inner_at (seat_nodes (node_at units.tree k) n) (own_procs form n) (length own)).widths at.row
+
+    procs_split : own_procs form n + (inner_at (seat_nodes (node_at units.tree k) n) (own_procs form n) (length own)).procs ≡ length (piece (suc d) k base).procs
+    unfolding node_survey
+    procs_split = piece_procs (suc d) k t base.proc base.chan base at.counted
+
+    chans_split : length own + length (inner_at (seat_nodes (node_at units.tree k) n) (own_procs form n) (length own)).widths ≡ length (piece (suc d) k base).chans
+    unfolding node_survey
+    chans_split =
+        sym (length-append own (inner_at (seat_nodes (node_at units.tree k) n) (own_procs form n) (length own)).widths)
+        ∙ piece_chans (suc d) k t base.proc base.chan base at.counted
+
+    tails_own : Tails base.proc (shape.procs base)
+    unfolding shape_at
+    tails_own = own_tails form refl
+
+    module _ (each : (j u : ℕ) (b : Base) → At d j u b → HasPlaces (node_survey units.tree count d j u b.proc b.chan).loops b.proc (piece d j b).procs) where
+      inner_is : AreAt d k (t + deeper form) (λ j b. each j (t + deeper form) b) (base.chan + shape.chans base) (shape.seats base) (base.proc + length (shape.procs base)) (base.chan + shape.chans base)
+      inner_is =
+          let ss = stands_split net base.proc (shape.procs base) inner.procs stands in
+          let oo = laid_split net base.chan (shape.laid cap base) inner.chans laid in
+          let inside = ends in
+          let all = many in
+          record {
+            counted = each_counted;
+            usable = seat_usable;
+            after = omega arith;
+            procs = ss.1;
+            chans = subst (λ z. AreLaid net (base.chan + z) inner.chans) (law.laid cap base) oo.1;
+            inside = omega (arith, inside, all);
+            row = subst (λ z. CarryRow w (base.chan + z) (inner_at (nodes_of units.tree k (shape.seats base)) (length (shape.procs base)) (shape.chans base)).widths) chans_are
+                (moved (λ z. CarryRow w (base.chan + length own) z.widths) rows_split.1);
+            orderly = inner_orderly;
+          }
+
+      node_places : HasPlaces (node_survey units.tree count (suc d) k t base.proc base.chan).loops base.proc (piece (suc d) k base).procs
+      unfolding node_survey
+      node_places =
+          let within : Survey = inner_at (seat_nodes (node_at units.tree k) n) (own_procs form n) (length own) in
+          let has = inner_places d k (t + deeper form) (λ j b. each j (t + deeper form) b) (base.chan + shape.chans base) (shape.seats base)
+          (base.proc + length (shape.procs base)) (base.chan + shape.chans base) inner_is in
+          let procs = procs_split in
+          let chans = chans_split in
+          record {
+            loops = all_append _ within.loops _ (moved_back (λ z. Loops z.loops) has.loops)
+                (own_places form refl (base.proc + own_procs form n + within.procs) (base.chan + length own + length within.widths) (omega (arith, procs)) (omega (arith, chans)));
+            tails = subst (λ (z : Piece). Tails base.proc z.procs) (sym whole_is)
+                (from_append _ base.proc (shape.procs base) inner.procs tails_own has.tails);
+          }
+
+  -- at each place that is surveyed of a node there is a loop, and each tail is that of one
+  pub places : (d k t : ℕ) (base : Base) → At d k t base → HasPlaces (node_survey units.tree count d k t base.proc base.chan).loops base.proc (piece d k base).procs
+  unfolding IsCounted
+  places zero k t base at = none at.counted
+    where
+      none : IsCounted units.tree count zero k → HasPlaces (node_survey units.tree count zero k t base.proc base.chan).loops base.proc (piece zero k base).procs
+      none h = absurd h
+  places (suc d) k t base at = node_places d k t base at (λ j u b here. places d j u b here)
