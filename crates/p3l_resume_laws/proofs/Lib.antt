@@ -4,3 +4,7 @@ pub mod Rows
 pub mod Forcing
 pub mod ReduceForcing
 pub mod Forced
+pub mod Elements
+pub mod Rooms
+pub mod FewItems
+pub mod SavedLaw
