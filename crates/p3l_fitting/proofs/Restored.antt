@@ -62,7 +62,7 @@ none_wide a t (x ∷ xs) h = absurd (omega (arith, h))
 
 module _ (tree : Tree) (net : Net) (typed : IsTyped tree net) (v : Widths) (shot : Shot)
     (agree : AgreeOn (length net.chans) v typed.widths) where
-  state_same : (s : State) → IsFitting tree net v s → IsFitting tree net typed.widths s
+  pub state_same : (s : State) → IsFitting tree net v s → IsFitting tree net typed.widths s
   state_same s fits = record {
     rooms = fits.rooms;
     tokens = λ c. elim (cases_lt c (length net.chans)) [

@@ -8,6 +8,8 @@ pub mod LayoutSteps
 pub mod TemplatesSteps
 pub mod RootLaw
 pub mod SavedSteps
+pub mod FewTags
+pub mod SoundLaw
 pub mod FarmSteps
 pub mod LoopSteps
 pub mod PipeSteps

@@ -1,7 +1,6 @@
 -- The root in the state of a machine that is restored is what the walk finds of the snapshot.
 use Rattle.std.proofs.Common.{◌≡◌, ◌↔◌, ℕ, zero, suc, ◌+◌, ◌≤◌, Bool, true, false, IsTrue, Option, Some, None, cond, List, [], ◌∷◌, map, length, get_or, refl, sym, ap, ap₂, ◌∙◌, arith}
 use Rattle.std.specs.Option.{option_to_list}
-use Rattle.p3l_base.specs.declared.outcome.Outcome.{Outcome}
 use Rattle.p3l_base.specs.declared.outcome.Outcome.TheVariants.{Trapped}
 use Rattle.p3l_base.specs.declared.outcome.TrapKind.TheVariants.{Budget}
 use Rattle.p3l_skel.specs.declared.tree.Tree.{Tree}
@@ -17,7 +16,7 @@ use Rattle.p3l_firing.specs.declared.net.Net.{Net}
 use Rattle.p3l_firing.specs.declared.token.Token.{Token}
 use Rattle.p3l_template.specs.Part.{Part}
 use Rattle.p3l_template.specs.Units.{Units}
-use Rattle.p3l_link.specs.Laws.{IsLinkable, IsOrderly}
+use Rattle.p3l_link.specs.Laws.{IsLinkable}
 use Rattle.p3l_link.specs.Net.{root_base}
 use Rattle.p3l_link.specs.Part.{root_part}
 use Rattle.p3l_link.proofs.Counted.{root_counted}
@@ -30,7 +29,7 @@ use Rattle.p3l_net.specs.declared.shot.SavedToken.{SavedToken}
 use Rattle.p3l_net.specs.declared.shot.Shot.{Shot}
 use Rattle.p3l_orderly.specs.declared.walk.Found.{Found}
 use Rattle.p3l_orderly.specs.Finding.{Finding, Finds, bares, finding_of, if_orderly}
-use Rattle.p3l_orderly.specs.Root.{IsBalanced}
+use Rattle.p3l_orderly.specs.Root.{IsOrderlyShot}
 use Rattle.p3l_orderly.specs.Saved.{snapshot_of}
 use Rattle.p3l_orderly.specs.Snapshot.{state_of}
 use Rattle.p3l_orderly.specs.Walk.{AreFound}
@@ -103,10 +102,10 @@ record IsSame (s t : State) : Type 0 where
   tokens : (c : ℕ) → t.tokens c ≡ s.tokens c
   own : (p : ℕ) → t.own p ≡ s.own p
 
-restored_same : (tree : Tree) (net : Net) (shot : Shot) (emitted : List Outcome) → length shot.chans ≡ length net.chans →
-    IsSame (state_of (snapshot_of shot)) (state_in (restored tree net shot) emitted)
+restored_same : (tree : Tree) (net : Net) (shot : Shot) → length shot.chans ≡ length net.chans →
+    IsSame (state_of (snapshot_of shot)) (state_in (restored tree net shot) [])
 unfolding state_of state_in restored
-restored_same tree net shot emitted lists = record {
+restored_same tree net shot lists = record {
   tokens = λ c. queue_tokens net.chans shot.chans c lists;
   own = λ p. refl;
 }
@@ -143,26 +142,23 @@ module _ (tree : Tree) (counts : List ℕ) (lawful : IsLawfulTree tree) (fit : H
         root_is leaf t ∙ sym (root_is (λ «module» words. Trapped (record { kind = Budget; «module» = 0 })) t)
         ∙ same_found s t same ∙ root_is (λ «module» words. Trapped (record { kind = Budget; «module» = 0 })) s
 
-    module _ (shot : Shot) (leaf : Leaf) (net : Net) (emitted : List Outcome) (lists : length shot.chans ≡ length net.chans)
-        (many : length emitted ≡ shot.emitted) where
+    module _ (shot : Shot) (leaf : Leaf) (net : Net) (lists : length shot.chans ≡ length net.chans) where
       abbrev pub Holds : Type 0
-      Holds =
-          IsOrderly (record { tree = tree; leaf = leaf }) counts (state_in (restored tree net shot) emitted)
-          × IsBalanced (record { tree = tree; leaf = leaf }) counts (state_in (restored tree net shot) emitted)
+      Holds = IsOrderlyShot (record { tree = tree; leaf = leaf }) counts net shot
 
-      here : finding_of (state_in (restored tree net shot) emitted) (root_part (record { tree = tree; leaf = leaf }) counts)
+      here : finding_of (state_in (restored tree net shot) []) (root_part (record { tree = tree; leaf = leaf }) counts)
           ≡ found (state_of (snapshot_of shot))
-      here = root_found leaf (state_of (snapshot_of shot)) (state_in (restored tree net shot) emitted) (restored_same tree net shot emitted lists)
+      here = root_found leaf (state_of (snapshot_of shot)) (state_in (restored tree net shot) []) (restored_same tree net shot lists)
 
       pub unfit : (HaveInWords tree (option_to_list shot.inbox) → ⊥) → IsTrue false ↔ Holds
       unfolding state_in restored
-      unfit never = (λ h. absurd (cc h), λ h. absurd (never h.0.items))
+      unfit never = (λ h. absurd (cc h), λ h. absurd (never h.orderly.items))
 
       pub unsorted : None ≡ if_orderly (found (state_of (snapshot_of shot))) → IsTrue false ↔ Holds
       unsorted e = (
         λ h. absurd (cc h),
         λ h. (let no = if_none (found (state_of (snapshot_of shot))) e in
-            let yes = sym (ap (λ (f : Finding). f.orderly) here) ∙ h.0.root in
+            let yes = sym (ap (λ (f : Finding). f.orderly) here) ∙ h.orderly.root in
             absurd (cc (sym yes ∙ no))),
       )
 
@@ -173,17 +169,17 @@ module _ (tree : Tree) (counts : List ℕ) (lawful : IsLawfulTree tree) (fit : H
           IsTrue result ↔ Holds
       unfolding state_in restored
       sorted pending result words e h =
-          let s : State = state_in (restored tree net shot) emitted in
+          let s : State = state_in (restored tree net shot) [] in
           let P : Part = root_part (record { tree = tree; leaf = leaf }) counts in
           let f = if_some (found (state_of (snapshot_of shot))) pending e in
-          let same = restored_same tree net shot emitted lists in
+          let same = restored_same tree net shot lists in
           let one = ap (λ (xs : List Token). length xs) (same.tokens 1) in
           let none = ap (λ (xs : List Token). length xs) (same.tokens 0) in
           let left : length (P.pending s) ≡ length pending =
           sym (bares-length (P.pending s)) ∙ ap (λ (g : Finding). length g.pending) here ∙ sym (ap (λ (xs : List Token). length xs) f.1) in (
-            λ y. (
-              record { root = ap (λ (g : Finding). g.orderly) here ∙ f.0; items = words },
-              (let sum = h.0 y in omega (arith, sum, many, one, none, left)),
-            ),
-            λ b. h.1 (let sum = b.1 in omega (arith, sum, many, one, none, left)),
+            λ y. record {
+              orderly = record { root = ap (λ (g : Finding). g.orderly) here ∙ f.0; items = words };
+              balanced = let sum = h.0 y in omega (arith, sum, one, none, left);
+            },
+            λ b. h.1 (let sum = b.balanced in omega (arith, sum, one, none, left)),
           )

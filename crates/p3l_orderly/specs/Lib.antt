@@ -14,4 +14,5 @@ pub mod Walked
 pub mod Templates
 pub mod Saved
 pub mod Root
+pub mod Sound
 pub mod laws

@@ -1,8 +1,7 @@
 // Whether what was saved of a machine is a state in which a run of a linked net can be.
 
-ghost use Rattle.std.specs.Prelude.{◌≡◌, ◌↔◌, ◌+◌, ◌≤◌, ℕ, List, length, IfOk, IsTrue};
+ghost use Rattle.std.specs.Prelude.{◌≡◌, ◌↔◌, ◌+◌, ◌≤◌, length, IfOk, IsTrue};
 ghost use Rattle.std.specs.Option.{option_to_list};
-ghost use Rattle.p3l_base.specs.declared.outcome.Outcome.{Outcome};
 ghost use Rattle.p3l_skel.specs.Counts.{HasLawfulCounts, count_of};
 ghost use Rattle.p3l_skel.specs.Lawful.{IsLawfulTree};
 ghost use Rattle.p3l_skel.specs.Numbers.{procs};
@@ -10,12 +9,9 @@ ghost use Rattle.p3l_skel.specs.Tree.{nesting};
 ghost use Rattle.p3l_firing.specs.Carried.{HaveInWords};
 ghost use Rattle.p3l_firing.specs.Nodes.{Leaf};
 ghost use Rattle.p3l_firing.specs.declared.net.Net.{Net};
-ghost use Rattle.p3l_link.specs.Laws.{IsOrderly};
 ghost use Rattle.p3l_link.specs.Net.{root_base};
-ghost use Rattle.p3l_net.specs.Machine.{state_of as state_in};
-ghost use Rattle.p3l_net.specs.Shot.{restored};
 ghost use Rattle.p3l_orderly.specs.Finding.{if_orderly};
-ghost use Rattle.p3l_orderly.specs.Root.{IsBalanced};
+ghost use Rattle.p3l_orderly.specs.Root.{IsOrderlyShot};
 ghost use Rattle.p3l_orderly.specs.Saved.{HaveFewTags};
 ghost use Rattle.p3l_orderly.specs.Snapshot.{state_of};
 ghost use Rattle.p3l_orderly.specs.Walked.{walk_found};
@@ -97,13 +93,10 @@ pub fn is_orderly_by<T: Table>(
     requires counts { HasLawfulCounts tree.now counts.now.list }
     requires procs { procs tree.now counts.now.list 0 ≤ 4096 }
     requires tags { HaveFewTags shot.now }
-    ensures { IfOk result (λ yes. (leaf : Leaf) (net : Net) (emitted : List Outcome)
-        → length shot.now.chans ≡ length net.chans → length emitted ≡ shot.now.emitted
-        → IsTrue yes
-        ↔ (IsOrderly (record { tree = tree.now; leaf = leaf }) counts.now.list
-        (state_in (restored tree.now net shot.now) emitted)
-        × IsBalanced (record { tree = tree.now; leaf = leaf }) counts.now.list
-        (state_in (restored tree.now net shot.now) emitted))) }
+    ensures { IfOk result (λ yes. (leaf : Leaf) (net : Net)
+        → length shot.now.chans ≡ length net.chans → IsTrue yes
+        ↔ IsOrderlyShot (record { tree = tree.now; leaf = leaf }) counts.now.list net
+        shot.now) }
 {
     if !fits_root(tree, &shot.inbox) {
         return Ok(false);
@@ -128,13 +121,10 @@ pub fn is_orderly(
     requires counts { HasLawfulCounts tree.now counts.now.list }
     requires procs { procs tree.now counts.now.list 0 ≤ 4096 }
     requires tags { HaveFewTags shot.now }
-    ensures { IfOk result (λ yes. (leaf : Leaf) (net : Net) (emitted : List Outcome)
-        → length shot.now.chans ≡ length net.chans → length emitted ≡ shot.now.emitted
-        → IsTrue yes
-        ↔ (IsOrderly (record { tree = tree.now; leaf = leaf }) counts.now.list
-        (state_in (restored tree.now net shot.now) emitted)
-        × IsBalanced (record { tree = tree.now; leaf = leaf }) counts.now.list
-        (state_in (restored tree.now net shot.now) emitted))) }
+    ensures { IfOk result (λ yes. (leaf : Leaf) (net : Net)
+        → length shot.now.chans ≡ length net.chans → IsTrue yes
+        ↔ IsOrderlyShot (record { tree = tree.now; leaf = leaf }) counts.now.list net
+        shot.now) }
 {
     is_orderly_by(alloc, &Templates, tree, counts, shot)
 }

@@ -3,10 +3,12 @@
 
 pub mod coding;
 pub mod number;
+pub mod ranges;
 pub mod saved;
 pub mod shot;
 pub mod token;
 pub mod words;
 
 pub use coding::{read_shot, shot_text};
+pub use ranges::have_ranges;
 pub use saved::{Saved, ShotRefusal};

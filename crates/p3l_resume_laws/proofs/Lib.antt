@@ -1,2 +1,10 @@
 pub mod LinkedLaw
 pub mod WidthsLaw
+pub mod Rows
+pub mod Forcing
+pub mod ReduceForcing
+pub mod Forced
+pub mod Elements
+pub mod Rooms
+pub mod FewItems
+pub mod SavedLaw

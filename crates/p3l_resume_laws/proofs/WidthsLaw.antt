@@ -62,14 +62,14 @@ past_nodes (n ∷ nodes) zero past = absurd (omega (arith, past))
 past_nodes (n ∷ nodes) (suc k) past = past_nodes nodes k (omega (arith, past))
 
 module _ (tree : Tree) (lawful : IsLawfulTree tree) where
-  few_ins : (k : ℕ) → (node_at tree k).ins ≤ 65536
+  pub few_ins : (k : ℕ) → (node_at tree k).ins ≤ 65536
   few_ins k =
       elim (cases_lt k (length tree.nodes)) [
         | inl inside ↦ (lawful_at tree lawful k inside).ins.1
         | inr past ↦ (let none = ap (λ (n : Node). n.ins) (past_nodes tree.nodes k past) in omega (arith, none))
       ]
 
-  few_outs : (k : ℕ) → (node_at tree k).outs ≤ 65536
+  pub few_outs : (k : ℕ) → (node_at tree k).outs ≤ 65536
   few_outs k =
       elim (cases_lt k (length tree.nodes)) [
         | inl inside ↦ (lawful_at tree lawful k inside).outs.1

@@ -1,7 +1,9 @@
 //! Laws of linked nets from any state in which a run of one can be: what a resumed run emits, how often
-//! it fires, and where it ends; and how many words the channels of a typed net carry. Each is the
-//! contract of a function that does nothing.
+//! it fires, and where it ends; how many words and tags their channels carry; and what was saved of
+//! machines that run them: it can be restored, resumed and written. Each is the contract of a function
+//! that does nothing.
 #![tactic(auto)]
 
 pub mod linked;
+pub mod saved;
 pub mod widths;

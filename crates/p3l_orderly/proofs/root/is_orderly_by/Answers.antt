@@ -9,15 +9,15 @@ use Rattle.p3l_orderly.proofs.RootLaw.{unfit, unsorted, sorted}
 use Rattle.p3l_orderly.proofs.root.is_orderly_by.Goals as goal
 
 pub returns-then-not-fits_root : goal.returns-then-not-fits_root
-returns-then-not-fits_root g c = λ leaf net emitted lists many.
+returns-then-not-fits_root g c = λ leaf net lists.
     let tree = c.args.tree.now in
     let count = count_of tree c.args.counts.now.list in
     unfit tree c.args.counts.now.list c.requires.tree c.requires.counts (g.T.Table.finds c.args.table.now tree count)
-    (g.met.T.Table.found c.args.table.now tree count) c.args.shot.now leaf net emitted lists many
+    (g.met.T.Table.found c.args.table.now tree count) c.args.shot.now leaf net lists
     (λ h. let yes = c.fits_root.ensures.1 h in absurd (cc (sym yes ∙ c.if-not-fits_root.true)))
 
 pub returns-in-Some : goal.returns-in-Some
-returns-in-Some g c = λ leaf net emitted lists many.
+returns-in-Some g c = λ leaf net lists.
     let tree = c.args.tree.now in
     let count = count_of tree c.args.counts.now.list in
     let finds = g.T.Table.finds c.args.table.now tree count in
@@ -26,18 +26,18 @@ returns-in-Some g c = λ leaf net emitted lists many.
     + (length ((state_of c.in_ok-snapshot.snapshot).tokens 1) + (n + length ((state_of c.in_ok-snapshot.snapshot).tokens 0)))))
     c.len.ensures c.is_balanced.ensures in
     sorted tree c.args.counts.now.list c.requires.tree c.requires.counts finds
-    (g.met.T.Table.found c.args.table.now tree count) c.args.shot.now leaf net emitted lists many
+    (g.met.T.Table.found c.args.table.now tree count) c.args.shot.now leaf net lists
     c.in-Some.pending c.is_balanced.result (c.fits_root.ensures.0 c.if-not-fits_root.false)
     (sym c.in-Some.is ∙ c.in_ok-pending.ensures ∙ ap (λ z. if_orderly (walk_found finds tree count nesting 0 root_base (state_of z))) same)
     (subst (λ z. IsTrue c.is_balanced.result ↔ (c.args.shot.now.sent ≡ c.args.shot.now.emitted
     + (length ((state_of z).tokens 1) + (length c.in-Some.pending + length ((state_of z).tokens 0))))) same h)
 
 pub returns : goal.returns
-returns g c = λ leaf net emitted lists many.
+returns g c = λ leaf net lists.
     let tree = c.args.tree.now in
     let count = count_of tree c.args.counts.now.list in
     let finds = g.T.Table.finds c.args.table.now tree count in
     unsorted tree c.args.counts.now.list c.requires.tree c.requires.counts finds
-    (g.met.T.Table.found c.args.table.now tree count) c.args.shot.now leaf net emitted lists many
+    (g.met.T.Table.found c.args.table.now tree count) c.args.shot.now leaf net lists
     (sym c.in-None.is ∙ c.in_ok-pending.ensures
     ∙ ap (λ z. if_orderly (walk_found finds tree count nesting 0 root_base (state_of z))) c.in_ok-snapshot.ensures)
