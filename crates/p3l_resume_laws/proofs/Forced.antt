@@ -37,10 +37,10 @@ use Rattle.p3l_resume_laws.proofs.Rows.{CarryRow, all_split, row_append, row_at}
 
 -- a template of node k, whose form and parts are these, with n workers or segments: it has the channels that are surveyed, its seats are
 -- the nodes that are surveyed inside it, and it forces what is surveyed
-record IsForcedRow (tree : Tree) (k n : ℕ) (f : Form) (parts : List ℕ) (shape : Shape) : Type 0 where
-  count : (t : ℕ) (base : Base) → length (own_widths tree k n t f parts) ≡ shape.chans base
-  nodes : (base : Base) → map (λ (seat : Seat). slice_index parts seat.part) (shape.seats base) ≡ copies (copy_count f n) (outside_parts f parts)
-  forces : Forces tree k shape (deeper f) (λ t. own_widths tree k n t f parts)
+pub record IsForcedRow (tree : Tree) (k n : ℕ) (f : Form) (parts : List ℕ) (shape : Shape) : Type 0 where
+  pub count : (t : ℕ) (base : Base) → length (own_widths tree k n t f parts) ≡ shape.chans base
+  pub nodes : (base : Base) → map (λ (seat : Seat). slice_index parts seat.part) (shape.seats base) ≡ copies (copy_count f n) (outside_parts f parts)
+  pub forces : Forces tree k shape (deeper f) (λ t. own_widths tree k n t f parts)
 
 one_word : (tree : Tree) (a b : ℕ) (ps : List ℕ) → HasOnePart (λ p. HasWords tree p a b) ps → HasWords tree (slice_index ps 0) a b
 one_word tree a b [] h = absurd h
@@ -103,7 +103,7 @@ loop_body tree turns tokens a b (p ∷ (q ∷ [])) h = let parts = h.parts in (r
 loop_body tree turns tokens a b (p ∷ (q ∷ (r ∷ ps))) h = absurd h
 
 -- each row of the table forces what is surveyed of a node of its form
-row_forced : (tree : Tree) (k n : ℕ) (f : Form) → (node_at tree k).form ≡ f →
+pub row_forced : (tree : Tree) (k n : ℕ) (f : Form) → (node_at tree k).form ≡ f →
     IsLawfulForm tree f (node_at tree k).ins (node_at tree k).outs (node_at tree k).parts → HasOwnCount f n →
     IsForcedRow tree k n f (node_at tree k).parts (shape_row f k (length (node_at tree k).parts) n)
 unfolding shape_row own_widths copies
@@ -154,9 +154,9 @@ row_forced tree k n (Loop turns tokens) is lawful own =
 -- NODES, WITH ALL THAT IS BELOW THEM
 
 -- what node k places at a base forces this row, where tokens before it have t tags
-record IsForced (tree : Tree) (k : ℕ) (base : Base) (t : ℕ) (F : Piece) (row : List Width) : Type 0 where
-  count : length row ≡ length F.chans
-  forces : (w : Widths) → FitAll tree w F.procs → Carries w base.input (node_at tree k).ins t →
+pub record IsForced (tree : Tree) (k : ℕ) (base : Base) (t : ℕ) (F : Piece) (row : List Width) : Type 0 where
+  pub count : length row ≡ length F.chans
+  pub forces : (w : Widths) → FitAll tree w F.procs → Carries w base.input (node_at tree k).ins t →
       CarryRow w base.chan row × Carries w base.output (node_at tree k).outs t
 
 -- the same of the inner parts of node k at these seats, whose channels are those from c on
@@ -165,7 +165,7 @@ record AreForced (tree : Tree) (k : ℕ) (seats : List Seat) (c t : ℕ) (F : Pi
   pass : (w : Widths) → FitAll tree w F.procs → AllPass tree k w t seats
   own : (w : Widths) → FitAll tree w F.procs → AllFed tree k w t seats → CarryRow w c row
 
-abbrev nodes_of : Tree → (k : ℕ) → List Seat → List ℕ
+abbrev pub nodes_of : Tree → (k : ℕ) → List Seat → List ℕ
 nodes_of tree k seats = map (λ (seat : Seat). part_at tree k seat.part) seats
 
 inner_forced : (tree : Tree) (k t : ℕ) (f : ℕ → Base → Piece) (g : ℕ → (p c : ℕ) → Survey) (seats : List Seat) (p c q e : ℕ) →
@@ -226,7 +226,7 @@ whole_forced tree k t more cap shape f base own inner laid long flows rest =
           );
     }
 
-piece_forced : (tree : Tree) (count : ℕ → ℕ) (cap : ℕ) → IsLawfulTree tree → (d k : ℕ) (base : Base) (t p c : ℕ) →
+pub piece_forced : (tree : Tree) (count : ℕ → ℕ) (cap : ℕ) → IsLawfulTree tree → (d k : ℕ) (base : Base) (t p c : ℕ) →
     IsCounted tree count d k → IsForced tree k base t (piece_of tree count cap d k base) (node_survey tree count d k t p c).widths
 unfolding piece_of node_survey IsCounted shape_at
 piece_forced tree count cap lawful zero k base t p c h = absurd h
