@@ -55,6 +55,10 @@ module _ (tree : Tree) where
   abbrev Named : Outcome → Type 0
   Named = IsOfModule tree
 
+  -- a token wherever it is
+  abbrev pub IsNamed : ℕ → Token → Type 0
+  IsNamed place x = IsOfModule tree x.body
+
   rescued_named : (number : Option ℤ) (outs : ℕ) (outcome : Outcome) → Named outcome → Named (rescued number outs outcome)
   rescued_named None outs outcome h = h
   rescued_named (Some number) outs (Value words) h = tt
@@ -185,10 +189,6 @@ module _ (tree : Tree) where
 
       outcome_named : (k : ℕ) (outcome : Outcome) → Named outcome → Named (outcome_of tree leaf k outcome)
       outcome_named k outcome h = value_named (item tree leaf k) (item_named k) outcome h
-
-      -- a token wherever it is
-      abbrev pub IsNamed : ℕ → Token → Type 0
-      IsNamed place x = Named x.body
 
       module _ (widths : Widths) (p : ℕ) (q : Proc) where
         pub named_handed : (k : ProcKind) → HandsOn IsNamed IsNamed tree leaf widths p q k

@@ -1,6 +1,6 @@
 -- Each token inside a loop is in one of its turns, with a number that was given out: every firing keeps it, in any typed net in which a
 -- loop is closed but for its head and its tail.
-use Rattle.std.proofs.Common.{◌≡◌, ◌≢◌, ◌⊎◌, ℕ, zero, suc, ◌+◌, ◌<◌, ◌≤◌, ◌&&◌, ◌||◌, Bool, true, false, cond, nat_lt, List, [], ◌∷◌, length, Option, Some, slice_get, refl, sym, ap, ◌∙◌, subst, arith, inl, inr}
+use Rattle.std.proofs.Common.{◌≡◌, ◌≢◌, ◌⊎◌, ℕ, ℤ, zero, suc, ◌+◌, ◌<◌, ◌≤◌, ◌&&◌, ◌||◌, Bool, true, false, cond, nat_lt, List, [], ◌∷◌, length, Option, Some, slice_get, refl, sym, ap, ◌∙◌, subst, arith, inl, inr}
 use Rattle.std.specs.List.{AllByRecursion}
 use Rattle.std.proofs.lemmas.Bool.{and_parts, cases_Bool, cases_eq, cases_lt, cond-true, cond-false}
 use Rattle.p3l_base.specs.declared.outcome.Outcome.{Outcome}
@@ -18,7 +18,7 @@ use Rattle.p3l_firing.specs.Fire.{can_fire, fire, row_can, row_fire}
 use Rattle.p3l_firing.specs.Lists.{has_first}
 use Rattle.p3l_firing.specs.Nodes.{Leaf, most_turns, spent_of, test_of, turns_of}
 use Rattle.p3l_firing.specs.Process.{Has, in_of, out_of}
-use Rattle.p3l_firing.specs.State.{Own, State, counted, front, has_room, pop, push, set_own}
+use Rattle.p3l_firing.specs.State.{Own, State, counted, first_state, front, has_room, pop, push, set_own}
 use Rattle.p3l_firing.specs.Token.{admitted, credit, later_tags, newest_tag, next_tag, once_more}
 use Rattle.p3l_firing.specs.Typed.{FitsKind, IsFitting, IsTyped}
 use Rattle.p3l_firing.specs.Widths.{Carries, Widths}
@@ -34,7 +34,7 @@ use Rattle.p3l_loop.specs.Loop.{Laps}
 use Rattle.p3l_loop.specs.laws.ViewLaw.{after_again}
 use Rattle.p3l_net.specs.Fitting.{LoopPlace}
 use Rattle.p3l_resume_laws.proofs.Credits.{some_ins, some_outs}
-use Rattle.p3l_resume_laws.proofs.Marks.{AllAre, HandsOn, are_kept, are_put, are_taken, fired_are, is_front}
+use Rattle.p3l_resume_laws.proofs.Marks.{AllAre, HandsOn, are_at_first, are_kept, are_put, are_taken, fired_are, is_front}
 use Rattle.p3l_resume_laws.proofs.Owns.{other_own}
 use Rattle.p3l_resume_laws.proofs.TurnTags.{InTurn, turn_again, turn_enters, turn_grows, turn_later, turn_more, turn_next, turn_none}
 
@@ -223,6 +223,10 @@ module _ (tree : Tree) (leaf : Leaf) (net : Net) (typed : IsTyped tree net) (pla
   -- each token within the loop is in one of its turns, with a number that the head has given out
   abbrev pub IsTurned : State → Type 0
   IsTurned s = AllAre (InChannel (s.own place.head).number) (InHand (s.own place.head).number) s
+
+  -- before anything has fired there are credits alone
+  pub first_turned : (items : List (List ℤ)) → IsTurned (first_state net items)
+  first_turned items = are_at_first _ _ net items (λ c some within. turn_none depth _ turns)
 
   grown : (s : State) (next more : ℕ) → next ≤ more → AllAre (InChannel next) (InHand next) s → AllAre (InChannel more) (InHand more) s
   grown s next more less all = record {
