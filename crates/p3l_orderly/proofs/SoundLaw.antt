@@ -1,5 +1,9 @@
 -- A shot is sound where it fits and is orderly.
-use Rattle.std.proofs.Common.{◌≡◌, ◌↔◌, ℕ, true, false, Bool, IsTrue, List, sym, ◌∙◌}
+use Rattle.std.proofs.Common.{◌≡◌, ◌↔◌, ℕ, true, false, Bool, IsTrue, List, length, Result, Ok, Err, sym, ◌∙◌}
+use Rattle.std.specs.Result.{IfOk}
+use Rattle.p3l_base.specs.declared.memory.NoMemory.{NoMemory}
+use Rattle.p3l_skel.specs.declared.tree.Tree.{Tree}
+use Rattle.p3l_firing.specs.Nodes.{Leaf}
 use Rattle.p3l_firing.specs.declared.net.Net.{Net}
 use Rattle.p3l_net.specs.Fitting.{Fitting}
 use Rattle.p3l_net.specs.declared.shot.Shot.{Shot}
@@ -13,9 +17,18 @@ module _ (units : Units) (counts : List ℕ) (net : Net) (shot : Shot) (fits : B
   pub unfit_unsound : fits ≡ false → IsTrue false ↔ IsSound units counts net shot
   unfit_unsound never = (λ h. absurd (cc h), λ s. absurd (cc (sym (fitting.1 s.fitting) ∙ never)))
 
-  pub orderly_sound : (orderly : Bool) → fits ≡ true → IsTrue orderly ↔ IsOrderlyShot units counts net shot →
-      IsTrue orderly ↔ IsSound units counts net shot
-  orderly_sound orderly fit is = (
-    λ h. record { fitting = fitting.0 fit; orderly = (is.0 h).orderly; balanced = (is.0 h).balanced },
-    λ s. is.1 (record { orderly = s.orderly; balanced = s.balanced }),
-  )
+-- whatever the units make of words, what the call for orderly shots answers of one that fits is whether it is sound
+module _ (tree : Tree) (counts : List ℕ) (net : Net) (shot : Shot)
+    (fitting : Fitting tree net (linked_widths tree counts) (linked_loops tree counts) shot) where
+  abbrev units : Leaf → Units
+  units leaf = record { tree = tree; leaf = leaf }
+
+  pub answered_sound : (result : Result Bool NoMemory) →
+      IfOk result (λ yes. (leaf : Leaf) (net : Net) → length shot.chans ≡ length net.chans → IsTrue yes ↔ IsOrderlyShot (units leaf) counts net shot) →
+      IfOk result (λ yes. (leaf : Leaf) → IsTrue yes ↔ IsSound (units leaf) counts net shot)
+  answered_sound (Ok orderly) is = λ leaf.
+      let same = is leaf net fitting.fits.chans in (
+        λ h. (let found = same.0 h in record { fitting = fitting; orderly = found.orderly; balanced = found.balanced }),
+        λ s. same.1 (record { orderly = s.orderly; balanced = s.balanced }),
+      )
+  answered_sound (Err error) is = tt

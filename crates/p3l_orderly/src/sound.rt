@@ -31,7 +31,8 @@ pub fn is_sound(
     ensures { IfOk result (λ yes. (leaf : Leaf) → IsTrue yes
         ↔ IsSound (record { tree = tree.now; leaf = leaf }) counts.now.list net.now shot.now) }
 {
-    if !is_fitting(alloc, tree, counts, net, shot)? {
+    let fits = is_fitting(alloc, tree, counts, net, shot)?;
+    if !fits {
         return Ok(false);
     }
     is_orderly(alloc, tree, counts, shot)

@@ -3,7 +3,7 @@
 ghost use Rattle.std.specs.List.{All};
 ghost use Rattle.p3l_net.specs.declared.shot.Own.{Own as TheOwn};
 ghost use Rattle.p3l_resume.specs.Ranges.{AreInRange, HasRanges, HasRange, IsInRange, IsTag, IsWord, WhatHasFewItemsCanBeWritten};
-ghost use Rattle.std.specs.Prelude.{◌≡◌, IfSome, true};
+ghost use Rattle.std.specs.Prelude.{◌≡◌, ◌<◌, ◌^◌, IfSome, true};
 ghost use Rattle.p3l_format.specs.Numbers.{is_byte};
 
 use crate::saved::Saved;
@@ -34,15 +34,18 @@ fn look_at_bytes(bytes: &[u8])
     ensures { All (λ byte. is_byte byte ≡ true) bytes.now }
 {}
 
+// Looks at the number of a module.
+fn look_at_module(_module: u32)
+    ensures { _module < 2 ^ 32 }
+{}
+
 // Looks at an outcome.
 fn look_at_outcome(outcome: &Outcome)
     ensures { HasRange outcome.now }
 {
     match outcome {
         Outcome::Value(words) => look_at_words(words.as_slice()),
-        Outcome::Trapped(trap) => {
-            let _module = trap.module;
-        }
+        Outcome::Trapped(trap) => look_at_module(trap.module),
     }
 }
 
