@@ -8,3 +8,17 @@ pub mod Elements
 pub mod Rooms
 pub mod FewItems
 pub mod SavedLaw
+pub mod Marks
+pub mod Traps
+pub mod Credits
+pub mod Owns
+pub mod TurnTags
+pub mod Turning
+pub mod Ends
+pub mod Surveyed
+pub mod LoopAt
+pub mod Places
+pub mod LinkedPlaces
+pub mod KeptStates
+pub mod SavedStates
+pub mod KeptLaw

@@ -1,3 +1,5 @@
 pub mod Linked
 pub mod Widths
 pub mod Saved
+pub mod Traps
+pub mod Kept

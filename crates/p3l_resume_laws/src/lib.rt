@@ -4,6 +4,7 @@
 //! that does nothing.
 #![tactic(auto)]
 
+pub mod kept;
 pub mod linked;
 pub mod saved;
 pub mod widths;
