@@ -22,3 +22,4 @@ pub mod LinkedPlaces
 pub mod KeptStates
 pub mod SavedStates
 pub mod KeptLaw
+pub mod Tables

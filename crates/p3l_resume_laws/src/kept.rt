@@ -1,6 +1,7 @@
-// A law of what is saved of machines that run linked nets.
+// Laws of what is saved of machines that run linked nets.
 
 ghost use Rattle.p3l_resume_laws.specs.Kept.{EverySavedShotIsSound};
+ghost use Rattle.p3l_resume_laws.specs.Traps.{EveryTableNamesModules};
 
 /// Whatever the picks, what is saved of a machine that was started on a linked net, and fired with
 /// units whose traps name modules of its tree, is sound: it fits the net and its loops, the root is
@@ -8,4 +9,9 @@ ghost use Rattle.p3l_resume_laws.specs.Kept.{EverySavedShotIsSound};
 /// where it is resumed.
 pub fn every_saved_shot_is_sound()
     ensures { EverySavedShotIsSound }
+{}
+
+/// The traps of a table of units name modules of its tree: each that of the module that ran.
+pub fn every_table_names_modules()
+    ensures { EveryTableNamesModules }
 {}
