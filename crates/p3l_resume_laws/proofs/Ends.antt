@@ -48,35 +48,44 @@ module _ (tree : Tree) (lawful : IsLawfulTree tree) (k n : ℕ) (there : k < len
       pipe_serves tree (length (node_at tree k).parts) k (record { some = chain.0; parts = refl; chain = chain.1 })
   row_serves (Farm workers) is own =
       let form = subst (λ f. IsLawfulForm tree f (node_at tree k).ins (node_at tree k).outs (node_at tree k).parts) is (lawful_at tree lawful k there).form in
-      farm_serves tree k k n (refl, record {
-        there = there;
-        clause = workers;
-        form = is;
-        count = subst (λ f. IsLawfulCount f n) (sym is) own;
-        part = farm_part tree (node_at tree k).ins (node_at tree k).outs (node_at tree k).parts form;
-      })
+      farm_serves tree k k n (
+        refl,
+        record {
+          there = there;
+          clause = workers;
+          form = is;
+          count = subst (λ f. IsLawfulCount f n) (sym is) own;
+          part = farm_part tree (node_at tree k).ins (node_at tree k).outs (node_at tree k).parts form;
+        },
+      )
   row_serves (Map workers cut) is own =
       map_serves tree k k n (refl, record { there = there; clause = workers; cut = cut; form = is; count = subst (λ f. IsLawfulCount f n) (sym is) own })
   row_serves (Reduce workers len elem) is own =
       let part = reduce_part tree lawful k there is in
-      reduce_serves tree k k n len (refl, record {
-        there = there;
-        clause = workers;
-        elem = elem;
-        form = is;
-        count = subst (λ f. IsLawfulCount f n) (sym is) own;
-        result = part.result;
-      })
+      reduce_serves tree k k n len (
+        refl,
+        record {
+          there = there;
+          clause = workers;
+          elem = elem;
+          form = is;
+          count = subst (λ f. IsLawfulCount f n) (sym is) own;
+          result = part.result;
+        },
+      )
   row_serves (Loop turns tokens) is own =
       let parts = (loop_parts tree lawful k there is).parts in
-      loop_serves tree k k tokens (refl, record {
-        there = there;
-        most = turns;
-        tokens = tokens;
-        form = is;
-        same = parts.same_words;
-        body = parts.turned;
-      })
+      loop_serves tree k k tokens (
+        refl,
+        record {
+          there = there;
+          most = turns;
+          tokens = tokens;
+          form = is;
+          same = parts.same_words;
+          body = parts.turned;
+        },
+      )
 
 shape_serves : (tree : Tree) (count : ℕ → ℕ) (k : ℕ) → IsLawfulTree tree → k < length tree.nodes → HasOwnCount (node_at tree k).form (count k) → IsTypedShape tree k (shape_at tree count k)
 unfolding shape_at

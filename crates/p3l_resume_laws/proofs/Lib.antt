@@ -8,6 +8,7 @@ pub mod Elements
 pub mod Rooms
 pub mod FewItems
 pub mod SavedLaw
+pub mod Lists
 pub mod Marks
 pub mod Traps
 pub mod Credits

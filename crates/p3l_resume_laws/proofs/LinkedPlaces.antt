@@ -35,10 +35,11 @@ standing_from net p (x ∷ xs) each =
 row_from : (w : Widths) (c : ℕ) (row : List Width) → ((i : ℕ) → i < length row → Carries w (c + i) (width_at row i).words (width_at row i).tags) → CarryRow w c row
 row_from w c [] each = tt
 row_from w c (x ∷ xs) each =
-    let here : c + 0 ≡ c = omega arith in
-    (subst (λ z. Carries w z x.words x.tags) here (each 0 (omega arith)),
-    row_from w (suc c) xs (λ i low.
-    let next : c + suc i ≡ suc c + i = omega arith in subst (λ z. Carries w z (width_at xs i).words (width_at xs i).tags) next (each (suc i) (omega (arith, low)))))
+    let here : c + 0 ≡ c = omega arith in (
+      subst (λ z. Carries w z x.words x.tags) here (each 0 (omega arith)),
+      row_from w (suc c) xs (λ i low.
+          let next : c + suc i ≡ suc c + i = omega arith in subst (λ z. Carries w z (width_at xs i).words (width_at xs i).tags) next (each (suc i) (omega (arith, low)))),
+    )
 
 from_at : (P : ℕ → Proc → Type 0) (p : ℕ) (xs : List Proc) → AllFrom P p xs → (i : ℕ) (q : Proc) → slice_get xs i ≡ Some q → P (p + i) q
 from_at P p [] all i q e = cc

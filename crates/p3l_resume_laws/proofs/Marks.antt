@@ -45,6 +45,7 @@ use Rattle.p3l_firing.proofs.row.Gather as gather_row
 use Rattle.p3l_firing.proofs.row.Head.{comes_in}
 use Rattle.p3l_firing.proofs.row.Scatter as scatter_row
 use Rattle.p3l_firing.proofs.row.Tail.{dropped_all, picked_all}
+use Rattle.p3l_resume_laws.proofs.Lists.{all_same}
 
 -- C holds of each token in a channel, and H of each that a process holds
 pub record AllAre (C H : ℕ → Token → Type 0) (s : State) : Type 0 where
@@ -368,4 +369,4 @@ are_at_first C H net items each = record { sent = λ c. credits c (chan_at net c
   where
     credits : (c n : ℕ) → (0 < n → C c credit) → AllByRecursion (C c) (replicate n credit)
     credits c zero h = tt
-    credits c (suc n) h = (h (omega arith), credits c n (λ some. h (omega arith)))
+    credits c (suc n) h = all_same (C c) (suc n) credit (h (omega arith))

@@ -41,9 +41,10 @@ use Rattle.p3l_fitting.specs.Widths.{copies, copy_count, deeper, own_widths, sea
 use Rattle.p3l_fitting.specs.declared.survey.Survey.{Survey}
 use Rattle.p3l_fitting.specs.declared.width.Width.{Width}
 use Rattle.p3l_resume_laws.proofs.Forced.{IsForcedRow, nodes_of, piece_forced, row_forced}
+use Rattle.p3l_resume_laws.proofs.Lists.{all_append}
 use Rattle.p3l_resume_laws.proofs.LoopAt.{AreRowsOfLoop, IsAt, IsFewAt, IsLoopAt, loop_at, tail_few}
 use Rattle.p3l_resume_laws.proofs.Rows.{CarryRow}
-use Rattle.p3l_resume_laws.proofs.Surveyed.{IsDeep, all_append, inner_deep, loop_deep, row_sum, survey_deep, survey_procs}
+use Rattle.p3l_resume_laws.proofs.Surveyed.{IsDeep, inner_deep, loop_deep, row_sum, survey_deep, survey_procs}
 
 -- LISTS
 
@@ -99,9 +100,11 @@ reduce_none : (k len level : ℕ) (base : Base) → AllByRecursion NoTail ((redu
 unfolding reduce_shape NoTail
 reduce_none k len zero base = (λ e. cc, tt)
 reduce_none k len (suc d) base =
-    let m : ℕ = 2 ^ suc d in
-    (λ e. cc, all_append NoTail (join_procs k base.output (base.chan + m) 1 (m - 1)) _ (joins_none k base.output (base.chan + m) 1 (m - 1))
-    (folds_none k m base.output base.chan (base.chan + m) 0 (segment_lengths (suc d) len)))
+    let m : ℕ = 2 ^ suc d in (
+      λ e. cc,
+      all_append NoTail (join_procs k base.output (base.chan + m) 1 (m - 1)) _ (joins_none k base.output (base.chan + m) 1 (m - 1))
+          (folds_none k m base.output base.chan (base.chan + m) 0 (segment_lengths (suc d) len)),
+    )
 
 -- where a template's part is orderly, so are its inner parts
 reduce_orderly : (part : ℕ → Base → Part) (k len level : ℕ) (base : Base) (p c : ℕ) (s : State) → all_orderly (inner_parts part ((reduce_shape k len level).seats base) p c) s ≡ true
@@ -297,9 +300,11 @@ module _ (net : Net) (units : Units) (count : ℕ → ℕ) (cap : ℕ) (pos : 0 
     own_places (Farm workers) is r e p c = tt
     own_places (Map workers cut) is r e p c = tt
     own_places (Reduce workers len elem) is r e p c = tt
-    own_places (Loop turns tokens) is r e p c =
-        (subst₂ (λ y z. IsLoopAt net units count cap typed Above (loop_place base.proc base.chan y z)) (sym p) (sym c)
-        (loop_at net units count cap typed Above d k t base at turns tokens is (rows_at turns tokens is)), tt)
+    own_places (Loop turns tokens) is r e p c = (
+      subst₂ (λ y z. IsLoopAt net units count cap typed Above (loop_place base.proc base.chan y z)) (sym p) (sym c)
+          (loop_at net units count cap typed Above d k t base at turns tokens is (rows_at turns tokens is)),
+      tt,
+    )
 
     none : (r : ℕ) (q : Proc) → NoTail q → IsFewAt net units count cap typed Above r q
     unfolding NoTail
@@ -314,9 +319,14 @@ module _ (net : Net) (units : Units) (count : ℕ → ℕ) (cap : ℕ) (pos : 0 
     own_tails (Map workers cut) is = (λ e. cc, (λ e. cc, tt))
     own_tails (Reduce workers len elem) is = from_none _ base.proc _ none (reduce_none k len (level_of n) base)
     own_tails (Loop turns tokens) is =
-        let second : base.proc + 1 ≡ suc base.proc = omega arith in
-        (λ e. cc, (λ e s above. subst (λ p. length (s.own p).held ≤ (chan_at net (base.chan + 3)).cap) second
-        (tail_few net units count cap typed Above d k t base at turns tokens is s above), tt))
+        let second : base.proc + 1 ≡ suc base.proc = omega arith in (
+          λ e. cc,
+          (
+            λ e s above. subst (λ p. length (s.own p).held ≤ (chan_at net (base.chan + 3)).cap) second
+                (tail_few net units count cap typed Above d k t base at turns tokens is s above),
+            tt,
+          ),
+        )
 
     -- what is placed by the node itself, and what is inside it
     abbrev shape : Shape

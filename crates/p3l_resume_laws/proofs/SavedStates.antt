@@ -47,6 +47,7 @@ use Rattle.p3l_resume_laws.proofs.KeptStates.{IsKept}
 use Rattle.p3l_resume_laws.proofs.LinkedPlaces.{IsRootOrderly, linked_places, linked_tails}
 use Rattle.p3l_resume_laws.proofs.LoopAt.{IsLoopAt}
 use Rattle.p3l_resume_laws.proofs.Owns.{HoldsOne}
+use Rattle.p3l_resume_laws.proofs.Rows.{all_split}
 use Rattle.p3l_resume_laws.proofs.Turning.{IsTurned}
 use Rattle.p3l_resume_laws.proofs.TurnTags.{InTurn, from_oldest}
 
@@ -131,10 +132,6 @@ turning_saved depth next turns x turn deep =
     let lap = from_first x.tags (depth + 1) (omega (arith, enough)) in
     (omega (arith, number, low), (omega (arith, lap, some), omega (arith, lap, few)))
 
-left_part : {A : Type 0} (P : A → Type 0) (xs ys : List A) → AllByRecursion P (xs ++ ys) → AllByRecursion P xs
-left_part P [] ys all = tt
-left_part P (x ∷ xs) ys all = (all.0, left_part P xs ys all.1)
-
 -- A MACHINE
 
 module _ (m : Seen) where
@@ -187,7 +184,7 @@ module _ (m : Seen) where
         rooms = k.fitting.rooms;
         tokens = k.fitting.tokens;
         owns = k.fitting.owns;
-        unsent = left_part (λ words. length words ≡ (node_at units.tree 0).ins) (option_to_list m.inbox) rest k.fitting.unsent;
+        unsent = (all_split (λ words. length words ≡ (node_at units.tree 0).ins) (option_to_list m.inbox) rest k.fitting.unsent).0;
       };
     }
 
@@ -345,7 +342,7 @@ module _ (m : Seen) where
 
     items_left : HaveInWords units.tree (state_of (record same { fired = 0 }) []).unsent
     unfolding with_rest state_of
-    items_left = left_part (λ words. length words ≡ (node_at units.tree 0).ins) (option_to_list m.inbox) rest k.orderly.items
+    items_left = (all_split (λ words. length words ≡ (node_at units.tree 0).ins) (option_to_list m.inbox) rest k.orderly.items).0
 
     pub saved_orderly : IsOrderly units counts after
     saved_orderly =

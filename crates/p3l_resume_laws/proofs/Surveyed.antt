@@ -15,6 +15,7 @@ use Rattle.p3l_fitting.specs.Survey.{inner_survey, node_survey, own_procs}
 use Rattle.p3l_fitting.specs.Widths.{copies, copy_count, deeper, ins_width, no_width, outs_width, own_widths, reduce_widths, seat_nodes, segment_width, stage_widths, worker_widths}
 use Rattle.p3l_fitting.specs.declared.survey.Survey.{Survey}
 use Rattle.p3l_fitting.specs.declared.width.Width.{Width}
+use Rattle.p3l_resume_laws.proofs.Lists.{all_append, all_map, all_same, all_so}
 
 -- PROCESSES
 
@@ -58,18 +59,6 @@ survey_procs tree count (suc d) k t p c =
 abbrev pub IsDeep : ℕ → Width → Type 0
 IsDeep t x = (x.words ≡ 0) ⊎ (t ≤ x.tags)
 
-pub all_append : {A : Type 0} (P : A → Type 0) (xs ys : List A) → AllByRecursion P xs → AllByRecursion P ys → AllByRecursion P (xs ++ ys)
-all_append P [] ys h k = k
-all_append P (x ∷ xs) ys h k = (h.0, all_append P xs ys h.1 k)
-
-all_map : {A B : Type 0} (P : B → Type 0) (f : A → B) → ((x : A) → P (f x)) → (xs : List A) → AllByRecursion P (map f xs)
-all_map P f each [] = tt
-all_map P f each (x ∷ xs) = (each x, all_map P f each xs)
-
-all_same : {A : Type 0} (P : A → Type 0) (n : ℕ) (x : A) → P x → AllByRecursion P (replicate n x)
-all_same P zero x h = tt
-all_same P (suc n) x h = (h, all_same P n x h)
-
 workers_deep : (t n : ℕ) (a b : Width) → t ≤ a.tags → t ≤ b.tags → AllByRecursion (IsDeep t) (worker_widths n a b)
 workers_deep t n a b h k = all_append (IsDeep t) (replicate n a) (replicate n b) (all_same (IsDeep t) n a (inr h)) (all_same (IsDeep t) n b (inr k))
 
@@ -103,9 +92,8 @@ inner_deep t g each (k ∷ ks) p c =
     all_append (IsDeep t) (g k p c).widths _ (each k p c)
     (inner_deep t g each ks (p + (g k p c).procs) (c + length (g k p c).widths))
 
-less_deep : (t u : ℕ) → t ≤ u → (xs : List Width) → AllByRecursion (IsDeep u) xs → AllByRecursion (IsDeep t) xs
-less_deep t u less [] all = tt
-less_deep t u less (x ∷ xs) all = (elim all.0 [ inl none ↦ inl none | inr deep ↦ inr (omega (arith, less, deep)) ], less_deep t u less xs all.1)
+less_deep : (t u : ℕ) → t ≤ u → (x : Width) → IsDeep u x → IsDeep t x
+less_deep t u less x deep = elim deep [ inl none ↦ inl none | inr enough ↦ inr (omega (arith, less, enough)) ]
 
 pub survey_deep : (tree : Tree) (count : ℕ → ℕ) (d k t p c : ℕ) → AllByRecursion (IsDeep t) (node_survey tree count d k t p c).widths
 unfolding node_survey
@@ -117,4 +105,4 @@ survey_deep tree count (suc d) k t p c =
     let inner = inner_deep (t + deeper form) g (λ q p c. survey_deep tree count d q (t + deeper form) p c) (seat_nodes (node_at tree k) (count k))
     (p + own_procs form (count k)) (c + length own) in
     all_append (IsDeep t) own _ (own_deep tree k (count k) t form (node_at tree k).parts)
-    (less_deep t (t + deeper form) (omega arith) _ inner)
+    (all_so (IsDeep (t + deeper form)) (IsDeep t) (less_deep t (t + deeper form) (omega arith)) _ inner)

@@ -30,21 +30,8 @@ use Rattle.p3l_firing.specs.kinds.Join.{paired_by}
 use Rattle.p3l_firing.specs.kinds.Tail.{Turn, Turn.Held, Turn.Again, by_test, turn_of}
 use Rattle.p3l_net.specs.Fitting.{IsOfModule}
 use Rattle.p3l_resume_laws.specs.Traps.{TrapsNameModules}
+use Rattle.p3l_resume_laws.proofs.Lists.{all_drop, all_map, all_take}
 use Rattle.p3l_resume_laws.proofs.Marks.{HandsOn}
-
-all_take : {A : Type 0} (P : A → Type 0) (n : ℕ) (xs : List A) → AllByRecursion P xs → AllByRecursion P (take n xs)
-all_take P zero xs all = tt
-all_take P (suc n) [] all = tt
-all_take P (suc n) (x ∷ xs) all = (all.0, all_take P n xs all.1)
-
-all_drop : {A : Type 0} (P : A → Type 0) (n : ℕ) (xs : List A) → AllByRecursion P xs → AllByRecursion P (drop n xs)
-all_drop P zero xs all = all
-all_drop P (suc n) [] all = tt
-all_drop P (suc n) (x ∷ xs) all = all_drop P n xs all.1
-
-all_map : {A B : Type 0} (P : B → Type 0) (f : A → B) → ((x : A) → P (f x)) → (xs : List A) → AllByRecursion P (map f xs)
-all_map P f each [] = tt
-all_map P f each (x ∷ xs) = (each x, all_map P f each xs)
 
 some_there : (infos : List ModuleInfo) (m : ℕ) (P : ModuleInfo → Type 0) → IsSomeAnd (slice_get infos m) P → m < length infos
 some_there [] m P h = absurd h

@@ -34,6 +34,7 @@ use Rattle.p3l_loop.specs.Loop.{Laps}
 use Rattle.p3l_loop.specs.laws.ViewLaw.{after_again}
 use Rattle.p3l_net.specs.Fitting.{LoopPlace}
 use Rattle.p3l_resume_laws.proofs.Credits.{some_ins, some_outs}
+use Rattle.p3l_resume_laws.proofs.Lists.{all_so}
 use Rattle.p3l_resume_laws.proofs.Marks.{AllAre, HandsOn, are_at_first, are_kept, are_put, are_taken, fired_are, is_front}
 use Rattle.p3l_resume_laws.proofs.Owns.{other_own}
 use Rattle.p3l_resume_laws.proofs.TurnTags.{InTurn, turn_again, turn_enters, turn_grows, turn_later, turn_more, turn_next, turn_none}
@@ -76,9 +77,6 @@ pub record IsClosed (net : Net) (widths : Widths) (place : LoopPlace) (h t : Pro
   pub others : (p : ℕ) (q : Proc) → slice_get net.procs p ≡ Some q → (IsInside place p → ⊥) → (c : ℕ) → Has q.outs c → IsWithin place c → ⊥
   pub tags : (c : ℕ) → IsWithin place c → 1 ≤ widths.words c → widths.tags (in_of h 0) + 2 ≤ widths.tags c
 
-one_has : (cs : List ℕ) (c : ℕ) → cs ≡ c ∷ [] → Has cs c
-one_has cs c e = subst (λ z. Has z c) (sym e) (inl refl)
-
 two_have : (cs : List ℕ) (a b : ℕ) → cs ≡ a ∷ (b ∷ []) → Has cs a × Has cs b
 two_have cs a b e = (subst (λ z. Has z a) (sym e) (inl refl), subst (λ z. Has z b) (sym e) (inr (inl refl)))
 
@@ -88,18 +86,18 @@ three_have cs a b c e = (subst (λ z. Has z a) (sym e) (inl refl), subst (λ z. 
 -- what holds of every token in what a process writes, and of every token that it holds, it hands on
 module _ (C H : ℕ → Token → Type 0) (tree : Tree) (leaf : Leaf) (widths : Widths) (p : ℕ) (q : Proc) (writes : (c : ℕ) → Has q.outs c → (x : Token) → C c x) (holds : (x : Token) → H p x) where
   pub any_handed : (k : ProcKind) → FitsKind k tree widths q → HandsOn C H tree leaf widths p q k
-  any_handed kinds.Source fits = λ words. writes (out_of q 0) (one_has q.outs _ fits.outs) _
+  any_handed kinds.Source fits = λ words. writes (out_of q 0) (first_in q.outs fits.outs) _
   any_handed kinds.Sink fits = tt
-  any_handed kinds.Run fits = λ x h. writes (out_of q 0) (one_has q.outs _ fits.outs) _
+  any_handed kinds.Run fits = λ x h. writes (out_of q 0) (first_in q.outs fits.outs) _
   any_handed kinds.Emit fits = λ c n x there wide h. writes c there _
-  any_handed kinds.Collect fits = λ c x there h. writes (out_of q 0) (one_has q.outs _ fits.outs) _
+  any_handed kinds.Collect fits = λ c x there h. writes (out_of q 0) (first_in q.outs fits.outs) _
   any_handed kinds.Scatter fits = record { takes = λ x h. holds x; sends = λ c k x there h. writes c there _ }
-  any_handed kinds.Gather fits = record { takes = λ c x there h. holds x; sends = λ xs full all. writes (out_of q 0) (one_has q.outs _ fits.outs) _ }
+  any_handed kinds.Gather fits = record { takes = λ c x there h. holds x; sends = λ xs full all. writes (out_of q 0) (first_in q.outs fits.outs) _ }
   any_handed kinds.Split fits = record { takes = λ x h. holds x; sends = λ c k x there h. writes c there _ }
-  any_handed kinds.FoldGather fits = record { takes = λ c x there h. holds x; sends = λ xs full all. writes (out_of q 0) (one_has q.outs _ fits.outs) _ }
-  any_handed kinds.Join fits = λ x y h k. writes (out_of q 0) (one_has q.outs _ fits.outs) _
+  any_handed kinds.FoldGather fits = record { takes = λ c x there h. holds x; sends = λ xs full all. writes (out_of q 0) (first_in q.outs fits.outs) _ }
+  any_handed kinds.Join fits = λ x y h k. writes (out_of q 0) (first_in q.outs fits.outs) _
   any_handed kinds.Head fits =
-      let out = one_has q.outs _ fits.outs in
+      let out = first_in q.outs fits.outs in
       record { round = λ x h. writes (out_of q 0) out _; enters = λ n x wide h. writes (out_of q 0) out _ }
   any_handed kinds.Tail fits =
       let outs = three_have q.outs _ _ _ fits.outs in
@@ -136,15 +134,15 @@ module _ (tree : Tree) (leaf : Leaf) (net : Net) (typed : IsTyped tree net) (pla
     unfolding paired_by
     inner_handed kinds.Source fits = λ words within. turn_none depth next turns
     inner_handed kinds.Sink fits = tt
-    inner_handed kinds.Run fits = λ x turn within. turn (reads (in_of q 0) (one_has q.ins _ fits.ins))
+    inner_handed kinds.Run fits = λ x turn within. turn (reads (in_of q 0) (first_in q.ins fits.ins))
     inner_handed kinds.Emit fits = λ c n x there wide turn within.
-        let here = reads (in_of q 0) (one_has q.ins _ fits.ins) in
+        let here = reads (in_of q 0) (first_in q.ins fits.ins) in
         let enough = deep (in_of q 0) _ here fits.takes (some_ins tree typed.lawful typed.widths q q.node fits.node) in
         let long = wide.tags in
         turn_more depth next turns n x.tags (omega (arith, enough, long)) (turn here)
     inner_handed kinds.Collect fits = λ c x there turn within. turn_later depth next turns x.tags (turn (reads c there))
     inner_handed kinds.Scatter fits = record {
-      takes = λ x turn held. turn (reads (in_of q 0) (one_has q.ins _ fits.ins));
+      takes = λ x turn held. turn (reads (in_of q 0) (first_in q.ins fits.ins));
       sends = λ c k x there turn within. turn inside;
     }
     inner_handed kinds.Gather fits = record {
@@ -152,7 +150,7 @@ module _ (tree : Tree) (leaf : Leaf) (net : Net) (typed : IsTyped tree net) (pla
       sends = λ xs full all within. all_first (InHand next p) credit xs full all inside;
     }
     inner_handed kinds.Split fits = record {
-      takes = λ x turn held. turn (reads (in_of q 0) (one_has q.ins _ fits.ins));
+      takes = λ x turn held. turn (reads (in_of q 0) (first_in q.ins fits.ins));
       sends = λ c k x there turn within. turn inside;
     }
     inner_handed kinds.FoldGather fits = record {
@@ -172,7 +170,7 @@ module _ (tree : Tree) (leaf : Leaf) (net : Net) (typed : IsTyped tree net) (pla
               (turn_more depth next turns n x.tags (omega (arith, enough, long)) (turn here));
         }
     inner_handed kinds.Tail fits =
-        let here = reads (in_of q 0) (one_has q.ins _ fits.ins) in
+        let here = reads (in_of q 0) (first_in q.ins fits.ins) in
         record {
           holds = λ x outcome turn e held. turn here;
           again = λ x wide turn e within.
@@ -230,13 +228,9 @@ module _ (tree : Tree) (leaf : Leaf) (net : Net) (typed : IsTyped tree net) (pla
 
   grown : (s : State) (next more : ℕ) → next ≤ more → AllAre (InChannel next) (InHand next) s → AllAre (InChannel more) (InHand more) s
   grown s next more less all = record {
-    sent = λ c. each (InChannel next c) (InChannel more c) (λ x turn within. turn_grows depth next more turns x.tags less (turn within)) (s.tokens c) (all.sent c);
-    held = λ p. each (InHand next p) (InHand more p) (λ x turn inside. turn_grows depth next more turns x.tags less (turn inside)) (s.own p).held (all.held p);
+    sent = λ c. all_so (InChannel next c) (InChannel more c) (λ x turn within. turn_grows depth next more turns x.tags less (turn within)) (s.tokens c) (all.sent c);
+    held = λ p. all_so (InHand next p) (InHand more p) (λ x turn inside. turn_grows depth next more turns x.tags less (turn inside)) (s.own p).held (all.held p);
   }
-    where
-      each : (P Q : Token → Type 0) → ((x : Token) → P x → Q x) → (xs : List Token) → AllByRecursion P xs → AllByRecursion Q xs
-      each P Q turn [] all = tt
-      each P Q turn (x ∷ xs) all = (turn x all.0, each P Q turn xs all.1)
 
   module _ (s : State) (fit : IsFitting tree net typed.widths s) (all : IsTurned s) where
     abbrev own : Own
