@@ -30,14 +30,16 @@ use Rattle.p3l_link.proofs.Counted.{seat_counted, shape_lawful}
 
 -- THE TEMPLATES
 
-farm_part : (tree : Tree) (ins outs : ℕ) (parts : List ℕ) → HasOnePart (λ p. HasWords tree p ins outs) parts → HasWords tree (get_or parts 0 0) ins outs
+farm_part : (tree : Tree) (ins outs : ℕ) (parts : List ℕ) → HasOnePart (λ p. HasWords tree p ins outs) parts →
+    HasWords tree (get_or parts 0 0) ins outs
 farm_part tree ins outs [] h = absurd h
 farm_part tree ins outs (p ∷ []) h = h
 farm_part tree ins outs (p ∷ (r ∷ parts)) h = absurd h
 
 module _ (tree : Tree) (lawful : IsLawfulTree tree) (k n : ℕ) (there : k < length tree.nodes) where
   -- each row of the table is typed for a node of its form
-  row_serves : (form : Form) → (node_at tree k).form ≡ form → HasOwnCount form n → IsTypedShape tree k (shape_row form k (length (node_at tree k).parts) n)
+  row_serves : (form : Form) → (node_at tree k).form ≡ form → HasOwnCount form n →
+      IsTypedShape tree k (shape_row form k (length (node_at tree k).parts) n)
   unfolding shape_row
   row_serves Seq is own =
       run_typed tree k (record { there = there; takes = subst (λ f. Takes f (node_at tree k).ins 0 (node_at tree k).ins) (sym is) (refl, refl) })
@@ -87,7 +89,8 @@ module _ (tree : Tree) (lawful : IsLawfulTree tree) (k n : ℕ) (there : k < len
         },
       )
 
-shape_serves : (tree : Tree) (count : ℕ → ℕ) (k : ℕ) → IsLawfulTree tree → k < length tree.nodes → HasOwnCount (node_at tree k).form (count k) → IsTypedShape tree k (shape_at tree count k)
+shape_serves : (tree : Tree) (count : ℕ → ℕ) (k : ℕ) → IsLawfulTree tree → k < length tree.nodes →
+    HasOwnCount (node_at tree k).form (count k) → IsTypedShape tree k (shape_at tree count k)
 unfolding shape_at
 shape_serves tree count k lawful there own = row_serves tree lawful k (count k) there (node_at tree k).form refl own
 
@@ -112,7 +115,8 @@ outs_append c ps qs = ap (times c) (flat_map-append (λ (q : Proc). q.outs) ps q
 numbers_split : (c x n k : ℕ) → times c (numbers_from x (n + k)) ≡ times c (numbers_from x n) + times c (numbers_from (x + n) k)
 numbers_split c x n k = ap (times c) (numbers_append x n k) ∙ times_append c (numbers_from x n) (numbers_from (x + n) k)
 
-pub inner_once : (f : ℕ → Base → Piece) (seats : List Seat) (p e : ℕ) → ((v : ℕ) → v < length seats → (b : Base) → HasOnce b (f (get_or seats v no_seat).part b)) → HaveOnce seats e (inner_pieces f seats p e)
+pub inner_once : (f : ℕ → Base → Piece) (seats : List Seat) (p e : ℕ) →
+    ((v : ℕ) → v < length seats → (b : Base) → HasOnce b (f (get_or seats v no_seat).part b)) → HaveOnce seats e (inner_pieces f seats p e)
 unfolding inner_pieces numbers_from
 inner_once f [] p e each = record { reads = λ c. refl; writes = λ c. refl }
 inner_once f (x ∷ xs) p e each =
@@ -146,7 +150,9 @@ inner_once f (x ∷ xs) p e each =
     }
 
 -- a template round inner parts that do so
-whole_once : (tree : Tree) (k cap : ℕ) (shape : Shape) → IsLawfulShape shape → IsTypedShape tree k shape → (f : ℕ → Base → Piece) (base : Base) → ((v : ℕ) → v < length (shape.seats base) → (b : Base) → HasOnce b (f (get_or (shape.seats base) v no_seat).part b)) → HasOnce base (whole_piece shape cap f base)
+whole_once : (tree : Tree) (k cap : ℕ) (shape : Shape) → IsLawfulShape shape → IsTypedShape tree k shape → (f : ℕ → Base → Piece)
+    (base : Base) → ((v : ℕ) → v < length (shape.seats base) → (b : Base) → HasOnce b (f (get_or (shape.seats base) v no_seat).part b)) →
+    HasOnce base (whole_piece shape cap f base)
 whole_once tree k cap shape law typed f base each =
     let seats : List Seat = shape.seats base in
     let own = shape.laid cap base in
@@ -180,7 +186,8 @@ whole_once tree k cap shape law typed f base each =
     }
 
 -- what is placed of any node
-pub piece_once : (tree : Tree) (count : ℕ → ℕ) (cap : ℕ) → IsLawfulTree tree → (d k : ℕ) (base : Base) → IsCounted tree count d k → HasOnce base (piece_of tree count cap d k base)
+pub piece_once : (tree : Tree) (count : ℕ → ℕ) (cap : ℕ) → IsLawfulTree tree → (d k : ℕ) (base : Base) → IsCounted tree count d k →
+    HasOnce base (piece_of tree count cap d k base)
 unfolding piece_of IsCounted
 piece_once tree count cap lawful zero k base h = absurd h
 piece_once tree count cap lawful (suc d) k base h =

@@ -19,7 +19,8 @@ use Rattle.p3l_resume_laws.proofs.Owns.{HoldsOne, fired_holds, fresh_holds}
 use Rattle.p3l_resume_laws.proofs.Traps.{IsNamed, named_handed}
 use Rattle.p3l_resume_laws.proofs.Turning.{IsClosed, IsTurned, fired_turned, first_turned}
 
-module _ (units : Units) (counts : List ℕ) (cap : ℕ) (l : IsLinkable units counts cap) (named : TrapsNameModules units.tree units.leaf) (typed : IsTyped units.tree (net_of units counts cap)) where
+module _ (units : Units) (counts : List ℕ) (cap : ℕ) (l : IsLinkable units counts cap) (named : TrapsNameModules units.tree units.leaf)
+    (typed : IsTyped units.tree (net_of units counts cap)) where
   abbrev net : Net
   net = net_of units counts cap
 
@@ -71,5 +72,6 @@ module _ (units : Units) (counts : List ℕ) (cap : ℕ) (l : IsLinkable units c
   kept_picks c (p ∷ picks) k = kept_picks (picked units.tree units.leaf net c p) picks (kept_picked c p k)
 
   -- whatever the picks, what a run reaches keeps all of it
-  pub run_kept : (items : List (List ℤ)) (picks : List ℕ) → HaveInWords units.tree items → IsKept (linked_run units counts cap items picks).state
+  pub run_kept : (items : List (List ℤ)) (picks : List ℕ) → HaveInWords units.tree items →
+      IsKept (linked_run units counts cap items picks).state
   run_kept items picks long = kept_picks (course_from (first_state net items)) picks (kept_first items long)

@@ -25,14 +25,16 @@ use Rattle.p3l_resume_laws.proofs.LoopAt.{IsAt, IsFewAt, IsLoopAt}
 use Rattle.p3l_resume_laws.proofs.Places.{AllFrom, HasPlaces, places}
 use Rattle.p3l_resume_laws.proofs.Rows.{CarryRow}
 
-standing_from : (net : Net) (p : ℕ) (xs : List Proc) → ((i : ℕ) (q : Proc) → slice_get xs i ≡ Some q → slice_get net.procs (p + i) ≡ Some q) → AreStanding net p xs
+standing_from : (net : Net) (p : ℕ) (xs : List Proc) →
+    ((i : ℕ) (q : Proc) → slice_get xs i ≡ Some q → slice_get net.procs (p + i) ≡ Some q) → AreStanding net p xs
 unfolding AreStanding
 standing_from net p [] each = tt
 standing_from net p (x ∷ xs) each =
     let here : p ≡ p + 0 = omega arith in
     (ap (slice_get net.procs) here ∙ each 0 x refl, standing_from net (suc p) xs (λ i q e. let next : suc p + i ≡ p + suc i = omega arith in ap (slice_get net.procs) next ∙ each (suc i) q e))
 
-row_from : (w : Widths) (c : ℕ) (row : List Width) → ((i : ℕ) → i < length row → Carries w (c + i) (width_at row i).words (width_at row i).tags) → CarryRow w c row
+row_from : (w : Widths) (c : ℕ) (row : List Width) →
+    ((i : ℕ) → i < length row → Carries w (c + i) (width_at row i).words (width_at row i).tags) → CarryRow w c row
 row_from w c [] each = tt
 row_from w c (x ∷ xs) each =
     let here : c + 0 ≡ c = omega arith in (
@@ -49,7 +51,9 @@ from_at P p (x ∷ xs) all zero q e =
     subst (λ z. P z q) here (subst (P p) is all.0)
 from_at P p (x ∷ xs) all (suc i) q e = let next : suc p + i ≡ p + suc i = omega arith in subst (λ z. P z q) next (from_at P (suc p) xs all.1 i q e)
 
-module _ (units : Units) (counts : List ℕ) (cap : ℕ) (l : IsLinkable units counts cap) (typed : IsTyped units.tree (net_of units counts cap)) (agree : AgreeOn (length (net_of units counts cap).chans) (linked_widths units.tree counts) typed.widths) where
+module _ (units : Units) (counts : List ℕ) (cap : ℕ) (l : IsLinkable units counts cap)
+    (typed : IsTyped units.tree (net_of units counts cap))
+    (agree : AgreeOn (length (net_of units counts cap).chans) (linked_widths units.tree counts) typed.widths) where
   abbrev net : Net
   net = net_of units counts cap
 

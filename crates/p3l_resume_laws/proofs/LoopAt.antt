@@ -81,7 +81,8 @@ get_inside (x ∷ xs) zero q e = omega arith
 get_inside (x ∷ xs) (suc i) q e = let rest = get_inside xs i q e in omega (arith, rest)
 
 -- processes that are in a net from number p on
-stands_at : (net : Net) (p : ℕ) (xs : List Proc) → AreStanding net p xs → (i : ℕ) (q : Proc) → slice_get xs i ≡ Some q → slice_get net.procs (p + i) ≡ Some q
+stands_at : (net : Net) (p : ℕ) (xs : List Proc) → AreStanding net p xs → (i : ℕ) (q : Proc) → slice_get xs i ≡ Some q →
+    slice_get net.procs (p + i) ≡ Some q
 unfolding AreStanding
 stands_at net p [] all i q e = cc
 stands_at net p (x ∷ xs) all zero q e = let here : p + 0 ≡ p = omega arith in ap (slice_get net.procs) here ∙ all.0 ∙ e
@@ -89,7 +90,8 @@ stands_at net p (x ∷ xs) all (suc i) q e =
     let here : p + suc i ≡ suc p + i = omega arith in
     ap (slice_get net.procs) here ∙ stands_at net (suc p) xs all.1 i q e
 
-at_stands : (net : Net) (p : ℕ) (xs : List Proc) → AreStanding net p xs → (i : ℕ) (q : Proc) → i < length xs → slice_get net.procs (p + i) ≡ Some q → slice_get xs i ≡ Some q
+at_stands : (net : Net) (p : ℕ) (xs : List Proc) → AreStanding net p xs → (i : ℕ) (q : Proc) → i < length xs →
+    slice_get net.procs (p + i) ≡ Some q → slice_get xs i ≡ Some q
 unfolding AreStanding
 at_stands net p [] all i q low e = absurd (omega (arith, low))
 at_stands net p (x ∷ xs) all zero q low e = let here : p ≡ p + 0 = omega arith in sym all.0 ∙ (ap (slice_get net.procs) here ∙ e)
@@ -140,7 +142,8 @@ module _ (net : Net) (units : Units) (count : ℕ → ℕ) (cap : ℕ) (typed : 
   abbrev pub IsFewAt : ℕ → Proc → Type 0
   IsFewAt p q = q.kind ≡ kinds.Tail → (s : State) → Above s → length (s.own p).held ≤ (chan_at net (out_of q 2)).cap
 
-  module _ (d k t : ℕ) (base : Base) (at : IsAt (suc d) k t base) (turns tokens : ℕ) (is : (node_at units.tree k).form ≡ Loop turns tokens) where
+  module _ (d k t : ℕ) (base : Base) (at : IsAt (suc d) k t base) (turns tokens : ℕ)
+      (is : (node_at units.tree k).form ≡ Loop turns tokens) where
     abbrev shape : Shape
     shape = loop_shape k tokens
 
@@ -178,7 +181,8 @@ module _ (net : Net) (units : Units) (count : ℕ → ℕ) (cap : ℕ) (typed : 
     there : k < length units.tree.nodes
     there = counted_there units.tree count (suc d) k at.counted
 
-    each_counted : (v : ℕ) → v < length (shape.seats base) → IsCounted units.tree count d (part_at units.tree k (get_or (shape.seats base) v no_seat).part)
+    each_counted : (v : ℕ) → v < length (shape.seats base) →
+        IsCounted units.tree count d (part_at units.tree k (get_or (shape.seats base) v no_seat).part)
     each_counted v low =
         subst (λ (z : Shape). IsCounted units.tree count d (part_at units.tree k (get_or (z.seats base) v no_seat).part)) shape_is
         (seat_counted units.tree count k typed.lawful there base v (subst (λ (z : Shape). v < length (z.seats base)) (sym shape_is) low) d at.counted)
@@ -214,7 +218,8 @@ module _ (net : Net) (units : Units) (count : ℕ → ℕ) (cap : ℕ) (typed : 
     tail_fits = typed.processes (base.proc + 1) tl tail_at
 
     -- a process inside is the head, the tail or one of the body
-    inner_at : (p : ℕ) (q : Proc) → slice_get net.procs p ≡ Some q → IsInside place p → p ≢ base.proc → p ≢ base.proc + 1 → slice_get inner.procs (p - (base.proc + 2)) ≡ Some q
+    inner_at : (p : ℕ) (q : Proc) → slice_get net.procs p ≡ Some q → IsInside place p → p ≢ base.proc → p ≢ base.proc + 1 →
+        slice_get inner.procs (p - (base.proc + 2)) ≡ Some q
     inner_at p q e inside not_head not_tail =
         let above = inside.above in
         let below = inside.below in
@@ -226,7 +231,8 @@ module _ (net : Net) (units : Units) (count : ℕ → ℕ) (cap : ℕ) (typed : 
     one_is x c some = elim (counted_has (x ∷ []) c some) [ inl e ↦ e | inr none ↦ elim none [ ] ]
 
     -- what a process of the body reads and writes
-    among : (x c : ℕ) → IsWithin place x → 1 ≤ times c (x ∷ []) + times c (numbers_from (base.chan + 4) (length inner.chans)) → IsWithin place c
+    among : (x c : ℕ) → IsWithin place x → 1 ≤ times c (x ∷ []) + times c (numbers_from (base.chan + 4) (length inner.chans)) →
+        IsWithin place c
     among x c within some =
         elim (cases_le (times c (x ∷ []))) [
           | inl here ↦ subst (IsWithin place) (one_is x c here) within
@@ -266,14 +272,16 @@ module _ (net : Net) (units : Units) (count : ℕ → ℕ) (cap : ℕ) (typed : 
         let first : base.chan + 0 ≡ base.chan = omega arith in
         elim (subst (λ (x : Proc). Has x.outs c) same has) [ inl e ↦ subst (IsWithin place) (first ∙ e) (own_within 0 (omega arith)) | inr none ↦ elim none [ ] ]
 
-    reads_within : (p : ℕ) (q : Proc) → slice_get net.procs p ≡ Some q → IsInside place p → p ≢ base.proc → (c : ℕ) → Has q.ins c → IsWithin place c
+    reads_within : (p : ℕ) (q : Proc) → slice_get net.procs p ≡ Some q → IsInside place p → p ≢ base.proc → (c : ℕ) → Has q.ins c →
+        IsWithin place c
     reads_within p q e inside not_head c has =
         elim (cases_eq p (base.proc + 1)) [
           | inl is_tail ↦ tail_reads q (same_proc q tl (sym e ∙ ap (slice_get net.procs) is_tail ∙ tail_at)) c has
           | inr not_tail ↦ inner_reads (p - (base.proc + 2)) q (inner_at p q e inside not_head not_tail) c has
         ]
 
-    writes_within : (p : ℕ) (q : Proc) → slice_get net.procs p ≡ Some q → IsInside place p → p ≢ base.proc + 1 → (c : ℕ) → Has q.outs c → IsWithin place c
+    writes_within : (p : ℕ) (q : Proc) → slice_get net.procs p ≡ Some q → IsInside place p → p ≢ base.proc + 1 → (c : ℕ) → Has q.outs c →
+        IsWithin place c
     writes_within p q e inside not_tail c has =
         elim (cases_eq p base.proc) [
           | inl is_head ↦ head_writes q (same_proc q h (sym e ∙ ap (slice_get net.procs) is_head ∙ head_at)) c has

@@ -146,7 +146,8 @@ module _ (C H : ℕ → Token → Type 0) (tree : Tree) (leaf : Leaf) (widths : 
         are_put (pop s (in_of q 0)) (are_taken s all (in_of q 0)) (out_of q 0) (over (outcome_of tree leaf q.node) (x (in_of q 0)))
         (hands (x (in_of q 0)) (is_front s all (in_of q 0) full.0))
 
-    sent_to : (c : ℕ) → Has q.outs c → has_first (s.tokens (in_of q 0)) ≡ true → AllByRecursion (H p) o.held → HandsOn kinds.Emit → AllAre C H (emit.sent_to (Some c) s p o q)
+    sent_to : (c : ℕ) → Has q.outs c → has_first (s.tokens (in_of q 0)) ≡ true → AllByRecursion (H p) o.held → HandsOn kinds.Emit →
+        AllAre C H (emit.sent_to (Some c) s p o q)
     unfolding emit.sent_to
     sent_to c there full held hands =
         let a = in_of q 0 in
@@ -161,7 +162,8 @@ module _ (C H : ℕ → Token → Type 0) (tree : Tree) (leaf : Leaf) (widths : 
         let some = some_one (emit.emptiest net s q.outs) both.1 in
         subst (λ c. AllAre C H (emit.sent_to c s p o q)) (sym some.1) (sent_to some.0 (chosen_among net s s q.outs some.0 some.1) both.0 held hands)
 
-    taken_from : (c : ℕ) → collect.due_in s o.number q.ins ≡ Some c → AllByRecursion (H p) o.held → HandsOn kinds.Collect → AllAre C H (collect.taken_from (Some c) s p o q)
+    taken_from : (c : ℕ) → collect.due_in s o.number q.ins ≡ Some c → AllByRecursion (H p) o.held → HandsOn kinds.Collect →
+        AllAre C H (collect.taken_from (Some c) s p o q)
     unfolding collect.taken_from
     taken_from c due held hands =
         are_kept (push (pop s c) (out_of q 0) (peeled (x c)))
@@ -177,7 +179,8 @@ module _ (C H : ℕ → Token → Type 0) (tree : Tree) (leaf : Leaf) (widths : 
         subst (λ c. AllAre C H (collect.taken_from c s p o q)) (sym some.1) (taken_from some.0 some.1 held hands)
 
     -- a process that takes a token to send it in pieces, and one that has sent a piece
-    cut_taken : (piece : ℕ → Outcome → Outcome) → Cuts piece → has_first (s.tokens (in_of q 0)) ≡ true → AllAre C H (set_own (pop s (in_of q 0)) p (holding (front s (in_of q 0))))
+    cut_taken : (piece : ℕ → Outcome → Outcome) → Cuts piece → has_first (s.tokens (in_of q 0)) ≡ true →
+        AllAre C H (set_own (pop s (in_of q 0)) p (holding (front s (in_of q 0))))
     cut_taken piece hands full =
         are_kept (pop s (in_of q 0)) (are_taken s all (in_of q 0)) p (holding (x (in_of q 0)))
         (hands.takes (x (in_of q 0)) (is_front s all (in_of q 0) full), tt)
@@ -186,7 +189,8 @@ module _ (C H : ℕ → Token → Type 0) (tree : Tree) (leaf : Leaf) (widths : 
     passed true held = held
     passed false held = tt
 
-    cut_sent : (piece : ℕ → Outcome → Outcome) → Cuts piece → (c : ℕ) (b : Bool) → Has q.outs c → has_first o.held ≡ true → AllByRecursion (H p) o.held
+    cut_sent : (piece : ℕ → Outcome → Outcome) → Cuts piece → (c : ℕ) (b : Bool) → Has q.outs c → has_first o.held ≡ true →
+        AllByRecursion (H p) o.held
         → AllAre C H (set_own (push s c (over (piece o.number) (first_or credit o.held))) p (cond b (counted o) fresh))
     cut_sent piece hands c b there full held =
         let y : Token = first_or credit o.held in
@@ -194,7 +198,8 @@ module _ (C H : ℕ → Token → Type 0) (tree : Tree) (leaf : Leaf) (widths : 
         (are_put s all c (over (piece o.number) y) (hands.sends c o.number y there (all_first (H p) credit o.held full held)))
         p (cond b (counted o) fresh) (passed b held)
 
-    from_scatter : scatter.Fits tree widths q → scatter.can net s o q ≡ true → AllByRecursion (H p) o.held → HandsOn kinds.Scatter → AllAre C H (scatter.fire tree s p o q)
+    from_scatter : scatter.Fits tree widths q → scatter.can net s o q ≡ true → AllByRecursion (H p) o.held → HandsOn kinds.Scatter →
+        AllAre C H (scatter.fire tree s p o q)
     unfolding scatter.can scatter.fire scatter.element_sent scatter.after_element
     from_scatter fits can held hands =
         elim (cases_Bool (has_first o.held)) [
@@ -220,19 +225,22 @@ module _ (C H : ℕ → Token → Type 0) (tree : Tree) (leaf : Leaf) (widths : 
         ]
 
     -- a process that holds one outcome more, and one that has sent what comes of all of them
-    join_taken : (whole : List Outcome → Outcome) → Joins whole → (c : ℕ) → Has q.ins c → has_first (s.tokens c) ≡ true → AllByRecursion (H p) o.held
+    join_taken : (whole : List Outcome → Outcome) → Joins whole → (c : ℕ) → Has q.ins c → has_first (s.tokens c) ≡ true →
+        AllByRecursion (H p) o.held
         → AllAre C H (set_own (pop s c) p (gathering o (front s c)))
     join_taken whole hands c there full held =
         are_kept (pop s c) (are_taken s all c) p (gathering o (x c)) (all_push (H p) o.held (x c) held (hands.takes c (x c) there (is_front s all c full)))
 
-    join_sent : (whole : List Outcome → Outcome) → Joins whole → (released : Own) → released.held ≡ [] → has_first o.held ≡ true → AllByRecursion (H p) o.held
+    join_sent : (whole : List Outcome → Outcome) → Joins whole → (released : Own) → released.held ≡ [] → has_first o.held ≡ true →
+        AllByRecursion (H p) o.held
         → AllAre C H (set_own (push s (out_of q 0) (record { tags = (first_or credit o.held).tags; body = whole (bodies o.held) })) p released)
     join_sent whole hands released none full held =
         let y : Token = record { tags = (first_or credit o.held).tags; body = whole (bodies o.held) } in
         are_kept (push s (out_of q 0) y) (are_put s all (out_of q 0) y (hands.sends o.held full held)) p released
         (subst (AllByRecursion (H p)) (sym none) tt)
 
-    from_gather : gather.Fits tree widths q → gather.can tree net s o q ≡ true → AllByRecursion (H p) o.held → HandsOn kinds.Gather → AllAre C H (gather.fire tree s p o q)
+    from_gather : gather.Fits tree widths q → gather.can tree net s o q ≡ true → AllByRecursion (H p) o.held → HandsOn kinds.Gather →
+        AllAre C H (gather.fire tree s p o q)
     unfolding gather.can gather.fire gather.whole_sent gather.is_full
     from_gather fits can held hands =
         elim (cases_Bool (gather.is_full tree o q)) [
@@ -245,7 +253,8 @@ module _ (C H : ℕ → Token → Type 0) (tree : Tree) (leaf : Leaf) (widths : 
               (subst (λ b. b ≡ true) (cond-false (gather.is_full tree o q) _ _ few) can) held)
         ]
 
-    from_fold_gather : fold_gather.Fits tree widths q → fold_gather.can net s o q ≡ true → AllByRecursion (H p) o.held → HandsOn kinds.FoldGather → AllAre C H (fold_gather.fire tree leaf s p o q)
+    from_fold_gather : fold_gather.Fits tree widths q → fold_gather.can net s o q ≡ true → AllByRecursion (H p) o.held →
+        HandsOn kinds.FoldGather → AllAre C H (fold_gather.fire tree leaf s p o q)
     unfolding fold_gather.can fold_gather.fire fold_gather.fold_sent fold_gather.is_full
     from_fold_gather fits can held hands =
         elim (cases_Bool (fold_gather.is_full o q)) [
@@ -348,7 +357,8 @@ module _ (C H : ℕ → Token → Type 0) (tree : Tree) (leaf : Leaf) (widths : 
     row_are kinds.Head fits held can hands = from_head can held hands
     row_are kinds.Tail fits held can hands = from_tail can held hands
 
-module _ (C H : ℕ → Token → Type 0) (tree : Tree) (leaf : Leaf) (net : Net) (typed : IsTyped tree net) (s : State) (fit : IsFitting tree net typed.widths s) (all : AllAre C H s) where
+module _ (C H : ℕ → Token → Type 0) (tree : Tree) (leaf : Leaf) (net : Net) (typed : IsTyped tree net) (s : State)
+    (fit : IsFitting tree net typed.widths s) (all : AllAre C H s) where
   are_at : (p : ℕ) (stands : Option Proc) → slice_get net.procs p ≡ stands → can_fire tree net s p ≡ true
       → ((q : Proc) → stands ≡ Some q → HandsOn C H tree leaf typed.widths p q q.kind) → AllAre C H (fire tree leaf net s p)
   are_at p None e can hands = absurd (false≢true (sym (none_ready tree net s p e) ∙ ready_from_can tree net s p can))
@@ -358,12 +368,14 @@ module _ (C H : ℕ → Token → Type 0) (tree : Tree) (leaf : Leaf) (net : Net
       (sym (ready_at tree net s p q e) ∙ ready_from_can tree net s p can) (hands q refl))
 
   -- a firing of a process that hands it on keeps it
-  pub fired_are : (p : ℕ) → can_fire tree net s p ≡ true → ((q : Proc) → slice_get net.procs p ≡ Some q → HandsOn C H tree leaf typed.widths p q q.kind)
+  pub fired_are : (p : ℕ) → can_fire tree net s p ≡ true →
+      ((q : Proc) → slice_get net.procs p ≡ Some q → HandsOn C H tree leaf typed.widths p q q.kind)
       → AllAre C H (fire tree leaf net s p)
   fired_are p can hands = are_at p (slice_get net.procs p) refl can hands
 
 -- before anything has fired there are credits alone
-pub are_at_first : (C H : ℕ → Token → Type 0) (net : Net) (items : List (List ℤ)) → ((c : ℕ) → 0 < (chan_at net c).credits → C c credit) → AllAre C H (first_state net items)
+pub are_at_first : (C H : ℕ → Token → Type 0) (net : Net) (items : List (List ℤ)) → ((c : ℕ) → 0 < (chan_at net c).credits → C c credit) →
+    AllAre C H (first_state net items)
 unfolding first_state at_first
 are_at_first C H net items each = record { sent = λ c. credits c (chan_at net c).credits (each c); held = λ p. tt }
   where

@@ -129,7 +129,8 @@ module _ (tree : Tree) (leaf : Leaf) (net : Net) (s : State) (p : ℕ) where
   unfolding fire
   other_own r apart = (changes_of (slice_get net.procs p)).others r apart
 
-  holds_of : (stands : Option Proc) (q : Proc) → stands ≡ Some q → HoldsOne q.kind (s.own p) → HoldsOne q.kind ((fire_of stands tree leaf net s p (s.own p)).own p)
+  holds_of : (stands : Option Proc) (q : Proc) → stands ≡ Some q → HoldsOne q.kind (s.own p) →
+      HoldsOne q.kind ((fire_of stands tree leaf net s p (s.own p)).own p)
   unfolding fire_of
   holds_of None q e few = cc
   holds_of (Some x) q e few =
@@ -138,7 +139,8 @@ module _ (tree : Tree) (leaf : Leaf) (net : Net) (s : State) (p : ℕ) where
       (row_holds s p (s.own p) x tree leaf net x.kind (subst (λ (z : Proc). HoldsOne z.kind (s.own p)) (sym is) few))
 
   -- a firing keeps that processes of pieces hold one token at most
-  pub fired_holds : (r : ℕ) (q : Proc) → slice_get net.procs r ≡ Some q → HoldsOne q.kind (s.own r) → HoldsOne q.kind ((fire tree leaf net s p).own r)
+  pub fired_holds : (r : ℕ) (q : Proc) → slice_get net.procs r ≡ Some q → HoldsOne q.kind (s.own r) →
+      HoldsOne q.kind ((fire tree leaf net s p).own r)
   unfolding fire
   fired_holds r q stands few =
       elim (cases_eq r p) [

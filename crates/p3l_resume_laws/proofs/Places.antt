@@ -80,7 +80,8 @@ from_append P p (x ∷ xs) ys left right =
 NoTail : Proc → Type 0
 NoTail q = q.kind ≡ kinds.Tail → ⊥
 
-from_none : (P : ℕ → Proc → Type 0) (p : ℕ) (xs : List Proc) → ((r : ℕ) (q : Proc) → NoTail q → P r q) → AllByRecursion NoTail xs → AllFrom P p xs
+from_none : (P : ℕ → Proc → Type 0) (p : ℕ) (xs : List Proc) → ((r : ℕ) (q : Proc) → NoTail q → P r q) → AllByRecursion NoTail xs →
+    AllFrom P p xs
 from_none P p [] each all = tt
 from_none P p (x ∷ xs) each all = (each p x all.0, from_none P (suc p) xs each all.1)
 
@@ -107,12 +108,15 @@ reduce_none k len (suc d) base =
     )
 
 -- where a template's part is orderly, so are its inner parts
-reduce_orderly : (part : ℕ → Base → Part) (k len level : ℕ) (base : Base) (p c : ℕ) (s : State) → all_orderly (inner_parts part ((reduce_shape k len level).seats base) p c) s ≡ true
+reduce_orderly : (part : ℕ → Base → Part) (k len level : ℕ) (base : Base) (p c : ℕ) (s : State) →
+    all_orderly (inner_parts part ((reduce_shape k len level).seats base) p c) s ≡ true
 unfolding reduce_shape inner_parts all_orderly
 reduce_orderly part k len zero base p c s = refl
 reduce_orderly part k len (suc d) base p c s = refl
 
-row_orderly : (units : Units) (roles : ℕ → Role) (part : ℕ → Base → Part) (k n : ℕ) (parts : List ℕ) (base : Base) (s : State) (form : Form) → (whole_part (shape_row form k (length parts) n) units roles part base).orderly s ≡ true → all_orderly (inner_parts part ((shape_row form k (length parts) n).seats base) (base.proc + length ((shape_row form k (length parts) n).procs base)) (base.chan + (shape_row form k (length parts) n).chans base)) s ≡ true
+row_orderly : (units : Units) (roles : ℕ → Role) (part : ℕ → Base → Part) (k n : ℕ) (parts : List ℕ) (base : Base) (s : State)
+    (form : Form) → (whole_part (shape_row form k (length parts) n) units roles part base).orderly s ≡ true →
+    all_orderly (inner_parts part ((shape_row form k (length parts) n).seats base) (base.proc + length ((shape_row form k (length parts) n).procs base)) (base.chan + (shape_row form k (length parts) n).chans base)) s ≡ true
 unfolding shape_row inner_parts all_orderly
 row_orderly units roles part k n parts base s Seq h = refl
 row_orderly units roles part k n parts base s Comp h = refl
@@ -122,7 +126,8 @@ row_orderly units roles part k n parts base s (Map workers cut) h = (and_parts _
 row_orderly units roles part k n parts base s (Reduce workers len elem) h = reduce_orderly part k len (level_of n) base _ _ s
 row_orderly units roles part k n parts base s (Loop turns tokens) h = and_from _ _ (and_parts _ _ h).0 refl
 
-module _ (net : Net) (units : Units) (count : ℕ → ℕ) (cap : ℕ) (pos : 0 < cap) (typed : IsTyped units.tree net) (Above : State → Type 0) where
+module _ (net : Net) (units : Units) (count : ℕ → ℕ) (cap : ℕ) (pos : 0 < cap) (typed : IsTyped units.tree net)
+    (Above : State → Type 0) where
   abbrev tree : Tree
   tree = units.tree
 
@@ -150,10 +155,12 @@ module _ (net : Net) (units : Units) (count : ℕ → ℕ) (cap : ℕ) (pos : 0 
     pub tails : Tails p procs
 
   -- what is surveyed has as many channels, and as many processes, as are placed
-  piece_chans : (d k t p c : ℕ) (base : Base) → IsCounted units.tree count d k → length (node_survey units.tree count d k t p c).widths ≡ length (piece d k base).chans
+  piece_chans : (d k t p c : ℕ) (base : Base) → IsCounted units.tree count d k →
+      length (node_survey units.tree count d k t p c).widths ≡ length (piece d k base).chans
   piece_chans d k t p c base h = (piece_forced units.tree count cap typed.lawful d k base t p c h).count
 
-  piece_procs : (d k t p c : ℕ) (base : Base) → IsCounted units.tree count d k → (node_survey units.tree count d k t p c).procs ≡ length (piece d k base).procs
+  piece_procs : (d k t p c : ℕ) (base : Base) → IsCounted units.tree count d k →
+      (node_survey units.tree count d k t p c).procs ≡ length (piece d k base).procs
   piece_procs d k t p c base h =
       let placed = (piece_sized units.tree count cap d k base typed.lawful h).procs in
       survey_procs units.tree count d k t p c ∙ sym placed
@@ -186,7 +193,8 @@ module _ (net : Net) (units : Units) (count : ℕ → ℕ) (cap : ℕ) (pos : 0 
       row : CarryRow w c (inner_survey g (nodes_of units.tree k xs) p c).widths
       orderly : (s : State) → Above s → all_orderly (inner_parts parts xs p c) s ≡ true
 
-    inner_places : (xs : List Seat) (p c : ℕ) → AreAt xs p c → HasPlaces (inner_survey g (nodes_of units.tree k xs) p c).loops p (inner_pieces f xs p c).procs
+    inner_places : (xs : List Seat) (p c : ℕ) → AreAt xs p c →
+        HasPlaces (inner_survey g (nodes_of units.tree k xs) p c).loops p (inner_pieces f xs p c).procs
     unfolding inner_pieces inner_survey inner_parts all_orderly
     inner_places [] p c at = record { loops = tt; tails = tt }
     inner_places (x ∷ xs) p c at =
@@ -240,8 +248,10 @@ module _ (net : Net) (units : Units) (count : ℕ → ℕ) (cap : ℕ) (pos : 0 
         }
 
   -- as many processes are inside as are counted
-  inner_count : (d k : ℕ) (xs : List Seat) (p c : ℕ) → ((v : ℕ) → v < length xs → IsCounted units.tree count d (part_at units.tree k (get_or xs v no_seat).part))
-      → length (inner_pieces (λ v. piece d (part_at units.tree k v)) xs p c).procs ≡ sum_by (procs_by units.tree count d) (nodes_of units.tree k xs)
+  inner_count : (d k : ℕ) (xs : List Seat) (p c : ℕ) →
+      ((v : ℕ) → v < length xs → IsCounted units.tree count d (part_at units.tree k (get_or xs v no_seat).part))
+      → length (inner_pieces (λ v. piece d (part_at units.tree k v)) xs p c).procs ≡ sum_by (procs_by units.tree count d)
+      (nodes_of units.tree k xs)
   unfolding inner_pieces
   inner_count d k [] p c counted = refl
   inner_count d k (x ∷ xs) p c counted =
@@ -265,11 +275,13 @@ module _ (net : Net) (units : Units) (count : ℕ → ℕ) (cap : ℕ) (pos : 0 
       (loop_deep units.tree k (count k) t turns tokens (node_at units.tree k).parts)
       (inner_deep (t + 2) (λ q p c. node_survey units.tree count d q (t + 2) p c) (λ q p c. survey_deep units.tree count d q (t + 2) p c) _ _ _))
 
-  first_own : (k n t turns tokens : ℕ) (parts : List ℕ) (more : List Width) → (width_at (own_widths units.tree k n t (Loop turns tokens) parts ++ more) 0).tags ≡ t + 2
+  first_own : (k n t turns tokens : ℕ) (parts : List ℕ) (more : List Width) →
+      (width_at (own_widths units.tree k n t (Loop turns tokens) parts ++ more) 0).tags ≡ t + 2
   unfolding own_widths
   first_own k n t turns tokens parts more = refl
 
-  first_row : (k n t turns tokens : ℕ) (f : Form) (parts : List ℕ) (more : List Width) → f ≡ Loop turns tokens → (width_at (own_widths units.tree k n t f parts ++ more) 0).tags ≡ t + 2
+  first_row : (k n t turns tokens : ℕ) (f : Form) (parts : List ℕ) (more : List Width) → f ≡ Loop turns tokens →
+      (width_at (own_widths units.tree k n t f parts ++ more) 0).tags ≡ t + 2
   first_row k n t turns tokens f parts more is =
       subst (λ z. (width_at (own_widths units.tree k n t z parts ++ more) 0).tags ≡ t + 2) (sym is) (first_own k n t turns tokens parts more)
 
@@ -284,7 +296,8 @@ module _ (net : Net) (units : Units) (count : ℕ → ℕ) (cap : ℕ) (pos : 0 
     abbrev ps : List ℕ
     ps = (node_at units.tree k).parts
 
-    rows_at : (turns tokens : ℕ) (is : form ≡ Loop turns tokens) → AreRowsOfLoop net units count cap typed Above d k t base at turns tokens is
+    rows_at : (turns tokens : ℕ) (is : form ≡ Loop turns tokens) →
+        AreRowsOfLoop net units count cap typed Above d k t base at turns tokens is
     unfolding node_survey
     rows_at turns tokens is = record {
       long = piece_chans (suc d) k t base.proc base.chan base at.counted;
@@ -293,7 +306,8 @@ module _ (net : Net) (units : Units) (count : ℕ → ℕ) (cap : ℕ) (pos : 0 
     }
 
     -- its own loop, if its form is that of one
-    own_places : (f : Form) → form ≡ f → (r e : ℕ) → r ≡ base.proc + length (piece (suc d) k base).procs → e ≡ base.chan + length (piece (suc d) k base).chans → Loops (own_loops f base.proc base.chan r e)
+    own_places : (f : Form) → form ≡ f → (r e : ℕ) → r ≡ base.proc + length (piece (suc d) k base).procs →
+        e ≡ base.chan + length (piece (suc d) k base).chans → Loops (own_loops f base.proc base.chan r e)
     own_places Seq is r e p c = tt
     own_places Comp is r e p c = tt
     own_places Pipe is r e p c = tt
@@ -354,7 +368,8 @@ module _ (net : Net) (units : Units) (count : ℕ → ℕ) (cap : ℕ) (pos : 0 
     law : IsLawfulShape shape
     law = shape_lawful units.tree count k typed.lawful there (counted_own units.tree count (suc d) k at.counted)
 
-    each_counted : (v : ℕ) → v < length (shape.seats base) → IsCounted units.tree count d (part_at units.tree k (get_or (shape.seats base) v no_seat).part)
+    each_counted : (v : ℕ) → v < length (shape.seats base) →
+        IsCounted units.tree count d (part_at units.tree k (get_or (shape.seats base) v no_seat).part)
     each_counted v low = seat_counted units.tree count k typed.lawful there base v low d at.counted
 
     row : IsForcedRow units.tree k n form ps shape
@@ -398,17 +413,21 @@ module _ (net : Net) (units : Units) (count : ℕ → ℕ) (cap : ℕ) (pos : 0 
     many = let laid_long = law.laid cap base in omega (arith, length-append (shape.laid cap base) inner.chans, laid_long)
 
     -- what is surveyed inside it, with the nodes, the processes and the channels as they are placed
-    moved : (P : Survey → Type 0) → P (inner_at (seat_nodes (node_at units.tree k) n) (own_procs form n) (length own)) → P (inner_at (nodes_of units.tree k (shape.seats base)) (length (shape.procs base)) (shape.chans base))
+    moved : (P : Survey → Type 0) → P (inner_at (seat_nodes (node_at units.tree k) n) (own_procs form n) (length own)) →
+        P (inner_at (nodes_of units.tree k (shape.seats base)) (length (shape.procs base)) (shape.chans base))
     moved P h =
         subst₂ (λ m l. P (inner_at (nodes_of units.tree k (shape.seats base)) m l)) procs_are chans_are
         (subst (λ ks. P (inner_at ks (own_procs form n) (length own))) (sym nodes_are) h)
 
-    moved_back : (P : Survey → Type 0) → P (inner_at (nodes_of units.tree k (shape.seats base)) (length (shape.procs base)) (shape.chans base)) → P (inner_at (seat_nodes (node_at units.tree k) n) (own_procs form n) (length own))
+    moved_back : (P : Survey → Type 0) →
+        P (inner_at (nodes_of units.tree k (shape.seats base)) (length (shape.procs base)) (shape.chans base)) →
+        P (inner_at (seat_nodes (node_at units.tree k) n) (own_procs form n) (length own))
     moved_back P h =
         subst (λ ks. P (inner_at ks (own_procs form n) (length own))) nodes_are
         (subst₂ (λ m l. P (inner_at (nodes_of units.tree k (shape.seats base)) m l)) (sym procs_are) (sym chans_are) h)
 
-    inner_orderly : (s : State) → Above s → all_orderly (inner_parts (λ v. part d (part_at units.tree k v)) (shape.seats base) (base.proc + length (shape.procs base)) (base.chan + shape.chans base)) s ≡ true
+    inner_orderly : (s : State) → Above s →
+        all_orderly (inner_parts (λ v. part d (part_at units.tree k v)) (shape.seats base) (base.proc + length (shape.procs base)) (base.chan + shape.chans base)) s ≡ true
     unfolding part_of shape_at
     inner_orderly s above =
         row_orderly units (λ v. role_of units count d (part_at units.tree k v)) (λ v. part d (part_at units.tree k v)) k n ps base s form (at.orderly s above)
@@ -428,7 +447,8 @@ module _ (net : Net) (units : Units) (count : ℕ → ℕ) (cap : ℕ) (pos : 0 
         }
 
     -- what is surveyed of the node, in its parts
-    rows_split : CarryRow w base.chan own × CarryRow w (base.chan + length own) (inner_at (seat_nodes (node_at units.tree k) n) (own_procs form n) (length own)).widths
+    rows_split : CarryRow w base.chan own × CarryRow w (base.chan + length own)
+        (inner_at (seat_nodes (node_at units.tree k) n) (own_procs form n) (length own)).widths
     unfolding node_survey
     rows_split = row_split w base.chan own (inner_at (seat_nodes (node_at units.tree k) n) (own_procs form n) (length own)).widths at.row
 
@@ -447,7 +467,8 @@ module _ (net : Net) (units : Units) (count : ℕ → ℕ) (cap : ℕ) (pos : 0 
     tails_own = own_tails form refl
 
     module _ (each : (j u : ℕ) (b : Base) → At d j u b → HasPlaces (node_survey units.tree count d j u b.proc b.chan).loops b.proc (piece d j b).procs) where
-      inner_is : AreAt d k (t + deeper form) (λ j b. each j (t + deeper form) b) (base.chan + shape.chans base) (shape.seats base) (base.proc + length (shape.procs base)) (base.chan + shape.chans base)
+      inner_is : AreAt d k (t + deeper form) (λ j b. each j (t + deeper form) b) (base.chan + shape.chans base) (shape.seats base)
+          (base.proc + length (shape.procs base)) (base.chan + shape.chans base)
       inner_is =
           let ss = stands_split net base.proc (shape.procs base) inner.procs stands in
           let oo = laid_split net base.chan (shape.laid cap base) inner.chans laid in
@@ -481,10 +502,12 @@ module _ (net : Net) (units : Units) (count : ℕ → ℕ) (cap : ℕ) (pos : 0 
           }
 
   -- at each place that is surveyed of a node there is a loop, and each tail is that of one
-  pub places : (d k t : ℕ) (base : Base) → At d k t base → HasPlaces (node_survey units.tree count d k t base.proc base.chan).loops base.proc (piece d k base).procs
+  pub places : (d k t : ℕ) (base : Base) → At d k t base →
+      HasPlaces (node_survey units.tree count d k t base.proc base.chan).loops base.proc (piece d k base).procs
   unfolding IsCounted
   places zero k t base at = none at.counted
     where
-      none : IsCounted units.tree count zero k → HasPlaces (node_survey units.tree count zero k t base.proc base.chan).loops base.proc (piece zero k base).procs
+      none : IsCounted units.tree count zero k →
+          HasPlaces (node_survey units.tree count zero k t base.proc base.chan).loops base.proc (piece zero k base).procs
       none h = absurd h
   places (suc d) k t base at = node_places d k t base at (λ j u b here. places d j u b here)

@@ -53,11 +53,13 @@ use Rattle.p3l_resume_laws.proofs.TurnTags.{InTurn, from_oldest}
 
 -- WIDTHS THAT AGREE
 
-wide_there : (v w : Widths) (c : ℕ) (xs : List Token) → Carries v c (w.words c) (w.tags c) → AllByRecursion (HasWidth (v.words c) (v.tags c)) xs → AllByRecursion (HasWidth (w.words c) (w.tags c)) xs
+wide_there : (v w : Widths) (c : ℕ) (xs : List Token) → Carries v c (w.words c) (w.tags c) →
+    AllByRecursion (HasWidth (v.words c) (v.tags c)) xs → AllByRecursion (HasWidth (w.words c) (w.tags c)) xs
 wide_there v w c xs same all =
     subst (λ t. AllByRecursion (HasWidth (w.words c) t) xs) same.tags (subst (λ a. AllByRecursion (HasWidth a (v.tags c)) xs) same.words all)
 
-tagged_there : (v w : Widths) (a c : ℕ) (xs : List Token) → Carries v c (w.words c) (w.tags c) → AllByRecursion (HasWidth a (v.tags c)) xs → AllByRecursion (HasWidth a (w.tags c)) xs
+tagged_there : (v w : Widths) (a c : ℕ) (xs : List Token) → Carries v c (w.words c) (w.tags c) →
+    AllByRecursion (HasWidth a (v.tags c)) xs → AllByRecursion (HasWidth a (w.tags c)) xs
 tagged_there v w a c xs same all = subst (λ t. AllByRecursion (HasWidth a t) xs) same.tags all
 
 none_wide : (a t : ℕ) (xs : List Token) → length xs ≤ 0 → AllByRecursion (HasWidth a t) xs
@@ -65,7 +67,8 @@ none_wide a t [] few = tt
 none_wide a t (x ∷ xs) few = absurd (omega (arith, few))
 
 -- what a process keeps fits under both
-module _ (tree : Tree) (v w : Widths) (q : Proc) (o : Own) (ins : (c : ℕ) → Has q.ins c → Carries v c (w.words c) (w.tags c)) (outs : (c : ℕ) → Has q.outs c → Carries v c (w.words c) (w.tags c)) where
+module _ (tree : Tree) (v w : Widths) (q : Proc) (o : Own) (ins : (c : ℕ) → Has q.ins c → Carries v c (w.words c) (w.tags c))
+    (outs : (c : ℕ) → Has q.outs c → Carries v c (w.words c) (w.tags c)) where
   own_agrees : (k : ProcKind) → FitsKind k tree v q → FitsOwn k tree v q o → FitsOwn k tree w q o
   own_agrees kinds.Source fits h = h
   own_agrees kinds.Sink fits h = h
@@ -105,7 +108,8 @@ module _ (tree : Tree) (net : Net) (typed : IsTyped tree net) (w : Widths) (agre
 
 -- TOKENS AS THEY ARE SAVED
 
-all_saved : (P : SavedToken → Type 0) (Q : Token → Type 0) → ((x : Token) → Q x → P (saved_token x)) → (xs : List Token) → AllByRecursion Q xs → All P (map saved_token xs)
+all_saved : (P : SavedToken → Type 0) (Q : Token → Type 0) → ((x : Token) → Q x → P (saved_token x)) → (xs : List Token) →
+    AllByRecursion Q xs → All P (map saved_token xs)
 all_saved P Q each xs all = All-from_recursion P (map saved_token xs) (go xs all)
   where
     go : (ys : List Token) → AllByRecursion Q ys → AllByRecursion P (map saved_token ys)
@@ -143,7 +147,8 @@ module _ (m : Seen) where
   unfolding shot_of
   own_there p = get_or-map saved_own m.owns p fresh
 
-  module _ (units : Units) (counts : List ℕ) (cap : ℕ) (l : IsLinkable units counts cap) (named : TrapsNameModules units.tree units.leaf) (typed : IsTyped units.tree (net_of units counts cap))
+  module _ (units : Units) (counts : List ℕ) (cap : ℕ) (l : IsLinkable units counts cap) (named : TrapsNameModules units.tree units.leaf)
+      (typed : IsTyped units.tree (net_of units counts cap))
       (agrees : (t : IsTyped units.tree (net_of units counts cap)) → AgreeOn (length (net_of units counts cap).chans) (linked_widths units.tree counts) t.widths)
       (is : m.net ≡ net_of units counts cap) (shaped : IsShaped m) (outcomes : List Outcome) (rest : List (List ℤ)) (k : IsKept units counts cap l named typed (with_rest (state_of m outcomes) rest)) where
     abbrev net : Net
@@ -206,13 +211,16 @@ module _ (m : Seen) where
           }
 
       -- all tokens of a channel, and all that a process holds
-      sent_all : (P : SavedToken → Type 0) (Q : Token → Type 0) → ((x : Token) → Q x → P (saved_token x)) → (c : ℕ) → AllByRecursion Q (tokens_at m.queues c) → All P (saved_at (shot_of m) c)
+      sent_all : (P : SavedToken → Type 0) (Q : Token → Type 0) → ((x : Token) → Q x → P (saved_token x)) → (c : ℕ) →
+          AllByRecursion Q (tokens_at m.queues c) → All P (saved_at (shot_of m) c)
       sent_all P Q each c all = subst (All P) (sym (saved_there c)) (all_saved P Q each (tokens_at m.queues c) all)
 
-      held_all : (P : SavedToken → Type 0) (Q : Token → Type 0) → ((x : Token) → Q x → P (saved_token x)) → (p : ℕ) → AllByRecursion Q (own_at m.owns p).held → All P (own_saved_at (shot_of m) p).held
+      held_all : (P : SavedToken → Type 0) (Q : Token → Type 0) → ((x : Token) → Q x → P (saved_token x)) → (p : ℕ) →
+          AllByRecursion Q (own_at m.owns p).held → All P (own_saved_at (shot_of m) p).held
       held_all P Q each p all = subst (λ (o : SavedOwn). All P o.held) (sym (own_there p)) (all_saved P Q each (own_at m.owns p).held all)
 
-      credits_saved : (p : ℕ) (q : Proc) → slice_get net.procs p ≡ Some q → q.kind ≡ kinds.Head → All IsCredit (saved_at (shot_of m) (in_of q 2))
+      credits_saved : (p : ℕ) (q : Proc) → slice_get net.procs p ≡ Some q → q.kind ≡ kinds.Head →
+          All IsCredit (saved_at (shot_of m) (in_of q 2))
       unfolding with_rest state_of
       credits_saved p q stands kind =
           let fits = subst (λ z. FitsKind z units.tree typed.widths q) kind (typed.processes p q stands) in
@@ -229,7 +237,8 @@ module _ (m : Seen) where
       held_long : (p : ℕ) → length (own_saved_at (shot_of m) p).held ≡ length (own_at m.owns p).held
       held_long p = ap (λ (o : SavedOwn). length o.held) (own_there p) ∙ length-map (own_at m.owns p).held saved_token
 
-      few_held : (p : ℕ) (q : Proc) (kind : ProcKind) → slice_get net.procs p ≡ Some q → q.kind ≡ kind → HoldsOne kind (own_at m.owns p) → HoldsFew kind net q (own_saved_at (shot_of m) p)
+      few_held : (p : ℕ) (q : Proc) (kind : ProcKind) → slice_get net.procs p ≡ Some q → q.kind ≡ kind → HoldsOne kind (own_at m.owns p) →
+          HoldsFew kind net q (own_saved_at (shot_of m) p)
       unfolding with_rest state_of
       few_held p q kinds.Source stands is one = tt
       few_held p q kinds.Sink stands is one = tt
@@ -259,7 +268,8 @@ module _ (m : Seen) where
       sent_long : (c : ℕ) → length (saved_at (shot_of m) c) ≡ length (tokens_at m.queues c)
       sent_long c = ap length (saved_there c) ∙ length-map (tokens_at m.queues c) saved_token
 
-      module _ (place : LoopPlace) (at : IsLoopAt net units (count_of units.tree counts) cap typed (IsRootOrderly units counts cap l typed (agrees typed)) place) where
+      module _ (place : LoopPlace)
+          (at : IsLoopAt net units (count_of units.tree counts) cap typed (IsRootOrderly units counts cap l typed (agrees typed)) place) where
         head_there : in_of at.h 0 < length net.chans
         head_there =
             let fits = subst (λ z. FitsKind z units.tree typed.widths at.h) at.closed.enters (typed.processes place.head at.h at.closed.head) in
@@ -275,7 +285,8 @@ module _ (m : Seen) where
         abbrev turns : ℕ
         turns = turns_of units.tree at.h.node
 
-        sent_turns : (c : ℕ) → place.chan_from ≤ c → c < place.chan_to → All (IsTurning (linked.tags (in_of at.h 0)) (own_saved_at (shot_of m) place.head).number turns) (saved_at (shot_of m) c)
+        sent_turns : (c : ℕ) → place.chan_from ≤ c → c < place.chan_to →
+            All (IsTurning (linked.tags (in_of at.h 0)) (own_saved_at (shot_of m) place.head).number turns) (saved_at (shot_of m) c)
         unfolding with_rest state_of
         sent_turns c above below =
             subst₂ (λ depth next. All (IsTurning depth next turns) (saved_at (shot_of m) c)) depth_is (sym (number_there place.head))
@@ -283,7 +294,9 @@ module _ (m : Seen) where
             (λ x turn. turning_saved (typed.widths.tags (in_of at.h 0)) (own_at m.owns place.head).number turns x (turn (record { above = above; below = below })))
             c (turned.sent c))
 
-        held_turns : (p : ℕ) → place.proc_from ≤ p → p < place.proc_to → All (IsTurning (linked.tags (in_of at.h 0)) (own_saved_at (shot_of m) place.head).number turns) (own_saved_at (shot_of m) p).held
+        held_turns : (p : ℕ) → place.proc_from ≤ p → p < place.proc_to →
+            All (IsTurning (linked.tags (in_of at.h 0)) (own_saved_at (shot_of m) place.head).number turns)
+            (own_saved_at (shot_of m) p).held
         unfolding with_rest state_of
         held_turns p above below =
             subst₂ (λ depth next. All (IsTurning depth next turns) (own_saved_at (shot_of m) p).held) depth_is (sym (number_there place.head))
@@ -308,7 +321,8 @@ module _ (m : Seen) where
             let is : at.h ≡ q = cc in
             subst (FitsLoop units.tree net linked (shot_of m) place) is loop_there
 
-      loops_fit : (places : List LoopPlace) → AllByRecursion (IsLoopAt net units (count_of units.tree counts) cap typed (IsRootOrderly units counts cap l typed (agrees typed))) places
+      loops_fit : (places : List LoopPlace) →
+          AllByRecursion (IsLoopAt net units (count_of units.tree counts) cap typed (IsRootOrderly units counts cap l typed (agrees typed))) places
           → AllByRecursion (λ (place : LoopPlace). (q : Proc) → slice_get net.procs place.head ≡ Some q → FitsLoop units.tree net linked (shot_of m) place q) places
       loops_fit [] all = tt
       loops_fit (place ∷ places) all = (loop_fits place all.0, loops_fit places all.1)

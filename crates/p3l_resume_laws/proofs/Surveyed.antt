@@ -25,7 +25,8 @@ copies_sum m zero ks = omega arith
 copies_sum m (suc n) ks = let rest = copies_sum m n ks in omega (arith, sum_by-append m ks (copies n ks), rest)
 
 -- a node's own processes, and those of the nodes inside it
-pub row_sum : (f : Form) (n : ℕ) (m : ℕ → ℕ) (parts : List ℕ) → own_procs f n + sum_by m (copies (copy_count f n) (outside_parts f parts)) ≡ procs_row f n (sum_by m (outside_parts f parts))
+pub row_sum : (f : Form) (n : ℕ) (m : ℕ → ℕ) (parts : List ℕ) →
+    own_procs f n + sum_by m (copies (copy_count f n) (outside_parts f parts)) ≡ procs_row f n (sum_by m (outside_parts f parts))
 row_sum Seq n m parts = let all = copies_sum m 1 [] in omega (arith, all)
 row_sum Comp n m parts = let all = copies_sum m 1 [] in omega (arith, all)
 row_sum Pipe n m parts = let all = copies_sum m 1 parts in omega (arith, all)
@@ -34,7 +35,8 @@ row_sum (Map workers cut) n m parts = let all = copies_sum m n (take 1 parts) in
 row_sum (Reduce workers len elem) n m parts = let all = copies_sum m 1 [] in omega (arith, all)
 row_sum (Loop turns tokens) n m parts = let all = copies_sum m 1 (take 1 parts) in omega (arith, all)
 
-pub inner_procs : (g : ℕ → (p c : ℕ) → Survey) (m : ℕ → ℕ) → ((k p c : ℕ) → (g k p c).procs ≡ m k) → (ks : List ℕ) (p c : ℕ) → (inner_survey g ks p c).procs ≡ sum_by m ks
+pub inner_procs : (g : ℕ → (p c : ℕ) → Survey) (m : ℕ → ℕ) → ((k p c : ℕ) → (g k p c).procs ≡ m k) → (ks : List ℕ) (p c : ℕ) →
+    (inner_survey g ks p c).procs ≡ sum_by m ks
 unfolding inner_survey
 inner_procs g m each [] p c = refl
 inner_procs g m each (k ∷ ks) p c =
@@ -81,11 +83,13 @@ own_deep tree k n t (Map workers cut) parts = workers_deep t n (ins_width tree (
 own_deep tree k n t (Reduce workers len elem) parts = reduce_deep elem len t (outs_width tree k t) (level_of n) (omega arith)
 own_deep tree k n t (Loop turns tokens) parts = (inr (omega arith), (inr (omega arith), (inr (omega arith), (inl refl, tt))))
 
-pub loop_deep : (tree : Tree) (k n t turns tokens : ℕ) (parts : List ℕ) → AllByRecursion (IsDeep (t + 2)) (own_widths tree k n t (Loop turns tokens) parts)
+pub loop_deep : (tree : Tree) (k n t turns tokens : ℕ) (parts : List ℕ) → AllByRecursion (IsDeep (t + 2))
+    (own_widths tree k n t (Loop turns tokens) parts)
 unfolding own_widths
 loop_deep tree k n t turns tokens parts = (inr (omega arith), (inr (omega arith), (inr (omega arith), (inl refl, tt))))
 
-pub inner_deep : (t : ℕ) (g : ℕ → (p c : ℕ) → Survey) → ((k p c : ℕ) → AllByRecursion (IsDeep t) (g k p c).widths) → (ks : List ℕ) (p c : ℕ) → AllByRecursion (IsDeep t) (inner_survey g ks p c).widths
+pub inner_deep : (t : ℕ) (g : ℕ → (p c : ℕ) → Survey) → ((k p c : ℕ) → AllByRecursion (IsDeep t) (g k p c).widths) → (ks : List ℕ)
+    (p c : ℕ) → AllByRecursion (IsDeep t) (inner_survey g ks p c).widths
 unfolding inner_survey
 inner_deep t g each [] p c = tt
 inner_deep t g each (k ∷ ks) p c =

@@ -19,7 +19,8 @@ module _ (tree : Tree) (m : ℕ) (inside : m < length tree.modules) where
   fit_named true outcome named = named
   fit_named false outcome named = inside
 
-run_named : (served : Served) (m : ℕ) (words : List ℤ) (found : Option Code) → m < length served.tree.modules → IsOfModule served.tree (run_of served m words found)
+run_named : (served : Served) (m : ℕ) (words : List ℤ) (found : Option Code) → m < length served.tree.modules →
+    IsOfModule served.tree (run_of served m words found)
 run_named served m words None inside = inside
 run_named served m words (Some code) inside =
     fit_named served.tree m inside (nat_eq (length words) code.ins && agrees m code.ins code.outs served.tree.nodes) (exec code m words)

@@ -51,25 +51,30 @@ module _ (tree : Tree) where
   rescued_named (Some number) outs (Value words) h = tt
   rescued_named (Some number) outs (Trapped trap) h = tt
 
-  value_named : (f : List ℤ → Outcome) → ((words : List ℤ) → Named (f words)) → (outcome : Outcome) → Named outcome → Named (on_value f outcome)
+  value_named : (f : List ℤ → Outcome) → ((words : List ℤ) → Named (f words)) → (outcome : Outcome) → Named outcome →
+      Named (on_value f outcome)
   value_named f each (Value words) h = each words
   value_named f each (Trapped trap) h = h
 
-  order_named : (f : ℕ → List ℤ → Outcome) → ((k : ℕ) (words : List ℤ) → Named (f k words)) → (ps : List ℕ) (outcome : Outcome) → Named outcome → Named (in_order f ps outcome)
+  order_named : (f : ℕ → List ℤ → Outcome) → ((k : ℕ) (words : List ℤ) → Named (f k words)) → (ps : List ℕ) (outcome : Outcome) →
+      Named outcome → Named (in_order f ps outcome)
   order_named f each [] outcome h = h
   order_named f each (p ∷ ps) outcome h = order_named f each ps (on_value (f p) outcome) (value_named (f p) (each p) outcome h)
 
-  gathered_named : (join : List (List ℤ) → List ℤ) (outcomes : List Outcome) → AllByRecursion Named outcomes → Named (gathered join outcomes)
+  gathered_named : (join : List (List ℤ) → List ℤ) (outcomes : List Outcome) → AllByRecursion Named outcomes →
+      Named (gathered join outcomes)
   gathered_named join [] all = tt
   gathered_named join (Trapped trap ∷ outcomes) all = all.0
   gathered_named join (Value words ∷ outcomes) all = gathered_named (λ results. join (words ∷ results)) outcomes all.1
 
-  combined_named : (operator : List ℤ → Outcome) → ((words : List ℤ) → Named (operator words)) → (x y : Outcome) → Named x → Named y → Named (combined operator x y)
+  combined_named : (operator : List ℤ → Outcome) → ((words : List ℤ) → Named (operator words)) → (x y : Outcome) → Named x → Named y →
+      Named (combined operator x y)
   combined_named operator each (Trapped trap) y h k = h
   combined_named operator each (Value v) (Trapped trap) h k = k
   combined_named operator each (Value v) (Value w) h k = each (v ++ w)
 
-  fold_named : (operator : List ℤ → Outcome) → ((words : List ℤ) → Named (operator words)) → (n : ℕ) (xs : List Outcome) → AllByRecursion Named xs → Named (fold_of_up_to n operator xs)
+  fold_named : (operator : List ℤ → Outcome) → ((words : List ℤ) → Named (operator words)) → (n : ℕ) (xs : List Outcome) →
+      AllByRecursion Named xs → Named (fold_of_up_to n operator xs)
   unfolding fold_of_up_to
   fold_named operator each zero [] all = tt
   fold_named operator each zero (x ∷ []) all = all.0
@@ -87,7 +92,9 @@ module _ (tree : Tree) where
   chosen_named true x y h k = h
   chosen_named false x y h k = k
 
-  turned_named : (body condition : List ℤ → Outcome) (spent : Outcome) → ((words : List ℤ) → Named (body words)) → ((words : List ℤ) → Named (condition words)) → Named spent → (turns : ℕ) (words : List ℤ) → Named (turned body condition spent turns words)
+  turned_named : (body condition : List ℤ → Outcome) (spent : Outcome) → ((words : List ℤ) → Named (body words)) →
+      ((words : List ℤ) → Named (condition words)) → Named spent → (turns : ℕ) (words : List ℤ) →
+      Named (turned body condition spent turns words)
   turned_named body condition spent bodied tested last zero words = last
   turned_named body condition spent bodied tested last (suc turns) words =
       value_named
@@ -106,13 +113,15 @@ module _ (tree : Tree) where
   by_cond true x y h k = h
   by_cond false x y h k = k
 
-  tested_named : (answer outcome spent : Outcome) (more : Bool) → Named answer → Named outcome → Named spent → HeldNamed (by_test answer outcome spent more)
+  tested_named : (answer outcome spent : Outcome) (more : Bool) → Named answer → Named outcome → Named spent →
+      HeldNamed (by_test answer outcome spent more)
   unfolding by_test HeldNamed
   tested_named (Trapped trap) outcome spent more h k last = h
   tested_named (Value answer) outcome spent more h k last =
       by_cond (is_done answer) (Held outcome) (cond more Again (Held spent)) k (by_cond more Again (Held spent) tt last)
 
-  turn_named : (test : Outcome → Outcome) (spent : Outcome) (more : Bool) (outcome : Outcome) → ((o : Outcome) → Named o → Named (test o)) → Named spent → Named outcome → HeldNamed (turn_of test spent more outcome)
+  turn_named : (test : Outcome → Outcome) (spent : Outcome) (more : Bool) (outcome : Outcome) →
+      ((o : Outcome) → Named o → Named (test o)) → Named spent → Named outcome → HeldNamed (turn_of test spent more outcome)
   unfolding turn_of HeldNamed
   turn_named test spent more (Trapped trap) each last h = h
   turn_named test spent more (Value words) each last h = tested_named (test (Value words)) (Value words) spent more (each (Value words) tt) tt last
@@ -150,7 +159,8 @@ module _ (tree : Tree) where
 
     module _ (leaf : Leaf) (named : TrapsNameModules tree leaf) where
       -- what a node makes of words, where what other nodes make of them is so
-      row_named : (k : ℕ) (part : ℕ → List ℤ → Outcome) → ((j : ℕ) (words : List ℤ) → Named (part j words)) → (form : Form) (parts : List ℕ) (words : List ℤ) → Named (item_row (rescued_at tree k) leaf (node_at tree k).module form parts part words)
+      row_named : (k : ℕ) (part : ℕ → List ℤ → Outcome) → ((j : ℕ) (words : List ℤ) → Named (part j words)) → (form : Form)
+          (parts : List ℕ) (words : List ℤ) → Named (item_row (rescued_at tree k) leaf (node_at tree k).module form parts part words)
       row_named k part each Seq parts words = rescued_named (rescue_of tree (node_at tree k).module) (node_at tree k).outs (leaf (node_at tree k).module words) (named (node_at tree k).module words (home k))
       row_named k part each Comp parts words = rescued_named (rescue_of tree (node_at tree k).module) (node_at tree k).outs (in_order part parts (Value words)) (order_named part each parts (Value words) tt)
       row_named k part each Pipe parts words = order_named part each parts (Value words) tt

@@ -60,7 +60,8 @@ module _ (depth next turns : ℕ) where
   turn_none = no_turn [] (omega arith)
 
   -- the loop's own tags are the newest
-  numbers_own : (tag number : ℕ) (tags : List ℕ) → length tags ≡ depth → (from_oldest (tag ∷ (number ∷ tags)) depth ≡ number) × (from_oldest (tag ∷ (number ∷ tags)) (depth + 1) ≡ tag)
+  numbers_own : (tag number : ℕ) (tags : List ℕ) → length tags ≡ depth →
+      (from_oldest (tag ∷ (number ∷ tags)) depth ≡ number) × (from_oldest (tag ∷ (number ∷ tags)) (depth + 1) ≡ tag)
   numbers_own tag number tags long =
       let first : length (tag ∷ (number ∷ tags)) - 1 - depth ≡ 1 = omega (arith, long) in
       let second : length (tag ∷ (number ∷ tags)) - 1 - (depth + 1) ≡ 0 = omega (arith, long) in

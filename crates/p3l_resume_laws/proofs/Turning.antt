@@ -72,8 +72,10 @@ pub record IsClosed (net : Net) (widths : Widths) (place : LoopPlace) (h t : Pro
   pub body : IsWithin place (in_of t 0)
   pub outside : IsWithin place (out_of t 0) → ⊥
   pub deep : widths.tags (in_of t 0) ≡ widths.tags (in_of h 0) + 2
-  pub reads : (p : ℕ) (q : Proc) → slice_get net.procs p ≡ Some q → IsInside place p → p ≢ place.head → (c : ℕ) → Has q.ins c → IsWithin place c
-  pub writes : (p : ℕ) (q : Proc) → slice_get net.procs p ≡ Some q → IsInside place p → p ≢ place.tail → (c : ℕ) → Has q.outs c → IsWithin place c
+  pub reads : (p : ℕ) (q : Proc) → slice_get net.procs p ≡ Some q → IsInside place p → p ≢ place.head → (c : ℕ) → Has q.ins c →
+      IsWithin place c
+  pub writes : (p : ℕ) (q : Proc) → slice_get net.procs p ≡ Some q → IsInside place p → p ≢ place.tail → (c : ℕ) → Has q.outs c →
+      IsWithin place c
   pub others : (p : ℕ) (q : Proc) → slice_get net.procs p ≡ Some q → (IsInside place p → ⊥) → (c : ℕ) → Has q.outs c → IsWithin place c → ⊥
   pub tags : (c : ℕ) → IsWithin place c → 1 ≤ widths.words c → widths.tags (in_of h 0) + 2 ≤ widths.tags c
 
@@ -84,7 +86,8 @@ three_have : (cs : List ℕ) (a b c : ℕ) → cs ≡ a ∷ (b ∷ (c ∷ [])) �
 three_have cs a b c e = (subst (λ z. Has z a) (sym e) (inl refl), subst (λ z. Has z b) (sym e) (inr (inl refl)), subst (λ z. Has z c) (sym e) (inr (inr (inl refl))))
 
 -- what holds of every token in what a process writes, and of every token that it holds, it hands on
-module _ (C H : ℕ → Token → Type 0) (tree : Tree) (leaf : Leaf) (widths : Widths) (p : ℕ) (q : Proc) (writes : (c : ℕ) → Has q.outs c → (x : Token) → C c x) (holds : (x : Token) → H p x) where
+module _ (C H : ℕ → Token → Type 0) (tree : Tree) (leaf : Leaf) (widths : Widths) (p : ℕ) (q : Proc)
+    (writes : (c : ℕ) → Has q.outs c → (x : Token) → C c x) (holds : (x : Token) → H p x) where
   pub any_handed : (k : ProcKind) → FitsKind k tree widths q → HandsOn C H tree leaf widths p q k
   any_handed kinds.Source fits = λ words. writes (out_of q 0) (first_in q.outs fits.outs) _
   any_handed kinds.Sink fits = tt
@@ -108,7 +111,8 @@ module _ (C H : ℕ → Token → Type 0) (tree : Tree) (leaf : Leaf) (widths : 
         credits = writes (out_of q 2) outs.2 _;
       }
 
-module _ (tree : Tree) (leaf : Leaf) (net : Net) (typed : IsTyped tree net) (place : LoopPlace) (h t : Proc) (closed : IsClosed net typed.widths place h t) where
+module _ (tree : Tree) (leaf : Leaf) (net : Net) (typed : IsTyped tree net) (place : LoopPlace) (h t : Proc)
+    (closed : IsClosed net typed.widths place h t) where
   abbrev depth : ℕ
   depth = typed.widths.tags (in_of h 0)
 
@@ -123,7 +127,8 @@ module _ (tree : Tree) (leaf : Leaf) (net : Net) (typed : IsTyped tree net) (pla
   InHand next p x = IsInside place p → InTurn depth next turns x.tags
 
   -- what a process inside hands on, which is neither the loop's head nor its tail
-  module _ (next p : ℕ) (q : Proc) (stands : slice_get net.procs p ≡ Some q) (inside : IsInside place p) (not_head : p ≢ place.head) (not_tail : p ≢ place.tail) where
+  module _ (next p : ℕ) (q : Proc) (stands : slice_get net.procs p ≡ Some q) (inside : IsInside place p) (not_head : p ≢ place.head)
+      (not_tail : p ≢ place.tail) where
     reads : (c : ℕ) → Has q.ins c → IsWithin place c
     reads = closed.reads p q stands inside not_head
 
@@ -195,14 +200,16 @@ module _ (tree : Tree) (leaf : Leaf) (net : Net) (typed : IsTyped tree net) (pla
     credits = λ within. turn_none depth next turns;
   }
 
-  tail_kind_handed : (next p : ℕ) (q : Proc) (k : ProcKind) → p ≡ place.tail → q ≡ t → k ≡ kinds.Tail → HandsOn (InChannel next) (InHand next) tree leaf typed.widths p q k
+  tail_kind_handed : (next p : ℕ) (q : Proc) (k : ProcKind) → p ≡ place.tail → q ≡ t → k ≡ kinds.Tail → HandsOn (InChannel next)
+      (InHand next) tree leaf typed.widths p q k
   tail_kind_handed next p q k at is kind =
       subst (λ x. HandsOn (InChannel next) (InHand next) tree leaf typed.widths x q k) (sym at)
       (subst (λ (x : Proc). HandsOn (InChannel next) (InHand next) tree leaf typed.widths place.tail x k) (sym is)
       (subst (HandsOn (InChannel next) (InHand next) tree leaf typed.widths place.tail t) (sym kind) (tail_handed next)))
 
   -- what any process but the loop's head hands on
-  handed : (next p : ℕ) (q : Proc) → slice_get net.procs p ≡ Some q → p ≢ place.head → HandsOn (InChannel next) (InHand next) tree leaf typed.widths p q q.kind
+  handed : (next p : ℕ) (q : Proc) → slice_get net.procs p ≡ Some q → p ≢ place.head → HandsOn (InChannel next)
+      (InHand next) tree leaf typed.widths p q q.kind
   handed next p q stands not_head =
       elim (cases_eq p place.tail) [
         | inl at ↦
@@ -277,7 +284,8 @@ module _ (tree : Tree) (leaf : Leaf) (net : Net) (typed : IsTyped tree net) (pla
           | inr none ↦ subst IsTurned (sym (cond-false back _ _ none)) (enters_turned (comes_in back new credits none both.1).0)
         ]
 
-    row_turned : (k : ProcKind) → k ≡ kinds.Head → row_can k tree net s own h ≡ true → IsTurned (row_fire k tree leaf net s place.head own h)
+    row_turned : (k : ProcKind) → k ≡ kinds.Head → row_can k tree net s own h ≡ true →
+        IsTurned (row_fire k tree leaf net s place.head own h)
     unfolding row_can row_fire
     row_turned k is can =
         subst (λ x. IsTurned (row_fire x tree leaf net s place.head own h)) (sym is)
