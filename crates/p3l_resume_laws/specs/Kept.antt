@@ -2,9 +2,9 @@
 use Rattle.std.specs.Prelude.{◌≡◌, ℕ, ℤ, ◌+◌, List, [], length}
 use Rattle.p3l_base.specs.declared.outcome.Outcome.{Outcome}
 use Rattle.p3l_firing.specs.Carried.{HaveInWords}
-use Rattle.p3l_firing.specs.State.{with_rest}
 use Rattle.p3l_firing.specs.Typed.{IsTyped}
-use Rattle.p3l_net.specs.Machine.{HasEmitted, IsShaped, Seen, state_of}
+use Rattle.p3l_net.specs.Machine.{IsShaped, Seen}
+use Rattle.p3l_net.specs.Offered.{Follows}
 use Rattle.p3l_net.specs.Shot.{IsCountable, shot_of}
 use Rattle.p3l_net.specs.declared.shot.Shot.{Shot}
 use Rattle.p3l_template.specs.Units.{Units}
@@ -13,13 +13,12 @@ use Rattle.p3l_link.specs.Part.{root_part}
 use Rattle.p3l_resume_laws.specs.Saved.{FitsLinked, saved_state}
 use Rattle.p3l_resume_laws.specs.Traps.{TrapsNameModules}
 
--- a machine is in the state of a run of a linked net on items under picks: it has emitted these outcomes, and holds all items that were
--- not sent but these
-pub record IsOfRun (units : Units) (counts : List ℕ) (cap : ℕ) (items : List (List ℤ)) (picks : List ℕ) (m : Seen) (outcomes : List Outcome) (rest : List (List ℤ)) : Type 0 where
+-- a machine is where a run of a linked net is on items under picks: it has emitted these outcomes, and these items were not offered yet
+pub record IsOfRun (units : Units) (counts : List ℕ) (cap : ℕ) (items : List (List ℤ)) (picks : List ℕ) (m : Seen)
+    (outcomes : List Outcome) (rest : List (List ℤ)) : Type 0 where
   pub net : m.net ≡ net_of units counts cap
   pub shaped : IsShaped m
-  pub emitted : HasEmitted m outcomes
-  pub state : with_rest (state_of m outcomes) rest ≡ (linked_run units counts cap items picks).state
+  pub follows : Follows m outcomes rest (linked_run units counts cap items picks)
 
 -- a shot fits a linked net, its root is orderly, and each item sent was emitted or is still in the net
 pub record IsSoundShot (units : Units) (counts : List ℕ) (cap : ℕ) (shot : Shot) : Type 0 where
