@@ -1,6 +1,6 @@
 -- A snapshot whose numbers are in their ranges and whose lists have few items can be written: field by field.
-use Rattle.std.proofs.Common.{◌≡◌, ℕ, ℤ, pos, negsuc, suc, ◌^◌, ◌<◌, ◌≤◌, Bool, true, false, ◌&&◌, ltb, leb, List, [], ◌∷◌, length, Option, None, Some, refl, arith}
-use Rattle.std.specs.Prelude.{IfSome, is_some, is_none, unwrap_or}
+use Rattle.std.proofs.Common.{◌≡◌, ℕ, ℤ, pos, negsuc, suc, ◌^◌, ◌<◌, ◌≤◌, Bool, true, false, leb, List, [], ◌∷◌, length, Option, None, Some, refl, arith}
+use Rattle.std.specs.Prelude.{IfSome}
 use Rattle.std.specs.List.{All, list_all}
 use Rattle.std.specs.Int.{w64, cast_unsigned}
 use Rattle.std.proofs.lemmas.Bool.{le-leb, lt-ltb, ltb-true}
@@ -15,8 +15,7 @@ use Rattle.p3l_format.specs.laws.Parts.{both_true}
 use Rattle.p3l_net.specs.declared.shot.Own.{Own}
 use Rattle.p3l_net.specs.declared.shot.SavedToken.{SavedToken}
 use Rattle.p3l_net.specs.declared.shot.Shot.{Shot}
-use Rattle.p3l_resume.specs.declared.saved.Saved.{Saved}
-use Rattle.p3l_resume.specs.Ranges.{AreFew, AreInRange, HasFewItems, HasFewWords, HasRange, HasRanges, IsFew, IsInRange, IsShort, IsTag, IsWord, WhatHasFewItemsCanBeWritten}
+use Rattle.p3l_resume.specs.Ranges.{AreFew, AreInRange, HasFewItems, HasFewWords, HasRange, IsFew, IsInRange, IsShort, IsTag, IsWord, WhatHasFewItemsCanBeWritten}
 use Rattle.p3l_resume.specs.Saved.{body_format, bytes_format, magic, saved_format, version}
 use Rattle.p3l_resume.specs.Shot.{chans_format, own_format, owns_format, shot_format}
 use Rattle.p3l_resume.specs.Token.{outcome_format, tags_format, token_format, tokens_format, trap_format, trap_kind_format, body_format as outcome_by}
