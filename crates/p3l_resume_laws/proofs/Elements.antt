@@ -1,8 +1,8 @@
 -- A map has no more elements than its results have words: each of its free indices is that of a dimension of its first out slice.
-use Rattle.std.proofs.Common.{◌≡◌, ℕ, zero, suc, ◌+◌, ◌*◌, ◌^◌, ◌<◌, ◌≤◌, List, [], ◌∷◌, length, inl, inr, refl, sym, ap, ◌∙◌, subst, arith}
+use Rattle.std.proofs.Common.{◌≡◌, ℕ, suc, ◌+◌, ◌*◌, ◌^◌, ◌≤◌, List, [], ◌∷◌, length, inl, inr, refl, sym, ap, ◌∙◌, subst, arith}
 use Rattle.std.specs.Prelude.{◌⊎◌}
 use Rattle.std.specs.List.{All}
-use Rattle.std.proofs.Math.Nat.{le-mul_of_pos_right, mul-le-mul, mul-le-mul_left, mul_assoc, mul_comm, pow-succ', pow-zero}
+use Rattle.std.proofs.Math.Nat.{le-mul_of_pos_right, mul-le-mul_left, mul_assoc, mul_comm, pow-succ', pow-zero}
 use Rattle.p3l_base.specs.declared.cut.Cut.{Cut}
 use Rattle.p3l_base.specs.declared.slice.Dim.{Dim}
 use Rattle.p3l_base.specs.declared.slice.Place.{Place}

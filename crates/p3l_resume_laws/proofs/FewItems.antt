@@ -1,5 +1,5 @@
 -- What fits a typed net whose channels have little room has few items: tokens, tags and words.
-use Rattle.std.proofs.Common.{◌≡◌, ℕ, ℤ, zero, suc, ◌+◌, ◌-◌, ◌^◌, ◌<◌, ◌≤◌, List, [], ◌∷◌, length, map, get_or, Some, None, Option, slice_get, refl, sym, ap, ◌∙◌, subst, arith}
+use Rattle.std.proofs.Common.{◌≡◌, ℕ, ℤ, zero, suc, ◌+◌, ◌<◌, ◌≤◌, List, [], ◌∷◌, length, map, get_or, Some, None, Option, slice_get, refl, ap, subst, arith}
 use Rattle.std.specs.Prelude.{IfSome}
 use Rattle.std.specs.List.{All, AllByRecursion}
 use Rattle.std.specs.Option.{option_to_list}
@@ -20,9 +20,8 @@ use Rattle.p3l_firing.specs.declared.process.Proc.{Proc}
 use Rattle.p3l_firing.specs.declared.process.ProcKind.{ProcKind}
 use Rattle.p3l_firing.specs.declared.process.ProcKind.TheVariants as kinds
 use Rattle.p3l_firing.specs.Nodes.{cut_of, last_element}
-use Rattle.p3l_firing.specs.Process.{in_of, out_of}
+use Rattle.p3l_firing.specs.Process.{out_of}
 use Rattle.p3l_firing.specs.State.{chan_at, fresh}
-use Rattle.p3l_firing.specs.Token.{most_tags}
 use Rattle.p3l_firing.specs.Typed.{FitsKind, FitsOwn, IsTyped}
 use Rattle.p3l_firing.specs.Widths.{AllFit, HasWidth, Widths}
 use Rattle.p3l_firing.proofs.LawfulForms.{map_part}

@@ -1,6 +1,6 @@
 -- The widths of a linked net that is typed are those that are surveyed: channel 0 carries the root's in words without tags, and from there
 -- each node's processes force the widths of its channels and of what it gives (`piece_forced`), by one recursion on the depth.
-use Rattle.std.proofs.Common.{◌≡◌, ℕ, zero, suc, ◌+◌, ◌-◌, ◌^◌, ◌<◌, ◌≤◌, Some, List, [], ◌∷◌, ◌++◌, length, get_or, map, replicate, slice_get, slice_index, take, refl, sym, ap, ◌∙◌, subst, arith, append-nil, length-append}
+use Rattle.std.proofs.Common.{◌≡◌, ℕ, zero, suc, ◌+◌, ◌-◌, ◌^◌, ◌<◌, Some, List, [], ◌∷◌, ◌++◌, length, get_or, map, replicate, slice_get, slice_index, take, refl, sym, ap, ◌∙◌, subst, arith, append-nil, length-append}
 use Rattle.std.specs.List.{AllByRecursion}
 use Rattle.std.proofs.lemmas.List.{length-map, length-replicate, length-take}
 use Rattle.p3l_skel.specs.declared.tree.Form.{Form}
@@ -26,7 +26,7 @@ use Rattle.p3l_link.specs.Shape.{shape_at, shape_row}
 use Rattle.p3l_link.proofs.Counted.{root_counted, seat_counted, shape_lawful}
 use Rattle.p3l_fitting.specs.Restoring.{AgreeOn}
 use Rattle.p3l_fitting.specs.Survey.{inner_survey, linked_survey, linked_widths, node_survey, own_procs}
-use Rattle.p3l_fitting.specs.Widths.{copies, copy_count, deeper, ins_width, no_width, outs_width, own_widths, reduce_widths, seat_nodes, segment_width, stage_widths, worker_widths}
+use Rattle.p3l_fitting.specs.Widths.{copies, copy_count, deeper, ins_width, outs_width, own_widths, reduce_widths, segment_width, worker_widths}
 use Rattle.p3l_fitting.specs.declared.survey.Survey.{Survey}
 use Rattle.p3l_fitting.specs.declared.width.Width.{Width}
 use Rattle.p3l_resume_laws.proofs.Forcing.{AllFed, AllPass, FitAll, Flows, Forces, farm_forces, loop_forces, map_forces, pipe_forces, run_forces}

@@ -1,7 +1,7 @@
 -- What the processes of a template force: where they fit between channels, each inner part hands on what it is given, and the in channel
 -- carries the in words of the node, the template's own channels carry the row that is surveyed, and its out channel the out words, with as
 -- many tags as the in channel. For each template but that of a reduce.
-use Rattle.std.proofs.Common.{◌≡◌, ℕ, zero, suc, ◌+◌, ◌-◌, ◌<◌, ◌≤◌, List, [], ◌∷◌, ◌++◌, length, get_or, map, replicate, take, refl, sym, ap, ◌∙◌, subst, arith}
+use Rattle.std.proofs.Common.{◌≡◌, ℕ, zero, suc, ◌+◌, ◌-◌, ◌<◌, ◌≤◌, List, [], ◌∷◌, length, get_or, map, replicate, take, refl, sym, ◌∙◌, subst, arith}
 use Rattle.std.specs.List.{AllByRecursion}
 use Rattle.std.proofs.lemmas.List.{length-replicate}
 use Rattle.p3l_skel.specs.declared.tree.Tree.{Tree}

@@ -1,11 +1,10 @@
 -- The loops of a linked net are at the places that are surveyed, and each of its tails is that of one.
-use Rattle.std.proofs.Common.{◌≡◌, ℕ, zero, suc, ◌+◌, ◌<◌, ◌≤◌, true, List, [], ◌∷◌, length, Some, slice_get, refl, sym, ap, ◌∙◌, subst, arith}
+use Rattle.std.proofs.Common.{◌≡◌, ℕ, zero, suc, ◌+◌, ◌<◌, ◌≤◌, true, List, [], ◌∷◌, length, Some, slice_get, refl, ap, ◌∙◌, subst, arith}
 use Rattle.std.specs.List.{AllByRecursion}
 use Rattle.p3l_skel.specs.Counts.{count_of}
 use Rattle.p3l_skel.specs.Tree.{nesting}
 use Rattle.p3l_firing.specs.declared.net.Net.{Net}
 use Rattle.p3l_firing.specs.declared.process.Proc.{Proc}
-use Rattle.p3l_firing.specs.declared.process.ProcKind.TheVariants as kinds
 use Rattle.p3l_firing.specs.Single.{the_sink, the_source}
 use Rattle.p3l_firing.specs.State.{State, chan_at}
 use Rattle.p3l_firing.specs.Typed.{IsTyped}
@@ -22,7 +21,7 @@ use Rattle.p3l_fitting.specs.Widths.{width_at}
 use Rattle.p3l_fitting.specs.declared.width.Width.{Width}
 use Rattle.p3l_resume_laws.proofs.Forced.{piece_forced}
 use Rattle.p3l_resume_laws.proofs.LoopAt.{IsAt, IsFewAt, IsLoopAt}
-use Rattle.p3l_resume_laws.proofs.Places.{AllFrom, HasPlaces, places}
+use Rattle.p3l_resume_laws.proofs.Places.{AllFrom, places}
 use Rattle.p3l_resume_laws.proofs.Rows.{CarryRow}
 
 standing_from : (net : Net) (p : ℕ) (xs : List Proc) →

@@ -12,17 +12,17 @@ use Rattle.p3l_firing.specs.declared.process.ProcKind.TheVariants as kinds
 use Rattle.p3l_firing.specs.Process.{Has, all_ins, all_outs, in_of, out_of, times}
 use Rattle.p3l_firing.specs.State.{State, chan_at}
 use Rattle.p3l_firing.specs.Token.{peeled}
-use Rattle.p3l_firing.specs.Typed.{FitsKind, IsTyped}
+use Rattle.p3l_firing.specs.Typed.{IsTyped}
 use Rattle.p3l_firing.specs.Widths.{Carries, Widths}
 use Rattle.p3l_firing.specs.kinds.Head as head
 use Rattle.p3l_firing.specs.kinds.Tail as tail
 use Rattle.p3l_firing.proofs.Places.{all-has, has-nth, has_counted, part_counted}
 use Rattle.p3l_template.specs.Part.{Part, no_part}
 use Rattle.p3l_template.specs.Placed.{AreLaid, AreStanding, IsGoodBase}
-use Rattle.p3l_template.specs.Shape.{Base, Role, Seat, Shape, no_seat, numbers_from}
+use Rattle.p3l_template.specs.Shape.{Base, Role, Shape, no_seat, numbers_from}
 use Rattle.p3l_template.specs.Units.{Units}
 use Rattle.p3l_template.specs.laws.Row.{numbers_at, numbers_length}
-use Rattle.p3l_template.specs.laws.TimesLaw.{all_numbers, times_append, times_cons}
+use Rattle.p3l_template.specs.laws.TimesLaw.{all_numbers}
 use Rattle.p3l_loop.specs.Loop.{Laps, View, bag, head_proc, laps_of, loop_shape, settled, tail_proc, view_of, well_kept}
 use Rattle.p3l_loop.specs.laws.ViewLaw.{Kept, kept_to}
 use Rattle.p3l_link.specs.Counts.{IsCounted}
@@ -37,7 +37,7 @@ use Rattle.p3l_fitting.specs.Widths.{width_at}
 use Rattle.p3l_fitting.specs.declared.width.Width.{Width}
 use Rattle.p3l_resume_laws.proofs.Ends.{HasOnce, HaveOnce, inner_once, piece_once}
 use Rattle.p3l_resume_laws.proofs.Rows.{CarryRow, row_at}
-use Rattle.p3l_resume_laws.proofs.Surveyed.{IsDeep, loop_deep}
+use Rattle.p3l_resume_laws.proofs.Surveyed.{IsDeep}
 use Rattle.p3l_resume_laws.proofs.Turning.{IsClosed, IsIn, IsInside, IsWithin}
 use Rattle.p3l_resume_laws.proofs.WidthsLaw.{counted_has}
 

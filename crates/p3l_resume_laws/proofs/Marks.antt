@@ -1,6 +1,6 @@
 -- What is said of each token by its place, the channel that it is in or the process that holds it, is kept by every firing of a process
 -- that hands it on.
-use Rattle.std.proofs.Common.{◌≡◌, ◌∙◌, ℕ, zero, suc, ℤ, replicate, slice_get, ◌+◌, ◌<◌, cond, nat_lt, ◌&&◌, ◌||◌, Bool, true, false, List, [], ◌∷◌, ◌++◌, length, Option, Some, None, refl, sym, subst, inl, inr, arith}
+use Rattle.std.proofs.Common.{◌≡◌, ◌∙◌, ℕ, zero, suc, ℤ, replicate, slice_get, ◌<◌, cond, nat_lt, ◌&&◌, ◌||◌, Bool, true, false, List, [], ◌∷◌, ◌++◌, length, Option, Some, None, refl, sym, subst, inl, inr, arith}
 use Rattle.std.specs.List.{AllByRecursion}
 use Rattle.std.proofs.lemmas.Bool.{and_parts, cases_Bool, cases_eq, cond-true, cond-false, false≢true, leb-false, leb-true, ltb-true}
 use Rattle.p3l_base.specs.declared.outcome.Outcome.{Outcome}

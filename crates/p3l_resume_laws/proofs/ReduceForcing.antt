@@ -1,6 +1,6 @@
 -- What the processes of a reduce force: the channels of the segments carry their elements by Split, those of the joins the out words by
 -- the processes that write them, and all as many tags as the in channel, from the segments up to the last join.
-use Rattle.std.proofs.Common.{◌≡◌, ℕ, zero, suc, ◌+◌, ◌-◌, ◌*◌, ◌/◌, ◌^◌, ◌<◌, ◌≤◌, nat_lt, Option, List, [], ◌∷◌, ◌++◌, length, get_or, map, replicate, refl, sym, ap, ◌∙◌, subst, inl, inr, arith}
+use Rattle.std.proofs.Common.{◌≡◌, ℕ, zero, suc, ◌+◌, ◌-◌, ◌*◌, ◌/◌, ◌^◌, ◌<◌, ◌≤◌, nat_lt, Option, List, [], ◌∷◌, ◌++◌, length, get_or, map, replicate, sym, ap, ◌∙◌, subst, inl, inr, arith}
 use Rattle.std.specs.List.{AllByRecursion}
 use Rattle.std.proofs.Math.Nat.{pow-succ'}
 use Rattle.std.proofs.lemmas.Bool.{cases_Bool, cases_lt, cond-true, cond-false}
@@ -10,7 +10,7 @@ use Rattle.p3l_skel.specs.declared.tree.Form.TheVariants.{Reduce}
 use Rattle.p3l_skel.specs.declared.tree.Tree.{Tree}
 use Rattle.p3l_skel.specs.Tree.{node_at}
 use Rattle.p3l_firing.specs.declared.process.Proc.{Proc}
-use Rattle.p3l_firing.specs.Segments.{level_of, level_up_to, segment_length, segment_lengths}
+use Rattle.p3l_firing.specs.Segments.{level_up_to, segment_length, segment_lengths}
 use Rattle.p3l_firing.specs.Typed.{FitsKind}
 use Rattle.p3l_firing.specs.Widths.{Carries, Widths}
 use Rattle.p3l_template.specs.Shape.{Base, numbers_from}

@@ -1,5 +1,5 @@
 -- No channel of a linked net has room for more than 1,024 tokens, where its capacity is no more: that of a loop has room for its tokens.
-use Rattle.std.proofs.Common.{◌≡◌, ℕ, zero, suc, ◌+◌, ◌-◌, ◌^◌, ◌<◌, ◌≤◌, List, [], ◌∷◌, ◌++◌, length, get_or, replicate, refl, ap, inl, inr, subst, sym, arith}
+use Rattle.std.proofs.Common.{◌≡◌, ℕ, zero, suc, ◌+◌, ◌-◌, ◌^◌, ◌≤◌, List, [], ◌∷◌, ◌++◌, length, get_or, replicate, inl, inr, subst, sym, arith}
 use Rattle.std.specs.List.{AllByRecursion}
 use Rattle.std.proofs.lemmas.Bool.{cases_lt}
 use Rattle.std.proofs.lemmas.List.{get_or_past}
@@ -13,7 +13,7 @@ use Rattle.p3l_skel.proofs.Depth.{lawful_at}
 use Rattle.p3l_firing.specs.declared.net.Chan.{Chan}
 use Rattle.p3l_firing.specs.Segments.{level_of}
 use Rattle.p3l_firing.specs.State.{chan_at, no_chan}
-use Rattle.p3l_template.specs.Shape.{Base, Seat, Shape, empty_chan}
+use Rattle.p3l_template.specs.Shape.{Base, Seat, empty_chan}
 use Rattle.p3l_reduce.specs.Reduce.{reduce_shape}
 use Rattle.p3l_link.specs.Net.{Piece, base_at, inner_pieces, linked_net, piece_of, root_piece, root_base}
 use Rattle.p3l_link.specs.Shape.{shape_at, shape_row}

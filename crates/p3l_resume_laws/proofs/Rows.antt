@@ -1,5 +1,5 @@
 -- Rows of channels that carry widths, in the order of their numbers.
-use Rattle.std.proofs.Common.{◌≡◌, ℕ, zero, suc, ◌+◌, ◌*◌, ◌<◌, List, [], ◌∷◌, ◌++◌, length, get_or, map, replicate, refl, sym, ap, subst, arith}
+use Rattle.std.proofs.Common.{◌≡◌, ℕ, zero, suc, ◌+◌, ◌*◌, ◌<◌, List, [], ◌∷◌, ◌++◌, length, get_or, map, replicate, subst, arith}
 use Rattle.std.specs.List.{AllByRecursion}
 use Rattle.p3l_firing.specs.Widths.{AllCarry, Carries, Widths}
 use Rattle.p3l_template.specs.Shape.{numbers_from}

@@ -1,5 +1,5 @@
 -- What was saved of a machine that runs a linked net: it can be restored, resumed and written.
-use Rattle.std.proofs.Common.{◌≡◌, ℕ, ◌+◌, List, [], length, refl, sym, ap, ◌∙◌, arith}
+use Rattle.std.proofs.Common.{◌≡◌, ℕ, List, [], length, refl, ap, ◌∙◌, arith}
 use Rattle.p3l_base.specs.declared.outcome.Outcome.{Outcome}
 use Rattle.p3l_firing.specs.State.{State}
 use Rattle.p3l_firing.specs.declared.token.Token.{Token}

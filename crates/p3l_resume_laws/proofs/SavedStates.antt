@@ -1,5 +1,5 @@
 -- What is saved of a machine fits a linked net, where the state that it is in has all that a run of the net keeps.
-use Rattle.std.proofs.Common.{◌≡◌, ◌≢◌, ℕ, ℤ, zero, suc, ◌+◌, ◌-◌, ◌^◌, ◌<◌, ◌≤◌, true, false, List, [], ◌∷◌, ◌++◌, length, map, reverse, get_or, Some, slice_get, slice_index, refl, sym, ap, ◌∙◌, subst, subst₂, arith, inl, inr}
+use Rattle.std.proofs.Common.{◌≡◌, ℕ, ℤ, ◌+◌, ◌-◌, ◌<◌, ◌≤◌, false, List, [], ◌∷◌, length, map, reverse, Some, slice_get, slice_index, refl, sym, ap, ◌∙◌, subst, subst₂, arith, inl, inr}
 use Rattle.std.specs.List.{All, AllByRecursion}
 use Rattle.std.specs.Option.{option_to_list}
 use Rattle.std.proofs.Math.ListN.{get_or-map}
@@ -21,7 +21,7 @@ use Rattle.p3l_firing.specs.Nodes.{turns_of}
 use Rattle.p3l_firing.specs.Process.{Has, in_of, out_of}
 use Rattle.p3l_firing.specs.State.{Own, State, chan_at, fresh, no_chan, own_at, with_rest}
 use Rattle.p3l_firing.specs.Typed.{FitsKind, FitsOwn, IsFitting, IsTyped}
-use Rattle.p3l_firing.specs.Widths.{AllFit, Carries, HasWidth, Widths}
+use Rattle.p3l_firing.specs.Widths.{Carries, HasWidth, Widths}
 use Rattle.p3l_firing.proofs.Fitting.{all_of_one}
 use Rattle.p3l_firing.proofs.Places.{all-has, first_in, has-nth}
 use Rattle.p3l_template.specs.Units.{Units}
@@ -31,9 +31,8 @@ use Rattle.p3l_link.specs.Part.{root_part}
 use Rattle.p3l_link.proofs.Carried.{root_sound}
 use Rattle.p3l_net.specs.declared.shot.Own.{Own as SavedOwn}
 use Rattle.p3l_net.specs.declared.shot.SavedToken.{SavedToken}
-use Rattle.p3l_net.specs.declared.shot.Shot.{Shot}
 use Rattle.p3l_net.specs.Channel.{Queue, no_queue, tokens_at}
-use Rattle.p3l_net.specs.Fitting.{Fitting, FitsLoop, HoldsFew, IsCredit, IsTurning, LoopPlace, NamesModule, most_tokens, own_saved_at}
+use Rattle.p3l_net.specs.Fitting.{FitsLoop, HoldsFew, IsCredit, IsTurning, LoopPlace, NamesModule, most_tokens, own_saved_at}
 use Rattle.p3l_net.specs.Machine.{IsShaped, IsSound, Seen, state_of}
 use Rattle.p3l_net.specs.Shot.{CanRestore, Fits, IsCountable, restored, saved_at, saved_own, saved_queue, saved_token, shot_of, token_of}
 use Rattle.p3l_net.proofs.Saving.{saved_back, saved_fits}
@@ -42,7 +41,7 @@ use Rattle.p3l_fitting.specs.Survey.{linked_loops, linked_widths}
 use Rattle.p3l_resume_laws.specs.Linked.{IsBalanced}
 use Rattle.p3l_resume_laws.specs.Saved.{FitsLinked, saved_state}
 use Rattle.p3l_resume_laws.specs.Traps.{TrapsNameModules}
-use Rattle.p3l_resume_laws.proofs.Credits.{IsAny, IsCreditThere}
+use Rattle.p3l_resume_laws.proofs.Credits.{IsCreditThere}
 use Rattle.p3l_resume_laws.proofs.KeptStates.{IsKept}
 use Rattle.p3l_resume_laws.proofs.LinkedPlaces.{IsRootOrderly, linked_places, linked_tails}
 use Rattle.p3l_resume_laws.proofs.LoopAt.{IsLoopAt}

@@ -1,18 +1,17 @@
 -- What is surveyed of a node: it has as many processes as are placed, and each of its channels that carries words carries at least as
 -- many tags as the tokens outside it.
-use Rattle.std.proofs.Common.{◌≡◌, ◌⊎◌, ℕ, zero, suc, ◌+◌, ◌-◌, ◌*◌, ◌^◌, ◌≤◌, List, [], ◌∷◌, ◌++◌, length, map, replicate, slice_index, sum_by, take, refl, sym, ap, ◌∙◌, subst, arith, inl, inr}
+use Rattle.std.proofs.Common.{◌≡◌, ◌⊎◌, ℕ, zero, suc, ◌+◌, ◌-◌, ◌*◌, ◌^◌, ◌≤◌, List, [], ◌∷◌, length, map, replicate, slice_index, sum_by, take, refl, ap, ◌∙◌, arith, inl, inr}
 use Rattle.std.specs.List.{AllByRecursion}
 use Rattle.std.proofs.lemmas.List.Sums.{sum_by-append, sum_by-cons}
 use Rattle.p3l_skel.specs.Counts.{outside_parts}
 use Rattle.p3l_skel.specs.declared.tree.Form.{Form}
 use Rattle.p3l_skel.specs.declared.tree.Form.TheVariants.{Seq, Comp, Pipe, Farm, Map, Reduce, Loop}
 use Rattle.p3l_skel.specs.declared.tree.Tree.{Tree}
-use Rattle.p3l_skel.specs.Numbers.{joined_procs, procs_by, procs_row}
+use Rattle.p3l_skel.specs.Numbers.{procs_by, procs_row}
 use Rattle.p3l_skel.specs.Tree.{by_parts, node_at}
-use Rattle.p3l_skel.proofs.Below.{procs_by-step}
 use Rattle.p3l_firing.specs.Segments.{level_of, segment_lengths}
 use Rattle.p3l_fitting.specs.Survey.{inner_survey, node_survey, own_procs}
-use Rattle.p3l_fitting.specs.Widths.{copies, copy_count, deeper, ins_width, no_width, outs_width, own_widths, reduce_widths, seat_nodes, segment_width, stage_widths, worker_widths}
+use Rattle.p3l_fitting.specs.Widths.{copies, copy_count, deeper, ins_width, outs_width, own_widths, reduce_widths, seat_nodes, segment_width, worker_widths}
 use Rattle.p3l_fitting.specs.declared.survey.Survey.{Survey}
 use Rattle.p3l_fitting.specs.declared.width.Width.{Width}
 use Rattle.p3l_resume_laws.proofs.Lists.{all_append, all_map, all_same, all_so}

@@ -1,5 +1,5 @@
 -- Every trap in a net names a module of its tree: what the tree's nodes make of outcomes keeps it.
-use Rattle.std.proofs.Common.{◌≡◌, ℕ, ℤ, zero, suc, ◌<◌, ◌/◌, nat_lt, Bool, true, false, cond, if◌then◌else◌, List, [], ◌∷◌, ◌++◌, length, map, replicate, take, drop, Option, None, Some, slice_get, slice_index, sym, ap, subst, inl, inr, arith}
+use Rattle.std.proofs.Common.{◌≡◌, ℕ, ℤ, zero, suc, ◌<◌, ◌/◌, nat_lt, Bool, true, false, cond, if◌then◌else◌, List, [], ◌∷◌, ◌++◌, length, map, take, drop, Option, None, Some, slice_get, slice_index, ap, subst, inl, inr, arith}
 use Rattle.std.specs.List.{AllByRecursion, range_with_len}
 use Rattle.std.specs.Option.{IsSomeAnd}
 use Rattle.std.proofs.lemmas.Bool.{cases_lt}
@@ -12,17 +12,15 @@ use Rattle.p3l_skel.specs.declared.tree.Form.TheVariants.{Seq, Comp, Pipe, Farm,
 use Rattle.p3l_skel.specs.declared.tree.ModuleInfo.{ModuleInfo}
 use Rattle.p3l_skel.specs.declared.tree.Node.{Node}
 use Rattle.p3l_skel.specs.declared.tree.Tree.{Tree}
-use Rattle.p3l_skel.specs.Fold.{combined, fold_of_up_to, tree_fold}
+use Rattle.p3l_skel.specs.Fold.{combined, fold_of_up_to}
 use Rattle.p3l_skel.specs.Item.{elements, gathered, in_order, is_done, item, item_row, item_to, map_outcomes, on_value, rescued, rescued_at, turned, turns_spent}
 use Rattle.p3l_skel.specs.Lawful.{IsLawfulTree, IsSubtree}
 use Rattle.p3l_skel.specs.Tree.{by_parts, nesting, no_node, node_at, part_at, rescue_of}
-use Rattle.p3l_skel.proofs.Depth.{item_to-step, lawful_at}
-use Rattle.p3l_firing.specs.declared.net.Net.{Net}
+use Rattle.p3l_skel.proofs.Depth.{lawful_at}
 use Rattle.p3l_firing.specs.declared.process.Proc.{Proc}
 use Rattle.p3l_firing.specs.declared.process.ProcKind.{ProcKind}
 use Rattle.p3l_firing.specs.declared.process.ProcKind.TheVariants as kinds
 use Rattle.p3l_firing.specs.declared.token.Token.{Token}
-use Rattle.p3l_firing.specs.Lists.{has_first, first_or}
 use Rattle.p3l_firing.specs.Nodes.{Leaf, cut_of, element_of, fold_of, joined_of, operator_of, outcome_of, segment_of, spent_of, test_of, turns_of}
 use Rattle.p3l_firing.specs.Token.{bodies, newest_tag}
 use Rattle.p3l_firing.specs.Widths.{Widths}

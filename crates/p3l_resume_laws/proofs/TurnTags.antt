@@ -1,5 +1,5 @@
 -- The two tags of a loop, as tokens inside it carry them: with more tags or fewer behind them they stay as they are.
-use Rattle.std.proofs.Common.{◌≡◌, ℕ, zero, suc, ◌+◌, ◌-◌, ◌<◌, ◌≤◌, List, [], ◌∷◌, length, get_or, refl, ap, ◌∙◌, subst, arith}
+use Rattle.std.proofs.Common.{◌≡◌, ℕ, suc, ◌+◌, ◌-◌, ◌<◌, ◌≤◌, List, [], ◌∷◌, length, get_or, ap, arith}
 use Rattle.p3l_firing.specs.Token.{first_tag, later_tags, next_tag}
 
 -- tag k from the oldest on, of tags from the newest on

@@ -1,13 +1,8 @@
 -- Each token inside a loop is in one of its turns, with a number that was given out: every firing keeps it, in any typed net in which a
 -- loop is closed but for its head and its tail.
-use Rattle.std.proofs.Common.{◌≡◌, ◌≢◌, ◌⊎◌, ℕ, ℤ, zero, suc, ◌+◌, ◌<◌, ◌≤◌, ◌&&◌, ◌||◌, Bool, true, false, cond, nat_lt, List, [], ◌∷◌, length, Option, Some, slice_get, refl, sym, ap, ◌∙◌, subst, arith, inl, inr}
-use Rattle.std.specs.List.{AllByRecursion}
+use Rattle.std.proofs.Common.{◌≡◌, ◌≢◌, ◌⊎◌, ℕ, ℤ, ◌+◌, ◌<◌, ◌≤◌, ◌&&◌, ◌||◌, Bool, true, List, [], ◌∷◌, Some, slice_get, refl, sym, ap, ◌∙◌, subst, arith, inl, inr}
 use Rattle.std.proofs.lemmas.Bool.{and_parts, cases_Bool, cases_eq, cases_lt, cond-true, cond-false}
-use Rattle.p3l_base.specs.declared.outcome.Outcome.{Outcome}
-use Rattle.p3l_skel.specs.declared.tree.Form.{Form}
 use Rattle.p3l_skel.specs.declared.tree.Tree.{Tree}
-use Rattle.p3l_skel.specs.Lawful.{IsLawfulTree}
-use Rattle.p3l_skel.specs.Tree.{node_at, part_at}
 use Rattle.p3l_ready.proofs.AtLemmas.{at-same}
 use Rattle.p3l_firing.specs.declared.net.Net.{Net}
 use Rattle.p3l_firing.specs.declared.process.Proc.{Proc}
@@ -19,16 +14,15 @@ use Rattle.p3l_firing.specs.Lists.{has_first}
 use Rattle.p3l_firing.specs.Nodes.{Leaf, most_turns, spent_of, test_of, turns_of}
 use Rattle.p3l_firing.specs.Process.{Has, in_of, out_of}
 use Rattle.p3l_firing.specs.State.{Own, State, counted, first_state, front, has_room, pop, push, set_own}
-use Rattle.p3l_firing.specs.Token.{admitted, credit, later_tags, newest_tag, next_tag, once_more}
+use Rattle.p3l_firing.specs.Token.{admitted, credit, later_tags, newest_tag}
 use Rattle.p3l_firing.specs.Typed.{FitsKind, IsFitting, IsTyped}
-use Rattle.p3l_firing.specs.Widths.{Carries, Widths}
+use Rattle.p3l_firing.specs.Widths.{Widths}
 use Rattle.p3l_firing.specs.kinds.Head as head
 use Rattle.p3l_firing.specs.kinds.Join.{paired_by}
 use Rattle.p3l_firing.proofs.Fitting.{all_first, front_fits}
 use Rattle.p3l_firing.proofs.LawfulForms.{loop_parts}
-use Rattle.p3l_firing.proofs.Places.{all-has, first_in, has-nth}
+use Rattle.p3l_firing.proofs.Places.{first_in}
 use Rattle.p3l_firing.proofs.Rows.{fire_at, ready_at, ready_from_can}
-use Rattle.p3l_firing.proofs.WidthLaw.{later_long}
 use Rattle.p3l_firing.proofs.row.Head.{comes_in}
 use Rattle.p3l_loop.specs.Loop.{Laps}
 use Rattle.p3l_loop.specs.laws.ViewLaw.{after_again}
