@@ -11,7 +11,8 @@ against the least of the longer one would still be below it. The script ends wit
   a firing by turns   the network of a map of 508 pieces against that of one of eight: after a firing only what it touched is looked
                       at again, two channels mostly
   constants           four times as many: each is found at once, and not by a walk through all of them
-  size of a token     a channel of 1,024 tokens against one of 1: what is reserved for tags is little
+  size of a token     the memory that a channel reserves for each token, against the 96 bytes of the tags that a token may have: what
+                      lies beside them is a few words
 
 The first two are measured on as many items as take long enough.
 """
@@ -20,9 +21,11 @@ import os
 import subprocess
 import sys
 import tempfile
+import time
 
 TRIES = 5
 ENOUGH = 0.3
+TAGS = 12 * 8
 ONE = "seq main in(int x) out(int y) ${ y = x * 3 + 1; }$ end seq\n"
 MORE = "seq more in(int x) out(int y) ${ y = x * 3 + 1; }$ end seq\n"
 
@@ -41,6 +44,12 @@ def farm(workers):
 
 def constants(count):
     return "".join(f"const K{number} = {number};\n" for number in range(count)) + ONE
+
+
+def field(child, name):
+    """The first word of a field of a process's status."""
+    with open(f"/proc/{child.pid}/status") as lines:
+        return next(line for line in lines if line.startswith(name + ":")).split()[1]
 
 
 class Bench:
@@ -83,9 +92,20 @@ class Bench:
         words = ["run", self.file("m.p3l", pieces(count)), "--processors", "512"]
         return self.an_item(words, "7 " * count + "\n") / (3 * count + 4)
 
-    def kilobytes(self, words, items):
-        """The most memory that it held."""
-        return self.used(words, items).ru_maxrss
+    def reserved(self, words):
+        """How many bytes of memory are reserved when a run has begun and waits for its first item."""
+        child = subprocess.Popen([self.program, *words], stdin=subprocess.PIPE, stdout=subprocess.DEVNULL)
+        while field(child, "State") != "S":
+            time.sleep(0.01)
+        kilobytes = int(field(child, "VmData"))
+        child.communicate()
+        return 1024 * kilobytes
+
+    def place(self, workers, room):
+        """The memory that each place for a token in the channels of a farm takes: two for each worker, and two at the ends."""
+        path = self.file("m.p3l", farm(workers))
+        less, more = (self.reserved(["run", path, "--processors", "512", "--capacity", str(count)]) for count in (1, 1 + room))
+        return (more - less) / ((2 * workers + 2) * room)
 
     def check(self, text):
         return self.seconds(["check", self.file("m.p3l", text)])
@@ -96,13 +116,11 @@ def main():
         bench = Bench(os.path.abspath(sys.argv[1]), folder)
         few = bench.check(constants(12_000)) - bench.check(ONE)
         all_four = bench.check(constants(48_000)) - bench.check(ONE)
-        path = bench.file("m.p3l", farm(8))
-        held = [bench.kilobytes(["run", path, "--processors", "16", "--capacity", str(room)], "7\n" * 5_000) for room in (1, 1024)]
         rows = [
             ("room of a stack", bench.profiled(passed_over(5_000)) / bench.profiled(passed_over(300)), 3),
             ("a firing by turns", bench.firing(508) / bench.firing(8), 4),
             ("constants", all_four / few, 8),
-            ("size of a token", held[1] / held[0], 6),
+            ("size of a token", bench.place(64, 1000) / TAGS, 2.5),
         ]
     above = 0
     for name, ratio, bound in rows:

@@ -1,10 +1,11 @@
 #!/usr/bin/env python3
 """The longest input: one of 2^36 bytes is too long, which ends with 14, and one of a byte less is not.
 
-    tools/longest_input.py PATH_OF_P3L [BYTES]
+    tools/longest_input.py PATH_OF_P3L [BYTES [COMMAND..]]
 
-Each command that reads the input is fed so through a pipe, with lines of blanks, which are passed. BYTES is the limit of a program that
-was made with another one. A whole run takes many minutes, so it is no part of the gate. The last line is `N passed, M failed`.
+Each command that reads the input, or those that are named, is fed so through a pipe, with lines of blanks, which are passed. BYTES is the
+limit of a program that was made with another one. A whole run takes many minutes, so it is no part of the gate. The last line is
+`N passed, M failed`.
 """
 
 import os
@@ -46,7 +47,7 @@ def main():
     with tempfile.TemporaryDirectory() as folder:
         with open(f"{folder}/m.p3l", "wb") as file:
             file.write(DOUBLE)
-        for words in COMMANDS:
+        for words in (words for words in COMMANDS if words[0] in (sys.argv[3:] or words)):
             for count, wanted, line in ((limit - 1, 0, b""), (limit, 14, b"input too long\n")):
                 status, lines = end_on(program, words, folder, count)
                 if status == wanted and lines.endswith(line):

@@ -1,5 +1,5 @@
-// What is saved of machines of nested trees in the middle of a run is sound, and no more so where more
-// was counted than a machine counts, or where one item more is said to have been sent.
+// What is saved of machines of nested trees in the middle of a run is orderly, and no more so where
+// one item more is said to have been sent.
 
 ghost use Rattle.std.specs.Prelude.{◌≡◌};
 ghost use Rattle.p3l_skel.specs.Lawful.{IsLawfulTree};
@@ -9,11 +9,11 @@ use crate::running::saved_after;
 use crate::serving::loaded_of;
 use crate::sketch::{ONE, ONES, Row, Shape, Sketch, TEST, TWO};
 use p3l_base::NoMemory;
-use p3l_link::link;
 use p3l_load::Loaded;
 use p3l_model::{is_outside, procs};
 use p3l_net::Shot;
-use p3l_orderly::is_sound;
+use p3l_orderly::is_orderly;
+use p3l_orderly::saved::have_few_tags;
 use p3l_skel::{Counts, Tree, lawful_counts};
 use p3l_units::UnitTable;
 use std::alloc::Global;
@@ -33,14 +33,11 @@ const ROWS: [Row; 7] = [
 
 const NESTED: Sketch = ("farm of map and loop", &ROWS, &[2, 2]);
 
-/// More than a machine counts.
-const MOST: u64 = 1 << 63;
-
 /// After how many picks machines are saved.
 const PICKS: [u32; 4] = [0, 9, 30, 60];
 
-// Whether what was saved of a machine whose channels hold two tokens each is sound.
-fn can_go_on(
+// Whether what was saved is orderly.
+fn is_sound(
     rt: &impl Abort,
     alloc: Global,
     tree: &Tree,
@@ -52,8 +49,8 @@ fn can_go_on(
     assert!(rt; lawful_counts(tree, counts));
     assert!(rt; is_outside(tree, 0));
     assert!(rt; procs(tree, counts, 0) <= 4096);
-    let net = link(alloc, tree, counts, 2)?;
-    is_sound(alloc, tree, counts, &net, shot)
+    assert!(rt; have_few_tags(shot));
+    is_orderly(alloc, tree, counts, shot)
 }
 
 // Looks at what is saved after each of these numbers of picks.
@@ -66,20 +63,16 @@ fn look_at(
     let cases = cases_of(rt, alloc, units)?;
     for picks in PICKS {
         let mut shot = saved_after(rt, alloc, units, counts, picks, cases.as_slice())?;
-        assert!(rt; can_go_on(rt, alloc, units.tree(), counts, &shot)?);
+        assert!(rt; is_sound(rt, alloc, units.tree(), counts, &shot)?);
         assert!(rt; shot.is_countable());
-        shot.sent += MOST;
-        shot.emitted += MOST;
-        assert!(rt; !can_go_on(rt, alloc, units.tree(), counts, &shot)?);
-        shot.sent -= MOST - 1;
-        shot.emitted -= MOST;
-        assert!(rt; !can_go_on(rt, alloc, units.tree(), counts, &shot)?);
+        shot.sent += 1;
+        assert!(rt; !is_sound(rt, alloc, units.tree(), counts, &shot)?);
     }
     Ok(())
 }
 
 #[test]
-fn what_is_saved_is_sound(rt: HostRuntime) -> Result<(), Fail> {
+fn what_is_saved_is_orderly(rt: HostRuntime) -> Result<(), Fail> {
     let alloc = rt.alloc();
     let Loaded {
         tree,

@@ -1,5 +1,5 @@
 -- In a shot that fits a linked net no token has more tags than a token may have: each level of nodes adds two at most.
-use Rattle.std.proofs.Common.{ℕ, zero, suc, ◌+◌, ◌-◌, ◌*◌, ◌≤◌, ◌^◌, List, [], ◌∷◌, ◌++◌, map, replicate, take, arith}
+use Rattle.std.proofs.Common.{ℕ, zero, suc, ◌+◌, ◌-◌, ◌*◌, ◌≤◌, ◌^◌, List, [], ◌∷◌, ◌++◌, map, replicate, arith}
 use Rattle.std.specs.List.{AllByRecursion}
 use Rattle.p3l_skel.specs.declared.tree.Form.{Form}
 use Rattle.p3l_skel.specs.declared.tree.Form.TheVariants.{Seq, Comp, Pipe, Farm, Map, Reduce, Loop}
@@ -12,7 +12,7 @@ use Rattle.p3l_firing.specs.declared.net.Net.{Net}
 use Rattle.p3l_net.specs.Fitting.{Fitting}
 use Rattle.p3l_net.specs.declared.shot.Shot.{Shot}
 use Rattle.p3l_net.proofs.Saving.{fits_held}
-use Rattle.p3l_fitting.specs.Survey.{inner_survey, linked_loops, linked_survey, linked_widths, node_survey, own_procs}
+use Rattle.p3l_fitting.specs.Survey.{inner_survey, linked_loops, linked_survey, linked_widths, node_survey}
 use Rattle.p3l_fitting.specs.Widths.{deeper, own_widths, outs_width, reduce_widths, seat_nodes, segment_width, width_at}
 use Rattle.p3l_fitting.specs.declared.survey.Survey.{Survey}
 use Rattle.p3l_fitting.specs.declared.width.Width.{Width}

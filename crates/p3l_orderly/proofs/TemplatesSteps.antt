@@ -1,5 +1,5 @@
 -- The rows of a node's form: its template, and what that finds.
-use Rattle.std.proofs.Common.{◌≡◌, ℕ, ◌+◌, ◌-◌, ◌≤◌, ◌⊎◌, inl, inr, List, Option, length, sym, ap, ◌∙◌, subst, arith}
+use Rattle.std.proofs.Common.{◌≡◌, ℕ, ◌-◌, ◌⊎◌, inl, inr, Option, length, sym, ap, ◌∙◌}
 use Rattle.p3l_base.specs.declared.cut.Cut.{Cut}
 use Rattle.p3l_skel.specs.declared.tree.Form.{Form}
 use Rattle.p3l_skel.specs.declared.tree.Form.TheVariants.{Seq, Comp, Pipe, Farm, Map, Reduce, Loop}
@@ -15,7 +15,6 @@ use Rattle.p3l_map.specs.MapShape.{map_shape}
 use Rattle.p3l_reduce.specs.Reduce.{reduce_shape}
 use Rattle.p3l_link.specs.Shape.{shape_at, shape_row}
 use Rattle.p3l_orderly.specs.Farm.{farm_finds}
-use Rattle.p3l_orderly.specs.Finding.{Finds}
 use Rattle.p3l_orderly.specs.Loop.{loop_finds}
 use Rattle.p3l_orderly.specs.Map.{map_finds}
 use Rattle.p3l_orderly.specs.Pipe.{pipe_finds}

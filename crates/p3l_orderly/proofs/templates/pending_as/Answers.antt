@@ -1,4 +1,4 @@
-use Rattle.std.proofs.Common.{◌≡◌, ◌+◌, ◌≤◌, IfOk, length, sym, ap, ◌∙◌, subst}
+use Rattle.std.proofs.Common.{◌≡◌, IfOk, sym, ap, ◌∙◌, subst}
 use Rattle.p3l_template.specs.Shape.{Shape}
 use Rattle.p3l_orderly.specs.Finding.{Finds, if_orderly}
 use Rattle.p3l_orderly.specs.Layout.{FitsAt}
