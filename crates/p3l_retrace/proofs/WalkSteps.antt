@@ -1,9 +1,8 @@
 -- A walk along a trace: its first state, what is fed, each line, and the end.
-use Rattle.std.proofs.Common.{◌≡◌, ◌≢◌, ℕ, ℤ, suc, ◌+◌, ◌-◌, ◌*◌, ◌<◌, ◌≤◌, ◌^◌, Bool, true, false, List, [], ◌∷◌, ◌++◌, length, take, drop, get_or, Option, Some, None, inl, inr, refl, sym, ap, subst, ◌∙◌, arith, append_assoc, append-nil}
+use Rattle.std.proofs.Common.{◌≡◌, ◌≢◌, ℕ, ℤ, suc, ◌+◌, ◌-◌, ◌<◌, ◌≤◌, ◌^◌, Bool, true, false, List, [], ◌∷◌, ◌++◌, length, take, drop, get_or, Option, Some, None, inl, inr, refl, sym, ap, subst, ◌∙◌, arith, append_assoc, append-nil, zero-add}
 use Rattle.std.specs.Option.{option_to_list}
 use Rattle.std.proofs.Math.Seq.{take-append_seam, take-suc}
 use Rattle.std.proofs.lemmas.List.{length-append, length-take-le, take-append-drop, take_all}
-use Rattle.std.proofs.lemmas.Nat.{mul-le}
 use Rattle.p3l_base.specs.declared.outcome.Outcome.{Outcome}
 use Rattle.p3l_firing.specs.declared.net.Net.{Net}
 use Rattle.p3l_skel.specs.declared.tree.Tree.{Tree}
@@ -13,17 +12,18 @@ use Rattle.p3l_net.specs.Fire.{can_fire}
 use Rattle.p3l_net.specs.Machine.{Fires, Seen, can_step, state_of}
 use Rattle.p3l_net.specs.Nodes.{Leaf}
 use Rattle.p3l_net.specs.Offered.{Follows, HasFilledInbox}
-use Rattle.p3l_net.specs.Run.{Course, after_picks, picked}
-use Rattle.p3l_net.specs.State.{with_rest}
+use Rattle.p3l_net.specs.Run.{Course, after_picks, course_from, picked}
+use Rattle.p3l_net.specs.State.{first_state, with_rest}
 use Rattle.p3l_stream.specs.declared.items.Ending.{Ending}
 use Rattle.p3l_stream.specs.Given.{HasGiven}
 use Rattle.p3l_stream.specs.Seen as stream
 use Rattle.p3l_run.specs.Feed.{Feeds, Offers, closed_so, input_limit, most_of_input}
 use Rattle.p3l_run.specs.Laws.{Laws, Runs}
-use Rattle.p3l_run.specs.Network.{Network, course_under, width_of}
+use Rattle.p3l_run.specs.Network.{Network, begun_with, course_under, width_of}
 use Rattle.p3l_run.specs.Run.{MayCome}
+use Rattle.p3l_run.specs.Start.{beginning, fresh, most_from, state_from}
 use Rattle.p3l_run.proofs.FeedSteps.{gives_first}
-use Rattle.p3l_run.proofs.RunSteps.{filled_after, nothing_comes, wide_append}
+use Rattle.p3l_run.proofs.RunSteps.{few_fits, filled_after, nothing_comes, wide_append}
 use Rattle.p3l_run.proofs.TraceSteps.{agree_more, picks_more, same_line}
 use Rattle.p3l_trace.specs.declared.trace.TraceLine.{TraceLine}
 use Rattle.p3l_trace.specs.declared.trace.Traced.{Traced}
@@ -100,8 +100,13 @@ module _ (n : Network) where
   still_empty m m' close [] offers asked e ended empty = ap (λ (k : Seen). k.inbox) offers ∙ empty
   still_empty m m' close (item ∷ more) offers asked e ended empty = absurd (no_end e (sym (asked (λ h. cc)) ∙ ended))
 
+  -- where nothing has fired no item was sent
+  none_sent : n.start ≡ fresh → (items : List (List ℤ)) → (begun_with n items).sent + length (begun_with n items).unsent ≡ length items
+  unfolding first_state
+  none_sent fresh_is items = ap (λ s. (state_from s n.tree n.net items).sent + length (state_from s n.tree n.net items).unsent) fresh_is ∙ zero-add (length items)
+
   -- each item that was given was sent, or waits
-  module _ (laws : Laws n) (m : Seen) (given : List (List ℤ)) (close : Option Ending) (outcomes : List Outcome) (walked : List TraceLine) (s : Stands n m given close outcomes walked) where
+  module _ (laws : Laws n) (fresh_is : n.start ≡ fresh) (m : Seen) (given : List (List ℤ)) (close : Option Ending) (outcomes : List Outcome) (walked : List TraceLine) (s : Stands n m given close outcomes walked) where
     abbrev at_last : Course
     at_last = course_under n (given ++ []) (picks_of walked)
 
@@ -120,6 +125,7 @@ module _ (n : Network) where
         let b = ap length (append-nil (option_to_list m.inbox)) in
         let c = ap length waiting_is in
         let d = sent_is in
+        let e = none_sent fresh_is (given ++ []) in
         omega arith
 
     -- so one waits as long as the stream isn't ended, and none then
@@ -146,17 +152,18 @@ module _ (n : Network) where
 
   module _ (before : Outside) where
     -- nothing was asked for and no line passed
-    pub walks_first : Laws n → n.firings * most_of_input < 2 ^ 63 → HasGiven (width_of n) (stream.started (width_of n) input_limit) [] [] → (width : ℕ) → width ≡ width_of n → (w : Walk) → w ≡ started n.tree n.net width → Walks n before before [] w
+    pub walks_first : Laws n → n.start ≡ fresh → most_from n.start n.firings most_of_input < 2 ^ 63 → HasGiven (width_of n) (stream.started (width_of n) input_limit) [] [] → (width : ℕ) → width ≡ width_of n → (w : Walk) → w ≡ started n.tree n.net width → Walks n before before [] w
     unfolding after_picks AgreeFrom
-    walks_first laws fits given width wide w is =
+    walks_first laws fresh_is fits given width wide w is =
         subst (Walks n before before []) (sym is) (subst (λ k. Walks n before before [] (started n.tree n.net k)) (sym wide) (record {
           passed = record {
             laws = laws;
+            fresh_is = fresh_is;
             fits = fits;
             items = [];
             outcomes = [];
             gives = gives_first (width_of n) before.rest before.faults (stream.started (width_of n) input_limit) given refl;
-            stands = record { runs = record { tree = refl; net = refl }; wide = tt; at = λ later may. record { follows = laws.starts later; agree = tt } };
+            stands = record { runs = record { tree = refl; net = refl }; wide = tt; at = λ later may. record { follows = subst (λ s. Follows (beginning s n.tree n.net) [] later (course_from (begun_with n later))) fresh_is (laws.starts later); agree = tt } };
             empty = λ e ends. refl;
           };
           asked = λ later may. (refl, refl);
@@ -179,13 +186,12 @@ module _ (n : Network) where
           let items : List (List ℤ) = d.items ++ [] in
           let all_wide : HaveInWords n.tree items = wide_append (width_of n) d.items [] d.stands.wide may.wide in
           let a = d.laws.fired_most items all_wide (picks_of walked) in
-          let b = d.laws.sent_most items all_wide (picks_of walked) in
           let same = (d.stands.at [] may).follows.fired in
-          let few : length d.items ≤ most_of_input = (let few = d.gives.few in omega arith) in
           let whole = ap length (append-nil d.items) in
-          let sent : (course_under n items (picks_of walked)).state.sent ≤ most_of_input = omega arith in
+          let few : length items ≤ most_of_input = (let few = d.gives.few in omega arith) in
+          let most = few_fits n.start n.firings (length items) most_of_input few in
           let fits = d.fits in
-          omega (arith, mul-le n.firings (course_under n items (picks_of walked)).state.sent n.firings most_of_input (omega arith) sent)
+          omega (arith, a, most, same, fits)
 
       fed_empty : (m : Seen) (close : Option Ending) (more : List (List ℤ)) → Offers w.machine m more → (more ≢ [] → w.close ≡ None) → ((e : Ending) → w.close ≡ None → close ≡ Some e → m.inbox ≡ None) →
           (e : Ending) → close ≡ Some e → m.inbox ≡ None
@@ -205,6 +211,7 @@ module _ (n : Network) where
           record {
             passed = record {
               laws = d.laws;
+              fresh_is = d.fresh_is;
               fits = d.fits;
               items = d.items ++ f.more;
               outcomes = d.outcomes;
@@ -213,7 +220,7 @@ module _ (n : Network) where
               empty = empty;
             };
             filled = f.filled;
-            waits = waits_so d.laws m (d.items ++ f.more) close d.outcomes walked stands f.filled empty;
+            waits = waits_so d.laws d.fresh_is m (d.items ++ f.more) close d.outcomes walked stands f.filled empty;
           }
 
     module _ (now : Outside) (walked : List TraceLine) (w : Walk) (walks : Walks n before now walked w) where
@@ -227,7 +234,7 @@ module _ (n : Network) where
         items = so.items;
         gives = so.gives;
         asked = λ later may. subst (λ k. IsAskedFor n (so.items ++ later) (picks_of k) (length so.items) w.close) (sym all) (walks.asked later may);
-        holds = λ later may. record { lines = subst (λ k. AllAgree n.tree n.leaf n.net (so.items ++ later) k) (sym all) (so.stands.at later may).agree; counts = counted };
+        holds = λ later may. record { lines = subst (λ k. AllAgree n.tree n.leaf n.net (begun_with n (so.items ++ later)) k) (sym all) (so.stands.at later may).agree; counts = counted };
       }
 
       -- or its counts are not those of its lines
@@ -239,7 +246,7 @@ module _ (n : Network) where
           items = so.items;
           gives = so.gives;
           asked = λ later may. subst (λ k. IsAskedFor n (so.items ++ later) k (length so.items) w.close) (ap picks_of (sym all) ∙ sym (all_picks traced number is)) (walks.asked later may);
-          holds = λ later may. inr (record { agree = subst (λ k. AllAgree n.tree n.leaf n.net (so.items ++ later) k) (sym all) (so.stands.at later may).agree; other = other; number_is = is });
+          holds = λ later may. inr (record { agree = subst (λ k. AllAgree n.tree n.leaf n.net (begun_with n (so.items ++ later)) k) (sym all) (so.stands.at later may).agree; other = other; number_is = is });
         },
       )
 
@@ -300,6 +307,7 @@ module _ (n : Network) where
         walks_on m handed runs follows = record {
           passed = record {
             laws = d.laws;
+            fresh_is = d.fresh_is;
             fits = d.fits;
             items = d.items;
             outcomes = d.outcomes ++ option_to_list handed;
@@ -313,7 +321,7 @@ module _ (n : Network) where
               };
             };
             empty = λ e ends.
-                stays_empty d.laws w.machine d.items w.close d.outcomes walked d.stands m (d.outcomes ++ option_to_list handed) line.pick
+                stays_empty d.laws d.fresh_is w.machine d.items w.close d.outcomes walked d.stands m (d.outcomes ++ option_to_list handed) line.pick
                 (follows_on [] (nothing_comes n w.close)) (d.empty e ends);
           };
           asked = asked_more;

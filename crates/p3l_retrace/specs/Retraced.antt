@@ -4,7 +4,7 @@ use Rattle.p3l_base.specs.declared.memory.NoMemory.{NoMemory}
 use Rattle.p3l_stream.specs.declared.items.Ending.{Ending}
 use Rattle.p3l_stream.specs.Seen.{Seen}
 use Rattle.p3l_run.specs.Feed.{Gives, closed_so}
-use Rattle.p3l_run.specs.Network.{Network, course_under, width_of}
+use Rattle.p3l_run.specs.Network.{Network, begun_with, course_under, width_of}
 use Rattle.p3l_run.specs.Run.{MayCome}
 use Rattle.p3l_trace.specs.declared.trace.Traced.{Traced}
 use Rattle.p3l_trace.specs.Agreement.{Agrees, DiffersAt, picks_of}
@@ -39,7 +39,7 @@ pub record HoldsOn (n : Network) (rest left : Option (List ℕ)) (before now : �
 -- the trace is that of a run of the network
 abbrev pub AgreesOn : Network → Traced → Option (List ℕ) → Option (List ℕ) → ℕ → ℕ → Option Ending → Type 0
 AgreesOn n traced rest left before now close =
-    HoldsOn n rest left before now (picks_of traced.lines) close (λ items. Agrees n.tree n.leaf n.net items traced)
+    HoldsOn n rest left before now (picks_of traced.lines) close (λ items. Agrees n.tree n.leaf n.net (begun_with n items) traced)
 
 -- the picks of the lines up to the one of this number; the first line of a trace is its header, and its last is no pick
 abbrev pub picks_to : Traced → ℕ → List ℕ
@@ -49,7 +49,7 @@ picks_to traced number = picks_of (take (number - 1) traced.lines)
 abbrev pub DiffersOn : Network → Traced → Option (List ℕ) → Option (List ℕ) → ℕ → ℕ → ℕ → Type 0
 DiffersOn n traced rest left before now number =
     (close : Option Ending)
-    × HoldsOn n rest left before now (picks_to traced number) close (λ items. DiffersAt n.tree n.leaf n.net items traced number)
+    × HoldsOn n rest left before now (picks_to traced number) close (λ items. DiffersAt n.tree n.leaf n.net (begun_with n items) traced number)
 
 -- how a check ends
 abbrev pub IsRetraced : Network → Traced → Option (List ℕ) → Option (List ℕ) → ℕ → ℕ → Result Retraced NoMemory → Type 0

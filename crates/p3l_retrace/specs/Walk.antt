@@ -1,5 +1,5 @@
 -- A walk along a trace: a machine that makes the picks of its lines, on items that come from a stream, and what each step does.
-use Rattle.std.specs.Prelude.{◌≡◌, ◌≢◌, ℕ, ℤ, ◌+◌, ◌*◌, ◌<◌, ◌^◌, Bool, true, false, List, [], ◌∷◌, ◌++◌, length, Option, Some, None}
+use Rattle.std.specs.Prelude.{◌≡◌, ◌≢◌, ℕ, ℤ, ◌+◌, ◌<◌, ◌^◌, Bool, true, false, List, [], ◌∷◌, ◌++◌, length, Option, Some, None}
 use Rattle.p3l_base.specs.declared.outcome.Outcome.{Outcome}
 use Rattle.p3l_firing.specs.declared.net.Net.{Net}
 use Rattle.p3l_skel.specs.declared.tree.Tree.{Tree}
@@ -12,8 +12,9 @@ use Rattle.p3l_stream.specs.declared.items.Ending.{Ending}
 use Rattle.p3l_stream.specs.Seen as stream
 use Rattle.p3l_run.specs.Feed.{Gives, closed_so, input_limit, most_of_input}
 use Rattle.p3l_run.specs.Laws.{Laws, Runs}
-use Rattle.p3l_run.specs.Network.{Network, course_under, width_of}
+use Rattle.p3l_run.specs.Network.{Network, begun_with, course_under, width_of}
 use Rattle.p3l_run.specs.Run.{MayCome}
+use Rattle.p3l_run.specs.Start.{fresh, most_from}
 use Rattle.p3l_trace.specs.declared.trace.TraceLine.{TraceLine}
 use Rattle.p3l_trace.specs.Agreement.{AgreesWith, AllAgree, picks_of}
 use Rattle.p3l_retrace.specs.declared.walk.Walk.{Walk}
@@ -30,7 +31,7 @@ outside rest faults = record { rest = rest; faults = faults }
 -- the machine stands where the picks of these lines lead on the items given and those that come later, and each of the lines agrees
 pub record IsAt (n : Network) (m : Seen) (items later : List (List ℤ)) (outcomes : List Outcome) (walked : List TraceLine) : Type 0 where
   pub follows : Follows m outcomes later (course_under n items (picks_of walked))
-  pub agree : AllAgree n.tree n.leaf n.net items walked
+  pub agree : AllAgree n.tree n.leaf n.net (begun_with n items) walked
 
 -- the same, whatever may still come after the items given
 pub record Stands (n : Network) (m : Seen) (given : List (List ℤ)) (close : Option Ending) (outcomes : List Outcome) (walked : List TraceLine) : Type 0 where
@@ -42,11 +43,12 @@ pub record Stands (n : Network) (m : Seen) (given : List (List ℤ)) (close : Op
 abbrev pub started : Tree → Net → ℕ → Walk
 started tree net width = record { machine = machine.started tree net; stream = stream.started width input_limit; close = None }
 
--- these lines of a trace of the network were passed, on the items that the stream gave from what the outside told before to what
--- it tells now; once that has ended no item waits
+-- these lines of a trace of the network, whose runs begin with nothing fired, were passed, on the items that the stream gave from what
+-- the outside told before to what it tells now; once that has ended no item waits
 pub record HasPassed (n : Network) (before now : Outside) (walked : List TraceLine) (w : Walk) : Type 0 where
   pub laws : Laws n
-  pub fits : n.firings * most_of_input < 2 ^ 63
+  pub fresh_is : n.start ≡ fresh
+  pub fits : most_from n.start n.firings most_of_input < 2 ^ 63
   pub items : List (List ℤ)
   pub outcomes : List Outcome
   pub gives : Gives (width_of n) before.rest now.rest before.faults now.faults w.stream items (closed_so w.close)

@@ -31,12 +31,13 @@ use Rattle.p3l_run.specs.declared.keeping.Keeping.{Keeping}
 use Rattle.p3l_run.specs.declared.keeping.Keeping.TheVariants as keep
 use Rattle.p3l_run.specs.declared.run.Ran.{Ran}
 use Rattle.p3l_run.specs.declared.write.Told.{Told}
-use Rattle.p3l_run.specs.Execution.{AwaitsPick, Ends, Executes, GoesOn, HasFired, IsFinish, IsInRange, IsOver, Job, Outside, Picks, after_idle, kept_with, left_at, outside, started, stats_at}
+use Rattle.p3l_run.specs.Execution.{AwaitsPick, Ends, Executes, GoesOn, HasFired, IsFinish, IsInRange, IsOver, Job, Outside, Picks, after_idle, begun_on, kept_with, left_at, outside, stats_at}
 use Rattle.p3l_run.specs.Feed.{Feeds, FeedsInVain, closed_so, input_limit, most_of_input}
 use Rattle.p3l_run.specs.Keeping.{kept_by}
 use Rattle.p3l_run.specs.Laws.{Laws}
-use Rattle.p3l_run.specs.Network.{Network, course_of, course_under, goes_on, is_some, meaning_of, size_of, width_of}
+use Rattle.p3l_run.specs.Network.{Network, course_of, course_under, goes_on, is_some, meaning_of, most_firings, size_of, width_of}
 use Rattle.p3l_run.specs.Run.{MayCome, MayEnd, end_of, finish_of}
+use Rattle.p3l_run.specs.Start.{beginning, item_number, most_from}
 use Rattle.p3l_run.specs.Steps.{Stands, left_of}
 use Rattle.p3l_run.specs.Sum.{sum_after}
 use Rattle.p3l_run.specs.Trap.{trap_after, trap_of}
@@ -79,19 +80,22 @@ module _ (job : Job) where
     output = refl;
   }
 
-  pub executes_first : Laws n → n.firings * most_of_input < 2 ^ 63 → recorded job.schedule < 2 ^ 63 → NamesProcesses (size_of n) job.schedule → HasGiven (width_of n) (stream.started (width_of n) input_limit) [] [] →
-      (width : ℕ) → width ≡ width_of n → (e : Execution) → e ≡ started n.tree n.net n.firings width job.schedule job.keeping → Executes job job.before e
-  executes_first laws fits few named given width wide e is =
-      subst (Executes job job.before) (sym is) (subst (λ w. Executes job job.before (started n.tree n.net n.firings w job.schedule job.keeping)) (sym wide) (record {
+  pub executes_first : Laws n → most_from n.start n.firings most_of_input < 2 ^ 63 → recorded job.schedule < 2 ^ 63 → NamesProcesses (size_of n) job.schedule → HasGiven (width_of n) (stream.started (width_of n) input_limit) [] [] →
+      (m : machine.Seen) → m ≡ beginning n.start n.tree n.net → (earlier : ℕ) → earlier < 2 ^ 63 → ((k : ℕ) → item_number n.start k ≡ earlier + k) →
+      (width : ℕ) → width ≡ width_of n → (e : Execution) → e ≡ begun_on m earlier n.firings width job.schedule job.keeping → Executes job job.before e
+  executes_first laws fits few named given m begins earlier few_earlier numbered width wide e is =
+      subst (Executes job job.before) (sym is) (subst (λ w. Executes job job.before (begun_on m earlier n.firings w job.schedule job.keeping)) (sym wide) (record {
         laws = laws;
         firings_is = refl;
         fits = fits;
         few = few;
+        numbered = numbered;
+        few_earlier = few_earlier;
         items = [];
         outcomes = [];
         walked = [];
         gives = gives_first (width_of n) job.before.rest job.before.read_faults (stream.started (width_of n) input_limit) given refl;
-        stands = steps.stands_first n laws job.schedule (machine.started n.tree n.net) refl named;
+        stands = steps.stands_first n laws job.schedule m begins named;
         trap_is = refl;
         sum_is = refl;
         put = put_nothing job.before.taken;
@@ -112,25 +116,27 @@ module _ (job : Job) where
     few_items : length d.items ≤ most_of_input
     few_items = (let few = d.gives.few in omega arith)
 
-    few_firings : n.firings * length d.items ≤ n.firings * most_of_input
-    few_firings = steps.few_fits n.firings (length d.items) most_of_input few_items
+    few_firings : most_firings n d.items ≤ most_from n.start n.firings most_of_input
+    few_firings = steps.few_fits n.start n.firings (length d.items) most_of_input few_items
+
+    few_fired : e.machine.fired < 2 ^ 63
+    few_fired =
+        let a = steps.few_fired n d.laws job.schedule e.machine e.picker d.items e.close d.outcomes e.idle d.walked d.stands in
+        let b = few_firings in
+        let c = d.fits in
+        omega arith
 
     pub in_range : IsInRange e
     in_range = record {
       place = subst (λ k. HasPlace (length k.procs) e.picker) (sym d.stands.runs.net) d.stands.place;
       named = subst (λ k. HasProcesses (length k.procs) e.picker) (sym d.stands.runs.net) d.stands.named;
-      fired =
-          (let a = steps.few_fired n d.laws job.schedule e.machine e.picker d.items e.close d.outcomes e.idle d.walked d.stands in
-          let b = few_firings in
-          let c = d.fits in
-          omega arith);
+      fired = few_fired;
       idle = (let a = d.stands.room in let b = d.few in omega arith);
     }
 
-    pub sent_fits : e.machine.sent * e.firings < 2 ^ 64
-    sent_fits =
-        subst (λ k. e.machine.sent * k < 2 ^ 64) (sym d.firings_is)
-        (steps.bound_fits n.firings e.machine.sent (length d.items) most_of_input (steps.few_sent n d.laws job.schedule e.machine e.picker d.items e.close d.outcomes e.idle d.walked d.stands) few_items d.fits)
+    -- the number of the item that was emitted last is one of 64 bits
+    pub number_fits : e.earlier + e.machine.emitted < 2 ^ 64
+    number_fits = (let a = d.few_earlier in let b = d.stands.few in let c = few_fired in omega arith)
 
     -- memory was wanting
     unfoldable pub ends_early : Ends job now (Err fault.NoMemory)
@@ -159,6 +165,8 @@ module _ (job : Job) where
               firings_is = d.firings_is;
               fits = d.fits;
               few = d.few;
+              numbered = d.numbered;
+              few_earlier = d.few_earlier;
               items = d.items ++ f.more;
               outcomes = d.outcomes;
               walked = d.walked;
@@ -232,10 +240,10 @@ module _ (job : Job) where
       finish_is : IsFinish n.named e ran.finish
       finish_is = subst (λ t. IsFinish t e ran.finish) named_is finishes_so
 
-      pub none_left : (later : List (List ℤ)) → MayCome n e.close later → picks_from n.tree n.leaf n.net (left_of (n.firings * length (d.items ++ later)) e.machine.fired e.picker) e.picker (course_under n (d.items ++ later) (trace.picks_of d.walked)) ≡ []
+      pub none_left : (later : List (List ℤ)) → MayCome n e.close later → picks_from n.tree n.leaf n.net (left_of (most_firings n (d.items ++ later)) e.machine.fired e.picker) e.picker (course_under n (d.items ++ later) (trace.picks_of d.walked)) ≡ []
       none_left = by over
         where
-          by : IsOver e → (later : List (List ℤ)) → MayCome n e.close later → picks_from n.tree n.leaf n.net (left_of (n.firings * length (d.items ++ later)) e.machine.fired e.picker) e.picker (course_under n (d.items ++ later) (trace.picks_of d.walked)) ≡ []
+          by : IsOver e → (later : List (List ℤ)) → MayCome n e.close later → picks_from n.tree n.leaf n.net (left_of (most_firings n (d.items ++ later)) e.machine.fired e.picker) e.picker (course_under n (d.items ++ later) (trace.picks_of d.walked)) ≡ []
           by (inl stuck) = steps.over_stuck n d.laws job.schedule e.machine e.picker d.items e.close d.outcomes e.idle d.walked d.stands filled stuck
           by (inr ended) = steps.over_ended n d.laws job.schedule e.machine e.picker d.items e.close d.outcomes e.idle d.walked d.stands filled ended
 
@@ -253,9 +261,10 @@ module _ (job : Job) where
           by [] is =
               let count : e.machine.emitted ≡ length d.outcomes = (d.stands.at later may).follows.emitted.count in
               finish_is.stuck is x ends
-              ∙ ap (λ k. end_of n.named e.told.trap k x) count
-              ∙ ap (λ t. end_of n.named t (length d.outcomes) x) d.trap_is
-              ∙ ap (λ o. end_of n.named (trap_of o) (length o) x) (sym (emitted later may))
+              ∙ ap (λ k. end_of n.named e.told.trap k x) (sym (d.numbered e.machine.emitted))
+              ∙ ap (λ k. end_of n.named e.told.trap (item_number n.start k) x) count
+              ∙ ap (λ t. end_of n.named t (item_number n.start (length d.outcomes)) x) d.trap_is
+              ∙ ap (λ o. end_of n.named (trap_of o) (item_number n.start (length o)) x) (sym (emitted later may))
               ∙ sym (cond-false _ _ _ (goes later may ∙ ap is_some is))
           by (p ∷ ps) is =
               finish_is.stopped (λ none. (let z : [] ≡ p ∷ ps = sym none ∙ is in cc))
@@ -266,7 +275,7 @@ module _ (job : Job) where
       pub closed_so_is : (x : Ending) → ran.finish ≡ finish.Stream x → e.close ≡ Some x
       closed_so_is x is = by (ready_list e.machine) refl
         where
-          by_close : (t : Option Trap) (c : Option Ending) → (IsNone t → IsSome c) → ((y : Ending) → MayEnd c y → ran.finish ≡ end_of n.named t e.machine.emitted y) → c ≡ Some x
+          by_close : (t : Option Trap) (c : Option Ending) → (IsNone t → IsSome c) → ((y : Ending) → MayEnd c y → ran.finish ≡ end_of n.named t (e.earlier + e.machine.emitted) y) → c ≡ Some x
           by_close None None must ends = absurd (let z : false ≡ true = must refl in cc)
           by_close None (Some y) must ends = (let z : finish.Stream y ≡ finish.Stream x = sym (ends y refl) ∙ is in let same : y ≡ x = cc in ap (λ k. Some k) same)
           by_close (Some t) None must ends = absurd (let z = sym (ends x tt) ∙ is in cc)
@@ -321,6 +330,8 @@ module _ (job : Job) where
           firings_is = d.firings_is;
           fits = d.fits;
           few = d.few;
+          numbered = d.numbered;
+          few_earlier = d.few_earlier;
           items = d.items;
           outcomes = d.outcomes;
           walked = d.walked ++ record { pick = p; kind = None } ∷ [];
@@ -380,6 +391,8 @@ module _ (job : Job) where
             firings_is = d.firings_is;
             fits = d.fits;
             few = d.few;
+            numbered = d.numbered;
+            few_earlier = d.few_earlier;
             items = d.items;
             outcomes = d.outcomes ++ option_to_list handed;
             walked = d.walked ++ record { pick = p; kind = Some fired.kind } ∷ [];

@@ -2,7 +2,9 @@ pub mod WriteSteps
 pub mod FeedSteps
 pub mod TraceSteps
 pub mod FiringSteps
+pub mod StartSteps
 pub mod RunSteps
 pub mod StoppedSteps
 pub mod ExecutionSteps
 pub mod TimedSteps
+pub mod ReplaySteps

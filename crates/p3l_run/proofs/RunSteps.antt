@@ -1,8 +1,8 @@
 -- A machine that runs a network pick by pick: its first state, each item, each pick, and its end.
-use Rattle.std.proofs.Common.{◌≡◌, ◌≢◌, ℕ, ℤ, pos, suc, ◌+◌, ◌*◌, ◌<◌, ◌≤◌, ◌^◌, Bool, true, false, List, [], ◌∷◌, ◌++◌, length, fold, replicate, Option, Some, None, IsTrue, refl, sym, ap, subst, ◌∙◌, arith, append_assoc, append-nil, length-append, mul_comm}
+use Rattle.std.proofs.Common.{◌≡◌, ◌≢◌, ℕ, ℤ, pos, suc, ◌+◌, ◌*◌, ◌<◌, ◌≤◌, Bool, true, false, List, [], ◌∷◌, ◌++◌, length, fold, replicate, Option, Some, None, IsTrue, refl, sym, ap, subst, ◌∙◌, arith, append_assoc, append-nil, length-append}
 use Rattle.std.proofs.lemmas.List.{length-replicate}
-use Rattle.std.specs.List.{AllByRecursion, slice_get}
-use Rattle.std.specs.Option.{option_map, option_to_list}
+use Rattle.std.specs.List.{AllByRecursion}
+use Rattle.std.specs.Option.{option_to_list}
 use Rattle.std.proofs.lemmas.Bool.{cond-false, cond-true, false≢true}
 use Rattle.std.proofs.lemmas.List.Sums.{fold-append}
 use Rattle.std.proofs.lemmas.Nat.{mod_below, mul-le}
@@ -10,25 +10,24 @@ use Rattle.p3l_base.specs.declared.outcome.Outcome.{Outcome}
 use Rattle.p3l_base.specs.declared.outcome.Outcome.TheVariants.{Value, Trapped}
 use Rattle.p3l_base.specs.declared.outcome.Trap.{Trap}
 use Rattle.p3l_firing.specs.declared.net.Net.{Net}
-use Rattle.p3l_firing.specs.declared.process.Proc.{Proc}
 use Rattle.p3l_firing.specs.declared.process.ProcKind.{ProcKind}
-use Rattle.p3l_firing.specs.declared.process.ProcKind.TheVariants.{Source}
 use Rattle.p3l_skel.specs.declared.tree.Tree.{Tree}
 use Rattle.p3l_skel.specs.Item.{item, meaning, up_to_trap}
 use Rattle.p3l_net.specs.Fire.{can_fire}
 use Rattle.p3l_net.specs.Process.{kind_at}
-use Rattle.p3l_net.specs.Machine.{Seen, Fires, can_step, ready_list, started, state_of}
+use Rattle.p3l_net.specs.Machine.{HasEmitted, Seen, Fires, can_step, ready_list, state_of}
 use Rattle.p3l_net.specs.Offered.{Follows, HasFilledInbox}
-use Rattle.p3l_net.specs.State.{first_state, with_rest}
+use Rattle.p3l_net.specs.State.{with_rest}
 use Rattle.p3l_net.specs.Run.{Course, after_picks, course_from, picked}
 use Rattle.p3l_net.specs.Carried.{HaveInWords}
-use Rattle.p3l_net.specs.Outcomes.{IsPrefixOf}
+use Rattle.p3l_net.specs.Outcomes.{IsPrefixOf, up_to_first_trap}
+use Rattle.p3l_net.specs.Shot.{restored}
 use Rattle.p3l_run.specs.declared.end.RunStats.{RunStats}
 use Rattle.p3l_sched.specs.declared.picker.Way.{Way}
 use Rattle.p3l_sched.specs.declared.picker.Way.TheVariants as way
 use Rattle.p3l_sched.specs.declared.schedule.Schedule.{Schedule}
 use Rattle.p3l_sched.specs.declared.schedule.Schedule.TheVariants as schedules
-use Rattle.p3l_sched.specs.Course.{most_picks, picks_from, picks_of}
+use Rattle.p3l_sched.specs.Course.{most_picks, picks_from}
 use Rattle.p3l_sched.specs.Picker.{HasPlace, HasProcesses, IsPickedFrom, NamesProcesses, after_pick, begun, pick_of, ready_of}
 use Rattle.p3l_stream.specs.declared.items.Ending.{Ending}
 use Rattle.p3l_stream.specs.Text.{text_of}
@@ -37,8 +36,9 @@ use Rattle.p3l_trace.specs.Agreement as trace
 use Rattle.p3l_trace.specs.Agreement.{AgreeFrom}
 use Rattle.p3l_run.specs.Feed.{Offers, closed_so}
 use Rattle.p3l_run.specs.Laws.{Laws, Runs}
-use Rattle.p3l_run.specs.Network.{IsRunOn, Network, course_of, course_under, goes_on, is_some, meaning_of, picks_of as run_picks, ready_at, size_of, stats_of, width_of}
+use Rattle.p3l_run.specs.Network.{IsRunOn, Network, begun_with, course_of, course_under, goes_on, is_some, meaning_of, most_firings, picks_of, ready_at, size_of, stats_of, width_of}
 use Rattle.p3l_run.specs.Run.{IsTraceOf, MayCome, MayFollow}
+use Rattle.p3l_run.specs.Start.{IsWithin, Start, beginning, fresh, most_from, outcomes_from, saved}
 use Rattle.p3l_run.specs.Steps.{HasRoom, IsAt, Stands, left_of}
 use Rattle.p3l_run.specs.Sum.{sum_after, sum_of}
 use Rattle.p3l_run.specs.Trap.{trap_after, trap_of}
@@ -46,11 +46,6 @@ use Rattle.p3l_run.specs.Write.{HasBegun, HasPut}
 use Rattle.p3l_run.proofs.FiringSteps.{after_leaves}
 use Rattle.p3l_run.proofs.TraceSteps.{agree_more, counts_fired, counts_idle, picks_more, same_line}
 use Rattle.p3l_run.proofs.WriteSteps.{begun_longer, begun_more, begun_whole, text_begins, text_more}
-
--- a net that has a source has a process
-pub some_process : (procs : List Proc) → option_map (λ (q : Proc). q.kind) (slice_get procs 0) ≡ Some Source → 0 < length procs
-some_process [] e = absurd cc
-some_process (q ∷ qs) e = omega arith
 
 -- items after others, each of so many words
 pub wide_append : (width : ℕ) (xs ys : List (List ℤ)) → AllByRecursion (λ (w : List ℤ). length w ≡ width) xs → AllByRecursion (λ (w : List ℤ). length w ≡ width) ys → AllByRecursion (λ (w : List ℤ). length w ≡ width) (xs ++ ys)
@@ -99,7 +94,7 @@ room_first (schedules.Seeded seed) = omega arith
 room_first (schedules.Recorded picks) = omega arith
 
 -- after a pick the cursor is a process
-pub place_after : (size : ℕ) (w : Way) (p : ℕ) → 0 < size → HasPlace size (after_pick size w p)
+place_after : (size : ℕ) (w : Way) (p : ℕ) → 0 < size → HasPlace size (after_pick size w p)
 place_after size (way.Turns cursor) p some = mod_below (p + 1) size some
 place_after size (way.Draws generator) p some = tt
 place_after size (way.Reads picks) p some = tt
@@ -141,6 +136,10 @@ fewer_fired bound fired fired' can size w p from more low = (let e = left_fired 
 pub fewer_idle : (bound fired : ℕ) (can : ℕ → Bool) (size : ℕ) (w : Way) (p : ℕ) → IsPickedFrom can size w p → can p ≡ false → left_of bound fired (after_pick size w p) < left_of bound fired w
 fewer_idle bound fired can size w p from cannot = (let e = left_idle bound fired can size w p from cannot in omega arith)
 
+-- no outcome was emitted before a run that begins with nothing fired
+pub none_before : (k : ℕ) → k ≡ 0 + k
+none_before k = omega arith
+
 -- where no outcome is a trap there is one for each item
 all_come : (tree : Tree) (leaf : ℕ → List ℤ → Outcome) (items : List (List ℤ)) → trap_of (meaning tree leaf items) ≡ None → length (meaning tree leaf items) ≡ length items
 all_come tree leaf [] none = refl
@@ -150,6 +149,38 @@ all_come tree leaf (words ∷ items) none = by_first (all_come tree leaf items) 
         length (up_to_trap o (meaning tree leaf items)) ≡ suc (length items)
     by_first rest (Value result) h = ap suc (rest h)
     by_first rest (Trapped trap) h = cc
+
+-- also where they are cut at the first trap
+all_whole : (tree : Tree) (leaf : ℕ → List ℤ → Outcome) (items : List (List ℤ)) → trap_of (up_to_first_trap (meaning tree leaf items)) ≡ None → length (up_to_first_trap (meaning tree leaf items)) ≡ length items
+unfolding up_to_first_trap
+all_whole tree leaf [] none = refl
+all_whole tree leaf (words ∷ items) none = by_first (all_whole tree leaf items) (item tree leaf 0 words) none
+  where
+    by_first : (trap_of (up_to_first_trap (meaning tree leaf items)) ≡ None → length (up_to_first_trap (meaning tree leaf items)) ≡ length items) → (o : Outcome) →
+        trap_of (up_to_first_trap (up_to_trap o (meaning tree leaf items))) ≡ None → length (up_to_first_trap (up_to_trap o (meaning tree leaf items))) ≡ suc (length items)
+    by_first rest (Value result) h = ap suc (rest h)
+    by_first rest (Trapped trap) h = cc
+
+one_before : (a b : ℕ) → suc (a + b) ≡ suc a + b
+one_before a b = omega arith
+
+-- and after outcomes that were to come
+all_follow : (tree : Tree) (leaf : ℕ → List ℤ → Outcome) (ahead : List Outcome) (items : List (List ℤ)) → trap_of (up_to_first_trap (ahead ++ meaning tree leaf items)) ≡ None →
+    length (up_to_first_trap (ahead ++ meaning tree leaf items)) ≡ length ahead + length items
+unfolding up_to_first_trap
+all_follow tree leaf [] items none = all_whole tree leaf items none ∙ none_before (length items)
+all_follow tree leaf (Value words ∷ ahead) items none = ap suc (all_follow tree leaf ahead items none) ∙ one_before (length ahead) (length items)
+all_follow tree leaf (Trapped trap ∷ ahead) items none = cc
+
+-- how many outcomes are to come before those of the items
+abbrev ahead_of : Start → ℕ
+ahead_of fresh = 0
+ahead_of (saved r) = length r.ahead
+
+all_from : (start : Start) (tree : Tree) (leaf : ℕ → List ℤ → Outcome) (items : List (List ℤ)) → trap_of (outcomes_from start (meaning tree leaf items)) ≡ None →
+    length (outcomes_from start (meaning tree leaf items)) ≡ ahead_of start + length items
+all_from fresh tree leaf items none = all_come tree leaf items none ∙ none_before (length items)
+all_from (saved r) tree leaf items none = all_follow tree leaf r.ahead items none
 
 none_ready : (ready : List ℕ) → is_some ready ≡ false → ready ≡ []
 none_ready [] e = refl
@@ -180,39 +211,58 @@ unfolding after_picks
 emitted_first n items picks more whole is =
     subst (λ ps. IsPrefixOf (course_under n items picks).state.emitted (course_under n items ps).state.emitted) is
     (subst (λ (c : Course). IsPrefixOf (course_under n items picks).state.emitted c.state.emitted)
-    (sym (fold-append (picked n.tree n.leaf n.net) (course_from (first_state n.net items)) picks more)) (after_leaves n.tree n.leaf n.net (course_under n items picks) more))
+    (sym (fold-append (picked n.tree n.leaf n.net) (course_from (begun_with n items)) picks more)) (after_leaves n.tree n.leaf n.net (course_under n items picks) more))
 
--- the bound on firings is a number of 64 bits
-pub bound_fits : (firings sent count most : ℕ) → sent ≤ count → count ≤ most → firings * most < 2 ^ 63 → sent * firings < 2 ^ 64
-bound_fits firings sent count most a b c =
-    omega (arith, mul-le sent firings most firings (omega arith) (omega arith), mul_comm most firings)
+-- no run fires more often than one of more items may
+pub few_fits : (start : Start) (firings count most : ℕ) → count ≤ most → most_from start firings count ≤ most_from start firings most
+few_fits fresh firings count most a = mul-le firings count firings most (omega arith) a
+few_fits (saved r) firings count most a =
+    let waiting : ℕ = length (option_to_list r.shot.inbox) in
+    let more : firings * (waiting + count) ≤ firings * (waiting + most) = mul-le firings (waiting + count) firings (waiting + most) (omega arith) (omega arith) in
+    omega (arith, more)
 
--- no run fires more often than this number
-pub few_fits : (firings count most : ℕ) → count ≤ most → firings * count ≤ firings * most
-few_fits firings count most a = mul-le firings count firings most (omega arith) a
+-- a machine with which a run begins runs its network, and nothing has fired in it and nothing was emitted
+pub record Begins (n : Network) (m : Seen) : Type 0 where
+  pub runs : Runs n m
+  pub fired : m.fired ≡ 0
+  pub emitted : m.emitted ≡ 0
+
+begins_by : (start : Start) (n : Network) → Begins n (beginning start n.tree n.net)
+unfolding restored
+begins_by fresh n = record { runs = record { tree = refl; net = refl }; fired = refl; emitted = refl }
+begins_by (saved r) n = record { runs = record { tree = refl; net = refl }; fired = refl; emitted = refl }
+
+-- at most one outcome is emitted by a firing
+emitted_few : (outcomes : List Outcome) (handed : Option Outcome) (emitted emitted' fired fired' : ℕ) → emitted ≡ length outcomes → emitted' ≡ length (outcomes ++ option_to_list handed) →
+    fired' ≡ fired + 1 → emitted ≤ fired → emitted' ≤ fired'
+emitted_few outcomes None emitted emitted' fired fired' was is more few = omega (arith, length-append outcomes [])
+emitted_few outcomes (Some outcome) emitted emitted' fired fired' was is more few = omega (arith, length-append outcomes (outcome ∷ []))
 
 module _ (n : Network) (laws : Laws n) (schedule : Schedule) where
   -- what holds of the tree and the net of a machine that runs the network
   at_network : (m : Seen) → Runs n m → (P : Tree → Net → Type 0) → P m.tree m.net → P n.tree n.net
   at_network m runs P p = subst (λ t. P t n.net) runs.tree (subst (λ k. P m.tree k) runs.net p)
 
-  -- a machine that was just started
-  pub stands_first : (m : Seen) → m ≡ started n.tree n.net → NamesProcesses (size_of n) schedule → Stands n schedule m (begun schedule) [] None [] 0 []
-  unfolding picks_of after_picks AgreeFrom
-  stands_first m fresh named = record {
-    runs = record { tree = ap (λ s. s.tree) fresh; net = ap (λ s. s.net) fresh };
-    wide = tt;
-    place = place_first schedule (size_of n) laws.some;
-    named = named_first schedule (size_of n) named;
-    room = room_first schedule;
-    counts = record { fired = ap (λ s. s.fired) fresh; idle = refl };
-    at = λ later may. record {
-      follows = subst (λ s. Follows s [] later (course_under n later [])) (sym fresh) (laws.starts later);
-      idle_is = refl;
-      goes_on = ap (λ k. picks_from n.tree n.leaf n.net k (begun schedule) (course_under n later [])) (most_first schedule (n.firings * length later) m.fired (ap (λ s. s.fired) fresh));
-      agree = tt;
-    };
-  }
+  -- a machine with which the run begins
+  pub stands_first : (m : Seen) → m ≡ beginning n.start n.tree n.net → NamesProcesses (size_of n) schedule → Stands n schedule m (begun schedule) [] None [] 0 []
+  unfolding after_picks AgreeFrom
+  stands_first m is named =
+      let begins : Begins n m = subst (Begins n) (sym is) (begins_by n.start n) in
+      record {
+        runs = begins.runs;
+        wide = tt;
+        place = place_first schedule (size_of n) laws.some;
+        named = named_first schedule (size_of n) named;
+        room = room_first schedule;
+        few = (let none = begins.emitted in omega arith);
+        counts = record { fired = begins.fired; idle = refl };
+        at = λ later may. record {
+          follows = subst (λ s. Follows s [] later (course_under n later [])) (sym is) (laws.starts later);
+          idle_is = refl;
+          goes_on = ap (λ k. picks_from n.tree n.leaf n.net k (begun schedule) (course_under n later [])) (most_first schedule (most_firings n later) m.fired begins.fired);
+          agree = tt;
+        };
+      }
 
   -- an item that was offered
   module _ (m m' : Seen) (w : Way) (given : List (List ℤ)) (close close' : Option Ending) (outcomes : List Outcome) (idle : ℕ) (walked : List TraceLine) (s : Stands n schedule m w given close outcomes idle walked)
@@ -226,6 +276,7 @@ module _ (n : Network) (laws : Laws n) (schedule : Schedule) where
           place = s.place;
           named = s.named;
           room = s.room;
+          few = s.few;
           counts = s.counts;
           at = λ later may. s.at later (record { wide = may.wide; none = λ e is. may.none e (kept e is) });
         }))
@@ -238,6 +289,7 @@ module _ (n : Network) (laws : Laws n) (schedule : Schedule) where
           place = s.place;
           named = s.named;
           room = s.room;
+          few = s.few;
           counts = record { fired = s.counts.fired; idle = s.counts.idle };
           at = λ later may.
               let was = s.at (item ∷ later) (record { wide = (one, may.wide); none = λ e closed. absurd (none_open e (sym not_ended ∙ closed)) }) in
@@ -279,16 +331,11 @@ module _ (n : Network) (laws : Laws n) (schedule : Schedule) where
     bare : (P : List (List ℤ) → Type 0) → P (given ++ []) → P given
     bare P p = subst P (append-nil given) p
 
-    pub few_sent : m.sent ≤ length given
-    few_sent = bare (λ i. m.sent ≤ length i) (subst (λ k. k ≤ length (given ++ [])) (sym (sent_is [] (nothing_comes n close))) (laws.sent_most (given ++ []) (all_wide [] (nothing_comes n close)) picks))
-
-    pub few_fired : m.fired ≤ n.firings * length given
+    pub few_fired : m.fired ≤ most_firings n given
     few_fired =
         let may = nothing_comes n close in
-        let a = laws.fired_most (given ++ []) (all_wide [] may) picks in
-        let same : m.fired ≡ (course []).fired = (s.at [] may).follows.fired in
-        let sent : (course []).state.sent ≤ length given = subst (λ k. k ≤ length given) (sent_is [] may) few_sent in
-        omega (arith, same, mul-le n.firings (course []).state.sent n.firings (length given) (omega arith) sent)
+        bare (λ i. m.fired ≤ most_firings n i)
+        (subst (λ k. k ≤ most_firings n (given ++ [])) (sym (s.at [] may).follows.fired) (laws.fired_most (given ++ []) (all_wide [] may) picks))
 
     pub begins_given : (later : List (List ℤ)) → MayCome n close later → IsPrefixOf outcomes (meaning_of n (given ++ later))
     begins_given later may = subst (λ o. IsPrefixOf o (meaning_of n (given ++ later))) (sym (emitted_is later may)) (laws.begins (given ++ later) (all_wide later may) picks)
@@ -301,7 +348,7 @@ module _ (n : Network) (laws : Laws n) (schedule : Schedule) where
     unfolding course_of
     begins_emitted later may =
         subst (λ o. IsPrefixOf o (course_of n schedule (given ++ later)).state.emitted) (sym (emitted_is later may))
-        (emitted_first n (given ++ later) picks _ (run_picks n schedule (given ++ later)) (s.at later may).goes_on)
+        (emitted_first n (given ++ later) picks _ (picks_of n schedule (given ++ later)) (s.at later may).goes_on)
 
     module _ (filled : (later : List (List ℤ)) → MayCome n close later → HasFilledInbox m later) where
       pub ready_same : (later : List (List ℤ)) → MayCome n close later → ready_at n (course later) ≡ ready_list m
@@ -333,13 +380,13 @@ module _ (n : Network) (laws : Laws n) (schedule : Schedule) where
         one_more : (later : List (List ℤ)) → course_under n (given ++ later) (trace.picks_of more) ≡ picked n.tree n.leaf n.net (course later) p
         one_more later = ap (course_under n (given ++ later)) (picks_more walked line) ∙ laws.one_more _ picks p
 
-        agree_on : (there : p < length m.net.procs) → said ≡ trace.said_if (can_step m p) m.net p → (later : List (List ℤ)) → MayCome n close later → trace.AllAgree n.tree n.leaf n.net (given ++ later) more
+        agree_on : (there : p < length m.net.procs) → said ≡ trace.said_if (can_step m p) m.net p → (later : List (List ℤ)) → MayCome n close later → trace.AllAgree n.tree n.leaf n.net (begun_with n (given ++ later)) more
         agree_on there is_said later may =
             agree_more n.tree n.leaf n.net _ walked line (s.at later may).agree
             (same_line (can_step m p) (can_fire n.tree n.net (course later).state p) m.net n.net line (sym (can_same later may p)) s.runs.net (record { there = there; said = is_said }))
 
-        on : (later : List (List ℤ)) → MayCome n close later → (left left' : ℕ) → left ≡ suc left' → picks ++ picks_from n.tree n.leaf n.net left w (course later) ≡ picks_of n.tree n.leaf n.net n.firings schedule (given ++ later) →
-            trace.picks_of more ++ picks_from n.tree n.leaf n.net left' after_it (course_under n (given ++ later) (trace.picks_of more)) ≡ picks_of n.tree n.leaf n.net n.firings schedule (given ++ later)
+        on : (later : List (List ℤ)) → MayCome n close later → (left left' : ℕ) → left ≡ suc left' → picks ++ picks_from n.tree n.leaf n.net left w (course later) ≡ picks_of n schedule (given ++ later) →
+            trace.picks_of more ++ picks_from n.tree n.leaf n.net left' after_it (course_under n (given ++ later) (trace.picks_of more)) ≡ picks_of n schedule (given ++ later)
         on later may left left' one whole =
             let rest : List ℕ = picks_from n.tree n.leaf n.net left' after_it (course_under n (given ++ later) (trace.picks_of more)) in
             let some_there : ready_at n (course later) ≢ [] = λ none. some (sym (ready_same later may) ∙ none) in
@@ -363,16 +410,12 @@ module _ (n : Network) (laws : Laws n) (schedule : Schedule) where
               ap (λ c. c.idle) (one_more later) ∙ ap (λ (c : Course). c.idle) (cond-true _ _ _ here) ∙ (s.at later may).idle_is
 
           -- there was a firing left
-          pub firing_left : (later : List (List ℤ)) → MayCome n close later → m.fired + 1 ≤ n.firings * length (given ++ later)
+          pub firing_left : (later : List (List ℤ)) → MayCome n close later → m.fired + 1 ≤ most_firings n (given ++ later)
           firing_left later may =
-              let a = laws.fired_most (given ++ later) (all_wide later may) (trace.picks_of more) in
-              let b = laws.sent_most (given ++ later) (all_wide later may) (trace.picks_of more) in
-              let e = (led later may).fired in
-              let f = fires.fired in
-              omega (arith, mul-le n.firings (course_under n (given ++ later) (trace.picks_of more)).state.sent n.firings (length (given ++ later)) (omega arith) b)
+              subst (λ k. k ≤ most_firings n (given ++ later)) (sym (led later may).fired ∙ fires.fired) (laws.fired_most (given ++ later) (all_wide later may) (trace.picks_of more))
 
-          pub firing_left_given : m.fired + 1 ≤ n.firings * length given
-          firing_left_given = bare (λ i. m.fired + 1 ≤ n.firings * length i) (firing_left [] (nothing_comes n close))
+          pub firing_left_given : m.fired + 1 ≤ most_firings n given
+          firing_left_given = bare (λ i. m.fired + 1 ≤ most_firings n i) (firing_left [] (nothing_comes n close))
 
           -- what was emitted begins the meaning
           pub led_begins : IsPrefixOf (outcomes ++ option_to_list handed) (meaning_of n given)
@@ -388,12 +431,15 @@ module _ (n : Network) (laws : Laws n) (schedule : Schedule) where
             place = place_after (size_of n) w p laws.some;
             named = named_after (can_step m) (size_of n) w p s.named;
             room = room_after schedule (can_step m) (size_of n) w p idle picked_so s.room;
+            few =
+                (let was : HasEmitted m outcomes = (s.at [] (nothing_comes n close)).follows.emitted in
+                emitted_few outcomes handed m.emitted new.emitted m.fired new.fired was.count (fires.emitted outcomes was).count fires.fired s.few);
             counts = counts_fired walked line m.fired new.fired idle kind is_said fires.fired s.counts;
             at = λ later may. record {
               follows = led later may;
               agree = agree_on there (is_said ∙ sym kind_is ∙ sym (cond-true _ _ _ can)) later may;
               idle_is = idle_stays later may;
-              goes_on = on later may _ _ (left_fired (n.firings * length (given ++ later)) m.fired new.fired (can_step m) (size_of n) w p picked_so fires.fired (firing_left later may)) (s.at later may).goes_on;
+              goes_on = on later may _ _ (left_fired (most_firings n (given ++ later)) m.fired new.fired (can_step m) (size_of n) w p picked_so fires.fired (firing_left later may)) (s.at later may).goes_on;
             };
           }
 
@@ -407,6 +453,7 @@ module _ (n : Network) (laws : Laws n) (schedule : Schedule) where
             place = place_after (size_of n) w p laws.some;
             named = named_after (can_step m) (size_of n) w p s.named;
             room = room_idle schedule (can_step m) (size_of n) w p idle picked_so cannot s.room;
+            few = s.few;
             counts = counts_idle walked line m.fired idle is_said s.counts;
             at = λ later may. record {
               agree = agree_on there (is_said ∙ sym (cond-false _ _ _ cannot)) later may;
@@ -416,13 +463,13 @@ module _ (n : Network) (laws : Laws n) (schedule : Schedule) where
               idle_is =
                   (let here : can_fire n.tree n.net (course later).state p ≡ false = can_same later may p ∙ cannot in
                   ap (λ c. c.idle) (one_more later) ∙ ap (λ (c : Course). c.idle) (cond-false _ _ _ here) ∙ ap (λ k. k + 1) (s.at later may).idle_is);
-              goes_on = on later may _ _ (left_idle (n.firings * length (given ++ later)) m.fired (can_step m) (size_of n) w p picked_so cannot) (s.at later may).goes_on;
+              goes_on = on later may _ _ (left_idle (most_firings n (given ++ later)) m.fired (can_step m) (size_of n) w p picked_so cannot) (s.at later may).goes_on;
             };
           }
 
       -- no pick is left
-      module _ (over : (later : List (List ℤ)) → MayCome n close later → picks_from n.tree n.leaf n.net (left_of (n.firings * length (given ++ later)) m.fired w) w (course later) ≡ []) where
-        picks_whole : (later : List (List ℤ)) → MayCome n close later → picks ≡ run_picks n schedule (given ++ later)
+      module _ (over : (later : List (List ℤ)) → MayCome n close later → picks_from n.tree n.leaf n.net (left_of (most_firings n (given ++ later)) m.fired w) w (course later) ≡ []) where
+        picks_whole : (later : List (List ℤ)) → MayCome n close later → picks ≡ picks_of n schedule (given ++ later)
         picks_whole later may = sym (append-nil picks) ∙ ap (λ l. picks ++ l) (sym (over later may)) ∙ (s.at later may).goes_on
 
         whole_course : (later : List (List ℤ)) → MayCome n close later → course later ≡ course_of n schedule (given ++ later)
@@ -445,7 +492,7 @@ module _ (n : Network) (laws : Laws n) (schedule : Schedule) where
                   emitted_is later may ∙ laws.finished (given ++ later) (all_wide later may) picks (laws.none_can c none);
               stops = λ goes. laws.stops schedule (given ++ later) (all_wide later may) goes;
               stats_are = all ∙ ap (stats_of n) same;
-              bounded = subst (λ (x : RunStats). x.fired ≤ n.firings * x.items) (sym all) (laws.fired_most (given ++ later) (all_wide later may) picks);
+              bounded = subst (λ (x : RunStats). IsWithin n.start n.firings x.fired x.items) (sym all) (laws.fired_within (given ++ later) (all_wide later may) picks);
             }
 
         pub traced : (stats : RunStats) → stats ≡ record { items = m.sent; fired = m.fired; idle = idle; bound = m.sent * n.firings } → (later : List (List ℤ)) → MayCome n close later → IsTraceOf n schedule (given ++ later) stats walked
@@ -470,11 +517,11 @@ module _ (n : Network) (laws : Laws n) (schedule : Schedule) where
         idle_so later may = ap (λ (x : Course). x.idle) (sym (whole_course later may)) ∙ (s.at later may).idle_is
 
       -- no process can fire
-      pub over_stuck : ready_list m ≡ [] → (later : List (List ℤ)) → MayCome n close later → picks_from n.tree n.leaf n.net (left_of (n.firings * length (given ++ later)) m.fired w) w (course later) ≡ []
+      pub over_stuck : ready_list m ≡ [] → (later : List (List ℤ)) → MayCome n close later → picks_from n.tree n.leaf n.net (left_of (most_firings n (given ++ later)) m.fired w) w (course later) ≡ []
       over_stuck none later may = laws.stuck _ w (course later) (ready_same later may ∙ none)
 
       -- the picks are ended
-      pub over_ended : pick_of (can_step m) (length m.net.procs) w ≡ None → (later : List (List ℤ)) → MayCome n close later → picks_from n.tree n.leaf n.net (left_of (n.firings * length (given ++ later)) m.fired w) w (course later) ≡ []
+      pub over_ended : pick_of (can_step m) (length m.net.procs) w ≡ None → (later : List (List ℤ)) → MayCome n close later → picks_from n.tree n.leaf n.net (left_of (most_firings n (given ++ later)) m.fired w) w (course later) ≡ []
       over_ended none later may = laws.ended _ w (course later) (pick_same later may ∙ none)
 
       finished_at : ready_list m ≡ [] → (later : List (List ℤ)) → MayCome n close later → outcomes ≡ meaning_of n (given ++ later)
@@ -488,8 +535,8 @@ module _ (n : Network) (laws : Laws n) (schedule : Schedule) where
           let may : MayCome n close (word ∷ []) = record { wide = (length-replicate (width_of n) (pos 0), tt); none = λ e closed. absurd (none_open e (sym not_ended ∙ closed)) } in
           let a : outcomes ≡ meaning_of n (given ++ []) = finished_at none [] (nothing_comes n close) in
           let b : outcomes ≡ meaning_of n (given ++ word ∷ []) = finished_at none (word ∷ []) may in
-          let x = all_come n.tree n.leaf (given ++ []) (ap trap_of (sym a) ∙ calm) in
-          let y = all_come n.tree n.leaf (given ++ word ∷ []) (ap trap_of (sym b) ∙ calm) in
+          let x = all_from n.start n.tree n.leaf (given ++ []) (ap trap_of (sym a) ∙ calm) in
+          let y = all_from n.start n.tree n.leaf (given ++ word ∷ []) (ap trap_of (sym b) ∙ calm) in
           let one = ap length a in
           let two = ap length b in
           absurd (omega (arith, length-append given [], length-append given (word ∷ [])))

@@ -1,13 +1,12 @@
 -- A run whose picks a timer makes, step by step: it goes as a run under the picks made so far, of which one more is recorded at each
 -- firing.
-use Rattle.std.proofs.Common.{◌≡◌, ◌≢◌, ℕ, ℤ, suc, ◌+◌, ◌*◌, ◌<◌, ◌^◌, Bool, true, false, not, ◌&&◌, filter, List, [], ◌∷◌, ◌++◌, length, fold, slice_index, Option, Some, None, Err, inl, inr, refl, sym, ap, ap₂, subst, ◌∙◌, arith, append_assoc, append-nil, length-append, zero-mul}
+use Rattle.std.proofs.Common.{◌≡◌, ◌≢◌, ℕ, ℤ, suc, ◌+◌, ◌<◌, ◌^◌, Bool, true, false, not, ◌&&◌, filter, List, [], ◌∷◌, ◌++◌, length, fold, slice_index, Option, Some, None, Err, inl, inr, refl, sym, ap, ap₂, subst, ◌∙◌, arith, append_assoc, append-nil, length-append, zero-mul}
 use Rattle.std.specs.List.{AllByRecursion, range_with_len, slice_get}
 use Rattle.std.specs.Option.{is_some, option_to_list}
 use Rattle.std.proofs.lemmas.Bool.{cases_eq, cond-false}
 use Rattle.std.proofs.lemmas.List.{get_or-set_same, get_or-set_other}
 use Rattle.p3l_base.specs.declared.outcome.Outcome.{Outcome}
 use Rattle.p3l_firing.specs.Nodes.{Leaf}
-use Rattle.p3l_firing.specs.State.{first_state}
 use Rattle.p3l_skel.specs.declared.tree.Tree.{Tree}
 use Rattle.p3l_skel.specs.Tree.{node_at}
 use Rattle.p3l_net.specs.Machine as machine
@@ -22,7 +21,7 @@ use Rattle.p3l_net.specs.Typed.{IsTyped}
 use Rattle.p3l_net.proofs.Frame.{kth, offer_moves, offer_stays}
 use Rattle.p3l_sched.specs.declared.picker.Way.TheVariants as way
 use Rattle.p3l_sched.specs.declared.schedule.Schedule.TheVariants as schedules
-use Rattle.p3l_sched.specs.Course.{picks_from, picks_of}
+use Rattle.p3l_sched.specs.Course.{picks_from}
 use Rattle.p3l_stream.specs.declared.items.Ending.{Ending}
 use Rattle.p3l_stream.specs.Given.{HasGiven}
 use Rattle.p3l_stream.specs.Seen as stream
@@ -46,8 +45,9 @@ use Rattle.p3l_run.specs.declared.write.Told.{Told}
 use Rattle.p3l_run.specs.Execution.{Ends, Executes, HasFired, IsFinish, Job, Outside, outside, started, stats_at}
 use Rattle.p3l_run.specs.Feed.{Feeds, FeedsInVain, Offers, closed_so, input_limit, most_of_input}
 use Rattle.p3l_run.specs.Laws.{Laws}
-use Rattle.p3l_run.specs.Network.{Network, picks_of as picks_under, course_of, course_under, meaning_of, ready_at, size_of, width_of}
+use Rattle.p3l_run.specs.Network.{Network, begun_with, course_of, course_under, meaning_of, picks_of as picks_under, ready_at, size_of, width_of}
 use Rattle.p3l_run.specs.Run.{MayCome, MayFollow}
+use Rattle.p3l_run.specs.Start.{beginning, fresh, item_number, most_from, state_from}
 use Rattle.p3l_run.specs.Steps.{Stands}
 use Rattle.p3l_run.specs.Timed.{AreTimed, AtTime, AwaitsInTime, BeginTimed, EndsEarly, EndsInTime, GoesInTime, InTime, NoneIsDue, timing, under}
 use Rattle.p3l_run.specs.Write.{HasBegun, HasPut, WriteCause}
@@ -106,25 +106,26 @@ module _ (n : Network) (laws : Laws n) where
   module _ (m : machine.Seen) (given : List (List ℤ)) (close : Option Ending) (outcomes : List Outcome) (walked : List TraceLine) (picks : List ℕ)
       (s : Stands n (schedules.Recorded picks) m (way.Reads []) given close outcomes 0 walked) (walked_are : trace.picks_of walked ≡ picks)
       (filled : (later : List (List ℤ)) → MayCome n close later → HasFilledInbox m later) where
-    all_made : (later : List (List ℤ)) → MayCome n close later → picks_from n.tree n.leaf n.net (length picks) (way.Reads picks) (course_from (first_state n.net (given ++ later))) ≡ picks
-    unfolding picks_of picks_from
+    all_made : (later : List (List ℤ)) → MayCome n close later → picks_from n.tree n.leaf n.net (length picks) (way.Reads picks) (course_from (begun_with n (given ++ later))) ≡ picks
+    unfolding picks_from
     all_made later may = sym (s.at later may).goes_on ∙ append-nil (trace.picks_of walked) ∙ walked_are
 
     pub one_recorded : (p : ℕ) → p < size_of n → ready_list m ≢ [] → Stands n (schedules.Recorded (picks ++ p ∷ [])) m (way.Reads (p ∷ [])) given close outcomes 0 walked
-    unfolding picks_of picks_from
+    unfolding picks_from
     one_recorded p there some = record {
       runs = s.runs;
       wide = s.wide;
       place = tt;
       named = (there, tt);
       room = let long = length-append picks (p ∷ []) in omega (arith, long);
+      few = s.few;
       counts = s.counts;
       at = λ later may.
           let was = s.at later may in
           let items : List (List ℤ) = given ++ later in
           let ready = steps.ready_same n laws (schedules.Recorded picks) m (way.Reads []) given close outcomes 0 walked s filled later may in
-          let some_there : ready_at n (after_picks n.tree n.leaf n.net (course_from (first_state n.net items)) picks) ≢ [] =
-          λ none. some (sym ready ∙ ap (λ ps. ready_at n (after_picks n.tree n.leaf n.net (course_from (first_state n.net items)) ps)) walked_are ∙ none) in
+          let some_there : ready_at n (after_picks n.tree n.leaf n.net (course_from (begun_with n items)) picks) ≢ [] =
+          λ none. some (sym ready ∙ ap (λ ps. ready_at n (after_picks n.tree n.leaf n.net (course_from (begun_with n items)) ps)) walked_are ∙ none) in
           let some_now : ready_at n (course_under n items (trace.picks_of walked)) ≢ [] = λ none. some (sym ready ∙ none) in
           record {
             follows = was.follows;
@@ -132,7 +133,7 @@ module _ (n : Network) (laws : Laws n) where
             goes_on =
                 ap (λ ps. trace.picks_of walked ++ ps) (laws.next 0 (way.Reads (p ∷ [])) (course_under n items (trace.picks_of walked)) p some_now refl)
                 ∙ ap (λ ps. ps ++ p ∷ []) walked_are
-                ∙ sym (made_more picks (course_from (first_state n.net items)) p (all_made later may) some_there);
+                ∙ sym (made_more picks (course_from (begun_with n items)) p (all_made later may) some_there);
             agree = was.agree;
           };
     }
@@ -230,12 +231,15 @@ module _ (job : Job) (prices : List ℕ) where
         let same = fed_fired e.machine m f.more f.offers in (
           record {
             is = record {
+              fresh_is = is.fresh_is;
               picks = is.picks;
               executes = record {
                 laws = d.laws;
                 firings_is = d.firings_is;
                 fits = d.fits;
                 few = d.few;
+                numbered = d.numbered;
+                few_earlier = d.few_earlier;
                 items = d.items ++ f.more;
                 outcomes = d.outcomes;
                 walked = d.walked;
@@ -284,7 +288,9 @@ module _ (job : Job) (prices : List ℕ) where
     filled = steps.filled_after n e.close e.machine a.filled
 
     t_course : (later : List (List ℤ)) → (timing n prices (x.items ++ later) it.picks).course ≡ course_under n (x.items ++ later) it.picks
-    t_course later = same_course n.tree n.leaf n.net (price_at prices) (timing_from n.tree n.net (price_at prices) (x.items ++ later)) it.picks
+    t_course later =
+        same_course n.tree n.leaf n.net (price_at prices) (timing_from n.tree n.net (price_at prices) (x.items ++ later)) it.picks
+        ∙ ap (λ s. after_picks n.tree n.leaf n.net (course_from (state_from s n.tree n.net (x.items ++ later))) it.picks) (sym it.fresh_is)
 
     follows : (later : List (List ℤ)) → MayCome n e.close later → Follows e.machine x.outcomes later (timing n prices (x.items ++ later) it.picks).course
     follows later may =
@@ -305,7 +311,6 @@ module _ (job : Job) (prices : List ℕ) where
 
       -- all picks were made
       made_all : (later : List (List ℤ)) → MayCome n e.close later → picks_under n (schedules.Recorded it.picks) (x.items ++ later) ≡ it.picks
-      unfolding picks_of
       made_all = all_made n x.laws e.machine x.items e.close x.outcomes x.walked it.picks (stands now e k it) it.walked_are filled
 
       -- so it is over
@@ -334,7 +339,7 @@ module _ (job : Job) (prices : List ℕ) where
       fired_few =
           let l = steps.few_fired n x.laws (schedules.Recorded it.picks) e.machine e.picker x.items e.close x.outcomes e.idle x.walked x.stands in
           let few = x.gives.few in
-          let most = steps.few_fits n.firings (length x.items) most_of_input (omega (arith, few)) in
+          let most = steps.few_fits n.start n.firings (length x.items) most_of_input (omega (arith, few)) in
           let fits = x.fits in
           omega (arith, l, most, fits)
 
@@ -450,12 +455,15 @@ module _ (job : Job) (prices : List ℕ) where
               → GoesInTime job prices (outside now.rest now.read_faults taken after) e (record e' { told = told }) k' true
           went_in_time told taken after trap_is sum_is put quiet = subst (λ y. GoesInTime job prices (outside now.rest now.read_faults taken after) e (record y { told = told }) k' true) (sym fired.rest) (
             record {
+              fresh_is = it.fresh_is;
               picks = it.picks ++ p ∷ [];
               executes = record {
                 laws = x.laws;
                 firings_is = x.firings_is;
                 fits = x.fits;
                 few = few_more;
+                numbered = x.numbered;
+                few_earlier = x.few_earlier;
                 items = x.items;
                 outcomes = x.outcomes ++ option_to_list handed;
                 walked = x.walked ++ line ∷ [];
@@ -488,7 +496,7 @@ module _ (job : Job) (prices : List ℕ) where
                   let long = length-append it.picks (p ∷ []) in
                   let l = steps.firing_left_given n x.laws (schedules.Recorded (it.picks ++ p ∷ [])) e.machine (way.Reads (p ∷ [])) x.items e.close x.outcomes 0 x.walked recorded_one filled p (Some fired.kind) refl some e'.machine handed can fires in
                   let few = x.gives.few in
-                  let most = steps.few_fits n.firings (length x.items) most_of_input (omega (arith, few)) in
+                  let most = steps.few_fits n.start n.firings (length x.items) most_of_input (omega (arith, few)) in
                   let fits = x.fits in
                   let count = it.count in
                   omega (arith, long, l, most, fits, count)
@@ -507,7 +515,7 @@ fired_at_most {job = job} {e = e} is =
     let n : Network = job.network in
     let l = steps.few_fired n d.laws (schedules.Recorded is.picks) e.machine e.picker d.items e.close d.outcomes e.idle d.walked d.stands in
     let few = d.gives.few in
-    let most = steps.few_fits n.firings (length d.items) most_of_input (omega (arith, few)) in
+    let most = steps.few_fits n.start n.firings (length d.items) most_of_input (omega (arith, few)) in
     let fits = d.fits in
     omega (arith, l, most, fits)
 
@@ -517,22 +525,26 @@ offers_of f = (f.more, f.offers)
 
 -- THE START: nothing has fired
 module _ (job : Job) (prices : List ℕ) where
-  pub in_time_first : (e : Execution) (k : Clock) (laws : Laws job.network) → job.network.firings * most_of_input < 2 ^ 63 → HasGiven (width_of job.network) (stream.started (width_of job.network) input_limit) [] []
+  pub in_time_first : (e : Execution) (k : Clock) (laws : Laws job.network) → job.network.start ≡ fresh → most_from job.network.start job.network.firings most_of_input < 2 ^ 63
+      → HasGiven (width_of job.network) (stream.started (width_of job.network) input_limit) [] []
       → (width : ℕ) → width ≡ width_of job.network → e ≡ started job.network.tree job.network.net job.network.firings width (schedules.Recorded []) job.keeping → clock.IsStarted prices e.machine k → InTime job prices job.before e k
-  in_time_first e k laws fits given width wide is begun =
+  in_time_first e k laws fresh_is fits given width wide is begun =
       subst (λ y. clock.IsStarted prices y.machine k → InTime job prices job.before y k) (sym is)
-      (subst (λ w. clock.IsStarted prices (machine.started job.network.tree job.network.net) k → InTime job prices job.before (started job.network.tree job.network.net job.network.firings w (schedules.Recorded []) job.keeping) k) (sym wide) (λ fresh. record {
+      (subst (λ w. clock.IsStarted prices (machine.started job.network.tree job.network.net) k → InTime job prices job.before (started job.network.tree job.network.net job.network.firings w (schedules.Recorded []) job.keeping) k) (sym wide) (λ begins. record {
+        fresh_is = fresh_is;
         picks = [];
         executes = record {
           laws = laws;
           firings_is = refl;
           fits = fits;
           few = omega arith;
+          numbered = λ count. ap (λ s. item_number s count) fresh_is ∙ steps.none_before count;
+          few_earlier = omega arith;
           items = [];
           outcomes = [];
           walked = [];
           gives = gives_first (width_of job.network) job.before.rest job.before.read_faults (stream.started (width_of job.network) input_limit) given refl;
-          stands = steps.stands_first job.network laws (schedules.Recorded []) (machine.started job.network.tree job.network.net) refl tt;
+          stands = steps.stands_first job.network laws (schedules.Recorded []) (machine.started job.network.tree job.network.net) (ap (λ s. beginning s job.network.tree job.network.net) (sym fresh_is)) tt;
           trap_is = refl;
           sum_is = refl;
           put = put_nothing job.before.taken;
@@ -543,13 +555,13 @@ module _ (job : Job) (prices : List ℕ) where
         walked_are = refl;
         count = refl;
         none_idle = refl;
-        prices_are = fresh.prices_are;
-        busy = λ p. fresh.busy p ∙ sym (zero-mul (price_at prices p));
+        prices_are = begins.prices_are;
+        busy = λ p. begins.busy p ∙ sym (zero-mul (price_at prices p));
         at = λ later may.
             let t0 : Timing = timing_from job.network.tree job.network.net (price_at prices) later in
             let none = no_step job.network.tree job.network.leaf job.network.net (price_at prices) t0 in
             record {
-              times = subst (Times k (machine.started job.network.tree job.network.net)) (sym none) (starts job.network.tree job.network.net later prices k fresh);
+              times = subst (Times k (machine.started job.network.tree job.network.net)) (sym none) (starts job.network.tree job.network.net later prices k begins);
               begins = begins_none job.network.tree job.network.leaf job.network.net (price_at prices) t0;
             };
       })) begun

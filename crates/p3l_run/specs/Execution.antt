@@ -28,6 +28,7 @@ use Rattle.p3l_run.specs.Keeping.{kept_by}
 use Rattle.p3l_run.specs.Laws.{Laws}
 use Rattle.p3l_run.specs.Network.{Network, width_of}
 use Rattle.p3l_run.specs.Run.{IsRunEnd, MayEnd, end_of}
+use Rattle.p3l_run.specs.Start.{item_number, most_from}
 use Rattle.p3l_run.specs.Steps.{Stands, left_of}
 use Rattle.p3l_run.specs.Sum.{sum_of}
 use Rattle.p3l_run.specs.Trap.{trap_of}
@@ -62,12 +63,13 @@ pub record Ends (job : Job) (now : Outside) (result : Result Ran RunFault) : Typ
 abbrev pub left_at : Execution → ℕ
 left_at e = left_of (2 ^ 63) e.machine.fired e.picker
 
--- an execution that was just started
-abbrev pub started : Tree → Net → ℕ → ℕ → Schedule → Keeping → Execution
-started tree net firings width schedule keeping =
+-- an execution on a machine that was just started, before which this number of outcomes was emitted
+abbrev pub begun_on : machine.Seen → (earlier firings width : ℕ) → Schedule → Keeping → Execution
+begun_on m earlier firings width schedule keeping =
     record {
       firings = firings;
-      machine = machine.started tree net;
+      machine = m;
+      earlier = earlier;
       stream = stream.started width input_limit;
       picker = begun schedule;
       close = None;
@@ -76,13 +78,19 @@ started tree net firings width schedule keeping =
       kept = kept_by keeping [];
     }
 
+-- one on a machine in which nothing has fired
+abbrev pub started : Tree → Net → ℕ → ℕ → Schedule → Keeping → Execution
+started tree net firings width schedule keeping = begun_on (machine.started tree net) 0 firings width schedule keeping
+
 -- the run of a job is under way: the machine runs the network on the items that the stream gave, the text of what it emitted is
 -- written, told are the trap and the sum of these outcomes, and kept is the trace so far
 pub record Executes (job : Job) (now : Outside) (e : Execution) : Type 0 where
   pub laws : Laws job.network
   pub firings_is : e.firings ≡ job.network.firings
-  pub fits : job.network.firings * most_of_input < 2 ^ 63
+  pub fits : most_from job.network.start job.network.firings most_of_input < 2 ^ 63
   pub few : recorded job.schedule < 2 ^ 63
+  pub numbered : (k : ℕ) → item_number job.network.start k ≡ e.earlier + k
+  pub few_earlier : e.earlier < 2 ^ 63
   pub items : List (List ℤ)
   pub outcomes : List Outcome
   pub walked : List TraceLine
@@ -135,7 +143,7 @@ pub record HasFired (leaf : Leaf) (p : ℕ) (old new : Execution) (handed : Opti
 
 -- how an execution ends that stands so, and has no pick left, where the modules of this tree name its trap
 pub record IsFinish (named : Tree) (e : Execution) (f : RunEnd) : Type 0 where
-  pub stuck : ready_list e.machine ≡ [] → (close : Ending) → MayEnd e.close close → f ≡ end_of named e.told.trap e.machine.emitted close
+  pub stuck : ready_list e.machine ≡ [] → (close : Ending) → MayEnd e.close close → f ≡ end_of named e.told.trap (e.earlier + e.machine.emitted) close
   pub stopped : ready_list e.machine ≢ [] → f ≡ finish.Stopped e.machine.fired e.idle
 
 -- the numbers of an execution

@@ -1,21 +1,21 @@
 -- What is known of every run of a network, as it is needed of a machine that goes pick by pick.
-use Rattle.std.specs.Prelude.{◌≡◌, ◌≢◌, ℕ, ℤ, suc, Bool, true, false, ◌+◌, ◌*◌, ◌<◌, ◌≤◌, List, [], ◌∷◌, ◌++◌, Option, Some, None, IsTrue, length}
+use Rattle.std.specs.Prelude.{◌≡◌, ◌≢◌, ℕ, ℤ, suc, Bool, true, false, ◌+◌, ◌<◌, ◌≤◌, List, [], ◌∷◌, ◌++◌, Option, Some, None, IsTrue, length}
 use Rattle.std.specs.Option.{option_to_list}
 use Rattle.p3l_base.specs.declared.outcome.Outcome.{Outcome}
 use Rattle.p3l_net.specs.Fire.{IsStuck, can_fire}
-use Rattle.p3l_net.specs.Machine.{Seen, Fires, can_step, ready_list, started}
+use Rattle.p3l_net.specs.Machine.{Seen, Fires, can_step, ready_list}
 use Rattle.p3l_net.specs.Offered.{Follows, HasFilledInbox}
 use Rattle.p3l_net.specs.Run.{Course, after_picks, course_from, picked}
 use Rattle.p3l_net.specs.Carried.{HaveInWords}
 use Rattle.p3l_net.specs.Outcomes.{IsPrefixOf}
-use Rattle.p3l_net.specs.State.{first_state}
 use Rattle.p3l_net.specs.Typed.{IsTyped}
 use Rattle.p3l_sched.specs.declared.picker.Way.{Way}
 use Rattle.p3l_sched.specs.declared.schedule.Schedule.{Schedule}
 use Rattle.p3l_sched.specs.declared.schedule.Schedule.TheVariants.{Recorded}
 use Rattle.p3l_sched.specs.Course.{picks_from}
 use Rattle.p3l_sched.specs.Picker.{IsPickedFrom, after_pick, pick_of, ready_of}
-use Rattle.p3l_run.specs.Network.{IsSound, Network, course_of, course_under, goes_on, meaning_of, picks_of, ready_at, size_of}
+use Rattle.p3l_run.specs.Network.{IsSound, Network, begun_with, course_of, course_under, goes_on, meaning_of, most_firings, picks_of, ready_at, size_of}
+use Rattle.p3l_run.specs.Start.{IsWithin, beginning}
 
 -- a machine runs the network
 pub record Runs (n : Network) (m : Seen) : Type 0 where
@@ -26,7 +26,7 @@ pub record Laws (n : Network) : Type 0 where
   pub typed : IsTyped n.tree n.net
   pub some : 0 < size_of n
   -- of a machine that is offered the items
-  pub starts : (items : List (List ℤ)) → Follows (started n.tree n.net) [] items (course_from (first_state n.net items))
+  pub starts : (items : List (List ℤ)) → Follows (beginning n.start n.tree n.net) [] items (course_from (begun_with n items))
   pub offered : (m : Seen) (outcomes : List Outcome) (item : List ℤ) (rest : List (List ℤ)) (c : Course) →
       Follows m outcomes (item ∷ rest) c → m.inbox ≡ None → Follows (record m { inbox = Some item }) outcomes rest c
   pub fires : (m new : Seen) (outcomes : List Outcome) (rest : List (List ℤ)) (c : Course) (p : ℕ) (outcome : Option Outcome) →
@@ -52,10 +52,12 @@ pub record Laws (n : Network) : Type 0 where
       after_picks n.tree n.leaf n.net c (picks ++ p ∷ []) ≡ picked n.tree n.leaf n.net (after_picks n.tree n.leaf n.net c picks) p
   -- of all runs
   pub none_comes : (c : Course) (p : ℕ) → c.state.unsent ≡ [] → (picked n.tree n.leaf n.net c p).state.unsent ≡ []
-  pub fired_most : (items : List (List ℤ)) → HaveInWords n.tree items → (picks : List ℕ) → (course_under n items picks).fired ≤ n.firings * (course_under n items picks).state.sent
-  pub sent_most : (items : List (List ℤ)) → HaveInWords n.tree items → (picks : List ℕ) → (course_under n items picks).state.sent ≤ length items
+  pub fired_within : (items : List (List ℤ)) → HaveInWords n.tree items → (picks : List ℕ) →
+      IsWithin n.start n.firings (course_under n items picks).fired (course_under n items picks).state.sent
+  pub fired_most : (items : List (List ℤ)) → HaveInWords n.tree items → (picks : List ℕ) → (course_under n items picks).fired ≤ most_firings n items
   pub counted : (items : List (List ℤ)) → HaveInWords n.tree items → (picks : List ℕ) →
-      (course_under n items picks).state.sent + length (course_under n items picks).state.unsent ≡ length items
+      (course_under n items picks).state.sent + length (course_under n items picks).state.unsent
+      ≡ (begun_with n items).sent + length (begun_with n items).unsent
   pub stops : (schedule : Schedule) (items : List (List ℤ)) → HaveInWords n.tree items →
       goes_on n (course_of n schedule items) ≡ true → schedule ≡ Recorded (picks_of n schedule items)
   pub begins : (items : List (List ℤ)) → HaveInWords n.tree items → (picks : List ℕ) → IsPrefixOf (course_under n items picks).state.emitted (meaning_of n items)

@@ -1,3 +1,4 @@
+pub mod Start
 pub mod Network
 pub mod Laws
 pub mod Trap
@@ -9,3 +10,6 @@ pub mod Run
 pub mod Steps
 pub mod Execution
 pub mod Timed
+pub mod Resume
+pub mod Checkpoint
+pub mod Replay

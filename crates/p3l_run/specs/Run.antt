@@ -20,7 +20,8 @@ use Rattle.p3l_run.specs.declared.fault.RunFault.{RunFault}
 use Rattle.p3l_run.specs.declared.keeping.Keeping.{Keeping}
 use Rattle.p3l_run.specs.declared.run.Ran.{Ran}
 use Rattle.p3l_run.specs.Feed.{Gives, closed_so}
-use Rattle.p3l_run.specs.Network.{IsRunOn, Network, course_of, goes_on, meaning_of, picks_of, width_of}
+use Rattle.p3l_run.specs.Network.{IsRunOn, Network, begun_with, course_of, goes_on, meaning_of, picks_of, width_of}
+use Rattle.p3l_run.specs.Start.{item_number}
 use Rattle.p3l_run.specs.Keeping.{kept_by}
 use Rattle.p3l_run.specs.Sum.{sum_of}
 use Rattle.p3l_run.specs.Trap.{trap_of}
@@ -30,8 +31,8 @@ use Rattle.p3l_run.specs.Write.{HasBegun, HasPut}
 abbrev pub module_name : Tree → ℕ → List ℕ
 module_name tree k = (slice_index_or tree.modules k no_module).name
 
--- how a run ends in which no process can fire, and whose stream ended so: by the trap that was emitted last, if there is one,
--- which a module of this tree names
+-- how a run ends in which no process can fire, and whose stream ended so: by the trap that was emitted last, if there is one, for the
+-- item of this number, which a module of this tree names
 abbrev pub end_of : Tree → Option Trap → ℕ → Ending → RunEnd
 end_of tree None emitted close = finish.Stream close
 end_of tree (Some trap) emitted close = finish.Trapped emitted trap.kind (module_name tree trap.module)
@@ -39,7 +40,8 @@ end_of tree (Some trap) emitted close = finish.Trapped emitted trap.kind (module
 -- how a run ends that stands so, and whose stream ended so: it was stopped where some process can fire
 abbrev pub finish_of : Network → Course → Ending → RunEnd
 finish_of n c close =
-    cond (goes_on n c) (finish.Stopped c.fired c.idle) (end_of n.named (trap_of c.state.emitted) (length c.state.emitted) close)
+    cond (goes_on n c) (finish.Stopped c.fired c.idle)
+    (end_of n.named (trap_of c.state.emitted) (item_number n.start (length c.state.emitted)) close)
 
 -- these items may still come after those given, none where the stream ended
 pub record MayCome (n : Network) (close : Option Ending) (later : List (List ℤ)) : Type 0 where
@@ -55,7 +57,7 @@ MayEnd (Some close) e = close ≡ e
 -- that run's, and each says of its pick what happened
 pub record IsTraceOf (n : Network) (schedule : Schedule) (items : List (List ℤ)) (stats : RunStats) (lines : List TraceLine) : Type 0 where
   pub picks : trace.picks_of lines ≡ picks_of n schedule items
-  pub agrees : trace.Agrees n.tree n.leaf n.net items (record { lines = lines; fired = stats.fired; idle = stats.idle })
+  pub agrees : trace.Agrees n.tree n.leaf n.net (begun_with n items) (record { lines = lines; fired = stats.fired; idle = stats.idle })
 
 -- a run came to its end: the text of what the network emits was written, on the items that the stream gave and whatever may
 -- still come after them, and it ended as that run does; its lines are that run's trace, where they were to be kept, and its sum

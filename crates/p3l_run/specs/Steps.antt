@@ -1,5 +1,5 @@
 -- A machine that runs a network pick by pick, on items that come from a stream.
-use Rattle.std.specs.Prelude.{◌≡◌, ℕ, ℤ, ◌+◌, ◌-◌, ◌*◌, ◌≤◌, List, ◌++◌, length, Option}
+use Rattle.std.specs.Prelude.{◌≡◌, ℕ, ℤ, ◌+◌, ◌-◌, ◌≤◌, List, ◌++◌, length, Option}
 use Rattle.p3l_base.specs.declared.outcome.Outcome.{Outcome}
 use Rattle.p3l_net.specs.Carried.{HaveInWords}
 use Rattle.p3l_net.specs.Machine.{Seen}
@@ -13,7 +13,7 @@ use Rattle.p3l_stream.specs.declared.items.Ending.{Ending}
 use Rattle.p3l_trace.specs.declared.trace.TraceLine.{TraceLine}
 use Rattle.p3l_trace.specs.Agreement as trace
 use Rattle.p3l_run.specs.Laws.{Runs}
-use Rattle.p3l_run.specs.Network.{Network, course_under, picks_of, size_of}
+use Rattle.p3l_run.specs.Network.{Network, begun_with, course_under, most_firings, picks_of, size_of}
 use Rattle.p3l_run.specs.Run.{MayCome}
 
 -- how many picks are left of so many firings, or of those recorded
@@ -27,8 +27,8 @@ pub record IsAt (n : Network) (schedule : Schedule) (m : Seen) (way : Way) (item
   pub follows : Follows m outcomes later (course_under n items (trace.picks_of walked))
   pub idle_is : (course_under n items (trace.picks_of walked)).idle ≡ idle
   pub goes_on :
-      trace.picks_of walked ++ picks_from n.tree n.leaf n.net (left_of (n.firings * length items) m.fired way) way (course_under n items (trace.picks_of walked)) ≡ picks_of n schedule items
-  pub agree : trace.AllAgree n.tree n.leaf n.net items walked
+      trace.picks_of walked ++ picks_from n.tree n.leaf n.net (left_of (most_firings n items) m.fired way) way (course_under n items (trace.picks_of walked)) ≡ picks_of n schedule items
+  pub agree : trace.AllAgree n.tree n.leaf n.net (begun_with n items) walked
 
 -- how many recorded picks are left
 abbrev pub unread : Way → ℕ
@@ -39,12 +39,14 @@ unread w = 0
 abbrev pub HasRoom : Schedule → Way → ℕ → Type 0
 HasRoom schedule w idle = idle + unread w ≤ recorded schedule
 
--- the machine runs the network on the items given, and whatever may still come after them, and this is the trace so far
+-- the machine runs the network on the items given, and whatever may still come after them, and this is the trace so far; no more
+-- outcomes were emitted since the run began than there were firings
 pub record Stands (n : Network) (schedule : Schedule) (m : Seen) (way : Way) (given : List (List ℤ)) (close : Option Ending) (outcomes : List Outcome) (idle : ℕ) (walked : List TraceLine) : Type 0 where
   pub runs : Runs n m
   pub wide : HaveInWords n.tree given
   pub place : HasPlace (size_of n) way
   pub named : HasProcesses (size_of n) way
   pub room : HasRoom schedule way idle
+  pub few : m.emitted ≤ m.fired
   pub counts : trace.IsCounted (record { lines = walked; fired = m.fired; idle = idle })
   pub at : (later : List (List ℤ)) → MayCome n close later → IsAt n schedule m way (given ++ later) later outcomes idle walked

@@ -21,6 +21,7 @@ use Rattle.p3l_run.specs.declared.run.Ran.{Ran}
 use Rattle.p3l_run.specs.Execution.{Ends, Executes, Job, Outside, outside}
 use Rattle.p3l_run.specs.Network.{Network, picks_of}
 use Rattle.p3l_run.specs.Run.{MayCome, MayFollow}
+use Rattle.p3l_run.specs.Start.{fresh}
 
 -- the job under these picks
 abbrev pub under : Job → List ℕ → Job
@@ -43,8 +44,9 @@ pub record AtTime (n : Network) (prices : List ℕ) (k : Clock) (m : Seen) (item
   pub times : Times k m (timing n prices items picks)
   pub begins : BeginTimed n prices items picks
 
--- a job is under way in virtual time
+-- a job is under way in virtual time, which began with nothing fired
 pub record InTime (job : Job) (prices : List ℕ) (now : Outside) (e : Execution) (k : Clock) : Type 0 where
+  pub fresh_is : job.network.start ≡ fresh
   pub picks : List ℕ
   pub executes : Executes (under job picks) now e
   pub reads : e.picker ≡ way.Reads []

@@ -24,12 +24,13 @@ pub enum RunEnd {
 /// The numbers of a run.
 #[derive(Clone, Copy, Debug, Drop, PartialEq, Eq)]
 pub struct RunStats {
-    /// How many items the source process has sent.
+    /// How many items the source process has sent, counted from the first one of all where the run
+    /// went on from a state that was saved.
     pub items: u64,
     /// How many firings there were.
     pub fired: u64,
     /// How many picks could not fire.
     pub idle: u64,
     /// The bound on the firings: the items, each with the firings that it can need.
-    pub bound: u64,
+    pub bound: u128,
 }

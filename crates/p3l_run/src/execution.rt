@@ -1,12 +1,12 @@
 // A run under way, pick by pick.
 
-ghost use Rattle.std.specs.Prelude.{◌≡◌, ◌≢◌, ◌<◌, ◌≤◌, ◌*◌, ◌^◌, [], None, length, IfOk, IsNone, IsSome, IsTrue, OnOk};
+ghost use Rattle.std.specs.Prelude.{◌≡◌, ◌≢◌, ◌<◌, ◌≤◌, ◌+◌, ◌^◌, [], None, length, IfOk, IsNone, IsSome, IsTrue, OnOk};
 ghost use Rattle.p3l_net.specs.Machine.{can_step, ready_list};
 ghost use Rattle.p3l_net.specs.Steps.{OthersStay};
 ghost use Rattle.p3l_net.specs.Typed.{IsTyped};
 ghost use Rattle.p3l_sched.specs.Picker.{HasPlace, HasProcesses};
 ghost use Rattle.p3l_skel.specs.Tree.{node_at};
-ghost use Rattle.p3l_run.specs.Execution.{Completes, FeedsOn, HasFired, IsFinish, IsInRange, IsUnderWay, MayPick, RunsOut, StepsOn, after_idle, outside, started, stats_at};
+ghost use Rattle.p3l_run.specs.Execution.{Completes, FeedsOn, HasFired, IsFinish, IsInRange, IsUnderWay, MayPick, RunsOut, StepsOn, after_idle, begun_on, outside, started, stats_at};
 
 use crate::end::RunEnd;
 use crate::fault::RunFault;
@@ -31,6 +31,8 @@ pub(crate) struct Execution<'t> {
     /// How often the net can fire for one item.
     pub(crate) firings: u64,
     pub(crate) machine: Machine<'t>,
+    /// How many outcomes were emitted before the run began.
+    pub(crate) earlier: u64,
     pub(crate) stream: Lines,
     pub(crate) picker: Picker,
     /// How the stream ended, if it did.
@@ -58,9 +60,29 @@ impl<'t> Execution<'t> {
         ensures { IfOk result (λ execution. execution
             ≡ started tree.now net firings width schedule keeping) }
     {
+        let machine = Machine::start(alloc, tree, net)?;
+        Execution::on(alloc, machine, 0, firings, width, schedule, keeping)
+    }
+
+    /// A run on a machine, which emitted this number of outcomes before the run began, in which nothing
+    /// was asked for and nothing picked.
+    pub(crate) fn on(
+        alloc: Global,
+        machine: Machine<'t>,
+        earlier: u64,
+        firings: u64,
+        width: u32,
+        schedule: Schedule,
+        keeping: Keeping,
+    ) -> Result<Execution<'t>, NoMemory>
+        requires { 1 ≤ width }
+        ensures { IfOk result (λ execution. execution
+            ≡ begun_on machine.entry earlier firings width schedule keeping) }
+    {
         Ok(Execution {
             firings,
-            machine: Machine::start(alloc, tree, net)?,
+            machine,
+            earlier,
             stream: Lines::new(alloc, width, INPUT_LIMIT)?,
             picker: Picker::new(schedule),
             close: None,
@@ -179,7 +201,7 @@ impl<'t> Execution<'t> {
     }
 
     /// Counts an idle pick of a process, and keeps its line.
-    fn pass(&mut self, process: u32) -> Result<(), NoMemory>
+    pub(crate) fn pass(&mut self, process: u32) -> Result<(), NoMemory>
         requires { self.old.idle < 2 ^ 63 }
         ensures { OnOk result (self.new ≡ after_idle process self.old) }
     {
@@ -213,7 +235,7 @@ impl<'t> Execution<'t> {
     /// How the run ended, where no pick is left, with its numbers and what was kept of it; the modules
     /// of a tree name its trap.
     pub(crate) fn into_ran(self, alloc: Global, named: &Tree) -> Result<Ran, NoMemory>
-        requires fits { self.machine.sent * self.firings < 2 ^ 64 }
+        requires fits { self.earlier + self.machine.emitted < 2 ^ 64 }
         requires ended { ready_list self.machine ≡ [] → IsNone self.told.trap → IsSome self.close }
         ensures finish { IfOk result (λ ran. IsFinish named.now self.entry ran.finish) }
         ensures stats { IfOk result (λ ran. ran.stats ≡ stats_at self.entry) }
@@ -232,7 +254,8 @@ impl<'t> Execution<'t> {
 
     /// How the run ended, where no pick is left; the modules of a tree name its trap.
     fn finish(&self, alloc: Global, named: &Tree) -> Result<RunEnd, NoMemory>
-        requires { ready_list self.now.machine ≡ [] → IsNone self.now.told.trap
+        requires fits { self.now.earlier + self.now.machine.emitted < 2 ^ 64 }
+        requires ended { ready_list self.now.machine ≡ [] → IsNone self.now.told.trap
             → IsSome self.now.close }
         ensures { IfOk result (IsFinish named.now self.now) }
     {
@@ -241,7 +264,7 @@ impl<'t> Execution<'t> {
                 alloc,
                 named,
                 self.told.trap,
-                self.machine.emitted(),
+                self.earlier + self.machine.emitted(),
                 self.close,
             );
         }

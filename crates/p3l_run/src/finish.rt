@@ -1,6 +1,6 @@
 // How a run came to its end.
 
-ghost use Rattle.std.specs.Prelude.{◌≡◌, ◌<◌, ◌*◌, ◌^◌, IfOk, IsNone, IsSome};
+ghost use Rattle.std.specs.Prelude.{◌≡◌, ◌*◌, IfOk, IsNone, IsSome};
 ghost use Rattle.p3l_stream.specs.declared.items.Ending.{Ending};
 ghost use Rattle.p3l_run.specs.Run.{MayEnd, end_of, module_name};
 
@@ -21,25 +21,25 @@ fn name_of(alloc: Global, tree: &Tree, number: u32) -> Result<Name, NoMemory>
     }
 }
 
-/// How a run ends in which no process can fire: by the trap that was emitted, with so many outcomes,
-/// and else as its stream did.
+/// How a run ends in which no process can fire: by the trap that was emitted, for the item of this
+/// number, and else as its stream did.
 pub(crate) fn finish_with(
     alloc: Global,
     tree: &Tree,
     trap: Option<Trap>,
-    emitted: u64,
+    number: u64,
     close: Option<Ending>,
 ) -> Result<RunEnd, NoMemory>
     requires { IsNone trap → IsSome close }
     ensures { IfOk result (λ finish. (e : Ending) → MayEnd close e
-        → finish ≡ end_of tree.now trap emitted e) }
+        → finish ≡ end_of tree.now trap number e) }
 {
     match trap {
         None => Ok(RunEnd::Stream(close.unwrap())),
         Some(trap) => {
             let name = name_of(alloc, tree, trap.module)?;
             Ok(RunEnd::Trapped {
-                item: emitted,
+                item: number,
                 kind: trap.kind,
                 module: name,
             })
@@ -47,9 +47,15 @@ pub(crate) fn finish_with(
     }
 }
 
-/// The numbers of a run of a machine, with so many idle picks and so many firings an item at most.
+/// The product of two numbers.
+fn product(first: u64, second: u64) -> u128
+    ensures { result ≡ first * second }
+{
+    u128::from(first) * u128::from(second)
+}
+
+/// The numbers of a run of a machine, with these idle picks and this number of firings an item at most.
 pub(crate) fn stats_of(machine: &Machine<'_>, firings: u64, idle: u64) -> RunStats
-    requires { machine.now.sent * firings < 2 ^ 64 }
     ensures { result
         ≡ record {
           items = machine.now.sent;
@@ -64,6 +70,6 @@ pub(crate) fn stats_of(machine: &Machine<'_>, firings: u64, idle: u64) -> RunSta
         items: sent,
         fired: machine.fired(),
         idle,
-        bound: sent * firings,
+        bound: product(sent, firings),
     }
 }

@@ -10,7 +10,6 @@ use p3l_sched::laws as sched;
 pub fn laws()
     ensures { (n : Network) → IsSound n → Laws n }
 {
-    net::a_carried_net_means_its_items();
     net::a_filled_machine_follows_the_run();
     net::runs_go_pick_by_pick();
     sched::a_filled_machine_is_picked_for_as_its_run();

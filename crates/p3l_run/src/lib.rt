@@ -3,6 +3,7 @@
 //! for.
 #![tactic(auto)]
 
+pub mod checkpoint;
 pub mod end;
 mod execution;
 pub mod fault;
@@ -12,10 +13,12 @@ pub mod in_time;
 pub mod keeping;
 pub mod laws;
 pub mod plan;
+pub mod resume;
 pub mod run;
 mod sum;
 pub mod write;
 
+pub use checkpoint::{Checkpoint, CheckpointEnd, run_to_checkpoint};
 pub use end::{RunEnd, RunStats};
 pub use fault::RunFault;
 pub use feed::INPUT_LIMIT;

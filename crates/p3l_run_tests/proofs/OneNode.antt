@@ -23,6 +23,7 @@ one_sound tree net leaf typed carried is same =
     let sound : IsSound (network one_node leaf (unit_net 4) 3) = record {
       typed = typed one_node 4 (omega arith) one_lawful (omega arith) refl;
       carried = (unit.0, subst (λ n. IsCarried one_node leaf (unit_net 4) n unit.0) three_firings unit.1);
+      begins = tt;
     } in
     subst (λ t. IsSound (network t leaf net 3)) (sym is) (subst (λ k. IsSound (network one_node leaf k 3)) (sym same) sound)
 

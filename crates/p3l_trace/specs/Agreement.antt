@@ -7,8 +7,8 @@ use Rattle.p3l_firing.specs.declared.process.ProcKind.{ProcKind}
 use Rattle.p3l_net.specs.Fire.{can_fire}
 use Rattle.p3l_net.specs.Machine.{Seen, can_step}
 use Rattle.p3l_net.specs.Process.{kind_at}
-use Rattle.p3l_net.specs.Run.{Course, course_from, picked, run}
-use Rattle.p3l_net.specs.State.{State, first_state}
+use Rattle.p3l_net.specs.Run.{Course, after_picks, course_from, picked}
+use Rattle.p3l_net.specs.State.{State}
 use Rattle.p3l_trace.specs.declared.trace.TraceLine.{TraceLine}
 use Rattle.p3l_trace.specs.declared.trace.Traced.{Traced}
 
@@ -38,9 +38,9 @@ unfoldable pub AgreeFrom : Tree → (ℕ → List ℤ → Outcome) → Net → C
 AgreeFrom tree leaf net c [] = ⊤
 AgreeFrom tree leaf net c (line ∷ lines) = AgreesIn tree net c.state line × AgreeFrom tree leaf net (picked tree leaf net c line.pick) lines
 
--- each line agrees with the run of the net on the items
-abbrev pub AllAgree : Tree → (ℕ → List ℤ → Outcome) → Net → List (List ℤ) → List TraceLine → Type 0
-AllAgree tree leaf net items lines = AgreeFrom tree leaf net (course_from (first_state net items)) lines
+-- each line agrees with the run of the net from a state
+abbrev pub AllAgree : Tree → (ℕ → List ℤ → Outcome) → Net → State → List TraceLine → Type 0
+AllAgree tree leaf net s lines = AgreeFrom tree leaf net (course_from s) lines
 
 -- a kind is said
 abbrev pub is_kind : Option ProcKind → Bool
@@ -59,27 +59,27 @@ pub record IsCounted (traced : Traced) : Type 0 where
   pub fired : traced.fired ≡ fired_of traced.lines
   pub idle : traced.idle ≡ idle_of traced.lines
 
--- a trace is that of a run of the net on the items, under its picks
-pub record Agrees (tree : Tree) (leaf : ℕ → List ℤ → Outcome) (net : Net) (items : List (List ℤ)) (traced : Traced) : Type 0 where
-  pub lines : AllAgree tree leaf net items traced.lines
+-- a trace is that of a run of the net from a state, under its picks
+pub record Agrees (tree : Tree) (leaf : ℕ → List ℤ → Outcome) (net : Net) (s : State) (traced : Traced) : Type 0 where
+  pub lines : AllAgree tree leaf net s traced.lines
   pub counts : IsCounted traced
 
 -- the first line that doesn't agree is that of a pick, and has this number; the first line of a trace is its header
-pub record DiffersInPick (tree : Tree) (leaf : ℕ → List ℤ → Outcome) (net : Net) (items : List (List ℤ)) (traced : Traced) (number : ℕ) : Type 0 where
+pub record DiffersInPick (tree : Tree) (leaf : ℕ → List ℤ → Outcome) (net : Net) (s : State) (traced : Traced) (number : ℕ) : Type 0 where
   pub front : List TraceLine
   pub line : TraceLine
   pub after : List TraceLine
   pub lines_are : traced.lines ≡ front ++ line ∷ after
-  pub agree : AllAgree tree leaf net items front
-  pub other : AgreesIn tree net (run tree leaf net items (picks_of front)).state line → ⊥
+  pub agree : AllAgree tree leaf net s front
+  pub other : AgreesIn tree net (after_picks tree leaf net (course_from s) (picks_of front)).state line → ⊥
   pub number_is : number ≡ length front + 2
 
 -- or it is the last line of the trace
-pub record DiffersInCounts (tree : Tree) (leaf : ℕ → List ℤ → Outcome) (net : Net) (items : List (List ℤ)) (traced : Traced) (number : ℕ) : Type 0 where
-  pub agree : AllAgree tree leaf net items traced.lines
+pub record DiffersInCounts (tree : Tree) (leaf : ℕ → List ℤ → Outcome) (net : Net) (s : State) (traced : Traced) (number : ℕ) : Type 0 where
+  pub agree : AllAgree tree leaf net s traced.lines
   pub other : IsCounted traced → ⊥
   pub number_is : number ≡ length traced.lines + 2
 
--- the line of this number is the first that differs from the run of the net on the items
-abbrev pub DiffersAt : Tree → (ℕ → List ℤ → Outcome) → Net → List (List ℤ) → Traced → ℕ → Type 0
-DiffersAt tree leaf net items traced number = DiffersInPick tree leaf net items traced number ⊎ DiffersInCounts tree leaf net items traced number
+-- the line of this number is the first that differs from the run of the net from a state
+abbrev pub DiffersAt : Tree → (ℕ → List ℤ → Outcome) → Net → State → Traced → ℕ → Type 0
+DiffersAt tree leaf net s traced number = DiffersInPick tree leaf net s traced number ⊎ DiffersInCounts tree leaf net s traced number

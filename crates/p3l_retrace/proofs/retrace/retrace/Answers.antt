@@ -1,4 +1,4 @@
-use Rattle.std.proofs.Common.{◌≡◌, ◌+◌, None, ap, sym, refl, take, arith}
+use Rattle.std.proofs.Common.{◌+◌, None, ap, sym, refl, take, arith}
 use Rattle.p3l_run.specs.Network.{network}
 use Rattle.p3l_trace.specs.declared.trace.TraceLine.{TraceLine}
 use Rattle.p3l_retrace.specs.Walk.{outside}
@@ -11,7 +11,7 @@ no_line = record { pick = 0; kind = None }
 
 pub loop-line-init : goal.loop-line-init
 loop-line-init g c = record {
-  walks = walk.walks_first _ (outside (g.S.Source.rest c.args.input.now) (g.S.Source.faults c.args.input.now)) (c.laws.ensures _ c.requires.sound) c.requires.fits (c.a_stream_gives_its_items.ensures.starts _ _) c.args.plan.width c.requires.width c.in_ok-walk.walk c.in_ok-walk.ensures;
+  walks = walk.walks_first _ (outside (g.S.Source.rest c.args.input.now) (g.S.Source.faults c.args.input.now)) (c.laws.ensures _ c.requires.sound) refl c.requires.fits (c.a_stream_gives_its_items.ensures.starts _ _) c.args.plan.width c.requires.width c.in_ok-walk.walk c.in_ok-walk.ensures;
   number = refl;
 }
 

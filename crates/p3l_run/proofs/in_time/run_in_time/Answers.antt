@@ -29,7 +29,7 @@ complete_in_time-requires-clause-job g c =
       job = job;
       prices = prices_of c.args.plan.tree.now c.args.costs.now c.in_ok-execution.execution.machine.net;
       leaf_is = refl;
-      is = in_time_first job _ c.in_ok-execution.execution c.in_ok-timer.timer (c.laws.ensures _ c.requires.sound) c.requires.fits (c.a_stream_gives_its_items.ensures.starts _ _) c.args.plan.width c.requires.width (subst (λ l. c.in_ok-execution.execution ≡ started c.args.plan.tree.now c.args.plan.net c.args.plan.firings c.args.plan.width (schedules.Recorded l) c.args.keeping) c.new.ensures c.in_ok-execution.ensures) c.in_ok-timer.ensures;
+      is = in_time_first job _ c.in_ok-execution.execution c.in_ok-timer.timer (c.laws.ensures _ c.requires.sound) refl c.requires.fits (c.a_stream_gives_its_items.ensures.starts _ _) c.args.plan.width c.requires.width (subst (λ l. c.in_ok-execution.execution ≡ started c.args.plan.tree.now c.args.plan.net c.args.plan.firings c.args.plan.width (schedules.Recorded l) c.args.keeping) c.new.ensures c.in_ok-execution.ensures) c.in_ok-timer.ensures;
     }
 
 pub returns : goal.returns
@@ -37,4 +37,4 @@ returns g c =
     let job : Job = timed_job (network c.args.plan.tree.now (g.U.Units.leaf c.args.plan.units.now) c.args.plan.net c.args.plan.firings) c.args.keeping (outside (g.S.Source.rest c.args.input.now) (g.S.Source.faults c.args.input.now) (g.K.Sink.taken c.args.out.now) (g.K.Sink.faults c.args.out.now)) in
     let net_is : c.in_ok-execution.execution.machine.net ≡ c.args.plan.net = ap (λ (e : Execution). e.machine.net) c.in_ok-execution.ensures in
     subst (λ (net : Net). IsTimedEnd job (prices_of c.args.plan.tree.now c.args.costs.now net) (outside (g.S.Source.rest c.complete_in_time.new.input) (g.S.Source.faults c.complete_in_time.new.input) (g.K.Sink.taken c.complete_in_time.new.out) (g.K.Sink.faults c.complete_in_time.new.out)) c.complete_in_time.result) net_is
-    (c.complete_in_time.ensures job _ refl refl (in_time_first job _ c.in_ok-execution.execution c.in_ok-timer.timer (c.laws.ensures _ c.requires.sound) c.requires.fits (c.a_stream_gives_its_items.ensures.starts _ _) c.args.plan.width c.requires.width (subst (λ l. c.in_ok-execution.execution ≡ started c.args.plan.tree.now c.args.plan.net c.args.plan.firings c.args.plan.width (schedules.Recorded l) c.args.keeping) c.new.ensures c.in_ok-execution.ensures) c.in_ok-timer.ensures))
+    (c.complete_in_time.ensures job _ refl refl (in_time_first job _ c.in_ok-execution.execution c.in_ok-timer.timer (c.laws.ensures _ c.requires.sound) refl c.requires.fits (c.a_stream_gives_its_items.ensures.starts _ _) c.args.plan.width c.requires.width (subst (λ l. c.in_ok-execution.execution ≡ started c.args.plan.tree.now c.args.plan.net c.args.plan.firings c.args.plan.width (schedules.Recorded l) c.args.keeping) c.new.ensures c.in_ok-execution.ensures) c.in_ok-timer.ensures))

@@ -1,14 +1,13 @@
-use Rattle.p3l_firing.proofs.CarriedLaw.{carried_run}
 use Rattle.p3l_run.proofs.FiringSteps.{picked_leaves}
-use Rattle.p3l_run.proofs.RunSteps.{some_process}
+use Rattle.p3l_run.proofs.StartSteps as start
 use Rattle.p3l_run.proofs.StoppedSteps.{only_recorded_picks_stop}
 use Rattle.p3l_run.proofs.laws.laws.Goals as goal
 
 pub returns : goal.returns
-returns c = λ n sound. let carry = sound.carried.0 in let carried = sound.carried.1 in record {
+returns c = λ n sound. record {
   typed = sound.typed;
-  some = some_process n.net.procs sound.typed.source;
-  starts = c.a_filled_machine_follows_the_run.ensures.starts n.tree n.net;
+  some = start.some_process n.net.procs sound.typed.source;
+  starts = start.follows_start n.tree n.net (c.a_filled_machine_follows_the_run.ensures.starts n.tree n.net) n.start;
   offered = c.a_filled_machine_follows_the_run.ensures.offered;
   fires = λ m new outcomes rest k p outcome. c.a_filled_machine_follows_the_run.ensures.fired m new outcomes rest k n.leaf p outcome;
   idles = λ m outcomes rest k p. c.a_filled_machine_follows_the_run.ensures.idle m outcomes rest k n.leaf p;
@@ -22,10 +21,10 @@ returns c = λ n sound. let carry = sound.carried.0 in let carried = sound.carri
   none_can = λ k. c.picks_are_ready.ensures.stuck n.tree n.net k.state;
   none_comes = λ k p. (picked_leaves n.tree n.leaf n.net k p).unsent;
   one_more = c.runs_go_pick_by_pick.ensures.more n.tree n.leaf n.net;
-  fired_most = λ items widths picks. c.a_carried_net_means_its_items.ensures.bounded n.tree n.leaf n.net n.firings carry items picks carried widths;
-  sent_most = λ items widths picks. c.a_carried_net_means_its_items.ensures.sent n.tree n.leaf n.net n.firings carry items picks carried widths;
-  counted = λ items widths picks. (carried_run n.tree n.leaf n.net n.firings carry carried items widths picks).count;
+  fired_within = start.fired_within n sound;
+  fired_most = start.fired_most n sound;
+  counted = start.counted n sound;
   stops = λ schedule items widths on. only_recorded_picks_stop n schedule items sound widths on;
-  begins = λ items widths picks. c.a_carried_net_means_its_items.ensures.begins n.tree n.leaf n.net n.firings carry items picks carried widths;
-  finished = λ items widths picks stuck. c.a_carried_net_means_its_items.ensures.finished n.tree n.leaf n.net n.firings carry items picks carried widths stuck;
+  begins = start.begins n sound;
+  finished = start.finished n sound;
 }

@@ -1,7 +1,7 @@
 use Rattle.std.proofs.Common.{sym}
 use Rattle.std.proofs.lemmas.Result.{err_from_is_err_and}
 use Rattle.p3l_run.specs.Execution.{outside}
-use Rattle.p3l_run.proofs.ExecutionSteps.{ends_early, ends_over, must_end, sent_fits}
+use Rattle.p3l_run.proofs.ExecutionSteps.{ends_early, ends_over, must_end, number_fits}
 use Rattle.p3l_run.proofs.execution.Execution.complete.Goals as goal
 
 pub returns-in_err-run_out : goal.returns-in_err-run_out
@@ -13,7 +13,7 @@ pub into_ran-requires : goal.into_ran-requires
 into_ran-requires g c =
     let way = c.requires.job in
     let over = c.in_ok-run_out.ensures way.job way.leaf_is way.executes in
-    record { fits = sent_fits way.job (outside (g.S.Source.rest c.run_out.new.input) (g.S.Source.faults c.run_out.new.input) (g.K.Sink.taken c.run_out.new.out) (g.K.Sink.faults c.run_out.new.out)) c.run_out.new.self over.0.executes; ended = must_end way.job (outside (g.S.Source.rest c.run_out.new.input) (g.S.Source.faults c.run_out.new.input) (g.K.Sink.taken c.run_out.new.out) (g.K.Sink.faults c.run_out.new.out)) c.run_out.new.self over.0 }
+    record { fits = number_fits way.job (outside (g.S.Source.rest c.run_out.new.input) (g.S.Source.faults c.run_out.new.input) (g.K.Sink.taken c.run_out.new.out) (g.K.Sink.faults c.run_out.new.out)) c.run_out.new.self over.0.executes; ended = must_end way.job (outside (g.S.Source.rest c.run_out.new.input) (g.S.Source.faults c.run_out.new.input) (g.K.Sink.taken c.run_out.new.out) (g.K.Sink.faults c.run_out.new.out)) c.run_out.new.self over.0 }
 
 pub returns-in_err-into_ran : goal.returns-in_err-into_ran
 returns-in_err-into_ran g c =

@@ -1,0 +1,145 @@
+-- A run under recorded picks that is to come to a checkpoint: where it is, and what each of its steps does.
+use Rattle.std.specs.Prelude.{◌≡◌, ◌≢◌, ℕ, ℤ, ◌+◌, ◌<◌, ◌^◌, false, List, [], ◌∷◌, ◌++◌, length, take, drop, Option, Some, None, Result, Ok, Err}
+use Rattle.std.specs.List.{AllByRecursion}
+use Rattle.std.specs.Option.{option_to_list}
+use Rattle.p3l_base.specs.declared.memory.NoMemory.{NoMemory}
+use Rattle.p3l_base.specs.declared.outcome.Outcome.{Outcome}
+use Rattle.p3l_firing.specs.Nodes.{Leaf}
+use Rattle.p3l_firing.specs.Token.{has_trap}
+use Rattle.p3l_skel.specs.declared.tree.Tree.{Tree}
+use Rattle.p3l_net.specs.Carried.{HaveInWords}
+use Rattle.p3l_net.specs.Machine.{IsShaped}
+use Rattle.p3l_net.specs.Offered.{Follows}
+use Rattle.p3l_net.specs.Shot.{IsCountable, shot_of}
+use Rattle.p3l_stream.specs.declared.items.Ending.{Ending}
+use Rattle.p3l_stream.specs.declared.items.Ending.TheVariants as ending
+use Rattle.p3l_stream.specs.Text.{text_of}
+use Rattle.p3l_run.specs.declared.checkpoint.Checkpoint.{Checkpoint}
+use Rattle.p3l_run.specs.declared.checkpoint.CheckpointEnd.{CheckpointEnd}
+use Rattle.p3l_run.specs.declared.execution.Execution.{Execution}
+use Rattle.p3l_run.specs.declared.fault.RunFault.{RunFault}
+use Rattle.p3l_run.specs.declared.fault.RunFault.TheVariants as fault
+use Rattle.p3l_run.specs.Checkpoint.{IsCheckpointEnd}
+use Rattle.p3l_run.specs.Execution.{Outside, outside}
+use Rattle.p3l_run.specs.Feed.{Gives, closed_so}
+use Rattle.p3l_run.specs.Laws.{Laws, Runs}
+use Rattle.p3l_run.specs.Network.{Network, course_under, size_of, width_of}
+use Rattle.p3l_run.specs.Start.{fresh}
+use Rattle.p3l_run.specs.Trap.{trap_of}
+use Rattle.p3l_run.specs.Write.{HasPut, WriteCause}
+
+-- what is to be run: a network under these picks, and what the outside told before
+pub record Replay : Type 0 where
+  pub network : Network
+  pub picks : List ℕ
+  pub before : Outside
+
+abbrev pub replay_of : Network → List ℕ → Outside → Replay
+replay_of network picks before = record { network = network; picks = picks; before = before }
+
+-- a run to a checkpoint came to this end, with what the outside tells then
+pub record Comes (r : Replay) (now : Outside) (result : Result CheckpointEnd RunFault) : Type 0 where
+  pub ends : IsCheckpointEnd r.network r.picks r.before.rest now.rest r.before.read_faults now.read_faults r.before.taken now.taken result
+  pub output : WriteCause r.before.write_faults now.write_faults result
+
+-- the run is under way: these of its picks were made, and those are left. The machine is where the run on the items that the stream
+-- gave, and on whatever items come after them, is under the picks made; the text of what it emitted is written. Before the last of these
+-- picks no trap was emitted, and an item that was given was not sent yet
+pub record Replays (r : Replay) (used unused : List ℕ) (now : Outside) (e : Execution) : Type 0 where
+  pub laws : Laws r.network
+  pub begins : r.network.start ≡ fresh
+  pub whole : used ++ unused ≡ r.picks
+  pub few : length r.picks < 2 ^ 63
+  pub named : AllByRecursion (λ p. p < size_of r.network) unused
+  pub items : List (List ℤ)
+  pub outcomes : List Outcome
+  pub gives : Gives (width_of r.network) r.before.rest now.rest r.before.read_faults now.read_faults e.stream items (closed_so e.close)
+  pub runs : Runs r.network e.machine
+  pub wide : HaveInWords r.network.tree items
+  pub follows : (later : List (List ℤ)) → HaveInWords r.network.tree later → Follows e.machine outcomes later (course_under r.network (items ++ later) used)
+  pub untrapped : (front : List ℕ) (p : ℕ) → used ≡ front ++ p ∷ [] → (later : List (List ℤ)) → HaveInWords r.network.tree later →
+      has_trap (course_under r.network (items ++ later) front).state.emitted ≡ false
+  pub filled : (front : List ℕ) (p : ℕ) → used ≡ front ++ p ∷ [] → (later : List (List ℤ)) → HaveInWords r.network.tree later →
+      (course_under r.network (items ++ later) front).state.sent < length items
+  pub counted : e.machine.fired + e.idle ≡ length used
+  pub trap_is : e.told.trap ≡ trap_of outcomes
+  pub put : HasPut r.before.taken now.taken (text_of outcomes)
+  pub quiet : now.write_faults ≡ r.before.write_faults
+
+-- the next pick can be made: the stream isn't ended, the inbox is filled, and no trap was emitted
+pub record IsReady (e : Execution) : Type 0 where
+  pub open_is : e.close ≡ None
+  pub filled : e.machine.inbox ≢ None
+  pub calm : e.told.trap ≡ None
+
+-- after the stream was asked for an item, where the inbox was empty: the inbox is filled, as long as the stream isn't ended
+pub record IsFilled (old new : Execution) : Type 0 where
+  pub filled : new.close ≡ None → new.machine.inbox ≢ None
+  pub empty : (x : Ending) → old.close ≡ None → new.close ≡ Some x → new.machine.inbox ≡ None
+  pub told_is : new.told ≡ old.told
+
+-- whatever run it is, an execution that was filled is on it still
+abbrev pub FillsOn : Option (List ℕ) → Option (List ℕ) → ℕ → ℕ → Execution → Execution → Result (Unit {0}) NoMemory → Type 0
+FillsOn rest left before after old new (Ok done) =
+    (r : Replay) (used unused : List ℕ) (taken : Option (List ℕ)) (faults : ℕ) → Replays r used unused (outside rest before taken faults) old → Replays r used unused (outside left after taken faults) new × IsFilled old new
+FillsOn rest left before after old new (Err want) =
+    (r : Replay) (used unused : List ℕ) (taken : Option (List ℕ)) (faults : ℕ) → Replays r used unused (outside rest before taken faults) old → Comes r (outside left after taken faults) (Err fault.NoMemory)
+
+-- whatever run it is, with these bodies of modules, an execution that is ready makes the pick of this process
+abbrev pub MakesOn : Leaf → ℕ → Option (List ℕ) → Option (List ℕ) → ℕ → ℕ → Execution → Execution → Result (Unit {0}) RunFault → Type 0
+MakesOn leaf p taken taken' before after old new (Ok done) =
+    (r : Replay) (used unused : List ℕ) (rest : Option (List ℕ)) (faults : ℕ) → r.network.leaf ≡ leaf → Replays r used (p ∷ unused) (outside rest faults taken before) old → IsReady old →
+    Replays r (used ++ p ∷ []) unused (outside rest faults taken' after) new × (new.close ≡ None)
+MakesOn leaf p taken taken' before after old new (Err failed) =
+    (r : Replay) (used unused : List ℕ) (rest : Option (List ℕ)) (faults : ℕ) → r.network.leaf ≡ leaf → Replays r used (p ∷ unused) (outside rest faults taken before) old → IsReady old →
+    Comes r (outside rest faults taken' after) (Err failed)
+
+-- a run on which none of these picks was made, and whose stream isn't ended
+pub record Opens (r : Replay) (picks : List ℕ) (now : Outside) (e : Execution) : Type 0 where
+  pub replays : Replays r [] picks now e
+  pub open_is : e.close ≡ None
+
+-- a run that goes no further: a trap was emitted, or the stream ended in place of an item for the next pick, or no pick is left
+pub record Halts (r : Replay) (now : Outside) (e : Execution) : Type 0 where
+  pub used : List ℕ
+  pub unused : List ℕ
+  pub replays : Replays r used unused now e
+  pub asked : (x : Ending) → e.close ≡ Some x → (unused ≢ []) × (e.machine.inbox ≡ None)
+  pub over : e.told.trap ≡ None → e.close ≡ None → unused ≡ []
+
+-- some run is to be made of these picks, with these bodies of modules
+pub record IsToReplay (leaf : Leaf) (picks : List ℕ) (now : Outside) (e : Execution) : Type 0 where
+  pub replay : Replay
+  pub leaf_is : replay.network.leaf ≡ leaf
+  pub opens : Opens replay picks now e
+
+-- whatever run it is, with these bodies of modules, this number of its picks were made, and its stream isn't ended
+abbrev pub LeadsTo : Leaf → List ℕ → ℕ → Outside → Outside → Execution → Execution → Type 0
+LeadsTo leaf picks made before now old new = (r : Replay) → r.network.leaf ≡ leaf → Opens r picks before old → Replays r (take made picks) (drop made picks) now new × (new.close ≡ None)
+
+-- whatever run it is, with these bodies of modules, an execution makes its picks until it goes no further
+abbrev pub HaltsOn : Leaf → List ℕ → Outside → Outside → Execution → Execution → Result (Unit {0}) RunFault → Type 0
+HaltsOn leaf picks before now old new (Ok done) = (r : Replay) → r.network.leaf ≡ leaf → Opens r picks before old → Halts r now new
+HaltsOn leaf picks before now old new (Err failed) = (r : Replay) → r.network.leaf ≡ leaf → Opens r picks before old → Comes r now (Err failed)
+
+-- some run goes no further
+abbrev pub IsHalted : Execution → Type 0
+IsHalted e = (r : Replay) × (now : Outside) × Halts r now e
+
+-- the state of an execution was saved, with its numbers of items and picks
+pub record Saves (e : Execution) (saved : Checkpoint) : Type 0 where
+  pub shot_is : saved.shot ≡ shot_of e.machine
+  pub shaped : IsShaped e.machine
+  pub countable : IsCountable saved.shot
+  pub items_are : saved.items ≡ e.machine.sent + length (option_to_list e.machine.inbox)
+  pub picks_are : saved.picks ≡ e.machine.fired + e.idle
+
+-- whatever run it was that goes no further, with this tree to name traps, it came to this end
+abbrev pub ComesTo : Tree → Execution → CheckpointEnd → Type 0
+ComesTo named e end = (r : Replay) (now : Outside) → r.network.named ≡ named → Halts r now e → Comes r now (Ok end)
+
+-- how a stream ended, if that is no end of the input
+abbrev pub cut_of : Option Ending → Option Ending
+cut_of None = None
+cut_of (Some ending.End) = None
+cut_of (Some e) = Some e

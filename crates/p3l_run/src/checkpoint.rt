@@ -1,0 +1,238 @@
+// Runs that end at a checkpoint, where the state of the network is saved.
+
+ghost use Rattle.std.specs.Prelude.{◌≡◌, ◌<◌, ◌≤◌, ◌+◌, ◌*◌, ◌^◌, None, false, length, IfOk};
+ghost use Rattle.std.specs.Option.{option_to_list};
+ghost use Rattle.p3l_sched.specs.Picker.{NamesProcesses};
+ghost use Rattle.p3l_sched.specs.declared.schedule.Schedule.TheVariants as schedule;
+ghost use Rattle.p3l_skel.specs.Tree.{node_at};
+ghost use Rattle.p3l_run.specs.Checkpoint.{IsCheckpointEnd};
+ghost use Rattle.p3l_run.specs.Execution.{outside};
+ghost use Rattle.p3l_run.specs.Feed.{most_of_input};
+ghost use Rattle.p3l_run.specs.Network.{IsSound, network};
+ghost use Rattle.p3l_run.specs.Replay.{ComesTo, FillsOn, HaltsOn, IsHalted, IsToReplay, MakesOn, Saves, cut_of};
+ghost use Rattle.p3l_run.specs.Write.{WriteCause};
+
+use crate::end::RunEnd;
+use crate::execution::Execution;
+use crate::fault::RunFault;
+use crate::feed::feed;
+use crate::finish::finish_with;
+use crate::keeping::Keeping;
+use crate::laws::laws;
+use crate::plan::Plan;
+use crate::write::write_emitted;
+use p3l_base::{List, NoMemory};
+use p3l_io::{Sink, Source};
+use p3l_net::Shot;
+use p3l_sched::Schedule;
+use p3l_skel::{Tree, Units};
+use p3l_stream::Ending;
+use p3l_stream::laws::a_stream_gives_its_items;
+use std::alloc::Global;
+
+/// The state of a network that was saved, with the numbers of the run that led there.
+#[derive(Debug, Drop)]
+pub struct Checkpoint {
+    pub shot: Shot,
+    /// How many items the stream gave.
+    pub items: u64,
+    /// How many of the recorded picks were made.
+    pub picks: u64,
+}
+
+/// How a run came to its checkpoint.
+#[derive(Debug, Drop)]
+pub enum CheckpointEnd {
+    /// The picks were ended, or the stream had no item for the next of them: the state was saved.
+    Saved(Checkpoint),
+    /// A trap was emitted, or the stream ended otherwise: nothing was saved.
+    Ended(RunEnd),
+}
+
+impl<'t> Execution<'t> {
+    /// Asks the stream for the next item, where the inbox is empty.
+    fn fill<S: Source>(&mut self, alloc: Global, input: &mut S) -> Result<(), NoMemory>
+        requires wide { self.old.stream.words ≡ (node_at self.old.machine.tree 0).ins }
+        requires open { self.old.close ≡ None → self.old.stream.closed ≡ None }
+        ensures { FillsOn (S.rest input.old) (S.rest input.new) (S.faults input.old)
+            (S.faults input.new) self.old self.new result }
+    {
+        self.close = feed(
+            alloc,
+            &mut self.machine,
+            &mut self.stream,
+            self.close,
+            input,
+        )?;
+        Ok(())
+    }
+
+    /// Makes a pick of a process: where it can fire it does, and what it emits is written; else the
+    /// pick is idle.
+    fn make<U: Units, K: Sink>(
+        &mut self,
+        alloc: Global,
+        tree: &Tree,
+        units: &U,
+        process: u32,
+        out: &mut K,
+    ) -> Result<(), RunFault>
+        requires there { process < length self.old.machine.net.procs }
+        requires few { self.old.machine.fired + self.old.idle < 2 ^ 63 }
+        requires tree { tree.now ≡ self.old.machine.tree }
+        requires units { U.tree units.now ≡ tree.now }
+        ensures { MakesOn (U.leaf units.now) process (K.taken out.old) (K.taken out.new)
+            (K.faults out.old) (K.faults out.new) self.old self.new result }
+    {
+        if !self.machine.can_step(process) {
+            self.pass(process)?;
+            return Ok(());
+        }
+        let emitted = self.fire(alloc, tree, units, process)?;
+        self.told = write_emitted(alloc, emitted, self.told, out)?;
+        Ok(())
+    }
+
+    /// Makes one pick after another until a trap was emitted, the stream is ended or no pick is left,
+    /// and asks for an item before each where the inbox is empty.
+    fn replay<U: Units, S: Source, K: Sink>(
+        &mut self,
+        alloc: Global,
+        tree: &Tree,
+        units: &U,
+        picks: &[u32],
+        input: &mut S,
+        out: &mut K,
+    ) -> Result<(), RunFault>
+        requires tree { tree.now ≡ self.old.machine.tree }
+        requires units { U.tree units.now ≡ tree.now }
+        requires replay { IsToReplay (U.leaf units.now) picks.now
+            (outside (S.rest input.old) (S.faults input.old) (K.taken out.old) (K.faults out.old))
+            self.old }
+        ensures { HaltsOn (U.leaf units.now) picks.now
+            (outside (S.rest input.old) (S.faults input.old) (K.taken out.old) (K.faults out.old))
+            (outside (S.rest input.new) (S.faults input.new) (K.taken out.new) (K.faults out.new))
+            self.old self.new result }
+    {
+        for process in picks {
+            if self.told.trap.is_some() {
+                return Ok(());
+            }
+            self.fill(alloc, input)?;
+            if self.close.is_some() {
+                return Ok(());
+            }
+            self.make(alloc, tree, units, *process, out)?;
+        }
+        Ok(())
+    }
+
+    /// How many items the stream gave: those that were sent, and the one in the inbox.
+    fn items(&self) -> u64
+        requires { self.now.machine.sent < 2 ^ 63 }
+        ensures { result ≡ self.now.machine.sent
+            + length (option_to_list self.now.machine.inbox) }
+    {
+        if self.machine.wants_item() {
+            self.machine.sent()
+        } else {
+            self.machine.sent() + 1
+        }
+    }
+
+    /// Saves the state, with the numbers of items and picks.
+    ///
+    /// A state that counts to 2^63 couldn't be restored: it is answered as a want of memory, and no
+    /// run comes so far.
+    fn save(&self, alloc: Global) -> Result<Checkpoint, NoMemory>
+        requires calm { self.now.machine.trapped ≡ false }
+        requires sent { self.now.machine.sent < 2 ^ 63 }
+        requires few { self.now.machine.fired + self.now.idle < 2 ^ 63 }
+        ensures { IfOk result (Saves self.now) }
+    {
+        let shot = self.machine.save(alloc)?;
+        if !shot.is_countable() {
+            return Err(NoMemory);
+        }
+        Ok(Checkpoint {
+            shot,
+            items: self.items(),
+            picks: self.machine.fired() + self.idle,
+        })
+    }
+
+    /// How a run ends that goes no further: by its trap, as its stream did, or with its state saved;
+    /// the modules of a tree name its trap.
+    fn into_checkpoint(self, alloc: Global, named: &Tree) -> Result<CheckpointEnd, NoMemory>
+        requires { IsHalted self }
+        ensures { IfOk result (ComesTo named.now self.entry) }
+    {
+        if self.told.trap.is_some() {
+            let finish = finish_with(
+                alloc,
+                named,
+                self.told.trap,
+                self.machine.emitted(),
+                self.close,
+            )?;
+            return Ok(CheckpointEnd::Ended(finish));
+        }
+        if let Some(ending) = cut_off(self.close) {
+            return Ok(CheckpointEnd::Ended(RunEnd::Stream(ending)));
+        }
+        let saved = self.save(alloc)?;
+        Ok(CheckpointEnd::Saved(saved))
+    }
+}
+
+/// How a stream ended, if that is no end of the input.
+fn cut_off(close: Option<Ending>) -> Option<Ending>
+    ensures { result ≡ cut_of close }
+{
+    match close {
+        None => None,
+        Some(Ending::End) => None,
+        Some(ending) => Some(ending),
+    }
+}
+
+/// Runs a network on the items of the input under recorded picks, writes each value as it comes out,
+/// and saves the state that they lead to.
+///
+/// Before each pick an empty inbox is filled from the stream, so that the source has an item at each; a
+/// pick that can't fire is idle. The run ends where the picks are ended, where the stream ends in place
+/// of an item, or where a trap was emitted.
+pub fn run_to_checkpoint<U: Units, S: Source, K: Sink>(
+    alloc: Global,
+    plan: Plan<'_, U>,
+    picks: List<u32>,
+    input: &mut S,
+    out: &mut K,
+) -> Result<CheckpointEnd, RunFault>
+    requires units { U.tree plan.units.now ≡ plan.tree.now }
+    requires sound { IsSound (network plan.tree.now (U.leaf plan.units.now) plan.net plan.firings) }
+    requires width { plan.width ≡ (node_at plan.tree.now 0).ins }
+    requires wide { 1 ≤ plan.width }
+    requires fits { plan.firings * most_of_input < 2 ^ 63 }
+    requires named { NamesProcesses (length plan.net.procs) (schedule.Recorded picks) }
+    requires few { length picks < 2 ^ 63 }
+    ensures ends { IsCheckpointEnd (network plan.entry.tree.now (U.leaf plan.entry.units.now)
+        plan.entry.net plan.entry.firings) picks
+        (S.rest input.old) (S.rest input.new) (S.faults input.old) (S.faults input.new)
+        (K.taken out.old) (K.taken out.new) result }
+    ensures output { WriteCause (K.faults out.old) (K.faults out.new) result }
+{
+    laws();
+    a_stream_gives_its_items();
+    let mut execution = Execution::start(
+        alloc,
+        plan.tree,
+        plan.net,
+        plan.firings,
+        plan.width,
+        Schedule::Recorded(List::new(alloc)),
+        Keeping::Nothing,
+    )?;
+    execution.replay(alloc, plan.tree, plan.units, picks.as_slice(), input, out)?;
+    Ok(execution.into_checkpoint(alloc, plan.tree)?)
+}
