@@ -1,30 +1,21 @@
 -- What fits a typed net whose channels have little room has few items: tokens, tags and words.
-use Rattle.std.proofs.Common.{◌≡◌, ℕ, ℤ, zero, suc, ◌+◌, ◌<◌, ◌≤◌, List, [], ◌∷◌, length, map, get_or, Some, None, Option, slice_get, refl, ap, subst, arith}
+use Rattle.std.proofs.Common.{◌≡◌, ℕ, ℤ, ◌<◌, ◌≤◌, List, [], ◌∷◌, length, map, get_or, Some, None, Option, slice_get, ap, subst, arith}
 use Rattle.std.specs.Prelude.{IfSome}
 use Rattle.std.specs.List.{All, AllByRecursion}
 use Rattle.std.specs.Option.{option_to_list}
 use Rattle.std.proofs.lemmas.List.{get_or_default, get_or-map, length-map}
 use Rattle.std.proofs.lemmas.List.Elements.{All-from_recursion, recursion_from_All}
-use Rattle.p3l_base.specs.declared.cut.Cut.{Cut}
 use Rattle.p3l_base.specs.declared.outcome.Outcome.{Outcome}
 use Rattle.p3l_base.specs.declared.outcome.Outcome.TheVariants.{Value, Trapped}
-use Rattle.p3l_base.specs.Cut.{element_count}
-use Rattle.p3l_skel.specs.declared.tree.Form.{Form}
-use Rattle.p3l_skel.specs.declared.tree.Form.TheVariants.{Map, Reduce}
 use Rattle.p3l_skel.specs.declared.tree.Tree.{Tree}
-use Rattle.p3l_skel.specs.Counts.{IsLawfulCount}
-use Rattle.p3l_skel.specs.Lawful.{IsLawfulTree}
 use Rattle.p3l_skel.specs.Tree.{HasLength, node_at, part_at}
 use Rattle.p3l_firing.specs.declared.net.Net.{Net}
 use Rattle.p3l_firing.specs.declared.process.Proc.{Proc}
 use Rattle.p3l_firing.specs.declared.process.ProcKind.{ProcKind}
 use Rattle.p3l_firing.specs.declared.process.ProcKind.TheVariants as kinds
-use Rattle.p3l_firing.specs.Nodes.{cut_of, last_element}
-use Rattle.p3l_firing.specs.Process.{out_of}
 use Rattle.p3l_firing.specs.State.{chan_at, fresh}
 use Rattle.p3l_firing.specs.Typed.{FitsKind, FitsOwn, IsTyped}
 use Rattle.p3l_firing.specs.Widths.{AllFit, HasWidth, Widths}
-use Rattle.p3l_firing.proofs.LawfulForms.{map_part}
 use Rattle.p3l_net.specs.Channel.{Queue, tokens_at}
 use Rattle.p3l_net.specs.Fitting.{HoldsFew, own_saved_at}
 use Rattle.p3l_net.specs.Machine.{state_of}
@@ -34,7 +25,7 @@ use Rattle.p3l_net.specs.declared.shot.SavedToken.{SavedToken}
 use Rattle.p3l_net.specs.declared.shot.Shot.{Shot}
 use Rattle.p3l_net.proofs.Saving.{fits_held, queue-there}
 use Rattle.p3l_resume.specs.Ranges.{AreFew, HasFewItems, HasFewWords, IsFew, IsShort}
-use Rattle.p3l_resume_laws.proofs.Elements.{elements_low}
+use Rattle.p3l_resume_laws.proofs.FewTokens.{few_held, stands_there}
 use Rattle.p3l_resume_laws.proofs.WidthsLaw.{few_ins, few_outs, widths_few}
 
 few_words : (w : ℕ) → w ≤ 65536 → (o : Outcome) → HasLength w o → HasFewWords o
@@ -59,63 +50,38 @@ no_tokens : (saved : List SavedToken) → map token_of saved ≡ [] → AreFew s
 no_tokens [] e = record { count = omega arith; each = All-from_recursion IsShort [] tt }
 no_tokens (x ∷ xs) e = cc
 
--- a map has few elements
-few_elements : (tree : Tree) (lawful : IsLawfulTree tree) (k : ℕ) → k < length tree.nodes → (workers : Option ℕ) (cut : Cut) →
-    (node_at tree k).form ≡ Map workers cut → last_element tree k + 1 ≤ 65536
-unfolding last_element
-few_elements tree lawful k inside workers cut is =
-    let part = map_part tree lawful k inside is in
-    let cuts = part.cuts in
-    let low : element_count cut ≤ _ =
-    elements_low cut cuts.lawful_outs (λ i s there j d within. ((part.out_sizes i s there).1 j d within).0) in
-    let same : element_count (cut_of (node_at tree k).form) ≡ element_count cut = ap (λ (f : Form). element_count (cut_of f)) is in
-    let end = cuts.outs_end in
-    let outs = few_outs tree lawful k in
-    omega (arith, low, same, end, outs)
-
 module _ (tree : Tree) (net : Net) (typed : IsTyped tree net) (rooms : (c : ℕ) → (chan_at net c).cap ≤ 1024) where
   abbrev w : Widths
   w = typed.widths
-
-  segments_few : (f : Form) (n : ℕ) (workers : Option ℕ) (len elem : ℕ) → f ≡ Reduce workers len elem → IsLawfulCount f n → n ≤ 65536
-  segments_few f n workers len elem is count =
-      let own : IsLawfulCount (Reduce workers len elem) n = subst (λ z. IsLawfulCount z n) is count in
-      let range = own.1.2 in omega (arith, range)
 
   module _ (q : Proc) (saved : SavedOwn) (tags : All HasFewTags saved.held) where
     long : length (own_of saved).held ≡ length saved.held
     long = length-map saved.held token_of
 
-    few_held : (k : ProcKind) → FitsKind k tree w q → FitsOwn k tree w q (own_of saved) → HoldsFew k net q saved → AreFew saved.held
-    few_held kinds.Source fit h few = no_tokens saved.held h
-    few_held kinds.Sink fit h few = no_tokens saved.held h
-    few_held kinds.Run fit h few = no_tokens saved.held h
-    few_held kinds.Emit fit h few = no_tokens saved.held h
-    few_held kinds.Collect fit h few = no_tokens saved.held h
-    few_held kinds.Scatter fit h few =
+    held_short : (k : ProcKind) → FitsKind k tree w q → FitsOwn k tree w q (own_of saved) → length saved.held ≤ 65536 → AreFew saved.held
+    held_short kinds.Source fit h count = no_tokens saved.held h
+    held_short kinds.Sink fit h count = no_tokens saved.held h
+    held_short kinds.Run fit h count = no_tokens saved.held h
+    held_short kinds.Emit fit h count = no_tokens saved.held h
+    held_short kinds.Collect fit h count = no_tokens saved.held h
+    held_short kinds.Scatter fit h count =
         let takes = fit.takes in
-        few_tokens _ _ (omega (arith, takes, few_ins tree typed.lawful q.node)) saved.held tags h.held (omega (arith, few))
-    few_held kinds.Gather fit h few =
-        let count = h.few in
-        few_tokens _ _ (few_outs tree typed.lawful (part_at tree q.node 0)) saved.held tags h.held
-        (omega (arith, count, long, few_elements tree typed.lawful q.node fit.node fit.workers fit.cut fit.form))
-    few_held kinds.Split fit h few =
+        few_tokens _ _ (omega (arith, takes, few_ins tree typed.lawful q.node)) saved.held tags h.held count
+    held_short kinds.Gather fit h count =
+        few_tokens _ _ (few_outs tree typed.lawful (part_at tree q.node 0)) saved.held tags h.held count
+    held_short kinds.Split fit h count =
         let takes = fit.takes in
-        few_tokens _ _ (omega (arith, takes, few_ins tree typed.lawful q.node)) saved.held tags h.held (omega (arith, few))
-    few_held kinds.FoldGather fit h few =
-        let count = h.few in
-        few_tokens _ _ (few_outs tree typed.lawful q.node) saved.held tags h.held
-        (omega (arith, count, long, segments_few (node_at tree q.node).form (length q.ins) fit.workers fit.len fit.elem fit.form fit.count))
-    few_held kinds.Join fit h few = no_tokens saved.held h
-    few_held kinds.Head fit h few = no_tokens saved.held h
-    few_held kinds.Tail fit h few =
+        few_tokens _ _ (omega (arith, takes, few_ins tree typed.lawful q.node)) saved.held tags h.held count
+    held_short kinds.FoldGather fit h count = few_tokens _ _ (few_outs tree typed.lawful q.node) saved.held tags h.held count
+    held_short kinds.Join fit h count = no_tokens saved.held h
+    held_short kinds.Head fit h count = no_tokens saved.held h
+    held_short kinds.Tail fit h count =
         let takes = fit.takes.words in
-        few_tokens _ _ (omega (arith, takes, few_outs tree typed.lawful q.node)) saved.held tags h (omega (arith, few, rooms (out_of q 2)))
+        few_tokens _ _ (omega (arith, takes, few_outs tree typed.lawful q.node)) saved.held tags h count
 
-  stands_there : (procs : List Proc) (p : ℕ) → p < length procs → (q : Proc) × (slice_get procs p ≡ Some q)
-  stands_there [] p there = absurd (omega (arith, there))
-  stands_there (q ∷ procs) zero there = (q, refl)
-  stands_there (q ∷ procs) (suc p) there = stands_there procs p (omega (arith, there))
+    held_few : (k : ProcKind) → FitsKind k tree w q → FitsOwn k tree w q (own_of saved) → HoldsFew k net q saved → AreFew saved.held
+    held_few k fit h few =
+        let count = few_held tree net typed rooms q saved k fit h few in held_short k fit h (omega (arith, count, long))
 
   module _ (shot : Shot) (fits : Fits tree net w shot)
       (holds : (p : ℕ) (q : Proc) → slice_get net.procs p ≡ Some q → HoldsFew q.kind net q (own_saved_at shot p)) where
@@ -141,7 +107,7 @@ module _ (tree : Tree) (net : Net) (typed : IsTyped tree net) (rooms : (c : ℕ)
         let q : Proc = stands.0 in
         let fit = subst (FitsOwn q.kind tree w q) (get_or-map own_of shot.owns p d fresh there) (fits.state.owns p q stands.1) in
         let few = subst (HoldsFew q.kind net q) (get_or_default shot.owns p _ d there) (holds p q stands.1) in
-        few_held q (get_or shot.owns p d) (held.owns p d there) q.kind (typed.processes p q stands.1) fit few
+        held_few q (get_or shot.owns p d) (held.owns p d there) q.kind (typed.processes p q stands.1) fit few
 
     few_inbox : (n : ℕ) → n ≤ 65536 → (inbox : Option (List ℤ)) → AllByRecursion (λ (words : List ℤ). length words ≡ n) (option_to_list inbox) →
         IfSome inbox (λ (item : List ℤ). IsFew item)

@@ -6,6 +6,7 @@ pub mod ReduceForcing
 pub mod Forced
 pub mod Elements
 pub mod Rooms
+pub mod FewTokens
 pub mod FewItems
 pub mod SavedLaw
 pub mod Lists
@@ -24,3 +25,4 @@ pub mod KeptStates
 pub mod SavedStates
 pub mod KeptLaw
 pub mod Tables
+pub mod StartLaw

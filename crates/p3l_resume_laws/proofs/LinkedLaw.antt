@@ -27,7 +27,7 @@ use Rattle.p3l_link.specs.Whole.{root_carry}
 use Rattle.p3l_link.proofs.Carried.{root_means, root_sound}
 use Rattle.p3l_link.proofs.LinkedLaws.{fired, fired_fitting, first_fitting, net_carried, owed_bounded, run_bounded, run_begun}
 use Rattle.p3l_link.proofs.Round.{long_all}
-use Rattle.p3l_resume_laws.specs.Linked.{BothPartsAreBounded, CanResume, EveryRestCanResume, EveryResumedRunEmitsWhatIsLeft, EveryResumedRunEnds, EveryRunCanResume, EveryRunStaysBalanced, EveryStartCanResume, EveryStartIsBalanced, IsBalanced, ResumedFiringsAreBounded, left_in}
+use Rattle.p3l_resume_laws.specs.Linked.{BothPartsAreBounded, CanResume, EveryRestCanResume, EveryResumedRunEmitsWhatIsLeft, EveryResumedRunEnds, EveryRunCanResume, EveryRunStaysBalanced, EveryStartCanResume, EveryStartIsBalanced, IsBalanced, ResumedFiringsAreBounded, ahead_of, left_in}
 use Rattle.p3l_sched.specs.resumption.Orderly as carried
 use Rattle.p3l_sched.specs.resumption.Run.{run_from}
 use Rattle.p3l_sched.proofs.CutLaw.{unbroken}
@@ -46,7 +46,7 @@ length-bodies [] = refl
 length-bodies (x ∷ xs) = let more = length-bodies xs in omega arith
 
 -- the outcomes of tokens whose values have n words
-HaveWords : ℕ → List Token → Type 0
+pub HaveWords : ℕ → List Token → Type 0
 HaveWords n tokens = AllByRecursion (λ (token : Token). HasLength n token.body) tokens
 
 bodies-over : (f g : Outcome → Outcome) (n : ℕ) → ((o : Outcome) → HasLength n o → f o ≡ g o) → (xs : List Token) → HaveWords n xs → bodies (map (over f) xs) ≡ map g (bodies xs)
@@ -54,11 +54,11 @@ unfolding bodies HaveWords
 bodies-over f g n same [] long = refl
 bodies-over f g n same (x ∷ xs) long = ap₂ (λ o os. o ∷ os) (same x.body long.0) (bodies-over f g n same xs long.1)
 
-items_append : (n : ℕ) (xs ys : List (List ℤ)) → AllByRecursion (λ (words : List ℤ). length words ≡ n) xs → AllByRecursion (λ (words : List ℤ). length words ≡ n) ys → AllByRecursion (λ (words : List ℤ). length words ≡ n) (xs ++ ys)
+pub items_append : (n : ℕ) (xs ys : List (List ℤ)) → AllByRecursion (λ (words : List ℤ). length words ≡ n) xs → AllByRecursion (λ (words : List ℤ). length words ≡ n) ys → AllByRecursion (λ (words : List ℤ). length words ≡ n) (xs ++ ys)
 items_append n [] ys all more = more
 items_append n (x ∷ xs) ys all more = (all.0, items_append n xs ys all.1 more)
 
-carry_orderly : (units : Units) (counts : List ℕ) (s : State) → IsOrderly units counts s → (root_carry units counts).orderly s ≡ true
+pub carry_orderly : (units : Units) (counts : List ℕ) (s : State) → IsOrderly units counts s → (root_carry units counts).orderly s ≡ true
 carry_orderly units counts s o = ap₂ (λ a b. a && b) o.root (long_all (node_at units.tree 0).ins s.unsent o.items)
 
 module _ (units : Units) (counts : List ℕ) (cap : ℕ) (l : IsLinkable units counts cap) where
@@ -109,16 +109,19 @@ module _ (units : Units) (counts : List ℕ) (cap : ℕ) (l : IsLinkable units c
       (bodies-append (P.pending s) (map (over P.meaning) (s.tokens 0))
       ∙ ap (λ z. bodies (P.pending s) ++ z) (bodies-over P.meaning (outcome_at units 0) ins means.same (s.tokens 0) waiting))
 
-  left_is : (s : State) → HaveWords ins (s.tokens 0) → carried.left_from units.tree units.leaf carry s ≡ left_in units counts s
-  left_is s waiting =
+  pub ahead_is : (s : State) → HaveWords ins (s.tokens 0) →
+      carry.to_come s ++ map (item units.tree units.leaf 0) s.unsent ≡ ahead_of units counts s
+  ahead_is s waiting =
       let after : List Outcome = bodies (s.tokens 1) in
       let pending : List Outcome = bodies (P.pending s) in
       let before : List Outcome = map (outcome_at units 0) (bodies (s.tokens 0)) in
       let items : List Outcome = map (item units.tree units.leaf 0) s.unsent in
-      ap up_to_first_trap
-      (ap (λ z. z ++ items) (to_come_is s waiting)
+      ap (λ z. z ++ items) (to_come_is s waiting)
       ∙ append_assoc after (pending ++ before) items
-      ∙ ap (λ z. after ++ z) (append_assoc pending before items))
+      ∙ ap (λ z. after ++ z) (append_assoc pending before items)
+
+  left_is : (s : State) → HaveWords ins (s.tokens 0) → carried.left_from units.tree units.leaf carry s ≡ left_in units counts s
+  left_is s waiting = ap up_to_first_trap (ahead_is s waiting)
 
   module _ (typed : IsTyped units.tree net) where
     -- the source sends the root's in words into channel 0
@@ -126,7 +129,7 @@ module _ (units : Units) (counts : List ℕ) (cap : ℕ) (l : IsLinkable units c
     unfolding linked_net
     words_waiting = (typed.processes 0 the_source refl).gives.words
 
-    have_words : (tokens : List Token) → AllFit typed.widths 0 tokens → HaveWords ins tokens
+    pub have_words : (tokens : List Token) → AllFit typed.widths 0 tokens → HaveWords ins tokens
     unfolding HaveWords
     have_words [] all = tt
     have_words (x ∷ xs) all = (subst (λ n. HasLength n x.body) words_waiting all.0.words, have_words xs all.1)

@@ -3,3 +3,4 @@ pub mod Widths
 pub mod Saved
 pub mod Traps
 pub mod Kept
+pub mod Start

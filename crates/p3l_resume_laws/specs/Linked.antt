@@ -33,14 +33,16 @@ IsBalanced units counts s =
     s.sent ≡ length s.emitted
     + (length (s.tokens 1) + (length ((root_part units counts).pending s) + length (s.tokens 0)))
 
--- the outcomes of channel 1, the root's pending ones, and those that come of channel 0 and of the items not yet sent, up to the
--- first trap
-abbrev pub left_in : Units → List ℕ → State → List Outcome
-left_in units counts s =
-    up_to_first_trap
-    (bodies (s.tokens 1)
+-- the outcomes of channel 1, the root's pending ones, and those that come of channel 0 and of the items not yet sent
+abbrev pub ahead_of : Units → List ℕ → State → List Outcome
+ahead_of units counts s =
+    bodies (s.tokens 1)
     ++ (bodies ((root_part units counts).pending s)
-    ++ (map (outcome_at units 0) (bodies (s.tokens 0)) ++ map (item units.tree units.leaf 0) s.unsent)))
+    ++ (map (outcome_at units 0) (bodies (s.tokens 0)) ++ map (item units.tree units.leaf 0) s.unsent))
+
+-- the same, up to the first trap
+abbrev pub left_in : Units → List ℕ → State → List Outcome
+left_in units counts s = up_to_first_trap (ahead_of units counts s)
 
 -- how often a linked net can still fire from a state
 abbrev pub firings_left : Units → List ℕ → (cap : ℕ) → State → ℕ

@@ -1,10 +1,11 @@
 //! Laws of linked nets from any state in which a run of one can be: what a resumed run emits, how often
 //! it fires, and where it ends; how many words and tags their channels carry; and what was saved of
-//! machines that run them: it is sound, and can be restored, resumed and written. Each is the contract of
-//! a function that does nothing.
+//! machines that run them: it is sound, and can be restored, resumed and written; and where a run begins
+//! that goes on from it. Each is the contract of a function that does nothing.
 #![tactic(auto)]
 
 pub mod kept;
 pub mod linked;
 pub mod saved;
+pub mod start;
 pub mod widths;
