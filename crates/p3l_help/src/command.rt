@@ -223,6 +223,42 @@ written does not depend on how many segments there are; main's `workers` clause 
 example: p3l scan m.p3l --segments 4 < items
 ";
 
+/// What `save` does.
+const SAVE: &str =
+    "usage: p3l save PROGRAM --processors P --schedule file:NAME --output FILE [--costs FILE]
+                [--capacity C]
+
+Runs the picks of a file on the standard input, writes the results as run does, and then writes what is
+still in the network to a file, with the image of the program: resume goes on from there. It ends when
+the picks or the items are ended; picks that are left over aren't used. One line on the standard error
+says how many items the network took and how many picks were used: resume is given the items after
+these. Where a line is no item, or an item comes to a trap, no file is written.
+
+  PROGRAM          the file of the program
+  --processors P   how many processors there are, 1 to 512
+  --schedule S     file:NAME, the file of the picks, as time --picks writes it
+  --output FILE    where to write the snapshot
+  --costs FILE     the costs by which worker counts are chosen; without them the standard costs
+  --capacity C     how many tokens a channel holds at most, 1 to 1,024 (4 if not given)
+
+example: p3l save m.p3l --processors 16 --schedule file:m.picks --output m.shot < items
+";
+
+/// What `resume` does.
+const RESUME: &str = "usage: p3l resume SNAPSHOT [--schedule S] [--stats]
+
+Goes on from what save wrote: reads further items from the standard input, one a line, and writes one
+line for each result that was still to come, and for each further item. Both parts together are what one
+run writes. Items are counted from the first item of save. A file that is no snapshot is refused, and so
+is one whose tokens can't be those of a run of its network.
+
+  SNAPSHOT         the file that save wrote
+  --schedule S     how processes take turns from there: rr (the default), seed:N or file:NAME
+  --stats          put a line on the run's numbers on the standard error
+
+example: p3l resume m.shot --schedule seed:7 < further
+";
+
 /// A page for each command, by its first word.
 pub(crate) const COMMANDS: &[Page] = &[
     Page {
@@ -284,5 +320,13 @@ pub(crate) const COMMANDS: &[Page] = &[
     Page {
         topic: "scan",
         text: SCAN,
+    },
+    Page {
+        topic: "save",
+        text: SAVE,
+    },
+    Page {
+        topic: "resume",
+        text: RESUME,
     },
 ];

@@ -22,6 +22,8 @@ commands:
   profile PROGRAM                         write the costs that a program shows on the standard input
   time PROGRAM --processors P ..          run a program in virtual time, and say how long it took
   scan PROGRAM --segments M ..            fold all fronts of the lists of the standard input
+  save PROGRAM --processors P ..          run recorded picks, and write what is then in the network
+  resume SNAPSHOT ..                      go on from what save wrote, on the standard input
 
 help:
   help COMMAND      what a command does, its words and an example; p3l COMMAND --help says the same
@@ -72,7 +74,7 @@ says more of it.
   12  schedule: line N: NUMBER NAME
       the file of picks is refused at this line
   13  evidence: NUMBER NAME ..
-      an image, a certificate or a trace is refused, or a trace differs
+      an image, a certificate, a trace or a snapshot is refused, or a trace differs
   14  input too long
       the input came to 68,719,476,736 bytes
   15  scan: NUMBER NAME
@@ -89,5 +91,5 @@ Item N of a file is on the line that this prints:
     grep -n '[^[:space:]]' FILE | sed -n 'Np' | cut -d: -f1
 
 With --stats the line `stats: items N, fired F, idle I, bound B` stands before
-the message.
+the message. Where save has written its file it puts `saved: items K, picks A`.
 ";

@@ -25,6 +25,8 @@ simple_and_free verb.Rewrite = refl
 simple_and_free verb.Profile = refl
 simple_and_free verb.Time = refl
 simple_and_free verb.Scan = refl
+simple_and_free verb.Save = refl
+simple_and_free verb.Resume = refl
 
 simple : (v : Verb) → is_simple (app_for v) ≡ true
 unfolding app_for clap_on_literals
@@ -43,6 +45,8 @@ simple verb.Rewrite = refl
 simple verb.Profile = refl
 simple verb.Time = refl
 simple verb.Scan = refl
+simple verb.Save = refl
+simple verb.Resume = refl
 
 pub as_simple_and_free : (v : Verb) (a : App) → a ≡ app_for v → is_simple_and_free a ≡ true
 as_simple_and_free v a e = ap is_simple_and_free e ∙ simple_and_free v

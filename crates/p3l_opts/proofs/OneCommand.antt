@@ -31,7 +31,9 @@ verb_named text =
     else if bytes_eq text (codes "rewrite") then Some verb.Rewrite
     else if bytes_eq text (codes "profile") then Some verb.Profile
     else if bytes_eq text (codes "time") then Some verb.Time
-    else Some verb.Scan
+    else if bytes_eq text (codes "scan") then Some verb.Scan
+    else if bytes_eq text (codes "save") then Some verb.Save
+    else Some verb.Resume
 
 named : (v : Verb) → verb_named (name_of v) ≡ Some v
 unfolding verb_named
@@ -50,6 +52,8 @@ named verb.Rewrite = refl
 named verb.Profile = refl
 named verb.Time = refl
 named verb.Scan = refl
+named verb.Save = refl
+named verb.Resume = refl
 
 -- verbs of one name are the same
 one_verb : (v w : Verb) → name_of v ≡ name_of w → v ≡ w
@@ -87,6 +91,10 @@ one_spelled text (sched.File name) (sched.File other) p q =
 one_schedule : (text : Option Text) (s t : Sched) → HasSchedule text s → HasSchedule text t → s ≡ t
 one_schedule None s t p q = p ∙ sym q
 one_schedule (Some text) s t p q = one_spelled text s t p q
+
+-- and of the picks of one file
+one_recorded : (text : Option Text) (p q : Text) → HasSchedule text (sched.File p) → HasSchedule text (sched.File q) → p ≡ q
+one_recorded text p q hp hq = (let same : sched.File p ≡ sched.File q = one_schedule text _ _ hp hq in cc)
 
 one_items : (text : Option Text) (m n : ℕ) → HasItems text m → HasItems text n → m ≡ n
 one_items None m n p q = p ∙ sym q
@@ -137,6 +145,10 @@ one_command found (command.Time x p) (command.Time y q) v ha hb = λ i. command.
 one_command found (command.Scan p m s c r) (command.Scan q n s' c' r') v ha hb = λ i.
     command.Scan (one_name _ _ _ ha.program_is hb.program_is i) (one_count 512 _ _ _ (omega arith) ha.segments_are hb.segments_are i) (one_schedule _ _ _ ha.picks hb.picks i)
     (one_capacity _ _ _ ha.capacity_is hb.capacity_is i) ((ha.reported ∙ sym hb.reported) i)
+one_command found (command.Save x p o) (command.Save y q o') v ha hb = λ i.
+    command.Save (one_build _ _ x y ha.build_is hb.build_is i) (one_recorded _ _ _ ha.recorded hb.recorded i) (one_name _ _ _ ha.output_is hb.output_is i)
+one_command found (command.Resume p s r) (command.Resume q s' r') v ha hb = λ i.
+    command.Resume (one_name _ _ _ ha.snapshot_is hb.snapshot_is i) (one_schedule _ _ _ ha.picks hb.picks i) ((ha.reported ∙ sym hb.reported) i)
 one_command found a b v ha hb = cc
 
 pub spells_one_at_most : SpellsOneAtMost

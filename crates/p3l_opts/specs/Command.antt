@@ -33,6 +33,8 @@ verb_of (command.Rewrite program processors costs) = verb.Rewrite
 verb_of (command.Profile program) = verb.Profile
 verb_of (command.Time build picks) = verb.Time
 verb_of (command.Scan program segments schedule capacity stats) = verb.Scan
+verb_of (command.Save build picks output) = verb.Save
+verb_of (command.Resume snapshot schedule stats) = verb.Resume
 
 -- the text is a number from 1 to `most`, in decimal digits without a sign and without a leading zero
 pub record HasCount (most : ℕ) (text : Option Text) (count : ℕ) : Type 0 where
@@ -115,6 +117,18 @@ pub record HasScan (found : List Row) (program : Text) (segments : ℕ) (schedul
   pub capacity_is : HasCapacity (first_of (codes "capacity") found) capacity
   pub reported : stats ≡ says_true (first_of (codes "stats") found)
 
+-- how a network is built, in which file its picks stand and into which one its state is written
+pub record HasSave (found : List Row) (build : Build) (picks output : Text) : Type 0 where
+  pub build_is : HasBuild found (first_of (codes "capacity") found) build
+  pub recorded : HasSchedule (first_of (codes "schedule") found) (sched.File picks)
+  pub output_is : first_of (codes "output") found ≡ Some output
+
+-- from which file a run goes on, and how
+pub record HasResume (found : List Row) (snapshot : Text) (schedule : Sched) (stats : Bool) : Type 0 where
+  pub snapshot_is : first_of (codes "snapshot") found ≡ Some snapshot
+  pub picks : HasSchedule (first_of (codes "schedule") found) schedule
+  pub reported : stats ≡ says_true (first_of (codes "stats") found)
+
 -- the values of a command are those that were found, of which those that no word spells have their defaults
 abbrev pub HasValues : List Row → Command → Type 0
 HasValues found (command.Check program) = first_of (codes "program") found ≡ Some program
@@ -134,6 +148,8 @@ HasValues found (command.Rewrite program processors costs) =
 HasValues found (command.Profile program) = first_of (codes "program") found ≡ Some program
 HasValues found (command.Time build picks) = HasBuild found (first_of (codes "capacity") found) build × (picks ≡ first_of (codes "picks") found)
 HasValues found (command.Scan program segments schedule capacity stats) = HasScan found program segments schedule capacity stats
+HasValues found (command.Save build picks output) = HasSave found build picks output
+HasValues found (command.Resume snapshot schedule stats) = HasResume found snapshot schedule stats
 
 -- the first word names the command, `clap` takes those after it, and its values are what they spell
 pub record Spells (words : List Text) (command : Command) : Type 0 where

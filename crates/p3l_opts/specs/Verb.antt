@@ -23,6 +23,8 @@ name_of verb.Rewrite = codes "rewrite"
 name_of verb.Profile = codes "profile"
 name_of verb.Time = codes "time"
 name_of verb.Scan = codes "scan"
+name_of verb.Save = codes "save"
+name_of verb.Resume = codes "resume"
 
 -- the words that may stand after it
 abbrev pub rules_of : Verb → List Rule
@@ -103,6 +105,19 @@ rules_of verb.Scan =
     ∷ rule_for (codes "segments") Mandatory
     ∷ rule_for (codes "schedule") Optional
     ∷ rule_for (codes "capacity") Optional
+    ∷ rule_for (codes "stats") Flag
+    ∷ []
+rules_of verb.Save =
+    rule_for (codes "program") Positional
+    ∷ rule_for (codes "processors") Mandatory
+    ∷ rule_for (codes "schedule") Mandatory
+    ∷ rule_for (codes "output") Mandatory
+    ∷ rule_for (codes "costs") Optional
+    ∷ rule_for (codes "capacity") Optional
+    ∷ []
+rules_of verb.Resume =
+    rule_for (codes "snapshot") Positional
+    ∷ rule_for (codes "schedule") Optional
     ∷ rule_for (codes "stats") Flag
     ∷ []
 

@@ -56,6 +56,14 @@ pub enum Command {
     /// the tokens that a channel holds at most, 1 to 1,024, and whether the numbers of the run are
     /// reported.
     Scan(Name, u32, Sched, u32, bool),
+    /// `save PROGRAM --processors P --schedule file:NAME --output FILE [--costs FILE] [--capacity C]`:
+    /// runs recorded picks on the input and writes the state that they come to. It has how the network
+    /// is built, the name of the file of picks, and the name of the snapshot's file.
+    Save(Build, Name, Name),
+    /// `resume SNAPSHOT [--schedule S] [--stats]`: goes on from a state that was saved, on the input.
+    /// It has the name of the snapshot's file, how picks are made, and whether the numbers of the run
+    /// are reported.
+    Resume(Name, Sched, bool),
 }
 
 /// How a program's network is built.

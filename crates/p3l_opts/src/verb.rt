@@ -27,6 +27,8 @@ pub enum Verb {
     Profile,
     Time,
     Scan,
+    Save,
+    Resume,
 }
 
 /// Whether a word is this text.
@@ -85,6 +87,12 @@ pub fn verb_of(word: &str) -> Option<Verb>
     }
     if is_word(word, "scan") {
         return Some(Verb::Scan);
+    }
+    if is_word(word, "save") {
+        return Some(Verb::Save);
+    }
+    if is_word(word, "resume") {
+        return Some(Verb::Resume);
     }
     None
 }
@@ -218,6 +226,27 @@ pub(crate) fn clap_command<'a>(alloc: Global, verb: Verb) -> Result<Command<'a>,
                 ("segments", Spelling::Mandatory),
                 ("schedule", Spelling::Optional),
                 ("capacity", Spelling::Optional),
+                ("stats", Spelling::Flag),
+            ],
+        ),
+        Verb::Save => command_with(
+            alloc,
+            "save",
+            &[
+                ("program", Spelling::Positional),
+                ("processors", Spelling::Mandatory),
+                ("schedule", Spelling::Mandatory),
+                ("output", Spelling::Mandatory),
+                ("costs", Spelling::Optional),
+                ("capacity", Spelling::Optional),
+            ],
+        ),
+        Verb::Resume => command_with(
+            alloc,
+            "resume",
+            &[
+                ("snapshot", Spelling::Positional),
+                ("schedule", Spelling::Optional),
                 ("stats", Spelling::Flag),
             ],
         ),

@@ -12,6 +12,7 @@ use crate::matches::{
 };
 use crate::verb::{Verb, verb_of};
 use clap::ArgMatches;
+use p3l_base::Name;
 use std::alloc::Global;
 
 /// The command that the words spell; the program's own name is none of them.
@@ -63,6 +64,8 @@ fn command_of(alloc: Global, verb: Verb, matches: &ArgMatches) -> Result<Command
         Verb::Profile => Ok(Command::Profile(name_of(alloc, matches, "program")?)),
         Verb::Time => time_of(alloc, matches),
         Verb::Scan => scan_of(alloc, matches),
+        Verb::Save => save_of(alloc, matches),
+        Verb::Resume => resume_of(alloc, matches),
     }
 }
 
@@ -280,4 +283,43 @@ fn scan_of(alloc: Global, matches: &ArgMatches) -> Result<Command, OptsRefusal>
     let schedule = schedule_in(alloc, matches, "schedule")?;
     let stats = is_given(matches, "stats");
     Ok(Command::Scan(program, segments, schedule, capacity, stats))
+}
+
+/// The command `save` with the values that were found.
+fn save_of(alloc: Global, matches: &ArgMatches) -> Result<Command, OptsRefusal>
+    ensures verb { IfOk result (λ command. verb_of command ≡ Verb.Save) }
+    ensures values { IfOk result (HasValues (rows_of (found_of matches.now))) }
+    ensures usage { IsErrOf result OptsRefusal.Usage → (command : Command)
+        → verb_of command ≡ Verb.Save → HasValues (rows_of (found_of matches.now)) command → ⊥ }
+{
+    let build = build_of(alloc, matches)?;
+    let picks = recorded_in(alloc, matches, "schedule")?;
+    let output = name_of(alloc, matches, "output")?;
+    Ok(Command::Save(build, picks, output))
+}
+
+/// The name of the file in which the picks of the schedule stand that the words have for a value.
+fn recorded_in(alloc: Global, matches: &ArgMatches, id: &str) -> Result<Name, OptsRefusal>
+    ensures ok { IfOk result (λ name.
+        HasSchedule (first_of id.now (rows_of (found_of matches.now))) (Sched.File name)) }
+    ensures usage { IsErrOf result OptsRefusal.Usage → (name : List ℕ)
+        → HasSchedule (first_of id.now (rows_of (found_of matches.now))) (Sched.File name) → ⊥ }
+{
+    match schedule_in(alloc, matches, id)? {
+        Sched::File(name) => Ok(name),
+        Sched::RoundRobin | Sched::Seeded(_) => Err(OptsRefusal::Usage),
+    }
+}
+
+/// The command `resume` with the values that were found.
+fn resume_of(alloc: Global, matches: &ArgMatches) -> Result<Command, OptsRefusal>
+    ensures verb { IfOk result (λ command. verb_of command ≡ Verb.Resume) }
+    ensures values { IfOk result (HasValues (rows_of (found_of matches.now))) }
+    ensures usage { IsErrOf result OptsRefusal.Usage → (command : Command)
+        → verb_of command ≡ Verb.Resume → HasValues (rows_of (found_of matches.now)) command → ⊥ }
+{
+    let snapshot = name_of(alloc, matches, "snapshot")?;
+    let schedule = schedule_in(alloc, matches, "schedule")?;
+    let stats = is_given(matches, "stats");
+    Ok(Command::Resume(snapshot, schedule, stats))
 }

@@ -51,7 +51,7 @@ const WITHOUT_RUNS: [(&str, &[&str]); 8] = [
 ];
 
 /// What the help of each command that runs something names: its values and options.
-const WITH_RUNS: [(&str, &[&str]); 7] = [
+const WITH_RUNS: [(&str, &[&str]); 9] = [
     (
         "run",
         &[
@@ -109,6 +109,18 @@ const WITH_RUNS: [(&str, &[&str]); 7] = [
             "--stats",
         ],
     ),
+    (
+        "save",
+        &[
+            "PROGRAM",
+            "--processors P",
+            "--schedule S",
+            "--output FILE",
+            "--costs FILE",
+            "--capacity C",
+        ],
+    ),
+    ("resume", &["SNAPSHOT", "--schedule S", "--stats"]),
 ];
 
 // A help must name the command in its usage and its example, and have a line for each of its words.
@@ -295,8 +307,8 @@ fn each_number_of_a_certificate_or_an_image_has_a_page(rt: HostRuntime) -> Resul
 }
 
 #[test]
-fn each_number_of_picks_lines_traces_and_scans_has_a_page(rt: HostRuntime) -> Result<(), Fail> {
-    let table: [(&str, &str); 9] = [
+fn each_number_of_a_run_has_a_page(rt: HostRuntime) -> Result<(), Fail> {
+    let table: [(&str, &str); 11] = [
         ("95", "BadPick"),
         ("96", "NoSuchProcess"),
         ("100", "BadWord"),
@@ -306,6 +318,8 @@ fn each_number_of_picks_lines_traces_and_scans_has_a_page(rt: HostRuntime) -> Re
         ("111", "Differs"),
         ("120", "NotReduce"),
         ("121", "BadSegments"),
+        ("130", "BadShot"),
+        ("131", "NotSound"),
     ];
     for (number, name) in table {
         shows(&rt, rt.alloc(), number, name)?;

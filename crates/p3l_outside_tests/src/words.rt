@@ -77,6 +77,16 @@ fn shown(alloc: Global, command: &Command) -> Result<String, Fail> {
                 picks.as_str()
             )?
         }
+        Command::Save(build, picks, output) => {
+            let built = build_shown(alloc, build)?;
+            let picks = picks.as_str();
+            format!(in alloc; "save {} {picks} {}", built.as_str(), output.as_str())?
+        }
+        Command::Resume(snapshot, schedule, stats) => {
+            let picks = schedule_shown(alloc, schedule)?;
+            let snapshot = snapshot.as_str();
+            format!(in alloc; "resume {snapshot} {} {stats}", picks.as_str())?
+        }
     })
 }
 
@@ -347,6 +357,61 @@ fn words_spell_time_and_scan(rt: HostRuntime) -> Result<(), Fail> {
     Ok(())
 }
 
+#[test]
+fn words_spell_save_and_resume(rt: HostRuntime) -> Result<(), Fail> {
+    let table: [(&[&str], &str); 6] = [
+        (
+            &[
+                "save",
+                "m",
+                "--processors",
+                "4",
+                "--schedule",
+                "file:p",
+                "--output",
+                "s",
+            ],
+            "save m 4 - 4 p s",
+        ),
+        (
+            &[
+                "save",
+                "--output=s",
+                "--schedule=file:",
+                "--capacity=1",
+                "--processors=512",
+                "--costs=c",
+                "m",
+            ],
+            "save m 512 c 1  s",
+        ),
+        (
+            &[
+                "save",
+                "m",
+                "--schedule=file:rr",
+                "--processors=1",
+                "--output",
+                "m",
+            ],
+            "save m 1 - 4 rr m",
+        ),
+        (&["resume", "s"], "resume s rr false"),
+        (
+            &["resume", "--stats", "s", "--schedule", "seed:7"],
+            "resume s seed:7 true",
+        ),
+        (
+            &["resume", "--schedule=file:p", "--", "--odd"],
+            "resume --odd file:p false",
+        ),
+    ];
+    for (words, command) in table {
+        spell(&rt, rt.alloc(), words, command)?;
+    }
+    Ok(())
+}
+
 /// These words must spell no command.
 fn spell_none(rt: &impl Abort, alloc: Global, words: &[&str]) {
     assert_eq!(rt; parse(alloc, words).err(), Some(OptsRefusal::Usage));
@@ -493,6 +558,51 @@ fn faulty_words_of_scan_spell_none(rt: HostRuntime) {
         &["scan", "m", "--segments", "4", "--processors", "4"],
         &["scan", "m", "--segments", "4", "--trace", "t"],
         &["scan", "m", "--segments", "4", "--capacity", "0"],
+    ];
+    for words in table {
+        spell_none(&rt, rt.alloc(), words);
+    }
+}
+
+#[test]
+fn faulty_words_of_save_spell_none(rt: HostRuntime) {
+    let table: [&[&str]; 7] = [
+        &["save", "m", "--processors=4", "--output=s"],
+        &["save", "m", "--processors=4", "--schedule=file:p"],
+        &["save", "m", "--schedule=file:p", "--output=s"],
+        &["save", "m", "--processors=4", "--schedule=rr", "--output=s"],
+        &[
+            "save",
+            "m",
+            "--processors=4",
+            "--schedule=seed:7",
+            "--output=s",
+        ],
+        &["save", "m", "--processors=4", "--schedule=p", "--output=s"],
+        &[
+            "save",
+            "m",
+            "--processors=4",
+            "--schedule=file:p",
+            "--output=s",
+            "--stats",
+        ],
+    ];
+    for words in table {
+        spell_none(&rt, rt.alloc(), words);
+    }
+}
+
+#[test]
+fn faulty_words_of_resume_spell_none(rt: HostRuntime) {
+    let table: [&[&str]; 7] = [
+        &["resume"],
+        &["resume", "s", "t"],
+        &["resume", "s", "--processors", "4"],
+        &["resume", "s", "--trace", "t"],
+        &["resume", "s", "--output", "t"],
+        &["resume", "s", "--schedule", "seed:"],
+        &["resume", "s", "--stats", "--stats"],
     ];
     for words in table {
         spell_none(&rt, rt.alloc(), words);

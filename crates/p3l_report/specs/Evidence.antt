@@ -34,3 +34,5 @@ evidence_line evidence.NotLinked = codes "evidence: 91 NotLinked\n"
 evidence_line evidence.TreeWrong = codes "evidence: 92 TreeWrong\n"
 evidence_line (evidence.BadLine line) = codes "evidence: 110 BadLine " ++ (decimal line ++ codes "\n")
 evidence_line (evidence.Differs line) = codes "evidence: 111 Differs " ++ (decimal line ++ codes "\n")
+evidence_line (evidence.BadShot place) = codes "evidence: 130 BadShot " ++ (decimal place ++ codes "\n")
+evidence_line evidence.NotSound = codes "evidence: 131 NotSound\n"

@@ -49,11 +49,13 @@ abbrev pub trap_line : ℕ → TrapKind → List ℕ → List ℕ
 trap_line item kind home =
     codes "trap: item " ++ (decimal item ++ (codes ": " ++ (kind_text kind ++ (codes " in " ++ (home ++ codes "\n")))))
 
--- stats: items N, fired F, idle I, bound B; and of a run in virtual time
--- time: items N, fired F, finish T, busiest P B
+-- stats: items N, fired F, idle I, bound B; of a run in virtual time
+-- time: items N, fired F, finish T, busiest P B; and of a run whose state was saved
+-- saved: items K, picks A
 abbrev pub stats_line : Stats → List ℕ
 stats_line (stats.Scheduled items fired idle bound) =
     codes "stats: items " ++ (decimal items ++ (codes ", fired " ++ (decimal fired ++ (codes ", idle " ++ (decimal idle ++ (codes ", bound " ++ (decimal bound ++ codes "\n")))))))
 stats_line (stats.Timed items fired finish busiest busy) =
     codes "time: items " ++ (decimal items ++ (codes ", fired " ++ (decimal fired ++ (codes ", finish " ++ (decimal finish
     ++ (codes ", busiest " ++ (decimal busiest ++ (codes " " ++ (decimal busy ++ codes "\n")))))))))
+stats_line (stats.Saved items picks) = codes "saved: items " ++ (decimal items ++ (codes ", picks " ++ (decimal picks ++ codes "\n")))

@@ -53,7 +53,7 @@ no_memory = 11
 abbrev pub schedule : ℕ
 schedule = 12
 
--- an image, a certificate or a trace is refused, or a trace differs from the run
+-- an image, a certificate, a trace or a snapshot is refused, or a trace differs from the run
 abbrev pub evidence : ℕ
 evidence = 13
 

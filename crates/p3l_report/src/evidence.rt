@@ -1,4 +1,4 @@
-// Why evidence is refused: a certificate, an image or a trace.
+// Why evidence is refused: a certificate, an image, a trace or a snapshot.
 
 ghost use Rattle.std.specs.Prelude.{◌≡◌, IfOk};
 ghost use Rattle.p3l_report.specs.Evidence.{claim_name, evidence_line};
@@ -70,6 +70,11 @@ pub enum Evidence {
     Differs {
         line: u64,
     },
+    /// The field at this place of a snapshot isn't whole or is out of its range, or the snapshot goes
+    /// on at this place, after its last field.
+    BadShot(u64),
+    /// No run of the network that a snapshot has comes to the state that it has.
+    NotSound,
 }
 
 /// The name of a claim, as the program prints it.
@@ -116,6 +121,8 @@ pub fn evidence_line(alloc: Global, evidence: &Evidence) -> Result<Line, NoMemor
         Evidence::TreeWrong => format!(in alloc; "evidence: 92 TreeWrong\n")?,
         Evidence::BadLine { line } => format!(in alloc; "evidence: 110 BadLine {line}\n")?,
         Evidence::Differs { line } => format!(in alloc; "evidence: 111 Differs {line}\n")?,
+        Evidence::BadShot(place) => format!(in alloc; "evidence: 130 BadShot {place}\n")?,
+        Evidence::NotSound => format!(in alloc; "evidence: 131 NotSound\n")?,
     };
     Ok(Line::Made(text))
 }

@@ -147,5 +147,9 @@ pub fn numbers_line(alloc: Global, stats: Stats) -> Result<Line, NoMemory>
             )?;
             Ok(Line::Made(text))
         }
+        Stats::Saved { items, picks } => {
+            let text = format!(in alloc; "saved: items {items}, picks {picks}\n")?;
+            Ok(Line::Made(text))
+        }
     }
 }

@@ -12,7 +12,7 @@ pub enum Stats {
         /// How many picks could not fire.
         idle: u64,
         /// The bound on the firings: the items, each with the firings that it can need.
-        bound: u64,
+        bound: u128,
     },
     /// Of a run in virtual time.
     Timed {
@@ -26,5 +26,12 @@ pub enum Stats {
         busiest: u32,
         /// How long it was busy, in ticks.
         busy: u128,
+    },
+    /// Of a run whose state was saved.
+    Saved {
+        /// How many items the network was offered.
+        items: u64,
+        /// How many picks were used.
+        picks: u64,
     },
 }

@@ -34,7 +34,7 @@ pub enum Refusal {
     BadPick { line: u64 },
     /// A pick is the number of no process, of which there are so many.
     NoSuchProcess { line: u64, pick: u64, count: u32 },
-    /// An image, a certificate or a trace is refused.
+    /// An image, a certificate, a trace or a snapshot is refused.
     Evidence(Evidence),
     /// The program can't be scanned in so many segments.
     Scan(ScanFault),

@@ -1,8 +1,8 @@
-// Pages of refusals: picks, items, traces and scans.
+// Pages of refusals: picks, items, traces, scans and snapshots.
 
 use crate::page::Page;
 
-/// A page for each of the numbers 95 to 121.
+/// A page for each of the numbers 95 to 131.
 pub(crate) const RUNS: &[Page] = &[
     Page {
         topic: "95",
@@ -139,6 +139,38 @@ The segments are no power of two, or don't divide the length of the list that
     scan: 121 BadSegments
 
 To mend it: give such a number of segments, or a longer list.
+",
+    },
+    Page {
+        topic: "130",
+        text: "130 BadShot
+
+The file is no snapshot: a field of it isn't whole or is out of its range, or
+bytes stand after its end. The place is the number of bytes before that field,
+or before the first byte too many.
+
+    $ echo 'seq main in(int x) out(int y) ${ y = x; }$ end seq' >a.p3l; p3l resume a.p3l </dev/null
+    evidence: 130 BadShot 0
+
+To mend it: `resume` takes what `p3l save --output` wrote. Copy the file again, as
+bytes, or save anew. `docs/FORMATS.md` has the fields.
+",
+    },
+    Page {
+        topic: "131",
+        text: "131 NotSound
+
+No run of the network in the snapshot can be in the state that the snapshot has:
+here two items were sent, and one token is all that is there of them.
+
+    $ echo 'seq main in(int x) out(int y) ${ y = x; }$ end seq' >a.p3l; echo 0 >picks
+    $ echo 5 | p3l save a.p3l --processors 4 --schedule file:picks --output a.shot
+    saved: items 1, picks 1
+    $ printf '\\2' | dd of=a.shot bs=1 seek=15 conv=notrunc status=none
+    $ p3l resume a.shot </dev/null
+    evidence: 131 NotSound
+
+To mend it: the snapshot was changed by hand or damaged. Save anew.
 ",
     },
 ];

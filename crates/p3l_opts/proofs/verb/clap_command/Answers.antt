@@ -61,3 +61,11 @@ returns-in-Time c = rw c.in-Time.is (IfOk-weaker c.command_with-in-Time.result _
 pub returns-in-Scan : goal.returns-in-Scan
 unfolding app_for
 returns-in-Scan c = rw c.in-Scan.is (IfOk-weaker c.command_with-in-Scan.result _ _ (λ r e. e) c.command_with-in-Scan.ensures)
+
+pub returns-in-Save : goal.returns-in-Save
+unfolding app_for
+returns-in-Save c = rw c.in-Save.is (IfOk-weaker c.command_with-in-Save.result _ _ (λ r e. e) c.command_with-in-Save.ensures)
+
+pub returns-in-Resume : goal.returns-in-Resume
+unfolding app_for
+returns-in-Resume c = rw c.in-Resume.is (IfOk-weaker c.command_with-in-Resume.result _ _ (λ r e. e) c.command_with-in-Resume.ensures)
