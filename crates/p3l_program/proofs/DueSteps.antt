@@ -16,11 +16,12 @@ use Rattle.p3l_program.specs.Origin.{Running}
 use Rattle.p3l_program.specs.Profile.{IsProfileDue}
 use Rattle.p3l_program.specs.Run.{IsRunDue, RunsOver}
 use Rattle.p3l_program.specs.Saved.{HasOneFailed, IsFileDue, IsSavingDue, KeepsBut, KeepsFiles, KeepsFirst}
+use Rattle.p3l_program.specs.SaveState.{IsSaveDue, SavesOver}
 use Rattle.p3l_program.specs.Stage.{Stage}
 use Rattle.p3l_program.specs.Text.{IsNothing, IsTextDue}
 use Rattle.p3l_program.specs.Time.{IsTimeDue, TimesOver}
 use Rattle.p3l_program.specs.Trace.{IsCheckDue}
-use Rattle.p3l_program.specs.Work.{Work, behavior, check_trace, profile_input, run_generated, run_in_time, run_network, save_file, write_text}
+use Rattle.p3l_program.specs.Work.{Work, behavior, check_trace, profile_input, run_generated, run_in_time, run_network, save_file, save_state, write_text}
 use Rattle.p3l_program.specs.World.{Change, IsStill, World, world}
 use Rattle.p3l_program.proofs.FirstSteps.{first_no_memory, unsaved_no_memory}
 use Rattle.p3l_program.proofs.SavedSteps.{kept_by}
@@ -70,6 +71,11 @@ module _ (words : List Text) (c : Command) (spelled : Spells words c) where
     pub time_asked : (build : Build) (name : Option (List ℕ)) → work_of c ≡ run_in_time build name → IsTimeDue (world files input out) build name v →
         KeepsFiles files (option_to_list name) v → (files.new ≡ files.old) ⊎ TimesOver (world files input out) build → IsDue words (world files input out) v
     time_asked build name is due kept over = of_work (world files input out) (run_in_time build name) v is due kept over
+
+    -- and one that runs a program to a checkpoint
+    pub save_asked : (build : Build) (picks output : List ℕ) → work_of c ≡ save_state build picks output → IsSaveDue (world files input out) build picks output v →
+        KeepsFiles files (output ∷ []) v → (files.new ≡ files.old) ⊎ SavesOver (world files input out) build picks → IsDue words (world files input out) v
+    save_asked build picks output is due kept over = of_work (world files input out) (save_state build picks output) v is due kept over
 
   -- those that let the input alone
   module _ (files : Change Held) (out : Change (List ℕ)) (rest : Option (List ℕ)) (faults : ℕ) (v : Verdict) where

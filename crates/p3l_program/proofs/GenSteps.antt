@@ -22,6 +22,7 @@ use Rattle.p3l_run.specs.Network.{Network, course_of, goes_on, meaning_of, picks
 use Rattle.p3l_run.specs.declared.keeping.Keeping.TheVariants as keep
 use Rattle.p3l_run.specs.declared.run.Ran.{Ran}
 use Rattle.p3l_run.specs.Run.{Finishes, finish_of}
+use Rattle.p3l_run.specs.Start.{IsWithin, fresh}
 use Rattle.p3l_run.specs.Sum.{sum_of}
 use Rattle.p3l_sched.specs.declared.schedule.Schedule.{Schedule}
 use Rattle.p3l_sched.specs.declared.schedule.Schedule.TheVariants as schedule
@@ -116,8 +117,8 @@ whole_is (ends.Stopped fired idle) h = absurd cc
 whole_is (ends.Trapped item kind home) h = absurd cc
 
 -- a run on a source that reports a text below the limit, and never fails, is one on all items of the text
-pub ran_on : (n : Network) (s : Schedule) (text : List ℕ) (rest left taken taken' : Option (List ℕ)) (ran : Ran) → rest ≡ Some text → length text < 2 ^ 36 → Finishes n s keep.Nothing rest left 0 0 taken taken' ran → IsRanOn n s text ran.finish ran.stats ran.sum
-ran_on n s text rest left taken taken' ran told short f =
+pub ran_on : (n : Network) → n.start ≡ fresh → (s : Schedule) (text : List ℕ) (rest left taken taken' : Option (List ℕ)) (ran : Ran) → rest ≡ Some text → length text < 2 ^ 36 → Finishes n s keep.Nothing rest left 0 0 taken taken' ran → IsRanOn n s text ran.finish ran.stats ran.sum
+ran_on n begins s text rest left taken taken' ran told short f =
     let to = seen_goes_on n text rest left 0 0 f.close f.stream f.items f.gives told (λ rose. absurd (omega arith)) in
     let all = sym (sym (seen_short (width_of n) text (omega arith)) ∙ to.seen) in
     let on = f.ran to.later to.may_come in
@@ -126,7 +127,7 @@ ran_on n s text rest left taken taken' ran told short f =
     record {
       ends = ends;
       stats_are = subst (λ (i : Items). ran.stats ≡ stats_of n (course_of n s i.items)) all on.stats_are;
-      bounded = on.bounded;
+      bounded = subst (λ start. IsWithin start n.firings ran.stats.fired ran.stats.items) begins on.bounded;
       stops = λ goes. subst (λ (i : Items). goes_on n (course_of n s i.items) ≡ true → s ≡ schedule.Recorded (picks_of n s i.items)) all on.stops goes;
       sum_is = f.summed ∙ ap sum_of emitted;
       whole = λ h.

@@ -20,14 +20,15 @@ use Rattle.p3l_load.specs.Load.{IsRunnable, Refuses, RefusesMigration, loaded_of
 use Rattle.p3l_report.specs.declared.evidence.Evidence.{Evidence}
 use Rattle.p3l_report.specs.declared.evidence.Evidence.TheVariants as evidence
 use Rattle.p3l_report.specs.declared.verdict.Refusal.TheVariants as refusal
+use Rattle.p3l_report.specs.declared.verdict.Verdict.{Verdict}
 use Rattle.p3l_report.specs.declared.verdict.Verdict.TheVariants as verdict
 use Rattle.p3l_run.specs.Network.{Network}
 use Rattle.p3l_program.specs.File.{HasText}
-use Rattle.p3l_program.specs.Image.{IsBroken, IsImage, IsMisspelled, IsUnfit, image_limit}
+use Rattle.p3l_program.specs.Image.{IsBroken, IsBrokenImage, IsImage, IsUnfit, image_limit}
 use Rattle.p3l_program.specs.Load.{IsNotLoaded, LoadsNetwork}
 use Rattle.p3l_program.specs.Migrate.{Migrates}
 use Rattle.p3l_program.specs.Origin.{imaged}
-use Rattle.p3l_program.specs.LoadImage.{IsReadyImage, LoadsImage, image_verdict, load_verdict}
+use Rattle.p3l_program.specs.LoadImage.{IsReadyImage, IsUndecoded, IsUnloadable, LoadsBytes, LoadsImage, image_verdict, load_verdict}
 use Rattle.p3l_program.specs.Plan.{IsImaged, network_in}
 use Rattle.p3l_program.specs.Stage.{AllPass, Stage, decoded, image_stages, migrate_stages, readable}
 use Rattle.p3l_program.specs.World.{Change, IsCalm}
@@ -41,45 +42,40 @@ unsafe_at (code ∷ codes) (suc number) unsafe safe = unsafe_at codes number uns
 first_unsafe : (codes : List Code) (number : ℕ) → IsFirstUnsafe codes number → All IsSafe codes → ⊥
 first_unsafe codes number first safe = unsafe_at codes number first.unsafe (recursion_from_All IsSafe codes safe)
 
-module _ (files : Change Held) (name bytes : List ℕ) (has : HasText files.old image_limit name bytes) (calm : IsCalm files) where
-  no_image : (more : List Stage) (e : Evidence) → IsMisspelled e bytes → ((i : Image) → IsImage i bytes → ⊥) →
-      IsNotLoaded files (readable image_limit name ∷ (decoded name ∷ more)) (verdict.Refused (refusal.Evidence e))
-  no_image more e is never = (inr ((bytes, has), inl (record { bytes = bytes; has = has; are = record { misspelled = is; never = never } })), calm)
+-- bytes that are refused spell no image
+pub undecoded : (bytes : List ℕ) (r : ImageRefusal) → ((i : Image) → IsImage i bytes → Answers bytes (Err r) (Ok i)) → Answers bytes (Err r) (image_in bytes) → IsUndecoded bytes (image_verdict r)
+undecoded bytes image.BadMagic only exact = record { misspelled = sym exact; never = λ i is. let z = only i is in absurd cc }
+undecoded bytes (image.Version version) only exact = record { misspelled = sym exact; never = λ i is. let z = only i is in absurd cc }
+undecoded bytes (image.Short place) only exact = record { misspelled = sym exact; never = λ i is. let z = only i is in absurd cc }
+undecoded bytes (image.BadField place) only exact = record { misspelled = sym exact; never = λ i is. let z = only i is in absurd cc }
+undecoded bytes (image.TrailingBytes place) only exact = record { misspelled = sym exact; never = λ i is. let z = only i is in absurd cc }
+undecoded bytes image.NoMemory only exact = tt
 
-  -- bytes that are refused spell no image, whatever stages come after
-  pub not_decoded : (more : List Stage) (r : ImageRefusal) → ((i : Image) → IsImage i bytes → Answers bytes (Err r) (Ok i)) → Answers bytes (Err r) (image_in bytes) →
-      IsNotLoaded files (readable image_limit name ∷ (decoded name ∷ more)) (image_verdict r)
-  not_decoded more image.BadMagic only exact = no_image more evidence.BadMagic (sym exact) (λ i is. let z = only i is in absurd cc)
-  not_decoded more (image.Version version) only exact = no_image more (evidence.Version version) (sym exact) (λ i is. let z = only i is in absurd cc)
-  not_decoded more (image.Short place) only exact = no_image more (evidence.Short place) (sym exact) (λ i is. let z = only i is in absurd cc)
-  not_decoded more (image.BadField place) only exact = no_image more (evidence.BadField place) (sym exact) (λ i is. let z = only i is in absurd cc)
-  not_decoded more (image.TrailingBytes place) only exact = no_image more (evidence.TrailingBytes place) (sym exact) (λ i is. let z = only i is in absurd cc)
-  not_decoded more image.NoMemory only exact = calm
+-- so they load none
+pub unloadable : (bytes : List ℕ) (v : Verdict) → IsUndecoded bytes v → IsUnloadable bytes v
+unloadable bytes (verdict.Refused (refusal.Evidence e)) h = inl h
+unloadable bytes verdict.NoMemory h = tt
+unloadable bytes v h = absurd h
+
+module _ (bytes : List ℕ) (i : Image) (is : IsImage i bytes) (only : (other : Image) → IsImage other bytes → other ≡ i) where
+  broken : (e : Evidence) → IsBroken e i → (IsRunnable i → ⊥) → IsBrokenImage e bytes
+  broken e why never = record { i = i; is = is; broken = why; never = λ other runs. never (subst (λ o. IsRunnable o) (only other runs.is) runs.runs) }
+
+  -- an image that is refused can't be run
+  pub unrunnable : (r : LoadRefusal) → Refuses i r → IsUnloadable bytes (load_verdict r)
+  unrunnable load.TreeWrong h = inr (broken evidence.TreeWrong h (λ runs. h runs.whole))
+  unrunnable (load.CodeUnsafe number) h = inr (broken (evidence.CodeUnsafe number) h (λ runs. first_unsafe i.codes number h.1 runs.safe))
+  unrunnable load.NotLinked h = inr (broken evidence.NotLinked h (λ runs. h.2 runs.linked))
+  unrunnable load.NoMemory h = tt
+
+module _ (files : Change Held) (name bytes : List ℕ) (has : HasText files.old image_limit name bytes) (calm : IsCalm files) where
+  -- bytes that are no image stop the stages of an image, whatever stages come after
+  pub not_decoded : (more : List Stage) (v : Verdict) → IsUndecoded bytes v → IsNotLoaded files (readable image_limit name ∷ (decoded name ∷ more)) v
+  not_decoded more (verdict.Refused (refusal.Evidence e)) h = (inr ((bytes, has), inl (record { bytes = bytes; has = has; are = h })), calm)
+  not_decoded more verdict.NoMemory h = calm
+  not_decoded more v h = absurd h
 
   module _ (i : Image) (is : IsImage i bytes) (only : (other : Image) → IsImage other bytes → other ≡ i) where
-    broken : (e : Evidence) → IsBroken e i → (IsRunnable i → ⊥) → IsNotLoaded files (image_stages name) (verdict.Refused (refusal.Evidence e))
-    broken e why never = (
-      inr (
-        (bytes, has),
-        inr (
-          (i, record { bytes = bytes; has = has; are = is }),
-          inl (record {
-            bytes = bytes;
-            has = has;
-            are = record { i = i; is = is; broken = why; never = λ other runs. never (subst (λ o. IsRunnable o) (only other runs.is) runs.runs) };
-          }),
-        ),
-      ),
-      calm,
-    )
-
-    -- an image that is refused can't be run
-    pub not_run : (r : LoadRefusal) → Refuses i r → IsNotLoaded files (image_stages name) (load_verdict r)
-    not_run load.TreeWrong h = broken evidence.TreeWrong h (λ runs. h runs.whole)
-    not_run (load.CodeUnsafe number) h = broken (evidence.CodeUnsafe number) h (λ runs. first_unsafe i.codes number h.1 runs.safe)
-    not_run load.NotLinked h = broken evidence.NotLinked h (λ runs. h.2 runs.linked)
-    not_run load.NoMemory h = calm
-
     unfit : (e : Evidence) → IsUnfit e i → (IsRunnable (migrated_of i) → ⊥) → IsNotLoaded files (migrate_stages name) (verdict.Refused (refusal.Evidence e))
     unfit e why never = (
       inr (
@@ -118,34 +114,35 @@ migrate_passes files name migrated m = (
 pub same_image : (bytes : List ℕ) (i : Image) → ((other : Image) → IsImage other bytes → Answers bytes (Ok i) (Ok other)) → (other : Image) → IsImage other bytes → other ≡ i
 same_image bytes i only other is = let z = only other is in cc
 
-module _ (name : List ℕ) (loaded : Loaded) where
-  module _ (files : Option Held) (loads : LoadsImage files name loaded) where
-    -- what was loaded can be run
-    pub ready : IsReadyImage loaded
-    ready =
-        let runs = loads.runs.runs in
-        let here : IsReadyImage (loaded_of loads.i) = record { lawful = runs.whole.lawful; fit = runs.whole.counted; codes = runs.whole.coded.words; net_is = runs.linked; typed = runs.typed; room = loads.room } in
-        subst IsReadyImage (sym loads.loaded_is) here
+-- what was loaded can be run
+pub ready : (bytes : List ℕ) (loaded : Loaded) → LoadsBytes bytes loaded → IsReadyImage loaded
+ready bytes loaded loads =
+    let runs = loads.runs.runs in
+    let here : IsReadyImage (loaded_of loads.i) = record { lawful = runs.whole.lawful; fit = runs.whole.counted; codes = runs.whole.coded.words; net_is = runs.linked; typed = runs.typed; room = loads.room } in
+    subst IsReadyImage (sym loads.loaded_is) here
 
+module _ (name : List ℕ) (loaded : Loaded) where
+  module _ (files : Option Held) (image : LoadsImage files name loaded) where
     -- its network is the one that is requested
-    is_imaged : IsImaged (record { text = loads.bytes; said = None }) (network_in loaded)
-    is_imaged = record { i = loads.i; runs = loads.runs; network_is = ap network_in loads.loaded_is }
+    is_imaged : IsImaged (record { text = image.bytes; said = None }) (network_in loaded)
+    is_imaged = record { i = image.loads.i; runs = image.loads.runs; network_is = ap network_in image.loads.loaded_is }
 
     -- and the only one
-    only_imaged : (other : Network) → IsImaged (record { text = loads.bytes; said = None }) other → other ≡ network_in loaded
-    only_imaged other o = o.network_is ∙ ap (λ i. network_in (loaded_of i)) (loads.only o.i o.runs.is) ∙ ap network_in (sym loads.loaded_is)
+    only_imaged : (other : Network) → IsImaged (record { text = image.bytes; said = None }) other → other ≡ network_in loaded
+    only_imaged other o = o.network_is ∙ ap (λ i. network_in (loaded_of i)) (image.loads.only o.i o.runs.is) ∙ ap network_in (sym image.loads.loaded_is)
 
   -- and all stages of the image pass
   image_passes : (files : Change Held) → LoadsImage files.old name loaded → AllPass files (image_stages name)
-  image_passes files loads =
-      ((loads.bytes, loads.has), ((loads.i, record { bytes = loads.bytes; has = loads.has; are = loads.runs.is }), ((loads.i, record { bytes = loads.bytes; has = loads.has; are = loads.runs }), tt)))
+  image_passes files image =
+      let loads = image.loads in
+      ((image.bytes, image.has), ((loads.i, record { bytes = image.bytes; has = image.has; are = loads.runs.is }), ((loads.i, record { bytes = image.bytes; has = image.has; are = loads.runs }), tt)))
 
   -- so the network of the image was loaded
   pub image_network : (files : Option Held) → LoadsImage files name loaded → LoadsNetwork files (imaged name) (network_in loaded)
-  image_network files loads = record {
-    texts = record { text = loads.bytes; said = None };
-    have = (loads.has, refl);
-    is = is_imaged files loads;
-    only = only_imaged files loads;
-    passed = λ change told. image_passes change (subst (λ f. LoadsImage f name loaded) (sym told) loads);
+  image_network files image = record {
+    texts = record { text = image.bytes; said = None };
+    have = (image.has, refl);
+    is = is_imaged files image;
+    only = only_imaged files image;
+    passed = λ change told. image_passes change (subst (λ f. LoadsImage f name loaded) (sym told) image);
   }

@@ -9,6 +9,7 @@ mod TreeSteps
 mod LoadSteps
 mod RewriteSteps
 mod ImageSteps
+mod SnapshotSteps
 mod CompileSteps
 mod OnceSteps
 mod CertSteps
@@ -16,14 +17,19 @@ mod PickSteps
 mod RunSteps
 mod RecordSteps
 mod TimeSteps
+mod ImagedSteps
 mod AlikeSteps
 mod SoundSteps
+mod ResumeSteps
 mod ScanSteps
 mod SeenSteps
 mod TraceSteps
+mod SaveStateSteps
 mod ProfileSteps
 mod RecheckSteps
 mod ReplaySteps
+mod RestoredSteps
+mod UnbrokenSteps
 mod GenSteps
 mod EndSteps
 mod Lawful
@@ -32,6 +38,7 @@ mod RunLaws
 mod TraceLaws
 mod ProfileLaws
 mod TimeLaws
+mod SaveStateLaws
 mod GenLaws
 mod WorkLaws
 mod FirstSteps

@@ -5,8 +5,8 @@ use Rattle.p3l_skel.specs.declared.tree.Tree.{Tree}
 use Rattle.p3l_firing.specs.declared.net.Net.{Net}
 use Rattle.p3l_io.specs.Told.{Held}
 use Rattle.p3l_net.specs.Run.{Course, after_picks, course_from, picked}
-use Rattle.p3l_net.specs.State.{first_state}
-use Rattle.p3l_run.specs.Network.{Network, width_of}
+use Rattle.p3l_net.specs.State.{State}
+use Rattle.p3l_run.specs.Network.{Network, begun_with, width_of}
 use Rattle.p3l_stream.specs.declared.items.Items.{Items}
 use Rattle.p3l_trace.specs.declared.trace.TraceLine.{TraceLine}
 use Rattle.p3l_trace.specs.declared.trace.Traced.{Traced}
@@ -28,9 +28,9 @@ agrees_at tree leaf net c [] line after agree = agree.0
 agrees_at tree leaf net c (first ∷ front) line after agree = agrees_at tree leaf net (picked tree leaf net c first.pick) front line after agree.1
 
 -- a trace that agrees has no line that differs
-never_differs : (tree : Tree) (leaf : ℕ → List ℤ → Outcome) (net : Net) (items : List (List ℤ)) (t : Traced) (line : ℕ) → Agrees tree leaf net items t → DiffersAt tree leaf net items t line → ⊥
-never_differs tree leaf net items t line agrees (inl d) = d.other (agrees_at tree leaf net (course_from (first_state net items)) d.front d.line d.after (subst (λ lines. AllAgree tree leaf net items lines) d.lines_are agrees.lines))
-never_differs tree leaf net items t line agrees (inr d) = d.other agrees.counts
+never_differs : (tree : Tree) (leaf : ℕ → List ℤ → Outcome) (net : Net) (s : State) (t : Traced) (line : ℕ) → Agrees tree leaf net s t → DiffersAt tree leaf net s t line → ⊥
+never_differs tree leaf net s t line agrees (inl d) = d.other (agrees_at tree leaf net (course_from s) d.front d.line d.after (subst (λ lines. AllAgree tree leaf net s lines) d.lines_are agrees.lines))
+never_differs tree leaf net s t line agrees (inr d) = d.other agrees.counts
 
 abbrev pub BeginsNoOtherTrace : Type 0
 BeginsNoOtherTrace = (v w : Traced) (more : List ℕ) → trace_format.fits v ≡ true → trace_format.fits w ≡ true → trace_format.spell v ++ more ≡ trace_format.spell w → (v ≡ w) × (more ≡ [])
@@ -46,16 +46,16 @@ same_trace begins files name t other fits stands has =
     let same = sym has.spelled ∙ stands_once files name (trace_format.spell t) has.text stands has.has in
     (begins other t [] has.fits fits (append-nil (trace_format.spell other) ∙ same)).0
 
-not_evidence : (n : Network) (t : Traced) (seen : Items) (k : ℕ) → Agrees n.tree n.leaf n.net seen.items t → IsCheckStatus n t seen k → k ≡ agreed_status n t seen
-not_evidence n t seen k agrees (inl d) = absurd (never_differs n.tree n.leaf n.net seen.items t d.1.0 agrees d.1.1)
+not_evidence : (n : Network) (t : Traced) (seen : Items) (k : ℕ) → Agrees n.tree n.leaf n.net (begun_with n seen.items) t → IsCheckStatus n t seen k → k ≡ agreed_status n t seen
+not_evidence n t seen k agrees (inl d) = absurd (never_differs n.tree n.leaf n.net (begun_with n seen.items) t d.1.0 agrees d.1.1)
 not_evidence n t seen k agrees (inr h) = h.0
 
 pub accepted : BeginsNoOtherTrace → EveryRecordIsAccepted
 accepted begins w after origin asked name reported finish stats rest build k e told calm still is =
     let f = e.finishes in
     let to = seen_goes_on e.n rest w.input.old w.input.new w.input.before w.input.now f.close f.stream f.items f.gives told calm in
-    let agrees : Agrees e.n.tree e.n.leaf e.n.net (seen_of (width_of e.n) rest).items e.recorded.t =
-    subst (λ (i : Items). Agrees e.n.tree e.n.leaf e.n.net i.items e.recorded.t) (sym to.seen) (e.recorded.is to.later to.may_come).agrees in
+    let agrees : Agrees e.n.tree e.n.leaf e.n.net (begun_with e.n (seen_of (width_of e.n) rest).items) e.recorded.t =
+    subst (λ (i : Items). Agrees e.n.tree e.n.leaf e.n.net (begun_with e.n i.items) e.recorded.t) (sym to.seen) (e.recorded.is to.later to.may_come).agrees in
     let trace : is.t ≡ e.recorded.t = same_trace begins after.files.old name e.recorded.t is.t e.recorded.fits still.stands is.has.trace in
     let here : IsCheckStatus is.n e.recorded.t (seen_of (width_of is.n) rest) k = subst (λ t. IsCheckStatus is.n t (seen_of (width_of is.n) rest) k) trace is.status_is in
     let same : IsCheckStatus e.n e.recorded.t (seen_of (width_of e.n) rest) k = subst (λ m. IsCheckStatus m e.recorded.t (seen_of (width_of m) rest) k) (still.network is.n is.has.network) here in

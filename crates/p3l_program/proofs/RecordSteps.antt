@@ -12,7 +12,10 @@ use Rattle.p3l_run.specs.declared.keeping.Keeping.{Keeping}
 use Rattle.p3l_run.specs.declared.keeping.Keeping.TheVariants as keep
 use Rattle.p3l_run.specs.declared.run.Ran.{Ran}
 use Rattle.p3l_run.specs.Network.{Network, size_of}
-use Rattle.p3l_run.specs.Run.{Finishes}
+use Rattle.p3l_run.specs.Run.{Finishes, Starts}
+use Rattle.p3l_run.specs.Write.{WriteCause}
+use Rattle.p3l_run.specs.declared.fault.RunFault.{RunFault}
+use Rattle.p3l_run.specs.declared.fault.RunFault.TheVariants as fault
 use Rattle.p3l_sched.specs.declared.schedule.Schedule.{Schedule}
 use Rattle.p3l_trace.specs.declared.trace.TraceLine.{TraceLine}
 use Rattle.p3l_trace.specs.Text.{trace_format}
@@ -20,6 +23,7 @@ use Rattle.p3l_program.specs.Recorded.{IsRecordOn, IsRecording, traced_by}
 use Rattle.p3l_program.specs.Run.{IsClosed, IsRunOf, IsRunOver, KeepsRun, keeping_for}
 use Rattle.p3l_program.specs.Saved.{HasSave}
 use Rattle.p3l_program.specs.Scheduled.{HasSchedule}
+use Rattle.p3l_program.specs.Verdict.{fault_verdict}
 use Rattle.p3l_program.specs.World.{Change, IsCalm}
 use Rattle.p3l_program.proofs.RunSteps.{finishes_starts}
 use Rattle.p3l_program.proofs.SavedSteps.{kept_by}
@@ -39,6 +43,12 @@ closed_err files ran trace reported (verdict.Ended finish stats) h = absurd (by 
     by (Some name) (Some lines) h = h.0.by
     by (Some name) None h = (let z = h.0 in cc)
     by None lines h = (let z = h.0 in cc)
+
+-- a run that ended early
+pub early_run : (n : Network) (s : Schedule) (files : Change Held) (input out : Change (List ℕ)) (asked : Sched) (trace : Option (List ℕ)) (reported : Bool) → HasSchedule files.old (size_of n) asked s → IsCalm files → (failed : RunFault) →
+    Starts n s input.old input.new input.before input.now out.old out.new → WriteCause {T = Ran} out.before out.now (Err failed) → IsRunOf n files input out asked trace reported (fault_verdict failed)
+early_run n s files input out asked trace reported schedule calm fault.Write starts cause = inl (record { s = s; schedule = schedule; starts = starts; files_calm = calm }, cause)
+early_run n s files input out asked trace reported schedule calm fault.NoMemory starts cause = inr (record { s = s; schedule = schedule; starts = starts; files_calm = calm })
 
 module _ (n : Network) (s : Schedule) (files : Change Held) (input out : Change (List ℕ)) (asked : Sched) (ran : Ran) (schedule : HasSchedule files.old (size_of n) asked s) (calm : IsCalm out) where
   abbrev Ends : Keeping → Type 0

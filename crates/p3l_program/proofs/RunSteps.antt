@@ -70,7 +70,7 @@ module _ (files : Change Held) (input out : Change (List ℕ)) (origin : Origin)
   schedule_passes (sched.Seeded seed) s h = tt
   schedule_passes (sched.File name) s h = ((h.text, h.has), ((n, s, has, h), tt))
 
-  all_passes : (asked : Sched) (s : Schedule) → HasSchedule files.old (size_of n) asked s → AllPass files (run_stages origin asked)
+  pub all_passes : (asked : Sched) (s : Schedule) → HasSchedule files.old (size_of n) asked s → AllPass files (run_stages origin asked)
   all_passes asked s h = passed_both files (origin_stages origin) (schedule_stages origin asked) passed (schedule_passes asked s h)
 
   runs_over : (asked : Sched) → IsRunOver n files input out asked → RunsOver (world files input out) origin asked
@@ -105,7 +105,7 @@ module _ (files : Change Held) (input out : Change (List ℕ)) (origin : Origin)
   files_cause (refusal.NoSuchProcess line pick count) name h = h.calm
   files_cause r name h = absurd h.bad
 
-  refused_by : (asked : Sched) (r : Refusal) → IsUnasked files (size_of n) asked (verdict.Refused r) → IsRefusedBy files (run_stages origin asked) r × FilesCause r files
+  pub refused_by : (asked : Sched) (r : Refusal) → IsUnasked files (size_of n) asked (verdict.Refused r) → IsRefusedBy files (run_stages origin asked) r × FilesCause r files
   refused_by sched.RoundRobin r h = absurd h
   refused_by (sched.Seeded seed) r h = absurd h
   refused_by (sched.File name) r (inl h) = (refused_after files (origin_stages origin) (schedule_stages origin (sched.File name)) r passed (inl h.0), h.1)

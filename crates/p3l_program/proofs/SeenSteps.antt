@@ -16,6 +16,7 @@ use Rattle.p3l_run.specs.Feed.{Gives, closed_so, input_limit}
 use Rattle.p3l_net.specs.Run.{Course}
 use Rattle.p3l_run.specs.Network.{Network, course_of, goes_on, picks_of, width_of}
 use Rattle.p3l_run.specs.Run.{Finishes, MayCome, MayEnd, end_of, finish_of}
+use Rattle.p3l_run.specs.Start.{item_number}
 use Rattle.p3l_run.specs.Trap.{trap_of}
 use Rattle.p3l_base.specs.declared.outcome.Trap.{Trap}
 use Rattle.p3l_sched.specs.declared.schedule.Schedule.{Schedule}
@@ -181,7 +182,7 @@ ending_unstopped ending.TooLong h = absurd (omega arith)
 pub stopped_goes : (n : Network) (c : Course) (close : Ending) (f : RunEnd) → f ≡ finish_of n c close → finish_status (run_finish f) ≡ status.stopped → goes_on n c ≡ true
 stopped_goes n c close f is h = by (goes_on n c) (trap_of c.state.emitted) refl (sym (ap (λ k. finish_status (run_finish k)) is) ∙ h)
   where
-    by : (b : Bool) (trap : Option Trap) → goes_on n c ≡ b → finish_status (run_finish (cond b (finish.Stopped c.fired c.idle) (end_of n.named trap (length c.state.emitted) close))) ≡ status.stopped → goes_on n c ≡ true
+    by : (b : Bool) (trap : Option Trap) → goes_on n c ≡ b → finish_status (run_finish (cond b (finish.Stopped c.fired c.idle) (end_of n.named trap (item_number n.start (length c.state.emitted)) close))) ≡ status.stopped → goes_on n c ≡ true
     by true trap goes k = goes
     by false None goes k = absurd (ending_unstopped close k)
     by false (Some t) goes k = absurd (omega arith)
@@ -220,13 +221,13 @@ still_of n c e close f stream is = by (goes_on n c) refl
   where
     by : (b : Bool) → goes_on n c ≡ b → goes_on n c ≡ false
     by false h = h
-    by true h = absurd (let z : finish_of n c e ≡ finish.Stopped c.fired c.idle = ap (λ b. cond b (finish.Stopped c.fired c.idle) (end_of n.named (trap_of c.state.emitted) (length c.state.emitted) e)) h in let y = sym stream ∙ is ∙ z in cc)
+    by true h = absurd (let z : finish_of n c e ≡ finish.Stopped c.fired c.idle = ap (λ b. cond b (finish.Stopped c.fired c.idle) (end_of n.named (trap_of c.state.emitted) (item_number n.start (length c.state.emitted)) e)) h in let y = sym stream ∙ is ∙ z in cc)
 
 -- and its stream ended so
 pub stream_end : (n : Network) (c : Course) (close e : Ending) (f : RunEnd) → f ≡ finish_of n c close → f ≡ finish.Stream e → close ≡ e
 stream_end n c close e f is stream = by (goes_on n c) (trap_of c.state.emitted) (sym is ∙ stream)
   where
-    by : (b : Bool) (trap : Option Trap) → cond b (finish.Stopped c.fired c.idle) (end_of n.named trap (length c.state.emitted) close) ≡ finish.Stream e → close ≡ e
+    by : (b : Bool) (trap : Option Trap) → cond b (finish.Stopped c.fired c.idle) (end_of n.named trap (item_number n.start (length c.state.emitted)) close) ≡ finish.Stream e → close ≡ e
     by true trap h = absurd cc
     by false None h = cc
     by false (Some t) h = absurd cc

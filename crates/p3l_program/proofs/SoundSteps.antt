@@ -31,7 +31,7 @@ sound carried tree leaf counts capacity net bound lawful fit room gives linked t
     let carry = root_carry (record { tree = tree; leaf = leaf }) counts in
     let whole = carried (record { tree = tree; leaf = leaf }) counts capacity (record { lawful = lawful; fit = fit; room = omega arith; gives = gives }) in
     let here = subst (λ w. IsCarried tree leaf w (firings tree counts) carry) (sym linked) whole in
-    record { typed = typed; carried = (carry, subst (λ n. IsCarried tree leaf net n carry) (sym bound_is) here) }
+    record { typed = typed; carried = (carry, subst (λ n. IsCarried tree leaf net n carry) (sym bound_is) here); begins = tt }
 
 -- what was loaded is run on its codes by a sound network, which is the one that was loaded
 module _ (loaded : LoadedImage) (ready : IsReadyImage loaded) (units : Served) (units_are : units ≡ record { tree = loaded.tree; codes = loaded.codes }) (bound : ℕ) (bound_is : bound ≡ firings loaded.tree loaded.counts.list) where

@@ -21,6 +21,8 @@ use Rattle.p3l_scan.specs.Plan.{IsReduce, IsScannable}
 use Rattle.p3l_scan.specs.Planned.{IsUnscannable}
 use Rattle.p3l_skel.specs.declared.tree.Tree.{Tree}
 use Rattle.std.specs.declared.result.Result.TheVariants.{Ok}
+use Rattle.p3l_resume.specs.declared.saved.Saved.{Saved}
+use Rattle.p3l_resume.specs.Saved.{IsSpelling}
 use Rattle.p3l_run.specs.Network.{Network, size_of}
 use Rattle.p3l_sched.specs.declared.refusal.PickRefusal.{PickRefusal}
 use Rattle.p3l_sched.specs.declared.refusal.PickRefusal.TheVariants as picks
@@ -32,9 +34,10 @@ use Rattle.p3l_program.specs.Plan.{HasCostText, HasCosts, HasCounts, HasNetwork,
 use Rattle.p3l_program.specs.Certified.{HasCert, HasNoCert, IsCertified}
 use Rattle.p3l_program.specs.File.{HasFault, HasProgram, HasText, Holds, IsTooLong}
 use Rattle.p3l_program.specs.Image.{HasBytes, IsBrokenImage, IsImage, IsMigratable, IsNoImage, IsRunnableImage, IsUnmigratable}
-use Rattle.p3l_program.specs.Origin.{Origin, built, imaged, scanned}
+use Rattle.p3l_program.specs.Origin.{Origin, built, continued, imaged, scanned}
 use Rattle.p3l_program.specs.Scheduled.{HasNoPicks, HasPicks}
-use Rattle.p3l_program.specs.Stage.{AllPass, IsRefusedBy, Passes, Refuses, Stage, certified, fitting, priced, readable, resolved, scheduled, spelled, text_fitting, text_kept, text_priced, decoded, loaded, migratable, traced, scannable}
+use Rattle.p3l_program.specs.Snapshot.{HasSnapshot, IsNoSnapshot, IsResumable, IsUnsound, SpellsBrokenImage, SpellsNoImage, SpellsWith}
+use Rattle.p3l_program.specs.Stage.{AllPass, IsRefusedBy, Passes, Refuses, Stage, certified, fitting, priced, readable, resolved, scheduled, spelled, text_fitting, text_kept, text_priced, decoded, loaded, migratable, traced, scannable, saved, saved_decoded, saved_loaded, resumable}
 use Rattle.p3l_program.specs.TraceFile.{HasNoTrace, HasTrace}
 use Rattle.p3l_program.specs.World.{Change, HasRisen}
 
@@ -134,6 +137,24 @@ module _ (files : Option Held) (held : Held) (told : files ≡ Some held) where
       ap (λ t. texts_with t texts.said) (same_text name others.text texts.text b.0.holds a.0.holds) ∙ ap (λ s. texts_with others.text s) (a.1 ∙ sym b.1)
   same_texts (scanned name segments capacity) texts others a b =
       ap (λ t. texts_with t texts.said) (same_text name others.text texts.text b.0.holds a.0.holds) ∙ ap (λ s. texts_with others.text s) (a.1 ∙ sym b.1)
+  same_texts (continued name) texts others a b =
+      ap (λ t. texts_with t texts.said) (same_text name others.text texts.text b.0.holds a.0.holds) ∙ ap (λ s. texts_with others.text s) (a.1 ∙ sym b.1)
+
+  -- bytes that spell a snapshot are not refused as none
+  saved_once : (name : List ℕ) (shot : Saved) (e : Evidence) → HasSnapshot files name (IsSpelling shot) → HasSnapshot files name (IsNoSnapshot e) → ⊥
+  saved_once name shot e has none = none.are.never shot (subst (λ b. IsSpelling shot b) (same_text name none.bytes has.bytes none.has.holds has.has.holds) has.are)
+
+  -- nor are those of an image that it has
+  saved_decoded_once : (name : List ℕ) (i : Image) (e : Evidence) → HasSnapshot files name (SpellsWith (IsImage i)) → HasSnapshot files name (SpellsNoImage e) → ⊥
+  saved_decoded_once name i e has none = none.are.never i (subst (λ b. SpellsWith (IsImage i) b) (same_text name none.bytes has.bytes none.has.holds has.has.holds) has.are)
+
+  -- nor those of one that can be run as one that can't
+  saved_loaded_once : (name : List ℕ) (i : Image) (e : Evidence) → HasSnapshot files name (SpellsWith (IsRunnableImage i)) → HasSnapshot files name (SpellsBrokenImage e) → ⊥
+  saved_loaded_once name i e has none = none.are.never i (subst (λ b. SpellsWith (IsRunnableImage i) b) (same_text name none.bytes has.bytes none.has.holds has.has.holds) has.are)
+
+  -- nor is what was saved, where a run can be in that state
+  resumable_once : (name : List ℕ) (i : Image) (shot : Saved) → HasSnapshot files name (IsResumable i shot) → HasSnapshot files name IsUnsound → ⊥
+  resumable_once name i shot has none = none.are.never i shot (subst (λ b. IsResumable i shot b) (same_text name none.bytes has.bytes none.has.holds has.has.holds) has.are)
 
   -- a program that can be scanned is not refused
   scanned_once : (name : List ℕ) (segments : ℕ) (r : ResolvedTree) (fault : ScanFault) → HasScan files name segments r → HasNoScan files name segments fault → ⊥
@@ -182,6 +203,10 @@ module _ (files : Change Held) (held : Held) (told : files.old ≡ Some held) (c
   passed_stage (text_priced text said) (refusal.Costs fault) p h = h.never p.0 p.1 p.2
   passed_stage (text_fitting text said processors) (refusal.TooFew need) p h = h.never p.0 p.1 p.2 p.3
   passed_stage (scannable name segments) (refusal.Scan fault) p h = scanned_once files.old held told name segments p.0 fault p.1 h
+  passed_stage (saved name) (refusal.Evidence shown) p h = saved_once files.old held told name p.0 shown p.1 h
+  passed_stage (saved_decoded name) (refusal.Evidence shown) p h = saved_decoded_once files.old held told name p.0 shown p.1 h
+  passed_stage (saved_loaded name) (refusal.Evidence shown) p h = saved_loaded_once files.old held told name p.0 shown p.1 h
+  passed_stage (resumable name) (refusal.Evidence evidence.NotSound) p h = resumable_once files.old held told name p.0 p.1 p.2 h
   passed_stage stage r p h = absurd h
 
   -- a stage refuses with one status
@@ -206,6 +231,10 @@ module _ (files : Change Held) (held : Held) (told : files.old ≡ Some held) (c
   refused_stage (text_priced text said) (refusal.Costs fault) (refusal.Costs other) h k = refl
   refused_stage (text_fitting text said processors) (refusal.TooFew need) (refusal.TooFew other) h k = refl
   refused_stage (scannable name segments) (refusal.Scan fault) (refusal.Scan other) h k = refl
+  refused_stage (saved name) (refusal.Evidence shown) (refusal.Evidence other) h k = refl
+  refused_stage (saved_decoded name) (refusal.Evidence shown) (refusal.Evidence other) h k = refl
+  refused_stage (saved_loaded name) (refusal.Evidence shown) (refusal.Evidence other) h k = refl
+  refused_stage (resumable name) (refusal.Evidence evidence.NotSound) (refusal.Evidence evidence.NotSound) h k = refl
   refused_stage stage r other h k = absurd (search (h, k))
 
   -- where all stages pass none refuses

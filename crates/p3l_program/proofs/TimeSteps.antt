@@ -10,6 +10,7 @@ use Rattle.p3l_skel.specs.declared.tree.Tree.{Tree}
 use Rattle.p3l_firing.specs.declared.net.Net.{Net}
 use Rattle.p3l_cost.specs.declared.costs.Costs.{Costs}
 use Rattle.p3l_firing.specs.Fire.{can_fire}
+use Rattle.p3l_net.specs.Run.{after_picks, course_from, run}
 use Rattle.p3l_io.specs.Told.{Held}
 use Rattle.p3l_opts.specs.declared.command.Build.{Build}
 use Rattle.p3l_report.specs.declared.stats.Stats.{Stats}
@@ -24,6 +25,7 @@ use Rattle.p3l_run.specs.declared.fault.RunFault.TheVariants as fault
 use Rattle.p3l_run.specs.Execution.{Job, Outside, outside}
 use Rattle.p3l_run.specs.Network.{Network, course_of, course_under, goes_on, is_some, size_of}
 use Rattle.p3l_run.specs.Run.{MayCome}
+use Rattle.p3l_run.specs.Start.{fresh, state_from}
 use Rattle.p3l_run.specs.Timed.{EndsEarly, EndsInTime, timed_job}
 use Rattle.p3l_run.proofs.RunSteps.{may_come, nothing_comes}
 use Rattle.p3l_sched.specs.declared.schedule.Schedule.TheVariants as schedule
@@ -78,14 +80,15 @@ module _ (n : Network) (prices : List ℕ) (input out : Change (List ℕ)) where
   job keeping = timed_job n keeping before
 
   -- to its end
-  module _ (few : size_of n ≤ 1048576) (run_law : EveryTimedRunIsARun) (within_law : EveryFinishIsWithinBusy) (keeping : Keeping) (ran : Ran) (k : Clock) (e : EndsInTime (job keeping) prices after ran k) where
+  module _ (few : size_of n ≤ 1048576) (begins : n.start ≡ fresh) (run_law : EveryTimedRunIsARun) (within_law : EveryFinishIsWithinBusy) (keeping : Keeping) (ran : Ran) (k : Clock) (e : EndsInTime (job keeping) prices after ran k) where
     over_at : (later : List (List ℤ)) → MayCome n e.ends.ends.close later → goes_on n (course_of n (schedule.Recorded e.picks) (e.ends.ends.items ++ later)) ≡ false
     unfolding course_of
     over_at later may =
         let items = e.ends.ends.items ++ later in
-        let run = run_law n.tree n.leaf n.net (price_at prices) items e.picks (e.timed later may) in
+        let timed = run_law n.tree n.leaf n.net (price_at prices) items e.picks (e.timed later may) in
         ap (λ ps. goes_on n (course_under n items ps)) (e.made later may)
-        ∙ ap is_some (none_goes (can_fire n.tree n.net (course_under n items e.picks).state) run.stuck (range_with_len 0 (size_of n)))
+        ∙ ap (λ start. goes_on n (after_picks n.tree n.leaf n.net (course_from (state_from start n.tree n.net items)) e.picks)) begins
+        ∙ ap is_some (none_goes (can_fire n.tree n.net (run n.tree n.leaf n.net items e.picks).state) timed.stuck (range_with_len 0 (size_of n)))
 
     pub runs_in_time : RunsInTime n prices input out keeping e.picks ran
     runs_in_time = record {
@@ -107,14 +110,14 @@ module _ (n : Network) (prices : List ℕ) (input out : Change (List ℕ)) where
     picks_are : lines.picks_of e.ends.ends.lines ≡ e.picks
     picks_are = (e.ends.ends.traced [] (nothing_comes n e.ends.ends.close)).picks ∙ e.made [] (nothing_comes n e.ends.ends.close)
 
-  module _ (few : size_of n ≤ 1048576) (run_law : EveryTimedRunIsARun) (within_law : EveryFinishIsWithinBusy) (files : Change Held) (size : length prices ≡ size_of n) (ran : Ran) (k : Clock) where
+  module _ (few : size_of n ≤ 1048576) (begins : n.start ≡ fresh) (run_law : EveryTimedRunIsARun) (within_law : EveryFinishIsWithinBusy) (files : Change Held) (size : length prices ≡ size_of n) (ran : Ran) (k : Clock) where
     saved_so : (name : List ℕ) (e : EndsInTime (job keep.Lines) prices after ran k) (result : Result (Unit {0}) Verdict) → IsPicking files (Some name) ran.lines result → HasSave files name (picks_text e.picks) result
     saved_so name e result h =
-        subst (λ ps. HasSave files name (picks_text ps) result) (picks_are few run_law within_law keep.Lines ran k e)
+        subst (λ ps. HasSave files name (picks_text ps) result) (picks_are few begins run_law within_law keep.Lines ran k e)
         (subst (λ l. IsPicking files (Some name) l result) e.ends.ends.kept h)
 
     busy_same : (keeping : Keeping) (e : EndsInTime (job keeping) prices after ran k) (told : Option Stats) → AreTold ran.stats k told
-        → AreTimes n prices input out keeping e.picks ran (runs_in_time few run_law within_law keeping ran k e) told
+        → AreTimes n prices input out keeping e.picks ran (runs_in_time few begins run_law within_law keeping ran k e) told
     unfolding runs_in_time
     busy_same keeping e told t = record {
       moment = k.moment;
@@ -130,26 +133,26 @@ module _ (n : Network) (prices : List ℕ) (input out : Change (List ℕ)) where
 
     pub closed_time : (name : Option (List ℕ)) (e : EndsInTime (job (keeping_for name)) prices after ran k) (v : Verdict) → IsCalm out → IsTimeClosed files ran k name v → IsTimeOf n prices files input out name v
     closed_time None e (verdict.Ended finish told) calm h =
-        (record { picks = e.picks; ran = ran; runs = runs_in_time few run_law within_law keep.Nothing ran k e; finish_is = h.0; numbers = busy_same keep.Nothing e told h.1; saved = tt }, h.2.1.calm, calm)
+        (record { picks = e.picks; ran = ran; runs = runs_in_time few begins run_law within_law keep.Nothing ran k e; finish_is = h.0; numbers = busy_same keep.Nothing e told h.1; saved = tt }, h.2.1.calm, calm)
     closed_time None e (verdict.Refused r) calm h = absurd (let z = h.0 in cc)
     closed_time None e verdict.WriteFault calm h = absurd (let z = h.0 in cc)
     closed_time None e verdict.NoMemory calm h = absurd (let z = h.0 in cc)
     closed_time (Some name) e (verdict.Ended finish told) calm h =
         let save = saved_so name e (Ok tt) h.2 in
-        (record { picks = e.picks; ran = ran; runs = runs_in_time few run_law within_law keep.Lines ran k e; finish_is = h.0; numbers = busy_same keep.Lines e told h.1; saved = save.by.0 }, save.by.1, calm)
+        (record { picks = e.picks; ran = ran; runs = runs_in_time few begins run_law within_law keep.Lines ran k e; finish_is = h.0; numbers = busy_same keep.Lines e told h.1; saved = save.by.0 }, save.by.1, calm)
     closed_time (Some name) e (verdict.Refused r) calm h = absurd (saved_so name e (Err (verdict.Refused r)) h).by
-    closed_time (Some name) e verdict.WriteFault calm h = inr (over_now few run_law within_law keep.Lines ran k e, calm, (saved_so name e (Err verdict.WriteFault) h).by)
-    closed_time (Some name) e verdict.NoMemory calm h = inr (begun_now few run_law within_law keep.Lines ran k e)
+    closed_time (Some name) e verdict.WriteFault calm h = inr (over_now few begins run_law within_law keep.Lines ran k e, calm, (saved_so name e (Err verdict.WriteFault) h).by)
+    closed_time (Some name) e verdict.NoMemory calm h = inr (begun_now few begins run_law within_law keep.Lines ran k e)
 
     pub closed_time_kept : (name : Option (List ℕ)) (e : EndsInTime (job (keeping_for name)) prices after ran k) (v : Verdict) → IsTimeClosed files ran k name v → KeepsTime n prices files input out name v
     closed_time_kept None e (verdict.Ended finish told) h = record { kept = kept_by files [] (verdict.Ended finish told) h.2.1.told; over = inl h.2.1.told }
     closed_time_kept None e (verdict.Refused r) h = absurd (let z = h.0 in cc)
     closed_time_kept None e verdict.WriteFault h = absurd (let z = h.0 in cc)
     closed_time_kept None e verdict.NoMemory h = absurd (let z = h.0 in cc)
-    closed_time_kept (Some name) e (verdict.Ended finish told) h = record { kept = (saved_so name e (Ok tt) h.2).kept; over = inr (over_now few run_law within_law keep.Lines ran k e) }
+    closed_time_kept (Some name) e (verdict.Ended finish told) h = record { kept = (saved_so name e (Ok tt) h.2).kept; over = inr (over_now few begins run_law within_law keep.Lines ran k e) }
     closed_time_kept (Some name) e (verdict.Refused r) h = absurd (saved_so name e (Err (verdict.Refused r)) h).by
-    closed_time_kept (Some name) e verdict.WriteFault h = record { kept = (saved_so name e (Err verdict.WriteFault) h).kept; over = inr (over_now few run_law within_law keep.Lines ran k e) }
-    closed_time_kept (Some name) e verdict.NoMemory h = record { kept = (saved_so name e (Err verdict.NoMemory) h).kept; over = inr (over_now few run_law within_law keep.Lines ran k e) }
+    closed_time_kept (Some name) e verdict.WriteFault h = record { kept = (saved_so name e (Err verdict.WriteFault) h).kept; over = inr (over_now few begins run_law within_law keep.Lines ran k e) }
+    closed_time_kept (Some name) e verdict.NoMemory h = record { kept = (saved_so name e (Err verdict.NoMemory) h).kept; over = inr (over_now few begins run_law within_law keep.Lines ran k e) }
 
   -- or not
   pub early_time : (files : Change Held) (keeping : Keeping) (name : Option (List ℕ)) (failed : RunFault) → IsCalm files → EndsEarly (job keeping) prices after failed → IsTimeOf n prices files input out name (fault_verdict failed)

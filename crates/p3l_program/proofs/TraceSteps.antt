@@ -18,8 +18,8 @@ use Rattle.p3l_report.specs.declared.verdict.Verdict.TheVariants as verdict
 use Rattle.p3l_report.specs.Status as status
 use Rattle.p3l_report.specs.Verdict.{ending_status, finish_status}
 use Rattle.p3l_report.proofs.Statuses as statuses
-use Rattle.p3l_run.specs.Feed.{closed_so}
-use Rattle.p3l_run.specs.Network.{Network, width_of}
+use Rattle.p3l_run.specs.Feed.{Gives, closed_so}
+use Rattle.p3l_run.specs.Network.{Network, begun_with, width_of}
 use Rattle.p3l_run.specs.Run.{MayCome, MayEnd}
 use Rattle.p3l_retrace.specs.Retraced.{AgreesOn, IsAskedFor}
 use Rattle.p3l_run.specs.Write.{HasPut}
@@ -31,7 +31,6 @@ use Rattle.p3l_stream.specs.declared.taken.Cutoff.TheVariants as stop
 use Rattle.p3l_stream.specs.Given.{Closes, GivenCause, HasGiven}
 use Rattle.p3l_stream.specs.Items.{items_of}
 use Rattle.p3l_stream.specs.Seen.{Seen}
-use Rattle.p3l_stream.specs.Taken.{IsTaken}
 use Rattle.p3l_trace.specs.declared.trace.Traced.{Traced}
 use Rattle.p3l_trace.specs.declared.trace.TraceRefusal.TheVariants as refusals
 use Rattle.p3l_trace.specs.Text.{trace_format}
@@ -164,8 +163,8 @@ module _ (n : Network) (t : Traced) (rest : List ℕ) (close : Option Ending) (o
   to : GoesOnTo n close on.items rest
   to = seen_goes_on n rest old new before now close on.stream on.items on.gives told calm
 
-  agrees_seen : Agrees n.tree n.leaf n.net (seen_of (width_of n) rest).items t
-  agrees_seen = subst (λ (i : Items). Agrees n.tree n.leaf n.net i.items t) (sym to.seen) (on.holds to.later to.may_come)
+  agrees_seen : Agrees n.tree n.leaf n.net (begun_with n (seen_of (width_of n) rest).items) t
+  agrees_seen = subst (λ (i : Items). Agrees n.tree n.leaf n.net (begun_with n i.items) t) (sym to.seen) (on.holds to.later to.may_come)
 
   asked_seen : IsAskedFor n (on.items ++ to.later) (picks_of t.lines) (length on.items) close
   asked_seen = on.asked to.later to.may_come
@@ -215,7 +214,7 @@ check_status w build name rest (finish.Differs line) stats told calm h =
       n = h.n;
       t = h.t;
       has = h.has;
-      status_is = inl (refl, (line, subst (λ (i : Items). DiffersAt h.n.tree h.n.leaf h.n.net i.items h.t line) (sym to.seen) (on.holds to.later to.may_come)));
+      status_is = inl (refl, (line, subst (λ (i : Items). DiffersAt h.n.tree h.n.leaf h.n.net (begun_with h.n i.items) h.t line) (sym to.seen) (on.holds to.later to.may_come)));
     }
 check_status w build name rest (finish.Stopped fired idle) stats told calm h = absurd h.checked
 check_status w build name rest (finish.Trapped item kind home) stats told calm h = absurd h.checked
@@ -225,6 +224,7 @@ pub record GoesOnAll (n : Network) (close : Option Ending) (items : List (List �
   pub later : List (List ℤ)
   pub may_come : MayCome n close later
   pub all : (items_of (width_of n) rest).items ≡ items ++ later
+  pub ending_is : (e : Ending) → close ≡ Some e → (items_of (width_of n) rest).ending ≡ e
 
 module _ (n : Network) (rest : List ℕ) (s : Seen) (items : List (List ℤ)) (bytes left : List ℕ) (given : HasGiven (width_of n) s bytes items) (whole : rest ≡ bytes ++ left) (ended : s.at_end ≡ true → left ≡ []) where
   goes_on_open : Closes (width_of n) s bytes items None → GoesOnAll n None items rest
@@ -238,6 +238,7 @@ module _ (n : Network) (rest : List ℕ) (s : Seen) (items : List (List ℤ)) (b
           none = λ close h. absurd cc;
         };
         all = ap (λ t. (items_of (width_of n) t).items) whole ∙ ap (λ (i : Items). i.items) here;
+        ending_is = λ close h. absurd cc;
       }
 
   goes_on_ended : Closes (width_of n) s bytes items (closed_so (Some ending.End)) → GoesOnAll n (Some ending.End) items rest
@@ -247,6 +248,7 @@ module _ (n : Network) (rest : List ℕ) (s : Seen) (items : List (List ℤ)) (b
         later = [];
         may_come = record { wide = tt; none = λ close e. refl };
         all = ap (λ t. (items_of (width_of n) t).items) same ∙ ap (λ (i : Items). i.items) h.1 ∙ sym (append-nil items);
+        ending_is = λ close e. let is : ending.End ≡ close = cc in ap (λ t. (items_of (width_of n) t).ending) same ∙ ap (λ (i : Items). i.ending) h.1 ∙ is;
       }
 
   goes_on_all : (close : Option Ending) → s.closed ≡ closed_so close → IsUnrefused close → GoesOnAll n close items rest
@@ -255,13 +257,19 @@ module _ (n : Network) (rest : List ℕ) (s : Seen) (items : List (List ℤ)) (b
   goes_on_all close closed (inr end) =
       subst (λ c. GoesOnAll n c items rest) (sym end) (goes_on_ended (subst (λ c. Closes (width_of n) s bytes items c) (closed ∙ ap closed_so end) given.closes))
 
-agreed_all : (w : World) (n : Network) (t : Traced) (rest : List ℕ) (old : Option (List ℕ)) → w.input.old ≡ old → old ≡ Some rest → Agreed w n t → Agrees n.tree n.leaf n.net (items_of (width_of n) rest).items t
-agreed_all w n t rest None is told a = absurd cc
-agreed_all w n t rest (Some other) is told a =
-    let g = a.agrees.gives in
-    let read = subst (λ o. IsTaken o w.input.new g.bytes) (is ∙ told) g.read in
-    let to = goes_on_all n rest a.agrees.stream a.agrees.items g.bytes read.0 g.given read.2 (λ h. at_end_left w.input.new read.0 read.1 (g.at_end h)) a.close g.closed_is a.unrefused in
-    subst (λ i. Agrees n.tree n.leaf n.net i t) (sym to.all) (a.agrees.holds to.later to.may_come)
+-- so do all items of an input that reports what is left
+pub all_go_on : (n : Network) (rest : List ℕ) (old new : Option (List ℕ)) (before now : ℕ) (close : Option Ending) (s : Seen) (items : List (List ℤ)) → Gives (width_of n) old new before now s items (closed_so close) →
+    old ≡ Some rest → IsUnrefused close → GoesOnAll n close items rest
+all_go_on n rest None new before now close s items g told unrefused = absurd cc
+all_go_on n rest (Some other) new before now close s items g told unrefused =
+    let same : other ≡ rest = cc in
+    goes_on_all n rest s items g.bytes g.read.0 g.given (sym same ∙ g.read.2) (λ h. at_end_left new g.read.0 g.read.1 (g.at_end h)) close g.closed_is unrefused
+
+agreed_all : (w : World) (n : Network) (t : Traced) (rest : List ℕ) → w.input.old ≡ Some rest → Agreed w n t → Agrees n.tree n.leaf n.net (begun_with n (items_of (width_of n) rest).items) t
+agreed_all w n t rest told a =
+    let on = a.agrees in
+    let to = all_go_on n rest w.input.old w.input.new w.input.before w.input.now a.close on.stream on.items on.gives told a.unrefused in
+    subst (λ i. Agrees n.tree n.leaf n.net (begun_with n i) t) (sym to.all) (on.holds to.later to.may_come)
 
 -- a check of status 0 is whole
 pub check_whole : (w : World) (build : Build) (name rest taken : List ℕ) (f : Finish) (stats : Option Stats) → ((text : List ℕ) → HasPut w.out.old w.out.new text → w.out.new ≡ Some (taken ++ text)) → w.input.old ≡ Some rest → finish_status f ≡ status.done →
@@ -270,7 +278,7 @@ check_whole w build name rest taken finish.Done stats put input h e = record {
   n = e.n;
   t = e.t;
   has = e.has;
-  agrees = agreed_all w e.n e.t rest w.input.old refl input e.checked;
+  agrees = agreed_all w e.n e.t rest input e.checked;
   taken_is = put (holds_line e.t) e.checked.put;
 }
 check_whole w build name rest taken (finish.Stream k) stats put input h e = absurd (e.checked.other (statuses.done_is k h))

@@ -11,7 +11,8 @@ use Rattle.p3l_report.specs.declared.verdict.Refusal.TheVariants as refusal
 use Rattle.p3l_report.specs.declared.verdict.Verdict.{Verdict}
 use Rattle.p3l_report.specs.declared.verdict.Verdict.TheVariants as verdict
 use Rattle.p3l_report.specs.Line.{stats_line}
-use Rattle.p3l_report.specs.Verdict.{finish_status, lines_of, refusal_status, status_of}
+use Rattle.p3l_report.specs.Report.{PutsFronts}
+use Rattle.p3l_report.specs.Verdict.{finish_status, lines_of, refusal_status, reported_line, status_line, status_of}
 use Rattle.p3l_program.specs.Command.{Begins, Ends, IsDueOf, IsWhole, Touches, run_of, saved_first, stages_of, written_of}
 use Rattle.p3l_program.specs.Due.{IsBegun, IsEnd}
 use Rattle.p3l_program.specs.Run.{Emits, StopsRun}
@@ -62,13 +63,14 @@ pub record IsUnsaved (words : List Text) (w : World) (v : Verdict) : Type 0 wher
 abbrev pub IsDue : List Text → World → Verdict → Type 0
 IsDue words w v = IsAsked words w v ⊎ (IsUsage words w v ⊎ (IsUnread w v ⊎ IsUnsaved words w v))
 
--- the answer of the program: how it ended, with this status, why, and, where its count of faults doesn't rise, its lines on the
--- standard error
+-- the answer of the program: how it ended, with this status, why, and its lines on the standard error, where its count of faults
+-- doesn't rise; where it does, a front of each of the lines of this same verdict, so that a fault there changes no status
 pub record Answers (words : List Text) (w : World) (err : Change (List ℕ)) (status : ℕ) : Type 0 where
   pub verdict : Verdict
   pub status_is : status ≡ status_of verdict
   pub due : IsDue words w verdict
   pub says : (said : List ℕ) → err.old ≡ Some said → (HasRisen err → ⊥) → err.new ≡ Some (said ++ lines_of verdict)
+  pub begins_to_say : (said : List ℕ) → err.old ≡ Some said → PutsFronts said err.new (reported_line verdict) (status_line verdict)
 
 -- what was written begins what the command that the words spell writes
 pub record BeginsWork (words : List Text) (w : World) : Type 0 where

@@ -14,12 +14,12 @@ use Rattle.p3l_program.specs.Fmt.{IsFormatted, fmt_stages}
 use Rattle.p3l_program.specs.Generated.{gen_of}
 use Rattle.p3l_program.specs.Graph.{IsDrawn}
 use Rattle.p3l_program.specs.Migrate.{IsMigrated}
-use Rattle.p3l_program.specs.Origin.{Running, built, imaged, running, scanned}
+use Rattle.p3l_program.specs.Origin.{Running, built, continued, imaged, running, scanned}
 use Rattle.p3l_program.specs.Rewrite.{IsRewritten, plain_build}
 use Rattle.p3l_program.specs.Stage.{Stage, build_stages, migrate_stages, program_stages, verify_stages}
 use Rattle.p3l_program.specs.Text.{IsNothing}
 use Rattle.p3l_program.specs.Verify.{IsVerified}
-use Rattle.p3l_program.specs.Work.{Work, behavior, check_trace, profile_input, run_generated, run_in_time, run_network, save_file, write_text}
+use Rattle.p3l_program.specs.Work.{Work, behavior, check_trace, profile_input, run_generated, run_in_time, run_network, save_file, save_state, write_text}
 use Rattle.p3l_program.specs.World.{World}
 
 -- the work of each command
@@ -46,6 +46,8 @@ work_of (command.Rewrite program processors costs) =
 work_of (command.Profile name) = profile_input name
 work_of (command.Time build picks) = run_in_time build picks
 work_of (command.Scan name segments schedule capacity reported) = run_network (running (scanned name segments capacity) schedule None reported)
+work_of (command.Save build picks output) = save_state build picks output
+work_of (command.Resume name schedule reported) = run_network (running (continued name) schedule None reported)
 
 abbrev pub behavior_of : Command → Behavior
 behavior_of command = behavior (work_of command)

@@ -16,6 +16,7 @@ pub mod Image
 pub mod Load
 pub mod LoadCert
 pub mod LoadImage
+pub mod LoadSnapshot
 pub mod Migrate
 pub mod Origin
 pub mod Picks
@@ -27,12 +28,15 @@ pub mod Replay
 pub mod Rewrite
 pub mod Run
 pub mod Saved
+pub mod SaveState
 pub mod Scan
 pub mod Scheduled
+pub mod Snapshot
 pub mod Stage
 pub mod Text
 pub mod Time
 pub mod Top
+pub mod Unbroken
 pub mod Trace
 pub mod TraceFile
 pub mod Verdict

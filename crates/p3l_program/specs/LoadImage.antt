@@ -1,5 +1,5 @@
 -- What is loaded from the image of a file, and why nothing is.
-use Rattle.std.specs.Prelude.{◌≡◌, ℕ, ◌≤◌, List, Option}
+use Rattle.std.specs.Prelude.{◌≡◌, ℕ, ◌≤◌, List, Option, ◌⊎◌}
 use Rattle.std.specs.List.{All}
 use Rattle.p3l_skel.specs.Counts.{HasLawfulCounts}
 use Rattle.p3l_skel.specs.Lawful.{IsLawfulTree}
@@ -19,7 +19,7 @@ use Rattle.p3l_report.specs.declared.verdict.Refusal.TheVariants as refusal
 use Rattle.p3l_report.specs.declared.verdict.Verdict.{Verdict}
 use Rattle.p3l_report.specs.declared.verdict.Verdict.TheVariants as verdict
 use Rattle.p3l_program.specs.File.{HasText}
-use Rattle.p3l_program.specs.Image.{IsImage, IsRunnableImage, image_limit}
+use Rattle.p3l_program.specs.Image.{IsBrokenImage, IsImage, IsNoImage, IsRunnableImage, image_limit}
 
 -- the verdict of bytes that are no image
 abbrev pub image_verdict : ImageRefusal → Verdict
@@ -37,6 +37,18 @@ load_verdict (load.CodeUnsafe number) = verdict.Refused (refusal.Evidence (evide
 load_verdict load.NotLinked = verdict.Refused (refusal.Evidence evidence.NotLinked)
 load_verdict load.NoMemory = verdict.NoMemory
 
+-- why bytes are no image
+abbrev pub IsUndecoded : List ℕ → Verdict → Type 0
+IsUndecoded bytes (verdict.Refused (refusal.Evidence e)) = IsNoImage e bytes
+IsUndecoded bytes verdict.NoMemory = Unit {0}
+IsUndecoded bytes v = ⊥
+
+-- why they load none
+abbrev pub IsUnloadable : List ℕ → Verdict → Type 0
+IsUnloadable bytes (verdict.Refused (refusal.Evidence e)) = IsNoImage e bytes ⊎ IsBrokenImage e bytes
+IsUnloadable bytes verdict.NoMemory = Unit {0}
+IsUnloadable bytes v = ⊥
+
 -- what was loaded can be run: its tree and counts are lawful, each `seq` module has its code, and the net is that of the tree
 pub record IsReadyImage (loaded : Loaded) : Type 0 where
   pub lawful : IsLawfulTree loaded.tree
@@ -46,12 +58,17 @@ pub record IsReadyImage (loaded : Loaded) : Type 0 where
   pub typed : IsTyped loaded.tree loaded.net
   pub room : 1 ≤ loaded.cap
 
--- the one image that the file of this name has was loaded
-pub record LoadsImage (files : Option Held) (name : List ℕ) (loaded : Loaded) : Type 0 where
+-- the one image that the bytes spell was loaded
+pub record LoadsBytes (bytes : List ℕ) (loaded : Loaded) : Type 0 where
   pub i : Image
   pub loaded_is : loaded ≡ loaded_of i
-  pub bytes : List ℕ
-  pub has : HasText files image_limit name bytes
   pub runs : IsRunnableImage i bytes
   pub only : (other : Image) → IsImage other bytes → other ≡ i
   pub room : 1 ≤ i.cap
+  pub few : i.cap ≤ 1024
+
+-- the one image that the file of this name has was loaded
+pub record LoadsImage (files : Option Held) (name : List ℕ) (loaded : Loaded) : Type 0 where
+  pub bytes : List ℕ
+  pub has : HasText files image_limit name bytes
+  pub loads : LoadsBytes bytes loaded

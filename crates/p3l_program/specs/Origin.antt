@@ -3,12 +3,14 @@ use Rattle.std.specs.Prelude.{ℕ, Bool, List, Option}
 use Rattle.p3l_opts.specs.declared.command.Build.{Build}
 use Rattle.p3l_opts.specs.declared.command.Sched.{Sched}
 
--- a program that is built; the image of the file of this name; or the program of the file of this name, scanned in this number of segments
--- through channels that hold this number of tokens
+-- a program that is built; the image of the file of this name; the program of the file of this name, scanned in this number of segments
+-- through channels that hold this number of tokens; or the image of the snapshot of the file of this name, which goes on from what was
+-- saved
 pub data Origin : Type 0 where
   built : Build → Origin
   imaged : List ℕ → Origin
   scanned : List ℕ → (segments capacity : ℕ) → Origin
+  continued : List ℕ → Origin
 
 -- what is run on the input under a schedule, the file that its trace goes to, if there is one, and
 -- whether its numbers are reported

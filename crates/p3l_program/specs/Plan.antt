@@ -1,6 +1,6 @@
 -- The way from a text to a network: the program that it spells and that keeps all rules, its costs, the
 -- counts that are chosen for it, and the net of its tree under them.
-use Rattle.std.specs.Prelude.{◌≡◌, ℕ, List, Ok, Err, Option, ◌⊎◌, Some, None}
+use Rattle.std.specs.Prelude.{◌≡◌, ℕ, ◌*◌, List, [], Ok, Err, Option, ◌⊎◌, Some, None}
 use Rattle.p3l_ast.specs.declared.position.Pos.{Pos}
 use Rattle.p3l_ast.specs.declared.refusal.Fault.{Fault}
 use Rattle.p3l_ast.specs.declared.refusal.SourceRefusal.{SourceRefusal}
@@ -31,7 +31,13 @@ use Rattle.p3l_image.specs.declared.image.Image.{Image}
 use Rattle.p3l_link.specs.Net.{linked_net}
 use Rattle.p3l_load.specs.declared.loaded.Loaded.{Loaded}
 use Rattle.p3l_load.specs.Load.{loaded_of}
-use Rattle.p3l_run.specs.Network.{Network, network, network_named}
+use Rattle.p3l_net.specs.declared.shot.Shot.{Shot}
+use Rattle.p3l_resume.specs.declared.saved.Saved.{Saved}
+use Rattle.p3l_resume_laws.specs.Linked.{ahead_of}
+use Rattle.p3l_resume_laws.specs.Saved.{saved_state}
+use Rattle.p3l_resume_laws.specs.Start.{tokens_saved}
+use Rattle.p3l_run.specs.Network.{Network, network, network_named, resumed}
+use Rattle.p3l_run.specs.Start.{Resumption}
 use Rattle.p3l_scan.specs.declared.plan.ScanPlan.{ScanPlan}
 use Rattle.p3l_scan.specs.declared.refusal.ScanRefusal.{ScanRefusal}
 use Rattle.p3l_scan.specs.declared.refusal.ScanRefusal.TheVariants as unscannable
@@ -41,7 +47,8 @@ use Rattle.p3l_scan.specs.Step.{step_leaf}
 use Rattle.p3l_program.specs.declared.plan.Accepted.{Accepted}
 use Rattle.p3l_program.specs.File.{HasText, text_limit}
 use Rattle.p3l_program.specs.Image.{IsRunnableImage, image_limit}
-use Rattle.p3l_program.specs.Origin.{Origin, built, imaged, scanned}
+use Rattle.p3l_program.specs.Origin.{Origin, built, continued, imaged, scanned}
+use Rattle.p3l_program.specs.Snapshot.{IsResumable, snapshot_limit, units_in}
 
 -- the text spells a program that keeps all rules, with this tree and these bodies
 pub record IsAccepted (text : List ℕ) (r : ResolvedTree) : Type 0 where
@@ -195,6 +202,19 @@ network_of r counts capacity = network r.tree (body_leaf r.tree r.seqs) (linked_
 abbrev pub network_in : Loaded → Network
 network_in loaded = network loaded.tree (leaf (record { tree = loaded.tree; codes = loaded.codes })) loaded.net (firings loaded.tree loaded.counts.list)
 
+-- what was saved of a run of what was loaded, with the outcomes to come of the tokens in its net and of the item in its inbox, and how
+-- often the net can fire for those tokens at most
+abbrev pub resumption_of : Loaded → Shot → Resumption
+resumption_of loaded shot = record {
+  shot = shot;
+  ahead = ahead_of (units_in loaded) loaded.counts.list (saved_state (units_in loaded) loaded.counts.list loaded.cap shot []);
+  owed = firings loaded.tree loaded.counts.list * tokens_saved (units_in loaded) loaded.counts.list loaded.cap shot;
+}
+
+-- the network that was loaded, whose runs go on from what was saved of another
+abbrev pub continued_network : Loaded → Shot → Network
+continued_network loaded shot = resumed (resumption_of loaded shot) (network_in loaded)
+
 -- the network of the scan of an accepted program's root by a plan, whose channels hold this number of tokens: its steps run the operator of
 -- the program, whose modules name the traps
 abbrev pub scan_network : ResolvedTree → ScanPlan → (capacity : ℕ) → Network
@@ -202,7 +222,8 @@ scan_network r plan capacity =
     network_named r.tree plan.tree (step_leaf plan.elem (item r.tree (body_leaf r.tree r.seqs) plan.op)) (linked_net plan.tree plan.counts.list capacity)
     (firings plan.tree plan.counts.list)
 
--- what the files that are run have: the text of a program, and of its costs where a file of costs is named; or the bytes of an image
+-- what the files that are run have: the text of a program, and of its costs where a file of costs is named; or the bytes of an image or
+-- of a snapshot
 pub record Texts : Type 0 where
   pub text : List ℕ
   pub said : Option (List ℕ)
@@ -211,6 +232,7 @@ abbrev pub HaveTexts : Option Held → Origin → Texts → Type 0
 HaveTexts files (built build) texts = HasText files text_limit build.program texts.text × HasCostText files build.costs texts.said
 HaveTexts files (imaged name) texts = HasText files image_limit name texts.text × (texts.said ≡ None)
 HaveTexts files (scanned name segments capacity) texts = HasText files text_limit name texts.text × (texts.said ≡ None)
+HaveTexts files (continued name) texts = HasText files snapshot_limit name texts.text × (texts.said ≡ None)
 
 -- the network of an accepted program with the counts that are chosen for it
 pub record IsBuilt (build : Build) (texts : Texts) (n : Network) : Type 0 where
@@ -234,11 +256,19 @@ pub record IsScanned (segments capacity : ℕ) (texts : Texts) (n : Network) : T
   pub planned : IsPlanOf r.tree segments plan
   pub network_is : n ≡ scan_network r plan capacity
 
+-- the network of a snapshot that can be resumed: that of its image, whose runs go on from what was saved
+pub record IsContinued (texts : Texts) (n : Network) : Type 0 where
+  pub i : Image
+  pub saved : Saved
+  pub resumes : IsResumable i saved texts.text
+  pub network_is : n ≡ continued_network (loaded_of i) saved.shot
+
 -- the network of what is run
 abbrev pub IsNetworkOf : Origin → Texts → Network → Type 0
 IsNetworkOf (built build) texts n = IsBuilt build texts n
 IsNetworkOf (imaged name) texts n = IsImaged texts n
 IsNetworkOf (scanned name segments capacity) texts n = IsScanned segments capacity texts n
+IsNetworkOf (continued name) texts n = IsContinued texts n
 
 -- the network that files and words request
 pub record HasNetwork (files : Option Held) (origin : Origin) (n : Network) : Type 0 where

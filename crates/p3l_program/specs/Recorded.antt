@@ -3,7 +3,7 @@ use Rattle.std.specs.Prelude.{◌≡◌, ℕ, ℤ, true, List, ◌++◌, Option,
 use Rattle.p3l_io.specs.Told.{Held}
 use Rattle.p3l_run.specs.declared.end.RunStats.{RunStats}
 use Rattle.p3l_report.specs.declared.verdict.Verdict.{Verdict}
-use Rattle.p3l_run.specs.Network.{Network, course_of, picks_of}
+use Rattle.p3l_run.specs.Network.{Network, begun_with, course_of, picks_of}
 use Rattle.p3l_run.specs.Run.{MayCome}
 use Rattle.p3l_sched.specs.declared.schedule.Schedule.{Schedule}
 use Rattle.p3l_stream.specs.declared.items.Ending.{Ending}
@@ -19,7 +19,7 @@ use Rattle.p3l_program.specs.World.{Change, IsStill}
 -- counts are the run's
 pub record IsRecordOf (n : Network) (s : Schedule) (items : List (List ℤ)) (t : Traced) : Type 0 where
   pub picks : lines.picks_of t.lines ≡ picks_of n s items
-  pub agrees : Agrees n.tree n.leaf n.net items t
+  pub agrees : Agrees n.tree n.leaf n.net (begun_with n items) t
   pub fired : t.fired ≡ (course_of n s items).fired
   pub idle : t.idle ≡ (course_of n s items).idle
 

@@ -1,5 +1,5 @@
--- The commands `run` and `exec`: a program, or an image, run on the input.
-use Rattle.std.specs.Prelude.{◌≡◌, ℕ, ℤ, ◌*◌, ◌≤◌, Bool, true, false, nat_le, List, [], ◌++◌, ◌⊎◌, length, take, Ok, Err, Option, Some, None, if◌then◌else◌}
+-- The commands that run a network on the input: of a program, of its scan, of an image, or of a snapshot, from where it was saved.
+use Rattle.std.specs.Prelude.{◌≡◌, ℕ, ℤ, ◌*◌, Bool, true, false, nat_le, List, [], ◌++◌, ◌⊎◌, length, take, Ok, Err, Option, Some, None, if◌then◌else◌}
 use Rattle.std.specs.Option.{option_to_list}
 use Rattle.p3l_io.specs.Told.{Held}
 use Rattle.p3l_opts.specs.declared.command.Sched.{Sched}
@@ -19,6 +19,7 @@ use Rattle.p3l_run.specs.declared.run.Ran.{Ran}
 use Rattle.p3l_run.specs.Feed.{Gives, closed_so, input_limit}
 use Rattle.p3l_run.specs.Network.{Network, course_of, goes_on, meaning_of, picks_of, size_of, width_of}
 use Rattle.p3l_run.specs.Run.{Finishes, Starts, finish_of}
+use Rattle.p3l_run.specs.Start.{IsWithin}
 use Rattle.p3l_run.specs.Write.{HasPut}
 use Rattle.p3l_sched.specs.declared.refusal.PickRefusal.TheVariants as picks
 use Rattle.p3l_sched.specs.declared.schedule.Schedule.{Schedule}
@@ -103,7 +104,7 @@ pub record RunsWhole (w : World) (origin : Origin) (asked : Sched) (trace : Opti
   pub recorded : IsRecorded w.files trace (IsRecordOf n s (items_of (width_of n) rest).items)
 
 -- the text of what the network emits on these items under the schedule was written, and the trace of this run, with these numbers, of
--- which the firings are at most this number for each item sent
+-- which the firings are at most this number for each item that it sent, and those of what was in the net where it began
 pub record Emits (w : World) (origin : Origin) (asked : Sched) (trace : Option (List ℕ)) (numbers : RunStats) : Type 0 where
   pub n : Network
   pub s : Schedule
@@ -111,7 +112,7 @@ pub record Emits (w : World) (origin : Origin) (asked : Sched) (trace : Option (
   pub items : List (List ℤ)
   pub put : HasPut w.out.old w.out.new (text_of (course_of n s items).state.emitted)
   pub recorded : IsRecorded w.files trace (IsRecordOf n s items)
-  pub bounded : numbers.fired ≤ n.firings * numbers.items
+  pub bounded : IsWithin n.start n.firings numbers.fired numbers.items
   pub bound_is : numbers.bound ≡ numbers.items * n.firings
 
 -- how the taking of an input stops where no fault comes: at its end, or at the limit

@@ -11,6 +11,8 @@ use Rattle.p3l_opts.specs.declared.command.Sched.TheVariants as sched
 use Rattle.p3l_report.specs.declared.evidence.Evidence.TheVariants as evidence
 use Rattle.p3l_report.specs.declared.verdict.Refusal.{Refusal}
 use Rattle.p3l_report.specs.declared.verdict.Refusal.TheVariants as refusal
+use Rattle.p3l_resume.specs.declared.saved.Saved.{Saved}
+use Rattle.p3l_resume.specs.Saved.{IsSpelling}
 use Rattle.p3l_run.specs.Network.{Network, size_of}
 use Rattle.p3l_sched.specs.declared.refusal.PickRefusal.TheVariants as picks
 use Rattle.p3l_sched.specs.declared.schedule.Schedule.{Schedule}
@@ -20,8 +22,9 @@ use Rattle.p3l_program.specs.Plan.{HasCosts, HasCounts, HasNetwork, HasNoCosts, 
 use Rattle.p3l_program.specs.Certified.{HasCert, HasNoCert, cert_limit}
 use Rattle.p3l_program.specs.File.{HasFault, HasProgram, HasText, IsTooLong, text_limit}
 use Rattle.p3l_program.specs.Image.{HasBytes, IsBrokenImage, IsImage, IsNoImage, IsMigratable, IsRunnableImage, IsUnmigratable, image_limit}
-use Rattle.p3l_program.specs.Origin.{Origin, built, imaged, scanned}
+use Rattle.p3l_program.specs.Origin.{Origin, built, continued, imaged, scanned}
 use Rattle.p3l_program.specs.Scheduled.{HasNoPicks, HasPicks, picks_limit}
+use Rattle.p3l_program.specs.Snapshot.{HasSnapshot, IsNoSnapshot, IsResumable, IsUnsound, SpellsBrokenImage, SpellsNoImage, SpellsWith, snapshot_limit}
 use Rattle.p3l_program.specs.TraceFile.{HasNoTrace, HasTrace}
 use Rattle.p3l_program.specs.World.{Change, HasFailed, IsCalm}
 
@@ -29,7 +32,8 @@ use Rattle.p3l_program.specs.World.{Change, HasFailed, IsCalm}
 -- name says costs of it; some counts fit the processors; the bytes of the file spell an image; the image can be run; it can be run once its net is linked anew; the file of this
 -- name has picks for the network of what is run; the file of the last name has a certificate that holds for a program and its costs;
 -- the file of this name spells a trace; the text spells a program that keeps all rules, the second text says costs of it, and some
--- counts of it fit this number of processors; the program of the file of this name can be scanned in this number of segments
+-- counts of it fit this number of processors; the program of the file of this name can be scanned in this number of segments; the bytes
+-- of the file spell a snapshot; those of its image spell an image; that image can be run; a run of it can be in the state that was saved
 pub data Stage : Type 0 where
   readable : ℕ → List ℕ → Stage
   spelled : List ℕ → Stage
@@ -46,6 +50,10 @@ pub data Stage : Type 0 where
   text_priced : List ℕ → List ℕ → Stage
   text_fitting : List ℕ → List ℕ → ℕ → Stage
   scannable : List ℕ → (segments : ℕ) → Stage
+  saved : List ℕ → Stage
+  saved_decoded : List ℕ → Stage
+  saved_loaded : List ℕ → Stage
+  resumable : List ℕ → Stage
 
 -- the stage is passed
 abbrev pub Passes : Change Held → Stage → Type 0
@@ -64,6 +72,10 @@ Passes files (text_kept text) = (r : ResolvedTree) × IsAccepted text r
 Passes files (text_priced text said) = (r : ResolvedTree) × (cs : Costs) × IsPriced text (Some said) r cs
 Passes files (text_fitting text said processors) = (r : ResolvedTree) × (cs : Costs) × (counts : List ℕ) × IsAllotted text (Some said) processors r cs counts
 Passes files (scannable name segments) = (r : ResolvedTree) × HasScan files.old name segments r
+Passes files (saved name) = (shot : Saved) × HasSnapshot files.old name (IsSpelling shot)
+Passes files (saved_decoded name) = (i : Image) × HasSnapshot files.old name (SpellsWith (IsImage i))
+Passes files (saved_loaded name) = (i : Image) × HasSnapshot files.old name (SpellsWith (IsRunnableImage i))
+Passes files (resumable name) = (i : Image) × (shot : Saved) × HasSnapshot files.old name (IsResumable i shot)
 
 -- the stage refuses so
 abbrev pub Refuses : Change Held → Stage → Refusal → Type 0
@@ -84,6 +96,10 @@ Refuses files (text_kept text) (refusal.Source fault pos) = IsNotAccepted text f
 Refuses files (text_priced text said) (refusal.Costs fault) = IsUnpriced text said fault
 Refuses files (text_fitting text said processors) (refusal.TooFew need) = IsOverfull text (Some said) processors need
 Refuses files (scannable name segments) (refusal.Scan fault) = HasNoScan files.old name segments fault
+Refuses files (saved name) (refusal.Evidence shown) = HasSnapshot files.old name (IsNoSnapshot shown)
+Refuses files (saved_decoded name) (refusal.Evidence shown) = HasSnapshot files.old name (SpellsNoImage shown)
+Refuses files (saved_loaded name) (refusal.Evidence shown) = HasSnapshot files.old name (SpellsBrokenImage shown)
+Refuses files (resumable name) (refusal.Evidence evidence.NotSound) = HasSnapshot files.old name IsUnsound
 Refuses files stage refused = ⊥
 
 -- all stages are passed
@@ -134,11 +150,16 @@ migrate_stages name = readable image_limit name ∷ (decoded name ∷ (migratabl
 abbrev pub scan_stages : List ℕ → (segments : ℕ) → List Stage
 scan_stages name segments = program_stages name ++ scannable name segments ∷ []
 
+-- a snapshot is read, spelled by its bytes, its image is spelled by its own and can be run, and a run of it can be in the state that was saved
+abbrev pub snapshot_stages : List ℕ → List Stage
+snapshot_stages name = readable snapshot_limit name ∷ (saved name ∷ (saved_decoded name ∷ (saved_loaded name ∷ (resumable name ∷ []))))
+
 -- what is run is built or loaded, or its scan is planned
 abbrev pub origin_stages : Origin → List Stage
 origin_stages (built build) = build_stages build
 origin_stages (imaged name) = image_stages name
 origin_stages (scanned name segments capacity) = scan_stages name segments
+origin_stages (continued name) = snapshot_stages name
 
 -- a file of picks is read, where one is named, and has picks for the network
 abbrev pub schedule_stages : Origin → Sched → List Stage

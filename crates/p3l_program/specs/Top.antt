@@ -23,11 +23,11 @@ pub record Promises (words : List Text) (w : World) (err : Change (List ℕ)) (k
   -- How it ended: with this status, why, what was written, and the lines on the standard error.
   pub answers : Answers words w err k
   -- What is written begins what the command that the words spell writes: of `run` and `exec` the text
-  -- of the program's meaning on the items read, and no more than the network emits under the schedule,
-  -- of `fmt` the canonical text of the program, of `gen` the line of the run of the texts that its
-  -- number gives.
+  -- of the program's meaning on the items read, of `resume` the text of what is to come of what was
+  -- saved and of this meaning, and no more than the network emits under the schedule, of `fmt` the
+  -- canonical text of the program, of `gen` the line of the run of the texts that its number gives.
   pub begins : IsUntouched w ⊎ BeginsWork words w
-  -- With status 0 it is the whole, and `run` and `exec` read their input to the end.
+  -- With status 0 it is the whole, and `run`, `exec` and `resume` read their input to the end.
   pub done : WhenTold w (λ held rest taken. k ≡ status.done → IsDone words w rest taken)
   -- With each status of an end the command came to an end of this status: of `run` and `exec`, the
   -- whole text of what the network emits on the items that the stream gave was written.

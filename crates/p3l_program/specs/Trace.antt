@@ -14,7 +14,7 @@ use Rattle.p3l_report.specs.declared.verdict.Verdict.TheVariants as verdict
 use Rattle.p3l_report.specs.Status as status
 use Rattle.p3l_report.specs.Verdict.{ending_status}
 use Rattle.p3l_retrace.specs.Retraced.{AgreesOn, DiffersOn, sent_before_last}
-use Rattle.p3l_run.specs.Network.{Network, width_of}
+use Rattle.p3l_run.specs.Network.{Network, begun_with, width_of}
 use Rattle.p3l_run.specs.Write.{HasBegun, HasPut}
 use Rattle.p3l_stream.specs.declared.items.Ending.{Ending}
 use Rattle.p3l_stream.specs.declared.items.Ending.TheVariants as ending
@@ -99,7 +99,7 @@ pub record ChecksWhole (w : World) (build : Build) (name rest taken : List ℕ) 
   pub n : Network
   pub t : Traced
   pub has : HasCheck w.files.old build name n t
-  pub agrees : Agrees n.tree n.leaf n.net (items_of (width_of n) rest).items t
+  pub agrees : Agrees n.tree n.leaf n.net (begun_with n (items_of (width_of n) rest).items) t
   pub taken_is : w.out.new ≡ Some (taken ++ holds_line t)
 
 -- whether a stream of these items ends that is asked before each of these picks where the inbox is empty, and at no other time: all
@@ -115,8 +115,8 @@ agreed_status n t seen = if comes_to_end n seen.items (picks_of t.lines) then en
 -- the status of a check on what is seen of an input: that of evidence exactly where a line differs
 abbrev pub IsCheckStatus : Network → Traced → Items → ℕ → Type 0
 IsCheckStatus n t seen k =
-    ((k ≡ status.evidence) × ((line : ℕ) × DiffersAt n.tree n.leaf n.net seen.items t line))
-    ⊎ ((k ≡ agreed_status n t seen) × Agrees n.tree n.leaf n.net seen.items t)
+    ((k ≡ status.evidence) × ((line : ℕ) × DiffersAt n.tree n.leaf n.net (begun_with n seen.items) t line))
+    ⊎ ((k ≡ agreed_status n t seen) × Agrees n.tree n.leaf n.net (begun_with n seen.items) t)
 
 -- the check is expected to end with this status
 pub record IsTraceStatus (w : World) (build : Build) (name rest : List ℕ) (k : ℕ) : Type 0 where

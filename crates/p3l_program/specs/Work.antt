@@ -8,6 +8,7 @@ use Rattle.p3l_program.specs.Origin.{Running}
 use Rattle.p3l_program.specs.Profile.{profile_behavior}
 use Rattle.p3l_program.specs.Run.{run_behavior}
 use Rattle.p3l_program.specs.Saved.{saving_behavior}
+use Rattle.p3l_program.specs.SaveState.{save_behavior}
 use Rattle.p3l_program.specs.Stage.{Stage}
 use Rattle.p3l_program.specs.Text.{text_behavior}
 use Rattle.p3l_program.specs.Time.{time_behavior}
@@ -17,7 +18,8 @@ use Rattle.p3l_program.specs.Trace.{check_behavior}
 -- is written, with bytes by what the files hold, and then such a text; a network is run on the input;
 -- the trace of a file is checked against the run of a program on the input; what is generated is run;
 -- a program is profiled on the input, and its cost file is written; a program is run on the input in
--- virtual time
+-- virtual time; a program is run on the input under the picks of a file, and its state is written to
+-- another
 pub data Work : Type 1 where
   write_text : List Stage → (Option Held → List ℕ → Type 0) → Work
   save_file : List Stage → (Option Held → List ℕ → Type 0) → List ℕ → (Option Held → List ℕ → Type 0) → Work
@@ -26,6 +28,7 @@ pub data Work : Type 1 where
   run_generated : Gen → Work
   profile_input : List ℕ → Work
   run_in_time : Build → Option (List ℕ) → Work
+  save_state : Build → (picks output : List ℕ) → Work
 
 abbrev pub behavior : Work → Behavior
 behavior (write_text stages IsText) = text_behavior stages IsText
@@ -35,3 +38,4 @@ behavior (check_trace build name) = check_behavior build name
 behavior (run_generated g) = gen_behavior g
 behavior (profile_input name) = profile_behavior name
 behavior (run_in_time build name) = time_behavior build name
+behavior (save_state build picks output) = save_behavior build picks output

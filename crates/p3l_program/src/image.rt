@@ -2,7 +2,7 @@
 
 ghost use Rattle.std.specs.Prelude.{◌≡◌, ◌≤◌, IfOk, IfErr, OnOk};
 ghost use Rattle.p3l_program.specs.Load.{IsNotLoaded, LoadsNetwork};
-ghost use Rattle.p3l_program.specs.LoadImage.{IsReadyImage, image_verdict, load_verdict};
+ghost use Rattle.p3l_program.specs.LoadImage.{IsReadyImage, IsUnloadable, LoadsBytes, image_verdict, load_verdict};
 ghost use Rattle.p3l_program.specs.Origin.{imaged};
 ghost use Rattle.p3l_program.specs.Plan.{network_in};
 ghost use Rattle.p3l_program.specs.Migrate.{Migrates};
@@ -48,6 +48,21 @@ fn load_verdict(refusal: LoadRefusal) -> Verdict
     Verdict::Refused(Refusal::Evidence(evidence))
 }
 
+/// The image that these bytes spell, if it can be run; else the verdict that it can't.
+pub fn load_bytes(alloc: Global, bytes: &[u8]) -> Result<Loaded, Verdict>
+    ensures loaded { IfOk result (LoadsBytes bytes.now) }
+    ensures refused { IfErr result (IsUnloadable bytes.now) }
+{
+    let image = match decode(alloc, bytes) {
+        Ok(image) => image,
+        Err(refusal) => return Err(image_verdict(refusal)),
+    };
+    match load(alloc, image) {
+        Ok(loaded) => Ok(loaded),
+        Err(refusal) => Err(load_verdict(refusal)),
+    }
+}
+
 /// The image of the file of this name, if it can be run; else the verdict that it can't.
 pub fn load_image<F: Files>(alloc: Global, name: Name, files: &mut F) -> Result<Loaded, Verdict>
     ensures network { IfOk result (λ loaded. LoadsNetwork (F.held files.old) (imaged name)
@@ -59,17 +74,9 @@ pub fn load_image<F: Files>(alloc: Global, name: Name, files: &mut F) -> Result<
         (image_stages name)) }
     ensures stays { F.held files.new ≡ F.held files.old }
 {
-    let bytes = match find_text(alloc, name, IMAGE_LIMIT, files) {
-        Ok(bytes) => bytes,
-        Err(refusal) => return Err(Verdict::from(refusal)),
-    };
-    let image = match decode(alloc, bytes.as_slice()) {
-        Ok(image) => image,
-        Err(refusal) => return Err(image_verdict(refusal)),
-    };
-    match load(alloc, image) {
-        Ok(loaded) => Ok(loaded),
-        Err(refusal) => Err(load_verdict(refusal)),
+    match find_text(alloc, name, IMAGE_LIMIT, files) {
+        Ok(bytes) => load_bytes(alloc, bytes.as_slice()),
+        Err(refusal) => Err(Verdict::from(refusal)),
     }
 }
 

@@ -48,7 +48,7 @@ pub fn keeping_for(trace: &Option<Name>) -> Keeping
 }
 
 /// Ends a run: writes its trace where a file is named for it, and reports how it ended.
-fn close<F: Files>(
+pub fn close<F: Files>(
     alloc: Global,
     ran: Ran,
     trace: Option<Name>,

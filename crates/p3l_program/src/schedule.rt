@@ -1,14 +1,15 @@
 // The schedule that words and files request.
 
-ghost use Rattle.std.specs.Prelude.{◌≡◌, ◌<◌, ◌^◌, IfOk, IfErr, OnOk};
+ghost use Rattle.std.specs.Prelude.{◌≡◌, ◌<◌, ◌^◌, length, IfOk, IfErr, OnOk};
 ghost use Rattle.p3l_opts.specs.declared.command.Sched.TheVariants as sched;
 ghost use Rattle.p3l_program.specs.Run.{IsUnasked};
-ghost use Rattle.p3l_program.specs.Scheduled.{HasSchedule};
+ghost use Rattle.p3l_program.specs.Scheduled.{HasPicks, HasSchedule};
 ghost use Rattle.p3l_program.specs.World.{files_change};
 ghost use Rattle.p3l_sched.specs.Picker.{NamesProcesses, recorded};
+ghost use Rattle.p3l_sched.specs.declared.schedule.Schedule.TheVariants as schedule;
 
 use crate::file::find_text;
-use p3l_base::Name;
+use p3l_base::{List, Name};
 use p3l_io::Files;
 use p3l_opts::Sched;
 use p3l_report::{Refusal, Verdict};
@@ -19,15 +20,16 @@ use std::alloc::Global;
 pub const PICKS_LIMIT: u64 = 67_108_864;
 
 /// The picks of this number of processes in the file of this name.
-fn picks_in<F: Files>(
+pub fn picks_in<F: Files>(
     alloc: Global,
     name: Name,
     count: u32,
     files: &mut F,
-) -> Result<Schedule, Verdict>
-    ensures asked { IfOk result (HasSchedule (F.held files.old) count (sched.File name)) }
-    ensures named { IfOk result (NamesProcesses count) }
-    ensures few { IfOk result (λ schedule. recorded schedule < 2 ^ 63) }
+) -> Result<List<u32>, Verdict>
+    ensures found { IfOk result (λ picks. HasPicks (F.held files.old) count name
+        (schedule.Recorded picks)) }
+    ensures named { IfOk result (λ picks. NamesProcesses count (schedule.Recorded picks)) }
+    ensures few { IfOk result (λ picks. length picks < 2 ^ 63) }
     ensures calm { OnOk result (F.faults files.new ≡ F.faults files.old) }
     ensures refused { IfErr result (IsUnasked
         (files_change F.held F.faults F.failed files.old files.new)
@@ -37,7 +39,7 @@ fn picks_in<F: Files>(
     match find_text(alloc, name, PICKS_LIMIT, files) {
         Err(refusal) => Err(Verdict::from(refusal)),
         Ok(text) => match read_picks(alloc, text.as_slice(), count) {
-            Ok(picks) => Ok(Schedule::Recorded(picks)),
+            Ok(picks) => Ok(picks),
             Err(PickRefusal::BadPick { line }) => Err(Verdict::Refused(Refusal::BadPick { line })),
             Err(PickRefusal::NoSuchProcess { line, pick, count }) => {
                 Err(Verdict::Refused(Refusal::NoSuchProcess { line, pick, count }))
@@ -66,6 +68,9 @@ pub fn load_schedule<F: Files>(
     match asked {
         Sched::RoundRobin => Ok(Schedule::RoundRobin),
         Sched::Seeded(seed) => Ok(Schedule::Seeded(seed)),
-        Sched::File(name) => picks_in(alloc, name, count, files),
+        Sched::File(name) => match picks_in(alloc, name, count, files) {
+            Ok(picks) => Ok(Schedule::Recorded(picks)),
+            Err(verdict) => Err(verdict),
+        },
     }
 }

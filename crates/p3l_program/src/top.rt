@@ -16,8 +16,10 @@ use crate::generated::run_generated;
 use crate::graph::graph;
 use crate::migrate::migrate;
 use crate::profile::profile;
+use crate::resume::resume;
 use crate::rewrite::rewrite;
 use crate::run::run;
+use crate::save_state::save_state;
 use crate::scan::scan;
 use crate::time::time;
 use crate::verify::verify_cert;
@@ -76,6 +78,12 @@ fn perform<F: Files, S: Source, K: Sink>(
         Ok(Command::Scan(name, segments, schedule, capacity, reported)) => scan(
             alloc, name, segments, schedule, capacity, reported, files, input, out,
         ),
+        Ok(Command::Save(build, picks, output)) => {
+            save_state(alloc, build, picks, output, files, input, out)
+        }
+        Ok(Command::Resume(name, schedule, reported)) => {
+            resume(alloc, name, schedule, reported, files, input, out)
+        }
     }
 }
 

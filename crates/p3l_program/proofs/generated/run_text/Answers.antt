@@ -37,5 +37,5 @@ returns-in-Ok-run-clause-ran c = λ r compiled.
     c.plan_of-plan.ensures.network
     ∙ compiled_network r tree (leaf c.in-Ok.units) c.in-Ok-link.net (firings tree counts) counts gen_capacity compiled.tree_is (c.in-Ok.ensures.leaf r.seqs bodies compiled.codes)
     c.in-Ok-link.ensures.net refl in
-    let on : IsRanOn here s c.args.text ran.finish ran.stats ran.sum = ran_on here s c.args.text _ _ _ _ ran (ap Some c.new-input.ensures) c.requires.short c.in-Ok-run.ensures.ends in
+    let on : IsRanOn here s c.args.text ran.finish ran.stats ran.sum = ran_on here refl s c.args.text _ _ _ _ ran (ap Some c.new-input.ensures) c.requires.short c.in-Ok-run.ensures.ends in
     record { s = s; picked = c.schedule_of.ensures; on = subst (λ n. IsRanOn n s c.args.text ran.finish ran.stats ran.sum) same on }

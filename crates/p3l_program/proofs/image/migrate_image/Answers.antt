@@ -6,7 +6,7 @@ use Rattle.p3l_program.specs.Image.{IsImage}
 use Rattle.p3l_program.specs.Load.{IsNotLoaded}
 use Rattle.p3l_program.specs.Stage.{migratable, migrate_stages}
 use Rattle.p3l_program.specs.World.{files_change}
-use Rattle.p3l_program.proofs.ImageSteps.{not_decoded, not_migrated, same_image}
+use Rattle.p3l_program.proofs.ImageSteps.{not_decoded, not_migrated, same_image, undecoded}
 use Rattle.p3l_program.proofs.image.migrate_image.Goals as goal
 
 pub returns-in-Err-decode-clause-refused : goal.returns-in-Err-decode-clause-refused
@@ -17,7 +17,7 @@ returns-in-Err-decode-clause-refused g c =
     let only = subst (λ (b : List ℕ). (i : Image) → IsImage i b → Answers b (Err r) (Ok i)) c.as_slice.ensures c.in-Err-decode.ensures.only in
     let exact = subst (λ (b : List ℕ). Answers b (Err r) (image_in b)) c.as_slice.ensures c.in-Err-decode.ensures.exact in
     subst (λ v. IsNotLoaded files (migrate_stages c.args.name) v) (sym c.image_verdict.ensures)
-    (not_decoded files c.args.name bytes c.in-Ok.ensures.found c.in-Ok.ensures.calm (migratable c.args.name ∷ []) r only exact)
+    (not_decoded files c.args.name bytes c.in-Ok.ensures.found c.in-Ok.ensures.calm (migratable c.args.name ∷ []) _ (undecoded bytes r only exact))
 
 pub returns-clause-refused : goal.returns-clause-refused
 returns-clause-refused g c =

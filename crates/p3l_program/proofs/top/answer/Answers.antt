@@ -9,5 +9,6 @@ returns g c = record {
     status_is = c.status-in-Err.ensures;
     due = due_no_memory _ _ c.perform-verdict.result c.perform-verdict.ensures.due;
     says = c.put_no_memory.ensures.told;
+    begins_to_say = c.put_no_memory.ensures.begun;
   };
 }

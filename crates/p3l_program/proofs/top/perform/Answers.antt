@@ -3,7 +3,7 @@ use Rattle.p3l_opts.specs.declared.command.Command.TheVariants as command
 use Rattle.p3l_opts.specs.Command.{Spells, texts_of}
 use Rattle.p3l_program.specs.Command.{work_of}
 use Rattle.p3l_program.specs.World.{change, files_change}
-use Rattle.p3l_program.proofs.DueSteps.{check_asked, file_asked, gen_asked, profile_asked, run_asked, saving_asked, text_asked, time_asked}
+use Rattle.p3l_program.proofs.DueSteps.{check_asked, file_asked, gen_asked, profile_asked, run_asked, save_asked, saving_asked, text_asked, time_asked}
 use Rattle.p3l_program.proofs.GenSteps.{items_few}
 use Rattle.p3l_program.proofs.top.perform.Goals as goal
 
@@ -195,4 +195,28 @@ returns-in-Ok-Scan g c =
           (change g.S.Source.rest g.S.Source.faults c.args.input.now c.scan.new.input)
           (change g.K.Sink.taken g.K.Sink.faults c.args.out.now c.scan.new.out)
           c.scan.result _ refl c.scan.ensures.due c.scan.ensures.kept c.scan.ensures.over;
+    }
+
+pub returns-in-Ok-Save : goal.returns-in-Ok-Save
+unfolding work_of
+returns-in-Ok-Save g c =
+    let asked = c.in-Ok-Save in
+    let spelled : Spells (texts_of c.args.words.now) (command.Save asked.build asked.picks asked.output) = search (rules, asked.ensures.spelled) in record {
+      due =
+          save_asked (texts_of c.args.words.now) _ spelled (files_change g.F.Files.held g.F.Files.faults g.F.Files.failed c.args.files.now c.save_state.new.files)
+          (change g.S.Source.rest g.S.Source.faults c.args.input.now c.save_state.new.input)
+          (change g.K.Sink.taken g.K.Sink.faults c.args.out.now c.save_state.new.out)
+          c.save_state.result _ _ _ refl c.save_state.ensures.due c.save_state.ensures.kept c.save_state.ensures.over;
+    }
+
+pub returns-in-Ok-Resume : goal.returns-in-Ok-Resume
+unfolding work_of
+returns-in-Ok-Resume g c =
+    let asked = c.in-Ok-Resume in
+    let spelled : Spells (texts_of c.args.words.now) (command.Resume asked.name asked.schedule asked.reported) = search (rules, asked.ensures.spelled) in record {
+      due =
+          run_asked (texts_of c.args.words.now) _ spelled (files_change g.F.Files.held g.F.Files.faults g.F.Files.failed c.args.files.now c.resume.new.files)
+          (change g.S.Source.rest g.S.Source.faults c.args.input.now c.resume.new.input)
+          (change g.K.Sink.taken g.K.Sink.faults c.args.out.now c.resume.new.out)
+          c.resume.result _ refl c.resume.ensures.due c.resume.ensures.kept c.resume.ensures.over;
     }

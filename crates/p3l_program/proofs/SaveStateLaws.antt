@@ -1,0 +1,200 @@
+-- What the answers of `save` rest on.
+use Rattle.std.proofs.Common.{◌≡◌, ◌≢◌, ℕ, true, false, List, [], ◌++◌, inl, inr, Option, Some, None, refl, sym, ap, subst, ◌∙◌, arith}
+use Rattle.p3l_firing.specs.Token.{has_trap}
+use Rattle.p3l_net.specs.Offered.{Follows}
+use Rattle.p3l_opts.specs.declared.command.Build.{Build}
+use Rattle.p3l_report.proofs.Statuses as statuses
+use Rattle.p3l_report.specs.declared.stats.Stats.{Stats}
+use Rattle.p3l_report.specs.declared.verdict.Finish.{Finish}
+use Rattle.p3l_report.specs.declared.verdict.Finish.TheVariants as finish
+use Rattle.p3l_report.specs.Status as status
+use Rattle.p3l_report.specs.Verdict.{ending_status, finish_status}
+use Rattle.p3l_run.specs.Checkpoint.{Reaches}
+use Rattle.p3l_run.specs.Checkpoint as checkpoint
+use Rattle.p3l_run.specs.declared.checkpoint.Checkpoint.{Checkpoint}
+use Rattle.p3l_run.specs.Feed.{closed_so}
+use Rattle.p3l_run.specs.Network.{Network, course_under}
+use Rattle.p3l_stream.specs.declared.items.Ending.{Ending}
+use Rattle.p3l_stream.specs.declared.items.Ending.TheVariants as ending
+use Rattle.p3l_stream.specs.Given.{GivenCause}
+use Rattle.p3l_stream.specs.Text.{text_of}
+use Rattle.p3l_program.specs.SaveState.{BeginsSave, EndsSave, IsSaveStatus, IsUsed, SavesWhole, save_behavior}
+use Rattle.p3l_program.specs.Trace.{IsUnrefused}
+use Rattle.p3l_program.specs.World.{Change, HasNoFault, HasRisen, World}
+use Rattle.p3l_program.proofs.EndSteps.{put_told}
+use Rattle.p3l_program.proofs.Lawful.{IsCalmStatus, Lawful}
+use Rattle.p3l_program.proofs.SaveStateSteps.{begun_so, emitted_on, status_done, status_ended, status_trapped, used_on, used_seen}
+use Rattle.p3l_program.proofs.SeenSteps.{ending_unstopped}
+use Rattle.p3l_program.proofs.TraceSteps.{all_go_on}
+
+-- where a run came to its checkpoint the stream was not refused as far as it was asked
+module _ (n : Network) (picks : List ℕ) (input out : Change (List ℕ)) (saved : Checkpoint) (s : checkpoint.IsSaved n picks input.old input.new input.before input.now out.old out.new saved) where
+  unrefused_by : (close : Option Ending) → s.reached.close ≡ close → IsUnrefused s.reached.close
+  unrefused_by None is = inl is
+  unrefused_by (Some e) is = elim s.over [ inl none ↦ absurd ((s.reached.asked e is).0 none) | inr ended ↦ inr ended ]
+
+  pub unrefused : IsUnrefused s.reached.close
+  unrefused = unrefused_by s.reached.close refl
+
+  pub left_ended : has_trap s.reached.outcomes ≡ false → s.reached.unused ≢ [] → (e : Ending) × (s.reached.close ≡ Some e)
+  left_ended quiet left = elim s.over [ inl none ↦ absurd (left none) | inr ended ↦ (ending.End, ended) ]
+
+-- a stream that was not refused did not fail
+unrefused_calm : (close : Option Ending) (before now : ℕ) → IsUnrefused close → GivenCause (closed_so close) before now → now ≡ before
+unrefused_calm close before now (inl none) cause = subst (λ c. GivenCause (closed_so c) before now) none cause
+unrefused_calm close before now (inr end) cause = subst (λ c. GivenCause (closed_so c) before now) end cause
+
+-- nor did one that ended so
+ended_calm : (e : Ending) (before now : ℕ) → (ending_status e ≡ status.read → ⊥) → GivenCause (closed_so (Some e)) before now → now ≡ before
+ended_calm ending.End before now other cause = cause
+ended_calm (ending.BadWord line) before now other cause = cause
+ended_calm (ending.WrongCount line had) before now other cause = cause
+ended_calm (ending.OutOfRange line) before now other cause = cause
+ended_calm ending.ReadFault before now other cause = absurd (other refl)
+ended_calm ending.TooLong before now other cause = cause
+
+true_is_not_false : true ≡ false → ⊥
+true_is_not_false h = cc
+
+module _ (w : World) (build : Build) (name output : List ℕ) where
+  save_begun : (f : Finish) (told : Option Stats) → EndsSave w build name output f told → BeginsSave w build name
+  save_begun finish.Done told e =
+      record { n = e.n; counts = e.counts; image = e.image; picks = e.picks; has = e.has; begun = begun_so e.n e.picks w.input w.out e.to.comes.is.reached e.to.comes.meant }
+  save_begun (finish.Stream k) told e =
+      record { n = e.n; counts = e.counts; image = e.image; picks = e.picks; has = e.has; begun = begun_so e.n e.picks w.input w.out e.to.0.is.reached e.to.0.meant }
+  save_begun (finish.Trapped item kind home) told e =
+      record { n = e.n; counts = e.counts; image = e.image; picks = e.picks; has = e.has; begun = begun_so e.n e.picks w.input w.out e.to.0.is.reached e.to.0.meant }
+  save_begun (finish.Stopped fired idle) told e = absurd e.to
+  save_begun (finish.Differs line) told e = absurd e.to
+
+  -- an end of status 0 is whole
+  save_whole : (rest taken : List ℕ) (f : Finish) (told : Option Stats) → w.input.old ≡ Some rest → w.out.old ≡ Some taken → finish_status f ≡ status.done → EndsSave w build name output f told → SavesWhole w build name output rest taken
+  save_whole rest taken finish.Done told input out h e =
+      let s = e.to.comes.is in
+      let r = s.reached in
+      let all = all_go_on e.n rest w.input.old w.input.new w.input.before w.input.now r.close r.stream r.items r.gives input (unrefused e.n e.picks w.input w.out e.to.saved s) in
+      let emitted = emitted_on e.n e.picks w.input w.out r all.later all.may_come.wide in
+      record {
+        n = e.n;
+        counts = e.counts;
+        image = e.image;
+        picks = e.picks;
+        has = e.has;
+        used = r.used;
+        unused = r.unused;
+        is_used =
+            subst (λ items. IsUsed e.n items e.picks r.used r.unused) (sym all.all)
+            (used_on e.n e.picks w.input w.out r e.to.comes.meant (left_ended e.n e.picks w.input w.out e.to.saved s) all.later all.may_come);
+        calm = ap has_trap (ap (λ items. (course_under e.n items r.used).state.emitted) all.all ∙ sym emitted) ∙ s.calm;
+        ended = λ left. elim s.over [ inl none ↦ absurd (left none) | inr closed ↦ all.ending_is ending.End closed ];
+        taken_is =
+            put_told w.out.old w.out.new taken (text_of r.outcomes) out r.put
+            ∙ ap (λ o. Some (taken ++ text_of o)) (emitted ∙ ap (λ items. (course_under e.n items r.used).state.emitted) (sym all.all));
+        offered = r.items;
+        later = all.later;
+        items_are = all.all;
+        shot = e.to.saved.shot;
+        shot_is = record {
+          m = r.m;
+          follows = subst (λ o. Follows r.m o all.later (course_under e.n (r.items ++ all.later) r.used)) emitted (r.follows all.later all.may_come.wide);
+          shot_is = s.shot_is;
+        };
+        bytes = e.to.bytes;
+        snapshot_is = e.to.snapshot_is;
+        stands = e.to.stands;
+      }
+  save_whole rest taken (finish.Stream k) told input out h e = absurd (e.to.0.is.other (statuses.done_is k h))
+  save_whole rest taken (finish.Trapped item kind home) told input out h e = absurd (omega arith)
+  save_whole rest taken (finish.Stopped fired idle) told input out h e = absurd e.to
+  save_whole rest taken (finish.Differs line) told input out h e = absurd e.to
+
+  -- where no fault comes it ends with the status that is expected
+  save_status_due : (rest : List ℕ) (f : Finish) (told : Option Stats) → w.input.old ≡ Some rest → HasNoFault w → EndsSave w build name output f told → IsSaveStatus w build name rest (finish_status f)
+  save_status_due rest finish.Done told input calm e =
+      let s = e.to.comes.is in
+      let r = s.reached in record {
+        n = e.n;
+        counts = e.counts;
+        image = e.image;
+        picks = e.picks;
+        has = e.has;
+        used = r.used;
+        unused = r.unused;
+        is_used = used_seen e.n e.picks w.input w.out r rest input calm.input e.to.comes.meant (left_ended e.n e.picks w.input w.out e.to.saved s);
+        status_is = elim s.over [
+          | inl none ↦ status_done e.n e.picks w.input w.out r rest input calm.input s.calm none
+          | inr ended ↦ status_ended e.n e.picks w.input w.out r rest input calm.input s.calm ending.End ended
+        ];
+      }
+  save_status_due rest (finish.Stream k) told input calm e =
+      let s = e.to.0.is in
+      let r = s.reached in record {
+        n = e.n;
+        counts = e.counts;
+        image = e.image;
+        picks = e.picks;
+        has = e.has;
+        used = r.used;
+        unused = r.unused;
+        is_used = used_seen e.n e.picks w.input w.out r rest input calm.input e.to.0.meant (λ quiet left. (k, s.close_is));
+        status_is = status_ended e.n e.picks w.input w.out r rest input calm.input s.calm k s.close_is;
+      }
+  save_status_due rest (finish.Trapped item kind home) told input calm e =
+      let s = e.to.0.is in
+      let r = s.reached in record {
+        n = e.n;
+        counts = e.counts;
+        image = e.image;
+        picks = e.picks;
+        has = e.has;
+        used = r.used;
+        unused = r.unused;
+        is_used = used_seen e.n e.picks w.input w.out r rest input calm.input e.to.0.meant (λ quiet left. absurd (true_is_not_false (sym s.trapped ∙ quiet)));
+        status_is = status_trapped e.n e.picks w.input w.out r rest input calm.input s.trapped;
+      }
+  save_status_due rest (finish.Stopped fired idle) told input calm e = absurd e.to
+  save_status_due rest (finish.Differs line) told input calm e = absurd e.to
+
+  -- a fault of reading is answered where the count of the input rose, and else it stays
+  save_read : (f : Finish) (told : Option Stats) → EndsSave w build name output f told → finish_status f ≡ status.read → HasRisen w.input
+  save_read finish.Done told e h = absurd (omega arith)
+  save_read (finish.Stream k) told e h =
+      let s = e.to.0.is in
+      subst (λ c. GivenCause (closed_so c) w.input.before w.input.now) (s.close_is ∙ ap Some (statuses.read_is k h)) s.reached.gives.cause
+  save_read (finish.Trapped item kind home) told e h = absurd (omega arith)
+  save_read (finish.Stopped fired idle) told e h = absurd e.to
+  save_read (finish.Differs line) told e h = absurd e.to
+
+  save_calm : (f : Finish) (told : Option Stats) → EndsSave w build name output f told → IsCalmStatus (finish_status f) → w.input.now ≡ w.input.before
+  save_calm finish.Done told e h =
+      let s = e.to.comes.is in
+      unrefused_calm s.reached.close w.input.before w.input.now (unrefused e.n e.picks w.input w.out e.to.saved s) s.reached.gives.cause
+  save_calm (finish.Stream k) told e h =
+      let s = e.to.0.is in
+      ended_calm k w.input.before w.input.now h.3 (subst (λ c. GivenCause (closed_so c) w.input.before w.input.now) s.close_is s.reached.gives.cause)
+  save_calm (finish.Trapped item kind home) told e h = absurd (h.2 refl)
+  save_calm (finish.Stopped fired idle) told e h = absurd e.to
+  save_calm (finish.Differs line) told e h = absurd e.to
+
+  -- it is never stopped
+  save_unstopped : (f : Finish) (told : Option Stats) → EndsSave w build name output f told → finish_status f ≡ status.stopped → ⊥
+  save_unstopped finish.Done told e h = absurd (omega arith)
+  save_unstopped (finish.Stream k) told e h = ending_unstopped k h
+  save_unstopped (finish.Trapped item kind home) told e h = absurd (omega arith)
+  save_unstopped (finish.Stopped fired idle) told e h = absurd e.to
+  save_unstopped (finish.Differs line) told e h = absurd e.to
+
+pub save_lawful : (build : Build) (name output : List ℕ) → Lawful (save_behavior build name output)
+save_lawful build name output = record {
+  begun = λ w f told e. save_begun w build name output f told e;
+  whole = λ w rest taken f told input out h e. save_whole w build name output rest taken f told input out h e;
+  status_due = λ w rest f told input calm e. save_status_due w build name output rest f told input calm e;
+  read = λ w f told e h. save_read w build name output f told e h;
+  calm = λ w f told e h. save_calm w build name output f told e h;
+  stopped = λ w f told e h. absurd (save_unstopped w build name output f told e h);
+  writer = λ w h. record { name = output; one = inl refl; failed = h.2 };
+  first_written = λ none. refl;
+  reads_first = λ limit before after is. refl;
+  touches = λ w some. absurd (some refl);
+  ran = λ w run f told is e. absurd cc;
+}

@@ -1,0 +1,50 @@
+-- What is loaded from the snapshot of a file, and why nothing is.
+use Rattle.std.specs.Prelude.{◌≡◌, ℕ, ◌≤◌, List, Option}
+use Rattle.p3l_image.specs.declared.image.Image.{Image}
+use Rattle.p3l_io.specs.Told.{Held}
+use Rattle.p3l_load.specs.Load.{loaded_of}
+use Rattle.p3l_report.specs.declared.evidence.Evidence.TheVariants as evidence
+use Rattle.p3l_report.specs.declared.verdict.Refusal.TheVariants as refusal
+use Rattle.p3l_report.specs.declared.verdict.Verdict.{Verdict}
+use Rattle.p3l_report.specs.declared.verdict.Verdict.TheVariants as verdict
+use Rattle.p3l_resume.specs.declared.saved.Saved.{Saved}
+use Rattle.p3l_resume.specs.declared.saved.ShotRefusal.{ShotRefusal}
+use Rattle.p3l_resume.specs.declared.saved.ShotRefusal.TheVariants as shots
+use Rattle.p3l_resume.specs.Saved.{IsSpelling}
+use Rattle.p3l_skel.specs.Numbers.{procs}
+use Rattle.p3l_program.specs.declared.snapshot.Snapshot.{Snapshot}
+use Rattle.p3l_program.specs.File.{HasText}
+use Rattle.p3l_program.specs.Image.{IsImage}
+use Rattle.p3l_program.specs.LoadImage.{IsReadyImage}
+use Rattle.p3l_program.specs.Snapshot.{IsResumable, IsSoundFor, snapshot_limit}
+
+-- the verdict of bytes that are no snapshot
+abbrev pub shot_verdict : ShotRefusal → Verdict
+shot_verdict (shots.BadShot place) = verdict.Refused (refusal.Evidence (evidence.BadShot place))
+shot_verdict shots.NoMemory = verdict.NoMemory
+
+-- the one snapshot that the file of this name has was read
+pub record ReadsSnapshot (files : Option Held) (name : List ℕ) (saved : Saved) : Type 0 where
+  pub bytes : List ℕ
+  pub has : HasText files snapshot_limit name bytes
+  pub spelled : IsSpelling saved bytes
+  pub only : (other : Saved) → IsSpelling other bytes → other ≡ saved
+
+-- what was loaded is ready to be run, and can go on from what was saved
+pub record IsReadySnapshot (snapshot : Snapshot) : Type 0 where
+  pub image : IsReadyImage snapshot.network
+  pub sound : IsSoundFor snapshot.network snapshot.shot
+  pub few_procs : procs snapshot.network.tree snapshot.network.counts.list 0 ≤ 4096
+  pub few_tokens : snapshot.network.cap ≤ 1024
+
+-- the one snapshot that the file of this name has was loaded, with the one image that it has
+pub record LoadsSnapshot (files : Option Held) (name : List ℕ) (snapshot : Snapshot) : Type 0 where
+  pub i : Image
+  pub loaded_is : snapshot.network ≡ loaded_of i
+  pub saved : Saved
+  pub shot_is : snapshot.shot ≡ saved.shot
+  pub reads : ReadsSnapshot files name saved
+  pub resumable : IsResumable i saved reads.bytes
+  pub only : (other : Image) → IsImage other saved.image → other ≡ i
+  pub room : 1 ≤ i.cap
+  pub few : i.cap ≤ 1024

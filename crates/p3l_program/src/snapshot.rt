@@ -1,0 +1,94 @@
+// Loading the snapshot that a command resumes.
+
+ghost use Rattle.std.specs.Prelude.{◌≡◌, IfOk, IfErr, OnOk};
+ghost use Rattle.p3l_program.specs.Load.{IsNotLoaded, LoadsNetwork};
+ghost use Rattle.p3l_program.specs.LoadSnapshot.{IsReadySnapshot, LoadsSnapshot, ReadsSnapshot, shot_verdict};
+ghost use Rattle.p3l_program.specs.Origin.{continued};
+ghost use Rattle.p3l_program.specs.Plan.{continued_network};
+ghost use Rattle.p3l_program.specs.Stage.{snapshot_stages};
+ghost use Rattle.p3l_program.specs.World.{files_change};
+
+use crate::file::find_text;
+use crate::image::load_bytes;
+use p3l_base::Name;
+use p3l_io::Files;
+use p3l_load::Loaded;
+use p3l_net::Shot;
+use p3l_orderly::is_sound;
+use p3l_report::{Evidence, Refusal, Verdict};
+use p3l_resume::{Saved, ShotRefusal, read_shot};
+use std::alloc::Global;
+
+/// The most bytes of a file of a snapshot.
+pub const SNAPSHOT_LIMIT: u64 = 268_435_456;
+
+/// A snapshot that can be resumed: its network, and what was saved of a run of it.
+#[derive(Drop)]
+pub struct Snapshot {
+    pub network: Loaded,
+    pub shot: Shot,
+}
+
+/// The verdict of bytes that are no snapshot.
+fn shot_verdict(refusal: ShotRefusal) -> Verdict
+    ensures { result ≡ shot_verdict refusal }
+{
+    match refusal {
+        ShotRefusal::BadShot(place) => {
+            Verdict::Refused(Refusal::Evidence(Evidence::BadShot(place)))
+        }
+        ShotRefusal::NoMemory => Verdict::NoMemory,
+    }
+}
+
+/// The snapshot of the file of this name, or the verdict that there is none.
+fn read_snapshot<F: Files>(alloc: Global, name: Name, files: &mut F) -> Result<Saved, Verdict>
+    ensures read { IfOk result (ReadsSnapshot (F.held files.old) name) }
+    ensures calm { OnOk result (F.faults files.new ≡ F.faults files.old) }
+    ensures refused { IfErr result (IsNotLoaded
+        (files_change F.held F.faults F.failed files.old files.new)
+        (snapshot_stages name)) }
+    ensures stays { F.held files.new ≡ F.held files.old }
+{
+    match find_text(alloc, name, SNAPSHOT_LIMIT, files) {
+        Err(refusal) => Err(Verdict::from(refusal)),
+        Ok(bytes) => match read_shot(alloc, bytes.as_slice()) {
+            Ok(saved) => Ok(saved),
+            Err(refusal) => Err(shot_verdict(refusal)),
+        },
+    }
+}
+
+/// The snapshot of the file of this name with its image loaded, if it can be resumed; else the verdict
+/// that it can't.
+pub fn load_snapshot<F: Files>(
+    alloc: Global,
+    name: Name,
+    files: &mut F,
+) -> Result<Snapshot, Verdict>
+    ensures network { IfOk result (λ snapshot. LoadsNetwork (F.held files.old) (continued name)
+        (continued_network snapshot.network snapshot.shot)) }
+    ensures ready { IfOk result IsReadySnapshot }
+    ensures calm { OnOk result (F.faults files.new ≡ F.faults files.old) }
+    ensures refused { IfErr result (IsNotLoaded
+        (files_change F.held F.faults F.failed files.old files.new)
+        (snapshot_stages name)) }
+    ensures stays { F.held files.new ≡ F.held files.old }
+{
+    let saved = match read_snapshot(alloc, name, files) {
+        Ok(saved) => saved,
+        Err(verdict) => return Err(verdict),
+    };
+    let Saved { shot, image } = saved;
+    let network = match load_bytes(alloc, image.as_slice()) {
+        Ok(network) => network,
+        Err(verdict) => return Err(verdict),
+    };
+    let Ok(sound) = is_sound(alloc, &network.tree, &network.counts, &network.net, &shot) else {
+        return Err(Verdict::NoMemory);
+    };
+    if !sound {
+        return Err(Verdict::Refused(Refusal::Evidence(Evidence::NotSound)));
+    }
+    Ok(Snapshot { network, shot })
+}
