@@ -58,6 +58,17 @@ const OF_AN_IMAGE: &[Cases] = &[Cases(
     ],
 )];
 
+/// The items end before the eighth pick, with the third on its way.
+const OF_SAVING: &[Cases] = &[Cases(
+    "save m.p3l --processors 16 --costs c --schedule file:p --output new",
+    &[
+        Case(ALL, FIRST_FILE, ITEMS, NO_PROGRAM),
+        Case(ALL, SECOND_FILE, ITEMS, NO_COSTS),
+        Case(ALL, THIRD_FILE, ITEMS, NO_PICKS),
+        Case(ALL, FOURTH_FILE, ITEMS, Ends(10, "3\n5\n", "write fault\n")),
+    ],
+)];
+
 const OF_COMPILING: &[Cases] = &[Cases(
     "compile m.p3l --processors 4 --costs c --output new",
     &[
@@ -120,6 +131,7 @@ const OF_READING: &[Cases] = &[
 const EACH: &[&[Cases]] = &[
     OF_A_RUN,
     OF_AN_IMAGE,
+    OF_SAVING,
     OF_COMPILING,
     OF_AN_EXPLANATION,
     OF_VERIFYING,

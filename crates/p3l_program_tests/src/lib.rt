@@ -10,6 +10,8 @@ mod bodies;
 #[cfg(test)]
 mod certificates;
 #[cfg(test)]
+mod checkpoints;
+#[cfg(test)]
 mod counts;
 #[cfg(test)]
 mod damaged_images;

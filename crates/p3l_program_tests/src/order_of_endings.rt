@@ -1,6 +1,6 @@
 // Where a run or a trace would end in several ways, the first of them is told.
 
-use crate::texts::{DOUBLE, HUNDRED_FILES, READ_FAULT, TRACE, WRITE_FAULT};
+use crate::texts::{DOUBLE, HUNDRED, HUNDRED_FILES, READ_FAULT, TRACE, WRITE_FAULT};
 use crate::world::{Case, Cases, Ends, Held, NO_PUT, NO_TAKE, NONE, THIRD_TAKE, take_cases};
 use std::test::Fail;
 
@@ -57,9 +57,29 @@ const CHECKING_ENDS: &[Cases] = &[Cases(
     ],
 )];
 
-const ENDINGS: &[&[Cases]] = &[A_RUN_ENDS, CHECKING_ENDS];
+/// Picks of which a trap is the last outcome, and some that are left over then.
+const ONE_OUTCOME: &[Held] = &[Held("m.p3l", HUNDRED), Held("p", "0 2 1 0 2\n")];
+
+/// The input is refused where an item is requested, whatever is in the network by then.
+const SAVING_ENDS: &[Cases] = &[Cases(
+    "save m.p3l --processors 4 --schedule file:p --output new",
+    &[
+        Case(ONE_OUTCOME, NO_PUT, "5\n2\nx\n", WRITE_FAULT),
+        Case(ONE_OUTCOME, NONE, "0\n2\nx\n", TRAPPED),
+        Case(ONE_OUTCOME, THIRD_TAKE, "0\n2\n", READ_FAULT),
+        Case(ONE_OUTCOME, NONE, "0\nx\n", Ends(6, "", BAD_WORD)),
+        Case(
+            ONE_OUTCOME,
+            NONE,
+            "5\n2\nx\n",
+            Ends(6, "20\n", "stream: line 3: 100 BadWord\n"),
+        ),
+    ],
+)];
+
+const ENDINGS: &[&[Cases]] = &[A_RUN_ENDS, CHECKING_ENDS, SAVING_ENDS];
 
 #[test]
-fn runs_and_checking_end_by_the_first_of_their_ends(rt: HostRuntime) -> Result<(), Fail> {
+fn runs_checking_and_saving_end_by_the_first_of_their_ends(rt: HostRuntime) -> Result<(), Fail> {
     take_cases(&rt, rt.alloc(), ENDINGS)
 }

@@ -100,6 +100,56 @@ const AN_IMAGE_IS_REFUSED: &[Cases] = &[
     ),
 ];
 
+const SAVING_IS_REFUSED: &[Cases] = &[
+    Cases(
+        "save none.p3l --processors 4 --schedule rr --output new",
+        &[Case(DOUBLE_FILES, NO_TAKE, "1\n", USAGE)],
+    ),
+    Cases(
+        "save m.p3l --processors 3 --costs c --schedule file:p --output new",
+        FRONT_UNTAKEN,
+    ),
+    Cases(
+        "save m.p3l --processors 3 --schedule file:p --output new",
+        &[
+            Case(MANY, NO_TAKE, "1\n", TOO_FEW),
+            Case(DOUBLE_FILES, NO_TAKE, "1\n", NO_PICKS),
+            Case(BAD_PICKS, NO_TAKE, "1\n", REFUSED_PICK),
+        ],
+    ),
+];
+
+/// A snapshot of nothing but the beginning of an image, which is looked at before the state is.
+const SNAPSHOT_OF_NONE: &[Held] = &[Held(
+    "s",
+    "P3LS\0\0\0\x01\0\0\0\0\0\0\0\x01\0\0\0\0\0\0\0\0\0\0\0\0\0\0\0\0\0\0\0\0\x04P3LI",
+)];
+
+const RESUMING_IS_REFUSED: &[Cases] = &[
+    Cases(
+        "resume s --processors 4",
+        &[Case(DOUBLE_FILES, NO_TAKE, "1\n", USAGE)],
+    ),
+    Cases(
+        "resume s --schedule file:p",
+        &[
+            Case(DOUBLE_FILES, NO_TAKE, "1\n", Ends(9, "", "file fault: s\n")),
+            Case(
+                &[Held("s", "P3LI")],
+                NO_TAKE,
+                "1\n",
+                Ends(13, "", "evidence: 130 BadShot 0\n"),
+            ),
+            Case(
+                SNAPSHOT_OF_NONE,
+                NO_TAKE,
+                "1\n",
+                Ends(13, "", "evidence: 82 Short 4\n"),
+            ),
+        ],
+    ),
+];
+
 const AN_EXPLANATION_IS_REFUSED: &[Cases] = &[
     Cases(
         "explain m.p3l --processors 0 --cert e",
@@ -267,6 +317,13 @@ fn a_run_is_refused_by_the_first_of_its_stages(rt: HostRuntime) -> Result<(), Fa
 #[test]
 fn an_image_is_refused_by_the_first_of_its_stages(rt: HostRuntime) -> Result<(), Fail> {
     take_cases(&rt, rt.alloc(), &[AN_IMAGE_IS_REFUSED])
+}
+
+#[test]
+fn saving_and_resuming_are_refused_by_the_first_of_their_stages(
+    rt: HostRuntime,
+) -> Result<(), Fail> {
+    take_cases(&rt, rt.alloc(), &[SAVING_IS_REFUSED, RESUMING_IS_REFUSED])
 }
 
 #[test]
