@@ -12,13 +12,13 @@ import subprocess
 COLLECTED = re.compile(rb"Collected : (\d+)")
 
 
-def seconds(words, stream):
-    """The processor time of a command that ends with 0, on this file as standard input."""
+def seconds(words, stream, status=0):
+    """The processor time of a command that ends with this status, on this file as standard input."""
     with open(stream, "rb") as given, open(os.devnull, "wb") as sink:
         child = subprocess.Popen(words, stdin=given, stdout=sink, stderr=sink)
-        _, status, used = os.wait4(child.pid, 0)
-        child.returncode = os.waitstatus_to_exitcode(status)
-    if child.returncode:
+        _, ended, used = os.wait4(child.pid, 0)
+        child.returncode = os.waitstatus_to_exitcode(ended)
+    if child.returncode != status:
         raise SystemExit(f"status {child.returncode}: {' '.join(words)}")
     return used.ru_utime + used.ru_stime
 

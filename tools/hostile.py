@@ -3,7 +3,7 @@
 
     tools/hostile.py PATH_OF_P3L [--quick]
 
-Each kind of input (a source text, costs, a certificate, an image, a trace, picks, the stream) is tried empty, of one byte, of
+Each kind of input (a source text, costs, a certificate, an image, a trace, picks, a snapshot, the stream) is tried empty, of one byte, of
 random bytes by a fixed seed, of the greatest length and one byte more, and valid with one byte changed at each place. Each
 answer must have a status of docs/COMMANDS.md and lines of its forms, and must come in time that grows with the bytes. The
 last table gives seconds by length.
@@ -23,6 +23,8 @@ COSTS = b"setup = 0\nword = 0\n[seq]\nf = 10\ng = 60\n"
 STREAM = b"1\n-2 \n\n30\t\r\n4"
 LISTS = b"1 -2 3 4\n\n5 6\t 7 8"
 PICKS = b"0 2 0 1 3 4 5 6 1 2 0 0 1 7 3 2 1\n"
+# Picks after which items are on their way and one waits.
+SOME = b"0 2 0 3\n"
 PROCESSORS = ["--processors", "4"]
 MIB = 1 << 20
 SECONDS = 600
@@ -41,6 +43,7 @@ LINES = [
     rb"scan: (120 NotReduce|121 BadSegments)",
     rb"stats: items \d+, fired \d+, idle \d+, bound \d+",
     rb"time: items \d+, fired \d+, finish \d+, busiest \d+ \d+",
+    rb"saved: items \d+, picks \d+",
     rb"(read|write) fault|no memory|input too long",
 ]
 NAMED = re.compile(rb"(?:(?:" + rb"|".join(LINES) + rb")\n)*\Z", re.DOTALL)
@@ -61,13 +64,14 @@ def run(binary, folder, words, stream):
 
 def valid_files(binary, folder):
     """Writes the valid files, and has p3l make those that it makes."""
-    for name, data in [("m.p3l", PROGRAM), ("reduce.p3l", REDUCE), ("costs", COSTS), ("picks", PICKS)]:
+    for name, data in [("m.p3l", PROGRAM), ("reduce.p3l", REDUCE), ("costs", COSTS), ("picks", PICKS), ("some", SOME)]:
         with open(f"{folder}/{name}", "wb") as it:
             it.write(data)
     makes = {
         "cert": ["explain", "m.p3l", *PROCESSORS, "--costs", "costs", "--cert", "cert"],
         "image": ["compile", "m.p3l", *PROCESSORS, "--costs", "costs", "--output", "image"],
         "trace": ["run", "m.p3l", *PROCESSORS, "--costs", "costs", "--trace", "trace"],
+        "snapshot": ["save", "m.p3l", *PROCESSORS, "--costs", "costs", "--schedule", "file:some", "--output", "snapshot"],
     }
     made = {}
     for name, words in makes.items():
@@ -94,12 +98,18 @@ def cases(made):
     yield Case("stream, time", ["time", "m.p3l", *PROCESSORS], None, STREAM, 64 * MIB, {0, 6, 7, 11})
     yield Case("stream, scan", ["scan", "reduce.p3l", "--segments", "2"], None, LISTS, 64 * MIB, {0, 6, 7, 11})
     yield Case("source, profile", ["profile", "m.p3l"], "m.p3l", PROGRAM, MIB, {0, 3, 6, 7, 9, 11})
+    saved = ["--schedule", "file:picks", "--output", "saved"]
+    yield Case("source, save", ["save", "m.p3l", *PROCESSORS, *saved], "m.p3l", PROGRAM, MIB, {0, 3, 5, 6, 7, 9, 11, 12})
+    yield Case("picks, save", ["save", "m.p3l", *PROCESSORS, *saved], "picks", PICKS, 64 * MIB, {0, 9, 11, 12})
+    yield Case("stream, save", ["save", "m.p3l", *PROCESSORS, *saved], None, STREAM, 64 * MIB, {0, 6, 7, 11})
     yield Case("stream, profile", ["profile", "m.p3l"], None, STREAM, 64 * MIB, {0, 6, 7, 11})
     if "cert" in made:
         yield Case("certificate", ["verify-cert", "m.p3l", *costs, "--cert", "cert"], "cert", made["cert"], 256 * MIB, {0, 9, 11, 13})
     if "image" in made:
         yield Case("image", ["exec", "image"], "image", made["image"], 64 * MIB, {0, 6, 7, 9, 11, 13})
         yield Case("image, migrated", ["migrate", "image", "--output", "migrated"], "image", made["image"], 64 * MIB, {0, 9, 11, 13})
+    if "snapshot" in made:
+        yield Case("snapshot", ["resume", "snapshot"], "snapshot", made["snapshot"], 256 * MIB, {0, 6, 7, 9, 11, 13})
     if "trace" in made:
         yield Case("trace", ["check-trace", "m.p3l", *PROCESSORS, *costs, "--trace", "trace"], "trace", made["trace"], 256 * MIB, {0, 6, 9, 11, 13, 14})
 

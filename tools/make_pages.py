@@ -20,7 +20,8 @@ TEXT = re.compile(r'const (\w+): &str =\s*"((?:[^"\\]|\\.)*)";', re.S)
 PAGE = re.compile(r'topic: "([^"]*)",\s*text: (?:(\w+)|"((?:[^"\\]|\\.)*)"),', re.S)
 WORD = re.compile(r"^  (--[a-z]+|[A-Z]+)(?: ([A-Z]+))? {2,}(.*)$")
 LISTED = re.compile(r"^  ([a-z-]+)[^ ]*.*?  +([a-z].*)$", re.M)
-FILES = ("FILE", "PROGRAM", "IMAGE", "PREFIX")
+FILES = ("FILE", "PROGRAM", "IMAGE", "SNAPSHOT", "PREFIX")
+SCHEDULES = ("rr", "seed:", "file:")
 # How the sources write a number of refusal with its name: as two rows of matches, or within the text of a line.
 NUMBERED = re.compile(r"\b(?:Line)?Fault::(\w+) => (\d+),")
 PRINTED = re.compile(r'"(?:\w+: )?(\d+) ([A-Z]\w+)')
@@ -54,6 +55,7 @@ class Word:
         self.name, self.value, self.text = name, value, text
         self.is_option = name.startswith("--")
         self.takes_file = (value or name) in FILES
+        self.schedules = [it for it in SCHEDULES if re.search(rf"\b{it}", text)]
 
 
 class Command:
@@ -103,8 +105,10 @@ def man_page(pages):
 def bash_completion(pages):
     names = " ".join(command.name for command in pages.commands)
     out = ["# Completions of p3l for bash.", "_p3l() {", "  local word=${COMP_WORDS[COMP_CWORD]} before=${COMP_WORDS[COMP_CWORD - 1]} words="]
-    out += ["  case $before in", "    --schedule)", "      compopt -o nospace 2>/dev/null"]
-    out += ["      COMPREPLY=($(compgen -W 'rr seed: file:' -- \"$word\"))", "      return ;;"]
+    out += ["  case $before in", "    --schedule)", "      compopt -o nospace 2>/dev/null", "      case ${COMP_WORDS[1]} in"]
+    for command in pages.commands:
+        out += [f"        {command.name}) words='{' '.join(it.schedules)}' ;;" for it in command.options() if it.value == "S"]
+    out += ["      esac", '      COMPREPLY=($(compgen -W "$words" -- "$word"))', "      return ;;"]
     options = {option.name: option for command in pages.commands for option in command.options()}.values()
     files = "|".join(sorted(option.name for option in options if option.takes_file))
     others = "|".join(sorted(option.name for option in options if option.value and not option.takes_file and option.value != "S"))
@@ -133,7 +137,8 @@ def zsh_completion(pages):
     for command in pages.commands:
         rows = []
         for word in command.words:
-            action = "_files" if word.takes_file else "(rr seed\\: file\\:)" if word.value == "S" else " "
+            schedules = " ".join(word.schedules).replace(":", "\\:")
+            action = "_files" if word.takes_file else f"({schedules})" if word.value == "S" else " "
             text = quoted(re.sub(r"([\[\]:])", r"\\\1", word.text))
             if not word.is_option:
                 rows.append(f"'1:{word.name}:{action}'")
@@ -155,7 +160,8 @@ def fish_completion(pages):
         out.append(f"complete -c p3l -n __fish_use_subcommand -f -a {command.name} -d '{quoted(command.summary)}'")
         for option in command.options():
             seen = f"-n '__fish_seen_subcommand_from {command.name}' -l {option.name[2:]}"
-            value = "-r" if option.takes_file else "-x -a 'rr seed: file:'" if option.value == "S" else "-x" if option.value else "-f"
+            schedules = f"-x -a '{' '.join(option.schedules)}'"
+            value = "-r" if option.takes_file else schedules if option.value == "S" else "-x" if option.value else "-f"
             out.append(f"complete -c p3l {seen} {value} -d '{quoted(option.text)}'")
     names = " ".join([*(command.name for command in pages.commands), *pages.topics])
     out.append("complete -c p3l -n __fish_use_subcommand -f -a help -d 'say what a topic is'")

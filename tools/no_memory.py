@@ -19,8 +19,10 @@ FARM = b"seq f in(int x) out(int y) ${ y = x + 1; }$ end seq seq g in(int x) out
 LESS = b"seq less in(int x, int y) out(int z) ${ z = x - y; }$ end seq reduce main in(int a[4]) out(int s) less in(a[*i]) out(s) end reduce"
 COSTS = b"setup = 0\nword = 0\n[seq]\nf = 10\ng = 60\n"
 PICKS = b"0 1 2 3 4 5 7 8 9 " * 200 + b"0 1 2 3 4 5 6 7 8 9 " * 200
-FILES = {"double.p3l": DOUBLE, "loop.p3l": LOOP, "farm.p3l": FARM, "less.p3l": LESS, "costs": COSTS, "picks": PICKS}
+FEW = b"0 1 2 3 4 5 7 8 9 " * 6
+FILES = {"double.p3l": DOUBLE, "loop.p3l": LOOP, "farm.p3l": FARM, "less.p3l": LESS, "costs": COSTS, "picks": PICKS, "few": FEW}
 COSTED = ["farm.p3l", "--processors", "8", "--costs", "costs"]
+SAVED = ["save", "loop.p3l", "--processors", "16", "--capacity", "1", "--schedule", "file:few", "--output"]
 # The words of each run, its stream, and the words by which its files are made before.
 RUNS = [
     (["run", "double.p3l", "--processors", "4", "--stats"], b"1\n2\n-3\n", []),
@@ -41,6 +43,8 @@ RUNS = [
     (["profile", "loop.p3l"], b"64 0\n3 0\n", []),
     (["scan", "less.p3l", "--segments", "4", "--stats"], b"1 2 3 4\n5 5 5 5\n", []),
     (["time", *COSTED, "--picks", "made.picks"], b"1\n2\n-3\n", []),
+    ([*SAVED, "saved"], b"64 0\n3 0\n" * 5, []),
+    (["resume", "made.shot", "--stats"], b"5 0\n", [*SAVED, "made.shot"]),
 ]
 
 
