@@ -58,17 +58,6 @@ const OF_AN_IMAGE: &[Cases] = &[Cases(
     ],
 )];
 
-/// The items end before the eighth pick, with the third on its way.
-const OF_SAVING: &[Cases] = &[Cases(
-    "save m.p3l --processors 16 --costs c --schedule file:p --output new",
-    &[
-        Case(ALL, FIRST_FILE, ITEMS, NO_PROGRAM),
-        Case(ALL, SECOND_FILE, ITEMS, NO_COSTS),
-        Case(ALL, THIRD_FILE, ITEMS, NO_PICKS),
-        Case(ALL, FOURTH_FILE, ITEMS, Ends(10, "3\n5\n", "write fault\n")),
-    ],
-)];
-
 const OF_COMPILING: &[Cases] = &[Cases(
     "compile m.p3l --processors 4 --costs c --output new",
     &[
@@ -131,7 +120,6 @@ const OF_READING: &[Cases] = &[
 const EACH: &[&[Cases]] = &[
     OF_A_RUN,
     OF_AN_IMAGE,
-    OF_SAVING,
     OF_COMPILING,
     OF_AN_EXPLANATION,
     OF_VERIFYING,
@@ -155,6 +143,33 @@ const OF_A_PROFILE: &[Cases] = &[Cases(
 #[test]
 fn each_file_of_a_scan_or_a_profile_fails_in_turn(rt: HostRuntime) -> Result<(), Fail> {
     take_cases(&rt, rt.alloc(), &[OF_A_SCAN, OF_A_PROFILE])
+}
+
+const BUILT: &[Held] = &[
+    Held("m.p3l", DOUBLE),
+    Held("c", "default = 1\n"),
+    Held("p", "0 2 1 0 2 1 0 2 1\n"),
+];
+
+/// The items end before the eighth pick, with the third on its way.
+const OF_SAVING: &[Cases] = &[Cases(
+    "save m.p3l --processors 16 --costs c --schedule file:p --output new",
+    &[
+        Case(BUILT, FIRST_FILE, ITEMS, NO_PROGRAM),
+        Case(BUILT, SECOND_FILE, ITEMS, NO_COSTS),
+        Case(BUILT, THIRD_FILE, ITEMS, NO_PICKS),
+        Case(
+            BUILT,
+            FOURTH_FILE,
+            ITEMS,
+            Ends(10, "3\n5\n", "write fault\n"),
+        ),
+    ],
+)];
+
+#[test]
+fn each_file_of_a_checkpoint_fails_in_turn(rt: HostRuntime) -> Result<(), Fail> {
+    take_cases(&rt, rt.alloc(), &[OF_SAVING])
 }
 
 const TOO_LONG: Ends = Ends(9, "", "file too long: long\n");
