@@ -77,9 +77,14 @@ const SAVING_ENDS: &[Cases] = &[Cases(
     ],
 )];
 
-const ENDINGS: &[&[Cases]] = &[A_RUN_ENDS, CHECKING_ENDS, SAVING_ENDS];
+const ENDINGS: &[&[Cases]] = &[A_RUN_ENDS, CHECKING_ENDS];
 
 #[test]
-fn runs_checking_and_saving_end_by_the_first_of_their_ends(rt: HostRuntime) -> Result<(), Fail> {
+fn runs_and_checking_end_by_the_first_of_their_ends(rt: HostRuntime) -> Result<(), Fail> {
     take_cases(&rt, rt.alloc(), ENDINGS)
+}
+
+#[test]
+fn saving_ends_by_the_first_of_its_ends(rt: HostRuntime) -> Result<(), Fail> {
+    take_cases(&rt, rt.alloc(), &[SAVING_ENDS])
 }
