@@ -22,7 +22,7 @@ REDUCE = b"seq f in(int x, int y) out(int z) ${ z = x - y; }$ end seq reduce mai
 COSTS = b"setup = 0\nword = 0\n[seq]\nf = 10\ng = 60\n"
 STREAM = b"1\n-2 \n\n30\t\r\n4"
 LISTS = b"1 -2 3 4\n\n5 6\t 7 8"
-PICKS = b"0 2 0 1 3 4 5 6 1 2 0 0 1 7 3 2 1\n"
+PICKS = b"0 2 0 1 3 4 5 4 1 2 0 0 1 5 3 2 1\n"
 # Picks after which items are on their way and one waits.
 SOME = b"0 2 0 3\n"
 PROCESSORS = ["--processors", "4"]
