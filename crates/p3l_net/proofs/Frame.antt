@@ -1,8 +1,9 @@
--- A firing changes only what it touches: the readiness of every process that is apart stays.
-use Rattle.std.proofs.Common.{◌≡◌, ◌≢◌, ℕ, ℤ, zero, suc, ◌+◌, ◌-◌, ◌<◌, ◌≤◌, Bool, true, false, not, ◌&&◌, cond, List, [], ◌∷◌, length, Option, Some, None, slice_get, refl, sym, ap, ap₂, ◌∙◌, subst, arith, inl, inr, filter}
+-- A firing changes only what it touches: the readiness of every process that is apart stays, and of every one for which what was
+-- touched has slack.
+use Rattle.std.proofs.Common.{◌≡◌, ◌≢◌, ℕ, ℤ, zero, suc, ◌+◌, ◌-◌, ◌<◌, ◌≤◌, ◌⊎◌, nat_lt, lt-ltb, Bool, true, false, not, ◌&&◌, cond, List, [], ◌∷◌, ◌++◌, length, Option, Some, None, slice_get, refl, sym, ap, ap₂, ◌∙◌, subst, arith, inl, inr, filter}
 use Rattle.std.specs.Option.{option_map, option_to_list, option_or, IfSome, IfNone}
 use Rattle.std.specs.List.{AllByRecursion, find, range_with_len}
-use Rattle.std.proofs.lemmas.Bool.{cases_lt, cases_Bool, cond-true, cond-false}
+use Rattle.std.proofs.lemmas.Bool.{cases_eq, cases_lt, cases_Bool, cond-true, cond-false}
 use Rattle.std.proofs.lemmas.List.{get_or_past}
 use Rattle.std.proofs.lemmas.Option.{slice_get_past}
 use Rattle.std.proofs.lemmas.List.Folds.{find-append}
@@ -10,36 +11,47 @@ use Rattle.p3l_base.specs.declared.outcome.Outcome.{Outcome}
 use Rattle.p3l_firing.specs.declared.process.Proc.{Proc}
 use Rattle.p3l_firing.specs.declared.process.ProcKind.TheVariants.{Source}
 use Rattle.p3l_firing.specs.declared.net.Net.{Net}
-use Rattle.p3l_firing.specs.Lists.{has_first}
-use Rattle.p3l_firing.specs.State.{own_at}
+use Rattle.p3l_firing.specs.declared.token.Token.{Token}
+use Rattle.p3l_firing.specs.Lists.{has_first, first_or, rest_of}
+use Rattle.p3l_firing.specs.Token.{credit}
+use Rattle.p3l_firing.specs.State.{chan_at, has_room, own_at}
 use Rattle.p3l_firing.specs.Fire.{row_can}
 use Rattle.p3l_ready.specs.Flags.{flag_at, count_from, in_turn}
 use Rattle.p3l_firing.specs.RoundRobin.{next_of}
 use Rattle.p3l_firing.specs.Typed.{IsTyped}
 use Rattle.p3l_net.specs.Machine.{Seen, HasEmitted, state_of, can_step, ready_list}
-use Rattle.p3l_firing.specs.Process.{IsAt}
-use Rattle.p3l_net.specs.Steps.{IsApart, ShareNone, Moves, OthersStay, AgreesBut, ready_at}
+use Rattle.p3l_firing.specs.Process.{Has, IsAt}
+use Rattle.p3l_net.specs.Channel.{tokens_at}
+use Rattle.p3l_net.specs.Steps.{IsApart, ShareNone, ReadsNot, WritesNot, Moves, Ends, HasEnds, OthersStay, HasSlack, AllHaveSlack, AgreesBut, ready_at}
 use Rattle.p3l_firing.proofs.Rows.{ready_at as row_ready, none_ready}
 use Rattle.p3l_ready.proofs.AtLemmas.{same_function}
-use Rattle.p3l_firing.proofs.Reading.{SameIn}
-use Rattle.p3l_firing.proofs.row.{row-alike, reads-own}
+use Rattle.p3l_firing.proofs.Reading.{room-same}
+use Rattle.p3l_firing.proofs.Places.{all-has}
+use Rattle.p3l_net.proofs.Alike.{LookAlike, SameFirst, can_alike}
 use Rattle.p3l_net.proofs.Cyclic.{next_passes, next_none, next_is}
 
-module _ {m n : Seen} {p : ℕ} {touched : List ℕ} (moves : Moves m n p touched) (r : ℕ) (other : r ≢ p) (apart : IsApart m.net r touched) where
-  -- a channel of the other process is none of those touched
-  untouched : (cs : List ℕ) → IsApart m.net r cs → (c : ℕ) → IsAt (slice_get m.net.procs r) c → AllByRecursion (λ d. c ≢ d) cs
-  untouched [] far c at = tt
-  untouched (d ∷ cs) far c at = ((λ e. far.0 (subst (IsAt (slice_get m.net.procs r)) e at)), untouched cs far.1 c at)
+-- a channel is one of these, or apart from them
+among_or_apart : (cs : List ℕ) (c : ℕ) → Has cs c ⊎ AllByRecursion (λ d. c ≢ d) cs
+among_or_apart [] c = inr tt
+among_or_apart (d ∷ cs) c =
+    elim (cases_eq d c) [
+      | inl e ↦ inl (inl e)
+      | inr e ↦
+          elim (among_or_apart cs c) [
+            | inl has ↦ inl (inr has)
+            | inr apart ↦ inr ((λ f. e (sym f)), apart)
+          ]
+    ]
 
-  same_reads : (q : Proc) → slice_get m.net.procs r ≡ Some q → (cs : List ℕ) → AllByRecursion (IsAt (Some q)) cs → SameIn (state_of n []) (state_of m []) cs
-  unfolding state_of
-  same_reads q stands [] all = tt
-  same_reads q stands (c ∷ cs) all =
-      (moves.queues c (untouched touched apart c (subst (λ x. IsAt x c) (sym stands) all.0)), same_reads q stands cs all.1)
+same_first : (xs ys : List Token) → xs ≡ ys → SameFirst xs ys
+same_first xs ys e = record { there = ap has_first e; token = ap (first_or credit) e }
 
-  some_same : {A : Type 0} (x y : A) → Some x ≡ Some y → x ≡ y
-  some_same x y e = cc
+-- where two tokens are there, one of which came last, the first was there before
+grown_first : (xs ys : List Token) (token : Token) → ys ≡ xs ++ token ∷ [] → 1 < length ys → SameFirst ys xs
+grown_first [] ys token e long = let one : length ys ≡ 1 = ap length e in absurd (omega (arith, one, long))
+grown_first (x ∷ xs) ys token e long = record { there = ap has_first e; token = ap (first_or credit) e }
 
+module _ {m n : Seen} {p : ℕ} {touched : List ℕ} (moves : Moves m n p touched) (r : ℕ) (other : r ≢ p) where
   same_item : (q : Proc) → slice_get m.net.procs r ≡ Some q → q.kind ≡ Source → has_first (state_of n []).unsent ≡ has_first (state_of m []).unsent
   unfolding state_of
   same_item q stands kind =
@@ -49,25 +61,95 @@ module _ {m n : Seen} {p : ℕ} {touched : List ℕ} (moves : Moves m n p touche
         | inr same ↦ ap (λ o. has_first (option_to_list o)) same
       ]
 
-  same_row : (q : Proc) → slice_get m.net.procs r ≡ Some q → ready_at n r ≡ ready_at m r
+  same_row : (q : Proc) → slice_get m.net.procs r ≡ Some q → LookAlike m.net (state_of n []) (state_of m []) q → ready_at n r ≡ ready_at m r
   unfolding state_of
-  same_row q stands =
+  same_row q stands alike =
       let there : slice_get n.net.procs r ≡ Some q = ap (λ (x : Net). slice_get x.procs r) moves.net ∙ stands in
       let own : (state_of n []).own r ≡ (state_of m []).own r = moves.owns r other in
-      let reads = reads-own m.tree moves.typed.widths (own_at m.owns r) q q.kind (moves.typed.processes r q stands) in
       row_ready n.tree n.net (state_of n []) r q there
       ∙ ap (λ o. row_can q.kind n.tree n.net (state_of n []) o q) own
       ∙ ap₂ (λ t x. row_can q.kind t x (state_of n []) (own_at m.owns r) q) moves.tree moves.net
-      ∙ row-alike m.net (state_of n []) (state_of m []) m.tree (own_at m.owns r) q q.kind (same_reads q stands _ reads) (same_item q stands)
+      ∙ can_alike m.net (state_of n []) (state_of m []) (own_at m.owns r) q alike m.tree moves.typed.widths q.kind refl (moves.typed.processes r q stands)
       ∙ sym (row_ready m.tree m.net (state_of m []) r q stands)
 
-  -- THE FRAME
-  pub apart_same : ready_at n r ≡ ready_at m r
-  apart_same = by_place (slice_get m.net.procs r) refl
+  same_place : ((q : Proc) → slice_get m.net.procs r ≡ Some q → LookAlike m.net (state_of n []) (state_of m []) q) → ready_at n r ≡ ready_at m r
+  same_place alike = by_place (slice_get m.net.procs r) refl
     where
       by_place : (o : Option Proc) → slice_get m.net.procs r ≡ o → ready_at n r ≡ ready_at m r
-      by_place (Some q) e = same_row q e
+      by_place (Some q) e = same_row q e (alike q e)
       by_place None e = none_ready n.tree n.net (state_of n []) r (ap (λ (x : Net). slice_get x.procs r) moves.net ∙ e) ∙ sym (none_ready m.tree m.net (state_of m []) r e)
+
+  -- THE FRAME: a process that is apart is as ready as it was
+  module _ (apart : IsApart m.net r touched) where
+    -- a channel of the other process is none of those touched
+    untouched : (cs : List ℕ) → IsApart m.net r cs → (c : ℕ) → IsAt (slice_get m.net.procs r) c → AllByRecursion (λ d. c ≢ d) cs
+    untouched [] far c at = tt
+    untouched (d ∷ cs) far c at = ((λ e. far.0 (subst (IsAt (slice_get m.net.procs r)) e at)), untouched cs far.1 c at)
+
+    apart_alike : (q : Proc) → slice_get m.net.procs r ≡ Some q → LookAlike m.net (state_of n []) (state_of m []) q
+    unfolding state_of
+    apart_alike q stands =
+        let same : (c : ℕ) → IsAt (Some q) c → tokens_at n.queues c ≡ tokens_at m.queues c = λ c at. moves.queues c (untouched touched apart c (subst (λ x. IsAt x c) (sym stands) at)) in
+        record {
+          firsts = λ c has. same_first (tokens_at n.queues c) (tokens_at m.queues c) (same c (inl has));
+          rooms = λ c has. room-same m.net (state_of n []) (state_of m []) c (same c (inr has));
+          item = same_item q stands;
+        }
+
+    pub apart_same : ready_at n r ≡ ready_at m r
+    apart_same = same_place apart_alike
+
+  -- and so is one for which what was touched has slack
+  module _ (ends : Ends) (sides : HasEnds m.net ends) (slack : AllHaveSlack n r touched) (q : Proc) (stands : slice_get m.net.procs r ≡ Some q) where
+    there : slice_get n.net.procs r ≡ Some q
+    there = ap (λ (x : Net). slice_get x.procs r) moves.net ∙ stands
+
+    -- the process that fired does not read what this one reads, or write what it writes
+    unread : (c : ℕ) → Has q.ins c → ReadsNot m.net p c
+    unread c has x at h = other (sym (sides.read r c q stands has) ∙ sides.read p c x at h)
+
+    unwritten : (c : ℕ) → Has q.outs c → WritesNot m.net p c
+    unwritten c has x at h = other (sym (sides.written r c q stands has) ∙ sides.written p c x at h)
+
+    first_same : (c : ℕ) → Has q.ins c → SameFirst (tokens_at n.queues c) (tokens_at m.queues c)
+    first_same c has =
+        elim (among_or_apart touched c) [
+          | inl at ↦
+              elim (moves.grows c (unread c has)) [
+                | inl same ↦ same_first (tokens_at n.queues c) (tokens_at m.queues c) same
+                | inr more ↦ grown_first (tokens_at m.queues c) (tokens_at n.queues c) more.0 more.1 ((all-has (HasSlack n r) touched slack c at).tokens q there has)
+              ]
+          | inr apart ↦ same_first (tokens_at n.queues c) (tokens_at m.queues c) (moves.queues c apart)
+        ]
+
+    room_still : (c : ℕ) → Has q.outs c → has_room m.net (state_of n []) c ≡ has_room m.net (state_of m []) c
+    unfolding has_room state_of
+    room_still c has =
+        elim (among_or_apart touched c) [
+          | inl at ↦
+              elim (moves.shrinks c (unwritten c has)) [
+                | inl same ↦ ap (λ ts. nat_lt (length ts) (chan_at m.net c).cap) same
+                | inr less ↦
+                    let room : length (tokens_at n.queues c) + 1 < (chan_at m.net c).cap
+                    = subst (λ (x : Net). length (tokens_at n.queues c) + 1 < (chan_at x c).cap) moves.net ((all-has (HasSlack n r) touched slack c at).room q there has) in
+                    let one : length (tokens_at m.queues c) ≤ length (tokens_at n.queues c) + 1
+                    = subst (λ ts. length (tokens_at m.queues c) ≤ length ts + 1) (sym less) (one_shorter (tokens_at m.queues c)) in
+                    lt-ltb (length (tokens_at n.queues c)) (chan_at m.net c).cap (omega (arith, room))
+                    ∙ sym (lt-ltb (length (tokens_at m.queues c)) (chan_at m.net c).cap (omega (arith, room, one)))
+              ]
+          | inr apart ↦ ap (λ ts. nat_lt (length ts) (chan_at m.net c).cap) (moves.queues c apart)
+        ]
+      where
+        one_shorter : (xs : List Token) → length xs ≤ length (rest_of xs) + 1
+        one_shorter [] = omega arith
+        one_shorter (x ∷ xs) = omega arith
+
+    slack_alike : LookAlike m.net (state_of n []) (state_of m []) q
+    unfolding state_of
+    slack_alike = record { firsts = first_same; rooms = room_still; item = same_item q stands }
+
+  pub slack_same : (ends : Ends) → HasEnds m.net ends → AllHaveSlack n r touched → ready_at n r ≡ ready_at m r
+  slack_same ends sides slack = same_place (slack_alike ends sides slack)
 
 -- channels of p are none of a process that has none in common with it
 pub none_shared : (m : Seen) (p r : ℕ) (cs : List ℕ) → AllByRecursion (IsAt (slice_get m.net.procs p)) cs → ShareNone m.net p r → IsApart m.net r cs
@@ -86,11 +168,11 @@ inbox_stays {p = p} moves other =
       | inr same ↦ same
     ]
 
--- the flags of the old machine tell which processes of the new one are ready, but for those touched
-pub others_agree : {m n : Seen} {p : ℕ} {touched : List ℕ} (flags : List Bool) → AgreesBut m flags [] → Moves m n p touched → (r : ℕ) → r < length n.net.procs → r ≢ p → IsApart n.net r touched → flag_at flags r ≡ ready_at n r
-others_agree {m = m} {touched = touched} flags agrees moves r inside other apart =
+-- the flags of the old machine tell which processes of the new one are ready, but maybe for those for which what was touched has no slack
+pub others_agree : {m n : Seen} {p : ℕ} {touched : List ℕ} (flags : List Bool) → AgreesBut m flags [] → (ends : Ends) → HasEnds m.net ends → Moves m n p touched → (r : ℕ) → r < length n.net.procs → r ≢ p → AllHaveSlack n r touched → flag_at flags r ≡ ready_at n r
+others_agree flags agrees ends sides moves r inside other slack =
     agrees.right r (subst (λ (x : Net). r < length x.procs) moves.net inside) tt
-    ∙ sym (apart_same moves r other (subst (λ (x : Net). IsApart x r touched) moves.net apart))
+    ∙ sym (slack_same moves r other ends sides slack)
 
 -- numbers that pass are as many as are counted, and the k-th of them has k before it
 module _ (f : ℕ → Bool) where
@@ -209,7 +291,7 @@ listed_calm m k h =
 pub offer_moves : (m n : Seen) (item : List ℤ) → IsTyped m.tree m.net → n ≡ record m { inbox = Some item } → Moves m n 0 []
 offer_moves m n item typed e =
     subst (λ x. Moves m x 0 []) (sym e)
-    (record { typed = typed; tree = refl; net = refl; inside = tt; own_channels = tt; queues = λ c apart. refl; owns = λ r apart. refl; inbox = inl typed.source })
+    (record { typed = typed; tree = refl; net = refl; inside = tt; own_channels = tt; queues = λ c apart. refl; grows = λ c none. inl refl; shrinks = λ c none. inl refl; owns = λ r apart. refl; inbox = inl typed.source })
 
 -- and only the source may become ready by it
 pub offer_stays : {m n : Seen} → Moves m n 0 [] → (r : ℕ) → r ≢ 0 → ready_at n r ≡ ready_at m r

@@ -1,3 +1,4 @@
+pub mod Rings
 pub mod Queues
 pub mod StepLaw
 pub mod Standing
@@ -10,6 +11,7 @@ pub mod Segmenting
 pub mod step
 pub mod Emitted
 pub mod Cyclic
+pub mod Alike
 pub mod Frame
 pub mod FollowLaw
 pub mod SoundLaw

@@ -1,6 +1,7 @@
 -- The steps that a firing is made of: what a list of them makes of a machine is what it makes of its state, and it touches only the
 -- channels and the process that it names.
 use Rattle.std.proofs.Common.{◌≡◌, ◌≢◌, ℕ, ◌+◌, ◌<◌, ◌^◌, List, [], ◌∷◌, ◌++◌, length, None, Some, slice_set, refl, sym, ap, ap₂, ◌∙◌, subst, arith, inl, inr, length-set}
+use Rattle.std.specs.Prelude.{⊤}
 use Rattle.std.specs.Option.{option_to_list}
 use Rattle.std.specs.List.{AllByRecursion}
 use Rattle.std.proofs.lemmas.Bool.{cases_eq}
@@ -13,13 +14,13 @@ use Rattle.p3l_firing.specs.declared.token.Token.{Token}
 use Rattle.p3l_firing.specs.Lists.{rest_of}
 use Rattle.p3l_firing.specs.Token.{has_trap}
 use Rattle.p3l_firing.specs.Nodes.{Leaf}
-use Rattle.p3l_firing.specs.Process.{IsAt}
+use Rattle.p3l_firing.specs.Process.{Has, IsAt}
 use Rattle.p3l_firing.specs.State.{Own, State, fresh, own_at}
 use Rattle.p3l_firing.specs.Fire.{row_fire}
 use Rattle.p3l_firing.proofs.Rows.{fire_at}
-use Rattle.p3l_net.specs.Channel.{Queue, tokens_at, appended, taken}
+use Rattle.p3l_net.specs.Channel.{Queue, no_queue, tokens_at, appended, taken}
 use Rattle.p3l_net.specs.Machine.{Seen, IsShaped, Stands, state_of}
-use Rattle.p3l_net.specs.Steps.{Done, Moves}
+use Rattle.p3l_net.specs.Steps.{Done, GrowsByOne, Moves, ShrinksByOne}
 use Rattle.p3l_net.proofs.Queues.{rooms, rooms-appended, rooms-taken, queue_count, tokens-appended, tokens-taken, own-written, tokens-other-put, tokens-other-take}
 
 -- a token is taken from a channel or put into one, or the process that fires keeps something else
@@ -34,6 +35,45 @@ channels [] = []
 channels (Take c ∷ steps) = c ∷ channels steps
 channels (Put c token ∷ steps) = c ∷ channels steps
 channels (Keep o ∷ steps) = channels steps
+
+-- they take nothing from channel c, or put nothing into it
+abbrev pub TakesNone : ℕ → List Step → Type 0
+TakesNone c [] = ⊤
+TakesNone c (Take d ∷ steps) = (c ≢ d) × TakesNone c steps
+TakesNone c (Put d token ∷ steps) = TakesNone c steps
+TakesNone c (Keep o ∷ steps) = TakesNone c steps
+
+abbrev pub PutsNone : ℕ → List Step → Type 0
+PutsNone c [] = ⊤
+PutsNone c (Take d ∷ steps) = PutsNone c steps
+PutsNone c (Put d token ∷ steps) = (c ≢ d) × PutsNone c steps
+PutsNone c (Keep o ∷ steps) = PutsNone c steps
+
+-- process q takes from channels that it reads, and puts into channels that it writes, one token each
+abbrev pub AreOwn : Proc → List Step → Type 0
+AreOwn q [] = ⊤
+AreOwn q (Take c ∷ steps) = Has q.ins c × (TakesNone c steps × AreOwn q steps)
+AreOwn q (Put c token ∷ steps) = Has q.outs c × (PutsNone c steps × AreOwn q steps)
+AreOwn q (Keep o ∷ steps) = AreOwn q steps
+
+own_channels : (q : Proc) (steps : List Step) → AreOwn q steps → AllByRecursion (IsAt (Some q)) (channels steps)
+own_channels q [] own = tt
+own_channels q (Take c ∷ steps) own = (inl own.0, own_channels q steps own.1.1)
+own_channels q (Put c token ∷ steps) own = (inr own.0, own_channels q steps own.1.1)
+own_channels q (Keep o ∷ steps) own = own_channels q steps own
+
+-- a channel that is not read is apart from steps that put nothing into it; one that is not written, from steps that take nothing
+unread_apart : (q : Proc) (c : ℕ) → (Has q.ins c → ⊥) → (steps : List Step) → AreOwn q steps → PutsNone c steps → AllByRecursion (λ d. c ≢ d) (channels steps)
+unread_apart q c unread [] own none = tt
+unread_apart q c unread (Take d ∷ steps) own none = ((λ e. unread (subst (Has q.ins) (sym e) own.0)), unread_apart q c unread steps own.1.1 none)
+unread_apart q c unread (Put d token ∷ steps) own none = (none.0, unread_apart q c unread steps own.1.1 none.1)
+unread_apart q c unread (Keep o ∷ steps) own none = unread_apart q c unread steps own none
+
+unwritten_apart : (q : Proc) (c : ℕ) → (Has q.outs c → ⊥) → (steps : List Step) → AreOwn q steps → TakesNone c steps → AllByRecursion (λ d. c ≢ d) (channels steps)
+unwritten_apart q c unwritten [] own none = tt
+unwritten_apart q c unwritten (Take d ∷ steps) own none = (none.0, unwritten_apart q c unwritten steps own.1.1 none.1)
+unwritten_apart q c unwritten (Put d token ∷ steps) own none = ((λ e. unwritten (subst (Has q.outs) (sym e) own.0)), unwritten_apart q c unwritten steps own.1.1 none)
+unwritten_apart q c unwritten (Keep o ∷ steps) own none = unwritten_apart q c unwritten steps own none
 
 abbrev pub queues_after : List Queue → List Step → List Queue
 queues_after queues [] = queues
@@ -132,13 +172,73 @@ module _ (p n k f : ℕ) where
   apart-after queues (Put d token ∷ steps) c apart = apart-after (appended queues d token) steps c apart.1 ∙ tokens-other-put queues d token c apart.0
   apart-after queues (Keep o ∷ steps) c apart = apart-after queues steps c apart
 
+  -- a channel that is not read gets one token at most, and one that is not written loses one at most
+  grows-after : (q : Proc) (c : ℕ) → (Has q.ins c → ⊥) → (queues : List Queue) (steps : List Step) → length queues ≡ n → AllByRecursion (IsInside p n k f) steps → AreOwn q steps → GrowsByOne (tokens_at queues c) (tokens_at (queues_after queues steps) c)
+  grows-after q c unread queues [] long all own = inl refl
+  grows-after q c unread queues (Take d ∷ steps) long all own =
+      let other : c ≢ d = λ e. unread (subst (Has q.ins) (sym e) own.0) in
+      subst (λ ts. GrowsByOne ts (tokens_at (queues_after (taken queues d) steps) c)) (tokens-other-take queues d c other)
+      (grows-after q c unread (taken queues d) steps (length-set queues d _ ∙ long) all.1 own.1.1)
+  grows-after q c unread queues (Put d token ∷ steps) long all own =
+      elim (cases_eq c d) [
+        | inl e ↦
+            let later : tokens_at (queues_after (appended queues d token) steps) c ≡ tokens_at (appended queues d token) c
+            = apart-after (appended queues d token) steps c (unread_apart q c unread steps own.1.1 (subst (λ x. PutsNone x steps) (sym e) own.1.0)) in
+            let here : tokens_at (appended queues d token) d ≡ tokens_at queues d ++ token ∷ []
+            = ap (λ (x : Queue). x.tokens) (get_or-set_same queues d _ no_queue (subst (λ x. d < x) (sym long) all.0)) in
+            inr (token, later ∙ ap (tokens_at (appended queues d token)) e ∙ here ∙ ap (λ x. tokens_at queues x ++ token ∷ []) (sym e))
+        | inr other ↦
+            subst (λ ts. GrowsByOne ts (tokens_at (queues_after (appended queues d token) steps) c)) (tokens-other-put queues d token c other)
+            (grows-after q c unread (appended queues d token) steps (length-set queues d _ ∙ long) all.1 own.1.1)
+      ]
+  grows-after q c unread queues (Keep o ∷ steps) long all own = grows-after q c unread queues steps long all.1 own
+
+  shrinks-after : (q : Proc) (c : ℕ) → (Has q.outs c → ⊥) → (queues : List Queue) (steps : List Step) → length queues ≡ n → AllByRecursion (IsInside p n k f) steps → AreOwn q steps → ShrinksByOne (tokens_at queues c) (tokens_at (queues_after queues steps) c)
+  shrinks-after q c unwritten queues [] long all own = inl refl
+  shrinks-after q c unwritten queues (Take d ∷ steps) long all own =
+      elim (cases_eq c d) [
+        | inl e ↦
+            let later : tokens_at (queues_after (taken queues d) steps) c ≡ tokens_at (taken queues d) c
+            = apart-after (taken queues d) steps c (unwritten_apart q c unwritten steps own.1.1 (subst (λ x. TakesNone x steps) (sym e) own.1.0)) in
+            let here : tokens_at (taken queues d) d ≡ rest_of (tokens_at queues d)
+            = ap (λ (x : Queue). x.tokens) (get_or-set_same queues d _ no_queue (subst (λ x. d < x) (sym long) all.0)) in
+            inr (later ∙ ap (tokens_at (taken queues d)) e ∙ here ∙ ap (λ x. rest_of (tokens_at queues x)) (sym e))
+        | inr other ↦
+            subst (λ ts. ShrinksByOne ts (tokens_at (queues_after (taken queues d) steps) c)) (tokens-other-take queues d c other)
+            (shrinks-after q c unwritten (taken queues d) steps (length-set queues d _ ∙ long) all.1 own.1.1)
+      ]
+  shrinks-after q c unwritten queues (Put d token ∷ steps) long all own =
+      let other : c ≢ d = λ e. unwritten (subst (Has q.outs) (sym e) own.0) in
+      subst (λ ts. ShrinksByOne ts (tokens_at (queues_after (appended queues d token) steps) c)) (tokens-other-put queues d token c other)
+      (shrinks-after q c unwritten (appended queues d token) steps (length-set queues d _ ∙ long) all.1 own.1.1)
+  shrinks-after q c unwritten queues (Keep o ∷ steps) long all own = shrinks-after q c unwritten queues steps long all.1 own
+
   inside-channels : (steps : List Step) → AllByRecursion (IsInside p n k f) steps → AllByRecursion (λ c. c < n) (channels steps)
   inside-channels [] all = tt
   inside-channels (Take c ∷ steps) all = (all.0, inside-channels steps all.1)
   inside-channels (Put c token ∷ steps) all = (all.0, inside-channels steps all.1)
   inside-channels (Keep o ∷ steps) all = inside-channels steps all.1
 
-module _ {m : Seen} {p : ℕ} {q : Proc} (h : Stands m p q) (steps : List Step) (own : AllByRecursion (IsAt (Some q)) (channels steps)) (all : AllByRecursion (IsInside p (length m.queues) (length m.owns) (m.fired + 1 + 2 ^ 63)) steps) where
+-- of one step
+module _ (q : Proc) (queues : List Queue) (c : ℕ) (there : c < length queues) where
+  all_inside : (step : Step) → IsInside 0 (length queues) 0 0 step → AllByRecursion (IsInside 0 (length queues) 0 0) (step ∷ [])
+  all_inside step inside = (inside, tt)
+
+  module _ (token : Token) (has : Has q.outs c) where
+    pub put-grows : (d : ℕ) → (Has q.ins d → ⊥) → GrowsByOne (tokens_at queues d) (tokens_at (appended queues c token) d)
+    put-grows d unread = grows-after 0 (length queues) 0 0 q d unread queues (Put c token ∷ []) refl (all_inside (Put c token) there) (has, (tt, tt))
+
+    pub put-shrinks : (d : ℕ) → (Has q.outs d → ⊥) → ShrinksByOne (tokens_at queues d) (tokens_at (appended queues c token) d)
+    put-shrinks d unwritten = shrinks-after 0 (length queues) 0 0 q d unwritten queues (Put c token ∷ []) refl (all_inside (Put c token) there) (has, (tt, tt))
+
+  module _ (has : Has q.ins c) where
+    pub take-grows : (d : ℕ) → (Has q.ins d → ⊥) → GrowsByOne (tokens_at queues d) (tokens_at (taken queues c) d)
+    take-grows d unread = grows-after 0 (length queues) 0 0 q d unread queues (Take c ∷ []) refl (all_inside (Take c) there) (has, (tt, tt))
+
+    pub take-shrinks : (d : ℕ) → (Has q.outs d → ⊥) → ShrinksByOne (tokens_at queues d) (tokens_at (taken queues c) d)
+    take-shrinks d unwritten = shrinks-after 0 (length queues) 0 0 q d unwritten queues (Take c ∷ []) refl (all_inside (Take c) there) (has, (tt, tt))
+
+module _ {m : Seen} {p : ℕ} {q : Proc} (h : Stands m p q) (steps : List Step) (own : AreOwn q steps) (all : AllByRecursion (IsInside p (length m.queues) (length m.owns) (m.fired + 1 + 2 ^ 63)) steps) where
   abbrev new : Seen
   new = seen_after p m steps
 
@@ -168,8 +268,10 @@ module _ {m : Seen} {p : ℕ} {q : Proc} (h : Stands m p q) (steps : List Step) 
     tree = refl;
     net = refl;
     inside = subst (λ n. AllByRecursion (λ c. c < n) (channels steps)) (queue_count m.queues m.net.chans h.sound.shaped.rooms) (inside-channels p (length m.queues) (length m.owns) (m.fired + 1 + 2 ^ 63) steps all);
-    own_channels = subst (λ o. AllByRecursion (IsAt o) (channels steps)) (sym h.stands) own;
+    own_channels = subst (λ o. AllByRecursion (IsAt o) (channels steps)) (sym h.stands) (own_channels q steps own);
     queues = apart-after p (length m.queues) (length m.owns) (m.fired + 1 + 2 ^ 63) m.queues steps;
+    grows = λ c none. grows-after p (length m.queues) (length m.owns) (m.fired + 1 + 2 ^ 63) q c (none q h.stands) m.queues steps refl all own;
+    shrinks = λ c none. shrinks-after p (length m.queues) (length m.owns) (m.fired + 1 + 2 ^ 63) q c (none q h.stands) m.queues steps refl all own;
     owns = others-after p (length m.queues) (length m.owns) (m.fired + 1 + 2 ^ 63) m.owns steps;
     inbox = inr refl;
   }

@@ -18,6 +18,7 @@ pub use Rattle.p3l_firing.specs.Typed
 pub use Rattle.p3l_firing.specs.Single
 pub use Rattle.p3l_firing.specs.Examples
 pub mod Channel
+pub mod Rings
 pub mod Forms
 pub mod Turns
 pub mod Operators

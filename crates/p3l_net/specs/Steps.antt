@@ -1,5 +1,5 @@
 -- The steps that a firing is made of, on what contracts see of a machine; and what a firing leaves alone.
-use Rattle.std.specs.Prelude.{◌≡◌, ◌≢◌, ℕ, ℤ, ⊤, ◌+◌, ◌^◌, ◌<◌, ◌⊎◌, List, [], Bool, true, Option, None, Some, length, slice_get, slice_set, slice_index, nat_lt, fold}
+use Rattle.std.specs.Prelude.{◌≡◌, ◌≢◌, ℕ, ℤ, ⊤, ◌+◌, ◌^◌, ◌<◌, ◌⊎◌, List, [], ◌∷◌, ◌++◌, Bool, true, cond, Option, None, Some, length, slice_get, slice_set, slice_index, nat_lt, fold}
 use Rattle.std.specs.List.{AllByRecursion}
 use Rattle.p3l_base.specs.declared.outcome.Outcome.{Outcome}
 use Rattle.p3l_base.specs.declared.outcome.Outcome.TheVariants.{Value, Trapped}
@@ -10,7 +10,8 @@ use Rattle.p3l_firing.specs.declared.net.Net.{Net}
 use Rattle.p3l_firing.specs.declared.token.Token.{Token}
 use Rattle.p3l_firing.specs.Token.{is_trap}
 use Rattle.p3l_net.specs.Channel.{queue_at, tokens_at, appended, taken}
-use Rattle.p3l_firing.specs.State.{Own, own_at}
+use Rattle.p3l_firing.specs.Lists.{rest_of}
+use Rattle.p3l_firing.specs.State.{Own, chan_at, own_at}
 use Rattle.p3l_firing.specs.Fire.{is_ready}
 use Rattle.p3l_ready.specs.Flags.{flag_at}
 use Rattle.p3l_firing.specs.Nodes.{Leaf}
@@ -64,7 +65,23 @@ ShareNone net p r = (c : ℕ) → IsAt (slice_get net.procs p) c → IsAt (slice
 abbrev pub IsApart : Net → ℕ → List ℕ → Type 0
 IsApart net r = AllByRecursion (λ c. IsAt (slice_get net.procs r) c → ⊥)
 
--- from m to n only these channels, which process p reads or writes, what p keeps, and the inbox, if p is a source, have changed
+-- process p does not read channel c, or does not write it
+abbrev pub ReadsNot : Net → ℕ → ℕ → Type 0
+ReadsNot net p c = (q : Proc) → slice_get net.procs p ≡ Some q → Has q.ins c → ⊥
+
+abbrev pub WritesNot : Net → ℕ → ℕ → Type 0
+WritesNot net p c = (q : Proc) → slice_get net.procs p ≡ Some q → Has q.outs c → ⊥
+
+-- the tokens ys are xs, or xs with one more at the end
+abbrev pub GrowsByOne : List Token → List Token → Type 0
+GrowsByOne xs ys = (ys ≡ xs) ⊎ ((token : Token) × (ys ≡ xs ++ token ∷ []))
+
+-- the tokens ys are xs, or xs without the first
+abbrev pub ShrinksByOne : List Token → List Token → Type 0
+ShrinksByOne xs ys = (ys ≡ xs) ⊎ (ys ≡ rest_of xs)
+
+-- from m to n only these channels, which process p reads or writes, what p keeps, and the inbox, if p is a source, have changed:
+-- a channel has one token more at most, if p does not read it, and one less at most, if p does not write it
 pub record Moves (m n : Seen) (p : ℕ) (touched : List ℕ) : Type 0 where
   pub typed : IsTyped m.tree m.net
   pub tree : n.tree ≡ m.tree
@@ -72,6 +89,8 @@ pub record Moves (m n : Seen) (p : ℕ) (touched : List ℕ) : Type 0 where
   pub inside : AllByRecursion (λ c. c < length m.net.chans) touched
   pub own_channels : AllByRecursion (IsAt (slice_get m.net.procs p)) touched
   pub queues : (c : ℕ) → AllByRecursion (λ d. c ≢ d) touched → tokens_at n.queues c ≡ tokens_at m.queues c
+  pub grows : (c : ℕ) → ReadsNot m.net p c → GrowsByOne (tokens_at m.queues c) (tokens_at n.queues c)
+  pub shrinks : (c : ℕ) → WritesNot m.net p c → ShrinksByOne (tokens_at m.queues c) (tokens_at n.queues c)
   pub owns : (r : ℕ) → r ≢ p → own_at n.owns r ≡ own_at m.owns r
   pub inbox : (kind_at m.net p ≡ Some Source) ⊎ (n.inbox ≡ m.inbox)
 
@@ -108,10 +127,23 @@ ready_at m r = is_ready m.tree m.net (state_of m []) r
 abbrev pub OthersStay : Seen → Seen → ℕ → Type 0
 OthersStay m n p = (r : ℕ) → r ≢ p → ShareNone m.net p r → ready_at n r ≡ ready_at m r
 
--- the flags tell which processes are ready, but maybe for those that read or write these channels
+-- channel c has slack for process r: room for two tokens more, if r writes it, and two tokens, if r reads it. So it had room for r,
+-- and the same first token, before a token was taken from it or put into it, as it has after that
+pub record HasSlack (m : Seen) (r c : ℕ) : Type 0 where
+  pub room : (q : Proc) → slice_get m.net.procs r ≡ Some q → Has q.outs c → length (tokens_at m.queues c) + 1 < (chan_at m.net c).cap
+  pub tokens : (q : Proc) → slice_get m.net.procs r ≡ Some q → Has q.ins c → 1 < length (tokens_at m.queues c)
+
+abbrev pub AllHaveSlack : Seen → ℕ → List ℕ → Type 0
+AllHaveSlack m r = AllByRecursion (HasSlack m r)
+
+-- the flags tell which processes are ready, but maybe for those for which one of these channels has no slack
 pub record AgreesBut (m : Seen) (flags : List Bool) (touched : List ℕ) : Type 0 where
   pub size : length flags ≡ length m.net.procs
-  pub right : (r : ℕ) → r < length m.net.procs → IsApart m.net r touched → flag_at flags r ≡ ready_at m r
+  pub right : (r : ℕ) → r < length m.net.procs → AllHaveSlack m r touched → flag_at flags r ≡ ready_at m r
+
+-- the flags after it was looked again whether process r is ready, if `look` says so
+abbrev pub looked : Bool → Seen → ℕ → List Bool → List Bool
+looked look m r flags = cond look (slice_set flags r (ready_at m r)) flags
 
 -- what every machine keeps: it is sound, the flags tell which processes are ready, and the ends are those of its net
 pub record IsKept (m : Seen) (flags : List Bool) (ends : Ends) : Type 0 where

@@ -4,12 +4,12 @@ ghost use Rattle.std.specs.Prelude.{◌≡◌, ◌<◌, ◌≤◌, [], length, m
 ghost use Rattle.p3l_net.specs.Channel.{queue_at, tokens_at, opened, appended, prepended, taken};
 ghost use Rattle.p3l_firing.specs.Lists.{has_first, first_or};
 ghost use Rattle.p3l_firing.specs.State.{no_chan};
-ghost use Rattle.p3l_firing.specs.Token.{credit};
+ghost use Rattle.p3l_firing.specs.Token.{credit, newest_tag, plain};
 ghost use Rattle.p3l_net.specs.Shot.{HasRoom, queues_of, saved_queue};
 
 use crate::channel::Channel;
 use crate::shot::SavedToken;
-use p3l_base::{List, NoMemory};
+use p3l_base::{List, NoMemory, Outcome};
 use p3l_firing::{Chan, Token};
 use std::alloc::Global;
 use std::marker::Model;
@@ -98,13 +98,22 @@ impl Channels {
         self.list[c as usize].len()
     }
 
-    /// The first token of a channel that has one.
-    pub(crate) fn front(&self, c: u32) -> &Token
+    /// The outcome of the first token of a channel that has one.
+    pub(crate) fn front_body(&self, c: u32) -> &Outcome
         requires there { c < length self.now }
         requires token { 0 < length (tokens_at self.now c) }
-        ensures { result.now ≡ first_or credit (tokens_at self.now c) }
+        ensures { result.now ≡ (first_or credit (tokens_at self.now c)).body }
     {
-        self.list[c as usize].front()
+        self.list[c as usize].front_body()
+    }
+
+    /// The newest tag of the first token of a channel that has one, 0 if that has no tags.
+    pub(crate) fn front_newest_tag(&self, c: u32) -> u64
+        requires there { c < length self.now }
+        requires token { 0 < length (tokens_at self.now c) }
+        ensures { result ≡ newest_tag (first_or credit (tokens_at self.now c)) }
+    {
+        self.list[c as usize].front_newest_tag()
     }
 
     /// Appends a token to a channel that has room for it.
@@ -116,6 +125,25 @@ impl Channels {
         self.list[c as usize].append(token);
     }
 
+    /// Appends a token without tags to a channel that has room for it.
+    pub(crate) fn append_plain(&mut self, c: u32, body: Outcome)
+        requires there { c < length self.old }
+        requires room { length (tokens_at self.old c) < (queue_at self.old c).room }
+        ensures { self.new ≡ appended self.old c (plain body) }
+    {
+        self.list[c as usize].append_plain(body);
+    }
+
+    /// Takes the first token of a channel that has one, and lets go of its tags.
+    pub(crate) fn take_body(&mut self, c: u32) -> Outcome
+        requires there { c < length self.old }
+        requires token { 0 < length (tokens_at self.old c) }
+        ensures body { result ≡ (first_or credit (tokens_at self.old c)).body }
+        ensures rest { self.new ≡ taken self.old c }
+    {
+        self.list[c as usize].take_body()
+    }
+
     /// Takes the first token of a channel that has one.
     pub(crate) fn take(&mut self, c: u32) -> Token
         requires there { c < length self.old }
@@ -124,6 +152,39 @@ impl Channels {
         ensures rest { self.new ≡ taken self.old c }
     {
         self.list[c as usize].take()
+    }
+
+    // Forwards a token with its tags.
+    fn forward_tagged(&mut self, input: u32, output: u32, body: Outcome)
+        requires there { input < length self.old }
+        requires token { 0 < length (tokens_at self.old input) }
+        requires output { output < length self.old }
+        requires room { length (tokens_at (taken self.old input) output)
+            < (queue_at (taken self.old input) output).room }
+        ensures { self.new ≡ appended (taken self.old input) output
+            (record (first_or credit (tokens_at self.old input)) { body = body }) }
+    {
+        let Token { tags, body: _ } = self.take(input);
+        self.list[output as usize].append_tagged(tags, body);
+    }
+
+    /// Takes the first token of channel `input`, and appends it to channel `output` with another
+    /// outcome.
+    pub(crate) fn forward(&mut self, input: u32, output: u32, body: Outcome)
+        requires there { input < length self.old }
+        requires token { 0 < length (tokens_at self.old input) }
+        requires output { output < length self.old }
+        requires room { length (tokens_at (taken self.old input) output)
+            < (queue_at (taken self.old input) output).room }
+        ensures { self.new ≡ appended (taken self.old input) output
+            (record (first_or credit (tokens_at self.old input)) { body = body }) }
+    {
+        if self.list[input as usize].is_plain() {
+            let _before = self.take_body(input);
+            self.append_plain(output, body);
+        } else {
+            self.forward_tagged(input, output, body);
+        }
     }
 
     /// Puts a token before the others of a channel that has room for it.

@@ -10,6 +10,7 @@ pub mod laws;
 pub mod machine;
 mod own;
 mod refresh;
+mod ring;
 mod saved_tags;
 pub mod shot;
 mod store;

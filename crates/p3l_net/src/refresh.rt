@@ -1,10 +1,12 @@
 // The ready set after a step.
 
-ghost use Rattle.std.specs.Prelude.{◌≡◌, ◌≢◌, ◌<◌, ◌≤◌, ℕ, List, [], ◌∷◌, length, slice_set};
+ghost use Rattle.std.specs.Prelude.{◌≡◌, ◌≢◌, ◌<◌, ◌≤◌, ◌+◌, ℕ, List, [], ◌∷◌, length, nat_le, slice_index, slice_set};
 ghost use Rattle.std.specs.List.{AllByRecursion};
 ghost use Rattle.p3l_ready.specs.Flags.{flag_at};
+ghost use Rattle.p3l_firing.specs.State.{chan_at};
+ghost use Rattle.p3l_net.specs.Channel.{tokens_at};
 ghost use Rattle.p3l_net.specs.Machine.{IsSound};
-ghost use Rattle.p3l_net.specs.Steps.{AgreesBut, HasEnds, IsApart, ready_at};
+ghost use Rattle.p3l_net.specs.Steps.{AgreesBut, AllHaveSlack, HasEnds, looked, ready_at};
 
 use crate::ends::Sides;
 use crate::store::Store;
@@ -34,8 +36,44 @@ fn look_beside(store: &Store, ready: &mut ReadySet, p: u32, r: u32)
     }
 }
 
-// Looks again at the processes that read and write channel `c`, but not at `p`, of which it is known
-// whether it is ready.
+// Looks again at the process that writes channel `c`, if it was full before a token was taken from
+// it, but not at `p`, of which it is known whether it is ready.
+fn look_at_writer(store: &Store, sides: &Sides, ready: &mut ReadySet, p: u32, c: u32)
+    requires sound { IsSound store.now }
+    requires there { c < length store.now.net.chans }
+    requires size { length ready.old ≡ length store.now.net.procs }
+    requires sides { HasEnds store.now.net sides.now }
+    requires known { flag_at ready.old p ≡ ready_at store.now p }
+    ensures looked { ready.new
+        ≡ looked (nat_le (chan_at store.now.net c).cap (length (tokens_at store.now.queues c) + 1))
+        store.now (slice_index sides.now.writers c) ready.old }
+    ensures known { flag_at ready.new p ≡ ready_at store.now p }
+{
+    if store.room(c) as usize <= store.load(c) + 1 {
+        look_beside(store, ready, p, sides.writer(c));
+    }
+}
+
+// Looks again at the process that reads channel `c`, if it was empty before a token was put into
+// it, but not at `p`, of which it is known whether it is ready.
+fn look_at_reader(store: &Store, sides: &Sides, ready: &mut ReadySet, p: u32, c: u32)
+    requires sound { IsSound store.now }
+    requires there { c < length store.now.net.chans }
+    requires size { length ready.old ≡ length store.now.net.procs }
+    requires sides { HasEnds store.now.net sides.now }
+    requires known { flag_at ready.old p ≡ ready_at store.now p }
+    ensures looked { ready.new
+        ≡ looked (nat_le (length (tokens_at store.now.queues c)) 1)
+        store.now (slice_index sides.now.readers c) ready.old }
+    ensures known { flag_at ready.new p ≡ ready_at store.now p }
+{
+    if store.load(c) <= 1 {
+        look_beside(store, ready, p, sides.reader(c));
+    }
+}
+
+// Looks again at the processes that write and read channel `c`, where a token that was taken from
+// it or put into it can have made them ready, but not at `p`, of which it is known whether it is.
 fn look_at_ends(store: &Store, sides: &Sides, ready: &mut ReadySet, p: u32, c: u32)
     requires sound { IsSound store.now }
     requires there { c < length store.now.net.chans }
@@ -47,11 +85,13 @@ fn look_at_ends(store: &Store, sides: &Sides, ready: &mut ReadySet, p: u32, c: u
     ensures agrees { (cs : List ℕ) → AgreesBut store.now ready.old (c ∷ cs)
         → AgreesBut store.now ready.new cs }
 {
-    look_beside(store, ready, p, sides.writer(c));
-    look_beside(store, ready, p, sides.reader(c));
+    look_at_writer(store, sides, ready, p, c);
+    look_at_reader(store, sides, ready, p, c);
 }
 
-/// Looks again at process `p`, and at the other processes that read and write these channels.
+/// Looks again at process `p`, and at other ends of these channels: at the process that writes one
+/// that was full before `p` took a token, and at the one that reads one that was empty before `p`
+/// put one into it. To the others each channel is as it was: it has room, or the same first token.
 pub(crate) fn refresh(store: &Store, sides: &Sides, ready: &mut ReadySet, p: u32, touched: &[u32])
     requires sound { IsSound store.now }
     requires there { p < length store.now.net.procs }
@@ -59,7 +99,7 @@ pub(crate) fn refresh(store: &Store, sides: &Sides, ready: &mut ReadySet, p: u32
     requires sides { HasEnds store.now.net sides.now }
     requires inside { AllByRecursion (λ c. c < length store.now.net.chans) touched.now }
     requires others { (r : ℕ) → r < length store.now.net.procs → r ≢ p
-        → IsApart store.now.net r touched.now
+        → AllHaveSlack store.now r touched.now
         → flag_at ready.old r ≡ ready_at store.now r }
     ensures { AgreesBut store.now ready.new [] }
 {

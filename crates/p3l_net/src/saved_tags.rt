@@ -1,22 +1,30 @@
 // The tags of tokens as they are saved: a list from the oldest to the newest.
 
 ghost use Rattle.std.specs.Prelude.{◌≡◌, ◌≤◌, ◌↔◌, [], length, reverse, IsTrue, IfOk};
-ghost use Rattle.p3l_firing.specs.Token.{most_tags};
+ghost use Rattle.p3l_firing.specs.Token.{first_tag, most_tags};
 
 use p3l_base::{List, NoMemory};
 use p3l_firing::Tags;
 use std::alloc::Global;
 
-// Whether there is no tag. A newest tag that is 0 shows by being counted one more.
-fn is_bare(tags: &Tags) -> bool
+// Whether there is no tag, where none shows. A newest tag that is 0 shows by being counted one more.
+fn is_bare_counted(tags: &Tags) -> bool
+    requires { first_tag tags.now ≡ 0 }
+    ensures { IsTrue result ↔ (tags.now ≡ []) }
+{
+    let mut counted = tags.copy();
+    counted.count_newest();
+    counted.newest() == 0
+}
+
+/// Whether there is no tag.
+pub(crate) fn is_bare(tags: &Tags) -> bool
     ensures { IsTrue result ↔ (tags.now ≡ []) }
 {
     if tags.newest() > 0 {
         return false;
     }
-    let mut counted = tags.copy();
-    counted.count_newest();
-    counted.newest() == 0
+    is_bare_counted(tags)
 }
 
 /// The tags of a token, as they are saved.

@@ -1,13 +1,13 @@
 // What is saved of a machine.
 
 ghost use Rattle.std.specs.Prelude.{◌≡◌, ◌≤◌, ◌↔◌, ◌++◌, length, map, IsTrue, IfOk, OnOk};
-ghost use Rattle.p3l_firing.specs.Token.{most_tags};
+ghost use Rattle.p3l_firing.specs.Token.{most_tags, plain};
 ghost use Rattle.p3l_net.specs.Shot.{IsCountable, saved_token, token_of};
 
 use crate::copies::same;
 use crate::saved_tags::{restored_tags, saved_tags};
 use p3l_base::{List, NoMemory, Outcome, Words};
-use p3l_firing::Token;
+use p3l_firing::{Tags, Token};
 use std::alloc::Global;
 
 /// What is counted stays below this number, so that it can be counted on.
@@ -55,13 +55,24 @@ impl Shot {
 }
 
 impl SavedToken {
-    /// A token as it is saved.
-    fn of(alloc: Global, token: &Token) -> Result<SavedToken, NoMemory>
-        ensures { IfOk result (λ saved. saved ≡ saved_token token.now) }
+    /// A token with these tags, as it is saved.
+    pub(crate) fn tagged(alloc: Global, tags: &Tags, body: &Outcome) -> Result<SavedToken, NoMemory>
+        ensures { IfOk result (λ saved. saved
+            ≡ saved_token (record { tags = tags.now; body = body.now })) }
     {
         Ok(SavedToken {
-            tags: saved_tags(alloc, &token.tags)?,
-            body: same(alloc, &token.body)?,
+            tags: saved_tags(alloc, tags)?,
+            body: same(alloc, body)?,
+        })
+    }
+
+    /// A token without tags, as it is saved.
+    pub(crate) fn plain(alloc: Global, body: &Outcome) -> Result<SavedToken, NoMemory>
+        ensures { IfOk result (λ saved. saved ≡ saved_token (plain body.now)) }
+    {
+        Ok(SavedToken {
+            tags: List::new(alloc),
+            body: same(alloc, body)?,
         })
     }
 
@@ -86,7 +97,7 @@ pub(crate) fn save_tokens(
     ensures { OnOk result (saved.new ≡ saved.old ++ map saved_token tokens.now) }
 {
     for token in tokens {
-        saved.push(SavedToken::of(alloc, token)?)?;
+        saved.push(SavedToken::tagged(alloc, &token.tags, &token.body)?)?;
     }
     Ok(())
 }

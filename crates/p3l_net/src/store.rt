@@ -3,8 +3,8 @@
 ghost use Rattle.std.specs.Prelude.{◌≡◌, ◌<◌, ◌≤◌, ◌+◌, ◌^◌, ◌↔◌, length, None, Some, IsTrue, true, IfOk, OnOk, OnErr, slice_get, is_some, cond};
 ghost use Rattle.p3l_base.specs.declared.outcome.Outcome.TheVariants.{Trapped};
 ghost use Rattle.p3l_firing.specs.Lists.{has_first, first_or};
-ghost use Rattle.p3l_firing.specs.State.{own_at, counted, fresh, gathering, holding, released};
-ghost use Rattle.p3l_firing.specs.Token.{credit};
+ghost use Rattle.p3l_firing.specs.State.{chan_at, own_at, counted, fresh, gathering, holding, released};
+ghost use Rattle.p3l_firing.specs.Token.{credit, newest_tag, plain};
 ghost use Rattle.p3l_firing.specs.kinds.Tail.{has_number, pick_number, after_release};
 ghost use Rattle.p3l_firing.specs.Typed.{IsTyped};
 ghost use Rattle.p3l_net.specs.Channel.{queue_at, tokens_at};
@@ -167,12 +167,20 @@ impl<'t> Store<'t> {
         self.tree.node(number).unwrap()
     }
 
-    /// The first token of a channel that has one.
-    pub(crate) fn front(&self, c: u32) -> &Token
+    /// The outcome of the first token of a channel that has one.
+    pub(crate) fn front_body(&self, c: u32) -> &Outcome
         requires { CanTake self.now c }
-        ensures { result.now ≡ first_or credit (tokens_at self.now.queues c) }
+        ensures { result.now ≡ (first_or credit (tokens_at self.now.queues c)).body }
     {
-        self.channels.front(c)
+        self.channels.front_body(c)
+    }
+
+    /// The newest tag of the first token of a channel that has one, 0 if that has no tags.
+    pub(crate) fn front_newest_tag(&self, c: u32) -> u64
+        requires { CanTake self.now c }
+        ensures { result ≡ newest_tag (first_or credit (tokens_at self.now.queues c)) }
+    {
+        self.channels.front_newest_tag(c)
     }
 
     /// Counts one firing more.
@@ -192,12 +200,40 @@ impl<'t> Store<'t> {
         self.channels.take(c)
     }
 
+    /// Takes the first token of a channel that has one, and lets go of its tags.
+    pub(crate) fn take_body(&mut self, c: u32) -> Outcome
+        requires { CanTake self.old c }
+        ensures body { result ≡ (first_or credit (tokens_at self.old.queues c)).body }
+        ensures after { self.new ≡ without_first self.old c }
+    {
+        self.channels.take_body(c)
+    }
+
+    /// Appends a token without tags to a channel that has room for it.
+    pub(crate) fn put_plain(&mut self, c: u32, body: Outcome)
+        requires { CanPut self.old c }
+        ensures { self.new ≡ with_last self.old c (plain body) }
+    {
+        self.channels.append_plain(c, body);
+    }
+
     /// Appends a token to a channel that has room for it.
     pub(crate) fn put(&mut self, c: u32, token: Token)
         requires { CanPut self.old c }
         ensures { self.new ≡ with_last self.old c token }
     {
         self.channels.append(c, token);
+    }
+
+    /// Takes the first token of channel `input`, and appends it to channel `output`, which has room for
+    /// it, with another outcome.
+    pub(crate) fn forward(&mut self, input: u32, output: u32, body: Outcome)
+        requires token { CanTake self.old input }
+        requires room { CanPut (without_first self.old input) output }
+        ensures { self.new ≡ with_last (without_first self.old input) output
+            (record (first_or credit (tokens_at self.old.queues input)) { body = body }) }
+    {
+        self.channels.forward(input, output, body);
     }
 
     /// Process `p` counts one more.
@@ -391,6 +427,14 @@ impl<'t> Store<'t> {
         ensures { result ≡ length (tokens_at self.now.queues c) }
     {
         self.channels.load(c)
+    }
+
+    /// How many tokens a channel may have.
+    pub(crate) fn room(&self, c: u32) -> u32
+        requires { c < length self.now.net.chans }
+        ensures { result ≡ (chan_at self.now.net c).cap }
+    {
+        self.net.chans.as_slice()[c as usize].cap
     }
 
     /// How many firings there were.

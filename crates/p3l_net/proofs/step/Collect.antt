@@ -1,5 +1,5 @@
 -- What a collect that may fire has, and the steps of its firing.
-use Rattle.std.proofs.Common.{◌≡◌, ℕ, ◌+◌, ◌<◌, ◌≤◌, ◌&&◌, true, false, List, [], ◌∷◌, length, drop, Some, None, slice_get, get_or, cond, nat_eq, refl, sym, ap, ◌∙◌, subst, arith, suc, length-drop, inl, inr}
+use Rattle.std.proofs.Common.{◌≡◌, ℕ, ◌+◌, ◌<◌, ◌≤◌, ◌&&◌, true, false, List, [], ◌∷◌, length, drop, Some, None, slice_get, get_or, cond, nat_eq, refl, sym, ap, ◌∙◌, subst, arith, suc, length-drop}
 use Rattle.std.specs.Option.{is_some}
 use Rattle.std.proofs.lemmas.Bool.{and_parts, cond-true, cond-false}
 use Rattle.std.proofs.Math.Seq.{drop-cons}
@@ -112,7 +112,7 @@ module _ {m : Seen} {p : ℕ} {q : Proc} (may : MayFire m p Collect) (stands : s
 
     pub fired : (leaf : Leaf) (n : Seen) → n ≡ seen_after p m steps → (touched : List ℕ) → touched ≡ c ∷ (out_of q 0 ∷ []) → Done leaf m n p touched None
     fired leaf n is touched named =
-        done_as h steps (inl (due_among (state_of m []) (own_at m.owns p).number q.ins c chosen), (inr (first_in q.outs (fits_collect h kind).outs), tt)) (takes.there, (puts.there, ((own_there h, own_less h), tt))) leaf Collect kind (λ es. sent_is es ∙ sym (row_is leaf es)) n is touched named
+        done_as h steps (due_among (state_of m []) (own_at m.owns p).number q.ins c chosen, (tt, (first_in q.outs (fits_collect h kind).outs, (tt, tt)))) (takes.there, (puts.there, ((own_there h, own_less h), tt))) leaf Collect kind (λ es. sent_is es ∙ sym (row_is leaf es)) n is touched named
 
 -- what it keeps is there
 pub own_inside : {m : Seen} {p : ℕ} (may : MayFire m p Collect) → p < length m.owns

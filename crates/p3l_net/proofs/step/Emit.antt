@@ -1,5 +1,5 @@
 -- What an emit that may fire has, and the steps of its firing.
-use Rattle.std.proofs.Common.{◌≡◌, ℕ, ◌<◌, ◌&&◌, true, List, [], ◌∷◌, length, Some, None, slice_get, refl, sym, ap, ◌∙◌, arith, inl, inr}
+use Rattle.std.proofs.Common.{◌≡◌, ℕ, ◌<◌, ◌&&◌, true, List, [], ◌∷◌, length, Some, None, slice_get, refl, sym, ap, ◌∙◌, arith}
 use Rattle.std.specs.Option.{is_some}
 use Rattle.std.proofs.lemmas.Bool.{and_parts}
 use Rattle.p3l_base.specs.declared.outcome.Outcome.{Outcome}
@@ -79,4 +79,4 @@ module _ {m : Seen} {p : ℕ} {q : Proc} (may : MayFire m p Emit) (stands : slic
 
     pub fired : (leaf : Leaf) (n : Seen) → n ≡ seen_after p m steps → (touched : List ℕ) → touched ≡ in_of q 0 ∷ (c ∷ []) → Done leaf m n p touched None
     fired leaf n is touched named =
-        done_as h steps (inl (first_in q.ins (fits_emit h kind).ins), (inr (chosen_among m.net (state_of m []) (state_of m []) q.outs c chosen), tt)) (takes.there, (puts.there, ((own_there h, own_less h), tt))) leaf Emit kind (λ es. sent_is es ∙ sym (row_is leaf es)) n is touched named
+        done_as h steps (first_in q.ins (fits_emit h kind).ins, (tt, (chosen_among m.net (state_of m []) (state_of m []) q.outs c chosen, (tt, tt)))) (takes.there, (puts.there, ((own_there h, own_less h), tt))) leaf Emit kind (λ es. sent_is es ∙ sym (row_is leaf es)) n is touched named

@@ -1,5 +1,5 @@
 -- What a fold-gather that may fire has, and the steps of its firing.
-use Rattle.std.proofs.Common.{◌≡◌, ℕ, ℤ, ◌+◌, ◌*◌, ◌<◌, true, false, cond, List, [], ◌∷◌, length, Some, None, slice_get, sym, ap, ◌∙◌, subst, arith, leb-true, leb-false, inl, inr}
+use Rattle.std.proofs.Common.{◌≡◌, ℕ, ℤ, ◌+◌, ◌*◌, ◌<◌, true, false, cond, List, [], ◌∷◌, length, Some, None, slice_get, sym, ap, ◌∙◌, subst, arith, leb-true, leb-false}
 use Rattle.std.specs.List.{AllByRecursion}
 use Rattle.std.proofs.lemmas.Bool.{cond-true, cond-false}
 use Rattle.p3l_base.specs.declared.outcome.Outcome.{Outcome}
@@ -118,7 +118,7 @@ module _ {m : Seen} {p : ℕ} {q : Proc} (may : MayFire m p FoldGather) (stands 
     pub fired_sent : (leaf : Leaf) (n : Seen) → n ≡ seen_after p m (sent_steps leaf) → (touched : List ℕ) → touched ≡ out_of q 0 ∷ [] → Done leaf m n p touched None
     fired_sent leaf n is touched named =
         let few = own_less h in
-        done_as h (sent_steps leaf) (inr (first_in q.outs (fits_fold_gather h kind).outs), tt) (puts.there, ((own_there h, omega (arith, few)), tt)) leaf FoldGather kind (λ es. sym (row_sent leaf es)) n is touched named
+        done_as h (sent_steps leaf) (first_in q.outs (fits_fold_gather h kind).outs, (tt, tt)) (puts.there, ((own_there h, omega (arith, few)), tt)) leaf FoldGather kind (λ es. sym (row_sent leaf es)) n is touched named
 
   module _ (none : is_full (own_at m.owns p) q ≡ false) where
     pub takes : CanTake m (line_of (own_at m.owns p) q)
@@ -137,4 +137,4 @@ module _ {m : Seen} {p : ℕ} {q : Proc} (may : MayFire m p FoldGather) (stands 
     pub fired_taken : (leaf : Leaf) (n : Seen) → n ≡ seen_after p m taken_steps → (touched : List ℕ) → touched ≡ line_of (own_at m.owns p) q ∷ [] → Done leaf m n p touched None
     fired_taken leaf n is touched named =
         let few = own_less h in
-        done_as h taken_steps (inl (line_among h kind none), tt) (takes.there, ((own_there h, omega (arith, few)), tt)) leaf FoldGather kind (λ es. sym (row_taken leaf es)) n is touched named
+        done_as h taken_steps (line_among h kind none, (tt, tt)) (takes.there, ((own_there h, omega (arith, few)), tt)) leaf FoldGather kind (λ es. sym (row_taken leaf es)) n is touched named

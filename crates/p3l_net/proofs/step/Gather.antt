@@ -1,5 +1,5 @@
 -- What a gather that may fire has, and the steps of its firing.
-use Rattle.std.proofs.Common.{◌≡◌, ℕ, ◌<◌, true, false, cond, List, [], ◌∷◌, length, Some, None, slice_get, sym, ap, ◌∙◌, subst, arith, inl, inr}
+use Rattle.std.proofs.Common.{◌≡◌, ℕ, ◌<◌, true, false, cond, List, [], ◌∷◌, length, Some, None, slice_get, sym, ap, ◌∙◌, subst, arith}
 use Rattle.std.specs.List.{AllByRecursion}
 use Rattle.std.proofs.lemmas.Bool.{cond-true, cond-false, ltb-true}
 use Rattle.p3l_base.specs.declared.outcome.Outcome.{Outcome}
@@ -114,7 +114,7 @@ module _ {m : Seen} {p : ℕ} {q : Proc} (may : MayFire m p Gather) (stands : sl
     pub fired_sent : (leaf : Leaf) (n : Seen) → n ≡ seen_after p m sent_steps → (touched : List ℕ) → touched ≡ out_of q 0 ∷ [] → Done leaf m n p touched None
     fired_sent leaf n is touched named =
         let few = own_less h in
-        done_as h sent_steps (inr (first_in q.outs (fits_gather h kind).outs), tt) (puts.there, ((own_there h, omega (arith, few)), tt)) leaf Gather kind (λ es. sym (row_sent leaf es)) n is touched named
+        done_as h sent_steps (first_in q.outs (fits_gather h kind).outs, (tt, tt)) (puts.there, ((own_there h, omega (arith, few)), tt)) leaf Gather kind (λ es. sym (row_sent leaf es)) n is touched named
 
   module _ (none : is_full m.tree (own_at m.owns p) q ≡ false) where
     pub takes : CanTake m (line_of (own_at m.owns p) q)
@@ -133,4 +133,4 @@ module _ {m : Seen} {p : ℕ} {q : Proc} (may : MayFire m p Gather) (stands : sl
     pub fired_taken : (leaf : Leaf) (n : Seen) → n ≡ seen_after p m taken_steps → (touched : List ℕ) → touched ≡ line_of (own_at m.owns p) q ∷ [] → Done leaf m n p touched None
     fired_taken leaf n is touched named =
         let few = own_less h in
-        done_as h taken_steps (inl (line_among (own_at m.owns p) q (fits_gather h kind)), tt) (takes.there, ((own_there h, omega (arith, few)), tt)) leaf Gather kind (λ es. sym (row_taken leaf es)) n is touched named
+        done_as h taken_steps (line_among (own_at m.owns p) q (fits_gather h kind), (tt, tt)) (takes.there, ((own_there h, omega (arith, few)), tt)) leaf Gather kind (λ es. sym (row_taken leaf es)) n is touched named

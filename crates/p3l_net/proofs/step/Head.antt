@@ -72,7 +72,7 @@ module _ {m : Seen} {p : ℕ} {q : Proc} (may : MayFire m p Head) (stands : slic
 
     pub fired_back : (leaf : Leaf) (n : Seen) → n ≡ seen_after p m back_steps → (touched : List ℕ) → touched ≡ in_of q 1 ∷ (out_of q 0 ∷ []) → Done leaf m n p touched None
     fired_back leaf n is touched named =
-        done_as h back_steps (inl (has_in h kind 1 (omega arith)), (inr (first_in q.outs (fits_head h kind).outs), tt)) (takes_back.there, (puts.there, tt)) leaf Head kind (λ es. sent_back es ∙ sym (row_back leaf es)) n is touched named
+        done_as h back_steps (has_in h kind 1 (omega arith), (tt, (first_in q.outs (fits_head h kind).outs, (tt, tt)))) (takes_back.there, (puts.there, tt)) leaf Head kind (λ es. sent_back es ∙ sym (row_back leaf es)) n is touched named
 
   module _ (none : has_first (tokens_at m.queues (in_of q 1)) ≡ false) where
     new : (has_first (tokens_at m.queues (in_of q 0)) ≡ true) × (has_first (tokens_at m.queues (in_of q 2)) ≡ true)
@@ -112,4 +112,4 @@ module _ {m : Seen} {p : ℕ} {q : Proc} (may : MayFire m p Head) (stands : slic
 
     pub fired_new : (leaf : Leaf) (n : Seen) → n ≡ seen_after p m new_steps → (touched : List ℕ) → touched ≡ in_of q 0 ∷ (in_of q 2 ∷ (out_of q 0 ∷ [])) → Done leaf m n p touched None
     fired_new leaf n is touched named =
-        done_as h new_steps (inl (has_in h kind 0 (omega arith)), (inl (has_in h kind 2 (omega arith)), (inr (first_in q.outs (fits_head h kind).outs), tt))) (takes_new.there, (takes_credit.there, (puts.there, ((own_there h, own_less h), tt)))) leaf Head kind (λ es. sent_new es ∙ sym (row_new leaf es)) n is touched named
+        done_as h new_steps (has_in h kind 0 (omega arith), ((λ e. apart (sym e), tt), (has_in h kind 2 (omega arith), (tt, (first_in q.outs (fits_head h kind).outs, (tt, tt)))))) (takes_new.there, (takes_credit.there, (puts.there, ((own_there h, own_less h), tt)))) leaf Head kind (λ es. sent_new es ∙ sym (row_new leaf es)) n is touched named

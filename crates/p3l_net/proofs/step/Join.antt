@@ -1,5 +1,5 @@
 -- What a join that may fire has, and the steps of its firing.
-use Rattle.std.proofs.Common.{◌≡◌, ◌≢◌, ℕ, ◌+◌, ◌<◌, ◌&&◌, true, List, [], ◌∷◌, length, Some, None, slice_get, slice_index, refl, sym, ap, ◌∙◌, subst, inl, arith, inr}
+use Rattle.std.proofs.Common.{◌≡◌, ◌≢◌, ℕ, ◌+◌, ◌<◌, ◌&&◌, true, List, [], ◌∷◌, length, Some, None, slice_get, slice_index, refl, sym, ap, ◌∙◌, subst, inl, arith}
 use Rattle.std.proofs.lemmas.Bool.{and_parts}
 use Rattle.p3l_base.specs.declared.outcome.Outcome.{Outcome}
 use Rattle.p3l_base.specs.declared.outcome.Outcome.TheVariants.{Value, Trapped}
@@ -119,4 +119,4 @@ module _ {m : Seen} {p : ℕ} {q : Proc} (may : MayFire m p Join) (stands : slic
 
   pub fired : (leaf : Leaf) (n : Seen) → n ≡ seen_after p m (steps leaf) → (touched : List ℕ) → touched ≡ in_of q 0 ∷ (in_of q 1 ∷ (out_of q 0 ∷ [])) → Done leaf m n p touched None
   unfolding row_fire row.fire pop push state_of
-  fired leaf n is touched named = done_as h (steps leaf) (inl (has_in h kind 0 (omega arith)), (inl (has_in h kind 1 (omega arith)), (inr (first_in q.outs fits.outs), tt))) (takes_left.there, (takes_right.there, (puts.there, tt))) leaf Join kind (λ es. refl) n is touched named
+  fired leaf n is touched named = done_as h (steps leaf) (has_in h kind 0 (omega arith), ((λ e. apart (sym e), tt), (has_in h kind 1 (omega arith), (tt, (first_in q.outs fits.outs, (tt, tt)))))) (takes_left.there, (takes_right.there, (puts.there, tt))) leaf Join kind (λ es. refl) n is touched named

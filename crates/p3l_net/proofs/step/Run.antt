@@ -1,5 +1,5 @@
 -- What a run that may fire has, and the steps of its firing.
-use Rattle.std.proofs.Common.{◌≡◌, ℕ, ◌<◌, ◌&&◌, true, List, [], ◌∷◌, length, Some, None, slice_get, refl, sym, ap, ◌∙◌, subst, inl, inr}
+use Rattle.std.proofs.Common.{◌≡◌, ℕ, ◌<◌, ◌&&◌, true, List, [], ◌∷◌, length, Some, None, slice_get, refl, sym, ap, ◌∙◌, subst}
 use Rattle.std.proofs.lemmas.Bool.{and_parts}
 use Rattle.p3l_base.specs.declared.outcome.Outcome.{Outcome}
 use Rattle.p3l_base.specs.declared.outcome.Outcome.TheVariants.{Value, Trapped}
@@ -78,4 +78,4 @@ module _ {m : Seen} {p : ℕ} {q : Proc} (may : MayFire m p Run) (stands : slice
 
   pub fired : (leaf : Leaf) (n : Seen) → n ≡ seen_after p m (steps leaf) → (touched : List ℕ) → touched ≡ in_of q 0 ∷ (out_of q 0 ∷ []) → Done leaf m n p touched None
   unfolding row_fire row.fire pop push state_of
-  fired leaf n is touched named = done_as h (steps leaf) (inl (first_in q.ins fits.ins), (inr (first_in q.outs fits.outs), tt)) (takes.there, (puts.there, tt)) leaf Run kind (λ es. refl) n is touched named
+  fired leaf n is touched named = done_as h (steps leaf) (first_in q.ins fits.ins, (tt, (first_in q.outs fits.outs, (tt, tt)))) (takes.there, (puts.there, tt)) leaf Run kind (λ es. refl) n is touched named

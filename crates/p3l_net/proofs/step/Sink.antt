@@ -21,6 +21,7 @@ use Rattle.p3l_net.specs.Machine.{Seen, Stands, state_of}
 use Rattle.p3l_net.specs.Channel.{tokens_at}
 use Rattle.p3l_net.specs.Steps.{CanTake, Done, MayFire, ready_at, one_emitted, ticked, without_first}
 use Rattle.p3l_net.proofs.Queues.{tokens-taken, tokens-other-take, rooms-taken}
+use Rattle.p3l_net.proofs.StepLaw.{take-grows, take-shrinks}
 use Rattle.p3l_net.proofs.Standing.{here, is_kind, fits_as, reads_there, reads_chan, ready_as, can_take}
 
 module _ {m : Seen} {p : ℕ} {q : Proc} (h : Stands m p q) (kind : q.kind ≡ Sink) where
@@ -92,6 +93,8 @@ module _ {m : Seen} {p : ℕ} {q : Proc} (may : MayFire m p Sink) (stands : slic
             inside = (reads_chan h (in_of q 0) (first_in q.ins (fits_sink h kind).ins), tt);
             own_channels = subst (λ o. AllByRecursion (IsAt o) (in_of q 0 ∷ [])) (sym stands) (inl (first_in q.ins (fits_sink h kind).ins), tt);
             queues = λ c apart. tokens-other-take m.queues (in_of q 0) c apart.0;
+            grows = λ c none. take-grows q m.queues (in_of q 0) takes.there (first_in q.ins (fits_sink h kind).ins) c (none q stands);
+            shrinks = λ c none. take-shrinks q m.queues (in_of q 0) takes.there (first_in q.ins (fits_sink h kind).ins) c (none q stands);
             owns = λ r other. refl;
             inbox = inr refl;
           };

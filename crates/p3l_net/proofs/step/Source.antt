@@ -24,6 +24,7 @@ use Rattle.p3l_net.specs.Machine.{Seen, Stands, state_of}
 use Rattle.p3l_net.specs.Channel.{tokens_at}
 use Rattle.p3l_net.specs.Steps.{CanPut, Done, MayFire, ready_at, room_at, item_sent, ticked, with_last}
 use Rattle.p3l_net.proofs.Queues.{tokens-appended, tokens-other-put, rooms-appended}
+use Rattle.p3l_net.proofs.StepLaw.{put-grows, put-shrinks}
 use Rattle.p3l_net.proofs.Standing.{here, is_kind, fits_as, writes_there, writes_chan, ready_as, can_put, room-seen}
 
 first_is_some : (o : Option (List ℤ)) → has_first (option_to_list o) ≡ is_some o
@@ -99,6 +100,8 @@ module _ {m : Seen} {p : ℕ} {q : Proc} (may : MayFire m p Source) (stands : sl
             inside = (writes_chan h (out_of q 0) (first_in q.outs (fits_source h kind).outs), tt);
             own_channels = subst (λ o. AllByRecursion (IsAt o) (out_of q 0 ∷ [])) (sym stands) (inr (first_in q.outs (fits_source h kind).outs), tt);
             queues = λ c apart. tokens-other-put m.queues (out_of q 0) token c apart.0;
+            grows = λ c none. put-grows q m.queues (out_of q 0) puts.there token (first_in q.outs (fits_source h kind).outs) c (none q stands);
+            shrinks = λ c none. put-shrinks q m.queues (out_of q 0) puts.there token (first_in q.outs (fits_source h kind).outs) c (none q stands);
             owns = λ r other. refl;
             inbox = inl may.is;
           };

@@ -1,5 +1,5 @@
 -- What a split that may fire has, and the steps of its firing.
-use Rattle.std.proofs.Common.{◌≡◌, ℕ, suc, ◌+◌, ◌*◌, ◌^◌, ◌<◌, ◌≤◌, ◌&&◌, true, false, cond, nat_lt, List, [], ◌∷◌, length, Option, Some, None, slice_get, refl, sym, ap, ap₂, ◌∙◌, subst, arith, lt-ltb, inl, inr}
+use Rattle.std.proofs.Common.{◌≡◌, ℕ, suc, ◌+◌, ◌*◌, ◌^◌, ◌<◌, ◌≤◌, ◌&&◌, true, false, cond, nat_lt, List, [], ◌∷◌, length, Option, Some, None, slice_get, refl, sym, ap, ap₂, ◌∙◌, subst, arith, lt-ltb}
 use Rattle.std.specs.Int.{IsPowerOfTwo}
 use Rattle.std.proofs.lemmas.Bool.{cond-true, cond-false}
 use Rattle.p3l_base.specs.declared.outcome.Outcome.{Outcome}
@@ -134,7 +134,7 @@ module _ {m : Seen} {p : ℕ} {q : Proc} (may : MayFire m p Split) (stands : sli
 
     pub fired_sent : (leaf : Leaf) (n : Seen) → n ≡ seen_after p m sent_steps → (touched : List ℕ) → touched ≡ out_of q (own_at m.owns p).number ∷ [] → Done leaf m n p touched None
     fired_sent leaf n is touched named =
-        done_as h sent_steps (inr (has-nth q.outs (own_at m.owns p).number (segment_there h kind holds)), tt) (puts.there, ((own_there h, small_after _ (own_at m.owns p) (m.fired + 1 + 2 ^ 63) (own_less h)), tt)) leaf Split kind (λ es. sent_is es ∙ sym (row_sent leaf es)) n is touched named
+        done_as h sent_steps (has-nth q.outs (own_at m.owns p).number (segment_there h kind holds), (tt, tt)) (puts.there, ((own_there h, small_after _ (own_at m.owns p) (m.fired + 1 + 2 ^ 63) (own_less h)), tt)) leaf Split kind (λ es. sent_is es ∙ sym (row_sent leaf es)) n is touched named
 
   module _ (none : has_first (own_at m.owns p).held ≡ false) where
     pub takes : CanTake m (in_of q 0)
@@ -149,4 +149,4 @@ module _ {m : Seen} {p : ℕ} {q : Proc} (may : MayFire m p Split) (stands : sli
 
     pub fired_taken : (leaf : Leaf) (n : Seen) → n ≡ seen_after p m taken_steps → (touched : List ℕ) → touched ≡ in_of q 0 ∷ [] → Done leaf m n p touched None
     fired_taken leaf n is touched named =
-        done_as h taken_steps (inl (first_in q.ins (fits_split h kind).ins), tt) (takes.there, ((own_there h, omega arith), tt)) leaf Split kind (λ es. sym (row_taken leaf es)) n is touched named
+        done_as h taken_steps (first_in q.ins (fits_split h kind).ins, (tt, tt)) (takes.there, ((own_there h, omega arith), tt)) leaf Split kind (λ es. sym (row_taken leaf es)) n is touched named

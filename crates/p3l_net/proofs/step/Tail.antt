@@ -151,7 +151,7 @@ module _ {m : Seen} {p : ℕ} {q : Proc} (may : MayFire m p Tail) (stands : slic
 
     pub fired_out : (leaf : Leaf) (n : Seen) → n ≡ seen_after p m out_steps → (touched : List ℕ) → touched ≡ out_of q 0 ∷ (out_of q 2 ∷ []) → Done leaf m n p touched None
     fired_out leaf n is touched named =
-        done_as h out_steps (inr (has_out h kind 0 (omega arith)), (inr (has_out h kind 2 (omega arith)), tt)) ((own_there h, counted_few), (puts_out.there, (puts_credit.there, tt))) leaf Tail kind (λ es. sent_out es ∙ sym (row_out leaf es)) n is touched named
+        done_as h out_steps (has_out h kind 0 (omega arith), ((λ e. apart (sym e), tt), (has_out h kind 2 (omega arith), (tt, tt)))) ((own_there h, counted_few), (puts_out.there, (puts_credit.there, tt))) leaf Tail kind (λ es. sent_out es ∙ sym (row_out leaf es)) n is touched named
 
   module _ (stays : can_release m.net (state_of m []) (own_at m.owns p) q ≡ false) where
     both : (has_first (tokens_at m.queues (in_of q 0)) ≡ true) × (room_at m (out_of q 1) ≡ true)
@@ -195,7 +195,7 @@ module _ {m : Seen} {p : ℕ} {q : Proc} (may : MayFire m p Tail) (stands : slic
 
     pub fired_held : (leaf : Leaf) (outcome : Outcome) → next_turn m.tree leaf (state_of m []) q ≡ Held outcome → (n : Seen) → n ≡ seen_after p m (held_steps outcome) → (touched : List ℕ) → touched ≡ in_of q 0 ∷ [] → Done leaf m n p touched None
     fired_held leaf outcome turn n is touched named =
-        done_as h (held_steps outcome) (inl (first_in q.ins (fits_tail h kind).ins), tt) (takes.there, ((own_there h, few), tt)) leaf Tail kind (λ es. sent_held outcome es ∙ sym (row_turned leaf (Held outcome) turn es)) n is touched named
+        done_as h (held_steps outcome) (first_in q.ins (fits_tail h kind).ins, (tt, tt)) (takes.there, ((own_there h, few), tt)) leaf Tail kind (λ es. sent_held outcome es ∙ sym (row_turned leaf (Held outcome) turn es)) n is touched named
 
     -- its turn can be counted
     pub few_turns : (leaf : Leaf) → next_turn m.tree leaf (state_of m []) q ≡ Again → newest_tag first < 2 ^ 63
@@ -215,4 +215,4 @@ module _ {m : Seen} {p : ℕ} {q : Proc} (may : MayFire m p Tail) (stands : slic
 
     pub fired_again : (leaf : Leaf) → next_turn m.tree leaf (state_of m []) q ≡ Again → (n : Seen) → n ≡ seen_after p m again_steps → (touched : List ℕ) → touched ≡ in_of q 0 ∷ (out_of q 1 ∷ []) → Done leaf m n p touched None
     fired_again leaf turn n is touched named =
-        done_as h again_steps (inl (first_in q.ins (fits_tail h kind).ins), (inr (has_out h kind 1 (omega arith)), tt)) (takes.there, (puts_back.there, tt)) leaf Tail kind (λ es. sent_again es ∙ sym (row_turned leaf Again turn es)) n is touched named
+        done_as h again_steps (first_in q.ins (fits_tail h kind).ins, (tt, (has_out h kind 1 (omega arith), (tt, tt)))) (takes.there, (puts_back.there, tt)) leaf Tail kind (λ es. sent_again es ∙ sym (row_turned leaf Again turn es)) n is touched named

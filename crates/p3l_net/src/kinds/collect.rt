@@ -19,7 +19,7 @@ impl<'t> Store<'t> {
         ensures { result ≡ front_is number (tokens_at self.now.queues channel) }
     {
         if self.has_token(channel) {
-            self.front(channel).newest_tag() == number
+            self.front_newest_tag(channel) == number
         } else {
             false
         }

@@ -78,8 +78,8 @@ impl<'t> Store<'t> {
             alloc,
             units,
             operator,
-            &self.front(left).body,
-            &self.front(right).body,
+            self.front_body(left),
+            self.front_body(right),
         )?;
         let token = self.take(left);
         let _right = self.take(right);

@@ -65,9 +65,8 @@ impl<'t> Store<'t> {
         let node = process.node;
         let input = process.input();
         let output = process.output();
-        let outcome = outcome_of(alloc, units, node, &self.front(input).body)?;
-        let token = self.take(input);
-        self.put(output, token.with_body(outcome));
+        let outcome = outcome_of(alloc, units, node, self.front_body(input))?;
+        self.forward(input, output, outcome);
         self.tick();
         Ok(Touched::two(input, output))
     }

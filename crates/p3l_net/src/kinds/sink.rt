@@ -8,7 +8,7 @@ ghost use Rattle.p3l_net.specs.Steps.{Done, MayFire, ready_at};
 use crate::store::Store;
 use crate::touched::Touched;
 use p3l_base::Outcome;
-use p3l_firing::{Proc, ProcKind, Token};
+use p3l_firing::{Proc, ProcKind};
 
 impl<'t> Store<'t> {
     // Whether a sink can fire.
@@ -29,8 +29,7 @@ impl<'t> Store<'t> {
     {
         let process = self.process(p);
         let input = process.input();
-        let token = self.take(input);
-        let Token { tags: _, body } = token;
+        let body = self.take_body(input);
         self.emit(&body);
         self.tick();
         (body, Touched::one(input))

@@ -8,7 +8,7 @@ ghost use Rattle.p3l_net.specs.Steps.{Done, MayFire, ready_at};
 use crate::store::Store;
 use crate::touched::Touched;
 use p3l_base::Outcome;
-use p3l_firing::{Proc, ProcKind, Token};
+use p3l_firing::{Proc, ProcKind};
 
 impl<'t> Store<'t> {
     // Whether a source can fire.
@@ -31,7 +31,7 @@ impl<'t> Store<'t> {
         let process = self.process(p);
         let output = process.output();
         let item = self.next_item();
-        self.put(output, Token::plain(Outcome::Value(item)));
+        self.put_plain(output, Outcome::Value(item));
         self.tick();
         Touched::one(output)
     }

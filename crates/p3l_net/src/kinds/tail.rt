@@ -214,12 +214,18 @@ impl<'t> Store<'t> {
     {
         let input = process.input();
         let node = self.node(process.node);
-        let token = self.front(input);
-        let more = token.newest_tag() < most_turns(&node.form) as u64;
+        let more = self.front_newest_tag(input) < most_turns(&node.form) as u64;
         let spent = Trap {
             kind: TrapKind::Turns,
             module: node.module,
         };
-        turn_of(alloc, units, node.part(1), spent, more, &token.body)
+        turn_of(
+            alloc,
+            units,
+            node.part(1),
+            spent,
+            more,
+            self.front_body(input),
+        )
     }
 }

@@ -1,7 +1,6 @@
 use Rattle.std.proofs.Common.{◌≡◌, map, take}
-use Rattle.circular_buffer.specs.Buffer.{buffer}
 use Rattle.p3l_net.specs.Shot.{token_of}
 use Rattle.p3l_net.proofs.channel.Channel.restore.Given as goal
 
 abbrev pub invariant-loop-token : goal.invariant-loop-token
-invariant-loop-token l = l.ring ≡ buffer (map token_of (take l.token-index l.saved)) l.chan.cap
+invariant-loop-token l = l.channel ≡ record { tokens = map token_of (take l.token-index l.saved); room = l.chan.cap }

@@ -5,7 +5,7 @@ use Rattle.p3l_skel.specs.Tree.{GivesOuts}
 use Rattle.p3l_ready.specs.Flags.{flag_at}
 use Rattle.p3l_firing.specs.declared.net.Net.{Net}
 use Rattle.p3l_net.specs.Machine.{Seen, can_step}
-use Rattle.p3l_net.specs.Steps.{HasEnds, IsApart, OthersStay, ready_at}
+use Rattle.p3l_net.specs.Steps.{AllHaveSlack, HasEnds, OthersStay, ready_at}
 use Rattle.p3l_net.proofs.Frame.{others_agree, others_stay, inbox_stays}
 use Rattle.p3l_net.proofs.SoundLaw.{fired_sound}
 use Rattle.p3l_net.proofs.machine.Machine.fire.Goals as goal
@@ -23,8 +23,8 @@ refresh-requires-clause-inside g c =
 
 pub refresh-requires-clause-others : goal.refresh-requires-clause-others
 refresh-requires-clause-others g c =
-    subst (λ cs. (r : ℕ) → r < length c.fire.new.self.net.procs → r ≢ c.args.p → IsApart c.fire.new.self.net r cs → flag_at c.self.inside.ready r ≡ ready_at c.fire.new.self r) (sym c.as_slice.ensures)
-    (others_agree c.self.inside.ready c.self.invariant.agrees c.in_ok-step.ensures.done.moves)
+    subst (λ cs. (r : ℕ) → r < length c.fire.new.self.net.procs → r ≢ c.args.p → AllHaveSlack c.fire.new.self r cs → flag_at c.self.inside.ready r ≡ ready_at c.fire.new.self r) (sym c.as_slice.ensures)
+    (others_agree c.self.inside.ready c.self.invariant.agrees c.self.inside.sides c.self.invariant.sides c.in_ok-step.ensures.done.moves)
 
 pub invariant_of-self-2 : goal.invariant_of-self-2
 invariant_of-self-2 g c =

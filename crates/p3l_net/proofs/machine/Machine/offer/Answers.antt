@@ -2,7 +2,7 @@ use Rattle.std.proofs.Common.{◌≡◌, ◌≢◌, ◌<◌, ℕ, length, subst,
 use Rattle.p3l_skel.specs.Tree.{node_at}
 use Rattle.p3l_ready.specs.Flags.{flag_at}
 use Rattle.p3l_net.specs.Machine.{Seen, IsSound}
-use Rattle.p3l_net.specs.Steps.{HasEnds, IsApart, ready_at}
+use Rattle.p3l_net.specs.Steps.{AllHaveSlack, HasEnds, ready_at}
 use Rattle.p3l_net.proofs.Frame.{others_agree, offer_moves, offer_stays}
 use Rattle.p3l_net.proofs.SoundLaw.{offered_sound}
 use Rattle.p3l_net.proofs.machine.Machine.offer.Goals as goal
@@ -15,8 +15,8 @@ refresh-requires-clause-sound c =
 
 pub refresh-requires-clause-others : goal.refresh-requires-clause-others
 refresh-requires-clause-others c =
-    subst (λ cs. (r : ℕ) → r < length c.offer.new.self.net.procs → r ≢ 0 → IsApart c.offer.new.self.net r cs → flag_at c.self.inside.ready r ≡ ready_at c.offer.new.self r) (sym c.as_slice.ensures)
-    (others_agree c.self.inside.ready c.self.invariant.agrees (offer_moves c.self.inside.store c.offer.new.self c.args.item c.self.invariant.sound.typed c.offer.ensures))
+    subst (λ cs. (r : ℕ) → r < length c.offer.new.self.net.procs → r ≢ 0 → AllHaveSlack c.offer.new.self r cs → flag_at c.self.inside.ready r ≡ ready_at c.offer.new.self r) (sym c.as_slice.ensures)
+    (others_agree c.self.inside.ready c.self.invariant.agrees c.self.inside.sides c.self.invariant.sides (offer_moves c.self.inside.store c.offer.new.self c.args.item c.self.invariant.sound.typed c.offer.ensures))
 
 pub invariant_of-self : goal.invariant_of-self
 invariant_of-self c = record {

@@ -1,4 +1,5 @@
 use Rattle.std.proofs.Common.{ℕ, ◌+◌, ◌<◌, [], ◌∷◌, length, slice_index, sym, ap, ap₂, ◌∙◌, subst, arith, length-set}
+use Rattle.p3l_base.specs.declared.outcome.Outcome.{Outcome}
 use Rattle.p3l_skel.specs.declared.tree.Node.{Node}
 use Rattle.p3l_skel.specs.Tree.{HasFittingLength, IsUnit, part_at}
 use Rattle.p3l_skel.specs.Fold.{combined}
@@ -32,11 +33,11 @@ output-output-requires g c = one_long _ _ (fits_join (here c.requires.may c.proc
 pub node-requires : goal.node-requires
 node-requires g c = (fits_join (here c.requires.may c.process-process.ensures) (is_kind c.requires.may c.process-process.ensures)).node
 
-pub front-requires : goal.front-requires
-front-requires g c = subst (CanTake c.args.self.now) (sym c.nth_input-left.ensures) (takes_left c.requires.may c.process-process.ensures)
+pub front_body-requires : goal.front_body-requires
+front_body-requires g c = subst (CanTake c.args.self.now) (sym c.nth_input-left.ensures) (takes_left c.requires.may c.process-process.ensures)
 
-pub front-requires-2 : goal.front-requires-2
-front-requires-2 g c = subst (CanTake c.args.self.now) (sym c.nth_input-right.ensures) (takes_right c.requires.may c.process-process.ensures)
+pub front_body-requires-2 : goal.front_body-requires-2
+front_body-requires-2 g c = subst (CanTake c.args.self.now) (sym c.nth_input-right.ensures) (takes_right c.requires.may c.process-process.ensures)
 
 pub combined_of-requires-clause-sequential : goal.combined_of-requires-clause-sequential
 combined_of-requires-clause-sequential g c =
@@ -48,12 +49,12 @@ pub combined_of-requires-clause-fits : goal.combined_of-requires-clause-fits
 combined_of-requires-clause-fits g c =
     let m : Seen = c.args.self.now in
     let operator = c.part-operator.ensures ∙ ap (λ (x : Node). slice_index x.parts 0) c.node.ensures in
-    let left = c.front.ensures ∙ ap (λ k. first_or credit (tokens_at m.queues k)) c.nth_input-left.ensures in
-    let right = c.front-2.ensures ∙ ap (λ k. first_or credit (tokens_at m.queues k)) c.nth_input-right.ensures in
-    subst (λ t. IfValues c.front.result.now.body c.front-2.result.now.body (λ v w. HasFittingLength t c.part-operator.result (length v + length w))) (sym c.requires.units)
-    (subst (λ o. IfValues c.front.result.now.body c.front-2.result.now.body (λ v w. HasFittingLength m.tree o (length v + length w))) (sym operator)
-    (subst (λ (x : Token). IfValues x.body c.front-2.result.now.body (λ v w. HasFittingLength m.tree (part_at m.tree c.process-process.result.now.node 0) (length v + length w))) (sym left)
-    (subst (λ (x : Token). IfValues (first_or credit (tokens_at m.queues (in_of c.process-process.result.now 0))).body x.body (λ v w. HasFittingLength m.tree (part_at m.tree c.process-process.result.now.node 0) (length v + length w))) (sym right)
+    let left = c.front_body.ensures ∙ ap (λ k. (first_or credit (tokens_at m.queues k)).body) c.nth_input-left.ensures in
+    let right = c.front_body-2.ensures ∙ ap (λ k. (first_or credit (tokens_at m.queues k)).body) c.nth_input-right.ensures in
+    subst (λ t. IfValues c.front_body.result.now c.front_body-2.result.now (λ v w. HasFittingLength t c.part-operator.result (length v + length w))) (sym c.requires.units)
+    (subst (λ o. IfValues c.front_body.result.now c.front_body-2.result.now (λ v w. HasFittingLength m.tree o (length v + length w))) (sym operator)
+    (subst (λ (x : Outcome). IfValues x c.front_body-2.result.now (λ v w. HasFittingLength m.tree (part_at m.tree c.process-process.result.now.node 0) (length v + length w))) (sym left)
+    (subst (λ (x : Outcome). IfValues (first_or credit (tokens_at m.queues (in_of c.process-process.result.now 0))).body x (λ v w. HasFittingLength m.tree (part_at m.tree c.process-process.result.now.node 0) (length v + length w))) (sym right)
     (fitting c.requires.may c.process-process.ensures))))
 
 pub take-token-requires : goal.take-token-requires
@@ -85,11 +86,11 @@ returns-clause-done g c =
     let b : ℕ = in_of q 1 in
     let first : ℕ → Token = λ k. first_or credit (tokens_at m.queues k) in
     let operator = c.part-operator.ensures ∙ ap (λ (x : Node). slice_index x.parts 0) c.node.ensures in
-    let left = c.front.ensures ∙ ap first c.nth_input-left.ensures in
-    let right = c.front-2.ensures ∙ ap first c.nth_input-right.ensures in
+    let left = c.front_body.ensures ∙ ap (λ k. (first k).body) c.nth_input-left.ensures in
+    let right = c.front_body-2.ensures ∙ ap (λ k. (first k).body) c.nth_input-right.ensures in
     let made = c.in_ok-outcome.ensures
-    ∙ ap₂ (λ t k. combined (item t leaf k) c.front.result.now.body c.front-2.result.now.body) c.requires.units operator
-    ∙ ap₂ (λ (x y : Token). combined (item m.tree leaf (part_at m.tree q.node 0)) x.body y.body) left right in
+    ∙ ap₂ (λ t k. combined (item t leaf k) c.front_body.result.now c.front_body-2.result.now) c.requires.units operator
+    ∙ ap₂ (λ (x y : Outcome). combined (item m.tree leaf (part_at m.tree q.node 0)) x y) left right in
     let token = c.with_body.ensures ∙ ap₂ (λ (x : Token) o. record x { body = o }) (c.take-token.ensures.front ∙ ap first c.nth_input-left.ensures) made in
     let sent : Token = joined c.requires.may c.process-process.ensures leaf in
     let taken = c.take-right.ensures.after

@@ -1,4 +1,5 @@
-use Rattle.std.proofs.Common.{◌<◌, ◌^◌, [], ◌∷◌, length, sym, ap, ap₂, ◌∙◌, subst}
+use Rattle.std.proofs.Common.{ℕ, ◌<◌, ◌^◌, [], ◌∷◌, length, sym, ap, ap₂, ◌∙◌, subst}
+use Rattle.p3l_base.specs.declared.outcome.Outcome.{Outcome}
 use Rattle.p3l_skel.specs.Tree.{HasFittingLength, IsUnit}
 use Rattle.p3l_firing.specs.declared.token.Token.{Token}
 use Rattle.p3l_firing.specs.Lists.{first_or}
@@ -21,46 +22,41 @@ input-input-requires g c = one_long _ _ (fits_run (here c.requires.may c.process
 pub output-output-requires : goal.output-output-requires
 output-output-requires g c = one_long _ _ (fits_run (here c.requires.may c.process-process.ensures) (is_kind c.requires.may c.process-process.ensures)).outs
 
-pub front-requires : goal.front-requires
-front-requires g c = subst (CanTake c.args.self.now) (sym c.input-input.ensures) (takes c.requires.may c.process-process.ensures)
+pub front_body-requires : goal.front_body-requires
+front_body-requires g c = subst (CanTake c.args.self.now) (sym c.input-input.ensures) (takes c.requires.may c.process-process.ensures)
 
 pub outcome_of-requires-clause-sequential : goal.outcome_of-requires-clause-sequential
 outcome_of-requires-clause-sequential g c = subst (λ t. IsUnit t c.process-process.result.now.node) (sym c.requires.units) (is_unit c.requires.may c.process-process.ensures)
 
 pub outcome_of-requires-clause-fits : goal.outcome_of-requires-clause-fits
 outcome_of-requires-clause-fits g c =
-    subst (λ t. IfValue c.front.result.now.body (λ words. HasFittingLength t c.process-process.result.now.node (length words))) (sym c.requires.units)
-    (subst (λ (x : Token). IfValue x.body (λ words. HasFittingLength c.args.self.now.tree c.process-process.result.now.node (length words)))
-    (sym (c.front.ensures ∙ ap (λ k. first_or credit (tokens_at c.args.self.now.queues k)) c.input-input.ensures))
+    subst (λ t. IfValue c.front_body.result.now (λ words. HasFittingLength t c.process-process.result.now.node (length words))) (sym c.requires.units)
+    (subst (λ (x : Outcome). IfValue x (λ words. HasFittingLength c.args.self.now.tree c.process-process.result.now.node (length words)))
+    (sym (c.front_body.ensures ∙ ap (λ k. (first_or credit (tokens_at c.args.self.now.queues k)).body) c.input-input.ensures))
     (fitting c.requires.may c.process-process.ensures))
 
-pub take-token-requires : goal.take-token-requires
-take-token-requires g c = subst (CanTake c.args.self.now) (sym c.input-input.ensures) (takes c.requires.may c.process-process.ensures)
-
-pub put-requires : goal.put-requires
-put-requires g c =
-    subst (λ (x : Seen). CanPut x c.output-output.result) (sym c.take-token.ensures.after)
-    (put_after_take c.input-input.result (subst (CanTake c.args.self.now) (sym c.input-input.ensures) (takes c.requires.may c.process-process.ensures)).there
-    (subst (CanPut c.args.self.now) (sym c.output-output.ensures) (puts c.requires.may c.process-process.ensures)))
+pub forward-requires : goal.forward-requires
+forward-requires g c =
+    let comes = subst (CanTake c.args.self.now) (sym c.input-input.ensures) (takes c.requires.may c.process-process.ensures) in
+    record {
+      token = comes;
+      room = put_after_take c.input-input.result comes.there (subst (CanPut c.args.self.now) (sym c.output-output.ensures) (puts c.requires.may c.process-process.ensures));
+    }
 
 pub tick-requires : goal.tick-requires
-tick-requires g c =
-    subst (λ (x : Seen). x.fired < 2 ^ 63) (sym (c.put.ensures ∙ ap (λ (x : Seen). with_last x c.output-output.result c.with_body.result) c.take-token.ensures.after)) c.requires.may.count
+tick-requires g c = subst (λ (x : Seen). x.fired < 2 ^ 63) (sym c.forward.ensures) c.requires.may.count
 
 pub returns-clause-done : goal.returns-clause-done
 returns-clause-done g c =
     let m : Seen = c.args.self.now in
-    let input = c.input-input.ensures in
-    let output = c.output-output.ensures in
+    let first : ℕ → Token = λ k. first_or credit (tokens_at m.queues k) in
     let made = c.in_ok-outcome.ensures
-    ∙ ap₂ (λ t (x : Token). outcome_of t (g.U.Units.leaf c.args.units.now) c.process-process.result.now.node x.body) c.requires.units
-    (c.front.ensures ∙ ap (λ k. first_or credit (tokens_at m.queues k)) input) in
-    let taken = c.take-token.ensures.front ∙ ap (λ k. first_or credit (tokens_at m.queues k)) input in
-    let token = c.with_body.ensures ∙ ap₂ (λ (x : Token) b. record x { body = b }) taken made in
-    let sent : Token = over (outcome_of m.tree (g.U.Units.leaf c.args.units.now) c.process-process.result.now.node) (first_or credit (tokens_at m.queues (in_of c.process-process.result.now 0))) in
+    ∙ ap₂ (λ t x. outcome_of t (g.U.Units.leaf c.args.units.now) c.process-process.result.now.node x) c.requires.units
+    (c.front_body.ensures ∙ ap (λ k. (first k).body) c.input-input.ensures) in
+    let sent : Token = over (outcome_of m.tree (g.U.Units.leaf c.args.units.now) c.process-process.result.now.node) (first (in_of c.process-process.result.now 0)) in
     fired c.requires.may c.process-process.ensures (g.U.Units.leaf c.args.units.now) _
     (c.tick.ensures
-    ∙ ap ticked (c.put.ensures
-    ∙ ap₂ (λ (x : Seen) t. with_last x c.output-output.result t) (c.take-token.ensures.after ∙ ap (without_first m) input) token
-    ∙ ap (λ k. with_last (without_first m (in_of c.process-process.result.now 0)) k sent) output))
-    _ (c.two.ensures ∙ ap₂ (λ i o. i ∷ (o ∷ [])) input output)
+    ∙ ap ticked (c.forward.ensures
+    ∙ ap₂ (λ i b. with_last (without_first m i) c.output-output.result (record (first i) { body = b })) c.input-input.ensures made
+    ∙ ap (λ k. with_last (without_first m (in_of c.process-process.result.now 0)) k sent) c.output-output.ensures))
+    _ (c.two.ensures ∙ ap₂ (λ i o. i ∷ (o ∷ [])) c.input-input.ensures c.output-output.ensures)

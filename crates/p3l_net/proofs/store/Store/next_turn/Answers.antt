@@ -26,8 +26,13 @@ input-input-requires g c = one_long _ _ (fits_tail c.requires.stands c.requires.
 pub node-node-requires : goal.node-node-requires
 node-node-requires g c = (fits_tail c.requires.stands c.requires.kind).node
 
-pub front-token-requires : goal.front-token-requires
-front-token-requires g c =
+pub front_newest_tag-requires : goal.front_newest_tag-requires
+front_newest_tag-requires g c =
+    subst (CanTake c.args.self.now) (sym c.input-input.ensures)
+    (can_take c.requires.stands _ (first_in _ (fits_tail c.requires.stands c.requires.kind).ins) c.requires.comes)
+
+pub front_body-requires : goal.front_body-requires
+front_body-requires g c =
     subst (CanTake c.args.self.now) (sym c.input-input.ensures)
     (can_take c.requires.stands _ (first_in _ (fits_tail c.requires.stands c.requires.kind).ins) c.requires.comes)
 
@@ -40,10 +45,10 @@ pub turn_of-requires-clause-fits : goal.turn_of-requires-clause-fits
 turn_of-requires-clause-fits g c =
     let m : Seen = c.args.self.now in
     let condition = c.part.ensures ∙ ap (λ (x : Node). slice_index x.parts 1) c.node-node.ensures in
-    let token = c.front-token.ensures ∙ ap (λ k. first_or credit (tokens_at m.queues k)) c.input-input.ensures in
-    subst (λ t. IfValue c.front-token.result.now.body (λ words. HasFittingLength t c.part.result (length words))) (sym c.requires.units)
-    (subst (λ k. IfValue c.front-token.result.now.body (λ words. HasFittingLength m.tree k (length words))) (sym condition)
-    (subst (λ (x : Token). IfValue x.body (λ words. HasFittingLength m.tree (part_at m.tree c.args.process.now.node 1) (length words))) (sym token)
+    let body = c.front_body.ensures ∙ ap (λ k. (first_or credit (tokens_at m.queues k)).body) c.input-input.ensures in
+    subst (λ t. IfValue c.front_body.result.now (λ words. HasFittingLength t c.part.result (length words))) (sym c.requires.units)
+    (subst (λ k. IfValue c.front_body.result.now (λ words. HasFittingLength m.tree k (length words))) (sym condition)
+    (subst (λ (x : Outcome). IfValue x (λ words. HasFittingLength m.tree (part_at m.tree c.args.process.now.node 1) (length words))) (sym body)
     (fitting c.requires.stands c.requires.kind c.requires.comes)))
 
 pub returns : goal.returns
@@ -55,11 +60,11 @@ returns g c =
     let first : Token = first_or credit (tokens_at m.queues (in_of c.args.process.now 0)) in
     let spent : Node → Outcome = λ n. Trapped (record { kind = Turns; «module» = n.module }) in
     let condition = c.part.ensures ∙ ap (λ (x : Node). slice_index x.parts 1) c.node-node.ensures in
-    let token = c.front-token.ensures ∙ ap (λ k. first_or credit (tokens_at m.queues k)) c.input-input.ensures in
-    let newest = c.newest_tag.ensures ∙ ap (λ (x : Token). newest_tag x) token in
+    let body = c.front_body.ensures ∙ ap (λ k. (first_or credit (tokens_at m.queues k)).body) c.input-input.ensures in
+    let newest = c.front_newest_tag.ensures ∙ ap (λ k. newest_tag (first_or credit (tokens_at m.queues k))) c.input-input.ensures in
     let most = c.most_turns.ensures ∙ ap (λ (x : Node). most_turns x.form) c.node-node.ensures in
-    let turn = ap₂ (λ t k. turn_of (outcome_of t leaf k) (spent c.node-node.result.now) (nat_lt c.newest_tag.result c.most_turns.result) c.front-token.result.now.body) c.requires.units condition
-    ∙ ap₂ (λ a b. turn_of (outcome_of m.tree leaf (part_at m.tree node 1)) (spent c.node-node.result.now) (nat_lt a b) c.front-token.result.now.body) newest most
-    ∙ ap₂ (λ (n : Node) (x : Token). turn_of (outcome_of m.tree leaf (part_at m.tree node 1)) (spent n) (nat_lt (newest_tag first) (most_turns (node_at m.tree node).form)) x.body) c.node-node.ensures token in
-    subst (λ (x : Token). IfOk c.turn_of.result (λ t. row_turn t x.body ≡ next_turn m.tree leaf (state_of m []) c.args.process.now)) token
-    (subst (λ z. IfOk c.turn_of.result (λ t. row_turn t c.front-token.result.now.body ≡ z)) turn c.turn_of.ensures)
+    let turn = ap₂ (λ t k. turn_of (outcome_of t leaf k) (spent c.node-node.result.now) (nat_lt c.front_newest_tag.result c.most_turns.result) c.front_body.result.now) c.requires.units condition
+    ∙ ap₂ (λ a b. turn_of (outcome_of m.tree leaf (part_at m.tree node 1)) (spent c.node-node.result.now) (nat_lt a b) c.front_body.result.now) newest most
+    ∙ ap₂ (λ (n : Node) (x : Outcome). turn_of (outcome_of m.tree leaf (part_at m.tree node 1)) (spent n) (nat_lt (newest_tag first) (most_turns (node_at m.tree node).form)) x) c.node-node.ensures body in
+    subst (λ (x : Outcome). IfOk c.turn_of.result (λ t. row_turn t x ≡ next_turn m.tree leaf (state_of m []) c.args.process.now)) body
+    (subst (λ z. IfOk c.turn_of.result (λ t. row_turn t c.front_body.result.now ≡ z)) turn c.turn_of.ensures)
