@@ -1,6 +1,7 @@
 pub mod Endings
 pub mod LinesApart
 pub mod Numbers
+pub mod Numerals
 pub mod Positions
 pub mod Spacing
 pub mod Takings
@@ -14,4 +15,5 @@ pub mod Asking
 pub mod AtHand
 pub mod Counting
 pub mod LinesAfter
+pub mod PlainLines
 pub mod GivenLaw

@@ -1,11 +1,19 @@
 -- Lines that were passed, one after another.
-use Rattle.std.proofs.Common.{◌≡◌, ℕ, ◌+◌, ◌<◌, List, [], ◌∷◌, ◌++◌, length, Option, Some, None, refl, ap, sym, ◌∙◌, arith, append_assoc, length-append}
+use Rattle.std.proofs.Common.{◌≡◌, ℕ, ◌+◌, ◌<◌, List, [], ◌∷◌, ◌++◌, length, take, drop, position, Option, Some, None, refl, ap, sym, ◌∙◌, arith, append_assoc, length-append}
 use Rattle.p3l_stream.specs.declared.line.Line.{Line}
 use Rattle.p3l_stream.specs.declared.line.Line.TheVariants as line
 use Rattle.p3l_stream.specs.Ended.{IsLine, ended, held_by}
+use Rattle.p3l_stream.specs.Lines.{is_feed}
 use Rattle.p3l_stream.specs.Passing.{MayPassLine, OnlyPasses, PassedBlanks, PassesFilled, PassesLine, moved_past}
 use Rattle.p3l_stream.specs.Seen.{Seen}
 use Rattle.p3l_stream.proofs.Blanks.{blank-append, ended-append}
+use Rattle.p3l_stream.proofs.Feeds.{PartsAt, parts_at}
+
+-- the first line was passed, which is ended at this place
+pub passes_to : (old new : Seen) (end : ℕ) (holds : Line) → Some end ≡ position is_feed old.held → held_by old.words (take end old.held) ≡ holds → new ≡ moved_past old 1 (drop (end + 1) old.held) → PassesLine old new holds
+passes_to old new end holds found is passed =
+    let parts : PartsAt old.held end = parts_at old.held end found in
+    rw passed (record { first = take end old.held; is_line = parts.is_line; holds_it = is; bytes_are = parts.whole; after = refl })
 
 -- nothing was passed yet
 pub passed_none : (s : Seen) → PassedBlanks s s

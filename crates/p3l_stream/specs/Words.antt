@@ -59,3 +59,8 @@ put_number (Ok number) (Ok numbers) = Ok (number ∷ numbers)
 abbrev pub numbers_of : List (List ℕ) → Result (List ℤ) WordFault
 numbers_of [] = Ok []
 numbers_of (word ∷ words) = put_number (number_of word) (numbers_of words)
+
+-- the first word writes this number, or is at this fault, and these bytes have the other words; or there is no word
+abbrev pub IsFirstNumber : List ℕ → Option (Result ℤ WordFault × List ℕ) → Type 0
+IsFirstNumber bytes None = words_of bytes ≡ []
+IsFirstNumber bytes (Some (number, after)) = (numbers_of (words_of bytes) ≡ put_number number (numbers_of (words_of after))) × (length after < length bytes)

@@ -50,13 +50,19 @@ impl Buffer {
         self.bytes.len() - self.start
     }
 
+    /// The bytes in order.
+    pub(crate) fn as_slice(&self) -> &[u8]
+        ensures { result.now ≡ self.now }
+    {
+        &self.bytes.as_slice()[self.start..]
+    }
+
     /// The first bytes.
     pub(crate) fn front(&self, count: usize) -> &[u8]
         requires { count ≤ length self.now }
         ensures { result.now ≡ take count self.now }
     {
-        let rest = &self.bytes.as_slice()[self.start..];
-        &rest[..count]
+        &self.as_slice()[..count]
     }
 
     /// Where the first line feed is.

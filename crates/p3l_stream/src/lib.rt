@@ -8,6 +8,7 @@ pub mod laws;
 pub mod line;
 pub mod lines;
 pub mod next;
+mod numeral;
 pub mod taken;
 pub mod text;
 pub mod word;

@@ -1,9 +1,11 @@
 // The lines of a text, and what each holds.
 
-ghost use Rattle.std.specs.Prelude.{◌≡◌, Ok, IfOk, position};
+ghost use Rattle.std.specs.Prelude.{◌≡◌, take, Some, Ok, IfOk, IfSome, position};
 ghost use Rattle.std.specs.Str.Lines.{strip_carriage_return};
 ghost use Rattle.p3l_stream.specs.Lines.{is_feed, line_from, line_of};
+ghost use Rattle.p3l_stream.specs.Words.{number_of};
 
+use crate::numeral::{Numeral, front_numeral};
 use crate::word::{WordFault, read_numbers};
 use p3l_base::{NoMemory, Words};
 use std::alloc::Global;
@@ -28,6 +30,20 @@ pub(crate) fn first_feed(bytes: &[u8]) -> Option<usize>
     ensures { result ≡ position is_feed bytes.now }
 {
     bytes.iter().position(|byte| *byte == b'\n')
+}
+
+/// The numeral that is the first line, if it has at most 18 digits and a line feed ends it; else
+/// none need be found.
+pub(crate) fn plain_line(bytes: &[u8]) -> Option<Numeral>
+    ensures feed { IfSome result (λ found. Some found.len ≡ position is_feed bytes.now) }
+    ensures number { IfSome result (λ found.
+        number_of (take found.len bytes.now) ≡ Ok found.number) }
+{
+    let found = front_numeral(bytes)?;
+    if found.len < bytes.len() && bytes[found.len] == b'\n' {
+        return Some(found);
+    }
+    None
 }
 
 /// A line without one carriage return at its end, if it has one.

@@ -1,16 +1,19 @@
 // The stream, item by item.
 
-ghost use Rattle.std.specs.Prelude.{◌≡◌, ◌+◌, ◌≤◌, ◌<◌, ◌↔◌, ◌⊎◌, None, Some, Result, true, false, length, IfOk, IsTrue, OnErr};
+ghost use Rattle.std.specs.Prelude.{◌≡◌, ◌+◌, ◌≤◌, ◌<◌, ◌↔◌, ◌⊎◌, None, Some, Ok, Result, true, false, length, take, drop, position, IfOk, IfSome, IsTrue, OnErr, OnSome};
 ghost use Rattle.p3l_stream.specs.Answers.{Answers, NextCause, TakeCause};
 ghost use Rattle.p3l_stream.specs.Ended.{HasLine, IsLine};
-ghost use Rattle.p3l_stream.specs.Passing.{AsksOnce, MayPassFilled, MayPassLine, OnlyPasses, PassesLast};
+ghost use Rattle.p3l_stream.specs.Lines.{is_feed};
+ghost use Rattle.p3l_stream.specs.Passing.{AsksOnce, MayPassFilled, MayPassLine, OnlyPasses, PassesLast, moved_past};
 ghost use Rattle.p3l_stream.specs.Seen.{Seen, answer_of, closed_by, item_count, most_items, started};
+ghost use Rattle.p3l_stream.specs.Words.{number_of};
 
 use crate::buffer::Buffer;
 use crate::items::Ending;
-use crate::line::{Line, read_line, without_return};
+use crate::line::{Line, plain_line, read_line, without_return};
 use crate::next::{Next, answer_for, ending_of, next_of};
-use p3l_base::NoMemory;
+use crate::numeral::Numeral;
+use p3l_base::{NoMemory, Words};
 use p3l_io::{Failed, Source};
 use std::alloc::Global;
 use std::marker::Model;
@@ -216,12 +219,51 @@ impl Lines {
         ensures ok { IfOk result (MayPassLine self.old self.new) }
         ensures err { OnErr result (self.new ≡ self.old) }
     {
+        match self.plain_line() {
+            Some(found) => {
+                let mut words = Words::new(self.alloc);
+                words.push(found.number)?;
+                self.pass_to(found.len);
+                Ok(Some(Line::Item(words)))
+            }
+            None => self.pass_any_line(),
+        }
+    }
+
+    /// The numeral that is the first line and an item, if it has at most 18 digits and a line feed
+    /// ends it; else none need be found.
+    fn plain_line(&self) -> Option<Numeral>
+        ensures width { OnSome result (self.now.words ≡ 1) }
+        ensures feed { IfSome result (λ found. Some found.len ≡ position is_feed self.now.held) }
+        ensures number { IfSome result (λ found.
+            number_of (take found.len self.now.held) ≡ Ok found.number) }
+    {
+        if self.words == 1 {
+            plain_line(self.held.as_slice())
+        } else {
+            None
+        }
+    }
+
+    /// Passes the first line, which is ended at this place.
+    fn pass_to(&mut self, end: usize)
+        requires { Some end ≡ position is_feed self.old.held }
+        ensures { self.new ≡ moved_past self.old 1 (drop (end + 1) self.old.held) }
+    {
+        self.held.pass(end + 1);
+        self.passed += 1;
+    }
+
+    /// Passes the first line, if it is ended, and says what it holds, whatever it is.
+    fn pass_any_line(&mut self) -> Result<Option<Line>, NoMemory>
+        ensures ok { IfOk result (MayPassLine self.old self.new) }
+        ensures err { OnErr result (self.new ≡ self.old) }
+    {
         let Some(end) = self.held.first_feed() else {
             return Ok(None);
         };
         let line = read_line(self.alloc, without_return(self.held.front(end)), self.words)?;
-        self.held.pass(end + 1);
-        self.passed += 1;
+        self.pass_to(end);
         Ok(Some(line))
     }
 

@@ -1,11 +1,12 @@
 // The words of a line, and the numbers that they write.
 
-ghost use Rattle.std.specs.Prelude.{◌≡◌, IfOk, position};
+ghost use Rattle.std.specs.Prelude.{◌≡◌, Some, Ok, IfOk, IfSome, position};
 ghost use Rattle.std.specs.Char.{is_ascii_digit};
 ghost use Rattle.std.specs.List.{list_all};
 ghost use Rattle.std.specs.Option.{option_map};
-ghost use Rattle.p3l_stream.specs.Words.{IsFirstWord, digits_of, is_blank, is_numeral, is_of_word, number_of, numbers_of, words_of};
+ghost use Rattle.p3l_stream.specs.Words.{IsFirstNumber, IsFirstWord, digits_of, is_blank, is_numeral, is_of_word, number_of, numbers_of, words_of};
 
+use crate::numeral::front_numeral;
 use p3l_base::{NoMemory, Words};
 use std::alloc::Global;
 
@@ -89,14 +90,39 @@ fn read_number(word: &[u8]) -> Result<i64, WordFault>
     }
 }
 
+/// The number that the first word writes and the bytes after it, where it is a numeral of at most
+/// 18 digits; else none need be found.
+fn plain_number(bytes: &[u8]) -> Option<(i64, &[u8])>
+    ensures { IfSome result (λ found. IsFirstNumber bytes.now (Some (Ok found.0, found.1.now))) }
+{
+    let start = first_of_word(bytes)?;
+    let rest = &bytes[start..];
+    let found = front_numeral(rest)?;
+    if found.len < rest.len() && !separates_words(rest[found.len]) {
+        return None;
+    }
+    Some((found.number, &rest[found.len..]))
+}
+
+/// The number that the first word writes, or its fault, and the bytes after it.
+fn next_number(bytes: &[u8]) -> Option<(Result<i64, WordFault>, &[u8])>
+    ensures { IsFirstNumber bytes.now (option_map (λ found. (found.0, found.1.now)) result) }
+{
+    if let Some((number, after)) = plain_number(bytes) {
+        return Some((Ok(number), after));
+    }
+    let (word, after) = next_word(bytes)?;
+    Some((read_number(word), after))
+}
+
 /// The numbers that the words of a line write, or the fault of the first word that writes none.
 pub(crate) fn read_numbers(alloc: Global, line: &[u8]) -> Result<Result<Words, WordFault>, NoMemory>
     ensures { IfOk result (λ read. read ≡ numbers_of (words_of line.now)) }
 {
     let mut numbers = Words::new(alloc);
     let mut rest = line;
-    while let Some((word, after)) = next_word(rest) {
-        match read_number(word) {
+    while let Some((number, after)) = next_number(rest) {
+        match number {
             Ok(number) => numbers.push(number)?,
             Err(fault) => return Ok(Err(fault)),
         }

@@ -1,19 +1,21 @@
-use Rattle.std.proofs.Common.{◌+◌, List, ℕ, ◌∷◌, ◌++◌, take, drop, ◌∙◌, ap, sym, refl}
-use Rattle.std.specs.Str.Lines.{strip_carriage_return}
-use Rattle.p3l_stream.specs.Lines.{line_of}
-use Rattle.p3l_stream.proofs.Feeds.{PartsAt, parts_at}
+use Rattle.std.proofs.Common.{◌≡◌, ℕ, ℤ, List, [], ◌∷◌, ◌++◌, take, w64, to_z, of_z, ◌∙◌, ap, sym}
+use Rattle.std.proofs.lemmas.Int.{to_z-of_z}
+use Rattle.p3l_stream.specs.declared.line.Line.TheVariants as line
+use Rattle.p3l_stream.specs.Ended.{held_by}
+use Rattle.p3l_stream.proofs.Numerals.{number_fits}
+use Rattle.p3l_stream.proofs.Passed.{passes_to}
+use Rattle.p3l_stream.proofs.PlainLines.{held_by-numeral}
 use Rattle.p3l_stream.proofs.lines.Lines.pass_line.Goals as goal
 
-pub returns-clause-ok : goal.returns-clause-ok
-returns-clause-ok c =
-    let held = c.self.inside.held in
-    let end = c.in-Some.end in
-    let parts : PartsAt held end = parts_at held end c.in-Some.ensures.first in
-    let same = c.in-Some.ensures.same in
-    rw (← c.self.view_is) (record {
-      first = take end held;
-      is_line = parts.is_line;
-      holds_it = sym (c.in_ok-line.ensures ∙ ap (line_of c.self.inside.words) (c.without_return.ensures ∙ ap strip_carriage_return (c.front.ensures ∙ ap (take end) same)));
-      bytes_are = parts.whole ∙ ap (λ (t : List ℕ). take end held ++ 10 ∷ t) (sym (c.pass.ensures ∙ ap (drop (end + 1)) same));
-      after = refl;
-    })
+pub returns-in_ok-push-in-Some-clause-ok : goal.returns-in_ok-push-in-Some-clause-ok
+returns-in_ok-push-in-Some-clause-ok c =
+    let number : ℤ = c.in-Some.found.number in
+    let word : List ℕ = take c.in-Some.found.len c.args.self.now.held in
+    let is = c.in-Some.ensures.number in
+    let words : c.push.new.self ≡ number ∷ [] =
+    c.in_ok-push-in-Some.ensures.ok
+    ∙ ap (λ (l : List ℤ). l ++ to_z w64 (of_z w64 number) ∷ []) c.new-words.ensures
+    ∙ ap (λ (n : ℤ). n ∷ []) (to_z-of_z w64 number (number_fits word number is)) in
+    let holds : held_by c.args.self.now.words word ≡ line.Item c.push.new.self =
+    ap (λ (n : ℕ). held_by n word) c.in-Some.ensures.width ∙ held_by-numeral word number is ∙ ap line.Item (sym words) in
+    passes_to c.args.self.now c.pass_to.new.self c.in-Some.found.len (line.Item c.push.new.self) c.in-Some.ensures.feed holds c.pass_to.ensures
