@@ -88,8 +88,17 @@ fn take_turn(cursor: &mut u32, machine: &Machine<'_>) -> Option<u32>
 {
     let size = machine.size();
     let process = machine.next_ready(*cursor)?;
-    *cursor = (process + 1) % size;
+    *cursor = after(process, size);
     Some(process)
+}
+
+/// The process after this one in turn, of `size` of them, without a division: it would cost as much as
+/// the rest of a pick.
+fn after(process: u32, size: u32) -> u32
+    requires { process < size }
+    ensures { result ≡ (process + 1) % size }
+{
+    if process + 1 == size { 0 } else { process + 1 }
 }
 
 /// One of the processes that can fire, drawn by the next word of a generator.
