@@ -30,7 +30,7 @@ use Rattle.p3l_run.specs.declared.fault.RunFault.TheVariants as fault
 use Rattle.p3l_run.specs.declared.keeping.Keeping.{Keeping}
 use Rattle.p3l_run.specs.declared.keeping.Keeping.TheVariants as keep
 use Rattle.p3l_run.specs.declared.run.Ran.{Ran}
-use Rattle.p3l_run.specs.declared.write.Told.{Told}
+use Rattle.p3l_run.specs.declared.write.Report.{Report}
 use Rattle.p3l_run.specs.Execution.{AwaitsPick, Ends, Executes, GoesOn, HasFired, IsFinish, IsInRange, IsOver, Job, Outside, Picks, after_idle, begun_on, kept_with, left_at, outside, stats_at}
 use Rattle.p3l_run.specs.Feed.{Feeds, FeedsInVain, closed_so, input_limit, most_of_input}
 use Rattle.p3l_run.specs.Keeping.{kept_by}
@@ -66,7 +66,7 @@ module _ (job : Job) where
   abbrev n : Network
   n = job.network
 
-  -- nothing was asked and nothing written
+  -- nothing was requested and nothing written
   unfoldable pub ends_unstarted : HasGiven (width_of n) (stream.started (width_of n) input_limit) [] [] → Ends job job.before (Err fault.NoMemory)
   ends_unstarted given = record {
     ends = record {
@@ -227,8 +227,8 @@ module _ (job : Job) where
     filled = steps.filled_after n e.close e.machine a.filled
 
     -- where no process can fire and no trap was emitted the stream is ended
-    pub must_end : ready_list e.machine ≡ [] → IsNone e.told.trap → IsSome e.close
-    must_end none calm = by_trap e.told.trap e.close calm d.trap_is (steps.must_end n d.laws job.schedule e.machine e.picker d.items e.close d.outcomes e.idle d.walked d.stands filled none)
+    pub must_end : ready_list e.machine ≡ [] → IsNone e.report.trap → IsSome e.close
+    must_end none calm = by_trap e.report.trap e.close calm d.trap_is (steps.must_end n d.laws job.schedule e.machine e.picker d.items e.close d.outcomes e.idle d.walked d.stands filled none)
       where
         by_trap : (t : Option Trap) (c : Option Ending) → IsNone t → t ≡ trap_of d.outcomes → (trap_of d.outcomes ≡ None → c ≢ None) → IsSome c
         by_trap None None calm is ends = absurd (ends (sym is) refl)
@@ -236,7 +236,7 @@ module _ (job : Job) where
         by_trap (Some t) c calm is ends = absurd (let z : true ≡ false = calm in cc)
 
     -- no pick is left
-    module _ (over : IsOver e) (named : Tree) (named_is : named ≡ n.named) (ran : Ran) (finishes_so : IsFinish named e ran.finish) (stats_are : ran.stats ≡ stats_at e) (lines_are : ran.lines ≡ e.kept) (sum_is : ran.sum ≡ e.told.sum) where
+    module _ (over : IsOver e) (named : Tree) (named_is : named ≡ n.named) (ran : Ran) (finishes_so : IsFinish named e ran.finish) (stats_are : ran.stats ≡ stats_at e) (lines_are : ran.lines ≡ e.kept) (sum_is : ran.sum ≡ e.report.sum) where
       finish_is : IsFinish n.named e ran.finish
       finish_is = subst (λ t. IsFinish t e ran.finish) named_is finishes_so
 
@@ -261,8 +261,8 @@ module _ (job : Job) where
           by [] is =
               let count : e.machine.emitted ≡ length d.outcomes = (d.stands.at later may).follows.emitted.count in
               finish_is.stuck is x ends
-              ∙ ap (λ k. end_of n.named e.told.trap k x) (sym (d.numbered e.machine.emitted))
-              ∙ ap (λ k. end_of n.named e.told.trap (item_number n.start k) x) count
+              ∙ ap (λ k. end_of n.named e.report.trap k x) (sym (d.numbered e.machine.emitted))
+              ∙ ap (λ k. end_of n.named e.report.trap (item_number n.start k) x) count
               ∙ ap (λ t. end_of n.named t (item_number n.start (length d.outcomes)) x) d.trap_is
               ∙ ap (λ o. end_of n.named (trap_of o) (item_number n.start (length o)) x) (sym (emitted later may))
               ∙ sym (cond-false _ _ _ (goes later may ∙ ap is_some is))
@@ -282,7 +282,7 @@ module _ (job : Job) where
           by_close (Some t) (Some y) must ends = absurd (let z = sym (ends y refl) ∙ is in cc)
 
           by : (ready : List ℕ) → ready_list e.machine ≡ ready → e.close ≡ Some x
-          by [] none = by_close e.told.trap e.close (must_end none) (finish_is.stuck none)
+          by [] none = by_close e.report.trap e.close (must_end none) (finish_is.stuck none)
           by (p ∷ ps) some = absurd (let z = sym (finish_is.stopped (λ none. (let y : [] ≡ p ∷ ps = sym none ∙ some in cc))) ∙ is in cc)
 
       pub numbers : ran.stats ≡ record { items = e.machine.sent; fired = e.machine.fired; idle = e.idle; bound = e.machine.sent * n.firings }
@@ -363,7 +363,7 @@ module _ (job : Job) where
         led = steps.stands_fired n d.laws job.schedule e.machine e.picker d.items e.close d.outcomes e.idle d.walked d.stands filled p (Some fired.kind) picked.pick picked.some e''.machine handed can fires picked.there fired.kind kind_is refl
 
         -- memory was wanting, or writing failed, for the line of what it handed out
-        pub ends_unwritten : (taken : Option (List ℕ)) (after : ℕ) (failed : RunFault) → HasBegun now.taken taken (text_of (option_to_list handed)) → WriteCause {T = Told} now.write_faults after (Err failed) →
+        pub ends_unwritten : (taken : Option (List ℕ)) (after : ℕ) (failed : RunFault) → HasBegun now.taken taken (text_of (option_to_list handed)) → WriteCause {T = Report} now.write_faults after (Err failed) →
             Ends job (outside now.rest now.read_faults taken after) (Err failed)
         ends_unwritten taken after failed begun cause = record {
           ends = record {
@@ -379,13 +379,13 @@ module _ (job : Job) where
                 (steps.begins_emitted n d.laws job.schedule e''.machine (after_pick (size_of n) e.picker p) d.items e.close (d.outcomes ++ option_to_list handed) e.idle (d.walked ++ record { pick = p; kind = Some fired.kind } ∷ []) led later (steps.may_come n e.close later on))
                 d.put begun;
           };
-          output = cause_on Ran Told job.before.write_faults now.write_faults after failed d.quiet cause;
+          output = cause_on Ran Report job.before.write_faults now.write_faults after failed d.quiet cause;
         }
 
         -- its line was written
-        pub went_on : (told : Told) (taken : Option (List ℕ)) (after : ℕ) → told.trap ≡ fold trap_after e''.told.trap (option_to_list handed) → told.sum ≡ fold sum_after e''.told.sum (option_to_list handed) →
-            HasPut now.taken taken (text_of (option_to_list handed)) → after ≡ now.write_faults → GoesOn job (outside now.rest now.read_faults taken after) e (record e'' { told = told }) true
-        went_on told taken after trap_is sum_is put quiet = subst (λ k. GoesOn job (outside now.rest now.read_faults taken after) e (record k { told = told }) true) (sym rest_is) (
+        pub went_on : (report : Report) (taken : Option (List ℕ)) (after : ℕ) → report.trap ≡ fold trap_after e''.report.trap (option_to_list handed) → report.sum ≡ fold sum_after e''.report.sum (option_to_list handed) →
+            HasPut now.taken taken (text_of (option_to_list handed)) → after ≡ now.write_faults → GoesOn job (outside now.rest now.read_faults taken after) e (record e'' { report = report }) true
+        went_on report taken after trap_is sum_is put quiet = subst (λ k. GoesOn job (outside now.rest now.read_faults taken after) e (record k { report = report }) true) (sym rest_is) (
           record {
             laws = d.laws;
             firings_is = d.firings_is;
@@ -399,8 +399,8 @@ module _ (job : Job) where
             gives = d.gives;
             stands =
                 subst (λ k. Stands n job.schedule e''.machine k d.items e.close (d.outcomes ++ option_to_list handed) e.idle (d.walked ++ record { pick = p; kind = Some fired.kind } ∷ [])) (sym way_is) led;
-            trap_is = trap_is ∙ ap (λ t. fold trap_after t.trap (option_to_list handed)) same_told ∙ steps.trap_more e.told.trap d.outcomes (option_to_list handed) d.trap_is;
-            sum_is = sum_is ∙ ap (λ t. fold sum_after t.sum (option_to_list handed)) same_told ∙ steps.sum_more e.told.sum d.outcomes (option_to_list handed) d.sum_is;
+            trap_is = trap_is ∙ ap (λ t. fold trap_after t.trap (option_to_list handed)) same_report ∙ steps.trap_more e.report.trap d.outcomes (option_to_list handed) d.trap_is;
+            sum_is = sum_is ∙ ap (λ t. fold sum_after t.sum (option_to_list handed)) same_report ∙ steps.sum_more e.report.sum d.outcomes (option_to_list handed) d.sum_is;
             put =
                 subst (λ t. HasPut job.before.taken taken t) (sym (text_more d.outcomes (option_to_list handed)))
                 (put_more job.before.taken now.taken taken (text_of d.outcomes) (text_of (option_to_list handed)) d.put put);
@@ -413,8 +413,8 @@ module _ (job : Job) where
             rest_is : e'' ≡ record e { machine = e''.machine; picker = way; kept = kept_with p (Some fired.kind) e.kept }
             rest_is = fired.rest ∙ ap (λ (k : Execution). record k { machine = e''.machine; kept = kept_with p (Some fired.kind) k.kept }) picked.after
 
-            same_told : e''.told ≡ e.told
-            same_told = ap (λ k. k.told) rest_is
+            same_report : e''.report ≡ e.report
+            same_report = ap (λ k. k.report) rest_is
 
             fewer : left_of (2 ^ 63) e''.machine.fired way < left_at e
             fewer =

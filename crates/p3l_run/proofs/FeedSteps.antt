@@ -1,4 +1,4 @@
--- A stream that is asked for one item more.
+-- A stream of which one more item is requested.
 use Rattle.std.proofs.Common.{◌≡◌, ◌≢◌, ℕ, ℤ, ◌+◌, ◌-◌, ◌≤◌, Bool, true, false, List, [], ◌∷◌, ◌++◌, length, Option, Some, None, Result, Ok, Err, IfOk, refl, sym, ap, subst, ◌∙◌, arith, append-nil, length-append}
 use Rattle.std.specs.List.{AllByRecursion}
 use Rattle.std.specs.Option.{is_some}
@@ -16,7 +16,7 @@ use Rattle.p3l_stream.proofs.Reading.{IsTaken-none, IsTaken-twice}
 use Rattle.p3l_net.specs.Machine as machine
 use Rattle.p3l_run.specs.Feed.{Feeds, FeedsInVain, Gives, GivesMore, Offers, closed_so, input_limit, most_of_input}
 
--- nothing was asked yet
+-- nothing was requested yet
 pub gives_first : (width : ℕ) (rest : Option (List ℕ)) (faults : ℕ) (s : Seen) → HasGiven width (started width input_limit) [] [] → s ≡ started width input_limit → Gives width rest rest faults faults s [] None
 gives_first width rest faults s given fresh = record {
   bytes = [];
@@ -113,7 +113,7 @@ ending_closed next.TooLong e is = (refl, (let same : ending.TooLong ≡ e = cc i
 no_end : (e : Ending) → ◌≡◌ {A = Option Ending} None (Some e) → ⊥
 no_end e h = cc
 
--- nothing is asked
+-- nothing is requested
 pub same_feeds : (width : ℕ) (m : machine.Seen) (s : Seen) (rest : Option (List ℕ)) (faults : ℕ) (close : Option Ending) → (close ≡ None → m.inbox ≢ None) → Feeds width m m s s rest rest faults faults close close
 same_feeds width m s rest faults close filled = record {
   more = [];

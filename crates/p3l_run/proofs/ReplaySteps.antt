@@ -44,7 +44,7 @@ use Rattle.p3l_run.specs.declared.execution.Execution.{Execution}
 use Rattle.p3l_run.specs.declared.fault.RunFault.{RunFault}
 use Rattle.p3l_run.specs.declared.fault.RunFault.TheVariants as fault
 use Rattle.p3l_run.specs.declared.keeping.Keeping.{Keeping}
-use Rattle.p3l_run.specs.declared.write.Told.{Told}
+use Rattle.p3l_run.specs.declared.write.Report.{Report}
 use Rattle.p3l_run.specs.Checkpoint.{Reaches}
 use Rattle.p3l_run.specs.Execution.{HasFired, Outside, after_idle, outside, started}
 use Rattle.p3l_run.specs.Feed.{Feeds, FeedsInVain, Gives, Offers, closed_so, input_limit}
@@ -72,7 +72,7 @@ same_front (x ∷ xs) (y ∷ ys) p q h =
     let rest : xs ≡ ys = same_front xs ys p q cc in
     cc
 
--- items after others, each of so many words
+-- items after others, each of `width` words
 wide_append : (width : ℕ) (xs ys : List (List ℤ)) → AllByRecursion (λ (w : List ℤ). length w ≡ width) xs → AllByRecursion (λ (w : List ℤ). length w ≡ width) ys → AllByRecursion (λ (w : List ℤ). length w ≡ width) (xs ++ ys)
 wide_append width [] ys all more = more
 wide_append width (x ∷ xs) ys all more = (all.0, wide_append width xs ys all.1 more)
@@ -129,7 +129,7 @@ one_waits : (inbox : Option (List ℤ)) → inbox ≢ None → length (option_to
 one_waits None filled = absurd (filled refl)
 one_waits (Some item) filled = refl
 
--- nothing was asked and nothing written
+-- nothing was requested and nothing written
 pub comes_unstarted : (r : Replay) → HasGiven (width_of r.network) (stream.started (width_of r.network) input_limit) [] [] → Comes r r.before (Err fault.NoMemory)
 comes_unstarted r given = record {
   ends = record {
@@ -145,7 +145,7 @@ comes_unstarted r given = record {
   output = refl;
 }
 
--- nothing was asked yet, and no pick was made
+-- nothing was requested yet, and no pick was made
 pub opens_first : (tree : Tree) (leaf : ℕ → List ℤ → Outcome) (net : Net) (firings : ℕ) (picks : List ℕ) (before : Outside) → Laws (network tree leaf net firings) → length picks < 2 ^ 63 → AllByRecursion (λ p. p < length net.procs) picks →
     HasGiven (node_at tree 0).ins (stream.started (node_at tree 0).ins input_limit) [] [] →
     (width : ℕ) → width ≡ (node_at tree 0).ins → (schedule : Schedule) (keeping : Keeping) (e : Execution) → e ≡ started tree net firings width schedule keeping → Opens (replay_of (network tree leaf net firings) picks before) picks before e
@@ -271,7 +271,7 @@ module _ (r : Replay) where
               put = d.put;
               quiet = d.quiet;
             },
-            record { filled = f.filled; empty = f.empty; told_is = refl },
+            record { filled = f.filled; empty = f.empty; report_is = refl },
           )
 
     -- memory was wanting for that
@@ -393,7 +393,7 @@ module _ (r : Replay) where
       led_emitted later in_words = ap (λ x. x.emitted) (led later in_words).state
 
       -- memory was wanting, or writing failed, for the line of what it handed out
-      pub comes_unwritten : (taken : Option (List ℕ)) (after : ℕ) (failed : RunFault) → HasBegun now.taken taken (text_of (option_to_list handed)) → WriteCause {T = Told} now.write_faults after (Err failed) →
+      pub comes_unwritten : (taken : Option (List ℕ)) (after : ℕ) (failed : RunFault) → HasBegun now.taken taken (text_of (option_to_list handed)) → WriteCause {T = Report} now.write_faults after (Err failed) →
           Comes r (outside now.rest now.read_faults taken after) (Err failed)
       comes_unwritten taken after failed begins cause = record {
         ends = record {
@@ -408,13 +408,13 @@ module _ (r : Replay) where
               subst (HasBegun r.before.taken taken) (sym (text_more d.outcomes (option_to_list handed)) ∙ ap text_of (led_emitted later may.wide))
               (begun_more r.before.taken now.taken taken (text_of d.outcomes) (text_of (option_to_list handed)) d.put begins);
         };
-        output = cause_on Told CheckpointEnd r.before.write_faults now.write_faults after failed d.quiet cause;
+        output = cause_on Report CheckpointEnd r.before.write_faults now.write_faults after failed d.quiet cause;
       }
 
       -- its line was written
-      pub went_on : (told : Told) (taken : Option (List ℕ)) (after : ℕ) → told.trap ≡ fold trap_after new.told.trap (option_to_list handed) → HasPut now.taken taken (text_of (option_to_list handed)) → after ≡ now.write_faults →
-          Replays r (used ++ p ∷ []) unused (outside now.rest now.read_faults taken after) (record new { told = told }) × ((record new { told = told }).close ≡ None)
-      went_on told taken after trap_is put quiet = (
+      pub went_on : (report : Report) (taken : Option (List ℕ)) (after : ℕ) → report.trap ≡ fold trap_after new.report.trap (option_to_list handed) → HasPut now.taken taken (text_of (option_to_list handed)) → after ≡ now.write_faults →
+          Replays r (used ++ p ∷ []) unused (outside now.rest now.read_faults taken after) (record new { report = report }) × ((record new { report = report }).close ≡ None)
+      went_on report taken after trap_is put quiet = (
         record {
           laws = d.laws;
           begins = d.begins;
@@ -430,15 +430,15 @@ module _ (r : Replay) where
           untrapped = untrapped_then;
           filled = filled_then;
           counted = (let count = d.counted in let up = fires.fired in let idle = same_idle in let size = length-append used (p ∷ []) in omega arith);
-          trap_is = trap_is ∙ ap (λ t. fold trap_after t.trap (option_to_list handed)) same_told ∙ trap_more e.told.trap d.outcomes (option_to_list handed) d.trap_is;
+          trap_is = trap_is ∙ ap (λ t. fold trap_after t.trap (option_to_list handed)) same_report ∙ trap_more e.report.trap d.outcomes (option_to_list handed) d.trap_is;
           put = subst (λ t. HasPut r.before.taken taken t) (sym (text_more d.outcomes (option_to_list handed))) (put_more r.before.taken now.taken taken (text_of d.outcomes) (text_of (option_to_list handed)) d.put put);
           quiet = quiet ∙ d.quiet;
         },
         ap (λ (k : Execution). k.close) fired.rest ∙ ready.open_is,
       )
         where
-          same_told : new.told ≡ e.told
-          same_told = ap (λ (k : Execution). k.told) fired.rest
+          same_report : new.report ≡ e.report
+          same_report = ap (λ (k : Execution). k.report) fired.rest
 
           same_idle : new.idle ≡ e.idle
           same_idle = ap (λ (k : Execution). k.idle) fired.rest
@@ -446,7 +446,7 @@ module _ (r : Replay) where
 -- a run goes no further
 module _ (r : Replay) (used unused : List ℕ) (now : Outside) (e : Execution) (d : Replays r used unused now e) where
   -- since a trap was emitted
-  pub halts_trapped : e.told.trap ≢ None → e.close ≡ None → Halts r now e
+  pub halts_trapped : e.report.trap ≢ None → e.close ≡ None → Halts r now e
   halts_trapped some open_is = record {
     used = used;
     unused = unused;
@@ -483,8 +483,8 @@ picks_left : (picks : List ℕ) (i : ℕ) → i < length picks → drop i picks 
 picks_left picks i low = (let next : suc i ≡ i + 1 = omega arith in drop-cons picks i 0 low ∙ ap (λ k. get_or picks i 0 ∷ drop k picks) next)
 
 -- what was filled, with no trap and the stream not ended, is ready for a pick
-pub ready_then : (old new : Execution) → IsFilled old new → old.told.trap ≡ None → new.close ≡ None → IsReady new
-ready_then old e f calm open_is = record { open_is = open_is; filled = f.filled open_is; calm = ap (λ (t : Told). t.trap) f.told_is ∙ calm }
+pub ready_then : (old new : Execution) → IsFilled old new → old.report.trap ≡ None → new.close ≡ None → IsReady new
+ready_then old e f calm open_is = record { open_is = open_is; filled = f.filled open_is; calm = ap (λ (t : Report). t.trap) f.report_is ∙ calm }
 
 -- a run whose picks are gone over, of which this number were made
 module _ (r : Replay) (picks : List ℕ) (made : ℕ) (now : Outside) (e : Execution) (d : Replays r (take made picks) (drop made picks) now e) where
@@ -526,7 +526,7 @@ module _ (r : Replay) (now : Outside) (e : Execution) (h : Halts r now e) where
   }
 
   -- its state was saved
-  pub ends_saved : e.told.trap ≡ None → cut_of e.close ≡ None → (saved : Checkpoint) → Saves e saved → Comes r now (Ok (end.Saved saved))
+  pub ends_saved : e.report.trap ≡ None → cut_of e.close ≡ None → (saved : Checkpoint) → Saves e saved → Comes r now (Ok (end.Saved saved))
   ends_saved calm whole saved saves = record {
     ends = record {
       reached = reached;
@@ -551,7 +551,7 @@ module _ (r : Replay) (now : Outside) (e : Execution) (h : Halts r now e) where
       by (Some ending.TooLong) is over = absurd cc
 
   -- its stream ended so
-  pub ends_cut : e.told.trap ≡ None → (x : Ending) → cut_of e.close ≡ Some x → Comes r now (Ok (end.Ended (finish.Stream x)))
+  pub ends_cut : e.report.trap ≡ None → (x : Ending) → cut_of e.close ≡ Some x → Comes r now (Ok (end.Ended (finish.Stream x)))
   ends_cut calm x cut = record {
     ends = record {
       reached = reached;
@@ -572,7 +572,7 @@ module _ (r : Replay) (now : Outside) (e : Execution) (h : Halts r now e) where
       by (Some ending.TooLong) is = (is, λ same. cc)
 
   -- a trap was emitted
-  pub ends_trapped : (trap : Option Trap) → e.told.trap ≡ trap → trap ≢ None → (named : Tree) → r.network.named ≡ named → (f : RunEnd) → ((x : Ending) → MayEnd e.close x → f ≡ end_of named e.told.trap e.machine.emitted x) → Comes r now (Ok (end.Ended f))
+  pub ends_trapped : (trap : Option Trap) → e.report.trap ≡ trap → trap ≢ None → (named : Tree) → r.network.named ≡ named → (f : RunEnd) → ((x : Ending) → MayEnd e.close x → f ≡ end_of named e.report.trap e.machine.emitted x) → Comes r now (Ok (end.Ended f))
   ends_trapped None is some named named_is f ends = absurd (some refl)
   ends_trapped (Some trap) is some named named_is f ends =
       subst (λ k. Comes r now (Ok (end.Ended k))) (sym f_is) (record {

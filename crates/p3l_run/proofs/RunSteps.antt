@@ -47,7 +47,7 @@ use Rattle.p3l_run.proofs.FiringSteps.{after_leaves}
 use Rattle.p3l_run.proofs.TraceSteps.{agree_more, counts_fired, counts_idle, picks_more, same_line}
 use Rattle.p3l_run.proofs.WriteSteps.{begun_longer, begun_more, begun_whole, text_begins, text_more}
 
--- items after others, each of so many words
+-- items after others, each of `width` words
 pub wide_append : (width : ℕ) (xs ys : List (List ℤ)) → AllByRecursion (λ (w : List ℤ). length w ≡ width) xs → AllByRecursion (λ (w : List ℤ). length w ≡ width) ys → AllByRecursion (λ (w : List ℤ). length w ≡ width) (xs ++ ys)
 wide_append width [] ys all more = more
 wide_append width (x ∷ xs) ys all more = (all.0, wide_append width xs ys all.1 more)

@@ -76,7 +76,7 @@ module _ (tree : Tree) (leaf : Leaf) (net : Net) (firings : ℕ) (carry : Carry)
       subst (λ k. carry.owed (state_from (saved r) tree net items) + firings * k ≤ r.owed + firings * (length (option_to_list r.shot.inbox) + length items))
       (sym (length-append (option_to_list r.shot.inbox) items)) (omega arith)
 
-  -- what is owed, and so many firings for each item sent since, bound the firings
+  -- what is owed, and `firings` for each item sent since, bound the firings
   within_start : (start : Start) → CanBegin start tree leaf net carry → (items : List (List ℤ)) → HaveInWords tree items → (fired owed sent : ℕ) →
       (fired + owed) + firings * (state_from start tree net items).sent ≤ carry.owed (state_from start tree net items) + firings * sent → IsWithin start firings fired sent
   unfolding first_state with_rest state_of restored

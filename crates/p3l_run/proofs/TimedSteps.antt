@@ -41,7 +41,7 @@ use Rattle.p3l_run.specs.declared.execution.Execution.{Execution}
 use Rattle.p3l_run.specs.declared.fault.RunFault.{RunFault}
 use Rattle.p3l_run.specs.declared.fault.RunFault.TheVariants as fault
 use Rattle.p3l_run.specs.declared.run.Ran.{Ran}
-use Rattle.p3l_run.specs.declared.write.Told.{Told}
+use Rattle.p3l_run.specs.declared.write.Report.{Report}
 use Rattle.p3l_run.specs.Execution.{Ends, Executes, HasFired, IsFinish, Job, Outside, outside, started, stats_at}
 use Rattle.p3l_run.specs.Feed.{Feeds, FeedsInVain, Offers, closed_so, input_limit, most_of_input}
 use Rattle.p3l_run.specs.Laws.{Laws}
@@ -64,7 +64,7 @@ early_under : (job : Job) (prices picks : List ℕ) (now : Outside) (failed : Ru
     → ((later : List (List ℤ)) → MayFollow job.network ends.ends.closed later → BeginTimed job.network prices (ends.ends.items ++ later) picks) → EndsEarly job prices now failed
 early_under job prices picks now failed ends begins = record { picks = picks; ends = ends; begins = begins }
 
--- before anything was asked for and anything fired
+-- before anything was requested and anything fired
 pub unstarted_in_time : (job : Job) (prices : List ℕ) → HasGiven (width_of job.network) (stream.started (width_of job.network) input_limit) [] [] → EndsEarly job prices job.before fault.NoMemory
 unfolding ends_unstarted
 unstarted_in_time job prices given = early_under job prices [] _ _ (ends_unstarted (under job []) given)
@@ -175,7 +175,7 @@ module _ (job : Job) (prices : List ℕ) where
     pub in_step : IsInStep k e.machine
     in_step = (is.at [] (steps.nothing_comes n e.close)).times.step
 
-    -- what the timer asks where an item may have been offered
+    -- what the timer requires where an item may have been offered
     pub others_due : (m : machine.Seen) (more : List (List ℤ)) → Offers e.machine m more → (r : ℕ) → r ≢ 0 → can_step m r ≡ is_some (due_at k.due r)
     others_due m [] same r other = ap (λ x. can_step x r) same ∙ sym (in_step.due r)
     others_due m (item ∷ more) offers r other =
@@ -314,7 +314,7 @@ module _ (job : Job) (prices : List ℕ) where
       made_all = all_made n x.laws e.machine x.items e.close x.outcomes x.walked it.picks (stands now e k it) it.walked_are filled
 
       -- so it is over
-      pub ended_in_time : (named : Tree) → named ≡ n.named → (ran : Ran) → IsFinish named e ran.finish → ran.stats ≡ stats_at e → ran.lines ≡ e.kept → ran.sum ≡ e.told.sum → EndsInTime job prices now ran k
+      pub ended_in_time : (named : Tree) → named ≡ n.named → (ran : Ran) → IsFinish named e ran.finish → ran.stats ≡ stats_at e → ran.lines ≡ e.kept → ran.sum ≡ e.report.sum → EndsInTime job prices now ran k
       unfolding ends_over
       ended_in_time named named_is ran finish_is stats_are lines_are sum_is = record {
         picks = it.picks;
@@ -363,7 +363,7 @@ module _ (job : Job) (prices : List ℕ) where
         fires : Fires n.leaf e.machine e'.machine p handed
         fires = subst (λ l. Fires l e.machine e'.machine p handed) (sym leaf_is) fired.fires
 
-        -- what the timer asks then
+        -- what the timer requires then
         pub typed_after : IsTyped e'.machine.tree e'.machine.net
         typed_after = subst (λ y. IsTyped y e'.machine.net) (sym fires.tree) (subst (IsTyped e.machine.tree) (sym fires.net) (typed now e k it))
 
@@ -398,7 +398,7 @@ module _ (job : Job) (prices : List ℕ) where
         stands_more : Stands n (schedules.Recorded (it.picks ++ p ∷ [])) e'.machine (way.Reads []) x.items e.close (x.outcomes ++ option_to_list handed) 0 (x.walked ++ line ∷ [])
         stands_more = steps.stands_fired n x.laws (schedules.Recorded (it.picks ++ p ∷ [])) e.machine (way.Reads (p ∷ [])) x.items e.close x.outcomes 0 x.walked recorded_one filled p (Some fired.kind) refl some e'.machine handed can fires there fired.kind fired.kind_is refl
 
-        pub ends_unwritten_in_time : (taken : Option (List ℕ)) (after : ℕ) (failed : RunFault) → HasBegun now.taken taken (text_of (option_to_list handed)) → WriteCause {T = Told} now.write_faults after (Err failed)
+        pub ends_unwritten_in_time : (taken : Option (List ℕ)) (after : ℕ) (failed : RunFault) → HasBegun now.taken taken (text_of (option_to_list handed)) → WriteCause {T = Report} now.write_faults after (Err failed)
             → EndsEarly job prices (outside now.rest now.read_faults taken after) failed
         ends_unwritten_in_time taken after failed begun cause =
             early_under job prices (it.picks ++ p ∷ []) _ _ (record {
@@ -415,7 +415,7 @@ module _ (job : Job) (prices : List ℕ) where
                     (steps.begins_emitted n x.laws (schedules.Recorded (it.picks ++ p ∷ [])) e'.machine (way.Reads []) x.items e.close (x.outcomes ++ option_to_list handed) 0 (x.walked ++ line ∷ []) stands_more later (steps.may_come n e.close later on))
                     x.put begun;
               };
-              output = cause_on Ran Told job.before.write_faults now.write_faults after failed x.quiet cause;
+              output = cause_on Ran Report job.before.write_faults now.write_faults after failed x.quiet cause;
             })
             (λ later on. begins_next later (steps.may_come n e.close later on))
 
@@ -450,10 +450,10 @@ module _ (job : Job) (prices : List ℕ) where
                   ∙ ap₂ (λ b ps. b + price_at ps p) (it.busy p) it.prices_are
                   ∙ sym (busy_last n.tree n.leaf n.net (price_at prices) p it.picks)
 
-          pub went_in_time : (told : Told) (taken : Option (List ℕ)) (after : ℕ) → told.trap ≡ fold trap_after e'.told.trap (option_to_list handed) → told.sum ≡ fold sum_after e'.told.sum (option_to_list handed)
+          pub went_in_time : (report : Report) (taken : Option (List ℕ)) (after : ℕ) → report.trap ≡ fold trap_after e'.report.trap (option_to_list handed) → report.sum ≡ fold sum_after e'.report.sum (option_to_list handed)
               → HasPut now.taken taken (text_of (option_to_list handed)) → after ≡ now.write_faults
-              → GoesInTime job prices (outside now.rest now.read_faults taken after) e (record e' { told = told }) k' true
-          went_in_time told taken after trap_is sum_is put quiet = subst (λ y. GoesInTime job prices (outside now.rest now.read_faults taken after) e (record y { told = told }) k' true) (sym fired.rest) (
+              → GoesInTime job prices (outside now.rest now.read_faults taken after) e (record e' { report = report }) k' true
+          went_in_time report taken after trap_is sum_is put quiet = subst (λ y. GoesInTime job prices (outside now.rest now.read_faults taken after) e (record y { report = report }) k' true) (sym fired.rest) (
             record {
               fresh_is = it.fresh_is;
               picks = it.picks ++ p ∷ [];
@@ -472,8 +472,8 @@ module _ (job : Job) (prices : List ℕ) where
                     subst (λ i. Stands n (schedules.Recorded (it.picks ++ p ∷ [])) e'.machine e.picker x.items e.close (x.outcomes ++ option_to_list handed) i (x.walked ++ line ∷ [])) (sym it.none_idle)
                     (subst (λ w. Stands n (schedules.Recorded (it.picks ++ p ∷ [])) e'.machine w x.items e.close (x.outcomes ++ option_to_list handed) 0 (x.walked ++ line ∷ [])) (sym it.reads)
                     stands_more);
-                trap_is = trap_is ∙ ap (λ y. fold trap_after y.told.trap (option_to_list handed)) fired.rest ∙ steps.trap_more e.told.trap x.outcomes (option_to_list handed) x.trap_is;
-                sum_is = sum_is ∙ ap (λ y. fold sum_after y.told.sum (option_to_list handed)) fired.rest ∙ steps.sum_more e.told.sum x.outcomes (option_to_list handed) x.sum_is;
+                trap_is = trap_is ∙ ap (λ y. fold trap_after y.report.trap (option_to_list handed)) fired.rest ∙ steps.trap_more e.report.trap x.outcomes (option_to_list handed) x.trap_is;
+                sum_is = sum_is ∙ ap (λ y. fold sum_after y.report.sum (option_to_list handed)) fired.rest ∙ steps.sum_more e.report.sum x.outcomes (option_to_list handed) x.sum_is;
                 put =
                     subst (λ y. HasPut job.before.taken taken y) (sym (text_more x.outcomes (option_to_list handed)))
                     (put_more job.before.taken now.taken taken (text_of x.outcomes) (text_of (option_to_list handed)) x.put put);

@@ -34,7 +34,7 @@ use Rattle.p3l_run.specs.Sum.{sum_of}
 use Rattle.p3l_run.specs.Trap.{trap_of}
 use Rattle.p3l_run.specs.Write.{HasPut, WriteCause}
 
--- what the outside tells: the rest of the input and the count of its faults, what the output took and the count of its faults
+-- what the outside reports: the rest of the input and the count of its faults, what the output took and the count of its faults
 pub record Outside : Type 0 where
   pub rest : Option (List ℕ)
   pub read_faults : ℕ
@@ -44,7 +44,7 @@ pub record Outside : Type 0 where
 abbrev pub outside : Option (List ℕ) → ℕ → Option (List ℕ) → ℕ → Outside
 outside rest read_faults taken write_faults = record { rest = rest; read_faults = read_faults; taken = taken; write_faults = write_faults }
 
--- what is to be run: a network under a schedule, of which so much is kept, and what the outside told before
+-- what is to be run: a network under a schedule, what of the run is kept, and what the outside reported before
 pub record Job : Type 0 where
   pub network : Network
   pub schedule : Schedule
@@ -54,12 +54,12 @@ pub record Job : Type 0 where
 abbrev pub job_of : Network → Schedule → Keeping → Outside → Job
 job_of network schedule keeping before = record { network = network; schedule = schedule; keeping = keeping; before = before }
 
--- the run of a job came to this end, with what the outside tells then
+-- the run of a job came to this end, with what the outside reports then
 pub record Ends (job : Job) (now : Outside) (result : Result Ran RunFault) : Type 0 where
   pub ends : IsRunEnd job.network job.schedule job.keeping job.before.rest now.rest job.before.read_faults now.read_faults job.before.taken now.taken result
   pub output : WriteCause job.before.write_faults now.write_faults result
 
--- how many picks are left at most, where there are so many firings at most
+-- how many picks are left at most, where there are 2 ^ 63 firings at most
 abbrev pub left_at : Execution → ℕ
 left_at e = left_of (2 ^ 63) e.machine.fired e.picker
 
@@ -73,7 +73,7 @@ begun_on m earlier firings width schedule keeping =
       stream = stream.started width input_limit;
       picker = begun schedule;
       close = None;
-      told = record { trap = None; sum = pos 0 };
+      report = record { trap = None; sum = pos 0 };
       idle = 0;
       kept = kept_by keeping [];
     }
@@ -83,7 +83,7 @@ abbrev pub started : Tree → Net → ℕ → ℕ → Schedule → Keeping → E
 started tree net firings width schedule keeping = begun_on (machine.started tree net) 0 firings width schedule keeping
 
 -- the run of a job is under way: the machine runs the network on the items that the stream gave, the text of what it emitted is
--- written, told are the trap and the sum of these outcomes, and kept is the trace so far
+-- written, the trap and the sum of these outcomes are in its report, and the trace so far is kept
 pub record Executes (job : Job) (now : Outside) (e : Execution) : Type 0 where
   pub laws : Laws job.network
   pub firings_is : e.firings ≡ job.network.firings
@@ -96,8 +96,8 @@ pub record Executes (job : Job) (now : Outside) (e : Execution) : Type 0 where
   pub walked : List TraceLine
   pub gives : Gives (width_of job.network) job.before.rest now.rest job.before.read_faults now.read_faults e.stream items (closed_so e.close)
   pub stands : Stands job.network job.schedule e.machine e.picker items e.close outcomes e.idle walked
-  pub trap_is : e.told.trap ≡ trap_of outcomes
-  pub sum_is : e.told.sum ≡ sum_of outcomes
+  pub trap_is : e.report.trap ≡ trap_of outcomes
+  pub sum_is : e.report.sum ≡ sum_of outcomes
   pub put : HasPut job.before.taken now.taken (text_of outcomes)
   pub kept_is : e.kept ≡ kept_by job.keeping walked
   pub quiet : now.write_faults ≡ job.before.write_faults
@@ -143,7 +143,7 @@ pub record HasFired (leaf : Leaf) (p : ℕ) (old new : Execution) (handed : Opti
 
 -- how an execution ends that stands so, and has no pick left, where the modules of this tree name its trap
 pub record IsFinish (named : Tree) (e : Execution) (f : RunEnd) : Type 0 where
-  pub stuck : ready_list e.machine ≡ [] → (close : Ending) → MayEnd e.close close → f ≡ end_of named e.told.trap (e.earlier + e.machine.emitted) close
+  pub stuck : ready_list e.machine ≡ [] → (close : Ending) → MayEnd e.close close → f ≡ end_of named e.report.trap (e.earlier + e.machine.emitted) close
   pub stopped : ready_list e.machine ≢ [] → f ≡ finish.Stopped e.machine.fired e.idle
 
 -- the numbers of an execution

@@ -13,11 +13,11 @@ use Rattle.std.specs.List.{AllByRecursion}
 abbrev pub input_limit : ℕ
 input_limit = 68719476736
 
--- the most items of so many bytes: each has a byte, and a line feed before the next
+-- a bound on the number of items in `input_limit` bytes: each has a byte, and a line feed before the next
 abbrev pub most_of_input : ℕ
 most_of_input = 34359738369
 
--- a stream was asked for items of so many words: these bytes were taken from the input, these items were given, and this ended it
+-- items of `width` words were requested of a stream: these bytes were taken from the input, these items were given, and this ended it
 pub record Gives (width : ℕ) (rest left : Option (List ℕ)) (before now : ℕ) (s : Seen) (items : List (List ℤ)) (closed : Option (Result Ending NoMemory)) : Type 0 where
   pub bytes : List ℕ
   pub given : HasGiven width s bytes items

@@ -28,7 +28,7 @@ use Rattle.p3l_run.specs.Start.{fresh}
 use Rattle.p3l_run.specs.Trap.{trap_of}
 use Rattle.p3l_run.specs.Write.{HasPut, WriteCause}
 
--- what is to be run: a network under these picks, and what the outside told before
+-- what is to be run: a network under these picks, and what the outside reported before
 pub record Replay : Type 0 where
   pub network : Network
   pub picks : List ℕ
@@ -37,7 +37,7 @@ pub record Replay : Type 0 where
 abbrev pub replay_of : Network → List ℕ → Outside → Replay
 replay_of network picks before = record { network = network; picks = picks; before = before }
 
--- a run to a checkpoint came to this end, with what the outside tells then
+-- a run to a checkpoint came to this end, with what the outside reports then
 pub record Comes (r : Replay) (now : Outside) (result : Result CheckpointEnd RunFault) : Type 0 where
   pub ends : IsCheckpointEnd r.network r.picks r.before.rest now.rest r.before.read_faults now.read_faults r.before.taken now.taken result
   pub output : WriteCause r.before.write_faults now.write_faults result
@@ -62,7 +62,7 @@ pub record Replays (r : Replay) (used unused : List ℕ) (now : Outside) (e : Ex
   pub filled : (front : List ℕ) (p : ℕ) → used ≡ front ++ p ∷ [] → (later : List (List ℤ)) → HaveInWords r.network.tree later →
       (course_under r.network (items ++ later) front).state.sent < length items
   pub counted : e.machine.fired + e.idle ≡ length used
-  pub trap_is : e.told.trap ≡ trap_of outcomes
+  pub trap_is : e.report.trap ≡ trap_of outcomes
   pub put : HasPut r.before.taken now.taken (text_of outcomes)
   pub quiet : now.write_faults ≡ r.before.write_faults
 
@@ -70,13 +70,13 @@ pub record Replays (r : Replay) (used unused : List ℕ) (now : Outside) (e : Ex
 pub record IsReady (e : Execution) : Type 0 where
   pub open_is : e.close ≡ None
   pub filled : e.machine.inbox ≢ None
-  pub calm : e.told.trap ≡ None
+  pub calm : e.report.trap ≡ None
 
--- after the stream was asked for an item, where the inbox was empty: the inbox is filled, as long as the stream isn't ended
+-- after an item of the stream was requested, where the inbox was empty: the inbox is filled, as long as the stream isn't ended
 pub record IsFilled (old new : Execution) : Type 0 where
   pub filled : new.close ≡ None → new.machine.inbox ≢ None
   pub empty : (x : Ending) → old.close ≡ None → new.close ≡ Some x → new.machine.inbox ≡ None
-  pub told_is : new.told ≡ old.told
+  pub report_is : new.report ≡ old.report
 
 -- whatever run it is, an execution that was filled is on it still
 abbrev pub FillsOn : Option (List ℕ) → Option (List ℕ) → ℕ → ℕ → Execution → Execution → Result (Unit {0}) NoMemory → Type 0
@@ -105,7 +105,7 @@ pub record Halts (r : Replay) (now : Outside) (e : Execution) : Type 0 where
   pub unused : List ℕ
   pub replays : Replays r used unused now e
   pub asked : (x : Ending) → e.close ≡ Some x → (unused ≢ []) × (e.machine.inbox ≡ None)
-  pub over : e.told.trap ≡ None → e.close ≡ None → unused ≡ []
+  pub over : e.report.trap ≡ None → e.close ≡ None → unused ≡ []
 
 -- some run is to be made of these picks, with these bodies of modules
 pub record IsToReplay (leaf : Leaf) (picks : List ℕ) (now : Outside) (e : Execution) : Type 0 where

@@ -16,7 +16,7 @@ use Rattle.p3l_run.specs.Laws.{Runs}
 use Rattle.p3l_run.specs.Network.{Network, begun_with, course_under, most_firings, picks_of, size_of}
 use Rattle.p3l_run.specs.Run.{MayCome}
 
--- how many picks are left of so many firings, or of those recorded
+-- how many picks are left: those recorded, or else one for each firing up to `bound`
 abbrev pub left_of : ℕ → ℕ → Way → ℕ
 left_of bound fired (way.Reads picks) = length picks
 left_of bound fired w = bound - fired

@@ -1,4 +1,4 @@
--- What the writing of a text does to the output, where it tells what it took, and to its count of faults.
+-- What the writing of a text does to the output, where it reports what it took, and to its count of faults.
 use Rattle.std.specs.Prelude.{◌≡◌, ℕ, List, ◌++◌, Option, Some, None, Result, Ok, Err}
 use Rattle.p3l_io.specs.Causes.{Rose}
 use Rattle.p3l_run.specs.declared.fault.RunFault.{RunFault}

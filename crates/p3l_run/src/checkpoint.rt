@@ -50,7 +50,7 @@ pub enum CheckpointEnd {
 }
 
 impl<'t> Execution<'t> {
-    /// Asks the stream for the next item, where the inbox is empty.
+    /// Requests the next item of the stream, where the inbox is empty.
     fn fill<S: Source>(&mut self, alloc: Global, input: &mut S) -> Result<(), NoMemory>
         requires wide { self.old.stream.words ≡ (node_at self.old.machine.tree 0).ins }
         requires open { self.old.close ≡ None → self.old.stream.closed ≡ None }
@@ -89,12 +89,12 @@ impl<'t> Execution<'t> {
             return Ok(());
         }
         let emitted = self.fire(alloc, tree, units, process)?;
-        self.told = write_emitted(alloc, emitted, self.told, out)?;
+        self.report = write_emitted(alloc, emitted, self.report, out)?;
         Ok(())
     }
 
-    /// Makes one pick after another until a trap was emitted, the stream is ended or no pick is left,
-    /// and asks for an item before each where the inbox is empty.
+    /// Makes one pick after another until a trap was emitted, the stream is ended or no pick is
+    /// left, and requests an item before each where the inbox is empty.
     fn replay<U: Units, S: Source, K: Sink>(
         &mut self,
         alloc: Global,
@@ -115,7 +115,7 @@ impl<'t> Execution<'t> {
             self.old self.new result }
     {
         for process in picks {
-            if self.told.trap.is_some() {
+            if self.report.trap.is_some() {
                 return Ok(());
             }
             self.fill(alloc, input)?;
@@ -167,11 +167,11 @@ impl<'t> Execution<'t> {
         requires { IsHalted self }
         ensures { IfOk result (ComesTo named.now self.entry) }
     {
-        if self.told.trap.is_some() {
+        if self.report.trap.is_some() {
             let finish = finish_with(
                 alloc,
                 named,
-                self.told.trap,
+                self.report.trap,
                 self.machine.emitted(),
                 self.close,
             )?;

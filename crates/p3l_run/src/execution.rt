@@ -14,7 +14,7 @@ use crate::feed::{INPUT_LIMIT, feed};
 use crate::finish::{finish_with, stats_of};
 use crate::keeping::{Keeping, keep, no_lines};
 use crate::run::Ran;
-use crate::write::{Told, write_emitted};
+use crate::write::{Report, write_emitted};
 use p3l_base::{List, NoMemory, Outcome};
 use p3l_firing::Net;
 use p3l_io::{Sink, Source};
@@ -37,7 +37,7 @@ pub(crate) struct Execution<'t> {
     pub(crate) picker: Picker,
     /// How the stream ended, if it did.
     pub(crate) close: Option<Ending>,
-    pub(crate) told: Told,
+    pub(crate) report: Report,
     /// How many picks were idle.
     pub(crate) idle: u64,
     /// A line for each pick, where lines are kept.
@@ -45,7 +45,7 @@ pub(crate) struct Execution<'t> {
 }
 
 impl<'t> Execution<'t> {
-    /// A run in which nothing was asked for and nothing picked.
+    /// A run in which nothing was requested and nothing picked.
     pub(crate) fn start(
         alloc: Global,
         tree: &'t Tree,
@@ -64,8 +64,8 @@ impl<'t> Execution<'t> {
         Execution::on(alloc, machine, 0, firings, width, schedule, keeping)
     }
 
-    /// A run on a machine, which emitted this number of outcomes before the run began, in which nothing
-    /// was asked for and nothing picked.
+    /// A run on a machine, which emitted this number of outcomes before the run began, in which
+    /// nothing was requested and nothing picked.
     pub(crate) fn on(
         alloc: Global,
         machine: Machine<'t>,
@@ -86,7 +86,7 @@ impl<'t> Execution<'t> {
             stream: Lines::new(alloc, width, INPUT_LIMIT)?,
             picker: Picker::new(schedule),
             close: None,
-            told: Told { trap: None, sum: 0 },
+            report: Report { trap: None, sum: 0 },
             idle: 0,
             kept: no_lines(alloc, keeping),
         })
@@ -116,7 +116,7 @@ impl<'t> Execution<'t> {
         Ok(self.into_ran(alloc, named)?)
     }
 
-    /// Makes one pick after another until none is left, and asks for an item before each where the
+    /// Makes one pick after another until none is left, and requests an item before each where the
     /// machine wants one.
     fn run_out<U: Units, S: Source, K: Sink>(
         &mut self,
@@ -144,7 +144,7 @@ impl<'t> Execution<'t> {
         }
     }
 
-    /// Asks the stream for the next item, where the machine wants one.
+    /// Requests the next item of the stream, where the machine wants one.
     fn feed<S: Source>(&mut self, alloc: Global, input: &mut S) -> Result<(), NoMemory>
         requires wide { self.old.stream.words ≡ (node_at self.old.machine.tree 0).ins }
         requires open { self.old.close ≡ None → self.old.stream.closed ≡ None }
@@ -184,7 +184,7 @@ impl<'t> Execution<'t> {
             return Ok(true);
         }
         let emitted = self.fire(alloc, tree, units, process)?;
-        self.told = write_emitted(alloc, emitted, self.told, out)?;
+        self.report = write_emitted(alloc, emitted, self.report, out)?;
         Ok(true)
     }
 
@@ -236,11 +236,12 @@ impl<'t> Execution<'t> {
     /// of a tree name its trap.
     pub(crate) fn into_ran(self, alloc: Global, named: &Tree) -> Result<Ran, NoMemory>
         requires fits { self.earlier + self.machine.emitted < 2 ^ 64 }
-        requires ended { ready_list self.machine ≡ [] → IsNone self.told.trap → IsSome self.close }
+        requires ended { ready_list self.machine ≡ [] → IsNone self.report.trap
+            → IsSome self.close }
         ensures finish { IfOk result (λ ran. IsFinish named.now self.entry ran.finish) }
         ensures stats { IfOk result (λ ran. ran.stats ≡ stats_at self.entry) }
         ensures lines { IfOk result (λ ran. ran.lines ≡ self.entry.kept) }
-        ensures sum { IfOk result (λ ran. ran.sum ≡ self.entry.told.sum) }
+        ensures sum { IfOk result (λ ran. ran.sum ≡ self.entry.report.sum) }
     {
         let finish = self.finish(alloc, named)?;
         let stats = stats_of(&self.machine, self.firings, self.idle);
@@ -248,14 +249,14 @@ impl<'t> Execution<'t> {
             finish,
             stats,
             lines: self.kept,
-            sum: self.told.sum,
+            sum: self.report.sum,
         })
     }
 
     /// How the run ended, where no pick is left; the modules of a tree name its trap.
     fn finish(&self, alloc: Global, named: &Tree) -> Result<RunEnd, NoMemory>
         requires fits { self.now.earlier + self.now.machine.emitted < 2 ^ 64 }
-        requires ended { ready_list self.now.machine ≡ [] → IsNone self.now.told.trap
+        requires ended { ready_list self.now.machine ≡ [] → IsNone self.now.report.trap
             → IsSome self.now.close }
         ensures { IfOk result (IsFinish named.now self.now) }
     {
@@ -263,7 +264,7 @@ impl<'t> Execution<'t> {
             return finish_with(
                 alloc,
                 named,
-                self.told.trap,
+                self.report.trap,
                 self.earlier + self.machine.emitted(),
                 self.close,
             );

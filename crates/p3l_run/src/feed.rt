@@ -14,8 +14,8 @@ use std::alloc::Global;
 /// The most bytes of the input.
 pub const INPUT_LIMIT: u64 = 68_719_476_736;
 
-/// Asks the stream for the next item and offers it to the machine, where its inbox is empty and the
-/// stream isn't ended; gives how the stream ended, if it did.
+/// Requests the next item of the stream and offers it to the machine, where its inbox is empty and
+/// the stream isn't ended; gives how the stream ended, if it did.
 pub fn feed<S: Source>(
     alloc: Global,
     machine: &mut Machine<'_>,

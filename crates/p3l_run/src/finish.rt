@@ -11,7 +11,7 @@ use p3l_skel::Tree;
 use p3l_stream::Ending;
 use std::alloc::Global;
 
-/// The name of the module of a number, and none where there are not so many.
+/// The name of module `number`, and an empty one where there is no such module.
 fn name_of(alloc: Global, tree: &Tree, number: u32) -> Result<Name, NoMemory>
     ensures { IfOk result (λ name. name ≡ module_name tree.now number) }
 {

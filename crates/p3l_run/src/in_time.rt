@@ -26,7 +26,7 @@ use p3l_timed::Timer;
 use std::alloc::Global;
 
 impl<'t> Execution<'t> {
-    /// Asks the stream for the next item, where the machine wants one, and tells the timer.
+    /// Requests the next item of the stream, where the machine wants one, and notifies the timer.
     fn feed_in_time<S: Source>(
         &mut self,
         alloc: Global,
@@ -69,11 +69,11 @@ impl<'t> Execution<'t> {
         };
         let emitted = self.fire(alloc, tree, units, process)?;
         timer.fired(process, &self.machine);
-        self.told = write_emitted(alloc, emitted, self.told, out)?;
+        self.report = write_emitted(alloc, emitted, self.report, out)?;
         Ok(true)
     }
 
-    /// Fires all that is due, in turn, and asks for an item before each firing where the machine
+    /// Fires all that is due, in turn, and requests an item before each firing where the machine
     /// wants one.
     fn run_in_time<U: Units, S: Source, K: Sink>(
         &mut self,

@@ -1,6 +1,6 @@
-//! Runs a network on a stream under a schedule: asks for the items one by one, fires process after
-//! process, and writes each value that comes out; keeps the lines of its trace, where that is asked
-//! for.
+//! Runs a network on a stream under a schedule: requests the items one by one, fires process after
+//! process, and writes each value that comes out; keeps the lines of its trace, where that is
+//! requested.
 #![tactic(auto)]
 
 pub mod checkpoint;

@@ -35,9 +35,9 @@ pub struct Ran {
 
 /// Runs a network on the items of the input under a schedule, and writes each value as it comes out.
 ///
-/// An item is asked for where the inbox is empty; a pick that can't fire is idle. The run ends where
-/// no process can fire, or the recorded picks are ended. Each pick is a line of the trace, where lines
-/// are to be kept: the process, and its kind if it fired. A module of the tree names a trap.
+/// An item is requested where the inbox is empty; a pick that can't fire is idle. The run ends
+/// where no process can fire, or the recorded picks are ended. Each pick is a line of the trace,
+/// where lines are kept: the process, and its kind if it fired. A module of the tree names a trap.
 pub fn run<U: Units, S: Source, K: Sink>(
     alloc: Global,
     plan: Plan<'_, U>,

@@ -29,24 +29,25 @@ pub fn write<K: Sink>(out: &mut K, text: &[u8]) -> Result<(), RunFault>
     }
 }
 
-/// What the outcomes so far tell: the last trap among them, and the sum of the words of the values.
+/// What is reported of the outcomes so far: the last trap among them, and the sum of the words of
+/// the values.
 #[derive(Clone, Copy, Debug, Drop)]
-pub struct Told {
+pub struct Report {
     pub trap: Option<Trap>,
     pub sum: i64,
 }
 
-/// Writes the line of what was emitted, if that is a value; gives what the outcomes tell with it.
+/// Writes the line of what was emitted, if that is a value; gives the report with it included.
 pub(crate) fn write_emitted<K: Sink>(
     alloc: Global,
     emitted: Option<Outcome>,
-    told: Told,
+    report: Report,
     out: &mut K,
-) -> Result<Told, RunFault>
+) -> Result<Report, RunFault>
     ensures trap { IfOk result (λ after. after.trap
-        ≡ fold trap_after told.trap (option_to_list emitted)) }
+        ≡ fold trap_after report.trap (option_to_list emitted)) }
     ensures sum { IfOk result (λ after. after.sum
-        ≡ fold sum_after told.sum (option_to_list emitted)) }
+        ≡ fold sum_after report.sum (option_to_list emitted)) }
     ensures put { OnOk result (HasPut (K.taken out.old) (K.taken out.new)
         (text_of (option_to_list emitted))) }
     ensures begun { OnErr result (HasBegun (K.taken out.old) (K.taken out.new)
@@ -54,19 +55,19 @@ pub(crate) fn write_emitted<K: Sink>(
     ensures cause { WriteCause (K.faults out.old) (K.faults out.new) result }
 {
     match emitted {
-        None => Ok(told),
-        Some(Outcome::Trapped(other)) => Ok(Told {
+        None => Ok(report),
+        Some(Outcome::Trapped(other)) => Ok(Report {
             trap: Some(other),
-            sum: told.sum,
+            sum: report.sum,
         }),
         Some(Outcome::Value(words)) => {
             let Ok(text) = item_text(alloc, &words) else {
                 return Err(RunFault::NoMemory);
             };
             match write(out, text.as_slice()) {
-                Ok(()) => Ok(Told {
-                    trap: told.trap,
-                    sum: add_words(told.sum, &words),
+                Ok(()) => Ok(Report {
+                    trap: report.trap,
+                    sum: add_words(report.sum, &words),
                 }),
                 Err(fault) => Err(fault),
             }

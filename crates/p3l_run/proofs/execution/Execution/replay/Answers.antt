@@ -12,7 +12,7 @@ pub returns-then-is_some : goal.returns-then-is_some
 returns-then-is_some g c =
     λ r leaf_is o.
     let at = c.loop-process.invariant r leaf_is o in
-    halts_trapped r _ _ _ _ at.0 (not_none Trap c.loop-process.self.told.trap c.is_some.result c.is_some.ensures c.if-is_some.true) at.1
+    halts_trapped r _ _ _ _ at.0 (not_none Trap c.loop-process.self.report.trap c.is_some.result c.is_some.ensures c.if-is_some.true) at.1
 
 pub fill-requires-clause-wide : goal.fill-requires-clause-wide
 fill-requires-clause-wide g c = let way = c.requires.replay in wide way.replay _ _ _ _ (c.loop-process.invariant way.replay way.leaf_is way.opens).0
@@ -53,7 +53,7 @@ returns-in_err-make g c =
     rw (p.1, p.2)
     (λ r leaf_is o.
     let filled = c.in_ok-fill.ensures r _ _ _ _ (c.loop-process.invariant r leaf_is o).0 in
-    let calm = is_none Trap c.loop-process.self.told.trap c.is_some.result c.is_some.ensures c.if-is_some.false in
+    let calm = is_none Trap c.loop-process.self.report.trap c.is_some.result c.is_some.ensures c.if-is_some.false in
     let open_is = is_none Ending c.fill.new.self.close c.is_some-in-loop-process.result c.is_some-in-loop-process.ensures c.if-is_some-2.false in
     c.in_err-make.ensures r _ _ _ _ leaf_is (next_is r _ _ _ _ filled.0 c.loop-process-test.true) (ready_then _ _ filled.1 calm open_is))
 
@@ -61,7 +61,7 @@ pub loop-process-preserved : goal.loop-process-preserved
 loop-process-preserved g c =
     λ r leaf_is o.
     let filled = c.in_ok-fill.ensures r _ _ _ _ (c.loop-process.invariant r leaf_is o).0 in
-    let calm = is_none Trap c.loop-process.self.told.trap c.is_some.result c.is_some.ensures c.if-is_some.false in
+    let calm = is_none Trap c.loop-process.self.report.trap c.is_some.result c.is_some.ensures c.if-is_some.false in
     let open_is = is_none Ending c.fill.new.self.close c.is_some-in-loop-process.result c.is_some-in-loop-process.ensures c.if-is_some-2.false in
     let made = c.in_ok-make.ensures r _ _ _ _ leaf_is (next_is r _ _ _ _ filled.0 c.loop-process-test.true) (ready_then _ _ filled.1 calm open_is) in
     (one_made r _ _ _ _ filled.0 c.loop-process-test.true _ _ made.0, made.1)
