@@ -66,7 +66,7 @@ fn start(rt: &HostRuntime) -> Result<Status, NoMemory> {
     answer(rt, words.as_slice())
 }
 
-/// Shows the page that the words ask for, or else runs the program.
+/// Shows the page that the words request, or else runs the program.
 fn answer(rt: &HostRuntime, words: &[&str]) -> Result<Status, NoMemory> {
     match all_pages().answer(words) {
         Some(text) => show(rt, text),

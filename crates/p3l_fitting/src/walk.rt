@@ -50,8 +50,8 @@ fn seat_nodes(alloc: Global, node: &Node, n: u32) -> Result<List<u32>, NoMemory>
     }
 }
 
-// Adds what a node places, with all that is below it, `levels` levels at most, where tokens outside it
-// have so many tags.
+// Adds what a node places, with all that is below it, `levels` levels at most, where tokens outside
+// it have `tags` tags.
 fn survey_node(
     alloc: Global,
     tree: &Tree,

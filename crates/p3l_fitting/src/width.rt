@@ -24,7 +24,7 @@ pub(crate) fn width_at(row: &[Width], c: usize) -> Width
     row.get(c).copied().unwrap_or(NO_WIDTH)
 }
 
-/// The in words of a node, with so many tags.
+/// The in words of a node, with `tags` tags.
 pub(crate) fn ins_width(tree: &Tree, number: u32, tags: u32) -> Width
     ensures { result ≡ ins_width tree.now number tags }
 {
@@ -35,7 +35,7 @@ pub(crate) fn ins_width(tree: &Tree, number: u32, tags: u32) -> Width
     Width { words, tags }
 }
 
-/// The out words of a node, with so many tags.
+/// The out words of a node, with `tags` tags.
 pub(crate) fn outs_width(tree: &Tree, number: u32, tags: u32) -> Width
     ensures { result ≡ outs_width tree.now number tags }
 {
@@ -157,7 +157,7 @@ fn push_loop(row: &mut List<Width>, ins: Width, outs: Width) -> Result<(), NoMem
     row.push(NO_WIDTH)
 }
 
-/// The channels that node `number` places itself, where tokens outside it have so many tags.
+/// The channels that node `number` places itself, where tokens outside it have `tags` tags.
 #[tactic(auto, unfolding(crate::specs::Widths::own_widths))]
 pub(crate) fn push_own(
     row: &mut List<Width>,

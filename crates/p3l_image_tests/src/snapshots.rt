@@ -1,4 +1,4 @@
-// Snapshots that were worked out by hand, and what is told of their damages.
+// Snapshots that were worked out by hand, and what is reported of their damages.
 
 use crate::small::FIELDS;
 use p3l_base::{Outcome, Trap, TrapKind};
@@ -60,7 +60,7 @@ const HELD: [&[u8]; 15] = [
     b"\x00\x00\x00\x00",
 ];
 
-// Another byte at a place of the first snapshot, and the place that is told then.
+// Another byte at a place of the first snapshot, and the place that is reported then.
 const DAMAGES: [(usize, u8, u64); 8] = [
     (3, b'I', 0),
     (7, 2, 4),
@@ -93,7 +93,7 @@ fn damaged(alloc: Global, at: usize, byte: u8) -> Result<Vec<u8>, Fail> {
     Ok(bytes)
 }
 
-// The place that is told of bytes that are no snapshot.
+// The place that is reported of bytes that are no snapshot.
 fn place(alloc: Global, bytes: &[u8]) -> Option<u64> {
     match read_shot(alloc, bytes) {
         Err(ShotRefusal::BadShot(place)) => Some(place),

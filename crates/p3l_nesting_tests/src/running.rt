@@ -185,7 +185,7 @@ pub fn emitted(
     Ok(outcomes)
 }
 
-/// What is saved of the machine after so many picks by turns, which hand out no trap.
+/// What is saved of the machine after `picks` picks by turns, which hand out no trap.
 pub fn saved_after(
     rt: &impl Abort,
     alloc: Global,

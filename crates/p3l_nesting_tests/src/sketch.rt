@@ -1,5 +1,5 @@
-// Trees as tables, a row for each node in preorder. Each node is a module of its own, so that a trap
-// tells the node that it came from.
+// Trees as tables, a row for each node in preorder. Each node is a module of its own, so that a
+// trap names the node that it came from.
 
 use crate::bodies::Body;
 use p3l_base::{Dim, Place};

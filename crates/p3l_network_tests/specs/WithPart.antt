@@ -26,7 +26,7 @@ with_part form of_root ins outs part_ins part_outs = record {
 abbrev pub four_map : Tree
 four_map = with_part (Map None four_cut) kind.Map 4 4 1 1
 
--- a reduce of so many words
+-- a reduce of `len` words
 abbrev pub reduce_of : ℕ → Tree
 reduce_of len = with_part (Reduce None len 1) kind.Reduce len 1 2 1
 

@@ -8,7 +8,7 @@ use Rattle.p3l_map.specs.Places.{read_by, in_by, total, groups, left}
 use Rattle.p3l_orderly.specs.Finding.{bare}
 use Rattle.p3l_orderly.specs.Map.{bare_pieces, line_at}
 
--- what is left of each line, where so many tokens of each were taken
+-- what is left of line `w`, where `taken` has the number of tokens that were taken from each line
 abbrev pub left_at : List (List Token) → List ℕ → ℕ → List Token
 left_at lines taken w = drop (get_or taken w 0) (line_at lines w)
 

@@ -21,7 +21,7 @@ pub record Seen : Type 0 where
 unfoldable pub seen_bag : Seen → List Token
 seen_bag v = map peeled (bares v.held) ++ map peeled (bares v.ring)
 
--- their number, the credits and the turns are as the loop keeps them, where it has so many turns and tokens
+-- their number, the credits and the turns are as a loop with these turns and tokens keeps them
 unfoldable pub is_counted : (turns tokens : ℕ) → Seen → Bool
 is_counted turns tokens v =
     nat_eq (v.least + length (seen_bag v)) v.next

@@ -80,15 +80,15 @@ fn join_lines(alloc: Global, lines: &[List<Token>]) -> Result<List<Token>, NoMem
     Ok(list)
 }
 
-/// Whether so many numbers from `from` on lead to `to`.
+/// Whether `count` numbers from `from` on lead to `to`.
 pub(crate) fn lead_to(from: u64, count: usize, to: u64) -> bool
     ensures { result ≡ nat_eq (from + count) to }
 {
     to >= from && to - from == count as u64
 }
 
-// The tokens of the lines in the order of their numbers, if the farm is orderly: `next` is the number
-// that the next one gets, and `least` the one that is due.
+// The tokens of the lines in the order of their numbers, if the farm is orderly: `next` is the
+// number that the next one gets, and `least` the lowest one that can be pending.
 fn by_lines(
     alloc: Global,
     next: u64,

@@ -68,8 +68,8 @@ fn stages(
     Ok(inner)
 }
 
-// The copies of a part that so many workers run: their in channels are those from `chan` on, and
-// their out channels come after them.
+// The copies of a part, one for each of `workers` workers: their in channels are those from `chan`
+// on, and their out channels come after them.
 fn copies(alloc: Global, node: u32, workers: u32, chan: u32) -> Result<List<InnerPart>, NoMemory>
     requires { chan + (workers + workers) ≤ 1048576 }
     ensures { IfOk result (λ inner. inner
@@ -101,7 +101,7 @@ fn body(alloc: Global, node: u32, chan: u32) -> Result<List<InnerPart>, NoMemory
     Ok(inner)
 }
 
-// These inner parts, after so many processes and channels of the node's own.
+// These inner parts, after `procs` processes and `chans` channels of the node's own.
 fn after(inner: List<InnerPart>, place: &Place, procs: u32, chans: u32) -> Layout
     requires { (place.now.proc + procs ≤ 1048576) × (place.now.chan + chans ≤ 1048576) }
     ensures { result
@@ -114,7 +114,7 @@ fn after(inner: List<InnerPart>, place: &Place, procs: u32, chans: u32) -> Layou
     }
 }
 
-// The layout of a farm or a map, of whose part so many workers run copies.
+// The layout of a farm or a map, of whose part `workers` workers run copies.
 fn with_workers(alloc: Global, node: u32, workers: u32, place: &Place) -> Result<Layout, NoMemory>
     requires { (place.now.proc + 2 ≤ 1048576) × (place.now.chan + (workers + workers) ≤ 1048576) }
     ensures { IfOk result (λ layout. layout
@@ -128,8 +128,8 @@ fn with_workers(alloc: Global, node: u32, workers: u32, place: &Place) -> Result
     Ok(after(inner, place, 2, workers + workers))
 }
 
-// How many processes and channels a reduce of so many segments has: one that runs it all, or those
-// that split, join and fold.
+// How many processes and channels a reduce of `segments` segments has: one that runs it all, or
+// those that split, join and fold.
 fn joined(segments: u32) -> (u32, u32)
     requires { segments ≤ 512 }
     ensures procs { result.0 ≡ joined_procs segments }

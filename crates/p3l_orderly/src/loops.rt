@@ -108,15 +108,15 @@ fn bag_of(alloc: Global, seen: &Seen) -> Result<List<Token>, NoMemory>
     Ok(bag)
 }
 
-// Whether two numbers of tokens together are so many.
+// Whether two numbers of tokens add up to `tokens`.
 fn add_up(one: usize, other: usize, tokens: u32) -> bool
     ensures { result ≡ nat_eq (one + other) tokens }
 {
     other <= tokens as usize && one == tokens as usize - other
 }
 
-// Whether the numbers, the credits and the turns are as a loop keeps them that has so many tokens
-// admitted.
+// Whether the numbers, the credits and the turns are as a loop keeps them while `admitted` tokens
+// are in it.
 fn is_counted(turns: u32, tokens: u32, seen: &Seen, admitted: usize) -> bool
     requires { admitted ≡ length (seen_bag seen.now) }
     ensures { result ≡ is_counted turns tokens seen.now }

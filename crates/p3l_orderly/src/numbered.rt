@@ -23,7 +23,7 @@ pub fn lie_within(tokens: &[Token], from: u64, to: u64) -> bool
     true
 }
 
-// So many slots without a token.
+// `count` slots without a token.
 fn free_slots(alloc: Global, count: usize) -> Result<Vec<Option<Token>>, NoMemory>
     ensures { IfOk result (λ slots. slots.items ≡ replicate count None) }
 {

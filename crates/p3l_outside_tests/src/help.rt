@@ -1,4 +1,4 @@
-// The texts that the program answers words that ask for help with.
+// The texts with which the program answers words that request help.
 
 use p3l_base::NoMemory;
 use p3l_help::all_pages;
@@ -139,7 +139,7 @@ fn compare(
     Ok(())
 }
 
-/// The help of a command must be the answer to each way to ask for it, and have its words.
+/// The help of a command must be the answer to each way to request it, and have its words.
 fn helps(rt: &impl Abort, alloc: Global, command: &str, words: &[&str]) -> Result<(), NoMemory> {
     let help = all_pages().answer(&["help", command]);
     assert!(rt; help.is_some());

@@ -1,4 +1,4 @@
--- What the answers of `gen` rest on.
+-- What the answers of `gen` depend on.
 use Rattle.std.proofs.Common.{◌≡◌, ℕ, List, [], Option, Some, None, refl, sym, ap, subst, ◌∙◌, arith, append-nil}
 use Rattle.p3l_gen.specs.Texts.{costs_text, program_text, stream_text}
 use Rattle.p3l_opts.specs.declared.command.Sched.{Sched}

@@ -1,4 +1,4 @@
--- What the answers of a command rest on, whatever it does.
+-- What the answers of a command depend on, whatever it does.
 use Rattle.std.proofs.Common.{◌≡◌, ◌≢◌, ℕ, true, List, [], ◌∷◌, Option, Some}
 use Rattle.p3l_report.specs.declared.stats.Stats.{Stats}
 use Rattle.p3l_report.specs.declared.verdict.Finish.{Finish}

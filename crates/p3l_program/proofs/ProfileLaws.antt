@@ -1,4 +1,4 @@
--- What the answers of `profile` rest on.
+-- What the answers of `profile` depend on.
 use Rattle.std.proofs.Common.{ℕ, List, refl}
 use Rattle.p3l_program.specs.Profile.{profile_behavior}
 use Rattle.p3l_program.proofs.EndSteps.{put_told}

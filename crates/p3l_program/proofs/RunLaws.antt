@@ -1,4 +1,4 @@
--- What the answers of commands rest on that run a network.
+-- What the answers of commands that run a network depend on.
 use Rattle.std.proofs.Common.{◌≡◌, ◌≢◌, ℕ, ℤ, ◌*◌, List, [], ◌++◌, Option, Some, None, refl, sym, ap, inl, subst, ◌∙◌, arith, append-nil, Bool, true}
 use Rattle.std.specs.Option.{option_to_list}
 use Rattle.p3l_io.specs.Causes.{Rose}

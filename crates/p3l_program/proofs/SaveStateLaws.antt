@@ -1,4 +1,4 @@
--- What the answers of `save` rest on.
+-- What the answers of `save` depend on.
 use Rattle.std.proofs.Common.{◌≡◌, ◌≢◌, ℕ, true, false, List, [], ◌++◌, inl, inr, Option, Some, None, refl, sym, ap, subst, ◌∙◌, arith}
 use Rattle.p3l_firing.specs.Token.{has_trap}
 use Rattle.p3l_net.specs.Offered.{Follows}
@@ -27,7 +27,7 @@ use Rattle.p3l_program.proofs.SaveStateSteps.{begun_so, emitted_on, status_done,
 use Rattle.p3l_program.proofs.SeenSteps.{ending_unstopped}
 use Rattle.p3l_program.proofs.TraceSteps.{all_go_on}
 
--- where a run came to its checkpoint the stream was not refused as far as it was asked
+-- where a run came to its checkpoint the stream was not refused as far as it was requested
 module _ (n : Network) (picks : List ℕ) (input out : Change (List ℕ)) (saved : Checkpoint) (s : checkpoint.IsSaved n picks input.old input.new input.before input.now out.old out.new saved) where
   unrefused_by : (close : Option Ending) → s.reached.close ≡ close → IsUnrefused s.reached.close
   unrefused_by None is = inl is

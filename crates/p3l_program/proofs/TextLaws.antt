@@ -1,4 +1,4 @@
--- What the answers of commands rest on that write a text, or a file and a text.
+-- What the answers of commands that write a text, or a file and a text, depend on.
 use Rattle.std.proofs.Common.{◌≡◌, ℕ, List, Option, Some, refl, sym, ap, inl, ◌∙◌, arith}
 use Rattle.p3l_io.specs.Told.{Held}
 use Rattle.p3l_report.specs.declared.stats.Stats.{Stats}

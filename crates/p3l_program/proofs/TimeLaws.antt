@@ -1,4 +1,4 @@
--- What the answers of `time` rest on.
+-- What the answers of `time` depend on.
 use Rattle.std.proofs.Common.{◌≡◌, ℕ, true, false, List, [], ◌++◌, Option, Some, None, refl, sym, ap, inl, subst, ◌∙◌}
 use Rattle.std.specs.Option.{option_to_list}
 use Rattle.p3l_opts.specs.declared.command.Build.{Build}

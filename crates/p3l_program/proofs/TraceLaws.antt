@@ -1,4 +1,4 @@
--- What the answers of `check-trace` rest on.
+-- What the answers of `check-trace` depend on.
 use Rattle.std.proofs.Common.{◌≡◌, ℕ, true, List, refl, sym, ap, ◌∙◌}
 use Rattle.p3l_opts.specs.declared.command.Build.{Build}
 use Rattle.p3l_report.specs.Status as status

@@ -107,7 +107,7 @@ ends_check w build name (finish.Differs line) stats h = record { n = h.n; t = h.
 ends_check w build name (finish.Stopped fired idle) stats h = absurd h.checked
 ends_check w build name (finish.Trapped item kind home) stats h = absurd h.checked
 
--- how the count of the input goes, where it was not refused as far as it was asked
+-- how the count of the input goes, where it was not refused as far as it was requested
 unrefused_calm : (close : Option Ending) (before now : ℕ) → IsUnrefused close → GivenCause (closed_so close) before now → now ≡ before
 unrefused_calm close before now (inl none) cause = subst (λ c. GivenCause (closed_so c) before now) none cause
 unrefused_calm close before now (inr end) cause = subst (λ c. GivenCause (closed_so c) before now) end cause
@@ -142,7 +142,7 @@ check_unstopped w build name (finish.Differs line) stats h is = absurd (omega ar
 check_unstopped w build name (finish.Stopped fired idle) stats h is = absurd h.checked
 check_unstopped w build name (finish.Trapped item kind home) stats h is = absurd h.checked
 
--- a stream that was asked before each pick, and gave these items and later ones, comes to its end just where it ended
+-- a stream of these items and later ones, which gave the former where items were requested before the picks, comes to its end just where it ended
 module _ (n : Network) (items later : List (List ℤ)) where
   ends_not : (picks : List ℕ) → IsAskedFor n (items ++ later) picks (length items) None → comes_to_end n (items ++ later) picks ≡ false
   ends_not [] asked = refl

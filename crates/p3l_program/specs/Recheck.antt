@@ -22,7 +22,7 @@ pub record StillHas (files : Option Held) (build : Build) (name : List ℕ) (n :
 
 -- where a run left a trace, and took it from an input that reported what was left and didn't fail, the check of that trace against the
 -- run's network on the same input has no line that differs: it is expected to end as the reading of the input does, where that ends by
--- what is asked before the trace's picks, and else with 0
+-- what is requested before the trace's picks, and else with 0
 abbrev pub EveryRecordIsAccepted : Type 0
 EveryRecordIsAccepted =
     (w after : World) (origin : Origin) (asked : Sched) (name : List ℕ) (reported : Bool) (finish : Finish) (stats : Option Stats) (rest : List ℕ) (build : Build) (k : ℕ) →

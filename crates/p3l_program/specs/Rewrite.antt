@@ -17,7 +17,7 @@ use Rattle.p3l_program.specs.declared.rewrite.Source.{Source}
 use Rattle.p3l_program.specs.File.{HasText, text_limit}
 use Rattle.p3l_program.specs.Plan.{HasCosts, HasCounts, IsAccepted}
 
--- the words of a command that builds no network, but asks whether one fits: the capacity of its channels, 4,
+-- the words of a command that builds no network, but checks whether one fits: the capacity of its channels, 4,
 -- which no stage looks at
 abbrev pub plain_build : (program : List ℕ) (processors : ℕ) (costs : Option (List ℕ)) → Build
 plain_build program processors costs = record {
@@ -27,7 +27,7 @@ plain_build program processors costs = record {
   capacity = 4;
 }
 
--- the canonical text of the best way to write the program that the files have, by its costs and for so many
+-- the canonical text of the best way to write the program that the files have, by its costs and for this number of
 -- processors: a program that keeps all rules and means the same for all items, traps with kind and module
 -- included, in which the modules before `main` keep their numbers; its service time is no greater than the
 -- program's, and it is the first, in the order of the ways, with the least; what the text spells is this program,
@@ -65,7 +65,7 @@ pub record LoadsSource (files : Option Held) (name : List ℕ) (source : Source)
   pub has : HasText files text_limit name text
   pub is : IsSourceOf text source
 
--- the program of the files with its costs, of which some counts fit so many processors
+-- the program of the files with its costs, of which some counts fit this number of processors
 pub record LoadsPriced (files : Option Held) (build : Build) (priced : Priced) : Type 0 where
   pub r : ResolvedTree
   pub counts : List ℕ

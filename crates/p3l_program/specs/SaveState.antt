@@ -219,8 +219,8 @@ abbrev pub unused_status : List ℕ → Ending → ℕ
 unused_status [] e = status.done
 unused_status (p ∷ picks) e = ending_status e
 
--- the status of a run that uses so many picks, on what is seen of an input: that of a trap where one is emitted, else 0 where the picks
--- are ended, else how the input ended
+-- the status of a run that uses the picks `used`, on what is seen of an input: that of a trap where one is emitted, else 0 where the
+-- picks are ended, else how the input ended
 abbrev pub save_status : Network → (used unused : List ℕ) → Items → ℕ
 save_status n used unused seen =
     if has_trap (course_under n seen.items used).state.emitted then status.trap else unused_status unused seen.ending

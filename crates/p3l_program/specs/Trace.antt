@@ -44,7 +44,7 @@ pub record HasCheck (files : Option Held) (build : Build) (name : List ℕ) (n :
 abbrev pub AgreesHere : World → Network → Traced → Option Ending → Type 0
 AgreesHere w n t close = AgreesOn n t w.input.old w.input.new w.input.before w.input.now close
 
--- the input was not refused as far as it was asked
+-- the input was not refused as far as it was requested
 abbrev pub IsUnrefused : Option Ending → Type 0
 IsUnrefused close = (close ≡ None) ⊎ (close ≡ Some ending.End)
 
@@ -102,8 +102,8 @@ pub record ChecksWhole (w : World) (build : Build) (name rest taken : List ℕ) 
   pub agrees : Agrees n.tree n.leaf n.net (begun_with n (items_of (width_of n) rest).items) t
   pub taken_is : w.out.new ≡ Some (taken ++ holds_line t)
 
--- whether a stream of these items ends that is asked before each of these picks where the inbox is empty, and at no other time: all
--- items were sent before the last of the picks
+-- whether a stream of these items ends, of which one is requested before each of these picks where the inbox is empty, and at no
+-- other time: all items were sent before the last of the picks
 abbrev pub comes_to_end : Network → List (List ℤ) → List ℕ → Bool
 comes_to_end n items [] = false
 comes_to_end n items (p ∷ picks) = nat_le (length items) (sent_before_last n items (p ∷ picks))

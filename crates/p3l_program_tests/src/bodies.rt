@@ -66,7 +66,7 @@ const BODIES: &[Programs] = &[
             ),
         ],
     ),
-    // The numbers are told if asked for.
+    // The numbers are reported only if requested.
     Programs(
         RUN_PLAIN,
         &[

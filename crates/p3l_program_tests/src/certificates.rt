@@ -52,7 +52,7 @@ fn what_is_certified_is_written_first_and_verified(rt: HostRuntime) -> Result<()
     take_courses(&rt, rt.alloc(), &[COURSES])
 }
 
-/// The certificate with a text in it changed, and what is told of it.
+/// The certificate with a text in it changed, and what is reported of it.
 #[derive(Clone, Copy)]
 struct Damage(&'static str, &'static str, &'static str);
 
@@ -142,7 +142,7 @@ fn a_true_row_more_does_no_harm(rt: HostRuntime) -> Result<(), Fail> {
     verify(&rt, rt.alloc(), "end\n", "row 3 100 1 1\nend\n", VERIFIED)
 }
 
-/// Verifies a text that the certificate begins with, of so many whole lines.
+/// Verifies a text that the certificate begins with, of `whole` whole lines.
 fn refuse_beginning(rt: &impl Abort, alloc: Global, text: &[u8], whole: u64) -> Result<(), Fail> {
     let mut files = holding(alloc, FARMED_FILES, &[])?;
     files.add("c", text)?;

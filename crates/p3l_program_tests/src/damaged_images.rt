@@ -76,7 +76,7 @@ fn with_byte(alloc: Global, image: &[u8], changed: Byte) -> Result<Vec<u8>, Fail
     Ok(bytes)
 }
 
-/// A place of the image of twice and one and another byte for it, and what is told of these.
+/// A place of the image of twice and one and another byte for it, and what is reported of these.
 #[derive(Clone, Copy)]
 struct Damage(usize, u8, &'static str);
 
@@ -156,7 +156,7 @@ fn heads_trees_codes_and_nets_are_refused(rt: HostRuntime) -> Result<(), Fail> {
     Ok(())
 }
 
-/// Two damages, and what is told of both.
+/// Two damages, and what is reported of both.
 #[derive(Clone, Copy)]
 struct Two(Byte, Byte, &'static str);
 
@@ -179,7 +179,7 @@ fn the_first_of_two_is_told(rt: HostRuntime) -> Result<(), Fail> {
     Ok(())
 }
 
-/// Runs the image with a byte more at its end, and tells where it stands.
+/// Runs the image with one byte more at its end, whose place must be reported.
 fn refuse_one_more(rt: &impl Abort, alloc: Global, image: &[u8]) -> Result<(), Fail> {
     let mut more = Vec::from_slice(alloc, image)?;
     more.push(0)?;

@@ -28,7 +28,7 @@ const BY_A_SEED: &[&str] = &[
 
 const CHECKED: &[&str] = &["check", "m.p3l"];
 
-/// Does what the words ask for with an example, and compares the output and the lines.
+/// Does what the words request with an example, and compares the output and the lines.
 fn compare(
     rt: &impl Abort,
     alloc: Global,

@@ -179,7 +179,8 @@ fn stream_of(alloc: Global, number: u64, items: u64) -> Result<String, Fail> {
     Ok(text)
 }
 
-/// Takes a number with the words after its processors, and compares the line of so many items.
+/// Takes a number with the words `rest` after its processors, and compares the line that has
+/// `items` and `sum`.
 fn take_number(
     rt: &impl Abort,
     alloc: Global,

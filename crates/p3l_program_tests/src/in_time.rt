@@ -56,7 +56,7 @@ const WHOLE_RUNS: &[Course] = &[
         &[PICKS],
         &[],
     ),
-    // The picks are written where they are asked for alone.
+    // The picks are written only where they are requested.
     Course(
         ALL,
         NONE,

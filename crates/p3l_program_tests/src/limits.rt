@@ -45,7 +45,7 @@ fn files_with(alloc: Global, program: &str) -> Result<MemFiles, Fail> {
     Ok(files)
 }
 
-/// A line of the numbers from a first one on, of which there are so many.
+/// A line of the `count` numbers from `first` on.
 fn line_of(alloc: Global, first: u32, count: u32) -> Result<String, Fail> {
     let mut text = String::new(alloc);
     for place in 0..count {

@@ -1,4 +1,4 @@
-// Where a run or a trace would end in several ways, the first of them is told.
+// Where a run or a trace would end in several ways, the first of them is reported.
 
 use crate::texts::{DOUBLE, HUNDRED, HUNDRED_FILES, READ_FAULT, TRACE, WRITE_FAULT};
 use crate::world::{Case, Cases, Ends, Held, NO_PUT, NO_TAKE, NONE, THIRD_TAKE, take_cases};

@@ -105,7 +105,7 @@ fn each_trap_is_told(rt: HostRuntime) -> Result<(), Fail> {
     take_programs(&rt, rt.alloc(), TRAPS)
 }
 
-/// Texts of costs, and what is told of them.
+/// Texts of costs, and what is reported of them.
 const COSTS: &[(&[u8], &str)] = &[
     (b"\xff", "50 NotToml"),
     (b"setup = 1\nsetup = 1\n", "50 NotToml"),
@@ -141,7 +141,7 @@ fn each_number_of_costs_is_told(rt: HostRuntime) -> Result<(), Fail> {
     Ok(())
 }
 
-/// No test has so long an input, so its end is told here by what tells all ends.
+/// No test has so long an input, so its end is reported here by what reports all ends.
 #[test]
 fn an_input_that_is_too_long_is_told(rt: HostRuntime) -> Result<(), Fail> {
     let alloc = rt.alloc();

@@ -108,7 +108,8 @@ const SKELETONS: &[Programs] = &[
                 "64 0\n3 0\n",
                 Ends(7, "", "trap: item 1: turns spent in main\n"),
             ),
-            // The first trap in the order of the elements is told, whichever worker comes to one first.
+            // The first trap in the order of the elements is reported, whichever worker comes to
+            // one first.
             Program(DIVIDED, "5 -1 0 2\n", SHIFT_TRAPPED),
             Program(DIVIDED_IN_A_UNIT, "5 -1 0 2\n", SHIFT_TRAPPED),
             Program(FOLDED_THEN_MORE, "1 2 3 4\n", Ends(0, "1\n", "")),

@@ -48,7 +48,7 @@ const BY_SEEDS: &[&str] = &[
     "run m.p3l --processors 16 --stats --schedule seed:2",
 ];
 
-/// By a seed, too, one item more than were sent is asked for.
+/// By a seed, too, one item more than were sent is requested.
 #[test]
 fn no_more_is_taken_by_a_seed(rt: HostRuntime) -> Result<(), Fail> {
     let alloc = rt.alloc();

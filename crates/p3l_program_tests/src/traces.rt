@@ -8,8 +8,8 @@ use std::test::Fail;
 
 const CHECK_TRACE: &str = "check-trace m.p3l --processors 16 --trace t";
 
-/// A trace and an input, and what is told of them: the output where the trace holds, and the lines where
-/// it doesn't.
+/// A trace and an input, and what is reported of them: the output where the trace holds, and the
+/// lines where it doesn't.
 #[derive(Clone, Copy)]
 struct Told(&'static str, &'static str, &'static str);
 
@@ -70,13 +70,13 @@ const OF_OTHER_PICKS: &[Told] = &[
         "1\n",
         "trace holds: 3 fired, 1 idle\n",
     ),
-    // Nothing is asked for at the last line, whatever the input has after.
+    // Nothing is requested at the last line, whatever the input has after.
     Told(
         "p3l-trace 1\n0 source\nend 1 0\n",
         "1\nx\n",
         "trace holds: 1 fired, 0 idle\n",
     ),
-    // No line of a pick asks for no item.
+    // Where no line is that of a pick, no item is requested.
     Told(
         "p3l-trace 1\nend 0 0\n",
         "x\n",
@@ -140,7 +140,8 @@ const IN_A_COUNT: &[Told] = &[
     ),
 ];
 
-/// A stream that is refused is told: an item is asked for before each line of a pick where none is waiting.
+/// A stream that is refused is reported: an item is requested before each line of a pick where none
+/// is waiting.
 const BY_THE_STREAM: &[Told] = &[
     Told(TRACE, "1\nx\n", "stream: line 2: 100 BadWord\n"),
     Told(TRACE, "1\n2 3\n", "stream: line 2: 101 WrongCount 2\n"),
@@ -183,7 +184,7 @@ const NO_TRACES: &[Told] = &[
 /// The trace holds, and reading the input fails after its first item.
 const UNREAD: &[Told] = &[Told(TRACE, "1\n2\n", "read fault\n")];
 
-/// A line differs before the fault is told.
+/// A line differs before the fault is reported.
 const UNREAD_AND_DIFFERS: &[Told] = &[Told(TRACE, "1\n", "evidence: 111 Differs 2\n")];
 
 const ALL: &[Checked] = &[
@@ -209,7 +210,7 @@ fn traces_hold_or_differ_or_are_none(rt: HostRuntime) -> Result<(), Fail> {
     Ok(())
 }
 
-/// Checks a text that the trace begins with, of so many whole lines.
+/// Checks a text that the trace begins with, of `whole` whole lines.
 fn refuse_beginning(rt: &impl Abort, alloc: Global, text: &[u8], whole: u64) -> Result<(), Fail> {
     let mut files = holding(alloc, DOUBLE_FILES, &[])?;
     files.add("t", text)?;

@@ -168,7 +168,7 @@ fn what_came(
     })
 }
 
-/// Does what words ask for with files and an input.
+/// Does what words request with files and an input.
 fn call(
     alloc: Global,
     words: &[&str],
@@ -192,7 +192,7 @@ fn words_of<'a>(alloc: Global, text: &'a str) -> Result<Vec<&'a str>, Fail> {
     Ok(words)
 }
 
-/// Does what the words of a text ask for.
+/// Does what the words of a text request, with files and an input.
 pub fn perform(
     alloc: Global,
     text: &str,

@@ -1,4 +1,4 @@
--- Puts on a sink that tells what it took.
+-- Puts on a sink that reports what it took.
 use Rattle.std.proofs.Common.{◌≡◌, ℕ, List, [], ◌++◌, Option, Some, None, length, take, sym, ap, ◌∙◌, append_assoc, append-nil}
 use Rattle.std.proofs.Math.Seq.{take-length}
 use Rattle.std.specs.declared.result.Result.{Result}

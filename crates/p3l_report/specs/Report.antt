@@ -20,7 +20,7 @@ pub record IsReportOf (verdict : Verdict) (report : Report) : Type 0 where
   pub numbers : optional_text report.numbers ≡ reported_line verdict
   pub status : optional_text report.status ≡ status_line verdict
 
--- after what was put before, so many bytes of a line were
+-- after what was put before, the first `size` bytes of a line were
 pub record PutsFront (said : List ℕ) (new : Option (List ℕ)) (line : List ℕ) : Type 0 where
   pub size : ℕ
   pub put : new ≡ Some (said ++ take size line)

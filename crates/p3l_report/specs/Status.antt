@@ -61,7 +61,7 @@ evidence = 13
 abbrev pub too_long : ℕ
 too_long = 14
 
--- the program can't be scanned in so many segments
+-- the program can't be scanned in the number of segments requested
 abbrev pub scan : ℕ
 scan = 15
 

@@ -1,4 +1,4 @@
--- The statuses of verdicts, and the lines that are due with them.
+-- The statuses of verdicts, and the lines that are written with them.
 use Rattle.std.specs.Prelude.{ℕ, List, [], ◌++◌, codes, Some, None}
 use Rattle.p3l_stream.specs.declared.items.Ending.{Ending}
 use Rattle.p3l_stream.specs.declared.items.Ending.TheVariants as ending
@@ -66,7 +66,7 @@ refusal_line (refusal.NoSuchProcess line pick count) = pick_line line fault.NoSu
 refusal_line (refusal.Evidence why) = evidence_line why
 refusal_line (refusal.Scan why) = scan_line why
 
--- the line of a run whose stream ended so, or no bytes where none is due
+-- the line of a run whose stream ended so, or no bytes where none is to be written
 abbrev pub ending_line : Ending → List ℕ
 ending_line ending.End = []
 ending_line (ending.BadWord line) = told_line (codes "stream") line fault.BadWord
@@ -75,7 +75,7 @@ ending_line (ending.OutOfRange line) = told_line (codes "stream") line fault.Out
 ending_line ending.ReadFault = codes "read fault\n"
 ending_line ending.TooLong = codes "input too long\n"
 
--- the line of an end, or no bytes where none is due
+-- the line of an end, or no bytes where none is to be written
 abbrev pub finish_line : Finish → List ℕ
 finish_line finish.Done = []
 finish_line (finish.Stopped fired idle) = stopped_line fired idle
@@ -83,7 +83,7 @@ finish_line (finish.Trapped item kind home) = trap_line item kind home
 finish_line (finish.Stream ending) = ending_line ending
 finish_line (finish.Differs line) = evidence_line (evidence.Differs line)
 
--- the line of a verdict's status, or no bytes where none is due
+-- the line of a verdict's status, or no bytes where none is to be written
 abbrev pub status_line : Verdict → List ℕ
 status_line (verdict.Refused refusal) = refusal_line refusal
 status_line (verdict.Ended finish stats) = finish_line finish
@@ -98,6 +98,6 @@ reported_line (verdict.Ended finish (Some stats)) = stats_line stats
 reported_line verdict.WriteFault = []
 reported_line verdict.NoMemory = []
 
--- all lines that are due with a verdict: that of the numbers comes first
+-- all lines that are to be written with a verdict: that of the numbers comes first
 abbrev pub lines_of : Verdict → List ℕ
 lines_of v = reported_line v ++ status_line v

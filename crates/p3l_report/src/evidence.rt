@@ -15,7 +15,7 @@ pub enum Claim {
     Counts,
     /// They have this service time.
     Service,
-    /// They use so many processes.
+    /// They use this number of processes.
     Used,
     /// These are no more than the processors.
     Fits,
@@ -33,7 +33,7 @@ pub enum Evidence {
         kept: u32,
         found: u32,
     },
-    /// A row that a row of a certificate rests on is not there.
+    /// A row that a row of a certificate depends on is not there.
     RowMissing {
         row: u64,
         node: u32,

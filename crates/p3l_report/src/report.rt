@@ -51,7 +51,7 @@ fn line_of_refusal(alloc: Global, refusal: &Refusal) -> Result<Line, NoMemory>
     }
 }
 
-/// The line of a run whose stream ended so, if one is due.
+/// The line of a run whose stream ended so, if one is to be written.
 fn line_of_ending(alloc: Global, ending: Ending) -> Result<Option<Line>, NoMemory>
     ensures { IfOk result (λ line. optional_text line ≡ ending_line ending) }
 {
@@ -74,7 +74,7 @@ fn line_of_ending(alloc: Global, ending: Ending) -> Result<Option<Line>, NoMemor
     }
 }
 
-/// The line of an end, if one is due.
+/// The line of an end, if one is to be written.
 fn line_of_finish(alloc: Global, finish: &Finish) -> Result<Option<Line>, NoMemory>
     ensures { IfOk result (λ line. optional_text line ≡ finish_line finish.now) }
 {
@@ -92,7 +92,7 @@ fn line_of_finish(alloc: Global, finish: &Finish) -> Result<Option<Line>, NoMemo
     }
 }
 
-/// The line of a verdict's status, if one is due.
+/// The line of a verdict's status, if one is to be written.
 fn line_of_status(alloc: Global, verdict: &Verdict) -> Result<Option<Line>, NoMemory>
     ensures { IfOk result (λ line. optional_text line ≡ status_line verdict.now) }
 {
@@ -104,7 +104,7 @@ fn line_of_status(alloc: Global, verdict: &Verdict) -> Result<Option<Line>, NoMe
     }
 }
 
-/// The line of the numbers of a run, if it is due.
+/// The line of the numbers of a run, if it is to be written.
 fn line_of_numbers(alloc: Global, verdict: &Verdict) -> Result<Option<Line>, NoMemory>
     ensures { IfOk result (λ line. optional_text line ≡ reported_line verdict.now) }
 {
@@ -124,7 +124,7 @@ pub fn report_of(alloc: Global, verdict: &Verdict) -> Result<Report, NoMemory>
     Ok(Report { numbers, status })
 }
 
-/// Puts a line, if there is one; a fault of the sink is all that its count tells.
+/// Puts a line, if there is one; a fault of the sink is reported by its count alone.
 fn put_line<E: Sink>(err: &mut E, line: &Option<Line>)
     ensures told { (said : List ℕ) → E.taken err.old ≡ Some said
         → (Rose (E.faults err.old) (E.faults err.new) → ⊥)

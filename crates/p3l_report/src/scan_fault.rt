@@ -6,7 +6,7 @@ ghost use Rattle.p3l_report.specs.ScanFault.{scan_line};
 
 use crate::line::Line;
 
-/// Why a program can't be scanned in the segments that are asked for.
+/// Why a program can't be scanned in the segments requested.
 #[derive(Clone, Copy, Debug, Drop, PartialEq, Eq)]
 pub enum ScanFault {
     /// Its `main` is no reduce.

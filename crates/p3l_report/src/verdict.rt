@@ -28,19 +28,19 @@ pub enum Refusal {
     Source { fault: Fault, pos: Pos },
     /// The file of costs is refused.
     Costs(CostFault),
-    /// No counts of workers fit the processors; so many are needed at least.
+    /// No counts of workers fit the processors, of which at least `need` are needed.
     TooFew { need: u64 },
     /// A word of the file of picks is no number.
     BadPick { line: u64 },
-    /// A pick is the number of no process, of which there are so many.
+    /// A pick is the number of no process, of which there are `count`.
     NoSuchProcess { line: u64, pick: u64, count: u32 },
     /// An image, a certificate, a trace or a snapshot is refused.
     Evidence(Evidence),
-    /// The program can't be scanned in so many segments.
+    /// The program can't be scanned in the number of segments requested.
     Scan(ScanFault),
 }
 
-/// How a command came to its end, with all written that was due by then.
+/// How a command came to its end, with all written that was to be written by then.
 #[derive(Debug, Drop)]
 pub enum Finish {
     /// All that the command makes was written.

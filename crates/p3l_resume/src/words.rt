@@ -13,7 +13,7 @@ use p3l_format::{
 };
 use std::alloc::Global;
 
-// So many words, one after the other, and what is after them. Memory is taken as they come.
+// `count` words, one after the other, and what is after them. Memory is taken as they come.
 fn read_so_many_words(alloc: Global, count: u32, bytes: &[u8]) -> Result<(Words, &[u8]), ReadError>
     ensures { Gives (λ x. (x.0, x.1.now)) result (read_many i64_format.read count bytes.now) }
 {

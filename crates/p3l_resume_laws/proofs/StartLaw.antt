@@ -44,7 +44,7 @@ module _ (units : Units) (counts : List ℕ) (cap : ℕ) (l : IsLinkable units c
   abbrev s : State
   s = saved_state units counts cap shot []
 
-  -- the root can't tell where a run begins from what was saved: nothing in it is changed
+  -- the root can't distinguish the state in which a run begins from what was saved: nothing in it is changed
   alike : IsAlike P s (begun_from units counts cap shot items)
   unfolding with_rest state_of restored
   alike =

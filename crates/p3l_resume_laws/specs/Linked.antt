@@ -52,7 +52,7 @@ firings_left units counts cap s = firings units.tree counts * (tokens_in (net_of
 abbrev pub resumed : Units → List ℕ → (cap : ℕ) → State → List ℕ → Course
 resumed units counts cap s picks = run_from units.tree units.leaf (net_of units counts cap) s picks
 
--- the picks of a schedule for it, at most so many
+-- the picks of a schedule for it, at most `most`
 abbrev pub resumed_picks : Units → List ℕ → (cap most : ℕ) → Way → State → List ℕ
 resumed_picks units counts cap most way s = picks_from units.tree units.leaf (net_of units counts cap) most way (course_from s)
 

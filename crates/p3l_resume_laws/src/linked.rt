@@ -20,9 +20,9 @@ pub fn every_resumed_run_emits_what_is_left()
     ensures { EveryResumedRunEmitsWhatIsLeft }
 {}
 
-/// A resumed run of a linked net fires at most so many times for each token and item that is left,
-/// and comes to an end by turns and by draws. A run that was saved and its resumed part together fire
-/// at most as often as is said of the items sent.
+/// A resumed run of a linked net fires at most `firings` times for each token and item that is
+/// left, and comes to an end by turns and by draws. A run that was saved and its resumed part
+/// together fire at most `firings` times for each item sent.
 pub fn resumed_firings_are_bounded()
     ensures resumed { ResumedFiringsAreBounded }
     ensures ends { EveryResumedRunEnds }

@@ -53,7 +53,7 @@ all_picks : (traced : Traced) (number : ℕ) → number ≡ length traced.lines 
 all_picks traced number is = ap picks_of (take_all (number - 1) traced.lines (omega arith))
 
 module _ (n : Network) where
-  -- where the stream was asked before the last of some picks, one item waits then, as long as it isn't ended
+  -- where one item waits for the last of some picks, unless the stream has ended, items were requested before these picks
   asked_last : (items : List (List ℤ)) (picks : List ℕ) (p given : ℕ) (close : Option Ending) → given ≡ (course_under n items picks).state.sent + one_waits close → IsAskedFor n items (picks ++ p ∷ []) given close
   asked_last items picks p given close is = by picks (is ∙ ap (λ ps. (course_under n items ps).state.sent + one_waits close) (sym (picks_front picks p)))
     where
@@ -151,7 +151,7 @@ module _ (n : Network) where
         by (Some item) left = absurd (let z = left in cc)
 
   module _ (before : Outside) where
-    -- nothing was asked for and no line passed
+    -- nothing was requested and no line passed
     pub walks_first : Laws n → n.start ≡ fresh → most_from n.start n.firings most_of_input < 2 ^ 63 → HasGiven (width_of n) (stream.started (width_of n) input_limit) [] [] → (width : ℕ) → width ≡ width_of n → (w : Walk) → w ≡ started n.tree n.net width → Walks n before before [] w
     unfolding after_picks AgreeFrom
     walks_first laws fresh_is fits given width wide w is =
@@ -265,7 +265,7 @@ module _ (n : Network) where
           at_network w.machine d.stands.runs (λ t k. can_fire t k (course later).state line.pick ≡ can_step w.machine line.pick)
           (d.laws.can_fires w.machine d.outcomes later (course later) line.pick (d.stands.at later may).follows (filled later may))
 
-      -- it was asked before the line's pick too
+      -- items were requested before the line's pick too
       asked_more : (later : List (List ℤ)) → MayCome n w.close later → IsAskedFor n (d.items ++ later) (picks_of (walked ++ line ∷ [])) (length d.items) w.close
       unfolding with_rest state_of
       asked_more later may =
@@ -362,7 +362,7 @@ lines_here : (xs : List TraceLine) (i : ℕ) (d : TraceLine) → i < length xs �
 lines_here xs i d low =
     sym (take-append-drop (i + 1) xs) ∙ ap (λ t. t ++ drop (i + 1) xs) (lines_longer xs i d low) ∙ append_assoc (take i xs) (get_or xs i d ∷ []) (drop (i + 1) xs)
 
--- a trace whose lines are gone over, of which so many were passed
+-- a trace whose lines are gone over, of which the first `passed` were passed
 module _ (n : Network) (before now : Outside) (traced : Traced) (lines : List TraceLine) (same : lines ≡ traced.lines) (passed : ℕ) (w : Walk) where
   abbrev front : List TraceLine
   front = take passed traced.lines

@@ -20,15 +20,15 @@ abbrev pub one_waits : Option Ending → ℕ
 one_waits None = 1
 one_waits (Some close) = 0
 
--- a stream of these items that is asked before each of these picks where the inbox is empty, and at no other time, gave so many
--- of them, and then ended so, if it did: it was asked for nothing where there are no picks; else one item waits for the last of
--- them, or the stream has ended and all that it gave were sent before
+-- a stream of these items, of which one is requested before each of these picks where the inbox is empty, and at no other time,
+-- gave `given` of them, and then ended so, if it did: none was requested where there are no picks; else one item waits for the
+-- last of them, or the stream has ended and all that it gave were sent before
 abbrev pub IsAskedFor : Network → (items : List (List ℤ)) → (picks : List ℕ) → (given : ℕ) → Option Ending → Type 0
 IsAskedFor n items [] given close = (given ≡ 0) × (close ≡ None)
 IsAskedFor n items (p ∷ picks) given close = given ≡ sent_before_last n items (p ∷ picks) + one_waits close
 
--- the stream was asked before each of these picks, gave these items and then ended so, if it did; and this holds of them and
--- whatever may still come after them
+-- items of the stream were requested before these picks, and it gave these and then ended so, if it did; and this holds of them
+-- and whatever may still come after them
 pub record HoldsOn (n : Network) (rest left : Option (List ℕ)) (before now : ℕ) (picks : List ℕ) (close : Option Ending) (P : List (List ℤ) → Type 0) : Type 0 where
   pub stream : Seen
   pub items : List (List ℤ)

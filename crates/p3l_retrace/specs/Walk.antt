@@ -20,7 +20,7 @@ use Rattle.p3l_trace.specs.Agreement.{AgreesWith, AllAgree, picks_of}
 use Rattle.p3l_retrace.specs.declared.walk.Walk.{Walk}
 use Rattle.p3l_retrace.specs.Retraced.{IsAskedFor, one_waits}
 
--- what the outside tells: the rest of the input and the count of its faults
+-- what the outside reports: the rest of the input and the count of its faults
 pub record Outside : Type 0 where
   pub rest : Option (List ℕ)
   pub faults : ℕ
@@ -44,7 +44,7 @@ abbrev pub started : Tree → Net → ℕ → Walk
 started tree net width = record { machine = machine.started tree net; stream = stream.started width input_limit; close = None }
 
 -- these lines of a trace of the network, whose runs begin with nothing fired, were passed, on the items that the stream gave from what
--- the outside told before to what it tells now; once that has ended no item waits
+-- the outside reported before to what it reports now; once that has ended no item waits
 pub record HasPassed (n : Network) (before now : Outside) (walked : List TraceLine) (w : Walk) : Type 0 where
   pub laws : Laws n
   pub fresh_is : n.start ≡ fresh
@@ -55,14 +55,14 @@ pub record HasPassed (n : Network) (before now : Outside) (walked : List TraceLi
   pub stands : Stands n w.machine items w.close outcomes walked
   pub empty : (e : Ending) → w.close ≡ Some e → w.machine.inbox ≡ None
 
--- a walk along a trace of the network is under way: the stream was asked before each of the picks of the lines passed, and not after
+-- a walk along a trace of the network is under way: items were requested before the picks of the lines passed, and none after
 pub record Walks (n : Network) (before now : Outside) (walked : List TraceLine) (w : Walk) : Type 0 where
   pub passed : HasPassed n before now walked w
   pub asked : (later : List (List ℤ)) → MayCome n w.close later →
       IsAskedFor n (passed.items ++ later) (picks_of walked) (length passed.items) w.close
 
--- it was asked once more, so the inbox is filled, as long as the stream isn't ended, and the machine can fire just where the
--- network can
+-- an item was requested once more, so the inbox is filled, as long as the stream isn't ended, and the machine can fire just where
+-- the network can
 pub record AwaitsLine (n : Network) (before now : Outside) (walked : List TraceLine) (w : Walk) : Type 0 where
   pub passed : HasPassed n before now walked w
   pub filled : w.close ≡ None → w.machine.inbox ≢ None

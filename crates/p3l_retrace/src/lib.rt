@@ -1,5 +1,5 @@
-//! Checks a trace against a network on a stream: asks for the items as a run does, and compares line
-//! after line.
+//! Checks a trace against a network on a stream: requests the items as a run does, and compares
+//! line after line.
 #![tactic(auto)]
 
 pub mod retrace;

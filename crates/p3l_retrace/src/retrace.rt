@@ -28,7 +28,7 @@ pub enum Retraced {
 
 /// Checks a trace against a network on the items of the input.
 ///
-/// An item is asked for before each line of a pick where the inbox is empty, and none at the last
+/// An item is requested before each line of a pick where the inbox is empty, and none at the last
 /// line.
 pub fn retrace<U: Units, S: Source>(
     alloc: Global,

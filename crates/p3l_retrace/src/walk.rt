@@ -24,7 +24,7 @@ pub(crate) struct Walk<'t> {
 }
 
 impl<'t> Walk<'t> {
-    /// A walk in which nothing was asked for and no line passed.
+    /// A walk in which nothing was requested and no line passed.
     pub(crate) fn start(
         alloc: Global,
         tree: &'t Tree,
@@ -42,7 +42,7 @@ impl<'t> Walk<'t> {
         })
     }
 
-    /// Says whether the next line agrees, and passes it where it does: asks for an item where the
+    /// Says whether the next line agrees, and passes it where it does: requests an item where the
     /// machine wants one, compares the line with the machine, and makes its pick.
     pub(crate) fn pass<U: Units, S: Source>(
         &mut self,
@@ -68,7 +68,7 @@ impl<'t> Walk<'t> {
         Ok(true)
     }
 
-    /// Asks the stream for the next item, where the machine wants one.
+    /// Requests the next item of the stream, where the machine wants one.
     fn feed<S: Source>(&mut self, alloc: Global, input: &mut S) -> Result<(), NoMemory>
         requires wide { self.old.stream.words ≡ (node_at self.old.machine.tree 0).ins }
         requires open { self.old.close ≡ None → self.old.stream.closed ≡ None }

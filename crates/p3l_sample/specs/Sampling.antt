@@ -31,7 +31,7 @@ pub record IsNoted (tree : Tree) (served : Served) (before now : Greatest) (item
   pub values : HaveValues tree served items
   pub noted : now ≡ noted_all before (notes_of tree served items)
 
--- a stream gave so many items, and is open
+-- a stream gave `count` items, and is open
 pub record GivesOn (tree : Tree) (served : Served) (start g : Greatest) (rest left : Option (List ℕ)) (before now : ℕ) (s : Seen) (count : ℕ) : Type 0 where
   pub items : List (List ℤ)
   pub gives : Gives (node_at tree 0).ins rest left before now s items None

@@ -189,7 +189,7 @@ unfolding in_row
 row-first [] trap more = refl
 row-first (r ∷ rs) trap more = ap (with_next (Value r)) (row-first rs trap more)
 
--- each value of these has so many words
+-- each value of these has `b` words
 unfoldable pub HaveLength : ℕ → List Outcome → Type 0
 HaveLength b [] = Unit {0}
 HaveLength b (o ∷ os) = HasLength b o × HaveLength b os

@@ -21,7 +21,7 @@ middle-within n elem len some e =
     let low : n / 2 * elem ≤ n * elem = mul-le-mul_right elem (omega arith) in omega (arith, low, middle n elem len some e, e)
 
 module _ (n elem : ℕ) (some : 0 < elem) (block : List ℤ) (e : length block ≡ n * elem) where
-  -- so many elements of the block, and the others
+  -- the first `k` elements of the block, and the others
   pub front-elements : (k : ℕ) → k ≤ n → elements elem (take (k * elem) block) ≡ take k (elements elem block)
   front-elements k l =
       let are = elements-are n elem block some e in

@@ -16,7 +16,7 @@ use Rattle.p3l_scan.proofs.Leaves.{first-step, later-step, words-length}
 use Rattle.p3l_scan.proofs.Scans.{Combines, Fits, scan-fits, scan-halves}
 use Rattle.p3l_scan.proofs.Sized.{Sized, flat, flat-append, flat-length, sized-drop, sized-take}
 
--- n blocks of so many elements
+-- `n` blocks of `b` elements
 unfoldable pub chunks : ℕ → ℕ → List (List ℤ) → List (List (List ℤ))
 chunks zero b xs = []
 chunks (suc n) b xs = take b xs ∷ chunks n b (drop b xs)

@@ -7,7 +7,7 @@ use Rattle.p3l_skel.specs.Tree.{HasLength}
 use Rattle.p3l_scan.specs.Scan.{Scanned, before, both, combined_each, last_of, merged, scan, scan_of_up_to, with_front}
 use Rattle.p3l_scan.proofs.Sized.{Sized, sized-append, sized-drop, sized-take}
 
--- so many folds of so many words each, if it came to no trap
+-- `n` folds of `elem` words each, if it came to no trap
 unfoldable pub Fits : ℕ → ℕ → Scanned → Type 0
 Fits n elem (Ok folds) = (length folds ≡ n) × Sized elem folds
 Fits n elem (Err trap) = ⊤

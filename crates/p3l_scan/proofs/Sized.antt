@@ -7,7 +7,7 @@ use Rattle.std.specs.List.{AllByRecursion, flat_map}
 use Rattle.p3l_skel.specs.Item.{elements, pieces}
 use Rattle.p3l_skel.proofs.Elements.{elements-step, elements-none}
 
--- each of these has so many words
+-- each of these has `elem` words
 abbrev pub Sized : ℕ → List (List ℤ) → Type 0
 Sized elem = AllByRecursion (λ (x : List ℤ). length x ≡ elem)
 
@@ -50,7 +50,7 @@ elements-flat elem (x ∷ xs) some h =
     ∙ ap₂ (λ y ys. y ∷ elements elem ys) front back
     ∙ ap (λ ys. x ∷ ys) (elements-flat elem xs some h.1)
 
--- pieces of words that have so many
+-- the pieces of `n * elem` words
 pub pieces-flat : (n elem : ℕ) (words : List ℤ) → length words ≡ n * elem → flat (pieces n elem words) ≡ words
 pieces-flat zero elem [] e = refl
 pieces-flat zero elem (w ∷ words) e = absurd (omega (arith, e))

@@ -19,14 +19,14 @@ stage_node s = suc (s + s)
 abbrev pub step_node : ℕ → ℕ
 step_node s = suc (suc (s + s))
 
--- n blocks of so many words each, one after the other, of which an element of the map takes one
+-- `n` blocks of `words` words each, one after the other, of which an element of the map takes one
 abbrev pub blocks_slice : (n words : ℕ) → Slice
 blocks_slice n words = record { start = 0; dims = record { size = n; place = First } ∷ (record { size = words; place = Rest } ∷ []) }
 
 abbrev pub blocks_cut : (n words : ℕ) → Cut
 blocks_cut n words = record { first = n; second = 1; ins = blocks_slice n words ∷ []; outs = blocks_slice n words ∷ [] }
 
--- stage s: a map over n blocks of so many words
+-- stage `s`: a map over `n` blocks of `words` words
 abbrev pub stage_of : (s n words : ℕ) → Node
 stage_of s n words = record {
   form = Map None (blocks_cut n words);
@@ -40,7 +40,7 @@ stage_of s n words = record {
 abbrev pub step_of : (s words : ℕ) → Node
 step_of s words = record { form = Seq; «module» = step_node s; ins = words; outs = words; parts = [] }
 
--- the stages from s on, where `more` follow it and its blocks have so many words: each with its part
+-- the stages from `s` on, where `more` follow it and its blocks have `words` words: each with its part
 unfoldable pub stages_from : (s more words : ℕ) → List Node
 stages_from s zero words = stage_of s 1 words ∷ (step_of s words ∷ [])
 stages_from s (suc more) words =
@@ -81,7 +81,7 @@ stage_info = record { name = stage_name; kind = kind.Map; rescue = None }
 abbrev pub step_info : ModuleInfo
 step_info = record { name = step_name; kind = kind.Seq; rescue = None }
 
--- those of a stage that so many follow, and of these
+-- those of a stage that `more` stages follow, and of these
 unfoldable pub infos_of : (more : ℕ) → List ModuleInfo
 infos_of zero = stage_info ∷ (step_info ∷ [])
 infos_of (suc more) = stage_info ∷ (step_info ∷ infos_of more)
@@ -91,7 +91,7 @@ unfoldable pub counts_of : (more : ℕ) → List ℕ
 counts_of zero = 1 ∷ []
 counts_of (suc more) = 2 ^ suc more ∷ counts_of more
 
--- THE TREE of a plan in which so many stages follow the first, whose blocks have so many words
+-- THE TREE of a plan in which `levels` stages follow the first, whose blocks have `words` words
 unfoldable pub plan_tree : (levels words : ℕ) → Tree
 plan_tree levels words = record {
   nodes = root_of levels words ∷ stages_from 0 levels words;
@@ -108,7 +108,7 @@ IsReduce (Farm clause) = ⊥
 IsReduce (Map clause cut) = ⊥
 IsReduce (Loop turns tokens) = ⊥
 
--- the root of a tree can be scanned in so many segments: it is a reduce, and they are a power of two that divides its length
+-- the root of a tree can be scanned in `segments` segments: it is a reduce, and they are a power of two that divides its length
 pub record IsScannable (tree : Tree) (segments : ℕ) : Type 0 where
   pub clause : Option ℕ
   pub len : ℕ

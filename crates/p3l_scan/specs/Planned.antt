@@ -10,7 +10,7 @@ use Rattle.p3l_scan.specs.declared.refusal.ScanRefusal.{ScanRefusal}
 use Rattle.p3l_scan.specs.declared.refusal.ScanRefusal.TheVariants.{NotReduce, BadSegments}
 use Rattle.p3l_scan.specs.Plan.{IsReduce, IsScannable, counts_of, plan_tree}
 
--- the plan of a scan of a tree's root in so many segments
+-- the plan of a scan of a tree's root in `segments` segments
 pub record IsPlanOf (tree : Tree) (segments : ℕ) (plan : ScanPlan) : Type 0 where
   pub can : IsScannable tree segments
   pub tree_is : plan.tree ≡ plan_tree can.levels (can.size * can.elem)
@@ -19,8 +19,8 @@ pub record IsPlanOf (tree : Tree) (segments : ℕ) (plan : ScanPlan) : Type 0 wh
   pub elem_is : plan.elem ≡ can.elem
   pub segments_are : plan.segments ≡ segments
 
--- why a tree's root can't be scanned in so many segments: it is no reduce; or it is one, and they are no power of two or
--- don't divide its length
+-- why a tree's root can't be scanned in `segments` segments: it is no reduce; or it is one, and they are no power of two or don't
+-- divide its length
 abbrev pub IsUnscannable : Tree → ℕ → ScanRefusal → Type 0
 IsUnscannable tree segments NotReduce = IsReduce (node_at tree 0).form → ⊥
 IsUnscannable tree segments BadSegments = IsReduce (node_at tree 0).form × (IsScannable tree segments → ⊥)

@@ -39,7 +39,7 @@ both operator (Err trap) back = Err trap
 both operator (Ok front) (Err trap) = Err trap
 both operator (Ok front) (Ok back) = merged operator front back
 
--- the scan of at most so many elements
+-- the scan of at most `n` elements
 unfoldable pub scan_of_up_to : ℕ → (List ℤ → Outcome) → List (List ℤ) → Scanned
 scan_of_up_to n operator [] = Ok []
 scan_of_up_to n operator (one ∷ []) = Ok (one ∷ [])

@@ -17,7 +17,7 @@ merged_halves operator block = merged operator (take (length block / 2) block) (
 abbrev pub stepped : (List ℤ → Outcome) → ℕ → List (List ℤ) → Scanned
 stepped operator home block = if nat_le home 2 then scan operator block else merged_halves operator block
 
--- an outcome of so many words; what stands for another, which no lawful run comes to
+-- an outcome of `n` words; what stands for another, which no lawful run comes to
 abbrev pub fitted : (n home : ℕ) → Outcome → Outcome
 fitted n home (Value words) = if nat_eq (length words) n then Value words else Trapped (record { kind = Index; «module» = home })
 fitted n home (Trapped trap) = Trapped trap
@@ -35,14 +35,14 @@ pub record Scanning (U : Type 0) : Type 0 where
   pub op : ℕ
   pub inner : U
 
--- a node of a lawful tree combines two elements of so many words to one
+-- a node of a lawful tree combines two elements of `elem` words to one
 pub record IsOperator (tree : Tree) (op elem : ℕ) : Type 0 where
   pub lawful : IsLawfulTree tree
   pub words : HasWords tree op (2 * elem) elem
   pub unit : IsUnit tree op
   pub some : 1 ≤ elem
 
--- words are some elements of so many words
+-- words are some elements of `elem` words
 abbrev pub HasElements : ℕ → List ℤ → Type 0
 HasElements elem words = (n : ℕ) × (1 ≤ n) × (length words ≡ n * elem)
 

@@ -34,14 +34,14 @@ fn is_power_of_two(n: u32) -> bool
     n != 0 && 1 << n.ilog2() == n
 }
 
-/// Whether so many segments are a power of two that divides a length.
+/// Whether `segments` is a power of two that divides `len`.
 fn divides(segments: u32, len: u32) -> bool
     ensures { IsTrue result ↔ (IsPowerOfTwo segments × ((size : ℕ) × (len ≡ segments * size))) }
 {
     is_power_of_two(segments) && len % segments == 0
 }
 
-/// Whether the root of a tree can be scanned in so many segments.
+/// Whether the root of a tree can be scanned in `segments` segments.
 pub fn can_scan(tree: &Tree, segments: u32) -> Result<(), ScanRefusal>
     requires few { segments ≤ 512 }
     ensures can { IfOk result (λ _. IsScannable tree.now segments) }
@@ -60,7 +60,7 @@ pub fn can_scan(tree: &Tree, segments: u32) -> Result<(), ScanRefusal>
     }
 }
 
-/// The plan of a scan of a tree's root, in so many segments.
+/// The plan of a scan of a tree's root, in `segments` segments.
 pub fn scan_plan(alloc: Global, tree: &Tree, segments: u32) -> Result<ScanPlan, NoMemory>
     requires lawful { IsLawfulTree tree.now }
     requires can { IsScannable tree.now segments }

@@ -1,6 +1,6 @@
 // Why a tree has no scan.
 
-/// Why the root of a tree can't be scanned in so many segments.
+/// Why the root of a tree can't be scanned in the number of segments requested.
 #[derive(Clone, Copy, Debug, Drop, PartialEq, Eq)]
 pub enum ScanRefusal {
     /// The root is no reduce.

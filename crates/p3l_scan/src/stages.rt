@@ -10,7 +10,7 @@ use p3l_base::{List, NoMemory};
 use p3l_template::{Builder, PipeTemplate, Ports, Template};
 use std::alloc::Global;
 
-/// The template of stage `stage`, where so many stages follow the first.
+/// The template of stage `stage`, where `levels` stages follow the first.
 fn stage_template(levels: u32, stage: usize) -> StageTemplate
     requires few { levels ≤ 9 }
     requires there { stage ≤ levels }

@@ -7,7 +7,7 @@ use p3l_base::{Cut, Dim, List, Name, NoMemory, Place, Slice};
 use p3l_skel::{Form, ModuleInfo, ModuleKind, Node, Tree};
 use std::alloc::Global;
 
-/// The tree of a plan in which so many stages follow the first, whose blocks have so many words.
+/// The tree of a plan in which `levels` stages follow the first, whose blocks have `words` words.
 pub(crate) fn plan_tree(alloc: Global, levels: u32, words: u32) -> Result<Tree, NoMemory>
     requires few { levels ≤ 9 }
     requires small { 2 ^ levels * words ≤ 65536 }
@@ -20,7 +20,7 @@ pub(crate) fn plan_tree(alloc: Global, levels: u32, words: u32) -> Result<Tree, 
     Ok(Tree { nodes, modules })
 }
 
-/// The numbers of blocks of a plan in which so many stages follow the first.
+/// The numbers of blocks of a plan in which `levels` stages follow the first.
 pub(crate) fn plan_counts(alloc: Global, levels: u32) -> Result<List<u32>, NoMemory>
     requires few { levels ≤ 9 }
     ensures { IfOk result (λ counts. counts ≡ counts_of levels) }
@@ -56,7 +56,7 @@ fn root(alloc: Global, levels: u32, words: u32) -> Result<Node, NoMemory>
     })
 }
 
-/// Adds the numbers of the stages from one on, which so many follow.
+/// Adds the numbers of stage `stage` and of the `more` stages after it.
 fn add_numbers(numbers: &mut List<u32>, stage: u32, more: u32) -> Result<(), NoMemory>
     requires few { more ≤ 9 }
     requires low { stage ≤ 9 }
@@ -70,7 +70,7 @@ fn add_numbers(numbers: &mut List<u32>, stage: u32, more: u32) -> Result<(), NoM
     Ok(())
 }
 
-/// Adds how many blocks a stage has that so many follow, and each of these.
+/// Adds how many blocks a stage has that `more` stages follow, and each of these.
 fn add_counts(counts: &mut List<u32>, more: u32) -> Result<(), NoMemory>
     requires few { more ≤ 9 }
     ensures { OnOk result (counts.new ≡ counts.old ++ counts_of more) }
@@ -82,8 +82,8 @@ fn add_counts(counts: &mut List<u32>, more: u32) -> Result<(), NoMemory>
     Ok(())
 }
 
-/// Adds the stages from one on, which so many follow, with their parts; its blocks have so many
-/// words.
+/// Adds stage `stage`, whose blocks have `words` words, and the `more` stages after it, with their
+/// parts.
 fn add_stages(
     alloc: Global,
     nodes: &mut List<Node>,
@@ -103,7 +103,7 @@ fn add_stages(
     Ok(())
 }
 
-/// A stage: a map over so many blocks of so many words.
+/// A stage: a map over `blocks` blocks of `words` words.
 fn map_node(alloc: Global, stage: u32, blocks: u32, words: u32) -> Result<Node, NoMemory>
     requires low { stage ≤ 9 }
     requires small { blocks * words ≤ 65536 }
@@ -135,7 +135,7 @@ fn step_node(alloc: Global, stage: u32, words: u32) -> Node
     }
 }
 
-/// The cut of so many blocks of so many words, an element each.
+/// The cut of `blocks` blocks of `words` words, an element each.
 fn blocks_cut(alloc: Global, blocks: u32, words: u32) -> Result<Cut, NoMemory>
     ensures { IfOk result (λ cut. cut ≡ blocks_cut blocks words) }
 {
@@ -151,7 +151,7 @@ fn blocks_cut(alloc: Global, blocks: u32, words: u32) -> Result<Cut, NoMemory>
     })
 }
 
-/// So many blocks of so many words, one after the other.
+/// `blocks` blocks of `words` words, one after the other.
 fn blocks_slice(alloc: Global, blocks: u32, words: u32) -> Result<Slice, NoMemory>
     ensures { IfOk result (λ slice. slice ≡ blocks_slice blocks words) }
 {
@@ -177,7 +177,7 @@ fn plan_modules(alloc: Global, levels: u32) -> Result<List<ModuleInfo>, NoMemory
     Ok(modules)
 }
 
-/// Adds the modules of a stage that so many follow, and of these.
+/// Adds the modules of a stage that `more` stages follow, and of these.
 fn add_modules(alloc: Global, modules: &mut List<ModuleInfo>, more: u32) -> Result<(), NoMemory>
     ensures { OnOk result (modules.new ≡ modules.old ++ infos_of more) }
 {

@@ -93,7 +93,7 @@ impl<U: Units> ScanUnits<U> {
     }
 }
 
-/// What the step of stage `stage` makes of so many blocks of so many words, in a row.
+/// What the step of stage `stage` makes of `blocks` blocks of `size` words, in a row.
 ///
 /// A net runs the steps of a stage on its own processes; this runs them one after the other.
 fn row_outcome<U: Units>(

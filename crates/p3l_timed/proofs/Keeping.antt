@@ -1,4 +1,4 @@
--- What every timer keeps, as it is told of offers and firings.
+-- What every timer keeps, as it is notified of offers and firings.
 use Rattle.std.proofs.Common.{◌≡◌, ◌≢◌, ℕ, zero, suc, ◌+◌, ◌*◌, ◌^◌, ◌<◌, ◌≤◌, inl, inr, Bool, true, false, not, ◌&&◌, cond, List, [], ◌∷◌, length, map, replicate, Option, Some, None, get_or, slice_get, slice_set, slice_index, refl, sym, ap, ◌∙◌, subst, arith, length-set}
 use Rattle.std.specs.Prelude.{unwrap_or}
 use Rattle.std.specs.Option.{is_some}

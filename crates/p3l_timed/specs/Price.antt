@@ -27,7 +27,7 @@ len_of (Loop turns tokens) = 0
 abbrev pub part_ticks : Tree → Costs → ℕ → ℕ → ℕ
 part_ticks tree costs node v = ticks tree costs (part_at tree node v)
 
--- a process that runs its node whole, or folds so many elements of it
+-- a process that runs its node whole, or folds `arg` elements of it where `arg` isn't 0
 abbrev pub run_price : Tree → Costs → ℕ → ℕ → ℕ
 run_price tree costs node arg =
     if arg == 0 then unit_service tree costs node

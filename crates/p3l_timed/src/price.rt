@@ -90,7 +90,7 @@ fn unit_price(tree: &Tree, costs: &Costs, number: u32) -> u128
         .min(NEVER)
 }
 
-// The time of a process that folds so many elements of a node.
+// The time of a process that folds `len` elements of a node.
 fn fold_price(tree: &Tree, costs: &Costs, number: u32, len: u32) -> u128
     ensures { result ≡ timed (fold_service (transfer costs.now) len
         (elem_of (node_at tree.now number).form) (part_ticks tree.now costs.now number 0)) }
@@ -103,7 +103,7 @@ fn fold_price(tree: &Tree, costs: &Costs, number: u32, len: u32) -> u128
         .min(NEVER)
 }
 
-// The time of a process that runs a node whole, or folds so many elements of it.
+// The time of a process that runs a node whole, or folds `arg` elements of it where `arg` isn't 0.
 fn run_price(tree: &Tree, costs: &Costs, number: u32, arg: u32) -> u128
     ensures { result ≡ timed (run_price tree.now costs.now number arg) }
 {
@@ -114,7 +114,8 @@ fn run_price(tree: &Tree, costs: &Costs, number: u32, arg: u32) -> u128
     }
 }
 
-// The time of a process that sends one of so many segments of a node, of which the longest counts.
+// The time of a process that sends one of `segments` segments of a node, of which the longest
+// counts.
 fn split_price(tree: &Tree, costs: &Costs, number: u32, segments: usize) -> u128
     ensures { result ≡ timed (transfer costs.now
         (div_ceil (len_of (node_at tree.now number).form) (max 1 segments)

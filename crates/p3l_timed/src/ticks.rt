@@ -9,7 +9,7 @@ use p3l_model::NEVER;
 use p3l_skel::tree::NESTING;
 use p3l_skel::{Form, Tree};
 
-/// The ticks in which a token of so many words is taken or handed on.
+/// The ticks in which a token of `words` words is taken or handed on.
 pub fn transfer(costs: &Costs, words: u64) -> u128
     ensures value { result ≡ transfer costs.now words }
     ensures small { result < 2 ^ 97 }
@@ -24,7 +24,7 @@ pub fn ticks(tree: &Tree, costs: &Costs, number: u32) -> u128
     ticks_from(tree, costs, NESTING, number)
 }
 
-// The ticks of a node, as far as so many levels show and they count.
+// The ticks of a node, as far as `levels` levels show and they count.
 fn ticks_from(tree: &Tree, costs: &Costs, levels: u32, number: u32) -> u128
     ensures { result ≡ timed (ticks_to tree.now costs.now levels number) }
 {

@@ -23,8 +23,8 @@ use std::marker::Model;
 /// Says which process of a machine fires next: the one that is due first. A process that can fire is
 /// due at the moment at which it became able to, or fired last, plus its price.
 ///
-/// It is told of each offer and each firing, and looks then at the processes that may have become
-/// able to fire by it, or unable. Moments are in ticks, from 0 on.
+/// It is notified of each offer and each firing, and looks then at the processes that may have
+/// become able to fire by it, or unable. Moments are in ticks, from 0 on.
 #[derive(Drop)]
 pub struct Timer {
     prices: Vec<u128>,

@@ -23,7 +23,7 @@ use Rattle.p3l_scan.specs.laws.NestedLaw.{no_seats}
 use Rattle.p3l_template.specs.laws.TimesLaw.{numbers_append, times_append, times_cons, times_none}
 
 -- a channel that carries this width: no more credits than room, what has credits carries no words and no tags, and others at most
--- so many tags
+-- `most` tags
 pub record FitsRow (most : ℕ) (chan : Chan) (row : Width) : Type 0 where
   pub credits : chan.credits ≤ chan.cap
   pub bare : 0 < chan.credits → row ≡ no_width
@@ -97,7 +97,7 @@ numbers_split c x n k = ap (times c) (numbers_append x n k) ∙ times_append c (
 
 -- PIECES
 
--- what a node places at a base, where tokens outside have t tags, and its channels carry these widths: none has more than so many
+-- what a node places at a base, where tokens outside have t tags, and its channels carry these widths: none has more than `most`
 -- tags; it reads and writes each of them and its ports once, and it fits there
 pub record IsTypedPiece (tree : Tree) (node : ℕ) (base : Base) (t most : ℕ) (rows : List Width) (F : Piece) : Type 0 where
   pub count : length rows ≡ length F.chans

@@ -5,7 +5,7 @@ use Rattle.p3l_skel.specs.Tree.{node_at, no_node}
 use Rattle.p3l_scan.specs.Plan.{numbers_of, plan_tree, root_of, stage_node, stage_of, stages_from, step_node, step_of}
 use Rattle.p3l_scan.specs.laws.Powers.{grown}
 
--- the stages after one, where so many are left
+-- the `more` stages after stage `s`
 pub later : (s more words : ℕ) → List Node
 later s zero words = []
 later s (suc more) words = stages_from (suc s) more (2 * words)

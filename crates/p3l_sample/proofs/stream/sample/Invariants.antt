@@ -4,7 +4,7 @@ use Rattle.p3l_profile.specs.Greatest.{IsProfileOf}
 use Rattle.p3l_sample.specs.Sampling.{GivesOn}
 use Rattle.p3l_sample.proofs.stream.sample.Given as goal
 
--- so many items were given and noted
+-- `before` items were given and noted
 abbrev pub invariant-loop-before : goal.invariant-loop-before
 invariant-loop-before g l = record {
   gives : GivesOn l.tree (record { tree = l.tree; codes = l.codes }) l.fn.profile.greatest l.profile.greatest (g.S.Source.rest l.fn.input) (g.S.Source.rest l.input) (g.S.Source.faults l.fn.input) (g.S.Source.faults l.input) l.lines l.before;

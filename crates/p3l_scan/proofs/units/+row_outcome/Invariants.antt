@@ -1,5 +1,5 @@
 use Rattle.p3l_scan.proofs.units.+row_outcome.Given as goal
 
--- so many blocks are left
+-- the number of blocks that are left
 abbrev pub decreases-row_outcome : goal.decreases-row_outcome
 decreases-row_outcome g l = l.blocks
