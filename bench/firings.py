@@ -3,8 +3,9 @@
 
     bench/firings.py PATH_OF_P3L [FIRINGS]
 
-Each network gets as many items as make about FIRINGS firings (5,000,000 if not given). Both read the same numbers from a file
-and write to /dev/null, a write a value. The times are those of the whole program, start and stream included.
+Each network gets as many items as make about FIRINGS firings (5,000,000 if not given). Both read the same numbers from a file,
+gather their results and write them to /dev/null. The times are those of the whole program, start and stream included, and the
+numbers of firings must be the same. `bench/speed.py` holds the same networks against their bounds.
 """
 
 import os
@@ -48,7 +49,7 @@ def main():
                 it.writelines(f"{number}\n" for number in range(firings // each))
             for capacity in (4, 64):
                 ours, fired = timed([program, "run", f"{folder}/m.p3l", "--processors", "512", "--capacity", str(capacity), "--stats"], f"{folder}/items")
-                theirs, other = timed([machine, kind, str(n), str(capacity)], f"{folder}/items")
+                theirs, other = timed([machine, kind, str(n), str(capacity), "gathered"], f"{folder}/items")
                 note = "" if fired == other else f" ({other} in C)"
                 print(f"{kind} of {n}, capacity {capacity}: {fired} firings{note}: {1e9 * ours / fired:.0f} ns each, in C {1e9 * theirs / other:.0f} ns, ratio {ours / theirs:.1f}")
 

@@ -1,6 +1,6 @@
 /* The same networks by hand: a pipe of N runs, or a farm of N workers on demand, of the body y = x * 3 + 1, fired one process at a
-   time under round robin from a set of ready processes, over rings. It reads a number a line and writes one a line, each by one
-   write, as p3l does. Usage: machine pipe|farm N CAPACITY < numbers */
+   time under round robin from a set of ready processes, over rings. It reads a number a line and writes one a line: each by one
+   write, or gathered up to 64 KiB as p3l does. Usage: machine pipe|farm N CAPACITY each|gathered < numbers */
 #include <stdint.h>
 #include <stdio.h>
 #include <stdlib.h>
@@ -116,11 +116,22 @@ static void look_round(uint32_t ring) {
     look(rings[ring].reader);
 }
 
-static void put(int64_t value) {
-    char text[24];
-    int length = snprintf(text, sizeof text, "%lld\n", (long long)value);
-    if (write(1, text, (size_t)length) != length)
+static char output[1 << 16];
+static size_t output_length;
+static int is_gathered;
+
+static void flush(void) {
+    if (write(1, output, output_length) != (ssize_t)output_length)
         exit(10);
+    output_length = 0;
+}
+
+static void put(int64_t value) {
+    if (sizeof output - output_length < 24)
+        flush();
+    output_length += (size_t)snprintf(output + output_length, 24, "%lld\n", (long long)value);
+    if (!is_gathered)
+        flush();
 }
 
 static void fire(uint32_t n) {
@@ -184,9 +195,10 @@ static void channel(uint32_t at, uint32_t room, uint32_t writer, uint32_t reader
 }
 
 int main(int count, char **words) {
-    uint32_t n = count == 4 ? (uint32_t)atoi(words[2]) : 0, room = count == 4 ? (uint32_t)atoi(words[3]) : 0, cursor = 0, found;
+    uint32_t n = count == 5 ? (uint32_t)atoi(words[2]) : 0, room = count == 5 ? (uint32_t)atoi(words[3]) : 0, cursor = 0, found;
     if (!n || !room)
         return 2;
+    is_gathered = strcmp(words[4], "gathered") == 0;
     int is_farm = strcmp(words[1], "farm") == 0;
     procs = calloc(n + 4, sizeof *procs);
     rings = calloc(2 * n + 2, sizeof *rings);
@@ -226,6 +238,7 @@ int main(int count, char **words) {
         cursor = found + 1 == proc_count ? 0 : found + 1;
         fire(found);
     }
+    flush();
     fprintf(stderr, "fired %llu\n", (unsigned long long)fired);
     return 0;
 }

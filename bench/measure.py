@@ -7,20 +7,33 @@ the measure for a difference of a few parts in a hundred, and take some fifty ti
 
 import os
 import re
+import shutil
 import subprocess
 
 COLLECTED = re.compile(rb"Collected : (\d+)")
 
 
-def seconds(words, stream, status=0):
+def seconds(words, stream, status=0, output=os.devnull):
     """The processor time of a command that ends with this status, on this file as standard input."""
-    with open(stream, "rb") as given, open(os.devnull, "wb") as sink:
-        child = subprocess.Popen(words, stdin=given, stdout=sink, stderr=sink)
+    with open(stream, "rb") as given, open(output, "wb") as sink, open(os.devnull, "wb") as errors:
+        child = subprocess.Popen(words, stdin=given, stdout=sink, stderr=errors)
         _, ended, used = os.wait4(child.pid, 0)
         child.returncode = os.waitstatus_to_exitcode(ended)
     if child.returncode != status:
         raise SystemExit(f"status {child.returncode}: {' '.join(words)}")
     return used.ru_utime + used.ru_stime
+
+
+def memory(words, stream):
+    """The most kilobytes that a command has in memory, when all but a pipe's length of this stream is read."""
+    with open(stream, "rb") as given, open(os.devnull, "wb") as sink:
+        child = subprocess.Popen(words, stdin=subprocess.PIPE, stdout=sink, stderr=sink)
+        shutil.copyfileobj(given, child.stdin)
+        child.stdin.flush()
+        with open(f"/proc/{child.pid}/status") as status:
+            most = next(line for line in status if line.startswith("VmHWM"))
+        child.communicate()
+    return int(most.split()[1])
 
 
 def instructions(words, stream):
@@ -31,9 +44,9 @@ def instructions(words, stream):
     return int(COLLECTED.search(done.stderr)[1])
 
 
-def least(commands, stream, tries=5):
-    """The least processor time of each of these commands, which are run in turn."""
-    rounds = [[seconds(words, stream) for words in commands] for _ in range(tries)]
+def least(commands, stream, tries=5, output=os.devnull):
+    """The least processor time of each of these commands, which are run in turn and write to this file."""
+    rounds = [[seconds(words, stream, 0, output) for words in commands] for _ in range(tries)]
     return [min(times) for times in zip(*rounds)]
 
 
