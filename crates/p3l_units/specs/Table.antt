@@ -13,6 +13,7 @@ use Rattle.p3l_skel.specs.declared.tree.Node.{Node}
 use Rattle.p3l_skel.specs.declared.tree.Tree.{Tree}
 use Rattle.p3l_skel.specs.Tree.{node_at}
 use Rattle.p3l_skel.specs.Lawful.{IsLawfulTree}
+use Rattle.p3l_skel.specs.Item.{item}
 use Rattle.p3l_code.specs.declared.instr.Code.{Code}
 use Rattle.p3l_code.specs.Machine.{exec}
 
@@ -91,6 +92,12 @@ LeavesAreRuns =
     k < length served.tree.nodes → (node_at served.tree k).form ≡ forms.Seq →
     code_of served (node_at served.tree k).«module» ≡ Some code → length words ≡ code.ins →
     leaf served (node_at served.tree k).«module» words ≡ exec code (node_at served.tree k).«module» words
+
+-- a run of this code, as that of this module, is all that a node does: the node is a `seq` node, and rescues nothing
+pub record DoesNode (served : Served) (k : ℕ) (code : Code) (m : ℕ) : Type 0 where
+  pub form : (node_at served.tree k).form ≡ forms.Seq
+  pub takes : code.ins ≡ (node_at served.tree k).ins
+  pub gives : (words : List ℤ) → length words ≡ code.ins → exec code m words ≡ item served.tree (leaf served) k words
 
 -- for each module, how many `seq` modules are before it
 abbrev pub HasPlaces : List ModuleInfo → List ℕ → Type 0

@@ -39,11 +39,11 @@ pub fn node_outcome(
     match &found.form {
         Form::Seq => {
             let outcome = table.run_body(alloc, node, words)?;
-            rescue_trap(alloc, tree, found, outcome)
+            rescue(alloc, tree, found, outcome)
         }
         Form::Comp => {
             let outcome = stages_outcome(alloc, tree, table, found, words)?;
-            rescue_trap(alloc, tree, found, outcome)
+            rescue(alloc, tree, found, outcome)
         }
         Form::Map { cut, .. } => map_outcome(alloc, tree, table, found.part(0), cut, words),
         Form::Reduce { elem, .. } => {
@@ -51,23 +51,6 @@ pub fn node_outcome(
             fold_outcome(alloc, tree, table, found.part(0), list.as_slice())
         }
         Form::Pipe | Form::Farm { .. } | Form::Loop { .. } => unreachable!(),
-    }
-}
-
-/// Rescues a trap that arose within a node, where its module does; a value passes without a call.
-#[inline(always)]
-fn rescue_trap(
-    alloc: Global,
-    tree: &Tree,
-    node: &Node,
-    outcome: Outcome,
-) -> Result<Outcome, NoMemory>
-    ensures { IfOk result (λ kept. kept
-        ≡ rescued (rescue_of tree.now node.now.«module») node.now.outs outcome) }
-{
-    match outcome {
-        Outcome::Value(words) => Ok(Outcome::Value(words)),
-        trapped => rescue(alloc, tree, node, trapped),
     }
 }
 

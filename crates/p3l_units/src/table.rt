@@ -1,16 +1,16 @@
 // Tables of units.
 
-ghost use Rattle.std.specs.Prelude.{◌≡◌, ◌<◌, length, IfOk};
+ghost use Rattle.std.specs.Prelude.{◌≡◌, ◌<◌, length, IfOk, IfSome};
 ghost use Rattle.std.specs.List.{All};
 ghost use Rattle.p3l_skel.specs.declared.tree.Form.TheVariants as forms;
 ghost use Rattle.p3l_skel.specs.Tree.{node_at};
 ghost use Rattle.p3l_skel.specs.Lawful.{IsLawfulTree};
-ghost use Rattle.p3l_units.specs.Table.{HasCode, HasPlaces, leaf, LeavesAreRuns, one_if_seq};
+ghost use Rattle.p3l_units.specs.Table.{DoesNode, HasCode, HasPlaces, leaf, LeavesAreRuns, one_if_seq};
 
 use p3l_base::{List, NoMemory, Outcome, Words};
 use p3l_code::SafeCode;
-use p3l_registers::Executable;
-use p3l_skel::{ModuleKind, Tree};
+use p3l_registers::{Executable, RegisterCode};
+use p3l_skel::{Form, ModuleKind, Tree};
 use std::alloc::Global;
 use std::marker::Model;
 
@@ -60,6 +60,28 @@ impl<'t> UnitTable<'t> {
         ensures lawful { IsLawfulTree result.now }
     {
         self.tree
+    }
+
+    /// The code of a `seq` node that runs in registers and whose module rescues no trap, and that
+    /// module: a run of the code is all that such a node does.
+    #[inline(always)]
+    pub(crate) fn bare_code(&self, node: u32) -> Option<(&RegisterCode, u32)>
+        requires { node < length self.now.tree.nodes }
+        ensures { IfSome result (λ bare. DoesNode self.now node bare.0.now bare.1) }
+    {
+        let node = &self.tree.nodes.as_slice()[node as usize];
+        let Form::Seq = node.form else {
+            return None;
+        };
+        if self.tree.modules.as_slice()[node.module as usize]
+            .rescue
+            .is_some()
+        {
+            return None;
+        }
+        let place = self.places.as_slice()[node.module as usize];
+        let code = self.codes.as_slice()[place as usize].in_registers()?;
+        Some((code, node.module))
     }
 
     /// Runs the code of a `seq` node.

@@ -16,7 +16,12 @@ impl<'t> Units for UnitTable<'t> {
 
     ghost gives_outs = { gives_outs };
 
+    /// The commonest node by itself, so that its outcome isn't moved from call to call.
+    #[inline(always)]
     fn run(&self, alloc: Global, node: u32, words: &Words) -> Result<Outcome, NoMemory> {
-        node_outcome(alloc, self.tree(), self, node, words)
+        match self.bare_code(node) {
+            Some((code, module)) => code.run(alloc, module, words),
+            None => node_outcome(alloc, self.tree(), self, node, words),
+        }
     }
 }

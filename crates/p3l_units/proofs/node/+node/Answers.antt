@@ -105,10 +105,10 @@ node_outcome-returns-in_ok-list-in-Reduce t c =
 pub node_outcome-returns-in_ok-outcome-in-Comp : goal.node_outcome-returns-in_ok-outcome-in-Comp
 node_outcome-returns-in_ok-outcome-in-Comp t c =
     let node = c.in-Some.found.now in
-    if_ok-same c.rescue_trap-in-Comp.result _ _
+    if_ok-same c.rescue-in-Comp.result _ _
     (ap (rescued (rescue_of c.args.tree.now node.module) node.outs) c.in_ok-outcome-in-Comp.ensures
     ∙ row_at c.args.tree.now c.requires.lawful (leaf c.args.table.now) node c.args.node Comp c.args.words.now c.in-Some.ensures.found c.requires.unit.in_tree c.in-Comp.is)
-    c.rescue_trap-in-Comp.ensures
+    c.rescue-in-Comp.ensures
 
 pub map_outcome-node_outcome-requires : goal.map_outcome-node_outcome-requires
 map_outcome-node_outcome-requires t c =
@@ -218,10 +218,10 @@ node_outcome-returns-in_ok-outcome-in-Seq t c =
     let tree = c.args.tree.now in
     let node = c.in-Some.found.now in
     let leaf = leaf c.args.table.now in
-    if_ok-same c.rescue_trap.result _ _
+    if_ok-same c.rescue.result _ _
     (ap (rescued (rescue_of tree node.module) node.outs)
     (c.in_ok-outcome-in-Seq.ensures
     ∙ (ap (λ (tr : Tree). leaf (node_at tr c.args.node).module c.args.words.now) c.requires.served
     ∙ ap (λ (n : Node). leaf n.module c.args.words.now) (sym c.in-Some.ensures.found)))
     ∙ row_at tree c.requires.lawful leaf node c.args.node Seq c.args.words.now c.in-Some.ensures.found c.requires.unit.in_tree c.in-Seq.is)
-    c.rescue_trap.ensures
+    c.rescue.ensures
