@@ -1,6 +1,6 @@
 -- A firing changes only what it touches: the readiness of every process that is apart stays, and of every one for which what was
 -- touched has slack.
-use Rattle.std.proofs.Common.{◌≡◌, ◌≢◌, ℕ, ℤ, zero, suc, ◌+◌, ◌-◌, ◌<◌, ◌≤◌, ◌⊎◌, nat_lt, lt-ltb, Bool, true, false, not, ◌&&◌, cond, List, [], ◌∷◌, ◌++◌, length, Option, Some, None, slice_get, refl, sym, ap, ap₂, ◌∙◌, subst, arith, inl, inr, filter}
+use Rattle.std.proofs.Common.{◌≡◌, ◌≢◌, ℕ, ℤ, zero, suc, ◌+◌, ◌-◌, ◌<◌, ◌≤◌, ◌⊎◌, nat_lt, lt-ltb, Bool, true, false, not, ◌&&◌, cond, List, [], ◌∷◌, ◌++◌, length, Option, Some, None, slice_get, slice_set, refl, sym, ap, ap₂, ◌∙◌, subst, arith, inl, inr, filter, length-set, get_or-set_same, get_or-set_other}
 use Rattle.std.specs.Option.{option_map, option_to_list, option_or, IfSome, IfNone}
 use Rattle.std.specs.List.{AllByRecursion, find, range_with_len}
 use Rattle.std.proofs.lemmas.Bool.{cases_eq, cases_lt, cases_Bool, cond-true, cond-false}
@@ -173,6 +173,18 @@ pub others_agree : {m n : Seen} {p : ℕ} {touched : List ℕ} (flags : List Boo
 others_agree flags agrees ends sides moves r inside other slack =
     agrees.right r (subst (λ (x : Net). r < length x.procs) moves.net inside) tt
     ∙ sym (slack_same moves r other ends sides slack)
+
+-- the flags after one look at the process that fired
+pub looked_first : (m : Seen) (p : ℕ) (flags new : List Bool) (touched : List ℕ) → length flags ≡ length m.net.procs → p < length m.net.procs → ((r : ℕ) → r < length m.net.procs → r ≢ p → AllHaveSlack m r touched → flag_at flags r ≡ ready_at m r) → new ≡ slice_set flags p (ready_at m p) → AgreesBut m new touched
+looked_first m p flags new touched size there others e =
+    subst (λ fs. AgreesBut m fs touched) (sym e)
+    (record {
+      size = length-set flags p (ready_at m p) ∙ size;
+      right = λ r inside slack. elim (cases_eq r p) [
+        | inl same ↦ ap (flag_at (slice_set flags p (ready_at m p))) same ∙ get_or-set_same flags p (ready_at m p) false (subst (λ n. p < n) (sym size) there) ∙ ap (ready_at m) (sym same)
+        | inr other ↦ get_or-set_other flags p r (ready_at m p) false other ∙ others r inside other slack
+      ];
+    })
 
 -- numbers that pass are as many as are counted, and the k-th of them has k before it
 module _ (f : ℕ → Bool) where

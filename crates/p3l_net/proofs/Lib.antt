@@ -15,5 +15,6 @@ pub mod Alike
 pub mod Frame
 pub mod FollowLaw
 pub mod SoundLaw
+pub mod Kept
 pub mod Saving
 pub mod CountLaw

@@ -1,5 +1,5 @@
 -- The tables of the ends of channels.
-use Rattle.std.proofs.Common.{◌≡◌, ℕ, zero, suc, ◌+◌, ◌<◌, ◌≤◌, ◌==◌, List, [], ◌∷◌, ◌++◌, length, Some, slice_get, slice_set, get_or, replicate, refl, sym, ap, ◌∙◌, subst, arith, inl, inr, ◌⊎◌, length-set, get_or-set_same, get_or-set_other, cond}
+use Rattle.std.proofs.Common.{◌≡◌, ℕ, zero, suc, ◌+◌, ◌<◌, ◌≤◌, ◌==◌, List, [], ◌∷◌, ◌++◌, length, Option, Some, None, IsSomeAnd, slice_get, slice_index, slice_set, get_or, replicate, refl, sym, ap, ◌∙◌, subst, arith, inl, inr, ◌⊎◌, length-set, get_or-set_same, get_or-set_other, cond}
 use Rattle.std.specs.List.{AllByRecursion, flat_map}
 use Rattle.std.proofs.lemmas.Bool.{cases_eq, cases_lt}
 use Rattle.std.proofs.lemmas.List.{length-replicate, set_past}
@@ -11,7 +11,7 @@ use Rattle.p3l_firing.specs.Typed.{IsTyped}
 use Rattle.p3l_firing.specs.Process.{Has, times}
 use Rattle.std.specs.Option.{option_map}
 use Rattle.p3l_firing.specs.declared.process.ProcKind.TheVariants.{Source}
-use Rattle.p3l_net.specs.Steps.{HasEnds, Ends, marked}
+use Rattle.p3l_net.specs.Steps.{HasEnds, Ends, Reads, Writes, marked}
 use Rattle.p3l_firing.proofs.Fitting.{all_of_one}
 use Rattle.p3l_firing.proofs.Places.{has_counted}
 
@@ -182,3 +182,18 @@ module _ {tree : Tree} {net : Net} (typed : IsTyped tree net) where
 
     pub entered_readers : (table : List ℕ) → Entered (λ (x : Proc). x.ins) net.procs (length net.chans) p table → p < length net.procs → (new : List ℕ) → new ≡ marked table q.ins p → Entered (λ (x : Proc). x.ins) net.procs (length net.chans) (p + 1) new
     entered_readers table was there new e = one_entered (λ (x : Proc). x.ins) net.procs (length net.chans) p table was there typed.reads (λ c h. (typed.channels c h).read) q stands new e
+
+-- the end of a channel that a process reads, or writes, is that process
+pub reader_is : (net : Net) (ends : Ends) → HasEnds net ends → (p c : ℕ) → Reads net p c → slice_index ends.readers c ≡ p
+reader_is net ends sides p c reads = by (slice_get net.procs p) refl reads
+  where
+    by : (o : Option Proc) → slice_get net.procs p ≡ o → IsSomeAnd o (λ (q : Proc). Has q.ins c) → slice_index ends.readers c ≡ p
+    by (Some q) at has = sides.read p c q at has
+    by None at has = absurd has
+
+pub writer_is : (net : Net) (ends : Ends) → HasEnds net ends → (p c : ℕ) → Writes net p c → slice_index ends.writers c ≡ p
+writer_is net ends sides p c writes = by (slice_get net.procs p) refl writes
+  where
+    by : (o : Option Proc) → slice_get net.procs p ≡ o → IsSomeAnd o (λ (q : Proc). Has q.outs c) → slice_index ends.writers c ≡ p
+    by (Some q) at has = sides.written p c q at has
+    by None at has = absurd has

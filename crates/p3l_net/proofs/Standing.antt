@@ -154,6 +154,11 @@ pub on_err : {A E : Type 0} {P : Type 0} (r : Result A E) → P → OnErr r P
 on_err (Ok x) p = tt
 on_err (Err e) p = p
 
+-- what follows from a clause where a call was not refused
+pub if_ok_so : {A E : Type 0} {P Q : A → Type 0} (r : Result A E) → IfOk r P → ((x : A) → P x → Q x) → IfOk r Q
+if_ok_so (Ok x) p f = f x p
+if_ok_so (Err e) p f = tt
+
 -- what two clauses say together where a call was not refused
 pub if_ok_both : {A E : Type 0} {P : Type 0} {Q R : A → Type 0} (r : Result A E) → OnOk r P → IfOk r Q → ((x : A) → P → Q x → R x) → IfOk r R
 if_ok_both (Ok x) p q f = f x p q

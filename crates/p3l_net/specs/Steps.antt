@@ -1,5 +1,5 @@
 -- The steps that a firing is made of, on what contracts see of a machine; and what a firing leaves alone.
-use Rattle.std.specs.Prelude.{◌≡◌, ◌≢◌, ℕ, ℤ, ⊤, ◌+◌, ◌^◌, ◌<◌, ◌⊎◌, List, [], ◌∷◌, ◌++◌, Bool, true, cond, Option, None, Some, length, slice_get, slice_set, slice_index, nat_lt, fold}
+use Rattle.std.specs.Prelude.{◌≡◌, ◌≢◌, ℕ, ℤ, ⊤, ◌+◌, ◌^◌, ◌<◌, ◌⊎◌, List, [], ◌∷◌, ◌++◌, Bool, true, cond, Option, None, Some, length, slice_get, slice_set, slice_index, nat_lt, fold, IsSomeAnd}
 use Rattle.std.specs.List.{AllByRecursion}
 use Rattle.p3l_base.specs.declared.outcome.Outcome.{Outcome}
 use Rattle.p3l_base.specs.declared.outcome.Outcome.TheVariants.{Value, Trapped}
@@ -118,6 +118,13 @@ pub record HasEnds (net : Net) (ends : Ends) : Type 0 where
   pub read : (r c : ℕ) (q : Proc) → slice_get net.procs r ≡ Some q → Has q.ins c → slice_index ends.readers c ≡ r
   pub writers_inside : (c : ℕ) → c < length net.chans → slice_index ends.writers c < length net.procs
   pub readers_inside : (c : ℕ) → c < length net.chans → slice_index ends.readers c < length net.procs
+
+-- process p of a net reads channel c, or writes it
+abbrev pub Reads : Net → ℕ → ℕ → Type 0
+Reads net p c = IsSomeAnd (slice_get net.procs p) (λ (q : Proc). Has q.ins c)
+
+abbrev pub Writes : Net → ℕ → ℕ → Type 0
+Writes net p c = IsSomeAnd (slice_get net.procs p) (λ (q : Proc). Has q.outs c)
 
 -- the channels and what process r keeps allow it to fire
 abbrev pub ready_at : Seen → ℕ → Bool

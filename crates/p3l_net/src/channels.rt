@@ -1,6 +1,6 @@
 // All channels of a machine, by their numbers.
 
-ghost use Rattle.std.specs.Prelude.{◌≡◌, ◌<◌, ◌≤◌, [], length, map, IfOk, nat_lt, slice_index_or, EachIndex};
+ghost use Rattle.std.specs.Prelude.{◌≡◌, ◌<◌, ◌≤◌, [], length, map, IfOk, IsTrue, nat_lt, slice_index_or, EachIndex};
 ghost use Rattle.p3l_net.specs.Channel.{queue_at, tokens_at, opened, appended, prepended, taken};
 ghost use Rattle.p3l_firing.specs.Lists.{has_first, first_or};
 ghost use Rattle.p3l_firing.specs.State.{no_chan};
@@ -107,6 +107,15 @@ impl Channels {
         self.list[c as usize].front_body()
     }
 
+    /// Whether no tags lie there of the first token of a channel that has one: then it has none.
+    pub(crate) fn is_plain(&self, c: u32) -> bool
+        requires there { c < length self.now }
+        requires token { 0 < length (tokens_at self.now c) }
+        ensures { IsTrue result → (first_or credit (tokens_at self.now c)).tags ≡ [] }
+    {
+        self.list[c as usize].is_plain()
+    }
+
     /// The newest tag of the first token of a channel that has one, 0 if that has no tags.
     pub(crate) fn front_newest_tag(&self, c: u32) -> u64
         requires there { c < length self.now }
@@ -155,6 +164,7 @@ impl Channels {
     }
 
     // Forwards a token with its tags.
+    #[inline(never)]
     fn forward_tagged(&mut self, input: u32, output: u32, body: Outcome)
         requires there { input < length self.old }
         requires token { 0 < length (tokens_at self.old input) }
@@ -169,17 +179,19 @@ impl Channels {
     }
 
     /// Takes the first token of channel `input`, and appends it to channel `output` with another
-    /// outcome.
-    pub(crate) fn forward(&mut self, input: u32, output: u32, body: Outcome)
+    /// outcome; `plain` says whether it is known to have no tags.
+    #[inline(always)]
+    pub(crate) fn forward(&mut self, input: u32, output: u32, plain: bool, body: Outcome)
         requires there { input < length self.old }
         requires token { 0 < length (tokens_at self.old input) }
         requires output { output < length self.old }
         requires room { length (tokens_at (taken self.old input) output)
             < (queue_at (taken self.old input) output).room }
+        requires plain { IsTrue plain → (first_or credit (tokens_at self.old input)).tags ≡ [] }
         ensures { self.new ≡ appended (taken self.old input) output
             (record (first_or credit (tokens_at self.old input)) { body = body }) }
     {
-        if self.list[input as usize].is_plain() {
+        if plain {
             let _before = self.take_body(input);
             self.append_plain(output, body);
         } else {

@@ -13,7 +13,7 @@ ghost use Rattle.p3l_firing.specs.Process.{kind_at};
 ghost use Rattle.p3l_skel.specs.Tree.{node_at};
 
 use crate::ends::Sides;
-use crate::refresh::{look_at_all, refresh};
+use crate::refresh::{look_at_all, refresh, refresh_run};
 use crate::shot::Shot;
 use crate::store::Store;
 use p3l_base::{NoMemory, Outcome, Words};
@@ -204,6 +204,14 @@ impl<'t> Machine<'t> {
         }
     }
 
+    /// The kind of process `p`.
+    pub fn kind(&self, p: u32) -> ProcKind
+        requires { p < length self.now.net.procs }
+        ensures { kind_at self.now.net p ≡ Some result }
+    {
+        self.store.process(p).kind
+    }
+
     /// Fires process `p`: the step of its kind's row. The outcome handed out is there exactly where
     /// the sink fired. Refused, the machine is unchanged.
     pub fn fire<U: Units>(
@@ -227,15 +235,124 @@ impl<'t> Machine<'t> {
         ensures others { OnOk result (OthersStay self.old self.new p) }
         ensures item { OnOk result (p ≢ 0 → self.new.inbox ≡ self.old.inbox) }
     {
-        let step = self.store.fire(alloc, units, p)?;
-        refresh(
-            &self.store,
-            &self.sides,
-            &mut self.ready,
-            p,
-            step.touched.as_slice(),
-        );
-        Ok(step.fired)
+        let kind = self.kind(p);
+        if kind == ProcKind::Sink {
+            let outcome = self.fire_sink(tree, units, p);
+            return Ok(Fired {
+                kind,
+                emitted: Some(outcome),
+            });
+        }
+        self.fire_within(alloc, tree, units, p)?;
+        Ok(Fired {
+            kind,
+            emitted: None,
+        })
+    }
+
+    /// Fires process `p`, which isn't the sink, so that nothing is emitted: the step of its kind's row.
+    /// Refused, the machine is unchanged.
+    #[inline(always)]
+    pub fn fire_within<U: Units>(
+        &mut self,
+        alloc: Global,
+        tree: &Tree,
+        units: &U,
+        p: u32,
+    ) -> Result<(), NoMemory>
+        requires there { p < length self.old.net.procs }
+        requires can { IsTrue (can_step self.old p) }
+        requires count { self.old.fired < 2 ^ 63 }
+        requires tree { tree.now ≡ self.old.tree }
+        requires units { U.tree units.now ≡ tree.now }
+        requires within { kind_at self.old.net p ≢ Some ProcKind.Sink }
+        ensures fires { OnOk result (Fires (U.leaf units.now) self.old self.new p None) }
+        ensures err { OnErr result (self.new ≡ self.old) }
+        ensures memory { OnErr result (may_want_memory self.old p ≡ true) }
+        ensures others { OnOk result (OthersStay self.old self.new p) }
+        ensures item { OnOk result (p ≢ 0 → self.new.inbox ≡ self.old.inbox) }
+    {
+        if self.kind(p) == ProcKind::Run {
+            return self.fire_run(alloc, tree, units, p);
+        }
+        self.fire_other(alloc, tree, units, p)
+    }
+
+    // Fires the sink `p`, and hands out the outcome that it takes.
+    fn fire_sink<U: Units>(&mut self, tree: &Tree, units: &U, p: u32) -> Outcome
+        requires there { p < length self.old.net.procs }
+        requires can { IsTrue (can_step self.old p) }
+        requires count { self.old.fired < 2 ^ 63 }
+        requires tree { tree.now ≡ self.old.tree }
+        requires units { U.tree units.now ≡ tree.now }
+        requires sink { kind_at self.old.net p ≡ Some ProcKind.Sink }
+        ensures fires { Fires (U.leaf units.now) self.old self.new p (Some result) }
+        ensures others { OthersStay self.old self.new p }
+        ensures item { p ≢ 0 → self.new.inbox ≡ self.old.inbox }
+    {
+        let (outcome, touched) = self.store.fire_sink(p);
+        let touched = touched.as_slice();
+        refresh(&self.store, &self.sides, &mut self.ready, p, touched);
+        outcome
+    }
+
+    // Fires the run `p`.
+    #[inline(always)]
+    fn fire_run<U: Units>(
+        &mut self,
+        alloc: Global,
+        tree: &Tree,
+        units: &U,
+        p: u32,
+    ) -> Result<(), NoMemory>
+        requires there { p < length self.old.net.procs }
+        requires can { IsTrue (can_step self.old p) }
+        requires count { self.old.fired < 2 ^ 63 }
+        requires tree { tree.now ≡ self.old.tree }
+        requires units { U.tree units.now ≡ tree.now }
+        requires run { kind_at self.old.net p ≡ Some ProcKind.Run }
+        ensures fires { OnOk result (Fires (U.leaf units.now) self.old self.new p None) }
+        ensures err { OnErr result (self.new ≡ self.old) }
+        ensures memory { OnErr result (may_want_memory self.old p ≡ true) }
+        ensures others { OnOk result (OthersStay self.old self.new p) }
+        ensures item { OnOk result (p ≢ 0 → self.new.inbox ≡ self.old.inbox) }
+    {
+        match self.store.fire_run(alloc, units, p) {
+            Ok((input, output)) => {
+                let ready = &mut self.ready;
+                refresh_run(&self.store, &self.sides, ready, p, input, output);
+                Ok(())
+            }
+            Err(error) => Err(error),
+        }
+    }
+
+    // Fires process `p`, which is neither the sink nor a run.
+    #[inline(never)]
+    fn fire_other<U: Units>(
+        &mut self,
+        alloc: Global,
+        tree: &Tree,
+        units: &U,
+        p: u32,
+    ) -> Result<(), NoMemory>
+        requires there { p < length self.old.net.procs }
+        requires can { IsTrue (can_step self.old p) }
+        requires count { self.old.fired < 2 ^ 63 }
+        requires tree { tree.now ≡ self.old.tree }
+        requires units { U.tree units.now ≡ tree.now }
+        requires no_sink { kind_at self.old.net p ≢ Some ProcKind.Sink }
+        requires no_run { kind_at self.old.net p ≢ Some ProcKind.Run }
+        ensures fires { OnOk result (Fires (U.leaf units.now) self.old self.new p None) }
+        ensures err { OnErr result (self.new ≡ self.old) }
+        ensures memory { OnErr result (may_want_memory self.old p ≡ true) }
+        ensures others { OnOk result (OthersStay self.old self.new p) }
+        ensures item { OnOk result (p ≢ 0 → self.new.inbox ≡ self.old.inbox) }
+    {
+        let touched = self.store.fire_other(alloc, units, p)?;
+        let touched = touched.as_slice();
+        refresh(&self.store, &self.sides, &mut self.ready, p, touched);
+        Ok(())
     }
 
     /// How many firings there were since the machine was started.

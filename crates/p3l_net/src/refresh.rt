@@ -13,6 +13,7 @@ use crate::store::Store;
 use p3l_ready::ReadySet;
 
 // Looks again whether process `r` is ready.
+#[inline(always)]
 fn look(store: &Store, ready: &mut ReadySet, r: u32)
     requires sound { IsSound store.now }
     requires there { r < length store.now.net.procs }
@@ -23,6 +24,7 @@ fn look(store: &Store, ready: &mut ReadySet, r: u32)
 }
 
 // Looks again whether process `r` is ready, unless it is `p`, of which that is known.
+#[inline(always)]
 fn look_beside(store: &Store, ready: &mut ReadySet, p: u32, r: u32)
     requires sound { IsSound store.now }
     requires there { r < length store.now.net.procs }
@@ -38,6 +40,7 @@ fn look_beside(store: &Store, ready: &mut ReadySet, p: u32, r: u32)
 
 // Looks again at the process that writes channel `c`, if it was full before a token was taken from
 // it, but not at `p`, of which it is known whether it is ready.
+#[inline(always)]
 fn look_at_writer(store: &Store, sides: &Sides, ready: &mut ReadySet, p: u32, c: u32)
     requires sound { IsSound store.now }
     requires there { c < length store.now.net.chans }
@@ -56,6 +59,7 @@ fn look_at_writer(store: &Store, sides: &Sides, ready: &mut ReadySet, p: u32, c:
 
 // Looks again at the process that reads channel `c`, if it was empty before a token was put into
 // it, but not at `p`, of which it is known whether it is ready.
+#[inline(always)]
 fn look_at_reader(store: &Store, sides: &Sides, ready: &mut ReadySet, p: u32, c: u32)
     requires sound { IsSound store.now }
     requires there { c < length store.now.net.chans }
@@ -74,6 +78,7 @@ fn look_at_reader(store: &Store, sides: &Sides, ready: &mut ReadySet, p: u32, c:
 
 // Looks again at the processes that write and read channel `c`, where a token that was taken from
 // it or put into it can have made them ready, but not at `p`, of which it is known whether it is.
+#[inline(always)]
 fn look_at_ends(store: &Store, sides: &Sides, ready: &mut ReadySet, p: u32, c: u32)
     requires sound { IsSound store.now }
     requires there { c < length store.now.net.chans }
@@ -86,6 +91,40 @@ fn look_at_ends(store: &Store, sides: &Sides, ready: &mut ReadySet, p: u32, c: u
         → AgreesBut store.now ready.new cs }
 {
     look_at_writer(store, sides, ready, p, c);
+    look_at_reader(store, sides, ready, p, c);
+}
+
+// Looks again at the process that writes channel `c`, which `p` reads.
+#[inline(always)]
+fn look_before(store: &Store, sides: &Sides, ready: &mut ReadySet, p: u32, c: u32)
+    requires sound { IsSound store.now }
+    requires there { c < length store.now.net.chans }
+    requires size { length ready.old ≡ length store.now.net.procs }
+    requires sides { HasEnds store.now.net sides.now }
+    requires reads { slice_index sides.now.readers c ≡ p }
+    requires known { flag_at ready.old p ≡ ready_at store.now p }
+    ensures size { length ready.new ≡ length store.now.net.procs }
+    ensures known { flag_at ready.new p ≡ ready_at store.now p }
+    ensures agrees { (cs : List ℕ) → AgreesBut store.now ready.old (c ∷ cs)
+        → AgreesBut store.now ready.new cs }
+{
+    look_at_writer(store, sides, ready, p, c);
+}
+
+// Looks again at the process that reads channel `c`, which `p` writes.
+#[inline(always)]
+fn look_behind(store: &Store, sides: &Sides, ready: &mut ReadySet, p: u32, c: u32)
+    requires sound { IsSound store.now }
+    requires there { c < length store.now.net.chans }
+    requires size { length ready.old ≡ length store.now.net.procs }
+    requires sides { HasEnds store.now.net sides.now }
+    requires writes { slice_index sides.now.writers c ≡ p }
+    requires known { flag_at ready.old p ≡ ready_at store.now p }
+    ensures size { length ready.new ≡ length store.now.net.procs }
+    ensures known { flag_at ready.new p ≡ ready_at store.now p }
+    ensures agrees { (cs : List ℕ) → AgreesBut store.now ready.old (c ∷ cs)
+        → AgreesBut store.now ready.new cs }
+{
     look_at_reader(store, sides, ready, p, c);
 }
 
@@ -107,6 +146,34 @@ pub(crate) fn refresh(store: &Store, sides: &Sides, ready: &mut ReadySet, p: u32
     for channel in touched {
         look_at_ends(store, sides, ready, p, *channel);
     }
+}
+
+/// Looks again at the run `p`, at the process that writes the channel `input` that it reads, and at the
+/// one that reads the channel `output` that it writes.
+#[inline(always)]
+pub(crate) fn refresh_run(
+    store: &Store,
+    sides: &Sides,
+    ready: &mut ReadySet,
+    p: u32,
+    input: u32,
+    output: u32,
+)
+    requires sound { IsSound store.now }
+    requires there { p < length store.now.net.procs }
+    requires size { length ready.old ≡ length store.now.net.procs }
+    requires sides { HasEnds store.now.net sides.now }
+    requires inside { AllByRecursion (λ c. c < length store.now.net.chans) (input ∷ (output ∷ [])) }
+    requires reads { slice_index sides.now.readers input ≡ p }
+    requires writes { slice_index sides.now.writers output ≡ p }
+    requires others { (r : ℕ) → r < length store.now.net.procs → r ≢ p
+        → AllHaveSlack store.now r (input ∷ (output ∷ []))
+        → flag_at ready.old r ≡ ready_at store.now r }
+    ensures { AgreesBut store.now ready.new [] }
+{
+    look(store, ready, p);
+    look_before(store, sides, ready, p, input);
+    look_behind(store, sides, ready, p, output);
 }
 
 /// Looks at all processes.

@@ -1,6 +1,6 @@
 // What a machine holds: the tokens of a net, and the steps that its firings are made of.
 
-ghost use Rattle.std.specs.Prelude.{◌≡◌, ◌<◌, ◌≤◌, ◌+◌, ◌^◌, ◌↔◌, length, None, Some, IsTrue, true, IfOk, OnOk, OnErr, slice_get, is_some, cond};
+ghost use Rattle.std.specs.Prelude.{◌≡◌, ◌<◌, ◌≤◌, ◌+◌, ◌^◌, ◌↔◌, [], length, None, Some, IsTrue, true, IfOk, OnOk, OnErr, slice_get, is_some, cond};
 ghost use Rattle.p3l_base.specs.declared.outcome.Outcome.TheVariants.{Trapped};
 ghost use Rattle.p3l_firing.specs.Lists.{has_first, first_or};
 ghost use Rattle.p3l_firing.specs.State.{chan_at, own_at, counted, fresh, gathering, holding, released};
@@ -175,6 +175,14 @@ impl<'t> Store<'t> {
         self.channels.front_body(c)
     }
 
+    /// Whether no tags lie there of the first token of a channel that has one: then it has none.
+    pub(crate) fn is_plain(&self, c: u32) -> bool
+        requires { CanTake self.now c }
+        ensures { IsTrue result → (first_or credit (tokens_at self.now.queues c)).tags ≡ [] }
+    {
+        self.channels.is_plain(c)
+    }
+
     /// The newest tag of the first token of a channel that has one, 0 if that has no tags.
     pub(crate) fn front_newest_tag(&self, c: u32) -> u64
         requires { CanTake self.now c }
@@ -226,14 +234,29 @@ impl<'t> Store<'t> {
     }
 
     /// Takes the first token of channel `input`, and appends it to channel `output`, which has room for
-    /// it, with another outcome.
-    pub(crate) fn forward(&mut self, input: u32, output: u32, body: Outcome)
+    /// it, with another outcome; `plain` says whether it is known to have no tags.
+    #[inline(always)]
+    pub(crate) fn forward(&mut self, input: u32, output: u32, plain: bool, body: Outcome)
         requires token { CanTake self.old input }
         requires room { CanPut (without_first self.old input) output }
+        requires plain { IsTrue plain
+            → (first_or credit (tokens_at self.old.queues input)).tags ≡ [] }
         ensures { self.new ≡ with_last (without_first self.old input) output
             (record (first_or credit (tokens_at self.old.queues input)) { body = body }) }
     {
-        self.channels.forward(input, output, body);
+        self.channels.forward(input, output, plain, body);
+    }
+
+    /// Takes the first token of channel `input`, and appends it to channel `output`, which has room for
+    /// it, as it is.
+    pub(crate) fn pass(&mut self, input: u32, output: u32)
+        requires token { CanTake self.old input }
+        requires room { CanPut (without_first self.old input) output }
+        ensures { self.new ≡ with_last (without_first self.old input) output
+            (first_or credit (tokens_at self.old.queues input)) }
+    {
+        let token = self.take(input);
+        self.put(output, token);
     }
 
     /// Process `p` counts one more.

@@ -3,6 +3,9 @@ use Rattle.std.proofs.Common.{◌≡◌, ℕ, ◌<◌, ◌&&◌, true, List, [],
 use Rattle.std.proofs.lemmas.Bool.{and_parts}
 use Rattle.p3l_base.specs.declared.outcome.Outcome.{Outcome}
 use Rattle.p3l_base.specs.declared.outcome.Outcome.TheVariants.{Value, Trapped}
+use Rattle.p3l_base.specs.declared.outcome.Trap.{Trap}
+use Rattle.p3l_firing.specs.declared.token.Token.{Token}
+use Rattle.std.specs.Prelude.{IsSomeAnd}
 use Rattle.p3l_skel.specs.Tree.{node_at, HasFittingLength, HasLength, IsUnit}
 use Rattle.p3l_skel.proofs.Depth.{lawful_at}
 use Rattle.p3l_firing.specs.declared.process.Proc.{Proc}
@@ -11,7 +14,7 @@ use Rattle.p3l_firing.specs.Lists.{has_first, first_or}
 use Rattle.p3l_firing.specs.Token.{credit, over}
 use Rattle.p3l_firing.specs.Nodes.{Leaf, outcome_of}
 use Rattle.p3l_firing.specs.State.{has_room, pop, push}
-use Rattle.p3l_firing.specs.Process.{in_of, out_of}
+use Rattle.p3l_firing.specs.Process.{Has, in_of, out_of}
 use Rattle.p3l_firing.specs.Fire.{row_can, row_fire}
 use Rattle.p3l_firing.specs.kinds.Run.{Takes, Fits}
 use Rattle.p3l_firing.specs.kinds.Run as row
@@ -20,9 +23,13 @@ use Rattle.p3l_firing.proofs.Sequential.{run_is_unit}
 use Rattle.p3l_firing.proofs.row.Run.{takes_fits}
 use Rattle.p3l_net.specs.Channel.{tokens_at}
 use Rattle.p3l_net.specs.Machine.{Seen, Stands, state_of}
-use Rattle.p3l_net.specs.Steps.{CanTake, CanPut, Done, IfValue, MayFire, ready_at, room_at}
+use Rattle.p3l_net.specs.Steps.{CanTake, CanPut, Done, IfValue, MayFire, Reads, Writes, ready_at, room_at}
 use Rattle.p3l_net.proofs.StepLaw.{Step, Step.Take, Step.Put, seen_after, done_as}
 use Rattle.p3l_net.proofs.Standing.{here, is_kind, row_holds, fits_as, reads_there, writes_there, ready_as, can_take, can_put, first_fits, room-seen}
+
+-- what keeps a trap as it is keeps a token that carries it
+pub stays : (makes : Outcome → Outcome) (token : Token) (trap : Trap) → token.body ≡ Trapped trap → makes (Trapped trap) ≡ Trapped trap → token ≡ over makes token
+stays makes token trap is keeps = ap (λ (body : Outcome). record token { body = body }) (is ∙ sym keeps ∙ ap makes (sym is))
 
 module _ {m : Seen} {p : ℕ} {q : Proc} (h : Stands m p q) (kind : q.kind ≡ Run) where
   pub fits_run : Fits m.tree h.sound.typed.widths q
@@ -60,6 +67,13 @@ module _ {m : Seen} {p : ℕ} {q : Proc} (may : MayFire m p Run) (stands : slice
 
   pub is_unit : IsUnit m.tree q.node
   is_unit = run_is_unit m.tree h.sound.typed.lawful q.node (node_at m.tree q.node).ins q.arg (h.sound.typed.widths.words (in_of q 0)) fits.node fits.takes
+
+  -- it reads its channel in, and writes its channel out
+  pub reads : (c : ℕ) → c ≡ in_of q 0 → Reads m.net p c
+  reads c is = subst (λ o. IsSomeAnd o (λ (x : Proc). Has x.ins c)) (sym stands) (subst (Has q.ins) (sym is) (first_in q.ins fits.ins))
+
+  pub writes : (c : ℕ) → c ≡ out_of q 0 → Writes m.net p c
+  writes c is = subst (λ o. IsSomeAnd o (λ (x : Proc). Has x.outs c)) (sym stands) (subst (Has q.outs) (sym is) (first_in q.outs fits.outs))
 
   -- the token that comes has what the node takes
   pub fitting : IfValue (first_or credit (tokens_at m.queues (in_of q 0))).body (λ words. HasFittingLength m.tree q.node (length words))
