@@ -190,6 +190,11 @@ pub some_ready : (ready : List ℕ) → ready ≢ [] → is_some ready ≡ true
 some_ready [] some = absurd (some refl)
 some_ready (p ∷ ps) some = refl
 
+-- what was put stays where nothing more is
+pub nothing_put : (taken : Option (List ℕ)) → HasPut taken taken []
+nothing_put None = refl
+nothing_put (Some taken) = ap Some (sym (append-nil taken))
+
 -- outcomes begin others, so the text that was written of them begins the text of those
 pub begun_by : (whole outcomes : List Outcome) (taken taken' : Option (List ℕ)) → IsPrefixOf outcomes whole → HasPut taken taken' (text_of outcomes) → HasBegun taken taken' (text_of whole)
 begun_by whole outcomes taken taken' begins put =

@@ -168,6 +168,14 @@ abbrev pub GoesOn : Job → Outside → Execution → Execution → Bool → Typ
 GoesOn job now old new true = Executes job now new × (left_at new < left_at old)
 GoesOn job now old new false = AwaitsPick job now new × IsOver new
 
+-- whatever job it executes, with these bodies of modules, an execution that was fed and picked a process that can fire goes on by its
+-- firing
+abbrev pub FiresOn : Leaf → ℕ → Option (List ℕ) → Option (List ℕ) → ℕ → ℕ → Execution → Execution → Result (Unit {0}) RunFault → Type 0
+FiresOn leaf p taken taken' before after picked new (Ok done) =
+    (job : Job) (rest : Option (List ℕ)) (faults : ℕ) (old : Execution) → job.network.leaf ≡ leaf → AwaitsPick job (outside rest faults taken before) old → Picks old picked p → can_step picked.machine p ≡ true → GoesOn job (outside rest faults taken' after) old new true
+FiresOn leaf p taken taken' before after picked new (Err failed) =
+    (job : Job) (rest : Option (List ℕ)) (faults : ℕ) (old : Execution) → job.network.leaf ≡ leaf → AwaitsPick job (outside rest faults taken before) old → Picks old picked p → can_step picked.machine p ≡ true → Ends job (outside rest faults taken' after) (Err failed)
+
 -- whatever job it executes, with these bodies of modules, an execution that was fed makes the next pick of it, if one is left
 abbrev pub StepsOn : Leaf → Option (List ℕ) → Option (List ℕ) → ℕ → ℕ → Execution → Execution → Result Bool RunFault → Type 0
 StepsOn leaf taken taken' before after old new (Ok going) =

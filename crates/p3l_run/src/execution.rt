@@ -1,12 +1,13 @@
 // A run under way, pick by pick.
 
-ghost use Rattle.std.specs.Prelude.{◌≡◌, ◌≢◌, ◌<◌, ◌≤◌, ◌+◌, ◌^◌, [], None, length, IfOk, IsNone, IsSome, IsTrue, OnOk};
+ghost use Rattle.std.specs.Prelude.{◌≡◌, ◌≢◌, ◌<◌, ◌≤◌, ◌+◌, ◌^◌, [], None, Some, length, IfOk, IsNone, IsSome, IsTrue, OnOk};
+ghost use Rattle.p3l_firing.specs.Process.{kind_at};
 ghost use Rattle.p3l_net.specs.Machine.{can_step, ready_list};
 ghost use Rattle.p3l_net.specs.Steps.{OthersStay};
 ghost use Rattle.p3l_net.specs.Typed.{IsTyped};
 ghost use Rattle.p3l_sched.specs.Picker.{HasPlace, HasProcesses};
 ghost use Rattle.p3l_skel.specs.Tree.{node_at};
-ghost use Rattle.p3l_run.specs.Execution.{Completes, FeedsOn, HasFired, IsFinish, IsInRange, IsUnderWay, MayPick, RunsOut, StepsOn, after_idle, begun_on, outside, started, stats_at};
+ghost use Rattle.p3l_run.specs.Execution.{Completes, FeedsOn, FiresOn, HasFired, IsFinish, IsInRange, IsUnderWay, MayPick, RunsOut, StepsOn, after_idle, begun_on, outside, started, stats_at};
 
 use crate::end::RunEnd;
 use crate::fault::RunFault;
@@ -16,7 +17,7 @@ use crate::keeping::{Keeping, keep, no_lines};
 use crate::run::Ran;
 use crate::write::{Report, write_emitted};
 use p3l_base::{List, NoMemory, Outcome};
-use p3l_firing::Net;
+use p3l_firing::{Net, ProcKind};
 use p3l_io::{Sink, Source};
 use p3l_net::Machine;
 use p3l_sched::{Picker, Schedule};
@@ -145,12 +146,19 @@ impl<'t> Execution<'t> {
     }
 
     /// Requests the next item of the stream, where the machine wants one.
+    #[inline(always)]
     fn feed<S: Source>(&mut self, alloc: Global, input: &mut S) -> Result<(), NoMemory>
         requires wide { self.old.stream.words ≡ (node_at self.old.machine.tree 0).ins }
         requires open { self.old.close ≡ None → self.old.stream.closed ≡ None }
         ensures { FeedsOn (S.rest input.old) (S.rest input.new) (S.faults input.old)
             (S.faults input.new) self.old self.new result }
     {
+        if self.close.is_some() {
+            return Ok(());
+        }
+        if !self.machine.wants_item() {
+            return Ok(());
+        }
         self.close = feed(
             alloc,
             &mut self.machine,
@@ -163,6 +171,7 @@ impl<'t> Execution<'t> {
 
     /// Makes the next pick and does what it leads to, and says whether one was left: where the
     /// process can fire it does, and what it emits is written; else the pick is idle.
+    #[inline(always)]
     fn step<U: Units, K: Sink>(
         &mut self,
         alloc: Global,
@@ -183,12 +192,61 @@ impl<'t> Execution<'t> {
             self.pass(process)?;
             return Ok(true);
         }
-        let emitted = self.fire(alloc, tree, units, process)?;
-        self.report = write_emitted(alloc, emitted, self.report, out)?;
+        if self.machine.kind(process) == ProcKind::Sink {
+            self.fire_sink(alloc, tree, units, process, out)?;
+        } else {
+            self.fire_within(alloc, tree, units, process)?;
+        }
         Ok(true)
     }
 
+    /// Fires the sink, keeps the line of that, and writes what it emits.
+    #[inline(never)]
+    fn fire_sink<U: Units, K: Sink>(
+        &mut self,
+        alloc: Global,
+        tree: &Tree,
+        units: &U,
+        process: u32,
+        out: &mut K,
+    ) -> Result<(), RunFault>
+        requires there { process < length self.old.machine.net.procs }
+        requires can { IsTrue (can_step self.old.machine process) }
+        requires count { self.old.machine.fired < 2 ^ 63 }
+        requires tree { tree.now ≡ self.old.machine.tree }
+        requires units { U.tree units.now ≡ tree.now }
+        ensures { FiresOn (U.leaf units.now) process (K.taken out.old) (K.taken out.new)
+            (K.faults out.old) (K.faults out.new) self.old self.new result }
+    {
+        let emitted = self.fire(alloc, tree, units, process)?;
+        self.report = write_emitted(alloc, emitted, self.report, out)?;
+        Ok(())
+    }
+
+    /// Fires a process that isn't the sink, so that nothing is emitted, and keeps the line of that.
+    #[inline(always)]
+    fn fire_within<U: Units>(
+        &mut self,
+        alloc: Global,
+        tree: &Tree,
+        units: &U,
+        process: u32,
+    ) -> Result<(), NoMemory>
+        requires there { process < length self.old.machine.net.procs }
+        requires can { IsTrue (can_step self.old.machine process) }
+        requires count { self.old.machine.fired < 2 ^ 63 }
+        requires tree { tree.now ≡ self.old.machine.tree }
+        requires units { U.tree units.now ≡ tree.now }
+        requires within { kind_at self.old.machine.net process ≢ Some ProcKind.Sink }
+        ensures { OnOk result (HasFired (U.leaf units.now) process self.old self.new None) }
+    {
+        let kind = self.machine.kind(process);
+        self.machine.fire_within(alloc, tree, units, process)?;
+        keep(&mut self.kept, process, Some(kind))
+    }
+
     /// The next pick, and none where no process can fire or the recorded picks are ended.
+    #[inline(always)]
     fn pick(&mut self) -> Option<u32>
         requires place { HasPlace (length self.old.machine.net.procs) self.old.picker }
         requires named { HasProcesses (length self.old.machine.net.procs) self.old.picker }

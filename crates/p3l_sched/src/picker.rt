@@ -58,6 +58,7 @@ impl Picker {
     }
 
     /// The next pick, where some process can fire; None exactly where recorded picks are ended.
+    #[inline(always)]
     pub fn pick(&mut self, machine: &Machine<'_>) -> Option<u32>
         requires ready { ready_list machine.now ≢ [] }
         requires place { HasPlace (length machine.now.net.procs) self.old }
@@ -77,6 +78,7 @@ impl Picker {
 }
 
 /// The first process at or after the cursor, cyclically, that can fire; the cursor moves after it.
+#[inline(always)]
 fn take_turn(cursor: &mut u32, machine: &Machine<'_>) -> Option<u32>
     requires { cursor.old < length machine.now.net.procs }
     ensures pick { result

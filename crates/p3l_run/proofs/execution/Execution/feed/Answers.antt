@@ -1,5 +1,7 @@
 use Rattle.std.proofs.lemmas.Result.{err_from_is_err_and}
+use Rattle.p3l_skel.specs.Tree.{node_at}
 use Rattle.p3l_run.proofs.ExecutionSteps.{ends_unfed, fed}
+use Rattle.p3l_run.proofs.FeedSteps.{not_some, same_feeds}
 use Rattle.p3l_run.proofs.execution.Execution.feed.Goals as goal
 
 pub returns-in_err-self : goal.returns-in_err-self
@@ -9,3 +11,15 @@ returns-in_err-self g c =
 
 pub returns : goal.returns
 returns g c = λ job taken faults d. fed job _ _ d _ _ _ _ _ c.in_ok-self.ensures
+
+pub returns-then-is_some : goal.returns-then-is_some
+returns-then-is_some g c =
+    let e = c.args.self.now in
+    λ job taken faults d. fed job _ _ d e.machine e.stream _ _ e.close
+    (same_feeds (node_at e.machine.tree 0).ins e.machine e.stream (g.S.Source.rest c.args.input.now) (g.S.Source.faults c.args.input.now) e.close (λ none. absurd (not_some e.close c.is_some.result c.is_some.ensures c.if-is_some.true none)))
+
+pub returns-then-not-wants_item : goal.returns-then-not-wants_item
+returns-then-not-wants_item g c =
+    let e = c.args.self.now in
+    λ job taken faults d. fed job _ _ d e.machine e.stream _ _ e.close
+    (same_feeds (node_at e.machine.tree 0).ins e.machine e.stream (g.S.Source.rest c.args.input.now) (g.S.Source.faults c.args.input.now) e.close (λ none empty. absurd (let z = c.wants_item.ensures.1 empty in let w = c.if-not-wants_item.true in cc)))

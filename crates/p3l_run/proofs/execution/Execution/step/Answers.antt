@@ -1,6 +1,7 @@
-use Rattle.std.proofs.Common.{◌∙◌, sym}
+use Rattle.std.proofs.Common.{◌∙◌, refl, sym}
 use Rattle.std.proofs.lemmas.Result.{err_from_is_err_and}
-use Rattle.p3l_run.proofs.ExecutionSteps.{ends_early, ends_unwritten, passed, went_on}
+use Rattle.p3l_run.proofs.RunSteps.{nothing_put}
+use Rattle.p3l_run.proofs.ExecutionSteps.{ends_early, passed, went_on}
 use Rattle.p3l_run.proofs.execution.Execution.step.Goals as goal
 
 pub returns-in_err-pass : goal.returns-in_err-pass
@@ -11,18 +12,20 @@ returns-in_err-pass g c =
 pub returns-then-not-can_step : goal.returns-then-not-can_step
 returns-then-not-can_step g c = λ job rest faults leaf_is a. passed job _ _ a _ _ c.in-Some.ensures (sym c.can_step.ensures.ready ∙ c.if-not-can_step.true) _ c.in_ok-pass.ensures
 
-pub returns-in_err-emitted : goal.returns-in_err-emitted
-returns-in_err-emitted g c =
-    let p = err_from_is_err_and c.from_residual-in_err-emitted.result c.from_residual-in_err-emitted.ensures.1 in
+pub returns-in_err-fire_sink : goal.returns-in_err-fire_sink
+returns-in_err-fire_sink g c =
+    let p = err_from_is_err_and c.from_residual-in_err-fire_sink.result c.from_residual-in_err-fire_sink.ensures.1 in
+    rw (p.1, p.2) (λ job rest faults leaf_is a. c.in_err-fire_sink.ensures job rest faults _ leaf_is a c.in-Some.ensures (sym c.can_step.ensures.ready ∙ c.if-not-can_step.false))
+
+pub returns-in_ok-fire_sink : goal.returns-in_ok-fire_sink
+returns-in_ok-fire_sink g c = λ job rest faults leaf_is a. c.in_ok-fire_sink.ensures job rest faults _ leaf_is a c.in-Some.ensures (sym c.can_step.ensures.ready ∙ c.if-not-can_step.false)
+
+pub returns-in_err-fire_within : goal.returns-in_err-fire_within
+returns-in_err-fire_within g c =
+    let p = err_from_is_err_and c.from_residual-in_err-fire_within.result c.from_residual-in_err-fire_within.ensures.1 in
     rw (p.1, p.2) (λ job rest faults leaf_is a. ends_early job _ _ a.executes)
 
-pub returns-in_err-self : goal.returns-in_err-self
-returns-in_err-self g c =
-    let p = err_from_is_err_and c.from_residual-in_err-self.result c.from_residual-in_err-self.ensures.1 in
-    rw (p.1, p.2)
-    (λ job rest faults leaf_is a. ends_unwritten job _ _ a _ _ c.in-Some.ensures (sym c.can_step.ensures.ready ∙ c.if-not-can_step.false) _ leaf_is _ _ c.in_ok-emitted.ensures.fired _ _ _ c.in_err-self.ensures.begun c.in_err-self.ensures.cause)
-
-pub returns : goal.returns
-returns g c =
+pub returns-in_ok-fire_within : goal.returns-in_ok-fire_within
+returns-in_ok-fire_within g c =
     λ job rest faults leaf_is a.
-    went_on job _ _ a _ _ c.in-Some.ensures (sym c.can_step.ensures.ready ∙ c.if-not-can_step.false) _ leaf_is _ _ c.in_ok-emitted.ensures.fired _ _ _ c.in_ok-self.ensures.trap c.in_ok-self.ensures.sum c.in_ok-self.ensures.put c.in_ok-self.ensures.cause
+    went_on job _ _ a _ _ c.in-Some.ensures (sym c.can_step.ensures.ready ∙ c.if-not-can_step.false) _ leaf_is _ _ c.in_ok-fire_within.ensures c.fire_within.new.self.report _ _ refl refl (nothing_put (g.K.Sink.taken c.args.out.now)) refl
