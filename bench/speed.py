@@ -5,7 +5,8 @@
 
   a firing          `run` of pipes of 10 and 100 runs and of farms of 8, 64 and 508 workers, channels of 4 and of 64 tokens, beside
                     the same networks in C (bench/machine.c), once with a write a value as results are put, and once with 64 KiB
-                    of results gathered as p3l gathers them
+                    of results gathered as p3l gathers them. The start, which chooses the counts, is included: it is less
+                    than a tenth where a pipe fires ten million times
   bodies            a nested loop, and a million items through three statements (bench/bodies), beside Lua 5.4, and beside the
                     form of a body that is verified and written to images: `profile` runs that on a stack, without a network
   lines             a million lines through one body and through a pipe of four, to a file, beside mawk
@@ -71,11 +72,12 @@ class Bench:
         machine = self.built("machine.c")
         for kind, size, each in NETS:
             source = self.file("net.p3l", pipe(size) if kind == "pipe" else farm(size))
-            items = self.numbers(count // each)
+            fired = count if kind == "pipe" else count // 5
+            items = self.numbers(fired // each)
             for capacity in (4, 64):
                 ours = self.run(source, "--processors", "512", "--capacity", str(capacity))
                 peers = [[machine, kind, str(size), str(capacity), how] for how in ("each", "gathered")]
-                self.row(f"a firing, {kind} of {size}, capacity {capacity}", ours, peers, items, 2.0, 1e9 / count, "ns")
+                self.row(f"a firing, {kind} of {size}, capacity {capacity}", ours, peers, items, 2.0, 1e9 / fired, "ns")
 
     def bodies(self):
         for body, bound, items in (("nested", 0.6, self.file("turns", "150000\n")), ("short", 0.5, self.numbers(ITEMS))):
@@ -101,7 +103,7 @@ def main():
     words = argparse.ArgumentParser()
     words.add_argument("program")
     words.add_argument("--tries", type=int, default=5)
-    words.add_argument("--firings", type=int, default=2_000_000)
+    words.add_argument("--firings", type=int, default=10_000_000, help="of a pipe; a farm fires a fifth of that")
     words.add_argument("--busy", action="store_true")
     given = words.parse_args()
     load = os.getloadavg()[0]
