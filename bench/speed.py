@@ -10,7 +10,7 @@
   bodies            a nested loop, and a million items through three statements (bench/bodies), beside Lua 5.4, and beside the
                     form of a body that is verified and written to images: `profile` runs that on a stack, without a network
   lines             a million lines through one body and through a pipe of four, to a file, beside mawk
-  memory            the most that a million lines take, beside ten thousand
+  memory            the most that a million lines take, beside a hundred thousand
 
 Times are the processor time, user's and system's, the least of N tries (5 if not given). It prints the load that it found, and
 refuses to measure where that is above 1, since other work in the caches moves each ratio otherwise; with --busy it measures
@@ -30,6 +30,8 @@ from firings import BODY, NETS, farm, pipe
 HERE = pathlib.Path(__file__).resolve().parent
 MOST_LOAD = 1.0
 ITEMS = 1_000_000
+# More than a pipe holds, so that the program has begun when its memory is looked at.
+FEW_ITEMS = 100_000
 STAGES = 'more in(x) out(int a)', 'more in(a) out(int b)', 'more in(b) out(int c)', 'more in(c) out(y)'
 PIPE_OF_FOUR = BODY + "pipe main in(int x) out(int y)\n" + "\n".join(STAGES) + "\nend pipe\n"
 ONE_BODY = BODY.replace("more", "main")
@@ -93,10 +95,10 @@ class Bench:
 
     def memory(self):
         ours = self.run(self.file("lines.p3l", PIPE_OF_FOUR), "--processors", "32")
-        few, many = (measure.memory(ours, self.numbers(count)) for count in (ITEMS // 100, ITEMS))
+        few, many = (measure.memory(ours, self.numbers(count)) for count in (FEW_ITEMS, ITEMS))
         mark = "" if many <= few * 1.1 else "  ABOVE"
         self.over += bool(mark)
-        print(f"memory, a pipe of four: {many} KB at {ITEMS} lines, {few} KB at {ITEMS // 100}; ratio {many / few:.2f}, bound 1.1{mark}")
+        print(f"memory, a pipe of four: {many} KB at {ITEMS} lines, {few} KB at {FEW_ITEMS}; ratio {many / few:.2f}, bound 1.1{mark}")
 
 
 def main():
