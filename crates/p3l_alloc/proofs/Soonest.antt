@@ -17,7 +17,7 @@ use Rattle.p3l_model.specs.Costed.{Costed, Empty, Leaf, Both, Workers, Segments,
 use Rattle.p3l_model.specs.Least.{FitsRun}
 use Rattle.p3l_model.proofs.Rules.{ceil_le, le_ceil, le_times, some_process, joined_lawful, joined_run_procs, joined_service}
 use Rattle.p3l_model.proofs.Timed.{bounded}
-use Rattle.p3l_alloc.specs.Soonest.{IsSoonest, IsShared, shared_time}
+use Rattle.p3l_alloc.specs.Soonest.{IsSoonest, IsRow, IsShared, IsCrossing, shared_time, split_time}
 
 pub leaf_soonest : (s p : ℕ) → 1 ≤ p → IsSoonest (Leaf s) p (min s never)
 unfolding IsLawfulRun run_service run_procs
@@ -263,46 +263,77 @@ segments_end r fold p best small b = record {
         let fits : joined_procs (2 ^ k) ≤ p = subst (λ x. joined_procs x ≤ p) is f.few in
         subst (λ x. best ≤ segments_service fold x) (sym is) (b.below k (few_levels k fits) (subst (IsIn r) is f.lawful.0.1) fits)
 
--- the best service time of two parts, of which the first has fewer than q processes
-pub record IsBestSplit (a b : Costed) (p q best : ℕ) : Type 0 where
-  pub top : best ≤ never
-  pub below : (zs : List ℕ) → FitsRun (Both a b) p zs → run_procs a (take (size a) zs) < q → best ≤ run_service (Both a b) zs
-  pub reached : best < never → (zs : List ℕ) × FitsRun (Both a b) p zs × (run_service (Both a b) zs ≡ best)
+module _ (a b : Costed) (p : ℕ) where
+  -- the first part gets q processes, and the second the rest
+  split_reached : (q u v : ℕ) → q ≤ p → IsSoonest a q u → IsSoonest b (p - q) v → max u v < never → (zs : List ℕ) × FitsRun (Both a b) p zs × (run_service (Both a b) zs ≡ max u v)
+  unfolding IsLawfulRun run_procs run_service
+  split_reached q u v within left right less =
+      let x = left.reached (omega arith) in
+      let y = right.reached (omega arith) in
+      let cost = joined_run_procs a b x.0 y.0 x.1.lawful in
+      let few = x.1.few in
+      let fewer = y.1.few in
+      (x.0 ++ y.0, record { lawful = joined_lawful a b x.0 y.0 x.1.lawful y.1.lawful; few = omega (arith, cost) }, joined_service a b x.0 y.0 x.1.lawful ∙ omega (arith, x.2, y.2))
 
-pub both_start : (a b : Costed) (p : ℕ) → IsBestSplit a b p 0 never
-both_start a b p = record {
-  top = omega arith;
-  below = λ zs f before. absurd (omega arith);
-  reached = λ less. absurd (omega arith);
-}
+  -- counts that give the first part at most q processes are no sooner than that part with q
+  first_below : (q u : ℕ) → IsSoonest a q u → (zs : List ℕ) → FitsRun (Both a b) p zs → run_procs a (take (size a) zs) ≤ q → u ≤ run_service (Both a b) zs
+  unfolding IsLawfulRun run_procs run_service
+  first_below q u left zs f few =
+      let one = left.below (take (size a) zs) (record { lawful = f.lawful.0; few = few }) in
+      omega (arith, one)
 
-pub both_step : (a b : Costed) (p q u v best new : ℕ) → q ≤ p → IsSoonest a q u → IsSoonest b (p - q) v → new ≡ min best (max u v) → IsBestSplit a b p q best → IsBestSplit a b p (q + 1) new
-unfolding IsLawfulRun run_procs run_service
-both_step a b p q u v best new within left right more s = record {
-  top = let top = s.top in omega arith;
-  below = λ zs f before. elim (cases_lt (run_procs a (take (size a) zs)) q) [
-    | inl old ↦ let o = s.below zs f old in omega (arith, o)
-    | inr late ↦
-        let few = f.few in
-        let one = left.below (take (size a) zs) (record { lawful = f.lawful.0; few = omega arith }) in
-        let two = right.below (drop (size a) zs) (record { lawful = f.lawful.1; few = omega arith }) in
-        omega (arith, one, two)
-  ];
-  reached = λ less. elim (cases_lt best (max u v)) [
-    | inl old ↦ let o = s.reached (omega arith) in (o.0, o.1, o.2 ∙ omega arith)
-    | inr here ↦
-        let x = left.reached (omega arith) in
-        let y = right.reached (omega arith) in
-        let cost = joined_run_procs a b x.0 y.0 x.1.lawful in
-        let few = x.1.few in
-        let fewer = y.1.few in
-        (x.0 ++ y.0, record { lawful = joined_lawful a b x.0 y.0 x.1.lawful y.1.lawful; few = omega (arith, cost) }, joined_service a b x.0 y.0 x.1.lawful ∙ omega (arith, x.2, y.2))
-  ];
-}
+  -- counts that give it at least q are no sooner than the second part with the rest
+  second_below : (q v : ℕ) → IsSoonest b (p - q) v → (zs : List ℕ) → FitsRun (Both a b) p zs → q ≤ run_procs a (take (size a) zs) → v ≤ run_service (Both a b) zs
+  unfolding IsLawfulRun run_procs run_service
+  second_below q v right zs f many =
+      let few = f.few in
+      let two = right.below (drop (size a) zs) (record { lawful = f.lawful.1; few = omega arith }) in
+      omega (arith, two)
 
-pub both_end : (a b : Costed) (p best : ℕ) → IsBestSplit a b p (p + 1) best → IsSoonest (Both a b) p best
-unfolding run_procs
-both_end a b p best s = record { top = s.top; below = λ zs f. s.below zs f (first zs f); reached = s.reached }
-  where
-    first : (zs : List ℕ) → FitsRun (Both a b) p zs → run_procs a (take (size a) zs) < p + 1
-    first zs f = let few = f.few in omega arith
+  first_within : (zs : List ℕ) → FitsRun (Both a b) p zs → run_procs a (take (size a) zs) ≤ p
+  unfolding run_procs
+  first_within zs f = let few = f.few in omega arith
+
+  -- where the times of two parts cross, with one process fewer for the first or with these, they are soonest
+  pub both_soonest : (first others : List ℕ) (given best : ℕ) → IsRow a p first → IsRow b p others → IsCrossing first others p given → best ≡ min (split_time first others p given) (split_time first others p (given - 1)) → IsSoonest (Both a b) p best
+  both_soonest first others given best left right c is = record { top = top; below = below; reached = reached }
+    where
+      within : given ≤ p
+      within = c.within
+
+      one : (q : ℕ) → q ≤ p → IsSoonest a q (slice_index_or first q never)
+      one q less = left q less
+
+      two : (q : ℕ) → IsSoonest b (p - q) (slice_index_or others (p - q) never)
+      two q = right (p - q) (omega arith)
+
+      top : best ≤ never
+      top = let u = (one given within).top in let v = (two given).top in omega (arith, u, v, is)
+
+      below : (zs : List ℕ) → FitsRun (Both a b) p zs → best ≤ run_service (Both a b) zs
+      below zs f =
+          let most = first_within zs f in
+          elim (cases_lt (run_procs a (take (size a) zs)) given) [
+            | inl fewer ↦
+                let late = c.before (omega arith) in
+                let time = first_below (given - 1) (slice_index_or first (given - 1) never) (one (given - 1) (omega (arith, within))) zs f (omega arith) in
+                omega (arith, late, time, is)
+            | inr more ↦
+                let time = second_below given (slice_index_or others (p - given) never) (two given) zs f more in
+                elim (cases_lt given p) [
+                  | inl some ↦ let soon = c.from some in omega (arith, soon, time, is)
+                  | inr all ↦
+                      let full = first_below given (slice_index_or first given never) (one given within) zs f (omega (arith, most, all)) in
+                      omega (arith, full, time, is)
+                ]
+          ]
+
+      reached : best < never → (zs : List ℕ) × FitsRun (Both a b) p zs × (run_service (Both a b) zs ≡ best)
+      reached less = elim (cases_lt (split_time first others p (given - 1)) (split_time first others p given)) [
+        | inl fewer ↦
+            let o = split_reached (given - 1) (slice_index_or first (given - 1) never) (slice_index_or others (p - (given - 1)) never) (omega (arith, within)) (one (given - 1) (omega (arith, within))) (two (given - 1)) (omega (arith, is)) in
+            (o.0, o.1, o.2 ∙ omega (arith, is))
+        | inr here ↦
+            let o = split_reached given (slice_index_or first given never) (slice_index_or others (p - given) never) within (one given within) (two given) (omega (arith, is)) in
+            (o.0, o.1, o.2 ∙ omega (arith, is))
+      ]

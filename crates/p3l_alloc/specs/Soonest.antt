@@ -1,5 +1,5 @@
 -- The soonest service time of a node within a number of processes.
-use Rattle.std.specs.Prelude.{◌≡◌, ℕ, ◌≤◌, ◌<◌, min, max, List, nat_le, if◌then◌else◌, slice_index_or, ⊤}
+use Rattle.std.specs.Prelude.{◌≡◌, ℕ, ◌≤◌, ◌<◌, ◌-◌, min, max, List, nat_le, if◌then◌else◌, slice_index_or, ⊤}
 use Rattle.p3l_model.specs.declared.cost.Sharing.{Sharing}
 use Rattle.p3l_model.specs.declared.cost.NodeCost.{NodeCost}
 use Rattle.p3l_model.specs.declared.cost.NodeCost.TheVariants.{Unit, Stages, Workers, Segments, Loop}
@@ -51,3 +51,15 @@ HasPart (Loop t e) a most row = IsTurned t a most row
 -- the service time of workers, where their part has this one
 abbrev pub shared_time : Sharing → ℕ → ℕ → ℕ → ℕ
 shared_time h ends n part = if nat_le never part then never else min (max ends (timed (shared h n part))) never
+
+-- the service time where a stage with the first of these rows gets `given` of p processes, and those that
+-- follow it, with the second, the rest
+abbrev pub split_time : List ℕ → List ℕ → ℕ → ℕ → ℕ
+split_time first others p given = max (slice_index_or first given never) (slice_index_or others (p - given) never)
+
+-- with `given` processes the stage is no later than those that follow it, or there are no more, and with one
+-- fewer it is later; where the rows never grow this is the least such number
+pub record IsCrossing (first others : List ℕ) (p given : ℕ) : Type 0 where
+  pub within : given ≤ p
+  pub before : 0 < given → slice_index_or others (p - (given - 1)) never < slice_index_or first (given - 1) never
+  pub from : given < p → slice_index_or first given never ≤ slice_index_or others (p - given) never

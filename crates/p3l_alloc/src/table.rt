@@ -5,13 +5,13 @@ ghost use Rattle.p3l_skel.specs.Lawful.{IsLawfulTree};
 ghost use Rattle.p3l_skel.specs.Tree.{node_at};
 ghost use Rattle.p3l_cost.specs.Costs.{AreCostsOf};
 ghost use Rattle.p3l_model.specs.Costed.{Costed, Both, stages};
-ghost use Rattle.p3l_alloc.specs.Soonest.{IsSoonest, IsRow, over_part, HasPart};
+ghost use Rattle.p3l_alloc.specs.Soonest.{IsSoonest, IsRow, IsCrossing, split_time, over_part, HasPart};
 ghost use Rattle.p3l_alloc.specs.Table.{IsTableFrom, row_in, IsRowFor, AreRows};
 
 use crate::entry::{entry, soonest};
 use p3l_base::{List, NoMemory};
 use p3l_cost::Costs;
-use p3l_model::{NEVER, NodeCost, node_cost};
+use p3l_model::{NodeCost, node_cost};
 use p3l_skel::Tree;
 use std::alloc::Global;
 
@@ -152,16 +152,41 @@ fn both_row(
     Ok(List::from_vec(row))
 }
 
-// The soonest over all ways to share the processes among a stage and those that follow it.
+// The soonest over all ways to share the processes among a stage and those that follow it. Neither
+// row grows, so no share is sooner than the two where the times cross: before them the stage is the
+// later, and is soonest with the most processes; after them the others are, and are soonest with
+// the most that are left.
 fn both_entry(first: &[u128], others: &[u128], processes: u32) -> u128
-    requires { processes ≤ 512 }
     ensures { (a b : Costed) → IsRow a processes first.now → IsRow b processes others.now
         → IsSoonest (Both a b) processes result }
 {
-    let mut best = NEVER;
-    for given in 0..processes + 1 {
-        let time = soonest(first, given).max(soonest(others, processes - given));
-        best = best.min(time);
+    let given = crossing(first, others, processes);
+    let from = split_time(first, others, processes, given);
+    let before = split_time(first, others, processes, given.saturating_sub(1));
+    from.min(before)
+}
+
+// The service time where the stage gets `given` processes and those that follow it the rest.
+fn split_time(first: &[u128], others: &[u128], processes: u32, given: u32) -> u128
+    requires { given ≤ processes }
+    ensures { result ≡ split_time first.now others.now processes given }
+{
+    soonest(first, given).max(soonest(others, processes - given))
+}
+
+// With how many processes the stage is no longer later than those that follow it, found by halving.
+fn crossing(first: &[u128], others: &[u128], processes: u32) -> u32
+    ensures { IsCrossing first.now others.now processes result }
+{
+    let mut low = 0;
+    let mut high = processes;
+    while low < high {
+        let middle = low + (high - low) / 2;
+        if soonest(first, middle) <= soonest(others, processes - middle) {
+            high = middle;
+        } else {
+            low = middle + 1;
+        }
     }
-    best
+    low
 }
