@@ -1,9 +1,9 @@
 // The bodies of a tree's `seq` nodes, run and counted.
 
-ghost use Rattle.std.specs.Prelude.{◌≡◌, ◌<◌, length, IfOk};
+ghost use Rattle.std.specs.Prelude.{◌≡◌, ◌<◌, length, IfOk, Some};
 ghost use Rattle.p3l_skel.specs.declared.tree.Form.TheVariants as forms;
 ghost use Rattle.p3l_skel.specs.Tree.{node_at};
-ghost use Rattle.p3l_units.specs.Table.{IsTable, leaf};
+ghost use Rattle.p3l_units.specs.Table.{IsTable, code_of, leaf};
 ghost use Rattle.p3l_profile.specs.Notes.{steps_at};
 
 use p3l_base::{List, NoMemory, Words};
@@ -55,8 +55,21 @@ impl<'t> Bodies<'t> {
         ensures steps { IfOk result (λ counted. counted.steps
             ≡ steps_at self.now (node_at self.now.tree node).«module» words.now) }
     {
-        let module = self.tree.nodes.as_slice()[node as usize].module;
+        let Some(found) = self.tree.node(node) else {
+            unreachable!();
+        };
+        let code = self.code_of(node, found.module);
+        run_counted(alloc, code, found.module, words)
+    }
+
+    // The code of a `seq` node of this module.
+    fn code_of(&self, node: u32, module: u32) -> &SafeCode
+        requires there { node < length self.now.tree.nodes }
+        requires form { (node_at self.now.tree node).form ≡ forms.Seq }
+        requires own { «module» ≡ (node_at self.now.tree node).«module» }
+        ensures { code_of self.now (node_at self.now.tree node).«module» ≡ Some result.now }
+    {
         let place = self.places.as_slice()[module as usize];
-        run_counted(alloc, &self.codes.as_slice()[place as usize], module, words)
+        &self.codes.as_slice()[place as usize]
     }
 }

@@ -1,11 +1,11 @@
 // Tables of units.
 
-ghost use Rattle.std.specs.Prelude.{◌≡◌, ◌<◌, length, IfOk, IfSome};
+ghost use Rattle.std.specs.Prelude.{◌≡◌, ◌<◌, length, IfOk, IfSome, Some};
 ghost use Rattle.std.specs.List.{All};
 ghost use Rattle.p3l_skel.specs.declared.tree.Form.TheVariants as forms;
 ghost use Rattle.p3l_skel.specs.Tree.{node_at};
 ghost use Rattle.p3l_skel.specs.Lawful.{IsLawfulTree};
-ghost use Rattle.p3l_units.specs.Table.{DoesNode, HasCode, HasPlaces, leaf, LeavesAreRuns, one_if_seq};
+ghost use Rattle.p3l_units.specs.Table.{code_of, DoesNode, HasCode, HasPlaces, leaf, LeavesAreRuns, one_if_seq};
 
 use p3l_base::{List, NoMemory, Outcome, Words};
 use p3l_code::SafeCode;
@@ -69,19 +69,15 @@ impl<'t> UnitTable<'t> {
         requires { node < length self.now.tree.nodes }
         ensures { IfSome result (λ bare. DoesNode self.now node bare.0.now bare.1) }
     {
-        let node = &self.tree.nodes.as_slice()[node as usize];
-        let Form::Seq = node.form else {
+        let found = self.tree.node(node)?;
+        let Form::Seq = found.form else {
             return None;
         };
-        if self.tree.modules.as_slice()[node.module as usize]
-            .rescue
-            .is_some()
-        {
+        if self.tree.rescue_of(found.module).is_some() {
             return None;
         }
-        let place = self.places.as_slice()[node.module as usize];
-        let code = self.codes.as_slice()[place as usize].in_registers()?;
-        Some((code, node.module))
+        let code = self.code_of(node, found.module).in_registers()?;
+        Some((code, found.module))
     }
 
     /// Runs the code of a `seq` node.
@@ -92,9 +88,23 @@ impl<'t> UnitTable<'t> {
         ensures { IfOk result (λ outcome. outcome
             ≡ leaf self.now (node_at self.now.tree node).«module» words.now) }
     {
-        let module = self.tree.nodes.as_slice()[node as usize].module;
+        let Some(found) = self.tree.node(node) else {
+            unreachable!();
+        };
+        let code = self.code_of(node, found.module);
+        code.run(alloc, found.module, words)
+    }
+
+    // The code of a `seq` node of this module.
+    #[inline(always)]
+    fn code_of(&self, node: u32, module: u32) -> &Executable
+        requires there { node < length self.now.tree.nodes }
+        requires form { (node_at self.now.tree node).form ≡ forms.Seq }
+        requires own { «module» ≡ (node_at self.now.tree node).«module» }
+        ensures { code_of self.now (node_at self.now.tree node).«module» ≡ Some result.now }
+    {
         let place = self.places.as_slice()[module as usize];
-        self.codes.as_slice()[place as usize].run(alloc, module, words)
+        &self.codes.as_slice()[place as usize]
     }
 }
 
