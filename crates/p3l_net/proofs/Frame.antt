@@ -1,11 +1,12 @@
 -- A firing changes only what it touches: the readiness of every process that is apart stays, and of every one for which what was
 -- touched has slack.
-use Rattle.std.proofs.Common.{◌≡◌, ◌≢◌, ℕ, ℤ, zero, suc, ◌+◌, ◌-◌, ◌<◌, ◌≤◌, ◌⊎◌, nat_lt, lt-ltb, Bool, true, false, not, ◌&&◌, cond, List, [], ◌∷◌, ◌++◌, length, Option, Some, None, slice_get, slice_set, refl, sym, ap, ap₂, ◌∙◌, subst, arith, inl, inr, filter, length-set, get_or-set_same, get_or-set_other}
+use Rattle.std.proofs.Common.{◌≡◌, ◌≢◌, ℕ, ℤ, zero, suc, ◌+◌, ◌-◌, ◌<◌, ◌≤◌, ◌⊎◌, nat_lt, nat_le, lt-ltb, Bool, true, false, not, ◌&&◌, cond, List, [], ◌∷◌, ◌++◌, length, Option, Some, None, slice_get, slice_index, slice_set, refl, sym, ap, ap₂, ◌∙◌, subst, arith, inl, inr, filter, length-set, get_or-set_same, get_or-set_other}
 use Rattle.std.specs.Option.{option_map, option_to_list, option_or, IfSome, IfNone}
 use Rattle.std.specs.List.{AllByRecursion, find, range_with_len}
-use Rattle.std.proofs.lemmas.Bool.{cases_eq, cases_lt, cases_Bool, cond-true, cond-false}
+use Rattle.std.proofs.lemmas.Bool.{cases_eq, cases_lt, cases_Bool, cond-true, cond-false, false≢true, leb-false}
 use Rattle.std.proofs.lemmas.List.{get_or_past}
 use Rattle.std.proofs.lemmas.Option.{slice_get_past}
+use Rattle.std.proofs.Math.Path.{subst₂}
 use Rattle.std.proofs.lemmas.List.Folds.{find-append}
 use Rattle.p3l_base.specs.declared.outcome.Outcome.{Outcome}
 use Rattle.p3l_firing.specs.declared.process.Proc.{Proc}
@@ -22,7 +23,7 @@ use Rattle.p3l_firing.specs.Typed.{IsTyped}
 use Rattle.p3l_net.specs.Machine.{Seen, HasEmitted, state_of, can_step, ready_list}
 use Rattle.p3l_firing.specs.Process.{Has, IsAt}
 use Rattle.p3l_net.specs.Channel.{tokens_at}
-use Rattle.p3l_net.specs.Steps.{IsApart, ShareNone, ReadsNot, WritesNot, Moves, Ends, HasEnds, OthersStay, HasSlack, AllHaveSlack, AgreesBut, ready_at}
+use Rattle.p3l_net.specs.Steps.{IsApart, ShareNone, ReadsNot, WritesNot, Moves, Ends, HasEnds, OthersStay, HasSlack, AllHaveSlack, AgreesAt, AgreesBut, CanRefresh, looked, ready_at}
 use Rattle.p3l_firing.proofs.Rows.{ready_at as row_ready, none_ready}
 use Rattle.p3l_ready.proofs.AtLemmas.{same_function}
 use Rattle.p3l_firing.proofs.Reading.{room-same}
@@ -174,17 +175,56 @@ others_agree flags agrees ends sides moves r inside other slack =
     agrees.right r (subst (λ (x : Net). r < length x.procs) moves.net inside) tt
     ∙ sym (slack_same moves r other ends sides slack)
 
+-- after a look at process w its flag is right, and the others are as they were
+look_right : (m : Seen) (w : ℕ) (flags new : List Bool) → length flags ≡ length m.net.procs → (look : Bool) → new ≡ looked look m w flags → (r : ℕ) → r < length m.net.procs → ((r ≡ w → look ≡ false) → flag_at flags r ≡ ready_at m r) → flag_at new r ≡ ready_at m r
+look_right m w flags new size false e r inside before = ap (λ fs. flag_at fs r) e ∙ before (λ same. refl)
+look_right m w flags new size true e r inside before =
+    ap (λ fs. flag_at fs r) e
+    ∙ elim (cases_eq r w) [
+      | inl same ↦ ap (flag_at (slice_set flags w (ready_at m w))) same ∙ get_or-set_same flags w (ready_at m w) false (subst₂ (λ k n. k < n) same (sym size) inside) ∙ ap (ready_at m) (sym same)
+      | inr other ↦ get_or-set_other flags w r (ready_at m w) false other ∙ before (λ same. absurd (other same))
+    ]
+
+look_long : (m : Seen) (w : ℕ) (flags : List Bool) (look : Bool) → length (looked look m w flags) ≡ length flags
+look_long m w flags true = length-set flags w (ready_at m w)
+look_long m w flags false = refl
+
 -- the flags after one look at the process that fired
-pub looked_first : (m : Seen) (p : ℕ) (flags new : List Bool) (touched : List ℕ) → length flags ≡ length m.net.procs → p < length m.net.procs → ((r : ℕ) → r < length m.net.procs → r ≢ p → AllHaveSlack m r touched → flag_at flags r ≡ ready_at m r) → new ≡ slice_set flags p (ready_at m p) → AgreesBut m new touched
-looked_first m p flags new touched size there others e =
-    subst (λ fs. AgreesBut m fs touched) (sym e)
-    (record {
-      size = length-set flags p (ready_at m p) ∙ size;
-      right = λ r inside slack. elim (cases_eq r p) [
-        | inl same ↦ ap (flag_at (slice_set flags p (ready_at m p))) same ∙ get_or-set_same flags p (ready_at m p) false (subst (λ n. p < n) (sym size) there) ∙ ap (ready_at m) (sym same)
-        | inr other ↦ get_or-set_other flags p r (ready_at m p) false other ∙ others r inside other slack
-      ];
-    })
+pub looked_first : {m : Seen} {ends : Ends} {flags new : List Bool} {p : ℕ} {touched : List ℕ} → CanRefresh m ends flags p touched → new ≡ slice_set flags p (ready_at m p) → AgreesBut m new touched
+looked_first {m = m} {flags = flags} {new = new} {p = p} can e = record {
+  size = ap length e ∙ look_long m p flags true ∙ can.size;
+  right = λ r inside slack. look_right m p flags new can.size true e r inside (λ unlooked. can.others r inside (λ same. false≢true (sym (unlooked same))) slack);
+}
+
+-- Where channel c, which process p reads or writes, alone keeps the flags from agreeing, they agree once it was looked at the process at
+-- its other end, if that may have become ready
+module _ {m : Seen} {ends : Ends} {p c : ℕ} {flags new : List Bool} {cs : List ℕ} (sides : HasEnds m.net ends) (agrees : AgreesBut m flags (c ∷ cs)) (known : AgreesAt m new p) where
+  looked_once : (w : ℕ) (look : Bool) → new ≡ looked look m w flags → ((r : ℕ) → r ≢ p → (r ≡ w → look ≡ false) → HasSlack m r c) → AgreesBut m new cs
+  looked_once w look e slack_at = record {
+    size = ap length e ∙ look_long m w flags look ∙ agrees.size;
+    right = λ r inside slack. elim (cases_eq r p) [
+      | inl same ↦ ap (flag_at new) same ∙ known.known ∙ ap (ready_at m) (sym same)
+      | inr other ↦ look_right m w flags new agrees.size look e r inside (λ unlooked. agrees.right r inside (slack_at r other unlooked, slack))
+    ];
+  }
+
+  -- the writer of a channel that p reads
+  pub looked_at_writer : slice_index ends.readers c ≡ p → new ≡ looked (nat_le (chan_at m.net c).cap (length (tokens_at m.queues c) + 1)) m (slice_index ends.writers c) flags → AgreesBut m new cs
+  looked_at_writer reads e =
+      looked_once (slice_index ends.writers c) (nat_le (chan_at m.net c).cap (length (tokens_at m.queues c) + 1)) e
+      (λ r other unlooked. record {
+        room = λ q stands has. leb-false (chan_at m.net c).cap (length (tokens_at m.queues c) + 1) (unlooked (sym (sides.written r c q stands has)));
+        tokens = λ q stands has. absurd (other (sym (sides.read r c q stands has) ∙ reads));
+      })
+
+  -- the reader of one that p writes
+  pub looked_at_reader : slice_index ends.writers c ≡ p → new ≡ looked (nat_le (length (tokens_at m.queues c)) 1) m (slice_index ends.readers c) flags → AgreesBut m new cs
+  looked_at_reader writes e =
+      looked_once (slice_index ends.readers c) (nat_le (length (tokens_at m.queues c)) 1) e
+      (λ r other unlooked. record {
+        room = λ q stands has. absurd (other (sym (sides.written r c q stands has) ∙ writes));
+        tokens = λ q stands has. leb-false (length (tokens_at m.queues c)) 1 (unlooked (sym (sides.read r c q stands has)));
+      })
 
 -- numbers that pass are as many as are counted, and the k-th of them has k before it
 module _ (f : ℕ → Bool) where

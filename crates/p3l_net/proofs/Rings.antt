@@ -1,5 +1,5 @@
 -- The tokens that lie in two rings, of outcomes and of tags.
-use Rattle.std.proofs.Common.{◌≡◌, ℕ, zero, suc, ◌+◌, ◌<◌, ◌≤◌, List, [], ◌∷◌, ◌++◌, add-one, append_assoc, length, length-append, length-drop, map, drop, Some, slice_get, refl, sym, ap, ap₂, ◌∙◌, subst, arith}
+use Rattle.std.proofs.Common.{◌≡◌, ℕ, zero, suc, ◌+◌, ◌<◌, ◌≤◌, List, [], ◌∷◌, ◌++◌, add-one, append_assoc, length, length-append, map, drop, Some, slice_get, refl, sym, ap, ap₂, ◌∙◌, subst, arith}
 use Rattle.std.proofs.lemmas.List.{drop-drop}
 use Rattle.std.proofs.Math.Path.{subst₂}
 use Rattle.circular_buffer.specs.Buffer.{Buffer, buffer}
@@ -57,13 +57,46 @@ module _ (slots slots' : Buffer Slot) (tags tags' : Buffer (List ℕ)) (slot : S
       let more_lists = lists-appended slots.items slot in
       subst₂ AreRings (sym last) (sym lists) (record { lists = omega (arith, counted, long, more_lists, as_many); room = rings.room })
 
--- a slot more, at the front
-module _ (slots slots' : Buffer Slot) (tags tags' : Buffer (List ℕ)) (slot : Slot) (first : slots'.items ≡ slot ∷ slots.items) (room : slots'.capacity ≡ slots.capacity) (lists : drop (lists_of slot) tags'.items ≡ tags.items) where
-  pub queue-first : queue_in slots' tags' ≡ record (queue_in slots tags) { tokens = token_in slot tags'.items ∷ (queue_in slots tags).tokens }
-  unfolding tokens_of
+-- a slot at the front, with the lists of tags that it has
+tokens-slot_first : (slot : Slot) (more : List (List ℕ)) (slots : List Slot) (tags : List (List ℕ)) → length more ≡ lists_of slot → tokens_of (slot ∷ slots) (more ++ tags) ≡ token_in slot more ∷ tokens_of slots tags
+unfolding tokens_of
+tokens-slot_first (Plain body) [] slots tags as_many = refl
+tokens-slot_first (Plain body) (t ∷ more) slots tags as_many = absurd (omega (arith, as_many))
+tokens-slot_first (Tagged body) [] slots tags as_many = absurd (omega (arith, as_many))
+tokens-slot_first (Tagged body) (t ∷ []) slots tags as_many = refl
+tokens-slot_first (Tagged body) (t ∷ u ∷ more) slots tags as_many = absurd (omega (arith, as_many))
+
+-- two rings, and the same without the first slot and the lists of tags that it has
+module _ (slots slots' : Buffer Slot) (tags tags' : Buffer (List ℕ)) {first : Slot} (slot : Slot) (more : List (List ℕ)) (items : slots.items ≡ first ∷ slots'.items) (is : first ≡ slot) (room : slots'.capacity ≡ slots.capacity) (lists : tags.items ≡ more ++ tags'.items) (as_many : length more ≡ lists_of slot) where
+  first_is : slots.items ≡ slot ∷ slots'.items
+  first_is = items ∙ ap (λ (x : Slot). x ∷ slots'.items) is
+
+  -- the queue of the rings has one token more, in front
+  queue-first : queue_in slots tags ≡ record (queue_in slots' tags') { tokens = token_in slot more ∷ (queue_in slots' tags').tokens }
   queue-first =
-      ap₂ (λ (xs : List Slot) n. record { tokens = tokens_of xs tags'.items; room = n }) first room
-      ∙ ap (λ (xs : List (List ℕ)). record { tokens = token_in slot tags'.items ∷ tokens_of slots.items xs; room = slots.capacity }) lists
+      ap₂ (λ (xs : List Slot) (ts : List (List ℕ)). record { tokens = tokens_of xs ts; room = slots.capacity }) first_is lists
+      ∙ ap₂ (λ (tokens : List Token) n. record { tokens = tokens; room = n }) (tokens-slot_first slot more slots'.items tags'.items as_many) (sym room)
+
+  pub queue-taken : {queue : Queue} {token : Token} → queue_in slots tags ≡ queue → token ≡ token_in slot more → queue ≡ record (queue_in slots' tags') { tokens = token ∷ (queue_in slots' tags').tokens }
+  queue-taken was put =
+      sym was ∙ queue-first ∙ ap (λ (x : Token). record (queue_in slots' tags') { tokens = x ∷ (queue_in slots' tags').tokens }) (sym put)
+
+  pub queue-prepended : {queue : Queue} {token : Token} → queue_in slots' tags' ≡ queue → token_in slot more ≡ token → queue_in slots tags ≡ record queue { tokens = token ∷ queue.tokens }
+  queue-prepended was put = queue-first ∙ ap₂ (λ (x : Queue) (t : Token). record x { tokens = t ∷ x.tokens }) was put
+
+  -- and there are as many lists of tags more in one ring as the slot that is more in the other has
+  counted : length tags.items + lists_in slots'.items ≡ lists_in slots.items + length tags'.items
+  unfolding lists_in
+  counted =
+      let long = ap length lists ∙ length-append more tags'.items in
+      let more_lists : lists_in slots.items ≡ lists_of slot + lists_in slots'.items = ap lists_in first_is in
+      omega (arith, long, more_lists, as_many)
+
+  pub rings-taken : tags'.capacity ≡ tags.capacity → AreRings slots tags → AreRings slots' tags'
+  rings-taken same rings = let before = rings.lists in record { lists = omega (arith, counted, before); room = same ∙ rings.room ∙ sym room }
+
+  pub rings-prepended : tags'.capacity ≡ tags.capacity → AreRings slots' tags' → AreRings slots tags
+  rings-prepended same rings = let before = rings.lists in record { lists = omega (arith, counted, before); room = sym same ∙ rings.room ∙ room }
 
 -- the channel has a token where the ring has a slot, and room where the ring has some
 pub slot_there : (slots : Buffer Slot) (tags : Buffer (List ℕ)) (queue : Queue) → queue_in slots tags ≡ queue → 0 < length queue.tokens → 0 < length slots.items
@@ -89,27 +122,6 @@ pub first-there : (slots : List Slot) (tags : List (List ℕ)) → has_first (to
 unfolding tokens_of
 first-there [] tags = refl
 first-there (slot ∷ slots) tags = refl
-
--- a slot less, at the front
-module _ (slots slots' : Buffer Slot) (tags tags' : Buffer (List ℕ)) (slot : Slot) (rings : AreRings slots tags) (first : slots.items ≡ slot ∷ slots'.items) (room : slots'.capacity ≡ slots.capacity) where
-  counted : length tags.items ≡ lists_of slot + lists_in slots'.items
-  unfolding lists_in
-  counted = rings.lists ∙ ap lists_in first
-
-  pub rings-taken : tags'.items ≡ drop (lists_of slot) tags.items → tags'.capacity ≡ tags.capacity → AreRings slots' tags'
-  rings-taken lists same =
-      let long = length-drop (lists_of slot) tags.items in
-      let left = ap length lists in
-      record { lists = omega (arith, counted, long, left); room = same ∙ rings.room ∙ sym room }
-
-  pub list_there : 0 < lists_of slot → 0 < length tags.items
-  list_there some = omega (arith, some, counted)
-
--- a slot more, at the front
-pub rings-prepended : (slots slots' : Buffer Slot) (tags tags' : Buffer (List ℕ)) (slot : Slot) → AreRings slots tags → slots' ≡ buffer (slot ∷ slots.items) slots.capacity → length tags'.items ≡ lists_of slot + length tags.items → tags'.capacity ≡ tags.capacity → AreRings slots' tags'
-unfolding lists_in
-rings-prepended slots slots' tags tags' slot rings is lists same =
-    subst (λ x. AreRings x tags') (sym is) (record { lists = lists ∙ ap (λ n. lists_of slot + n) rings.lists; room = same ∙ rings.room })
 
 pub rings-empty : (slots : Buffer Slot) (tags : Buffer (List ℕ)) (n : ℕ) → slots ≡ buffer [] n → tags ≡ buffer [] n → AreRings slots tags
 unfolding lists_in

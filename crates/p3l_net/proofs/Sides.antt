@@ -184,16 +184,16 @@ module _ {tree : Tree} {net : Net} (typed : IsTyped tree net) where
     entered_readers table was there new e = one_entered (λ (x : Proc). x.ins) net.procs (length net.chans) p table was there typed.reads (λ c h. (typed.channels c h).read) q stands new e
 
 -- the end of a channel that a process reads, or writes, is that process
-pub reader_is : (net : Net) (ends : Ends) → HasEnds net ends → (p c : ℕ) → Reads net p c → slice_index ends.readers c ≡ p
-reader_is net ends sides p c reads = by (slice_get net.procs p) refl reads
+end_is : (channels : Proc → List ℕ) (procs : List Proc) (table : List ℕ) → ((r c : ℕ) (q : Proc) → slice_get procs r ≡ Some q → Has (channels q) c → slice_index table c ≡ r) → (p c : ℕ) → IsSomeAnd (slice_get procs p) (λ (q : Proc). Has (channels q) c) → slice_index table c ≡ p
+end_is channels procs table entered p c = by (slice_get procs p) refl
   where
-    by : (o : Option Proc) → slice_get net.procs p ≡ o → IsSomeAnd o (λ (q : Proc). Has q.ins c) → slice_index ends.readers c ≡ p
-    by (Some q) at has = sides.read p c q at has
+    by : (o : Option Proc) → slice_get procs p ≡ o → IsSomeAnd o (λ (q : Proc). Has (channels q) c) → slice_index table c ≡ p
+    by (Some q) at has = entered p c q at has
     by None at has = absurd has
 
-pub writer_is : (net : Net) (ends : Ends) → HasEnds net ends → (p c : ℕ) → Writes net p c → slice_index ends.writers c ≡ p
-writer_is net ends sides p c writes = by (slice_get net.procs p) refl writes
-  where
-    by : (o : Option Proc) → slice_get net.procs p ≡ o → IsSomeAnd o (λ (q : Proc). Has q.outs c) → slice_index ends.writers c ≡ p
-    by (Some q) at has = sides.written p c q at has
-    by None at has = absurd has
+module _ (net : Net) (ends : Ends) (sides : HasEnds net ends) where
+  pub reader_is : (p c : ℕ) → Reads net p c → slice_index ends.readers c ≡ p
+  reader_is = end_is (λ (q : Proc). q.ins) net.procs ends.readers sides.read
+
+  pub writer_is : (p c : ℕ) → Writes net p c → slice_index ends.writers c ≡ p
+  writer_is = end_is (λ (q : Proc). q.outs) net.procs ends.writers sides.written

@@ -17,7 +17,7 @@ use Rattle.p3l_ready.specs.Flags.{flag_at}
 use Rattle.p3l_firing.specs.Nodes.{Leaf}
 use Rattle.p3l_firing.specs.Process.{IsAt, Has, kind_at}
 use Rattle.p3l_firing.specs.Typed.{IsTyped}
-use Rattle.p3l_net.specs.Machine.{Seen, Fires, IsShaped, IsSound, state_of}
+use Rattle.p3l_net.specs.Machine.{Seen, Fires, IsShaped, IsSound, can_step, state_of}
 
 -- one firing more is counted
 abbrev pub ticked : Seen → Seen
@@ -148,9 +148,25 @@ pub record AgreesBut (m : Seen) (flags : List Bool) (touched : List ℕ) : Type 
   pub size : length flags ≡ length m.net.procs
   pub right : (r : ℕ) → r < length m.net.procs → AllHaveSlack m r touched → flag_at flags r ≡ ready_at m r
 
+-- there is a flag for each process of a sound machine, and that of process p tells whether it is ready
+pub record AgreesAt (m : Seen) (flags : List Bool) (p : ℕ) : Type 0 where
+  pub sound : IsSound m
+  pub size : length flags ≡ length m.net.procs
+  pub known : flag_at flags p ≡ ready_at m p
+
 -- the flags after it was looked again whether process r is ready, if `look` says so
 abbrev pub looked : Bool → Seen → ℕ → List Bool → List Bool
 looked look m r flags = cond look (slice_set flags r (ready_at m r)) flags
+
+-- the flags of a sound machine tell which processes are ready, but maybe for process p, and for those for which one of these channels
+-- has no slack: so it is enough to look at these again
+pub record CanRefresh (m : Seen) (ends : Ends) (flags : List Bool) (p : ℕ) (touched : List ℕ) : Type 0 where
+  pub sound : IsSound m
+  pub sides : HasEnds m.net ends
+  pub there : p < length m.net.procs
+  pub inside : AllByRecursion (λ c. c < length m.net.chans) touched
+  pub size : length flags ≡ length m.net.procs
+  pub others : (r : ℕ) → r < length m.net.procs → r ≢ p → AllHaveSlack m r touched → flag_at flags r ≡ ready_at m r
 
 -- what every machine keeps: it is sound, the flags tell which processes are ready, and the ends are those of its net
 pub record IsKept (m : Seen) (flags : List Bool) (ends : Ends) : Type 0 where
@@ -163,6 +179,19 @@ pub record Done (leaf : Leaf) (old new : Seen) (p : ℕ) (touched : List ℕ) (o
   pub fires : Fires leaf old new p outcome
   pub moves : Moves old new p touched
   pub shaped : IsShaped new
+
+-- process p can fire now, and the firing can be counted
+pub record CanFire (m : Seen) (p : ℕ) : Type 0 where
+  pub there : p < length m.net.procs
+  pub can : can_step m p ≡ true
+  pub count : m.fired < 2 ^ 63
+
+-- a firing of process p led from the old machine to the new one, and handed out this outcome; processes that have no channel in
+-- common with p are as ready as they were, and only the source, process 0, takes what is in the inbox
+pub record FiresLocally (leaf : Leaf) (old new : Seen) (p : ℕ) (outcome : Option Outcome) : Type 0 where
+  pub fires : Fires leaf old new p outcome
+  pub others : OthersStay old new p
+  pub item : p ≢ 0 → new.inbox ≡ old.inbox
 
 -- process p is of this kind, and may fire
 pub record MayFire (m : Seen) (p : ℕ) (kind : ProcKind) : Type 0 where

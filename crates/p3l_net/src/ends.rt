@@ -1,9 +1,8 @@
 // The two ends of each channel.
 
-ghost use Rattle.std.specs.Prelude.{◌≡◌, ◌<◌, ◌≤◌, ℕ, length, replicate, slice_index, slice_get, Some, IfOk};
+ghost use Rattle.std.specs.Prelude.{◌≡◌, ◌<◌, length, slice_index, IfOk};
 ghost use Rattle.std.specs.List.{AllByRecursion};
 ghost use Rattle.p3l_skel.specs.declared.tree.Tree.{Tree};
-ghost use Rattle.p3l_firing.specs.declared.process.Proc.{Proc};
 ghost use Rattle.p3l_net.specs.Steps.{HasEnds, marked};
 ghost use Rattle.p3l_firing.specs.Typed.{IsTyped};
 

@@ -14,7 +14,7 @@ mod source;
 mod split;
 mod tail;
 
-ghost use Rattle.std.specs.Prelude.{◌≡◌, ◌≢◌, ◌<◌, ◌^◌, length, Some, None, true, false, IfOk, OnErr};
+ghost use Rattle.std.specs.Prelude.{◌≡◌, ◌≢◌, ◌<◌, ◌^◌, length, Some, None, true, IfOk, OnErr};
 ghost use Rattle.p3l_firing.specs.Process.{kind_at};
 ghost use Rattle.p3l_net.specs.Machine.{IsSound, Stands, may_want_memory};
 ghost use Rattle.p3l_net.specs.Steps.{Done, ready_at};

@@ -1,9 +1,9 @@
 // The machine: a net that fires, one process at a time.
 
-ghost use Rattle.std.specs.Prelude.{◌≡◌, ◌≢◌, ◌<◌, length, None, IsTrue, ◌↔◌, IfOk, OnOk, OnErr, Some, [], ◌+◌, ◌^◌, ℕ, List, IsSome, IfSome, IfNone, true, false, slice_get, find};
+ghost use Rattle.std.specs.Prelude.{◌≡◌, ◌≢◌, ◌<◌, length, None, IsTrue, ◌↔◌, IfOk, OnOk, OnErr, Some, [], ◌^◌, ℕ, List, IsSome, IfSome, IfNone, true, false, slice_get, find};
 ghost use Rattle.p3l_ready.specs.Flags.{in_turn};
-ghost use Rattle.p3l_net.specs.Machine.{can_step, started, state_of, HasEmitted, Fires, IsSound, may_want_memory, ready_list};
-ghost use Rattle.p3l_net.specs.Steps.{IsReader, IsWriter, OthersStay, ready_at};
+ghost use Rattle.p3l_net.specs.Machine.{can_step, started, state_of, HasEmitted, Fires, may_want_memory, ready_list};
+ghost use Rattle.p3l_net.specs.Steps.{CanFire, FiresLocally, IsReader, IsWriter, OthersStay, ready_at};
 ghost use Rattle.p3l_net.specs.Shot.{CanRestore, IsCountable, restored, shot_of};
 ghost use Rattle.p3l_firing.specs.Fire.{can_fire};
 ghost use Rattle.p3l_firing.specs.State.{first_state};
@@ -237,7 +237,7 @@ impl<'t> Machine<'t> {
     {
         let kind = self.kind(p);
         if kind == ProcKind::Sink {
-            let outcome = self.fire_sink(tree, units, p);
+            let outcome = self.fire_sink(units, p);
             return Ok(Fired {
                 kind,
                 emitted: Some(outcome),
@@ -273,22 +273,17 @@ impl<'t> Machine<'t> {
         ensures item { OnOk result (p ≢ 0 → self.new.inbox ≡ self.old.inbox) }
     {
         if self.kind(p) == ProcKind::Run {
-            return self.fire_run(alloc, tree, units, p);
+            return self.fire_run(alloc, units, p);
         }
-        self.fire_other(alloc, tree, units, p)
+        self.fire_other(alloc, units, p)
     }
 
     // Fires the sink `p`, and hands out the outcome that it takes.
-    fn fire_sink<U: Units>(&mut self, tree: &Tree, units: &U, p: u32) -> Outcome
-        requires there { p < length self.old.net.procs }
-        requires can { IsTrue (can_step self.old p) }
-        requires count { self.old.fired < 2 ^ 63 }
-        requires tree { tree.now ≡ self.old.tree }
-        requires units { U.tree units.now ≡ tree.now }
+    fn fire_sink<U: Units>(&mut self, units: &U, p: u32) -> Outcome
+        requires can { CanFire self.old p }
+        requires units { U.tree units.now ≡ self.old.tree }
         requires sink { kind_at self.old.net p ≡ Some ProcKind.Sink }
-        ensures fires { Fires (U.leaf units.now) self.old self.new p (Some result) }
-        ensures others { OthersStay self.old self.new p }
-        ensures item { p ≢ 0 → self.new.inbox ≡ self.old.inbox }
+        ensures { FiresLocally (U.leaf units.now) self.old self.new p (Some result) }
     {
         let (outcome, touched) = self.store.fire_sink(p);
         let touched = touched.as_slice();
@@ -298,24 +293,13 @@ impl<'t> Machine<'t> {
 
     // Fires the run `p`.
     #[inline(always)]
-    fn fire_run<U: Units>(
-        &mut self,
-        alloc: Global,
-        tree: &Tree,
-        units: &U,
-        p: u32,
-    ) -> Result<(), NoMemory>
-        requires there { p < length self.old.net.procs }
-        requires can { IsTrue (can_step self.old p) }
-        requires count { self.old.fired < 2 ^ 63 }
-        requires tree { tree.now ≡ self.old.tree }
-        requires units { U.tree units.now ≡ tree.now }
+    fn fire_run<U: Units>(&mut self, alloc: Global, units: &U, p: u32) -> Result<(), NoMemory>
+        requires can { CanFire self.old p }
+        requires units { U.tree units.now ≡ self.old.tree }
         requires run { kind_at self.old.net p ≡ Some ProcKind.Run }
-        ensures fires { OnOk result (Fires (U.leaf units.now) self.old self.new p None) }
+        ensures ok { OnOk result (FiresLocally (U.leaf units.now) self.old self.new p None) }
         ensures err { OnErr result (self.new ≡ self.old) }
         ensures memory { OnErr result (may_want_memory self.old p ≡ true) }
-        ensures others { OnOk result (OthersStay self.old self.new p) }
-        ensures item { OnOk result (p ≢ 0 → self.new.inbox ≡ self.old.inbox) }
     {
         match self.store.fire_run(alloc, units, p) {
             Ok((input, output)) => {
@@ -329,25 +313,14 @@ impl<'t> Machine<'t> {
 
     // Fires process `p`, which is neither the sink nor a run.
     #[inline(never)]
-    fn fire_other<U: Units>(
-        &mut self,
-        alloc: Global,
-        tree: &Tree,
-        units: &U,
-        p: u32,
-    ) -> Result<(), NoMemory>
-        requires there { p < length self.old.net.procs }
-        requires can { IsTrue (can_step self.old p) }
-        requires count { self.old.fired < 2 ^ 63 }
-        requires tree { tree.now ≡ self.old.tree }
-        requires units { U.tree units.now ≡ tree.now }
+    fn fire_other<U: Units>(&mut self, alloc: Global, units: &U, p: u32) -> Result<(), NoMemory>
+        requires can { CanFire self.old p }
+        requires units { U.tree units.now ≡ self.old.tree }
         requires no_sink { kind_at self.old.net p ≢ Some ProcKind.Sink }
         requires no_run { kind_at self.old.net p ≢ Some ProcKind.Run }
-        ensures fires { OnOk result (Fires (U.leaf units.now) self.old self.new p None) }
+        ensures ok { OnOk result (FiresLocally (U.leaf units.now) self.old self.new p None) }
         ensures err { OnErr result (self.new ≡ self.old) }
         ensures memory { OnErr result (may_want_memory self.old p ≡ true) }
-        ensures others { OnOk result (OthersStay self.old self.new p) }
-        ensures item { OnOk result (p ≢ 0 → self.new.inbox ≡ self.old.inbox) }
     {
         let touched = self.store.fire_other(alloc, units, p)?;
         let touched = touched.as_slice();

@@ -1,6 +1,6 @@
 // What the processes of a machine keep.
 
-ghost use Rattle.std.specs.Prelude.{◌≡◌, ℕ, ◌+◌, ◌<◌, ◌^◌, [], ◌∷◌, ◌++◌, length, map, replicate, slice_set, true, false, IfSome, IfNone, IfOk, IfErr, OnOk, OnErr};
+ghost use Rattle.std.specs.Prelude.{◌≡◌, ◌+◌, ◌<◌, ◌^◌, length, map, replicate, slice_set, true, false, IfSome, IfNone, IfOk, IfErr, OnOk, OnErr};
 ghost use Rattle.std.specs.List.{All};
 ghost use Rattle.p3l_firing.specs.State.{fresh, own_at, counted, holding, gathering, released};
 ghost use Rattle.p3l_firing.specs.kinds.Tail.{has_number, pick_number, after_release};

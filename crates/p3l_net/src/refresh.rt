@@ -1,12 +1,10 @@
 // The ready set after a step.
 
-ghost use Rattle.std.specs.Prelude.{◌≡◌, ◌≢◌, ◌<◌, ◌≤◌, ◌+◌, ℕ, List, [], ◌∷◌, length, nat_le, slice_index, slice_set};
-ghost use Rattle.std.specs.List.{AllByRecursion};
-ghost use Rattle.p3l_ready.specs.Flags.{flag_at};
+ghost use Rattle.std.specs.Prelude.{◌≡◌, ◌<◌, ◌+◌, ℕ, List, [], ◌∷◌, length, nat_le, slice_index, slice_set};
 ghost use Rattle.p3l_firing.specs.State.{chan_at};
 ghost use Rattle.p3l_net.specs.Channel.{tokens_at};
 ghost use Rattle.p3l_net.specs.Machine.{IsSound};
-ghost use Rattle.p3l_net.specs.Steps.{AgreesBut, AllHaveSlack, HasEnds, looked, ready_at};
+ghost use Rattle.p3l_net.specs.Steps.{AgreesAt, AgreesBut, CanRefresh, HasEnds, IsKept, looked, ready_at};
 
 use crate::ends::Sides;
 use crate::store::Store;
@@ -26,12 +24,10 @@ fn look(store: &Store, ready: &mut ReadySet, r: u32)
 // Looks again whether process `r` is ready, unless it is `p`, of which that is known.
 #[inline(always)]
 fn look_beside(store: &Store, ready: &mut ReadySet, p: u32, r: u32)
-    requires sound { IsSound store.now }
+    requires known { AgreesAt store.now ready.old p }
     requires there { r < length store.now.net.procs }
-    requires size { length ready.old ≡ length store.now.net.procs }
-    requires known { flag_at ready.old p ≡ ready_at store.now p }
     ensures looked { ready.new ≡ slice_set ready.old r (ready_at store.now r) }
-    ensures known { flag_at ready.new p ≡ ready_at store.now p }
+    ensures known { AgreesAt store.now ready.new p }
 {
     if r != p {
         look(store, ready, r);
@@ -42,15 +38,13 @@ fn look_beside(store: &Store, ready: &mut ReadySet, p: u32, r: u32)
 // it, but not at `p`, of which it is known whether it is ready.
 #[inline(always)]
 fn look_at_writer(store: &Store, sides: &Sides, ready: &mut ReadySet, p: u32, c: u32)
-    requires sound { IsSound store.now }
-    requires there { c < length store.now.net.chans }
-    requires size { length ready.old ≡ length store.now.net.procs }
+    requires known { AgreesAt store.now ready.old p }
     requires sides { HasEnds store.now.net sides.now }
-    requires known { flag_at ready.old p ≡ ready_at store.now p }
+    requires there { c < length store.now.net.chans }
     ensures looked { ready.new
         ≡ looked (nat_le (chan_at store.now.net c).cap (length (tokens_at store.now.queues c) + 1))
         store.now (slice_index sides.now.writers c) ready.old }
-    ensures known { flag_at ready.new p ≡ ready_at store.now p }
+    ensures known { AgreesAt store.now ready.new p }
 {
     if store.room(c) as usize <= store.load(c) + 1 {
         look_beside(store, ready, p, sides.writer(c));
@@ -61,15 +55,13 @@ fn look_at_writer(store: &Store, sides: &Sides, ready: &mut ReadySet, p: u32, c:
 // it, but not at `p`, of which it is known whether it is ready.
 #[inline(always)]
 fn look_at_reader(store: &Store, sides: &Sides, ready: &mut ReadySet, p: u32, c: u32)
-    requires sound { IsSound store.now }
-    requires there { c < length store.now.net.chans }
-    requires size { length ready.old ≡ length store.now.net.procs }
+    requires known { AgreesAt store.now ready.old p }
     requires sides { HasEnds store.now.net sides.now }
-    requires known { flag_at ready.old p ≡ ready_at store.now p }
+    requires there { c < length store.now.net.chans }
     ensures looked { ready.new
         ≡ looked (nat_le (length (tokens_at store.now.queues c)) 1)
         store.now (slice_index sides.now.readers c) ready.old }
-    ensures known { flag_at ready.new p ≡ ready_at store.now p }
+    ensures known { AgreesAt store.now ready.new p }
 {
     if store.load(c) <= 1 {
         look_beside(store, ready, p, sides.reader(c));
@@ -80,51 +72,14 @@ fn look_at_reader(store: &Store, sides: &Sides, ready: &mut ReadySet, p: u32, c:
 // it or put into it can have made them ready, but not at `p`, of which it is known whether it is.
 #[inline(always)]
 fn look_at_ends(store: &Store, sides: &Sides, ready: &mut ReadySet, p: u32, c: u32)
-    requires sound { IsSound store.now }
-    requires there { c < length store.now.net.chans }
-    requires size { length ready.old ≡ length store.now.net.procs }
+    requires known { AgreesAt store.now ready.old p }
     requires sides { HasEnds store.now.net sides.now }
-    requires known { flag_at ready.old p ≡ ready_at store.now p }
-    ensures size { length ready.new ≡ length store.now.net.procs }
-    ensures known { flag_at ready.new p ≡ ready_at store.now p }
+    requires there { c < length store.now.net.chans }
+    ensures known { AgreesAt store.now ready.new p }
     ensures agrees { (cs : List ℕ) → AgreesBut store.now ready.old (c ∷ cs)
         → AgreesBut store.now ready.new cs }
 {
     look_at_writer(store, sides, ready, p, c);
-    look_at_reader(store, sides, ready, p, c);
-}
-
-// Looks again at the process that writes channel `c`, which `p` reads.
-#[inline(always)]
-fn look_before(store: &Store, sides: &Sides, ready: &mut ReadySet, p: u32, c: u32)
-    requires sound { IsSound store.now }
-    requires there { c < length store.now.net.chans }
-    requires size { length ready.old ≡ length store.now.net.procs }
-    requires sides { HasEnds store.now.net sides.now }
-    requires reads { slice_index sides.now.readers c ≡ p }
-    requires known { flag_at ready.old p ≡ ready_at store.now p }
-    ensures size { length ready.new ≡ length store.now.net.procs }
-    ensures known { flag_at ready.new p ≡ ready_at store.now p }
-    ensures agrees { (cs : List ℕ) → AgreesBut store.now ready.old (c ∷ cs)
-        → AgreesBut store.now ready.new cs }
-{
-    look_at_writer(store, sides, ready, p, c);
-}
-
-// Looks again at the process that reads channel `c`, which `p` writes.
-#[inline(always)]
-fn look_behind(store: &Store, sides: &Sides, ready: &mut ReadySet, p: u32, c: u32)
-    requires sound { IsSound store.now }
-    requires there { c < length store.now.net.chans }
-    requires size { length ready.old ≡ length store.now.net.procs }
-    requires sides { HasEnds store.now.net sides.now }
-    requires writes { slice_index sides.now.writers c ≡ p }
-    requires known { flag_at ready.old p ≡ ready_at store.now p }
-    ensures size { length ready.new ≡ length store.now.net.procs }
-    ensures known { flag_at ready.new p ≡ ready_at store.now p }
-    ensures agrees { (cs : List ℕ) → AgreesBut store.now ready.old (c ∷ cs)
-        → AgreesBut store.now ready.new cs }
-{
     look_at_reader(store, sides, ready, p, c);
 }
 
@@ -132,15 +87,8 @@ fn look_behind(store: &Store, sides: &Sides, ready: &mut ReadySet, p: u32, c: u3
 /// that was full before `p` took a token, and at the one that reads one that was empty before `p`
 /// put one into it. To the others each channel is as it was: it has room, or the same first token.
 pub(crate) fn refresh(store: &Store, sides: &Sides, ready: &mut ReadySet, p: u32, touched: &[u32])
-    requires sound { IsSound store.now }
-    requires there { p < length store.now.net.procs }
-    requires size { length ready.old ≡ length store.now.net.procs }
-    requires sides { HasEnds store.now.net sides.now }
-    requires inside { AllByRecursion (λ c. c < length store.now.net.chans) touched.now }
-    requires others { (r : ℕ) → r < length store.now.net.procs → r ≢ p
-        → AllHaveSlack store.now r touched.now
-        → flag_at ready.old r ≡ ready_at store.now r }
-    ensures { AgreesBut store.now ready.new [] }
+    requires { CanRefresh store.now sides.now ready.old p touched.now }
+    ensures { IsKept store.now ready.new sides.now }
 {
     look(store, ready, p);
     for channel in touched {
@@ -149,7 +97,7 @@ pub(crate) fn refresh(store: &Store, sides: &Sides, ready: &mut ReadySet, p: u32
 }
 
 /// Looks again at the run `p`, at the process that writes the channel `input` that it reads, and at the
-/// one that reads the channel `output` that it writes.
+/// one that reads the channel `output` that it writes. The other end of each of the two is `p` itself.
 #[inline(always)]
 pub(crate) fn refresh_run(
     store: &Store,
@@ -159,21 +107,14 @@ pub(crate) fn refresh_run(
     input: u32,
     output: u32,
 )
-    requires sound { IsSound store.now }
-    requires there { p < length store.now.net.procs }
-    requires size { length ready.old ≡ length store.now.net.procs }
-    requires sides { HasEnds store.now.net sides.now }
-    requires inside { AllByRecursion (λ c. c < length store.now.net.chans) (input ∷ (output ∷ [])) }
+    requires can { CanRefresh store.now sides.now ready.old p (input ∷ (output ∷ [])) }
     requires reads { slice_index sides.now.readers input ≡ p }
     requires writes { slice_index sides.now.writers output ≡ p }
-    requires others { (r : ℕ) → r < length store.now.net.procs → r ≢ p
-        → AllHaveSlack store.now r (input ∷ (output ∷ []))
-        → flag_at ready.old r ≡ ready_at store.now r }
-    ensures { AgreesBut store.now ready.new [] }
+    ensures { IsKept store.now ready.new sides.now }
 {
     look(store, ready, p);
-    look_before(store, sides, ready, p, input);
-    look_behind(store, sides, ready, p, output);
+    look_at_writer(store, sides, ready, p, input);
+    look_at_reader(store, sides, ready, p, output);
 }
 
 /// Looks at all processes.

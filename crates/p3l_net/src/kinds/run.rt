@@ -1,6 +1,6 @@
 // Runs.
 
-ghost use Rattle.std.specs.Prelude.{◌≡◌, ◌<◌, [], ◌∷◌, length, None, true, IfOk, OnErr};
+ghost use Rattle.std.specs.Prelude.{◌≡◌, [], ◌∷◌, None, true, IfOk, OnErr};
 ghost use Rattle.p3l_net.specs.Machine.{Stands, may_want_memory};
 ghost use Rattle.p3l_net.specs.Steps.{Done, MayFire, Reads, Writes, ready_at};
 

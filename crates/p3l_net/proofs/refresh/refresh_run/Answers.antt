@@ -1,8 +1,8 @@
-use Rattle.std.proofs.Common.{[], ◌∷◌}
-use Rattle.p3l_net.proofs.Frame.{looked_first}
+use Rattle.p3l_net.proofs.Frame.{looked_first, looked_at_reader, looked_at_writer}
 use Rattle.p3l_net.proofs.refresh.refresh_run.Goals as goal
 
 pub returns : goal.returns
 returns c =
-    let first = looked_first c.args.store.now c.args.p c.args.ready.now c.look.new.ready (c.args.input ∷ (c.args.output ∷ [])) c.requires.size c.requires.there c.requires.others c.look.ensures in
-    c.look_behind.ensures.agrees [] (c.look_before.ensures.agrees (c.args.output ∷ []) first)
+    let can = c.requires.can in
+    let before = looked_at_writer can.sides (looked_first can c.look.ensures) c.look_at_writer.ensures.known c.requires.reads c.look_at_writer.ensures.looked in
+    record { sound = can.sound; agrees = looked_at_reader can.sides before c.look_at_reader.ensures.known c.requires.writes c.look_at_reader.ensures.looked; sides = can.sides }

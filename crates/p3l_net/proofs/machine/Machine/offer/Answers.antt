@@ -1,31 +1,23 @@
-use Rattle.std.proofs.Common.{◌≡◌, ◌≢◌, ◌<◌, ℕ, length, subst, sym}
+use Rattle.std.proofs.Common.{◌≡◌, ◌≢◌, ℕ, length, subst, sym}
 use Rattle.p3l_skel.specs.Tree.{node_at}
-use Rattle.p3l_ready.specs.Flags.{flag_at}
 use Rattle.p3l_net.specs.Machine.{Seen, IsSound}
-use Rattle.p3l_net.specs.Steps.{AllHaveSlack, HasEnds, ready_at}
-use Rattle.p3l_net.proofs.Frame.{others_agree, offer_moves, offer_stays}
+use Rattle.p3l_net.specs.Steps.{CanRefresh, ready_at}
+use Rattle.p3l_net.proofs.Frame.{offer_moves, offer_stays}
+use Rattle.p3l_net.proofs.Kept.{moved_refresh}
+use Rattle.p3l_net.proofs.Sides.{some_procs}
 use Rattle.p3l_net.proofs.SoundLaw.{offered_sound}
 use Rattle.p3l_net.proofs.machine.Machine.offer.Goals as goal
 
-pub refresh-requires-clause-sound : goal.refresh-requires-clause-sound
-refresh-requires-clause-sound c =
-    subst IsSound (sym c.offer.ensures)
-    (offered_sound c.self.inside.store c.args.item c.self.invariant.sound
-    (subst (λ (x : Seen). length c.args.item ≡ (node_at x.tree 0).ins) (sym c.self.view_is) c.requires.fits))
-
-pub refresh-requires-clause-others : goal.refresh-requires-clause-others
-refresh-requires-clause-others c =
-    subst (λ cs. (r : ℕ) → r < length c.offer.new.self.net.procs → r ≢ 0 → AllHaveSlack c.offer.new.self r cs → flag_at c.self.inside.ready r ≡ ready_at c.offer.new.self r) (sym c.as_slice.ensures)
-    (others_agree c.self.inside.ready c.self.invariant.agrees c.self.inside.sides c.self.invariant.sides (offer_moves c.self.inside.store c.offer.new.self c.args.item c.self.invariant.sound.typed c.offer.ensures))
-
-pub invariant_of-self : goal.invariant_of-self
-invariant_of-self c = record {
-  sound = subst IsSound (sym c.offer.ensures)
-      (offered_sound c.self.inside.store c.args.item c.self.invariant.sound
-      (subst (λ (x : Seen). length c.args.item ≡ (node_at x.tree 0).ins) (sym c.self.view_is) c.requires.fits));
-  agrees = c.refresh.ensures;
-  sides = subst (λ (x : Seen). HasEnds x.net c.self.inside.sides) (sym c.offer.ensures) c.self.invariant.sides;
-}
+pub refresh-requires : goal.refresh-requires
+refresh-requires c =
+    let store : Seen = c.self.inside.store in
+    let sound = c.self.invariant.sound in
+    let fits : length c.args.item ≡ (node_at store.tree 0).ins = subst (λ (x : Seen). length c.args.item ≡ (node_at x.tree 0).ins) (sym c.self.view_is) c.requires.fits in
+    subst (CanRefresh c.offer.new.self c.self.inside.sides c.self.inside.ready 0) (sym c.as_slice.ensures)
+    (moved_refresh c.self.invariant
+    (subst IsSound (sym c.offer.ensures) (offered_sound store c.args.item sound fits))
+    (some_procs sound.typed)
+    (offer_moves store c.offer.new.self c.args.item sound.typed c.offer.ensures))
 
 pub returns-clause-others : goal.returns-clause-others
 returns-clause-others c =
