@@ -213,3 +213,29 @@ fn failed_write_is_reported_by_each_later_call(rt: HostRuntime) -> Result<(), Fa
     assert_eq!(rt; account.bytes.get(), 0);
     Ok(())
 }
+
+/// An output with a line that was gathered.
+fn gathered<'a>(rt: &HostRuntime, account: &'a Account) -> Result<Output<Accountant<'a>>, Fail> {
+    let output = Output::new(rt.alloc(), Accountant { account })?;
+    let _ = output.put(b"one\n");
+    Ok(output)
+}
+
+#[test]
+fn failed_write_is_reported_whenever_it_is_made(rt: HostRuntime) -> Result<(), Fail> {
+    let account = account_of(0);
+    let full = gathered(&rt, &account)?;
+    assert_eq!(rt; full.put(&[b'1'; 65_533]), Err(Failed));
+    let before_a_line = gathered(&rt, &account)?;
+    let sink = MemSink::new(rt.alloc(), 9, List::new(rt.alloc()))?;
+    let mut err = SinkAfter::new(sink, &before_a_line);
+    assert_eq!(rt; err.put(b"an error"), Err(Failed));
+    let before_a_file = gathered(&rt, &account)?;
+    let mut files = HostFiles::new(&rt, &before_a_file);
+    let answer = files.write(rt.alloc(), "name", b"a file");
+    assert_eq!(rt; answer, Err(WriteFault::Failed));
+    let at_the_end = gathered(&rt, &account)?;
+    assert_eq!(rt; at_the_end.flush(), Err(Failed));
+    assert_eq!(rt; account.calls.get(), 0);
+    Ok(())
+}
