@@ -1,12 +1,12 @@
 #!/usr/bin/env python3
 """Each cost that the program is meant to keep, as a ratio to that of a peer which does the same, both in turn in one run.
 
-    bench/speed.py PATH_OF_P3L [--tries N] [--busy]
+    bench/speed.py PATH_OF_P3L [--tries N] [--rows WORDS] [--busy]
 
   a firing          `run` of pipes of 10 and 100 runs and of farms of 8, 64 and 508 workers, channels of 4 and of 64 tokens, beside
                     the same networks in C (bench/machine.c), once with a write a value as results are put, and once with 64 KiB
-                    of results gathered as p3l gathers them. The start, which chooses the counts, is included: it is less
-                    than a tenth where a pipe fires ten million times
+                    of results gathered as p3l gathers them. The start, which chooses the counts, is included: it is
+                    some hundredths where a pipe fires ten million times
   bodies            a nested loop, and a million items through three statements (bench/bodies), beside Lua 5.4, and beside the
                     form of a body that is verified and written to images: `profile` runs that on a stack, without a network
   lines             a million lines through one body and through a pipe of four, to a file, beside mawk
@@ -14,7 +14,8 @@
 
 Times are the processor time, user's and system's, the least of N tries (5 if not given). It prints the load that it found, and
 refuses to measure where that is above 1, since other work in the caches moves each ratio otherwise; with --busy it measures
-all the same, and says so. A ratio above its bound is marked; the script then ends with 1.
+all the same, and says so. A ratio above its bound is marked; the script then ends with 1. With --rows it measures only the rows
+whose name has these words, to try some again. On a host that others use, a quiet machine isn't enough: more tries help.
 """
 
 import argparse
@@ -39,8 +40,8 @@ MAWK = [["mawk", "{ for (i = 1; i <= NF; i++) { x = $i; " + "x = x * 3 + 1; " * 
 
 
 class Bench:
-    def __init__(self, program, folder, tries):
-        self.program, self.folder, self.tries, self.over = program, pathlib.Path(folder), tries, 0
+    def __init__(self, program, folder, tries, rows):
+        self.program, self.folder, self.tries, self.rows, self.over = program, pathlib.Path(folder), tries, rows, 0
 
     def file(self, name, text):
         path = self.folder / name
@@ -63,6 +64,8 @@ class Bench:
 
     def row(self, name, ours, peers, stream, bound, unit=1.0, of="s"):
         """One line: what ours takes, and by each peer; the bound is for the first of them."""
+        if self.rows not in name:
+            return
         own, *others = measure.least([ours, *peers], stream, self.tries, str(self.folder / "out"))
         ratios = [own / other for other in others]
         mark = "" if ratios[0] <= bound else "  ABOVE"
@@ -94,6 +97,8 @@ class Bench:
             self.row(f"a million lines, {name}, mawk", ours, [mawk], self.numbers(ITEMS), bound)
 
     def memory(self):
+        if self.rows not in "memory":
+            return
         ours = self.run(self.file("lines.p3l", PIPE_OF_FOUR), "--processors", "32")
         few, many = (measure.memory(ours, self.numbers(count)) for count in (FEW_ITEMS, ITEMS))
         mark = "" if many <= few * 1.1 else "  ABOVE"
@@ -106,6 +111,7 @@ def main():
     words.add_argument("program")
     words.add_argument("--tries", type=int, default=5)
     words.add_argument("--firings", type=int, default=10_000_000, help="of a pipe; a farm fires a fifth of that")
+    words.add_argument("--rows", default="", help="only the rows whose name has these words")
     words.add_argument("--busy", action="store_true")
     given = words.parse_args()
     load = os.getloadavg()[0]
@@ -113,7 +119,7 @@ def main():
     if load > MOST_LOAD and not given.busy:
         sys.exit(f"the load is above {MOST_LOAD}: wait until the machine is quiet, or say --busy")
     with tempfile.TemporaryDirectory() as folder:
-        bench = Bench(os.path.abspath(given.program), folder, given.tries)
+        bench = Bench(os.path.abspath(given.program), folder, given.tries, given.rows)
         bench.firings(given.firings)
         bench.bodies()
         bench.lines()
