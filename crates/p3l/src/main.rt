@@ -29,7 +29,7 @@ fn words_of(rt: &HostRuntime) -> Result<Vec<String>, NoMemory> {
 fn finish<W: Write + Drop>(rt: &HostRuntime, output: &Output<W>, status: Status) -> Status {
     match output.flush() {
         Ok(()) => status,
-        Err(_) => tell(rt, &Verdict::WriteFault),
+        Err(_) => put_verdict(rt, &Verdict::WriteFault),
     }
 }
 
@@ -42,7 +42,7 @@ fn show(rt: &HostRuntime, text: &str) -> Result<Status, NoMemory> {
 }
 
 /// Puts the lines of a verdict on the standard error.
-fn tell(rt: &HostRuntime, verdict: &Verdict) -> Status {
+fn put_verdict(rt: &HostRuntime, verdict: &Verdict) -> Status {
     let mut err = HostErr::new(rt.stderr());
     match report_of(rt.alloc(), verdict) {
         Ok(report) => {
@@ -105,6 +105,6 @@ fn exit_of(status: Status) -> ExitCode
 fn main(rt: HostRuntime) -> ExitCode {
     match start(&rt) {
         Ok(status) => exit_of(status),
-        Err(NoMemory) => exit_of(tell(&rt, &Verdict::NoMemory)),
+        Err(NoMemory) => exit_of(put_verdict(&rt, &Verdict::NoMemory)),
     }
 }

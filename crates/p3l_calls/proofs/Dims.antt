@@ -35,8 +35,8 @@ named a b e = same_text a b (sym e)
 apart : (a b c : List ℕ) → not (bytes_eq a b) ≡ true → bytes_eq a c ≡ true → bytes_eq b c ≡ true → ⊥
 apart a b c e f g =
     let same : a ≡ b = named a c f ∙ sym (named b c g) in
-    let told : bytes_eq a b ≡ true = (bytes_eq-Decides a b).1 same in
-    let no : not (bytes_eq a b) ≡ false = ap not told in
+    let equal : bytes_eq a b ≡ true = (bytes_eq-Decides a b).1 same in
+    let no : not (bytes_eq a b) ≡ false = ap not equal in
     cc
 
 -- a name of a size is the first free index or the second

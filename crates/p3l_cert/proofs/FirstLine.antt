@@ -15,7 +15,7 @@ use Rattle.p3l_format.specs.laws.Formats.{lawful_within}
 use Rattle.p3l_format.specs.laws.Text.{lawful_text_then}
 use Rattle.p3l_format.specs.laws.Decimal.{no_digit_first}
 use Rattle.p3l_format.specs.laws.Series.{lawful_until}
-use Rattle.p3l_format.specs.laws.FirstLine.{Each, IsInLine, IsOneLine, IsLine, TellsLine, part_then_part, part_then_line, whole_append, whole_line, line_is_within, lines_are_whole, number_in_line, number_then_line, number_ends_line, number_line_is, number_line_tells, is_line, tells_line, each_both, each_record, each_text_then, each_until, each_within, tells_both, tells_record, tells_text_then, tells_until, first_bad}
+use Rattle.p3l_format.specs.laws.FirstLine.{Each, IsInLine, IsOneLine, IsLine, ReportsLine, part_then_part, part_then_line, whole_append, whole_line, line_is_within, lines_are_whole, number_in_line, number_then_line, number_ends_line, number_line_is, number_line_reports, is_line, tells_line, each_both, each_record, each_text_then, each_until, each_within, reports_both, reports_record, reports_text_then, reports_until, first_bad}
 
 -- ---- lines
 
@@ -55,9 +55,9 @@ header_is_line = (112 ∷ 51 ∷ 108 ∷ 45 ∷ 99 ∷ 101 ∷ 114 ∷ 116 ∷ 3
 
 -- ---- the rows
 
-rows_tell : TellsLine rows_format
+rows_report : ReportsLine rows_format
 unfolding rows_format
-rows_tell = tells_until row_format next_row first_row end_line row_line rows_series.differs (line_is_within end_line end_is_line) lawful_rows
+rows_report = reports_until row_format next_row first_row end_line row_line rows_series.differs (line_is_within end_line end_is_line) lawful_rows
 
 rows_whole : Each IsWhole rows_format
 unfolding rows_format
@@ -74,13 +74,13 @@ service_whole = lines_are_whole _ (number_line_is service_word 0 most_bound refl
 used_whole : Each IsWhole (number_line used_word 0 most_number)
 used_whole = lines_are_whole _ (number_line_is used_word 0 most_number refl)
 
-body_tells : TellsLine body_format
+body_reports : ReportsLine body_format
 unfolding body_format
-body_tells = tells_record _ _ _ (λ _. refl) (λ _. refl)
-    (tells_both _ _ (number_line_tells processors_word 1 512 refl (omega arith) (omega arith)) processors_whole
-    (tells_both _ _ (tells_line counts_format counts_line [] no_counts) (lines_are_whole counts_format counts_line)
-    (tells_both _ _ (number_line_tells service_word 0 most_bound refl (omega arith) (omega arith)) service_whole
-    (tells_both _ _ (number_line_tells used_word 0 most_number refl (omega arith) (omega arith)) used_whole rows_tell))))
+body_reports = reports_record _ _ _ (λ _. refl) (λ _. refl)
+    (reports_both _ _ (number_line_reports processors_word 1 512 refl (omega arith) (omega arith)) processors_whole
+    (reports_both _ _ (tells_line counts_format counts_line [] no_counts) (lines_are_whole counts_format counts_line)
+    (reports_both _ _ (number_line_reports service_word 0 most_bound refl (omega arith) (omega arith)) service_whole
+    (reports_both _ _ (number_line_reports used_word 0 most_number refl (omega arith) (omega arith)) used_whole rows_report))))
 
 body_whole : Each IsWhole body_format
 unfolding body_format
@@ -90,9 +90,9 @@ body_whole = each_record IsWhole _ _ _
     (each_both IsWhole IsWhole IsWhole _ _ whole_append service_whole
     (each_both IsWhole IsWhole IsWhole _ _ whole_append used_whole rows_whole))))
 
-cert_tells : TellsLine cert_format
+cert_reports : ReportsLine cert_format
 unfolding cert_format
-cert_tells = tells_text_then header body_format header_is_line body_tells
+cert_reports = reports_text_then header body_format header_is_line body_reports
 
 cert_whole : Each IsWhole cert_format
 unfolding cert_format
@@ -100,4 +100,4 @@ cert_whole = each_text_then IsWhole IsWhole IsWhole header body_format whole_app
 
 -- the line that is reported of a refused text
 pub cert_first_bad : (s : List ℕ) (f : Fault) → read_all cert_format s ≡ Err f → IsFirstBadLine cert_format s (line_number s f.left)
-cert_first_bad s f e = first_bad cert_format cert_tells cert_whole s f e
+cert_first_bad s f e = first_bad cert_format cert_reports cert_whole s f e

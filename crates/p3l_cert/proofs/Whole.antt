@@ -27,10 +27,10 @@ use Rattle.p3l_model.proofs.Whole.{procs_whole, service_whole, fits_run, run_fit
 use Rattle.p3l_cert.specs.declared.cert.Cert.{Cert}
 use Rattle.p3l_cert.specs.declared.cert.Key.{Key}
 use Rattle.p3l_cert.specs.declared.cert.Row.{Row}
-use Rattle.p3l_cert.specs.Certified.{AreRowsAsked}
+use Rattle.p3l_cert.specs.Certified.{AreNeededRows}
 use Rattle.p3l_cert.specs.Checker.{CertHolds}
 use Rattle.p3l_cert.specs.Fill.{Has, AreRowsOf, AreClosed, IsFilledFrom}
-use Rattle.p3l_cert.specs.Keys.{rests_on, keys_from, asked, IsSmall}
+use Rattle.p3l_cert.specs.Keys.{rests_on, keys_from, needed_keys, IsSmall}
 use Rattle.p3l_cert.specs.Rule.{key, key_of, kept}
 use Rattle.p3l_cert.specs.Text.{cert_format, most_number}
 use Rattle.p3l_cert.proofs.Filling.{has_same, map_at}
@@ -44,8 +44,8 @@ use Rattle.p3l_cert.proofs.Outside.{IsCosted, root_deep, root_costed_keys}
 abbrev first_of : Tree → Costs → ℕ → ℕ → List Key
 first_of tree costs service processors = keys_from tree costs nesting (key 0 service processors)
 
-asked_all : (tree : Tree) (costs : Costs) (P : Key → Type 0) (service processors : ℕ) → All P (first_of tree costs service processors) → (0 < service → All P (first_of tree costs (service - 1) processors)) → All P (asked tree costs service processors)
-asked_all tree costs P service processors first second =
+needed_all : (tree : Tree) (costs : Costs) (P : Key → Type 0) (service processors : ℕ) → All P (first_of tree costs service processors) → (0 < service → All P (first_of tree costs (service - 1) processors)) → All P (needed_keys tree costs service processors)
+needed_all tree costs P service processors first second =
     elim (cases_eq service 0) [
       | inl none ↦ rw (eq-eqb service 0 none) first
       | inr some ↦ rw (ne_eqb service 0 some) (All-append P (first_of tree costs service processors) (first_of tree costs (service - 1) processors) first (second (omega (arith, some))))
@@ -57,15 +57,15 @@ front P keys more all i d inside = subst P (get_or_append_left keys more d i ins
 back : (P : Key → Type 0) (keys more : List Key) → All P (keys ++ more) → All P more
 back P keys more all i d inside = subst P (get_or-append-add keys more i d) (all (length keys + i) d (omega (arith, inside, length-append keys more)))
 
-asked_first : (tree : Tree) (costs : Costs) (P : Key → Type 0) (service processors : ℕ) → All P (asked tree costs service processors) → All P (first_of tree costs service processors)
-asked_first tree costs P service processors all =
+needed_first : (tree : Tree) (costs : Costs) (P : Key → Type 0) (service processors : ℕ) → All P (needed_keys tree costs service processors) → All P (first_of tree costs service processors)
+needed_first tree costs P service processors all =
     elim (cases_eq service 0) [
       | inl none ↦ rw (eq-eqb service 0 none) at all
       | inr some ↦ front P (first_of tree costs service processors) (first_of tree costs (service - 1) processors) (rw (ne_eqb service 0 some) at all)
     ]
 
-asked_second : (tree : Tree) (costs : Costs) (P : Key → Type 0) (service processors : ℕ) → 0 < service → All P (asked tree costs service processors) → All P (first_of tree costs (service - 1) processors)
-asked_second tree costs P service processors some all =
+needed_second : (tree : Tree) (costs : Costs) (P : Key → Type 0) (service processors : ℕ) → 0 < service → All P (needed_keys tree costs service processors) → All P (first_of tree costs (service - 1) processors)
+needed_second tree costs P service processors some all =
     back P (first_of tree costs service processors) (first_of tree costs (service - 1) processors) (rw (ne_eqb service 0 (λ z. omega (arith, z, some))) at all)
 
 pub top_small : (bound processors : ℕ) → bound < never → 1 ≤ processors → processors ≤ 512 → IsSmall (key 0 bound processors)
@@ -74,53 +74,53 @@ top_small bound processors early some few =
     record { some_cap = some; cap = few; bound = omega (arith, product, early) }
 
 module _ (tree : Tree) (costs : Costs) (lawful : IsLawfulTree tree) (priced : AreCostsOf tree costs) (time processors : ℕ) where
-  pub asked_small : time < never → 1 ≤ processors → processors ≤ 512 → All IsSmall (asked tree costs time processors)
-  asked_small early some few = asked_all tree costs IsSmall time processors
+  pub needed_small : time < never → 1 ≤ processors → processors ≤ 512 → All IsSmall (needed_keys tree costs time processors)
+  needed_small early some few = needed_all tree costs IsSmall time processors
       (keys_small tree costs lawful priced nesting (key 0 time processors) (top_small time processors early some few))
       (λ later. keys_small tree costs lawful priced nesting (key 0 (time - 1) processors) (top_small (time - 1) processors (omega arith) some few))
 
-  asked_costed : All (IsCosted tree costs) (asked tree costs time processors)
-  asked_costed = asked_all tree costs (IsCosted tree costs) time processors (root_costed_keys tree costs lawful priced time processors) (λ later. root_costed_keys tree costs lawful priced (time - 1) processors)
+  needed_costed : All (IsCosted tree costs) (needed_keys tree costs time processors)
+  needed_costed = needed_all tree costs (IsCosted tree costs) time processors (root_costed_keys tree costs lawful priced time processors) (λ later. root_costed_keys tree costs lawful priced (time - 1) processors)
 
-  asked_closed : (P : Key → Type 0) → All P (asked tree costs time processors) → All (λ k. All P (rests_on tree costs k)) (asked tree costs time processors)
-  asked_closed P all =
+  needed_closed : (P : Key → Type 0) → All P (needed_keys tree costs time processors) → All (λ k. All P (rests_on tree costs k)) (needed_keys tree costs time processors)
+  needed_closed P all =
       let deep = root_deep tree costs lawful priced in
-      asked_all tree costs (λ k. All P (rests_on tree costs k)) time processors
-      (keys_closed tree costs lawful priced P nesting (key 0 time processors) deep (asked_first tree costs P time processors all))
-      (λ later. keys_closed tree costs lawful priced P nesting (key 0 (time - 1) processors) deep (asked_second tree costs P time processors later all))
+      needed_all tree costs (λ k. All P (rests_on tree costs k)) time processors
+      (keys_closed tree costs lawful priced P nesting (key 0 time processors) deep (needed_first tree costs P time processors all))
+      (λ later. keys_closed tree costs lawful priced P nesting (key 0 (time - 1) processors) deep (needed_second tree costs P time processors later all))
 
-  asked_now : (P : Key → Type 0) → All P (asked tree costs time processors) → P (key 0 time processors)
-  asked_now P all = first_key tree costs lawful priced P nesting (key 0 time processors) (root_deep tree costs lawful priced) (asked_first tree costs P time processors all)
+  needed_now : (P : Key → Type 0) → All P (needed_keys tree costs time processors) → P (key 0 time processors)
+  needed_now P all = first_key tree costs lawful priced P nesting (key 0 time processors) (root_deep tree costs lawful priced) (needed_first tree costs P time processors all)
 
-  asked_before : (P : Key → Type 0) → 0 < time → All P (asked tree costs time processors) → P (key 0 (time - 1) processors)
-  asked_before P later all = first_key tree costs lawful priced P nesting (key 0 (time - 1) processors) (root_deep tree costs lawful priced) (asked_second tree costs P time processors later all)
+  needed_before : (P : Key → Type 0) → 0 < time → All P (needed_keys tree costs time processors) → P (key 0 (time - 1) processors)
+  needed_before P later all = first_key tree costs lawful priced P nesting (key 0 (time - 1) processors) (root_deep tree costs lawful priced) (needed_second tree costs P time processors later all)
 
   -- ---- the rows of the keys needed, in order
 
-  module _ (keys : List Key) (perm : IsPermutation (asked tree costs time processors) keys) (rows : List Row) (are : AreRowsOf keys rows) where
-    has_asked : All (Has rows) (asked tree costs time processors)
-    has_asked = All-permutation (Has rows) keys (asked tree costs time processors) (IsPermutation-sym (asked tree costs time processors) keys perm) are.all
+  module _ (keys : List Key) (perm : IsPermutation (needed_keys tree costs time processors) keys) (rows : List Row) (are : AreRowsOf keys rows) where
+    has_needed : All (Has rows) (needed_keys tree costs time processors)
+    has_needed = All-permutation (Has rows) keys (needed_keys tree costs time processors) (IsPermutation-sym (needed_keys tree costs time processors) keys perm) are.all
 
     -- what holds of all keys holds of each row's
-    of_rows : (P : Key → Type 0) → All P (asked tree costs time processors) → All (λ (row : Row). P (key_of row)) rows
+    of_rows : (P : Key → Type 0) → All P (needed_keys tree costs time processors) → All (λ (row : Row). P (key_of row)) rows
     of_rows P all i d inside =
         let o = are.only i d inside in
-        let sorted = All-permutation P (asked tree costs time processors) keys perm all in
+        let sorted = All-permutation P (needed_keys tree costs time processors) keys perm all in
         subst P o.2 (sorted o.0 (key_of (get_or rows i d)) o.1)
 
     pub made_closed : AreClosed tree costs rows
     made_closed = record {
-      rests = of_rows (λ k. All (Has rows) (rests_on tree costs k)) (asked_closed (Has rows) has_asked);
-      outside = of_rows (IsCosted tree costs) asked_costed;
+      rests = of_rows (λ k. All (Has rows) (rests_on tree costs k)) (needed_closed (Has rows) has_needed);
+      outside = of_rows (IsCosted tree costs) needed_costed;
     }
 
-    pub rows_asked : (filled : List Row) → IsFilledFrom tree costs rows 0 filled → AreRowsAsked tree costs time processors filled
-    rows_asked filled is = record {
+    pub needed_rows : (filled : List Row) → IsFilledFrom tree costs rows 0 filled → AreNeededRows tree costs time processors filled
+    needed_rows filled is = record {
       ordered = is.ordered;
-      all = λ i d inside. has_same rows filled (get_or (asked tree costs time processors) i d) (sym is.same) (has_asked i d inside);
+      all = λ i d inside. has_same rows filled (get_or (needed_keys tree costs time processors) i d) (sym is.same) (has_needed i d inside);
       only = λ i d inside.
           let at = map_at filled rows i d is.same inside in
-          subst (Contains (asked tree costs time processors)) (sym at.1) (of_rows (Contains (asked tree costs time processors)) (λ j e within. Contains-get_or (asked tree costs time processors) j e within) i d at.0);
+          subst (Contains (needed_keys tree costs time processors)) (sym at.1) (of_rows (Contains (needed_keys tree costs time processors)) (λ j e within. Contains-get_or (needed_keys tree costs time processors) j e within) i d at.0);
       follow = λ i d inside. is.follow i d (omega arith) inside;
     }
 
@@ -191,32 +191,32 @@ module _ (tree : Tree) (costs : Costs) (lawful : IsLawfulTree tree) (priced : Ar
     reached = λ l. absurd (omega arith);
   }
 
-  module _ (cert : Cert) (p : cert.processors ≡ processors) (c : cert.counts.list ≡ counts) (s : cert.service ≡ service tree costs counts 0) (u : cert.used ≡ procs tree counts 0) (asks : AreRowsAsked tree costs (service tree costs counts 0) processors cert.rows) where
+  module _ (cert : Cert) (p : cert.processors ≡ processors) (c : cert.counts.list ≡ counts) (s : cert.service ≡ service tree costs counts 0) (u : cert.used ≡ procs tree counts 0) (needs : AreNeededRows tree costs (service tree costs counts 0) processors cert.rows) where
     root_true : (t v : ℕ) → kept cert.rows (key 0 t processors) ≡ Some v → IsLeast (costed tree costs 0) t processors v
-    root_true t v e = rows_true tree costs lawful priced cert.rows asks.ordered.range asks.follow (length tree.nodes) 0 t processors v (omega arith) e (slowest-root tree costs lawful priced)
+    root_true t v e = rows_true tree costs lawful priced cert.rows needs.ordered.range needs.follow (length tree.nodes) 0 t processors v (omega arith) e (slowest-root tree costs lawful priced)
 
     pub certified : CertHolds tree costs cert
     certified =
-        let now = asked_now tree costs lawful priced (service tree costs counts 0) processors (Has cert.rows) asks.all in
+        let now = needed_now tree costs lawful priced (service tree costs counts 0) processors (Has cert.rows) needs.all in
         let used : now.0 ≡ procs tree counts 0 = least_same (costed tree costs 0) (service tree costs counts 0) processors now.0 (procs tree counts 0) (root_true (service tree costs counts 0) now.0 now.1) now_least in
         record {
           lawful = subst (HasLawfulCounts tree) (sym c) optimal.fit.lawful;
           service = s ∙ ap (λ ns. service tree costs ns 0) (sym c);
           used = u ∙ ap (λ ns. procs tree ns 0) (sym c);
           fits = let few = optimal.fit.few in omega (arith, u, p, few);
-          follow = asks.follow;
+          follow = needs.follow;
           least = (λ i. kept cert.rows (key 0 (s i) (p i))) ∙ now.1 ∙ ap (λ n. Some n) (used ∙ sym u);
           no_sooner = λ later.
               let some : 0 < service tree costs counts 0 = omega (arith, s, later) in
-              let before = asked_before tree costs lawful priced (service tree costs counts 0) processors (Has cert.rows) some asks.all in
+              let before = needed_before tree costs lawful priced (service tree costs counts 0) processors (Has cert.rows) some needs.all in
               let least : before.0 ≡ processors + 1 = least_same (costed tree costs 0) (service tree costs counts 0 - 1) processors before.0 (processors + 1) (root_true (service tree costs counts 0 - 1) before.0 before.1) (before_least some) in
               (λ i. kept cert.rows (key 0 (s i - 1) (p i))) ∙ before.1 ∙ ap (λ n. Some n) (least ∙ ap (λ n. n + 1) (sym p));
         }
 
     node_few : All (λ (row : Row). row.node ≤ most_number) cert.rows
     node_few i d inside =
-        let f = asks.follow i d inside in
-        let range = asks.ordered.range i d inside in
+        let f = needs.follow i d inside in
+        let range = needs.ordered.range i d inside in
         let at = rule_some tree costs cert.rows (key_of (get_or cert.rows i d)) (get_or cert.rows i d).least range.some_least f in
         let few = lawful.few_nodes in omega (arith, at.0, few)
 
@@ -228,4 +228,4 @@ module _ (tree : Tree) (costs : Costs) (lawful : IsLawfulTree tree) (priced : Ar
         (λ i d inside.
         let same : All (λ n. n ≤ 512) cert.counts.list = subst (All (λ n. n ≤ 512)) (sym c) (counts_few tree (counted tree) counts optimal.fit.lawful) in
         let count = same i d inside in omega (arith, count))
-        (omega (arith, s, small)) (omega (arith, u, used)) node_few asks.ordered
+        (omega (arith, s, small)) (omega (arith, u, used)) node_few needs.ordered

@@ -5,13 +5,13 @@ use Rattle.p3l_skel.specs.declared.tree.Tree.{Tree}
 use Rattle.p3l_cost.specs.declared.costs.Costs.{Costs}
 use Rattle.p3l_cert.specs.declared.cert.Row.{Row}
 use Rattle.p3l_cert.specs.Fill.{Has}
-use Rattle.p3l_cert.specs.Keys.{asked}
+use Rattle.p3l_cert.specs.Keys.{needed_keys}
 use Rattle.p3l_cert.specs.Rows.{AreRows}
 use Rattle.p3l_cert.specs.Rule.{key_of, Follows}
 
 -- ascending rows, one for each key that is needed, and no others; they follow by their rules
-pub record AreRowsAsked (tree : Tree) (costs : Costs) (service processors : ℕ) (rows : List Row) : Type 0 where
+pub record AreNeededRows (tree : Tree) (costs : Costs) (service processors : ℕ) (rows : List Row) : Type 0 where
   pub ordered : AreRows rows
-  pub all : All (Has rows) (asked tree costs service processors)
-  pub only : All (λ row. Contains (asked tree costs service processors) (key_of row)) rows
+  pub all : All (Has rows) (needed_keys tree costs service processors)
+  pub only : All (λ row. Contains (needed_keys tree costs service processors) (key_of row)) rows
   pub follow : All (Follows tree costs rows) rows

@@ -40,8 +40,8 @@ keys_from tree costs zero k = []
 keys_from tree costs (suc d) k = k ∷ flat_map (keys_from tree costs d) (rests_on tree costs k)
 
 -- the keys of the rows that a certificate of this service time needs
-abbrev pub asked : Tree → Costs → ℕ → ℕ → List Key
-asked tree costs service processors =
+abbrev pub needed_keys : Tree → Costs → ℕ → ℕ → List Key
+needed_keys tree costs service processors =
     if service == 0 then keys_from tree costs nesting (key 0 service processors)
     else keys_from tree costs nesting (key 0 service processors) ++ keys_from tree costs nesting (key 0 (service - 1) processors)
 

@@ -1,6 +1,6 @@
 pub mod Order
 pub mod Text
-pub mod Told
+pub mod Answers
 pub mod Rule
 pub mod Checker
 pub mod Rows

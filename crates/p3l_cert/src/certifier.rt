@@ -7,9 +7,9 @@ ghost use Rattle.p3l_cost.specs.Costs.{AreCostsOf};
 ghost use Rattle.p3l_model.specs.NodeCost.{never};
 ghost use Rattle.p3l_model.specs.Optimal.{IsOptimal};
 ghost use Rattle.p3l_model.specs.Service.{service as service_of};
-ghost use Rattle.p3l_cert.specs.Certified.{AreRowsAsked};
+ghost use Rattle.p3l_cert.specs.Certified.{AreNeededRows};
 ghost use Rattle.p3l_cert.specs.Checker.{CertHolds};
-ghost use Rattle.p3l_cert.specs.Keys.{asked};
+ghost use Rattle.p3l_cert.specs.Keys.{needed_keys};
 ghost use Rattle.p3l_cert.specs.Table.{IsTable};
 ghost use Rattle.p3l_cert.specs.Text.{cert_format};
 
@@ -25,7 +25,7 @@ use p3l_skel::{Counts, Tree};
 use std::alloc::Global;
 
 // The keys of the rows that a certificate of this service time needs.
-fn asked(
+fn needed_keys(
     alloc: Global,
     tree: &Tree,
     costs: &Costs,
@@ -39,7 +39,7 @@ fn asked(
     requires service { service < never }
     requires some { 1 ≤ processors }
     requires few { processors ≤ 512 }
-    ensures { IfOk result (λ keys. keys.items ≡ asked tree.now costs.now service processors) }
+    ensures { IfOk result (λ keys. keys.items ≡ needed_keys tree.now costs.now service processors) }
 {
     let mut keys = Vec::new(alloc);
     let now = Key {
@@ -61,7 +61,7 @@ fn asked(
 }
 
 // The rows that a certificate of this service time needs.
-fn rows_asked(
+fn needed_rows(
     alloc: Global,
     tree: &Tree,
     costs: &Costs,
@@ -73,10 +73,10 @@ fn rows_asked(
     requires service { service < never }
     requires some { 1 ≤ processors }
     requires few { processors ≤ 512 }
-    ensures { IfOk result (λ rows. AreRowsAsked tree.now costs.now service processors rows.items) }
+    ensures { IfOk result (λ rows. AreNeededRows tree.now costs.now service processors rows.items) }
 {
     let table = table(alloc, tree, costs)?;
-    let mut keys = asked(alloc, tree, costs, table.as_slice(), service, processors)?;
+    let mut keys = needed_keys(alloc, tree, costs, table.as_slice(), service, processors)?;
     sort(&mut keys);
     let mut rows = rows_of(alloc, keys.as_slice())?;
     fill_all(tree, costs, table.as_slice(), &mut rows);
@@ -113,11 +113,11 @@ pub fn certify(
     ensures claims { IfOk result (λ cert. (cert.processors ≡ processors)
         × (cert.counts.list ≡ counts.now.list) × (cert.service ≡ service) × (cert.used ≡ used)) }
     ensures rows { IfOk result (λ cert.
-        AreRowsAsked tree.now costs.now service processors cert.rows) }
+        AreNeededRows tree.now costs.now service processors cert.rows) }
     ensures form { IfOk result (λ cert. cert_format.fits cert ≡ true) }
     ensures holds { IfOk result (CertHolds tree.now costs.now) }
 {
-    let rows = rows_asked(alloc, tree, costs, service, processors)?;
+    let rows = needed_rows(alloc, tree, costs, service, processors)?;
     let list = copied(alloc, counts.list.as_slice())?;
     Ok(Cert {
         processors,

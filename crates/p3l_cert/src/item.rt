@@ -10,7 +10,7 @@ ghost use Rattle.p3l_cert.specs.laws.Text.{count_takes, row_takes};
 use crate::cert::Row;
 use p3l_base::NoMemory;
 use p3l_format::{
-    Cause, Item, ReadError, fault_of, read_number_in, read_number_then, read_text, told_at,
+    Cause, Item, ReadError, fault_at, fault_of, read_number_in, read_number_then, read_text,
     write_number, write_number_then,
 };
 use std::alloc::Global;
@@ -138,7 +138,7 @@ impl Item for RowItem {
     fn read<'a>(&self, _alloc: Global, bytes: &'a [u8]) -> Result<(Row, &'a [u8]), ReadError> {
         match read_row(self.above, bytes) {
             Ok(read) => Ok(read),
-            Err(error) => Err(told_at(bytes, error)),
+            Err(error) => Err(fault_at(bytes, error)),
         }
     }
 

@@ -6,14 +6,14 @@ ghost use Rattle.p3l_format.specs.Text.{text_then};
 ghost use Rattle.p3l_format.specs.Series.{until};
 ghost use Rattle.p3l_cert.specs.declared.cert.Cert.{Cert as TheCert};
 ghost use Rattle.p3l_cert.specs.Text.{counts_word, feed, count_format, next_count, first_count, counts_format, rows_format, body_format, cert_format};
-ghost use Rattle.p3l_cert.specs.Told.{Answers, TellsFirst};
+ghost use Rattle.p3l_cert.specs.Answers.{Answers, ReportsFirst};
 ghost use Rattle.p3l_cert.specs.laws.Text.{lawful_cert};
 
 use crate::cert::{Cert, CertRefusal, Row};
 use crate::item::{BOUND_LIMIT, CountItem, RowItem};
 use p3l_base::{List, NoMemory};
 use p3l_format::{
-    Field, NumberLine, ReadError, line_at, read_text, read_until, told_at, write_series,
+    Field, NumberLine, ReadError, fault_at, line_at, read_text, read_until, write_series,
 };
 use p3l_skel::Counts;
 use std::alloc::Global;
@@ -36,7 +36,7 @@ fn read_counts_line(alloc: Global, bytes: &[u8]) -> Result<(List<u32>, &[u8]), R
 {
     match read_counts(alloc, bytes) {
         Ok(read) => Ok(read),
-        Err(error) => Err(told_at(bytes, error)),
+        Err(error) => Err(fault_at(bytes, error)),
     }
 }
 
@@ -169,7 +169,7 @@ pub fn read_cert(alloc: Global, text: &[u8]) -> Result<Cert, CertRefusal>
     ensures only { (cert : TheCert) → cert_format.fits cert ≡ true
         → text.now ≡ cert_format.spell cert → Answers text.now result (Ok cert) }
     // The line that is reported is the first that isn't of its form, whatever reads it.
-    ensures first { TellsFirst text.now result }
+    ensures first { ReportsFirst text.now result }
     // Which line the format's own reading reports.
     ensures exact { Answers text.now result (read_all cert_format text.now) }
 {

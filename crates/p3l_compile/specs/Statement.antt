@@ -11,7 +11,7 @@ abbrev pub assign_size : Phrases → Phrase → ℕ
 assign_size none e = phrase_size e + 1
 assign_size (more d is) e = index_size (more d is) + phrase_size e + 2
 
--- a loop asks for its condition after its body
+-- a loop evaluates its condition after its body
 abbrev pub loop_size : ℕ → ℕ → ℕ
 loop_size body condition = body + condition + 3
 

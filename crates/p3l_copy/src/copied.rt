@@ -5,7 +5,7 @@ ghost use Rattle.std.specs.Prelude.{◌≡◌, IfOk};
 use p3l_base::{List, NoMemory};
 use std::alloc::Global;
 
-/// What has copies that contracts can't tell from it.
+/// What has copies that contracts can't distinguish from it.
 pub trait Copied: Drop {
     /// A copy.
     fn copied(&self, alloc: Global) -> Result<Self, NoMemory>

@@ -14,7 +14,7 @@ use p3l_base::NoMemory;
 use std::alloc::Global;
 
 /// A fault in a line that begins here, reported at its start.
-pub fn told_at(bytes: &[u8], error: ReadError) -> ReadError
+pub fn fault_at(bytes: &[u8], error: ReadError) -> ReadError
     ensures { result ≡ line_error bytes.now error }
 {
     match error {
@@ -49,7 +49,7 @@ impl<'w> NumberLine<'w> {
     {
         match self.read_words(bytes) {
             Ok(read) => Ok(read),
-            Err(error) => Err(told_at(bytes, error)),
+            Err(error) => Err(fault_at(bytes, error)),
         }
     }
 

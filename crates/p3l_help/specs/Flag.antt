@@ -1,11 +1,11 @@
--- The words that ask for a page wherever they are.
+-- The words that request a page wherever they are.
 use Rattle.std.specs.Prelude.{ℕ, cond, List, Option, Some, None, find, position, is_some, take, bytes_eq, codes, ◌||◌}
 use Rattle.std.specs.Borrow.{Bor}
 use Rattle.std.specs.Option.{option_and_then, option_map}
 use Rattle.p3l_help.specs.declared.flag.Flag.{Flag}
 use Rattle.p3l_help.specs.declared.flag.Flag.TheVariants.{Help, Version}
 
--- what a word asks for
+-- what a word requests
 abbrev pub flag_of : List ℕ → Option Flag
 flag_of word =
     cond (bytes_eq word (codes "--help") || bytes_eq word (codes "-h")) (Some Help)
@@ -24,13 +24,13 @@ dashes_in words = position (λ word. bytes_eq word.now (codes "--")) words
 abbrev pub before_dashes : List (Bor (List ℕ)) → List (Bor (List ℕ))
 before_dashes words = words_before (dashes_in words) words
 
--- the first word that asks for something
-abbrev pub asking_among : List (Bor (List ℕ)) → Option (List ℕ)
-asking_among words = option_map (λ word. word.now) (find (λ word. is_some (flag_of word.now)) words)
+-- the first word that requests something
+abbrev pub request_among : List (Bor (List ℕ)) → Option (List ℕ)
+request_among words = option_map (λ word. word.now) (find (λ word. is_some (flag_of word.now)) words)
 
--- what the first word before `--` that asks for something asks for
+-- what the first word before `--` that requests something requests
 abbrev pub first_flag : List (Bor (List ℕ)) → Option Flag
-first_flag words = option_and_then flag_of (asking_among (before_dashes words))
+first_flag words = option_and_then flag_of (request_among (before_dashes words))
 
 -- the topic that is requested where help would be about this one
 abbrev pub topic_of : List ℕ → Flag → List ℕ

@@ -1,4 +1,4 @@
--- Which words ask for which page.
+-- Which words request which page.
 use Rattle.std.specs.Prelude.{ℕ, Bool, cond, List, Option, Some, None, bytes_eq, codes, drop, is_some, slice_get}
 use Rattle.std.specs.Borrow.{Bor}
 use Rattle.std.specs.Option.{option_and_then}
@@ -45,19 +45,19 @@ named_by (Some word) (Some more) = None
 abbrev pub named_topic : List (Bor (List ℕ)) → Option (List ℕ)
 named_topic words = named_by (slice_get words 0) (slice_get words 1)
 
--- the topic that the words of a command ask for
+-- the topic that the words of a command request
 abbrev pub command_topic : Handbook → List ℕ → List (Bor (List ℕ)) → Option (List ℕ)
 command_topic book first rest = cond (is_command book first) (flag_or first None (first_flag rest)) None
 
--- the topic that a first word and those after it ask for
+-- the topic that a first word and those after it request
 abbrev pub topic_after : Handbook → List ℕ → List (Bor (List ℕ)) → Option (List ℕ)
 topic_after book first rest =
     cond (bytes_eq first (codes "help")) (named_topic rest) (flag_or (codes "help") (command_topic book first rest) (flag_of first))
 
--- the topic that the words ask for
-abbrev pub topic_asked : Handbook → List (Bor (List ℕ)) → Option (List ℕ)
-topic_asked book words = option_and_then (λ first. topic_after book first.now (drop 1 words)) (slice_get words 0)
+-- the topic that the words request
+abbrev pub requested_topic : Handbook → List (Bor (List ℕ)) → Option (List ℕ)
+requested_topic book words = option_and_then (λ first. topic_after book first.now (drop 1 words)) (slice_get words 0)
 
--- the text that the words ask for
+-- the text that the words request
 abbrev pub answer_to : Handbook → List (Bor (List ℕ)) → Option (List ℕ)
-answer_to book words = option_and_then (page_on book) (topic_asked book words)
+answer_to book words = option_and_then (page_on book) (requested_topic book words)

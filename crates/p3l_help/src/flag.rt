@@ -1,10 +1,10 @@
-// The words that ask for a page wherever they are.
+// The words that request a page wherever they are.
 
 ghost use Rattle.std.specs.Prelude.{◌≡◌};
 ghost use Rattle.std.specs.Option.{option_map};
-ghost use Rattle.p3l_help.specs.Flag.{asking_among, before_dashes, dashes_in, first_flag, flag_of, topic_of};
+ghost use Rattle.p3l_help.specs.Flag.{before_dashes, dashes_in, first_flag, flag_of, request_among, topic_of};
 
-/// What such a word asks for.
+/// What such a word requests.
 #[derive(Clone, Copy, Debug, Drop, PartialEq, Eq)]
 pub enum Flag {
     /// Help on what the words are about.
@@ -25,7 +25,7 @@ impl Flag {
     }
 }
 
-/// What a word asks for, if it asks.
+/// What a word requests, if it requests one.
 pub(crate) fn flag_in(word: &str) -> Option<Flag>
     ensures { result ≡ flag_of word.now }
 {
@@ -53,9 +53,9 @@ fn before_dashes<'a>(words: &'a [&'a str]) -> &'a [&'a str]
     }
 }
 
-/// The first word that asks for something.
-fn asking_among<'a>(words: &'a [&'a str]) -> Option<&'a str>
-    ensures { option_map (λ word. word.now) result ≡ asking_among words.now }
+/// The first word that requests something.
+fn request_among<'a>(words: &'a [&'a str]) -> Option<&'a str>
+    ensures { option_map (λ word. word.now) result ≡ request_among words.now }
 {
     words
         .iter()
@@ -63,11 +63,11 @@ fn asking_among<'a>(words: &'a [&'a str]) -> Option<&'a str>
         .map(|word| *word)
 }
 
-/// What the first word before `--` that asks for something asks for.
+/// What the first word before `--` that requests something requests.
 pub(crate) fn flag_among(words: &[&str]) -> Option<Flag>
     ensures { result ≡ first_flag words.now }
 {
-    match asking_among(before_dashes(words)) {
+    match request_among(before_dashes(words)) {
         Some(word) => flag_in(word),
         None => None,
     }

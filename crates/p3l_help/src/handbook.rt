@@ -1,9 +1,9 @@
-// All pages, and which words ask for which.
+// All pages, and which words request which.
 
 ghost use Rattle.std.specs.Prelude.{◌≡◌};
 ghost use Rattle.std.specs.Option.{option_map};
 ghost use Rattle.p3l_help.specs.Handbook.{answer_to, fault_on, is_command, named_topic};
-ghost use Rattle.p3l_help.specs.Handbook.{page_on, topic_after, topic_asked};
+ghost use Rattle.p3l_help.specs.Handbook.{page_on, requested_topic, topic_after};
 
 use crate::flag::{flag_among, flag_in};
 use crate::page::{Page, text_on};
@@ -28,7 +28,7 @@ pub struct Handbook {
 }
 
 impl Handbook {
-    /// The text that the words ask for, if they ask for one that is there:
+    /// The text that the words request, if they request one that is there:
     ///
     /// - `help TOPIC`, a command, a number of refusal or another topic, and `help` alone, which asks
     ///   for the topic `help`;
@@ -37,7 +37,7 @@ impl Handbook {
     pub fn answer(&self, words: &[&str]) -> Option<&'static str>
         ensures { option_map (λ text. text.now) result ≡ answer_to self.now words.now }
     {
-        match self.topic_asked(words) {
+        match self.requested_topic(words) {
             Some(topic) => self.page_on(topic),
             None => None,
         }
@@ -82,9 +82,9 @@ impl Handbook {
         text_on(self.commands, word).is_some()
     }
 
-    /// The topic that the words ask for.
-    fn topic_asked<'a>(&self, words: &'a [&'a str]) -> Option<&'a str>
-        ensures { option_map (λ topic. topic.now) result ≡ topic_asked self.now words.now }
+    /// The topic that the words request.
+    fn requested_topic<'a>(&self, words: &'a [&'a str]) -> Option<&'a str>
+        ensures { option_map (λ topic. topic.now) result ≡ requested_topic self.now words.now }
     {
         match words.first() {
             Some(first) => self.topic_after(first, &words[1..]),
@@ -92,7 +92,7 @@ impl Handbook {
         }
     }
 
-    /// The topic that a first word and those after it ask for.
+    /// The topic that a first word and those after it request.
     fn topic_after<'a>(&self, first: &'a str, rest: &'a [&'a str]) -> Option<&'a str>
         ensures { option_map (λ topic. topic.now) result ≡ topic_after self.now first.now rest.now }
     {

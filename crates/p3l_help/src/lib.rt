@@ -1,5 +1,5 @@
 //! The pages that teach: of the program, its commands, its statuses, its language and each number
-//! of refusal; and which words ask for which.
+//! of refusal; and which words request which.
 #![tactic(auto)]
 
 mod command;

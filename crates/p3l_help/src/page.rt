@@ -4,7 +4,7 @@ ghost use Rattle.std.specs.Prelude.{◌≡◌};
 ghost use Rattle.std.specs.Option.{option_map};
 ghost use Rattle.p3l_help.specs.Page.{text_among};
 
-/// A text, and the word by which one asks for it.
+/// A text, and the word by which one requests it.
 #[derive(Clone, Copy, Debug, Drop)]
 pub struct Page {
     pub topic: &'static str,

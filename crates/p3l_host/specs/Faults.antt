@@ -1,4 +1,4 @@
--- What the real files tell of their faults.
+-- What the real files report of their faults.
 use Rattle.std.specs.Prelude.{◌≡◌, ◌≤◌, ℕ, List, Option, Some}
 use Rattle.p3l_io.specs.Causes.{Rose}
 

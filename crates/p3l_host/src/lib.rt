@@ -1,4 +1,4 @@
-//! The real source, sinks and files: std's standard streams and file system. They tell no content.
+//! The real source, sinks and files: std's standard streams and file system. They report no content.
 #![tactic(auto)]
 
 pub mod after;

@@ -15,7 +15,7 @@ use Rattle.p3l_tree_format.specs.Rescue.{flag_format, number_format, rescue_form
 use Rattle.p3l_tree_format.specs.Module.{kind_format, name_format, module_format}
 use Rattle.p3l_tree_format.specs.Tree.{modules_format, nodes_format, tree_format}
 use Rattle.p3l_image.specs.declared.image.Image.{Image}
-use Rattle.p3l_image.specs.Image.{magic, body_format, image_format, CanBeWritten, HasNoRescue, OldTextsTellNoRescue}
+use Rattle.p3l_image.specs.Image.{magic, body_format, image_format, CanBeWritten, HasNoRescue, OldTextsHaveNoRescue}
 
 -- in version 1 there is no rescue number
 only_none : (kind : ModuleKind) (rescue : Option ℤ) → (rescue_format One kind).fits rescue ≡ true → rescue ≡ None
@@ -104,7 +104,7 @@ image_alike v w image fits tree =
     (both_true cap _ (first_true cap _ body)
     (both_true ((tree_format w).fits image.tree) _ tree (second_true ((tree_format v).fits image.tree) _ (second_true cap _ body)))))
 
-pub old_texts : OldTextsTellNoRescue
+pub old_texts : OldTextsHaveNoRescue
 old_texts image = (
   λ old. let none = tree_none image.tree (tree_of One image old) in (
     image_alike One Two image old (tree_alike One Two image.tree (tree_of One image old) none),

@@ -59,6 +59,6 @@ abbrev pub HasNoRescue : ModuleInfo → Type 0
 HasNoRescue info = info.rescue ≡ None
 
 -- of the images that can be written, those have a spelling in version 1 whose modules have no rescue number
-abbrev pub OldTextsTellNoRescue : Type 0
-OldTextsTellNoRescue =
+abbrev pub OldTextsHaveNoRescue : Type 0
+OldTextsHaveNoRescue =
     (image : Image) → (image_format.fits (One, image) ≡ true) ↔ (CanBeWritten image × All HasNoRescue image.tree.modules)

@@ -23,11 +23,11 @@ abbrev pub refusal_of : List ℕ → Fault → ImageRefusal
 refusal_of bytes fault = refusal_at bytes fault.cause (length bytes - fault.left)
 
 -- what reading gives, with its fault as a refusal
-abbrev pub told : List ℕ → Result Image Fault → Result Image ImageRefusal
-told bytes (Ok image) = Ok image
-told bytes (Err fault) = Err (refusal_of bytes fault)
+abbrev pub answer_of : List ℕ → Result Image Fault → Result Image ImageRefusal
+answer_of bytes (Ok image) = Ok image
+answer_of bytes (Err fault) = Err (refusal_of bytes fault)
 
 -- a call answered what reading gives, unless out of memory
 abbrev pub Answers : List ℕ → Result Image ImageRefusal → Result Image Fault → Type 0
 Answers bytes (Err refusals.NoMemory) read = ⊤
-Answers bytes answer read = answer ≡ told bytes read
+Answers bytes answer read = answer ≡ answer_of bytes read

@@ -2,7 +2,7 @@
 
 ghost use Rattle.std.specs.Prelude.{◌≡◌, ◌≤◌, ◌++◌, true, slice_index, Ok, IfOk, OnOk};
 ghost use Rattle.p3l_image.specs.declared.image.Image.{Image as TheImage};
-ghost use Rattle.p3l_image.specs.Image.{body_format, image_format, image_in, image_text, CanBeWritten, ImageBeginsNoOther, IsSpelling, OldTextsTellNoRescue};
+ghost use Rattle.p3l_image.specs.Image.{body_format, image_format, image_in, image_text, CanBeWritten, ImageBeginsNoOther, IsSpelling, OldTextsHaveNoRescue};
 ghost use Rattle.p3l_image.specs.Refusal.{Answers, refusal_of, version_at};
 ghost use Rattle.p3l_image.specs.laws.Image.{lawful_body, lawful_image};
 
@@ -188,6 +188,6 @@ pub fn image_begins_no_other()
 
 /// An image has a spelling in version 1 exactly where it can be written and no module has a rescue
 /// number.
-pub fn old_texts_tell_no_rescue()
-    ensures { OldTextsTellNoRescue }
+pub fn old_texts_have_no_rescue()
+    ensures { OldTextsHaveNoRescue }
 {}

@@ -195,8 +195,12 @@ fn each_field_has_its_range(rt: HostRuntime) -> Result<(), Fail> {
             let place = bytes.len();
             if !wrong.is_empty() {
                 bytes.extend_from_slice(wrong)?;
-                let told = refusal(rt.alloc(), &bytes);
-                assert_eq!(rt; told, Some(ImageRefusal::BadField(place as u64)), "{place}");
+                let found = refusal(rt.alloc(), &bytes);
+                assert_eq!(rt;
+                    found,
+                    Some(ImageRefusal::BadField(place as u64)),
+                    "{place}"
+                );
                 bytes.truncate(place);
             }
             bytes.extend_from_slice(right)?;

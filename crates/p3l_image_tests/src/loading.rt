@@ -110,10 +110,10 @@ fn a_net_is_linked_anew(rt: HostRuntime) -> Result<(), Fail> {
         assert_eq!(rt; load(alloc, image).err(), None);
     }
     for changes in [[COUNT, SLOT, CHANNEL], [INS, BUDGET, KIND]] {
-        let told = migrated(alloc, &changes)?.err();
-        assert_eq!(rt; told, Some(LoadRefusal::TreeWrong));
+        let found = migrated(alloc, &changes)?.err();
+        assert_eq!(rt; found, Some(LoadRefusal::TreeWrong));
     }
-    let told = migrated(alloc, &[SLOT, CHANNEL])?.err();
-    assert_eq!(rt; told, Some(LoadRefusal::CodeUnsafe(0)));
+    let found = migrated(alloc, &[SLOT, CHANNEL])?.err();
+    assert_eq!(rt; found, Some(LoadRefusal::CodeUnsafe(0)));
     Ok(())
 }

@@ -161,7 +161,7 @@ fn an_image_is_read_and_written(rt: HostRuntime) -> Result<(), Fail> {
 }
 
 #[test]
-fn an_image_cut_short_is_told_at_its_field(rt: HostRuntime) -> Result<(), Fail> {
+fn an_image_cut_short_is_reported_at_its_field(rt: HostRuntime) -> Result<(), Fail> {
     let mut bytes = Vec::new(rt.alloc());
     for field in FIELDS {
         let place = bytes.len();
@@ -180,7 +180,7 @@ fn an_image_cut_short_is_told_at_its_field(rt: HostRuntime) -> Result<(), Fail> 
 }
 
 #[test]
-fn another_magic_number_or_version_is_told(rt: HostRuntime) {
+fn another_magic_number_or_version_is_reported(rt: HostRuntime) {
     let alloc = rt.alloc();
     assert_eq!(rt; refusal(alloc, b"P3LJ"), Some(ImageRefusal::BadMagic));
     assert_eq!(rt; refusal(alloc, b"P3L"), Some(ImageRefusal::Short(0)));

@@ -168,11 +168,11 @@ fn held_traps_are_read_and_written(rt: HostRuntime) -> Result<(), Fail> {
 }
 
 #[test]
-fn damages_are_told_at_their_places(rt: HostRuntime) -> Result<(), Fail> {
+fn damages_are_reported_at_their_places(rt: HostRuntime) -> Result<(), Fail> {
     let alloc = rt.alloc();
-    for (at, byte, told) in DAMAGES {
+    for (at, byte, expected) in DAMAGES {
         let bytes = damaged(alloc, at, byte)?;
-        assert_eq!(rt; place(alloc, &bytes), Some(told));
+        assert_eq!(rt; place(alloc, &bytes), Some(expected));
     }
     let mut bytes = Vec::new(alloc);
     for field in SHOT {

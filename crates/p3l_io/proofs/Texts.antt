@@ -9,7 +9,7 @@ use Rattle.std.specs.declared.alloc.Global.{Global}
 use Rattle.std.proofs.lemmas.Bool.{cond-true, cond-false, false_from_ne_true}
 use Rattle.std.proofs.lemmas.Map.Text.{btree_map_updates_text, is_eq-slice_cmp, text_cmp}
 use Rattle.std.proofs.lemmas.Slice.Eq.{bytes_eq-Decides}
-use Rattle.p3l_io.specs.Told.{IsPut}
+use Rattle.p3l_io.specs.Content.{IsPut}
 use Rattle.p3l_io.specs.MemFiles.{bytes_under, texts}
 
 -- the names as bytes find what the map finds

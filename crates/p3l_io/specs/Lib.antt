@@ -1,5 +1,5 @@
 pub mod Causes
-pub mod Told
+pub mod Content
 pub mod Calls
 pub mod MemSource
 pub mod MemSink

@@ -8,7 +8,7 @@ use Rattle.p3l_io.specs.declared.fault.FileFault.TheVariants as file
 use Rattle.p3l_io.specs.declared.fault.WriteFault.{WriteFault}
 use Rattle.p3l_io.specs.declared.fault.WriteFault.TheVariants as write
 use Rattle.p3l_io.specs.Calls.{next_count, names_call}
-use Rattle.p3l_io.specs.Told.{Held, IsPut}
+use Rattle.p3l_io.specs.Content.{Held, IsPut}
 
 -- the names with their bytes, the calls that fail, how many calls and faults there were, and the name of the file of the latest fault
 pub record FilesState : Type 0 where
@@ -41,13 +41,13 @@ write_failed (Err write.NoMemory) = false
 
 -- a reading fails where it is to fail and nowhere else, unless it is out of memory
 abbrev pub ReadFailsIf : {T : Type 0} → Bool → Result T FileFault → Type 0
-ReadFailsIf due (Err file.NoMemory) = Unit {0}
-ReadFailsIf due result = read_failed result ≡ due
+ReadFailsIf pending (Err file.NoMemory) = Unit {0}
+ReadFailsIf pending result = read_failed result ≡ pending
 
 -- and so a writing
 abbrev pub WriteFailsIf : {T : Type 0} → Bool → Result T WriteFault → Type 0
-WriteFailsIf due (Err write.NoMemory) = Unit {0}
-WriteFailsIf due result = write_failed result ≡ due
+WriteFailsIf pending (Err write.NoMemory) = Unit {0}
+WriteFailsIf pending result = write_failed result ≡ pending
 
 -- the files after a call of this name that changed none and failed or not
 abbrev pub after_call : FilesState → (name : List ℕ) → (failed : Bool) → FilesState

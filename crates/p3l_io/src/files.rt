@@ -2,7 +2,7 @@
 
 ghost use Rattle.std.specs.Prelude.{◌≤◌, ℕ, List, Option, length, IfOk};
 ghost use Rattle.p3l_io.specs.Causes.{HasReadCause, HasWriteCause, ReadBlames, WriteBlames};
-ghost use Rattle.p3l_io.specs.Told.{Held, Reads, Writes};
+ghost use Rattle.p3l_io.specs.Content.{Held, Reads, Writes};
 
 use crate::fault::{FileFault, WriteFault};
 use p3l_base::List;
@@ -10,7 +10,7 @@ use std::alloc::Global;
 
 /// Files by their names.
 pub trait Files {
-    // the bytes under each name that has some, where the files tell them
+    // the bytes under each name that has some, where the files report them
     ghost held: { Self → Option Held };
 
     // how often a call has failed, up to the last value of a `u64`

@@ -3,7 +3,7 @@
 ghost use Rattle.std.specs.Prelude.{◌≡◌, ◌≤◌, [], Some, None, false, length, is_none, is_ok, ◌||◌, IfOk, OnOk, OnErr};
 ghost use Rattle.std.specs.Option.{option_copied};
 ghost use Rattle.p3l_io.specs.Causes.{HasReadCause, HasWriteCause, ReadBlames, WriteBlames};
-ghost use Rattle.p3l_io.specs.Told.{IsPut, Reads, Writes};
+ghost use Rattle.p3l_io.specs.Content.{IsPut, Reads, Writes};
 ghost use Rattle.p3l_io.specs.Calls.{next_count};
 ghost use Rattle.p3l_io.specs.MemFiles.{IsAdded, IsCalled, IsCopy, ReadFailsIf, WriteFailsIf, after_call, bytes_under, fails_next, read_failed, texts, write_failed};
 

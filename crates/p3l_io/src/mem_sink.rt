@@ -2,7 +2,7 @@
 
 ghost use Rattle.std.specs.Prelude.{◌≡◌, ◌-◌, ◌≤◌, [], ◌++◌, Some, length, is_err, IfOk};
 ghost use Rattle.p3l_io.specs.Causes.{HasCause};
-ghost use Rattle.p3l_io.specs.Told.{Puts};
+ghost use Rattle.p3l_io.specs.Content.{Puts};
 ghost use Rattle.p3l_io.specs.MemSink.{after_put, entry_of, fails_at};
 
 use crate::calls::after_one_more;

@@ -2,7 +2,7 @@
 
 ghost use Rattle.std.specs.Prelude.{◌≡◌, ◌<◌, ◌≤◌, Some, drop, length, is_err, IfOk};
 ghost use Rattle.p3l_io.specs.Causes.{HasCause};
-ghost use Rattle.p3l_io.specs.Told.{Takes};
+ghost use Rattle.p3l_io.specs.Content.{Takes};
 ghost use Rattle.p3l_io.specs.MemSource.{after_take, fails_next, given};
 
 use crate::calls::{after_one_more, is_named};

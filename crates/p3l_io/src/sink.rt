@@ -2,7 +2,7 @@
 
 ghost use Rattle.std.specs.Prelude.{ℕ, List, Option};
 ghost use Rattle.p3l_io.specs.Causes.{HasCause};
-ghost use Rattle.p3l_io.specs.Told.{Puts};
+ghost use Rattle.p3l_io.specs.Content.{Puts};
 
 use crate::fault::Failed;
 

@@ -2,7 +2,7 @@
 
 ghost use Rattle.std.specs.Prelude.{◌<◌, ◌≤◌, ℕ, List, Option, length, IfOk};
 ghost use Rattle.p3l_io.specs.Causes.{HasCause};
-ghost use Rattle.p3l_io.specs.Told.{Takes};
+ghost use Rattle.p3l_io.specs.Content.{Takes};
 
 use crate::fault::Failed;
 

@@ -109,7 +109,7 @@ pub record HasGen (found : List Row) (number processors items : ℕ) (schedule :
   pub made : IsMade schedule
   pub saved : save ≡ first_of (codes "save") found
 
--- what is scanned in so many segments, and how that is run
+-- what is scanned in this number of segments, and how that is run
 pub record HasScan (found : List Row) (program : Text) (segments : ℕ) (schedule : Sched) (capacity : ℕ) (stats : Bool) : Type 0 where
   pub program_is : first_of (codes "program") found ≡ Some program
   pub segments_are : HasSegments (first_of (codes "segments") found) segments

@@ -96,7 +96,7 @@ impl Write for Faulty {
 }
 
 #[test]
-fn interrupted_calls_are_made_again_and_faults_are_told(rt: HostRuntime) -> Result<(), Fail> {
+fn interrupted_calls_are_made_again_and_faults_are_reported(rt: HostRuntime) -> Result<(), Fail> {
     let mut input = HostIn::new(Faulty { calls: 0 });
     let mut buf = [0u8; 8];
     assert_eq!(rt; input.take(&mut buf), Ok(1));
@@ -106,7 +106,7 @@ fn interrupted_calls_are_made_again_and_faults_are_told(rt: HostRuntime) -> Resu
 }
 
 #[test]
-fn faults_after_the_opening_of_a_file_are_told(rt: HostRuntime) -> Result<(), Fail> {
+fn faults_after_the_opening_of_a_file_are_reported(rt: HostRuntime) -> Result<(), Fail> {
     let alloc = rt.alloc();
     let output = Output::new(alloc, rt.stdout())?;
     let mut files = HostFiles::new(&rt, &output);

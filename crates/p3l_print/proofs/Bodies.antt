@@ -67,9 +67,9 @@ unary_starts Neg rest = refl
 unary_starts Not rest = refl
 unary_starts Flip rest = refl
 
-operand_starts : (asked tight : ℕ) (text rest : List ℕ) → ((q : List ℕ) → NoEquals (text ++ q)) → NoEquals (operand_text asked tight text ++ rest)
+operand_starts : (least tight : ℕ) (text rest : List ℕ) → ((q : List ℕ) → NoEquals (text ++ q)) → NoEquals (operand_text least tight text ++ rest)
 unfolding operand_text NoEquals
-operand_starts asked tight text rest h = go (nat_le asked tight)
+operand_starts least tight text rest h = go (nat_le least tight)
   where
     go : (b : Bool) → NoEquals ((if b then text else codes "(" ++ text ++ codes ")") ++ rest)
     go true = h rest
@@ -117,10 +117,10 @@ infix_begins o rest = refl
 abbrev FormWrites : Formula → Type 0
 FormWrites e = (s : List Symbol) (rest : List ℕ) → EndsWord rest → Writes rest s → Writes (expression_text (tree e) ++ rest) (spell (canonical_formula e) s)
 
-operand_writes : (asked : ℕ) (e : Formula) (s : List Symbol) (rest : List ℕ) → FormWrites e → EndsWord rest → Writes rest s
-    → Writes (operand_text asked (tightness (tree e)) (expression_text (tree e)) ++ rest) (spell (around asked (canonical_formula e)) s)
+operand_writes : (least : ℕ) (e : Formula) (s : List Symbol) (rest : List ℕ) → FormWrites e → EndsWord rest → Writes rest s
+    → Writes (operand_text least (tightness (tree e)) (expression_text (tree e)) ++ rest) (spell (around least (canonical_formula e)) s)
 unfolding operand_text
-operand_writes asked e s rest k ends w = subst (λ n. Writes ((if nat_le asked n then expression_text (tree e) else codes "(" ++ expression_text (tree e) ++ codes ")") ++ rest) (spell (around asked (canonical_formula e)) s)) (tight_is e) (go (nat_le asked (tight (canonical_formula e))))
+operand_writes least e s rest k ends w = subst (λ n. Writes ((if nat_le least n then expression_text (tree e) else codes "(" ++ expression_text (tree e) ++ codes ")") ++ rest) (spell (around least (canonical_formula e)) s)) (tight_is e) (go (nat_le least (tight (canonical_formula e))))
   where
     go : (b : Bool) → Writes ((if b then expression_text (tree e) else codes "(" ++ expression_text (tree e) ++ codes ")") ++ rest) (spell (if b then canonical_formula e else paren (canonical_formula e)) s)
     go true = k s rest ends w

@@ -9,9 +9,9 @@ use Rattle.p3l_grammar.specs.Written.{Formula, numeral, place, prefix, infix_, p
 use Rattle.p3l_grammar.proofs.Complete.{level_small}
 use Rattle.p3l_print.specs.Expression.{tightness}
 
--- in parentheses where it binds less tight than is asked
+-- in parentheses where it binds less tight than is required
 abbrev pub around : ℕ → Formula → Formula
-around asked e = if nat_le asked (tight e) then e else paren e
+around least e = if nat_le least (tight e) then e else paren e
 
 abbrev mutual
   pub canonical_formula : Formula → Formula
@@ -49,8 +49,8 @@ canonical_passages is = map canonical_passage is
 le_of : (m n : ℕ) → nat_le m n ≡ true → m ≤ n
 le_of m n h = grind (arith, nat_tests)
 
-pub record IsFormula (asked : ℕ) (written : Formula) (e : Phrase) : Type 0 where
-  pub tight_enough : asked ≤ tight written
+pub record IsFormula (least : ℕ) (written : Formula) (e : Phrase) : Type 0 where
+  pub tight_enough : least ≤ tight written
   pub grouped : IsGrouped written
   pub same : tree written ≡ e
 

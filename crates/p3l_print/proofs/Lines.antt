@@ -21,7 +21,7 @@ use Rattle.p3l_print.specs.Statement.{assignment_text, deeper, block_text, openi
 
 -- an operand as it stands in an expression
 abbrev pub operand : ℕ → Expr → List ℕ
-operand asked e = operand_text asked (tightness (phrase e)) (expression_text (phrase e))
+operand least e = operand_text least (tightness (phrase e)) (expression_text (phrase e))
 
 pub tightness_number : (value : ℤ) → tightness (phrase (Number value)) ≡ 10
 tightness_number value = ap tightness (phrase_number value)

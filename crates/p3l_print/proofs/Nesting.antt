@@ -123,8 +123,8 @@ mutual
   counted_all_more o (index e is) = let h = counted_more o e in let k = counted_all_more (counted o e) is in omega arith
 
 -- parentheses change nothing in it
-around_counted : (asked o : ℕ) (e : Formula) → counted o (around asked e) ≡ counted o e
-around_counted asked o e = go (nat_le asked (tight e))
+around_counted : (least o : ℕ) (e : Formula) → counted o (around least e) ≡ counted o e
+around_counted least o e = go (nat_le least (tight e))
   where
     go : (b : Bool) → counted o (if b then e else paren e) ≡ counted o e
     go true = refl
@@ -172,18 +172,18 @@ mutual
 
 record IsAllowed (b : ℕ) (e : Formula) : Type 0 where
   plain : Allows b (canonical_formula e)
-  enclosed : (asked : ℕ) → asked ≤ tight e → Allows b (around asked (canonical_formula e))
+  enclosed : (least : ℕ) → least ≤ tight e → Allows b (around least (canonical_formula e))
 
 -- an expression that keeps how tight it binds is not enclosed
 kept_open : (b : ℕ) (e : Formula) → tight (canonical_formula e) ≡ tight e → Allows b (canonical_formula e) → IsAllowed b e
-kept_open b e same h = record { plain = h; enclosed = λ asked k. go (nat_le asked (tight (canonical_formula e))) (le_true asked (tight (canonical_formula e)) (subst (λ q. asked ≤ q) (sym same) k)) }
+kept_open b e same h = record { plain = h; enclosed = λ least k. go (nat_le least (tight (canonical_formula e))) (le_true least (tight (canonical_formula e)) (subst (λ q. least ≤ q) (sym same) k)) }
   where
     go : (c : Bool) → c ≡ true → Allows b (if c then canonical_formula e else paren (canonical_formula e))
     go true p = h
     go false p = absurd cc
 
 paren_allowed : (b : ℕ) (e : Formula) → suc b ≤ 64 → Allows (suc b) (canonical_formula e) → IsAllowed b (paren e)
-paren_allowed b e k h = record { plain = shallower b (canonical_formula e) h; enclosed = λ asked _. go (nat_le asked (tight (canonical_formula e))) }
+paren_allowed b e k h = record { plain = shallower b (canonical_formula e) h; enclosed = λ least _. go (nat_le least (tight (canonical_formula e))) }
   where
     go : (c : Bool) → Allows b (if c then canonical_formula e else paren (canonical_formula e))
     go true = shallower b (canonical_formula e) h

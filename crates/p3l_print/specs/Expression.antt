@@ -19,9 +19,9 @@ tightness (unary operator operand) = 10
 unfoldable pub infix_text : BinOp → List ℕ
 infix_text operator = codes " " ++ sign_of operator ++ codes " "
 
--- in parentheses where it binds less tight than is asked
+-- in parentheses where it binds less tight than is required
 unfoldable pub operand_text : ℕ → ℕ → List ℕ → List ℕ
-operand_text asked tight text = if nat_le asked tight then text else codes "(" ++ text ++ codes ")"
+operand_text least tight text = if nat_le least tight then text else codes "(" ++ text ++ codes ")"
 
 abbrev mutual
   pub expression_text : Phrase → List ℕ

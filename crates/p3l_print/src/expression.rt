@@ -54,15 +54,15 @@ impl Printer {
         self.put(b" ")
     }
 
-    /// An operand, in parentheses where it binds less tight than is asked.
+    /// An operand, in parentheses where it binds less tight than is required.
     #[cycle(expression)]
     #[tactic(auto, unfolding(crate::specs::Expression::operand_text))]
-    fn operand(&mut self, asked: u8, operand: &Expr) -> Result<(), NoMemory>
+    fn operand(&mut self, least: u8, operand: &Expr) -> Result<(), NoMemory>
         ensures { OnOk result (self.new ≡ self.old
-            ++ operand_text asked (tightness (phrase operand.now))
+            ++ operand_text least (tightness (phrase operand.now))
             (expression_text (phrase operand.now))) }
     {
-        if asked <= tightness_of(operand) {
+        if least <= tightness_of(operand) {
             return self.expression(operand);
         }
         self.put(b"(")?;

@@ -9,7 +9,7 @@ use Rattle.p3l_skel.specs.declared.tree.Tree.{Tree}
 use Rattle.p3l_profile.specs.declared.text.Table.{Table}
 use Rattle.p3l_profile.specs.declared.text.Table.TheVariants.{Ticks, Turns}
 use Rattle.p3l_profile.specs.Greatest.{Greatest, if_own, none_noted, noted, noted_all, raised, took_in, work_in}
-use Rattle.p3l_profile.specs.Law.{TellsTheGreatest}
+use Rattle.p3l_profile.specs.Law.{HasTheGreatest}
 use Rattle.p3l_profile.specs.Notes.{Note, ran, turn}
 use Rattle.p3l_profile.specs.Text.{entries, entry_if, entry_of, is_used, most_cost, number_of, speaks_of, turns_table}
 
@@ -84,8 +84,8 @@ entries-same table f g nodes home (m ∷ ms) same =
     ap (λ n. entry_if (speaks_of table m.kind && is_used nodes home) m.name n ++ entries table f nodes (home + 1) ms) (same home (omega arith))
     ∙ ap (λ rest. entry_of table g nodes home m ++ rest) (entries-same table f g nodes (home + 1) ms (λ k low. same k (omega arith)))
 
-pub tells_the_greatest : TellsTheGreatest
-tells_the_greatest tree done =
+pub has_the_greatest : HasTheGreatest
+has_the_greatest tree done =
     let count = length tree.modules in
     let g = noted_all (none_noted count) done in
     let same = λ (table : Table). entries-same table (number_of table (slice_index g.work) (slice_index g.took)) (number_of table (work_in done) (took_in done)) tree.nodes 0 tree.modules (numbers table) in

@@ -18,7 +18,7 @@ profile_text tree served items =
     cost_text tree (work_in (notes_of tree served items)) (took_in (notes_of tree served items))
 
 -- the text of what was noted is that of the greatest numbers in it
-abbrev pub TellsTheGreatest : Type 0
-TellsTheGreatest =
+abbrev pub HasTheGreatest : Type 0
+HasTheGreatest =
     (tree : Tree) (done : List Note) →
     text_of tree (noted_all (none_noted (length tree.modules)) done) ≡ cost_text tree (work_in done) (took_in done)

@@ -222,7 +222,7 @@ fn fold_outcome(
     next_outcome(alloc, tree, bodies, highs, operator, both)
 }
 
-/// What a loop of so many turns at most makes of words.
+/// What a loop of this number of turns at most makes of words.
 #[cycle(item)]
 fn loop_outcome(
     alloc: Global,

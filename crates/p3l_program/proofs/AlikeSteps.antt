@@ -1,6 +1,6 @@
 -- The network of an image that was made of a program is the program's.
 use Rattle.std.proofs.Common.{◌≡◌, ◌↔◌, ℕ, Bool, List, [], Option, Some, None, refl, sym, ap, ◌∙◌, subst, append-nil}
-use Rattle.p3l_io.specs.Told.{Held}
+use Rattle.p3l_io.specs.Content.{Held}
 use Rattle.p3l_skel.specs.Numbers.{firings}
 use Rattle.p3l_body_laws.specs.Served.{ResolvedServe}
 use Rattle.p3l_compile.specs.Leaves.{AreBodies}
@@ -100,8 +100,8 @@ has_network serve begins held others build name bytes own there n =
     (from_image serve begins held others build name bytes own there n, to_image serve begins held others build name bytes own there n)
 
 -- what is expected of one network is expected of another way to it
-module _ (w : World) (one another : Origin) (asked : Sched) (go : (n : Network) → HasNetwork w.files.old one n → HasNetwork w.files.old another n) where
-  ends_so : (trace : Option (List ℕ)) (reported : Bool) (finish : Finish) (stats : Option Stats) → EndsRun w one asked trace reported finish stats → EndsRun w another asked trace reported finish stats
+module _ (w : World) (one another : Origin) (request : Sched) (go : (n : Network) → HasNetwork w.files.old one n → HasNetwork w.files.old another n) where
+  ends_so : (trace : Option (List ℕ)) (reported : Bool) (finish : Finish) (stats : Option Stats) → EndsRun w one request trace reported finish stats → EndsRun w another request trace reported finish stats
   ends_so trace reported finish stats h = record {
     n = h.n;
     s = h.s;
@@ -113,13 +113,13 @@ module _ (w : World) (one another : Origin) (asked : Sched) (go : (n : Network) 
     recorded = h.recorded;
   }
 
-  begins_so : BeginsRun w one asked → BeginsRun w another asked
+  begins_so : BeginsRun w one request → BeginsRun w another request
   begins_so h = record { n = h.n; s = h.s; has = record { network = go h.n h.has.network; schedule = h.has.schedule }; starts = h.starts }
 
-  over_so : RunsOver w one asked → RunsOver w another asked
+  over_so : RunsOver w one request → RunsOver w another request
   over_so h = record { n = h.n; s = h.s; has = record { network = go h.n h.has.network; schedule = h.has.schedule }; keeping = h.keeping; ran = h.ran; finishes = h.finishes }
 
-  whole_so : (trace : Option (List ℕ)) (rest taken : List ℕ) → RunsWhole w one asked trace rest taken → RunsWhole w another asked trace rest taken
+  whole_so : (trace : Option (List ℕ)) (rest taken : List ℕ) → RunsWhole w one request trace rest taken → RunsWhole w another request trace rest taken
   whole_so trace rest taken h = record {
     n = h.n;
     s = h.s;
@@ -130,10 +130,10 @@ module _ (w : World) (one another : Origin) (asked : Sched) (go : (n : Network) 
     recorded = h.recorded;
   }
 
-  status_so : (rest : List ℕ) (k : ℕ) → IsRunStatus w one asked rest k → IsRunStatus w another asked rest k
+  status_so : (rest : List ℕ) (k : ℕ) → IsRunStatus w one request rest k → IsRunStatus w another request rest k
   status_so rest k h = record { n = h.n; s = h.s; has = record { network = go h.n h.has.network; schedule = h.has.schedule }; status_is = h.status_is; stops = h.stops }
 
-  emits_so : (trace : Option (List ℕ)) (numbers : RunStats) → Emits w one asked trace numbers → Emits w another asked trace numbers
+  emits_so : (trace : Option (List ℕ)) (numbers : RunStats) → Emits w one request trace numbers → Emits w another request trace numbers
   emits_so trace numbers h = record {
     n = h.n;
     s = h.s;
@@ -146,18 +146,18 @@ module _ (w : World) (one another : Origin) (asked : Sched) (go : (n : Network) 
   }
 
 pub run_alike : EveryImageHasItsProgramsNetwork → EveryImageRunsAsItsProgram
-run_alike same w held build name bytes asked told own there =
+run_alike same w held build name bytes request known own there =
     let both : (n : Network) → HasNetwork w.files.old (imaged name) n ↔ HasNetwork w.files.old (built build) n =
-    subst (λ files. (n : Network) → HasNetwork files (imaged name) n ↔ HasNetwork files (built build) n) (sym told) (same held held build name bytes own there) in
+    subst (λ files. (n : Network) → HasNetwork files (imaged name) n ↔ HasNetwork files (built build) n) (sym known) (same held held build name bytes own there) in
     let go : (n : Network) → HasNetwork w.files.old (imaged name) n → HasNetwork w.files.old (built build) n = λ n. (both n).0 in
     let back : (n : Network) → HasNetwork w.files.old (built build) n → HasNetwork w.files.old (imaged name) n = λ n. (both n).1 in
     let image = imaged name in
     let program = built build in
     record {
-      ends = λ trace reported finish stats. (ends_so w image program asked go trace reported finish stats, ends_so w program image asked back trace reported finish stats);
-      begins = (begins_so w image program asked go, begins_so w program image asked back);
-      over = (over_so w image program asked go, over_so w program image asked back);
-      whole = λ trace rest taken. (whole_so w image program asked go trace rest taken, whole_so w program image asked back trace rest taken);
-      status = λ rest k. (status_so w image program asked go rest k, status_so w program image asked back rest k);
-      emits = λ trace numbers. (emits_so w image program asked go trace numbers, emits_so w program image asked back trace numbers);
+      ends = λ trace reported finish stats. (ends_so w image program request go trace reported finish stats, ends_so w program image request back trace reported finish stats);
+      begins = (begins_so w image program request go, begins_so w program image request back);
+      over = (over_so w image program request go, over_so w program image request back);
+      whole = λ trace rest taken. (whole_so w image program request go trace rest taken, whole_so w program image request back trace rest taken);
+      status = λ rest k. (status_so w image program request go rest k, status_so w program image request back rest k);
+      emits = λ trace numbers. (emits_so w image program request go trace numbers, emits_so w program image request back trace numbers);
     }

@@ -5,7 +5,7 @@ use Rattle.p3l_format.specs.declared.fault.Fault.{Fault}
 use Rattle.p3l_format.specs.Format.{read_all}
 use Rattle.p3l_format.specs.Line.{line_number}
 use Rattle.p3l_format.specs.laws.Formats.{one_spelling}
-use Rattle.p3l_io.specs.Told.{Held}
+use Rattle.p3l_io.specs.Content.{Held}
 use Rattle.p3l_skel.specs.declared.tree.Tree.{Tree}
 use Rattle.p3l_cost.specs.declared.costs.Costs.{Costs}
 use Rattle.p3l_model.specs.Optimal.{IsOptimal}
@@ -14,7 +14,7 @@ use Rattle.p3l_cert.specs.declared.cert.CertRefusal.{CertRefusal}
 use Rattle.p3l_cert.specs.declared.cert.CertRefusal.TheVariants as refusals
 use Rattle.p3l_cert.specs.Checker.{CertHolds, IsAnswer}
 use Rattle.p3l_cert.specs.Text.{cert_format}
-use Rattle.p3l_cert.specs.Told.{Answers, TellsFirst, told}
+use Rattle.p3l_cert.specs.Answers.{Answers, ReportsFirst, known}
 use Rattle.p3l_cert.specs.laws.Text.{lawful_cert}
 use Rattle.p3l_report.specs.declared.verdict.Refusal.{Refusal}
 use Rattle.p3l_report.specs.declared.verdict.Refusal.TheVariants as refusal
@@ -37,22 +37,22 @@ use Rattle.p3l_program.proofs.OnceSteps.{said_alike}
 use Rattle.p3l_program.proofs.StageSteps.{passed_both, refused_after}
 
 -- what the reader says of a text is a line
-tells_line : (text : List ℕ) (read : Result Cert Fault) (r : CertRefusal) → Err r ≡ told text read → (line : ℕ) × (r ≡ refusals.BadText line)
-tells_line text (Ok cert) r is = absurd cc
-tells_line text (Err fault) r is = (line_number text fault.left, (let z = is in cc))
+reports_line : (text : List ℕ) (read : Result Cert Fault) (r : CertRefusal) → Err r ≡ known text read → (line : ℕ) × (r ≡ refusals.BadText line)
+reports_line text (Ok cert) r is = absurd cc
+reports_line text (Err fault) r is = (line_number text fault.left, (let z = is in cc))
 
 -- a text that the reader refuses spells no certificate
-no_text : (tree : Tree) (costs : Costs) (text : List ℕ) (r : CertRefusal) → ((cert : Cert) → cert_format.fits cert ≡ true → text ≡ cert_format.spell cert → Err r ≡ told text (Ok cert)) → IsNoText text r →
+no_text : (tree : Tree) (costs : Costs) (text : List ℕ) (r : CertRefusal) → ((cert : Cert) → cert_format.fits cert ≡ true → text ≡ cert_format.spell cert → Err r ≡ known text (Ok cert)) → IsNoText text r →
     IsRefuted tree costs text r
 no_text tree costs text r only is = record { why = inl is; never = λ cert here. absurd (let z = only cert here.spelled.fits here.spelled.text_is in cc) }
 
 pub cert_unread : (tree : Tree) (costs : Costs) (text : List ℕ) (r : CertRefusal) → ((cert : Cert) → cert_format.fits cert ≡ true → text ≡ cert_format.spell cert → Answers text (Err r) (Ok cert)) →
-    TellsFirst text (Err r) → Answers text (Err r) (read_all cert_format text) → IsCertRefused tree costs text r
+    ReportsFirst text (Err r) → Answers text (Err r) (read_all cert_format text) → IsCertRefused tree costs text r
 cert_unread tree costs text (refusals.BadText line) only first exact = no_text tree costs text (refusals.BadText line) only first
 cert_unread tree costs text refusals.NoMemory only first exact = tt
-cert_unread tree costs text (refusals.RowWrong row kept found) only first exact = absurd (let z = (tells_line text (read_all cert_format text) (refusals.RowWrong row kept found) exact).1 in cc)
-cert_unread tree costs text (refusals.RowMissing row node bound cap) only first exact = absurd (let z = (tells_line text (read_all cert_format text) (refusals.RowMissing row node bound cap) exact).1 in cc)
-cert_unread tree costs text (refusals.ClaimWrong claim) only first exact = absurd (let z = (tells_line text (read_all cert_format text) (refusals.ClaimWrong claim) exact).1 in cc)
+cert_unread tree costs text (refusals.RowWrong row kept found) only first exact = absurd (let z = (reports_line text (read_all cert_format text) (refusals.RowWrong row kept found) exact).1 in cc)
+cert_unread tree costs text (refusals.RowMissing row node bound cap) only first exact = absurd (let z = (reports_line text (read_all cert_format text) (refusals.RowMissing row node bound cap) exact).1 in cc)
+cert_unread tree costs text (refusals.ClaimWrong claim) only first exact = absurd (let z = (reports_line text (read_all cert_format text) (refusals.ClaimWrong claim) exact).1 in cc)
 
 -- a text spells one certificate
 pub spelled_alike : (text : List ℕ) (cert other : Cert) → SpellsCert text cert → SpellsCert text other → other ≡ cert
@@ -94,13 +94,13 @@ cert_unreadable files name tree costs file.NoMemory h = h
 pub cert_unheld : (files : Change Held) (name : List ℕ) (tree : Tree) (costs : Costs) (written : List ℕ) (r : CertRefusal) → HasText files.old cert_limit name written → IsCertRefused tree costs written r → IsCalm files →
     IsCertless files name tree costs (cert_verdict r)
 cert_unheld files name tree costs written (refusals.RowWrong row kept found) held refuted calm =
-    inr (record { written = written; held = held; no_cert = record { refused = refusals.RowWrong row kept found; told_so = refl; refuted = refuted }; calm = calm })
+    inr (record { written = written; held = held; no_cert = record { refused = refusals.RowWrong row kept found; reported_so = refl; refuted = refuted }; calm = calm })
 cert_unheld files name tree costs written (refusals.RowMissing row node bound cap) held refuted calm =
-    inr (record { written = written; held = held; no_cert = record { refused = refusals.RowMissing row node bound cap; told_so = refl; refuted = refuted }; calm = calm })
+    inr (record { written = written; held = held; no_cert = record { refused = refusals.RowMissing row node bound cap; reported_so = refl; refuted = refuted }; calm = calm })
 cert_unheld files name tree costs written (refusals.ClaimWrong claim) held refuted calm =
-    inr (record { written = written; held = held; no_cert = record { refused = refusals.ClaimWrong claim; told_so = refl; refuted = refuted }; calm = calm })
+    inr (record { written = written; held = held; no_cert = record { refused = refusals.ClaimWrong claim; reported_so = refl; refuted = refuted }; calm = calm })
 cert_unheld files name tree costs written (refusals.BadText line) held refuted calm =
-    inr (record { written = written; held = held; no_cert = record { refused = refusals.BadText line; told_so = refl; refuted = refuted }; calm = calm })
+    inr (record { written = written; held = held; no_cert = record { refused = refusals.BadText line; reported_so = refl; refuted = refuted }; calm = calm })
 cert_unheld files name tree costs written refusals.NoMemory held refuted calm = calm
 
 module _ (files : Change Held) (name : List ℕ) (costs : Option (List ℕ)) (cert_file : List ℕ) (r : ResolvedTree) (program : Accepted) (text : List ℕ) (has : HasText files.old text_limit name text) (comes : ComesTo text r program) (said : Option (List ℕ)) (says : HasCostText files.old costs said) (cs : Costs) (are : AreSaid program.tree said cs) where

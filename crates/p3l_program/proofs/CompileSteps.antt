@@ -1,7 +1,7 @@
 -- Images of programs that are loaded, and the writing of one file.
 use Rattle.std.proofs.Common.{ℕ, ◌≤◌, List, [], Option, None, refl, sym, subst, arith}
 use Rattle.std.specs.declared.result.Result.TheVariants.{Ok, Err}
-use Rattle.p3l_io.specs.Told.{Held}
+use Rattle.p3l_io.specs.Content.{Held}
 use Rattle.p3l_skel.specs.declared.tree.Tree.{Tree}
 use Rattle.p3l_skel.specs.Counts.{HasLawfulCounts}
 use Rattle.p3l_skel.specs.Numbers.{procs}
@@ -14,11 +14,11 @@ use Rattle.p3l_check.specs.Resolving.{ResolvedTree}
 use Rattle.p3l_program.specs.declared.plan.Allotted.{Allotted}
 use Rattle.p3l_program.specs.Compile.{IsImageOf}
 use Rattle.p3l_program.specs.Load.{IsLoaded, IsNotLoaded}
-use Rattle.p3l_program.specs.Saved.{IsFileDue, SaveCause}
+use Rattle.p3l_program.specs.Saved.{IsFileExpected, SaveCause}
 use Rattle.p3l_program.specs.Stage.{AllPass, Stage}
 use Rattle.p3l_program.specs.Text.{IsNothing}
 use Rattle.p3l_program.specs.World.{Change}
-use Rattle.p3l_program.proofs.SavedSteps.{none_put, saving_due, saving_failed, saving_refused, saving_unwritten}
+use Rattle.p3l_program.proofs.SavedSteps.{none_put, saving_expected, saving_failed, saving_refused, saving_unwritten}
 
 module _ (files : Option Held) (build : Build) (r : ResolvedTree) (loaded : Allotted) (is : IsLoaded files build r loaded) where
   -- the codes are those of the program of the text
@@ -62,19 +62,19 @@ module _ (files : Option Held) (build : Build) (r : ResolvedTree) (loaded : Allo
 
 module _ (files : Change Held) (stages : List Stage) (name : List ℕ) (IsBytes : List ℕ → Type 0) where
   -- stages that don't pass
-  pub file_refused : (v : Verdict) → IsNotLoaded files stages v → IsFileDue files stages name IsBytes v
+  pub file_refused : (v : Verdict) → IsNotLoaded files stages v → IsFileExpected files stages name IsBytes v
   file_refused v h out still = saving_refused files out stages IsNothing name IsBytes v still h
 
   -- running out of memory before anything was written
-  pub file_unwritten : IsFileDue files stages name IsBytes verdict.NoMemory
+  pub file_unwritten : IsFileExpected files stages name IsBytes verdict.NoMemory
   file_unwritten out still = saving_unwritten files out stages IsNothing name IsBytes still
 
   module _ (bytes : List ℕ) (passed : AllPass files stages) (of : IsBytes bytes) where
     -- the file could not be written
-    pub file_failed : (v : Verdict) → SaveCause files name bytes (Err v) → IsFileDue files stages name IsBytes v
+    pub file_failed : (v : Verdict) → SaveCause files name bytes (Err v) → IsFileExpected files stages name IsBytes v
     file_failed v h out still = saving_failed files out stages IsNothing name IsBytes [] bytes passed refl of v still h
 
     -- it was
-    pub file_due : SaveCause files name bytes (Ok tt) → IsFileDue files stages name IsBytes (verdict.Ended finishes.Done None)
-    file_due h out still = saving_due files out stages IsNothing name IsBytes [] bytes passed refl of (verdict.Ended finishes.Done None) h.0 h.1
-        (refl, refl, none_put out.old out.new still.told, still.calm)
+    pub file_expected : SaveCause files name bytes (Ok tt) → IsFileExpected files stages name IsBytes (verdict.Ended finishes.Done None)
+    file_expected h out still = saving_expected files out stages IsNothing name IsBytes [] bytes passed refl of (verdict.Ended finishes.Done None) h.0 h.1
+        (refl, refl, none_put out.old out.new still.known, still.calm)

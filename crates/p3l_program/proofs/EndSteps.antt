@@ -24,14 +24,14 @@ stream_is (ends.Trapped item kind home) k h stopped trap = absurd (trap (sym h))
 stream_is (ends.Stream e) k h stopped trap = record { e = e; finish_is = refl; status_is = h }
 
 -- a text that was written is what the output took
-pub put_told : (old new : Option (List ℕ)) (taken text : List ℕ) → old ≡ Some taken → HasPut old new text → new ≡ Some (taken ++ text)
-put_told None new taken text told put = absurd cc
-put_told (Some other) new taken text told put = let same : other ≡ taken = cc in put ∙ ap (λ t. Some (t ++ text)) same
+pub put_known : (old new : Option (List ℕ)) (taken text : List ℕ) → old ≡ Some taken → HasPut old new text → new ≡ Some (taken ++ text)
+put_known None new taken text known put = absurd cc
+put_known (Some other) new taken text known put = let same : other ≡ taken = cc in put ∙ ap (λ t. Some (t ++ text)) same
 
 -- an input that came to its end was taken whole
-pub ended_told : (old left : Option (List ℕ)) (rest bytes : List ℕ) → old ≡ Some rest → IsTaken old left bytes → IsAtEnd left → (left ≡ Some []) × (bytes ≡ rest)
-ended_told None left rest bytes told read end = absurd cc
-ended_told (Some other) left rest bytes told read end =
+pub ended_known : (old left : Option (List ℕ)) (rest bytes : List ℕ) → old ≡ Some rest → IsTaken old left bytes → IsAtEnd left → (left ≡ Some []) × (bytes ≡ rest)
+ended_known None left rest bytes known read end = absurd cc
+ended_known (Some other) left rest bytes known read end =
     let same : other ≡ rest = cc in
     let none : read.0 ≡ [] = at_end_left left read.0 read.1 end in
     (read.1 ∙ ap Some none, sym (sym same ∙ read.2 ∙ ap (λ l. bytes ++ l) none ∙ append-nil bytes))

@@ -2,7 +2,7 @@
 use Rattle.std.proofs.Common.{ℕ, ◌≤◌, List, ◌∷◌, length, Option, Some, None, inl, subst, sym}
 use Rattle.std.specs.declared.result.Result.TheVariants.{Ok, Err}
 use Rattle.p3l_io.specs.declared.fault.FileFault.TheVariants as fault
-use Rattle.p3l_io.specs.Told.{Held, Reads}
+use Rattle.p3l_io.specs.Content.{Held, Reads}
 use Rattle.p3l_skel.specs.declared.tree.Tree.{Tree}
 use Rattle.p3l_program.specs.declared.file.FileRefusal.{FileRefusal}
 use Rattle.p3l_program.specs.declared.file.FileRefusal.TheVariants as file

@@ -19,7 +19,7 @@ use Rattle.p3l_program.specs.Plan.{network_of}
 use Rattle.p3l_program.specs.Saved.{names_of}
 use Rattle.p3l_program.specs.Verdict.{run_finish}
 use Rattle.p3l_program.specs.World.{World}
-use Rattle.p3l_program.proofs.EndSteps.{put_told, stream_is}
+use Rattle.p3l_program.proofs.EndSteps.{put_known, stream_is}
 use Rattle.p3l_program.proofs.Lawful.{Lawful}
 use Rattle.p3l_program.proofs.SeenSteps.{stopped_goes, stream_end, text_ends}
 
@@ -33,7 +33,7 @@ gen_read g f text is h =
     text_ends (width_of n) text (stream_end n (course_of n is.s seen.items) seen.ending st.e f is.ran.ends st.finish_is ∙ statuses.read_is st.e st.status_is)
 
 -- a schedule that is made has no recorded picks
-never_recorded : (asked : Sched) (s : Schedule) (picks : List ℕ) → IsPicked asked s → s ≡ schedule.Recorded picks → ⊥
+never_recorded : (request : Sched) (s : Schedule) (picks : List ℕ) → IsPicked request s → s ≡ schedule.Recorded picks → ⊥
 never_recorded sched.RoundRobin s picks picked is = let z = sym picked ∙ is in absurd cc
 never_recorded (sched.Seeded seed) s picks picked is = let z = sym picked ∙ is in absurd cc
 never_recorded (sched.File name) s picks picked is = picked
@@ -43,7 +43,7 @@ gen_unstopped : (g : Gen) (f : RunEnd) (text : List ℕ) → IsGenerated g f tex
 gen_unstopped g f text is h =
     let n = network_of is.r is.counts gen_capacity in
     let seen = items_of (width_of n) (stream_text g.number g.items) in
-    never_recorded g.asked is.s _ is.picked (is.ran.stops (stopped_goes n (course_of n is.s seen.items) seen.ending f is.ran.ends h))
+    never_recorded g.request is.s _ is.picked (is.ran.stops (stopped_goes n (course_of n is.s seen.items) seen.ending f is.ran.ends h))
 
 -- one of status 0 is whole
 gen_whole : (w : World) (g : Gen) (rest taken : List ℕ) (f : Finish) (stats : Option Stats) → w.input.old ≡ Some rest → w.out.old ≡ Some taken → finish_status f ≡ status.done → EndsGen w g f stats → GensWhole w g rest taken
@@ -52,8 +52,8 @@ gen_whole w g rest taken f stats input out h e =
     record {
       text = e.text;
       is = subst (λ k. IsGenerated g k e.text) (st.finish_is ∙ ap ends.Stream (statuses.done_is st.e st.status_is)) e.is;
-      rest_stays = e.input.told ∙ input;
-      taken_is = put_told w.out.old w.out.new taken e.text out e.put;
+      rest_stays = e.input.known ∙ input;
+      taken_is = put_known w.out.old w.out.new taken e.text out e.put;
       saved = e.saved;
     }
 
@@ -71,7 +71,7 @@ gen_lawful g = record {
     input = e.input;
   };
   whole = λ w rest taken f stats input out h e. gen_whole w g rest taken f stats input out h e;
-  status_due = λ w rest f stats input calm e. record {
+  status_expected = λ w rest f stats input calm e. record {
     end = e.end;
     text = e.text;
     is = e.is;

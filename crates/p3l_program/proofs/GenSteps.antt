@@ -2,7 +2,7 @@
 use Rattle.std.proofs.Common.{◌≡◌, ℕ, ◌<◌, ◌≤◌, ◌^◌, true, false, List, [], ◌∷◌, length, Option, Some, None, refl, sym, ap, subst, inl, inr, ◌∙◌, arith}
 use Rattle.std.specs.declared.result.Result.TheVariants.{Ok, Err}
 use Rattle.p3l_gen.specs.Texts.{costs_text, program_text, stream_text}
-use Rattle.p3l_io.specs.Told.{Held}
+use Rattle.p3l_io.specs.Content.{Held}
 use Rattle.p3l_skel.specs.Numbers.{procs}
 use Rattle.p3l_cost.specs.declared.costs.Costs.{Costs}
 use Rattle.p3l_cost.specs.declared.refusal.CostRefusal.{CostRefusal}
@@ -32,7 +32,7 @@ use Rattle.p3l_check.specs.Resolving.{ResolvedTree}
 use Rattle.p3l_program.specs.declared.plan.Accepted.{Accepted}
 use Rattle.p3l_program.specs.declared.plan.Allotted.{Allotted}
 use Rattle.p3l_program.specs.Plan.{ComesTo, IsPriced, IsUnpriced, network_of, refusal_of}
-use Rattle.p3l_program.specs.Generated.{AreNotLoaded, EndsGen, Gen, IsGenDue, IsGenRun, IsGenText, IsGenerated, IsRanOn, IsRanUnder, IsToldOf, LoadsTexts, comes_whole, due_at, gen_capacity, gen_stages, saves_of, summary_line, text_stages}
+use Rattle.p3l_program.specs.Generated.{AreNotLoaded, EndsGen, Gen, IsGenExpected, IsGenRun, IsGenText, IsGenerated, IsLineOf, IsRanOn, IsRanUnder, LoadsTexts, comes_whole, gen_capacity, gen_stages, line_at, saves_of, summary_line, text_stages}
 use Rattle.p3l_program.specs.Load.{cost_verdict}
 use Rattle.p3l_program.specs.Saved.{AreSaved, HasSaves, HoldFirst, KeepsFirst, names_of}
 use Rattle.p3l_program.specs.Stage.{AllPass}
@@ -118,8 +118,8 @@ whole_is (ends.Trapped item kind home) h = absurd cc
 
 -- a run on a source that reports a text below the limit, and never fails, is one on all items of the text
 pub ran_on : (n : Network) → n.start ≡ fresh → (s : Schedule) (text : List ℕ) (rest left taken taken' : Option (List ℕ)) (ran : Ran) → rest ≡ Some text → length text < 2 ^ 36 → Finishes n s keep.Nothing rest left 0 0 taken taken' ran → IsRanOn n s text ran.finish ran.stats ran.sum
-ran_on n begins s text rest left taken taken' ran told short f =
-    let to = seen_goes_on n text rest left 0 0 f.close f.stream f.items f.gives told (λ rose. absurd (omega arith)) in
+ran_on n begins s text rest left taken taken' ran known short f =
+    let to = seen_goes_on n text rest left 0 0 f.close f.stream f.items f.gives known (λ rose. absurd (omega arith)) in
     let all = sym (sym (seen_short (width_of n) text (omega arith)) ∙ to.seen) in
     let on = f.ran to.later to.may_come in
     let ends = subst (λ (i : Items). ran.finish ≡ finish_of n (course_of n s i.items) i.ending) all (f.ends to.later to.may_come to.e to.may_end) in
@@ -142,27 +142,27 @@ module _ (out : Change (List ℕ)) (g : Gen) where
   gen_refused v untouched h = λ files input calm saved still. not_loaded (world files input out) (gen_stages g) (EndsGen (world files input out) g) (BeginsText (world files input out) (IsGenText g)) ⊥ v still untouched (h files calm)
 
   module _ (f : RunEnd) (text : List ℕ) (is : IsGenerated g f text) (passed : (files : Change Held) → AllPass files (gen_stages g)) where
-    pub gen_told : (v : Verdict) → IsToldOf out f text v → IsGenRun out g v
-    gen_told (verdict.Refused refused) h = absurd h
-    gen_told (verdict.Ended f' stats) h = λ files input calm saved still. record {
+    pub gen_line : (v : Verdict) → IsLineOf out f text v → IsGenRun out g v
+    gen_line (verdict.Refused refused) h = absurd h
+    gen_line (verdict.Ended f' stats) h = λ files input calm saved still. record {
       passed = passed files;
       ends = record { end = f; finish_is = h.0; stats_are = h.1; text = text; is = is; put = h.2; input = still; saved = saved };
       files = calm;
       out = h.3;
     }
-    gen_told verdict.WriteFault h = λ files input calm saved still. record {
+    gen_line verdict.WriteFault h = λ files input calm saved still. record {
       begun = record { passed = passed files; begins = record { text = text; is = (f, is); begun = h.0; input = still } };
       fault = inl (record { files = calm; out = h.1 });
     }
-    gen_told verdict.NoMemory h = λ files input calm saved still. inr (record {
+    gen_line verdict.NoMemory h = λ files input calm saved still. inr (record {
       passed = passed files;
       begins = record { text = text; is = (f, is); begun = h; input = still };
     })
 
 -- the line of a run of what was loaded is that of what is requested
 pub generated_by : (g : Gen) (loaded : Allotted) (ran : Ran) → (loads : LoadsTexts (program_text g.number) costs_text g.processors loaded) →
-    IsRanUnder (network_of loads.r loaded.choice.counts.list gen_capacity) g.asked (stream_text g.number g.items) ran →
-    IsGenerated g ran.finish (due_at ran.finish (summary_line g.number ran.stats loaded.choice.service loaded.choice.used ran.sum))
+    IsRanUnder (network_of loads.r loaded.choice.counts.list gen_capacity) g.request (stream_text g.number g.items) ran →
+    IsGenerated g ran.finish (line_at ran.finish (summary_line g.number ran.stats loaded.choice.service loaded.choice.used ran.sum))
 generated_by g loaded ran loads under = record {
   r = loads.r;
   cs = loaded.costs;
@@ -173,8 +173,8 @@ generated_by g loaded ran loads under = record {
   numbers = ran.stats;
   sum = ran.sum;
   ran = under.on;
-  text_is = ap (λ k. due_at ran.finish (summary_line g.number ran.stats k loaded.choice.used ran.sum)) loads.are.service_is
-      ∙ ap (λ k. due_at ran.finish (summary_line g.number ran.stats (service loads.r.tree loaded.costs loaded.choice.counts.list 0) k ran.sum)) loads.are.used_is;
+  text_is = ap (λ k. line_at ran.finish (summary_line g.number ran.stats k loaded.choice.used ran.sum)) loads.are.service_is
+      ∙ ap (λ k. line_at ran.finish (summary_line g.number ran.stats (service loads.r.tree loaded.costs loaded.choice.counts.list 0) k ran.sum)) loads.are.used_is;
 }
 
 -- files that were saved before
@@ -190,5 +190,5 @@ module _ (files : Change Held) where
   first_saved (save ∷ saves) v h = (h.kept, held_first (save ∷ saves) v h.by.0)
 
   -- so the verdict of their run is expected of what is requested
-  pub generated_due : (out : Change (List ℕ)) (g : Gen) (v : Verdict) → HasSaves files (saves_of g) (Ok tt) → IsGenRun out g v → IsGenDue files out g v
-  generated_due out g v saves run = record { due = λ input quiet. run files input saves.by.1 saves.by.0 quiet; kept = first_saved (saves_of g) v saves }
+  pub generated_expected : (out : Change (List ℕ)) (g : Gen) (v : Verdict) → HasSaves files (saves_of g) (Ok tt) → IsGenRun out g v → IsGenExpected files out g v
+  generated_expected out g v saves run = record { expected = λ input quiet. run files input saves.by.1 saves.by.0 quiet; kept = first_saved (saves_of g) v saves }

@@ -11,7 +11,7 @@ use Rattle.p3l_image.specs.declared.image.ImageRefusal.{ImageRefusal}
 use Rattle.p3l_image.specs.declared.image.ImageRefusal.TheVariants as image
 use Rattle.p3l_image.specs.Image.{image_in}
 use Rattle.p3l_image.specs.Refusal.{Answers}
-use Rattle.p3l_io.specs.Told.{Held}
+use Rattle.p3l_io.specs.Content.{Held}
 use Rattle.p3l_load.specs.declared.loaded.Loaded.{Loaded}
 use Rattle.p3l_load.specs.declared.loaded.LoadRefusal.{LoadRefusal}
 use Rattle.p3l_load.specs.declared.loaded.LoadRefusal.TheVariants as load
@@ -144,5 +144,5 @@ module _ (name : List ℕ) (loaded : Loaded) where
     have = (image.has, refl);
     is = is_imaged files image;
     only = only_imaged files image;
-    passed = λ change told. image_passes change (subst (λ f. LoadsImage f name loaded) (sym told) image);
+    passed = λ change known. image_passes change (subst (λ f. LoadsImage f name loaded) (sym known) image);
   }

@@ -4,7 +4,7 @@ use Rattle.std.specs.List.{All}
 use Rattle.p3l_code.specs.declared.instr.Code.{Code}
 use Rattle.p3l_code.specs.Safe.{IsSafe}
 use Rattle.p3l_image.specs.declared.image.Image.{Image}
-use Rattle.p3l_io.specs.Told.{Held}
+use Rattle.p3l_io.specs.Content.{Held}
 use Rattle.p3l_link.specs.Net.{linked_net}
 use Rattle.p3l_load.specs.declared.loaded.Loaded.{Loaded as LoadedImage}
 use Rattle.p3l_load.specs.Compiled.{AreCodesOf, EveryCompiledImageCanBeRun, EveryModuleHasAName, IsImageText, image_of}

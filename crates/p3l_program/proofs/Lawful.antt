@@ -23,8 +23,8 @@ pub record Lawful (b : Behavior) : Type 0 where
   pub whole : (w : World) (rest taken : List ℕ) (f : Finish) (stats : Option Stats) → w.input.old ≡ Some rest →
       w.out.old ≡ Some taken → finish_status f ≡ status.done → b.Ends w f stats → b.IsWhole w rest taken
   -- where no fault comes it ends with the status that is expected
-  pub status_due : (w : World) (rest : List ℕ) (f : Finish) (stats : Option Stats) → w.input.old ≡ Some rest →
-      HasNoFault w → b.Ends w f stats → b.IsStatusDue w rest (finish_status f)
+  pub status_expected : (w : World) (rest : List ℕ) (f : Finish) (stats : Option Stats) → w.input.old ≡ Some rest →
+      HasNoFault w → b.Ends w f stats → b.IsStatusExpected w rest (finish_status f)
   -- a fault of reading is answered where the count of the input rose, and else it stays
   pub read : (w : World) (f : Finish) (stats : Option Stats) → b.Ends w f stats → finish_status f ≡ status.read → HasRisen w.input
   pub calm : (w : World) (f : Finish) (stats : Option Stats) → b.Ends w f stats → IsCalmStatus (finish_status f) → w.input.now ≡ w.input.before

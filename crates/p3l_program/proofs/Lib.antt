@@ -42,5 +42,5 @@ mod SaveStateLaws
 mod GenLaws
 mod WorkLaws
 mod FirstSteps
-mod DueSteps
+mod ExpectedSteps
 mod AnswerSteps

@@ -3,7 +3,7 @@ use Rattle.std.proofs.Common.{◌≡◌, ℕ, List, ◌++◌, Option, Some, refl
 use Rattle.std.specs.declared.result.Result.TheVariants.{Err}
 use Rattle.p3l_ast.specs.declared.position.Pos.{Pos}
 use Rattle.p3l_ast.specs.declared.refusal.Fault.{Fault}
-use Rattle.p3l_io.specs.Told.{Held}
+use Rattle.p3l_io.specs.Content.{Held}
 use Rattle.p3l_skel.specs.declared.tree.Tree.{Tree}
 use Rattle.p3l_skel.specs.Numbers.{procs}
 use Rattle.p3l_cost.specs.declared.costs.Costs.{Costs}
@@ -12,7 +12,7 @@ use Rattle.p3l_cost.specs.declared.refusal.CostRefusal.TheVariants as costs
 use Rattle.p3l_cost.specs.File.{IsRead}
 use Rattle.p3l_alloc.specs.Chosen.{IsShort}
 use Rattle.p3l_cert.specs.declared.cert.Cert.{Cert}
-use Rattle.p3l_cert.specs.Certified.{AreRowsAsked}
+use Rattle.p3l_cert.specs.Certified.{AreNeededRows}
 use Rattle.p3l_cert.specs.Checker.{CertHolds}
 use Rattle.p3l_cert.specs.Text.{cert_format}
 use Rattle.p3l_alloc.specs.Explanation.{allocation_text}
@@ -106,7 +106,7 @@ module _ (build : Build) (r : ResolvedTree) (loaded : Allotted) where
 
   -- a certificate of them is that of the program's
   pub certified : (files : Option Held) (cert : Cert) (text : List ℕ) → IsLoaded files build r loaded → cert.processors ≡ build.processors → cert.counts.list ≡ loaded.choice.counts.list →
-      CertHolds loaded.program.tree loaded.costs cert → AreRowsAsked loaded.program.tree loaded.costs loaded.choice.service build.processors cert.rows → cert.service ≡ loaded.choice.service →
+      CertHolds loaded.program.tree loaded.costs cert → AreNeededRows loaded.program.tree loaded.costs loaded.choice.service build.processors cert.rows → cert.service ≡ loaded.choice.service →
       text ≡ cert_format.spell cert → IsCertificate files build text
   certified files cert text is processors counts holds rows service_is text_is = record {
     r = r;
@@ -118,9 +118,9 @@ module _ (build : Build) (r : ResolvedTree) (loaded : Allotted) where
     counts_are = counts;
     holds = subst (λ t. CertHolds t loaded.costs cert) is.comes.compiled.tree_is holds;
     rows =
-        (let asked = subst (λ t. AreRowsAsked t loaded.costs loaded.choice.service build.processors cert.rows) is.comes.compiled.tree_is rows in
-        let served = subst (λ n. AreRowsAsked r.tree loaded.costs n build.processors cert.rows) (sym service_is) asked in
-        subst (λ n. AreRowsAsked r.tree loaded.costs cert.service n cert.rows) (sym processors) served);
+        (let request = subst (λ t. AreNeededRows t loaded.costs loaded.choice.service build.processors cert.rows) is.comes.compiled.tree_is rows in
+        let served = subst (λ n. AreNeededRows r.tree loaded.costs n build.processors cert.rows) (sym service_is) request in
+        subst (λ n. AreNeededRows r.tree loaded.costs cert.service n cert.rows) (sym processors) served);
     text_is = text_is;
   }
 

@@ -4,7 +4,7 @@ use Rattle.p3l_skel.specs.declared.tree.Tree.{Tree}
 use Rattle.p3l_cost.specs.declared.costs.Costs.{Costs}
 use Rattle.p3l_cost.specs.File.{costs_in}
 use Rattle.p3l_model.specs.Optimal.{IsChosen, IsNoLater}
-use Rattle.p3l_io.specs.Told.{Held}
+use Rattle.p3l_io.specs.Content.{Held}
 use Rattle.p3l_opts.specs.declared.command.Build.{Build}
 use Rattle.p3l_run.specs.Network.{Network}
 use Rattle.p3l_check.specs.Resolving.{ResolvedTree}
@@ -69,5 +69,5 @@ module _ (files : Option Held) (build : Build) (r : ResolvedTree) (loaded : Allo
     have = (is.has, is.says);
     is = subst (λ m. IsBuilt build (record { text = is.text; said = is.said }) m) (sym n_is) (is_built build r loaded files is);
     only = λ other o. only_built other o ∙ sym n_is;
-    passed = λ change told. loaded_passes build r loaded change (subst (λ f. IsLoaded f build r loaded) (sym told) is);
+    passed = λ change known. loaded_passes build r loaded change (subst (λ f. IsLoaded f build r loaded) (sym known) is);
   }

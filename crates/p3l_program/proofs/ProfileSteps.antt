@@ -5,7 +5,7 @@ use Rattle.std.specs.List.{All, list_any}
 use Rattle.p3l_base.specs.declared.outcome.Outcome.{Outcome}
 use Rattle.p3l_base.specs.declared.outcome.Outcome.TheVariants.{Value, Trapped}
 use Rattle.p3l_base.specs.declared.outcome.TrapKind.{TrapKind}
-use Rattle.p3l_io.specs.Told.{Held}
+use Rattle.p3l_io.specs.Content.{Held}
 use Rattle.p3l_skel.specs.declared.tree.Tree.{Tree}
 use Rattle.p3l_skel.specs.Lawful.{IsLawfulTree}
 use Rattle.p3l_skel.specs.Tree.{node_at}
@@ -31,7 +31,7 @@ use Rattle.p3l_stream.specs.declared.items.Items.{Items}
 use Rattle.p3l_stream.specs.Given.{Closes, GivenCause, ended_by}
 use Rattle.p3l_stream.specs.Items.{items_of}
 use Rattle.p3l_profile.specs.Greatest.{Greatest, none_noted, noted_all}
-use Rattle.p3l_profile.specs.Law.{TellsTheGreatest, notes_of}
+use Rattle.p3l_profile.specs.Law.{HasTheGreatest, notes_of}
 use Rattle.p3l_profile.specs.Text.{text_of}
 use Rattle.p3l_sample.specs.declared.stream.Sampled.{Sampled}
 use Rattle.p3l_sample.specs.declared.stream.Sampled.TheVariants as sampled
@@ -39,15 +39,15 @@ use Rattle.p3l_sample.specs.Sampling.{EndsSo, IsSampled, IsValue}
 use Rattle.p3l_program.specs.declared.plan.Accepted.{Accepted}
 use Rattle.p3l_program.specs.Load.{IsProgram}
 use Rattle.p3l_program.specs.Plan.{IsCompiled, network_of}
-use Rattle.p3l_program.specs.Profile.{BeginsProfile, ClosesSo, ClosesSome, EndsProfile, GivesAll, HasProgram, HaveValues, IsClosedProfile, IsNoted, IsProfileDue, IsProfileOf, IsProfileStatus, IsProfiled, NotesSome, ProfilesWhole, StopsSo, Subject, TrapsSo, coded, cost_file, is_trap, outcome_on, profile_status, subject_of, subject_width}
+use Rattle.p3l_program.specs.Profile.{BeginsProfile, ClosesSo, ClosesSome, EndsProfile, GivesAll, HasProgram, HaveValues, IsClosedProfile, IsNoted, IsProfileExpected, IsProfileOf, IsProfileStatus, IsProfiled, NotesSome, ProfilesWhole, StopsSo, Subject, TrapsSo, coded, cost_file, is_trap, outcome_on, profile_status, subject_of, subject_width}
 use Rattle.p3l_program.specs.Run.{seen_of}
 use Rattle.p3l_program.specs.World.{Change, HasNoFault, HasRisen, IsCalm, World, world}
-use Rattle.p3l_program.proofs.EndSteps.{ended_told}
+use Rattle.p3l_program.proofs.EndSteps.{ended_known}
 use Rattle.p3l_program.proofs.LoadSteps.{program_passes}
 use Rattle.p3l_program.proofs.SeenSteps.{GoesOnTo, ending_unstopped, seen_goes_on}
 
 -- a tree was profiled on its codes, from nothing to these greatest numbers
-module _ (tree : Tree) (codes : List Code) (told : TellsTheGreatest) (g : Greatest) (input out : Change (List ℕ)) where
+module _ (tree : Tree) (codes : List Code) (known : HasTheGreatest) (g : Greatest) (input out : Change (List ℕ)) where
   abbrev served : Served
   served = record { tree = tree; codes = codes }
 
@@ -56,7 +56,7 @@ module _ (tree : Tree) (codes : List Code) (told : TellsTheGreatest) (g : Greate
 
   -- the text of the greatest numbers is the cost file
   file_is : (items : List (List ℤ)) → g ≡ noted_all start (notes_of tree served items) → text_of tree g ≡ cost_file (coded tree codes) items
-  file_is items noted = ap (text_of tree) noted ∙ told tree (notes_of tree served items)
+  file_is items noted = ap (text_of tree) noted ∙ known tree (notes_of tree served items)
 
   abbrev Ended : Ending → Type 0
   Ended close = EndsSo tree served start g input.old input.new input.before input.now close
@@ -144,27 +144,27 @@ module _ (files : Change Held) (input out : Change (List ℕ)) (name : List ℕ)
   begins : IsCalm files → (NotesSome (subject_of r) input out) → BeginsProfile (world files input out) name
   begins calm some = record { r = r; has = has; begun = inr some }
 
-  due : IsCalm files → (v : Verdict) → IsProfileOf (subject_of r) input out v → IsProfileDue (world files input out) name v
-  due calm (verdict.Ended f stats) h = record {
+  expected : IsCalm files → (v : Verdict) → IsProfileOf (subject_of r) input out v → IsProfileExpected (world files input out) name v
+  expected calm (verdict.Ended f stats) h = record {
     passed = program_passes files name r accepted is.text is.has is.comes;
     ends = record { r = r; has = has; stats_are = h.0; profiled = h.2 };
     files = calm;
     out = h.1;
   }
-  due calm verdict.WriteFault h = record {
+  expected calm verdict.WriteFault h = record {
     begun = record { passed = program_passes files name r accepted is.text is.has is.comes; begins = begins calm h.0 };
     fault = inl (record { files = calm; out = h.1 });
   }
-  due calm verdict.NoMemory (inl h) = inr (record {
+  expected calm verdict.NoMemory (inl h) = inr (record {
     passed = program_passes files name r accepted is.text is.has is.comes;
     begins = record { r = r; has = has; begun = inl h };
   })
-  due calm verdict.NoMemory (inr h) = inr (record { passed = program_passes files name r accepted is.text is.has is.comes; begins = begins calm h })
-  due calm (verdict.Refused refused) h = absurd h
+  expected calm verdict.NoMemory (inr h) = inr (record { passed = program_passes files name r accepted is.text is.has is.comes; begins = begins calm h })
+  expected calm (verdict.Refused refused) h = absurd h
 
   -- the verdict of the profile is expected
-  pub profile_due : IsCalm files → (v : Verdict) → IsProfileOf (coded accepted.tree accepted.codes) input out v → IsProfileDue (world files input out) name v
-  profile_due calm v h = due calm v (subst (λ p. IsProfileOf p input out v) same h)
+  pub profile_expected : IsCalm files → (v : Verdict) → IsProfileOf (coded accepted.tree accepted.codes) input out v → IsProfileExpected (world files input out) name v
+  profile_expected calm v h = expected calm v (subst (λ p. IsProfileOf p input out v) same h)
 
 -- a profile that came to its end was begun
 pub ends_profile : (w : World) (name : List ℕ) (f : Finish) (stats : Option Stats) → EndsProfile w name f stats → BeginsProfile w name
@@ -220,12 +220,12 @@ profile_unstopped w name (finish.Stopped fired idle) stats h is = h.profiled
 profile_unstopped w name (finish.Differs line) stats h is = h.profiled
 
 -- the items of an input that came to its end are those that it gave
-module _ (p : Subject) (input : Change (List ℕ)) (rest : List ℕ) (told : input.old ≡ Some rest) (all : GivesAll p input ending.End) where
+module _ (p : Subject) (input : Change (List ℕ)) (rest : List ℕ) (known : input.old ≡ Some rest) (all : GivesAll p input ending.End) where
   closes : Closes (subject_width p) all.stream all.gives.bytes all.items (closed_so (Some ending.End))
   closes = subst (λ c. Closes (subject_width p) all.stream all.gives.bytes all.items c) all.gives.closed_is all.gives.given.closes
 
   ended : (input.new ≡ Some []) × (all.gives.bytes ≡ rest)
-  ended = ended_told input.old input.new rest all.gives.bytes told all.gives.read (all.gives.at_end closes.0)
+  ended = ended_known input.old input.new rest all.gives.bytes known all.gives.read (all.gives.at_end closes.0)
 
   pub at_end : input.new ≡ Some []
   at_end = ended.0
@@ -286,7 +286,7 @@ module _ (p : Subject) where
 abbrev net_for : ResolvedTree → Network
 net_for r = network_of r [] 0
 
-module _ (r : ResolvedTree) (input : Change (List ℕ)) (rest : List ℕ) (told : input.old ≡ Some rest) (calm : HasRisen input → ⊥) where
+module _ (r : ResolvedTree) (input : Change (List ℕ)) (rest : List ℕ) (known : input.old ≡ Some rest) (calm : HasRisen input → ⊥) where
   abbrev p : Subject
   p = subject_of r
 
@@ -295,30 +295,30 @@ module _ (r : ResolvedTree) (input : Change (List ℕ)) (rest : List ℕ) (told 
 
   ended_status : (close : Ending) → GivesAll p input close → ending_status close ≡ profile_status p seen
   ended_status close all =
-      let to : GoesOnTo (net_for r) (Some close) all.items rest = seen_goes_on (net_for r) rest input.old input.new input.before input.now (Some close) all.stream all.items all.gives told calm in
+      let to : GoesOnTo (net_for r) (Some close) all.items rest = seen_goes_on (net_for r) rest input.old input.new input.before input.now (Some close) all.stream all.items all.gives known calm in
       sym (ap (profile_status p) to.seen ∙ value_status p all.items to.later to.e all.values (to.may_come.none close refl) ∙ ap ending_status (sym to.may_end))
 
   trapped_status : (out : Change (List ℕ)) (number : ℕ) (kind : TrapKind) (name : List ℕ) → TrapsSo p input out number kind name → status.trap ≡ profile_status p seen
   trapped_status out number kind name t =
-      let to : GoesOnTo (net_for r) None (t.items ++ t.words ∷ []) rest = seen_goes_on (net_for r) rest input.old input.new input.before input.now None t.stream (t.items ++ t.words ∷ []) t.gives told calm in
+      let to : GoesOnTo (net_for r) None (t.items ++ t.words ∷ []) rest = seen_goes_on (net_for r) rest input.old input.new input.before input.now None t.stream (t.items ++ t.words ∷ []) t.gives known calm in
       sym (ap (profile_status p) to.seen ∙ trap_status p t.items to.later t.words to.e t.values (ap is_trap t.traps))
 
 -- where no fault comes the profile ends by what is seen of the input
-pub profile_status_due : (w : World) (name rest : List ℕ) (f : Finish) (stats : Option Stats) → w.input.old ≡ Some rest → HasNoFault w → EndsProfile w name f stats → IsProfileStatus w name rest (finish_status f)
-profile_status_due w name rest finish.Done stats told calm h = record {
+pub profile_status_expected : (w : World) (name rest : List ℕ) (f : Finish) (stats : Option Stats) → w.input.old ≡ Some rest → HasNoFault w → EndsProfile w name f stats → IsProfileStatus w name rest (finish_status f)
+profile_status_expected w name rest finish.Done stats known calm h = record {
   r = h.r;
   has = h.has;
-  status_is = ended_status h.r w.input rest told calm.input ending.End h.profiled.all;
+  status_is = ended_status h.r w.input rest known calm.input ending.End h.profiled.all;
 }
-profile_status_due w name rest (finish.Stream close) stats told calm h = record {
+profile_status_expected w name rest (finish.Stream close) stats known calm h = record {
   r = h.r;
   has = h.has;
-  status_is = ended_status h.r w.input rest told calm.input close h.profiled.all;
+  status_is = ended_status h.r w.input rest known calm.input close h.profiled.all;
 }
-profile_status_due w name rest (finish.Trapped number kind home) stats told calm h = record {
+profile_status_expected w name rest (finish.Trapped number kind home) stats known calm h = record {
   r = h.r;
   has = h.has;
-  status_is = trapped_status h.r w.input rest told calm.input w.out number kind home h.profiled;
+  status_is = trapped_status h.r w.input rest known calm.input w.out number kind home h.profiled;
 }
-profile_status_due w name rest (finish.Stopped fired idle) stats told calm h = absurd h.profiled
-profile_status_due w name rest (finish.Differs line) stats told calm h = absurd h.profiled
+profile_status_expected w name rest (finish.Stopped fired idle) stats known calm h = absurd h.profiled
+profile_status_expected w name rest (finish.Differs line) stats known calm h = absurd h.profiled

@@ -3,7 +3,7 @@ use Rattle.std.proofs.Common.{◌≡◌, ℕ, ℤ, true, List, [], ◌∷◌, �
 use Rattle.p3l_base.specs.declared.outcome.Outcome.{Outcome}
 use Rattle.p3l_skel.specs.declared.tree.Tree.{Tree}
 use Rattle.p3l_firing.specs.declared.net.Net.{Net}
-use Rattle.p3l_io.specs.Told.{Held}
+use Rattle.p3l_io.specs.Content.{Held}
 use Rattle.p3l_net.specs.Run.{Course, after_picks, course_from, picked}
 use Rattle.p3l_net.specs.State.{State}
 use Rattle.p3l_run.specs.Network.{Network, begun_with, width_of}
@@ -51,9 +51,9 @@ not_evidence n t seen k agrees (inl d) = absurd (never_differs n.tree n.leaf n.n
 not_evidence n t seen k agrees (inr h) = h.0
 
 pub accepted : BeginsNoOtherTrace → EveryRecordIsAccepted
-accepted begins w after origin asked name reported finish stats rest build k e told calm still is =
+accepted begins w after origin request name reported finish stats rest build k e known calm still is =
     let f = e.finishes in
-    let to = seen_goes_on e.n rest w.input.old w.input.new w.input.before w.input.now f.close f.stream f.items f.gives told calm in
+    let to = seen_goes_on e.n rest w.input.old w.input.new w.input.before w.input.now f.close f.stream f.items f.gives known calm in
     let agrees : Agrees e.n.tree e.n.leaf e.n.net (begun_with e.n (seen_of (width_of e.n) rest).items) e.recorded.t =
     subst (λ (i : Items). Agrees e.n.tree e.n.leaf e.n.net (begun_with e.n i.items) e.recorded.t) (sym to.seen) (e.recorded.is to.later to.may_come).agrees in
     let trace : is.t ≡ e.recorded.t = same_trace begins after.files.old name e.recorded.t is.t e.recorded.fits still.stands is.has.trace in

@@ -4,7 +4,7 @@ use Rattle.std.specs.Prelude.{OnOk}
 use Rattle.std.specs.Option.{option_to_list}
 use Rattle.std.specs.declared.result.Result.{Result}
 use Rattle.std.specs.declared.result.Result.TheVariants.{Ok, Err}
-use Rattle.p3l_io.specs.Told.{Held}
+use Rattle.p3l_io.specs.Content.{Held}
 use Rattle.p3l_opts.specs.declared.command.Sched.{Sched}
 use Rattle.p3l_report.specs.declared.verdict.Verdict.{Verdict}
 use Rattle.p3l_report.specs.declared.verdict.Verdict.TheVariants as verdict
@@ -29,8 +29,8 @@ use Rattle.p3l_program.proofs.RunSteps.{finishes_starts}
 use Rattle.p3l_program.proofs.SavedSteps.{kept_by}
 
 -- a network that is left with files as they were
-pub stays_kept : (n : Network) (files : Change Held) (input out : Change (List ℕ)) (asked : Sched) (trace : Option (List ℕ)) (v : Verdict) → files.new ≡ files.old → KeepsRun n files input out asked trace v
-stays_kept n files input out asked trace v same = record { kept = kept_by files (option_to_list trace) v same; over = inl same }
+pub stays_kept : (n : Network) (files : Change Held) (input out : Change (List ℕ)) (request : Sched) (trace : Option (List ℕ)) (v : Verdict) → files.new ≡ files.old → KeepsRun n files input out request trace v
+stays_kept n files input out request trace v same = record { kept = kept_by files (option_to_list trace) v same; over = inl same }
 
 -- what is no end of a run is reported by the writing of its trace alone
 pub closed_err : (files : Change Held) (ran : Ran) (trace : Option (List ℕ)) (reported : Bool) (v : Verdict) → IsRecording files trace ran.lines ran.stats (Err v) → IsClosed files ran trace reported v
@@ -45,12 +45,12 @@ closed_err files ran trace reported (verdict.Ended finish stats) h = absurd (by 
     by None lines h = (let z = h.0 in cc)
 
 -- a run that ended early
-pub early_run : (n : Network) (s : Schedule) (files : Change Held) (input out : Change (List ℕ)) (asked : Sched) (trace : Option (List ℕ)) (reported : Bool) → HasSchedule files.old (size_of n) asked s → IsCalm files → (failed : RunFault) →
-    Starts n s input.old input.new input.before input.now out.old out.new → WriteCause {T = Ran} out.before out.now (Err failed) → IsRunOf n files input out asked trace reported (fault_verdict failed)
-early_run n s files input out asked trace reported schedule calm fault.Write starts cause = inl (record { s = s; schedule = schedule; starts = starts; files_calm = calm }, cause)
-early_run n s files input out asked trace reported schedule calm fault.NoMemory starts cause = inr (record { s = s; schedule = schedule; starts = starts; files_calm = calm })
+pub early_run : (n : Network) (s : Schedule) (files : Change Held) (input out : Change (List ℕ)) (request : Sched) (trace : Option (List ℕ)) (reported : Bool) → HasSchedule files.old (size_of n) request s → IsCalm files → (failed : RunFault) →
+    Starts n s input.old input.new input.before input.now out.old out.new → WriteCause {T = Ran} out.before out.now (Err failed) → IsRunOf n files input out request trace reported (fault_verdict failed)
+early_run n s files input out request trace reported schedule calm fault.Write starts cause = inl (record { s = s; schedule = schedule; starts = starts; files_calm = calm }, cause)
+early_run n s files input out request trace reported schedule calm fault.NoMemory starts cause = inr (record { s = s; schedule = schedule; starts = starts; files_calm = calm })
 
-module _ (n : Network) (s : Schedule) (files : Change Held) (input out : Change (List ℕ)) (asked : Sched) (ran : Ran) (schedule : HasSchedule files.old (size_of n) asked s) (calm : IsCalm out) where
+module _ (n : Network) (s : Schedule) (files : Change Held) (input out : Change (List ℕ)) (request : Sched) (ran : Ran) (schedule : HasSchedule files.old (size_of n) request s) (calm : IsCalm out) where
   abbrev Ends : Keeping → Type 0
   Ends keeping = Finishes n s keeping input.old input.new input.before input.now out.old out.new ran
 
@@ -65,10 +65,10 @@ module _ (n : Network) (s : Schedule) (files : Change Held) (input out : Change 
       let run = f.ran later may in
       record { picks = t.picks; agrees = t.agrees; fired = ap (λ s. s.fired) run.stats_are; idle = ap (λ s. s.idle) run.stats_are }
 
-  over : (keeping : Keeping) → Ends keeping → IsRunOver n files input out asked
+  over : (keeping : Keeping) → Ends keeping → IsRunOver n files input out request
   over keeping f = record { s = s; schedule = schedule; keeping = keeping; ran = ran; finishes = f; out_calm = calm }
 
-  pub closed_run : (trace : Option (List ℕ)) (reported : Bool) → Ends (keeping_for trace) → (v : Verdict) → IsClosed files ran trace reported v → IsRunOf n files input out asked trace reported v
+  pub closed_run : (trace : Option (List ℕ)) (reported : Bool) → Ends (keeping_for trace) → (v : Verdict) → IsClosed files ran trace reported v → IsRunOf n files input out request trace reported v
   closed_run None reported f (verdict.Ended finish stats) h = record {
     s = s;
     schedule = schedule;
@@ -101,8 +101,8 @@ module _ (n : Network) (s : Schedule) (files : Change Held) (input out : Change 
   closed_run (Some name) reported f verdict.NoMemory h =
       inr (record { s = s; schedule = schedule; starts = finishes_starts n s keep.Lines _ _ _ _ _ _ ran f; files_calm = (saved_so name f (Err verdict.NoMemory) h).0.by })
 
-  pub closed_kept : (trace : Option (List ℕ)) (reported : Bool) → Ends (keeping_for trace) → (v : Verdict) → IsClosed files ran trace reported v → KeepsRun n files input out asked trace v
-  closed_kept None reported f (verdict.Ended finish stats) h = stays_kept n files input out asked None (verdict.Ended finish stats) h.2.1.told
+  pub closed_kept : (trace : Option (List ℕ)) (reported : Bool) → Ends (keeping_for trace) → (v : Verdict) → IsClosed files ran trace reported v → KeepsRun n files input out request trace v
+  closed_kept None reported f (verdict.Ended finish stats) h = stays_kept n files input out request None (verdict.Ended finish stats) h.2.1.known
   closed_kept None reported f (verdict.Refused r) h = absurd (let z = h.0 in cc)
   closed_kept None reported f verdict.WriteFault h = absurd (let z = h.0 in cc)
   closed_kept None reported f verdict.NoMemory h = absurd (let z = h.0 in cc)

@@ -7,7 +7,7 @@ use Rattle.std.specs.Str.Parse.{AllDigits, digits_value}
 use Rattle.std.proofs.lemmas.Bool.{lt-ltb, ne_eqb}
 use Rattle.std.proofs.lemmas.Fmt.{decimal_is_IsNumeral}
 use Rattle.std.proofs.lemmas.Str.Parse.{IsDigitsTest, IsNumeralModel, digit_from_value, numerals_by_value}
-use Rattle.p3l_io.specs.Told.{Held}
+use Rattle.p3l_io.specs.Content.{Held}
 use Rattle.p3l_base.specs.declared.outcome.Outcome.{Outcome}
 use Rattle.p3l_skel.specs.declared.tree.Tree.{Tree}
 use Rattle.p3l_net.specs.Run.{Course, picked}
@@ -103,8 +103,8 @@ all_there tree leaf net c [] agree = tt
 all_there tree leaf net c (line ∷ ls) agree = (agree.0.there, all_there tree leaf net (picked tree leaf net c line.pick) ls agree.1)
 
 -- the same of a run in virtual time
-picks_there : (w : World) (build : Build) (name : List ℕ) (finish : Finish) (told : Option Stats) (e : EndsTime w build (Some name) finish told) → AllByRecursion (λ pick. pick < size_of e.n) e.to.picks
-picks_there w build name finish told e =
+picks_there : (w : World) (build : Build) (name : List ℕ) (finish : Finish) (report : Option Stats) (e : EndsTime w build (Some name) finish report) → AllByRecursion (λ pick. pick < size_of e.n) e.to.picks
+picks_there w build name finish report e =
     let runs = e.to.runs in
     let f = runs.finishes in
     let traced = f.traced [] (nothing_comes e.n f.close) in
@@ -115,9 +115,9 @@ picks_there w build name finish told e =
 
 -- on what is seen of its input a run of a network emits what the network does under its schedule, has its numbers and its end
 module _ (n : Network) (s : Schedule) (keeping : Keeping) (old left : Option (List ℕ)) (before now : ℕ) (taken taken' : Option (List ℕ)) (end : Ran) (f : Finishes n s keeping old left before now taken taken' end)
-    (rest : List ℕ) (told : old ≡ Some rest) (calm : Rose before now → ⊥) where
+    (rest : List ℕ) (known : old ≡ Some rest) (calm : Rose before now → ⊥) where
   abbrev to : GoesOnTo n f.close f.items rest
-  to = seen_goes_on n rest old left before now f.close f.stream f.items f.gives told calm
+  to = seen_goes_on n rest old left before now f.close f.stream f.items f.gives known calm
 
   items_are : f.items ++ to.later ≡ (seen_of (width_of n) rest).items
   items_are = ap (λ (i : Items). i.items) (sym to.seen)
@@ -138,8 +138,8 @@ one_text : (held : Held) (name text other : List ℕ) → HasText (Some held) pi
 one_text held name text other a b = (let x = a.holds in let y = b.holds in cc)
 
 pub replayed : EveryTimedRunIsReplayed
-replayed w build name finish told held e has =
-    let there = picks_there w build name finish told e in
+replayed w build name finish report held e has =
+    let there = picks_there w build name finish report e in
     let few = e.to.runs.few in
     let reads : Reads (picks_text e.to.picks) (size_of e.n) (Ok e.to.picks) = reads_again (size_of e.n) e.to.picks (omega (arith, few)) there in
     record {

@@ -2,7 +2,7 @@
 use Rattle.std.proofs.Common.{◌≡◌, ◌≢◌, ℕ, ℤ, ◌*◌, List, [], ◌++◌, Option, Some, None, refl, sym, ap, inl, subst, ◌∙◌, arith, append-nil, Bool, true}
 use Rattle.std.specs.Option.{option_to_list}
 use Rattle.p3l_io.specs.Causes.{Rose}
-use Rattle.p3l_io.specs.Told.{Held}
+use Rattle.p3l_io.specs.Content.{Held}
 use Rattle.p3l_opts.specs.declared.command.Sched.{Sched}
 use Rattle.p3l_opts.specs.declared.command.Sched.TheVariants as sched
 use Rattle.p3l_report.proofs.Statuses as statuses
@@ -32,7 +32,7 @@ use Rattle.p3l_program.specs.Saved.{HasOneFailed}
 use Rattle.p3l_program.specs.Scheduled.{HasSchedule}
 use Rattle.p3l_program.specs.Verdict.{run_finish}
 use Rattle.p3l_program.specs.World.{Change, World}
-use Rattle.p3l_program.proofs.EndSteps.{IsStream, ended_told, put_told, stream_is}
+use Rattle.p3l_program.proofs.EndSteps.{IsStream, ended_known, put_known, stream_is}
 use Rattle.p3l_program.proofs.Lawful.{Lawful}
 use Rattle.p3l_program.proofs.RunSteps.{finishes_starts}
 use Rattle.p3l_program.proofs.SeenSteps.{seen_status, seen_stops, still_of, stopped_goes}
@@ -79,13 +79,13 @@ pub record IsWholeRun (n : Network) (items : List (List ℤ)) (rest taken : List
 -- a run of status 0 is
 pub whole_of : (n : Network) (s : Schedule) (keeping : Keeping) (old left : Option (List ℕ)) (before now : ℕ) (out taken' : Option (List ℕ)) (end : Ran) (f : Finishes n s keeping old left before now out taken' end) (rest taken : List ℕ) → old ≡ Some rest → out ≡ Some taken →
     finish_status (run_finish end.finish) ≡ status.done → IsWholeRun n f.items rest taken left taken'
-whole_of n s keeping old left before now out taken' end f rest taken input told h =
+whole_of n s keeping old left before now out taken' end f rest taken input known h =
     let g = f.gives in
     let st = run_stream n s keeping old left before now out taken' end f status.done h (λ z. absurd (omega arith)) (λ z. absurd (omega arith)) in
     let is_end : st.e ≡ ending.End = statuses.done_is st.e st.status_is in
     let close : f.close ≡ Some ending.End = closed_by n s keeping old left before now out taken' end f status.done st ∙ ap Some is_end in
     let closes : Closes (width_of n) f.stream g.bytes f.items (closed_so (Some ending.End)) = subst (λ c. Closes (width_of n) f.stream g.bytes f.items c) (g.closed_is ∙ ap closed_so close) g.given.closes in
-    let ended = ended_told old left rest g.bytes input g.read (g.at_end closes.0) in
+    let ended = ended_known old left rest g.bytes input g.read (g.at_end closes.0) in
     let all : items_of (width_of n) rest ≡ items_ended f.items ending.End = ap (items_of (width_of n)) (sym ended.1) ∙ closes.1 in
     let may : MayEnd f.close ending.End = subst (λ c. MayEnd c ending.End) (sym close) refl in
     let ran = f.ran [] (nothing_comes n f.close) in
@@ -94,7 +94,7 @@ whole_of n s keeping old left before now out taken' end f rest taken input told 
       input_ended = ended.0;
       all_items = ap (λ i. i.ending) all;
       taken_is =
-          put_told out taken' taken (text_of f.outcomes) told f.put
+          put_known out taken' taken (text_of f.outcomes) known f.put
           ∙ ap (λ o. Some (taken ++ text_of o)) (ran.whole still ∙ ap (meaning_of n) (append-nil f.items))
           ∙ ap (λ i. Some (taken ++ text_of (meaning_of n i.items))) (sym all);
       items_are = append-nil f.items ∙ sym (ap (λ i. i.items) all);
@@ -129,25 +129,25 @@ emits_of w origin order trace reported finish stats e = let f = e.finishes in le
 }
 
 -- the file of a trace that could not be written is one that a run writes
-named : (w : World) (origin : Origin) (asked : Sched) (trace : Option (List ℕ)) → UnsavedRun w origin asked trace → HasOneFailed w.files (option_to_list trace)
-named w origin asked None h = absurd h
-named w origin asked (Some name) h = record { name = name; one = inl refl; failed = h.2 }
+named : (w : World) (origin : Origin) (request : Sched) (trace : Option (List ℕ)) → UnsavedRun w origin request trace → HasOneFailed w.files (option_to_list trace)
+named w origin request None h = absurd h
+named w origin request (Some name) h = record { name = name; one = inl refl; failed = h.2 }
 
 -- picks that are recorded are those of a file
-by_file : (files : Option Held) (size : ℕ) (asked : Sched) (s : Schedule) (picks : List ℕ) → HasSchedule files size asked s → s ≡ schedule.Recorded picks → (name : List ℕ) × (asked ≡ sched.File name)
+by_file : (files : Option Held) (size : ℕ) (request : Sched) (s : Schedule) (picks : List ℕ) → HasSchedule files size request s → s ≡ schedule.Recorded picks → (name : List ℕ) × (request ≡ sched.File name)
 by_file files size sched.RoundRobin s picks has is = absurd (let z = sym has ∙ is in cc)
 by_file files size (sched.Seeded seed) s picks has is = absurd (let z = sym has ∙ is in cc)
 by_file files size (sched.File name) s picks has is = (name, refl)
 
 -- a run of status 1 was stopped at the end of such picks
-run_stopped : (w : World) (origin : Origin) (asked : Sched) (trace : Option (List ℕ)) (reported : Bool) (finish : Finish) (stats : Option Stats) → EndsRun w origin asked trace reported finish stats → finish_status finish ≡ status.stopped → StopsRun w origin asked
-run_stopped w origin asked trace reported finish stats e h =
+run_stopped : (w : World) (origin : Origin) (request : Sched) (trace : Option (List ℕ)) (reported : Bool) (finish : Finish) (stats : Option Stats) → EndsRun w origin request trace reported finish stats → finish_status finish ≡ status.stopped → StopsRun w origin request
+run_stopped w origin request trace reported finish stats e h =
     let f = e.finishes in
     let ending = some_ending f.close in
     let goes = stopped_goes e.n (course_of e.n e.s (f.items ++ [])) ending.0 e.ran.finish (f.ends [] (nothing_comes e.n f.close) ending.0 ending.1) (sym (ap finish_status e.finish_is) ∙ h) in
     let goes_here : goes_on e.n (course_of e.n e.s f.items) ≡ true = subst (λ i. goes_on e.n (course_of e.n e.s i) ≡ true) (append-nil f.items) goes in
     let made : e.s ≡ schedule.Recorded (run_picks e.n e.s f.items) = subst (λ i. e.s ≡ schedule.Recorded (run_picks e.n e.s i)) (append-nil f.items) ((f.ran [] (nothing_comes e.n f.close)).stops goes) in
-    let file = by_file w.files.old (size_of e.n) asked e.s _ e.has.schedule made in
+    let file = by_file w.files.old (size_of e.n) request e.s _ e.has.schedule made in
     record {
       n = e.n;
       s = e.s;
@@ -170,7 +170,7 @@ pub run_lawful : (run : Running) → Lawful (run_behavior run)
 run_lawful run = record {
   begun = λ w f stats e. record { n = e.n; s = e.s; has = e.has; starts = finishes_starts e.n e.s _ _ _ _ _ _ _ e.ran e.finishes };
   whole = λ w rest taken f stats input out h e. run_whole w run.origin run.schedule run.trace rest taken run.reported f stats input out h e;
-  status_due = λ w rest f stats input calm e. record {
+  status_expected = λ w rest f stats input calm e. record {
     n = e.n;
     s = e.s;
     has = e.has;

@@ -1,7 +1,7 @@
 -- From the run of a network to the verdict of `run` and `exec`.
 use Rattle.std.proofs.Common.{◌≡◌, ℕ, Bool, List, [], ◌++◌, Option, Some, None, ◌⊎◌, inl, inr, subst, append-nil, refl, ◌∙◌}
 use Rattle.std.specs.declared.result.Result.TheVariants.{Ok, Err}
-use Rattle.p3l_io.specs.Told.{Held}
+use Rattle.p3l_io.specs.Content.{Held}
 use Rattle.p3l_opts.specs.declared.command.Sched.{Sched}
 use Rattle.p3l_opts.specs.declared.command.Sched.TheVariants as sched
 use Rattle.p3l_report.specs.declared.verdict.Refusal.{Refusal}
@@ -19,12 +19,12 @@ use Rattle.p3l_sched.specs.declared.refusal.PickRefusal.{PickRefusal}
 use Rattle.p3l_sched.specs.declared.refusal.PickRefusal.TheVariants as picks
 use Rattle.p3l_sched.specs.declared.schedule.Schedule.{Schedule}
 use Rattle.p3l_sched.specs.Picks.{Reads}
-use Rattle.p3l_program.specs.Due.{IsWriteFault}
+use Rattle.p3l_program.specs.Expected.{IsWriteFault}
 use Rattle.p3l_program.specs.File.{HasText}
 use Rattle.p3l_program.specs.Load.{IsNotLoaded, LoadsNetwork}
 use Rattle.p3l_program.specs.Plan.{HasNetwork}
 use Rattle.p3l_program.specs.Origin.{Origin}
-use Rattle.p3l_program.specs.Run.{BeginsRun, EndsRun, HasBadPicks, IsRunDue, IsRunOf, IsRunOver, IsRunSome, IsUnasked, IsUnsavedRun, KeepsRun, RunsOver, UnsavedRun}
+use Rattle.p3l_program.specs.Run.{BeginsRun, EndsRun, HasBadPicks, HasNoSchedule, IsRunExpected, IsRunOf, IsRunOver, IsRunSome, IsUnsavedRun, KeepsRun, RunsOver, UnsavedRun}
 use Rattle.p3l_program.specs.Scheduled.{HasNoPicks, HasSchedule, picks_limit}
 use Rattle.p3l_program.specs.Stage.{AllPass, FilesCause, IsRefusedBy, Refuses, origin_stages, run_stages, schedule_stages, scheduled}
 use Rattle.p3l_program.specs.World.{Change, IsStill, world}
@@ -51,11 +51,11 @@ finishes_starts n s keeping rest left before now taken taken' end f =
     }
 
 -- what was not loaded is not run
-pub run_unloaded : (files : Change Held) (input out : Change (List ℕ)) (origin : Origin) (asked : Sched) (trace : Option (List ℕ)) (reported : Bool) (v : Verdict) → IsStill input → IsStill out → IsNotLoaded files (origin_stages origin) v →
-    IsRunDue (world files input out) origin asked trace reported v
-run_unloaded files input out origin asked trace reported v still silent h =
-    not_loaded (world files input out) (run_stages origin asked) (EndsRun (world files input out) origin asked trace reported) (BeginsRun (world files input out) origin asked) (UnsavedRun (world files input out) origin asked trace) v still silent
-    (not_loaded_front files (origin_stages origin) (schedule_stages origin asked) v h)
+pub run_unloaded : (files : Change Held) (input out : Change (List ℕ)) (origin : Origin) (request : Sched) (trace : Option (List ℕ)) (reported : Bool) (v : Verdict) → IsStill input → IsStill out → IsNotLoaded files (origin_stages origin) v →
+    IsRunExpected (world files input out) origin request trace reported v
+run_unloaded files input out origin request trace reported v still silent h =
+    not_loaded (world files input out) (run_stages origin request) (EndsRun (world files input out) origin request trace reported) (BeginsRun (world files input out) origin request) (UnsavedRun (world files input out) origin request trace) v still silent
+    (not_loaded_front files (origin_stages origin) (schedule_stages origin request) v h)
 
 -- a network that was loaded is run
 module _ (files : Change Held) (input out : Change (List ℕ)) (origin : Origin) (n : Network) (loads : LoadsNetwork files.old origin n) where
@@ -65,20 +65,20 @@ module _ (files : Change Held) (input out : Change (List ℕ)) (origin : Origin)
   passed : AllPass files (origin_stages origin)
   passed = loads.passed files refl
 
-  schedule_passes : (asked : Sched) (s : Schedule) → HasSchedule files.old (size_of n) asked s → AllPass files (schedule_stages origin asked)
+  schedule_passes : (request : Sched) (s : Schedule) → HasSchedule files.old (size_of n) request s → AllPass files (schedule_stages origin request)
   schedule_passes sched.RoundRobin s h = tt
   schedule_passes (sched.Seeded seed) s h = tt
   schedule_passes (sched.File name) s h = ((h.text, h.has), ((n, s, has, h), tt))
 
-  pub all_passes : (asked : Sched) (s : Schedule) → HasSchedule files.old (size_of n) asked s → AllPass files (run_stages origin asked)
-  all_passes asked s h = passed_both files (origin_stages origin) (schedule_stages origin asked) passed (schedule_passes asked s h)
+  pub all_passes : (request : Sched) (s : Schedule) → HasSchedule files.old (size_of n) request s → AllPass files (run_stages origin request)
+  all_passes request s h = passed_both files (origin_stages origin) (schedule_stages origin request) passed (schedule_passes request s h)
 
-  runs_over : (asked : Sched) → IsRunOver n files input out asked → RunsOver (world files input out) origin asked
-  runs_over asked h = record { n = n; s = h.s; has = record { network = has; schedule = h.schedule }; keeping = h.keeping; ran = h.ran; finishes = h.finishes }
+  runs_over : (request : Sched) → IsRunOver n files input out request → RunsOver (world files input out) origin request
+  runs_over request h = record { n = n; s = h.s; has = record { network = has; schedule = h.schedule }; keeping = h.keeping; ran = h.ran; finishes = h.finishes }
 
   -- a file is touched when the run is over
-  pub run_touched : (asked : Sched) (trace : Option (List ℕ)) (v : Verdict) → KeepsRun n files input out asked trace v → (files.new ≡ files.old) ⊎ RunsOver (world files input out) origin asked
-  run_touched asked trace v h = elim h.over [ inl same ↦ inl same | inr over ↦ inr (runs_over asked over) ]
+  pub run_touched : (request : Sched) (trace : Option (List ℕ)) (v : Verdict) → KeepsRun n files input out request trace v → (files.new ≡ files.old) ⊎ RunsOver (world files input out) origin request
+  run_touched request trace v h = elim h.over [ inl same ↦ inl same | inr over ↦ inr (runs_over request over) ]
 
   -- as what is run has one network, a text that is refused for it has no picks
   no_picks : (name text : List ℕ) (r : PickRefusal) → HasText files.old picks_limit name text → Reads text (size_of n) (Err r) → (r ≡ picks.NoMemory → ⊥) → HasNoPicks files.old origin name r
@@ -105,23 +105,23 @@ module _ (files : Change Held) (input out : Change (List ℕ)) (origin : Origin)
   files_cause (refusal.NoSuchProcess line pick count) name h = h.calm
   files_cause r name h = absurd h.bad
 
-  pub refused_by : (asked : Sched) (r : Refusal) → IsUnasked files (size_of n) asked (verdict.Refused r) → IsRefusedBy files (run_stages origin asked) r × FilesCause r files
+  pub refused_by : (request : Sched) (r : Refusal) → HasNoSchedule files (size_of n) request (verdict.Refused r) → IsRefusedBy files (run_stages origin request) r × FilesCause r files
   refused_by sched.RoundRobin r h = absurd h
   refused_by (sched.Seeded seed) r h = absurd h
   refused_by (sched.File name) r (inl h) = (refused_after files (origin_stages origin) (schedule_stages origin (sched.File name)) r passed (inl h.0), h.1)
   refused_by (sched.File name) r (inr h) =
       (refused_after files (origin_stages origin) (schedule_stages origin (sched.File name)) r passed (inr ((h.text, h.has), inl (bad_picks name r h))), files_cause r name h)
 
-  begins_run : (asked : Sched) → IsRunSome n files input out asked → BeginsRun (world files input out) origin asked
-  begins_run asked h = record { n = n; s = h.s; has = record { network = has; schedule = h.schedule }; starts = h.starts }
+  begins_run : (request : Sched) → IsRunSome n files input out request → BeginsRun (world files input out) origin request
+  begins_run request h = record { n = n; s = h.s; has = record { network = has; schedule = h.schedule }; starts = h.starts }
 
   -- the file of the trace could not be written
-  unsaved : (asked : Sched) (trace : Option (List ℕ)) → IsUnsavedRun n files input out asked trace →
-      IsWriteFault (world files input out) (run_stages origin asked) (BeginsRun (world files input out) origin asked) (UnsavedRun (world files input out) origin asked trace)
-  unsaved asked None h = absurd h
-  unsaved asked (Some name) h = record {
+  unsaved : (request : Sched) (trace : Option (List ℕ)) → IsUnsavedRun n files input out request trace →
+      IsWriteFault (world files input out) (run_stages origin request) (BeginsRun (world files input out) origin request) (UnsavedRun (world files input out) origin request trace)
+  unsaved request None h = absurd h
+  unsaved request (Some name) h = record {
     begun = record {
-      passed = all_passes asked h.0.s h.0.schedule;
+      passed = all_passes request h.0.s h.0.schedule;
       begins = record {
         n = n;
         s = h.0.s;
@@ -129,23 +129,23 @@ module _ (files : Change Held) (input out : Change (List ℕ)) (origin : Origin)
         starts = finishes_starts n h.0.s h.0.keeping _ _ _ _ _ _ h.0.ran h.0.finishes;
       };
     };
-    fault = inr (runs_over asked h.0, h.0.out_calm, h.1);
+    fault = inr (runs_over request h.0, h.0.out_calm, h.1);
   }
 
   -- the verdict of the run is expected
-  pub run_due : (asked : Sched) (trace : Option (List ℕ)) (reported : Bool) (v : Verdict) → IsRunOf n files input out asked trace reported v → IsRunDue (world files input out) origin asked trace reported v
-  run_due asked trace reported (verdict.Refused r) h =
-      (let by = refused_by asked r h.0 in record { by = by.0; untouched = record { input = h.1.input_still; out = h.1.out_still }; files = by.1 })
-  run_due asked trace reported (verdict.Ended finish stats) h = record {
-    passed = all_passes asked h.s h.schedule;
+  pub run_expected : (request : Sched) (trace : Option (List ℕ)) (reported : Bool) (v : Verdict) → IsRunOf n files input out request trace reported v → IsRunExpected (world files input out) origin request trace reported v
+  run_expected request trace reported (verdict.Refused r) h =
+      (let by = refused_by request r h.0 in record { by = by.0; untouched = record { input = h.1.input_still; out = h.1.out_still }; files = by.1 })
+  run_expected request trace reported (verdict.Ended finish stats) h = record {
+    passed = all_passes request h.s h.schedule;
     ends = record { n = n; s = h.s; has = record { network = has; schedule = h.schedule }; ran = h.ran; finish_is = h.finish_is; stats_are = h.stats_are; finishes = h.finishes; recorded = h.recorded };
     files = h.files_calm;
     out = h.out_calm;
   }
-  run_due asked trace reported verdict.WriteFault (inl h) = record {
-    begun = record { passed = all_passes asked h.0.s h.0.schedule; begins = begins_run asked h.0 };
+  run_expected request trace reported verdict.WriteFault (inl h) = record {
+    begun = record { passed = all_passes request h.0.s h.0.schedule; begins = begins_run request h.0 };
     fault = inl (record { files = h.0.files_calm; out = h.1 });
   }
-  run_due asked trace reported verdict.WriteFault (inr h) = unsaved asked trace h
-  run_due asked trace reported verdict.NoMemory (inl h) = inl (record { input = h.input_still; out = h.out_still })
-  run_due asked trace reported verdict.NoMemory (inr h) = inr (record { passed = all_passes asked h.s h.schedule; begins = begins_run asked h })
+  run_expected request trace reported verdict.WriteFault (inr h) = unsaved request trace h
+  run_expected request trace reported verdict.NoMemory (inl h) = inl (record { input = h.input_still; out = h.out_still })
+  run_expected request trace reported verdict.NoMemory (inr h) = inr (record { passed = all_passes request h.s h.schedule; begins = begins_run request h })

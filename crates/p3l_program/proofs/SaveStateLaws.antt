@@ -21,7 +21,7 @@ use Rattle.p3l_stream.specs.Text.{text_of}
 use Rattle.p3l_program.specs.SaveState.{BeginsSave, EndsSave, IsSaveStatus, IsUsed, SavesWhole, save_behavior}
 use Rattle.p3l_program.specs.Trace.{IsUnrefused}
 use Rattle.p3l_program.specs.World.{Change, HasNoFault, HasRisen, World}
-use Rattle.p3l_program.proofs.EndSteps.{put_told}
+use Rattle.p3l_program.proofs.EndSteps.{put_known}
 use Rattle.p3l_program.proofs.Lawful.{IsCalmStatus, Lawful}
 use Rattle.p3l_program.proofs.SaveStateSteps.{begun_so, emitted_on, status_done, status_ended, status_trapped, used_on, used_seen}
 use Rattle.p3l_program.proofs.SeenSteps.{ending_unstopped}
@@ -31,7 +31,7 @@ use Rattle.p3l_program.proofs.TraceSteps.{all_go_on}
 module _ (n : Network) (picks : List ℕ) (input out : Change (List ℕ)) (saved : Checkpoint) (s : checkpoint.IsSaved n picks input.old input.new input.before input.now out.old out.new saved) where
   unrefused_by : (close : Option Ending) → s.reached.close ≡ close → IsUnrefused s.reached.close
   unrefused_by None is = inl is
-  unrefused_by (Some e) is = elim s.over [ inl none ↦ absurd ((s.reached.asked e is).0 none) | inr ended ↦ inr ended ]
+  unrefused_by (Some e) is = elim s.over [ inl none ↦ absurd ((s.reached.request e is).0 none) | inr ended ↦ inr ended ]
 
   pub unrefused : IsUnrefused s.reached.close
   unrefused = unrefused_by s.reached.close refl
@@ -57,19 +57,19 @@ true_is_not_false : true ≡ false → ⊥
 true_is_not_false h = cc
 
 module _ (w : World) (build : Build) (name output : List ℕ) where
-  save_begun : (f : Finish) (told : Option Stats) → EndsSave w build name output f told → BeginsSave w build name
-  save_begun finish.Done told e =
+  save_begun : (f : Finish) (report : Option Stats) → EndsSave w build name output f report → BeginsSave w build name
+  save_begun finish.Done report e =
       record { n = e.n; counts = e.counts; image = e.image; picks = e.picks; has = e.has; begun = begun_so e.n e.picks w.input w.out e.to.comes.is.reached e.to.comes.meant }
-  save_begun (finish.Stream k) told e =
+  save_begun (finish.Stream k) report e =
       record { n = e.n; counts = e.counts; image = e.image; picks = e.picks; has = e.has; begun = begun_so e.n e.picks w.input w.out e.to.0.is.reached e.to.0.meant }
-  save_begun (finish.Trapped item kind home) told e =
+  save_begun (finish.Trapped item kind home) report e =
       record { n = e.n; counts = e.counts; image = e.image; picks = e.picks; has = e.has; begun = begun_so e.n e.picks w.input w.out e.to.0.is.reached e.to.0.meant }
-  save_begun (finish.Stopped fired idle) told e = absurd e.to
-  save_begun (finish.Differs line) told e = absurd e.to
+  save_begun (finish.Stopped fired idle) report e = absurd e.to
+  save_begun (finish.Differs line) report e = absurd e.to
 
   -- an end of status 0 is whole
-  save_whole : (rest taken : List ℕ) (f : Finish) (told : Option Stats) → w.input.old ≡ Some rest → w.out.old ≡ Some taken → finish_status f ≡ status.done → EndsSave w build name output f told → SavesWhole w build name output rest taken
-  save_whole rest taken finish.Done told input out h e =
+  save_whole : (rest taken : List ℕ) (f : Finish) (report : Option Stats) → w.input.old ≡ Some rest → w.out.old ≡ Some taken → finish_status f ≡ status.done → EndsSave w build name output f report → SavesWhole w build name output rest taken
+  save_whole rest taken finish.Done report input out h e =
       let s = e.to.comes.is in
       let r = s.reached in
       let all = all_go_on e.n rest w.input.old w.input.new w.input.before w.input.now r.close r.stream r.items r.gives input (unrefused e.n e.picks w.input w.out e.to.saved s) in
@@ -88,7 +88,7 @@ module _ (w : World) (build : Build) (name output : List ℕ) where
         calm = ap has_trap (ap (λ items. (course_under e.n items r.used).state.emitted) all.all ∙ sym emitted) ∙ s.calm;
         ended = λ left. elim s.over [ inl none ↦ absurd (left none) | inr closed ↦ all.ending_is ending.End closed ];
         taken_is =
-            put_told w.out.old w.out.new taken (text_of r.outcomes) out r.put
+            put_known w.out.old w.out.new taken (text_of r.outcomes) out r.put
             ∙ ap (λ o. Some (taken ++ text_of o)) (emitted ∙ ap (λ items. (course_under e.n items r.used).state.emitted) (sym all.all));
         offered = r.items;
         later = all.later;
@@ -103,14 +103,14 @@ module _ (w : World) (build : Build) (name output : List ℕ) where
         snapshot_is = e.to.snapshot_is;
         stands = e.to.stands;
       }
-  save_whole rest taken (finish.Stream k) told input out h e = absurd (e.to.0.is.other (statuses.done_is k h))
-  save_whole rest taken (finish.Trapped item kind home) told input out h e = absurd (omega arith)
-  save_whole rest taken (finish.Stopped fired idle) told input out h e = absurd e.to
-  save_whole rest taken (finish.Differs line) told input out h e = absurd e.to
+  save_whole rest taken (finish.Stream k) report input out h e = absurd (e.to.0.is.other (statuses.done_is k h))
+  save_whole rest taken (finish.Trapped item kind home) report input out h e = absurd (omega arith)
+  save_whole rest taken (finish.Stopped fired idle) report input out h e = absurd e.to
+  save_whole rest taken (finish.Differs line) report input out h e = absurd e.to
 
   -- where no fault comes it ends with the status that is expected
-  save_status_due : (rest : List ℕ) (f : Finish) (told : Option Stats) → w.input.old ≡ Some rest → HasNoFault w → EndsSave w build name output f told → IsSaveStatus w build name rest (finish_status f)
-  save_status_due rest finish.Done told input calm e =
+  save_status_expected : (rest : List ℕ) (f : Finish) (report : Option Stats) → w.input.old ≡ Some rest → HasNoFault w → EndsSave w build name output f report → IsSaveStatus w build name rest (finish_status f)
+  save_status_expected rest finish.Done report input calm e =
       let s = e.to.comes.is in
       let r = s.reached in record {
         n = e.n;
@@ -126,7 +126,7 @@ module _ (w : World) (build : Build) (name output : List ℕ) where
           | inr ended ↦ status_ended e.n e.picks w.input w.out r rest input calm.input s.calm ending.End ended
         ];
       }
-  save_status_due rest (finish.Stream k) told input calm e =
+  save_status_expected rest (finish.Stream k) report input calm e =
       let s = e.to.0.is in
       let r = s.reached in record {
         n = e.n;
@@ -139,7 +139,7 @@ module _ (w : World) (build : Build) (name output : List ℕ) where
         is_used = used_seen e.n e.picks w.input w.out r rest input calm.input e.to.0.meant (λ quiet left. (k, s.close_is));
         status_is = status_ended e.n e.picks w.input w.out r rest input calm.input s.calm k s.close_is;
       }
-  save_status_due rest (finish.Trapped item kind home) told input calm e =
+  save_status_expected rest (finish.Trapped item kind home) report input calm e =
       let s = e.to.0.is in
       let r = s.reached in record {
         n = e.n;
@@ -152,49 +152,49 @@ module _ (w : World) (build : Build) (name output : List ℕ) where
         is_used = used_seen e.n e.picks w.input w.out r rest input calm.input e.to.0.meant (λ quiet left. absurd (true_is_not_false (sym s.trapped ∙ quiet)));
         status_is = status_trapped e.n e.picks w.input w.out r rest input calm.input s.trapped;
       }
-  save_status_due rest (finish.Stopped fired idle) told input calm e = absurd e.to
-  save_status_due rest (finish.Differs line) told input calm e = absurd e.to
+  save_status_expected rest (finish.Stopped fired idle) report input calm e = absurd e.to
+  save_status_expected rest (finish.Differs line) report input calm e = absurd e.to
 
   -- a fault of reading is answered where the count of the input rose, and else it stays
-  save_read : (f : Finish) (told : Option Stats) → EndsSave w build name output f told → finish_status f ≡ status.read → HasRisen w.input
-  save_read finish.Done told e h = absurd (omega arith)
-  save_read (finish.Stream k) told e h =
+  save_read : (f : Finish) (report : Option Stats) → EndsSave w build name output f report → finish_status f ≡ status.read → HasRisen w.input
+  save_read finish.Done report e h = absurd (omega arith)
+  save_read (finish.Stream k) report e h =
       let s = e.to.0.is in
       subst (λ c. GivenCause (closed_so c) w.input.before w.input.now) (s.close_is ∙ ap Some (statuses.read_is k h)) s.reached.gives.cause
-  save_read (finish.Trapped item kind home) told e h = absurd (omega arith)
-  save_read (finish.Stopped fired idle) told e h = absurd e.to
-  save_read (finish.Differs line) told e h = absurd e.to
+  save_read (finish.Trapped item kind home) report e h = absurd (omega arith)
+  save_read (finish.Stopped fired idle) report e h = absurd e.to
+  save_read (finish.Differs line) report e h = absurd e.to
 
-  save_calm : (f : Finish) (told : Option Stats) → EndsSave w build name output f told → IsCalmStatus (finish_status f) → w.input.now ≡ w.input.before
-  save_calm finish.Done told e h =
+  save_calm : (f : Finish) (report : Option Stats) → EndsSave w build name output f report → IsCalmStatus (finish_status f) → w.input.now ≡ w.input.before
+  save_calm finish.Done report e h =
       let s = e.to.comes.is in
       unrefused_calm s.reached.close w.input.before w.input.now (unrefused e.n e.picks w.input w.out e.to.saved s) s.reached.gives.cause
-  save_calm (finish.Stream k) told e h =
+  save_calm (finish.Stream k) report e h =
       let s = e.to.0.is in
       ended_calm k w.input.before w.input.now h.3 (subst (λ c. GivenCause (closed_so c) w.input.before w.input.now) s.close_is s.reached.gives.cause)
-  save_calm (finish.Trapped item kind home) told e h = absurd (h.2 refl)
-  save_calm (finish.Stopped fired idle) told e h = absurd e.to
-  save_calm (finish.Differs line) told e h = absurd e.to
+  save_calm (finish.Trapped item kind home) report e h = absurd (h.2 refl)
+  save_calm (finish.Stopped fired idle) report e h = absurd e.to
+  save_calm (finish.Differs line) report e h = absurd e.to
 
   -- it is never stopped
-  save_unstopped : (f : Finish) (told : Option Stats) → EndsSave w build name output f told → finish_status f ≡ status.stopped → ⊥
-  save_unstopped finish.Done told e h = absurd (omega arith)
-  save_unstopped (finish.Stream k) told e h = ending_unstopped k h
-  save_unstopped (finish.Trapped item kind home) told e h = absurd (omega arith)
-  save_unstopped (finish.Stopped fired idle) told e h = absurd e.to
-  save_unstopped (finish.Differs line) told e h = absurd e.to
+  save_unstopped : (f : Finish) (report : Option Stats) → EndsSave w build name output f report → finish_status f ≡ status.stopped → ⊥
+  save_unstopped finish.Done report e h = absurd (omega arith)
+  save_unstopped (finish.Stream k) report e h = ending_unstopped k h
+  save_unstopped (finish.Trapped item kind home) report e h = absurd (omega arith)
+  save_unstopped (finish.Stopped fired idle) report e h = absurd e.to
+  save_unstopped (finish.Differs line) report e h = absurd e.to
 
 pub save_lawful : (build : Build) (name output : List ℕ) → Lawful (save_behavior build name output)
 save_lawful build name output = record {
-  begun = λ w f told e. save_begun w build name output f told e;
-  whole = λ w rest taken f told input out h e. save_whole w build name output rest taken f told input out h e;
-  status_due = λ w rest f told input calm e. save_status_due w build name output rest f told input calm e;
-  read = λ w f told e h. save_read w build name output f told e h;
-  calm = λ w f told e h. save_calm w build name output f told e h;
-  stopped = λ w f told e h. absurd (save_unstopped w build name output f told e h);
+  begun = λ w f report e. save_begun w build name output f report e;
+  whole = λ w rest taken f report input out h e. save_whole w build name output rest taken f report input out h e;
+  status_expected = λ w rest f report input calm e. save_status_expected w build name output rest f report input calm e;
+  read = λ w f report e h. save_read w build name output f report e h;
+  calm = λ w f report e h. save_calm w build name output f report e h;
+  stopped = λ w f report e h. absurd (save_unstopped w build name output f report e h);
   writer = λ w h. record { name = output; one = inl refl; failed = h.2 };
   first_written = λ none. refl;
   reads_first = λ limit before after is. refl;
   touches = λ w some. absurd (some refl);
-  ran = λ w run f told is e. absurd cc;
+  ran = λ w run f report is e. absurd cc;
 }

@@ -6,7 +6,7 @@ use Rattle.p3l_firing.specs.Run.{run}
 use Rattle.p3l_firing.specs.State.{State, first_state, with_rest}
 use Rattle.p3l_firing.specs.Typed.{IsTyped}
 use Rattle.p3l_firing.specs.Token.{has_trap}
-use Rattle.p3l_io.specs.Told.{Held}
+use Rattle.p3l_io.specs.Content.{Held}
 use Rattle.p3l_link.specs.Laws.{IsLinkable}
 use Rattle.p3l_link.specs.Net.{linked_net}
 use Rattle.p3l_load.specs.declared.loaded.Loaded.{Loaded as LoadedImage}
@@ -59,7 +59,7 @@ use Rattle.p3l_program.specs.LoadImage.{IsReadyImage}
 use Rattle.p3l_program.specs.Plan.{network_in}
 use Rattle.p3l_program.specs.Origin.{built}
 use Rattle.p3l_program.specs.Run.{seen_of}
-use Rattle.p3l_program.specs.SaveState.{BeginsSave, EndsSave, FitsSome, HasImaged, HasPicked, IsMeant, IsReached, IsSaveBegun, IsSaveDue, IsSaveOf, IsSaveOver, IsSaveSome, IsUnreached, IsUsed, IsWriting, KeepsSave, SavesOver, SavesTo, UnsavedState, save_stages, save_status, snapshot, units_of, unused_status}
+use Rattle.p3l_program.specs.SaveState.{BeginsSave, EndsSave, FitsSome, HasImaged, HasPicked, IsMeant, IsReached, IsSaveBegun, IsSaveExpected, IsSaveOf, IsSaveOver, IsSaveSome, IsUnreached, IsUsed, IsWriting, KeepsSave, SavesOver, SavesTo, UnsavedState, save_stages, save_status, snapshot, units_of, unused_status}
 use Rattle.p3l_program.specs.Scheduled.{HasPicks}
 use Rattle.p3l_program.specs.Stage.{AllPass, build_stages, schedule_stages}
 use Rattle.p3l_program.specs.Verdict.{fault_verdict, run_finish}
@@ -122,7 +122,7 @@ module _ (n : Network) (picks : List ℕ) (input out : Change (List ℕ)) (r : R
     meant_so = record {
       begins = subst (λ o. IsPrefixOf o (meaning_of n r.items)) (sym emitted_here) (laws.begins r.items r.wide r.used);
       sent = λ e closed.
-          let none = ap length (none_unsent (r.asked e closed).1) in
+          let none = ap length (none_unsent (r.request e closed).1) in
           let count = laws.counted r.items r.wide r.used in
           let first = sent_first in
           let all = ap length unsent_first in
@@ -147,9 +147,9 @@ module _ (n : Network) (picks : List ℕ) (input out : Change (List ℕ)) (r : R
   }
 
   -- on an input that reports what is left, where no fault came
-  module _ (rest : List ℕ) (told : input.old ≡ Some rest) (calm : HasRisen input → ⊥) where
+  module _ (rest : List ℕ) (known : input.old ≡ Some rest) (calm : HasRisen input → ⊥) where
     abbrev to : GoesOnTo n r.close r.items rest
-    to = seen_goes_on n rest input.old input.new input.before input.now r.close r.stream r.items r.gives told calm
+    to = seen_goes_on n rest input.old input.new input.before input.now r.close r.stream r.items r.gives known calm
 
     pub used_seen : IsMeant n picks input out r → (has_trap r.outcomes ≡ false → r.unused ≢ [] → (e : Ending) × (r.close ≡ Some e)) → IsUsed n (seen_of (width_of n) rest).items picks r.used r.unused
     used_seen meant closed = subst (λ (i : Items). IsUsed n i.items picks r.used r.unused) (sym to.seen) (used_on meant closed to.later to.may_come)
@@ -169,7 +169,7 @@ module _ (n : Network) (picks : List ℕ) (input out : Change (List ℕ)) (r : R
     pub status_ended : has_trap r.outcomes ≡ false → (e : Ending) → r.close ≡ Some e → ending_status e ≡ save_status n r.used r.unused (seen_of (width_of n) rest)
     status_ended quiet e closed =
         let same : e ≡ to.e = subst (λ c. MayEnd c to.e) closed to.may_end in
-        ap ending_status same ∙ sym (some_left r.unused to.e (r.asked e closed).0) ∙ sym (status_by false quiet)
+        ap ending_status same ∙ sym (some_left r.unused to.e (r.request e closed).0) ∙ sym (status_by false quiet)
 
 -- how a network was run under the picks of a file
 module _ (n : Network) (files : Change Held) (input out : Change (List ℕ)) (name picks : List ℕ) (has : HasPicks files.old (size_of n) name (schedule.Recorded picks)) (laws : Laws n) (starts : n.start ≡ fresh) where
@@ -184,9 +184,9 @@ module _ (n : Network) (files : Change Held) (input out : Change (List ℕ)) (na
 
   pub ended_so : (f : RunEnd) → IsCheckpointEnd n picks input.old input.new input.before input.now out.old out.new (Ok (ends.Ended f)) → IsCalm files → IsCalm out → IsUnreached n files input out name (verdict.Ended (run_finish f) None)
   ended_so (end.Stream e) h calm quiet =
-      (refl, record { picks = picks; picks_are = has; ends = record { told_is = refl; is = h; meant = meant_so n picks input out h.reached laws starts } }, calm, quiet)
+      (refl, record { picks = picks; picks_are = has; ends = record { report_is = refl; is = h; meant = meant_so n picks input out h.reached laws starts } }, calm, quiet)
   ended_so (end.Trapped item kind home) h calm quiet =
-      (refl, record { picks = picks; picks_are = has; ends = record { told_is = refl; is = h; meant = meant_so n picks input out h.reached laws starts } }, calm, quiet)
+      (refl, record { picks = picks; picks_are = has; ends = record { report_is = refl; is = h; meant = meant_so n picks input out h.reached laws starts } }, calm, quiet)
   ended_so (end.Stopped fired idle) h calm quiet = absurd (never_stopped (trap_of h.reached.outcomes) _ fired idle (h.ends ending.End))
 
   -- or it failed
@@ -207,9 +207,9 @@ module _ (n : Network) (files : Change Held) (input out : Change (List ℕ)) (na
 
 -- a network was run under the picks of a file, or not, and its snapshot was written
 module _ (n : Network) (counts : List ℕ) (capacity : ℕ) (image : List ℕ) (files : Change Held) (input out : Change (List ℕ)) (name output : List ℕ) where
-  ended_early : (picks : List ℕ) → HasPicks files.old (size_of n) name (schedule.Recorded picks) → files.new ≡ files.old → IsCalm files → IsCalm out → (told : Option Stats) → told ≡ None → (f : Finish) →
-      SavesTo n counts capacity image picks files input out output None f → IsSaveOf n counts capacity image files input out name output (verdict.Ended f told)
-  ended_early picks has same calm quiet told none f to = record {
+  ended_early : (picks : List ℕ) → HasPicks files.old (size_of n) name (schedule.Recorded picks) → files.new ≡ files.old → IsCalm files → IsCalm out → (report : Option Stats) → report ≡ None → (f : Finish) →
+      SavesTo n counts capacity image picks files input out output None f → IsSaveOf n counts capacity image files input out name output (verdict.Ended f report)
+  ended_early picks has same calm quiet report none f to = record {
     picks = picks;
     picks_are = has;
     to = subst (λ t. SavesTo n counts capacity image picks files input out output t f) (sym none) to;
@@ -220,11 +220,11 @@ module _ (n : Network) (counts : List ℕ) (capacity : ℕ) (image : List ℕ) (
   -- it came to no checkpoint
   pub save_unreached : (v : Verdict) → files.new ≡ files.old → IsUnreached n files input out name v → IsSaveOf n counts capacity image files input out name output v
   save_unreached (verdict.Refused r) same h = h
-  save_unreached (verdict.Ended (finish.Stream e) told) same h = ended_early h.1.picks h.1.picks_are same h.2 h.3 told h.0 (finish.Stream e) (h.1.ends, same)
-  save_unreached (verdict.Ended (finish.Trapped item kind home) told) same h = ended_early h.1.picks h.1.picks_are same h.2 h.3 told h.0 (finish.Trapped item kind home) (h.1.ends, same)
-  save_unreached (verdict.Ended finish.Done told) same h = absurd h.1.ends
-  save_unreached (verdict.Ended (finish.Stopped fired idle) told) same h = absurd h.1.ends
-  save_unreached (verdict.Ended (finish.Differs line) told) same h = absurd h.1.ends
+  save_unreached (verdict.Ended (finish.Stream e) report) same h = ended_early h.1.picks h.1.picks_are same h.2 h.3 report h.0 (finish.Stream e) (h.1.ends, same)
+  save_unreached (verdict.Ended (finish.Trapped item kind home) report) same h = ended_early h.1.picks h.1.picks_are same h.2 h.3 report h.0 (finish.Trapped item kind home) (h.1.ends, same)
+  save_unreached (verdict.Ended finish.Done report) same h = absurd h.1.ends
+  save_unreached (verdict.Ended (finish.Stopped fired idle) report) same h = absurd h.1.ends
+  save_unreached (verdict.Ended (finish.Differs line) report) same h = absurd h.1.ends
   save_unreached verdict.WriteFault same h = inl h
   save_unreached verdict.NoMemory same h = h
 
@@ -245,13 +245,13 @@ module _ (n : Network) (counts : List ℕ) (capacity : ℕ) (image : List ℕ) (
 
     pub save_reached : IsSoundShot (units_of n) counts capacity saved.shot → IsCalm out → (v : Verdict) → IsWriting files saved image output v → IsSaveOf n counts capacity image files input out name output v
     save_reached sound quiet (verdict.Refused r) h = absurd h.by
-    save_reached sound quiet (verdict.Ended f told) h = record {
+    save_reached sound quiet (verdict.Ended f report) h = record {
       picks = reached.picks;
       picks_are = reached.picks_are;
-      to = subst (SavesTo n counts capacity image reached.picks files input out output told) (sym h.0) (record {
+      to = subst (SavesTo n counts capacity image reached.picks files input out output report) (sym h.0) (record {
         saved = saved;
         comes = reached.comes;
-        told_is = h.1;
+        report_is = h.1;
         bytes = saved_text (snapshot saved.shot image);
         snapshot_is = record { sound = sound; fits = h.2; bytes_are = refl };
         stands = h.3.by.0;
@@ -264,14 +264,14 @@ module _ (n : Network) (counts : List ℕ) (capacity : ℕ) (image : List ℕ) (
 
     pub kept_reached : (v : Verdict) → IsWriting files saved image output v → KeepsSave n files input out name output v
     kept_reached (verdict.Refused r) h = absurd h.by
-    kept_reached (verdict.Ended f told) h = record { kept = h.3.kept; over = inr over_so }
+    kept_reached (verdict.Ended f report) h = record { kept = h.3.kept; over = inr over_so }
     kept_reached verdict.WriteFault h = record { kept = h.kept; over = inr over_so }
-    kept_reached verdict.NoMemory (inl h) = record { kept = kept_all files (output ∷ []) h.told; over = inr over_so }
+    kept_reached verdict.NoMemory (inl h) = record { kept = kept_all files (output ∷ []) h.known; over = inr over_so }
     kept_reached verdict.NoMemory (inr h) = record { kept = h.kept; over = inr over_so }
 
 -- what was not loaded is not run
 pub save_unloaded : (files : Change Held) (input out : Change (List ℕ)) (build : Build) (name output : List ℕ) (v : Verdict) → IsStill input → IsStill out → IsNotLoaded files (build_stages build) v →
-    IsSaveDue (world files input out) build name output v
+    IsSaveExpected (world files input out) build name output v
 save_unloaded files input out build name output v still silent h =
     not_loaded (world files input out) (save_stages build name) (EndsSave (world files input out) build name output) (BeginsSave (world files input out) build name) (UnsavedState (world files input out) build name output) v still silent
     (not_loaded_front files (build_stages build) (schedule_stages (built build) (sched.File name)) v h)
@@ -294,25 +294,25 @@ module _ (files : Change Held) (input out : Change (List ℕ)) (build : Build) (
   pub save_touched : (output : List ℕ) (v : Verdict) → KeepsSave n files input out name output v → (files.new ≡ files.old) ⊎ SavesOver (world files input out) build name
   save_touched output v h = elim h.over [ inl same ↦ inl same | inr over ↦ inr (saves_over over) ]
 
-  pub save_due : (output : List ℕ) (v : Verdict) → IsSaveOf n counts build.capacity image files input out name output v → IsSaveDue (world files input out) build name output v
-  save_due output (verdict.Refused r) h =
+  pub save_expected : (output : List ℕ) (v : Verdict) → IsSaveOf n counts build.capacity image files input out name output v → IsSaveExpected (world files input out) build name output v
+  save_expected output (verdict.Refused r) h =
       (let by = refused_by files input out (built build) n loads (sched.File name) r h.0 in record { by = by.0; untouched = record { input = h.1.input_still; out = h.1.out_still }; files = by.1 })
-  save_due output (verdict.Ended f told) h = record {
+  save_expected output (verdict.Ended f report) h = record {
     passed = passes h.picks h.picks_are;
     ends = record { n = n; counts = counts; image = image; picks = h.picks; has = picked h.picks h.picks_are; to = h.to };
     files = h.files_calm;
     out = h.out_calm;
   }
-  save_due output verdict.WriteFault (inl h) = record {
+  save_expected output verdict.WriteFault (inl h) = record {
     begun = record { passed = passes h.0.picks h.0.picks_are; begins = begins_save h.0 };
     fault = inl (record { files = h.1; out = h.2 });
   }
-  save_due output verdict.WriteFault (inr h) = record {
+  save_expected output verdict.WriteFault (inr h) = record {
     begun = record { passed = passes h.0.reached.picks h.0.reached.picks_are; begins = begins_save (some_so n counts build.capacity image files input out name output h.0.saved h.0.reached) };
     fault = inr (saves_over h.0, h.1, h.2);
   }
-  save_due output verdict.NoMemory (inl h) = inl (record { input = h.input_still; out = h.out_still })
-  save_due output verdict.NoMemory (inr h) = inr (record { passed = passes h.picks h.picks_are; begins = begins_save h })
+  save_expected output verdict.NoMemory (inl h) = inl (record { input = h.input_still; out = h.out_still })
+  save_expected output verdict.NoMemory (inr h) = inr (record { passed = passes h.picks h.picks_are; begins = begins_save h })
 
 -- what is saved of a network that was loaded is sound, and fits a linked net
 module _ (loaded : LoadedImage) (ready : IsReadyImage loaded) (sound_law : EverySavedShotIsSound) (names_law : EveryTableNamesModules) (files : Change Held) (input out : Change (List ℕ)) (name : List ℕ) (saved : Checkpoint) (reached : IsReached (network_in loaded) files input out name saved) where

@@ -1,12 +1,12 @@
 -- Commands that write a file, and then one text.
 use Rattle.std.proofs.Common.{◌≡◌, ℕ, List, [], ◌∷◌, Option, Some, None, refl, sym, ap, subst, inl, inr, append-nil, ◌∙◌}
 use Rattle.std.specs.declared.result.Result.TheVariants.{Err}
-use Rattle.p3l_io.specs.Told.{Held}
+use Rattle.p3l_io.specs.Content.{Held}
 use Rattle.p3l_report.specs.declared.verdict.Verdict.{Verdict}
 use Rattle.p3l_report.specs.declared.verdict.Verdict.TheVariants as verdict
 use Rattle.p3l_run.specs.Write.{HasBegun, HasPut}
 use Rattle.p3l_program.specs.Load.{IsNotLoaded}
-use Rattle.p3l_program.specs.Saved.{EndsSaving, HoldsBut, IsSaved, IsSavingDue, KeepsBut, KeepsFiles, SaveCause}
+use Rattle.p3l_program.specs.Saved.{EndsSaving, HoldsBut, IsSaved, IsSavingExpected, KeepsBut, KeepsFiles, SaveCause}
 use Rattle.p3l_program.specs.Stage.{AllPass, Stage}
 use Rattle.p3l_program.specs.Text.{BeginsText, IsWritten}
 use Rattle.p3l_program.specs.World.{Change, HasFailed, IsCalm, IsStill, world}
@@ -18,15 +18,15 @@ none_put None new h = h
 none_put (Some taken) new h = h ∙ ap Some (sym (append-nil taken))
 
 pub none_begun : (out : Change (List ℕ)) (text : List ℕ) → IsStill out → HasBegun out.old out.new text
-none_begun out text still = record { written = []; more = text; put = none_put out.old out.new still.told; text_is = refl }
+none_begun out text still = record { written = []; more = text; put = none_put out.old out.new still.known; text_is = refl }
 
 -- files that hold what they held keep all others
 pub kept_all : (files : Change Held) (names : List (List ℕ)) → files.new ≡ files.old → KeepsBut files names
 kept_all files [] h = h
-kept_all files (name ∷ names) h = λ held told. by held (h ∙ told)
+kept_all files (name ∷ names) h = λ held known. by held (h ∙ known)
   where
     by : (held : Held) → files.new ≡ Some held → HoldsBut held files.new (name ∷ names)
-    by held told = subst (λ f. HoldsBut held f (name ∷ names)) (sym told) (λ other out. refl)
+    by held known = subst (λ f. HoldsBut held f (name ∷ names)) (sym known) (λ other out. refl)
 
 pub kept_by : (files : Change Held) (names : List (List ℕ)) (v : Verdict) → files.new ≡ files.old → KeepsFiles files names v
 kept_by files names (verdict.Refused refused) h = h
@@ -43,16 +43,16 @@ kept_no_memory files names verdict.NoMemory h = h
 
 module _ (files : Change Held) (out : Change (List ℕ)) (stages : List Stage) (IsText : List ℕ → Type 0) (name : List ℕ) (IsBytes : List ℕ → Type 0) where
   -- stages that don't pass
-  pub saving_refused : (v : Verdict) → IsStill out → IsNotLoaded files stages v → IsSavingDue files out stages IsText name IsBytes v
+  pub saving_refused : (v : Verdict) → IsStill out → IsNotLoaded files stages v → IsSavingExpected files out stages IsText name IsBytes v
   saving_refused v still h input quiet = not_loaded (world files input out) stages (EndsSaving (world files input out) IsText name IsBytes) (BeginsText (world files input out) IsText) (IsStill out × HasFailed files name) v quiet still h
 
   -- running out of memory before anything was written
-  pub saving_unwritten : IsStill out → IsSavingDue files out stages IsText name IsBytes verdict.NoMemory
+  pub saving_unwritten : IsStill out → IsSavingExpected files out stages IsText name IsBytes verdict.NoMemory
   saving_unwritten still input quiet = inl (record { input = quiet; out = still })
 
   module _ (text bytes : List ℕ) (passed : AllPass files stages) (is : IsText text) (of : IsBytes bytes) where
     -- the file could not be written
-    pub saving_failed : (v : Verdict) → IsStill out → SaveCause files name bytes (Err v) → IsSavingDue files out stages IsText name IsBytes v
+    pub saving_failed : (v : Verdict) → IsStill out → SaveCause files name bytes (Err v) → IsSavingExpected files out stages IsText name IsBytes v
     saving_failed (verdict.Refused r) still h input quiet = absurd h
     saving_failed (verdict.Ended finish stats) still h input quiet = absurd h
     saving_failed verdict.WriteFault still h input quiet = record {
@@ -62,9 +62,9 @@ module _ (files : Change Held) (out : Change (List ℕ)) (stages : List Stage) (
     saving_failed verdict.NoMemory still h input quiet = inl (record { input = quiet; out = still })
 
     -- a text that was written after it
-    pub saving_due : (v : Verdict) → IsSaved files name bytes → IsCalm files → IsWritten out text v → IsSavingDue files out stages IsText name IsBytes v
-    saving_due (verdict.Refused r) saved calm h input still = absurd h
-    saving_due (verdict.Ended finish stats) saved calm h input still = record {
+    pub saving_expected : (v : Verdict) → IsSaved files name bytes → IsCalm files → IsWritten out text v → IsSavingExpected files out stages IsText name IsBytes v
+    saving_expected (verdict.Refused r) saved calm h input still = absurd h
+    saving_expected (verdict.Ended finish stats) saved calm h input still = record {
       passed = passed;
       ends = record {
         ends = record { finish_is = h.0; stats_are = h.1; text = text; is = is; put = h.2; input = still };
@@ -75,8 +75,8 @@ module _ (files : Change Held) (out : Change (List ℕ)) (stages : List Stage) (
       files = calm;
       out = h.3;
     }
-    saving_due verdict.WriteFault saved calm h input still = record {
+    saving_expected verdict.WriteFault saved calm h input still = record {
       begun = record { passed = passed; begins = record { text = text; is = is; begun = h.0; input = still } };
       fault = inl (record { files = calm; out = h.1 });
     }
-    saving_due verdict.NoMemory saved calm h input still = inr (record { passed = passed; begins = record { text = text; is = is; begun = h; input = still } })
+    saving_expected verdict.NoMemory saved calm h input still = inr (record { passed = passed; begins = record { text = text; is = is; begun = h; input = still } })

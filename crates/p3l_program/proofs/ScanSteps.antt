@@ -4,7 +4,7 @@ use Rattle.p3l_base.specs.declared.outcome.Outcome.{Outcome}
 use Rattle.p3l_check.specs.Resolving.{ResolvedTree}
 use Rattle.p3l_compile.specs.Leaves.{body_leaf}
 use Rattle.p3l_firing.specs.declared.net.Net.{Net}
-use Rattle.p3l_io.specs.Told.{Held}
+use Rattle.p3l_io.specs.Content.{Held}
 use Rattle.p3l_link.specs.Laws.{EveryNetIsCarried}
 use Rattle.p3l_link.specs.Net.{linked_net}
 use Rattle.p3l_net.specs.Typed.{IsTyped}
@@ -76,9 +76,9 @@ module _ (name : List ℕ) (segments : ℕ) (r : ResolvedTree) where
       IsUnscannable program.tree segments refused → IsCalm files → (fault : ScanFault) → refusal_of_scan fault ≡ refused → IsNotLoaded files (scan_stages name segments) (verdict.Refused (refusal.Scan fault))
   not_scanned files program text has comes refused why calm fault is =
       let here : IsUnscannable r.tree segments refused = subst (λ t. IsUnscannable t segments refused) comes.compiled.tree_is why in
-      let told : IsUnscannable r.tree segments (refusal_of_scan fault) = subst (λ f. IsUnscannable r.tree segments f) (sym is) here in (
+      let known : IsUnscannable r.tree segments (refusal_of_scan fault) = subst (λ f. IsUnscannable r.tree segments f) (sym is) here in (
         refused_after files (program_stages name) (scannable name segments ∷ []) (refusal.Scan fault) (program_passes files name r program text has comes)
-            (inl (record { text = text; has = has; refused = record { r = r; accepted = comes.accepted; only = comes.only; refused = told } })),
+            (inl (record { text = text; has = has; refused = record { r = r; accepted = comes.accepted; only = comes.only; refused = known } })),
         calm,
       )
 
@@ -114,7 +114,7 @@ module _ (name : List ℕ) (segments : ℕ) (r : ResolvedTree) where
         have = (is.program.has, refl);
         is = record { r = r; accepted = is.program.comes.accepted; plan = loaded.plan; planned = is.planned; network_is = refl };
         only = only_scanned;
-        passed = λ change told. scan_passes change (subst (λ f. IsPlanned f name segments r loaded) (sym told) is);
+        passed = λ change known. scan_passes change (subst (λ f. IsPlanned f name segments r loaded) (sym known) is);
       }
 
 -- the units of a plan on the codes of a program: the net that is linked for the plan is sound on them, and its network is the scan's

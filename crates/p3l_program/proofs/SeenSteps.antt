@@ -151,22 +151,22 @@ module _ (n : Network) (rest : List ℕ) (s : Seen) (items : List (List ℤ)) (b
           }
 
 pub at_end_left : (rest : Option (List ℕ)) (left : List ℕ) → rest ≡ Some left → IsAtEnd rest → left ≡ []
-at_end_left None left told h = absurd cc
-at_end_left (Some other) left told h = let same : other ≡ left = cc in sym same ∙ h
+at_end_left None left known h = absurd cc
+at_end_left (Some other) left known h = let same : other ≡ left = cc in sym same ∙ h
 
 -- what is seen of an input that reports what is left, where no fault came, goes on from the items that its stream gave
 pub seen_goes_on : (n : Network) (rest : List ℕ) (old new : Option (List ℕ)) (before now : ℕ) (close : Option Ending) (s : Seen) (items : List (List ℤ)) → Gives (width_of n) old new before now s items (closed_so close) →
     old ≡ Some rest → (Rose before now → ⊥) → GoesOnTo n close items rest
-seen_goes_on n rest None new before now close s items g told calm = absurd cc
-seen_goes_on n rest (Some other) new before now close s items g told calm =
+seen_goes_on n rest None new before now close s items g known calm = absurd cc
+seen_goes_on n rest (Some other) new before now close s items g known calm =
     let same : other ≡ rest = cc in
     goes_on_to n rest s items g.bytes g.read.0 g.given g.limit (sym same ∙ g.read.2) (λ h. at_end_left new g.read.0 g.read.1 (g.at_end h)) close before now g.closed_is g.cause calm
 
 -- so the status of a run on an input that reports what is left, where no fault came, is that of what is seen
 pub seen_status : (n : Network) (s : Schedule) (rest : List ℕ) (keeping : Keeping) (old new : Option (List ℕ)) (before now : ℕ) (taken taken' : Option (List ℕ)) (end : Ran) →
     old ≡ Some rest → (Rose before now → ⊥) → Finishes n s keeping old new before now taken taken' end → finish_status (run_finish end.finish) ≡ run_status n s rest
-seen_status n s rest keeping old new before now taken taken' end told calm f =
-    let to = seen_goes_on n rest old new before now f.close f.stream f.items f.gives told calm in
+seen_status n s rest keeping old new before now taken taken' end known calm f =
+    let to = seen_goes_on n rest old new before now f.close f.stream f.items f.gives known calm in
     ap (λ e. finish_status (run_finish e)) (f.ends to.later to.may_come to.e to.may_end) ∙ ap (status_with n s) (sym to.seen)
 
 -- no ending of a stream is a stop
@@ -191,8 +191,8 @@ stopped_goes n c close f is h = by (goes_on n c) (trap_of c.state.emitted) refl 
 pub seen_stops : (n : Network) (s : Schedule) (rest : List ℕ) (keeping : Keeping) (old new : Option (List ℕ)) (before now : ℕ) (taken taken' : Option (List ℕ)) (end : Ran) →
     old ≡ Some rest → (Rose before now → ⊥) → Finishes n s keeping old new before now taken taken' end → finish_status (run_finish end.finish) ≡ status.stopped →
     s ≡ schedule.Recorded (picks_of n s (seen_of (width_of n) rest).items)
-seen_stops n s rest keeping old new before now taken taken' end told calm f h =
-    let to = seen_goes_on n rest old new before now f.close f.stream f.items f.gives told calm in
+seen_stops n s rest keeping old new before now taken taken' end known calm f h =
+    let to = seen_goes_on n rest old new before now f.close f.stream f.items f.gives known calm in
     let goes = stopped_goes n (course_of n s (f.items ++ to.later)) to.e end.finish (f.ends to.later to.may_come to.e to.may_end) h in
     subst (λ (i : Items). s ≡ schedule.Recorded (picks_of n s i.items)) (sym to.seen) ((f.ran to.later to.may_come).stops goes)
 

@@ -3,7 +3,7 @@ use Rattle.std.proofs.Common.{◌≡◌, ℕ, List, [], ◌∷◌, ◌++◌, Opt
 use Rattle.std.specs.declared.result.Result.{Result}
 use Rattle.std.specs.declared.result.Result.TheVariants.{Ok, Err}
 use Rattle.p3l_io.specs.Causes.{Rose}
-use Rattle.p3l_io.specs.Told.{Held}
+use Rattle.p3l_io.specs.Content.{Held}
 use Rattle.p3l_report.specs.declared.verdict.Verdict.{Verdict}
 use Rattle.p3l_report.specs.declared.verdict.Verdict.TheVariants as verdict
 use Rattle.p3l_program.specs.Saved.{AreSaved, HasSave, HasSaves, HoldsBut, IsOther, IsSaved, KeepsBut, SaveCause, SavesCause, Stands, names_of}
@@ -11,8 +11,8 @@ use Rattle.p3l_program.specs.World.{Change}
 
 -- files that keep others hold what they held under them
 kept_holds : (files : Change Held) (names : List (List ℕ)) → KeepsBut files names → (held : Held) → files.old ≡ Some held → HoldsBut held files.new names
-kept_holds files [] kept held told = subst (λ f. HoldsBut held f []) (sym (kept ∙ told)) (λ other out. refl)
-kept_holds files (name ∷ names) kept held told = kept held told
+kept_holds files [] kept held known = subst (λ f. HoldsBut held f []) (sym (kept ∙ known)) (λ other out. refl)
+kept_holds files (name ∷ names) kept held known = kept held known
 
 -- whatever names come after one
 holds_wider : (held : Held) (new : Option Held) (name : List ℕ) (names : List (List ℕ)) → HoldsBut held new (name ∷ []) → HoldsBut held new (name ∷ names)
@@ -41,7 +41,7 @@ module _ (old mid new : Option Held) (before between now : ℕ) (early late : Op
   both = record { old = old; new = new; before = before; now = now; failed = late }
 
   saved_after : (written name bytes : List ℕ) → KeepsBut first (written ∷ []) → IsSaved second name bytes → IsSaved both name bytes
-  saved_after written name bytes kept saved = λ held told. by held mid refl (kept held told)
+  saved_after written name bytes kept saved = λ held known. by held mid refl (kept held known)
     where
       by : (held : Held) (m : Option Held) → mid ≡ m → HoldsBut held m (written ∷ []) → Stands new name bytes
       by held None is k = absurd k
@@ -53,11 +53,11 @@ module _ (old mid new : Option Held) (before between now : ℕ) (early late : Op
 
   module _ (name bytes : List ℕ) (saves : List (List ℕ × List ℕ)) (other : IsOther name (names_of saves)) (one : HasSave first name bytes (Ok tt)) where
     kept_then : KeepsBut second (names_of saves) → KeepsBut both (name ∷ names_of saves)
-    kept_then kept = λ held told. holds_then held mid new name (names_of saves) (one.kept held told) (kept_holds second (names_of saves) kept)
+    kept_then kept = λ held known. holds_then held mid new name (names_of saves) (one.kept held known) (kept_holds second (names_of saves) kept)
 
     cause_then : (result : Result (Unit {0}) Verdict) → KeepsBut second (names_of saves) → SavesCause second saves result → SavesCause both ((name, bytes) ∷ saves) result
     cause_then (Ok done) kept by = (
-      (λ held told. stands_then mid new name bytes (names_of saves) (one.by.0 held told) (kept_holds second (names_of saves) kept) other, all_after name saves one.kept by.0),
+      (λ held known. stands_then mid new name bytes (names_of saves) (one.by.0 held known) (kept_holds second (names_of saves) kept) other, all_after name saves one.kept by.0),
       by.1 ∙ one.by.1,
     )
     cause_then (Err verdict.WriteFault) kept by = (
@@ -80,7 +80,7 @@ module _ (files : Change Held) (name bytes : List ℕ) (saves : List (List ℕ �
   cause_of (verdict.Ended f stats) h = absurd h
 
   pub saves_failed : (v : Verdict) → HasSave files name bytes (Err v) → HasSaves files ((name, bytes) ∷ saves) (Err v)
-  saves_failed v h = record { kept = λ held told. holds_wider held files.new name (names_of saves) (h.kept held told); by = cause_of v h.by }
+  saves_failed v h = record { kept = λ held known. holds_wider held files.new name (names_of saves) (h.kept held known); by = cause_of v h.by }
 
 -- the last, whether it was written or not
 last_cause : (files : Change Held) (name bytes : List ℕ) (result : Result (Unit {0}) Verdict) → SaveCause files name bytes result → SavesCause files ((name, bytes) ∷ []) result

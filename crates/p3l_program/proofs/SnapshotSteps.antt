@@ -2,7 +2,7 @@
 use Rattle.std.proofs.Common.{◌≡◌, ℕ, ◌≤◌, List, Option, None, sym, ap, ◌∙◌, inl, inr, subst, refl}
 use Rattle.std.specs.declared.result.Result.TheVariants.{Ok}
 use Rattle.p3l_image.specs.declared.image.Image.{Image}
-use Rattle.p3l_io.specs.Told.{Held}
+use Rattle.p3l_io.specs.Content.{Held}
 use Rattle.p3l_load.specs.declared.loaded.Loaded.{Loaded}
 use Rattle.p3l_load.specs.Load.{loaded_of}
 use Rattle.p3l_report.specs.declared.evidence.Evidence.TheVariants as evidence
@@ -178,5 +178,5 @@ module _ (name : List ℕ) (snapshot : Snapshot) where
     have = (loads.reads.has, refl);
     is = is_continued files loads;
     only = only_continued files loads;
-    passed = λ change told. passes change (subst (λ f. LoadsSnapshot f name snapshot) (sym told) loads);
+    passed = λ change known. passes change (subst (λ f. LoadsSnapshot f name snapshot) (sym known) loads);
   }

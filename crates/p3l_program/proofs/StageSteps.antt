@@ -7,7 +7,7 @@ use Rattle.p3l_cost.specs.declared.costs.Costs.{Costs}
 use Rattle.p3l_cert.specs.declared.cert.Cert.{Cert}
 use Rattle.p3l_grammar.specs.Grammar.{Spells}
 use Rattle.p3l_image.specs.declared.image.Image.{Image}
-use Rattle.p3l_io.specs.Told.{Held}
+use Rattle.p3l_io.specs.Content.{Held}
 use Rattle.p3l_opts.specs.declared.command.Build.{Build}
 use Rattle.p3l_report.specs.declared.cost_fault.CostFault.{CostFault}
 use Rattle.p3l_report.specs.declared.evidence.Evidence.{Evidence}
@@ -66,12 +66,12 @@ can_or_not tree segments scan.BadSegments can never = never.1 can
 abbrev texts_with : List ℕ → Option (List ℕ) → Texts
 texts_with text said = record { text = text; said = said }
 
-module _ (files : Option Held) (held : Held) (told : files ≡ Some held) where
+module _ (files : Option Held) (held : Held) (known : files ≡ Some held) where
   -- one text is held
   same_text : (name text other : List ℕ) → Holds files name text → Holds files name other → other ≡ text
   same_text name text other a b =
-      let c : held name ≡ Some text = subst (λ f. Holds f name text) told a in
-      let d : held name ≡ Some other = subst (λ f. Holds f name other) told b in cc
+      let c : held name ≡ Some text = subst (λ f. Holds f name text) known a in
+      let d : held name ≡ Some other = subst (λ f. Holds f name other) known b in cc
 
   -- and one of costs
   same_said : (costs text other : Option (List ℕ)) → HasCostText files costs text → HasCostText files costs other → other ≡ text
@@ -85,8 +85,8 @@ module _ (files : Option Held) (held : Held) (told : files ≡ Some held) where
   -- a text that is held within the limit is not too long
   pub not_longer : (limit : ℕ) (name text : List ℕ) → HasText files limit name text → IsTooLong files limit name → ⊥
   not_longer limit name text has long =
-      let l = subst (λ f. IsTooLong f limit name) told long in
-      let c : held name ≡ Some text = subst (λ f. Holds f name text) told has.holds in
+      let l = subst (λ f. IsTooLong f limit name) known long in
+      let c : held name ≡ Some text = subst (λ f. Holds f name text) known has.holds in
       let d = l.holds in
       let same : l.bytes ≡ text = cc in
       let n = ap length same in let w = has.within in let m = l.longer in absurd (omega arith)
@@ -183,30 +183,30 @@ module _ (files : Option Held) (held : Held) (told : files ≡ Some held) where
   traced_once : (name : List ℕ) (t : Traced) (line : ℕ) → HasTrace files name t → HasNoTrace files name line → ⊥
   traced_once name t line has none = none.none.no_trace t has.fits (sym (same_text name none.text has.text none.has.holds has.has.holds) ∙ has.spelled)
 
-module _ (files : Change Held) (held : Held) (told : files.old ≡ Some held) (calm : HasRisen files → ⊥) where
+module _ (files : Change Held) (held : Held) (known : files.old ≡ Some held) (calm : HasRisen files → ⊥) where
   -- a stage that is passed refuses nothing
   passed_stage : (stage : Stage) (r : Refusal) → Passes files stage → Refuses files stage r → ⊥
   passed_stage (readable limit name) (refusal.FileFault named) p h = calm h.1.0
-  passed_stage (readable limit name) (refusal.FileTooLong named) p h = not_longer files.old held told limit name p.0 p.1 h.1
-  passed_stage (spelled name) (refusal.Source fault pos) p h = spelled_once files.old held told name p.0 fault pos p.1 h
-  passed_stage (resolved name) (refusal.Source fault pos) p h = accepted_once files.old held told name p.0 fault pos p.1 h
-  passed_stage (priced program costs) (refusal.Costs fault) p h = priced_once files.old held told program costs p.0 p.1 fault p.2 h
-  passed_stage (fitting build) (refusal.TooFew need) p h = fitting_once files.old held told build p.0 p.1 p.2 need p.3 h
-  passed_stage (decoded name) (refusal.Evidence evidence) p h = decoded_once files.old held told name p.0 evidence p.1 h
-  passed_stage (loaded name) (refusal.Evidence evidence) p h = loaded_once files.old held told name p.0 evidence p.1 h
-  passed_stage (migratable name) (refusal.Evidence evidence) p h = migrated_once files.old held told name p.0 evidence p.1 h
-  passed_stage (scheduled origin name) (refusal.BadPick line) p h = scheduled_once files.old held told origin name p.0 p.1 (picks.BadPick line) p.2 p.3 h
-  passed_stage (scheduled origin name) (refusal.NoSuchProcess line pick count) p h = scheduled_once files.old held told origin name p.0 p.1 (picks.NoSuchProcess line pick count) p.2 p.3 h
-  passed_stage (certified program costs name) (refusal.Evidence shown) p h = certified_once files.old held told program costs name p.0 p.1 p.2 shown p.3 h
-  passed_stage (traced name) (refusal.Evidence (evidence.BadLine line)) p h = traced_once files.old held told name p.0 line p.1 h
+  passed_stage (readable limit name) (refusal.FileTooLong named) p h = not_longer files.old held known limit name p.0 p.1 h.1
+  passed_stage (spelled name) (refusal.Source fault pos) p h = spelled_once files.old held known name p.0 fault pos p.1 h
+  passed_stage (resolved name) (refusal.Source fault pos) p h = accepted_once files.old held known name p.0 fault pos p.1 h
+  passed_stage (priced program costs) (refusal.Costs fault) p h = priced_once files.old held known program costs p.0 p.1 fault p.2 h
+  passed_stage (fitting build) (refusal.TooFew need) p h = fitting_once files.old held known build p.0 p.1 p.2 need p.3 h
+  passed_stage (decoded name) (refusal.Evidence evidence) p h = decoded_once files.old held known name p.0 evidence p.1 h
+  passed_stage (loaded name) (refusal.Evidence evidence) p h = loaded_once files.old held known name p.0 evidence p.1 h
+  passed_stage (migratable name) (refusal.Evidence evidence) p h = migrated_once files.old held known name p.0 evidence p.1 h
+  passed_stage (scheduled origin name) (refusal.BadPick line) p h = scheduled_once files.old held known origin name p.0 p.1 (picks.BadPick line) p.2 p.3 h
+  passed_stage (scheduled origin name) (refusal.NoSuchProcess line pick count) p h = scheduled_once files.old held known origin name p.0 p.1 (picks.NoSuchProcess line pick count) p.2 p.3 h
+  passed_stage (certified program costs name) (refusal.Evidence shown) p h = certified_once files.old held known program costs name p.0 p.1 p.2 shown p.3 h
+  passed_stage (traced name) (refusal.Evidence (evidence.BadLine line)) p h = traced_once files.old held known name p.0 line p.1 h
   passed_stage (text_kept text) (refusal.Source fault pos) p h = h.never p.0 p.1
   passed_stage (text_priced text said) (refusal.Costs fault) p h = h.never p.0 p.1 p.2
   passed_stage (text_fitting text said processors) (refusal.TooFew need) p h = h.never p.0 p.1 p.2 p.3
-  passed_stage (scannable name segments) (refusal.Scan fault) p h = scanned_once files.old held told name segments p.0 fault p.1 h
-  passed_stage (saved name) (refusal.Evidence shown) p h = saved_once files.old held told name p.0 shown p.1 h
-  passed_stage (saved_decoded name) (refusal.Evidence shown) p h = saved_decoded_once files.old held told name p.0 shown p.1 h
-  passed_stage (saved_loaded name) (refusal.Evidence shown) p h = saved_loaded_once files.old held told name p.0 shown p.1 h
-  passed_stage (resumable name) (refusal.Evidence evidence.NotSound) p h = resumable_once files.old held told name p.0 p.1 p.2 h
+  passed_stage (scannable name segments) (refusal.Scan fault) p h = scanned_once files.old held known name segments p.0 fault p.1 h
+  passed_stage (saved name) (refusal.Evidence shown) p h = saved_once files.old held known name p.0 shown p.1 h
+  passed_stage (saved_decoded name) (refusal.Evidence shown) p h = saved_decoded_once files.old held known name p.0 shown p.1 h
+  passed_stage (saved_loaded name) (refusal.Evidence shown) p h = saved_loaded_once files.old held known name p.0 shown p.1 h
+  passed_stage (resumable name) (refusal.Evidence evidence.NotSound) p h = resumable_once files.old held known name p.0 p.1 p.2 h
   passed_stage stage r p h = absurd h
 
   -- a stage refuses with one status

@@ -1,6 +1,6 @@
 -- What the answers of commands that write a text, or a file and a text, depend on.
 use Rattle.std.proofs.Common.{◌≡◌, ℕ, List, Option, Some, refl, sym, ap, inl, ◌∙◌, arith}
-use Rattle.p3l_io.specs.Told.{Held}
+use Rattle.p3l_io.specs.Content.{Held}
 use Rattle.p3l_report.specs.declared.stats.Stats.{Stats}
 use Rattle.p3l_report.specs.declared.verdict.Finish.{Finish}
 use Rattle.p3l_report.specs.Status as status
@@ -9,7 +9,7 @@ use Rattle.p3l_program.specs.Saved.{EndsSaving, SavesWhole, saving_behavior}
 use Rattle.p3l_program.specs.Stage.{Stage}
 use Rattle.p3l_program.specs.Text.{EndsText, WritesWhole, text_behavior}
 use Rattle.p3l_program.specs.World.{HasRisen, World}
-use Rattle.p3l_program.proofs.EndSteps.{put_told}
+use Rattle.p3l_program.proofs.EndSteps.{put_known}
 use Rattle.p3l_program.proofs.Lawful.{Lawful}
 use Rattle.p3l_program.proofs.TextSteps.{ends_text}
 
@@ -18,8 +18,8 @@ text_whole : (w : World) (IsText : List ℕ → Type 0) (rest taken : List ℕ) 
 text_whole w IsText rest taken finish stats input out e = record {
   text = e.text;
   is = e.is;
-  rest_stays = e.input.told ∙ input;
-  taken_is = put_told w.out.old w.out.new taken e.text out e.put;
+  rest_stays = e.input.known ∙ input;
+  taken_is = put_known w.out.old w.out.new taken e.text out e.put;
 }
 
 -- and so is one after a file
@@ -44,7 +44,7 @@ pub text_lawful : (stages : List Stage) (IsText : Option Held → List ℕ → T
 text_lawful stages IsText = record {
   begun = λ w f stats e. ends_text w (IsText w.files.old) f stats e;
   whole = λ w rest taken f stats input out h e. text_whole w (IsText w.files.old) rest taken f stats input out e;
-  status_due = λ w rest f stats input calm e. ap finish_status e.finish_is;
+  status_expected = λ w rest f stats input calm e. ap finish_status e.finish_is;
   read = λ w f stats e h. no_read w (IsText w.files.old) f stats e h;
   calm = λ w f stats e h. e.input.calm;
   stopped = λ w f stats e h. unstopped w (IsText w.files.old) f stats e h;
@@ -60,7 +60,7 @@ pub saving_lawful : (stages : List Stage) (IsText : Option Held → List ℕ →
 saving_lawful stages IsText name IsBytes = record {
   begun = λ w f stats e. ends_text w (IsText w.files.old) f stats e.ends;
   whole = λ w rest taken f stats input out h e. saving_whole w (IsText w.files.old) name (IsBytes w.files.old) rest taken f stats input out e;
-  status_due = λ w rest f stats input calm e. ap finish_status e.ends.finish_is;
+  status_expected = λ w rest f stats input calm e. ap finish_status e.ends.finish_is;
   read = λ w f stats e h. no_read w (IsText w.files.old) f stats e.ends h;
   calm = λ w f stats e h. e.ends.input.calm;
   stopped = λ w f stats e h. unstopped w (IsText w.files.old) f stats e.ends h;

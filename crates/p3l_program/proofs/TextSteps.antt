@@ -7,19 +7,19 @@ use Rattle.p3l_ast.specs.declared.refusal.SourceRefusal.{SourceRefusal}
 use Rattle.p3l_ast.specs.declared.refusal.SourceRefusal.TheVariants as source
 use Rattle.p3l_ast.specs.Tree.{ProgramTree}
 use Rattle.p3l_grammar.specs.Grammar.{Spells}
-use Rattle.p3l_io.specs.Told.{Held}
+use Rattle.p3l_io.specs.Content.{Held}
 use Rattle.p3l_reader.specs.Faults.{IsOnly, IsRefusal}
 use Rattle.p3l_report.specs.declared.stats.Stats.{Stats}
 use Rattle.p3l_report.specs.declared.verdict.Finish.{Finish}
 use Rattle.p3l_report.specs.declared.verdict.Refusal.TheVariants as refusal
 use Rattle.p3l_report.specs.declared.verdict.Verdict.{Verdict}
 use Rattle.p3l_report.specs.declared.verdict.Verdict.TheVariants as verdict
-use Rattle.p3l_program.specs.Due.{IsDueWith}
+use Rattle.p3l_program.specs.Expected.{IsExpectedWith}
 use Rattle.p3l_program.specs.File.{HasText, text_limit}
 use Rattle.p3l_program.specs.Fmt.{HasNoCanonical, IsFaulty, fmt_stages}
 use Rattle.p3l_program.specs.Load.{IsNotLoaded}
 use Rattle.p3l_program.specs.Stage.{AllPass, Stage}
-use Rattle.p3l_program.specs.Text.{BeginsText, EndsText, IsTextDue, IsWritten}
+use Rattle.p3l_program.specs.Text.{BeginsText, EndsText, IsTextExpected, IsWritten}
 use Rattle.p3l_program.specs.World.{Change, IsCalm, IsStill, World, world}
 
 -- a text that is refused spells no program
@@ -29,7 +29,7 @@ no_canonical text source.NoMemory within only first = tt
 
 -- stages that don't pass, where nothing was touched
 pub not_loaded : (w : World) (stages : List Stage) (Ends : Finish → Option Stats → Type 0) (Begins Unsaved : Type 0) (v : Verdict) → IsStill w.input → IsStill w.out → IsNotLoaded w.files stages v →
-    IsDueWith w stages Ends Begins Unsaved v
+    IsExpectedWith w stages Ends Begins Unsaved v
 not_loaded w stages Ends Begins Unsaved (verdict.Refused r) input out h = record { by = h.0; untouched = record { input = input; out = out }; files = h.1 }
 not_loaded w stages Ends Begins Unsaved verdict.NoMemory input out h = inl (record { input = input; out = out })
 not_loaded w stages Ends Begins Unsaved v input out h = absurd h
@@ -42,29 +42,29 @@ not_formatted files name text fault pos has faulty calm =
 
 module _ (files : Change Held) (out : Change (List ℕ)) (stages : List Stage) (IsText : List ℕ → Type 0) where
   -- stages that don't pass
-  pub text_refused : (v : Verdict) → IsStill out → IsNotLoaded files stages v → IsTextDue files out stages IsText v
+  pub text_refused : (v : Verdict) → IsStill out → IsNotLoaded files stages v → IsTextExpected files out stages IsText v
   text_refused v still h input quiet = not_loaded (world files input out) stages (EndsText (world files input out) IsText) (BeginsText (world files input out) IsText) ⊥ v quiet still h
 
   -- a text that was written after stages that pass
-  pub text_due : (text : List ℕ) (v : Verdict) → IsCalm files → AllPass files stages → IsText text → IsWritten out text v → IsTextDue files out stages IsText v
-  text_due text (verdict.Refused r) calm passed is h input still = absurd h
-  text_due text (verdict.Ended finish stats) calm passed is h input still = record {
+  pub text_expected : (text : List ℕ) (v : Verdict) → IsCalm files → AllPass files stages → IsText text → IsWritten out text v → IsTextExpected files out stages IsText v
+  text_expected text (verdict.Refused r) calm passed is h input still = absurd h
+  text_expected text (verdict.Ended finish stats) calm passed is h input still = record {
     passed = passed;
     ends = record { finish_is = h.0; stats_are = h.1; text = text; is = is; put = h.2; input = still };
     files = calm;
     out = h.3;
   }
-  text_due text verdict.WriteFault calm passed is h input still = record {
+  text_expected text verdict.WriteFault calm passed is h input still = record {
     begun = record { passed = passed; begins = record { text = text; is = is; begun = h.0; input = still } };
     fault = inl (record { files = calm; out = h.1 });
   }
-  text_due text verdict.NoMemory calm passed is h input still = inr (record {
+  text_expected text verdict.NoMemory calm passed is h input still = inr (record {
     passed = passed;
     begins = record { text = text; is = is; begun = h; input = still };
   })
 
   -- running out of memory before anything was written
-  pub text_unwritten : IsStill out → IsTextDue files out stages IsText verdict.NoMemory
+  pub text_unwritten : IsStill out → IsTextExpected files out stages IsText verdict.NoMemory
   text_unwritten still input quiet = inl (record { input = quiet; out = still })
 
 -- a text that was written was begun

@@ -23,7 +23,7 @@ use Rattle.p3l_program.proofs.RunLaws.{run_calm, run_read, whole_of}
 use Rattle.p3l_program.proofs.SeenSteps.{seen_goes_on, seen_status, stopped_goes}
 use Rattle.p3l_program.proofs.TimeSteps.{over_begun}
 
-module _ (w : World) (build : Build) (name : Option (List ℕ)) (finish : Finish) (told : Option Stats) (e : EndsTime w build name finish told) where
+module _ (w : World) (build : Build) (name : Option (List ℕ)) (finish : Finish) (report : Option Stats) (e : EndsTime w build name finish report) where
   -- a run of status 0 is whole
   time_whole : (rest taken : List ℕ) → w.input.old ≡ Some rest → w.out.old ≡ Some taken → finish_status finish ≡ status.done → TimesWhole w build name rest taken
   time_whole rest taken input out h =
@@ -81,15 +81,15 @@ named w build (Some name) h = record { name = name; one = inl refl; failed = h.2
 
 pub time_lawful : (build : Build) (name : Option (List ℕ)) → Lawful (time_behavior build name)
 time_lawful build name = record {
-  begun = λ w f told e. record { n = e.n; prices = e.prices; has = e.has; begun = over_begun e.n e.prices w.input w.out (record { keeping = keeping_for name; picks = e.to.picks; ran = e.to.ran; runs = e.to.runs }) };
-  whole = λ w rest taken f told input out h e. time_whole w build name f told e rest taken input out h;
-  status_due = λ w rest f told input calm e. time_status w build name f told e rest input calm;
-  read = λ w f told e h. run_read e.n (schedule.Recorded e.to.picks) _ _ _ _ _ _ _ e.to.ran e.to.runs.finishes (sym (ap finish_status e.to.finish_is) ∙ h);
-  calm = λ w f told e h. run_calm e.n (schedule.Recorded e.to.picks) _ _ _ _ _ _ _ e.to.ran e.to.runs.finishes (finish_status f) (sym (ap finish_status e.to.finish_is)) h.1 h.2 h.3;
-  stopped = λ w f told e h. absurd (unstopped w build name f told e h);
+  begun = λ w f report e. record { n = e.n; prices = e.prices; has = e.has; begun = over_begun e.n e.prices w.input w.out (record { keeping = keeping_for name; picks = e.to.picks; ran = e.to.ran; runs = e.to.runs }) };
+  whole = λ w rest taken f report input out h e. time_whole w build name f report e rest taken input out h;
+  status_expected = λ w rest f report input calm e. time_status w build name f report e rest input calm;
+  read = λ w f report e h. run_read e.n (schedule.Recorded e.to.picks) _ _ _ _ _ _ _ e.to.ran e.to.runs.finishes (sym (ap finish_status e.to.finish_is) ∙ h);
+  calm = λ w f report e h. run_calm e.n (schedule.Recorded e.to.picks) _ _ _ _ _ _ _ e.to.ran e.to.runs.finishes (finish_status f) (sym (ap finish_status e.to.finish_is)) h.1 h.2 h.3;
+  stopped = λ w f report e h. absurd (unstopped w build name f report e h);
   writer = λ w h. named w build name h;
   first_written = λ none. refl;
   reads_first = λ limit name after is. refl;
   touches = λ w some. absurd (some refl);
-  ran = λ w run f told is e. absurd cc;
+  ran = λ w run f report is e. absurd cc;
 }

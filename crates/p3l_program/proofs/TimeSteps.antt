@@ -11,7 +11,7 @@ use Rattle.p3l_firing.specs.declared.net.Net.{Net}
 use Rattle.p3l_cost.specs.declared.costs.Costs.{Costs}
 use Rattle.p3l_firing.specs.Fire.{can_fire}
 use Rattle.p3l_net.specs.Run.{after_picks, course_from, run}
-use Rattle.p3l_io.specs.Told.{Held}
+use Rattle.p3l_io.specs.Content.{Held}
 use Rattle.p3l_opts.specs.declared.command.Build.{Build}
 use Rattle.p3l_report.specs.declared.stats.Stats.{Stats}
 use Rattle.p3l_report.specs.declared.stats.Stats.TheVariants as stats
@@ -44,7 +44,7 @@ use Rattle.p3l_program.specs.Plan.{network_of}
 use Rattle.p3l_program.specs.Run.{keeping_for}
 use Rattle.p3l_program.specs.Saved.{HasSave}
 use Rattle.p3l_program.specs.Stage.{AllPass, build_stages}
-use Rattle.p3l_program.specs.Time.{AreTimes, AreTold, BeginsTime, EndsTime, HasPrices, IsTimeBegun, IsTimeClosed, IsTimeDue, IsTimeOf, IsTimeOver, KeepsTime, RunsInTime, TimesOver, UnsavedTime}
+use Rattle.p3l_program.specs.Time.{AreReported, AreTimes, BeginsTime, EndsTime, HasPrices, IsTimeBegun, IsTimeClosed, IsTimeExpected, IsTimeOf, IsTimeOver, KeepsTime, RunsInTime, TimesOver, UnsavedTime}
 use Rattle.p3l_program.specs.Verdict.{fault_verdict}
 use Rattle.p3l_program.specs.World.{Change, IsCalm, IsStill, world}
 use Rattle.p3l_program.proofs.RunSteps.{finishes_starts}
@@ -116,10 +116,10 @@ module _ (n : Network) (prices : List ℕ) (input out : Change (List ℕ)) where
         subst (λ ps. HasSave files name (picks_text ps) result) (picks_are few begins run_law within_law keep.Lines ran k e)
         (subst (λ l. IsPicking files (Some name) l result) e.ends.ends.kept h)
 
-    busy_same : (keeping : Keeping) (e : EndsInTime (job keeping) prices after ran k) (told : Option Stats) → AreTold ran.stats k told
-        → AreTimes n prices input out keeping e.picks ran (runs_in_time few begins run_law within_law keeping ran k e) told
+    busy_same : (keeping : Keeping) (e : EndsInTime (job keeping) prices after ran k) (report : Option Stats) → AreReported ran.stats k report
+        → AreTimes n prices input out keeping e.picks ran (runs_in_time few begins run_law within_law keeping ran k e) report
     unfolding runs_in_time
-    busy_same keeping e told t = record {
+    busy_same keeping e report t = record {
       moment = k.moment;
       moment_is = e.finish;
       p = t.p;
@@ -128,28 +128,28 @@ module _ (n : Network) (prices : List ℕ) (input out : Change (List ℕ)) where
         most = λ q. subst (λ b. busy_of (price_at prices) e.picks q ≤ b) (e.busy t.p) (subst (λ a. a ≤ slice_index k.busy t.p) (e.busy q) (t.busiest.most q));
         first = λ q below. subst (λ b. busy_of (price_at prices) e.picks q < b) (e.busy t.p) (subst (λ a. a < slice_index k.busy t.p) (e.busy q) (t.busiest.first q below));
       };
-      told_is = t.told_is ∙ ap (λ b. Some (stats.Timed ran.stats.items ran.stats.fired k.moment t.p b)) (e.busy t.p);
+      report_is = t.report_is ∙ ap (λ b. Some (stats.Timed ran.stats.items ran.stats.fired k.moment t.p b)) (e.busy t.p);
     }
 
     pub closed_time : (name : Option (List ℕ)) (e : EndsInTime (job (keeping_for name)) prices after ran k) (v : Verdict) → IsCalm out → IsTimeClosed files ran k name v → IsTimeOf n prices files input out name v
-    closed_time None e (verdict.Ended finish told) calm h =
-        (record { picks = e.picks; ran = ran; runs = runs_in_time few begins run_law within_law keep.Nothing ran k e; finish_is = h.0; numbers = busy_same keep.Nothing e told h.1; saved = tt }, h.2.1.calm, calm)
+    closed_time None e (verdict.Ended finish report) calm h =
+        (record { picks = e.picks; ran = ran; runs = runs_in_time few begins run_law within_law keep.Nothing ran k e; finish_is = h.0; numbers = busy_same keep.Nothing e report h.1; saved = tt }, h.2.1.calm, calm)
     closed_time None e (verdict.Refused r) calm h = absurd (let z = h.0 in cc)
     closed_time None e verdict.WriteFault calm h = absurd (let z = h.0 in cc)
     closed_time None e verdict.NoMemory calm h = absurd (let z = h.0 in cc)
-    closed_time (Some name) e (verdict.Ended finish told) calm h =
+    closed_time (Some name) e (verdict.Ended finish report) calm h =
         let save = saved_so name e (Ok tt) h.2 in
-        (record { picks = e.picks; ran = ran; runs = runs_in_time few begins run_law within_law keep.Lines ran k e; finish_is = h.0; numbers = busy_same keep.Lines e told h.1; saved = save.by.0 }, save.by.1, calm)
+        (record { picks = e.picks; ran = ran; runs = runs_in_time few begins run_law within_law keep.Lines ran k e; finish_is = h.0; numbers = busy_same keep.Lines e report h.1; saved = save.by.0 }, save.by.1, calm)
     closed_time (Some name) e (verdict.Refused r) calm h = absurd (saved_so name e (Err (verdict.Refused r)) h).by
     closed_time (Some name) e verdict.WriteFault calm h = inr (over_now few begins run_law within_law keep.Lines ran k e, calm, (saved_so name e (Err verdict.WriteFault) h).by)
     closed_time (Some name) e verdict.NoMemory calm h = inr (begun_now few begins run_law within_law keep.Lines ran k e)
 
     pub closed_time_kept : (name : Option (List ℕ)) (e : EndsInTime (job (keeping_for name)) prices after ran k) (v : Verdict) → IsTimeClosed files ran k name v → KeepsTime n prices files input out name v
-    closed_time_kept None e (verdict.Ended finish told) h = record { kept = kept_by files [] (verdict.Ended finish told) h.2.1.told; over = inl h.2.1.told }
+    closed_time_kept None e (verdict.Ended finish report) h = record { kept = kept_by files [] (verdict.Ended finish report) h.2.1.known; over = inl h.2.1.known }
     closed_time_kept None e (verdict.Refused r) h = absurd (let z = h.0 in cc)
     closed_time_kept None e verdict.WriteFault h = absurd (let z = h.0 in cc)
     closed_time_kept None e verdict.NoMemory h = absurd (let z = h.0 in cc)
-    closed_time_kept (Some name) e (verdict.Ended finish told) h = record { kept = (saved_so name e (Ok tt) h.2).kept; over = inr (over_now few begins run_law within_law keep.Lines ran k e) }
+    closed_time_kept (Some name) e (verdict.Ended finish report) h = record { kept = (saved_so name e (Ok tt) h.2).kept; over = inr (over_now few begins run_law within_law keep.Lines ran k e) }
     closed_time_kept (Some name) e (verdict.Refused r) h = absurd (saved_so name e (Err (verdict.Refused r)) h).by
     closed_time_kept (Some name) e verdict.WriteFault h = record { kept = (saved_so name e (Err verdict.WriteFault) h).kept; over = inr (over_now few begins run_law within_law keep.Lines ran k e) }
     closed_time_kept (Some name) e verdict.NoMemory h = record { kept = (saved_so name e (Err verdict.NoMemory) h).kept; over = inr (over_now few begins run_law within_law keep.Lines ran k e) }
@@ -168,16 +168,16 @@ pub closed_time_err : (files : Change Held) (ran : Ran) (k : Clock) (name : Opti
 closed_time_err files ran k name (verdict.Refused r) h = h
 closed_time_err files ran k name verdict.WriteFault h = h
 closed_time_err files ran k name verdict.NoMemory h = h
-closed_time_err files ran k name (verdict.Ended finish told) h = absurd (by name ran.lines h)
+closed_time_err files ran k name (verdict.Ended finish report) h = absurd (by name ran.lines h)
   where
-    by : (name : Option (List ℕ)) (lines : Option (List TraceLine)) → IsPicking files name lines (Err (verdict.Ended finish told)) → ⊥
+    by : (name : Option (List ℕ)) (lines : Option (List TraceLine)) → IsPicking files name lines (Err (verdict.Ended finish report)) → ⊥
     by (Some name) (Some lines) h = h.by
     by (Some name) None h = (let z = h.0 in cc)
     by None lines h = (let z = h.0 in cc)
 
 -- what was not loaded is not run
 pub time_unloaded : (files : Change Held) (input out : Change (List ℕ)) (build : Build) (name : Option (List ℕ)) (v : Verdict) → IsStill input → IsStill out → IsNotLoaded files (build_stages build) v →
-    IsTimeDue (world files input out) build name v
+    IsTimeExpected (world files input out) build name v
 time_unloaded files input out build name v still silent h =
     not_loaded (world files input out) (build_stages build) (EndsTime (world files input out) build name) (BeginsTime (world files input out) build) (UnsavedTime (world files input out) build name) v still silent h
 
@@ -195,14 +195,14 @@ module _ (files : Change Held) (input out : Change (List ℕ)) (build : Build) (
   pub time_touched : (name : Option (List ℕ)) (v : Verdict) → KeepsTime n prices files input out name v → (files.new ≡ files.old) ⊎ TimesOver (world files input out) build
   time_touched name v h = elim h.over [ inl same ↦ inl same | inr over ↦ inr (times_over over) ]
 
-  pub time_due : (name : Option (List ℕ)) (v : Verdict) → IsTimeOf n prices files input out name v → IsTimeDue (world files input out) build name v
-  time_due name (verdict.Refused r) h = absurd h
-  time_due name (verdict.Ended finish told) h = record { passed = passed; ends = record { n = n; prices = prices; has = has; to = h.0 }; files = h.1; out = h.2 }
-  time_due name verdict.WriteFault (inl h) = record { begun = record { passed = passed; begins = begins_time h.0 }; fault = inl (record { files = h.1; out = h.2 }) }
-  time_due None verdict.WriteFault (inr h) = absurd h
-  time_due (Some name) verdict.WriteFault (inr h) = record { begun = record { passed = passed; begins = begins_time (over_begun n prices input out h.0) }; fault = inr (times_over h.0, h.1, h.2) }
-  time_due name verdict.NoMemory (inl h) = inl (record { input = h.input_still; out = h.out_still })
-  time_due name verdict.NoMemory (inr h) = inr (record { passed = passed; begins = begins_time h })
+  pub time_expected : (name : Option (List ℕ)) (v : Verdict) → IsTimeOf n prices files input out name v → IsTimeExpected (world files input out) build name v
+  time_expected name (verdict.Refused r) h = absurd h
+  time_expected name (verdict.Ended finish report) h = record { passed = passed; ends = record { n = n; prices = prices; has = has; to = h.0 }; files = h.1; out = h.2 }
+  time_expected name verdict.WriteFault (inl h) = record { begun = record { passed = passed; begins = begins_time h.0 }; fault = inl (record { files = h.1; out = h.2 }) }
+  time_expected None verdict.WriteFault (inr h) = absurd h
+  time_expected (Some name) verdict.WriteFault (inr h) = record { begun = record { passed = passed; begins = begins_time (over_begun n prices input out h.0) }; fault = inr (times_over h.0, h.1, h.2) }
+  time_expected name verdict.NoMemory (inl h) = inl (record { input = h.input_still; out = h.out_still })
+  time_expected name verdict.NoMemory (inr h) = inr (record { passed = passed; begins = begins_time h })
 
 -- what was loaded has the prices of its costs
 pub loaded_prices : (files : Option Held) (build : Build) (loaded : Allotted) (r : ResolvedTree) (is : IsLoaded files build r loaded) (n : Network) (tree : Tree) (net : Net) (cs : Costs) → n ≡ network_of r loaded.choice.counts.list build.capacity → n.tree ≡ tree → n.net ≡ net → cs ≡ loaded.costs

@@ -5,7 +5,7 @@ use Rattle.std.specs.List.{AllByRecursion}
 use Rattle.std.proofs.lemmas.Bool.{le-leb, lt-leb}
 use Rattle.std.proofs.lemmas.List.Elements.{recursion_from_All}
 use Rattle.p3l_io.specs.Causes.{Rose}
-use Rattle.p3l_io.specs.Told.{Held}
+use Rattle.p3l_io.specs.Content.{Held}
 use Rattle.p3l_opts.specs.declared.command.Build.{Build}
 use Rattle.p3l_report.specs.declared.evidence.Evidence.TheVariants as evidence
 use Rattle.p3l_report.specs.declared.stats.Stats.{Stats}
@@ -21,7 +21,7 @@ use Rattle.p3l_report.proofs.Statuses as statuses
 use Rattle.p3l_run.specs.Feed.{Gives, closed_so}
 use Rattle.p3l_run.specs.Network.{Network, begun_with, width_of}
 use Rattle.p3l_run.specs.Run.{MayCome, MayEnd}
-use Rattle.p3l_retrace.specs.Retraced.{AgreesOn, IsAskedFor}
+use Rattle.p3l_retrace.specs.Retraced.{AgreesOn, IsRequestedBy}
 use Rattle.p3l_run.specs.Write.{HasPut}
 use Rattle.p3l_stream.proofs.Endings.{items_wide}
 use Rattle.p3l_stream.specs.declared.items.Ending.{Ending}
@@ -34,14 +34,14 @@ use Rattle.p3l_stream.specs.Seen.{Seen}
 use Rattle.p3l_trace.specs.declared.trace.Traced.{Traced}
 use Rattle.p3l_trace.specs.declared.trace.TraceRefusal.TheVariants as refusals
 use Rattle.p3l_trace.specs.Text.{trace_format}
-use Rattle.p3l_trace.specs.Told.{Answers, TellsFirst}
+use Rattle.p3l_trace.specs.Answers.{Answers, ReportsFirst}
 use Rattle.p3l_trace.specs.Agreement.{Agrees, DiffersAt, picks_of}
 use Rattle.p3l_program.specs.Plan.{HasNetwork}
 use Rattle.p3l_program.specs.Load.{LoadsNetwork}
 use Rattle.p3l_program.specs.Origin.{built}
 use Rattle.p3l_program.specs.Run.{seen_of}
 use Rattle.p3l_program.specs.Stage.{AllPass, FilesCause, IsRefusedBy, Refuses, build_stages, readable, traced}
-use Rattle.p3l_program.specs.Trace.{Agreed, BeginsTrace, ChecksWhole, EndsTrace, HasBadTrace, IsCheckDue, IsCheckOf, IsCheckSome, IsTraceStatus, IsUnrefused, IsUntraced, agreed_status, check_stages, comes_to_end, holds_line}
+use Rattle.p3l_program.specs.Trace.{Agreed, BeginsTrace, ChecksWhole, EndsTrace, HasBadTrace, IsCheckExpected, IsCheckOf, IsCheckSome, IsTraceStatus, IsUnrefused, IsUntraced, agreed_status, check_stages, comes_to_end, holds_line}
 use Rattle.p3l_program.specs.File.{HasText}
 use Rattle.p3l_program.specs.TraceFile.{HasTrace, SpellsNoTrace, trace_limit}
 use Rattle.p3l_program.specs.World.{Change, HasNoFault, HasRisen, IsCalm, World, world}
@@ -50,7 +50,7 @@ use Rattle.p3l_program.proofs.StageSteps.{passed_both, refused_after}
 
 -- a text that is read as no trace
 pub untraced : (files : Change Held) (name text : List ℕ) (line : ℕ) → HasText files.old trace_limit name text → IsCalm files →
-    ((t : Traced) → trace_format.fits t ≡ true → text ≡ trace_format.spell t → Answers text (Err (refusals.BadLine line)) (Ok t)) → TellsFirst text (Err (refusals.BadLine line)) →
+    ((t : Traced) → trace_format.fits t ≡ true → text ≡ trace_format.spell t → Answers text (Err (refusals.BadLine line)) (Ok t)) → ReportsFirst text (Err (refusals.BadLine line)) →
     IsUntraced files name (verdict.Refused (refusal.Evidence (evidence.BadLine line)))
 untraced files name text line has calm only first =
     let none : SpellsNoTrace text line = record { first = first; no_trace = λ t fits spelled. absurd (let z = only t fits spelled in cc) } in
@@ -79,20 +79,20 @@ module _ (files : Change Held) (input out : Change (List ℕ)) (build : Build) (
   begins_check h = record { n = n; t = h.t; has = record { network = has; trace = h.trace }; begun = h.begun }
 
   -- the verdict of the check is expected
-  pub check_due : (v : Verdict) → IsCheckOf n files input out name v → IsCheckDue (world files input out) build name v
-  check_due (verdict.Refused r) h = (let by = refused_by r h.0 in record { by = by.0; untouched = record { input = h.1.input_still; out = h.1.out_still }; files = by.1 })
-  check_due (verdict.Ended f stats) h = record {
+  pub check_expected : (v : Verdict) → IsCheckOf n files input out name v → IsCheckExpected (world files input out) build name v
+  check_expected (verdict.Refused r) h = (let by = refused_by r h.0 in record { by = by.0; untouched = record { input = h.1.input_still; out = h.1.out_still }; files = by.1 })
+  check_expected (verdict.Ended f stats) h = record {
     passed = all_passes h.t h.trace;
     ends = record { n = n; t = h.t; has = record { network = has; trace = h.trace }; stats_are = h.stats_are; checked = h.checked };
     files = h.files_calm;
     out = h.out_calm;
   }
-  check_due verdict.WriteFault h = record {
+  check_expected verdict.WriteFault h = record {
     begun = record { passed = all_passes h.0.t h.0.trace; begins = begins_check h.0 };
     fault = inl (record { files = h.0.files_calm; out = h.1 });
   }
-  check_due verdict.NoMemory (inl h) = inl (record { input = h.input_still; out = h.out_still })
-  check_due verdict.NoMemory (inr h) = inr (record { passed = all_passes h.t h.trace; begins = begins_check h })
+  check_expected verdict.NoMemory (inl h) = inl (record { input = h.input_still; out = h.out_still })
+  check_expected verdict.NoMemory (inr h) = inr (record { passed = all_passes h.t h.trace; begins = begins_check h })
 
 -- a check that came to its end was begun
 pub ends_check : (w : World) (build : Build) (name : List ℕ) (f : Finish) (stats : Option Stats) → EndsTrace w build name f stats → BeginsTrace w build name
@@ -144,30 +144,30 @@ check_unstopped w build name (finish.Trapped item kind home) stats h is = absurd
 
 -- a stream of these items and later ones, which gave the former where items were requested before the picks, comes to its end just where it ended
 module _ (n : Network) (items later : List (List ℤ)) where
-  ends_not : (picks : List ℕ) → IsAskedFor n (items ++ later) picks (length items) None → comes_to_end n (items ++ later) picks ≡ false
-  ends_not [] asked = refl
-  ends_not (p ∷ picks) asked =
+  ends_not : (picks : List ℕ) → IsRequestedBy n (items ++ later) picks (length items) None → comes_to_end n (items ++ later) picks ≡ false
+  ends_not [] request = refl
+  ends_not (p ∷ picks) request =
       let size = length-append items later in
-      lt-leb _ _ (omega (arith, asked, size))
+      lt-leb _ _ (omega (arith, request, size))
 
-  ends_there : (picks : List ℕ) (e : Ending) → later ≡ [] → IsAskedFor n (items ++ later) picks (length items) (Some e) → comes_to_end n (items ++ later) picks ≡ true
-  ends_there [] e none asked = absurd (let z = asked.1 in cc)
-  ends_there (p ∷ picks) e none asked =
+  ends_there : (picks : List ℕ) (e : Ending) → later ≡ [] → IsRequestedBy n (items ++ later) picks (length items) (Some e) → comes_to_end n (items ++ later) picks ≡ true
+  ends_there [] e none request = absurd (let z = request.1 in cc)
+  ends_there (p ∷ picks) e none request =
       let size = length-append items later in
       let empty : length later ≡ 0 = ap length none in
-      le-leb _ _ (omega (arith, asked, size, empty))
+      le-leb _ _ (omega (arith, request, size, empty))
 
 -- so the status of a check of which no line differs is that of what is seen
-module _ (n : Network) (t : Traced) (rest : List ℕ) (close : Option Ending) (old new : Option (List ℕ)) (before now : ℕ) (told : old ≡ Some rest) (calm : Rose before now → ⊥)
+module _ (n : Network) (t : Traced) (rest : List ℕ) (close : Option Ending) (old new : Option (List ℕ)) (before now : ℕ) (known : old ≡ Some rest) (calm : Rose before now → ⊥)
     (on : AgreesOn n t old new before now close) where
   to : GoesOnTo n close on.items rest
-  to = seen_goes_on n rest old new before now close on.stream on.items on.gives told calm
+  to = seen_goes_on n rest old new before now close on.stream on.items on.gives known calm
 
   agrees_seen : Agrees n.tree n.leaf n.net (begun_with n (seen_of (width_of n) rest).items) t
   agrees_seen = subst (λ (i : Items). Agrees n.tree n.leaf n.net (begun_with n i.items) t) (sym to.seen) (on.holds to.later to.may_come)
 
-  asked_seen : IsAskedFor n (on.items ++ to.later) (picks_of t.lines) (length on.items) close
-  asked_seen = on.asked to.later to.may_come
+  request_seen : IsRequestedBy n (on.items ++ to.later) (picks_of t.lines) (length on.items) close
+  request_seen = on.request to.later to.may_come
 
   status_by : (b : Bool) → comes_to_end n (on.items ++ to.later) (picks_of t.lines) ≡ b → agreed_status n t (seen_of (width_of n) rest) ≡ (if b then ending_status to.e else status.done)
   status_by b is =
@@ -175,17 +175,17 @@ module _ (n : Network) (t : Traced) (rest : List ℕ) (close : Option Ending) (o
 
   -- it isn't ended
   agreed_open : close ≡ None → agreed_status n t (seen_of (width_of n) rest) ≡ status.done
-  agreed_open none = status_by false (ends_not n on.items to.later (picks_of t.lines) (subst (λ c. IsAskedFor n (on.items ++ to.later) (picks_of t.lines) (length on.items) c) none asked_seen))
+  agreed_open none = status_by false (ends_not n on.items to.later (picks_of t.lines) (subst (λ c. IsRequestedBy n (on.items ++ to.later) (picks_of t.lines) (length on.items) c) none request_seen))
 
   -- it ended so
   agreed_ended : (e : Ending) → close ≡ Some e → agreed_status n t (seen_of (width_of n) rest) ≡ ending_status e
   agreed_ended e is =
-      status_by true (ends_there n on.items to.later (picks_of t.lines) e (to.may_come.none e is) (subst (λ c. IsAskedFor n (on.items ++ to.later) (picks_of t.lines) (length on.items) c) is asked_seen))
+      status_by true (ends_there n on.items to.later (picks_of t.lines) e (to.may_come.none e is) (subst (λ c. IsRequestedBy n (on.items ++ to.later) (picks_of t.lines) (length on.items) c) is request_seen))
       ∙ ap ending_status (sym (subst (λ c. MayEnd c to.e) is to.may_end))
 
 -- where no fault comes the check ends by what is seen of the input
 pub check_status : (w : World) (build : Build) (name rest : List ℕ) (f : Finish) (stats : Option Stats) → w.input.old ≡ Some rest → HasNoFault w → EndsTrace w build name f stats → IsTraceStatus w build name rest (finish_status f)
-check_status w build name rest finish.Done stats told calm h =
+check_status w build name rest finish.Done stats known calm h =
     let on = h.checked.agrees in
     record {
       n = h.n;
@@ -193,31 +193,31 @@ check_status w build name rest finish.Done stats told calm h =
       has = h.has;
       status_is = inr (
         elim h.checked.unrefused [
-          | inl none ↦ sym (agreed_open h.n h.t rest h.checked.close _ _ _ _ told calm.input on none)
-          | inr end ↦ sym (agreed_ended h.n h.t rest h.checked.close _ _ _ _ told calm.input on ending.End end)
+          | inl none ↦ sym (agreed_open h.n h.t rest h.checked.close _ _ _ _ known calm.input on none)
+          | inr end ↦ sym (agreed_ended h.n h.t rest h.checked.close _ _ _ _ known calm.input on ending.End end)
         ],
-        agrees_seen h.n h.t rest h.checked.close _ _ _ _ told calm.input on,
+        agrees_seen h.n h.t rest h.checked.close _ _ _ _ known calm.input on,
       );
     }
-check_status w build name rest (finish.Stream e) stats told calm h =
+check_status w build name rest (finish.Stream e) stats known calm h =
     let on = h.checked.agrees in
     record {
       n = h.n;
       t = h.t;
       has = h.has;
-      status_is = inr (sym (agreed_ended h.n h.t rest (Some e) _ _ _ _ told calm.input on e refl), agrees_seen h.n h.t rest (Some e) _ _ _ _ told calm.input on);
+      status_is = inr (sym (agreed_ended h.n h.t rest (Some e) _ _ _ _ known calm.input on e refl), agrees_seen h.n h.t rest (Some e) _ _ _ _ known calm.input on);
     }
-check_status w build name rest (finish.Differs line) stats told calm h =
+check_status w build name rest (finish.Differs line) stats known calm h =
     let on = h.checked.differs.1 in
-    let to = seen_goes_on h.n rest w.input.old w.input.new w.input.before w.input.now h.checked.differs.0 on.stream on.items on.gives told calm.input in
+    let to = seen_goes_on h.n rest w.input.old w.input.new w.input.before w.input.now h.checked.differs.0 on.stream on.items on.gives known calm.input in
     record {
       n = h.n;
       t = h.t;
       has = h.has;
       status_is = inl (refl, (line, subst (λ (i : Items). DiffersAt h.n.tree h.n.leaf h.n.net (begun_with h.n i.items) h.t line) (sym to.seen) (on.holds to.later to.may_come)));
     }
-check_status w build name rest (finish.Stopped fired idle) stats told calm h = absurd h.checked
-check_status w build name rest (finish.Trapped item kind home) stats told calm h = absurd h.checked
+check_status w build name rest (finish.Stopped fired idle) stats known calm h = absurd h.checked
+check_status w build name rest (finish.Trapped item kind home) stats known calm h = absurd h.checked
 
 -- all items of an input go on from those given
 pub record GoesOnAll (n : Network) (close : Option Ending) (items : List (List ℤ)) (rest : List ℕ) : Type 0 where
@@ -260,15 +260,15 @@ module _ (n : Network) (rest : List ℕ) (s : Seen) (items : List (List ℤ)) (b
 -- so do all items of an input that reports what is left
 pub all_go_on : (n : Network) (rest : List ℕ) (old new : Option (List ℕ)) (before now : ℕ) (close : Option Ending) (s : Seen) (items : List (List ℤ)) → Gives (width_of n) old new before now s items (closed_so close) →
     old ≡ Some rest → IsUnrefused close → GoesOnAll n close items rest
-all_go_on n rest None new before now close s items g told unrefused = absurd cc
-all_go_on n rest (Some other) new before now close s items g told unrefused =
+all_go_on n rest None new before now close s items g known unrefused = absurd cc
+all_go_on n rest (Some other) new before now close s items g known unrefused =
     let same : other ≡ rest = cc in
     goes_on_all n rest s items g.bytes g.read.0 g.given (sym same ∙ g.read.2) (λ h. at_end_left new g.read.0 g.read.1 (g.at_end h)) close g.closed_is unrefused
 
 agreed_all : (w : World) (n : Network) (t : Traced) (rest : List ℕ) → w.input.old ≡ Some rest → Agreed w n t → Agrees n.tree n.leaf n.net (begun_with n (items_of (width_of n) rest).items) t
-agreed_all w n t rest told a =
+agreed_all w n t rest known a =
     let on = a.agrees in
-    let to = all_go_on n rest w.input.old w.input.new w.input.before w.input.now a.close on.stream on.items on.gives told a.unrefused in
+    let to = all_go_on n rest w.input.old w.input.new w.input.before w.input.now a.close on.stream on.items on.gives known a.unrefused in
     subst (λ i. Agrees n.tree n.leaf n.net (begun_with n i) t) (sym to.all) (on.holds to.later to.may_come)
 
 -- a check of status 0 is whole

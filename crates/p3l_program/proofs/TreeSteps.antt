@@ -1,7 +1,7 @@
 -- From an accepted text with its tree to the stages of its costs and its counts.
 use Rattle.std.proofs.Common.{◌≡◌, ℕ, List, [], ◌∷◌, ◌++◌, Option, Some, None, ap, ◌∙◌, inl, inr, subst}
 use Rattle.std.specs.declared.result.Result.TheVariants.{Ok, Err}
-use Rattle.p3l_io.specs.Told.{Held}
+use Rattle.p3l_io.specs.Content.{Held}
 use Rattle.p3l_skel.specs.declared.tree.Tree.{Tree}
 use Rattle.p3l_skel.specs.Numbers.{Fits}
 use Rattle.p3l_cost.specs.declared.costs.Costs.{Costs}

@@ -9,7 +9,7 @@ use Rattle.p3l_firing.specs.declared.net.Net.{Net}
 use Rattle.p3l_image.specs.declared.image.Image.{Image}
 use Rattle.p3l_image.specs.Image.{ImageBeginsNoOther}
 use Rattle.p3l_image.specs.laws.Image.{written_spells}
-use Rattle.p3l_io.specs.Told.{Held}
+use Rattle.p3l_io.specs.Content.{Held}
 use Rattle.p3l_link.specs.Laws.{EveryNetIsCarried}
 use Rattle.p3l_load.specs.Compiled.{image_of}
 use Rattle.p3l_load.specs.Load.{loaded_of}
@@ -57,7 +57,7 @@ use Rattle.p3l_program.proofs.SoundSteps.{sound}
 use Rattle.p3l_program.proofs.StageSteps.{passed_all}
 
 -- what `save` wrote
-module _ (w : World) (build : Build) (picks output : List ℕ) (told : Option Stats) (e : EndsSave w build picks output Done told) where
+module _ (w : World) (build : Build) (picks output : List ℕ) (report : Option Stats) (e : EndsSave w build picks output Done report) where
   abbrev pub image : Image
   image = image_of e.has.imaged.r.tree e.counts e.has.imaged.codes build.capacity
 
@@ -100,12 +100,12 @@ only_unread files held reports name (refusal.FileFault named) passed (inr h) =
 only_unread files held reports name refused passed by = absurd (passed_all (unfailed files) held reports (none_failed files) (snapshot_stages name) refused passed by)
 
 pub resumed_always : EverySnapshotIsResumed
-resumed_always w build picks output name told files e has =
+resumed_always w build picks output name report files e has =
     let bytes = e.to.bytes in
-    let runs = image_runs w build picks output told e in
-    let spelled = whole_spelled w build picks output told e in
-    let kept = whole w build picks output told e in
-    let i = image w build picks output told e in
+    let runs = image_runs w build picks output report e in
+    let spelled = whole_spelled w build picks output report e in
+    let kept = whole w build picks output report e in
+    let i = image w build picks output report e in
     let passed : AllPass files (snapshot_stages name) = (
       (bytes, has),
       (
@@ -114,7 +114,7 @@ resumed_always w build picks output name told files e has =
           (i, record { bytes = bytes; has = has; are = record { saved = kept; spelled = spelled; are = runs.is } }),
           (
             (i, record { bytes = bytes; has = has; are = record { saved = kept; spelled = spelled; are = runs } }),
-            ((i, kept, record { bytes = bytes; has = has; are = record { spelled = spelled; runs = runs; sound = sound_so w build picks output told e } }), tt),
+            ((i, kept, record { bytes = bytes; has = has; are = record { spelled = spelled; runs = runs; sound = sound_so w build picks output report e } }), tt),
           ),
         ),
       ),
@@ -215,10 +215,10 @@ one_text : (held : Held) (limit : ℕ) (name text other : List ℕ) → held nam
 one_text held limit name text other a b = (let y = b.holds in cc)
 
 -- `resume` goes on from what `save` wrote
-module _ (begins : SnapshotBeginsNoOther) (begins_image : ImageBeginsNoOther) (w after : World) (build : Build) (picks output name : List ℕ) (told stats : Option Stats) (asked : Sched) (reported : Bool) (finish : Finish) (held : Held)
-    (e : EndsSave w build picks output Done told) (r : EndsRun after (continued name) asked None reported finish stats) (files_are : after.files.old ≡ Some held) (has : held name ≡ Some e.to.bytes) where
+module _ (begins : SnapshotBeginsNoOther) (begins_image : ImageBeginsNoOther) (w after : World) (build : Build) (picks output name : List ℕ) (report stats : Option Stats) (request : Sched) (reported : Bool) (finish : Finish) (held : Held)
+    (e : EndsSave w build picks output Done report) (r : EndsRun after (continued name) request None reported finish stats) (files_are : after.files.old ≡ Some held) (has : held name ≡ Some e.to.bytes) where
   abbrev base : Network
-  base = network_in (loaded_of (image w build picks output told e))
+  base = network_in (loaded_of (image w build picks output report e))
 
   abbrev there : IsContinued r.has.network.texts r.n
   there = r.has.network.is
@@ -226,15 +226,15 @@ module _ (begins : SnapshotBeginsNoOther) (begins_image : ImageBeginsNoOther) (w
   text_is : r.has.network.texts.text ≡ e.to.bytes
   text_is = one_text held snapshot_limit name e.to.bytes r.has.network.texts.text has (subst (λ h. HasText h snapshot_limit name r.has.network.texts.text) files_are r.has.network.have.0)
 
-  saved_is : there.saved ≡ whole w build picks output told e
-  saved_is = (begins there.saved (whole w build picks output told e) r.has.network.texts.text e.to.bytes [] there.resumes.spelled (whole_spelled w build picks output told e) (append-nil r.has.network.texts.text ∙ text_is)).0
+  saved_is : there.saved ≡ whole w build picks output report e
+  saved_is = (begins there.saved (whole w build picks output report e) r.has.network.texts.text e.to.bytes [] there.resumes.spelled (whole_spelled w build picks output report e) (append-nil r.has.network.texts.text ∙ text_is)).0
 
-  image_same : there.i ≡ image w build picks output told e
+  image_same : there.i ≡ image w build picks output report e
   image_same =
-      (begins_image there.i (image w build picks output told e) there.saved.image e.image [] there.resumes.runs.is (image_runs w build picks output told e).is
+      (begins_image there.i (image w build picks output report e) there.saved.image e.image [] there.resumes.runs.is (image_runs w build picks output report e).is
       (append-nil there.saved.image ∙ ap (λ (s : Saved). s.image) saved_is)).0
 
-  pub network_is : r.n ≡ continued_network (loaded_of (image w build picks output told e)) e.to.saved.shot
+  pub network_is : r.n ≡ continued_network (loaded_of (image w build picks output report e)) e.to.saved.shot
   network_is =
       there.network_is
       ∙ ap (λ (s : Saved). continued_network (loaded_of there.i) s.shot) saved_is
@@ -264,7 +264,7 @@ module _ (begins : SnapshotBeginsNoOther) (begins_image : ImageBeginsNoOther) (w
         (e.to.comes.is.reached.follows more wide_there)
 
     abbrev goes_on_from : Shot → Network
-    goes_on_from shot = resumed (resumption_of (loaded_of (image w build picks output told e)) shot) base
+    goes_on_from shot = resumed (resumption_of (loaded_of (image w build picks output report e)) shot) base
 
     cut_at : (b : List ℕ) → course_under base (reached_items ++ more) (e.to.comes.is.reached.used ++ b)
         ≡ after_run (course_under base (reached_items ++ more) e.to.comes.is.reached.used) (run_with_earlier e.to.comes.is.reached.outcomes (course_under (goes_on_from e.to.saved.shot) more b))
@@ -277,11 +277,11 @@ module _ (begins : SnapshotBeginsNoOther) (begins_image : ImageBeginsNoOther) (w
 
     pub one_at : AreOneRun e.n reached_items more e.to.comes.is.reached.used (picks_of r.n r.s more) e.to.comes.is.reached.outcomes r.finishes.outcomes r.ran.stats
     one_at =
-        are_one e.n base r.n (resumption_of (loaded_of (image w build picks output told e)) e.to.saved.shot) e.has.imaged.loaded_is network_is refl (laws base (network_sound w build picks output told e carried))
+        are_one e.n base r.n (resumption_of (loaded_of (image w build picks output report e)) e.to.saved.shot) e.has.imaged.loaded_is network_is refl (laws base (network_sound w build picks output report e carried))
         reached_items more e.to.comes.is.reached.used r.s e.to.comes.is.reached.outcomes r.finishes.outcomes r.ran.stats
         (wide_append (node_at base.tree 0).ins reached_items more wide_first wide_more) (r.finishes.ran later may) (cut_at (picks_of r.n r.s more))
 
 pub unbroken_always : SnapshotBeginsNoOther → ImageBeginsNoOther → ((n : Network) → IsSound n → Laws n) → EveryNetIsCarried → GoesOnUnbroken → EveryResumedRunIsUnbroken
-unbroken_always begins begins_image laws carried unbroken w after build picks output name told stats asked reported finish held e r files_are has = record {
-  one = λ later may. one_at begins begins_image w after build picks output name told stats asked reported finish held e r files_are has laws carried unbroken later may;
+unbroken_always begins begins_image laws carried unbroken w after build picks output name report stats request reported finish held e r files_are has = record {
+  one = λ later may. one_at begins begins_image w after build picks output name report stats request reported finish held e r files_are has laws carried unbroken later may;
 }

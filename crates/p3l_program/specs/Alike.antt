@@ -1,6 +1,6 @@
 -- What `exec` makes of the images that `compile` writes.
 use Rattle.std.specs.Prelude.{◌≡◌, ◌↔◌, ℕ, Bool, List, Option, Some}
-use Rattle.p3l_io.specs.Told.{Held}
+use Rattle.p3l_io.specs.Content.{Held}
 use Rattle.p3l_opts.specs.declared.command.Build.{Build}
 use Rattle.p3l_opts.specs.declared.command.Sched.{Sched}
 use Rattle.p3l_report.specs.declared.stats.Stats.{Stats}
@@ -22,16 +22,16 @@ EveryImageHasItsProgramsNetwork =
     (n : Network) → HasNetwork (Some others) (imaged name) n ↔ HasNetwork (Some held) (built build) n
 
 -- the running of an image and that of a program are expected to end the same way: the same ends with the same numbers, texts, traces and statuses
-pub record RunsAlike (w : World) (name : List ℕ) (build : Build) (asked : Sched) : Type 0 where
-  pub ends : (trace : Option (List ℕ)) (reported : Bool) (finish : Finish) (stats : Option Stats) → EndsRun w (imaged name) asked trace reported finish stats ↔ EndsRun w (built build) asked trace reported finish stats
-  pub begins : BeginsRun w (imaged name) asked ↔ BeginsRun w (built build) asked
-  pub over : RunsOver w (imaged name) asked ↔ RunsOver w (built build) asked
-  pub whole : (trace : Option (List ℕ)) (rest taken : List ℕ) → RunsWhole w (imaged name) asked trace rest taken ↔ RunsWhole w (built build) asked trace rest taken
-  pub status : (rest : List ℕ) (k : ℕ) → IsRunStatus w (imaged name) asked rest k ↔ IsRunStatus w (built build) asked rest k
-  pub emits : (trace : Option (List ℕ)) (numbers : RunStats) → Emits w (imaged name) asked trace numbers ↔ Emits w (built build) asked trace numbers
+pub record RunsAlike (w : World) (name : List ℕ) (build : Build) (request : Sched) : Type 0 where
+  pub ends : (trace : Option (List ℕ)) (reported : Bool) (finish : Finish) (stats : Option Stats) → EndsRun w (imaged name) request trace reported finish stats ↔ EndsRun w (built build) request trace reported finish stats
+  pub begins : BeginsRun w (imaged name) request ↔ BeginsRun w (built build) request
+  pub over : RunsOver w (imaged name) request ↔ RunsOver w (built build) request
+  pub whole : (trace : Option (List ℕ)) (rest taken : List ℕ) → RunsWhole w (imaged name) request trace rest taken ↔ RunsWhole w (built build) request trace rest taken
+  pub status : (rest : List ℕ) (k : ℕ) → IsRunStatus w (imaged name) request rest k ↔ IsRunStatus w (built build) request rest k
+  pub emits : (trace : Option (List ℕ)) (numbers : RunStats) → Emits w (imaged name) request trace numbers ↔ Emits w (built build) request trace numbers
 
 -- where files hold a program and the image that was made of it, of `exec` of the image is expected what is expected of `run` of the program
 abbrev pub EveryImageRunsAsItsProgram : Type 0
 EveryImageRunsAsItsProgram =
-    (w : World) (held : Held) (build : Build) (name bytes : List ℕ) (asked : Sched) → w.files.old ≡ Some held →
-    IsImageOf (Some held) build bytes → HasText (Some held) image_limit name bytes → RunsAlike w name build asked
+    (w : World) (held : Held) (build : Build) (name bytes : List ℕ) (request : Sched) → w.files.old ≡ Some held →
+    IsImageOf (Some held) build bytes → HasText (Some held) image_limit name bytes → RunsAlike w name build request

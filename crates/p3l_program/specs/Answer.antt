@@ -1,7 +1,7 @@
 -- What the program answers, writes and says, and why.
 use Rattle.std.specs.Prelude.{◌≡◌, ◌≢◌, ℕ, List, [], ◌∷◌, ◌++◌, ◌⊎◌, Option, Some, None}
 use Rattle.clap.specs.Words.{Text}
-use Rattle.p3l_io.specs.Told.{Held}
+use Rattle.p3l_io.specs.Content.{Held}
 use Rattle.p3l_opts.specs.declared.command.Command.{Command}
 use Rattle.p3l_opts.specs.Command.{Spells}
 use Rattle.p3l_report.specs.declared.stats.Stats.{Stats}
@@ -13,8 +13,8 @@ use Rattle.p3l_report.specs.declared.verdict.Verdict.TheVariants as verdict
 use Rattle.p3l_report.specs.Line.{stats_line}
 use Rattle.p3l_report.specs.Report.{PutsFronts}
 use Rattle.p3l_report.specs.Verdict.{finish_status, lines_of, refusal_status, reported_line, status_line, status_of}
-use Rattle.p3l_program.specs.Command.{Begins, Ends, IsDueOf, IsWhole, Touches, run_of, saved_first, stages_of, written_of}
-use Rattle.p3l_program.specs.Due.{IsBegun, IsEnd}
+use Rattle.p3l_program.specs.Command.{Begins, Ends, IsExpectedOf, IsWhole, Touches, run_of, saved_first, stages_of, written_of}
+use Rattle.p3l_program.specs.Expected.{IsBegun, IsEnd}
 use Rattle.p3l_program.specs.Run.{Emits, StopsRun}
 use Rattle.p3l_program.specs.Saved.{AreSaved, HasOneFailed, KeepsBut, KeepsFirst}
 use Rattle.p3l_program.specs.Stage.{IsRefusedBy, Stage, readable}
@@ -29,10 +29,10 @@ abbrev pub SpellsNone : List Text → Type 0
 SpellsNone words = (command : Command) → Spells words command → ⊥
 
 -- the words spell a command of which the verdict is expected
-pub record IsAsked (words : List Text) (w : World) (v : Verdict) : Type 0 where
+pub record IsRequested (words : List Text) (w : World) (v : Verdict) : Type 0 where
   pub command : Command
   pub spelled : Spells words command
-  pub due : IsDueOf w command v
+  pub expected : IsExpectedOf w command v
   pub kept : KeepsFirst w.files (written_of command) (saved_first command) v
   pub touched : (w.files.new ≡ w.files.old) ⊎ Touches w command
 
@@ -60,15 +60,15 @@ pub record IsUnsaved (words : List Text) (w : World) (v : Verdict) : Type 0 wher
   pub kept : KeepsBut w.files (written_of command)
 
 -- why a verdict is expected
-abbrev pub IsDue : List Text → World → Verdict → Type 0
-IsDue words w v = IsAsked words w v ⊎ (IsUsage words w v ⊎ (IsUnread w v ⊎ IsUnsaved words w v))
+abbrev pub IsExpected : List Text → World → Verdict → Type 0
+IsExpected words w v = IsRequested words w v ⊎ (IsUsage words w v ⊎ (IsUnread w v ⊎ IsUnsaved words w v))
 
 -- the answer of the program: how it ended, with this status, why, and its lines on the standard error, where its count of faults
 -- doesn't rise; where it does, a front of each of the lines of this same verdict, so that a fault there changes no status
 pub record Answers (words : List Text) (w : World) (err : Change (List ℕ)) (status : ℕ) : Type 0 where
   pub verdict : Verdict
   pub status_is : status ≡ status_of verdict
-  pub due : IsDue words w verdict
+  pub expected : IsExpected words w verdict
   pub says : (said : List ℕ) → err.old ≡ Some said → (HasRisen err → ⊥) → err.new ≡ Some (said ++ lines_of verdict)
   pub begins_to_say : (said : List ℕ) → err.old ≡ Some said → PutsFronts said err.new (reported_line verdict) (status_line verdict)
 

@@ -3,7 +3,7 @@ use Rattle.std.specs.Prelude.{ℕ, List, Option}
 use Rattle.p3l_report.specs.declared.stats.Stats.{Stats}
 use Rattle.p3l_report.specs.declared.verdict.Finish.{Finish}
 use Rattle.p3l_report.specs.declared.verdict.Verdict.{Verdict}
-use Rattle.p3l_program.specs.Due.{IsDueWith}
+use Rattle.p3l_program.specs.Expected.{IsExpectedWith}
 use Rattle.p3l_program.specs.Origin.{Running}
 use Rattle.p3l_program.specs.Stage.{Stage}
 use Rattle.p3l_program.specs.World.{World}
@@ -28,8 +28,8 @@ pub record Behavior : Type 1 where
   -- all that it writes was written, over an input and an output that report
   pub IsWhole : World → (rest taken : List ℕ) → Type 0
   -- it ends with this status where its stages pass and no fault comes
-  pub IsStatusDue : World → (rest : List ℕ) → ℕ → Type 0
+  pub IsStatusExpected : World → (rest : List ℕ) → ℕ → Type 0
 
 -- a verdict is expected of it
-abbrev pub IsDueBy : World → Behavior → Verdict → Type 0
-IsDueBy w b v = IsDueWith w b.stages (b.Ends w) (b.Begins w) (b.Unsaved w) v
+abbrev pub IsExpectedBy : World → Behavior → Verdict → Type 0
+IsExpectedBy w b v = IsExpectedWith w b.stages (b.Ends w) (b.Begins w) (b.Unsaved w) v

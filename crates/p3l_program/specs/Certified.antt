@@ -1,7 +1,7 @@
 -- Certificates of files, which hold for a program and its costs or don't.
 use Rattle.std.specs.Prelude.{◌≡◌, ℕ, List, Err, Option, Some, None, ◌⊎◌, true}
 use Rattle.p3l_format.specs.FirstLine.{IsFirstBadLine}
-use Rattle.p3l_io.specs.Told.{Held}
+use Rattle.p3l_io.specs.Content.{Held}
 use Rattle.p3l_skel.specs.declared.tree.Tree.{Tree}
 use Rattle.p3l_cost.specs.declared.costs.Costs.{Costs}
 use Rattle.p3l_cert.specs.declared.cert.Cert.{Cert}
@@ -67,7 +67,7 @@ evidence_of refusals.NoMemory = None
 -- a text is refused with this evidence
 pub record IsNoCert (tree : Tree) (costs : Costs) (text : List ℕ) (shown : Evidence) : Type 0 where
   pub refused : CertRefusal
-  pub told_so : evidence_of refused ≡ Some shown
+  pub reported_so : evidence_of refused ≡ Some shown
   pub refuted : IsRefuted tree costs text refused
 
 -- a program with its costs, and a text of a certificate of them

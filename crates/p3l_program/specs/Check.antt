@@ -1,7 +1,7 @@
 -- The command `check`: how many modules and instances an accepted program has.
 use Rattle.std.specs.Prelude.{◌≡◌, ℕ, List, ◌++◌, length, Option, codes}
 use Rattle.std.specs.Fmt.{decimal}
-use Rattle.p3l_io.specs.Told.{Held}
+use Rattle.p3l_io.specs.Content.{Held}
 use Rattle.p3l_check.specs.Resolving.{ResolvedTree}
 use Rattle.p3l_program.specs.Plan.{HasTree}
 

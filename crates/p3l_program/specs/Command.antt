@@ -5,7 +5,7 @@ use Rattle.p3l_opts.specs.declared.command.Command.TheVariants as command
 use Rattle.p3l_report.specs.declared.stats.Stats.{Stats}
 use Rattle.p3l_report.specs.declared.verdict.Finish.{Finish}
 use Rattle.p3l_report.specs.declared.verdict.Verdict.{Verdict}
-use Rattle.p3l_program.specs.Behavior.{Behavior, IsDueBy}
+use Rattle.p3l_program.specs.Behavior.{Behavior, IsExpectedBy}
 use Rattle.p3l_program.specs.Certificate.{IsCertificate}
 use Rattle.p3l_program.specs.Check.{IsCounted}
 use Rattle.p3l_program.specs.Compile.{IsImageOf}
@@ -85,9 +85,9 @@ abbrev pub IsWhole : World → List ℕ → List ℕ → Command → Type 0
 IsWhole w rest taken command = (behavior_of command).IsWhole w rest taken
 
 -- the status that it is expected to end with where its stages pass and no fault comes
-abbrev pub IsStatusDue : World → List ℕ → Command → ℕ → Type 0
-IsStatusDue w rest command n = (behavior_of command).IsStatusDue w rest n
+abbrev pub IsStatusExpected : World → List ℕ → Command → ℕ → Type 0
+IsStatusExpected w rest command n = (behavior_of command).IsStatusExpected w rest n
 
 -- a verdict is expected of it
-abbrev pub IsDueOf : World → Command → Verdict → Type 0
-IsDueOf w command v = IsDueBy w (behavior_of command) v
+abbrev pub IsExpectedOf : World → Command → Verdict → Type 0
+IsExpectedOf w command v = IsExpectedBy w (behavior_of command) v

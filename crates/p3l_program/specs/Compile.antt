@@ -1,6 +1,6 @@
 -- The command `compile`: the image of a program.
 use Rattle.std.specs.Prelude.{◌≡◌, ℕ, List, Option}
-use Rattle.p3l_io.specs.Told.{Held}
+use Rattle.p3l_io.specs.Content.{Held}
 use Rattle.p3l_code.specs.declared.instr.Code.{Code}
 use Rattle.p3l_compile.specs.Leaves.{AreCodes}
 use Rattle.p3l_cost.specs.declared.costs.Costs.{Costs}

@@ -1,6 +1,6 @@
 -- The command `explain`: the counts that are chosen for a program, and what they come to.
 use Rattle.std.specs.Prelude.{◌≡◌, ℕ, List, Option}
-use Rattle.p3l_io.specs.Told.{Held}
+use Rattle.p3l_io.specs.Content.{Held}
 use Rattle.p3l_skel.specs.Numbers.{procs}
 use Rattle.p3l_cost.specs.declared.costs.Costs.{Costs}
 use Rattle.p3l_model.specs.Service.{service}

@@ -6,7 +6,7 @@ use Rattle.p3l_ast.specs.declared.refusal.SourceRefusal.{SourceRefusal}
 use Rattle.p3l_ast.specs.declared.refusal.SourceRefusal.TheVariants as source
 use Rattle.p3l_ast.specs.Tree.{ProgramTree}
 use Rattle.p3l_grammar.specs.Grammar.{IsFirstFault, Spells}
-use Rattle.p3l_io.specs.Told.{Held}
+use Rattle.p3l_io.specs.Content.{Held}
 use Rattle.p3l_print.specs.Program.{canonical}
 use Rattle.p3l_program.specs.File.{HasProgram, text_limit}
 use Rattle.p3l_program.specs.Stage.{Stage, readable, spelled}

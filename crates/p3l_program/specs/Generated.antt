@@ -1,6 +1,6 @@
 -- The command `gen`: a program that is generated with its costs and its items, run in memory.
 use Rattle.std.specs.Prelude.{◌≡◌, ◌≢◌, ℕ, ℤ, ◌*◌, ◌≤◌, List, [], ◌∷◌, ◌++◌, Bool, true, false, Option, Some, None, codes, if◌then◌else◌}
-use Rattle.p3l_io.specs.Told.{Held}
+use Rattle.p3l_io.specs.Content.{Held}
 use Rattle.std.specs.Fmt.{decimal, signed_decimal}
 use Rattle.p3l_gen.specs.declared.texts.Generated.{Generated}
 use Rattle.p3l_gen.specs.Texts.{costs_text, program_text, stream_text}
@@ -31,7 +31,7 @@ use Rattle.p3l_check.specs.Resolving.{ResolvedTree}
 use Rattle.p3l_program.specs.declared.plan.Allotted.{Allotted}
 use Rattle.p3l_program.specs.Plan.{ComesTo, IsAllotted, network_of}
 use Rattle.p3l_program.specs.Behavior.{Behavior}
-use Rattle.p3l_program.specs.Due.{IsDueWith}
+use Rattle.p3l_program.specs.Expected.{IsExpectedWith}
 use Rattle.p3l_program.specs.Load.{IsNotLoaded}
 use Rattle.p3l_program.specs.Saved.{AreSaved, HasOneFailed, KeepsBut, KeepsFirst, names_of}
 use Rattle.p3l_program.specs.Stage.{Stage, text_fitting, text_kept, text_priced}
@@ -45,11 +45,11 @@ pub record Gen : Type 0 where
   pub number : ℕ
   pub processors : ℕ
   pub items : ℕ
-  pub asked : Sched
+  pub request : Sched
   pub prefix : Option (List ℕ)
 
 abbrev pub gen_of : (number processors items : ℕ) → Sched → Option (List ℕ) → Gen
-gen_of number processors items asked prefix = record { number = number; processors = processors; items = items; asked = asked; prefix = prefix }
+gen_of number processors items request prefix = record { number = number; processors = processors; items = items; request = request; prefix = prefix }
 
 -- the files of three texts, each a name and its bytes
 abbrev pub saves_for : (prefix program costs stream : List ℕ) → List (List ℕ × List ℕ)
@@ -97,9 +97,9 @@ pub record IsRanOn (n : Network) (s : Schedule) (text : List ℕ) (f : RunEnd) (
   pub whole : comes_whole f ≡ true → (course_of n s (items_of (width_of n) text).items).state.emitted ≡ meaning_of n (items_of (width_of n) text).items
 
 -- the same under the schedule that is requested
-pub record IsRanUnder (n : Network) (asked : Sched) (text : List ℕ) (ran : Ran) : Type 0 where
+pub record IsRanUnder (n : Network) (request : Sched) (text : List ℕ) (ran : Ran) : Type 0 where
   pub s : Schedule
-  pub picked : IsPicked asked s
+  pub picked : IsPicked request s
   pub on : IsRanOn n s text ran.finish ran.stats ran.sum
 
 -- items I, fired F, idle D, bound B
@@ -114,8 +114,8 @@ summary_line number numbers service used sum =
     ++ (codes ", service " ++ (decimal service ++ (codes ", used " ++ (decimal used ++ (codes ", sum " ++ (signed_decimal sum ++ codes "\n")))))))))
 
 -- it is expected where the run comes to the end of its items
-abbrev pub due_at : RunEnd → List ℕ → List ℕ
-due_at f line = if comes_whole f then line else []
+abbrev pub line_at : RunEnd → List ℕ → List ℕ
+line_at f line = if comes_whole f then line else []
 
 -- the run of what is generated came to this end, of which this text is expected
 pub record IsGenerated (g : Gen) (f : RunEnd) (text : List ℕ) : Type 0 where
@@ -124,11 +124,11 @@ pub record IsGenerated (g : Gen) (f : RunEnd) (text : List ℕ) : Type 0 where
   pub counts : List ℕ
   pub allotted : IsAllotted (program_text g.number) (Some costs_text) g.processors r cs counts
   pub s : Schedule
-  pub picked : IsPicked g.asked s
+  pub picked : IsPicked g.request s
   pub numbers : RunStats
   pub sum : ℤ
   pub ran : IsRanOn (network_of r counts gen_capacity) s (stream_text g.number g.items) f numbers sum
-  pub text_is : text ≡ due_at f (summary_line g.number numbers (service r.tree cs counts 0) (procs r.tree counts 0) sum)
+  pub text_is : text ≡ line_at f (summary_line g.number numbers (service r.tree cs counts 0) (procs r.tree counts 0) sum)
 
 -- a text is that of some end
 abbrev pub IsGenText : Gen → List ℕ → Type 0
@@ -173,15 +173,15 @@ gen_behavior g = record {
   Unsaved = λ w. ⊥;
   Touches = λ w. Unit {0};
   IsWhole = λ w rest taken. GensWhole w g rest taken;
-  IsStatusDue = λ w rest n. IsGenStatus g n;
+  IsStatusExpected = λ w rest n. IsGenStatus g n;
 }
 
 -- how the writing of the text of an end goes
-abbrev pub IsToldOf : Change (List ℕ) → RunEnd → List ℕ → Verdict → Type 0
-IsToldOf out f text (verdict.Ended f' stats) = (f' ≡ run_finish f) × (stats ≡ None) × HasPut out.old out.new text × IsCalm out
-IsToldOf out f text verdict.WriteFault = HasBegun out.old out.new text × HasRisen out
-IsToldOf out f text verdict.NoMemory = HasBegun out.old out.new text
-IsToldOf out f text (verdict.Refused refused) = ⊥
+abbrev pub IsLineOf : Change (List ℕ) → RunEnd → List ℕ → Verdict → Type 0
+IsLineOf out f text (verdict.Ended f' stats) = (f' ≡ run_finish f) × (stats ≡ None) × HasPut out.old out.new text × IsCalm out
+IsLineOf out f text verdict.WriteFault = HasBegun out.old out.new text × HasRisen out
+IsLineOf out f text verdict.NoMemory = HasBegun out.old out.new text
+IsLineOf out f text (verdict.Refused refused) = ⊥
 
 -- a program that a text spells, with the costs that another says and the counts that are chosen for it
 pub record AreLoaded (text said : List ℕ) (processors : ℕ) (r : ResolvedTree) (loaded : Allotted) : Type 0 where
@@ -208,12 +208,12 @@ pub record AreTextsOf (g : Gen) (texts : Generated) : Type 0 where
 -- input is let alone
 abbrev pub IsGenRun : Change (List ℕ) → Gen → Verdict → Type 0
 IsGenRun out g v = (files : Change Held) (input : Change (List ℕ)) → IsCalm files → AreSaved files (saves_of g) → IsStill input →
-    IsDueWith (world files input out) (gen_stages g) (EndsGen (world files input out) g) (BeginsText (world files input out) (IsGenText g)) ⊥ v
+    IsExpectedWith (world files input out) (gen_stages g) (EndsGen (world files input out) g) (BeginsText (world files input out) (IsGenText g)) ⊥ v
 
 -- a verdict is expected of what is requested, which lets the input alone
-pub record IsGenDue (files : Change Held) (out : Change (List ℕ)) (g : Gen) (v : Verdict) : Type 0 where
-  pub due : (input : Change (List ℕ)) → IsStill input →
-      IsDueWith (world files input out) (gen_stages g) (EndsGen (world files input out) g) (BeginsText (world files input out) (IsGenText g)) ⊥ v
+pub record IsGenExpected (files : Change Held) (out : Change (List ℕ)) (g : Gen) (v : Verdict) : Type 0 where
+  pub expected : (input : Change (List ℕ)) → IsStill input →
+      IsExpectedWith (world files input out) (gen_stages g) (EndsGen (world files input out) g) (BeginsText (world files input out) (IsGenText g)) ⊥ v
   pub kept : KeepsFirst files (names_of (saves_of g)) (saves_of g) v
 
 -- or a file of a text could not be written

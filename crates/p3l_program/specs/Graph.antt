@@ -1,6 +1,6 @@
 -- The command `graph`: the picture of the network that is built for a program.
 use Rattle.std.specs.Prelude.{ℕ, List, Option}
-use Rattle.p3l_io.specs.Told.{Held}
+use Rattle.p3l_io.specs.Content.{Held}
 use Rattle.p3l_graph.specs.Graph.{IsGraph}
 use Rattle.p3l_opts.specs.declared.command.Build.{Build}
 use Rattle.p3l_run.specs.Network.{Network}

@@ -1,6 +1,6 @@
 -- What is loaded from files, and why nothing is.
 use Rattle.std.specs.Prelude.{◌≡◌, ℕ, ◌≤◌, List, Err, Option, Some, None, ◌⊎◌}
-use Rattle.p3l_io.specs.Told.{Held}
+use Rattle.p3l_io.specs.Content.{Held}
 use Rattle.p3l_skel.specs.declared.tree.Tree.{Tree}
 use Rattle.p3l_cost.specs.declared.costs.Costs.{Costs}
 use Rattle.p3l_cost.specs.declared.refusal.CostRefusal.{CostRefusal}
@@ -119,9 +119,9 @@ pub record IsReady (loaded : Allotted) : Type 0 where
   pub few : procs r.tree loaded.choice.counts.list 0 ≤ 512
 
 -- the network that words and files request, which is the only one; all that comes before it passes
-pub record LoadsNetwork (told : Option Held) (origin : Origin) (n : Network) : Type 0 where
+pub record LoadsNetwork (known : Option Held) (origin : Origin) (n : Network) : Type 0 where
   pub texts : Texts
-  pub have : HaveTexts told origin texts
+  pub have : HaveTexts known origin texts
   pub is : IsNetworkOf origin texts n
   pub only : (other : Network) → IsNetworkOf origin texts other → other ≡ n
-  pub passed : (files : Change Held) → files.old ≡ told → AllPass files (origin_stages origin)
+  pub passed : (files : Change Held) → files.old ≡ known → AllPass files (origin_stages origin)

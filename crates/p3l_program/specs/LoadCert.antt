@@ -1,6 +1,6 @@
 -- Certificates that are loaded from files, and why none is.
 use Rattle.std.specs.Prelude.{ℕ, List, Option, Some, None, ◌⊎◌}
-use Rattle.p3l_io.specs.Told.{Held}
+use Rattle.p3l_io.specs.Content.{Held}
 use Rattle.p3l_skel.specs.declared.tree.Tree.{Tree}
 use Rattle.p3l_cost.specs.declared.costs.Costs.{Costs}
 use Rattle.p3l_model.specs.Optimal.{IsOptimal}

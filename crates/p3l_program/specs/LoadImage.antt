@@ -9,7 +9,7 @@ use Rattle.p3l_units.specs.Table.{HasCode}
 use Rattle.p3l_image.specs.declared.image.Image.{Image}
 use Rattle.p3l_image.specs.declared.image.ImageRefusal.{ImageRefusal}
 use Rattle.p3l_image.specs.declared.image.ImageRefusal.TheVariants as image
-use Rattle.p3l_io.specs.Told.{Held}
+use Rattle.p3l_io.specs.Content.{Held}
 use Rattle.p3l_load.specs.declared.loaded.Loaded.{Loaded}
 use Rattle.p3l_load.specs.declared.loaded.LoadRefusal.{LoadRefusal}
 use Rattle.p3l_load.specs.declared.loaded.LoadRefusal.TheVariants as load

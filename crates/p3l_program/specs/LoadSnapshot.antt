@@ -1,7 +1,7 @@
 -- What is loaded from the snapshot of a file, and why nothing is.
 use Rattle.std.specs.Prelude.{◌≡◌, ℕ, ◌≤◌, List, Option}
 use Rattle.p3l_image.specs.declared.image.Image.{Image}
-use Rattle.p3l_io.specs.Told.{Held}
+use Rattle.p3l_io.specs.Content.{Held}
 use Rattle.p3l_load.specs.Load.{loaded_of}
 use Rattle.p3l_report.specs.declared.evidence.Evidence.TheVariants as evidence
 use Rattle.p3l_report.specs.declared.verdict.Refusal.TheVariants as refusal

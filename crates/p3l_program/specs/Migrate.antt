@@ -1,6 +1,6 @@
 -- The command `migrate`: an image in the newest version, with its net linked anew.
 use Rattle.std.specs.Prelude.{◌≡◌, ℕ, List, Option}
-use Rattle.p3l_io.specs.Told.{Held}
+use Rattle.p3l_io.specs.Content.{Held}
 use Rattle.p3l_image.specs.declared.image.Image.{Image}
 use Rattle.p3l_image.specs.Image.{image_text}
 use Rattle.p3l_load.specs.Load.{IsRunnable, migrated_of}

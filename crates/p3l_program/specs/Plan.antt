@@ -7,7 +7,7 @@ use Rattle.p3l_ast.specs.declared.refusal.SourceRefusal.{SourceRefusal}
 use Rattle.p3l_ast.specs.declared.refusal.SourceRefusal.TheVariants as source
 use Rattle.p3l_ast.specs.Tree.{ProgramTree}
 use Rattle.p3l_grammar.specs.Grammar.{IsFirstFault, Spells}
-use Rattle.p3l_io.specs.Told.{Held}
+use Rattle.p3l_io.specs.Content.{Held}
 use Rattle.p3l_skel.specs.Lawful.{IsLawfulTree}
 use Rattle.p3l_check.specs.Resolving.{ResolvedTree, resolved}
 use Rattle.p3l_compile.specs.Leaves.{AreBodies, AreCodes, body_leaf}

@@ -4,7 +4,7 @@ use Rattle.std.specs.List.{AllByRecursion, list_any}
 use Rattle.p3l_base.specs.declared.outcome.Outcome.{Outcome}
 use Rattle.p3l_base.specs.declared.outcome.Outcome.TheVariants.{Value, Trapped}
 use Rattle.p3l_base.specs.declared.outcome.TrapKind.{TrapKind}
-use Rattle.p3l_io.specs.Told.{Held}
+use Rattle.p3l_io.specs.Content.{Held}
 use Rattle.p3l_skel.specs.declared.tree.Tree.{Tree}
 use Rattle.p3l_skel.specs.Item.{item}
 use Rattle.p3l_skel.specs.Tree.{node_at}
@@ -35,7 +35,7 @@ use Rattle.p3l_sample.specs.declared.stream.Sampled.{Sampled}
 use Rattle.p3l_sample.specs.declared.stream.Sampled.TheVariants as sampled
 use Rattle.p3l_sample.specs.Sampling.{IsValue}
 use Rattle.p3l_program.specs.Behavior.{Behavior}
-use Rattle.p3l_program.specs.Due.{IsDueWith}
+use Rattle.p3l_program.specs.Expected.{IsExpectedWith}
 use Rattle.p3l_program.specs.File.{HasText, text_limit}
 use Rattle.p3l_program.specs.Plan.{IsAccepted}
 use Rattle.p3l_program.specs.Run.{seen_of}
@@ -176,12 +176,12 @@ profile_behavior name = record {
   Unsaved = λ w. ⊥;
   Touches = λ w. Unit {0};
   IsWhole = λ w rest taken. ProfilesWhole w name rest taken;
-  IsStatusDue = λ w rest n. IsProfileStatus w name rest n;
+  IsStatusExpected = λ w rest n. IsProfileStatus w name rest n;
 }
 
 -- a verdict is expected of the command
-abbrev pub IsProfileDue : World → List ℕ → Verdict → Type 0
-IsProfileDue w name v = IsDueWith w (program_stages name) (EndsProfile w name) (BeginsProfile w name) ⊥ v
+abbrev pub IsProfileExpected : World → List ℕ → Verdict → Type 0
+IsProfileExpected w name v = IsExpectedWith w (program_stages name) (EndsProfile w name) (BeginsProfile w name) ⊥ v
 
 -- how the profile of what is profiled ends
 abbrev pub IsProfileOf : Subject → Change (List ℕ) → Change (List ℕ) → Verdict → Type 0

@@ -1,6 +1,6 @@
 -- What `check-trace` makes of the traces that runs leave.
 use Rattle.std.specs.Prelude.{◌≡◌, ℕ, Bool, List, Option, Some}
-use Rattle.p3l_io.specs.Told.{Held}
+use Rattle.p3l_io.specs.Content.{Held}
 use Rattle.p3l_opts.specs.declared.command.Build.{Build}
 use Rattle.p3l_opts.specs.declared.command.Sched.{Sched}
 use Rattle.p3l_report.specs.declared.stats.Stats.{Stats}
@@ -25,7 +25,7 @@ pub record StillHas (files : Option Held) (build : Build) (name : List ℕ) (n :
 -- what is requested before the trace's picks, and else with 0
 abbrev pub EveryRecordIsAccepted : Type 0
 EveryRecordIsAccepted =
-    (w after : World) (origin : Origin) (asked : Sched) (name : List ℕ) (reported : Bool) (finish : Finish) (stats : Option Stats) (rest : List ℕ) (build : Build) (k : ℕ) →
-    (e : EndsRun w origin asked (Some name) reported finish stats) → w.input.old ≡ Some rest → (HasRisen w.input → ⊥) →
+    (w after : World) (origin : Origin) (request : Sched) (name : List ℕ) (reported : Bool) (finish : Finish) (stats : Option Stats) (rest : List ℕ) (build : Build) (k : ℕ) →
+    (e : EndsRun w origin request (Some name) reported finish stats) → w.input.old ≡ Some rest → (HasRisen w.input → ⊥) →
     StillHas after.files.old build name e.n e.recorded.t → IsTraceStatus after build name rest k →
     k ≡ agreed_status e.n e.recorded.t (seen_of (width_of e.n) rest)

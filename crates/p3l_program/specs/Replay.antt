@@ -1,6 +1,6 @@
 -- What `run` makes of the picks that `time` leaves.
 use Rattle.std.specs.Prelude.{◌≡◌, ℕ, Bool, List, Option, Some}
-use Rattle.p3l_io.specs.Told.{Held}
+use Rattle.p3l_io.specs.Content.{Held}
 use Rattle.p3l_opts.specs.declared.command.Build.{Build}
 use Rattle.p3l_opts.specs.declared.command.Sched.TheVariants as sched
 use Rattle.p3l_report.specs.declared.stats.Stats.{Stats}
@@ -16,8 +16,8 @@ use Rattle.p3l_program.specs.Time.{EndsTime}
 use Rattle.p3l_program.specs.World.{HasRisen, World}
 
 -- a run ends as one in virtual time did: its end, the outcomes that it emitted, of which the text is written, and its numbers are the same
-pub record EndsAlike {w after : World} {build : Build} {name : List ℕ} {finish other_finish : Finish} {told stats : Option Stats} {trace : Option (List ℕ)} {reported : Bool}
-    (e : EndsTime w build (Some name) finish told) (r : EndsRun after (built build) (sched.File name) trace reported other_finish stats) : Type 0 where
+pub record EndsAlike {w after : World} {build : Build} {name : List ℕ} {finish other_finish : Finish} {report stats : Option Stats} {trace : Option (List ℕ)} {reported : Bool}
+    (e : EndsTime w build (Some name) finish report) (r : EndsRun after (built build) (sched.File name) trace reported other_finish stats) : Type 0 where
   pub finish_is : other_finish ≡ finish
   pub outcomes_are : r.finishes.outcomes ≡ e.to.runs.finishes.outcomes
   pub numbers_are : r.ran.stats ≡ e.to.ran.stats
@@ -25,7 +25,7 @@ pub record EndsAlike {w after : World} {build : Build} {name : List ℕ} {finish
 -- where `time` left its picks in a file that is no longer than such files may be, they are the schedule that `run` reads there; and
 -- where `run` of the same words under them has the same network, and both took an input that reported the same and didn't fail, it ends
 -- alike
-pub record IsReplayed {w : World} {build : Build} {name : List ℕ} {finish : Finish} {told : Option Stats} (e : EndsTime w build (Some name) finish told) (held : Held) : Type 0 where
+pub record IsReplayed {w : World} {build : Build} {name : List ℕ} {finish : Finish} {report : Option Stats} (e : EndsTime w build (Some name) finish report) (held : Held) : Type 0 where
   pub reads : HasPicks (Some held) (size_of e.n) name (Recorded e.to.picks)
   pub alike : (after : World) (trace : Option (List ℕ)) (reported : Bool) (other_finish : Finish) (stats : Option Stats) (rest : List ℕ) →
       (r : EndsRun after (built build) (sched.File name) trace reported other_finish stats) → after.files.old ≡ Some held → r.n ≡ e.n →
@@ -33,5 +33,5 @@ pub record IsReplayed {w : World} {build : Build} {name : List ℕ} {finish : Fi
 
 abbrev pub EveryTimedRunIsReplayed : Type 0
 EveryTimedRunIsReplayed =
-    (w : World) (build : Build) (name : List ℕ) (finish : Finish) (told : Option Stats) (held : Held) → (e : EndsTime w build (Some name) finish told) →
+    (w : World) (build : Build) (name : List ℕ) (finish : Finish) (report : Option Stats) (held : Held) → (e : EndsTime w build (Some name) finish report) →
     HasText (Some held) picks_limit name (picks_text e.to.picks) → IsReplayed e held

@@ -1,7 +1,7 @@
 -- The commands that run a network on the input: of a program, of its scan, of an image, or of a snapshot, from where it was saved.
 use Rattle.std.specs.Prelude.{◌≡◌, ℕ, ℤ, ◌*◌, Bool, true, false, nat_le, List, [], ◌++◌, ◌⊎◌, length, take, Ok, Err, Option, Some, None, if◌then◌else◌}
 use Rattle.std.specs.Option.{option_to_list}
-use Rattle.p3l_io.specs.Told.{Held}
+use Rattle.p3l_io.specs.Content.{Held}
 use Rattle.p3l_opts.specs.declared.command.Sched.{Sched}
 use Rattle.p3l_opts.specs.declared.command.Sched.TheVariants as sched
 use Rattle.p3l_report.specs.declared.stats.Stats.{Stats}
@@ -34,7 +34,7 @@ use Rattle.p3l_stream.specs.Items.{items_of, items_taken}
 use Rattle.p3l_stream.specs.Seen.{Seen}
 use Rattle.p3l_stream.specs.Text.{text_of}
 use Rattle.p3l_program.specs.Behavior.{Behavior}
-use Rattle.p3l_program.specs.Due.{IsDueWith}
+use Rattle.p3l_program.specs.Expected.{IsExpectedWith}
 use Rattle.p3l_program.specs.File.{HasText}
 use Rattle.p3l_program.specs.Plan.{HasNetwork}
 use Rattle.p3l_program.specs.Origin.{Origin, Running}
@@ -56,15 +56,15 @@ keeping_for None = keep.Nothing
 keeping_for (Some name) = keep.Lines
 
 -- the network and the schedule that files and words request
-pub record HasRun (files : Option Held) (origin : Origin) (asked : Sched) (n : Network) (s : Schedule) : Type 0 where
+pub record HasRun (files : Option Held) (origin : Origin) (request : Sched) (n : Network) (s : Schedule) : Type 0 where
   pub network : HasNetwork files origin n
-  pub schedule : HasSchedule files (size_of n) asked s
+  pub schedule : HasSchedule files (size_of n) request s
 
 -- what is run was run to this end, with these numbers, and its trace was written where a file is named for it
-pub record EndsRun (w : World) (origin : Origin) (asked : Sched) (trace : Option (List ℕ)) (reported : Bool) (finish : Finish) (stats : Option Stats) : Type 0 where
+pub record EndsRun (w : World) (origin : Origin) (request : Sched) (trace : Option (List ℕ)) (reported : Bool) (finish : Finish) (stats : Option Stats) : Type 0 where
   pub n : Network
   pub s : Schedule
-  pub has : HasRun w.files.old origin asked n s
+  pub has : HasRun w.files.old origin request n s
   pub ran : Ran
   pub finish_is : finish ≡ run_finish ran.finish
   pub stats_are : stats ≡ shown reported (run_stats ran.stats)
@@ -72,32 +72,32 @@ pub record EndsRun (w : World) (origin : Origin) (asked : Sched) (trace : Option
   pub recorded : IsRecorded w.files trace (IsRecordOn n s finishes.items finishes.close)
 
 -- it was run to some end, whatever became of its trace
-pub record RunsOver (w : World) (origin : Origin) (asked : Sched) : Type 0 where
+pub record RunsOver (w : World) (origin : Origin) (request : Sched) : Type 0 where
   pub n : Network
   pub s : Schedule
-  pub has : HasRun w.files.old origin asked n s
+  pub has : HasRun w.files.old origin request n s
   pub keeping : Keeping
   pub ran : Ran
   pub finishes : Finishes n s keeping w.input.old w.input.new w.input.before w.input.now w.out.old w.out.new ran
 
 -- the file of its trace could not be written, when it was over
 abbrev pub UnsavedRun : World → Origin → Sched → Option (List ℕ) → Type 0
-UnsavedRun w origin asked None = ⊥
-UnsavedRun w origin asked (Some name) = RunsOver w origin asked × IsCalm w.out × HasFailed w.files name
+UnsavedRun w origin request None = ⊥
+UnsavedRun w origin request (Some name) = RunsOver w origin request × IsCalm w.out × HasFailed w.files name
 
 -- it was run, and a front of the text of its meaning was written, and of what the network emits under the schedule
-pub record BeginsRun (w : World) (origin : Origin) (asked : Sched) : Type 0 where
+pub record BeginsRun (w : World) (origin : Origin) (request : Sched) : Type 0 where
   pub n : Network
   pub s : Schedule
-  pub has : HasRun w.files.old origin asked n s
+  pub has : HasRun w.files.old origin request n s
   pub starts : Starts n s w.input.old w.input.new w.input.before w.input.now w.out.old w.out.new
 
 -- over an input and an output that report: the whole input was taken, each of its lines is an item or has no words, the whole
 -- text of the meaning of its items was written, and the trace is that of the run on them
-pub record RunsWhole (w : World) (origin : Origin) (asked : Sched) (trace : Option (List ℕ)) (rest taken : List ℕ) : Type 0 where
+pub record RunsWhole (w : World) (origin : Origin) (request : Sched) (trace : Option (List ℕ)) (rest taken : List ℕ) : Type 0 where
   pub n : Network
   pub s : Schedule
-  pub has : HasRun w.files.old origin asked n s
+  pub has : HasRun w.files.old origin request n s
   pub input_ended : w.input.new ≡ Some []
   pub all_items : (items_of (width_of n) rest).ending ≡ ending.End
   pub taken_is : w.out.new ≡ Some (taken ++ text_of (meaning_of n (items_of (width_of n) rest).items))
@@ -105,10 +105,10 @@ pub record RunsWhole (w : World) (origin : Origin) (asked : Sched) (trace : Opti
 
 -- the text of what the network emits on these items under the schedule was written, and the trace of this run, with these numbers, of
 -- which the firings are at most this number for each item that it sent, and those of what was in the net where it began
-pub record Emits (w : World) (origin : Origin) (asked : Sched) (trace : Option (List ℕ)) (numbers : RunStats) : Type 0 where
+pub record Emits (w : World) (origin : Origin) (request : Sched) (trace : Option (List ℕ)) (numbers : RunStats) : Type 0 where
   pub n : Network
   pub s : Schedule
-  pub has : HasRun w.files.old origin asked n s
+  pub has : HasRun w.files.old origin request n s
   pub items : List (List ℤ)
   pub put : HasPut w.out.old w.out.new (text_of (course_of n s items).state.emitted)
   pub recorded : IsRecorded w.files trace (IsRecordOf n s items)
@@ -132,21 +132,21 @@ abbrev pub run_status : Network → Schedule → List ℕ → ℕ
 run_status n s rest = status_with n s (seen_of (width_of n) rest)
 
 -- what is run is expected to end with this status, which is that of a stop only where all picks of a file were made
-pub record IsRunStatus (w : World) (origin : Origin) (asked : Sched) (rest : List ℕ) (k : ℕ) : Type 0 where
+pub record IsRunStatus (w : World) (origin : Origin) (request : Sched) (rest : List ℕ) (k : ℕ) : Type 0 where
   pub n : Network
   pub s : Schedule
-  pub has : HasRun w.files.old origin asked n s
+  pub has : HasRun w.files.old origin request n s
   pub status_is : k ≡ run_status n s rest
   pub stops : k ≡ status.stopped → s ≡ schedule.Recorded (picks_of n s (seen_of (width_of n) rest).items)
 
 -- it was stopped: its picks are those of a file, which are all those of its run on the items that the stream gave, and at their end
 -- some process can still fire
-pub record StopsRun (w : World) (origin : Origin) (asked : Sched) : Type 0 where
+pub record StopsRun (w : World) (origin : Origin) (request : Sched) : Type 0 where
   pub n : Network
   pub s : Schedule
-  pub has : HasRun w.files.old origin asked n s
+  pub has : HasRun w.files.old origin request n s
   pub name : List ℕ
-  pub by_file : asked ≡ sched.File name
+  pub by_file : request ≡ sched.File name
   pub stream : Seen
   pub items : List (List ℤ)
   pub close : Option Ending
@@ -166,12 +166,12 @@ run_behavior run = record {
   Unsaved = λ w. UnsavedRun w run.origin run.schedule run.trace;
   Touches = λ w. RunsOver w run.origin run.schedule;
   IsWhole = λ w rest taken. RunsWhole w run.origin run.schedule run.trace rest taken;
-  IsStatusDue = λ w rest n. IsRunStatus w run.origin run.schedule rest n;
+  IsStatusExpected = λ w rest n. IsRunStatus w run.origin run.schedule rest n;
 }
 
 -- a verdict is expected of the running of it
-abbrev pub IsRunDue : World → Origin → Sched → Option (List ℕ) → Bool → Verdict → Type 0
-IsRunDue w origin asked trace reported v = IsDueWith w (run_stages origin asked) (EndsRun w origin asked trace reported) (BeginsRun w origin asked) (UnsavedRun w origin asked trace) v
+abbrev pub IsRunExpected : World → Origin → Sched → Option (List ℕ) → Bool → Verdict → Type 0
+IsRunExpected w origin request trace reported v = IsExpectedWith w (run_stages origin request) (EndsRun w origin request trace reported) (BeginsRun w origin request) (UnsavedRun w origin request trace) v
 
 -- a text has no picks of this number of processes
 abbrev pub IsBadPicks : List ℕ → ℕ → Refusal → Type 0
@@ -186,16 +186,16 @@ pub record HasBadPicks (files : Change Held) (count : ℕ) (name : List ℕ) (re
   pub calm : IsCalm files
 
 -- why there is no schedule
-abbrev pub IsUnasked : Change Held → ℕ → Sched → Verdict → Type 0
-IsUnasked files count (sched.File name) (verdict.Refused refused) =
+abbrev pub HasNoSchedule : Change Held → ℕ → Sched → Verdict → Type 0
+HasNoSchedule files count (sched.File name) (verdict.Refused refused) =
     (Refuses files (readable picks_limit name) refused × FilesCause refused files) ⊎ HasBadPicks files count name refused
-IsUnasked files count (sched.File name) verdict.NoMemory = IsCalm files
-IsUnasked files count asked v = ⊥
+HasNoSchedule files count (sched.File name) verdict.NoMemory = IsCalm files
+HasNoSchedule files count request v = ⊥
 
 -- a network was run under the schedule that is requested, to this end, and its trace was written
-pub record IsRunTo (n : Network) (files : Change Held) (input out : Change (List ℕ)) (asked : Sched) (trace : Option (List ℕ)) (reported : Bool) (finish : Finish) (stats : Option Stats) : Type 0 where
+pub record IsRunTo (n : Network) (files : Change Held) (input out : Change (List ℕ)) (request : Sched) (trace : Option (List ℕ)) (reported : Bool) (finish : Finish) (stats : Option Stats) : Type 0 where
   pub s : Schedule
-  pub schedule : HasSchedule files.old (size_of n) asked s
+  pub schedule : HasSchedule files.old (size_of n) request s
   pub ran : Ran
   pub finish_is : finish ≡ run_finish ran.finish
   pub stats_are : stats ≡ shown reported (run_stats ran.stats)
@@ -205,9 +205,9 @@ pub record IsRunTo (n : Network) (files : Change Held) (input out : Change (List
   pub out_calm : IsCalm out
 
 -- or to some end
-pub record IsRunOver (n : Network) (files : Change Held) (input out : Change (List ℕ)) (asked : Sched) : Type 0 where
+pub record IsRunOver (n : Network) (files : Change Held) (input out : Change (List ℕ)) (request : Sched) : Type 0 where
   pub s : Schedule
-  pub schedule : HasSchedule files.old (size_of n) asked s
+  pub schedule : HasSchedule files.old (size_of n) request s
   pub keeping : Keeping
   pub ran : Ran
   pub finishes : Finishes n s keeping input.old input.new input.before input.now out.old out.new ran
@@ -215,13 +215,13 @@ pub record IsRunOver (n : Network) (files : Change Held) (input out : Change (Li
 
 -- the file of its trace could not be written, when it was over
 abbrev pub IsUnsavedRun : Network → Change Held → Change (List ℕ) → Change (List ℕ) → Sched → Option (List ℕ) → Type 0
-IsUnsavedRun n files input out asked None = ⊥
-IsUnsavedRun n files input out asked (Some name) = IsRunOver n files input out asked × HasFailed files name
+IsUnsavedRun n files input out request None = ⊥
+IsUnsavedRun n files input out request (Some name) = IsRunOver n files input out request × HasFailed files name
 
 -- or a front of the text of its meaning was written
-pub record IsRunSome (n : Network) (files : Change Held) (input out : Change (List ℕ)) (asked : Sched) : Type 0 where
+pub record IsRunSome (n : Network) (files : Change Held) (input out : Change (List ℕ)) (request : Sched) : Type 0 where
   pub s : Schedule
-  pub schedule : HasSchedule files.old (size_of n) asked s
+  pub schedule : HasSchedule files.old (size_of n) request s
   pub starts : Starts n s input.old input.new input.before input.now out.old out.new
   pub files_calm : IsCalm files
 
@@ -237,12 +237,12 @@ IsClosed files ran trace reported v = IsRecording files trace ran.lines ran.stat
 
 -- how the run of a network under the schedule that is requested ends
 abbrev pub IsRunOf : Network → Change Held → Change (List ℕ) → Change (List ℕ) → Sched → Option (List ℕ) → Bool → Verdict → Type 0
-IsRunOf n files input out asked trace reported (verdict.Refused refused) = IsUnasked files (size_of n) asked (verdict.Refused refused) × IsRunNot files input out
-IsRunOf n files input out asked trace reported (verdict.Ended finish stats) = IsRunTo n files input out asked trace reported finish stats
-IsRunOf n files input out asked trace reported verdict.WriteFault = (IsRunSome n files input out asked × HasRisen out) ⊎ IsUnsavedRun n files input out asked trace
-IsRunOf n files input out asked trace reported verdict.NoMemory = IsRunNot files input out ⊎ IsRunSome n files input out asked
+IsRunOf n files input out request trace reported (verdict.Refused refused) = HasNoSchedule files (size_of n) request (verdict.Refused refused) × IsRunNot files input out
+IsRunOf n files input out request trace reported (verdict.Ended finish stats) = IsRunTo n files input out request trace reported finish stats
+IsRunOf n files input out request trace reported verdict.WriteFault = (IsRunSome n files input out request × HasRisen out) ⊎ IsUnsavedRun n files input out request trace
+IsRunOf n files input out request trace reported verdict.NoMemory = IsRunNot files input out ⊎ IsRunSome n files input out request
 
 -- which files it changes: that of the trace alone, when it is over
-pub record KeepsRun (n : Network) (files : Change Held) (input out : Change (List ℕ)) (asked : Sched) (trace : Option (List ℕ)) (v : Verdict) : Type 0 where
+pub record KeepsRun (n : Network) (files : Change Held) (input out : Change (List ℕ)) (request : Sched) (trace : Option (List ℕ)) (v : Verdict) : Type 0 where
   pub kept : KeepsFiles files (option_to_list trace) v
-  pub over : (files.new ≡ files.old) ⊎ IsRunOver n files input out asked
+  pub over : (files.new ≡ files.old) ⊎ IsRunOver n files input out request

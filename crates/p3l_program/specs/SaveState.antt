@@ -6,7 +6,7 @@ use Rattle.p3l_cost.specs.declared.costs.Costs.{Costs}
 use Rattle.p3l_check.specs.Resolving.{ResolvedTree}
 use Rattle.p3l_firing.specs.Token.{has_trap}
 use Rattle.p3l_firing.specs.Typed.{IsTyped}
-use Rattle.p3l_io.specs.Told.{Held}
+use Rattle.p3l_io.specs.Content.{Held}
 use Rattle.p3l_link.specs.Net.{linked_net}
 use Rattle.p3l_load.specs.Compiled.{IsImageText, image_of}
 use Rattle.p3l_load.specs.Load.{loaded_of}
@@ -49,12 +49,12 @@ use Rattle.p3l_template.specs.Units.{Units}
 use Rattle.p3l_program.specs.declared.imaged.Imaged.{Imaged}
 use Rattle.p3l_program.specs.declared.plan.Allotted.{Allotted}
 use Rattle.p3l_program.specs.Behavior.{Behavior}
-use Rattle.p3l_program.specs.Due.{IsDueWith}
+use Rattle.p3l_program.specs.Expected.{IsExpectedWith}
 use Rattle.p3l_program.specs.Load.{LoadsNetwork}
 use Rattle.p3l_program.specs.LoadImage.{IsReadyImage}
 use Rattle.p3l_program.specs.Origin.{built}
 use Rattle.p3l_program.specs.Plan.{HasCounts, IsAccepted, network_in, network_of}
-use Rattle.p3l_program.specs.Run.{IsRunNot, IsUnasked, seen_of}
+use Rattle.p3l_program.specs.Run.{HasNoSchedule, IsRunNot, seen_of}
 use Rattle.p3l_program.specs.Saved.{HasSave, IsSaved, KeepsFiles}
 use Rattle.p3l_program.specs.Scheduled.{HasPicks}
 use Rattle.p3l_program.specs.Stage.{Stage, build_stages, schedule_stages}
@@ -110,32 +110,32 @@ pub record ComesTo (n : Network) (picks : List ℕ) (input out : Change (List �
   pub meant : IsMeant n picks input out is.reached
 
 -- and the file of this name has a snapshot of it, with the bytes of this image; its numbers are reported
-pub record SavesState (n : Network) (counts : List ℕ) (capacity : ℕ) (image picks : List ℕ) (files : Change Held) (input out : Change (List ℕ)) (name : List ℕ) (told : Option Stats) : Type 0 where
+pub record SavesState (n : Network) (counts : List ℕ) (capacity : ℕ) (image picks : List ℕ) (files : Change Held) (input out : Change (List ℕ)) (name : List ℕ) (report : Option Stats) : Type 0 where
   pub saved : Checkpoint
   pub comes : ComesTo n picks input out saved
-  pub told_is : told ≡ Some (stats.Saved saved.items saved.picks)
+  pub report_is : report ≡ Some (stats.Saved saved.items saved.picks)
   pub bytes : List ℕ
   pub snapshot_is : IsSnapshot n counts capacity saved.shot image bytes
   pub stands : IsSaved files name bytes
 
 -- the stream ended so, which is not its end, in place of an item for a pick; nothing is saved
-pub record StopsAt (n : Network) (picks : List ℕ) (input out : Change (List ℕ)) (told : Option Stats) (e : Ending) : Type 0 where
-  pub told_is : told ≡ None
+pub record StopsAt (n : Network) (picks : List ℕ) (input out : Change (List ℕ)) (report : Option Stats) (e : Ending) : Type 0 where
+  pub report_is : report ≡ None
   pub is : IsCutOff n picks input.old input.new input.before input.now out.old out.new e
   pub meant : IsMeant n picks input out is.reached
 
 -- a trap was emitted, so that a run ends so; nothing is saved
-pub record TrapsAt (n : Network) (picks : List ℕ) (input out : Change (List ℕ)) (told : Option Stats) (f : RunEnd) : Type 0 where
-  pub told_is : told ≡ None
+pub record TrapsAt (n : Network) (picks : List ℕ) (input out : Change (List ℕ)) (report : Option Stats) (f : RunEnd) : Type 0 where
+  pub report_is : report ≡ None
   pub is : IsTrapped n picks input.old input.new input.before input.now out.old out.new f
   pub meant : IsMeant n picks input out is.reached
 
 -- how it ends; without a checkpoint no file is written
 abbrev pub SavesTo : Network → (counts : List ℕ) → (capacity : ℕ) → (image picks : List ℕ) → Change Held → Change (List ℕ) → Change (List ℕ) → (name : List ℕ) → Option Stats → Finish → Type 0
-SavesTo n counts capacity image picks files input out name told finish.Done = SavesState n counts capacity image picks files input out name told
-SavesTo n counts capacity image picks files input out name told (finish.Stream e) = StopsAt n picks input out told e × (files.new ≡ files.old)
-SavesTo n counts capacity image picks files input out name told (finish.Trapped item kind home) = TrapsAt n picks input out told (end.Trapped item kind home) × (files.new ≡ files.old)
-SavesTo n counts capacity image picks files input out name told f = ⊥
+SavesTo n counts capacity image picks files input out name report finish.Done = SavesState n counts capacity image picks files input out name report
+SavesTo n counts capacity image picks files input out name report (finish.Stream e) = StopsAt n picks input out report e × (files.new ≡ files.old)
+SavesTo n counts capacity image picks files input out name report (finish.Trapped item kind home) = TrapsAt n picks input out report (end.Trapped item kind home) × (files.new ≡ files.old)
+SavesTo n counts capacity image picks files input out name report f = ⊥
 
 -- or a front of the text of the meaning was written, and of what the network emits under some of the picks
 pub record IsSaveBegun (n : Network) (picks : List ℕ) (input out : Change (List ℕ)) : Type 0 where
@@ -145,13 +145,13 @@ pub record IsSaveBegun (n : Network) (picks : List ℕ) (input out : Change (Lis
 -- ---- what the command does
 
 -- the program that files and words request was run under the picks, to this end
-pub record EndsSave (w : World) (build : Build) (name output : List ℕ) (f : Finish) (told : Option Stats) : Type 0 where
+pub record EndsSave (w : World) (build : Build) (name output : List ℕ) (f : Finish) (report : Option Stats) : Type 0 where
   pub n : Network
   pub counts : List ℕ
   pub image : List ℕ
   pub picks : List ℕ
   pub has : HasPicked w.files.old build name n counts image picks
-  pub to : SavesTo n counts build.capacity image picks w.files w.input w.out output told f
+  pub to : SavesTo n counts build.capacity image picks w.files w.input w.out output report f
 
 -- it came to its checkpoint, whatever became of the snapshot
 pub record SavesOver (w : World) (build : Build) (name : List ℕ) : Type 0 where
@@ -248,17 +248,17 @@ save_behavior build name output = record {
   written = output ∷ [];
   saved_first = [];
   run = None;
-  Ends = λ w f told. EndsSave w build name output f told;
+  Ends = λ w f report. EndsSave w build name output f report;
   Begins = λ w. BeginsSave w build name;
   Unsaved = λ w. UnsavedState w build name output;
   Touches = λ w. SavesOver w build name;
   IsWhole = λ w rest taken. SavesWhole w build name output rest taken;
-  IsStatusDue = λ w rest k. IsSaveStatus w build name rest k;
+  IsStatusExpected = λ w rest k. IsSaveStatus w build name rest k;
 }
 
 -- a verdict is expected of the command
-abbrev pub IsSaveDue : World → Build → (name output : List ℕ) → Verdict → Type 0
-IsSaveDue w build name output v = IsDueWith w (save_stages build name) (EndsSave w build name output) (BeginsSave w build name) (UnsavedState w build name output) v
+abbrev pub IsSaveExpected : World → Build → (name output : List ℕ) → Verdict → Type 0
+IsSaveExpected w build name output v = IsExpectedWith w (save_stages build name) (EndsSave w build name output) (BeginsSave w build name) (UnsavedState w build name output) v
 
 -- ---- what its functions do
 
@@ -311,8 +311,8 @@ pub record IsEndedEarly (n : Network) (files : Change Held) (input out : Change 
 
 -- why it came to no checkpoint
 abbrev pub IsUnreached : Network → Change Held → Change (List ℕ) → Change (List ℕ) → List ℕ → Verdict → Type 0
-IsUnreached n files input out name (verdict.Refused refused) = IsUnasked files (size_of n) (sched.File name) (verdict.Refused refused) × IsRunNot files input out
-IsUnreached n files input out name (verdict.Ended f told) = (told ≡ None) × IsEndedEarly n files input out name f × IsCalm files × IsCalm out
+IsUnreached n files input out name (verdict.Refused refused) = HasNoSchedule files (size_of n) (sched.File name) (verdict.Refused refused) × IsRunNot files input out
+IsUnreached n files input out name (verdict.Ended f report) = (report ≡ None) × IsEndedEarly n files input out name f × IsCalm files × IsCalm out
 IsUnreached n files input out name verdict.WriteFault = IsSaveSome n files input out name × IsCalm files × HasRisen out
 IsUnreached n files input out name verdict.NoMemory = IsRunNot files input out ⊎ IsSaveSome n files input out name
 
@@ -328,16 +328,16 @@ pub record FitsSome (shot : Shot) : Type 0 where
 
 -- how the snapshot of a checkpoint goes to its file
 abbrev pub IsWriting : Change Held → Checkpoint → (image name : List ℕ) → Verdict → Type 0
-IsWriting files saved image name (verdict.Ended f told) =
-    (f ≡ finish.Done) × (told ≡ Some (stats.Saved saved.items saved.picks)) × CanBeWritten (snapshot saved.shot image) × HasSave files name (saved_text (snapshot saved.shot image)) (Ok tt)
+IsWriting files saved image name (verdict.Ended f report) =
+    (f ≡ finish.Done) × (report ≡ Some (stats.Saved saved.items saved.picks)) × CanBeWritten (snapshot saved.shot image) × HasSave files name (saved_text (snapshot saved.shot image)) (Ok tt)
 IsWriting files saved image name verdict.NoMemory = IsStill files ⊎ HasSave files name (saved_text (snapshot saved.shot image)) (Err verdict.NoMemory)
 IsWriting files saved image name v = HasSave files name (saved_text (snapshot saved.shot image)) (Err v)
 
 -- a network was run under the picks of a file, to this end
-pub record IsSavedTo (n : Network) (counts : List ℕ) (capacity : ℕ) (image : List ℕ) (files : Change Held) (input out : Change (List ℕ)) (name output : List ℕ) (f : Finish) (told : Option Stats) : Type 0 where
+pub record IsSavedTo (n : Network) (counts : List ℕ) (capacity : ℕ) (image : List ℕ) (files : Change Held) (input out : Change (List ℕ)) (name output : List ℕ) (f : Finish) (report : Option Stats) : Type 0 where
   pub picks : List ℕ
   pub picks_are : HasPicks files.old (size_of n) name (schedule.Recorded picks)
-  pub to : SavesTo n counts capacity image picks files input out output told f
+  pub to : SavesTo n counts capacity image picks files input out output report f
   pub files_calm : IsCalm files
   pub out_calm : IsCalm out
 
@@ -348,8 +348,8 @@ pub record IsSaveOver (n : Network) (files : Change Held) (input out : Change (L
 
 -- how the run of a network to a checkpoint ends
 abbrev pub IsSaveOf : Network → (counts : List ℕ) → (capacity : ℕ) → (image : List ℕ) → Change Held → Change (List ℕ) → Change (List ℕ) → (name output : List ℕ) → Verdict → Type 0
-IsSaveOf n counts capacity image files input out name output (verdict.Refused refused) = IsUnasked files (size_of n) (sched.File name) (verdict.Refused refused) × IsRunNot files input out
-IsSaveOf n counts capacity image files input out name output (verdict.Ended f told) = IsSavedTo n counts capacity image files input out name output f told
+IsSaveOf n counts capacity image files input out name output (verdict.Refused refused) = HasNoSchedule files (size_of n) (sched.File name) (verdict.Refused refused) × IsRunNot files input out
+IsSaveOf n counts capacity image files input out name output (verdict.Ended f report) = IsSavedTo n counts capacity image files input out name output f report
 IsSaveOf n counts capacity image files input out name output verdict.WriteFault =
     (IsSaveSome n files input out name × IsCalm files × HasRisen out) ⊎ (IsSaveOver n files input out name × IsCalm out × HasFailed files output)
 IsSaveOf n counts capacity image files input out name output verdict.NoMemory = IsRunNot files input out ⊎ IsSaveSome n files input out name

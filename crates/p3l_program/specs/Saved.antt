@@ -1,13 +1,13 @@
 -- Files that a command writes.
 use Rattle.std.specs.Prelude.{◌≡◌, ◌≢◌, ℕ, List, [], ◌∷◌, ◌⊎◌, map, Option, Some, None, Result, Ok, Err}
-use Rattle.p3l_io.specs.Told.{Held}
+use Rattle.p3l_io.specs.Content.{Held}
 use Rattle.p3l_report.specs.declared.stats.Stats.{Stats}
 use Rattle.p3l_report.specs.declared.verdict.Finish.{Finish}
 use Rattle.p3l_report.specs.declared.verdict.Verdict.{Verdict}
 use Rattle.p3l_report.specs.declared.verdict.Verdict.TheVariants as verdict
 use Rattle.p3l_report.specs.Status as status
 use Rattle.p3l_program.specs.Behavior.{Behavior}
-use Rattle.p3l_program.specs.Due.{IsDueWith}
+use Rattle.p3l_program.specs.Expected.{IsExpectedWith}
 use Rattle.p3l_program.specs.Stage.{Stage}
 use Rattle.p3l_program.specs.Text.{BeginsText, EndsText, IsNothing, WritesWhole}
 use Rattle.p3l_program.specs.World.{Change, HasFailed, IsCalm, IsStill, World, world}
@@ -120,17 +120,17 @@ saving_behavior stages IsText name IsBytes = record {
   Unsaved = λ w. IsStill w.out × HasFailed w.files name;
   Touches = λ w. Unit {0};
   IsWhole = λ w rest taken. SavesWhole w (IsText w.files.old) name (IsBytes w.files.old) rest taken;
-  IsStatusDue = λ w rest n. n ≡ status.done;
+  IsStatusExpected = λ w rest n. n ≡ status.done;
 }
 
 -- a verdict is expected of a command with these stages that writes such a file and then such a text, and
 -- lets the input alone
-abbrev pub IsSavingDue : Change Held → Change (List ℕ) → List Stage → (List ℕ → Type 0) → List ℕ → (List ℕ → Type 0) → Verdict → Type 0
-IsSavingDue files out stages IsText name IsBytes v =
+abbrev pub IsSavingExpected : Change Held → Change (List ℕ) → List Stage → (List ℕ → Type 0) → List ℕ → (List ℕ → Type 0) → Verdict → Type 0
+IsSavingExpected files out stages IsText name IsBytes v =
     (input : Change (List ℕ)) → IsStill input →
-    IsDueWith (world files input out) stages (EndsSaving (world files input out) IsText name IsBytes) (BeginsText (world files input out) IsText) (IsStill out × HasFailed files name) v
+    IsExpectedWith (world files input out) stages (EndsSaving (world files input out) IsText name IsBytes) (BeginsText (world files input out) IsText) (IsStill out × HasFailed files name) v
 
 -- a verdict is expected of a command with these stages that writes such a file alone, and lets the input
 -- and the output alone
-abbrev pub IsFileDue : Change Held → List Stage → List ℕ → (List ℕ → Type 0) → Verdict → Type 0
-IsFileDue files stages name IsBytes v = (out : Change (List ℕ)) → IsStill out → IsSavingDue files out stages IsNothing name IsBytes v
+abbrev pub IsFileExpected : Change Held → List Stage → List ℕ → (List ℕ → Type 0) → Verdict → Type 0
+IsFileExpected files stages name IsBytes v = (out : Change (List ℕ)) → IsStill out → IsSavingExpected files out stages IsNothing name IsBytes v

@@ -1,6 +1,6 @@
 -- The command `scan`: what is loaded before it is run.
 use Rattle.std.specs.Prelude.{ℕ, List, Option}
-use Rattle.p3l_io.specs.Told.{Held}
+use Rattle.p3l_io.specs.Content.{Held}
 use Rattle.p3l_check.specs.Resolving.{ResolvedTree}
 use Rattle.p3l_scan.specs.Planned.{IsPlanOf, IsRunnable}
 use Rattle.p3l_program.specs.declared.scan.Planned.{Planned}

@@ -1,6 +1,6 @@
 -- Schedules that words and files request.
 use Rattle.std.specs.Prelude.{◌≡◌, ℕ, List, Ok, Err, Option}
-use Rattle.p3l_io.specs.Told.{Held}
+use Rattle.p3l_io.specs.Content.{Held}
 use Rattle.p3l_opts.specs.declared.command.Sched.{Sched}
 use Rattle.p3l_opts.specs.declared.command.Sched.TheVariants as sched
 use Rattle.p3l_run.specs.Network.{Network, size_of}

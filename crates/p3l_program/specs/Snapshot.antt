@@ -2,7 +2,7 @@
 use Rattle.std.specs.Prelude.{◌≡◌, ℕ, List, Result, Err, Option}
 use Rattle.p3l_format.specs.Format.{read_all}
 use Rattle.p3l_image.specs.declared.image.Image.{Image}
-use Rattle.p3l_io.specs.Told.{Held}
+use Rattle.p3l_io.specs.Content.{Held}
 use Rattle.p3l_load.specs.declared.loaded.Loaded.{Loaded}
 use Rattle.p3l_load.specs.Load.{loaded_of}
 use Rattle.p3l_net.specs.declared.shot.Shot.{Shot}

@@ -1,6 +1,6 @@
 -- Commands that write one text, and take nothing.
 use Rattle.std.specs.Prelude.{◌≡◌, ℕ, List, [], ◌++◌, Option, Some, None}
-use Rattle.p3l_io.specs.Told.{Held}
+use Rattle.p3l_io.specs.Content.{Held}
 use Rattle.p3l_report.specs.declared.stats.Stats.{Stats}
 use Rattle.p3l_report.specs.declared.verdict.Finish.{Finish}
 use Rattle.p3l_report.specs.declared.verdict.Finish.TheVariants as finishes
@@ -9,7 +9,7 @@ use Rattle.p3l_report.specs.declared.verdict.Verdict.TheVariants as verdict
 use Rattle.p3l_report.specs.Status as status
 use Rattle.p3l_run.specs.Write.{HasBegun, HasPut}
 use Rattle.p3l_program.specs.Behavior.{Behavior}
-use Rattle.p3l_program.specs.Due.{IsDueWith}
+use Rattle.p3l_program.specs.Expected.{IsExpectedWith}
 use Rattle.p3l_program.specs.Stage.{Stage}
 use Rattle.p3l_program.specs.World.{Change, HasRisen, IsCalm, IsStill, World, world}
 
@@ -52,14 +52,14 @@ text_behavior stages IsText = record {
   Unsaved = λ w. ⊥;
   Touches = λ w. Unit {0};
   IsWhole = λ w rest taken. WritesWhole w (IsText w.files.old) rest taken;
-  IsStatusDue = λ w rest n. n ≡ status.done;
+  IsStatusExpected = λ w rest n. n ≡ status.done;
 }
 
 -- a verdict is expected of a command with these stages that writes such a text, and lets the input alone
-abbrev pub IsTextDue : Change Held → Change (List ℕ) → List Stage → (List ℕ → Type 0) → Verdict → Type 0
-IsTextDue files out stages IsText v =
+abbrev pub IsTextExpected : Change Held → Change (List ℕ) → List Stage → (List ℕ → Type 0) → Verdict → Type 0
+IsTextExpected files out stages IsText v =
     (input : Change (List ℕ)) → IsStill input →
-    IsDueWith (world files input out) stages (EndsText (world files input out) IsText) (BeginsText (world files input out) IsText) ⊥ v
+    IsExpectedWith (world files input out) stages (EndsText (world files input out) IsText) (BeginsText (world files input out) IsText) ⊥ v
 
 -- how the writing of a text ends
 abbrev pub IsWritten : Change (List ℕ) → List ℕ → Verdict → Type 0

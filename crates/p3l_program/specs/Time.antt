@@ -1,7 +1,7 @@
 -- The command `time`: a program run on the input in virtual time.
 use Rattle.std.specs.Prelude.{◌≡◌, ◌<◌, ◌≤◌, ℕ, ℤ, false, List, [], ◌++◌, ◌⊎◌, length, Ok, Err, Option, Some, None, slice_index}
 use Rattle.std.specs.Option.{option_to_list}
-use Rattle.p3l_io.specs.Told.{Held}
+use Rattle.p3l_io.specs.Content.{Held}
 use Rattle.p3l_opts.specs.declared.command.Build.{Build}
 use Rattle.p3l_report.specs.declared.stats.Stats.{Stats}
 use Rattle.p3l_report.specs.declared.stats.Stats.TheVariants as stats
@@ -25,7 +25,7 @@ use Rattle.p3l_timed.specs.Timed.{busy_of, finish_of}
 use Rattle.p3l_cost.specs.Costs.{AreCostsOf}
 use Rattle.p3l_program.specs.declared.plan.Linked.{Linked}
 use Rattle.p3l_program.specs.Behavior.{Behavior}
-use Rattle.p3l_program.specs.Due.{IsDueWith}
+use Rattle.p3l_program.specs.Expected.{IsExpectedWith}
 use Rattle.p3l_program.specs.Load.{LoadsNetwork}
 use Rattle.p3l_program.specs.Origin.{built}
 use Rattle.p3l_program.specs.Picks.{ArePicksSaved, IsPicking}
@@ -60,20 +60,20 @@ pub record IsBusiestOf (n : Network) (prices picks : List ℕ) (p : ℕ) : Type 
 
 -- THE NUMBERS of such a run: how many items were sent, and how often processes fired, the moment of the last firing, and the process
 -- that was busy longest with how long it was
-pub record AreTimes (n : Network) (prices : List ℕ) (input out : Change (List ℕ)) (keeping : Keeping) (picks : List ℕ) (ran : Ran) (runs : RunsInTime n prices input out keeping picks ran) (told : Option Stats) : Type 0 where
+pub record AreTimes (n : Network) (prices : List ℕ) (input out : Change (List ℕ)) (keeping : Keeping) (picks : List ℕ) (ran : Ran) (runs : RunsInTime n prices input out keeping picks ran) (report : Option Stats) : Type 0 where
   pub moment : ℕ
   pub moment_is : (later : List (List ℤ)) → MayCome n runs.finishes.close later → moment ≡ finish_of n.tree n.leaf n.net (price_at prices) (runs.finishes.items ++ later) picks
   pub p : ℕ
   pub busiest : IsBusiestOf n prices picks p
-  pub told_is : told ≡ Some (stats.Timed ran.stats.items ran.stats.fired moment p (busy_of (price_at prices) picks p))
+  pub report_is : report ≡ Some (stats.Timed ran.stats.items ran.stats.fired moment p (busy_of (price_at prices) picks p))
 
 -- a network was run in virtual time to this end, with these numbers, and its picks were written where a file is named for them
-pub record TimesTo (n : Network) (prices : List ℕ) (files : Change Held) (input out : Change (List ℕ)) (name : Option (List ℕ)) (finish : Finish) (told : Option Stats) : Type 0 where
+pub record TimesTo (n : Network) (prices : List ℕ) (files : Change Held) (input out : Change (List ℕ)) (name : Option (List ℕ)) (finish : Finish) (report : Option Stats) : Type 0 where
   pub picks : List ℕ
   pub ran : Ran
   pub runs : RunsInTime n prices input out (keeping_for name) picks ran
   pub finish_is : finish ≡ run_finish ran.finish
-  pub numbers : AreTimes n prices input out (keeping_for name) picks ran runs told
+  pub numbers : AreTimes n prices input out (keeping_for name) picks ran runs report
   pub saved : ArePicksSaved files name picks
 
 -- or to some end, whatever became of its picks
@@ -91,11 +91,11 @@ pub record IsTimeBegun (n : Network) (prices : List ℕ) (input out : Change (Li
   pub begins : (later : List (List ℤ)) → MayFollow n starts.closed later → BeginTimed n prices (starts.items ++ later) picks
 
 -- the network that files and words request was run in virtual time to this end
-pub record EndsTime (w : World) (build : Build) (name : Option (List ℕ)) (finish : Finish) (told : Option Stats) : Type 0 where
+pub record EndsTime (w : World) (build : Build) (name : Option (List ℕ)) (finish : Finish) (report : Option Stats) : Type 0 where
   pub n : Network
   pub prices : List ℕ
   pub has : HasPrices w.files.old build n prices
-  pub to : TimesTo n prices w.files w.input w.out name finish told
+  pub to : TimesTo n prices w.files w.input w.out name finish report
 
 pub record TimesOver (w : World) (build : Build) : Type 0 where
   pub n : Network
@@ -143,17 +143,17 @@ time_behavior build name = record {
   written = option_to_list name;
   saved_first = [];
   run = None;
-  Ends = λ w finish told. EndsTime w build name finish told;
+  Ends = λ w finish report. EndsTime w build name finish report;
   Begins = λ w. BeginsTime w build;
   Unsaved = λ w. UnsavedTime w build name;
   Touches = λ w. TimesOver w build;
   IsWhole = λ w rest taken. TimesWhole w build name rest taken;
-  IsStatusDue = λ w rest k. IsTimeStatus w build rest k;
+  IsStatusExpected = λ w rest k. IsTimeStatus w build rest k;
 }
 
 -- a verdict is expected of the command
-abbrev pub IsTimeDue : World → Build → Option (List ℕ) → Verdict → Type 0
-IsTimeDue w build name v = IsDueWith w (build_stages build) (EndsTime w build name) (BeginsTime w build) (UnsavedTime w build name) v
+abbrev pub IsTimeExpected : World → Build → Option (List ℕ) → Verdict → Type 0
+IsTimeExpected w build name v = IsExpectedWith w (build_stages build) (EndsTime w build name) (BeginsTime w build) (UnsavedTime w build name) v
 
 -- a network was loaded with its costs
 pub record LoadsLinked (files : Option Held) (build : Build) (linked : Linked) : Type 0 where
@@ -162,15 +162,15 @@ pub record LoadsLinked (files : Option Held) (build : Build) (linked : Linked) :
   pub lawful : AreCostsOf linked.network.tree linked.costs
 
 -- the numbers of a run are reported by its timer
-pub record AreTold (numbers : RunStats) (k : Clock) (told : Option Stats) : Type 0 where
+pub record AreReported (numbers : RunStats) (k : Clock) (report : Option Stats) : Type 0 where
   pub p : ℕ
   pub there : p < length k.prices
   pub busiest : IsBusiest k.busy p
-  pub told_is : told ≡ Some (stats.Timed numbers.items numbers.fired k.moment p (slice_index k.busy p))
+  pub report_is : report ≡ Some (stats.Timed numbers.items numbers.fired k.moment p (slice_index k.busy p))
 
 -- how a run that came to its end is reported, once its picks were written where a file is named for them
 abbrev pub IsTimeClosed : Change Held → Ran → Clock → Option (List ℕ) → Verdict → Type 0
-IsTimeClosed files ran k name (verdict.Ended finish told) = (finish ≡ run_finish ran.finish) × AreTold ran.stats k told × IsPicking files name ran.lines (Ok tt)
+IsTimeClosed files ran k name (verdict.Ended finish report) = (finish ≡ run_finish ran.finish) × AreReported ran.stats k report × IsPicking files name ran.lines (Ok tt)
 IsTimeClosed files ran k name v = IsPicking files name ran.lines (Err v)
 
 -- the file of its picks could not be written, when it was over
@@ -181,7 +181,7 @@ IsUnsavedTime n prices files input out (Some name) = IsTimeOver n prices input o
 -- how the run of a network in virtual time ends
 abbrev pub IsTimeOf : Network → List ℕ → Change Held → Change (List ℕ) → Change (List ℕ) → Option (List ℕ) → Verdict → Type 0
 IsTimeOf n prices files input out name (verdict.Refused refused) = ⊥
-IsTimeOf n prices files input out name (verdict.Ended finish told) = TimesTo n prices files input out name finish told × IsCalm files × IsCalm out
+IsTimeOf n prices files input out name (verdict.Ended finish report) = TimesTo n prices files input out name finish report × IsCalm files × IsCalm out
 IsTimeOf n prices files input out name verdict.WriteFault = (IsTimeBegun n prices input out × IsCalm files × HasRisen out) ⊎ IsUnsavedTime n prices files input out name
 IsTimeOf n prices files input out name verdict.NoMemory = IsRunNot files input out ⊎ IsTimeBegun n prices input out
 

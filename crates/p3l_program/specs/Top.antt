@@ -8,11 +8,11 @@ use Rattle.p3l_report.specs.declared.verdict.Refusal.{Refusal}
 use Rattle.p3l_report.specs.Status as status
 use Rattle.p3l_report.specs.Verdict.{refusal_status}
 use Rattle.p3l_program.specs.Answer.{Answers, BeginsWork, HasTooLong, IsDone, IsEndedWith, IsRefusedAt, IsRefusedWith, IsStopped, IsUnwritten, KeepsOthers, Reports, SpellsNone, SpellsWriter}
-use Rattle.p3l_program.specs.Command.{IsStatusDue, run_of, stages_of}
+use Rattle.p3l_program.specs.Command.{IsStatusExpected, run_of, stages_of}
 use Rattle.p3l_program.specs.Origin.{Running}
 use Rattle.p3l_program.specs.Run.{Emits}
 use Rattle.p3l_program.specs.Stage.{AllPass}
-use Rattle.p3l_program.specs.World.{Change, HasNoFault, HasRisen, IsUntouched, WhenTold, World}
+use Rattle.p3l_program.specs.World.{Change, HasNoFault, HasRisen, IsUntouched, WhenKnown, World}
 
 -- no memory was left, or the status is this
 abbrev pub Gives : (status wanted : ℕ) → Type 0
@@ -28,7 +28,7 @@ pub record Promises (words : List Text) (w : World) (err : Change (List ℕ)) (k
   -- canonical text of the program, of `gen` the line of the run of the texts that its number gives.
   pub begins : IsUntouched w ⊎ BeginsWork words w
   -- With status 0 it is the whole, and `run`, `exec` and `resume` read their input to the end.
-  pub done : WhenTold w (λ held rest taken. k ≡ status.done → IsDone words w rest taken)
+  pub done : WhenKnown w (λ held rest taken. k ≡ status.done → IsDone words w rest taken)
   -- With each status of an end the command came to an end of this status: of `run` and `exec`, the
   -- whole text of what the network emits on the items that the stream gave was written.
   pub ended : status.is_end k ≡ true → IsEndedWith words w k
@@ -41,14 +41,14 @@ pub record Promises (words : List Text) (w : World) (err : Change (List ℕ)) (k
   pub evidence : k ≡ status.evidence → IsRefusedWith words w k ⊎ IsEndedWith words w k
   -- Words that are no command give 2, and what a stage refuses gives its status.
   pub usage_where : SpellsNone words → Gives k status.usage
-  pub refused_where : WhenTold w (λ held rest taken. (refused : Refusal) → IsRefusedAt words w.files refused →
+  pub refused_where : WhenKnown w (λ held rest taken. (refused : Refusal) → IsRefusedAt words w.files refused →
       (HasRisen w.files → ⊥) → Gives k (refusal_status refused))
   -- A file that is longer than its limit gives 9, whatever its text is.
-  pub long_file : WhenTold w (λ held rest taken. HasTooLong words w.files.old → Gives k status.file)
+  pub long_file : WhenKnown w (λ held rest taken. HasTooLong words w.files.old → Gives k status.file)
   -- Where all stages pass and no call fails, `run` and `exec` end by what is seen of their input below
   -- the limit, and a command that writes a text with 0.
-  pub completes : WhenTold w (λ held rest taken. (command : Command) → Spells words command →
-      AllPass w.files (stages_of command) → HasNoFault w → IsStatusDue w rest command k ⊎ (k ≡ status.no_memory))
+  pub completes : WhenKnown w (λ held rest taken. (command : Command) → Spells words command →
+      AllPass w.files (stages_of command) → HasNoFault w → IsStatusExpected w rest command k ⊎ (k ≡ status.no_memory))
   -- The line of the numbers comes where the words request it, and they are the run's: they come with
   -- what the network emitted, and with the bound on its firings.
   pub reported : (command : Command) (run : Running) → Spells words command → run_of command ≡ Some run →

@@ -1,7 +1,7 @@
 -- The command `check-trace`: a trace of a file, checked against the run of a program on the input.
 use Rattle.std.specs.Prelude.{◌≡◌, ◌≢◌, ℕ, ℤ, Bool, false, nat_le, List, ◌++◌, [], ◌∷◌, length, ◌⊎◌, Option, Some, None, codes, if◌then◌else◌}
 use Rattle.std.specs.Fmt.{decimal}
-use Rattle.p3l_io.specs.Told.{Held}
+use Rattle.p3l_io.specs.Content.{Held}
 use Rattle.p3l_opts.specs.declared.command.Build.{Build}
 use Rattle.p3l_report.specs.declared.evidence.Evidence.TheVariants as evidence
 use Rattle.p3l_report.specs.declared.stats.Stats.{Stats}
@@ -23,7 +23,7 @@ use Rattle.p3l_stream.specs.Items.{items_of}
 use Rattle.p3l_trace.specs.declared.trace.Traced.{Traced}
 use Rattle.p3l_trace.specs.Agreement.{Agrees, DiffersAt, picks_of}
 use Rattle.p3l_program.specs.Behavior.{Behavior}
-use Rattle.p3l_program.specs.Due.{IsDueWith}
+use Rattle.p3l_program.specs.Expected.{IsExpectedWith}
 use Rattle.p3l_program.specs.Plan.{HasNetwork}
 use Rattle.p3l_program.specs.Origin.{built}
 use Rattle.p3l_program.specs.Run.{IsRunNot, seen_of}
@@ -141,12 +141,12 @@ check_behavior build name = record {
   Unsaved = λ w. ⊥;
   Touches = λ w. Unit {0};
   IsWhole = λ w rest taken. ChecksWhole w build name rest taken;
-  IsStatusDue = λ w rest n. IsTraceStatus w build name rest n;
+  IsStatusExpected = λ w rest n. IsTraceStatus w build name rest n;
 }
 
 -- a verdict is expected of the command
-abbrev pub IsCheckDue : World → Build → List ℕ → Verdict → Type 0
-IsCheckDue w build name v = IsDueWith w (check_stages build name) (EndsTrace w build name) (BeginsTrace w build name) ⊥ v
+abbrev pub IsCheckExpected : World → Build → List ℕ → Verdict → Type 0
+IsCheckExpected w build name v = IsExpectedWith w (check_stages build name) (EndsTrace w build name) (BeginsTrace w build name) ⊥ v
 
 -- a file has no trace
 pub record HasBadTrace (files : Change Held) (name : List ℕ) (refused : Refusal) : Type 0 where

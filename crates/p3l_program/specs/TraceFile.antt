@@ -1,7 +1,7 @@
 -- Files of traces.
 use Rattle.std.specs.Prelude.{◌≡◌, ◌≢◌, ℕ, List, true, Option}
 use Rattle.p3l_format.specs.FirstLine.{IsFirstBadLine}
-use Rattle.p3l_io.specs.Told.{Held}
+use Rattle.p3l_io.specs.Content.{Held}
 use Rattle.p3l_trace.specs.declared.trace.Traced.{Traced}
 use Rattle.p3l_trace.specs.Text.{trace_format}
 use Rattle.p3l_program.specs.File.{HasText}

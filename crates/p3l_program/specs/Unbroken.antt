@@ -1,7 +1,7 @@
 -- What `resume` makes of the snapshots that `save` leaves.
 use Rattle.std.specs.Prelude.{◌≡◌, ℕ, ℤ, ◌+◌, ◌≤◌, Bool, List, ◌++◌, Option, Some, None}
 use Rattle.p3l_base.specs.declared.outcome.Outcome.{Outcome}
-use Rattle.p3l_io.specs.Told.{Held}
+use Rattle.p3l_io.specs.Content.{Held}
 use Rattle.p3l_opts.specs.declared.command.Build.{Build}
 use Rattle.p3l_opts.specs.declared.command.Sched.{Sched}
 use Rattle.p3l_report.specs.declared.stats.Stats.{Stats}
@@ -31,7 +31,7 @@ pub record IsResumed (files : Change Held) (name : List ℕ) : Type 0 where
 -- whatever `save` wrote as a snapshot is resumed from any file that holds it, where it is no longer than such files may be
 abbrev pub EverySnapshotIsResumed : Type 0
 EverySnapshotIsResumed =
-    (w : World) (build : Build) (picks output name : List ℕ) (told : Option Stats) (files : Change Held) → (e : EndsSave w build picks output Done told) →
+    (w : World) (build : Build) (picks output name : List ℕ) (report : Option Stats) (files : Change Held) → (e : EndsSave w build picks output Done report) →
     HasText files.old snapshot_limit name e.to.bytes → IsResumed files name
 
 -- TWO PARTS OF A RUN ARE ONE: the network emits on the items of both, under the picks of both, what both emitted; it fired and was idle
@@ -45,8 +45,8 @@ pub record AreOneRun (n : Network) (u w : List (List ℤ)) (a b : List ℕ) (fir
   pub bounded : (course_under n (u ++ w) a).fired + numbers.fired ≤ numbers.bound
 
 -- a run that was saved and one that went on from its snapshot are one run, of the program that was saved
-pub record IsUnbroken {w after : World} {build : Build} {picks output name : List ℕ} {told stats : Option Stats} {asked : Sched} {reported : Bool} {finish : Finish}
-    (e : EndsSave w build picks output Done told) (r : EndsRun after (continued name) asked None reported finish stats) : Type 0 where
+pub record IsUnbroken {w after : World} {build : Build} {picks output name : List ℕ} {report stats : Option Stats} {request : Sched} {reported : Bool} {finish : Finish}
+    (e : EndsSave w build picks output Done report) (r : EndsRun after (continued name) request None reported finish stats) : Type 0 where
   pub one : (later : List (List ℤ)) → MayCome r.n r.finishes.close later →
       AreOneRun e.n e.to.comes.is.reached.items (r.finishes.items ++ later) e.to.comes.is.reached.used (picks_of r.n r.s (r.finishes.items ++ later))
       e.to.comes.is.reached.outcomes r.finishes.outcomes r.ran.stats
@@ -54,6 +54,6 @@ pub record IsUnbroken {w after : World} {build : Build} {picks output name : Lis
 -- so it is wherever `resume` went on from what `save` wrote, in any file that holds it
 abbrev pub EveryResumedRunIsUnbroken : Type 0
 EveryResumedRunIsUnbroken =
-    (w after : World) (build : Build) (picks output name : List ℕ) (told stats : Option Stats) (asked : Sched) (reported : Bool) (finish : Finish) (held : Held) →
-    (e : EndsSave w build picks output Done told) → (r : EndsRun after (continued name) asked None reported finish stats) →
+    (w after : World) (build : Build) (picks output name : List ℕ) (report stats : Option Stats) (request : Sched) (reported : Bool) (finish : Finish) (held : Held) →
+    (e : EndsSave w build picks output Done report) → (r : EndsRun after (continued name) request None reported finish stats) →
     after.files.old ≡ Some held → held name ≡ Some e.to.bytes → IsUnbroken e r

@@ -1,7 +1,7 @@
 -- The command `verify-cert`: a certificate that holds for a program and its costs.
 use Rattle.std.specs.Prelude.{◌≡◌, ℕ, List, ◌++◌, Option, codes}
 use Rattle.std.specs.Fmt.{decimal}
-use Rattle.p3l_io.specs.Told.{Held}
+use Rattle.p3l_io.specs.Content.{Held}
 use Rattle.p3l_cost.specs.declared.costs.Costs.{Costs}
 use Rattle.p3l_model.specs.Optimal.{IsOptimal}
 use Rattle.p3l_cert.specs.declared.cert.Cert.{Cert}

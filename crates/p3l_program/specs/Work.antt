@@ -1,6 +1,6 @@
 -- The shapes of work: what a command does is one of these.
 use Rattle.std.specs.Prelude.{ℕ, List, Option}
-use Rattle.p3l_io.specs.Told.{Held}
+use Rattle.p3l_io.specs.Content.{Held}
 use Rattle.p3l_opts.specs.declared.command.Build.{Build}
 use Rattle.p3l_program.specs.Behavior.{Behavior}
 use Rattle.p3l_program.specs.Generated.{Gen, gen_behavior}

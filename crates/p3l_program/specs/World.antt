@@ -1,7 +1,7 @@
 -- What a command works on, before and after it.
 use Rattle.std.specs.Prelude.{◌≡◌, ℕ, List, Option, Some, None}
 use Rattle.p3l_io.specs.Causes.{Rose}
-use Rattle.p3l_io.specs.Told.{Held}
+use Rattle.p3l_io.specs.Content.{Held}
 
 -- an object of the outside before and after a call: what it reports, if it does, and its count of faults; and of files, the name of the
 -- one whose call failed last
@@ -14,7 +14,7 @@ pub record Change (X : Type 0) : Type 0 where
 
 -- an object of some type before and after a call, by what such objects report and count
 abbrev pub change : {T X : Type 0} → (T → Option X) → (T → ℕ) → T → T → Change X
-change told faults old new = record { old = told old; new = told new; before = faults old; now = faults new; failed = None }
+change known faults old new = record { old = known old; new = known new; before = faults old; now = faults new; failed = None }
 
 -- files before and after a call
 abbrev pub files_change : {T : Type 0} → (T → Option Held) → (T → ℕ) → (T → Option (List ℕ)) → T → T → Change Held
@@ -43,7 +43,7 @@ IsCalm change = change.now ≡ change.before
 
 -- nothing was taken or put, and no call failed
 pub record IsStill {X : Type 0} (change : Change X) : Type 0 where
-  pub told : change.new ≡ change.old
+  pub known : change.new ≡ change.old
   pub calm : IsCalm change
 
 -- nothing was taken and nothing written
@@ -52,8 +52,8 @@ pub record IsUntouched (w : World) : Type 0 where
   pub out : IsStill w.out
 
 -- where the files, the input and the output report what they hold, what is left and what they took
-abbrev pub WhenTold : World → (Held → List ℕ → List ℕ → Type 0) → Type 0
-WhenTold w P = (held : Held) (rest taken : List ℕ) → w.files.old ≡ Some held → w.input.old ≡ Some rest → w.out.old ≡ Some taken → P held rest taken
+abbrev pub WhenKnown : World → (Held → List ℕ → List ℕ → Type 0) → Type 0
+WhenKnown w P = (held : Held) (rest taken : List ℕ) → w.files.old ≡ Some held → w.input.old ≡ Some rest → w.out.old ≡ Some taken → P held rest taken
 
 -- no count of faults rose
 pub record HasNoFault (w : World) : Type 0 where

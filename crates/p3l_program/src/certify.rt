@@ -3,7 +3,7 @@
 ghost use Rattle.std.specs.Prelude.{◌≡◌, ◌∷◌, ◌≤◌, []};
 ghost use Rattle.p3l_program.specs.Certificate.{IsCertificate};
 ghost use Rattle.p3l_program.specs.Explain.{IsExplained};
-ghost use Rattle.p3l_program.specs.Saved.{IsSavingDue, KeepsFiles};
+ghost use Rattle.p3l_program.specs.Saved.{IsSavingExpected, KeepsFiles};
 ghost use Rattle.p3l_program.specs.Stage.{build_stages};
 ghost use Rattle.p3l_program.specs.World.{change, files_change};
 
@@ -28,7 +28,7 @@ pub fn certify<F: Files, K: Sink>(
     out: &mut K,
 ) -> Verdict
     requires processors { (1 ≤ build.processors) × (build.processors ≤ 512) }
-    ensures due { IsSavingDue (files_change F.held F.faults F.failed files.old files.new)
+    ensures expected { IsSavingExpected (files_change F.held F.faults F.failed files.old files.new)
         (change K.taken K.faults out.old out.new) (build_stages build)
         (IsExplained (F.held files.old) build) name (IsCertificate (F.held files.old) build)
         result }

@@ -2,7 +2,7 @@
 
 ghost use Rattle.std.specs.Prelude.{◌≡◌, length, IfOk, string_bytes};
 ghost use Rattle.p3l_program.specs.Check.{IsCounted, ok_line};
-ghost use Rattle.p3l_program.specs.Text.{IsTextDue};
+ghost use Rattle.p3l_program.specs.Text.{IsTextExpected};
 ghost use Rattle.p3l_program.specs.Stage.{program_stages};
 ghost use Rattle.p3l_program.specs.World.{change, files_change};
 
@@ -26,7 +26,7 @@ fn ok_line(alloc: Global, tree: &Tree) -> Result<String, NoMemory>
 
 /// Writes how many modules and instances the program of the file of this name has.
 pub fn check<F: Files, K: Sink>(alloc: Global, name: Name, files: &mut F, out: &mut K) -> Verdict
-    ensures due { IsTextDue (files_change F.held F.faults F.failed files.old files.new)
+    ensures expected { IsTextExpected (files_change F.held F.faults F.failed files.old files.new)
         (change K.taken K.faults out.old out.new) (program_stages name)
         (IsCounted (F.held files.old) name) result }
     ensures stays { F.held files.new ≡ F.held files.old }

@@ -6,7 +6,7 @@ ghost use Rattle.p3l_run.specs.Network.{IsSound, network};
 ghost use Rattle.p3l_skel.specs.Tree.{node_at};
 ghost use Rattle.p3l_program.specs.LoadImage.{IsReadyImage};
 ghost use Rattle.p3l_program.specs.Plan.{network_in};
-ghost use Rattle.p3l_program.specs.Trace.{IsAgreed, IsCheckDue, IsCheckOf, IsUntraced, holds_line};
+ghost use Rattle.p3l_program.specs.Trace.{IsAgreed, IsCheckExpected, IsCheckOf, IsUntraced, holds_line};
 ghost use Rattle.p3l_program.specs.TraceFile.{HasTrace};
 ghost use Rattle.p3l_program.specs.World.{change, files_change, world};
 
@@ -148,7 +148,7 @@ pub fn check_trace<F: Files, S: Source, K: Sink>(
 ) -> Verdict
     requires processors { (1 ≤ build.processors) × (build.processors ≤ 512) }
     requires capacity { (1 ≤ build.capacity) × (build.capacity ≤ 1024) }
-    ensures due { IsCheckDue (world (files_change F.held F.faults F.failed files.old files.new)
+    ensures expected { IsCheckExpected (world (files_change F.held F.faults F.failed files.old files.new)
         (change S.rest S.faults input.old input.new) (change K.taken K.faults out.old out.new))
         build name result }
     ensures stays { F.held files.new ≡ F.held files.old }

@@ -2,7 +2,7 @@
 
 ghost use Rattle.std.specs.Prelude.{◌≡◌, ◌∷◌, ◌≤◌, []};
 ghost use Rattle.p3l_program.specs.Compile.{IsImageOf};
-ghost use Rattle.p3l_program.specs.Saved.{IsFileDue, KeepsFiles};
+ghost use Rattle.p3l_program.specs.Saved.{IsFileExpected, KeepsFiles};
 ghost use Rattle.p3l_program.specs.Stage.{build_stages};
 ghost use Rattle.p3l_program.specs.World.{files_change};
 
@@ -20,7 +20,7 @@ use std::alloc::Global;
 pub fn compile<F: Files>(alloc: Global, build: Build, name: Name, files: &mut F) -> Verdict
     requires processors { (1 ≤ build.processors) × (build.processors ≤ 512) }
     requires capacity { (1 ≤ build.capacity) × (build.capacity ≤ 1024) }
-    ensures due { IsFileDue
+    ensures expected { IsFileExpected
         (files_change F.held F.faults F.failed files.old files.new) (build_stages build)
         name (IsImageOf (F.held files.old) build) result }
     ensures kept { KeepsFiles

@@ -3,7 +3,7 @@
 ghost use Rattle.std.specs.Prelude.{◌≡◌, ◌⊎◌};
 ghost use Rattle.std.specs.Option.{option_to_list};
 ghost use Rattle.p3l_program.specs.Origin.{imaged};
-ghost use Rattle.p3l_program.specs.Run.{IsRunDue, RunsOver};
+ghost use Rattle.p3l_program.specs.Run.{IsRunExpected, RunsOver};
 ghost use Rattle.p3l_program.specs.Saved.{KeepsFiles};
 ghost use Rattle.p3l_program.specs.World.{change, files_change, world};
 
@@ -20,26 +20,26 @@ use std::alloc::Global;
 pub fn exec<F: Files, S: Source, K: Sink>(
     alloc: Global,
     name: Name,
-    asked: Sched,
+    request: Sched,
     trace: Option<Name>,
     reported: bool,
     files: &mut F,
     input: &mut S,
     out: &mut K,
 ) -> Verdict
-    ensures due { IsRunDue (world (files_change F.held F.faults F.failed files.old files.new)
+    ensures expected { IsRunExpected (world (files_change F.held F.faults F.failed files.old files.new)
         (change S.rest S.faults input.old input.new) (change K.taken K.faults out.old out.new))
-        (imaged name) asked trace reported result }
+        (imaged name) request trace reported result }
     ensures kept { KeepsFiles
         (files_change F.held F.faults F.failed files.old files.new) (option_to_list trace)
         result }
     ensures over { (F.held files.new ≡ F.held files.old)
         ⊎ RunsOver (world (files_change F.held F.faults F.failed files.old files.new)
         (change S.rest S.faults input.old input.new) (change K.taken K.faults out.old out.new))
-        (imaged name) asked }
+        (imaged name) request }
 {
     match load_image(alloc, name, files) {
         Err(verdict) => verdict,
-        Ok(loaded) => run_network(alloc, loaded, asked, trace, reported, files, input, out),
+        Ok(loaded) => run_network(alloc, loaded, request, trace, reported, files, input, out),
     }
 }

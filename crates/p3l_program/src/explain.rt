@@ -1,7 +1,7 @@
 // The command `explain`: the counts that are chosen for a program, and what they come to.
 
 ghost use Rattle.std.specs.Prelude.{◌≡◌, ◌≤◌};
-ghost use Rattle.p3l_program.specs.Text.{IsTextDue};
+ghost use Rattle.p3l_program.specs.Text.{IsTextExpected};
 ghost use Rattle.p3l_program.specs.Explain.{IsExplained};
 ghost use Rattle.p3l_program.specs.Stage.{build_stages};
 ghost use Rattle.p3l_program.specs.World.{change, files_change};
@@ -22,7 +22,7 @@ pub fn explain<F: Files, K: Sink>(
     out: &mut K,
 ) -> Verdict
     requires processors { (1 ≤ build.processors) × (build.processors ≤ 512) }
-    ensures due { IsTextDue (files_change F.held F.faults F.failed files.old files.new)
+    ensures expected { IsTextExpected (files_change F.held F.faults F.failed files.old files.new)
         (change K.taken K.faults out.old out.new) (build_stages build)
         (IsExplained (F.held files.old) build) result }
     ensures stays { F.held files.new ≡ F.held files.old }

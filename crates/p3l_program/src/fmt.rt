@@ -1,7 +1,7 @@
 // The command `fmt`: the canonical text of a program, from its file to the output.
 
 ghost use Rattle.std.specs.Prelude.{◌≡◌, ◌≤◌, length, IfOk, IfErr};
-ghost use Rattle.p3l_program.specs.Text.{IsTextDue};
+ghost use Rattle.p3l_program.specs.Text.{IsTextExpected};
 ghost use Rattle.p3l_program.specs.File.{text_limit};
 ghost use Rattle.p3l_program.specs.Fmt.{HasNoCanonical, IsCanonicalOf, IsFormatted, fmt_stages};
 ghost use Rattle.p3l_program.specs.World.{change, files_change};
@@ -30,7 +30,7 @@ fn canonical_of(alloc: Global, text: &[u8]) -> Result<List<u8>, SourceRefusal>
 
 /// Writes the canonical text of the program of the file of this name.
 pub fn fmt<F: Files, K: Sink>(alloc: Global, name: Name, files: &mut F, out: &mut K) -> Verdict
-    ensures due { IsTextDue (files_change F.held F.faults F.failed files.old files.new)
+    ensures expected { IsTextExpected (files_change F.held F.faults F.failed files.old files.new)
         (change K.taken K.faults out.old out.new) (fmt_stages name)
         (IsFormatted (F.held files.old) name) result }
     ensures stays { F.held files.new ≡ F.held files.old }

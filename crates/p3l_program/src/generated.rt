@@ -6,7 +6,7 @@ ghost use Rattle.p3l_opts.specs.Command.{IsMade};
 ghost use Rattle.p3l_report.specs.declared.verdict.Verdict.TheVariants as verdict;
 ghost use Rattle.p3l_program.specs.Plan.{IsCompiled, network_of};
 ghost use Rattle.p3l_program.specs.File.{text_limit};
-ghost use Rattle.p3l_program.specs.Generated.{AreNotLoaded, AreTextsOf, Gen, IsGenDue, IsGenRun, IsGenUnsaved, IsPicked, IsRanUnder, IsToldOf, LoadsTexts, comes_whole, due_at, gen_capacity, gen_of, numbers_text, saves_for, saves_with, summary_line};
+ghost use Rattle.p3l_program.specs.Generated.{AreNotLoaded, AreTextsOf, Gen, IsGenExpected, IsGenRun, IsGenUnsaved, IsLineOf, IsPicked, IsRanUnder, LoadsTexts, comes_whole, gen_capacity, gen_of, line_at, numbers_text, saves_for, saves_with, summary_line};
 ghost use Rattle.p3l_program.specs.Load.{IsReady};
 ghost use Rattle.p3l_program.specs.Saved.{HasSave, HasSaves};
 ghost use Rattle.p3l_program.specs.World.{change, files_change};
@@ -130,11 +130,11 @@ fn load_texts(
 }
 
 /// The schedule that is requested, where its picks are made.
-fn schedule_of(asked: Sched) -> Schedule
-    requires { IsMade asked }
-    ensures { IsPicked asked result }
+fn schedule_of(request: Sched) -> Schedule
+    requires { IsMade request }
+    ensures { IsPicked request result }
 {
-    match asked {
+    match request {
         Sched::RoundRobin => Schedule::RoundRobin,
         Sched::Seeded(seed) => Schedule::Seeded(seed),
         Sched::File(_) => unreachable!(),
@@ -142,12 +142,12 @@ fn schedule_of(asked: Sched) -> Schedule
 }
 
 /// Runs the network of a program on the items of a text; what it emits is not written.
-fn run_text(alloc: Global, loaded: Allotted, asked: Sched, text: List<u8>) -> Result<Ran, Verdict>
+fn run_text(alloc: Global, loaded: Allotted, request: Sched, text: List<u8>) -> Result<Ran, Verdict>
     requires ready { IsReady loaded }
-    requires made { IsMade asked }
+    requires made { IsMade request }
     requires short { length text < 2 ^ 36 }
     ensures ran { IfOk result (λ ran. (r : ResolvedTree) → IsCompiled r loaded.program
-        → IsRanUnder (network_of r loaded.choice.counts.list gen_capacity) asked text ran) }
+        → IsRanUnder (network_of r loaded.choice.counts.list gen_capacity) request text ran) }
     ensures wanting { IfErr result (λ v. v ≡ verdict.NoMemory) }
 {
     every_linked_net_is_carried();
@@ -169,7 +169,7 @@ fn run_text(alloc: Global, loaded: Allotted, asked: Sched, text: List<u8>) -> Re
     match run(
         alloc,
         plan,
-        schedule_of(asked),
+        schedule_of(request),
         Keeping::Nothing,
         &mut input,
         &mut NoSink,
@@ -215,7 +215,7 @@ fn comes_whole(finish: &RunEnd) -> bool
 }
 
 /// Writes the line of a run that came to the end of its items, and of another one nothing.
-fn tell<K: Sink>(
+fn put_summary<K: Sink>(
     alloc: Global,
     number: u32,
     ran: Ran,
@@ -223,8 +223,8 @@ fn tell<K: Sink>(
     used: u32,
     out: &mut K,
 ) -> Verdict
-    ensures { IsToldOf (change K.taken K.faults out.old out.new)
-        ran.finish (due_at ran.finish (summary_line number ran.stats service used ran.sum)) result }
+    ensures { IsLineOf (change K.taken K.faults out.old out.new)
+        ran.finish (line_at ran.finish (summary_line number ran.stats service used ran.sum)) result }
 {
     if !comes_whole(&ran.finish) {
         return Verdict::Ended(run_finish(ran.finish), None);
@@ -244,15 +244,15 @@ fn run_texts<K: Sink>(
     number: u32,
     processors: u32,
     texts: Generated,
-    asked: Sched,
+    request: Sched,
     out: &mut K,
 ) -> Verdict
     requires processors { (1 ≤ processors) × (processors ≤ 512) }
-    requires made { IsMade asked }
+    requires made { IsMade request }
     requires within { length texts.program ≤ text_limit }
     requires short { length texts.stream < 2 ^ 36 }
     ensures { (g : Gen) → AreTextsOf g texts → g.number ≡ number → g.processors ≡ processors
-        → g.asked ≡ asked → IsGenRun (change K.taken K.faults out.old out.new) g result }
+        → g.request ≡ request → IsGenRun (change K.taken K.faults out.old out.new) g result }
 {
     let Generated {
         program,
@@ -265,8 +265,8 @@ fn run_texts<K: Sink>(
     };
     let service = loaded.choice.service;
     let used = loaded.choice.used;
-    match run_text(alloc, loaded, asked, stream) {
-        Ok(ran) => tell(alloc, number, ran, service, used, out),
+    match run_text(alloc, loaded, request, stream) {
+        Ok(ran) => put_summary(alloc, number, ran, service, used, out),
         Err(verdict) => verdict,
     }
 }
@@ -278,26 +278,26 @@ pub fn run_generated<F: Files, K: Sink>(
     number: u32,
     processors: u32,
     items: u32,
-    asked: Sched,
+    request: Sched,
     prefix: Option<Name>,
     files: &mut F,
     out: &mut K,
 ) -> Verdict
     requires processors { (1 ≤ processors) × (processors ≤ 512) }
     requires items { items ≤ 100000 }
-    requires made { IsMade asked }
-    ensures due { IsGenDue (files_change F.held F.faults F.failed files.old files.new)
-        (change K.taken K.faults out.old out.new) (gen_of number processors items asked prefix)
+    requires made { IsMade request }
+    ensures expected { IsGenExpected (files_change F.held F.faults F.failed files.old files.new)
+        (change K.taken K.faults out.old out.new) (gen_of number processors items request prefix)
         result
         ⊎ IsGenUnsaved (files_change F.held F.faults F.failed files.old files.new)
-        (change K.taken K.faults out.old out.new) (gen_of number processors items asked prefix)
+        (change K.taken K.faults out.old out.new) (gen_of number processors items request prefix)
         result }
 {
     let Ok(texts) = generate(alloc, number, items) else {
         return Verdict::NoMemory;
     };
     match save_where(alloc, prefix, &texts, files) {
-        Ok(()) => run_texts(alloc, number, processors, texts, asked, out),
+        Ok(()) => run_texts(alloc, number, processors, texts, request, out),
         Err(verdict) => verdict,
     }
 }

@@ -3,7 +3,7 @@
 ghost use Rattle.std.specs.Prelude.{◌≡◌, ◌≤◌};
 ghost use Rattle.p3l_program.specs.Graph.{IsDrawn};
 ghost use Rattle.p3l_program.specs.Stage.{build_stages};
-ghost use Rattle.p3l_program.specs.Text.{IsTextDue};
+ghost use Rattle.p3l_program.specs.Text.{IsTextExpected};
 ghost use Rattle.p3l_program.specs.World.{change, files_change};
 
 use crate::plan::load_network;
@@ -18,7 +18,7 @@ use std::alloc::Global;
 pub fn graph<F: Files, K: Sink>(alloc: Global, build: Build, files: &mut F, out: &mut K) -> Verdict
     requires processors { (1 ≤ build.processors) × (build.processors ≤ 512) }
     requires capacity { (1 ≤ build.capacity) × (build.capacity ≤ 1024) }
-    ensures due { IsTextDue (files_change F.held F.faults F.failed files.old files.new)
+    ensures expected { IsTextExpected (files_change F.held F.faults F.failed files.old files.new)
         (change K.taken K.faults out.old out.new) (build_stages build)
         (IsDrawn (F.held files.old) build) result }
     ensures stays { F.held files.new ≡ F.held files.old }

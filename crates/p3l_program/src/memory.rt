@@ -2,7 +2,7 @@
 
 ghost use Rattle.std.specs.Prelude.{◌≡◌, ◌<◌, ◌≤◌, None, Some, length, IfOk};
 ghost use Rattle.p3l_io.specs.Causes.{HasCause};
-ghost use Rattle.p3l_io.specs.Told.{Puts, Takes};
+ghost use Rattle.p3l_io.specs.Content.{Puts, Takes};
 
 use p3l_base::List;
 use p3l_io::{Failed, Sink, Source};

@@ -2,7 +2,7 @@
 
 ghost use Rattle.std.specs.Prelude.{◌≡◌, ◌∷◌, []};
 ghost use Rattle.p3l_program.specs.Migrate.{IsMigrated};
-ghost use Rattle.p3l_program.specs.Saved.{IsFileDue, KeepsFiles};
+ghost use Rattle.p3l_program.specs.Saved.{IsFileExpected, KeepsFiles};
 ghost use Rattle.p3l_program.specs.Stage.{migrate_stages};
 ghost use Rattle.p3l_program.specs.World.{files_change};
 
@@ -18,7 +18,7 @@ use std::alloc::Global;
 /// Writes the image of a file in the newest version, with its net linked anew, to the file of another
 /// name.
 pub fn migrate<F: Files>(alloc: Global, name: Name, output: Name, files: &mut F) -> Verdict
-    ensures due { IsFileDue
+    ensures expected { IsFileExpected
         (files_change F.held F.faults F.failed files.old files.new) (migrate_stages name)
         output
         (IsMigrated (F.held files.old) name) result }

@@ -6,7 +6,7 @@ ghost use Rattle.p3l_skel.specs.Lawful.{IsLawfulTree};
 ghost use Rattle.p3l_units.specs.Table.{HasCode};
 ghost use Rattle.p3l_run.specs.Run.{module_name};
 ghost use Rattle.p3l_sample.specs.declared.stream.Sampled.TheVariants as sampled;
-ghost use Rattle.p3l_program.specs.Profile.{IsClosedProfile, IsProfileDue, IsProfileOf, coded};
+ghost use Rattle.p3l_program.specs.Profile.{IsClosedProfile, IsProfileExpected, IsProfileOf, coded};
 ghost use Rattle.p3l_program.specs.World.{change, files_change, world};
 
 use crate::plan::{Accepted, load_program};
@@ -15,7 +15,7 @@ use p3l_base::{List, Name, NoMemory};
 use p3l_code::SafeCode;
 use p3l_io::{Files, Sink, Source};
 use p3l_profile::Profile;
-use p3l_profile::laws::a_profile_tells_the_greatest;
+use p3l_profile::laws::a_profile_has_the_greatest;
 use p3l_report::{Finish, Verdict};
 use p3l_sample::{Sampled, sample};
 use p3l_skel::Tree;
@@ -85,7 +85,7 @@ fn profile_tree<S: Source, K: Sink>(
     ensures { IsProfileOf (coded tree.now codes.now) (change S.rest S.faults input.old input.new)
         (change K.taken K.faults out.old out.new) result }
 {
-    a_profile_tells_the_greatest();
+    a_profile_has_the_greatest();
     let Ok(mut profile) = Profile::new(alloc, tree) else {
         return Verdict::NoMemory;
     };
@@ -103,7 +103,7 @@ pub fn profile<F: Files, S: Source, K: Sink>(
     input: &mut S,
     out: &mut K,
 ) -> Verdict
-    ensures due { IsProfileDue (world (files_change F.held F.faults F.failed files.old files.new)
+    ensures expected { IsProfileExpected (world (files_change F.held F.faults F.failed files.old files.new)
         (change S.rest S.faults input.old input.new) (change K.taken K.faults out.old out.new))
         name result }
     ensures stays { F.held files.new ≡ F.held files.old }

@@ -8,7 +8,7 @@ ghost use Rattle.p3l_skel.specs.Tree.{node_at};
 ghost use Rattle.p3l_program.specs.LoadSnapshot.{IsReadySnapshot};
 ghost use Rattle.p3l_program.specs.Origin.{continued};
 ghost use Rattle.p3l_program.specs.Plan.{continued_network};
-ghost use Rattle.p3l_program.specs.Run.{IsRunDue, IsRunOf, KeepsRun, RunsOver};
+ghost use Rattle.p3l_program.specs.Run.{IsRunExpected, IsRunOf, KeepsRun, RunsOver};
 ghost use Rattle.p3l_program.specs.Saved.{KeepsFiles};
 ghost use Rattle.p3l_program.specs.World.{change, files_change, world};
 
@@ -36,7 +36,7 @@ fn resume_plan<U: Units, F: Files, S: Source, K: Sink>(
     alloc: Global,
     plan: Plan<'_, U>,
     shot: Shot,
-    asked: Sched,
+    request: Sched,
     reported: bool,
     files: &mut F,
     input: &mut S,
@@ -54,7 +54,7 @@ fn resume_plan<U: Units, F: Files, S: Source, K: Sink>(
         plan.entry.net plan.entry.firings))
         (files_change F.held F.faults F.failed files.old files.new)
         (change S.rest S.faults input.old input.new)
-        (change K.taken K.faults out.old out.new) asked None reported result }
+        (change K.taken K.faults out.old out.new) request None reported result }
     ensures kept { (r : Resumption)
         → IsResumedBy (network plan.entry.tree.now (U.leaf plan.entry.units.now)
         plan.entry.net plan.entry.firings) shot r
@@ -62,10 +62,10 @@ fn resume_plan<U: Units, F: Files, S: Source, K: Sink>(
         plan.entry.net plan.entry.firings))
         (files_change F.held F.faults F.failed files.old files.new)
         (change S.rest S.faults input.old input.new)
-        (change K.taken K.faults out.old out.new) asked None result }
+        (change K.taken K.faults out.old out.new) request None result }
 {
     let count = plan.net.procs.len() as u32;
-    let schedule = match load_schedule(alloc, asked, count, files) {
+    let schedule = match load_schedule(alloc, request, count, files) {
         Ok(schedule) => schedule,
         Err(verdict) => return verdict,
     };
@@ -79,7 +79,7 @@ fn resume_plan<U: Units, F: Files, S: Source, K: Sink>(
 fn resume_network<F: Files, S: Source, K: Sink>(
     alloc: Global,
     snapshot: Snapshot,
-    asked: Sched,
+    request: Sched,
     reported: bool,
     files: &mut F,
     input: &mut S,
@@ -89,11 +89,11 @@ fn resume_network<F: Files, S: Source, K: Sink>(
     ensures ran { IsRunOf (continued_network snapshot.network snapshot.shot)
         (files_change F.held F.faults F.failed files.old files.new)
         (change S.rest S.faults input.old input.new) (change K.taken K.faults out.old out.new)
-        asked None reported result }
+        request None reported result }
     ensures kept { KeepsRun (continued_network snapshot.network snapshot.shot)
         (files_change F.held F.faults F.failed files.old files.new)
         (change S.rest S.faults input.old input.new) (change K.taken K.faults out.old out.new)
-        asked None result }
+        request None result }
 {
     every_linked_net_is_carried();
     every_orderly_shot_goes_on();
@@ -110,7 +110,7 @@ fn resume_network<F: Files, S: Source, K: Sink>(
         return Verdict::NoMemory;
     };
     let plan = plan_of(&tree, &counts, &units, net);
-    resume_plan(alloc, plan, shot, asked, reported, files, input, out)
+    resume_plan(alloc, plan, shot, request, reported, files, input, out)
 }
 
 /// Goes on with the run that the snapshot of a file was saved of, on the input; its numbers are to be
@@ -118,24 +118,24 @@ fn resume_network<F: Files, S: Source, K: Sink>(
 pub fn resume<F: Files, S: Source, K: Sink>(
     alloc: Global,
     name: Name,
-    asked: Sched,
+    request: Sched,
     reported: bool,
     files: &mut F,
     input: &mut S,
     out: &mut K,
 ) -> Verdict
-    ensures due { IsRunDue (world (files_change F.held F.faults F.failed files.old files.new)
+    ensures expected { IsRunExpected (world (files_change F.held F.faults F.failed files.old files.new)
         (change S.rest S.faults input.old input.new) (change K.taken K.faults out.old out.new))
-        (continued name) asked None reported result }
+        (continued name) request None reported result }
     ensures kept { KeepsFiles (files_change F.held F.faults F.failed files.old files.new) []
         result }
     ensures over { (F.held files.new ≡ F.held files.old)
         ⊎ RunsOver (world (files_change F.held F.faults F.failed files.old files.new)
         (change S.rest S.faults input.old input.new) (change K.taken K.faults out.old out.new))
-        (continued name) asked }
+        (continued name) request }
 {
     match load_snapshot(alloc, name, files) {
         Err(verdict) => verdict,
-        Ok(snapshot) => { resume_network(alloc, snapshot, asked, reported, files, input, out) }
+        Ok(snapshot) => { resume_network(alloc, snapshot, request, reported, files, input, out) }
     }
 }

@@ -9,7 +9,7 @@ ghost use Rattle.p3l_program.specs.Load.{IsNotLoaded};
 ghost use Rattle.p3l_program.specs.Plan.{IsTextRefused};
 ghost use Rattle.p3l_program.specs.Rewrite.{BreaksRules, IsBestText, IsRewritten, IsSourceOf, LoadsPriced, LoadsSource, plain_build};
 ghost use Rattle.p3l_program.specs.Stage.{build_stages, program_stages};
-ghost use Rattle.p3l_program.specs.Text.{IsTextDue};
+ghost use Rattle.p3l_program.specs.Text.{IsTextExpected};
 ghost use Rattle.p3l_program.specs.World.{change, files_change};
 
 use crate::file::{TEXT_LIMIT, find_text};
@@ -135,7 +135,7 @@ pub fn rewrite<F: Files, K: Sink>(
     out: &mut K,
 ) -> Verdict
     requires processors { (1 ≤ processors) × (processors ≤ 512) }
-    ensures due { IsTextDue (files_change F.held F.faults F.failed files.old files.new)
+    ensures expected { IsTextExpected (files_change F.held F.faults F.failed files.old files.new)
         (change K.taken K.faults out.old out.new)
         (build_stages (plain_build program processors costs))
         (IsRewritten (F.held files.old) (plain_build program processors costs)) result }

@@ -3,7 +3,7 @@
 ghost use Rattle.std.specs.Prelude.{◌≡◌, ◌≤◌, ◌⊎◌};
 ghost use Rattle.std.specs.Option.{option_to_list};
 ghost use Rattle.p3l_program.specs.Origin.{built};
-ghost use Rattle.p3l_program.specs.Run.{IsRunDue, RunsOver};
+ghost use Rattle.p3l_program.specs.Run.{IsRunExpected, RunsOver};
 ghost use Rattle.p3l_program.specs.Saved.{KeepsFiles};
 ghost use Rattle.p3l_program.specs.World.{change, files_change, world};
 
@@ -20,7 +20,7 @@ use std::alloc::Global;
 pub fn run<F: Files, S: Source, K: Sink>(
     alloc: Global,
     build: Build,
-    asked: Sched,
+    request: Sched,
     trace: Option<Name>,
     reported: bool,
     files: &mut F,
@@ -29,19 +29,19 @@ pub fn run<F: Files, S: Source, K: Sink>(
 ) -> Verdict
     requires processors { (1 ≤ build.processors) × (build.processors ≤ 512) }
     requires capacity { (1 ≤ build.capacity) × (build.capacity ≤ 1024) }
-    ensures due { IsRunDue (world (files_change F.held F.faults F.failed files.old files.new)
+    ensures expected { IsRunExpected (world (files_change F.held F.faults F.failed files.old files.new)
         (change S.rest S.faults input.old input.new) (change K.taken K.faults out.old out.new))
-        (built build) asked trace reported result }
+        (built build) request trace reported result }
     ensures kept { KeepsFiles
         (files_change F.held F.faults F.failed files.old files.new) (option_to_list trace)
         result }
     ensures over { (F.held files.new ≡ F.held files.old)
         ⊎ RunsOver (world (files_change F.held F.faults F.failed files.old files.new)
         (change S.rest S.faults input.old input.new) (change K.taken K.faults out.old out.new))
-        (built build) asked }
+        (built build) request }
 {
     match load_network(alloc, build, files) {
         Err(verdict) => verdict,
-        Ok(loaded) => run_network(alloc, loaded, asked, trace, reported, files, input, out),
+        Ok(loaded) => run_network(alloc, loaded, request, trace, reported, files, input, out),
     }
 }

@@ -76,7 +76,7 @@ pub fn run_plan<U: Units, F: Files, S: Source, K: Sink>(
     alloc: Global,
     plan: Plan<'_, U>,
     named: &Tree,
-    asked: Sched,
+    request: Sched,
     trace: Option<Name>,
     reported: bool,
     files: &mut F,
@@ -92,15 +92,15 @@ pub fn run_plan<U: Units, F: Files, S: Source, K: Sink>(
         (U.leaf plan.entry.units.now) plan.entry.net plan.entry.firings)
         (files_change F.held F.faults F.failed files.old files.new)
         (change S.rest S.faults input.old input.new)
-        (change K.taken K.faults out.old out.new) asked trace reported result }
+        (change K.taken K.faults out.old out.new) request trace reported result }
     ensures kept { KeepsRun (network_named named.now plan.entry.tree.now
         (U.leaf plan.entry.units.now) plan.entry.net plan.entry.firings)
         (files_change F.held F.faults F.failed files.old files.new)
         (change S.rest S.faults input.old input.new)
-        (change K.taken K.faults out.old out.new) asked trace result }
+        (change K.taken K.faults out.old out.new) request trace result }
 {
     let count = plan.net.procs.len() as u32;
-    let schedule = match load_schedule(alloc, asked, count, files) {
+    let schedule = match load_schedule(alloc, request, count, files) {
         Ok(schedule) => schedule,
         Err(verdict) => return verdict,
     };
@@ -115,7 +115,7 @@ pub fn run_plan<U: Units, F: Files, S: Source, K: Sink>(
 pub fn run_network<F: Files, S: Source, K: Sink>(
     alloc: Global,
     loaded: Loaded,
-    asked: Sched,
+    request: Sched,
     trace: Option<Name>,
     reported: bool,
     files: &mut F,
@@ -126,11 +126,11 @@ pub fn run_network<F: Files, S: Source, K: Sink>(
     ensures ran { IsRunOf (network_in loaded)
         (files_change F.held F.faults F.failed files.old files.new)
         (change S.rest S.faults input.old input.new) (change K.taken K.faults out.old out.new)
-        asked trace reported result }
+        request trace reported result }
     ensures kept { KeepsRun (network_in loaded)
         (files_change F.held F.faults F.failed files.old files.new)
         (change S.rest S.faults input.old input.new) (change K.taken K.faults out.old out.new)
-        asked trace result }
+        request trace result }
 {
     every_linked_net_is_carried();
     let Loaded {
@@ -145,6 +145,6 @@ pub fn run_network<F: Files, S: Source, K: Sink>(
     };
     let plan = plan_of(&tree, &counts, &units, net);
     run_plan(
-        alloc, plan, &tree, asked, trace, reported, files, input, out,
+        alloc, plan, &tree, request, trace, reported, files, input, out,
     )
 }

@@ -7,7 +7,7 @@ ghost use Rattle.p3l_run.specs.Feed.{most_of_input};
 ghost use Rattle.p3l_run.specs.Network.{IsSound, network};
 ghost use Rattle.p3l_skel.specs.Tree.{node_at};
 ghost use Rattle.p3l_program.specs.Plan.{network_in};
-ghost use Rattle.p3l_program.specs.SaveState.{FitsSome, IsReached, IsReadyToSave, IsSaveDue, IsSaveOf, IsUnreached, IsWriting, KeepsSave, SavesOver};
+ghost use Rattle.p3l_program.specs.SaveState.{FitsSome, IsReached, IsReadyToSave, IsSaveExpected, IsSaveOf, IsUnreached, IsWriting, KeepsSave, SavesOver};
 ghost use Rattle.p3l_program.specs.Saved.{KeepsFiles};
 ghost use Rattle.p3l_program.specs.World.{change, files_change, world};
 
@@ -155,7 +155,7 @@ pub fn save_state<F: Files, S: Source, K: Sink>(
 ) -> Verdict
     requires processors { (1 ≤ build.processors) × (build.processors ≤ 512) }
     requires capacity { (1 ≤ build.capacity) × (build.capacity ≤ 1024) }
-    ensures due { IsSaveDue (world (files_change F.held F.faults F.failed files.old files.new)
+    ensures expected { IsSaveExpected (world (files_change F.held F.faults F.failed files.old files.new)
         (change S.rest S.faults input.old input.new) (change K.taken K.faults out.old out.new))
         build name output result }
     ensures kept { KeepsFiles

@@ -6,7 +6,7 @@ ghost use Rattle.p3l_check.specs.Resolving.{ResolvedTree};
 ghost use Rattle.p3l_program.specs.Load.{IsNotLoaded};
 ghost use Rattle.p3l_program.specs.Origin.{scanned};
 ghost use Rattle.p3l_program.specs.Plan.{IsCompiled, refusal_of_scan, scan_network};
-ghost use Rattle.p3l_program.specs.Run.{IsRunDue, IsRunOf, KeepsRun, RunsOver};
+ghost use Rattle.p3l_program.specs.Run.{IsRunExpected, IsRunOf, KeepsRun, RunsOver};
 ghost use Rattle.p3l_program.specs.Saved.{KeepsFiles};
 ghost use Rattle.p3l_program.specs.Scan.{IsReadyScan, LoadsScan};
 ghost use Rattle.p3l_program.specs.Stage.{scan_stages};
@@ -76,7 +76,7 @@ fn run_scan<F: Files, S: Source, K: Sink>(
     alloc: Global,
     loaded: Planned,
     capacity: u32,
-    asked: Sched,
+    request: Sched,
     reported: bool,
     files: &mut F,
     input: &mut S,
@@ -88,12 +88,12 @@ fn run_scan<F: Files, S: Source, K: Sink>(
         → IsRunOf (scan_network r loaded.plan capacity)
         (files_change F.held F.faults F.failed files.old files.new)
         (change S.rest S.faults input.old input.new) (change K.taken K.faults out.old out.new)
-        asked None reported result }
+        request None reported result }
     ensures kept { (r : ResolvedTree) → IsCompiled r loaded.program
         → KeepsRun (scan_network r loaded.plan capacity)
         (files_change F.held F.faults F.failed files.old files.new)
         (change S.rest S.faults input.old input.new) (change K.taken K.faults out.old out.new)
-        asked None result }
+        request None result }
 {
     every_linked_net_is_carried();
     let Planned { program, plan } = loaded;
@@ -108,7 +108,9 @@ fn run_scan<F: Files, S: Source, K: Sink>(
         return Verdict::NoMemory;
     };
     let run = plan_of(&plan.tree, &plan.counts, &units, net);
-    run_plan(alloc, run, &tree, asked, None, reported, files, input, out)
+    run_plan(
+        alloc, run, &tree, request, None, reported, files, input, out,
+    )
 }
 
 /// Scans the lists of the input in this number of segments, by the reduce that is the `main` of the
@@ -117,7 +119,7 @@ pub fn scan<F: Files, S: Source, K: Sink>(
     alloc: Global,
     name: Name,
     segments: u32,
-    asked: Sched,
+    request: Sched,
     capacity: u32,
     reported: bool,
     files: &mut F,
@@ -126,18 +128,22 @@ pub fn scan<F: Files, S: Source, K: Sink>(
 ) -> Verdict
     requires segments { segments ≤ 512 }
     requires capacity { (1 ≤ capacity) × (capacity ≤ 1024) }
-    ensures due { IsRunDue (world (files_change F.held F.faults F.failed files.old files.new)
+    ensures expected { IsRunExpected (world (files_change F.held F.faults F.failed files.old files.new)
         (change S.rest S.faults input.old input.new) (change K.taken K.faults out.old out.new))
-        (scanned name segments capacity) asked None reported result }
+        (scanned name segments capacity) request None reported result }
     ensures kept { KeepsFiles (files_change F.held F.faults F.failed files.old files.new) []
         result }
     ensures over { (F.held files.new ≡ F.held files.old)
         ⊎ RunsOver (world (files_change F.held F.faults F.failed files.old files.new)
         (change S.rest S.faults input.old input.new) (change K.taken K.faults out.old out.new))
-        (scanned name segments capacity) asked }
+        (scanned name segments capacity) request }
 {
     match load_scan(alloc, name, segments, files) {
         Err(verdict) => verdict,
-        Ok(loaded) => { run_scan(alloc, loaded, capacity, asked, reported, files, input, out) }
+        Ok(loaded) => {
+            run_scan(
+                alloc, loaded, capacity, request, reported, files, input, out,
+            )
+        }
     }
 }

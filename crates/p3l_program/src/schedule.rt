@@ -2,7 +2,7 @@
 
 ghost use Rattle.std.specs.Prelude.{◌≡◌, ◌<◌, ◌^◌, length, IfOk, IfErr, OnOk};
 ghost use Rattle.p3l_opts.specs.declared.command.Sched.TheVariants as sched;
-ghost use Rattle.p3l_program.specs.Run.{IsUnasked};
+ghost use Rattle.p3l_program.specs.Run.{HasNoSchedule};
 ghost use Rattle.p3l_program.specs.Scheduled.{HasPicks, HasSchedule};
 ghost use Rattle.p3l_program.specs.World.{files_change};
 ghost use Rattle.p3l_sched.specs.Picker.{NamesProcesses, recorded};
@@ -31,7 +31,7 @@ pub fn picks_in<F: Files>(
     ensures named { IfOk result (λ picks. NamesProcesses count (schedule.Recorded picks)) }
     ensures few { IfOk result (λ picks. length picks < 2 ^ 63) }
     ensures calm { OnOk result (F.faults files.new ≡ F.faults files.old) }
-    ensures refused { IfErr result (IsUnasked
+    ensures refused { IfErr result (HasNoSchedule
         (files_change F.held F.faults F.failed files.old files.new)
         count (sched.File name)) }
     ensures stays { F.held files.new ≡ F.held files.old }
@@ -52,20 +52,20 @@ pub fn picks_in<F: Files>(
 /// The schedule of a network of this number of processes.
 pub fn load_schedule<F: Files>(
     alloc: Global,
-    asked: Sched,
+    request: Sched,
     count: u32,
     files: &mut F,
 ) -> Result<Schedule, Verdict>
-    ensures asked { IfOk result (HasSchedule (F.held files.old) count asked) }
+    ensures request { IfOk result (HasSchedule (F.held files.old) count request) }
     ensures named { IfOk result (NamesProcesses count) }
     ensures few { IfOk result (λ schedule. recorded schedule < 2 ^ 63) }
     ensures calm { OnOk result (F.faults files.new ≡ F.faults files.old) }
-    ensures refused { IfErr result (IsUnasked
+    ensures refused { IfErr result (HasNoSchedule
         (files_change F.held F.faults F.failed files.old files.new)
-        count asked) }
+        count request) }
     ensures stays { F.held files.new ≡ F.held files.old }
 {
-    match asked {
+    match request {
         Sched::RoundRobin => Ok(Schedule::RoundRobin),
         Sched::Seeded(seed) => Ok(Schedule::Seeded(seed)),
         Sched::File(name) => match picks_in(alloc, name, count, files) {

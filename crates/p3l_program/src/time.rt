@@ -9,7 +9,7 @@ ghost use Rattle.p3l_timed.specs.Price.{HasSmallPrices, prices_of};
 ghost use Rattle.p3l_program.specs.LoadImage.{IsReadyImage};
 ghost use Rattle.p3l_program.specs.Plan.{network_in};
 ghost use Rattle.p3l_program.specs.Saved.{KeepsFiles};
-ghost use Rattle.p3l_program.specs.Time.{AreTold, IsTimeClosed, IsTimeDue, IsTimeOf, KeepsTime, TimesOver};
+ghost use Rattle.p3l_program.specs.Time.{AreReported, IsTimeClosed, IsTimeExpected, IsTimeOf, KeepsTime, TimesOver};
 ghost use Rattle.p3l_program.specs.World.{change, files_change, world};
 
 use crate::picks::save_picks;
@@ -34,7 +34,7 @@ use std::alloc::Global;
 /// The numbers of a run in virtual time, by its timer.
 fn time_stats(stats: &RunStats, timer: &Timer) -> Stats
     requires some { 0 < length timer.now.prices }
-    ensures { AreTold stats.now timer.now (Some result) }
+    ensures { AreReported stats.now timer.now (Some result) }
 {
     let busiest = timer.busiest();
     Stats::Timed {
@@ -156,7 +156,7 @@ pub fn time<F: Files, S: Source, K: Sink>(
 ) -> Verdict
     requires processors { (1 ≤ build.processors) × (build.processors ≤ 512) }
     requires capacity { (1 ≤ build.capacity) × (build.capacity ≤ 1024) }
-    ensures due { IsTimeDue (world (files_change F.held F.faults F.failed files.old files.new)
+    ensures expected { IsTimeExpected (world (files_change F.held F.faults F.failed files.old files.new)
         (change S.rest S.faults input.old input.new) (change K.taken K.faults out.old out.new))
         build picks result }
     ensures kept { KeepsFiles

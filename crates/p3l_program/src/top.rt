@@ -1,7 +1,7 @@
 // The top call: from the words of the command line to the status.
 
 ghost use Rattle.p3l_opts.specs.Command.{texts_of};
-ghost use Rattle.p3l_program.specs.Answer.{Answers, IsDue};
+ghost use Rattle.p3l_program.specs.Answer.{Answers, IsExpected};
 ghost use Rattle.p3l_program.specs.Top.{Promises};
 ghost use Rattle.p3l_program.specs.World.{change, files_change, world};
 
@@ -36,7 +36,7 @@ fn perform<F: Files, S: Source, K: Sink>(
     input: &mut S,
     out: &mut K,
 ) -> Verdict
-    ensures due { IsDue (texts_of words.now)
+    ensures expected { IsExpected (texts_of words.now)
         (world (files_change F.held F.faults F.failed files.old files.new)
         (change S.rest S.faults input.old input.new) (change K.taken K.faults out.old out.new))
         result }

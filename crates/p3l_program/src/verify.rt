@@ -1,7 +1,7 @@
 // The command `verify-cert`: whether a certificate holds for a program and its costs.
 
 ghost use Rattle.std.specs.Prelude.{◌≡◌, IfOk, string_bytes};
-ghost use Rattle.p3l_program.specs.Text.{IsTextDue};
+ghost use Rattle.p3l_program.specs.Text.{IsTextExpected};
 ghost use Rattle.p3l_program.specs.Stage.{verify_stages};
 ghost use Rattle.p3l_program.specs.Verify.{IsVerified, holds_line};
 ghost use Rattle.p3l_program.specs.World.{change, files_change};
@@ -37,7 +37,7 @@ pub fn verify_cert<F: Files, K: Sink>(
     files: &mut F,
     out: &mut K,
 ) -> Verdict
-    ensures due { IsTextDue (files_change F.held F.faults F.failed files.old files.new)
+    ensures expected { IsTextExpected (files_change F.held F.faults F.failed files.old files.new)
         (change K.taken K.faults out.old out.new) (verify_stages program name costs)
         (IsVerified (F.held files.old) program costs name) result }
     ensures stays { F.held files.new ≡ F.held files.old }

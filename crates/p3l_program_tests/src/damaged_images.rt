@@ -170,7 +170,7 @@ const TWO: &[Two] = &[
 ];
 
 #[test]
-fn the_first_of_two_is_told(rt: HostRuntime) -> Result<(), Fail> {
+fn the_first_of_two_is_reported(rt: HostRuntime) -> Result<(), Fail> {
     for two in TWO {
         let once = with_byte(rt.alloc(), DOUBLE_IMAGE.as_bytes(), two.0)?;
         let twice = with_byte(rt.alloc(), once.as_slice(), two.1)?;

@@ -181,7 +181,7 @@ const OF_A_LONG_FILE: &[Step] = &[
 
 /// A file of one blank more than a file may have.
 #[test]
-fn a_file_that_is_too_long_is_told(rt: HostRuntime) -> Result<(), Fail> {
+fn a_file_that_is_too_long_is_reported(rt: HostRuntime) -> Result<(), Fail> {
     let alloc = rt.alloc();
     for step in OF_A_LONG_FILE {
         let mut files = holding(alloc, ALL, &[])?;

@@ -57,7 +57,7 @@ fn refuse(rt: &impl Abort, alloc: Global, row: &str) -> Result<(), Fail> {
 }
 
 #[test]
-fn each_number_of_a_program_is_told(rt: HostRuntime) -> Result<(), Fail> {
+fn each_number_of_a_program_is_reported(rt: HostRuntime) -> Result<(), Fail> {
     for row in FAULTS.lines() {
         refuse(&rt, rt.alloc(), row)?;
     }
@@ -101,7 +101,7 @@ const TRAPS: &[Programs] = &[Programs(
 )];
 
 #[test]
-fn each_trap_is_told(rt: HostRuntime) -> Result<(), Fail> {
+fn each_trap_is_reported(rt: HostRuntime) -> Result<(), Fail> {
     take_programs(&rt, rt.alloc(), TRAPS)
 }
 
@@ -134,7 +134,7 @@ fn refuse_costs(rt: &impl Abort, alloc: Global, costs: &[u8], fault: &str) -> Re
 }
 
 #[test]
-fn each_number_of_costs_is_told(rt: HostRuntime) -> Result<(), Fail> {
+fn each_number_of_costs_is_reported(rt: HostRuntime) -> Result<(), Fail> {
     for (costs, fault) in COSTS {
         refuse_costs(&rt, rt.alloc(), costs, fault)?;
     }
@@ -143,7 +143,7 @@ fn each_number_of_costs_is_told(rt: HostRuntime) -> Result<(), Fail> {
 
 /// No test has so long an input, so its end is reported here by what reports all ends.
 #[test]
-fn an_input_that_is_too_long_is_told(rt: HostRuntime) -> Result<(), Fail> {
+fn an_input_that_is_too_long_is_reported(rt: HostRuntime) -> Result<(), Fail> {
     let alloc = rt.alloc();
     let verdict = Verdict::Ended(Finish::Stream(Ending::TooLong), None);
     let report = report_of(alloc, &verdict)?;

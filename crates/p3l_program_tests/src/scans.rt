@@ -129,7 +129,7 @@ const TRAPPED: &[Programs] = &[
 
 /// Of several traps the first by its stage, and then by its block, is reported.
 #[test]
-fn the_first_trap_by_its_stage_is_told(rt: HostRuntime) -> Result<(), Fail> {
+fn the_first_trap_by_its_stage_is_reported(rt: HostRuntime) -> Result<(), Fail> {
     take_programs(&rt, rt.alloc(), TRAPPED)
 }
 

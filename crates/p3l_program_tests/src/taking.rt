@@ -34,7 +34,7 @@ const IN_TURN: &[Said] = &[
 
 /// Two bytes an item, and one item more than those that were sent.
 #[test]
-fn no_more_is_taken_than_is_asked_for(rt: HostRuntime) -> Result<(), Fail> {
+fn no_more_is_taken_than_is_requested(rt: HostRuntime) -> Result<(), Fail> {
     for said in IN_TURN {
         let ended = run_on_zeros(&rt, rt.alloc(), said.0)?;
         assert_eq!(rt; ended.calls, 6);

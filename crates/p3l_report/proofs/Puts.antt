@@ -5,7 +5,7 @@ use Rattle.std.specs.declared.result.Result.{Result}
 use Rattle.std.specs.declared.result.Result.TheVariants.{Ok, Err}
 use Rattle.p3l_io.specs.declared.fault.Failed.{Failed}
 use Rattle.p3l_io.specs.Causes.{Rose, HasCause}
-use Rattle.p3l_io.specs.Told.{Puts}
+use Rattle.p3l_io.specs.Content.{Puts}
 use Rattle.p3l_report.specs.Report.{PutsFront, PutsFronts}
 
 -- where the count doesn't rise, the piece was put

@@ -21,8 +21,8 @@ source_line fault pos =
     codes "source: " ++ (decimal pos.line ++ (codes ":" ++ (decimal pos.col ++ (codes ": " ++ (decimal (source.number_of fault) ++ (codes " " ++ (source.name_of fault ++ codes "\n")))))))
 
 -- WHAT: line N: NUMBER NAME
-abbrev pub told_line : List ℕ → ℕ → LineFault → List ℕ
-told_line what line fault =
+abbrev pub numbered_line : List ℕ → ℕ → LineFault → List ℕ
+numbered_line what line fault =
     what ++ (codes ": line " ++ (decimal line ++ (codes ": " ++ (decimal (number_of fault) ++ (codes " " ++ (name_of fault ++ codes "\n"))))))
 
 -- stream: line N: NUMBER NAME COUNT

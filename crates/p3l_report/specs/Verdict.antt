@@ -12,7 +12,7 @@ use Rattle.p3l_report.specs.declared.verdict.Verdict.{Verdict}
 use Rattle.p3l_report.specs.declared.verdict.Verdict.TheVariants as verdict
 use Rattle.p3l_report.specs.CostFault.{cost_line}
 use Rattle.p3l_report.specs.Evidence.{evidence_line}
-use Rattle.p3l_report.specs.Line.{counted_line, named_line, need_line, pick_line, source_line, stats_line, stopped_line, told_line, trap_line}
+use Rattle.p3l_report.specs.Line.{counted_line, named_line, need_line, numbered_line, pick_line, source_line, stats_line, stopped_line, trap_line}
 use Rattle.p3l_report.specs.ScanFault.{scan_line}
 use Rattle.p3l_report.specs.Status as status
 
@@ -61,7 +61,7 @@ refusal_line (refusal.FileTooLong name) = named_line (codes "file too long") nam
 refusal_line (refusal.Source fault pos) = source_line fault pos
 refusal_line (refusal.Costs fault) = cost_line fault
 refusal_line (refusal.TooFew need) = need_line need
-refusal_line (refusal.BadPick line) = told_line (codes "schedule") line fault.BadPick
+refusal_line (refusal.BadPick line) = numbered_line (codes "schedule") line fault.BadPick
 refusal_line (refusal.NoSuchProcess line pick count) = pick_line line fault.NoSuchProcess pick count
 refusal_line (refusal.Evidence why) = evidence_line why
 refusal_line (refusal.Scan why) = scan_line why
@@ -69,9 +69,9 @@ refusal_line (refusal.Scan why) = scan_line why
 -- the line of a run whose stream ended so, or no bytes where none is to be written
 abbrev pub ending_line : Ending → List ℕ
 ending_line ending.End = []
-ending_line (ending.BadWord line) = told_line (codes "stream") line fault.BadWord
+ending_line (ending.BadWord line) = numbered_line (codes "stream") line fault.BadWord
 ending_line (ending.WrongCount line had) = counted_line line fault.WrongCount had
-ending_line (ending.OutOfRange line) = told_line (codes "stream") line fault.OutOfRange
+ending_line (ending.OutOfRange line) = numbered_line (codes "stream") line fault.OutOfRange
 ending_line ending.ReadFault = codes "read fault\n"
 ending_line ending.TooLong = codes "input too long\n"
 

@@ -2,7 +2,7 @@
 
 ghost use Rattle.std.specs.Prelude.{◌≡◌, ◌++◌, IfOk, codes};
 ghost use Rattle.std.specs.Fmt.{decimal};
-ghost use Rattle.p3l_report.specs.Line.{counted_line, named_line, need_line, pick_line, source_line, stats_line, stopped_line, told_line, trap_line};
+ghost use Rattle.p3l_report.specs.Line.{counted_line, named_line, need_line, numbered_line, pick_line, source_line, stats_line, stopped_line, trap_line};
 ghost use Rattle.p3l_report.specs.LineText.{line_text};
 
 use crate::line_fault::LineFault;
@@ -59,7 +59,7 @@ pub fn refused_line(
     number: u64,
     fault: LineFault,
 ) -> Result<Line, NoMemory>
-    ensures { IfOk result (λ line. line_text line ≡ told_line what.now number fault) }
+    ensures { IfOk result (λ line. line_text line ≡ numbered_line what.now number fault) }
 {
     let code = fault.number();
     let name = fault.name();

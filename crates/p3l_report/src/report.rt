@@ -126,7 +126,7 @@ pub fn report_of(alloc: Global, verdict: &Verdict) -> Result<Report, NoMemory>
 
 /// Puts a line, if there is one; a fault of the sink is reported by its count alone.
 fn put_line<E: Sink>(err: &mut E, line: &Option<Line>)
-    ensures told { (said : List ℕ) → E.taken err.old ≡ Some said
+    ensures known { (said : List ℕ) → E.taken err.old ≡ Some said
         → (Rose (E.faults err.old) (E.faults err.new) → ⊥)
         → E.taken err.new ≡ Some (said ++ optional_text line.now) }
     ensures begun { (said : List ℕ) → E.taken err.old ≡ Some said → PutsFront said (E.taken err.new) (optional_text line.now) }
@@ -139,7 +139,7 @@ fn put_line<E: Sink>(err: &mut E, line: &Option<Line>)
 
 /// Puts all lines, each by one put; one that fails doesn't stop the next.
 pub fn put_report<E: Sink>(err: &mut E, report: &Report)
-    ensures told { (said : List ℕ) → E.taken err.old ≡ Some said
+    ensures known { (said : List ℕ) → E.taken err.old ≡ Some said
         → (Rose (E.faults err.old) (E.faults err.new) → ⊥)
         → E.taken err.new ≡ Some (said ++ report_text report.now) }
     ensures begun { (said : List ℕ) → E.taken err.old ≡ Some said
@@ -152,7 +152,7 @@ pub fn put_report<E: Sink>(err: &mut E, report: &Report)
 
 /// Puts the line that says that memory was wanting.
 pub fn put_no_memory<E: Sink>(err: &mut E)
-    ensures told { (said : List ℕ) → E.taken err.old ≡ Some said
+    ensures known { (said : List ℕ) → E.taken err.old ≡ Some said
         → (Rose (E.faults err.old) (E.faults err.new) → ⊥)
         → E.taken err.new ≡ Some (said ++ lines_of verdicts.NoMemory) }
     ensures begun { (said : List ℕ) → E.taken err.old ≡ Some said

@@ -29,7 +29,7 @@ use Rattle.p3l_trace.specs.declared.trace.TraceLine.{TraceLine}
 use Rattle.p3l_trace.specs.declared.trace.Traced.{Traced}
 use Rattle.p3l_trace.specs.Agreement.{AgreeFrom, AgreesIn, AgreesWith, AllAgree, IsCounted, picks_of}
 use Rattle.p3l_retrace.specs.declared.walk.Walk.{Walk}
-use Rattle.p3l_retrace.specs.Retraced.{AgreesOn, DiffersOn, IsAskedFor, one_waits, picks_to, sent_before_last}
+use Rattle.p3l_retrace.specs.Retraced.{AgreesOn, DiffersOn, IsRequestedBy, one_waits, picks_to, sent_before_last}
 use Rattle.p3l_retrace.specs.Walk.{AwaitsLine, HasPassed, IsAt, Outside, Passes, Stands, Steps, StepsIf, Walks, outside, started}
 
 no_end : (e : Ending) → ◌≡◌ {A = Option Ending} None (Some e) → ⊥
@@ -54,10 +54,10 @@ all_picks traced number is = ap picks_of (take_all (number - 1) traced.lines (om
 
 module _ (n : Network) where
   -- where one item waits for the last of some picks, unless the stream has ended, items were requested before these picks
-  asked_last : (items : List (List ℤ)) (picks : List ℕ) (p given : ℕ) (close : Option Ending) → given ≡ (course_under n items picks).state.sent + one_waits close → IsAskedFor n items (picks ++ p ∷ []) given close
-  asked_last items picks p given close is = by picks (is ∙ ap (λ ps. (course_under n items ps).state.sent + one_waits close) (sym (picks_front picks p)))
+  request_last : (items : List (List ℤ)) (picks : List ℕ) (p given : ℕ) (close : Option Ending) → given ≡ (course_under n items picks).state.sent + one_waits close → IsRequestedBy n items (picks ++ p ∷ []) given close
+  request_last items picks p given close is = by picks (is ∙ ap (λ ps. (course_under n items ps).state.sent + one_waits close) (sym (picks_front picks p)))
     where
-      by : (ps : List ℕ) → given ≡ sent_before_last n items (ps ++ p ∷ []) + one_waits close → IsAskedFor n items (ps ++ p ∷ []) given close
+      by : (ps : List ℕ) → given ≡ sent_before_last n items (ps ++ p ∷ []) + one_waits close → IsRequestedBy n items (ps ++ p ∷ []) given close
       by [] so = so
       by (q ∷ ps) so = so
 
@@ -91,14 +91,14 @@ module _ (n : Network) where
         })
 
     pub stands_fed : (more : List (List ℤ)) → Offers m m' more → HaveInWords n.tree more → (more ≢ [] → close ≡ None) → Stands n m' (given ++ more) close' outcomes walked
-    stands_fed [] offers wide asked = stands_same offers
-    stands_fed (item ∷ more) offers wide asked =
-        subst (λ k. Stands n m' (given ++ item ∷ k) close' outcomes walked) (sym offers.2) (stands_offered item offers.0 offers.1 wide.0 (asked (λ e. cc)))
+    stands_fed [] offers wide request = stands_same offers
+    stands_fed (item ∷ more) offers wide request =
+        subst (λ k. Stands n m' (given ++ item ∷ k) close' outcomes walked) (sym offers.2) (stands_offered item offers.0 offers.1 wide.0 (request (λ e. cc)))
 
   -- once the stream has ended nothing more is given, and the inbox is as it was
   still_empty : (m m' : Seen) (close : Option Ending) (more : List (List ℤ)) → Offers m m' more → (more ≢ [] → close ≡ None) → (e : Ending) → close ≡ Some e → m.inbox ≡ None → m'.inbox ≡ None
-  still_empty m m' close [] offers asked e ended empty = ap (λ (k : Seen). k.inbox) offers ∙ empty
-  still_empty m m' close (item ∷ more) offers asked e ended empty = absurd (no_end e (sym (asked (λ h. cc)) ∙ ended))
+  still_empty m m' close [] offers request e ended empty = ap (λ (k : Seen). k.inbox) offers ∙ empty
+  still_empty m m' close (item ∷ more) offers request e ended empty = absurd (no_end e (sym (request (λ h. cc)) ∙ ended))
 
   -- where nothing has fired no item was sent
   none_sent : n.start ≡ fresh → (items : List (List ℤ)) → (begun_with n items).sent + length (begun_with n items).unsent ≡ length items
@@ -166,7 +166,7 @@ module _ (n : Network) where
             stands = record { runs = record { tree = refl; net = refl }; wide = tt; at = λ later may. record { follows = subst (λ s. Follows (beginning s n.tree n.net) [] later (course_from (begun_with n later))) fresh_is (laws.starts later); agree = tt } };
             empty = λ e ends. refl;
           };
-          asked = λ later may. (refl, refl);
+          request = λ later may. (refl, refl);
         }))
 
     module _ (now : Outside) (walked : List TraceLine) (w : Walk) (d : HasPassed n before now walked w) where
@@ -195,19 +195,19 @@ module _ (n : Network) where
 
       fed_empty : (m : Seen) (close : Option Ending) (more : List (List ℤ)) → Offers w.machine m more → (more ≢ [] → w.close ≡ None) → ((e : Ending) → w.close ≡ None → close ≡ Some e → m.inbox ≡ None) →
           (e : Ending) → close ≡ Some e → m.inbox ≡ None
-      fed_empty m close more offers asked empty e ends = by w.close refl
+      fed_empty m close more offers request empty e ends = by w.close refl
         where
           by : (c : Option Ending) → w.close ≡ c → m.inbox ≡ None
           by None is = empty e is ends
-          by (Some x) is = still_empty w.machine m w.close more offers asked x is (d.empty x is)
+          by (Some x) is = still_empty w.machine m w.close more offers request x is (d.empty x is)
 
       -- the machine was fed
       pub fed : (m : Seen) (s : stream.Seen) (left : Option (List ℕ)) (faults : ℕ) (close : Option Ending) → Feeds (node_at w.machine.tree 0).ins w.machine m w.stream s now.rest left now.faults faults w.close close →
           AwaitsLine n before (outside left faults) walked (record w { machine = m; stream = s; close = close })
       fed m s left faults close feeds =
           let f : Feeds (width_of n) w.machine m w.stream s now.rest left now.faults faults w.close close = subst (λ k. Feeds k w.machine m w.stream s now.rest left now.faults faults w.close close) same_width feeds in
-          let stands : Stands n m (d.items ++ f.more) close d.outcomes walked = stands_fed d.laws w.machine m d.items w.close close d.outcomes walked d.stands f.kept f.more f.offers f.wide f.asked in
-          let empty : (e : Ending) → close ≡ Some e → m.inbox ≡ None = fed_empty m close f.more f.offers f.asked f.empty in
+          let stands : Stands n m (d.items ++ f.more) close d.outcomes walked = stands_fed d.laws w.machine m d.items w.close close d.outcomes walked d.stands f.kept f.more f.offers f.wide f.request in
+          let empty : (e : Ending) → close ≡ Some e → m.inbox ≡ None = fed_empty m close f.more f.offers f.request f.empty in
           record {
             passed = record {
               laws = d.laws;
@@ -233,7 +233,7 @@ module _ (n : Network) where
         stream = w.stream;
         items = so.items;
         gives = so.gives;
-        asked = λ later may. subst (λ k. IsAskedFor n (so.items ++ later) (picks_of k) (length so.items) w.close) (sym all) (walks.asked later may);
+        request = λ later may. subst (λ k. IsRequestedBy n (so.items ++ later) (picks_of k) (length so.items) w.close) (sym all) (walks.request later may);
         holds = λ later may. record { lines = subst (λ k. AllAgree n.tree n.leaf n.net (begun_with n (so.items ++ later)) k) (sym all) (so.stands.at later may).agree; counts = counted };
       }
 
@@ -245,7 +245,7 @@ module _ (n : Network) where
           stream = w.stream;
           items = so.items;
           gives = so.gives;
-          asked = λ later may. subst (λ k. IsAskedFor n (so.items ++ later) k (length so.items) w.close) (ap picks_of (sym all) ∙ sym (all_picks traced number is)) (walks.asked later may);
+          request = λ later may. subst (λ k. IsRequestedBy n (so.items ++ later) k (length so.items) w.close) (ap picks_of (sym all) ∙ sym (all_picks traced number is)) (walks.request later may);
           holds = λ later may. inr (record { agree = subst (λ k. AllAgree n.tree n.leaf n.net (begun_with n (so.items ++ later)) k) (sym all) (so.stands.at later may).agree; other = other; number_is = is });
         },
       )
@@ -266,11 +266,11 @@ module _ (n : Network) where
           (d.laws.can_fires w.machine d.outcomes later (course later) line.pick (d.stands.at later may).follows (filled later may))
 
       -- items were requested before the line's pick too
-      asked_more : (later : List (List ℤ)) → MayCome n w.close later → IsAskedFor n (d.items ++ later) (picks_of (walked ++ line ∷ [])) (length d.items) w.close
+      request_more : (later : List (List ℤ)) → MayCome n w.close later → IsRequestedBy n (d.items ++ later) (picks_of (walked ++ line ∷ [])) (length d.items) w.close
       unfolding with_rest state_of
-      asked_more later may =
-          subst (λ ps. IsAskedFor n (d.items ++ later) ps (length d.items) w.close) (sym (picks_more walked line))
-          (asked_last (d.items ++ later) (picks_of walked) line.pick (length d.items) w.close
+      request_more later may =
+          subst (λ ps. IsRequestedBy n (d.items ++ later) ps (length d.items) w.close) (sym (picks_more walked line))
+          (request_last (d.items ++ later) (picks_of walked) line.pick (length d.items) w.close
           (a.waits ∙ ap (λ k. k + one_waits w.close) (ap (λ x. x.sent) (d.stands.at later may).follows.state)))
 
       -- the line differs
@@ -281,7 +281,7 @@ module _ (n : Network) where
           stream = w.stream;
           items = d.items;
           gives = d.gives;
-          asked = λ later may. subst (λ k. IsAskedFor n (d.items ++ later) (picks_of k) (length d.items) w.close) (sym (lines_to traced.lines walked line after number are is)) (asked_more later may);
+          request = λ later may. subst (λ k. IsRequestedBy n (d.items ++ later) (picks_of k) (length d.items) w.close) (sym (lines_to traced.lines walked line after number are is)) (request_more later may);
           holds = λ later may. inl (record {
             front = walked;
             line = line;
@@ -324,7 +324,7 @@ module _ (n : Network) where
                 stays_empty d.laws d.fresh_is w.machine d.items w.close d.outcomes walked d.stands m (d.outcomes ++ option_to_list handed) line.pick
                 (follows_on [] (nothing_comes n w.close)) (d.empty e ends);
           };
-          asked = asked_more;
+          request = request_more;
         }
           where
             follows_on : (later : List (List ℤ)) → MayCome n w.close later → Follows m (d.outcomes ++ option_to_list handed) later (picked n.tree n.leaf n.net (course later) line.pick)

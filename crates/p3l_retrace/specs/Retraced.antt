@@ -23,9 +23,9 @@ one_waits (Some close) = 0
 -- a stream of these items, of which one is requested before each of these picks where the inbox is empty, and at no other time,
 -- gave `given` of them, and then ended so, if it did: none was requested where there are no picks; else one item waits for the
 -- last of them, or the stream has ended and all that it gave were sent before
-abbrev pub IsAskedFor : Network → (items : List (List ℤ)) → (picks : List ℕ) → (given : ℕ) → Option Ending → Type 0
-IsAskedFor n items [] given close = (given ≡ 0) × (close ≡ None)
-IsAskedFor n items (p ∷ picks) given close = given ≡ sent_before_last n items (p ∷ picks) + one_waits close
+abbrev pub IsRequestedBy : Network → (items : List (List ℤ)) → (picks : List ℕ) → (given : ℕ) → Option Ending → Type 0
+IsRequestedBy n items [] given close = (given ≡ 0) × (close ≡ None)
+IsRequestedBy n items (p ∷ picks) given close = given ≡ sent_before_last n items (p ∷ picks) + one_waits close
 
 -- items of the stream were requested before these picks, and it gave these and then ended so, if it did; and this holds of them
 -- and whatever may still come after them
@@ -33,7 +33,7 @@ pub record HoldsOn (n : Network) (rest left : Option (List ℕ)) (before now : �
   pub stream : Seen
   pub items : List (List ℤ)
   pub gives : Gives (width_of n) rest left before now stream items (closed_so close)
-  pub asked : (later : List (List ℤ)) → MayCome n close later → IsAskedFor n (items ++ later) picks (length items) close
+  pub request : (later : List (List ℤ)) → MayCome n close later → IsRequestedBy n (items ++ later) picks (length items) close
   pub holds : (later : List (List ℤ)) → MayCome n close later → P (items ++ later)
 
 -- the trace is that of a run of the network

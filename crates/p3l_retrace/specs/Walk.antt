@@ -18,7 +18,7 @@ use Rattle.p3l_run.specs.Start.{fresh, most_from}
 use Rattle.p3l_trace.specs.declared.trace.TraceLine.{TraceLine}
 use Rattle.p3l_trace.specs.Agreement.{AgreesWith, AllAgree, picks_of}
 use Rattle.p3l_retrace.specs.declared.walk.Walk.{Walk}
-use Rattle.p3l_retrace.specs.Retraced.{IsAskedFor, one_waits}
+use Rattle.p3l_retrace.specs.Retraced.{IsRequestedBy, one_waits}
 
 -- what the outside reports: the rest of the input and the count of its faults
 pub record Outside : Type 0 where
@@ -58,8 +58,8 @@ pub record HasPassed (n : Network) (before now : Outside) (walked : List TraceLi
 -- a walk along a trace of the network is under way: items were requested before the picks of the lines passed, and none after
 pub record Walks (n : Network) (before now : Outside) (walked : List TraceLine) (w : Walk) : Type 0 where
   pub passed : HasPassed n before now walked w
-  pub asked : (later : List (List ℤ)) → MayCome n w.close later →
-      IsAskedFor n (passed.items ++ later) (picks_of walked) (length passed.items) w.close
+  pub request : (later : List (List ℤ)) → MayCome n w.close later →
+      IsRequestedBy n (passed.items ++ later) (picks_of walked) (length passed.items) w.close
 
 -- an item was requested once more, so the inbox is filled, as long as the stream isn't ended, and the machine can fire just where
 -- the network can

@@ -171,7 +171,7 @@ module _ (job : Job) where
               outcomes = d.outcomes;
               walked = d.walked;
               gives = f.gives job.before.rest job.before.read_faults d.items d.gives;
-              stands = steps.stands_fed n d.laws job.schedule e.machine m e.picker d.items e.close close d.outcomes e.idle d.walked d.stands f.kept f.more f.offers f.wide f.asked;
+              stands = steps.stands_fed n d.laws job.schedule e.machine m e.picker d.items e.close close d.outcomes e.idle d.walked d.stands f.kept f.more f.offers f.wide f.request;
               trap_is = d.trap_is;
               sum_is = d.sum_is;
               put = d.put;
@@ -189,7 +189,7 @@ module _ (job : Job) where
       fed_in_vain = subst (λ k. FeedsInVain k e.stream s now.rest left now.read_faults after e.close) same_width vain
 
       pub unended_then : (x : Ending) → e.close ≡ Some x → ⊥
-      unended_then x is = no_end (sym fed_in_vain.asked ∙ is)
+      unended_then x is = no_end (sym fed_in_vain.request ∙ is)
         where
           no_end : ◌≡◌ {A = Option Ending} None (Some x) → ⊥
           no_end h = cc

@@ -121,7 +121,7 @@ same_feeds width m s rest faults close filled = record {
   offers = refl;
   wide = tt;
   filled = filled;
-  asked = λ some. absurd (some refl);
+  request = λ some. absurd (some refl);
   kept = λ e is. is;
   empty = λ e none is. absurd (no_end e (sym none ∙ is));
 }
@@ -138,7 +138,7 @@ module _ (width : ℕ) (s s' : Seen) (rest left : Option (List ℕ)) (before now
   gives_so more end a b = subst (λ e. GivesMore width rest left before now s s' close more e) b (subst (λ i. GivesMore width rest left before now s s' close i (closed_by answer)) a gives_answer)
 
   pub in_vain : (more : List (List ℤ)) (end : Option (Result Ending NoMemory)) → items_in answer ≡ more → closed_by answer ≡ end → AllByRecursion (λ (words : List ℤ). length words ≡ width) more → FeedsInVain width s s' rest left before now close
-  in_vain more end a b wide = record { more = more; closed = end; gives = gives_so more end a b; wide = wide; asked = not_ended }
+  in_vain more end a b wide = record { more = more; closed = end; gives = gives_so more end a b; wide = wide; request = not_ended }
 
   pub item_feeds : (m m' : machine.Seen) (item : List ℤ) → items_in answer ≡ item ∷ [] → closed_by answer ≡ None → length item ≡ width → m.inbox ≡ None → m' ≡ record m { inbox = Some item } → Feeds width m m' s s' rest left before now close None
   item_feeds m m' item a b wide empty offered = record {
@@ -147,7 +147,7 @@ module _ (width : ℕ) (s s' : Seen) (rest left : Option (List ℕ)) (before now
     offers = (empty, offered, refl);
     wide = (wide, tt);
     filled = λ e none. (let z : Some item ≡ None = sym (ap (λ (k : machine.Seen). k.inbox) offered) ∙ none in cc);
-    asked = λ some. not_ended;
+    request = λ some. not_ended;
     kept = λ e is. absurd (no_end e (sym not_ended ∙ is));
     empty = λ e none is. absurd (no_end e is);
   }
@@ -159,7 +159,7 @@ module _ (width : ℕ) (s s' : Seen) (rest left : Option (List ℕ)) (before now
     offers = refl;
     wide = tt;
     filled = λ none. cc;
-    asked = λ some. absurd (some refl);
+    request = λ some. absurd (some refl);
     kept = λ other is. absurd (no_end other (sym not_ended ∙ is));
     empty = λ other none is. empty;
   }

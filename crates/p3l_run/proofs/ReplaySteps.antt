@@ -451,7 +451,7 @@ module _ (r : Replay) (used unused : List ℕ) (now : Outside) (e : Execution) (
     used = used;
     unused = unused;
     replays = d;
-    asked = λ x ends. absurd (no_end x (sym open_is ∙ ends));
+    request = λ x ends. absurd (no_end x (sym open_is ∙ ends));
     over = λ none still. absurd (some none);
   }
 
@@ -461,7 +461,7 @@ module _ (r : Replay) (used unused : List ℕ) (now : Outside) (e : Execution) (
     used = used;
     unused = unused;
     replays = d;
-    asked = λ x ends. absurd (no_end x (sym open_is ∙ ends));
+    request = λ x ends. absurd (no_end x (sym open_is ∙ ends));
     over = λ none still. over;
   }
 
@@ -471,7 +471,7 @@ halts_closed r used unused p now old e d f open_is ended = record {
   used = used;
   unused = p ∷ unused;
   replays = d;
-  asked = λ x ends. (λ none. cc, f.empty x open_is ends);
+  request = λ x ends. (λ none. cc, f.empty x open_is ends);
   over = λ none still. absurd (ended still);
 }
 
@@ -522,7 +522,7 @@ module _ (r : Replay) (now : Outside) (e : Execution) (h : Halts r now e) where
     follows = d.follows;
     untrapped = d.untrapped;
     filled = d.filled;
-    asked = h.asked;
+    request = h.request;
   }
 
   -- its state was saved

@@ -310,9 +310,9 @@ module _ (n : Network) (laws : Laws n) (schedule : Schedule) where
         none_open e h = cc
 
     pub stands_fed : (more : List (List ℤ)) → Offers m m' more → AllByRecursion (λ (words : List ℤ). length words ≡ width_of n) more → (more ≢ [] → close ≡ None) → Stands n schedule m' w (given ++ more) close' outcomes idle walked
-    stands_fed [] offers wide asked = stands_same offers
-    stands_fed (item ∷ []) offers wide asked = stands_offered item offers.0 offers.1 wide.0 (asked (λ e. cc))
-    stands_fed (item ∷ other ∷ more) offers wide asked = absurd (let none = offers.2 in cc)
+    stands_fed [] offers wide request = stands_same offers
+    stands_fed (item ∷ []) offers wide request = stands_offered item offers.0 offers.1 wide.0 (request (λ e. cc))
+    stands_fed (item ∷ other ∷ more) offers wide request = absurd (let none = offers.2 in cc)
 
   -- where the machine stands
   module _ (m : Seen) (w : Way) (given : List (List ℤ)) (close : Option Ending) (outcomes : List Outcome) (idle : ℕ) (walked : List TraceLine) (s : Stands n schedule m w given close outcomes idle walked) where

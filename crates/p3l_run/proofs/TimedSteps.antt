@@ -198,14 +198,14 @@ module _ (job : Job) (prices : List ℕ) where
     fed_at : (m : machine.Seen) (new : Clock) (close : Option Ending) (more : List (List ℤ)) → Offers e.machine m more → AllByRecursion (λ (words : List ℤ). length words ≡ width_of n) more
         → (more ≢ [] → e.close ≡ None) → ((x : Ending) → e.close ≡ Some x → close ≡ Some x) → IsRenewed m k new
         → (later : List (List ℤ)) → MayCome n close later → AtTime n prices new m ((d.items ++ more) ++ later) is.picks
-    fed_at m new close [] same wide asked kept renews later may =
+    fed_at m new close [] same wide request kept renews later may =
         let was = is.at later (record { wide = may.wide; none = λ x c. may.none x (kept x c) }) in
         let renews_old : IsRenewed e.machine k new = subst (λ x. IsRenewed x k new) same renews in
         subst (λ x. AtTime n prices new x ((d.items ++ []) ++ later) is.picks) (sym same)
         (subst (λ xs. AtTime n prices new e.machine (xs ++ later) is.picks) (sym (append-nil d.items))
         (record { times = same_keeps e.machine _ k new was.times renews_old; begins = was.begins }))
-    fed_at m new close (item ∷ []) offers wide asked kept renews later may =
-        let open_now = asked (λ x. cons_none x) in
+    fed_at m new close (item ∷ []) offers wide request kept renews later may =
+        let open_now = request (λ x. cons_none x) in
         let was = is.at (item ∷ later) (record { wide = (wide.0, may.wide); none = λ x c. absurd (none_open x (sym open_now ∙ c)) }) in
         let renews_new : IsRenewed (record e.machine { inbox = Some item }) k new = subst (λ x. IsRenewed x k new) offers.1 renews in
         subst (λ x. AtTime n prices new x ((d.items ++ item ∷ []) ++ later) is.picks) (sym offers.1)
@@ -217,7 +217,7 @@ module _ (job : Job) (prices : List ℕ) where
 
         none_open : (x : Ending) → ◌≡◌ {A = Option Ending} None (Some x) → ⊥
         none_open x h = cc
-    fed_at m new close (item ∷ other ∷ more) offers wide asked kept renews later may = absurd (let none = offers.2 in cc)
+    fed_at m new close (item ∷ other ∷ more) offers wide request kept renews later may = absurd (let none = offers.2 in cc)
 
     same_width : (node_at e.machine.tree 0).ins ≡ width_of n
     same_width = ap (λ t. (node_at t 0).ins) d.stands.runs.tree
@@ -244,7 +244,7 @@ module _ (job : Job) (prices : List ℕ) where
                 outcomes = d.outcomes;
                 walked = d.walked;
                 gives = f.gives job.before.rest job.before.read_faults d.items d.gives;
-                stands = steps.stands_fed n d.laws (schedules.Recorded is.picks) e.machine m e.picker d.items e.close close d.outcomes e.idle d.walked d.stands f.kept f.more f.offers f.wide f.asked;
+                stands = steps.stands_fed n d.laws (schedules.Recorded is.picks) e.machine m e.picker d.items e.close close d.outcomes e.idle d.walked d.stands f.kept f.more f.offers f.wide f.request;
                 trap_is = d.trap_is;
                 sum_is = d.sum_is;
                 put = d.put;
@@ -257,7 +257,7 @@ module _ (job : Job) (prices : List ℕ) where
               none_idle = is.none_idle;
               prices_are = renews.prices ∙ is.prices_are;
               busy = λ p. ap (λ b. slice_index b p) renews.busy ∙ is.busy p;
-              at = fed_at m new close f.more f.offers f.wide f.asked f.kept renews;
+              at = fed_at m new close f.more f.offers f.wide f.request f.kept renews;
             };
             filled = f.filled;
           },

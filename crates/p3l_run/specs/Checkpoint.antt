@@ -49,7 +49,7 @@ pub record Reaches (n : Network) (picks : List ℕ) (rest left : Option (List �
   pub filled : (front : List ℕ) (p : ℕ) → used ≡ front ++ p ∷ [] → (later : List (List ℤ)) → HaveInWords n.tree later →
       (course_under n (items ++ later) front).state.sent < length items
   -- where the stream ended, it did so in place of an item, for a pick that was not made then
-  pub asked : (e : Ending) → close ≡ Some e → (unused ≢ []) × (m.inbox ≡ None)
+  pub request : (e : Ending) → close ≡ Some e → (unused ≢ []) × (m.inbox ≡ None)
 
 -- the state that it came to was saved: the picks are ended, or the stream answered its end in place of an item
 pub record IsSaved (n : Network) (picks : List ℕ) (rest left : Option (List ℕ)) (before now : ℕ) (taken taken' : Option (List ℕ)) (saved : Checkpoint) : Type 0 where

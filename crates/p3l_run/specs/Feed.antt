@@ -49,7 +49,7 @@ pub record Feeds (width : ℕ) (m m' : machine.Seen) (s s' : Seen) (rest left : 
   pub offers : Offers m m' more
   pub wide : AllByRecursion (λ (words : List ℤ). length words ≡ width) more
   pub filled : close' ≡ None → m'.inbox ≢ None
-  pub asked : more ≢ [] → close ≡ None
+  pub request : more ≢ [] → close ≡ None
   pub kept : (e : Ending) → close ≡ Some e → close' ≡ Some e
   pub empty : (e : Ending) → close ≡ None → close' ≡ Some e → m'.inbox ≡ None
 
@@ -59,7 +59,7 @@ pub record FeedsInVain (width : ℕ) (s s' : Seen) (rest left : Option (List ℕ
   pub closed : Option (Result Ending NoMemory)
   pub gives : GivesMore width rest left before now s s' close more closed
   pub wide : AllByRecursion (λ (words : List ℤ). length words ≡ width) more
-  pub asked : close ≡ None
+  pub request : close ≡ None
 
 abbrev pub IsFed : ℕ → machine.Seen → machine.Seen → Seen → Seen → Option (List ℕ) → Option (List ℕ) → ℕ → ℕ → Option Ending → Result (Option Ending) NoMemory → Type 0
 IsFed width m m' s s' rest left before now close (Ok close') = Feeds width m m' s s' rest left before now close close'

@@ -104,7 +104,7 @@ pub record Halts (r : Replay) (now : Outside) (e : Execution) : Type 0 where
   pub used : List ℕ
   pub unused : List ℕ
   pub replays : Replays r used unused now e
-  pub asked : (x : Ending) → e.close ≡ Some x → (unused ≢ []) × (e.machine.inbox ≡ None)
+  pub request : (x : Ending) → e.close ≡ Some x → (unused ≢ []) × (e.machine.inbox ≡ None)
   pub over : e.report.trap ≡ None → e.close ≡ None → unused ≡ []
 
 -- some run is to be made of these picks, with these bodies of modules

@@ -154,7 +154,7 @@ fn each_schedule_runs_item_by_item(rt: HostRuntime) -> Result<(), Fail> {
 }
 
 #[test]
-fn no_item_is_asked_for_before_the_network_wants_it(rt: HostRuntime) -> Result<(), Fail> {
+fn no_item_is_requested_before_the_network_wants_it(rt: HostRuntime) -> Result<(), Fail> {
     let lines: &[u8] = b"5\n5\n5\n5\n5\n5\n5\n5\n5\n5\n5\n5\n5\n5\n5\n5\n";
     // Under the round robin, and by generators of four seeds.
     let table: [(Option<u64>, &str, u64); 5] = [

@@ -134,7 +134,7 @@ fn a_trap_has_no_words(rt: HostRuntime) -> Result<(), Fail> {
 }
 
 #[test]
-fn no_line_is_kept_unasked(rt: HostRuntime) -> Result<(), Fail> {
+fn no_line_is_kept_without_a_request(rt: HostRuntime) -> Result<(), Fail> {
     let traced = traced_of(&rt, rt.alloc(), true, None, Keeping::Nothing, b"5\n-7\n")?;
     assert!(rt; matches!(traced, Some((None, -2))));
     Ok(())

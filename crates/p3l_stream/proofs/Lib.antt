@@ -11,7 +11,7 @@ pub mod Blanks
 pub mod Passed
 pub mod Pieces
 pub mod Reading
-pub mod Asking
+pub mod Requests
 pub mod AtHand
 pub mod Counting
 pub mod LinesAfter

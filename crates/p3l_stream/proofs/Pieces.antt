@@ -3,8 +3,8 @@ use Rattle.std.proofs.Common.{◌≡◌, ◌+◌, ◌≤◌, ℕ, List, ◌∙�
 use Rattle.std.specs.Result.{IsErr}
 use Rattle.p3l_base.specs.declared.memory.NoMemory.{NoMemory}
 use Rattle.p3l_io.specs.declared.fault.Failed.{Failed}
-use Rattle.p3l_io.specs.Told.{Takes}
-use Rattle.p3l_stream.specs.Passing.{AsksOnce, TakesPiece}
+use Rattle.p3l_io.specs.Content.{Takes}
+use Rattle.p3l_stream.specs.Passing.{RequestsOnce, TakesPiece}
 use Rattle.p3l_stream.specs.Seen.{Seen}
 use Rattle.p3l_stream.proofs.Takings.{IsTaken-one}
 
@@ -28,7 +28,7 @@ takes_piece s rest left buf n room held held' is_open within most limit all gave
     }
 
 -- out of memory for a piece
-pub asks_in_vain : (old new : Seen) (rest left : Option (List ℕ)) (result : Result (Result (Unit {0}) Failed) NoMemory) (piece : List ℕ)
-    → IsErr result → TakesPiece old new rest left piece old.held → AsksOnce old new rest left result
-asks_in_vain old new rest left (Ok x) piece err took = absurd (not_both true refl (sym err))
-asks_in_vain old new rest left (Err e) piece err took = (piece, took)
+pub requests_in_vain : (old new : Seen) (rest left : Option (List ℕ)) (result : Result (Result (Unit {0}) Failed) NoMemory) (piece : List ℕ)
+    → IsErr result → TakesPiece old new rest left piece old.held → RequestsOnce old new rest left result
+requests_in_vain old new rest left (Ok x) piece err took = absurd (not_both true refl (sym err))
+requests_in_vain old new rest left (Err e) piece err took = (piece, took)

@@ -1,7 +1,7 @@
 -- What one call takes.
 use Rattle.std.proofs.Common.{ℕ, List, ◌++◌, take, drop, Option, Some, None, Ok, sym, ap, ◌∙◌}
 use Rattle.std.proofs.lemmas.List.{take-append-drop}
-use Rattle.p3l_io.specs.Told.{Takes}
+use Rattle.p3l_io.specs.Content.{Takes}
 use Rattle.p3l_stream.specs.Taken.{IsTaken}
 
 -- what a call gave was taken

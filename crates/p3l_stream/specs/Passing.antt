@@ -70,8 +70,8 @@ pub record TakesPiece (old new : Seen) (rest left : Option (List ℕ)) (piece he
   pub all : new.at_end ≡ true → IsAtEnd left
 
 -- what asking the source once comes to
-abbrev pub AsksOnce : Seen → Seen → Option (List ℕ) → Option (List ℕ) → Result (Result (Unit {0}) Failed) NoMemory → Type 0
-AsksOnce old new rest left (Ok (Ok done)) =
+abbrev pub RequestsOnce : Seen → Seen → Option (List ℕ) → Option (List ℕ) → Result (Result (Unit {0}) Failed) NoMemory → Type 0
+RequestsOnce old new rest left (Ok (Ok done)) =
     (piece : List ℕ) × TakesPiece old new rest left piece (old.held ++ piece) × ((0 < length piece) ⊎ (new.at_end ≡ true))
-AsksOnce old new rest left (Ok (Err failed)) = (new ≡ old) × IsTaken rest left []
-AsksOnce old new rest left (Err want) = (piece : List ℕ) × TakesPiece old new rest left piece old.held
+RequestsOnce old new rest left (Ok (Err failed)) = (new ≡ old) × IsTaken rest left []
+RequestsOnce old new rest left (Err want) = (piece : List ℕ) × TakesPiece old new rest left piece old.held

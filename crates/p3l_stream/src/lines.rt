@@ -4,7 +4,7 @@ ghost use Rattle.std.specs.Prelude.{◌≡◌, ◌+◌, ◌≤◌, ◌<◌, ◌�
 ghost use Rattle.p3l_stream.specs.Answers.{Answers, NextCause, TakeCause};
 ghost use Rattle.p3l_stream.specs.Ended.{HasLine, IsLine};
 ghost use Rattle.p3l_stream.specs.Lines.{is_feed};
-ghost use Rattle.p3l_stream.specs.Passing.{AsksOnce, MayPassFilled, MayPassLine, OnlyPasses, PassesLast, moved_past};
+ghost use Rattle.p3l_stream.specs.Passing.{MayPassFilled, MayPassLine, OnlyPasses, PassesLast, RequestsOnce, moved_past};
 ghost use Rattle.p3l_stream.specs.Seen.{Seen, answer_of, closed_by, item_count, most_items, started};
 ghost use Rattle.p3l_stream.specs.Words.{number_of};
 
@@ -166,7 +166,7 @@ impl Lines {
     fn take_piece<S: Source>(&mut self, source: &mut S) -> Result<Result<(), Failed>, NoMemory>
         requires open { self.old.at_end ≡ false }
         requires room { self.old.taken < self.old.limit }
-        ensures asks { AsksOnce self.old self.new (S.rest source.old) (S.rest source.new) result }
+        ensures requests { RequestsOnce self.old self.new (S.rest source.old) (S.rest source.new) result }
         ensures cause { TakeCause result (S.faults source.old) (S.faults source.new) }
     {
         let mut piece = [0u8; PIECE];
@@ -184,7 +184,7 @@ impl Lines {
         requires filled { 0 < length buf.old }
         requires short { length buf.old ≤ 4096 }
         requires room { self.old.taken + length buf.old ≤ self.old.limit }
-        ensures asks { AsksOnce self.old self.new (S.rest source.old) (S.rest source.new) result }
+        ensures requests { RequestsOnce self.old self.new (S.rest source.old) (S.rest source.new) result }
         ensures cause { TakeCause result (S.faults source.old) (S.faults source.new) }
     {
         match source.take(buf) {

@@ -11,7 +11,7 @@ use Rattle.p3l_format.specs.Format.{read_all}
 use Rattle.p3l_format.specs.Line.{line_number}
 use Rattle.p3l_format.specs.FirstLine.{IsWhole, IsFirstBadLine}
 use Rattle.p3l_format.specs.laws.Decimal.{lawful_number_then}
-use Rattle.p3l_format.specs.laws.FirstLine.{Each, IsInLine, IsOneLine, IsLine, IsCut, TellsLine, part_then_line, part_is_within, whole_append, whole_line, lines_are_whole, cut_at, cut_then_line, number_then_line, number_then_tells, number_ends_line, is_line, both_tell, each_both, each_record, each_text_then, each_then_text, each_until, tells_record, tells_rest, tells_text_then, tells_until, first_bad}
+use Rattle.p3l_format.specs.laws.FirstLine.{Each, IsInLine, IsOneLine, IsLine, IsCut, ReportsLine, part_then_line, part_is_within, whole_append, whole_line, lines_are_whole, cut_at, cut_then_line, number_then_line, number_then_reports, number_ends_line, is_line, both_report, each_both, each_record, each_text_then, each_then_text, each_until, reports_record, reports_rest, reports_text_then, reports_until, first_bad}
 
 -- ---- lines
 
@@ -50,7 +50,7 @@ unfolding counts_format
 counts_line = record {
   law = lawful_counts;
   one = each_both IsInLine IsOneLine IsOneLine _ _ part_then_line (number_then_line 0 most_count space refl) (number_ends_line 0 most_count);
-  tells = both_tell _ _ (lawful_number_then 0 most_count space (λ rest. refl)) (number_then_line 0 most_count space refl) (number_then_tells 0 most_count space) (number_then_tells 0 most_count feed);
+  reports = both_report _ _ (lawful_number_then 0 most_count space (λ rest. refl)) (number_then_line 0 most_count space refl) (number_then_reports 0 most_count space) (number_then_reports 0 most_count feed);
 }
 
 header_is_line : IsOneLine header
@@ -58,9 +58,9 @@ header_is_line = (112 ∷ 51 ∷ 108 ∷ 45 ∷ 116 ∷ 114 ∷ 97 ∷ 99 ∷ 10
 
 -- ---- the lines of picks, and the word that begins the last line
 
-lines_tell : TellsLine lines_format
+lines_report : ReportsLine lines_format
 unfolding lines_format
-lines_tell = tells_until line_format next_line first_line end_word pick_line lines_series.differs (part_is_within end_word refl) lawful_lines
+lines_report = reports_until line_format next_line first_line end_word pick_line lines_series.differs (part_is_within end_word refl) lawful_lines
 
 lines_cut : Each IsCut lines_format
 unfolding lines_format
@@ -68,17 +68,17 @@ lines_cut = each_until IsWhole IsInLine IsCut line_format next_line first_line e
 
 -- ---- the whole
 
-body_tells : TellsLine body_format
+body_reports : ReportsLine body_format
 unfolding body_format
-body_tells = tells_record _ _ _ (λ _. refl) (λ _. refl) (tells_rest lines_format counts_format lines_tell lines_cut counts_line (0, 0) (counts_fit 0 0 (omega arith) (omega arith)))
+body_reports = reports_record _ _ _ (λ _. refl) (λ _. refl) (reports_rest lines_format counts_format lines_report lines_cut counts_line (0, 0) (counts_fit 0 0 (omega arith) (omega arith)))
 
 body_whole : Each IsWhole body_format
 unfolding body_format
 body_whole = each_record IsWhole _ _ _ (each_both IsCut IsOneLine IsWhole lines_format counts_format cut_then_line lines_cut counts_line.one)
 
-trace_tells : TellsLine trace_format
+trace_reports : ReportsLine trace_format
 unfolding trace_format
-trace_tells = tells_text_then header body_format header_is_line body_tells
+trace_reports = reports_text_then header body_format header_is_line body_reports
 
 trace_whole : Each IsWhole trace_format
 unfolding trace_format
@@ -86,4 +86,4 @@ trace_whole = each_text_then IsWhole IsWhole IsWhole header body_format whole_ap
 
 -- the line that is reported of a refused text
 pub trace_first_bad : (s : List ℕ) (f : Fault) → read_all trace_format s ≡ Err f → IsFirstBadLine trace_format s (line_number s f.left)
-trace_first_bad s f e = first_bad trace_format trace_tells trace_whole s f e
+trace_first_bad s f e = first_bad trace_format trace_reports trace_whole s f e

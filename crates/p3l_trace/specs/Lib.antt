@@ -1,5 +1,5 @@
 pub mod Kind
 pub mod Text
-pub mod Told
+pub mod Answers
 pub mod Agreement
 pub mod laws

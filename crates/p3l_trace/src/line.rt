@@ -8,7 +8,7 @@ ghost use Rattle.p3l_trace.specs.laws.Text.{line_takes};
 use crate::kind::{read_said, write_said};
 use crate::trace::TraceLine;
 use p3l_base::NoMemory;
-use p3l_format::{Item, ReadError, read_number_then, read_text, told_at, write_number_then};
+use p3l_format::{Item, ReadError, fault_at, read_number_then, read_text, write_number_then};
 use std::alloc::Global;
 
 /// A line of a pick.
@@ -65,7 +65,7 @@ impl Item for LineItem {
     ) -> Result<(TraceLine, &'a [u8]), ReadError> {
         match read_pick(bytes) {
             Ok(read) => Ok(read),
-            Err(error) => Err(told_at(bytes, error)),
+            Err(error) => Err(fault_at(bytes, error)),
         }
     }
 

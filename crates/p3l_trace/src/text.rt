@@ -4,7 +4,7 @@ ghost use Rattle.std.specs.Prelude.{◌≡◌, ℕ, ◌++◌, List, [], true, Ok
 ghost use Rattle.p3l_format.specs.Format.{Gives, read_all};
 ghost use Rattle.p3l_trace.specs.declared.trace.Traced.{Traced as TheTraced};
 ghost use Rattle.p3l_trace.specs.Text.{lines_format, counts_format, body_format, trace_format, line_format, next_line, first_line};
-ghost use Rattle.p3l_trace.specs.Told.{Answers, TellsFirst};
+ghost use Rattle.p3l_trace.specs.Answers.{Answers, ReportsFirst};
 ghost use Rattle.p3l_format.specs.Series.{fits_from, spell_from};
 ghost use Rattle.p3l_trace.specs.laws.Text.{lawful_trace};
 
@@ -131,7 +131,7 @@ pub fn read_trace(alloc: Global, text: &[u8]) -> Result<Traced, TraceRefusal>
     ensures only { (traced : TheTraced) → trace_format.fits traced ≡ true
         → text.now ≡ trace_format.spell traced → Answers text.now result (Ok traced) }
     // The line that is reported is the first that isn't of its form, whatever reads it.
-    ensures first { TellsFirst text.now result }
+    ensures first { ReportsFirst text.now result }
     // Which line the format's own reading reports.
     ensures exact { Answers text.now result (read_all trace_format text.now) }
 {

@@ -127,8 +127,8 @@ none_unless true v never = absurd (never refl)
 none_unless false v never = refl
 
 -- what digits must be, to be a number's
-told : (ds : List ℕ) → (bytes_eq (decimal (digits_value 10 ds)) ds && ltb (digits_value 10 ds) (2 ^ 128)) ≡ true → (decimal (digits_value 10 ds) ≡ ds) × (digits_value 10 ds < 2 ^ 128)
-told ds e = (
+reported : (ds : List ℕ) → (bytes_eq (decimal (digits_value 10 ds)) ds && ltb (digits_value 10 ds) (2 ^ 128)) ≡ true → (decimal (digits_value 10 ds) ≡ ds) × (digits_value 10 ds < 2 ^ 128)
+reported ds e = (
   (bytes_eq-Decides (decimal (digits_value 10 ds)) ds).0 (first_true (bytes_eq (decimal (digits_value 10 ds)) ds) _ e),
   ltb-true (digits_value 10 ds) (2 ^ 128) (second_true (bytes_eq (decimal (digits_value 10 ds)) ds) _ e),
 )
@@ -142,7 +142,7 @@ number_parsed {E = E} ds r n is digits some lead parses =
 
 pub number_refused : {E : Type 0} (ds : List ℕ) (e : E) → list_all is_ascii_digit ds ≡ true → 0 < length ds → ParsesUnsigned 128 10 ds (Err e) → number_of (2 ^ 128) ds ≡ None
 number_refused ds e digits some parses =
-    none_unless _ (digits_value 10 ds) (λ all. parse_digits own 128 ds (Err e) parses digits (some, (told ds all).1))
+    none_unless _ (digits_value 10 ds) (λ all. parse_digits own 128 ds (Err e) parses digits (some, (reported ds all).1))
 
 no_zero_first : (d e : ℕ) (ds : List ℕ) → (length (e ∷ ds) == 0 || not (d == 48)) ≡ false → d ≡ 48
 no_zero_first d e ds fails =
@@ -155,13 +155,13 @@ no_zero_first d e ds fails =
     ]
 
 pub number_not_plain : (ds : List ℕ) → is_plain ds ≡ false → number_of (2 ^ 128) ds ≡ None
-number_not_plain [] fails = none_unless _ 0 (λ all. let t : decimal 0 ≡ [] = (told [] all).0 in let len : length (decimal 0) ≡ 0 = ap length t in let some = decimal_nonempty 0 (lit< tt) in omega arith)
+number_not_plain [] fails = none_unless _ 0 (λ all. let t : decimal 0 ≡ [] = (reported [] all).0 in let len : length (decimal 0) ≡ 0 = ap length t in let some = decimal_nonempty 0 (lit< tt) in omega arith)
 number_not_plain (d ∷ []) fails = absurd cc
 number_not_plain (d ∷ e ∷ ds) fails =
     let all_ds : List ℕ = d ∷ e ∷ ds in
     let lead : d ≡ 48 = no_zero_first d e ds fails in
     none_unless _ (digits_value 10 all_ds) (λ all.
-    let t = told all_ds all in
+    let t = reported all_ds all in
     elim (cases_lt (digits_value 10 all_ds) 10) [
       | inl small ↦
           let one : all_ds ≡ (48 + digits_value 10 all_ds) ∷ [] = sym t.0 ∙ decimal_digit (digits_value 10 all_ds) small in

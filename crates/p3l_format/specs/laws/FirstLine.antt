@@ -183,7 +183,7 @@ pub record IsBadAt {A : Type 0} (format : Format ℕ A) (s : List ℕ) (left : �
   pub bad : (v : A) (rest more : List ℕ) → format.fits v ≡ true → format.spell v ++ rest ≡ before ++ more → BeginAlike more (part ++ place) → ⊥
 
 -- each fault is in the first line that isn't of the form
-pub record TellsLine {A : Type 0} (format : Format ℕ A) : Type 0 where
+pub record ReportsLine {A : Type 0} (format : Format ℕ A) : Type 0 where
   pub law : IsLawful format
   pub some : (v : A) × (format.fits v ≡ true)
   pub fault : (s : List ℕ) (f : Fault) → format.read s ≡ Err f → IsBadAt format s f.left
@@ -200,14 +200,14 @@ at_front : (s : List ℕ) (left : ℕ) → left ≡ length s → IsInFront s lef
 at_front s left is = record { part = []; place = s; is = refl; left_is = sym is; inside = refl }
 
 -- each fault is in the first line
-abbrev pub TellsInFront : {A : Type 0} → Format ℕ A → Type 0
-TellsInFront format = (s : List ℕ) (f : Fault) → format.read s ≡ Err f → IsInFront s f.left
+abbrev pub ReportsInFront : {A : Type 0} → Format ℕ A → Type 0
+ReportsInFront format = (s : List ℕ) (f : Fault) → format.read s ≡ Err f → IsInFront s f.left
 
 -- each spelling is one line, and each fault is in it
 pub record IsLine {A : Type 0} (format : Format ℕ A) : Type 0 where
   pub law : IsLawful format
   pub one : Each IsOneLine format
-  pub tells : TellsInFront format
+  pub reports : ReportsInFront format
 
 step_failed : {A B : Type 0} (r : Result A Fault) (g : A → Result B Fault) (f : Fault) → (r >>= g) ≡ Err f → (r ≡ Err f) ⊎ ((x : A) × (r ≡ Ok x) × (g x ≡ Err f))
 step_failed (Ok x) g f e = inr (x, refl, e)
@@ -222,7 +222,7 @@ unfolding line
 is_line inner law one = record {
   law = lawful_line inner law;
   one = one;
-  tells = λ s f e. at_front s f.left (at_line_failed s (inner.read s) f e);
+  reports = λ s f e. at_front s f.left (at_line_failed s (inner.read s) f e);
 }
 
 -- what is spelled in front is one value
@@ -255,11 +255,11 @@ bad_front format s left h good bad = record {
   bad = λ v rest more fits is alike. bad v rest more fits is (subst (λ (t : List ℕ). BeginAlike more t) (sym h.is) alike);
 }
 
-pub tells_line : {A : Type 0} (format : Format ℕ A) → IsLine format → (v : A) → format.fits v ≡ true → TellsLine format
-tells_line format l v fits = record {
+pub reports_line : {A : Type 0} (format : Format ℕ A) → IsLine format → (v : A) → format.fits v ≡ true → ReportsLine format
+reports_line format l v fits = record {
   law = l.law;
   some = (v, fits);
-  fault = λ s f e. bad_front format s f.left (l.tells s f e) (v, format.spell v, fits, refl) (line_refused format l s f e);
+  fault = λ s f e. bad_front format s f.left (l.reports s f e) (v, format.spell v, fits, refl) (line_refused format l s f e);
 }
 
 pub lines_are_whole : {A : Type 0} (format : Format ℕ A) → IsLine format → Each IsWhole format
@@ -275,8 +275,8 @@ low_fits : (word : List ℕ) (low high : ℕ) → low ≤ high → low < 2 ^ 128
 unfolding number_line line text_then number_then then_text within number_text
 low_fits word low high le lt = rw (lt-ltb low (2 ^ 128) lt, le-leb low low (omega arith), le-leb low high le) refl
 
-pub number_line_tells : (word : List ℕ) (low high : ℕ) → IsInLine word → low ≤ high → low < 2 ^ 128 → TellsLine (number_line word low high)
-number_line_tells word low high none le lt = tells_line _ (number_line_is word low high none) low (low_fits word low high le lt)
+pub number_line_reports : (word : List ℕ) (low high : ℕ) → IsInLine word → low ≤ high → low < 2 ^ 128 → ReportsLine (number_line word low high)
+number_line_reports word low high none le lt = reports_line _ (number_line_is word low high none) low (low_fits word low high le lt)
 
 -- a fault after whole lines that are of the form
 after_lines : {A B : Type 0} (inner : Format ℕ A) (outer : Format ℕ B) (front s t : List ℕ) (left : ℕ) → IsWhole front → t ≡ front ++ s
@@ -336,7 +336,7 @@ both_peel first second law x fitting v rest more fits e =
     let same = same_front first law v.0 x (second.spell v.1 ++ rest) more (first_true (first.fits v.0) (second.fits v.1) fits) fitting (sym (append_assoc (first.spell v.0) (second.spell v.1) rest) ∙ e) in
     (v.1, second_true (first.fits v.0) (second.fits v.1) fits, same.1)
 
-both_fault : {A B : Type 0} (first : Format ℕ A) (second : Format ℕ B) → TellsLine first → Each IsWhole first → TellsLine second → (s : List ℕ) (f : Fault) → (both first second).read s ≡ Err f → IsBadAt (both first second) s f.left
+both_fault : {A B : Type 0} (first : Format ℕ A) (second : Format ℕ B) → ReportsLine first → Each IsWhole first → ReportsLine second → (s : List ℕ) (f : Fault) → (both first second).read s ≡ Err f → IsBadAt (both first second) s f.left
 unfolding pair
 both_fault first second t whole u s f e =
     elim (step_failed (first.read s) (λ x. second.read x.1 >>= λ y. Ok ((x.0, y.0), y.1)) f e) [
@@ -351,9 +351,9 @@ both_fault first second t whole u s f e =
           ]
     ]
 
-pub tells_both : {A B : Type 0} (first : Format ℕ A) (second : Format ℕ B) → TellsLine first → Each IsWhole first → TellsLine second → TellsLine (both first second)
+pub reports_both : {A B : Type 0} (first : Format ℕ A) (second : Format ℕ B) → ReportsLine first → Each IsWhole first → ReportsLine second → ReportsLine (both first second)
 unfolding pair
-tells_both first second t whole u = record {
+reports_both first second t whole u = record {
   law = lawful_both first second t.law u.law;
   some = ((t.some.0, u.some.0), both_true (first.fits t.some.0) (second.fits u.some.0) t.some.1 u.some.1);
   fault = both_fault first second t whole u;
@@ -373,7 +373,7 @@ text_refused text s within none rest more is alike =
     let no_text = sym none ∙ some in
     absurd cc
 
-text_then_fault : {A : Type 0} (text : List ℕ) (inner : Format ℕ A) → IsOneLine text → TellsLine inner → (s : List ℕ) (f : Fault) → (text_then text inner).read s ≡ Err f → IsBadAt (text_then text inner) s f.left
+text_then_fault : {A : Type 0} (text : List ℕ) (inner : Format ℕ A) → IsOneLine text → ReportsLine inner → (s : List ℕ) (f : Fault) → (text_then text inner).read s ≡ Err f → IsBadAt (text_then text inner) s f.left
 unfolding text_then
 text_then_fault text inner one t s f e =
     elim (text_fault inner.read s (after_text text s) f e) [
@@ -387,9 +387,9 @@ text_then_fault text inner one t s f e =
           (t.fault h.0 f h.2)
     ]
 
-pub tells_text_then : {A : Type 0} (text : List ℕ) (inner : Format ℕ A) → IsOneLine text → TellsLine inner → TellsLine (text_then text inner)
+pub reports_text_then : {A : Type 0} (text : List ℕ) (inner : Format ℕ A) → IsOneLine text → ReportsLine inner → ReportsLine (text_then text inner)
 unfolding text_then
-tells_text_then text inner one t = record {
+reports_text_then text inner one t = record {
   law = lawful_text_then text inner t.law;
   some = (t.some.0, t.some.1);
   fault = text_then_fault text inner one t;
@@ -397,7 +397,7 @@ tells_text_then text inner one t = record {
 
 -- ---- the values of a record
 
-record_fault : {A B : Type 0} (make : A → B) (parts : B → A) (inner : Format ℕ A) → ((a : A) → parts (make a) ≡ a) → TellsLine inner → (s : List ℕ) (f : Fault) → (record_of make parts inner).read s ≡ Err f → IsBadAt (record_of make parts inner) s f.left
+record_fault : {A B : Type 0} (make : A → B) (parts : B → A) (inner : Format ℕ A) → ((a : A) → parts (make a) ≡ a) → ReportsLine inner → (s : List ℕ) (f : Fault) → (record_of make parts inner).read s ≡ Err f → IsBadAt (record_of make parts inner) s f.left
 unfolding as_form
 record_fault {A = A} make parts inner back t s f e =
     elim (step_failed (inner.read s) (λ x. Ok (make x.0, x.1)) f e) [
@@ -409,9 +409,9 @@ record_fault {A = A} make parts inner back t s f e =
       | inr h ↦ let never = h.2 in absurd cc
     ]
 
-pub tells_record : {A B : Type 0} (make : A → B) (parts : B → A) (inner : Format ℕ A) → ((a : A) → parts (make a) ≡ a) → ((b : B) → make (parts b) ≡ b) → TellsLine inner → TellsLine (record_of make parts inner)
+pub reports_record : {A B : Type 0} (make : A → B) (parts : B → A) (inner : Format ℕ A) → ((a : A) → parts (make a) ≡ a) → ((b : B) → make (parts b) ≡ b) → ReportsLine inner → ReportsLine (record_of make parts inner)
 unfolding as_form
-tells_record make parts inner back there t = record {
+reports_record make parts inner back there t = record {
   law = lawful_record make parts inner back there t.law;
   some = (make t.some.0, rw (back t.some.0) t.some.1);
   fault = record_fault make parts inner back t;
@@ -435,9 +435,9 @@ number_failed low high s f e =
       | inr h ↦ test_failed (is_in low high h.0.0) h.0 s f h.2
     ]
 
-pub number_then_tells : (low high : ℕ) (text : List ℕ) → TellsInFront (number_then low high text)
+pub number_then_reports : (low high : ℕ) (text : List ℕ) → ReportsInFront (number_then low high text)
 unfolding number_then then_text
-number_then_tells low high text s f e =
+number_then_reports low high text s f e =
     elim (step_failed ((number_in low high).read s) (λ x. go_on (λ rest. Ok (x.0, rest)) x.1 (after_text text x.1)) f e) [
       | inl no_number ↦ at_front s f.left (number_failed low high s f no_number)
       | inr h ↦
@@ -448,16 +448,16 @@ number_then_tells low high text s f e =
           ]
     ]
 
-pub both_tell : {A B : Type 0} (first : Format ℕ A) (second : Format ℕ B) → IsLawful first → Each IsInLine first → TellsInFront first → TellsInFront second → TellsInFront (both first second)
+pub both_report : {A B : Type 0} (first : Format ℕ A) (second : Format ℕ B) → IsLawful first → Each IsInLine first → ReportsInFront first → ReportsInFront second → ReportsInFront (both first second)
 unfolding pair
-both_tell first second law in_line tells told s f e =
+both_report first second law in_line reports reported s f e =
     elim (step_failed (first.read s) (λ x. second.read x.1 >>= λ y. Ok ((x.0, y.0), y.1)) f e) [
-      | inl no_first ↦ tells s f no_first
+      | inl no_first ↦ reports s f no_first
       | inr h ↦
           elim (step_failed (second.read h.0.1) (λ y. Ok ((h.0.0, y.0), y.1)) f h.2) [
             | inl no_second ↦
                 let is = taken first law s h.0 h.1 in
-                let at = told h.0.1 f no_second in
+                let at = reported h.0.1 f no_second in
                 record {
                   part = first.spell h.0.0 ++ at.part;
                   place = at.place;
@@ -522,7 +522,7 @@ series_fault item next stop lines differs within zero p s f lt e = absurd (omega
 series_fault item next stop lines differs within (suc n) p s f lt e =
     let a = ended_failed (after_text stop s) ((item p).read s >>= λ x. read_from item next stop n (next x.0) x.1 >>= λ y. Ok (x.0 ∷ y.0, y.1)) f e in
     elim (step_failed ((item p).read s) (λ x. read_from item next stop n (next x.0) x.1 >>= λ y. Ok (x.0 ∷ y.0, y.1)) f a.1) [
-      | inl no_item ↦ bad_front (until item next p stop) s f.left ((lines p).tells s f no_item) ([], stop, refl, refl) (item_bad item next stop lines within p s f a.0 no_item)
+      | inl no_item ↦ bad_front (until item next p stop) s f.left ((lines p).reports s f no_item) ([], stop, refl, refl) (item_bad item next stop lines within p s f a.0 no_item)
       | inr h ↦
           elim (step_failed (read_from item next stop n (next h.0.0) h.0.1) (λ y. Ok (h.0.0 ∷ y.0, y.1)) f h.2) [
             | inl no_more ↦
@@ -538,10 +538,10 @@ series_fault item next stop lines differs within (suc n) p s f lt e =
           ]
     ]
 
-pub tells_until : {P A : Type 0} (item : P → Format ℕ A) (next : A → P) (p : P) (stop : List ℕ) → ((p : P) → IsLine (item p)) → ((p : P) (v : A) (rest : List ℕ) → after_text stop ((item p).spell v ++ rest) ≡ None) → IsWithinLine stop
-    → IsLawful (until item next p stop) → TellsLine (until item next p stop)
+pub reports_until : {P A : Type 0} (item : P → Format ℕ A) (next : A → P) (p : P) (stop : List ℕ) → ((p : P) → IsLine (item p)) → ((p : P) (v : A) (rest : List ℕ) → after_text stop ((item p).spell v ++ rest) ≡ None) → IsWithinLine stop
+    → IsLawful (until item next p stop) → ReportsLine (until item next p stop)
 unfolding until
-tells_until item next p stop lines differs within law = record {
+reports_until item next p stop lines differs within law = record {
   law = law;
   some = ([], refl);
   fault = λ s f e. series_fault item next stop lines differs within (suc (length s)) p s f (omega arith) e;
@@ -573,7 +573,7 @@ rest_bad first second law l x s f fitting e lines part cut inside v rest more fi
     line_refused second l s f e v.1 rest after (second_true (first.fits v.0) (second.fits v.1) fits) same.1
     (record { first = m.0; one = none; s_rest = alike.s_rest; s_is = refl; t_rest = alike.t_rest; t_is = m.2 })
 
-rest_fault : {A B : Type 0} (first : Format ℕ A) (second : Format ℕ B) → TellsLine first → Each IsCut first → IsLine second → (w : B) → second.fits w ≡ true → (s : List ℕ) (f : Fault) → (both first second).read s ≡ Err f → IsBadAt (both first second) s f.left
+rest_fault : {A B : Type 0} (first : Format ℕ A) (second : Format ℕ B) → ReportsLine first → Each IsCut first → IsLine second → (w : B) → second.fits w ≡ true → (s : List ℕ) (f : Fault) → (both first second).read s ≡ Err f → IsBadAt (both first second) s f.left
 unfolding pair
 rest_fault first second t cuts l w fitting s f e =
     elim (step_failed (first.read s) (λ x. second.read x.1 >>= λ y. Ok ((x.0, y.0), y.1)) f e) [
@@ -583,7 +583,7 @@ rest_fault first second t cuts l w fitting s f e =
             | inl no_second ↦
                 let is = taken first t.law s h.0 h.1 in
                 let cut = cuts h.0.0 is.fits in
-                let at = l.tells h.0.1 f no_second in
+                let at = l.reports h.0.1 f no_second in
                 let line_is : cut.part ++ h.0.1 ≡ (cut.part ++ at.part) ++ at.place = ap (λ (r : List ℕ). cut.part ++ r) at.is ∙ sym (append_assoc cut.part at.part at.place) in
                 record {
                   before = cut.lines;
@@ -611,9 +611,9 @@ cut_then_line s t cut one =
     let is : s ++ t ≡ cut.lines ++ (cut.part ++ t) = ap (λ (r : List ℕ). r ++ t) cut.is ∙ append_assoc cut.lines cut.part t in
     subst (λ (r : List ℕ). IsWhole r) (sym is) (whole_append cut.lines (cut.part ++ t) cut.whole (whole_line (cut.part ++ t) (part_then_line cut.part t cut.inside one)))
 
-pub tells_rest : {A B : Type 0} (first : Format ℕ A) (second : Format ℕ B) → TellsLine first → Each IsCut first → IsLine second → (w : B) → second.fits w ≡ true → TellsLine (both first second)
+pub reports_rest : {A B : Type 0} (first : Format ℕ A) (second : Format ℕ B) → ReportsLine first → Each IsCut first → IsLine second → (w : B) → second.fits w ≡ true → ReportsLine (both first second)
 unfolding pair
-tells_rest first second t cuts l w fitting = record {
+reports_rest first second t cuts l w fitting = record {
   law = lawful_both first second t.law l.law;
   some = ((t.some.0, w), both_true (first.fits t.some.0) (second.fits w) t.some.1 fitting);
   fault = rest_fault first second t cuts l w fitting;
@@ -628,8 +628,8 @@ line_number_is before part place s left is left_is inside =
     let front : take (length s - left) s ≡ before ++ part = ap (take (length s - left)) whole ∙ take_at (before ++ part) place (length s - left) so_many in
     ap (λ (r : List ℕ). feeds r + 1) front ∙ omega (arith, feeds-append before part)
 
-told_first : {A : Type 0} (format : Format ℕ A) (s : List ℕ) (left : ℕ) → IsBadAt format s left → IsFirstBadLine format s (line_number s left)
-told_first format s left b = record {
+reported_first : {A : Type 0} (format : Format ℕ A) (s : List ℕ) (left : ℕ) → IsBadAt format s left → IsFirstBadLine format s (line_number s left)
+reported_first format s left b = record {
   before = b.before;
   others = b.part ++ b.place;
   is = b.is;
@@ -647,10 +647,10 @@ no_line : (s : List ℕ) → BeginAlike [] s → ⊥
 no_line s alike = omega (arith, ap length alike.s_is, length-append alike.first (10 ∷ alike.s_rest))
 
 -- the line of each fault is the first that isn't of the form
-pub first_bad : {A : Type 0} (format : Format ℕ A) → TellsLine format → Each IsWhole format → (s : List ℕ) (f : Fault) → read_all format s ≡ Err f → IsFirstBadLine format s (line_number s f.left)
+pub first_bad : {A : Type 0} (format : Format ℕ A) → ReportsLine format → Each IsWhole format → (s : List ℕ) (f : Fault) → read_all format s ≡ Err f → IsFirstBadLine format s (line_number s f.left)
 first_bad format t whole s f e =
     elim (step_failed (format.read s) ended f e) [
-      | inl no_value ↦ told_first format s f.left (t.fault s f no_value)
+      | inl no_value ↦ reported_first format s f.left (t.fault s f no_value)
       | inr h ↦
           let is = taken format t.law s h.0 h.1 in
           record {

@@ -80,12 +80,12 @@ To mend it: give the port the callee's sizes, or wire the elements by a `map`:
         topic: "25",
         text: "25 Wiring
 
-An argument is not the one that the skeleton asks for at its place. A `farm` and
+An argument is not the one that the skeleton takes at its place. A `farm` and
 the body of a `loop` take the module's ins in order and give its outs in order.
 In a `pipe` and a `comp` the first call takes the module's ins, each later one
 the outs of the call before, and the last gives the module's outs; the outs of
-all others are new ports, `out(int z)`. Names that are left over are told at the
-call's name.
+all others are new ports, `out(int z)`. Names that are left over are reported at
+the call's name.
 
     $ echo 'seq one in(int x) out(int y) ${ y = x; }$ end seq
     > farm main in(int x) out(int y) one in(y) out(y) end farm' >a.p3l; p3l check a.p3l

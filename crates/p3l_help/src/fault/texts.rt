@@ -26,7 +26,7 @@ This is the refusal 1. What the status 1 means, `p3l help status` says.
 
 A number runs into letters or begins with a needless 0, as `1x`, `007` or
 `0x10`; or a `$` stands alone; or a comment that begins with `/*` is never
-closed, which is told where it begins.
+closed, which is reported where it begins.
 
     $ echo 'const K = 007;' >a.p3l; p3l fmt a.p3l
     source: 1:11: 2 BadToken
@@ -41,9 +41,9 @@ This is the refusal 2. What the status 2 means, `p3l help status` says.
         topic: "3",
         text: "3 Expected
 
-No program goes on with this token; or the text ends too early, which is told at
-the place after its last byte. All before that place begins some program. `p3l
-help language` has the grammar.
+No program goes on with this token; or the text ends too early, which is
+reported at the place after its last byte. All before that place begins some
+program. `p3l help language` has the grammar.
 
     $ echo 'const K 1;' >a.p3l; p3l fmt a.p3l
     source: 1:9: 3 Expected
@@ -89,7 +89,7 @@ This is the refusal 5. What the status 5 means, `p3l help status` says.
         text: "6 SourceTooLong
 
 The text has more than 1,048,576 bytes. A file that is longer is not even read,
-and told as `file too long`.
+and reported as `file too long`.
 
     $ head -c 1048577 /dev/zero >a.p3l; p3l fmt a.p3l
     file too long: a.p3l
@@ -105,7 +105,7 @@ This is the refusal 6. What the status 6 means, `p3l help status` says.
         text: "8 TooNested
 
 In a body, a 65th bracket `(`, `[` or `{` is open at once, or an expression has
-a 257th operator. The first such place is told.
+a 257th operator. The first such place is reported.
 
     $ z() { printf \"$1%.0s\" $(seq $2); }
     $ echo \"seq main in(int x) out(int y) \\${ y = $(z '(' 65)x$(z ')' 65); }\\$ end seq\" >a.p3l

@@ -7,11 +7,11 @@ use Rattle.p3l_program.specs.Stage.{build_stages}
 use Rattle.p3l_program.specs.Text.{IsWritten}
 use Rattle.p3l_program.specs.World.{change, files_change}
 use Rattle.p3l_program.proofs.LoadSteps.{certified, explained, loaded_passes, same_change}
-use Rattle.p3l_program.proofs.SavedSteps.{saving_due, saving_failed}
+use Rattle.p3l_program.proofs.SavedSteps.{saving_expected, saving_failed}
 use Rattle.p3l_program.proofs.certify.certify.Goals as goal
 
-pub returns-in-Ok-save-clause-due : goal.returns-in-Ok-save-clause-due
-returns-in-Ok-save-clause-due g c =
+pub returns-in-Ok-save-clause-expected : goal.returns-in-Ok-save-clause-expected
+returns-in-Ok-save-clause-expected g c =
     let loads = c.in-Ok.ensures.loaded in
     let loaded = c.in-Ok.loaded in
     let held = g.F.Files.held in
@@ -27,14 +27,14 @@ returns-in-Ok-save-clause-due g c =
     let same = same_change (held c.allot.new.files) (held c.args.files.now) (held end) (faults c.allot.new.files) (faults c.args.files.now) (faults end) (failed end) c.allot.ensures.stays c.in-Ok.ensures.calm in
     let written = subst (λ b. SaveCause (files_change held faults failed c.allot.new.files end) c.args.name b (Ok tt)) c.as_slice.ensures c.in-Ok-save.ensures.by in
     let save = subst (λ f. SaveCause f c.args.name bytes (Ok tt)) same written in
-    saving_due files out (build_stages c.args.build) (IsExplained (held c.args.files.now) c.args.build) c.args.name (IsCertificate (held c.args.files.now) c.args.build) text bytes
+    saving_expected files out (build_stages c.args.build) (IsExplained (held c.args.files.now) c.args.build) c.args.name (IsCertificate (held c.args.files.now) c.args.build) text bytes
     (loaded_passes c.args.build loads.r loaded files loads.is)
     (explained c.args.build loads.r loaded (held c.args.files.now) text loads.is c.in-Ok-allocation_text.ensures)
     (certified c.args.build loads.r loaded (held c.args.files.now) cert bytes loads.is claims.0 claims.1 c.in-Ok-certify.ensures.holds c.in-Ok-certify.ensures.rows claims.2 c.in-Ok-cert_text.ensures)
     c.write_text.result save.0 save.1 (subst (λ t. IsWritten out t c.write_text.result) c.as_slice-in-Ok-save.ensures c.write_text.ensures)
 
-pub returns-clause-due : goal.returns-clause-due
-returns-clause-due g c =
+pub returns-clause-expected : goal.returns-clause-expected
+returns-clause-expected g c =
     let loads = c.in-Ok.ensures.loaded in
     let loaded = c.in-Ok.loaded in
     let held = g.F.Files.held in
@@ -54,4 +54,4 @@ returns-clause-due g c =
     (loaded_passes c.args.build loads.r loaded files loads.is)
     (explained c.args.build loads.r loaded (held c.args.files.now) text loads.is c.in-Ok-allocation_text.ensures)
     (certified c.args.build loads.r loaded (held c.args.files.now) cert bytes loads.is claims.0 claims.1 c.in-Ok-certify.ensures.holds c.in-Ok-certify.ensures.rows claims.2 c.in-Ok-cert_text.ensures)
-    v (record { told = refl; calm = refl }) (subst (λ f. SaveCause f c.args.name bytes (Err v)) same written)
+    v (record { known = refl; calm = refl }) (subst (λ f. SaveCause f c.args.name bytes (Err v)) same written)

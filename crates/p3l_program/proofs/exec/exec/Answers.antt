@@ -4,7 +4,7 @@ use Rattle.p3l_program.specs.Plan.{network_in}
 use Rattle.p3l_program.specs.Run.{IsRunOf, KeepsRun}
 use Rattle.p3l_program.specs.World.{change, files_change}
 use Rattle.p3l_program.proofs.LoadSteps.{same_change}
-use Rattle.p3l_program.proofs.RunSteps.{run_due, run_touched, run_unloaded}
+use Rattle.p3l_program.proofs.RunSteps.{run_expected, run_touched, run_unloaded}
 use Rattle.p3l_program.proofs.exec.exec.Goals as goal
 
 pub returns-in-Ok : goal.returns-in-Ok
@@ -19,17 +19,17 @@ returns-in-Ok g c =
     let input = change g.S.Source.rest g.S.Source.faults c.args.input.now c.run_network.new.input in
     let out = change g.K.Sink.taken g.K.Sink.faults c.args.out.now c.run_network.new.out in
     let same = same_change (held c.load_image.new.files) (held c.args.files.now) (held end) (faults c.load_image.new.files) (faults c.args.files.now) (faults end) (failed end) c.load_image.ensures.stays c.in-Ok.ensures.calm in
-    let ran = subst (λ f. IsRunOf net f input out c.args.asked c.args.trace c.args.reported c.run_network.result) same c.run_network.ensures.ran in
-    let kept = subst (λ f. KeepsRun net f input out c.args.asked c.args.trace c.run_network.result) same c.run_network.ensures.kept in
+    let ran = subst (λ f. IsRunOf net f input out c.args.request c.args.trace c.args.reported c.run_network.result) same c.run_network.ensures.ran in
+    let kept = subst (λ f. KeepsRun net f input out c.args.request c.args.trace c.run_network.result) same c.run_network.ensures.kept in
     record {
-      due = run_due files input out (imaged c.args.name) net loads c.args.asked c.args.trace c.args.reported c.run_network.result ran;
+      expected = run_expected files input out (imaged c.args.name) net loads c.args.request c.args.trace c.args.reported c.run_network.result ran;
       kept = kept.kept;
-      over = run_touched files input out (imaged c.args.name) net loads c.args.asked c.args.trace c.run_network.result kept;
+      over = run_touched files input out (imaged c.args.name) net loads c.args.request c.args.trace c.run_network.result kept;
     }
 
-pub returns-in-Err-clause-due : goal.returns-in-Err-clause-due
-returns-in-Err-clause-due g c =
+pub returns-in-Err-clause-expected : goal.returns-in-Err-clause-expected
+returns-in-Err-clause-expected g c =
     let input = change g.S.Source.rest g.S.Source.faults c.args.input.now c.args.input.now in
     let out = change g.K.Sink.taken g.K.Sink.faults c.args.out.now c.args.out.now in
-    run_unloaded (files_change g.F.Files.held g.F.Files.faults g.F.Files.failed c.args.files.now c.load_image.new.files) input out (imaged c.args.name) c.args.asked c.args.trace c.args.reported c.in-Err.verdict (record { told = refl; calm = refl })
-    (record { told = refl; calm = refl }) c.in-Err.ensures.refused
+    run_unloaded (files_change g.F.Files.held g.F.Files.faults g.F.Files.failed c.args.files.now c.load_image.new.files) input out (imaged c.args.name) c.args.request c.args.trace c.args.reported c.in-Err.verdict (record { known = refl; calm = refl })
+    (record { known = refl; calm = refl }) c.in-Err.ensures.refused

@@ -6,11 +6,11 @@ use Rattle.p3l_program.specs.World.{change, files_change}
 use Rattle.p3l_program.proofs.TextSteps.{not_formatted, text_refused}
 use Rattle.p3l_program.proofs.fmt.fmt.Goals as goal
 
-pub returns-in-Err-At-clause-due : goal.returns-in-Err-At-clause-due
-returns-in-Err-At-clause-due g c =
+pub returns-in-Err-At-clause-expected : goal.returns-in-Err-At-clause-expected
+returns-in-Err-At-clause-expected g c =
     let files = files_change g.F.Files.held g.F.Files.faults g.F.Files.failed c.args.files.now c.find_text.new.files in
-    let told = subst (λ text. HasNoCanonical text c.in-Err-At.field-0) c.as_slice.ensures c.in-Err-At.ensures.refused in
-    let faulty = subst (λ refusal. HasNoCanonical c.in-Ok.text refusal) c.in-Err-At.field-0-is told in
+    let known = subst (λ text. HasNoCanonical text c.in-Err-At.field-0) c.as_slice.ensures c.in-Err-At.ensures.refused in
+    let faulty = subst (λ refusal. HasNoCanonical c.in-Ok.text refusal) c.in-Err-At.field-0-is known in
     text_refused files (change g.K.Sink.taken g.K.Sink.faults c.args.out.now c.args.out.now) (fmt_stages c.args.name) (IsFormatted (g.F.Files.held c.args.files.now) c.args.name)
-    (verdict.Refused (refusal.Source c.in-Err-At.fault c.in-Err-At.pos)) (record { told = refl; calm = refl })
+    (verdict.Refused (refusal.Source c.in-Err-At.fault c.in-Err-At.pos)) (record { known = refl; calm = refl })
     (not_formatted files c.args.name c.in-Ok.text c.in-Err-At.fault c.in-Err-At.pos c.in-Ok.ensures.found faulty c.in-Ok.ensures.calm)

@@ -4,7 +4,7 @@ use Rattle.p3l_program.specs.Generated.{gen_of, saves_with}
 use Rattle.p3l_program.specs.Saved.{HasSaves}
 use Rattle.p3l_program.specs.World.{change, files_change}
 use Rattle.p3l_program.proofs.GenLengths.{program_short, stream_short}
-use Rattle.p3l_program.proofs.GenSteps.{generated_due}
+use Rattle.p3l_program.proofs.GenSteps.{generated_expected}
 use Rattle.p3l_program.proofs.generated.run_generated.Goals as goal
 
 pub run_texts-requires-clause-within : goal.run_texts-requires-clause-within
@@ -17,11 +17,11 @@ pub returns-in-Ok-save_where : goal.returns-in-Ok-save_where
 returns-in-Ok-save_where g c =
     let files = files_change g.F.Files.held g.F.Files.faults g.F.Files.failed c.args.files.now c.save_where.new.files in
     let out = change g.K.Sink.taken g.K.Sink.faults c.args.out.now c.run_texts.new.out in
-    let q = gen_of c.args.number c.args.processors c.args.items c.args.asked c.args.prefix in
+    let q = gen_of c.args.number c.args.processors c.args.items c.args.request c.args.prefix in
     let texts = c.in-Ok.texts in
     let made = c.in-Ok.ensures in
     let one = subst (λ p. HasSaves files (saves_with c.args.prefix p texts.costs texts.stream) (Ok tt)) made.program c.in-Ok-save_where.ensures in
     let two = subst (λ t. HasSaves files (saves_with c.args.prefix (program_text c.args.number) t texts.stream) (Ok tt)) made.costs one in
     let saves = subst (λ t. HasSaves files (saves_with c.args.prefix (program_text c.args.number) costs_text t) (Ok tt)) made.stream two in
     let run = c.run_texts.ensures q (record { program_is = made.program; costs_are = made.costs; stream_is = made.stream }) refl refl refl in
-    record { due = inl (generated_due files out q c.run_texts.result saves run) }
+    record { expected = inl (generated_expected files out q c.run_texts.result saves run) }

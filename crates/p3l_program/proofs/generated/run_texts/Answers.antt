@@ -1,24 +1,24 @@
 use Rattle.std.proofs.Common.{refl, sym, subst, ◌∙◌}
 use Rattle.p3l_gen.specs.Texts.{costs_text, program_text}
-use Rattle.p3l_program.specs.Generated.{AreNotLoaded, IsRanUnder, IsToldOf, LoadsTexts, due_at, gen_capacity, summary_line}
+use Rattle.p3l_program.specs.Generated.{AreNotLoaded, IsLineOf, IsRanUnder, LoadsTexts, gen_capacity, line_at, summary_line}
 use Rattle.p3l_program.specs.Plan.{network_of}
 use Rattle.p3l_program.specs.World.{change}
-use Rattle.p3l_program.proofs.GenSteps.{gen_refused, gen_told, generated_by, texts_pass}
+use Rattle.p3l_program.proofs.GenSteps.{gen_line, gen_refused, generated_by, texts_pass}
 use Rattle.p3l_program.proofs.generated.run_texts.Goals as goal
 
 pub returns-in-Err : goal.returns-in-Err
-returns-in-Err g c = λ q texts number processors asked.
+returns-in-Err g c = λ q texts number processors request.
     let out = change g.K.Sink.taken g.K.Sink.faults c.args.out.now c.args.out.now in
     let v = c.in-Err.verdict in
     let costs = c.as_slice-2.result.now in
     let one = subst (λ p. AreNotLoaded p costs c.args.processors v) (c.as_slice.ensures ∙ texts.program_is) c.in-Err.ensures.refused in
     let two = subst (λ t. AreNotLoaded (program_text q.number) t c.args.processors v) (c.as_slice-2.ensures ∙ texts.costs_are) one in
     let here = subst (λ k. AreNotLoaded (program_text q.number) costs_text k v) (sym processors) two in
-    gen_refused out q v (record { told = refl; calm = refl }) here
+    gen_refused out q v (record { known = refl; calm = refl }) here
 
 pub returns-in-Ok-run_text : goal.returns-in-Ok-run_text
-returns-in-Ok-run_text g c = λ q texts number processors asked.
-    let out = change g.K.Sink.taken g.K.Sink.faults c.args.out.now c.tell.new.out in
+returns-in-Ok-run_text g c = λ q texts number processors request.
+    let out = change g.K.Sink.taken g.K.Sink.faults c.args.out.now c.put_summary.new.out in
     let loaded = c.in-Ok.loaded in
     let ran = c.in-Ok-run_text.ran in
     let costs = c.as_slice-2.result.now in
@@ -28,8 +28,8 @@ returns-in-Ok-run_text g c = λ q texts number processors asked.
     let two = subst (λ t. LoadsTexts (program_text q.number) t c.args.processors loaded) (c.as_slice-2.ensures ∙ texts.costs_are) one in
     let loads : LoadsTexts (program_text q.number) costs_text q.processors loaded = subst (λ k. LoadsTexts (program_text q.number) costs_text k loaded) (sym processors) two in
     let n = network_of loads.r loaded.choice.counts.list gen_capacity in
-    let ran_there = subst (λ a. IsRanUnder n a c.args.texts.stream ran) (sym asked) (c.in-Ok-run_text.ensures.ran loads.r loads.are.comes.compiled) in
-    let ran_here = subst (λ t. IsRanUnder n q.asked t ran) texts.stream_is ran_there in
+    let ran_there = subst (λ a. IsRanUnder n a c.args.texts.stream ran) (sym request) (c.in-Ok-run_text.ensures.ran loads.r loads.are.comes.compiled) in
+    let ran_here = subst (λ t. IsRanUnder n q.request t ran) texts.stream_is ran_there in
     let is = generated_by q loaded ran loads ran_here in
-    let told = subst (λ k. IsToldOf out ran.finish (due_at ran.finish (summary_line k ran.stats service used ran.sum)) c.tell.result) (sym number) c.tell.ensures in
-    gen_told out q ran.finish (due_at ran.finish (summary_line q.number ran.stats service used ran.sum)) is (texts_pass (program_text q.number) costs_text q.processors loaded loads) c.tell.result told
+    let known = subst (λ k. IsLineOf out ran.finish (line_at ran.finish (summary_line k ran.stats service used ran.sum)) c.put_summary.result) (sym number) c.put_summary.ensures in
+    gen_line out q ran.finish (line_at ran.finish (summary_line q.number ran.stats service used ran.sum)) is (texts_pass (program_text q.number) costs_text q.processors loaded loads) c.put_summary.result known

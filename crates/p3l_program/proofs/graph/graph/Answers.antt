@@ -4,19 +4,19 @@ use Rattle.p3l_program.specs.Stage.{build_stages}
 use Rattle.p3l_program.specs.Text.{IsWritten}
 use Rattle.p3l_program.specs.World.{change, files_change}
 use Rattle.p3l_program.specs.Plan.{network_in}
-use Rattle.p3l_program.proofs.TextSteps.{text_due}
+use Rattle.p3l_program.proofs.TextSteps.{text_expected}
 use Rattle.p3l_program.proofs.graph.graph.Goals as goal
 
 pub graph_text-requires : goal.graph_text-requires
 graph_text-requires g c = c.in-Ok.ensures.ready.typed
 
-pub returns-clause-due : goal.returns-clause-due
-returns-clause-due g c =
+pub returns-clause-expected : goal.returns-clause-expected
+returns-clause-expected g c =
     let loads = c.in-Ok.ensures.network in
     let files = files_change g.F.Files.held g.F.Files.faults g.F.Files.failed c.args.files.now c.load_network.new.files in
     let out = change g.K.Sink.taken g.K.Sink.faults c.args.out.now c.write_text.new.out in
     let text = c.in-Ok-graph_text.text in
-    text_due files out (build_stages c.args.build) (IsDrawn (g.F.Files.held c.args.files.now) c.args.build) text c.write_text.result c.in-Ok.ensures.calm
+    text_expected files out (build_stages c.args.build) (IsDrawn (g.F.Files.held c.args.files.now) c.args.build) text c.write_text.result c.in-Ok.ensures.calm
     (loads.passed files refl)
     (record {
       network = network_in c.in-Ok.loaded;

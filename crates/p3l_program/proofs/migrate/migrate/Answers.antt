@@ -7,7 +7,7 @@ use Rattle.p3l_program.specs.Migrate.{IsMigrated}
 use Rattle.p3l_program.specs.Saved.{SaveCause}
 use Rattle.p3l_program.specs.Stage.{migrate_stages}
 use Rattle.p3l_program.specs.World.{files_change}
-use Rattle.p3l_program.proofs.CompileSteps.{file_due, file_failed}
+use Rattle.p3l_program.proofs.CompileSteps.{file_expected, file_failed}
 use Rattle.p3l_program.proofs.ImageSteps.{migrate_passes}
 use Rattle.p3l_program.proofs.LoadSteps.{same_change}
 use Rattle.p3l_program.proofs.migrate.migrate.Goals as goal
@@ -18,8 +18,8 @@ encode-requires g c =
     subst (λ (image : Image). CanBeWritten image) (sym m.migrated_is)
     (c.every_migrated_image_can_be_written.ensures m.i m.bytes m.is (subst (λ (image : Image). IsRunnable image) m.migrated_is m.runs))
 
-pub returns-in-Ok-save-clause-due : goal.returns-in-Ok-save-clause-due
-returns-in-Ok-save-clause-due g c =
+pub returns-in-Ok-save-clause-expected : goal.returns-in-Ok-save-clause-expected
+returns-in-Ok-save-clause-expected g c =
     let m = c.in-Ok.ensures.migrated in
     let image = c.in-Ok.image in
     let held = g.F.Files.held in
@@ -30,11 +30,11 @@ returns-in-Ok-save-clause-due g c =
     let bytes = c.in-Ok-encode.bytes in
     let same = same_change (held c.migrate_image.new.files) (held c.args.files.now) (held end) (faults c.migrate_image.new.files) (faults c.args.files.now) (faults end) (failed end) c.migrate_image.ensures.stays c.in-Ok.ensures.calm in
     let written = subst (λ b. SaveCause (files_change held faults failed c.migrate_image.new.files end) c.args.output b (Ok tt)) c.as_slice.ensures c.in-Ok-save.ensures.by in
-    file_due files (migrate_stages c.args.name) c.args.output (IsMigrated (held c.args.files.now) c.args.name) bytes (migrate_passes files c.args.name image m)
+    file_expected files (migrate_stages c.args.name) c.args.output (IsMigrated (held c.args.files.now) c.args.name) bytes (migrate_passes files c.args.name image m)
     (record { image = image; migrates = m; bytes_are = c.in-Ok-encode.ensures }) (subst (λ f. SaveCause f c.args.output bytes (Ok tt)) same written)
 
-pub returns-clause-due : goal.returns-clause-due
-returns-clause-due g c =
+pub returns-clause-expected : goal.returns-clause-expected
+returns-clause-expected g c =
     let m = c.in-Ok.ensures.migrated in
     let image = c.in-Ok.image in
     let held = g.F.Files.held in

@@ -22,7 +22,7 @@ returns-clause-ran g c =
     let r = resumption c.args.snapshot c.requires.ready in
     let same = c.plan_of-plan.ensures.network ∙ loaded_network loaded c.requires.ready.image c.in-Ok.units c.in-Ok.ensures (firings loaded.tree loaded.counts.list) refl in
     let by = resumed_by_same c.args.snapshot c.requires.ready c.every_linked_net_is_carried.ensures c.every_orderly_shot_goes_on.ensures c.every_resumed_run_can_be_counted.ensures.counted _ same in
-    subst (λ n. IsRunOf (resumed r n) files input out c.args.asked None c.args.reported c.resume_plan.result) same (c.resume_plan.ensures.ran r by)
+    subst (λ n. IsRunOf (resumed r n) files input out c.args.request None c.args.reported c.resume_plan.result) same (c.resume_plan.ensures.ran r by)
 
 pub returns-clause-kept : goal.returns-clause-kept
 returns-clause-kept g c =
@@ -33,4 +33,4 @@ returns-clause-kept g c =
     let r = resumption c.args.snapshot c.requires.ready in
     let same = c.plan_of-plan.ensures.network ∙ loaded_network loaded c.requires.ready.image c.in-Ok.units c.in-Ok.ensures (firings loaded.tree loaded.counts.list) refl in
     let by = resumed_by_same c.args.snapshot c.requires.ready c.every_linked_net_is_carried.ensures c.every_orderly_shot_goes_on.ensures c.every_resumed_run_can_be_counted.ensures.counted _ same in
-    subst (λ n. KeepsRun (resumed r n) files input out c.args.asked None c.resume_plan.result) same (c.resume_plan.ensures.kept r by)
+    subst (λ n. KeepsRun (resumed r n) files input out c.args.request None c.resume_plan.result) same (c.resume_plan.ensures.kept r by)

@@ -19,8 +19,8 @@ returns-in-Ok-resume-clause-ran g c = λ r by.
     let out = change g.K.Sink.taken g.K.Sink.faults c.args.out.now c.resume.new.out in
     let same = same_change (held c.load_schedule.new.files) (held c.args.files.now) (held end) (faults c.load_schedule.new.files) (faults c.args.files.now) (faults end) (failed end) c.load_schedule.ensures.stays c.in-Ok.ensures.calm in
     let closed = subst (λ f. IsClosed f c.in-Ok-resume.ran None c.args.reported c.close.result) same c.close.ensures in
-    let asked = subst (λ k. HasSchedule (held c.args.files.now) k c.args.asked c.in-Ok.schedule) c.len-count.ensures c.in-Ok.ensures.asked in
-    closed_run n c.in-Ok.schedule files input out c.args.asked c.in-Ok-resume.ran asked c.in-Ok-resume.ensures.output None c.args.reported (c.in-Ok-resume.ensures.ends r by) c.close.result closed
+    let request = subst (λ k. HasSchedule (held c.args.files.now) k c.args.request c.in-Ok.schedule) c.len-count.ensures c.in-Ok.ensures.request in
+    closed_run n c.in-Ok.schedule files input out c.args.request c.in-Ok-resume.ran request c.in-Ok-resume.ensures.output None c.args.reported (c.in-Ok-resume.ensures.ends r by) c.close.result closed
 
 pub returns-in-Ok-resume-clause-kept : goal.returns-in-Ok-resume-clause-kept
 returns-in-Ok-resume-clause-kept g c = λ r by.
@@ -34,8 +34,8 @@ returns-in-Ok-resume-clause-kept g c = λ r by.
     let out = change g.K.Sink.taken g.K.Sink.faults c.args.out.now c.resume.new.out in
     let same = same_change (held c.load_schedule.new.files) (held c.args.files.now) (held end) (faults c.load_schedule.new.files) (faults c.args.files.now) (faults end) (failed end) c.load_schedule.ensures.stays c.in-Ok.ensures.calm in
     let closed = subst (λ f. IsClosed f c.in-Ok-resume.ran None c.args.reported c.close.result) same c.close.ensures in
-    let asked = subst (λ k. HasSchedule (held c.args.files.now) k c.args.asked c.in-Ok.schedule) c.len-count.ensures c.in-Ok.ensures.asked in
-    closed_kept n c.in-Ok.schedule files input out c.args.asked c.in-Ok-resume.ran asked c.in-Ok-resume.ensures.output None c.args.reported (c.in-Ok-resume.ensures.ends r by) c.close.result closed
+    let request = subst (λ k. HasSchedule (held c.args.files.now) k c.args.request c.in-Ok.schedule) c.len-count.ensures c.in-Ok.ensures.request in
+    closed_kept n c.in-Ok.schedule files input out c.args.request c.in-Ok-resume.ran request c.in-Ok-resume.ensures.output None c.args.reported (c.in-Ok-resume.ensures.ends r by) c.close.result closed
 
 pub returns-in-Err-resume-clause-ran : goal.returns-in-Err-resume-clause-ran
 returns-in-Err-resume-clause-ran g c = λ r by.
@@ -44,6 +44,6 @@ returns-in-Err-resume-clause-ran g c = λ r by.
     let files = files_change held g.F.Files.faults g.F.Files.failed c.args.files.now c.load_schedule.new.files in
     let input = change g.S.Source.rest g.S.Source.faults c.args.input.now c.resume.new.input in
     let out = change g.K.Sink.taken g.K.Sink.faults c.args.out.now c.resume.new.out in
-    let asked = subst (λ k. HasSchedule (held c.args.files.now) k c.args.asked c.in-Ok.schedule) c.len-count.ensures c.in-Ok.ensures.asked in
-    subst (IsRunOf n files input out c.args.asked None c.args.reported) (sym c.fault_verdict.ensures)
-    (early_run n c.in-Ok.schedule files input out c.args.asked None c.args.reported asked c.in-Ok.ensures.calm c.in-Err-resume.fault (c.in-Err-resume.ensures.ends r by) c.in-Err-resume.ensures.output)
+    let request = subst (λ k. HasSchedule (held c.args.files.now) k c.args.request c.in-Ok.schedule) c.len-count.ensures c.in-Ok.ensures.request in
+    subst (IsRunOf n files input out c.args.request None c.args.reported) (sym c.fault_verdict.ensures)
+    (early_run n c.in-Ok.schedule files input out c.args.request None c.args.reported request c.in-Ok.ensures.calm c.in-Err-resume.fault (c.in-Err-resume.ensures.ends r by) c.in-Err-resume.ensures.output)

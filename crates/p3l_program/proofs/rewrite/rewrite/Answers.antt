@@ -4,7 +4,7 @@ use Rattle.p3l_program.specs.Stage.{build_stages}
 use Rattle.p3l_program.specs.Text.{IsWritten}
 use Rattle.p3l_program.specs.World.{change, files_change}
 use Rattle.p3l_program.proofs.RewriteSteps.{may_be, rewritten}
-use Rattle.p3l_program.proofs.TextSteps.{text_due}
+use Rattle.p3l_program.proofs.TextSteps.{text_expected}
 use Rattle.p3l_program.proofs.TreeSteps.{counts_pass}
 use Rattle.p3l_program.proofs.rewrite.rewrite.Goals as goal
 
@@ -13,14 +13,14 @@ best_text-requires g c =
     let build = plain_build c.args.program c.args.processors c.args.costs in
     may_be (g.F.Files.held c.args.files.now) build c.in-Ok.priced c.in-Ok.ensures.loaded c.requires.processors.0 c.requires.processors.1
 
-pub returns-clause-due : goal.returns-clause-due
-returns-clause-due g c =
+pub returns-clause-expected : goal.returns-clause-expected
+returns-clause-expected g c =
     let build = plain_build c.args.program c.args.processors c.args.costs in
     let loads = c.in-Ok.ensures.loaded in
     let files = files_change g.F.Files.held g.F.Files.faults g.F.Files.failed c.args.files.now c.load_priced.new.files in
     let out = change g.K.Sink.taken g.K.Sink.faults c.args.out.now c.write_text.new.out in
     let text = c.in-Ok-best_text.text in
-    text_due files out (build_stages build) (IsRewritten (g.F.Files.held c.args.files.now) build) text c.write_text.result c.in-Ok.ensures.calm
+    text_expected files out (build_stages build) (IsRewritten (g.F.Files.held c.args.files.now) build) text c.write_text.result c.in-Ok.ensures.calm
     (counts_pass files build loads.r c.in-Ok.priced.costs loads.counts loads.has)
     (rewritten (g.F.Files.held c.args.files.now) build c.in-Ok.priced loads text c.in-Ok-best_text.ensures)
     (subst (λ written. IsWritten out written c.write_text.result) c.as_slice.ensures c.write_text.ensures)

@@ -18,7 +18,7 @@ returns-clause-ran g c =
     let out = change g.K.Sink.taken g.K.Sink.faults c.args.out.now c.run_plan.new.out in
     let bound = firings c.args.loaded.tree c.args.loaded.counts.list in
     let same = ap (λ (n : Network). record n { named = c.args.loaded.tree }) c.plan_of-plan.ensures.network ∙ loaded_network c.args.loaded c.requires.ready c.in-Ok.units c.in-Ok.ensures bound refl in
-    subst (λ n. IsRunOf n files input out c.args.asked c.args.trace c.args.reported c.run_plan.result) same c.run_plan.ensures.ran
+    subst (λ n. IsRunOf n files input out c.args.request c.args.trace c.args.reported c.run_plan.result) same c.run_plan.ensures.ran
 
 pub returns-clause-kept : goal.returns-clause-kept
 returns-clause-kept g c =
@@ -27,4 +27,4 @@ returns-clause-kept g c =
     let out = change g.K.Sink.taken g.K.Sink.faults c.args.out.now c.run_plan.new.out in
     let bound = firings c.args.loaded.tree c.args.loaded.counts.list in
     let same = ap (λ (n : Network). record n { named = c.args.loaded.tree }) c.plan_of-plan.ensures.network ∙ loaded_network c.args.loaded c.requires.ready c.in-Ok.units c.in-Ok.ensures bound refl in
-    subst (λ n. KeepsRun n files input out c.args.asked c.args.trace c.run_plan.result) same c.run_plan.ensures.kept
+    subst (λ n. KeepsRun n files input out c.args.request c.args.trace c.run_plan.result) same c.run_plan.ensures.kept

@@ -3,11 +3,11 @@ use Rattle.p3l_program.specs.Plan.{network_in}
 use Rattle.p3l_program.specs.SaveState.{IsSaveOf, KeepsSave}
 use Rattle.p3l_program.specs.World.{change, files_change}
 use Rattle.p3l_program.proofs.LoadSteps.{same_change}
-use Rattle.p3l_program.proofs.SaveStateSteps.{save_due, save_touched}
+use Rattle.p3l_program.proofs.SaveStateSteps.{save_expected, save_touched}
 use Rattle.p3l_program.proofs.save_state.save_state.Goals as goal
 
-pub returns-in-Ok-clause-due : goal.returns-in-Ok-clause-due
-returns-in-Ok-clause-due g c =
+pub returns-in-Ok-clause-expected : goal.returns-in-Ok-clause-expected
+returns-in-Ok-clause-expected g c =
     let imaged = c.in-Ok.imaged in
     let net = network_in imaged.network in
     let held = g.F.Files.held in
@@ -21,7 +21,7 @@ returns-in-Ok-clause-due g c =
     let loads = c.in-Ok.ensures.loaded in
     let saved = subst (λ f. IsSaveOf net imaged.network.counts.list imaged.network.cap imaged.image f input out c.args.name c.args.output c.save_network.result) same c.save_network.ensures.saved in
     let moved = subst (λ k. IsSaveOf net imaged.network.counts.list k imaged.image files input out c.args.name c.args.output c.save_network.result) loads.capacity_is saved in
-    save_due files input out c.args.build c.args.name net imaged.network.counts.list imaged.image loads.network loads.has c.args.output c.save_network.result moved
+    save_expected files input out c.args.build c.args.name net imaged.network.counts.list imaged.image loads.network loads.has c.args.output c.save_network.result moved
 
 pub returns-in-Ok-clause-over : goal.returns-in-Ok-clause-over
 returns-in-Ok-clause-over g c =

@@ -36,7 +36,7 @@ returns-clause-ran g c = λ r compiled.
     ap (λ (n : Network). record n { named = tree }) c.plan_of-run.ensures.network
     ∙ units_network plan c.requires.ready.runs c.args.capacity c.requires.capacity.0 c.in-Ok-new.units c.in-Ok-new.ensures.tree c.in-Ok.net c.in-Ok.ensures.net r tree c.in-Ok-table_of.table compiled.tree_is
     c.in-Ok-table_of.ensures.tree (c.in-Ok-table_of.ensures.leaf r.seqs bodies compiled.codes) c.in-Ok-new.ensures.elem c.in-Ok-new.ensures.op c.in-Ok-new.ensures.inner in
-    subst (λ n. IsRunOf n files input out c.args.asked None c.args.reported c.run_plan.result) same c.run_plan.ensures.ran
+    subst (λ n. IsRunOf n files input out c.args.request None c.args.reported c.run_plan.result) same c.run_plan.ensures.ran
 
 pub returns-clause-kept : goal.returns-clause-kept
 returns-clause-kept g c = λ r compiled.
@@ -50,4 +50,4 @@ returns-clause-kept g c = λ r compiled.
     ap (λ (n : Network). record n { named = tree }) c.plan_of-run.ensures.network
     ∙ units_network plan c.requires.ready.runs c.args.capacity c.requires.capacity.0 c.in-Ok-new.units c.in-Ok-new.ensures.tree c.in-Ok.net c.in-Ok.ensures.net r tree c.in-Ok-table_of.table compiled.tree_is
     c.in-Ok-table_of.ensures.tree (c.in-Ok-table_of.ensures.leaf r.seqs bodies compiled.codes) c.in-Ok-new.ensures.elem c.in-Ok-new.ensures.op c.in-Ok-new.ensures.inner in
-    subst (λ n. KeepsRun n files input out c.args.asked None c.run_plan.result) same c.run_plan.ensures.kept
+    subst (λ n. KeepsRun n files input out c.args.request None c.run_plan.result) same c.run_plan.ensures.kept

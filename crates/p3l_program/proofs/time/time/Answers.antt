@@ -5,7 +5,7 @@ use Rattle.p3l_timed.specs.Price.{prices_of}
 use Rattle.p3l_firing.specs.Typed.{IsTyped}
 use Rattle.p3l_program.specs.World.{change, files_change}
 use Rattle.p3l_program.proofs.LoadSteps.{same_change}
-use Rattle.p3l_program.proofs.TimeSteps.{time_due, time_touched, time_unloaded}
+use Rattle.p3l_program.proofs.TimeSteps.{time_expected, time_touched, time_unloaded}
 use Rattle.p3l_program.proofs.time.time.Goals as goal
 
 pub time_linked-requires-clause-small : goal.time_linked-requires-clause-small
@@ -31,14 +31,14 @@ returns-in-Ok g c =
     let kept = subst (λ f. KeepsTime net prices f input out c.args.picks c.time_linked.result) same c.time_linked.ensures.kept in
     let loads = c.in-Ok.ensures.loaded in
     record {
-      due = time_due files input out c.args.build net prices loads.network loads.priced c.args.picks c.time_linked.result ran;
+      expected = time_expected files input out c.args.build net prices loads.network loads.priced c.args.picks c.time_linked.result ran;
       kept = kept.kept;
       over = time_touched files input out c.args.build net prices loads.network loads.priced c.args.picks c.time_linked.result kept;
     }
 
-pub returns-in-Err-clause-due : goal.returns-in-Err-clause-due
-returns-in-Err-clause-due g c =
+pub returns-in-Err-clause-expected : goal.returns-in-Err-clause-expected
+returns-in-Err-clause-expected g c =
     let input = change g.S.Source.rest g.S.Source.faults c.args.input.now c.args.input.now in
     let out = change g.K.Sink.taken g.K.Sink.faults c.args.out.now c.args.out.now in
-    time_unloaded (files_change g.F.Files.held g.F.Files.faults g.F.Files.failed c.args.files.now c.load_linked.new.files) input out c.args.build c.args.picks c.in-Err.verdict (record { told = refl; calm = refl })
-    (record { told = refl; calm = refl }) c.in-Err.ensures.refused
+    time_unloaded (files_change g.F.Files.held g.F.Files.faults g.F.Files.failed c.args.files.now c.load_linked.new.files) input out c.args.build c.args.picks c.in-Err.verdict (record { known = refl; calm = refl })
+    (record { known = refl; calm = refl }) c.in-Err.ensures.refused

@@ -1,5 +1,5 @@
 use Rattle.p3l_report.specs.declared.verdict.Verdict.TheVariants as verdict
-use Rattle.p3l_program.proofs.DueSteps.{due_no_memory}
+use Rattle.p3l_program.proofs.ExpectedSteps.{expected_no_memory}
 use Rattle.p3l_program.proofs.top.answer.Goals as goal
 
 pub returns : goal.returns
@@ -7,8 +7,8 @@ returns g c = record {
   answers = record {
     verdict = verdict.NoMemory;
     status_is = c.status-in-Err.ensures;
-    due = due_no_memory _ _ c.perform-verdict.result c.perform-verdict.ensures.due;
-    says = c.put_no_memory.ensures.told;
+    expected = expected_no_memory _ _ c.perform-verdict.result c.perform-verdict.ensures.expected;
+    says = c.put_no_memory.ensures.known;
     begins_to_say = c.put_no_memory.ensures.begun;
   };
 }

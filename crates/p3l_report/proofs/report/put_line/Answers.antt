@@ -3,11 +3,11 @@ use Rattle.p3l_report.specs.Report.{PutsFront, optional_text}
 use Rattle.p3l_report.proofs.Puts.{front_said, put_said}
 use Rattle.p3l_report.proofs.report.put_line.Goals as goal
 
-pub returns-in-Some-clause-told : goal.returns-in-Some-clause-told
-returns-in-Some-clause-told g c = λ said told kept.
-    put_said _ _ said _ _ _ _ told c.put.ensures.bytes c.put.ensures.cause kept
+pub returns-in-Some-clause-known : goal.returns-in-Some-clause-known
+returns-in-Some-clause-known g c = λ said known kept.
+    put_said _ _ said _ _ _ _ known c.put.ensures.bytes c.put.ensures.cause kept
     ∙ ap (λ t. Some (said ++ t)) (c.as_bytes.ensures ∙ ap optional_text (sym c.in-Some.is))
 
 pub returns-in-Some-clause-begun : goal.returns-in-Some-clause-begun
-returns-in-Some-clause-begun g c = λ said told.
-    subst (PutsFront said _) (c.as_bytes.ensures ∙ ap optional_text (sym c.in-Some.is)) (front_said _ _ said _ _ told c.put.ensures.bytes)
+returns-in-Some-clause-begun g c = λ said known.
+    subst (PutsFront said _) (c.as_bytes.ensures ∙ ap optional_text (sym c.in-Some.is)) (front_said _ _ said _ _ known c.put.ensures.bytes)

@@ -1,7 +1,7 @@
 use Rattle.std.proofs.Common.{◌∙◌, ap}
 use Rattle.p3l_stream.specs.Answers.{answer_for}
 use Rattle.p3l_stream.specs.Seen.{Seen}
-use Rattle.p3l_stream.proofs.Asking.{are_passed, is_filled}
+use Rattle.p3l_stream.proofs.Requests.{are_passed, is_filled}
 use Rattle.p3l_stream.proofs.AtHand.{answers_after, finds_at_hand, no_line}
 use Rattle.p3l_stream.proofs.lines.Lines.answer.Goals as goal
 

@@ -1,7 +1,7 @@
 use Rattle.std.proofs.Common.{◌≡◌, ◌++◌, ◌∙◌, false, ap, refl, sym}
 use Rattle.p3l_stream.specs.Answers.{answer_for}
 use Rattle.p3l_stream.specs.Seen.{Seen}
-use Rattle.p3l_stream.proofs.Asking.{are_passed, gets, is_filled, no_cause}
+use Rattle.p3l_stream.proofs.Requests.{are_passed, gets, is_filled, no_cause}
 use Rattle.p3l_stream.proofs.Pieces.{not_both}
 use Rattle.p3l_stream.proofs.Reading.{answers_in_vain, answers_last, few_left, finds_in_piece, goes_on, starts, takes_more, takes_passing}
 use Rattle.p3l_stream.proofs.lines.Lines.read_on.Goals as goal
@@ -16,15 +16,15 @@ loop-self-init g c = record {
 pub returns-in_err-take_piece-clause-answers : goal.returns-in_err-take_piece-clause-answers
 returns-in_err-take_piece-clause-answers g c =
     let way = c.loop-self.invariant.way in
-    let asks = c.in_err-take_piece.ensures.asks in
+    let requests = c.in_err-take_piece.ensures.requests in
     let is_open : c.loop-self.self.at_end ≡ false = ap (λ (s : Seen). s.at_end) (sym c.self.view_is) ∙ c.loop-self-test.true in
-    answers_in_vain _ _ _ _ _ (way.got ++ asks.0) c.from_residual.ensures.0 (takes_more _ _ _ _ _ _ _ _ _ way.takes is_open asks.1)
+    answers_in_vain _ _ _ _ _ (way.got ++ requests.0) c.from_residual.ensures.0 (takes_more _ _ _ _ _ _ _ _ _ way.takes is_open requests.1)
 
 pub returns-in_err-line-clause-answers : goal.returns-in_err-line-clause-answers
 returns-in_err-line-clause-answers g c =
     let way = c.loop-self.invariant.way in
     let is_open : c.loop-self.self.at_end ≡ false = ap (λ (s : Seen). s.at_end) (sym c.self.view_is) ∙ c.loop-self-test.true in
-    let got = gets _ _ _ _ _ c.in_ok-take_piece.ensures.asks (sym c.is_err.ensures.value ∙ c.if-is_err.false) in
+    let got = gets _ _ _ _ _ c.in_ok-take_piece.ensures.requests (sym c.is_err.ensures.value ∙ c.if-is_err.false) in
     answers_in_vain _ _ _ _ _ (way.got ++ got.piece) c.from_residual-in_err-line.ensures.0
     (takes_passing _ _ _ _ _ _ (takes_more _ _ _ _ _ _ _ _ _ way.takes is_open got.took) c.in_err-line.ensures.err)
 
@@ -32,7 +32,7 @@ pub returns-in-Some-clause-answers : goal.returns-in-Some-clause-answers
 returns-in-Some-clause-answers g c =
     let way = c.loop-self.invariant.way in
     let is_open : c.loop-self.self.at_end ≡ false = ap (λ (s : Seen). s.at_end) (sym c.self.view_is) ∙ c.loop-self-test.true in
-    let got = gets _ _ _ _ _ c.in_ok-take_piece.ensures.asks (sym c.is_err.ensures.value ∙ c.if-is_err.false) in
+    let got = gets _ _ _ _ _ c.in_ok-take_piece.ensures.requests (sym c.is_err.ensures.value ∙ c.if-is_err.false) in
     let passes = is_filled _ _ _ _ c.in_ok-line.ensures.ok c.in-Some.is in
     finds_in_piece _ _ _ _ _ _ _ got.piece c.in-Some.line _ way is_open got.took passes
     (c.answer_for.ensures ∙ ap (λ (s : Seen). answer_for c.in-Some.line s.passed) c.self-in-loop-self-2.view_is)
@@ -40,7 +40,7 @@ returns-in-Some-clause-answers g c =
 pub returns-in-Some-clause-few : goal.returns-in-Some-clause-few
 returns-in-Some-clause-few g c one =
     let way = c.loop-self.invariant.way in
-    let got = gets _ _ _ _ _ c.in_ok-take_piece.ensures.asks (sym c.is_err.ensures.value ∙ c.if-is_err.false) in
+    let got = gets _ _ _ _ _ c.in_ok-take_piece.ensures.requests (sym c.is_err.ensures.value ∙ c.if-is_err.false) in
     few_left _ _ _ _ _ got.piece c.in-Some.line way.is_line got.took (is_filled _ _ _ _ c.in_ok-line.ensures.ok c.in-Some.is)
 
 pub loop-self-preserved : goal.loop-self-preserved
@@ -48,7 +48,7 @@ loop-self-preserved g c =
     let way = c.loop-self.invariant.way in
     let is_open : c.loop-self.self.at_end ≡ false = ap (λ (s : Seen). s.at_end) (sym c.self.view_is) ∙ c.loop-self-test.true in
     let fine = sym c.is_err.ensures.value ∙ c.if-is_err.false in
-    let got = gets _ _ _ _ _ c.in_ok-take_piece.ensures.asks fine in
+    let got = gets _ _ _ _ _ c.in_ok-take_piece.ensures.requests fine in
     let passed = are_passed _ _ _ c.in_ok-line.ensures.ok c.in_default.is in
     record {
       way = goes_on _ _ _ _ _ _ _ got.piece way is_open got.took passed.0 passed.1;

@@ -9,16 +9,16 @@ use Rattle.p3l_format.specs.FirstLine.{IsFirstBadLine}
 use Rattle.p3l_trace.specs.Text.{trace_format}
 
 -- what reading gives, with the line of its fault
-abbrev pub told : List ℕ → Result Traced Fault → Result Traced TraceRefusal
-told text (Ok traced) = Ok traced
-told text (Err fault) = Err (refusals.BadLine (line_number text fault.left))
+abbrev pub answer_of : List ℕ → Result Traced Fault → Result Traced TraceRefusal
+answer_of text (Ok traced) = Ok traced
+answer_of text (Err fault) = Err (refusals.BadLine (line_number text fault.left))
 
 -- a call answered what reading gives, unless out of memory
 abbrev pub Answers : List ℕ → Result Traced TraceRefusal → Result Traced Fault → Type 0
 Answers text (Err refusals.NoMemory) read = ⊤
-Answers text answer read = answer ≡ told text read
+Answers text answer read = answer ≡ answer_of text read
 
 -- a line that is reported is the first that isn't of a trace's form
-abbrev pub TellsFirst : List ℕ → Result Traced TraceRefusal → Type 0
-TellsFirst text (Err (refusals.BadLine line)) = IsFirstBadLine trace_format text line
-TellsFirst text answer = ⊤
+abbrev pub ReportsFirst : List ℕ → Result Traced TraceRefusal → Type 0
+ReportsFirst text (Err (refusals.BadLine line)) = IsFirstBadLine trace_format text line
+ReportsFirst text answer = ⊤

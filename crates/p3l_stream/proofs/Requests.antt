@@ -3,7 +3,7 @@ use Rattle.std.proofs.Common.{◌≡◌, ℕ, ◌<◌, true, false, List, ◌++�
 use Rattle.p3l_io.specs.declared.fault.Failed.{Failed}
 use Rattle.p3l_stream.specs.Answers.{TakeCause}
 use Rattle.p3l_stream.specs.Ended.{IsLine}
-use Rattle.p3l_stream.specs.Passing.{AsksOnce, MayPassFilled, PassedBlanks, PassesFilled, TakesPiece}
+use Rattle.p3l_stream.specs.Passing.{RequestsOnce, MayPassFilled, PassedBlanks, PassesFilled, TakesPiece}
 use Rattle.p3l_stream.specs.Seen.{Seen}
 use Rattle.p3l_stream.specs.declared.line.Line.{Line}
 use Rattle.p3l_stream.proofs.Pieces.{not_both}
@@ -14,9 +14,9 @@ pub record Gets (old new : Seen) (rest left : Option (List ℕ)) : Type 0 where
   pub took : TakesPiece old new rest left piece (old.held ++ piece)
   pub moves : (0 < length piece) ⊎ (new.at_end ≡ true)
 
-pub gets : (old new : Seen) (rest left : Option (List ℕ)) (o : Result (Unit {0}) Failed) → AsksOnce old new rest left (Ok o) → is_err o ≡ false → Gets old new rest left
-gets old new rest left (Ok done) asks ok = record { piece = asks.0; took = asks.1; moves = asks.2 }
-gets old new rest left (Err e) asks ok = absurd (not_both true refl ok)
+pub gets : (old new : Seen) (rest left : Option (List ℕ)) (o : Result (Unit {0}) Failed) → RequestsOnce old new rest left (Ok o) → is_err o ≡ false → Gets old new rest left
+gets old new rest left (Ok done) requests ok = record { piece = requests.0; took = requests.1; moves = requests.2 }
+gets old new rest left (Err e) requests ok = absurd (not_both true refl ok)
 
 pub no_cause : (o : Result (Unit {0}) Failed) (before now : ℕ) → TakeCause (Ok o) before now → is_err o ≡ false → now ≡ before
 no_cause (Ok done) before now cause ok = cause

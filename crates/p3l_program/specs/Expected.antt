@@ -31,14 +31,14 @@ pub record IsPutFault (w : World) : Type 0 where
   pub files : IsCalm w.files
   pub out : HasRisen w.out
 
--- writing failed then: of the output, or of a file, by when so much holds
+-- writing failed then: of the output, or of a file, by when this much holds
 pub record IsWriteFault (w : World) (stages : List Stage) (Begins Unsaved : Type 0) : Type 0 where
   pub begun : IsBegun w stages Begins
   pub fault : IsPutFault w ⊎ Unsaved
 
 -- a verdict is expected of a command with these stages, by what its end, its beginning and a file of it that could not be written mean
-abbrev pub IsDueWith : World → List Stage → (Finish → Option Stats → Type 0) → (Begins Unsaved : Type 0) → Verdict → Type 0
-IsDueWith w stages Ends Begins Unsaved (verdict.Refused refused) = IsRefusal w stages refused
-IsDueWith w stages Ends Begins Unsaved (verdict.Ended finish stats) = IsEnd w stages (Ends finish stats)
-IsDueWith w stages Ends Begins Unsaved verdict.WriteFault = IsWriteFault w stages Begins Unsaved
-IsDueWith w stages Ends Begins Unsaved verdict.NoMemory = IsUntouched w ⊎ IsBegun w stages Begins
+abbrev pub IsExpectedWith : World → List Stage → (Finish → Option Stats → Type 0) → (Begins Unsaved : Type 0) → Verdict → Type 0
+IsExpectedWith w stages Ends Begins Unsaved (verdict.Refused refused) = IsRefusal w stages refused
+IsExpectedWith w stages Ends Begins Unsaved (verdict.Ended finish stats) = IsEnd w stages (Ends finish stats)
+IsExpectedWith w stages Ends Begins Unsaved verdict.WriteFault = IsWriteFault w stages Begins Unsaved
+IsExpectedWith w stages Ends Begins Unsaved verdict.NoMemory = IsUntouched w ⊎ IsBegun w stages Begins

@@ -9,16 +9,16 @@ use Rattle.p3l_format.specs.FirstLine.{IsFirstBadLine}
 use Rattle.p3l_cert.specs.Text.{cert_format}
 
 -- what reading gives, with the line of its fault
-abbrev pub told : List ℕ → Result Cert Fault → Result Cert CertRefusal
-told text (Ok cert) = Ok cert
-told text (Err fault) = Err (refusals.BadText (line_number text fault.left))
+abbrev pub answer_of : List ℕ → Result Cert Fault → Result Cert CertRefusal
+answer_of text (Ok cert) = Ok cert
+answer_of text (Err fault) = Err (refusals.BadText (line_number text fault.left))
 
 -- a call answered what reading gives, unless out of memory
 abbrev pub Answers : List ℕ → Result Cert CertRefusal → Result Cert Fault → Type 0
 Answers text (Err refusals.NoMemory) read = ⊤
-Answers text answer read = answer ≡ told text read
+Answers text answer read = answer ≡ answer_of text read
 
 -- a line that is reported is the first that isn't of a certificate's form
-abbrev pub TellsFirst : List ℕ → Result Cert CertRefusal → Type 0
-TellsFirst text (Err (refusals.BadText line)) = IsFirstBadLine cert_format text line
-TellsFirst text answer = ⊤
+abbrev pub ReportsFirst : List ℕ → Result Cert CertRefusal → Type 0
+ReportsFirst text (Err (refusals.BadText line)) = IsFirstBadLine cert_format text line
+ReportsFirst text answer = ⊤
