@@ -48,7 +48,7 @@ fn first_compiled(
 }
 
 /// The code of the first module of a text.
-fn compiled(alloc: Global, text: &str) -> Result<Option<SafeCode>, NoMemory> {
+pub fn compiled(alloc: Global, text: &str) -> Result<Option<SafeCode>, NoMemory> {
     let Ok(program) = read(alloc, text.as_bytes()) else {
         return Ok(None);
     };

@@ -7,6 +7,8 @@ mod bodies;
 #[cfg(test)]
 mod codes;
 #[cfg(test)]
+mod operations;
+#[cfg(test)]
 mod operators;
 #[cfg(test)]
 mod profiles;
