@@ -29,7 +29,7 @@ pub record AreRowsOf (keys : List Key) (rows : List Row) : Type 0 where
   pub all : All (Has rows) keys
   pub only : All (λ row. Contains keys (key_of row)) rows
 
--- the rows that each row rests on are there, and its node is outside units
+-- the rows that each row depends on are there, and its node is outside units
 pub record AreClosed (tree : Tree) (costs : Costs) (rows : List Row) : Type 0 where
   pub rests : All (λ row. All (Has rows) (rests_on tree costs (key_of row))) rows
   pub outside : All (λ row. (cost : NodeCost) × (cost_at tree costs row.node ≡ Some cost)) rows

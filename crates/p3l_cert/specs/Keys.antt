@@ -34,7 +34,7 @@ rests_at tree (Some cost) k = rests_of cost (node_at tree k.node).parts k.bound 
 unfoldable pub rests_on : Tree → Costs → Key → List Key
 rests_on tree costs k = rests_at tree (cost_at tree costs k.node) k
 
--- a key and all that it rests on, down to a depth
+-- a key and all that it depends on, down to a depth
 unfoldable pub keys_from : Tree → Costs → ℕ → Key → List Key
 keys_from tree costs zero k = []
 keys_from tree costs (suc d) k = k ∷ flat_map (keys_from tree costs d) (rests_on tree costs k)
@@ -45,7 +45,7 @@ needed_keys tree costs service processors =
     if service == 0 then keys_from tree costs nesting (key 0 service processors)
     else keys_from tree costs nesting (key 0 service processors) ++ keys_from tree costs nesting (key 0 (service - 1) processors)
 
--- a key's numbers are small: those of the keys that it rests on are too
+-- a key's numbers are small: those of the keys that it depends on are too
 pub record IsSmall (k : Key) : Type 0 where
   pub some_cap : 1 ≤ k.cap
   pub cap : k.cap ≤ 512

@@ -59,7 +59,7 @@ pub enum CertRefusal {
         kept: u32,
         found: u32,
     },
-    /// The row of this number rests on a row that isn't there; the number of rows stands for the
+    /// The row of this number depends on a row that isn't there; the number of rows stands for the
     /// claim of the root.
     RowMissing {
         row: u64,

@@ -138,7 +138,7 @@ pub fn sort(keys: &mut Vec<Key>)
     keys.sort_unstable();
 }
 
-/// Puts a key and all that it rests on after others, as deep as `levels` levels.
+/// Puts a key and all that it depends on after others, as deep as `levels` levels.
 #[tactic(auto, unfolding(crate::specs::Keys::keys_from))]
 pub fn push_keys(
     alloc: Global,

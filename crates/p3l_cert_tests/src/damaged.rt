@@ -223,7 +223,7 @@ fn texts(rt: HostRuntime) -> Result<(), Fail> {
     Ok(refused_two(&rt, rt.alloc(), &TURNED)?)
 }
 
-// The line in which each front of a text ends, if a front is read as a certificate or reported at
+// The line in which each prefix of a text ends, if a prefix is read as a certificate or reported at
 // another line.
 pub fn first_unlike(alloc: Global, text: &[u8]) -> Option<u64> {
     let mut line = 1;

@@ -99,7 +99,7 @@ abbrev pub count_of : Phrases → ℕ
 count_of none = 0
 count_of (more e is) = count_of is + 1
 
--- a name with some number of indices is an array of that number of sizes, or a scalar or a constant
+-- a name with this number of indices is an array of as many sizes, or a scalar or a constant
 abbrev pub IsAccess : Option Slot → ℕ → Type 0
 IsAccess (Some slot) count = count ≡ length slot.sizes
 IsAccess None count = count ≡ 0

@@ -19,7 +19,7 @@ pub record BeginAlike (s t : List ℕ) : Type 0 where
   pub t_rest : List ℕ
   pub t_is : t ≡ first ++ 10 ∷ t_rest
 
--- a text is the front of a value's spelling
+-- a text is a prefix of a value's spelling
 abbrev pub Begins : {A : Type 0} → Format ℕ A → List ℕ → Type 0
 Begins {A = A} format s = (v : A) × (rest : List ℕ) × (format.fits v ≡ true) × (format.spell v ≡ s ++ rest)
 

@@ -30,8 +30,8 @@ pub struct Handbook {
 impl Handbook {
     /// The text that the words request, if they request one that is there:
     ///
-    /// - `help TOPIC`, a command, a number of refusal or another topic, and `help` alone, which asks
-    ///   for the topic `help`;
+    /// - `help TOPIC`, a command, a number of refusal or another topic, and `help` alone, for
+    ///   the topic `help`;
     /// - `--help` or `-h` first, or after a command among the words before `--`;
     /// - `--version` or `-V` in the same places.
     pub fn answer(&self, words: &[&str]) -> Option<&'static str>

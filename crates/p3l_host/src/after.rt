@@ -9,8 +9,8 @@ use std::io::Write;
 use std::marker::Model;
 
 /// A source that is read after all that was put on the output is written: who types the input, or
-/// waits at the end of a pipe, has seen every result by then. A write that fails is reported by the
-/// output's next call, and the source is read all the same.
+/// waits at the end of a pipe, has seen by then every result that came out. A write that fails is
+/// reported by the output's next call, and the source is read all the same.
 #[derive(Drop)]
 pub struct SourceAfter<'a, S: Source + Drop, W: Write + Drop> {
     source: S,

@@ -18,7 +18,7 @@ Takes None new result buf = new ≡ None
 Takes (Some rest) new (Ok n) buf = Took rest new n buf
 Takes (Some rest) new (Err e) buf = new ≡ Some rest
 
--- a sink gains the whole piece, or by a fault a front of it
+-- a sink gains the whole piece, or by a fault a prefix of it
 abbrev pub Puts : Option (List ℕ) → Option (List ℕ) → Result (Unit {0}) Failed → List ℕ → Type 0
 Puts None new result piece = new ≡ None
 Puts (Some taken) new (Ok done) piece = new ≡ Some (taken ++ piece)

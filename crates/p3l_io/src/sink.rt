@@ -14,7 +14,7 @@ pub trait Sink {
     // how often a call has failed, up to the last value of a `u64`
     ghost faults: { Self → ℕ };
 
-    /// Puts the whole piece after what was put before; a fault may put a front of it.
+    /// Puts the whole piece after what was put before; a fault may put a prefix of it.
     fn put(&mut self, piece: &[u8]) -> Result<(), Failed>
         ensures bytes { Puts (taken self.old) (taken self.new) result piece.now }
         ensures cause { HasCause (faults self.old) (faults self.new) result };

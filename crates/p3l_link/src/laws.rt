@@ -18,8 +18,8 @@ pub fn every_linked_net_is_carried()
 {}
 
 /// A run begins orderly, and every firing keeps the order and the whole list of what was emitted
-/// and what is to come, and takes from what is owed. In a typed net every token has the words of its
-/// place, at first and after every firing.
+/// and what is to come, and takes from the outstanding firings. In a typed net every token has
+/// the words of its place, at first and after every firing.
 pub fn every_firing_keeps_the_list()
     ensures begins { EveryRunBeginsOrderly }
     ensures step { EveryFiringKeepsTheList }
@@ -41,7 +41,7 @@ pub fn stuck_means_finished()
 {}
 
 /// The firings of a run, and those that its tokens can still need, are at most the stated number for
-/// each item sent; and what is owed is at most that number for each token in the net.
+/// each item sent; and the outstanding firings are at most that number for each token in the net.
 pub fn firings_are_bounded()
     ensures run { FiringsAreBounded }
     ensures tokens { OwedIsBoundedByTokens }

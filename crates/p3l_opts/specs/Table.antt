@@ -6,7 +6,7 @@ use Rattle.clap.specs.declared.builder.action.ArgAction.TheVariants.{SetTrue}
 use Rattle.p3l_opts.specs.declared.table.Spelling.{Spelling}
 use Rattle.p3l_opts.specs.declared.table.Spelling.TheVariants.{Positional, Mandatory, Optional, Flag}
 
--- what `clap` is given for a word of this spelling
+-- what is declared to `clap` of a word of this spelling
 abbrev pub rule_for : Text → Spelling → Rule
 rule_for name Positional = record (new_rule name) { required = true }
 rule_for name Mandatory = record (new_rule name) { long = Some name; required = true }

@@ -121,7 +121,7 @@ rules_of verb.Resume =
     ∷ rule_for (codes "stats") Flag
     ∷ []
 
--- the command as `clap` is given it
+-- the command as it is declared to `clap`
 unfoldable pub app_for : Verb → App
 app_for verb = fold with_rule (new_app (name_of verb)) (rules_of verb)
 

@@ -20,7 +20,7 @@ const MOST_PROCESSORS: u32 = 512;
 /// The most segments that a list can be scanned in.
 const MOST_SEGMENTS: u32 = 512;
 
-/// The most tokens that a channel can be made to hold.
+/// The greatest capacity of channels that can be requested.
 const MOST_CAPACITY: u32 = 1024;
 
 /// How many tokens a channel holds at most where the words don't say it.

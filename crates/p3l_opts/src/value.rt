@@ -70,7 +70,7 @@ pub(crate) fn number_in(word: &str) -> Option<u32>
     }
 }
 
-/// What follows a front in a word, if it begins with it.
+/// What follows a prefix in a word, if it begins with it.
 fn after<'a>(word: &'a str, front: &str) -> Option<&'a str>
     ensures some { IfSome result (λ rest. word.entry.now ≡ front.now ++ rest.now) }
     ensures none { IfNone result ((rest : List ℕ) → word.entry.now ≡ front.now ++ rest → ⊥) }

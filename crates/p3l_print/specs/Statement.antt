@@ -12,7 +12,7 @@ assignment_text spot index value = target_text spot index ++ codes " = " ++ expr
 abbrev pub deeper : List ℕ → List ℕ
 deeper margin = codes "  " ++ margin
 
--- a block in braces; the closing one stands on a line of its own
+-- a block in braces; the closing one has a line of its own
 unfoldable pub block_text : List ℕ → List ℕ → List ℕ
 block_text margin lines = codes "{\n" ++ lines ++ margin ++ codes "}"
 

@@ -26,7 +26,7 @@ pub record Greatest : Type 0 where
   pub work : List ℕ
   pub took : List ℕ
 
--- of this number of modules, before anything is done
+-- of a number of modules, before anything is done
 abbrev pub none_noted : ℕ → Greatest
 none_noted modules = record { work = replicate modules 0; took = replicate modules 1 }
 

@@ -15,7 +15,7 @@ use Rattle.p3l_code.specs.declared.instr.Code.{Code}
 use Rattle.p3l_code.specs.Counting.{steps_of}
 use Rattle.p3l_units.specs.Table.{Served, code_of, leaf}
 
--- a code of this module was run, and did this number of instructions; a loop of this module began its turn of
+-- a code of this module was run, and did `steps` instructions; a loop of this module began its turn of
 -- this number for an item, the first being 1
 pub data Note : Type 0 where
   ran : (home steps : ℕ) → Note
@@ -52,7 +52,7 @@ abbrev pub folded : (List ℤ → Outcome) → List (List ℤ) → Outcome
 folded operator list = tree_fold operator (map (λ element. Value element) list)
 
 -- the left half before the right one, and then the operator on what both came to, up to the first trap,
--- of at most this number of elements
+-- of at most n elements
 unfoldable pub fold_notes_to : ℕ → (List ℤ → Outcome) → (List ℤ → List Note) → List (List ℤ) → List Note
 fold_notes_to n operator noted [] = []
 fold_notes_to n operator noted (one ∷ []) = []
@@ -69,7 +69,7 @@ fold_notes_to (suc n) operator noted (one ∷ (other ∷ more)) =
 abbrev pub fold_notes : (List ℤ → Outcome) → (List ℤ → List Note) → List (List ℤ) → List Note
 fold_notes operator noted list = fold_notes_to (length list) operator noted list
 
--- the turns of a loop module from the one after `made` on, where this number are left
+-- the turns of a loop module from the one after `made` on, where `left` are left
 abbrev pub turn_notes : ℕ → (body condition : List ℤ → Outcome) → (in_body in_condition : List ℤ → List Note) → (made left : ℕ) → List ℤ → List Note
 turn_notes home body condition in_body in_condition made zero words = []
 turn_notes home body condition in_body in_condition made (suc left) words =

@@ -25,7 +25,7 @@ impl Model for Highs {
 }
 
 impl Highs {
-    /// Those of this number of modules of which nothing was run: no work, and one turn.
+    /// Those of `modules` modules of which nothing was run: no work, and one turn.
     pub fn new(alloc: Global, modules: usize) -> Result<Highs, NoMemory>
         ensures { IfOk result (λ highs. highs ≡ none_noted modules) }
     {
@@ -34,7 +34,7 @@ impl Highs {
         Ok(Highs { work, took })
     }
 
-    /// Notes a run of a module's code of this number of instructions.
+    /// Notes a run of a module's code of `steps` instructions.
     pub fn note_run(&mut self, home: u32, steps: u64)
         requires { home < length self.old.work }
         ensures { self.new ≡ noted self.old (ran home steps) }

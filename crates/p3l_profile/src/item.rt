@@ -222,7 +222,7 @@ fn fold_outcome(
     next_outcome(alloc, tree, bodies, highs, operator, both)
 }
 
-/// What a loop of this number of turns at most makes of words.
+/// What a loop with a limit on its turns makes of words.
 #[cycle(item)]
 fn loop_outcome(
     alloc: Global,

@@ -64,7 +64,7 @@ abbrev pub IsExpected : List Text → World → Verdict → Type 0
 IsExpected words w v = IsRequested words w v ⊎ (IsUsage words w v ⊎ (IsUnread w v ⊎ IsUnsaved words w v))
 
 -- the answer of the program: how it ended, with this status, why, and its lines on the standard error, where its count of faults
--- doesn't rise; where it does, a front of each of the lines of this same verdict, so that a fault there changes no status
+-- doesn't rise; where it does, a prefix of each of the lines of this same verdict, so that a fault there changes no status
 pub record Answers (words : List Text) (w : World) (err : Change (List ℕ)) (status : ℕ) : Type 0 where
   pub verdict : Verdict
   pub status_is : status ≡ status_of verdict

@@ -19,7 +19,7 @@ pub record Behavior : Type 1 where
   pub run : Option Running
   -- it came to this end, with these numbers to be reported
   pub Ends : World → Finish → Option Stats → Type 0
-  -- a front of what it writes was written
+  -- a prefix of what it writes was written
   pub Begins : World → Type 0
   -- a file of it could not be written, and what holds then
   pub Unsaved : World → Type 0

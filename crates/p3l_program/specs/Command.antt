@@ -72,7 +72,7 @@ run_of command = (behavior_of command).run
 abbrev pub Ends : World → Command → Finish → Option Stats → Type 0
 Ends w command finish stats = (behavior_of command).Ends w finish stats
 
--- a front of what it writes was written
+-- a prefix of what it writes was written
 abbrev pub Begins : World → Command → Type 0
 Begins w command = (behavior_of command).Begins w
 

@@ -21,7 +21,7 @@ pub record IsEnd (w : World) (stages : List Stage) (Ends : Type 0) : Type 0 wher
   pub files : IsCalm w.files
   pub out : IsCalm w.out
 
--- all stages passed, and a front was written
+-- all stages passed, and a prefix was written
 pub record IsBegun (w : World) (stages : List Stage) (Begins : Type 0) : Type 0 where
   pub passed : AllPass w.files stages
   pub begins : Begins

@@ -85,7 +85,7 @@ pub record IsNoted (p : Subject) (input out : Change (List ℕ)) : Type 0 where
   pub all : GivesAll p input ending.End
   pub put : HasPut out.old out.new (cost_file p all.items)
 
--- the same, up to a front of the file
+-- the same, up to a prefix of the file
 pub record NotesSome (p : Subject) (input out : Change (List ℕ)) : Type 0 where
   pub all : GivesAll p input ending.End
   pub begun : HasBegun out.old out.new (cost_file p all.items)
@@ -131,7 +131,7 @@ pub record EndsProfile (w : World) (name : List ℕ) (finish : Finish) (stats : 
   pub stats_are : stats ≡ None
   pub profiled : IsProfiled (subject_of r) w.input w.out finish
 
--- nothing was written, or a front of the cost file
+-- nothing was written, or a prefix of the cost file
 pub record BeginsProfile (w : World) (name : List ℕ) : Type 0 where
   pub r : ResolvedTree
   pub has : HasProgram w.files.old name r
@@ -196,7 +196,7 @@ ClosesSo tree g close out finish.Done = (close ≡ ending.End) × HasPut out.old
 ClosesSo tree g close out (finish.Stream other) = (other ≡ close) × (close ≢ ending.End) × IsStill out
 ClosesSo tree g close out f = ⊥
 
--- a front of the cost file of the greatest numbers was written, where the input came to its end
+-- a prefix of the cost file of the greatest numbers was written, where the input came to its end
 abbrev pub ClosesSome : Tree → Greatest → Ending → Change (List ℕ) → Type 0
 ClosesSome tree g close out = (close ≡ ending.End) × HasBegun out.old out.new (text_of tree g)
 

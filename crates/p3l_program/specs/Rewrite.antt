@@ -42,7 +42,7 @@ pub record IsRewritten (files : Option Held) (build : Build) (text : List ℕ) :
   pub text_is : text ≡ canonical other
   pub spells : IsTextOf text other
 
--- a program breaks a rule, the first of them so, unless memory was wanting
+-- a program breaks a rule, the first of them so, unless memory ran out
 abbrev pub BreaksRules : ProgramTree → SourceRefusal → Type 0
 BreaksRules program refusal = Gives {A = ResolvedTree} (Err refusal) (resolved program)
 

@@ -85,7 +85,7 @@ abbrev pub UnsavedRun : World → Origin → Sched → Option (List ℕ) → Typ
 UnsavedRun w origin request None = ⊥
 UnsavedRun w origin request (Some name) = RunsOver w origin request × IsCalm w.out × HasFailed w.files name
 
--- it was run, and a front of the text of its meaning was written, and of what the network emits under the schedule
+-- it was run, and a prefix of the text of its meaning was written, and of what the network emits under the schedule
 pub record BeginsRun (w : World) (origin : Origin) (request : Sched) : Type 0 where
   pub n : Network
   pub s : Schedule
@@ -218,7 +218,7 @@ abbrev pub IsUnsavedRun : Network → Change Held → Change (List ℕ) → Chan
 IsUnsavedRun n files input out request None = ⊥
 IsUnsavedRun n files input out request (Some name) = IsRunOver n files input out request × HasFailed files name
 
--- or a front of the text of its meaning was written
+-- or a prefix of the text of its meaning was written
 pub record IsRunSome (n : Network) (files : Change Held) (input out : Change (List ℕ)) (request : Sched) : Type 0 where
   pub s : Schedule
   pub schedule : HasSchedule files.old (size_of n) request s

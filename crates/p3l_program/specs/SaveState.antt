@@ -137,7 +137,7 @@ SavesTo n counts capacity image picks files input out name report (finish.Stream
 SavesTo n counts capacity image picks files input out name report (finish.Trapped item kind home) = TrapsAt n picks input out report (end.Trapped item kind home) × (files.new ≡ files.old)
 SavesTo n counts capacity image picks files input out name report f = ⊥
 
--- or a front of the text of the meaning was written, and of what the network emits under some of the picks
+-- or a prefix of the text of the meaning was written, and of what the network emits under some of the picks
 pub record IsSaveBegun (n : Network) (picks : List ℕ) (input out : Change (List ℕ)) : Type 0 where
   pub breaks : Breaks n picks input.old input.new input.before input.now out.old out.new
   pub begun : HasBegun out.old out.new (text_of (meaning_of n breaks.items))

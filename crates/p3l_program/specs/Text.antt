@@ -26,7 +26,7 @@ pub record EndsText (w : World) (IsText : List ℕ → Type 0) (finish : Finish)
   pub put : HasPut w.out.old w.out.new text
   pub input : IsStill w.input
 
--- a front of such a text was written
+-- a prefix of such a text was written
 pub record BeginsText (w : World) (IsText : List ℕ → Type 0) : Type 0 where
   pub text : List ℕ
   pub is : IsText text

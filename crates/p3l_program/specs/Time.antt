@@ -83,7 +83,7 @@ pub record IsTimeOver (n : Network) (prices : List ℕ) (input out : Change (Lis
   pub ran : Ran
   pub runs : RunsInTime n prices input out keeping picks ran
 
--- or a front of the text of its meaning was written, and of what the network emits under picks with which the timed run begins, of the
+-- or a prefix of the text of its meaning was written, and of what the network emits under picks with which the timed run begins, of the
 -- items that the stream gave and whatever may still come after them
 pub record IsTimeBegun (n : Network) (prices : List ℕ) (input out : Change (List ℕ)) : Type 0 where
   pub picks : List ℕ

@@ -81,13 +81,13 @@ pub record EndsTrace (w : World) (build : Build) (name : List ℕ) (finish : Fin
   pub stats_are : stats ≡ None
   pub checked : IsChecked w n t finish
 
--- a front of the line was written, of which the trace is that of a run
+-- a prefix of the line was written, of which the trace is that of a run
 pub record WritesSome (w : World) (n : Network) (t : Traced) : Type 0 where
   pub close : Option Ending
   pub agrees : AgreesHere w n t close
   pub begun : HasBegun w.out.old w.out.new (holds_line t)
 
--- a trace was there, and nothing was written, or a front of the line
+-- a trace was there, and nothing was written, or a prefix of the line
 pub record BeginsTrace (w : World) (build : Build) (name : List ℕ) : Type 0 where
   pub n : Network
   pub t : Traced
@@ -182,7 +182,7 @@ pub record IsCheckTo (n : Network) (files : Change Held) (input out : Change (Li
   pub files_calm : IsCalm files
   pub out_calm : IsCalm out
 
--- or a front of the line was written
+-- or a prefix of the line was written
 pub record IsCheckSome (n : Network) (files : Change Held) (input out : Change (List ℕ)) (name : List ℕ) : Type 0 where
   pub t : Traced
   pub trace : HasTrace files.old name t

@@ -1,5 +1,5 @@
 // The command `scan`: a program whose `main` is a reduce, run on the input so that the folds of all
-// fronts of each list are written.
+// prefixes of each list are written.
 
 ghost use Rattle.std.specs.Prelude.{◌≡◌, ◌≤◌, ◌⊎◌, [], None, IfOk, IfErr, OnOk};
 ghost use Rattle.p3l_check.specs.Resolving.{ResolvedTree};

@@ -1,4 +1,4 @@
-// Scans: the folds of all fronts of lists, whatever the segments, and what refuses them.
+// Scans: the folds of all prefixes of lists, whatever the segments, and what refuses them.
 
 use crate::texts::{
     BAD_SEGMENTS, DOUBLE, HUNDRED, LESS_OF_FIVE, LESS_OF_FOUR, NOT_REDUCE, REFUSED_NAME, UNDECLARED,
@@ -6,7 +6,7 @@ use crate::texts::{
 use crate::world::{Ends, Program, Programs, take_programs};
 use std::test::Fail;
 
-/// What the fronts of 1 2 3 4 come to by subtraction: 1, 1 - 2, and 3 and 3 - 4 taken from that.
+/// What the prefixes of 1 2 3 4 come to by subtraction: 1, 1 - 2, and 3 and 3 - 4 taken from that.
 const FOUR_FOLDS: Ends = Ends(0, "1 -1 -4 0\n", "");
 
 const FOLDS: &[Programs] = &[

@@ -45,7 +45,7 @@ file = 9
 abbrev pub write : ℕ
 write = 10
 
--- memory was wanting
+-- memory ran out
 abbrev pub no_memory : ℕ
 no_memory = 11
 

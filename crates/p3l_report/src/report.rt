@@ -150,7 +150,7 @@ pub fn put_report<E: Sink>(err: &mut E, report: &Report)
     put_line(err, &report.status);
 }
 
-/// Puts the line that says that memory was wanting.
+/// Puts the line that says that memory ran out.
 pub fn put_no_memory<E: Sink>(err: &mut E)
     ensures known { (said : List ℕ) → E.taken err.old ≡ Some said
         → (Rose (E.faults err.old) (E.faults err.new) → ⊥)

@@ -62,7 +62,7 @@ pub record IsSaved (n : Network) (picks : List ℕ) (rest left : Option (List �
   pub calm : has_trap reached.outcomes ≡ false
   pub over : (reached.unused ≡ []) ⊎ (reached.close ≡ Some ending.End)
 
--- a run ended early: a front of the text of what it emits under some of the picks was written
+-- a run ended early: a prefix of the text of what it emits under some of the picks was written
 pub record Breaks (n : Network) (picks : List ℕ) (rest left : Option (List ℕ)) (before now : ℕ) (taken taken' : Option (List ℕ)) : Type 0 where
   pub stream : Seen
   pub items : List (List ℤ)

@@ -53,7 +53,7 @@ pub record Feeds (width : ℕ) (m m' : machine.Seen) (s s' : Seen) (rest left : 
   pub kept : (e : Ending) → close ≡ Some e → close' ≡ Some e
   pub empty : (e : Ending) → close ≡ None → close' ≡ Some e → m'.inbox ≡ None
 
--- memory was wanting for that
+-- memory ran out for that
 pub record FeedsInVain (width : ℕ) (s s' : Seen) (rest left : Option (List ℕ)) (before now : ℕ) (close : Option Ending) : Type 0 where
   pub more : List (List ℤ)
   pub closed : Option (Result Ending NoMemory)

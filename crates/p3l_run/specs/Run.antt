@@ -77,12 +77,12 @@ pub record Finishes (n : Network) (schedule : Schedule) (keeping : Keeping) (res
   pub kept : end.lines ≡ kept_by keeping lines
   pub summed : end.sum ≡ sum_of outcomes
 
--- the same of a stream that want of memory may have ended, which hides what follows
+-- the same of a stream that running out of memory may have ended, which hides what follows
 pub record MayFollow (n : Network) (closed : Option (Result Ending NoMemory)) (later : List (List ℤ)) : Type 0 where
   pub wide : HaveInWords n.tree later
   pub none : (e : Ending) → closed ≡ Some (Ok e) → later ≡ []
 
--- a run ended early: a front of the text of the meaning of the items that the stream gave was written, and no more than the network
+-- a run ended early: a prefix of the text of the meaning of the items that the stream gave was written, and no more than the network
 -- emits under the schedule on these items and whatever may still come after them
 pub record Starts (n : Network) (schedule : Schedule) (rest left : Option (List ℕ)) (before now : ℕ) (taken taken' : Option (List ℕ)) : Type 0 where
   pub stream : Seen

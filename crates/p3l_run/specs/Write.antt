@@ -9,7 +9,7 @@ abbrev pub HasPut : Option (List ℕ) → Option (List ℕ) → List ℕ → Typ
 HasPut None new text = new ≡ None
 HasPut (Some taken) new text = new ≡ Some (taken ++ text)
 
--- a front of the text was written
+-- a prefix of the text was written
 pub record HasBegun (old new : Option (List ℕ)) (text : List ℕ) : Type 0 where
   pub written : List ℕ
   pub more : List ℕ

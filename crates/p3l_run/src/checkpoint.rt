@@ -142,7 +142,7 @@ impl<'t> Execution<'t> {
 
     /// Saves the state, with the numbers of items and picks.
     ///
-    /// A state that counts to 2^63 couldn't be restored: it is answered as a want of memory, and no
+    /// A state that counts to 2^63 couldn't be restored: it is answered that memory ran out, and no
     /// run comes so far.
     fn save(&self, alloc: Global) -> Result<Checkpoint, NoMemory>
         requires calm { self.now.machine.trapped ≡ false }

@@ -1,4 +1,4 @@
--- THE SCAN of a list of elements by halves: the folds of all its fronts, each by a fixed tree.
+-- THE SCAN of a list of elements by halves: the folds of all its prefixes, each by a fixed tree.
 use Rattle.std.specs.Prelude.{ℕ, ℤ, zero, suc, ◌-◌, ◌/◌, Result, Ok, Err, List, [], ◌∷◌, ◌++◌, length, take, drop, slice_index_or}
 use Rattle.std.specs.List.{flat_map}
 use Rattle.p3l_base.specs.declared.outcome.Outcome.{Outcome}

@@ -99,7 +99,7 @@ abbrev pub NextCause : Result Next NoMemory → ℕ → ℕ → Type 0
 NextCause (Ok next.ReadFault) before now = Rose before now
 NextCause _ before now = now ≡ before
 
--- the same of one asking
+-- the same of one request
 abbrev pub TakeCause : Result (Result (Unit {0}) Failed) NoMemory → ℕ → ℕ → Type 0
 TakeCause (Ok (Err failed)) before now = Rose before now
 TakeCause _ before now = now ≡ before

@@ -69,7 +69,7 @@ pub record TakesPiece (old new : Seen) (rest left : Option (List ℕ)) (piece he
   pub given : IsTaken rest left piece
   pub all : new.at_end ≡ true → IsAtEnd left
 
--- what asking the source once comes to
+-- what one request to the source comes to
 abbrev pub RequestsOnce : Seen → Seen → Option (List ℕ) → Option (List ℕ) → Result (Result (Unit {0}) Failed) NoMemory → Type 0
 RequestsOnce old new rest left (Ok (Ok done)) =
     (piece : List ℕ) × TakesPiece old new rest left piece (old.held ++ piece) × ((0 < length piece) ⊎ (new.at_end ≡ true))

@@ -43,7 +43,7 @@ pub record IsSameInside (P : Part) (s t : State) : Type 0 where
   pub tokens : (c : ℕ) → P.chan_from ≤ c → c < P.chan_to → t.tokens c ≡ s.tokens c
   pub own : (p : ℕ) → P.proc_from ≤ p → p < P.proc_to → t.own p ≡ s.own p
 
--- the part can't tell two states from each other
+-- the part can't distinguish two states
 pub record IsAlike (P : Part) (s t : State) : Type 0 where
   pub pending : P.pending t ≡ P.pending s
   pub orderly : P.orderly t ≡ P.orderly s
@@ -141,7 +141,7 @@ no_part =
       owed = λ s. 0;
     }
 
--- one of these parts fired, from s to t, and the others can't tell it
+-- one of these parts fired, from s to t, and none of the others can distinguish s and t
 pub record OneFired (parts : List Part) (s t : State) : Type 0 where
   pub which : ℕ
   pub below : which < length parts

@@ -1,4 +1,4 @@
--- A template placed in a net round lawful parts, and the law that every template owes.
+-- A template placed in a net round lawful parts, and the law that every template must satisfy.
 use Rattle.std.specs.Prelude.{◌≡◌, ◌≢◌, ℕ, suc, ◌+◌, ◌≤◌, ◌<◌, List, [], ◌∷◌, length, slice_get, Some, get_or, ◌⊎◌}
 use Rattle.p3l_firing.specs.declared.net.Chan.{Chan}
 use Rattle.p3l_firing.specs.declared.net.Net.{Net}

@@ -1,4 +1,4 @@
--- What a template owes to the typing of nets: which words and tags its channels carry, and that its processes fit there.
+-- What a template must meet for the typing of nets: which words and tags its channels carry, and that its processes fit there.
 use Rattle.std.specs.Prelude.{◌≡◌, ℕ, ◌+◌, ◌<◌, ◌≤◌, List, ◌∷◌, ◌++◌, map, length, get_or, ⊤}
 use Rattle.std.specs.List.{AllByRecursion}
 use Rattle.p3l_skel.specs.declared.tree.Tree.{Tree}

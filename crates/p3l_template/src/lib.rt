@@ -1,5 +1,5 @@
 //! Templates: what a node of the tree places in a net, over any inner parts, and the law that each
-//! of them owes the linker.
+//! of them must satisfy for the linker.
 #![tactic(auto)]
 
 pub mod builder;

@@ -1,4 +1,4 @@
-// What every template does, and what it owes.
+// What every template does, and what it must satisfy.
 
 ghost use Rattle.std.specs.Prelude.{◌≡◌, ℕ, ◌≤◌, ◌<◌, length, IfOk};
 ghost use Rattle.p3l_skel.specs.declared.tree.Tree.{Tree};

@@ -54,7 +54,7 @@ pub record IsWiredLoop (turns tokens ins outs : ℕ) (body condition : Wired) : 
   pub tested : TakesAndGives condition ins 1
   pub sequential : IsTrue condition.sequential
 
--- what a module of a form owes its calls
+-- what a module of a form requires of its calls
 abbrev pub IsWiredForm : List Wired → Form → ℕ → ℕ → List ℕ → Type 0
 IsWiredForm wired Seq ins outs calls = calls ≡ []
 IsWiredForm wired Comp ins outs calls = (1 ≤ length calls) × IsCallChain wired ins outs calls × All (IsSequentialModule wired) calls

@@ -52,7 +52,7 @@ same_line (c ∷ a) (d ∷ b) s t p q e =
     let front : a ≡ b = h.0 in
     (cc, h.1)
 
--- a front with no line feed is in the first line
+-- a prefix with no line feed is in the first line
 pub in_first_line : (part s l r : List ℕ) → feeds part ≡ 0 → part ++ s ≡ l ++ 10 ∷ r → (m : List ℕ) × (l ≡ part ++ m) × (s ≡ m ++ 10 ∷ r)
 in_first_line [] s l r none e = (l, refl, e)
 in_first_line (c ∷ part) s [] r none e =
@@ -72,7 +72,7 @@ IsOneLine s = (front : List ℕ) × (feeds front ≡ 0) × (s ≡ front ++ 10 �
 abbrev pub IsInLine : List ℕ → Type 0
 IsInLine s = feeds s ≡ 0
 
--- what begins with the line that the front begins, begins with the front
+-- what begins with the line that the prefix begins, begins with the prefix
 abbrev pub IsWithinLine : List ℕ → Type 0
 IsWithinLine front = (s t : List ℕ) → BeginAlike (front ++ s) t → (rest : List ℕ) × (t ≡ front ++ rest)
 
@@ -668,7 +668,7 @@ first_bad format t whole s f e =
 
 -- ---- a text has one such line
 
--- of two fronts of a text one begins the other
+-- of two prefixes of a text one begins the other
 fronts : (a b s t : List ℕ) → a ++ s ≡ b ++ t → ((m : List ℕ) × (b ≡ a ++ m) × (s ≡ m ++ t)) ⊎ ((m : List ℕ) × (a ≡ b ++ m) × (t ≡ m ++ s))
 fronts [] b s t e = inl (b, refl, e)
 fronts (c ∷ a) [] s t e = inr (c ∷ a, refl, sym e)

@@ -15,8 +15,8 @@ ghost use Rattle.p3l_sched.specs.resumption.Run.{run_from};
 /// A net that is carried goes on from any orderly state, whatever the picks: what was emitted at the
 /// end begins the outcomes emitted before, those to come and those of the items not yet sent, up to
 /// the first trap, and is all of them where nothing can fire. The state at the end is again one to go
-/// on from, and balanced where the first was; and the net fires at most as often as was owed, and so
-/// many times for each item sent since.
+/// on from, and balanced where the first was; and the net fires at most as often as its
+/// tokens could still need, and as often as for one item for each item sent since.
 pub fn a_carried_net_goes_on_from_any_orderly_state()
     ensures going { (tree : Tree) (leaf : Leaf) (net : Net) (firings : ℕ) (carry : Carry)
         (s : State) (picks : List ℕ)

@@ -1,6 +1,6 @@
 -- IsNumbered tokens in any order, read in the order of their numbers. One more with the next number comes last
 -- (`insert_read`), the one with the least leaves first (`release_read`), and one moved to the end is read as before
--- (`moved_read`). In each case every number occurs there once again. Farm and loop rest on it.
+-- (`moved_read`). In each case every number occurs there once again. Farm and loop depend on it.
 use Rattle.std.proofs.Common.{◌≡◌, ℕ, zero, suc, ◌+◌, ◌≤◌, ◌<◌, ◌≢◌, inl, inr, true, List, [], ◌∷◌, ◌++◌, length, refl, sym, ap, ap₂, ◌∙◌, subst, arith, append_assoc, append-nil, length-append, eqb-true, eq-eqb, ne_eqb, lt-ltb, ltb-true, leb-true, le-leb}
 use Rattle.std.proofs.lemmas.Bool.{cases_eq, cases_lt, cond-true, cond-false, and_parts, and_from}
 use Rattle.p3l_firing.specs.Token.{newest_tag, peeled}

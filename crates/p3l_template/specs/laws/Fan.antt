@@ -1,7 +1,7 @@
 -- Workers between two rows of channels, and two processes before them: what a farm and a map share. `fan_of` says where
 -- each worker is placed, what it means, and what of its line and its firings a step leaves;
 -- the rest is what a part round the workers touches, reads and begins with (`around_moves` to `fan_empty`), who fires in it
--- and when its workers are drained (`fan_fires`, `fan_drained`), and what its shape owes besides (`fan_lawful`).
+-- and when its workers are drained (`fan_fires`, `fan_drained`), and what its shape must satisfy besides (`fan_lawful`).
 use Rattle.std.proofs.Common.{◌≡◌, ℕ, zero, suc, ◌+◌, ◌-◌, ◌*◌, ◌≤◌, ◌<◌, ◌≢◌, inl, inr, true, false, List, [], ◌++◌, map, length, get_or, replicate, refl, sym, ap, ap₂, ◌∙◌, subst, arith, le_refl}
 use Rattle.std.proofs.lemmas.Bool.{cases_eq}
 use Rattle.std.proofs.lemmas.List.{length-replicate}
