@@ -74,8 +74,8 @@ const MATRIX_ROWS: [Row; 2] = [
     (Shape::Seq, 6, 1, &[]),
 ];
 
-// The certificate for this number of processors is this text, it is accepted, and no prefix of it is one;
-// and for a few processors more, what is made is accepted too.
+// The certificate for this number of processors is this text, it is accepted, and no prefix of it is
+// one; and for a few processors more, what is made is accepted too.
 fn check_example(
     rt: &impl Abort,
     alloc: Global,

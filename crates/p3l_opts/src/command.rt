@@ -51,10 +51,10 @@ pub enum Command {
     /// the input in virtual time. It has how the network is built, and the name of the file for the
     /// picks.
     Time(Build, Option<Name>),
-    /// `scan PROGRAM --segments M [--schedule S] [--capacity C] [--stats]`: folds all prefixes of the
-    /// list of each item. It has the name of the program's file, the segments, 1 to 512, how picks are
-    /// made, the tokens that a channel holds at most, 1 to 1,024, and whether the numbers of the run
-    /// are reported.
+    /// `scan PROGRAM --segments M [--schedule S] [--capacity C] [--stats]`: folds all prefixes of
+    /// the list of each item. It has the name of the program's file, the segments, 1 to 512, how
+    /// picks are made, the tokens that a channel holds at most, 1 to 1,024, and whether the numbers
+    /// of the run are reported.
     Scan(Name, u32, Sched, u32, bool),
     /// `save PROGRAM --processors P --schedule file:NAME --output FILE [--costs FILE] [--capacity C]`:
     /// runs recorded picks on the input and writes the state that they come to. It has how the network
