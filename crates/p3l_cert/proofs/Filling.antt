@@ -13,13 +13,13 @@ use Rattle.p3l_model.specs.declared.cost.NodeCost.{NodeCost}
 use Rattle.p3l_cert.specs.declared.cert.Key.{Key}
 use Rattle.p3l_cert.specs.declared.cert.Row.{Row}
 use Rattle.p3l_cert.specs.Fill.{Has, AreClosed, IsFilledFrom}
-use Rattle.p3l_cert.specs.Keys.{rests_of, rests_at, rests_on}
+use Rattle.p3l_cert.specs.Keys.{dependencies_of, dependencies_at, depends_on}
 use Rattle.p3l_cert.specs.Order.{key_before}
 use Rattle.p3l_cert.specs.Rows.{IsInRange, AreRows}
 use Rattle.p3l_cert.specs.Rule.{key_of, is_key, kept, needed, needed_of, cost_at, rule_of, rule_at, rule}
 use Rattle.p3l_cert.proofs.Found.{Finds, FindsWithin, rule_found, rule_same}
 use Rattle.p3l_cert.proofs.Lookup.{any_default}
-use Rattle.p3l_cert.proofs.Needs.{rests_later}
+use Rattle.p3l_cert.proofs.Needs.{depends_later}
 use Rattle.p3l_cert.proofs.Nodes.{cost_is, stages_some}
 use Rattle.p3l_cert.proofs.Optimal.{kept_in}
 use Rattle.p3l_cert.proofs.Order.{before_node}
@@ -92,7 +92,7 @@ later_other row k later = grind (arith, nat_tests)
 ok_is : (x y : ℕ) → ◌≡◌ {A = Result ℕ Key} (Ok x) (Ok y) → x ≡ y
 ok_is x y e = cc
 
-alike : (tree : Tree) (look other : Key → Result ℕ Key) (k : Key) (o : Option NodeCost) → All (λ j. look j ≡ other j) (rests_at tree o k) → rule_at look tree o k ≡ rule_at other tree o k
+alike : (tree : Tree) (look other : Key → Result ℕ Key) (k : Key) (o : Option NodeCost) → All (λ j. look j ≡ other j) (dependencies_at tree o k) → rule_at look tree o k ≡ rule_at other tree o k
 alike tree look other k None all = refl
 alike tree look other k (Some c) all = rule_same look other c (node_at tree k.node).parts k.bound k.cap all
 
@@ -112,24 +112,24 @@ finds_from rows k range has =
 module _ (tree : Tree) (costs : Costs) (lawful : IsLawfulTree tree) (priced : AreCostsOf tree costs) where
   -- a rule hangs on rows of later nodes alone
   rule_alike : (rows others : List Row) (k : Key) → ((j : Key) → k.node < j.node → kept rows j ≡ kept others j) → rule tree costs rows k ≡ rule tree costs others k
-  unfolding rule rests_on
+  unfolding rule depends_on
   rule_alike rows others k same =
       alike tree (needed rows) (needed others) k (cost_at tree costs k.node)
-      (λ i d inside. ap (needed_of (get_or (rests_on tree costs k) i d)) (same (get_or (rests_on tree costs k) i d) (rests_later tree costs lawful priced k i d inside)))
+      (λ i d inside. ap (needed_of (get_or (depends_on tree costs k) i d)) (same (get_or (depends_on tree costs k) i d) (depends_later tree costs lawful priced k i d inside)))
 
   rule_of_cost : (rows : List Row) (k : Key) (c : NodeCost) → cost_at tree costs k.node ≡ Some c → rule tree costs rows k ≡ rule_of (needed rows) c (node_at tree k.node).parts k.bound k.cap
   unfolding rule
   rule_of_cost rows k c at = ap (λ o. rule_at (needed rows) tree o k) at
 
-  rests_of_cost : (k : Key) (c : NodeCost) → cost_at tree costs k.node ≡ Some c → rests_on tree costs k ≡ rests_of c (node_at tree k.node).parts k.bound k.cap
-  unfolding rests_on
-  rests_of_cost k c at = ap (λ o. rests_at tree o k) at
+  depends_of_cost : (k : Key) (c : NodeCost) → cost_at tree costs k.node ≡ Some c → depends_on tree costs k ≡ dependencies_of c (node_at tree k.node).parts k.bound k.cap
+  unfolding depends_on
+  depends_of_cost k c at = ap (λ o. dependencies_at tree o k) at
 
-  rule_finds : (rows : List Row) (k : Key) (c : NodeCost) → All IsInRange rows → 1 ≤ k.cap → cost_at tree costs k.node ≡ Some c → All (Has rows) (rests_on tree costs k) → FindsWithin k.cap (rule tree costs rows k)
+  rule_finds : (rows : List Row) (k : Key) (c : NodeCost) → All IsInRange rows → 1 ≤ k.cap → cost_at tree costs k.node ≡ Some c → All (Has rows) (depends_on tree costs k) → FindsWithin k.cap (rule tree costs rows k)
   rule_finds rows k c range room at has =
       let is = cost_is tree costs k.node c at in
-      let finds : All (Finds (needed rows)) (rests_on tree costs k) = λ i d inside. finds_from rows (get_or (rests_on tree costs k) i d) range (has i d inside) in
-      let w = rule_found (needed rows) c (node_at tree k.node).parts k.bound k.cap room (λ stages. stages_some tree costs lawful priced k.node is.0 (sym is.1 ∙ stages)) (subst (All (Finds (needed rows))) (rests_of_cost k c at) finds) in
+      let finds : All (Finds (needed rows)) (depends_on tree costs k) = λ i d inside. finds_from rows (get_or (depends_on tree costs k) i d) range (has i d inside) in
+      let w = rule_found (needed rows) c (node_at tree k.node).parts k.bound k.cap room (λ stages. stages_some tree costs lawful priced k.node is.0 (sym is.1 ∙ stages)) (subst (All (Finds (needed rows))) (depends_of_cost k c at) finds) in
       (w.0, rule_of_cost rows k c at ∙ w.1, w.2, w.3)
 
   module _ (before : List Row) (closed : AreClosed tree costs before) (place : ℕ) (rows : List Row) (filled : IsFilledFrom tree costs before place rows) (some : 0 < place) (within : place ≤ length rows) where
@@ -143,10 +143,10 @@ module _ (tree : Tree) (costs : Costs) (lawful : IsLawfulTree tree) (priced : Ar
         let at = map_at rows before (place - 1) no_row filled.same inside in
         let range = filled.ordered.range (place - 1) no_row inside in
         let cost = closed.outside (place - 1) no_row at.0 in
-        let rests = closed.rests (place - 1) no_row at.0 in
+        let depends = closed.depends (place - 1) no_row at.0 in
         let node : (get_or before (place - 1) no_row).node ≡ here.node = sym (ap (λ (k : Key). k.node) at.1) in
         rule_finds rows (key_of here) cost.0 filled.ordered.range range.some_cap (subst (λ n. cost_at tree costs n ≡ Some cost.0) node cost.1)
-        (subst (λ (k : Key). All (Has rows) (rests_on tree costs k)) (sym at.1) (λ i d inside'. has_same before rows (get_or (rests_on tree costs (key_of (get_or before (place - 1) no_row))) i d) (sym filled.same) (rests i d inside')))
+        (subst (λ (k : Key). All (Has rows) (depends_on tree costs k)) (sym at.1) (λ i d inside'. has_same before rows (get_or (depends_on tree costs (key_of (get_or before (place - 1) no_row))) i d) (sym filled.same) (depends i d inside')))
 
     pub never_missing : (k : Key) → rule tree costs rows (key_of (get_or rows (place - 1) no_row)) ≡ Err k → ⊥
     unfolding here

@@ -1,4 +1,4 @@
--- What the rule of a key finds where the rows that it rests on are there, and what it depends on.
+-- What the rule of a key finds where the rows that it depends on are there, and what it depends on.
 use Rattle.std.proofs.Common.{◌≡◌, ℕ, zero, suc, ◌+◌, ◌-◌, ◌*◌, ◌/◌, ◌^◌, ◌≤◌, ◌&&◌, leb, min, List, [], ◌∷◌, ◌++◌, map, Result, Ok, Err, length, refl, ap, ◌∙◌, subst, arith, inl, inr}
 use Rattle.std.specs.Prelude.{slice_index}
 use Rattle.std.specs.List.{All}
@@ -14,7 +14,7 @@ use Rattle.p3l_model.specs.declared.cost.NodeCost.TheVariants.{Unit, Stages, Wor
 use Rattle.p3l_model.specs.NodeCost.{timed, segments_service}
 use Rattle.p3l_model.specs.Least.{part_bound, least_over, capped}
 use Rattle.p3l_cert.specs.declared.cert.Key.{Key}
-use Rattle.p3l_cert.specs.Keys.{worker_keys, rests_of}
+use Rattle.p3l_cert.specs.Keys.{worker_keys, dependencies_of}
 use Rattle.p3l_cert.specs.Rule.{key, and_then, stages_rule, workers_step, workers_rule, low_of, run_of, segments_step, segments_rule, rule_of}
 
 -- a look-up finds a number of processes
@@ -78,8 +78,8 @@ module _ (look : Key → Result ℕ Key) where
       let here = last_all (Finds look) (worker_keys part bound cap low k) last all in
       (min before.0 (2 + n * here.0), rw (before.1, here.1) refl, omega (arith, before.2), omega (arith, before.3))
 
-  pub rule_found : (c : NodeCost) (parts : List ℕ) (t cap : ℕ) → 1 ≤ cap → (c ≡ Stages → 1 ≤ length parts) → All (Finds look) (rests_of c parts t cap) → FindsWithin cap (rule_of look c parts t cap)
-  unfolding rule_of rests_of
+  pub rule_found : (c : NodeCost) (parts : List ℕ) (t cap : ℕ) → 1 ≤ cap → (c ≡ Stages → 1 ≤ length parts) → All (Finds look) (dependencies_of c parts t cap) → FindsWithin cap (rule_of look c parts t cap)
+  unfolding rule_of dependencies_of
   rule_found (Unit s) parts t cap room some all =
       elim (cases_Bool (leb s t)) [
         | inl holds ↦ (1, rw holds refl, omega arith, omega arith)
@@ -131,8 +131,8 @@ module _ (look other : Key → Result ℕ Key) where
       ap (λ r. and_then r (workers_step look part bound cap n)) (workers_same part bound cap low k (front_all Same (worker_keys part bound cap low k) last all))
       ∙ then_same (workers_rule other part bound cap low k) (workers_step look part bound cap n) (workers_step other part bound cap n) (λ best. ap (λ r. and_then r (λ least. Ok (min best (2 + n * least)))) here)
 
-  pub rule_same : (c : NodeCost) (parts : List ℕ) (t cap : ℕ) → All Same (rests_of c parts t cap) → rule_of look c parts t cap ≡ rule_of other c parts t cap
-  unfolding rule_of rests_of
+  pub rule_same : (c : NodeCost) (parts : List ℕ) (t cap : ℕ) → All Same (dependencies_of c parts t cap) → rule_of look c parts t cap ≡ rule_of other c parts t cap
+  unfolding rule_of dependencies_of
   rule_same (Unit s) parts t cap all = refl
   rule_same Stages parts t cap all = stages_same t cap 0 parts all
   rule_same (Workers r h e) parts t cap all =

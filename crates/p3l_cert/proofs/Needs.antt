@@ -1,4 +1,4 @@
--- The keys that a key rests on: small, below it in the tree, and all of them needed.
+-- The keys that a key depends on: small, below it in the tree, and all of them needed.
 use Rattle.std.proofs.Common.{◌≡◌, ℕ, zero, suc, ◌+◌, ◌-◌, ◌*◌, ◌/◌, ◌^◌, ◌<◌, ◌≤◌, ◌&&◌, Bool, true, false, leb, cond, List, [], ◌∷◌, ◌++◌, Option, Some, None, get_or, length, refl, sym, ap, ◌∙◌, subst, arith}
 use Rattle.std.specs.Prelude.{slice_index}
 use Rattle.std.specs.Int.{div_ceil}
@@ -23,7 +23,7 @@ use Rattle.p3l_model.specs.NodeCost.{node_cost}
 use Rattle.p3l_model.specs.Least.{part_bound}
 use Rattle.p3l_cert.specs.declared.cert.Key.{Key}
 use Rattle.p3l_cert.specs.Rule.{key, low_of, run_of, cost_at}
-use Rattle.p3l_cert.specs.Keys.{worker_keys, rests_of, rests_at, rests_on, keys_from, IsSmall}
+use Rattle.p3l_cert.specs.Keys.{worker_keys, dependencies_of, dependencies_at, depends_on, keys_from, IsSmall}
 use Rattle.p3l_cert.proofs.Nodes.{NeedsFirst, cost_is, first_after, first_some, parts_after}
 
 -- ---- one number of workers more
@@ -74,19 +74,19 @@ flat_all f P [] each = none_all P
 flat_all f P (k ∷ keys) each = All-append P (f k) (flat_map f keys) (each 0 k (omega arith)) (flat_all f P keys (λ i e inside. each (suc i) e (omega arith)))
 
 -- what holds of the keys that a rule may rest on
-pub rests_all : (P : Key → Type 0) (c : NodeCost) (parts : List ℕ) (t cap : ℕ)
+pub depends_all : (P : Key → Type 0) (c : NodeCost) (parts : List ℕ) (t cap : ℕ)
     → ((i x : ℕ) → i < length parts → c ≡ Stages → P (key (get_or parts i x) t cap))
     → ((r : Span) (h : Sharing) (e n : ℕ) → c ≡ Workers r h e → e ≤ t → low_of r ≤ n → n < low_of r + run_of r cap → P (key (slice_index parts 0) (part_bound h t n) ((cap - 2) / n)))
     → ((turns e : ℕ) → c ≡ Loop turns e → e ≤ t → 3 ≤ cap → P (key (slice_index parts 0) (t / turns) (cap - 2)))
-    → All P (rests_of c parts t cap)
-unfolding rests_of
-rests_all P (Unit s) parts t cap stages workers turns = none_all P
-rests_all P Stages parts t cap stages workers turns = All-map P (λ p. key p t cap) parts (λ i d inside. stages i d inside refl)
-rests_all P (Workers r h e) parts t cap stages workers turns =
+    → All P (dependencies_of c parts t cap)
+unfolding dependencies_of
+depends_all P (Unit s) parts t cap stages workers turns = none_all P
+depends_all P Stages parts t cap stages workers turns = All-map P (λ p. key p t cap) parts (λ i d inside. stages i d inside refl)
+depends_all P (Workers r h e) parts t cap stages workers turns =
     cond_all P (leb e t) (worker_keys (slice_index parts 0) (part_bound h t) cap (low_of r) (run_of r cap))
     (λ early. worker_keys_all (slice_index parts 0) (part_bound h t) cap (low_of r) P (run_of r cap) (λ n from to. workers r h e n refl (leb-true e t early) from to))
-rests_all P (Segments r fold) parts t cap stages workers turns = none_all P
-rests_all P (Loop n e) parts t cap stages workers turns =
+depends_all P (Segments r fold) parts t cap stages workers turns = none_all P
+depends_all P (Loop n e) parts t cap stages workers turns =
     cond_all P (leb e t && leb 3 cap) (key (slice_index parts 0) (t / n) (cap - 2) ∷ [])
     (λ holds. let p = and_parts (leb e t) (leb 3 cap) holds in one_all P (key (slice_index parts 0) (t / n) (cap - 2)) (turns n e refl (leb-true e t p.0) (leb-true 3 cap p.1)))
 
@@ -118,19 +118,19 @@ small_workers (Elements m) t cap n part some few small count room =
       bound = small_quotient t cap (div_ceil m n) ((cap - 2) / n) (omega (arith, less)) small;
     }
 
-small_row : (c : NodeCost) (parts : List ℕ) (t cap : ℕ) → 1 ≤ cap → cap ≤ 512 → t * cap < 2 ^ 109 → All IsSmall (rests_of c parts t cap)
-small_row c parts t cap some few small = rests_all IsSmall c parts t cap
+small_row : (c : NodeCost) (parts : List ℕ) (t cap : ℕ) → 1 ≤ cap → cap ≤ 512 → t * cap < 2 ^ 109 → All IsSmall (dependencies_of c parts t cap)
+small_row c parts t cap some few small = depends_all IsSmall c parts t cap
     (λ i x inside is. record { some_cap = some; cap = few; bound = small })
     (λ r h e n is early from to. small_workers h t cap n (slice_index parts 0) some few small (omega arith) (omega arith))
     (λ turns e is early room. record { some_cap = omega arith; cap = omega arith; bound = small_quotient t cap turns (cap - 2) (omega arith) small })
 
-pub by_cost : (tree : Tree) (costs : Costs) (P : Key → Type 0) (k : Key) (o : Option NodeCost) → cost_at tree costs k.node ≡ o → ((c : NodeCost) → cost_at tree costs k.node ≡ Some c → All P (rests_of c (node_at tree k.node).parts k.bound k.cap)) → All P (rests_at tree o k)
+pub by_cost : (tree : Tree) (costs : Costs) (P : Key → Type 0) (k : Key) (o : Option NodeCost) → cost_at tree costs k.node ≡ o → ((c : NodeCost) → cost_at tree costs k.node ≡ Some c → All P (dependencies_of c (node_at tree k.node).parts k.bound k.cap)) → All P (dependencies_at tree o k)
 by_cost tree costs P k None at each = none_all P
 by_cost tree costs P k (Some c) at each = each c at
 
-pub rests_small : (tree : Tree) (costs : Costs) (k : Key) → IsSmall k → All IsSmall (rests_on tree costs k)
-unfolding rests_on
-rests_small tree costs k small = by_cost tree costs IsSmall k (cost_at tree costs k.node) refl (λ c at. small_row c (node_at tree k.node).parts k.bound k.cap small.some_cap small.cap small.bound)
+pub depends_small : (tree : Tree) (costs : Costs) (k : Key) → IsSmall k → All IsSmall (depends_on tree costs k)
+unfolding depends_on
+depends_small tree costs k small = by_cost tree costs IsSmall k (cost_at tree costs k.node) refl (λ c at. small_row c (node_at tree k.node).parts k.bound k.cap small.some_cap small.cap small.bound)
 
 -- ---- below in the tree
 
@@ -152,25 +152,25 @@ module _ (tree : Tree) (costs : Costs) (lawful : IsLawfulTree tree) (priced : Ar
   unfolding IsSubtree
   stage_deep d node i x deep inside = siblings_at (IsSubtree d tree) (node_at tree node).parts (node + 1) deep.0 i x deep.1.1 inside
 
-  pub rests_deep : (d : ℕ) (k : Key) → IsDeep tree (suc d) k.node → All (λ (j : Key). IsDeep tree d j.node) (rests_on tree costs k)
-  unfolding rests_on
-  rests_deep d k deep =
+  pub depends_deep : (d : ℕ) (k : Key) → IsDeep tree (suc d) k.node → All (λ (j : Key). IsDeep tree d j.node) (depends_on tree costs k)
+  unfolding depends_on
+  depends_deep d k deep =
       by_cost tree costs (λ (j : Key). IsDeep tree d j.node) k (cost_at tree costs k.node) refl
       (λ c at.
       let is = cost_is tree costs k.node c at in
-      rests_all (λ (j : Key). IsDeep tree d j.node) c (node_at tree k.node).parts k.bound k.cap
+      depends_all (λ (j : Key). IsDeep tree d j.node) c (node_at tree k.node).parts k.bound k.cap
       (λ i x inside same. stage_deep d k.node i x deep inside)
       (λ r h e n same early from to. first_deep d k.node deep (subst NeedsFirst (sym same ∙ is.1) tt))
       (λ turns e same early room. first_deep d k.node deep (subst NeedsFirst (sym same ∙ is.1) tt)))
 
   -- keys that are needed by keys of later nodes alone
-  pub rests_later : (k : Key) → All (λ (j : Key). k.node < j.node) (rests_on tree costs k)
-  unfolding rests_on
-  rests_later k =
+  pub depends_later : (k : Key) → All (λ (j : Key). k.node < j.node) (depends_on tree costs k)
+  unfolding depends_on
+  depends_later k =
       by_cost tree costs (λ (j : Key). k.node < j.node) k (cost_at tree costs k.node) refl
       (λ c at.
       let is = cost_is tree costs k.node c at in
-      rests_all (λ (j : Key). k.node < j.node) c (node_at tree k.node).parts k.bound k.cap
+      depends_all (λ (j : Key). k.node < j.node) c (node_at tree k.node).parts k.bound k.cap
       (λ i x inside same. omega (arith, (parts_after tree costs lawful priced k.node i x is.0 inside).0))
       (λ r h e n same early from to. omega (arith, (first_after tree costs lawful priced k.node is.0 (subst NeedsFirst (sym same ∙ is.1) tt)).0))
       (λ turns e same early room. omega (arith, (first_after tree costs lawful priced k.node is.0 (subst NeedsFirst (sym same ∙ is.1) tt)).0)))
@@ -181,29 +181,29 @@ module _ (tree : Tree) (costs : Costs) (lawful : IsLawfulTree tree) (priced : Ar
   first_key P zero k deep all = absurd (IsSubtree-zero tree k.node deep.0 deep.1)
   first_key P (suc d) k deep all = all 0 k (omega arith)
 
-  -- what holds of all keys that are needed holds of those that each of them rests on
-  pub keys_closed : (P : Key → Type 0) (d : ℕ) (k : Key) → IsDeep tree d k.node → All P (keys_from tree costs d k) → All (λ j. All P (rests_on tree costs j)) (keys_from tree costs d k)
+  -- what holds of all keys that are needed holds of those that each of them depends on
+  pub keys_closed : (P : Key → Type 0) (d : ℕ) (k : Key) → IsDeep tree d k.node → All P (keys_from tree costs d k) → All (λ j. All P (depends_on tree costs j)) (keys_from tree costs d k)
   unfolding keys_from
   keys_closed P zero k deep all = absurd (IsSubtree-zero tree k.node deep.0 deep.1)
   keys_closed P (suc d) k deep all =
-      let rests = rests_on tree costs k in
-      let below = rests_deep d k deep in
-      let tail : All P (flat_map (keys_from tree costs d) rests) = λ i e inside. all (suc i) e (omega arith) in
-      let here : All P rests = λ i e inside. first_key P d (get_or rests i e) (below i e inside) (all_piece (keys_from tree costs d) P rests tail i e inside) in
-      let later : All (λ j. All P (rests_on tree costs j)) (flat_map (keys_from tree costs d) rests) =
-      flat_all (keys_from tree costs d) (λ j. All P (rests_on tree costs j)) rests (λ i e inside. keys_closed P d (get_or rests i e) (below i e inside) (all_piece (keys_from tree costs d) P rests tail i e inside)) in
-      cons_all (λ j. All P (rests_on tree costs j)) k (flat_map (keys_from tree costs d) rests) here later
+      let depends = depends_on tree costs k in
+      let below = depends_deep d k deep in
+      let tail : All P (flat_map (keys_from tree costs d) depends) = λ i e inside. all (suc i) e (omega arith) in
+      let here : All P depends = λ i e inside. first_key P d (get_or depends i e) (below i e inside) (all_piece (keys_from tree costs d) P depends tail i e inside) in
+      let later : All (λ j. All P (depends_on tree costs j)) (flat_map (keys_from tree costs d) depends) =
+      flat_all (keys_from tree costs d) (λ j. All P (depends_on tree costs j)) depends (λ i e inside. keys_closed P d (get_or depends i e) (below i e inside) (all_piece (keys_from tree costs d) P depends tail i e inside)) in
+      cons_all (λ j. All P (depends_on tree costs j)) k (flat_map (keys_from tree costs d) depends) here later
 
   -- all keys that are needed are small, and of nodes outside units
   pub keys_small : (d : ℕ) (k : Key) → IsSmall k → All IsSmall (keys_from tree costs d k)
   unfolding keys_from
   keys_small zero k small = none_all IsSmall
   keys_small (suc d) k small =
-      let rests = rests_on tree costs k in
-      cons_all IsSmall k (flat_map (keys_from tree costs d) rests) small
-      (flat_all (keys_from tree costs d) IsSmall rests (λ i e inside. keys_small d (get_or rests i e) (rests_small tree costs k small i e inside)))
+      let depends = depends_on tree costs k in
+      cons_all IsSmall k (flat_map (keys_from tree costs d) depends) small
+      (flat_all (keys_from tree costs d) IsSmall depends (λ i e inside. keys_small d (get_or depends i e) (depends_small tree costs k small i e inside)))
 
-pub keys_some : (tree : Tree) (costs : Costs) (d : ℕ) (k : Key) → 0 < d → keys_from tree costs d k ≡ k ∷ flat_map (keys_from tree costs (d - 1)) (rests_on tree costs k)
+pub keys_some : (tree : Tree) (costs : Costs) (d : ℕ) (k : Key) → 0 < d → keys_from tree costs d k ≡ k ∷ flat_map (keys_from tree costs (d - 1)) (depends_on tree costs k)
 unfolding keys_from
 keys_some tree costs zero k some = absurd (omega arith)
-keys_some tree costs (suc d) k some = let e : d ≡ suc d - 1 = omega arith in ap (λ n. k ∷ flat_map (keys_from tree costs n) (rests_on tree costs k)) e
+keys_some tree costs (suc d) k some = let e : d ≡ suc d - 1 = omega arith in ap (λ n. k ∷ flat_map (keys_from tree costs n) (depends_on tree costs k)) e

@@ -20,9 +20,9 @@ use Rattle.p3l_model.specs.declared.cost.NodeCost.TheVariants.{Stages}
 use Rattle.p3l_model.specs.NodeCost.{node_cost, node_cost_row}
 use Rattle.p3l_model.proofs.Members.{Contains-head, Contains-tail, Contains-flat_map}
 use Rattle.p3l_cert.specs.declared.cert.Key.{Key}
-use Rattle.p3l_cert.specs.Keys.{rests_on, keys_from}
+use Rattle.p3l_cert.specs.Keys.{depends_on, keys_from}
 use Rattle.p3l_cert.specs.Rule.{key, cost_at}
-use Rattle.p3l_cert.proofs.Needs.{IsDeep, by_cost, rests_all, rests_deep, cons_all, none_all, flat_all}
+use Rattle.p3l_cert.proofs.Needs.{IsDeep, by_cost, depends_all, depends_deep, cons_all, none_all, flat_all}
 use Rattle.p3l_cert.proofs.Nodes.{NeedsFirst, cost_is, first_some}
 
 -- what is outside units below a node, down to a depth, is outside units
@@ -75,9 +75,9 @@ cost_there tree costs k inside has =
     (node_cost tree costs k.node, rw (lt-ltb k.node (length tree.nodes) inside, list_any-from_Any (λ x. x == k.node) (outside tree) any) refl)
 
 module _ (tree : Tree) (costs : Costs) (lawful : IsLawfulTree tree) (priced : AreCostsOf tree costs) where
-  rests_outer : (d : ℕ) (k : Key) → Outer tree (suc d) k.node → All (λ (j : Key). Outer tree d j.node) (rests_on tree costs k)
-  unfolding rests_on node_cost
-  rests_outer d k outer =
+  depends_outer : (d : ℕ) (k : Key) → Outer tree (suc d) k.node → All (λ (j : Key). Outer tree d j.node) (depends_on tree costs k)
+  unfolding depends_on node_cost
+  depends_outer d k outer =
       let f = (node_at tree k.node).form in
       let parts = (node_at tree k.node).parts in
       by_cost tree costs (λ (j : Key). Outer tree d j.node) k (cost_at tree costs k.node) refl
@@ -89,7 +89,7 @@ module _ (tree : Tree) (costs : Costs) (lawful : IsLawfulTree tree) (priced : Ar
       let front = first_taken parts (first_some tree costs lawful priced k.node is.0 needs) in
       let inside : 0 < length (outside_parts f parts) = subst (λ ps. 0 < length ps) (sym taken) front.0 in
       subst (Outer tree d) (ap (λ ps. get_or ps 0 0) taken ∙ front.1) (outer_part tree d k.node 0 0 outer inside) in
-      rests_all (λ (j : Key). Outer tree d j.node) c parts k.bound k.cap
+      depends_all (λ (j : Key). Outer tree d j.node) c parts k.bound k.cap
       (λ i x inside same.
       let all = stage_form tree costs k.node f parts (sym same ∙ is.1) in
       subst (λ ps. Outer tree d (get_or ps i x)) all (outer_part tree d k.node i x outer (subst (λ ps. i < length ps) (sym all) inside)))
@@ -100,12 +100,12 @@ module _ (tree : Tree) (costs : Costs) (lawful : IsLawfulTree tree) (priced : Ar
   unfolding keys_from
   keys_costed zero k deep outer = none_all (IsCosted tree costs)
   keys_costed (suc d) k deep outer =
-      let rests = rests_on tree costs k in
-      let below = rests_deep tree costs lawful priced d k deep in
-      let out = rests_outer d k outer in
-      cons_all (IsCosted tree costs) k (flat_map (keys_from tree costs d) rests)
+      let depends = depends_on tree costs k in
+      let below = depends_deep tree costs lawful priced d k deep in
+      let out = depends_outer d k outer in
+      cons_all (IsCosted tree costs) k (flat_map (keys_from tree costs d) depends)
       (cost_there tree costs k (deep_inside tree (suc d) k.node deep) (outer k.node (itself tree (suc d) k.node)))
-      (flat_all (keys_from tree costs d) (IsCosted tree costs) rests (λ i e inside. keys_costed d (get_or rests i e) (below i e inside) (out i e inside)))
+      (flat_all (keys_from tree costs d) (IsCosted tree costs) depends (λ i e inside. keys_costed d (get_or depends i e) (below i e inside) (out i e inside)))
 
   pub root_deep : IsDeep tree 6 0
   root_deep = (length tree.nodes, lawful.preorder)

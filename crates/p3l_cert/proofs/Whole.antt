@@ -30,7 +30,7 @@ use Rattle.p3l_cert.specs.declared.cert.Row.{Row}
 use Rattle.p3l_cert.specs.Certified.{AreNeededRows}
 use Rattle.p3l_cert.specs.Checker.{CertHolds}
 use Rattle.p3l_cert.specs.Fill.{Has, AreRowsOf, AreClosed, IsFilledFrom}
-use Rattle.p3l_cert.specs.Keys.{rests_on, keys_from, needed_keys, IsSmall}
+use Rattle.p3l_cert.specs.Keys.{depends_on, keys_from, needed_keys, IsSmall}
 use Rattle.p3l_cert.specs.Rule.{key, key_of, kept}
 use Rattle.p3l_cert.specs.Text.{cert_format, most_number}
 use Rattle.p3l_cert.proofs.Filling.{has_same, map_at}
@@ -82,10 +82,10 @@ module _ (tree : Tree) (costs : Costs) (lawful : IsLawfulTree tree) (priced : Ar
   needed_costed : All (IsCosted tree costs) (needed_keys tree costs time processors)
   needed_costed = needed_all tree costs (IsCosted tree costs) time processors (root_costed_keys tree costs lawful priced time processors) (λ later. root_costed_keys tree costs lawful priced (time - 1) processors)
 
-  needed_closed : (P : Key → Type 0) → All P (needed_keys tree costs time processors) → All (λ k. All P (rests_on tree costs k)) (needed_keys tree costs time processors)
+  needed_closed : (P : Key → Type 0) → All P (needed_keys tree costs time processors) → All (λ k. All P (depends_on tree costs k)) (needed_keys tree costs time processors)
   needed_closed P all =
       let deep = root_deep tree costs lawful priced in
-      needed_all tree costs (λ k. All P (rests_on tree costs k)) time processors
+      needed_all tree costs (λ k. All P (depends_on tree costs k)) time processors
       (keys_closed tree costs lawful priced P nesting (key 0 time processors) deep (needed_first tree costs P time processors all))
       (λ later. keys_closed tree costs lawful priced P nesting (key 0 (time - 1) processors) deep (needed_second tree costs P time processors later all))
 
@@ -110,7 +110,7 @@ module _ (tree : Tree) (costs : Costs) (lawful : IsLawfulTree tree) (priced : Ar
 
     pub made_closed : AreClosed tree costs rows
     made_closed = record {
-      rests = of_rows (λ k. All (Has rows) (rests_on tree costs k)) (needed_closed (Has rows) has_needed);
+      depends = of_rows (λ k. All (Has rows) (depends_on tree costs k)) (needed_closed (Has rows) has_needed);
       outside = of_rows (IsCosted tree costs) needed_costed;
     }
 

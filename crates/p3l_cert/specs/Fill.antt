@@ -6,7 +6,7 @@ use Rattle.p3l_cost.specs.declared.costs.Costs.{Costs}
 use Rattle.p3l_model.specs.declared.cost.NodeCost.{NodeCost}
 use Rattle.p3l_cert.specs.declared.cert.Key.{Key}
 use Rattle.p3l_cert.specs.declared.cert.Row.{Row}
-use Rattle.p3l_cert.specs.Keys.{rests_on}
+use Rattle.p3l_cert.specs.Keys.{depends_on}
 use Rattle.p3l_cert.specs.Order.{is_below}
 use Rattle.p3l_cert.specs.Rows.{AreRows}
 use Rattle.p3l_cert.specs.Rule.{key_of, kept, cost_at, Follows}
@@ -31,7 +31,7 @@ pub record AreRowsOf (keys : List Key) (rows : List Row) : Type 0 where
 
 -- the rows that each row depends on are there, and its node is outside units
 pub record AreClosed (tree : Tree) (costs : Costs) (rows : List Row) : Type 0 where
-  pub rests : All (λ row. All (Has rows) (rests_on tree costs (key_of row))) rows
+  pub depends : All (λ row. All (Has rows) (depends_on tree costs (key_of row))) rows
   pub outside : All (λ row. (cost : NodeCost) × (cost_at tree costs row.node ≡ Some cost)) rows
 
 -- the rows from a place on follow by their rules

@@ -16,28 +16,28 @@ unfoldable pub worker_keys : ℕ → (ℕ → ℕ) → ℕ → ℕ → ℕ → L
 worker_keys part bound cap low zero = []
 worker_keys part bound cap low (suc k) = worker_keys part bound cap low k ++ key part (bound (low + k)) ((cap - 2) / (low + k)) ∷ []
 
--- the keys on which the rule of a node of this cost rests
-unfoldable pub rests_of : NodeCost → List ℕ → ℕ → ℕ → List Key
-rests_of (Unit s) parts t cap = []
-rests_of Stages parts t cap = map (λ p. key p t cap) parts
-rests_of (Workers r h e) parts t cap =
+-- the keys on which the rule of a node of this cost depends
+unfoldable pub dependencies_of : NodeCost → List ℕ → ℕ → ℕ → List Key
+dependencies_of (Unit s) parts t cap = []
+dependencies_of Stages parts t cap = map (λ p. key p t cap) parts
+dependencies_of (Workers r h e) parts t cap =
     if nat_le e t then worker_keys (slice_index parts 0) (part_bound h t) cap (low_of r) (run_of r cap) else []
-rests_of (Segments r fold) parts t cap = []
-rests_of (Loop turns e) parts t cap =
+dependencies_of (Segments r fold) parts t cap = []
+dependencies_of (Loop turns e) parts t cap =
     if nat_le e t && nat_le 3 cap then key (slice_index parts 0) (t / turns) (cap - 2) ∷ [] else []
 
-abbrev pub rests_at : Tree → Option NodeCost → Key → List Key
-rests_at tree None k = []
-rests_at tree (Some cost) k = rests_of cost (node_at tree k.node).parts k.bound k.cap
+abbrev pub dependencies_at : Tree → Option NodeCost → Key → List Key
+dependencies_at tree None k = []
+dependencies_at tree (Some cost) k = dependencies_of cost (node_at tree k.node).parts k.bound k.cap
 
--- the keys on which the rule of a key rests
-unfoldable pub rests_on : Tree → Costs → Key → List Key
-rests_on tree costs k = rests_at tree (cost_at tree costs k.node) k
+-- the keys on which the rule of a key depends
+unfoldable pub depends_on : Tree → Costs → Key → List Key
+depends_on tree costs k = dependencies_at tree (cost_at tree costs k.node) k
 
 -- a key and all that it depends on, down to a depth
 unfoldable pub keys_from : Tree → Costs → ℕ → Key → List Key
 keys_from tree costs zero k = []
-keys_from tree costs (suc d) k = k ∷ flat_map (keys_from tree costs d) (rests_on tree costs k)
+keys_from tree costs (suc d) k = k ∷ flat_map (keys_from tree costs d) (depends_on tree costs k)
 
 -- the keys of the rows that a certificate of this service time needs
 abbrev pub needed_keys : Tree → Costs → ℕ → ℕ → List Key

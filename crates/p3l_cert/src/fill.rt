@@ -57,7 +57,7 @@ pub fn rows_of(alloc: Global, keys: &[Key]) -> Result<Vec<Row>, NoMemory>
     Ok(rows)
 }
 
-// Gives each row the least that its rule finds, from the last row on, so that those that it rests
+// Gives each row the least that its rule finds, from the last row on, so that those that it depends
 // on have theirs.
 fn fill(tree: &Tree, costs: &Costs, table: &[Option<NodeCost>], rows: &mut [Row])
     requires tree { IsLawfulTree tree.now }

@@ -6,7 +6,7 @@ ghost use Rattle.p3l_skel.specs.Lawful.{IsLawfulTree};
 ghost use Rattle.p3l_cost.specs.Costs.{AreCostsOf};
 ghost use Rattle.p3l_model.specs.Costed.{IsSharing};
 ghost use Rattle.p3l_model.specs.Least.{part_bound};
-ghost use Rattle.p3l_cert.specs.Keys.{worker_keys, rests_of, rests_on, keys_from, AreSorted, IsSmall};
+ghost use Rattle.p3l_cert.specs.Keys.{worker_keys, dependencies_of, depends_on, keys_from, AreSorted, IsSmall};
 ghost use Rattle.p3l_cert.specs.Rule.{key, low_of, run_of};
 ghost use Rattle.p3l_cert.specs.Table.{IsTable};
 ghost use Rattle.p3l_cert.specs.Usable.{IsUsable};
@@ -65,9 +65,9 @@ fn worker_keys(
     Ok(keys)
 }
 
-// The keys on which the rule of a node of this cost rests.
-#[tactic(auto, unfolding(crate::specs::Keys::rests_of))]
-fn rests_of(
+// The keys on which the rule of a node of this cost depends.
+#[tactic(auto, unfolding(crate::specs::Keys::dependencies_of))]
+fn dependencies_of(
     alloc: Global,
     cost: &NodeCost,
     parts: &[u32],
@@ -77,7 +77,7 @@ fn rests_of(
     requires cost { IsUsable cost.now }
     requires bound { bound < 2 ^ 110 }
     requires cap { cap ≤ 512 }
-    ensures { IfOk result (λ keys. keys ≡ rests_of cost.now parts.now bound cap) }
+    ensures { IfOk result (λ keys. keys ≡ dependencies_of cost.now parts.now bound cap) }
 {
     match cost {
         NodeCost::Unit { .. } | NodeCost::Segments { .. } => Ok(List::new(alloc)),
@@ -106,9 +106,9 @@ fn rests_of(
     }
 }
 
-// The keys on which the rule of a key rests.
-#[tactic(auto, unfolding(crate::specs::Keys::rests_on))]
-fn rests_on(
+// The keys on which the rule of a key depends.
+#[tactic(auto, unfolding(crate::specs::Keys::depends_on))]
+fn depends_on(
     alloc: Global,
     tree: &Tree,
     costs: &Costs,
@@ -119,13 +119,13 @@ fn rests_on(
     requires costs { AreCostsOf tree.now costs.now }
     requires table { IsTable tree.now costs.now table.now }
     requires key { IsSmall key }
-    ensures { IfOk result (λ keys. keys ≡ rests_on tree.now costs.now key) }
+    ensures { IfOk result (λ keys. keys ≡ depends_on tree.now costs.now key) }
 {
     let Some(cost) = cost_in(table, key.node) else {
         return Ok(List::new(alloc));
     };
     match tree.node(key.node) {
-        Some(node) => rests_of(alloc, cost, node.parts.as_slice(), key.bound, key.cap),
+        Some(node) => dependencies_of(alloc, cost, node.parts.as_slice(), key.bound, key.cap),
         None => Ok(List::new(alloc)),
     }
 }
@@ -160,8 +160,8 @@ pub fn push_keys(
         return Ok(());
     }
     keys.push(key)?;
-    let rests = rests_on(alloc, tree, costs, table, key)?;
-    for part in rests.as_slice() {
+    let depends = depends_on(alloc, tree, costs, table, key)?;
+    for part in depends.as_slice() {
         push_keys(alloc, tree, costs, table, levels - 1, *part, keys)?;
     }
     Ok(())
