@@ -9,7 +9,8 @@
                     some hundredths where a pipe fires ten million times
   bodies            a nested loop, and a million items through three statements (bench/bodies), beside Lua 5.4, and beside the
                     form of a body that is verified and written to images: `profile` runs that on a stack, without a network
-  lines             a million lines through one body and through a pipe of four, to a file, beside mawk
+  lines             a million lines through one body and through a pipe of four, to a file, beside mawk; the pipe beside one with
+                    as many sums a word, and beside one with one
   memory            the most that a million lines take, beside a hundred thousand
 
 Times are the processor time, user's and system's, the least of N tries (5 if not given). It prints the load that it found, and
@@ -92,9 +93,10 @@ class Bench:
             self.row(f"body {body}, Lua and the stack", ours, peers, items, bound)
 
     def lines(self):
-        for name, text, mawk, bound in (("one body", ONE_BODY, MAWK[0], 1.0), ("a pipe of four", PIPE_OF_FOUR, MAWK[1], 1.5)):
+        one, four = MAWK
+        for name, text, mawk, bound in (("one body", ONE_BODY, [one], 1.0), ("a pipe of four", PIPE_OF_FOUR, [four, one], 1.5)):
             ours = self.run(self.file("lines.p3l", text), "--processors", "32")
-            self.row(f"a million lines, {name}, mawk", ours, [mawk], self.numbers(ITEMS), bound)
+            self.row(f"a million lines, {name}, mawk", ours, mawk, self.numbers(ITEMS), bound)
 
     def memory(self):
         if self.rows not in "memory":
