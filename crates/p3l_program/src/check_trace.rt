@@ -148,7 +148,8 @@ pub fn check_trace<F: Files, S: Source, K: Sink>(
 ) -> Verdict
     requires processors { (1 ≤ build.processors) × (build.processors ≤ 512) }
     requires capacity { (1 ≤ build.capacity) × (build.capacity ≤ 1024) }
-    ensures expected { IsCheckExpected (world (files_change F.held F.faults F.failed files.old files.new)
+    ensures expected { IsCheckExpected (world
+        (files_change F.held F.faults F.failed files.old files.new)
         (change S.rest S.faults input.old input.new) (change K.taken K.faults out.old out.new))
         build name result }
     ensures stays { F.held files.new ≡ F.held files.old }

@@ -27,7 +27,8 @@ pub fn exec<F: Files, S: Source, K: Sink>(
     input: &mut S,
     out: &mut K,
 ) -> Verdict
-    ensures expected { IsRunExpected (world (files_change F.held F.faults F.failed files.old files.new)
+    ensures expected { IsRunExpected (world
+        (files_change F.held F.faults F.failed files.old files.new)
         (change S.rest S.faults input.old input.new) (change K.taken K.faults out.old out.new))
         (imaged name) request trace reported result }
     ensures kept { KeepsFiles

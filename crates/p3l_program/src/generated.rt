@@ -223,8 +223,8 @@ fn put_summary<K: Sink>(
     used: u32,
     out: &mut K,
 ) -> Verdict
-    ensures { IsLineOf (change K.taken K.faults out.old out.new)
-        ran.finish (line_at ran.finish (summary_line number ran.stats service used ran.sum)) result }
+    ensures { IsLineOf (change K.taken K.faults out.old out.new) ran.finish
+        (line_at ran.finish (summary_line number ran.stats service used ran.sum)) result }
 {
     if !comes_whole(&ran.finish) {
         return Verdict::Ended(run_finish(ran.finish), None);

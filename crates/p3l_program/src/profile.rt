@@ -103,7 +103,8 @@ pub fn profile<F: Files, S: Source, K: Sink>(
     input: &mut S,
     out: &mut K,
 ) -> Verdict
-    ensures expected { IsProfileExpected (world (files_change F.held F.faults F.failed files.old files.new)
+    ensures expected { IsProfileExpected (world
+        (files_change F.held F.faults F.failed files.old files.new)
         (change S.rest S.faults input.old input.new) (change K.taken K.faults out.old out.new))
         name result }
     ensures stays { F.held files.new ≡ F.held files.old }

@@ -124,7 +124,8 @@ pub fn resume<F: Files, S: Source, K: Sink>(
     input: &mut S,
     out: &mut K,
 ) -> Verdict
-    ensures expected { IsRunExpected (world (files_change F.held F.faults F.failed files.old files.new)
+    ensures expected { IsRunExpected (world
+        (files_change F.held F.faults F.failed files.old files.new)
         (change S.rest S.faults input.old input.new) (change K.taken K.faults out.old out.new))
         (continued name) request None reported result }
     ensures kept { KeepsFiles (files_change F.held F.faults F.failed files.old files.new) []

@@ -155,7 +155,8 @@ pub fn save_state<F: Files, S: Source, K: Sink>(
 ) -> Verdict
     requires processors { (1 ≤ build.processors) × (build.processors ≤ 512) }
     requires capacity { (1 ≤ build.capacity) × (build.capacity ≤ 1024) }
-    ensures expected { IsSaveExpected (world (files_change F.held F.faults F.failed files.old files.new)
+    ensures expected { IsSaveExpected (world
+        (files_change F.held F.faults F.failed files.old files.new)
         (change S.rest S.faults input.old input.new) (change K.taken K.faults out.old out.new))
         build name output result }
     ensures kept { KeepsFiles

@@ -128,7 +128,8 @@ pub fn scan<F: Files, S: Source, K: Sink>(
 ) -> Verdict
     requires segments { segments ≤ 512 }
     requires capacity { (1 ≤ capacity) × (capacity ≤ 1024) }
-    ensures expected { IsRunExpected (world (files_change F.held F.faults F.failed files.old files.new)
+    ensures expected { IsRunExpected (world
+        (files_change F.held F.faults F.failed files.old files.new)
         (change S.rest S.faults input.old input.new) (change K.taken K.faults out.old out.new))
         (scanned name segments capacity) request None reported result }
     ensures kept { KeepsFiles (files_change F.held F.faults F.failed files.old files.new) []

@@ -156,7 +156,8 @@ pub fn time<F: Files, S: Source, K: Sink>(
 ) -> Verdict
     requires processors { (1 ≤ build.processors) × (build.processors ≤ 512) }
     requires capacity { (1 ≤ build.capacity) × (build.capacity ≤ 1024) }
-    ensures expected { IsTimeExpected (world (files_change F.held F.faults F.failed files.old files.new)
+    ensures expected { IsTimeExpected (world
+        (files_change F.held F.faults F.failed files.old files.new)
         (change S.rest S.faults input.old input.new) (change K.taken K.faults out.old out.new))
         build picks result }
     ensures kept { KeepsFiles
