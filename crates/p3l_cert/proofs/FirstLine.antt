@@ -15,7 +15,7 @@ use Rattle.p3l_format.specs.laws.Formats.{lawful_within}
 use Rattle.p3l_format.specs.laws.Text.{lawful_text_then}
 use Rattle.p3l_format.specs.laws.Decimal.{no_digit_first}
 use Rattle.p3l_format.specs.laws.Series.{lawful_until}
-use Rattle.p3l_format.specs.laws.FirstLine.{Each, IsInLine, IsOneLine, IsLine, ReportsLine, part_then_part, part_then_line, whole_append, whole_line, line_is_within, lines_are_whole, number_in_line, number_then_line, number_ends_line, number_line_is, number_line_reports, is_line, tells_line, each_both, each_record, each_text_then, each_until, each_within, reports_both, reports_record, reports_text_then, reports_until, first_bad}
+use Rattle.p3l_format.specs.laws.FirstLine.{Each, IsInLine, IsOneLine, IsLine, ReportsLine, part_then_part, part_then_line, whole_append, whole_line, line_is_within, lines_are_whole, number_in_line, number_then_line, number_ends_line, number_line_is, number_line_reports, is_line, reports_line, each_both, each_record, each_text_then, each_until, each_within, reports_both, reports_record, reports_text_then, reports_until, first_bad}
 
 -- ---- lines
 
@@ -78,7 +78,7 @@ body_reports : ReportsLine body_format
 unfolding body_format
 body_reports = reports_record _ _ _ (λ _. refl) (λ _. refl)
     (reports_both _ _ (number_line_reports processors_word 1 512 refl (omega arith) (omega arith)) processors_whole
-    (reports_both _ _ (tells_line counts_format counts_line [] no_counts) (lines_are_whole counts_format counts_line)
+    (reports_both _ _ (reports_line counts_format counts_line [] no_counts) (lines_are_whole counts_format counts_line)
     (reports_both _ _ (number_line_reports service_word 0 most_bound refl (omega arith) (omega arith)) service_whole
     (reports_both _ _ (number_line_reports used_word 0 most_number refl (omega arith) (omega arith)) used_whole rows_report))))
 
