@@ -14,7 +14,7 @@ use Rattle.p3l_cert.specs.declared.cert.CertRefusal.{CertRefusal}
 use Rattle.p3l_cert.specs.declared.cert.CertRefusal.TheVariants as refusals
 use Rattle.p3l_cert.specs.Checker.{CertHolds, IsAnswer}
 use Rattle.p3l_cert.specs.Text.{cert_format}
-use Rattle.p3l_cert.specs.Answers.{Answers, ReportsFirst, known}
+use Rattle.p3l_cert.specs.Answers.{Answers, ReportsFirst, answer_of}
 use Rattle.p3l_cert.specs.laws.Text.{lawful_cert}
 use Rattle.p3l_report.specs.declared.verdict.Refusal.{Refusal}
 use Rattle.p3l_report.specs.declared.verdict.Refusal.TheVariants as refusal
@@ -37,12 +37,12 @@ use Rattle.p3l_program.proofs.OnceSteps.{said_alike}
 use Rattle.p3l_program.proofs.StageSteps.{passed_both, refused_after}
 
 -- what the reader says of a text is a line
-reports_line : (text : List ℕ) (read : Result Cert Fault) (r : CertRefusal) → Err r ≡ known text read → (line : ℕ) × (r ≡ refusals.BadText line)
+reports_line : (text : List ℕ) (read : Result Cert Fault) (r : CertRefusal) → Err r ≡ answer_of text read → (line : ℕ) × (r ≡ refusals.BadText line)
 reports_line text (Ok cert) r is = absurd cc
 reports_line text (Err fault) r is = (line_number text fault.left, (let z = is in cc))
 
 -- a text that the reader refuses spells no certificate
-no_text : (tree : Tree) (costs : Costs) (text : List ℕ) (r : CertRefusal) → ((cert : Cert) → cert_format.fits cert ≡ true → text ≡ cert_format.spell cert → Err r ≡ known text (Ok cert)) → IsNoText text r →
+no_text : (tree : Tree) (costs : Costs) (text : List ℕ) (r : CertRefusal) → ((cert : Cert) → cert_format.fits cert ≡ true → text ≡ cert_format.spell cert → Err r ≡ answer_of text (Ok cert)) → IsNoText text r →
     IsRefuted tree costs text r
 no_text tree costs text r only is = record { why = inl is; never = λ cert here. absurd (let z = only cert here.spelled.fits here.spelled.text_is in cc) }
 

@@ -4,7 +4,7 @@ use Rattle.p3l_image.specs.declared.image.Image.{Image}
 use Rattle.p3l_image.specs.declared.image.ImageRefusal.{ImageRefusal}
 use Rattle.p3l_image.specs.declared.image.ImageRefusal.TheVariants as image
 use Rattle.p3l_image.specs.Image.{IsSpelling, image_in}
-use Rattle.p3l_image.specs.Refusal.{known}
+use Rattle.p3l_image.specs.Refusal.{answer_of}
 use Rattle.p3l_io.specs.Content.{Held}
 use Rattle.p3l_load.specs.declared.loaded.LoadRefusal.TheVariants as load
 use Rattle.p3l_load.specs.Load.{IsRunnable, Refuses, RefusesMigration, migrated_of}
@@ -22,7 +22,7 @@ IsImage i bytes = IsSpelling i bytes
 
 -- an image or the first fault of the bytes
 abbrev pub read_image : List ℕ → Result Image ImageRefusal
-read_image bytes = known bytes (image_in bytes)
+read_image bytes = answer_of bytes (image_in bytes)
 
 -- why bytes spell no image
 abbrev pub IsMisspelled : Evidence → List ℕ → Type 0
