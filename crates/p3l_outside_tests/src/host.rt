@@ -150,92 +150,116 @@ impl<'a> Write for Accountant<'a> {
     }
 }
 
-/// An account of nothing yet, with so much room.
-fn account_of(room: usize) -> Account {
-    Account {
-        bytes: Cell::new(0),
-        calls: Cell::new(0),
-        room,
+impl Account {
+    /// An account of nothing yet, with this much room.
+    fn new(room: usize) -> Account {
+        Account {
+            bytes: Cell::new(0),
+            calls: Cell::new(0),
+            room,
+        }
+    }
+
+    /// How many bytes were taken, in how many calls.
+    fn counts(&self) -> (usize, usize) {
+        (self.bytes.get(), self.calls.get())
     }
 }
 
-#[test]
-fn output_is_gathered_until_something_comes_after_it(rt: HostRuntime) -> Result<(), Fail> {
-    let account = account_of(1_000_000);
-    let output = Output::new(rt.alloc(), Accountant { account: &account })?;
-    let mut out = HostOut::new(&output);
-    let mut input = SourceAfter::new(HostIn::new(b"ab".as_slice()), &output);
-    let mut err = SinkAfter::new(MemSink::new(rt.alloc(), 9, List::new(rt.alloc()))?, &output);
-    let mut files = HostFiles::new(&rt, &output);
-    let mut buf = [0u8; 8];
-    assert_eq!(rt; out.put(b"one\n"), Ok(()));
-    assert_eq!(rt; out.put(b"two\n"), Ok(()));
-    assert_eq!(rt; account.bytes.get(), 0);
-    assert_eq!(rt; input.take(&mut buf), Ok(2));
-    assert_eq!(rt; (account.bytes.get(), account.calls.get()), (8, 1));
-    assert_eq!(rt; out.put(b"three\n"), Ok(()));
-    assert_eq!(rt; err.put(b"an error"), Ok(()));
-    assert_eq!(rt; (account.bytes.get(), account.calls.get()), (14, 2));
-    assert_eq!(rt; out.put(b"four\n"), Ok(()));
-    let name = "output_is_gathered.tmp";
-    assert_eq!(rt; files.write(rt.alloc(), name, b"a file"), Ok(()));
-    fs::remove_file(&rt, name)?;
-    assert_eq!(rt; (account.bytes.get(), account.calls.get()), (19, 3));
-    for _ in 0..20_000u32 {
-        assert_eq!(rt; out.put(b"gathered\n"), Ok(()));
-    }
-    assert_eq!(rt; account.calls.get(), 5);
-    assert_eq!(rt; output.flush(), Ok(()));
-    assert_eq!(rt; (account.bytes.get(), account.calls.get()), (180_019, 6));
-    Ok(())
-}
-
-#[test]
-fn failed_write_is_reported_by_each_later_call(rt: HostRuntime) -> Result<(), Fail> {
-    let account = account_of(3);
-    let output = Output::new(rt.alloc(), Accountant { account: &account })?;
-    let mut out = HostOut::new(&output);
-    let mut input = SourceAfter::new(HostIn::new(b"ab".as_slice()), &output);
-    let mut err = SinkAfter::new(MemSink::new(rt.alloc(), 9, List::new(rt.alloc()))?, &output);
-    let mut files = HostFiles::new(&rt, &output);
-    let mut buf = [0u8; 8];
-    assert_eq!(rt; out.put(b"one\n"), Ok(()));
-    assert_eq!(rt; input.take(&mut buf), Ok(2));
-    assert_eq!(rt; out.put(b"t"), Err(Failed));
-    assert_eq!(rt; err.put(b"an error"), Err(Failed));
-    let answer = files.write(rt.alloc(), "name", b"a file");
-    assert_eq!(rt; answer, Err(WriteFault::Failed));
-    assert_eq!(rt;
-        files.read(rt.alloc(), "name", 9).err(),
-        Some(FileFault::Failed)
-    );
-    assert_eq!(rt; output.flush(), Err(Failed));
-    assert_eq!(rt; account.bytes.get(), 0);
-    Ok(())
-}
-
-/// An output with a line that was gathered.
+/// An output into a writer that keeps an account, with a line that was gathered.
 fn gathered<'a>(rt: &HostRuntime, account: &'a Account) -> Result<Output<Accountant<'a>>, Fail> {
     let output = Output::new(rt.alloc(), Accountant { account })?;
     let _ = output.put(b"one\n");
     Ok(output)
 }
 
+/// What a read of the input answers that comes after an output.
+fn read_after(output: &Output<Accountant>) -> Result<usize, Failed> {
+    let mut input = SourceAfter::new(HostIn::new(b"ab".as_slice()), output);
+    let mut buf = [0u8; 8];
+    input.take(&mut buf)
+}
+
+/// What a line of the standard error answers that comes after an output.
+fn line_after(rt: &HostRuntime, output: &Output<Accountant>) -> Result<Result<(), Failed>, Fail> {
+    let sink = MemSink::new(rt.alloc(), 9, List::new(rt.alloc()))?;
+    Ok(SinkAfter::new(sink, output).put(b"an error"))
+}
+
+/// What the writing of a file answers that comes after an output.
+fn file_after(rt: &HostRuntime, output: &Output<Accountant>, name: &str) -> Result<(), WriteFault> {
+    HostFiles::new(rt, output).write(rt.alloc(), name, b"a file")
+}
+
+#[test]
+fn output_is_gathered_until_something_comes_after_it(rt: HostRuntime) -> Result<(), Fail> {
+    let name = "output_is_gathered.tmp";
+    let account = Account::new(1_000_000);
+    let output = gathered(&rt, &account)?;
+    assert_eq!(rt; HostOut::new(&output).put(b"two\n"), Ok(()));
+    assert_eq!(rt; account.counts(), (0, 0));
+    assert_eq!(rt; read_after(&output), Ok(2));
+    assert_eq!(rt; account.counts(), (8, 1));
+    let _ = output.put(b"three\n");
+    assert_eq!(rt; line_after(&rt, &output)?, Ok(()));
+    assert_eq!(rt; account.counts(), (14, 2));
+    let _ = output.put(b"four\n");
+    assert_eq!(rt; file_after(&rt, &output, name), Ok(()));
+    assert_eq!(rt; account.counts(), (19, 3));
+    fs::remove_file(&rt, name)?;
+    Ok(())
+}
+
+#[test]
+fn output_is_gathered_until_it_is_full(rt: HostRuntime) -> Result<(), Fail> {
+    let account = Account::new(1_000_000);
+    let output = gathered(&rt, &account)?;
+    for _ in 0..20_000u32 {
+        let _ = output.put(b"gathered\n");
+    }
+    assert_eq!(rt; account.calls.get(), 2);
+    assert_eq!(rt; output.flush(), Ok(()));
+    assert_eq!(rt; account.counts(), (180_004, 3));
+    Ok(())
+}
+
+#[test]
+fn failed_write_is_reported_by_each_later_call(rt: HostRuntime) -> Result<(), Fail> {
+    let account = Account::new(3);
+    let output = gathered(&rt, &account)?;
+    assert_eq!(rt; read_after(&output), Ok(2));
+    assert_eq!(rt; output.put(b"t"), Err(Failed));
+    assert_eq!(rt; line_after(&rt, &output)?, Err(Failed));
+    assert_eq!(rt; file_after(&rt, &output, "name"), Err(WriteFault::Failed));
+    let found = HostFiles::new(&rt, &output).read(rt.alloc(), "name", 9);
+    assert_eq!(rt; found.err(), Some(FileFault::Failed));
+    assert_eq!(rt; output.flush(), Err(Failed));
+    assert_eq!(rt; account.counts(), (0, 0));
+    Ok(())
+}
+
+/// What a piece answers for which there is no room beside what was gathered.
+fn piece_too_much(rt: &HostRuntime, account: &Account) -> Result<Result<(), Failed>, Fail> {
+    let output = gathered(rt, account)?;
+    Ok(output.put(&[b'1'; 65_533]))
+}
+
+/// What the end answers, at which what was gathered is written.
+fn end_after(rt: &HostRuntime, account: &Account) -> Result<Result<(), Failed>, Fail> {
+    let output = gathered(rt, account)?;
+    Ok(output.flush())
+}
+
 #[test]
 fn failed_write_is_reported_whenever_it_is_made(rt: HostRuntime) -> Result<(), Fail> {
-    let account = account_of(0);
-    let full = gathered(&rt, &account)?;
-    assert_eq!(rt; full.put(&[b'1'; 65_533]), Err(Failed));
+    let account = Account::new(0);
+    assert_eq!(rt; piece_too_much(&rt, &account)?, Err(Failed));
     let before_a_line = gathered(&rt, &account)?;
-    let sink = MemSink::new(rt.alloc(), 9, List::new(rt.alloc()))?;
-    let mut err = SinkAfter::new(sink, &before_a_line);
-    assert_eq!(rt; err.put(b"an error"), Err(Failed));
+    assert_eq!(rt; line_after(&rt, &before_a_line)?, Err(Failed));
     let before_a_file = gathered(&rt, &account)?;
-    let mut files = HostFiles::new(&rt, &before_a_file);
-    let answer = files.write(rt.alloc(), "name", b"a file");
+    let answer = file_after(&rt, &before_a_file, "name");
     assert_eq!(rt; answer, Err(WriteFault::Failed));
-    let at_the_end = gathered(&rt, &account)?;
-    assert_eq!(rt; at_the_end.flush(), Err(Failed));
-    assert_eq!(rt; account.calls.get(), 0);
+    assert_eq!(rt; end_after(&rt, &account)?, Err(Failed));
+    assert_eq!(rt; account.counts(), (0, 0));
     Ok(())
 }
