@@ -5,6 +5,7 @@ use p3l_base::List;
 use p3l_host::{HostErr, HostOut, Output};
 use p3l_io::{MemSource, Sink};
 use p3l_stream::{Lines, Next};
+use std::alloc::Global;
 use std::cell::Cell;
 use std::io;
 use std::io::{ErrorKind, Write};
@@ -18,12 +19,19 @@ struct Calls {
     flushes: Cell<usize>,
 }
 
-/// Nothing yet.
-fn nothing() -> Calls {
-    Calls {
-        writes: Cell::new(0),
-        bytes: Cell::new(0),
-        flushes: Cell::new(0),
+impl Calls {
+    /// Nothing yet.
+    fn new() -> Calls {
+        Calls {
+            writes: Cell::new(0),
+            bytes: Cell::new(0),
+            flushes: Cell::new(0),
+        }
+    }
+
+    /// Whether these many writes were given these many bytes, and these many flushes were made.
+    fn are(&self, writes: usize, bytes: usize, flushes: usize) -> bool {
+        self.writes.get() == writes && self.bytes.get() == bytes && self.flushes.get() == flushes
     }
 }
 
@@ -55,39 +63,47 @@ impl<'a> Write for Counting<'a> {
 }
 
 #[test]
-fn a_line_of_the_error_is_written_whole_by_one_call(rt: HostRuntime) -> Result<(), Fail> {
-    let calls = nothing();
+fn a_line_of_the_error_is_written_whole_by_one_call(rt: HostRuntime) {
+    let calls = Calls::new();
     let mut err = HostErr::new(Counting { calls: &calls });
-    assert_eq!(rt; err.put(b"stopped: 4 fired, 0 idle\n"), Ok(()));
-    assert_eq!(rt; (calls.writes.get(), calls.bytes.get()), (1, 25));
-    assert_eq!(rt; calls.flushes.get(), 2);
-    Ok(())
+    assert!(rt; err.put(b"stopped: 4 fired, 0 idle\n").is_ok());
+    assert!(rt; calls.are(1, 25, 2));
 }
 
 #[test]
 fn an_interrupted_flush_is_no_fault(rt: HostRuntime) -> Result<(), Fail> {
-    let calls = nothing();
+    let calls = Calls::new();
     let output = Output::new(rt.alloc(), Counting { calls: &calls })?;
-    assert_eq!(rt; HostOut::new(&output).put(b"1\n"), Ok(()));
-    assert_eq!(rt; output.flush(), Ok(()));
-    assert_eq!(rt; (calls.writes.get(), calls.bytes.get()), (1, 2));
-    assert_eq!(rt; calls.flushes.get(), 2);
+    assert!(rt; HostOut::new(&output).put(b"1\n").is_ok());
+    assert!(rt; output.flush().is_ok());
+    assert!(rt; calls.are(1, 2, 2));
     Ok(())
+}
+
+/// A source of five thousand items in ten thousand bytes.
+fn long_source(alloc: Global) -> Result<MemSource, Fail> {
+    let text = "1\n".repeat(alloc, 5_000)?;
+    let bytes = list(alloc, text.as_str().as_bytes())?;
+    Ok(MemSource::new(bytes, 16_384, List::new(alloc)))
+}
+
+/// How many items a source gives.
+fn items_in(alloc: Global, source: &mut MemSource) -> Result<usize, Fail> {
+    let mut lines = Lines::new(alloc, 1, 1_000_000)?;
+    let mut items: usize = 0;
+    for _ in 0..6_000u32 {
+        if let Next::Item(_) = lines.next(source)? {
+            items = items.saturating_add(1);
+        }
+    }
+    Ok(items)
 }
 
 /// Ten thousand bytes are three pieces of 4,096 at most; a fourth call finds the end.
 #[test]
 fn a_stream_is_taken_in_pieces(rt: HostRuntime) -> Result<(), Fail> {
-    let text = "1\n".repeat(rt.alloc(), 5_000)?;
-    let bytes = list(rt.alloc(), text.as_str().as_bytes())?;
-    let mut source = MemSource::new(bytes, 16_384, List::new(rt.alloc()));
-    let mut lines = Lines::new(rt.alloc(), 1, 1_000_000)?;
-    let mut items: usize = 0;
-    for _ in 0..6_000u32 {
-        if let Next::Item(_) = lines.next(&mut source)? {
-            items = items.saturating_add(1);
-        }
-    }
-    assert_eq!(rt; (items, source.calls()), (5_000, 4));
+    let mut source = long_source(rt.alloc())?;
+    assert_eq!(rt; items_in(rt.alloc(), &mut source)?, 5_000);
+    assert_eq!(rt; source.calls(), 4);
     Ok(())
 }

@@ -5,69 +5,129 @@ use p3l_base::{Outcome, Trap, TrapKind};
 use p3l_io::MemSource;
 use p3l_stream::{Lines, Next, item_text, text_of};
 use std::alloc::Global;
+use std::fmt;
+use std::fmt::{Display, Formatter};
+use std::process::Abort;
 use std::test::Fail;
 
 #[test]
-fn values_are_written_in_lines(rt: HostRuntime) -> Result<(), Fail> {
-    let words = words_of(
-        rt.alloc(),
-        &[0, -12, 9223372036854775807, -9223372036854775808],
-    )?;
+fn a_value_is_written_in_a_line(rt: HostRuntime) -> Result<(), Fail> {
+    let ends = [0, -12, 9223372036854775807, -9223372036854775808];
+    let words = words_of(rt.alloc(), &ends)?;
     let line = item_text(rt.alloc(), &words)?;
     assert_eq!(rt;
         line.as_slice(),
         b"0 -12 9223372036854775807 -9223372036854775808\n".as_slice()
     );
+    Ok(())
+}
+
+/// Two values and a trap.
+fn outcomes(alloc: Global) -> Result<Vec<Outcome>, Fail> {
     let trap = Trap {
         kind: TrapKind::Index,
         module: 0,
     };
-    let outcomes = vec![in rt.alloc();
-        Outcome::Value(words_of(rt.alloc(), &[3])?),
-        Outcome::Value(words_of(rt.alloc(), &[19, 22])?),
-        Outcome::Trapped(trap),
-    ]?;
+    let mut outcomes = Vec::new(alloc);
+    outcomes.push(Outcome::Value(words_of(alloc, &[3])?))?;
+    outcomes.push(Outcome::Value(words_of(alloc, &[19, 22])?))?;
+    outcomes.push(Outcome::Trapped(trap))?;
+    Ok(outcomes)
+}
+
+#[test]
+fn values_are_written_in_lines_and_traps_are_not(rt: HostRuntime) -> Result<(), Fail> {
+    let outcomes = outcomes(rt.alloc())?;
     let text = text_of(rt.alloc(), outcomes.as_slice())?;
     assert_eq!(rt; text.as_slice(), b"3\n19 22\n".as_slice());
     Ok(())
 }
 
-/// The answers of a stream over a source, up to its ending and once more, each on a line.
-fn answers(alloc: Global, source: &mut MemSource, width: u32, limit: u64) -> Result<String, Fail> {
-    let mut lines = Lines::new(alloc, width.max(1), limit.max(1))?;
-    let mut shown = String::new(alloc);
-    let mut has_ended = false;
-    for _ in 0..40u8 {
-        let next = lines.next(source)?;
-        show(alloc, &mut shown, &next)?;
-        if !matches!(next, Next::Item(_)) {
-            if has_ended {
-                return Ok(shown);
-            }
-            has_ended = true;
+/// An answer as a text: an item as its words with a blank between two, and else its name and numbers.
+#[derive(Clone, Copy)]
+struct Shown<'a>(&'a Next);
+
+impl<'a> Display for Shown<'a> {
+    fn fmt<W: fmt::Write>(&self, f: &mut Formatter<W>) -> fmt::Result {
+        match self.0 {
+            Next::Item(words) => show_words(words.as_slice(), f),
+            Next::End => f.write_str("End"),
+            Next::BadWord(line) => write!(f, "BadWord {line}"),
+            Next::WrongCount { line, had } => write!(f, "WrongCount {line} {had}"),
+            Next::OutOfRange(line) => write!(f, "OutOfRange {line}"),
+            Next::ReadFault => f.write_str("ReadFault"),
+            Next::TooLong => f.write_str("TooLong"),
         }
     }
+}
+
+/// Writes words with a blank between two.
+fn show_words<W: fmt::Write>(words: &[i64], f: &mut Formatter<W>) -> fmt::Result {
+    for k in 0..words.len() {
+        if k > 0 {
+            f.write_str(" ")?;
+        }
+        write!(f, "{}", words[k])?;
+    }
+    Ok(())
+}
+
+/// A stream over a source: its bytes, the most that a taking gives, the number of the taking that fails,
+/// the words of an item and the most bytes that are taken.
+#[derive(Clone, Copy)]
+struct Stream<'a> {
+    bytes: &'a [u8],
+    piece: usize,
+    fails: &'a [u64],
+    width: u32,
+    limit: u64,
+}
+
+/// The source of a stream.
+fn source_of(alloc: Global, stream: &Stream) -> Result<MemSource, Fail> {
+    let bytes = list(alloc, stream.bytes)?;
+    let fails = list(alloc, stream.fails)?;
+    Ok(MemSource::new(bytes, stream.piece.max(1), fails))
+}
+
+/// Puts the next answer after a text, on a line, and says whether it was an item.
+fn show(
+    alloc: Global,
+    shown: &mut String,
+    lines: &mut Lines,
+    source: &mut MemSource,
+) -> Result<bool, Fail> {
+    let next = lines.next(source)?;
+    let line = format!(in alloc; "{}\n", Shown(&next))?;
+    shown.push_str(line.as_str())?;
+    Ok(matches!(next, Next::Item(_)))
+}
+
+/// The answers of a stream, up to its ending and once more, each on a line.
+fn answers(alloc: Global, stream: &Stream, source: &mut MemSource) -> Result<String, Fail> {
+    let mut lines = Lines::new(alloc, stream.width.max(1), stream.limit.max(1))?;
+    let mut shown = String::new(alloc);
+    for _ in 0..40u8 {
+        if !show(alloc, &mut shown, &mut lines, source)? {
+            break;
+        }
+    }
+    show(alloc, &mut shown, &mut lines, source)?;
     Ok(shown)
 }
 
-/// Puts an answer after a text: an item as it is written, and else its name and numbers.
-fn show(alloc: Global, shown: &mut String, next: &Next) -> Result<(), Fail> {
-    let line = match next {
-        Next::Item(words) => {
-            let text = item_text(alloc, words)?;
-            for byte in text.as_slice() {
-                shown.push(char::from(*byte))?;
-            }
-            return Ok(());
-        }
-        Next::End => String::from_str(alloc, "End\n")?,
-        Next::BadWord(line) => format!(in alloc; "BadWord {line}\n")?,
-        Next::WrongCount { line, had } => format!(in alloc; "WrongCount {line} {had}\n")?,
-        Next::OutOfRange(line) => format!(in alloc; "OutOfRange {line}\n")?,
-        Next::ReadFault => String::from_str(alloc, "ReadFault\n")?,
-        Next::TooLong => String::from_str(alloc, "TooLong\n")?,
-    };
-    shown.push_str(line.as_str())?;
+/// The stream must have these answers, with so many takings where their number is known.
+fn answer(
+    rt: &impl Abort,
+    alloc: Global,
+    stream: &Stream,
+    shown: &str,
+    calls: Option<u64>,
+) -> Result<(), Fail> {
+    let mut source = source_of(alloc, stream)?;
+    let answers = answers(alloc, stream, &mut source)?;
+    assert_eq!(rt; answers.as_str(), shown);
+    assert!(rt; calls.is_none() || calls == Some(source.calls()));
     Ok(())
 }
 
@@ -122,11 +182,15 @@ fn items_are_answered_one_by_one_however_the_bytes_are_cut(rt: HostRuntime) -> R
         ),
     ];
     for piece in [1usize, 2, 4095, 4096, 9999] {
-        for (text, width, limit, shown) in table {
-            let fails = list(rt.alloc(), &[])?;
-            let mut source = MemSource::new(list(rt.alloc(), text)?, piece.max(1), fails);
-            let answers = answers(rt.alloc(), &mut source, width, limit)?;
-            assert_eq!(rt; answers.as_str(), shown);
+        for (bytes, width, limit, shown) in table {
+            let stream = Stream {
+                bytes,
+                piece,
+                fails: &[],
+                width,
+                limit,
+            };
+            answer(&rt, rt.alloc(), &stream, shown, None)?;
         }
     }
     Ok(())
@@ -146,28 +210,38 @@ fn a_fault_at_each_take_ends_the_stream(rt: HostRuntime) -> Result<(), Fail> {
         (b"x\n2\n", 4, "BadWord 1\nBadWord 1\n", 2),
         (b"x\n2\n", 2, "ReadFault\nReadFault\n", 2),
     ];
-    for (text, call, shown, calls) in table {
-        let fails = list(rt.alloc(), &[call])?;
-        let mut source = MemSource::new(list(rt.alloc(), text)?, 1, fails);
-        let answers = answers(rt.alloc(), &mut source, 1, 99)?;
-        assert_eq!(rt; answers.as_str(), shown);
-        assert_eq!(rt; source.calls(), calls);
+    for (bytes, call, shown, calls) in table {
+        let stream = Stream {
+            bytes,
+            piece: 1,
+            fails: &[call],
+            width: 1,
+            limit: 99,
+        };
+        answer(&rt, rt.alloc(), &stream, shown, Some(calls))?;
     }
     Ok(())
 }
 
+/// A word of many digits on a line, and another line.
+fn long_text(alloc: Global) -> Result<String, Fail> {
+    let mut text = "0".repeat(alloc, 20_000)?;
+    text.push_str("7\n8\n")?;
+    Ok(text)
+}
+
 #[test]
 fn a_long_line_is_read_through_many_pieces(rt: HostRuntime) -> Result<(), Fail> {
-    let mut text = Vec::new(rt.alloc());
-    for _ in 0..20_000u32 {
-        text.push(b'0')?;
-    }
-    text.extend_from_slice(b"7\n8\n")?;
+    let text = long_text(rt.alloc())?;
     for piece in [1usize, 4096] {
-        let fails = list(rt.alloc(), &[])?;
-        let mut source = MemSource::new(list(rt.alloc(), text.as_slice())?, piece.max(1), fails);
-        let answers = answers(rt.alloc(), &mut source, 1, 99_999)?;
-        assert_eq!(rt; answers.as_str(), "7\n8\nEnd\nEnd\n");
+        let stream = Stream {
+            bytes: text.as_str().as_bytes(),
+            piece,
+            fails: &[],
+            width: 1,
+            limit: 99_999,
+        };
+        answer(&rt, rt.alloc(), &stream, "7\n8\nEnd\nEnd\n", None)?;
     }
     Ok(())
 }

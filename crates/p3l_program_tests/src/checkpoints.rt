@@ -6,8 +6,8 @@ use crate::texts::{
     COUNTED, DOUBLE, HALVES, HUNDRED, ITEMS, NO_PICKS, READ_FAULT, REFUSED_PICK, WRITE_FAULT,
 };
 use crate::world::{
-    Course, Ends, FOURTH_FILE, Faults, Held, NO_PUT, NO_TAKE, NONE, Step, holding, perform, take,
-    take_all, take_courses,
+    Course, Ended, Ends, FOURTH_FILE, Faults, Held, NO_PUT, NO_TAKE, NONE, Step, holding, perform,
+    take, take_all, take_courses,
 };
 use p3l_io::MemFiles;
 use std::alloc::Global;
@@ -255,27 +255,37 @@ fn with_byte(alloc: Global, bytes: &[u8], damage: &Damage) -> Result<Vec<u8>, Fa
     Ok(changed)
 }
 
+/// Resumes a snapshot with each damage of a table in turn.
+fn refuse_each(
+    rt: &impl Abort,
+    alloc: Global,
+    bytes: &[u8],
+    damages: &[Damage],
+) -> Result<(), Fail> {
+    for damage in damages {
+        let changed = with_byte(alloc, bytes, damage)?;
+        refuse(rt, alloc, changed.as_slice(), damage.2)?;
+    }
+    Ok(())
+}
+
 #[test]
-fn a_state_by_hand_is_resumed_and_damages_are_refused(rt: HostRuntime) -> Result<(), Fail> {
-    let alloc = rt.alloc();
-    let snapshot = spelled(alloc)?;
+fn a_state_by_hand_is_resumed_and_its_damages_are_refused(rt: HostRuntime) -> Result<(), Fail> {
+    let snapshot = spelled(rt.alloc())?;
     let bytes = snapshot.as_slice();
     let numbers = "stats: items 3, fired 5, idle 0, bound 9\n";
-    resume(
-        &rt,
-        alloc,
-        bytes,
-        "resume s --stats",
-        Ends(0, "5\n7\n", numbers),
-    )?;
+    let ends = Ends(0, "5\n7\n", numbers);
+    resume(&rt, rt.alloc(), bytes, "resume s --stats", ends)?;
     for damages in DAMAGES {
-        for damage in *damages {
-            let changed = with_byte(alloc, bytes, damage)?;
-            refuse(&rt, alloc, changed.as_slice(), damage.2)?;
-        }
+        refuse_each(&rt, rt.alloc(), bytes, damages)?;
     }
-    refuse(&rt, alloc, b"", "evidence: 130 BadShot 0\n")?;
-    refuse(&rt, alloc, b"P3LS", "evidence: 130 BadShot 4\n")
+    Ok(())
+}
+
+#[test]
+fn a_beginning_of_a_snapshot_is_refused(rt: HostRuntime) -> Result<(), Fail> {
+    refuse(&rt, rt.alloc(), b"", "evidence: 130 BadShot 0\n")?;
+    refuse(&rt, rt.alloc(), b"P3LS", "evidence: 130 BadShot 4\n")
 }
 
 /// The snapshot that is saved of three items after four picks.
@@ -287,18 +297,27 @@ fn saved(rt: &impl Abort, alloc: Global) -> Result<Vec<u8>, Fail> {
     }
 }
 
-#[test]
-fn a_saved_snapshot_with_one_more_is_refused(rt: HostRuntime) -> Result<(), Fail> {
-    let alloc = rt.alloc();
-    let snapshot = saved(&rt, alloc)?;
+/// Resumes a snapshot with one item more that was sent.
+fn refuse_one_sent(rt: &impl Abort, alloc: Global, snapshot: &[u8]) -> Result<(), Fail> {
+    let counted = with_byte(alloc, snapshot, &Damage(15, 3, ""))?;
+    refuse(rt, alloc, counted.as_slice(), "evidence: 131 NotSound\n")
+}
+
+/// Resumes a snapshot with one byte more.
+fn refuse_one_byte(rt: &impl Abort, alloc: Global, snapshot: &[u8]) -> Result<(), Fail> {
     let place = snapshot.len();
-    assert!(&rt; place > 110);
-    let counted = with_byte(alloc, snapshot.as_slice(), &Damage(15, 3, ""))?;
-    refuse(&rt, alloc, counted.as_slice(), "evidence: 131 NotSound\n")?;
-    let mut more = Vec::from_slice(alloc, snapshot.as_slice())?;
+    let mut more = Vec::from_slice(alloc, snapshot)?;
     more.push(0)?;
     let line = format!(in alloc; "evidence: 130 BadShot {place}\n")?;
-    refuse(&rt, alloc, more.as_slice(), line.as_str())
+    refuse(rt, alloc, more.as_slice(), line.as_str())
+}
+
+#[test]
+fn a_saved_snapshot_with_one_more_is_refused(rt: HostRuntime) -> Result<(), Fail> {
+    let snapshot = saved(&rt, rt.alloc())?;
+    assert!(&rt; snapshot.len() > 110);
+    refuse_one_sent(&rt, rt.alloc(), snapshot.as_slice())?;
+    refuse_one_byte(&rt, rt.alloc(), snapshot.as_slice())
 }
 
 /// Picks by turns, but for one of the workers.
@@ -335,30 +354,49 @@ fn files_for(alloc: Global, count: usize) -> Result<MemFiles, Fail> {
     Ok(files)
 }
 
+/// The first part of a run that is saved after this count of picks.
+fn first_part(
+    rt: &impl Abort,
+    alloc: Global,
+    files: &mut MemFiles,
+    count: usize,
+) -> Result<Ended, Fail> {
+    let words = "save m.p3l --processors 16 --capacity 1 --schedule file:p --output s";
+    let all = lines_after(alloc, 0)?;
+    let ended = perform(alloc, words, all.as_str(), files, &NONE)?;
+    assert_eq!(rt; ended.status, 0);
+    Ok(ended)
+}
+
+/// What the second part writes, on what is left after these items.
+fn second_part(
+    rt: &impl Abort,
+    alloc: Global,
+    files: &mut MemFiles,
+    items: usize,
+) -> Result<Vec<u8>, Fail> {
+    let rest = lines_after(alloc, items)?;
+    let ended = perform(alloc, "resume s", rest.as_str(), files, &NONE)?;
+    assert_eq!(rt; ended.status, 0);
+    Ok(ended.output)
+}
+
 /// What the two parts of a run write that is saved after this count of picks, one after the other.
 fn parts(rt: &impl Abort, alloc: Global, count: usize) -> Result<Vec<u8>, Fail> {
     let mut files = files_for(alloc, count)?;
-    let words = "save m.p3l --processors 16 --capacity 1 --schedule file:p --output s";
-    let all = lines_after(alloc, 0)?;
-    let first = perform(alloc, words, all.as_str(), &mut files, &NONE)?;
-    assert_eq!(rt; first.status, 0);
-    let items = items_in(alloc, first.lines.as_slice(), count)?;
-    assert!(rt; items.is_some());
-    let rest = lines_after(alloc, items.unwrap())?;
-    let second = perform(alloc, "resume s", rest.as_str(), &mut files, &NONE)?;
-    assert_eq!(rt; second.status, 0);
-    let mut both = Vec::from_slice(alloc, first.output.as_slice())?;
-    both.extend_from_slice(second.output.as_slice())?;
+    let first = first_part(rt, alloc, &mut files, count)?;
+    let items = items_in(alloc, first.lines.as_slice(), count)?.ok_or("not saved")?;
+    let mut both = first.output;
+    both.extend_from_slice(second_part(rt, alloc, &mut files, items)?.as_slice())?;
     Ok(both)
 }
 
 #[test]
 fn a_run_may_be_cut_after_each_of_its_picks(rt: HostRuntime) -> Result<(), Fail> {
-    let alloc = rt.alloc();
-    let whole = "1 6\n1 1\n".repeat(alloc, 20)?;
+    let whole = "1 6\n1 1\n".repeat(rt.alloc(), 20)?;
     for count in 1..61 {
-        let both = parts(&rt, alloc, count)?;
-        assert_eq!(&rt; both.as_slice(), whole.as_str().as_bytes());
+        let both = parts(&rt, rt.alloc(), count)?;
+        assert!(&rt; both.as_slice() == whole.as_str().as_bytes(), "{count}");
     }
     Ok(())
 }

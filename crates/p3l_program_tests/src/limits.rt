@@ -1,7 +1,7 @@
 // Programs at the limits of their sizes, with ample memory.
 
 use crate::refusals::HEAD;
-use crate::world::{Ends, NONE, Step, holding, take};
+use crate::world::{Ends, Held, NONE, Step, holding, take, take_all};
 use p3l_io::MemFiles;
 use std::alloc::Global;
 use std::process::Abort;
@@ -57,118 +57,137 @@ fn line_of(alloc: Global, first: u32, count: u32) -> Result<String, Fail> {
     Ok(text)
 }
 
+/// Takes steps on a program, one after another.
+fn take_on(rt: &impl Abort, alloc: Global, program: &str, steps: &[Step]) -> Result<(), Fail> {
+    let mut files = files_with(alloc, program)?;
+    for step in steps {
+        take(rt, alloc, &mut files, step, &NONE)?;
+    }
+    Ok(())
+}
+
 #[test]
 fn five_hundred_and_ten_workers(rt: HostRuntime) -> Result<(), Fail> {
-    let alloc = rt.alloc();
-    let mut files = files_with(alloc, FARM)?;
     let stats = "stats: items 3, fired 15, idle 0, bound 15\n";
     let step = Step(ON_ALL, "1\n2\n-3\n", Ends(0, "3\n5\n-5\n", stats));
-    take(&rt, alloc, &mut files, &step, &NONE)
+    take_on(&rt, rt.alloc(), FARM, &[step])
 }
 
 #[test]
 fn five_hundred_and_eight_pieces(rt: HostRuntime) -> Result<(), Fail> {
-    let alloc = rt.alloc();
-    let mut files = files_with(alloc, MAP)?;
     // The sum of 1 to 508.
-    let item = line_of(alloc, 0, 508)?;
+    let item = line_of(rt.alloc(), 0, 508)?;
     let step = Step(ON_ALL_PLAIN, item.as_str(), Ends(0, "129286\n", ""));
-    take(&rt, alloc, &mut files, &step, &NONE)
+    take_on(&rt, rt.alloc(), MAP, &[step])
 }
 
 #[test]
 fn segments_on_all_processors(rt: HostRuntime) -> Result<(), Fail> {
-    let alloc = rt.alloc();
-    let mut files = files_with(alloc, REDUCE)?;
     // Pairs k - (k + 1) are -1 at level 0 and 0 above.
-    let item = line_of(alloc, 0, 512)?;
+    let item = line_of(rt.alloc(), 0, 512)?;
     let step = Step(ON_ALL_PLAIN, item.as_str(), Ends(0, "0\n", ""));
-    take(&rt, alloc, &mut files, &step, &NONE)
+    take_on(&rt, rt.alloc(), REDUCE, &[step])
 }
+
+/// Counts on all processors, with their certificate, which holds.
+const EXPLAINED: &[Step] = &[
+    Step(
+        "explain m.p3l --processors 512 --costs c --cert e",
+        "",
+        Ends(0, SLOW_EXPLAINED, ""),
+    ),
+    Step(
+        "verify-cert m.p3l --costs c --cert e",
+        "",
+        Ends(
+            0,
+            "certificate holds: processors 512 used 503 service 1\n",
+            "",
+        ),
+    ),
+];
 
 #[test]
 fn counts_for_all_processors(rt: HostRuntime) -> Result<(), Fail> {
-    let alloc = rt.alloc();
-    let mut files = files_with(alloc, SLOW)?;
-    files.add("c", SLOW_COSTS.as_bytes())?;
-    let explain = "explain m.p3l --processors 512 --costs c --cert e";
-    let step = Step(explain, "", Ends(0, SLOW_EXPLAINED, ""));
-    take(&rt, alloc, &mut files, &step, &NONE)?;
-    let verify = "verify-cert m.p3l --costs c --cert e";
-    let held = "certificate holds: processors 512 used 503 service 1\n";
-    take(
-        &rt,
-        alloc,
-        &mut files,
-        &Step(verify, "", Ends(0, held, "")),
-        &NONE,
-    )
+    let held = [Held("m.p3l", SLOW), Held("c", SLOW_COSTS)];
+    take_all(&rt, rt.alloc(), &held, EXPLAINED)?;
+    Ok(())
 }
 
-#[test]
-fn a_hundred_and_twenty_eight_instances(rt: HostRuntime) -> Result<(), Fail> {
-    let alloc = rt.alloc();
-    let text = format!(in alloc; "{HEAD}\n{INSTANCES}\n")?;
-    let mut files = files_with(alloc, text.as_str())?;
-    let counted = "ok: 6 modules, 128 instances\n";
-    let step = Step("check m.p3l", "", Ends(0, counted, ""));
-    take(&rt, alloc, &mut files, &step, &NONE)?;
-    let step = Step(
+/// It keeps the rules, and is run.
+const COUNTED: &[Step] = &[
+    Step(
+        "check m.p3l",
+        "",
+        Ends(0, "ok: 6 modules, 128 instances\n", ""),
+    ),
+    Step(
         "run m.p3l --processors 128",
         "7\n-7\n",
         Ends(0, "7\n-7\n", ""),
-    );
-    take(&rt, alloc, &mut files, &step, &NONE)
-}
+    ),
+];
 
 #[test]
-fn three_hundred_modules(rt: HostRuntime) -> Result<(), Fail> {
-    let alloc = rt.alloc();
+fn a_hundred_and_twenty_eight_instances(rt: HostRuntime) -> Result<(), Fail> {
+    let text = format!(in rt.alloc(); "{HEAD}\n{INSTANCES}\n")?;
+    take_on(&rt, rt.alloc(), text.as_str(), COUNTED)
+}
+
+/// Three hundred bodies, and a farm of the last.
+fn many_modules(alloc: Global) -> Result<String, Fail> {
     let mut text = String::new(alloc);
     for place in 0..300u32 {
         let module = "in(int x) out(int y) ${ y = x; }$ end seq";
         text.push_str(format!(in alloc; "seq f{place} {module}\n")?.as_str())?;
     }
     text.push_str("farm main in(int x) out(int y) f299 in(x) out(y) end farm\n")?;
-    let mut files = files_with(alloc, text.as_str())?;
-    let steps = [
-        Step(
-            "check m.p3l",
-            "",
-            Ends(0, "ok: 301 modules, 2 instances\n", ""),
-        ),
-        Step(
-            "compile m.p3l --processors 4 --output i",
-            "",
-            Ends(0, "", ""),
-        ),
-        Step("exec i", "5\n", Ends(0, "5\n", "")),
-    ];
-    for step in steps {
-        take(&rt, alloc, &mut files, &step, &NONE)?;
-    }
-    Ok(())
+    Ok(text)
+}
+
+/// They are counted, compiled and run.
+const COMPILED: &[Step] = &[
+    Step(
+        "check m.p3l",
+        "",
+        Ends(0, "ok: 301 modules, 2 instances\n", ""),
+    ),
+    Step(
+        "compile m.p3l --processors 4 --output i",
+        "",
+        Ends(0, "", ""),
+    ),
+    Step("exec i", "5\n", Ends(0, "5\n", "")),
+];
+
+#[test]
+fn three_hundred_modules(rt: HostRuntime) -> Result<(), Fail> {
+    let text = many_modules(rt.alloc())?;
+    take_on(&rt, rt.alloc(), text.as_str(), COMPILED)
+}
+
+/// A program that changes nothing, and this text of picks.
+fn files_of_picks(alloc: Global, picks: &str) -> Result<MemFiles, Fail> {
+    let mut files = files_with(alloc, "seq main in(int x) out(int y) ${ y = x; }$ end seq")?;
+    files.add("p", picks.as_bytes())?;
+    Ok(files)
+}
+
+/// Runs the items by the picks of a file, and checks the trace that the run leaves.
+fn trace(rt: &impl Abort, alloc: Global, picks: &str, items: &str) -> Result<(), Fail> {
+    let mut files = files_of_picks(alloc, picks)?;
+    let words = "run m.p3l --processors 4 --schedule file:p --trace t";
+    let run = Step(words, items, Ends(0, items, ""));
+    take(rt, alloc, &mut files, &run, &NONE)?;
+    let words = "check-trace m.p3l --processors 4 --trace t";
+    let held = "trace holds: 2100 fired, 0 idle\n";
+    let checked = Step(words, items, Ends(0, held, ""));
+    take(rt, alloc, &mut files, &checked, &NONE)
 }
 
 #[test]
 fn thousands_of_picks(rt: HostRuntime) -> Result<(), Fail> {
-    let alloc = rt.alloc();
-    let program = "seq main in(int x) out(int y) ${ y = x; }$ end seq";
-    let mut files = files_with(alloc, program)?;
-    let picks = "0 2 1\n".repeat(alloc, 700)?;
-    files.add("p", picks.as_str().as_bytes())?;
-    let text = "1\n".repeat(alloc, 700)?;
-    let items = text.as_str();
-    let words = "run m.p3l --processors 4 --schedule file:p --trace t";
-    let step = Step(words, items, Ends(0, items, ""));
-    take(&rt, alloc, &mut files, &step, &NONE)?;
-    let words = "check-trace m.p3l --processors 4 --trace t";
-    let held = "trace holds: 2100 fired, 0 idle\n";
-    take(
-        &rt,
-        alloc,
-        &mut files,
-        &Step(words, items, Ends(0, held, "")),
-        &NONE,
-    )
+    let picks = "0 2 1\n".repeat(rt.alloc(), 700)?;
+    let items = "1\n".repeat(rt.alloc(), 700)?;
+    trace(&rt, rt.alloc(), picks.as_str(), items.as_str())
 }

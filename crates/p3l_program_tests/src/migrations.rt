@@ -30,20 +30,29 @@ fn compiled(rt: &impl Abort, alloc: Global) -> Result<Vec<u8>, Fail> {
     }
 }
 
+/// The image runs, and is migrated to the file `new`.
+const MIGRATED: &[Step] = &[
+    Step(EXEC, ITEMS, COUNTED),
+    Step("migrate i --output new", "", SILENT),
+];
+
+/// Migrates an image of the older version, which must become the other one and stay as it is.
+fn migrate(rt: &impl Abort, alloc: Global, old: &[u8], image: &[u8]) -> Result<(), Fail> {
+    let mut files = holding(alloc, &[], &[])?;
+    files.add("i", old)?;
+    for step in MIGRATED {
+        take(rt, alloc, &mut files, step, &NONE)?;
+    }
+    assert!(rt; holds(&files, "new", image) && holds(&files, "i", old));
+    Ok(())
+}
+
 #[test]
 fn an_image_of_the_older_version_becomes_the_compiled_one(rt: HostRuntime) -> Result<(), Fail> {
-    let alloc = rt.alloc();
-    let image = compiled(&rt, alloc)?;
-    let old = older(alloc, image.as_slice())?;
+    let image = compiled(&rt, rt.alloc())?;
+    let old = older(rt.alloc(), image.as_slice())?;
     assert_eq!(&rt; old.len() + 1, image.len());
-    let mut files = holding(alloc, &[], &[])?;
-    files.add("i", old.as_slice())?;
-    take(&rt, alloc, &mut files, &Step(EXEC, ITEMS, COUNTED), &NONE)?;
-    let migrated = Step("migrate i --output new", "", SILENT);
-    take(&rt, alloc, &mut files, &migrated, &NONE)?;
-    assert!(&rt; holds(&files, "new", image.as_slice()));
-    assert!(&rt; holds(&files, "i", old.as_slice()));
-    Ok(())
+    migrate(&rt, rt.alloc(), old.as_slice(), image.as_slice())
 }
 
 /// An image with a net that its tree doesn't have, and what commands come to on it.

@@ -311,47 +311,26 @@ const A_SCAN_IS_REFUSED: &[Cases] = &[
 
 #[test]
 fn a_run_is_refused_by_the_first_of_its_stages(rt: HostRuntime) -> Result<(), Fail> {
-    take_cases(&rt, rt.alloc(), &[A_RUN_IS_REFUSED])
+    let saved = &[SAVING_IS_REFUSED, RESUMING_IS_REFUSED];
+    take_cases(&rt, rt.alloc(), &[A_RUN_IS_REFUSED, AN_IMAGE_IS_REFUSED])?;
+    take_cases(&rt, rt.alloc(), saved)
 }
 
 #[test]
-fn an_image_is_refused_by_the_first_of_its_stages(rt: HostRuntime) -> Result<(), Fail> {
-    take_cases(&rt, rt.alloc(), &[AN_IMAGE_IS_REFUSED])
+fn what_writes_a_file_is_refused_by_the_first_of_its_stages(rt: HostRuntime) -> Result<(), Fail> {
+    let written = &[AN_EXPLANATION_IS_REFUSED, COMPILING_IS_REFUSED];
+    take_cases(&rt, rt.alloc(), written)
 }
 
 #[test]
-fn saving_and_resuming_are_refused_by_the_first_of_their_stages(
+fn what_reads_evidence_is_refused_by_the_first_of_its_stages(rt: HostRuntime) -> Result<(), Fail> {
+    let read = &[VERIFYING_IS_REFUSED, CHECKING_IS_REFUSED];
+    take_cases(&rt, rt.alloc(), read)
+}
+
+#[test]
+fn a_scan_and_what_reads_a_program_are_refused_by_the_first_of_their_stages(
     rt: HostRuntime,
 ) -> Result<(), Fail> {
-    take_cases(&rt, rt.alloc(), &[SAVING_IS_REFUSED, RESUMING_IS_REFUSED])
-}
-
-#[test]
-fn an_explanation_is_refused_by_the_first_of_its_stages(rt: HostRuntime) -> Result<(), Fail> {
-    take_cases(&rt, rt.alloc(), &[AN_EXPLANATION_IS_REFUSED])
-}
-
-#[test]
-fn compiling_is_refused_by_the_first_of_its_stages(rt: HostRuntime) -> Result<(), Fail> {
-    take_cases(&rt, rt.alloc(), &[COMPILING_IS_REFUSED])
-}
-
-#[test]
-fn verifying_is_refused_by_the_first_of_its_stages(rt: HostRuntime) -> Result<(), Fail> {
-    take_cases(&rt, rt.alloc(), &[VERIFYING_IS_REFUSED])
-}
-
-#[test]
-fn checking_is_refused_by_the_first_of_its_stages(rt: HostRuntime) -> Result<(), Fail> {
-    take_cases(&rt, rt.alloc(), &[CHECKING_IS_REFUSED])
-}
-
-#[test]
-fn a_scan_is_refused_by_the_first_of_its_stages(rt: HostRuntime) -> Result<(), Fail> {
-    take_cases(&rt, rt.alloc(), &[A_SCAN_IS_REFUSED])
-}
-
-#[test]
-fn reading_is_refused_by_the_first_of_its_stages(rt: HostRuntime) -> Result<(), Fail> {
-    take_cases(&rt, rt.alloc(), &[READING_IS_REFUSED])
+    take_cases(&rt, rt.alloc(), &[A_SCAN_IS_REFUSED, READING_IS_REFUSED])
 }

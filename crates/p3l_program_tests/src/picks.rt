@@ -1,7 +1,7 @@
 // Picks from a file: the run of a program and of an image, by lists that end early and that are none.
 
 use crate::texts::{COMPILED, DOUBLE_FILES, HALVES, ITEMS};
-use crate::world::{Ends, NONE, Step, holding, take, take_all};
+use crate::world::{Ends, Held, NONE, Step, holding, take, take_all};
 use std::alloc::Global;
 use std::process::Abort;
 use std::test::Fail;
@@ -76,15 +76,19 @@ const OF_MANY_PICKS: Step = Step(
     Ends(0, "1 6\n1 1\n", ""),
 );
 
-/// One worker is left out for a long time, and what it holds comes out late.
-#[test]
-fn a_worker_may_wait_for_long(rt: HostRuntime) -> Result<(), Fail> {
-    let alloc = rt.alloc();
+/// Two hundred turns without one worker, and two hundred with it.
+fn late_picks(alloc: Global) -> Result<String, Fail> {
     let mut picks = "0 1 2 3 4 5 7 8 9\n".repeat(alloc, 200)?;
     let rest = "0 1 2 3 4 5 6 7 8 9\n".repeat(alloc, 200)?;
     picks.push_str(rest.as_str())?;
-    let mut files = holding(alloc, &[], &[])?;
-    files.add("m.p3l", HALVES.as_bytes())?;
+    Ok(picks)
+}
+
+/// One worker is left out for a long time, and what it holds comes out late.
+#[test]
+fn a_worker_may_wait_for_long(rt: HostRuntime) -> Result<(), Fail> {
+    let picks = late_picks(rt.alloc())?;
+    let mut files = holding(rt.alloc(), &[Held("m.p3l", HALVES)], &[])?;
     files.add("p", picks.as_str().as_bytes())?;
-    take(&rt, alloc, &mut files, &OF_MANY_PICKS, &NONE)
+    take(&rt, rt.alloc(), &mut files, &OF_MANY_PICKS, &NONE)
 }

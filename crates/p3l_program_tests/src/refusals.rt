@@ -2,9 +2,9 @@
 // with ample memory.
 
 use crate::texts::{CHECK, RUN_PLAIN};
-use crate::world::{Ends, NONE, Program, Programs, Step, holding, take, take_programs};
+use crate::world::{Ends, Held, NONE, Program, Programs, Step, holding, take, take_programs};
 use p3l_base::List;
-use p3l_io::MemSink;
+use p3l_io::{MemFiles, MemSink};
 use p3l_report::{Finish, Verdict, put_report, report_of};
 use p3l_stream::Ending;
 use std::alloc::Global;
@@ -45,13 +45,19 @@ const FAULTS: &str = "2:5: 1 BadByte | seq @
 2:41: 43 IsArray | seq main in(int a[2]) out(int y) ${ y = a; }$ end seq
 2:34: 44 WriteToIn | seq main in(int x) out(int y) ${ x = 1; }$ end seq";
 
+/// A file of the modules of the head, and of a program behind them.
+fn after_the_head(alloc: Global, program: &str) -> Result<MemFiles, Fail> {
+    let text = format!(in alloc; "{HEAD}\n{program}\n")?;
+    let mut files = holding(alloc, &[], &[])?;
+    files.add("m.p3l", text.as_str().as_bytes())?;
+    Ok(files)
+}
+
 /// Checks the program of a row, which must be refused as it says.
 fn refuse(rt: &impl Abort, alloc: Global, row: &str) -> Result<(), Fail> {
     let (fault, program) = row.split_once(" | ").ok_or("no fault")?;
-    let text = format!(in alloc; "{HEAD}\n{program}\n")?;
+    let mut files = after_the_head(alloc, program)?;
     let lines = format!(in alloc; "source: {fault}\n")?;
-    let mut files = holding(alloc, &[], &[])?;
-    files.add("m.p3l", text.as_str().as_bytes())?;
     let step = Step(CHECK, "", Ends(3, "", lines.as_str()));
     take(rt, alloc, &mut files, &step, &NONE)
 }
@@ -125,8 +131,7 @@ const COSTS: &[(&[u8], &str)] = &[
 fn refuse_costs(rt: &impl Abort, alloc: Global, costs: &[u8], fault: &str) -> Result<(), Fail> {
     let program = "seq main in(int x) out(int y) ${ y = x; }$ end seq";
     let lines = format!(in alloc; "costs: {fault}\n")?;
-    let mut files = holding(alloc, &[], &[])?;
-    files.add("m.p3l", program.as_bytes())?;
+    let mut files = holding(alloc, &[Held("m.p3l", program)], &[])?;
     files.add("c", costs)?;
     let words = "explain m.p3l --processors 4 --costs c";
     let step = Step(words, "", Ends(4, "", lines.as_str()));
