@@ -50,7 +50,7 @@ WORDS = [
     (["run", "m.p3l"], b"", 2, "", USAGE),
     ([*RUN, "--stats", "--stats"], b"1\n", 2, "", USAGE),
     (["run", "m.p3l", "--processors", "513"], b"1\n", 2, "", USAGE),
-    (["--version"], b"", 0, "p3l 0.1.0\nrattle-kit-13f logic dac8208d650f15bf\n", ""),
+    (["--version"], b"", 0, "p3l 0.1.0\nproved by rattle, logic dac8208d650f15bf\n", ""),
     (["--help"], b"", 0, None, ""),
     (["run", "-h"], b"", 0, None, ""),
     (RUN, b"1\n2\n-3\n", 0, "3\n5\n-5\n", ""),

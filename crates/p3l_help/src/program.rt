@@ -30,7 +30,7 @@ help:
   help status       what the program's status and its message say
   help NUMBER       a number of refusal: the rule, a text that breaks it, and how to mend it
   help language     the language on a page
-  --version         the version, and the toolchain that the program is proved with
+  --version         the version, and the logic by which the program is proved
 
 Options stand in any order, each once at most; numbers have no sign and no leading zero.
 Results go to the standard output, and a message to the standard error says why the program
@@ -38,9 +38,9 @@ ended with another status than 0. One thread runs: --processors chooses worker c
 makes no run faster.
 ";
 
-/// The version of the program, and the toolchain that it is proved and built with.
+/// The version of the program, and the logic by which it is proved: that of the toolchain.
 pub(crate) const VERSION: &str = "p3l 0.1.0
-rattle-kit-13f logic dac8208d650f15bf
+proved by rattle, logic dac8208d650f15bf
 ";
 
 /// The statuses of the program, each with its message.

@@ -6,7 +6,7 @@ ghost use Rattle.p3l_opts.specs.declared.command.OptsRefusal.TheVariants.{NoMemo
 use p3l_base::Name;
 
 /// A command, with the values that its words spell.
-#[derive(Debug, Drop)]
+#[derive(Drop)]
 pub enum Command {
     /// `check PROGRAM`: says whether a program keeps all rules.
     Check(Name),
@@ -67,7 +67,7 @@ pub enum Command {
 }
 
 /// How a program's network is built.
-#[derive(Debug, Drop)]
+#[derive(Drop)]
 pub struct Build {
     /// The name of the program's file.
     pub program: Name,
@@ -80,7 +80,7 @@ pub struct Build {
 }
 
 /// How picks are made.
-#[derive(Debug, Drop)]
+#[derive(Drop)]
 pub enum Sched {
     /// The processes take turns.
     RoundRobin,

@@ -10,7 +10,7 @@ use p3l_base::NoMemory;
 use std::alloc::Global;
 
 /// What a command does, as its first word says.
-#[derive(Clone, Copy, Debug, Drop, PartialEq, Eq)]
+#[derive(Clone, Copy, Drop)]
 pub enum Verb {
     Check,
     Fmt,

@@ -14,7 +14,7 @@ use std::alloc::Global;
 pub const TEXT_LIMIT: u64 = 1_048_576;
 
 /// Why a file of this name gives no text.
-#[derive(Debug, Drop)]
+#[derive(Drop)]
 pub enum FileRefusal {
     /// It could not be read.
     Fault(Name),

@@ -9,7 +9,7 @@ use p3l_base::{Name, NoMemory};
 use std::alloc::Global;
 
 /// Why a cost file is refused, with the key or the module that is spoken of.
-#[derive(Debug, Drop)]
+#[derive(Drop)]
 pub enum CostFault {
     /// It is no TOML document.
     NotToml,

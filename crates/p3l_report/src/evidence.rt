@@ -9,7 +9,7 @@ use p3l_base::NoMemory;
 use std::alloc::Global;
 
 /// What a certificate says of its counts.
-#[derive(Clone, Copy, Debug, Drop, PartialEq, Eq)]
+#[derive(Clone, Copy, Drop)]
 pub enum Claim {
     /// They are lawful.
     Counts,
@@ -25,7 +25,7 @@ pub enum Claim {
 
 /// Why evidence is refused, in the order of the numbers. Rows count from 0, lines from 1, and places
 /// are counts of bytes.
-#[derive(Clone, Copy, Debug, Drop, PartialEq, Eq)]
+#[derive(Clone, Copy, Drop)]
 pub enum Evidence {
     /// The least number of a row of a certificate does not follow from its rule.
     RowWrong {

@@ -13,7 +13,7 @@ use p3l_base::{Name, NoMemory, TrapKind};
 use std::alloc::Global;
 
 /// A line: one that is always the same, or one that was made.
-#[derive(Debug, Drop)]
+#[derive(Drop)]
 pub enum Line {
     Fixed(&'static str),
     Made(String),

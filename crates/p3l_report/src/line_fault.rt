@@ -4,7 +4,7 @@ ghost use Rattle.std.specs.Prelude.{◌≡◌};
 ghost use Rattle.p3l_report.specs.LineFault.{number_of, name_of};
 
 /// What is wrong with a line, in the order of the numbers.
-#[derive(Clone, Copy, Debug, Drop, PartialEq, Eq)]
+#[derive(Clone, Copy, Drop)]
 pub enum LineFault {
     /// A word of a file of picks that is no number.
     BadPick,

@@ -21,7 +21,7 @@ use p3l_stream::Ending;
 use std::alloc::Global;
 
 /// The lines of a verdict: that of a run's numbers, and that of the status.
-#[derive(Debug, Drop)]
+#[derive(Drop)]
 pub struct Report {
     numbers: Option<Line>,
     status: Option<Line>,

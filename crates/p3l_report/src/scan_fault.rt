@@ -7,7 +7,7 @@ ghost use Rattle.p3l_report.specs.ScanFault.{scan_line};
 use crate::line::Line;
 
 /// Why a program can't be scanned in the segments requested.
-#[derive(Clone, Copy, Debug, Drop, PartialEq, Eq)]
+#[derive(Clone, Copy, Drop)]
 pub enum ScanFault {
     /// Its `main` is no reduce.
     NotReduce,

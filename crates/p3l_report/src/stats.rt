@@ -1,7 +1,7 @@
 // The numbers of a run.
 
 /// The numbers of a run, as they are reported.
-#[derive(Clone, Copy, Debug, Drop, PartialEq, Eq)]
+#[derive(Clone, Copy, Drop)]
 pub enum Stats {
     /// Of a run under a schedule.
     Scheduled {

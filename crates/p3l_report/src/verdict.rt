@@ -16,7 +16,7 @@ use p3l_stream::Ending;
 pub struct Status(pub u8);
 
 /// Why a command was refused before anything was touched.
-#[derive(Debug, Drop)]
+#[derive(Drop)]
 pub enum Refusal {
     /// The words are no command.
     Usage,
@@ -41,7 +41,7 @@ pub enum Refusal {
 }
 
 /// How a command came to its end, with all written that was to be written by then.
-#[derive(Debug, Drop)]
+#[derive(Drop)]
 pub enum Finish {
     /// All that the command makes was written.
     Done,
@@ -65,7 +65,7 @@ pub enum Finish {
 }
 
 /// How a command ended, with all that its lines say.
-#[derive(Debug, Drop)]
+#[derive(Drop)]
 pub enum Verdict {
     /// Refused, with nothing touched.
     Refused(Refusal),
