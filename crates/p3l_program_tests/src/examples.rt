@@ -16,12 +16,12 @@ use std::test::Fail;
 struct Line(&'static Example, &'static str);
 
 /// Does what the words request with an example, and compares the output and the lines.
-fn compare(
+fn compare<'a>(
     rt: &impl Abort,
     alloc: Global,
-    words: &str,
+    words: &'a str,
     example: &Example,
-    ends: Ends,
+    ends: Ends<'a>,
 ) -> Result<(), Fail> {
     let mut files = holding(alloc, &[Held("m.p3l", example.program)], &[])?;
     take(
