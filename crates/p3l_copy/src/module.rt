@@ -5,7 +5,7 @@ ghost use Rattle.p3l_ast.specs.Tree.{statements, inside_tree, module_tree};
 
 use crate::body::block;
 use crate::copied::{Copied, copies};
-use p3l_ast::{Block, Clauses, Inside, Module, Num, Rescue};
+use p3l_ast::{Block, Clauses, Inside, Module, Num, Port, Rescue, Spot};
 use p3l_base::{List, NoMemory};
 use std::alloc::Global;
 
@@ -92,6 +92,42 @@ pub fn module(alloc: Global, own: &Module) -> Result<Module, NoMemory>
     with_inside(alloc, own, inside)
 }
 
+/// The ports of a module.
+#[derive(Drop)]
+struct Ports {
+    ins: List<Port>,
+    outs: List<Port>,
+}
+
+fn ports_of(alloc: Global, own: &Module) -> Result<Ports, NoMemory>
+    ensures ins { IfOk result (λ ports. ports.ins ≡ own.now.ins) }
+    ensures outs { IfOk result (λ ports. ports.outs ≡ own.now.outs) }
+{
+    let ins = copies(alloc, own.ins.as_slice())?;
+    let outs = copies(alloc, own.outs.as_slice())?;
+    Ok(Ports { ins, outs })
+}
+
+/// What stands before a module's inside.
+#[derive(Drop)]
+struct Header {
+    at: Spot,
+    ports: Ports,
+    clauses: Clauses,
+}
+
+fn header_of(alloc: Global, own: &Module) -> Result<Header, NoMemory>
+    ensures at { IfOk result (λ header. header.at ≡ own.now.at) }
+    ensures ins { IfOk result (λ header. header.ports.ins ≡ own.now.ins) }
+    ensures outs { IfOk result (λ header. header.ports.outs ≡ own.now.outs) }
+    ensures clauses { IfOk result (λ header. header.clauses ≡ own.now.clauses) }
+{
+    let at = own.at.copied(alloc)?;
+    let ports = ports_of(alloc, own)?;
+    let clauses = own.clauses.copied(alloc)?;
+    Ok(Header { at, ports, clauses })
+}
+
 /// A copy of a module with something else inside.
 pub fn with_inside(alloc: Global, own: &Module, inside: Inside) -> Result<Module, NoMemory>
     ensures { IfOk result (λ copy. module_tree copy
@@ -104,10 +140,8 @@ pub fn with_inside(alloc: Global, own: &Module, inside: Inside) -> Result<Module
           inside = inside_tree inside;
         }) }
 {
-    let at = own.at.copied(alloc)?;
-    let ins = copies(alloc, own.ins.as_slice())?;
-    let outs = copies(alloc, own.outs.as_slice())?;
-    let clauses = own.clauses.copied(alloc)?;
+    let Header { at, ports, clauses } = header_of(alloc, own)?;
+    let Ports { ins, outs } = ports;
     Ok(Module {
         kind: own.kind,
         at,
