@@ -4,7 +4,7 @@ ghost use Rattle.std.specs.Prelude.{◌≡◌, [], ◌∷◌, ◌++◌, IfOk, On
 ghost use Rattle.std.specs.List.{list_all};
 ghost use Rattle.p3l_ast.specs.Tree.{module_tree, entry_tree, program_tree, defined};
 ghost use Rattle.p3l_skel.specs.Tree.{node_at, is_sequential};
-ghost use Rattle.p3l_rewrite.specs.Candidates.{longer, farm_with, has_name, next_farms, farms_of, farm_called, with_calls, farmed_entries, work_of, farmed_of, fused_of, others_around, others};
+ghost use Rattle.p3l_rewrite.specs.Candidates.{longer, farm_with, has_name, next_farms, farms_of, farm_called, with_calls, farmed_entries, work_of, fused_entries, farmed_of, fused_of, others_around, others};
 ghost use Rattle.p3l_rewrite.specs.Around.{around_tree};
 ghost use Rattle.p3l_rewrite.specs.Rewriting.{listed};
 ghost use Rattle.p3l_rewrite.specs.Ways.{ways_list};
@@ -124,6 +124,23 @@ fn with_farms(
     Ok(Entry::Module(with_inside(alloc, main, Inside::Calls(called))?))
 }
 
+/// Puts farms after entries, and `main` with calls that name these.
+fn put_farmed(
+    alloc: Global,
+    entries: &mut List<Entry>,
+    main: &Module,
+    farms: &[Module],
+    calls: &[Call],
+) -> Result<(), NoMemory>
+    ensures { OnOk result (map entry_tree entries.new ≡ (map entry_tree entries.old
+        ++ map (λ m. defined m) (map module_tree farms.now))
+        ++ defined (with_calls (module_tree main.now)
+        (map (farm_called (map module_tree farms.now)) calls.now)) ∷ []) }
+{
+    put_modules(alloc, entries, farms)?;
+    entries.push(with_farms(alloc, main, farms, calls)?)
+}
+
 /// The entries with farms just before `main`.
 fn farmed_entries(
     alloc: Global,
@@ -134,11 +151,9 @@ fn farmed_entries(
     ensures { IfOk result (λ entries. map entry_tree entries
         ≡ farmed_entries (around_tree around.now) (map module_tree farms.now) calls.now) }
 {
-    let main = with_farms(alloc, around.main, farms, calls)?;
     let mut entries = List::new(alloc);
     put_entries(alloc, &mut entries, around.front)?;
-    put_modules(alloc, &mut entries, farms)?;
-    entries.push(main)?;
+    put_farmed(alloc, &mut entries, around.main, farms, calls)?;
     put_entries(alloc, &mut entries, around.back)?;
     Ok(entries)
 }
@@ -193,20 +208,32 @@ fn main_farm(alloc: Global, main: &Module) -> Result<Module, NoMemory>
     farm_with(alloc, at, worker, main)
 }
 
-/// The entries with a comp in place of `main`, and a farm of it.
-fn fused_entries(
+/// Puts the comp of the stages of `main` after entries, and a farm of it.
+fn put_fused(
     alloc: Global,
-    around: &Around,
-    work: Module,
-    farm: Module,
-) -> Result<List<Entry>, NoMemory>
-    ensures { IfOk result (λ entries. map entry_tree entries ≡ (around_tree around.now).front
-        ++ defined (module_tree work) ∷ (defined (module_tree farm) ∷ (around_tree around.now).back)) }
+    entries: &mut List<Entry>,
+    main: &Module,
+    calls: &[Call],
+) -> Result<(), NoMemory>
+    ensures { OnOk result (map entry_tree entries.new ≡ map entry_tree entries.old
+        ++ defined (work_of (module_tree main.now) calls.now)
+        ∷ (defined (farm_with main.now.at (longer (codes "_work") main.now.at)
+        main.now.ins main.now.outs) ∷ [])) }
+{
+    let work = work_of(alloc, main, calls)?;
+    entries.push(Entry::Module(work))?;
+    let farm = main_farm(alloc, main)?;
+    entries.push(Entry::Module(farm))
+}
+
+/// The entries with a comp in place of `main`, and a farm of it.
+fn fused_entries(alloc: Global, around: &Around, calls: &[Call]) -> Result<List<Entry>, NoMemory>
+    ensures { IfOk result (λ entries. map entry_tree entries
+        ≡ fused_entries (around_tree around.now) calls.now) }
 {
     let mut entries = List::new(alloc);
     put_entries(alloc, &mut entries, around.front)?;
-    entries.push(Entry::Module(work))?;
-    entries.push(Entry::Module(farm))?;
+    put_fused(alloc, &mut entries, around.main, calls)?;
     put_entries(alloc, &mut entries, around.back)?;
     Ok(entries)
 }
@@ -225,9 +252,7 @@ fn fused(
     if !are_sequential(tree, root_parts(tree)) {
         return Ok(None);
     }
-    let work = work_of(alloc, around.main, calls)?;
-    let farm = main_farm(alloc, around.main)?;
-    let entries = fused_entries(alloc, around, work, farm)?;
+    let entries = fused_entries(alloc, around, calls)?;
     Ok(Some(Program {
         entries,
         end: program.end,
