@@ -17,18 +17,29 @@ fn words(alloc: Global, words: &[i64]) -> Result<Words, NoMemory>
 
 #[test]
 fn words_are_cut_into_elements(rt: HostRuntime) -> Result<(), Fail> {
-    let list = elements(rt.alloc(), &words(rt.alloc(), &[1, 2, 3, 4, 5])?, 2)?;
-    assert_eq!(rt; list.len(), 2);
-    assert!(rt; list.as_slice()[0].as_slice() == [1, 2].as_slice());
-    assert!(rt; list.as_slice()[1].as_slice() == [3, 4].as_slice());
+    let five = words(rt.alloc(), &[1, 2, 3, 4, 5])?;
+    let list = elements(rt.alloc(), &five, 2)?;
+    let are_two = match list.as_slice() {
+        [first, second] => {
+            first.as_slice() == [1, 2].as_slice() && second.as_slice() == [3, 4].as_slice()
+        }
+        _ => false,
+    };
+    assert!(rt; are_two);
     Ok(())
+}
+
+/// Whether these words make up these two halves.
+fn are_halves(alloc: Global, left: &[i64], right: &[i64], both: &[i64]) -> Result<bool, NoMemory> {
+    let left = words(alloc, left)?;
+    let right = words(alloc, right)?;
+    let pair = paired(alloc, Outcome::Value(left), Outcome::Value(right))?;
+    Ok(has_words(&pair, both))
 }
 
 #[test]
 fn halves_are_paired_and_the_left_trap_comes_first(rt: HostRuntime) -> Result<(), Fail> {
-    let left = Outcome::Value(words(rt.alloc(), &[1, 2])?);
-    let right = Outcome::Value(words(rt.alloc(), &[3])?);
-    assert!(rt; has_words(&paired(rt.alloc(), left, right)?, &[1, 2, 3]));
+    assert!(rt; are_halves(rt.alloc(), &[1, 2], &[3], &[1, 2, 3])?);
     let left = Trap {
         kind: TrapKind::Shift,
         module: 1,
@@ -42,10 +53,15 @@ fn halves_are_paired_and_the_left_trap_comes_first(rt: HostRuntime) -> Result<()
     Ok(())
 }
 
+/// Whether a loop is done that has this word.
+fn is_done_at(alloc: Global, word: i64) -> Result<bool, NoMemory> {
+    let words = words(alloc, &[word])?;
+    Ok(is_done(&words))
+}
+
 #[test]
 fn a_loop_is_done_at_0(rt: HostRuntime) -> Result<(), Fail> {
-    assert!(rt; is_done(&words(rt.alloc(), &[0])?));
-    assert!(rt; !is_done(&words(rt.alloc(), &[1])?));
-    assert!(rt; !is_done(&words(rt.alloc(), &[-1])?));
+    assert!(rt; is_done_at(rt.alloc(), 0)?);
+    assert!(rt; !is_done_at(rt.alloc(), 1)? && !is_done_at(rt.alloc(), -1)?);
     Ok(())
 }

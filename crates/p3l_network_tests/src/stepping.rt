@@ -4,6 +4,7 @@ ghost use Rattle.std.specs.Prelude.{◌≡◌, ◌<◌, None, length, IfOk};
 ghost use Rattle.p3l_firing.specs.Typed.{IsTyped};
 ghost use Rattle.p3l_link.specs.Net.{linked_net};
 
+use crate::restored::renew;
 use p3l_base::{List, NoMemory, Outcome, Words};
 use p3l_firing::Net;
 use p3l_link::link;
@@ -25,20 +26,27 @@ pub fn net_of(rt: &impl Abort, alloc: Global, tree: &Tree, counts: &Counts) -> R
     link(alloc, tree, counts, 1)
 }
 
-/// The machine of such a net.
+/// A network: its tree, what its units do, and the numbers of its workers. It may be restored before
+/// each pick from what is saved of it.
+#[derive(Drop)]
+pub struct Network<'n, U: Units> {
+    pub tree: &'n Tree,
+    pub units: &'n U,
+    pub counts: &'n Counts,
+    pub is_restored: bool,
+}
+
+/// The machine of a tree with these numbers of workers, as it starts.
 fn machine_of<'t>(
     rt: &impl Abort,
     alloc: Global,
     tree: &'t Tree,
-    workers: &[u32],
+    counts: &Counts,
 ) -> Result<Machine<'t>, NoMemory>
     ensures tree { IfOk result (λ machine. machine.tree ≡ tree.now) }
-    ensures empty { IfOk result (λ machine. machine.inbox ≡ None) }
+    ensures net { IfOk result (λ machine. machine.net ≡ linked_net tree.now counts.now.list 1) }
 {
-    let counts = Counts {
-        list: List::from_vec(workers.to_vec(alloc)?),
-    };
-    let net = net_of(rt, alloc, tree, &counts)?;
+    let net = net_of(rt, alloc, tree, counts)?;
     Machine::start(alloc, tree, net)
 }
 
@@ -74,31 +82,34 @@ fn compare_ready(rt: &impl Abort, machine: &Machine<'_>, ready: u32) {
     assert_eq!(rt; machine.ready(), before);
 }
 
-/// Fires a process that can fire, and compares what can fire after it; gives what was handed out.
-pub fn fire<U: Units>(
+/// Fires a process that can fire, and compares what can fire after it; keeps what was handed out.
+fn fire<U: Units>(
     rt: &impl Abort,
     alloc: Global,
+    network: &Network<'_, U>,
     machine: &mut Machine<'_>,
-    tree: &Tree,
-    units: &U,
-    process: u32,
-    ready: u32,
-) -> Result<Option<Outcome>, NoMemory>
-    requires machine { machine.old.tree ≡ tree.now }
-    requires units { U.tree units.now ≡ tree.now }
+    step: (u32, u32),
+    outcomes: &mut List<Outcome>,
+) -> Result<(), NoMemory>
+    requires machine { machine.old.tree ≡ network.now.tree.now }
+    requires units { U.tree network.now.units.now ≡ network.now.tree.now }
     ensures tree { machine.new.tree ≡ machine.old.tree }
     ensures net { machine.new.net ≡ machine.old.net }
 {
+    let (process, ready) = step;
     assert!(rt; process < machine.size());
     assert!(rt; machine.can_step(process));
     assert!(rt; machine.fired() < 100);
-    let fired = machine.fire(alloc, tree, units, process)?;
+    let fired = machine.fire(alloc, network.tree, network.units, process)?;
     compare_ready(rt, machine, ready);
-    Ok(fired.emitted)
+    if let Some(outcome) = fired.emitted {
+        outcomes.push(outcome)?;
+    }
+    Ok(())
 }
 
 /// Offers an item of the root's in words.
-pub fn offer(
+fn offer(
     rt: &impl Abort,
     alloc: Global,
     machine: &mut Machine<'_>,
@@ -120,13 +131,13 @@ pub fn offer(
 
 /// Offers the first of these items, if the inbox is empty and there is one; gives those that are
 /// left.
-pub fn fill<'i>(
+fn fill<'i, 'w>(
     rt: &impl Abort,
     alloc: Global,
     machine: &mut Machine<'_>,
     tree: &Tree,
-    items: &'i [[i64; 2]],
-) -> Result<&'i [[i64; 2]], NoMemory>
+    items: &'i [&'w [i64]],
+) -> Result<&'i [&'w [i64]], NoMemory>
     requires { machine.old.tree ≡ tree.now }
     ensures tree { machine.new.tree ≡ machine.old.tree }
     ensures net { machine.new.net ≡ machine.old.net }
@@ -137,88 +148,49 @@ pub fn fill<'i>(
     let Some((item, rest)) = items.split_first() else {
         return Ok(items);
     };
-    offer(rt, alloc, machine, tree, item.as_slice())?;
+    offer(rt, alloc, machine, tree, item)?;
     Ok(rest)
 }
 
-/// Fires processes one after another, and offers an item before each where the inbox is empty;
-/// gives what was handed out.
-fn pass_all<U: Units>(
+/// Fires processes one after another, and offers an item before each where the inbox is empty; keeps
+/// what was handed out. Only the source can fire at first.
+fn pass<'t, U: Units>(
     rt: &impl Abort,
     alloc: Global,
-    machine: &mut Machine<'_>,
-    tree: &Tree,
-    units: &U,
-    items: &[[i64; 2]],
+    network: &Network<'t, U>,
+    machine: &mut Machine<'t>,
+    items: &[&[i64]],
     steps: &[(u32, u32)],
-) -> Result<List<Outcome>, NoMemory>
-    requires machine { machine.old.tree ≡ tree.now }
-    requires units { U.tree units.now ≡ tree.now }
+    outcomes: &mut List<Outcome>,
+) -> Result<(), NoMemory>
+    requires tree { machine.old.tree ≡ network.now.tree.now }
+    requires net { machine.old.net ≡ linked_net network.now.tree.now network.now.counts.now.list 1 }
+    requires units { U.tree network.now.units.now ≡ network.now.tree.now }
 {
-    let mut outcomes = List::new(alloc);
-    let mut left = items;
-    for (process, ready) in steps {
-        left = fill(rt, alloc, machine, tree, left)?;
-        if let Some(outcome) = fire(rt, alloc, machine, tree, units, *process, *ready)? {
-            outcomes.push(outcome)?;
-        }
-    }
-    Ok(outcomes)
-}
-
-/// What the network of a tree hands out of items under these picks, as `outcome_of`; each item is
-/// offered as soon as the inbox is empty.
-pub fn outcomes_of<U: Units>(
-    rt: &impl Abort,
-    alloc: Global,
-    tree: &Tree,
-    units: &U,
-    workers: &[u32],
-    items: &[[i64; 2]],
-    steps: &[(u32, u32)],
-) -> Result<List<Outcome>, NoMemory>
-    requires { U.tree units.now ≡ tree.now }
-{
-    let mut machine = machine_of(rt, alloc, tree, workers)?;
-    pass_all(rt, alloc, &mut machine, tree, units, items, steps)
-}
-
-/// Offers an item, and fires processes one after another; gives what the last of them handed out.
-fn pass<U: Units>(
-    rt: &impl Abort,
-    alloc: Global,
-    machine: &mut Machine<'_>,
-    tree: &Tree,
-    units: &U,
-    item: &[i64],
-    steps: &[(u32, u32)],
-) -> Result<Option<Outcome>, NoMemory>
-    requires machine { machine.old.tree ≡ tree.now }
-    requires empty { machine.old.inbox ≡ None }
-    requires units { U.tree units.now ≡ tree.now }
-{
-    offer(rt, alloc, machine, tree, item)?;
+    let mut left = fill(rt, alloc, machine, network.tree, items)?;
     compare_ready(rt, machine, 0b1);
-    let mut last = None;
-    for (process, ready) in steps {
-        last = fire(rt, alloc, machine, tree, units, *process, *ready)?;
+    for step in steps {
+        left = fill(rt, alloc, machine, network.tree, left)?;
+        if network.is_restored {
+            renew(rt, alloc, machine, network.tree, network.counts)?;
+        }
+        fire(rt, alloc, network, machine, *step, outcomes)?;
     }
-    Ok(last)
+    Ok(())
 }
 
-/// What the network of a tree makes of an item under these picks. After each of them is the set
-/// of the processes that can fire after it, as bits.
-pub fn outcome_of<U: Units>(
+/// Keeps what a network hands out of items under these picks. After each of them is the set of the
+/// processes that can fire after it, as bits. Each item is offered as soon as the inbox is empty.
+pub fn run<U: Units>(
     rt: &impl Abort,
     alloc: Global,
-    tree: &Tree,
-    units: &U,
-    workers: &[u32],
-    item: &[i64],
+    network: &Network<'_, U>,
+    items: &[&[i64]],
     steps: &[(u32, u32)],
-) -> Result<Option<Outcome>, NoMemory>
-    requires { U.tree units.now ≡ tree.now }
+    outcomes: &mut List<Outcome>,
+) -> Result<(), NoMemory>
+    requires { U.tree network.now.units.now ≡ network.now.tree.now }
 {
-    let mut machine = machine_of(rt, alloc, tree, workers)?;
-    pass(rt, alloc, &mut machine, tree, units, item, steps)
+    let mut machine = machine_of(rt, alloc, network.tree, network.counts)?;
+    pass(rt, alloc, network, &mut machine, items, steps, outcomes)
 }

@@ -1,7 +1,8 @@
 // The texts with which the program answers words that request help.
 
+use crate::lists::spelled_words;
 use p3l_help::all_pages;
-use std::process::Abort;
+use std::alloc::Global;
 use std::test::Fail;
 
 /// Each command, and what its help names: its values and options.
@@ -81,22 +82,34 @@ const REFUSALS: &str = "1 BadByte
 130 BadShot
 131 NotSound";
 
-/// Words that request the version.
-const FOR_THE_VERSION: &str = "--version x
--V run
-run -V
-gen --version
-help -V
-help version";
+/// Words with a bar between two, and what they request.
+const REQUESTS: &str = "--help => the list
+-h|run => the list
+help|--help => the list
+help|-h => the list
+help => the list
+--version|x => the version
+-V|run => the version
+run|-V => the version
+gen|--version => the version
+help|-V => the version
+help|version => the version
+run => nothing
+run|m.p3l => nothing
+walk|--help => nothing
+walk|-V => nothing
+help|walk => nothing
+help|7 => nothing
+m.p3l|help => nothing
+|-h => nothing
+help| => nothing
+fmt|--|--help => nothing
+help|run|fmt => nothing";
 
-/// Words that request nothing that there is.
-const FOR_NOTHING: &str = "run
-run m.p3l
-walk --help
-walk -V
-help walk
-help 7
-m.p3l help";
+/// What the program answers to a request for its version.
+const VERSION: &str = "p3l 0.1.0
+proved by rattle, logic dac8208d650f15bf
+";
 
 /// Whether a text has a line with this word, after these bytes and before a space.
 fn names(text: &str, before: &str, word: &str) -> bool {
@@ -138,40 +151,24 @@ fn page_on(topic: &str) -> &'static str {
     }
 }
 
-/// What two words are answered with.
-fn answer_to(words: &str) -> Option<&'static str> {
-    match words.split_once(' ') {
-        Some((first, second)) => all_pages().answer(&[first, second]),
-        None => all_pages().answer(&[words]),
-    }
-}
-
-/// The page of a command must name it in its usage and its example, and have a line for each of its
+/// Whether the page of a command names it in its usage and its example, and has a line for each of its
 /// words.
-fn names_its_words(rt: &impl Abort, command: &str, words: &str) {
+fn names_its_words(command: &str, words: &str) -> bool {
     let page = page_on(command);
-    assert!(rt; names(page, "usage: p3l ", command), "{command}");
-    assert!(rt; names(page, "example: p3l ", command), "{command}");
     for word in words.split(", ") {
-        assert!(rt; names(page, "  ", word), "{command} {word}");
+        if !names(page, "  ", word) {
+            return false;
+        }
     }
+    names(page, "usage: p3l ", command) && names(page, "example: p3l ", command)
 }
 
-/// Each way to request the page of a command must be answered with it.
-fn is_answered(rt: &impl Abort, command: &str) {
+/// Whether each way to request the page of a command is answered with it.
+fn is_answered(command: &str) -> bool {
     let page = all_pages().answer(&["help", command]);
-    assert!(rt;
-        all_pages().answer(&[command, "--help", "more"]) == page,
-        "{command}"
-    );
-    assert!(rt;
-        all_pages().answer(&[command, "m.p3l", "-h"]) == page,
-        "{command}"
-    );
-    assert!(rt;
-        all_pages().answer(&[command, "-h", "--version"]) == page,
-        "{command}"
-    );
+    all_pages().answer(&[command, "--help", "more"]) == page
+        && all_pages().answer(&[command, "m.p3l", "-h"]) == page
+        && all_pages().answer(&[command, "-h", "--version"]) == page
 }
 
 #[test]
@@ -179,21 +176,12 @@ fn each_command_has_a_page_and_its_line_in_the_list(rt: HostRuntime) -> Result<(
     let list = page_on("help");
     for row in COMMANDS.lines() {
         let (command, words) = row.split_once(": ").ok_or("no words")?;
-        names_its_words(&rt, command, words);
-        is_answered(&rt, command);
-        assert!(rt; names(list, "  ", command), "{command}");
+        assert!(rt;
+            names_its_words(command, words) && is_answered(command) && names(list, "  ", command),
+            "{command}"
+        );
     }
     Ok(())
-}
-
-#[test]
-fn words_for_the_help_of_the_program_are_answered_with_it(rt: HostRuntime) {
-    let list = all_pages().answer(&["--help"]);
-    assert!(rt; list == Some(page_on("help")));
-    assert!(rt; answer_to("-h run") == list);
-    assert!(rt; answer_to("help --help") == list);
-    assert!(rt; answer_to("help -h") == list);
-    assert!(rt; answer_to("help") == list);
 }
 
 /// The page of a number of refusal begins with it and the name that the program prints after it, and
@@ -220,22 +208,27 @@ fn other_topics_have_a_page(rt: HostRuntime) {
     assert!(rt; begins_a_line(page_on("language"), title));
 }
 
-#[test]
-fn the_version_is_given(rt: HostRuntime) {
-    let version = "p3l 0.1.0\nproved by rattle, logic dac8208d650f15bf\n";
-    for words in FOR_THE_VERSION.lines() {
-        assert!(rt; answer_to(words) == Some(version), "{words}");
+/// What must be answered to a request.
+fn text_of(requested: &str) -> Option<&'static str> {
+    match requested {
+        "the list" => Some(page_on("help")),
+        "the version" => Some(VERSION),
+        _ => None,
     }
 }
 
+/// Whether these words, with a bar between two, are answered with what they request.
+fn get(alloc: Global, words: &str, requested: &str) -> Result<bool, Fail> {
+    let words = spelled_words(alloc, words)?;
+    Ok(all_pages().answer(words.as_slice()) == text_of(requested))
+}
+
 #[test]
-fn other_words_get_no_page(rt: HostRuntime) {
-    for words in FOR_NOTHING.lines() {
-        assert!(rt; answer_to(words).is_none(), "{words}");
+fn words_are_answered_with_what_they_request(rt: HostRuntime) -> Result<(), Fail> {
+    for row in REQUESTS.lines() {
+        let (words, requested) = row.split_once(" => ").ok_or("no request")?;
+        assert!(rt; get(rt.alloc(), words, requested)?, "{words}");
     }
     assert!(rt; all_pages().answer(&[]).is_none());
-    assert!(rt; all_pages().answer(&["", "-h"]).is_none());
-    assert!(rt; all_pages().answer(&["help", ""]).is_none());
-    assert!(rt; all_pages().answer(&["fmt", "--", "--help"]).is_none());
-    assert!(rt; all_pages().answer(&["help", "run", "fmt"]).is_none());
+    Ok(())
 }

@@ -1,58 +1,64 @@
 // The file system, a reader to its end, and the standard streams.
 
+use crate::lists::{is_read, takes};
 use p3l_base::List;
 use p3l_host::{HostErr, HostFiles, HostIn, HostOut, Output, SinkAfter, SourceAfter};
-use p3l_io::{Failed, FileFault, Files, MemFiles, MemSink, Sink, Source, WriteFault};
+use p3l_io::{Failed, FileFault, Files, MemSink, Sink, Source, WriteFault};
+use std::alloc::Global;
 use std::cell::Cell;
 use std::io::{ErrorKind, Read, Write};
 use std::test::Fail;
 use std::{fs, io};
 
+/// Whether a file is written, written again by fewer bytes, and read back within a limit.
+fn are_kept<F: Files>(alloc: Global, files: &mut F, name: &str) -> bool {
+    files.write(alloc, name, b"longer than it will be").is_ok()
+        && files.write(alloc, name, b"abc").is_ok()
+        && is_read(alloc, files, name, 3, Ok(b"abc"))
+        && is_read(alloc, files, name, 2, Err(FileFault::TooLong))
+}
+
+/// Whether faults are reported: of files that can't be opened, and after the opening of others.
+fn report_faults<F: Files>(alloc: Global, files: &mut F) -> bool {
+    let nowhere = "p3l_host_no_such_directory/file";
+    is_read(
+        alloc,
+        files,
+        "p3l_host_no_such_file",
+        9,
+        Err(FileFault::Failed),
+    ) && files.write(alloc, nowhere, b"abc") == Err(WriteFault::Failed)
+        && is_read(alloc, files, ".", 9, Err(FileFault::Failed))
+        && files.write(alloc, "/dev/full", b"abc") == Err(WriteFault::Failed)
+}
+
 #[test]
 fn files_are_written_and_read_back(rt: HostRuntime) -> Result<(), Fail> {
-    let alloc = rt.alloc();
-    let output = Output::new(alloc, rt.stdout())?;
-    let mut files = HostFiles::new(&rt, &output);
     let name = "files_are_written_and_read_back.tmp";
-    assert_eq!(rt; files.write(alloc, name, b"longer than it will be"), Ok(()));
-    assert_eq!(rt; files.write(alloc, name, b"abc"), Ok(()));
-    assert_eq!(rt;
-        files
-            .read(alloc, name, 3)
-            .ok()
-            .map(|bytes| bytes.as_slice() == b"abc".as_slice()),
-        Some(true)
-    );
-    assert_eq!(rt; files.read(alloc, name, 2).err(), Some(FileFault::TooLong));
-    assert_eq!(rt;
-        files.read(alloc, "p3l_host_no_such_file", 9).err(),
-        Some(FileFault::Failed)
-    );
-    assert_eq!(rt;
-        files.write(alloc, "p3l_host_no_such_directory/file", b"abc"),
-        Err(WriteFault::Failed)
-    );
+    let output = Output::new(rt.alloc(), rt.stdout())?;
+    let mut files = HostFiles::new(&rt, &output);
+    assert!(rt; are_kept(rt.alloc(), &mut files, name));
+    assert!(rt; report_faults(rt.alloc(), &mut files));
     fs::remove_file(&rt, name)?;
     Ok(())
+}
+
+/// Whether a line is put to the output and another one to the error.
+fn put_lines<W: Write + Drop, E: Write + Drop>(output: &Output<W>, error: E) -> bool {
+    let mut error = HostErr::new(error);
+    HostOut::new(output).put(b"written to the output\n").is_ok()
+        && output.flush().is_ok()
+        && error.put(b"written to the error\n").is_ok()
 }
 
 #[test]
 fn streams_take_and_put(rt: HostRuntime) -> Result<(), Fail> {
     let mut input = HostIn::new(b"ab".as_slice());
     let mut buf = [0u8; 8];
-    assert_eq!(rt; input.take(&mut buf), Ok(2));
-    assert_eq!(rt; buf.as_slice(), b"ab\0\0\0\0\0\0".as_slice());
-    assert_eq!(rt; input.take(&mut buf), Ok(0));
+    assert!(rt; takes(&mut input, &mut buf, Some(2), b"ab\0\0\0\0\0\0"));
+    assert!(rt; takes(&mut input, &mut buf, Some(0), b"ab\0\0\0\0\0\0"));
     let output = Output::new(rt.alloc(), rt.stdout())?;
-    assert_eq!(rt;
-        HostOut::new(&output).put(b"written to the output\n"),
-        Ok(())
-    );
-    assert_eq!(rt; output.flush(), Ok(()));
-    assert_eq!(rt;
-        HostErr::new(rt.stderr()).put(b"written to the error\n"),
-        Ok(())
-    );
+    assert!(rt; put_lines(&output, rt.stderr()));
     Ok(())
 }
 
@@ -96,26 +102,12 @@ impl Write for Faulty {
 }
 
 #[test]
-fn interrupted_calls_are_made_again_and_faults_are_reported(rt: HostRuntime) -> Result<(), Fail> {
+fn interrupted_calls_are_made_again_and_faults_are_reported(rt: HostRuntime) {
     let mut input = HostIn::new(Faulty { calls: 0 });
     let mut buf = [0u8; 8];
-    assert_eq!(rt; input.take(&mut buf), Ok(1));
-    assert_eq!(rt; input.take(&mut buf), Err(Failed));
-    assert_eq!(rt; HostErr::new(Faulty { calls: 0 }).put(b"ab"), Err(Failed));
-    Ok(())
-}
-
-#[test]
-fn faults_after_the_opening_of_a_file_are_reported(rt: HostRuntime) -> Result<(), Fail> {
-    let alloc = rt.alloc();
-    let output = Output::new(alloc, rt.stdout())?;
-    let mut files = HostFiles::new(&rt, &output);
-    assert_eq!(rt; files.read(alloc, ".", 9).err(), Some(FileFault::Failed));
-    assert_eq!(rt;
-        files.write(alloc, "/dev/full", b"abc"),
-        Err(WriteFault::Failed)
-    );
-    Ok(())
+    assert!(rt; takes(&mut input, &mut buf, Some(1), b"a\0\0\0\0\0\0\0"));
+    assert!(rt; takes(&mut input, &mut buf, None, b"a\0\0\0\0\0\0\0"));
+    assert!(rt; HostErr::new(Faulty { calls: 0 }).put(b"ab") == Err(Failed));
 }
 
 /// How many bytes a writer was given in how many calls, and how many it takes until it fails.
@@ -180,10 +172,10 @@ fn read_after(output: &Output<Accountant>) -> Result<usize, Failed> {
     input.take(&mut buf)
 }
 
-/// What a line of the standard error answers that comes after an output.
-fn line_after(rt: &HostRuntime, output: &Output<Accountant>) -> Result<Result<(), Failed>, Fail> {
+/// Whether a line of the standard error is put that comes after an output.
+fn puts_a_line(rt: &HostRuntime, output: &Output<Accountant>) -> Result<bool, Fail> {
     let sink = MemSink::new(rt.alloc(), 9, List::new(rt.alloc()))?;
-    Ok(SinkAfter::new(sink, output).put(b"an error"))
+    Ok(SinkAfter::new(sink, output).put(b"an error").is_ok())
 }
 
 /// What the writing of a file answers that comes after an output.
@@ -191,21 +183,28 @@ fn file_after(rt: &HostRuntime, output: &Output<Accountant>, name: &str) -> Resu
     HostFiles::new(rt, output).write(rt.alloc(), name, b"a file")
 }
 
+/// Whether all that was put on an output is written before each of what comes after it.
+fn is_written_before(
+    rt: &HostRuntime,
+    output: &Output<Accountant>,
+    account: &Account,
+    name: &str,
+) -> Result<bool, Fail> {
+    let is_gathered = HostOut::new(output).put(b"two\n").is_ok() && account.counts() == (0, 0);
+    let before_a_read = read_after(output) == Ok(2) && account.counts() == (8, 1);
+    let _ = output.put(b"three\n");
+    let before_a_line = puts_a_line(rt, output)? && account.counts() == (14, 2);
+    let _ = output.put(b"four\n");
+    let before_a_file = file_after(rt, output, name) == Ok(()) && account.counts() == (19, 3);
+    Ok(is_gathered && before_a_read && before_a_line && before_a_file)
+}
+
 #[test]
 fn output_is_gathered_until_something_comes_after_it(rt: HostRuntime) -> Result<(), Fail> {
     let name = "output_is_gathered.tmp";
     let account = Account::new(1_000_000);
     let output = gathered(&rt, &account)?;
-    assert_eq!(rt; HostOut::new(&output).put(b"two\n"), Ok(()));
-    assert_eq!(rt; account.counts(), (0, 0));
-    assert_eq!(rt; read_after(&output), Ok(2));
-    assert_eq!(rt; account.counts(), (8, 1));
-    let _ = output.put(b"three\n");
-    assert_eq!(rt; line_after(&rt, &output)?, Ok(()));
-    assert_eq!(rt; account.counts(), (14, 2));
-    let _ = output.put(b"four\n");
-    assert_eq!(rt; file_after(&rt, &output, name), Ok(()));
-    assert_eq!(rt; account.counts(), (19, 3));
+    assert!(rt; is_written_before(&rt, &output, &account, name)?);
     fs::remove_file(&rt, name)?;
     Ok(())
 }
@@ -217,49 +216,53 @@ fn output_is_gathered_until_it_is_full(rt: HostRuntime) -> Result<(), Fail> {
     for _ in 0..20_000u32 {
         let _ = output.put(b"gathered\n");
     }
-    assert_eq!(rt; account.calls.get(), 2);
-    assert_eq!(rt; output.flush(), Ok(()));
-    assert_eq!(rt; account.counts(), (180_004, 3));
+    assert!(rt; account.calls.get() == 2);
+    assert!(rt; output.flush() == Ok(()) && account.counts() == (180_004, 3));
     Ok(())
+}
+
+/// Whether an output whose write fails reports it by each call after that of a read.
+fn reports_each_time(rt: &HostRuntime, output: &Output<Accountant>) -> Result<bool, Fail> {
+    let is_read_from = read_after(output) == Ok(2);
+    let is_put = output.put(b"t").is_ok() || puts_a_line(rt, output)?;
+    let mut files = HostFiles::new(rt, output);
+    let fails_for_files = files.write(rt.alloc(), "name", b"a file") == Err(WriteFault::Failed)
+        && is_read(rt.alloc(), &mut files, "name", 9, Err(FileFault::Failed));
+    Ok(is_read_from && !is_put && fails_for_files && output.flush() == Err(Failed))
 }
 
 #[test]
 fn failed_write_is_reported_by_each_later_call(rt: HostRuntime) -> Result<(), Fail> {
     let account = Account::new(3);
     let output = gathered(&rt, &account)?;
-    assert_eq!(rt; read_after(&output), Ok(2));
-    assert_eq!(rt; output.put(b"t"), Err(Failed));
-    assert_eq!(rt; line_after(&rt, &output)?, Err(Failed));
-    assert_eq!(rt; file_after(&rt, &output, "name"), Err(WriteFault::Failed));
-    let found = HostFiles::new(&rt, &output).read(rt.alloc(), "name", 9);
-    assert_eq!(rt; found.err(), Some(FileFault::Failed));
-    assert_eq!(rt; output.flush(), Err(Failed));
-    assert_eq!(rt; account.counts(), (0, 0));
+    assert!(rt; reports_each_time(&rt, &output)?);
+    assert!(rt; account.counts() == (0, 0));
     Ok(())
 }
 
-/// What a piece answers for which there is no room beside what was gathered.
-fn piece_too_much(rt: &HostRuntime, account: &Account) -> Result<Result<(), Failed>, Fail> {
-    let output = gathered(rt, account)?;
-    Ok(output.put(&[b'1'; 65_533]))
+/// Whether an output reports the write that fails when this comes after what was gathered: a piece
+/// for which there is no room, a line of the standard error, a file or the end.
+fn reports(rt: &HostRuntime, output: &Output<Accountant>, what: &str) -> Result<bool, Fail> {
+    match what {
+        "a piece" => Ok(output.put(&[b'1'; 65_533]) == Err(Failed)),
+        "a line" => Ok(!puts_a_line(rt, output)?),
+        "a file" => Ok(file_after(rt, output, "name") == Err(WriteFault::Failed)),
+        _ => Ok(output.flush() == Err(Failed)),
+    }
 }
 
-/// What the end answers, at which what was gathered is written.
-fn end_after(rt: &HostRuntime, account: &Account) -> Result<Result<(), Failed>, Fail> {
+/// The same of a new output into this account.
+fn reports_anew(rt: &HostRuntime, account: &Account, what: &str) -> Result<bool, Fail> {
     let output = gathered(rt, account)?;
-    Ok(output.flush())
+    reports(rt, &output, what)
 }
 
 #[test]
 fn failed_write_is_reported_whenever_it_is_made(rt: HostRuntime) -> Result<(), Fail> {
     let account = Account::new(0);
-    assert_eq!(rt; piece_too_much(&rt, &account)?, Err(Failed));
-    let before_a_line = gathered(&rt, &account)?;
-    assert_eq!(rt; line_after(&rt, &before_a_line)?, Err(Failed));
-    let before_a_file = gathered(&rt, &account)?;
-    let answer = file_after(&rt, &before_a_file, "name");
-    assert_eq!(rt; answer, Err(WriteFault::Failed));
-    assert_eq!(rt; end_after(&rt, &account)?, Err(Failed));
-    assert_eq!(rt; account.counts(), (0, 0));
+    for what in ["a piece", "a line", "a file", "the end"] {
+        assert!(rt; reports_anew(&rt, &account, what)?, "{what}");
+    }
+    assert!(rt; account.counts() == (0, 0));
     Ok(())
 }

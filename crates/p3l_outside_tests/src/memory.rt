@@ -1,29 +1,45 @@
 // The objects in memory: pieces, room, and calls that fail.
 
-use crate::lists::list;
-use p3l_io::{FileFault, Files, MemFiles, MemSink, MemSource, PutFail, Sink, Source, WriteFault};
+use crate::lists::{is_read, list, takes};
+use p3l_io::{FileFault, Files, MemFiles, MemSink, MemSource, PutFail, Sink, WriteFault};
+use std::alloc::Global;
 use std::test::Fail;
+
+/// Whether seven letters are taken in pieces of three, by takings of which two fail.
+fn gives_pieces(source: &mut MemSource) -> bool {
+    let mut buf = [0u8; 4];
+    takes(source, &mut buf, Some(3), b"abc\0")
+        && takes(source, &mut buf, None, b"abc\0")
+        && takes(source, &mut buf, Some(3), b"def\0")
+        && takes(source, &mut buf, Some(1), b"gef\0")
+        && takes(source, &mut buf, Some(0), b"gef\0")
+        && takes(source, &mut buf, None, b"gef\0")
+        && takes(source, &mut buf, Some(0), b"gef\0")
+}
 
 #[test]
 fn a_source_gives_pieces_and_fails_by_number(rt: HostRuntime) -> Result<(), Fail> {
     let bytes = list(rt.alloc(), b"abcdefg".as_slice())?;
-    let mut source = MemSource::new(bytes, 3, list(rt.alloc(), [2, 6].as_slice())?);
-    let mut buf = [0u8; 4];
-    let table: [(Option<usize>, [u8; 4]); 7] = [
-        (Some(3), [97, 98, 99, 0]),
-        (None, [97, 98, 99, 0]),
-        (Some(3), [100, 101, 102, 0]),
-        (Some(1), [103, 101, 102, 0]),
-        (Some(0), [103, 101, 102, 0]),
-        (None, [103, 101, 102, 0]),
-        (Some(0), [103, 101, 102, 0]),
-    ];
-    for (count, content) in table {
-        assert_eq!(rt; source.take(&mut buf).ok(), count);
-        assert_eq!(rt; buf.as_slice(), content.as_slice());
-    }
-    assert_eq!(rt; source.calls(), 7);
+    let fails = list(rt.alloc(), [2, 6].as_slice())?;
+    let mut source = MemSource::new(bytes, 3, fails);
+    assert!(rt; gives_pieces(&mut source));
+    assert!(rt; source.calls() == 7);
     Ok(())
+}
+
+/// Whether a putting is done, or fails, and these bytes are in the sink after it.
+fn puts(sink: &mut MemSink, piece: &[u8], done: bool, taken: &[u8]) -> bool {
+    sink.put(piece).is_ok() == done && sink.taken() == taken
+}
+
+/// Whether the second putting and the third fail, and the last bytes have no room.
+fn has_room(sink: &mut MemSink) -> bool {
+    puts(sink, b"ab", true, b"ab")
+        && puts(sink, b"cd", false, b"abc")
+        && puts(sink, b"ef", false, b"abcef")
+        && puts(sink, b"ghi", true, b"abcefghi")
+        && puts(sink, b"jkl", false, b"abcefghijk")
+        && puts(sink, b"", true, b"abcefghijk")
 }
 
 #[test]
@@ -33,45 +49,36 @@ fn a_sink_puts_a_front_by_its_first_entry_and_has_room(rt: HostRuntime) -> Resul
         PutFail { call: 2, prefix: 3 },
         PutFail { call: 3, prefix: 9 },
     ];
-    let mut sink = MemSink::new(rt.alloc(), 10, list(rt.alloc(), fails.as_slice())?)?;
-    let table: [(&[u8], bool, &[u8]); 6] = [
-        (b"ab", true, b"ab"),
-        (b"cd", false, b"abc"),
-        (b"ef", false, b"abcef"),
-        (b"ghi", true, b"abcefghi"),
-        (b"jkl", false, b"abcefghijk"),
-        (b"", true, b"abcefghijk"),
-    ];
-    for (piece, done, taken) in table {
-        assert_eq!(rt; sink.put(piece).is_ok(), done);
-        assert_eq!(rt; sink.taken(), taken);
-    }
+    let fails = list(rt.alloc(), fails.as_slice())?;
+    let mut sink = MemSink::new(rt.alloc(), 10, fails)?;
+    assert!(rt; has_room(&mut sink));
     Ok(())
+}
+
+/// Whether files answer these calls, of which the fourth and the sixth fail.
+fn answers_calls(alloc: Global, files: &mut MemFiles) -> bool {
+    is_read(alloc, files, "one", 3, Ok(b"abc"))
+        && is_read(alloc, files, "one", 2, Err(FileFault::TooLong))
+        && is_read(alloc, files, "two", 9, Err(FileFault::Failed))
+        && files.write(alloc, "two", b"x") == Err(WriteFault::Failed)
+        && files.write(alloc, "two", b"y").is_ok()
+        && is_read(alloc, files, "one", 3, Err(FileFault::Failed))
+        && files.write(alloc, "one", b"zz").is_ok()
+}
+
+/// Whether files have these bytes after such calls.
+fn has_what_was_written(files: &MemFiles) -> bool {
+    files.get("one") == Some(b"zz".as_slice())
+        && files.get("two") == Some(b"y".as_slice())
+        && files.get("three").is_none()
 }
 
 #[test]
 fn files_are_read_and_written_by_name(rt: HostRuntime) -> Result<(), Fail> {
-    let alloc = rt.alloc();
-    let mut files = MemFiles::new(alloc, list(alloc, [4, 6].as_slice())?);
+    let fails = list(rt.alloc(), [4, 6].as_slice())?;
+    let mut files = MemFiles::new(rt.alloc(), fails);
     files.add("one", b"abc")?;
-    assert_eq!(rt; files.read(alloc, "one", 3).map(|bytes| bytes.len()), Ok(3));
-    assert_eq!(rt;
-        files.read(alloc, "one", 2).map(|bytes| bytes.len()),
-        Err(FileFault::TooLong)
-    );
-    assert_eq!(rt;
-        files.read(alloc, "two", 9).map(|bytes| bytes.len()),
-        Err(FileFault::Failed)
-    );
-    assert_eq!(rt; files.write(alloc, "two", b"x"), Err(WriteFault::Failed));
-    assert_eq!(rt; files.write(alloc, "two", b"y"), Ok(()));
-    assert_eq!(rt;
-        files.read(alloc, "one", 3).map(|bytes| bytes.len()),
-        Err(FileFault::Failed)
-    );
-    assert_eq!(rt; files.write(alloc, "one", b"zz"), Ok(()));
-    assert_eq!(rt; files.get("one"), Some(b"zz".as_slice()));
-    assert_eq!(rt; files.get("two"), Some(b"y".as_slice()));
-    assert_eq!(rt; files.get("three"), None);
+    assert!(rt; answers_calls(rt.alloc(), &mut files));
+    assert!(rt; has_what_was_written(&files));
     Ok(())
 }

@@ -1,11 +1,11 @@
 // Words that spell commands, and words that spell none.
 
+use crate::lists::spelled_words;
 use p3l_base::Name;
 use p3l_opts::{Build, Command, OptsRefusal, Sched, parse};
 use std::alloc::Global;
 use std::fmt;
 use std::fmt::{Display, Formatter};
-use std::process::Abort;
 use std::test::Fail;
 
 /// Words with a bar between two, and the command that they spell.
@@ -50,7 +50,9 @@ save|--output=s|--schedule=file:|--capacity=1|--processors=512|--costs=c|m => sa
 save|m|--schedule=file:rr|--processors=1|--output|m => save m 1 - 4 rr m
 resume|s => resume s rr false
 resume|--stats|s|--schedule|seed:7 => resume s seed:7 true
-resume|--schedule=file:p|--|--odd => resume --odd file:p false";
+resume|--schedule=file:p|--|--odd => resume --odd file:p false
+fmt| => fmt\x20
+run|a b|--processors|99 => run a b 99 - 4 rr - false";
 
 /// Words with a bar between two, which spell no command.
 const NO_COMMANDS: &str = "walk
@@ -131,181 +133,219 @@ resume|s|--processors|4
 resume|s|--trace|t
 resume|s|--output|t
 resume|s|--schedule|seed:
-resume|s|--stats|--stats";
+resume|s|--stats|--stats
+
+run|m.p3l|--processors|4\x20";
 
 /// A command as a text: its values in their order, and a hyphen for a name that isn't there.
 #[derive(Clone, Copy)]
 struct Shown<'a>(&'a Command);
 
-/// How a network is built: the program, the processors, the costs and the capacity.
+/// A value of a command, with a blank before it.
 #[derive(Clone, Copy)]
-struct Built<'a>(&'a Build);
+enum Value<'a> {
+    Text(&'a str),
+    Number(u32),
+    /// How picks are made, as the words have it.
+    Picks(&'a Sched),
+    /// How a network is built: the program, the processors, the costs and the capacity.
+    Build(&'a Build),
+    /// No value, where a command has fewer than others.
+    Nothing,
+}
 
-/// How picks are made, as the words have it.
-#[derive(Clone, Copy)]
-struct Picks<'a>(&'a Sched);
+/// A name that is there.
+fn text(name: &Name) -> Value<'_> {
+    Value::Text(name.as_str())
+}
 
 /// A name, or a hyphen.
-#[derive(Clone, Copy)]
-struct OrHyphen<'a>(&'a Option<Name>);
+fn or_hyphen(name: &Option<Name>) -> Value<'_> {
+    match name {
+        Some(name) => text(name),
+        None => Value::Text("-"),
+    }
+}
+
+/// Whether something is requested.
+fn flag(requested: bool) -> Value<'static> {
+    Value::Text(if requested { "true" } else { "false" })
+}
+
+/// The name of a command, and its values.
+fn values_of(command: &Command) -> (&'static str, [Value<'_>; 5]) {
+    let no = Value::Nothing;
+    match command {
+        Command::Check(program) => ("check", [text(program), no, no, no, no]),
+        Command::Fmt(program) => ("fmt", [text(program), no, no, no, no]),
+        Command::Explain(build, cert) => {
+            (
+                "explain",
+                [Value::Build(build), or_hyphen(cert), no, no, no],
+            )
+        }
+        Command::Compile(build, output) => {
+            ("compile", [Value::Build(build), text(output), no, no, no])
+        }
+        Command::Run(build, sched, trace, stats) => {
+            let picks = Value::Picks(sched);
+            (
+                "run",
+                [
+                    Value::Build(build),
+                    picks,
+                    or_hyphen(trace),
+                    flag(*stats),
+                    no,
+                ],
+            )
+        }
+        Command::Exec(image, sched, trace, stats) => {
+            let picks = Value::Picks(sched);
+            (
+                "exec",
+                [text(image), picks, or_hyphen(trace), flag(*stats), no],
+            )
+        }
+        Command::Migrate(image, output) => ("migrate", [text(image), text(output), no, no, no]),
+        Command::Graph(build) => ("graph", [Value::Build(build), no, no, no, no]),
+        Command::VerifyCert(program, cert, costs) => {
+            (
+                "verify-cert",
+                [text(program), text(cert), or_hyphen(costs), no, no],
+            )
+        }
+        Command::CheckTrace(build, trace) => {
+            (
+                "check-trace",
+                [Value::Build(build), text(trace), no, no, no],
+            )
+        }
+        Command::Gen(number, processors, items, sched, save) => {
+            let processors = Value::Number(*processors);
+            let items = Value::Number(*items);
+            let picks = Value::Picks(sched);
+            (
+                "gen",
+                [
+                    Value::Number(*number),
+                    processors,
+                    items,
+                    picks,
+                    or_hyphen(save),
+                ],
+            )
+        }
+        Command::Rewrite(program, processors, costs) => {
+            let processors = Value::Number(*processors);
+            (
+                "rewrite",
+                [text(program), processors, or_hyphen(costs), no, no],
+            )
+        }
+        Command::Profile(program) => ("profile", [text(program), no, no, no, no]),
+        Command::Time(build, picks) => {
+            ("time", [Value::Build(build), or_hyphen(picks), no, no, no])
+        }
+        Command::Scan(program, segments, sched, capacity, stats) => {
+            let segments = Value::Number(*segments);
+            let capacity = Value::Number(*capacity);
+            (
+                "scan",
+                [
+                    text(program),
+                    segments,
+                    Value::Picks(sched),
+                    capacity,
+                    flag(*stats),
+                ],
+            )
+        }
+        Command::Save(build, picks, output) => {
+            (
+                "save",
+                [Value::Build(build), text(picks), text(output), no, no],
+            )
+        }
+        Command::Resume(snapshot, sched, stats) => {
+            (
+                "resume",
+                [text(snapshot), Value::Picks(sched), flag(*stats), no, no],
+            )
+        }
+    }
+}
 
 impl<'a> Display for Shown<'a> {
     fn fmt<W: fmt::Write>(&self, f: &mut Formatter<W>) -> fmt::Result {
-        match self.0 {
-            Command::Check(program) => write!(f, "check {}", program.as_str()),
-            Command::Fmt(program) => write!(f, "fmt {}", program.as_str()),
-            Command::Explain(build, cert) => {
-                write!(f, "explain {} {}", Built(build), OrHyphen(cert))
-            }
-            Command::Compile(build, output) => {
-                write!(f, "compile {} {}", Built(build), output.as_str())
-            }
-            Command::Run(build, schedule, trace, stats) => {
-                let trace = OrHyphen(trace);
-                write!(
-                    f,
-                    "run {} {} {trace} {stats}",
-                    Built(build),
-                    Picks(schedule)
-                )
-            }
-            Command::Exec(image, schedule, trace, stats) => {
-                let trace = OrHyphen(trace);
-                write!(
-                    f,
-                    "exec {} {} {trace} {stats}",
-                    image.as_str(),
-                    Picks(schedule)
-                )
-            }
-            Command::Migrate(image, output) => {
-                write!(f, "migrate {} {}", image.as_str(), output.as_str())
-            }
-            Command::Graph(build) => write!(f, "graph {}", Built(build)),
-            Command::VerifyCert(program, cert, costs) => {
-                let costs = OrHyphen(costs);
-                write!(
-                    f,
-                    "verify-cert {} {} {costs}",
-                    program.as_str(),
-                    cert.as_str()
-                )
-            }
-            Command::CheckTrace(build, trace) => {
-                write!(f, "check-trace {} {}", Built(build), trace.as_str())
-            }
-            Command::Gen(number, processors, items, schedule, save) => {
-                let save = OrHyphen(save);
-                write!(
-                    f,
-                    "gen {number} {processors} {items} {} {save}",
-                    Picks(schedule)
-                )
-            }
-            Command::Rewrite(program, processors, costs) => {
-                write!(
-                    f,
-                    "rewrite {} {processors} {}",
-                    program.as_str(),
-                    OrHyphen(costs)
-                )
-            }
-            Command::Profile(program) => write!(f, "profile {}", program.as_str()),
-            Command::Time(build, picks) => {
-                write!(f, "time {} {}", Built(build), OrHyphen(picks))
-            }
-            Command::Scan(program, segments, schedule, capacity, stats) => {
-                let picks = Picks(schedule);
-                write!(
-                    f,
-                    "scan {} {segments} {picks} {capacity} {stats}",
-                    program.as_str()
-                )
-            }
-            Command::Save(build, picks, output) => {
-                write!(
-                    f,
-                    "save {} {} {}",
-                    Built(build),
-                    picks.as_str(),
-                    output.as_str()
-                )
-            }
-            Command::Resume(snapshot, schedule, stats) => {
-                write!(
-                    f,
-                    "resume {} {} {stats}",
-                    snapshot.as_str(),
-                    Picks(schedule)
-                )
-            }
+        let (name, values) = values_of(self.0);
+        f.write_str(name)?;
+        for value in values {
+            write!(f, "{value}")?;
+        }
+        Ok(())
+    }
+}
+
+impl<'a> Display for Value<'a> {
+    fn fmt<W: fmt::Write>(&self, f: &mut Formatter<W>) -> fmt::Result {
+        match self {
+            Value::Text(text) => write!(f, " {text}"),
+            Value::Number(number) => write!(f, " {number}"),
+            Value::Picks(sched) => show_picks(sched, f),
+            Value::Build(build) => show_build(build, f),
+            Value::Nothing => Ok(()),
         }
     }
 }
 
-impl<'a> Display for Built<'a> {
-    fn fmt<W: fmt::Write>(&self, f: &mut Formatter<W>) -> fmt::Result {
-        let program = self.0.program.as_str();
-        let processors = self.0.processors;
-        let capacity = self.0.capacity;
-        write!(
-            f,
-            "{program} {processors} {} {capacity}",
-            OrHyphen(&self.0.costs)
-        )
+/// Writes how a network is built.
+fn show_build<W: fmt::Write>(build: &Build, f: &mut Formatter<W>) -> fmt::Result {
+    let program = build.program.as_str();
+    let processors = build.processors;
+    let costs = match &build.costs {
+        Some(costs) => costs.as_str(),
+        None => "-",
+    };
+    let capacity = build.capacity;
+    write!(f, " {program} {processors} {costs} {capacity}")
+}
+
+/// Writes how picks are made.
+fn show_picks<W: fmt::Write>(sched: &Sched, f: &mut Formatter<W>) -> fmt::Result {
+    match sched {
+        Sched::RoundRobin => f.write_str(" rr"),
+        Sched::Seeded(seed) => write!(f, " seed:{seed}"),
+        Sched::File(name) => write!(f, " file:{}", name.as_str()),
     }
 }
 
-impl<'a> Display for Picks<'a> {
-    fn fmt<W: fmt::Write>(&self, f: &mut Formatter<W>) -> fmt::Result {
-        match self.0 {
-            Sched::RoundRobin => f.write_str("rr"),
-            Sched::Seeded(seed) => write!(f, "seed:{seed}"),
-            Sched::File(name) => write!(f, "file:{}", name.as_str()),
-        }
+/// Whether a command is shown as this text.
+fn is_shown(alloc: Global, command: &Command, text: &str) -> Result<bool, Fail> {
+    let shown = format!(in alloc; "{}", Shown(command))?;
+    Ok(shown.as_str() == text)
+}
+
+/// Whether the words of a text spell this command.
+fn are_spelled(alloc: Global, text: &str, command: &str) -> Result<bool, Fail> {
+    let words = spelled_words(alloc, text)?;
+    match parse(alloc, words.as_slice()) {
+        Ok(parsed) => is_shown(alloc, &parsed, command),
+        Err(_) => Ok(false),
     }
 }
 
-impl<'a> Display for OrHyphen<'a> {
-    fn fmt<W: fmt::Write>(&self, f: &mut Formatter<W>) -> fmt::Result {
-        match self.0 {
-            Some(name) => f.write_str(name.as_str()),
-            None => f.write_str("-"),
-        }
-    }
-}
-
-/// The words of a text that has a bar between two.
-fn words_of<'a>(alloc: Global, text: &'a str) -> Result<Vec<&'a str>, Fail> {
-    let mut words = Vec::new(alloc);
-    for word in text.split('|') {
-        words.push(word)?;
-    }
-    Ok(words)
-}
-
-/// The words of a text must spell this command.
-fn spell(rt: &impl Abort, alloc: Global, text: &str, command: &str) -> Result<(), Fail> {
-    let words = words_of(alloc, text)?;
-    let parsed = parse(alloc, words.as_slice()).expect(rt, "the words spell a command");
-    let shown = format!(in alloc; "{}", Shown(&parsed))?;
-    assert_eq!(rt; shown.as_str(), command, "{text}");
-    Ok(())
-}
-
-/// The words of a text must spell no command.
-fn spell_none(rt: &impl Abort, alloc: Global, text: &str) -> Result<(), Fail> {
-    let words = words_of(alloc, text)?;
-    let refusal = parse(alloc, words.as_slice()).err();
-    assert_eq!(rt; refusal, Some(OptsRefusal::Usage), "{text}");
-    Ok(())
+/// Whether the words of a text spell no command.
+fn spell_none(alloc: Global, text: &str) -> Result<bool, Fail> {
+    let words = spelled_words(alloc, text)?;
+    Ok(parse(alloc, words.as_slice()).err() == Some(OptsRefusal::Usage))
 }
 
 #[test]
 fn words_spell_their_command(rt: HostRuntime) -> Result<(), Fail> {
     for row in COMMANDS.lines() {
         let (words, command) = row.split_once(" => ").ok_or("no command")?;
-        spell(&rt, rt.alloc(), words, command)?;
+        assert!(rt; are_spelled(rt.alloc(), words, command)?, "{words}");
     }
     Ok(())
 }
@@ -313,26 +353,8 @@ fn words_spell_their_command(rt: HostRuntime) -> Result<(), Fail> {
 #[test]
 fn faulty_words_spell_no_command(rt: HostRuntime) -> Result<(), Fail> {
     for row in NO_COMMANDS.lines() {
-        spell_none(&rt, rt.alloc(), row)?;
+        assert!(rt; spell_none(rt.alloc(), row)?, "{row}");
     }
+    assert!(rt; parse(rt.alloc(), &[]).err() == Some(OptsRefusal::Usage));
     Ok(())
-}
-
-#[test]
-fn blanks_and_empty_words_are_words(rt: HostRuntime) -> Result<(), Fail> {
-    let alloc = rt.alloc();
-    spell(&rt, alloc, "fmt|", "fmt ")?;
-    spell(
-        &rt,
-        alloc,
-        "run|a b|--processors|99",
-        "run a b 99 - 4 rr - false",
-    )?;
-    spell_none(&rt, alloc, "run|m.p3l|--processors|4 ")?;
-    spell_none(&rt, alloc, "")
-}
-
-#[test]
-fn no_words_spell_no_command(rt: HostRuntime) {
-    assert_eq!(rt; parse(rt.alloc(), &[]).err(), Some(OptsRefusal::Usage));
 }
