@@ -1,10 +1,15 @@
 // Runs of a network of three processes: 0 is the source, 1 the sink, and 2 runs the body.
 
-use crate::network::run_on;
+ghost use Rattle.std.specs.Prelude.{◌≡◌, ◌<◌, ◌^◌};
+ghost use Rattle.p3l_sketch.specs.OneNode.{one_node};
+ghost use Rattle.p3l_sched.specs.Picker.{NamesProcesses, recorded};
+
+use crate::network::{Sched, run_on, schedule_of};
 use p3l_base::List;
 use p3l_io::{MemSink, MemSource, PutFail};
 use p3l_run::{Keeping, Ran, RunEnd, RunFault, RunStats};
-use p3l_sched::{Schedule, read_picks};
+use p3l_sched::Schedule;
+use p3l_skel::Units;
 use p3l_sketch::{Echo, Refusing};
 use p3l_stream::Ending;
 use std::alloc::Global;
@@ -52,57 +57,37 @@ fn ending_shown(ending: Ending) -> &'static str {
     }
 }
 
+/// How a run ended whose lines are not kept, as a text.
+fn ended<U: Units>(
+    alloc: Global,
+    units: &U,
+    schedule: Schedule,
+    source: &mut MemSource,
+    sink: &mut MemSink,
+) -> Result<String, Fail>
+    requires units { U.tree units.now ≡ one_node }
+    requires named { NamesProcesses 3 schedule }
+    requires few { recorded schedule < 2 ^ 63 }
+{
+    let ran = run_on(alloc, units, schedule, Keeping::Nothing, source, sink);
+    shown(alloc, &ran)
+}
+
 /// A run on these bytes, given one by one, by a source that fails at these calls: how it ended,
 /// what was written, and how often the source was called.
 fn run_under(
     rt: &impl Abort,
     alloc: Global,
-    schedule: Sched,
+    sched: Sched,
     input: &[u8],
     fails: &[u64],
 ) -> Result<(String, Vec<u8>, u64), Fail> {
     let mut source = MemSource::new(list(alloc, input)?, 1, list(alloc, fails)?);
     let mut sink = MemSink::new(alloc, 1024, List::new(alloc))?;
-    let ran = match schedule {
-        Sched::Turns => run_on(
-            alloc,
-            &Echo,
-            Schedule::RoundRobin,
-            Keeping::Nothing,
-            &mut source,
-            &mut sink,
-        ),
-        Sched::Seed(seed) => run_on(
-            alloc,
-            &Echo,
-            Schedule::Seeded(seed),
-            Keeping::Nothing,
-            &mut source,
-            &mut sink,
-        ),
-        Sched::Picks(text) => {
-            let picks = read_picks(alloc, text, 3)?;
-            assert!(rt; picks.len() < 1000);
-            run_on(
-                alloc,
-                &Echo,
-                Schedule::Recorded(picks),
-                Keeping::Nothing,
-                &mut source,
-                &mut sink,
-            )
-        }
-    };
+    let schedule = schedule_of(rt, alloc, sched)?;
+    let how = ended(alloc, &Echo, schedule, &mut source, &mut sink)?;
     let written = sink.taken().to_vec(alloc)?;
-    Ok((shown(alloc, &ran)?, written, source.calls()))
-}
-
-/// A schedule of a table.
-#[derive(Clone, Copy)]
-enum Sched {
-    Turns,
-    Seed(u64),
-    Picks(&'static [u8]),
+    Ok((how, written, source.calls()))
 }
 
 #[test]
@@ -155,31 +140,21 @@ fn each_schedule_runs_item_by_item(rt: HostRuntime) -> Result<(), Fail> {
 
 #[test]
 fn no_item_is_requested_before_the_network_wants_it(rt: HostRuntime) -> Result<(), Fail> {
+    let alloc = rt.alloc();
     let lines: &[u8] = b"5\n5\n5\n5\n5\n5\n5\n5\n5\n5\n5\n5\n5\n5\n5\n5\n";
-    // Under the round robin, and by generators of four seeds.
-    let table: [(Option<u64>, &str, u64); 5] = [
-        (None, "2 4 0 6 trap 1 main", 6),
-        (Some(0), "1 3 0 3 trap 1 main", 4),
-        (Some(1), "2 5 0 6 trap 1 main", 6),
-        (Some(7), "5 7 0 15 trap 1 main", 12),
-        (Some(18446744073709551615), "3 7 0 9 trap 1 main", 8),
+    let table: [(Sched, &str, u64); 5] = [
+        (Sched::Turns, "2 4 0 6 trap 1 main", 6),
+        (Sched::Seed(0), "1 3 0 3 trap 1 main", 4),
+        (Sched::Seed(1), "2 5 0 6 trap 1 main", 6),
+        (Sched::Seed(7), "5 7 0 15 trap 1 main", 12),
+        (Sched::Seed(18446744073709551615), "3 7 0 9 trap 1 main", 8),
     ];
-    for (seed, how, calls) in table {
-        let schedule = match seed {
-            None => Schedule::RoundRobin,
-            Some(seed) => Schedule::Seeded(seed),
-        };
-        let mut source = MemSource::new(list(rt.alloc(), lines)?, 1, List::new(rt.alloc()));
-        let mut sink = MemSink::new(rt.alloc(), 1024, List::new(rt.alloc()))?;
-        let ran = run_on(
-            rt.alloc(),
-            &Refusing,
-            schedule,
-            Keeping::Nothing,
-            &mut source,
-            &mut sink,
-        );
-        assert_eq!(rt; shown(rt.alloc(), &ran)?.as_str(), how);
+    for (sched, how, calls) in table {
+        let mut source = MemSource::new(list(alloc, lines)?, 1, List::new(alloc));
+        let mut sink = MemSink::new(alloc, 1024, List::new(alloc))?;
+        let schedule = schedule_of(&rt, alloc, sched)?;
+        let shown = ended(alloc, &Refusing, schedule, &mut source, &mut sink)?;
+        assert_eq!(rt; shown.as_str(), how);
         assert_eq!(rt; sink.taken(), b"".as_slice());
         assert_eq!(rt; source.calls(), calls);
     }
@@ -215,20 +190,13 @@ fn a_fault_of_each_put_ends_the_run(rt: HostRuntime) -> Result<(), Fail> {
         (2, 1, b"1\n2"),
         (3, 0, b"1\n2\n"),
     ];
+    let alloc = rt.alloc();
     for (call, prefix, text) in table {
         let bytes: &[u8] = b"1\n2\n-3\n";
-        let mut source = MemSource::new(list(rt.alloc(), bytes)?, 4096, List::new(rt.alloc()));
-        let fails = list(rt.alloc(), &[PutFail { call, prefix }])?;
-        let mut sink = MemSink::new(rt.alloc(), 1024, fails)?;
-        let ran = run_on(
-            rt.alloc(),
-            &Echo,
-            Schedule::RoundRobin,
-            Keeping::Nothing,
-            &mut source,
-            &mut sink,
-        );
-        assert_eq!(rt; shown(rt.alloc(), &ran)?.as_str(), "write fault");
+        let mut source = MemSource::new(list(alloc, bytes)?, 4096, List::new(alloc));
+        let mut sink = MemSink::new(alloc, 1024, list(alloc, &[PutFail { call, prefix }])?)?;
+        let shown = ended(alloc, &Echo, Schedule::RoundRobin, &mut source, &mut sink)?;
+        assert_eq!(rt; shown.as_str(), "write fault");
         assert_eq!(rt; sink.taken(), text);
     }
     Ok(())
@@ -244,15 +212,7 @@ fn four_million_items_are_run(rt: HostRuntime) -> Result<(), Fail> {
     let bytes = list(alloc, text.as_str().as_bytes())?;
     let mut source = MemSource::new(bytes, 4096, List::new(alloc));
     let mut sink = MemSink::new(alloc, 16_777_216, List::new(alloc))?;
-    let ran = run_on(
-        alloc,
-        &Echo,
-        Schedule::RoundRobin,
-        Keeping::Nothing,
-        &mut source,
-        &mut sink,
-    );
-    let numbers = shown(alloc, &ran)?;
+    let numbers = ended(alloc, &Echo, Schedule::RoundRobin, &mut source, &mut sink)?;
     assert_eq!(rt; sink.taken().len(), 2 * MANY, "{numbers}");
     Ok(())
 }

@@ -1,11 +1,14 @@
 // The lines that are kept of runs of a network of three processes, and the sums of their words.
 
-use crate::network::run_on;
+ghost use Rattle.std.specs.Prelude.{◌≡◌};
+ghost use Rattle.p3l_sketch.specs.OneNode.{one_node};
+
+use crate::network::{Sched, run_on, schedule_of};
 use p3l_base::List;
 use p3l_firing::ProcKind;
 use p3l_io::{MemSink, MemSource};
 use p3l_run::Keeping;
-use p3l_sched::{Schedule, read_picks};
+use p3l_skel::Units;
 use p3l_sketch::{Echo, Refusing};
 use p3l_trace::TraceLine;
 use std::alloc::Global;
@@ -25,36 +28,27 @@ fn idle(pick: u32) -> TraceLine {
     TraceLine { pick, kind: None }
 }
 
-/// A run on these bytes under recorded picks, or else the round robin: its lines, if they are kept,
-/// and its sum.
-fn traced_of(
+/// A run on these bytes: its lines, if they are kept, and its sum.
+fn traced_of<U: Units>(
     rt: &impl Abort,
     alloc: Global,
-    echoes: bool,
-    picks: Option<&[u8]>,
+    units: &U,
+    sched: Sched,
     keeping: Keeping,
     input: &[u8],
-) -> Result<Option<(Option<List<TraceLine>>, i64)>, Fail> {
+) -> Result<Option<(Option<List<TraceLine>>, i64)>, Fail>
+    requires { U.tree units.now ≡ one_node }
+{
     let bytes = List::from_vec(Vec::from_slice(alloc, input)?);
     let mut source = MemSource::new(bytes, 3, List::new(alloc));
     let mut sink = MemSink::new(alloc, 1024, List::new(alloc))?;
-    let schedule = match picks {
-        None => Schedule::RoundRobin,
-        Some(text) => {
-            let picks = read_picks(alloc, text, 3)?;
-            assert!(rt; picks.len() < 1000);
-            Schedule::Recorded(picks)
-        }
-    };
-    let ran = if echoes {
-        run_on(alloc, &Echo, schedule, keeping, &mut source, &mut sink)
-    } else {
-        run_on(alloc, &Refusing, schedule, keeping, &mut source, &mut sink)
-    };
-    Ok(match ran {
-        Ok(ran) => Some((ran.lines, ran.sum)),
-        Err(_) => None,
-    })
+    let schedule = schedule_of(rt, alloc, sched)?;
+    Ok(
+        match run_on(alloc, units, schedule, keeping, &mut source, &mut sink) {
+            Ok(ran) => Some((ran.lines, ran.sum)),
+            Err(_) => None,
+        },
+    )
 }
 
 /// Whether these lines were kept, and this is the sum.
@@ -75,8 +69,8 @@ fn each_pick_is_a_line(rt: HostRuntime) -> Result<(), Fail> {
     let traced = traced_of(
         &rt,
         rt.alloc(),
-        true,
-        Some(b"1 0 2 2 1 0"),
+        &Echo,
+        Sched::Picks(b"1 0 2 2 1 0"),
         Keeping::Lines,
         b"5\n-7\n9\n",
     )?;
@@ -97,8 +91,8 @@ fn a_whole_run_is_kept(rt: HostRuntime) -> Result<(), Fail> {
     let traced = traced_of(
         &rt,
         rt.alloc(),
-        true,
-        None,
+        &Echo,
+        Sched::Turns,
         Keeping::Lines,
         b"9223372036854775807\n3\n",
     )?;
@@ -119,8 +113,8 @@ fn a_trap_has_no_words(rt: HostRuntime) -> Result<(), Fail> {
     let traced = traced_of(
         &rt,
         rt.alloc(),
-        false,
-        Some(b"0 2 1"),
+        &Refusing,
+        Sched::Picks(b"0 2 1"),
         Keeping::Lines,
         b"5\n",
     )?;
@@ -135,7 +129,14 @@ fn a_trap_has_no_words(rt: HostRuntime) -> Result<(), Fail> {
 
 #[test]
 fn no_line_is_kept_without_a_request(rt: HostRuntime) -> Result<(), Fail> {
-    let traced = traced_of(&rt, rt.alloc(), true, None, Keeping::Nothing, b"5\n-7\n")?;
+    let traced = traced_of(
+        &rt,
+        rt.alloc(),
+        &Echo,
+        Sched::Turns,
+        Keeping::Nothing,
+        b"5\n-7\n",
+    )?;
     assert!(rt; matches!(traced, Some((None, -2))));
     Ok(())
 }
