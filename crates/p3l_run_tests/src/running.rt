@@ -1,18 +1,18 @@
 // Runs of a network of three processes: 0 is the source, 1 the sink, and 2 runs the body.
 
-ghost use Rattle.std.specs.Prelude.{◌≡◌, ◌<◌, ◌^◌};
+ghost use Rattle.std.specs.Prelude.{◌≡◌};
 ghost use Rattle.p3l_sketch.specs.OneNode.{one_node};
-ghost use Rattle.p3l_sched.specs.Picker.{NamesProcesses, recorded};
 
 use crate::network::{Sched, run_on, schedule_of};
 use p3l_base::List;
 use p3l_io::{MemSink, MemSource, PutFail};
-use p3l_run::{Keeping, Ran, RunEnd, RunFault, RunStats};
-use p3l_sched::Schedule;
+use p3l_run::{Keeping, Ran, RunEnd, RunFault};
 use p3l_skel::Units;
 use p3l_sketch::{Echo, Refusing};
 use p3l_stream::Ending;
 use std::alloc::Global;
+use std::fmt;
+use std::fmt::{Display, Formatter};
 use std::process::Abort;
 use std::test::Fail;
 
@@ -22,30 +22,31 @@ fn list<T: Copy + Drop>(alloc: Global, items: &[T]) -> Result<List<T>, Fail> {
 }
 
 /// How a run ended, as a text.
-fn shown(alloc: Global, ran: &Result<Ran, RunFault>) -> Result<String, Fail> {
-    let ran = match ran {
-        Ok(ran) => ran,
-        Err(RunFault::Write) => return Ok(String::from_str(alloc, "write fault")?),
-        Err(RunFault::NoMemory) => return Ok(String::from_str(alloc, "no memory")?),
-    };
-    let numbers = numbers_shown(alloc, &ran.stats)?;
-    let numbers = numbers.as_str();
-    Ok(match &ran.finish {
-        RunEnd::Stopped { fired, idle } => format!(in alloc; "{numbers}stopped {fired} {idle}")?,
-        RunEnd::Trapped { item, module, .. } => {
-            format!(in alloc; "{numbers}trap {item} {}", module.as_str())?
+#[derive(Clone, Copy)]
+struct Shown<'a>(&'a Result<Ran, RunFault>);
+
+impl<'a> Display for Shown<'a> {
+    fn fmt<W: fmt::Write>(&self, f: &mut Formatter<W>) -> fmt::Result {
+        match self.0 {
+            Ok(ran) => show(ran, f),
+            Err(RunFault::Write) => f.write_str("write fault"),
+            Err(RunFault::NoMemory) => f.write_str("no memory"),
         }
-        RunEnd::Stream(ending) => format!(in alloc; "{numbers}{}", ending_shown(*ending))?,
-    })
+    }
 }
 
-/// The numbers of a run, as a text.
-fn numbers_shown(alloc: Global, stats: &RunStats) -> Result<String, Fail> {
-    let items = stats.items;
-    let fired = stats.fired;
-    let idle = stats.idle;
-    let bound = stats.bound;
-    Ok(format!(in alloc; "{items} {fired} {idle} {bound} ")?)
+/// Writes the numbers of a run, and how it ended.
+fn show<W: fmt::Write>(ran: &Ran, f: &mut Formatter<W>) -> fmt::Result {
+    let items = ran.stats.items;
+    let fired = ran.stats.fired;
+    let idle = ran.stats.idle;
+    let bound = ran.stats.bound;
+    write!(f, "{items} {fired} {idle} {bound} ")?;
+    match &ran.finish {
+        RunEnd::Stopped { fired, idle } => write!(f, "stopped {fired} {idle}"),
+        RunEnd::Trapped { item, module, .. } => write!(f, "trap {item} {}", module.as_str()),
+        RunEnd::Stream(ending) => f.write_str(ending_shown(*ending)),
+    }
 }
 
 fn ending_shown(ending: Ending) -> &'static str {
@@ -57,37 +58,73 @@ fn ending_shown(ending: Ending) -> &'static str {
     }
 }
 
-/// How a run ended whose lines are not kept, as a text.
-fn ended<U: Units>(
-    alloc: Global,
-    units: &U,
-    schedule: Schedule,
-    source: &mut MemSource,
-    sink: &mut MemSink,
-) -> Result<String, Fail>
-    requires units { U.tree units.now ≡ one_node }
-    requires named { NamesProcesses 3 schedule }
-    requires few { recorded schedule < 2 ^ 63 }
-{
-    let ran = run_on(alloc, units, schedule, Keeping::Nothing, source, sink);
-    shown(alloc, &ran)
+/// What a run reads from and writes to.
+#[derive(Drop)]
+struct Ends {
+    source: MemSource,
+    sink: MemSink,
 }
 
-/// A run on these bytes, given one by one, by a source that fails at these calls: how it ended,
-/// what was written, and how often the source was called.
-fn run_under(
+/// A source of these bytes that gives at most `piece` of them at once, and a sink with this much room;
+/// with their calls that fail.
+fn ends_of(
+    alloc: Global,
+    input: &[u8],
+    piece: usize,
+    room: usize,
+    takes: &[u64],
+    puts: &[PutFail],
+) -> Result<Ends, Fail> {
+    let bytes = list(alloc, input)?;
+    let source = MemSource::new(bytes, piece.max(1), list(alloc, takes)?);
+    let sink = MemSink::new(alloc, room, list(alloc, puts)?)?;
+    Ok(Ends { source, sink })
+}
+
+/// How a run ended whose lines are not kept, as a text.
+fn ended<U: Units>(
     rt: &impl Abort,
     alloc: Global,
+    units: &U,
+    sched: Sched,
+    ends: &mut Ends,
+) -> Result<String, Fail>
+    requires { U.tree units.now ≡ one_node }
+{
+    let schedule = schedule_of(rt, alloc, sched)?;
+    let source = &mut ends.source;
+    let ran = run_on(
+        alloc,
+        units,
+        schedule,
+        Keeping::Nothing,
+        source,
+        &mut ends.sink,
+    );
+    Ok(format!(in alloc; "{}", Shown(&ran))?)
+}
+
+/// A run on these bytes, given one by one, by a source that fails at these calls, must end so, with
+/// this text written; gives how often the source was called.
+fn run_under<U: Units>(
+    rt: &impl Abort,
+    alloc: Global,
+    units: &U,
     sched: Sched,
     input: &[u8],
-    fails: &[u64],
-) -> Result<(String, Vec<u8>, u64), Fail> {
-    let mut source = MemSource::new(list(alloc, input)?, 1, list(alloc, fails)?);
-    let mut sink = MemSink::new(alloc, 1024, List::new(alloc))?;
-    let schedule = schedule_of(rt, alloc, sched)?;
-    let how = ended(alloc, &Echo, schedule, &mut source, &mut sink)?;
-    let written = sink.taken().to_vec(alloc)?;
-    Ok((how, written, source.calls()))
+    takes: &[u64],
+    how: &str,
+    text: &[u8],
+) -> Result<u64, Fail>
+    requires { U.tree units.now ≡ one_node }
+{
+    let mut ends = ends_of(alloc, input, 1, 1024, takes, &[])?;
+    let shown = ended(rt, alloc, units, sched, &mut ends)?;
+    assert!(rt;
+        shown.as_str() == how && ends.sink.taken() == text,
+        "{shown}"
+    );
+    Ok(ends.source.calls())
 }
 
 #[test]
@@ -130,10 +167,8 @@ fn each_schedule_runs_item_by_item(rt: HostRuntime) -> Result<(), Fail> {
         ),
     ];
     for (schedule, input, how, text, calls) in table {
-        let (shown, written, taken) = run_under(&rt, rt.alloc(), schedule, input, &[])?;
-        assert_eq!(rt; shown.as_str(), how);
-        assert_eq!(rt; written.as_slice(), text);
-        assert_eq!(rt; taken, calls);
+        let taken = run_under(&rt, rt.alloc(), &Echo, schedule, input, &[], how, text)?;
+        assert!(rt; taken == calls, "{how}");
     }
     Ok(())
 }
@@ -150,19 +185,15 @@ fn no_item_is_requested_before_the_network_wants_it(rt: HostRuntime) -> Result<(
         (Sched::Seed(18446744073709551615), "3 7 0 9 trap 1 main", 8),
     ];
     for (sched, how, calls) in table {
-        let mut source = MemSource::new(list(alloc, lines)?, 1, List::new(alloc));
-        let mut sink = MemSink::new(alloc, 1024, List::new(alloc))?;
-        let schedule = schedule_of(&rt, alloc, sched)?;
-        let shown = ended(alloc, &Refusing, schedule, &mut source, &mut sink)?;
-        assert_eq!(rt; shown.as_str(), how);
-        assert_eq!(rt; sink.taken(), b"".as_slice());
-        assert_eq!(rt; source.calls(), calls);
+        let taken = run_under(&rt, alloc, &Refusing, sched, lines, &[], how, b"")?;
+        assert!(rt; taken == calls, "{how}");
     }
     Ok(())
 }
 
 #[test]
 fn a_fault_of_each_take_ends_the_stream(rt: HostRuntime) -> Result<(), Fail> {
+    let three: &[u8] = b"1\n2\n-3\n";
     let table: [(u64, &str, &[u8]); 9] = [
         (1, "0 0 0 0 read fault", b""),
         (2, "0 0 0 0 read fault", b""),
@@ -175,9 +206,16 @@ fn a_fault_of_each_take_ends_the_stream(rt: HostRuntime) -> Result<(), Fail> {
         (9, "3 9 0 9 end", b"1\n2\n-3\n"),
     ];
     for (call, how, text) in table {
-        let (shown, written, _) = run_under(&rt, rt.alloc(), Sched::Turns, b"1\n2\n-3\n", &[call])?;
-        assert_eq!(rt; shown.as_str(), how);
-        assert_eq!(rt; written.as_slice(), text);
+        run_under(
+            &rt,
+            rt.alloc(),
+            &Echo,
+            Sched::Turns,
+            three,
+            &[call],
+            how,
+            text,
+        )?;
     }
     Ok(())
 }
@@ -192,12 +230,13 @@ fn a_fault_of_each_put_ends_the_run(rt: HostRuntime) -> Result<(), Fail> {
     ];
     let alloc = rt.alloc();
     for (call, prefix, text) in table {
-        let bytes: &[u8] = b"1\n2\n-3\n";
-        let mut source = MemSource::new(list(alloc, bytes)?, 4096, List::new(alloc));
-        let mut sink = MemSink::new(alloc, 1024, list(alloc, &[PutFail { call, prefix }])?)?;
-        let shown = ended(alloc, &Echo, Schedule::RoundRobin, &mut source, &mut sink)?;
-        assert_eq!(rt; shown.as_str(), "write fault");
-        assert_eq!(rt; sink.taken(), text);
+        let puts = [PutFail { call, prefix }];
+        let mut ends = ends_of(alloc, b"1\n2\n-3\n", 4096, 1024, &[], &puts)?;
+        let shown = ended(&rt, alloc, &Echo, Sched::Turns, &mut ends)?;
+        assert!(rt;
+            shown.as_str() == "write fault" && ends.sink.taken() == text,
+            "{shown}"
+        );
     }
     Ok(())
 }
@@ -209,10 +248,8 @@ const MANY: usize = 4_100_000;
 fn four_million_items_are_run(rt: HostRuntime) -> Result<(), Fail> {
     let alloc = rt.alloc();
     let text = "1\n".repeat(alloc, MANY)?;
-    let bytes = list(alloc, text.as_str().as_bytes())?;
-    let mut source = MemSource::new(bytes, 4096, List::new(alloc));
-    let mut sink = MemSink::new(alloc, 16_777_216, List::new(alloc))?;
-    let numbers = ended(alloc, &Echo, Schedule::RoundRobin, &mut source, &mut sink)?;
-    assert_eq!(rt; sink.taken().len(), 2 * MANY, "{numbers}");
+    let mut ends = ends_of(alloc, text.as_str().as_bytes(), 4096, 16_777_216, &[], &[])?;
+    let shown = ended(&rt, alloc, &Echo, Sched::Turns, &mut ends)?;
+    assert!(rt; ends.sink.taken().len() == 2 * MANY, "{shown}");
     Ok(())
 }
