@@ -175,7 +175,7 @@ fn answer(rt: &impl Abort, alloc: Global, stream: &Stream, answers: &str) -> Res
     Ok(takings)
 }
 
-/// The streams of these rows, with so many words in an item and so many bytes at most, must have
+/// The streams of these rows, with `width` words in an item and `limit` bytes at most, must have
 /// their answers however the bytes are cut.
 fn answer_rows(
     rt: &impl Abort,
