@@ -8,27 +8,22 @@ may be left out.
 """
 
 import pathlib
-import re
 import sys
 
 ROOT = pathlib.Path(__file__).resolve().parent.parent
-FIELDS = {"program": "p3l", "input": "txt", "output": "out"}
-EXAMPLE = re.compile(r"pub const (\w+): Example = Example \{(.*?)\n\};\n", re.S)
-FIELD = re.compile(r'\n    (\w+):\s*"((?:[^"\\]|\\.)*)",', re.S)
-ESCAPES = {"n": "\n", "t": "\t", "r": "\r", "0": "\0", '"': '"', "\\": "\\"}
+TEXTS = ROOT / "crates/p3l_program_tests/src/examples/texts.rt"
 
 
-def text_of(literal):
-    """The text that a literal of a string spells."""
-    return re.sub(r"\\(.)", lambda mark: ESCAPES[mark.group(1)], literal)
+def text_of(lines):
+    """The text that lines spell: each begins with a mark and a blank."""
+    return "".join(f"{line[2:]}\n" for line in lines if line.startswith("|"))
 
 
 def main():
-    source = (ROOT / "crates/p3l_program_tests/src/examples/texts.rt").read_bytes().decode()
     tested = {}
-    for name, fields in EXAMPLE.findall(source):
-        for field, literal in FIELD.findall(fields):
-            tested[f"{name.lower()}.{FIELDS[field]}"] = text_of(literal).encode()
+    for part in TEXTS.read_bytes().decode().split("\ntext ")[1:]:
+        name, *lines = part.split("\n\n")[0].split("\n")
+        tested[name] = text_of(lines).encode()
     held = {file.name: file.read_bytes() for file in (ROOT / "examples").iterdir()}
     wrong = sorted(name for name in tested.keys() | held.keys() if tested.get(name) != held.get(name))
     for name in wrong:

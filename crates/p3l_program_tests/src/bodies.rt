@@ -1,92 +1,122 @@
 // Runs of one body: what it gives, and the traps that it comes to.
 
-use crate::texts::{DOUBLE, HUNDRED, RUN, RUN_PLAIN};
-use crate::world::{Ends, Program, Programs, take_programs};
+use crate::world::play;
 use std::test::Fail;
 
-/// The line of the numbers of one item that passes one body.
-const ONE: &str = "stats: items 1, fired 3, idle 0, bound 3\n";
+const CASES: &str = r#"
+= Bodies give their values or trap.
 
-/// Adds one as often as the item says, at most three times.
-const COUNTED: &str =
-    "seq main in(int x) out(int y) budget 3\n${ int i; for (i = 0; i < x; i = i + 1) { y = y + 1; } }$\nend seq\n";
+# A body gives its values.
+file m.p3l = double
+$ run m.p3l --processors 16 --stats
+< 9223372036854775807
+> -1
+! stats: items 1, fired 3, idle 0, bound 3
 
-const REMAINDER: &str = "seq main in(int x) out(int y)\n${ y = x % 3; }$\nend seq\n";
+file m.p3l
+| seq main in(int x) out(int y)
+| ${ y = x % 3; }$
+| end seq
+$ run m.p3l --processors 16 --stats
+< -7
+> -1
+! stats: items 1, fired 3, idle 0, bound 3
 
-const SHIFTED: &str = "seq main in(int x) out(int y)\n${ y = x >> 1; }$\nend seq\n";
+file m.p3l
+| seq main in(int x) out(int y)
+| ${ y = x >> 1; }$
+| end seq
+$ run m.p3l --processors 16 --stats
+< -3
+> -2
+! stats: items 1, fired 3, idle 0, bound 3
 
-const NEGATED: &str = "seq main in(int x) out(int y)\n${ y = x / -1; }$\nend seq\n";
+# Adds one as often as the item says, at most three times.
+file m.p3l
+| seq main in(int x) out(int y) budget 3
+| ${ int i; for (i = 0; i < x; i = i + 1) { y = y + 1; } }$
+| end seq
+$ run m.p3l --processors 16 --stats
+< 3
+> 3
+! stats: items 1, fired 3, idle 0, bound 3
 
-const NAMED: &str = "const N = 3;\nseq main in(int x) out(int y)\n${ y = x * N + 1; }$\nend seq\n";
+# A trap ends the run; the third item was sent before the second came to its trap.
+file m.p3l = hundred
+$ run m.p3l --processors 16 --stats
+< 5
+< 0
+< 2
+> 20
+! stats: items 3, fired 7, idle 0, bound 9
+! trap: item 2: division by zero in main
+? 7
 
-const SPACED: &str =
-    "\r\n\tseq main in(int _a1)\n\n out ( int B )${B=_a1*9223372036854775807+7;}$end seq  \t";
+file m.p3l
+| seq main in(int x) out(int y)
+| ${ y = x / -1; }$
+| end seq
+$ run m.p3l --processors 16 --stats
+< -9223372036854775808
+! stats: items 1, fired 3, idle 0, bound 3
+! trap: item 1: division overflow in main
+? 7
 
-const BODIES: &[Programs] = &[
-    // A body gives its values.
-    Programs(
-        RUN,
-        &[
-            Program(DOUBLE, "9223372036854775807\n", Ends(0, "-1\n", ONE)),
-            Program(REMAINDER, "-7\n", Ends(0, "-1\n", ONE)),
-            Program(SHIFTED, "-3\n", Ends(0, "-2\n", ONE)),
-            Program(COUNTED, "3\n", Ends(0, "3\n", ONE)),
-        ],
-    ),
-    // A trap ends the run; the third item was sent before the second came to its trap.
-    Programs(
-        RUN,
-        &[
-            Program(
-                HUNDRED,
-                "5\n0\n2\n",
-                Ends(
-                    7,
-                    "20\n",
-                    "stats: items 3, fired 7, idle 0, bound 9\ntrap: item 2: division by zero in main\n",
-                ),
-            ),
-            Program(
-                NEGATED,
-                "-9223372036854775808\n",
-                Ends(
-                    7,
-                    "",
-                    "stats: items 1, fired 3, idle 0, bound 3\ntrap: item 1: division overflow in main\n",
-                ),
-            ),
-            Program(
-                COUNTED,
-                "4\n",
-                Ends(
-                    7,
-                    "",
-                    "stats: items 1, fired 3, idle 0, bound 3\ntrap: item 1: budget spent in main\n",
-                ),
-            ),
-        ],
-    ),
-    // The numbers are reported only if requested.
-    Programs(
-        RUN_PLAIN,
-        &[
-            Program(
-                HUNDRED,
-                "5\n0\n2\n",
-                Ends(7, "20\n", "trap: item 2: division by zero in main\n"),
-            ),
-            Program(
-                COUNTED,
-                "3\n4\n",
-                Ends(7, "3\n", "trap: item 2: budget spent in main\n"),
-            ),
-            Program(NAMED, "1\n2\n-3\n", Ends(0, "4\n7\n-8\n", "")),
-            Program(SPACED, "3\n", Ends(0, "-9223372036854775804\n", "")),
-        ],
-    ),
-];
+file m.p3l
+| seq main in(int x) out(int y) budget 3
+| ${ int i; for (i = 0; i < x; i = i + 1) { y = y + 1; } }$
+| end seq
+$ run m.p3l --processors 16 --stats
+< 4
+! stats: items 1, fired 3, idle 0, bound 3
+! trap: item 1: budget spent in main
+? 7
+
+# The numbers are reported only if requested.
+file m.p3l = hundred
+$ run m.p3l --processors 16
+< 5
+< 0
+< 2
+> 20
+! trap: item 2: division by zero in main
+? 7
+
+file m.p3l
+| seq main in(int x) out(int y) budget 3
+| ${ int i; for (i = 0; i < x; i = i + 1) { y = y + 1; } }$
+| end seq
+$ run m.p3l --processors 16
+< 3
+< 4
+> 3
+! trap: item 2: budget spent in main
+? 7
+
+file m.p3l
+| const N = 3;
+| seq main in(int x) out(int y)
+| ${ y = x * N + 1; }$
+| end seq
+$ run m.p3l --processors 16
+< 1
+< 2
+< -3
+> 4
+> 7
+> -8
+
+file m.p3l
+| \x0d
+| \x09seq main in(int _a1)
+|
+|  out ( int B )${B=_a1*9223372036854775807+7;}$end seq  \x09\
+$ run m.p3l --processors 16
+< 3
+> -9223372036854775804
+"#;
 
 #[test]
 fn bodies_give_their_values_or_trap(rt: HostRuntime) -> Result<(), Fail> {
-    take_programs(&rt, rt.alloc(), BODIES)
+    play(&rt, rt.alloc(), CASES)
 }

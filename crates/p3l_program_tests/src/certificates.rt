@@ -1,169 +1,162 @@
 // Certificates that counts are the best: made, verified, and refused for each damage.
 
-use crate::texts::{CERTIFICATE, FARMED, FARMED_COSTS, FARMED_FILES, WRITE_FAULT};
-use crate::world::{Course, Ends, Held, NO_PUT, NONE, Step, holding, take, take_courses};
+use crate::damage::{Evidence, refuse_beginnings};
+use crate::texts::{lines_of, text_of};
+use crate::world::{play, take_block};
 use std::alloc::Global;
 use std::process::Abort;
 use std::test::Fail;
 
-/// True counts and true rows of four workers, which are not the best.
-const SLOWER: &str =
-    "p3l-cert 1\nprocessors 8\ncounts 4\nservice 15\nused 7\nrow 0 14 8 8\nrow 0 15 8 7\nrow 1 14 8 1\nrow 1 15 8 1\nrow 2 14 8 7\nrow 2 15 8 6\nrow 3 14 6 7\nrow 3 15 6 7\nrow 3 28 3 4\nrow 3 30 3 4\nrow 3 42 2 3\nrow 3 45 2 3\nrow 3 56 1 2\nrow 3 60 1 1\nrow 3 70 1 1\nrow 3 75 1 1\nrow 3 84 1 1\nrow 3 90 1 1\nend\n";
+const CASES: &str = r#"
+= What is certified is written first and verified.
+file a.p3l = farmed
+file a.toml = farmed-costs
 
-const EXPLAIN: &str = "explain a.p3l --processors 8 --costs a.toml --cert c";
+$ explain a.p3l --processors 8 --costs a.toml --cert c
+> processors 8 used 8 service 12
+> 0 pipe main procs 8 service 12
+> 1 seq f procs 1 service 10
+> 2 farm w procs 7 service 12 count 5
+> 3 seq g procs 1 service 60
+$ verify-cert a.p3l --cert c --costs a.toml
+> certificate holds: processors 8 used 8 service 12
+leaves c = certificate
+leaves a.p3l = farmed
+leaves a.toml = farmed-costs
 
-const VERIFY: &str = "verify-cert a.p3l --cert c --costs a.toml";
+# The text of the counts is not put where it can't be, and the certificate is written before.
+fails put 1 after 0
+$ explain a.p3l --processors 8 --costs a.toml --cert c
+! write fault
+? 10
+leaves c = certificate
+leaves a.p3l = farmed
+leaves a.toml = farmed-costs
 
-const CERTIFIED: Ends = Ends(
-    0,
-    "processors 8 used 8 service 12\n0 pipe main procs 8 service 12\n1 seq f procs 1 service 10\n2 farm w procs 7 service 12 count 5\n3 seq g procs 1 service 60\n",
-    "",
-);
+= Counts of four workers are not the best.
+# True counts and true rows of four workers, which are not the best.
+file a.p3l = farmed
+file a.toml = farmed-costs
+file c
+| p3l-cert 1
+| processors 8
+| counts 4
+| service 15
+| used 7
+| row 0 14 8 8
+| row 0 15 8 7
+| row 1 14 8 1
+| row 1 15 8 1
+| row 2 14 8 7
+| row 2 15 8 6
+| row 3 14 6 7
+| row 3 15 6 7
+| row 3 28 3 4
+| row 3 30 3 4
+| row 3 42 2 3
+| row 3 45 2 3
+| row 3 56 1 2
+| row 3 60 1 1
+| row 3 70 1 1
+| row 3 75 1 1
+| row 3 84 1 1
+| row 3 90 1 1
+| end
 
-const VERIFIED: Ends = Ends(0, "certificate holds: processors 8 used 8 service 12\n", "");
+$ verify-cert a.p3l --cert c --costs a.toml
+! evidence: 72 ClaimWrong Least
+? 13
 
-/// The certificate is in the file c, and the program and its costs are what they were.
-const WRITTEN: &[Held] = &[
-    Held("c", CERTIFICATE),
-    Held("a.p3l", FARMED),
-    Held("a.toml", FARMED_COSTS),
-];
+= A true row more does no harm: it is not needed.
+file a.p3l = farmed
+file a.toml = farmed-costs
+file c
+| p3l-cert 1
+| processors 8
+| counts 5
+| service 12
+| used 8
+| row 0 11 8 9
+| row 0 12 8 8
+| row 1 11 8 1
+| row 1 12 8 1
+| row 2 11 8 8
+| row 2 12 8 7
+| row 3 11 6 7
+| row 3 12 6 7
+| row 3 22 3 4
+| row 3 24 3 4
+| row 3 33 2 3
+| row 3 36 2 3
+| row 3 44 1 2
+| row 3 48 1 2
+| row 3 55 1 2
+| row 3 60 1 1
+| row 3 66 1 1
+| row 3 72 1 1
+| row 3 100 1 1
+| end
 
-const COURSES: &[Course] = &[
-    Course(
-        FARMED_FILES,
-        NONE,
-        &[Step(EXPLAIN, "", CERTIFIED), Step(VERIFY, "", VERIFIED)],
-        WRITTEN,
-        &[],
-    ),
-    // The text of the counts is not put where it can't be, and the certificate is written before.
-    Course(
-        FARMED_FILES,
-        NO_PUT,
-        &[Step(EXPLAIN, "", WRITE_FAULT)],
-        WRITTEN,
-        &[],
-    ),
-];
+$ verify-cert a.p3l --cert c --costs a.toml
+> certificate holds: processors 8 used 8 service 12
+"#;
 
 #[test]
 fn what_is_certified_is_written_first_and_verified(rt: HostRuntime) -> Result<(), Fail> {
-    take_courses(&rt, rt.alloc(), &[COURSES])
+    play(&rt, rt.alloc(), CASES)
 }
 
-/// The certificate with a text in it changed, and what is reported of it.
-#[derive(Clone, Copy)]
-struct Damage(&'static str, &'static str, &'static str);
+/// A line of the certificate, what stands in its place, and what is reported of it.
+const DAMAGES: &str = r#"| row 2 11 8 8 => | row 2 11 8 9 => 70 RowWrong 4: 9 is not 8
+| row 3 66 1 1 => # => 71 RowMissing 4: 3 66 1
+| row 0 11 8 9 => # => 71 RowMissing 17: 0 11 8
+| row 0 12 8 8 => # => 71 RowMissing 17: 0 12 8
+| end => | row 4 0 1 1\x0aend => 70 RowWrong 18: 1 is not 0
+| service 12 => | service 13 => 72 ClaimWrong Service
+| used 8 => | used 7 => 72 ClaimWrong Used
+| counts 5 => | counts => 72 ClaimWrong Counts
+| processors 8 => | processors 7 => 72 ClaimWrong Fits
+| p3l-cert 1 => | p3l-cert 2 => 73 BadText 1
+| processors 8 => | processors 08 => 73 BadText 2
+| processors 8 => | processors 513 => 73 BadText 2
+| row 0 12 8 8 => | row 0 12 8 8\x0d => 73 BadText 7
+| row 0 12 8 8 => | row 0 11 8 9 => 73 BadText 7
+| end => | end\x0a => 73 BadText 25
+| end => | end\ => 73 BadText 24"#;
 
-const OF_ROWS: &[Damage] = &[
-    Damage(
-        "row 2 11 8 8\n",
-        "row 2 11 8 9\n",
-        "evidence: 70 RowWrong 4: 9 is not 8\n",
-    ),
-    Damage("row 3 66 1 1\n", "", "evidence: 71 RowMissing 4: 3 66 1\n"),
-    Damage("row 0 11 8 9\n", "", "evidence: 71 RowMissing 17: 0 11 8\n"),
-    Damage("row 0 12 8 8\n", "", "evidence: 71 RowMissing 17: 0 12 8\n"),
-    // No node has this number, so no rule gives more than 0.
-    Damage(
-        "end\n",
-        "row 4 0 1 1\nend\n",
-        "evidence: 70 RowWrong 18: 1 is not 0\n",
-    ),
-];
+/// Verifies the certificate with another line in the place of one, with this end.
+fn verify(rt: &impl Abort, alloc: Global, from: &str, to: &str, end: &str) -> Result<(), Fail> {
+    let lines = lines_of("certificate")?.replace(alloc, from, to)?;
+    let files = "file a.p3l = farmed\nfile a.toml = farmed-costs\nfile c";
+    let words = "verify-cert a.p3l --cert c --costs a.toml";
+    let block = format!(in alloc; "\n{files}\n{lines}\n$ {words}\n{end}")?;
+    take_block(rt, alloc, block.as_str())
+}
 
-const OF_CLAIMS: &[Damage] = &[
-    Damage(
-        "service 12\n",
-        "service 13\n",
-        "evidence: 72 ClaimWrong Service\n",
-    ),
-    Damage("used 8\n", "used 7\n", "evidence: 72 ClaimWrong Used\n"),
-    Damage("counts 5\n", "counts\n", "evidence: 72 ClaimWrong Counts\n"),
-    Damage(
-        "processors 8\n",
-        "processors 7\n",
-        "evidence: 72 ClaimWrong Fits\n",
-    ),
-    Damage(CERTIFICATE, SLOWER, "evidence: 72 ClaimWrong Least\n"),
-];
-
-const OF_TEXT: &[Damage] = &[
-    Damage("p3l-cert 1\n", "p3l-cert 2\n", "evidence: 73 BadText 1\n"),
-    Damage(
-        "processors 8\n",
-        "processors 08\n",
-        "evidence: 73 BadText 2\n",
-    ),
-    Damage(
-        "processors 8\n",
-        "processors 513\n",
-        "evidence: 73 BadText 2\n",
-    ),
-    Damage(
-        "row 0 12 8 8\n",
-        "row 0 12 8 8\r\n",
-        "evidence: 73 BadText 7\n",
-    ),
-    Damage(
-        "row 0 12 8 8\n",
-        "row 0 11 8 9\n",
-        "evidence: 73 BadText 7\n",
-    ),
-    Damage("end\n", "end\n\n", "evidence: 73 BadText 25\n"),
-    Damage("end\n", "end", "evidence: 73 BadText 24\n"),
-];
-
-const DAMAGES: &[&[Damage]] = &[OF_ROWS, OF_CLAIMS, OF_TEXT];
-
-/// Verifies the certificate with a text in it changed, with this end.
-fn verify(rt: &impl Abort, alloc: Global, from: &str, to: &str, ends: Ends) -> Result<(), Fail> {
-    let mut files = holding(alloc, FARMED_FILES, &[])?;
-    let text = CERTIFICATE.replace(alloc, from, to)?;
-    files.add("c", text.as_str().as_bytes())?;
-    take(rt, alloc, &mut files, &Step(VERIFY, "", ends), &NONE)
+/// Verifies the certificate with the damage of a row.
+fn refuse(rt: &impl Abort, alloc: Global, row: &str) -> Result<(), Fail> {
+    let (from, rest) = row.split_once(" => ").ok_or("no line")?;
+    let (to, refusal) = rest.split_once(" => ").ok_or("no refusal")?;
+    let end = format!(in alloc; "! evidence: {refusal}\n? 13")?;
+    verify(rt, alloc, from, to, end.as_str())
 }
 
 #[test]
 fn damaged_rows_claims_and_texts_are_refused(rt: HostRuntime) -> Result<(), Fail> {
-    for damages in DAMAGES {
-        for damage in *damages {
-            let ends = Ends(13, "", damage.2);
-            verify(&rt, rt.alloc(), damage.0, damage.1, ends)?;
-        }
+    for row in DAMAGES.lines() {
+        refuse(&rt, rt.alloc(), row)?;
     }
     Ok(())
-}
-
-/// The row is not needed.
-#[test]
-fn a_true_row_more_does_no_harm(rt: HostRuntime) -> Result<(), Fail> {
-    verify(&rt, rt.alloc(), "end\n", "row 3 100 1 1\nend\n", VERIFIED)
-}
-
-/// Verifies a text that the certificate begins with, of `whole` whole lines.
-fn refuse_beginning(rt: &impl Abort, alloc: Global, text: &[u8], whole: u64) -> Result<(), Fail> {
-    let mut files = holding(alloc, FARMED_FILES, &[])?;
-    files.add("c", text)?;
-    let line = whole.saturating_add(1);
-    let lines = format!(in alloc; "evidence: 73 BadText {line}\n")?;
-    let step = Step(VERIFY, "", Ends(13, "", lines.as_str()));
-    take(rt, alloc, &mut files, &step, &NONE)
 }
 
 #[test]
 fn no_beginning_of_a_certificate_is_one(rt: HostRuntime) -> Result<(), Fail> {
-    let alloc = rt.alloc();
-    let bytes = CERTIFICATE.as_bytes();
-    let mut whole: u64 = 0;
-    for (at, byte) in bytes.iter().enumerate() {
-        if at % 7 == 0 || *byte == b'\n' {
-            refuse_beginning(&rt, alloc, &bytes[..at], whole)?;
-        }
-        if *byte == b'\n' {
-            whole = whole.saturating_add(1);
-        }
-    }
-    Ok(())
+    let bytes = text_of(rt.alloc(), "certificate")?;
+    let certificate = Evidence {
+        name: "c",
+        bytes: bytes.as_slice(),
+        head: "\nfile a.p3l = farmed\nfile a.toml = farmed-costs",
+        step: "verify-cert a.p3l --cert c --costs a.toml",
+    };
+    refuse_beginnings(&rt, rt.alloc(), &certificate, "73 BadText", 7)
 }

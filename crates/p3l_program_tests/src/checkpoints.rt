@@ -1,333 +1,241 @@
 // Runs that are saved and resumed: what comes out of both parts, wherever a run is cut, and snapshots
 // with one damage.
 
-use crate::spelled::DOUBLE_IMAGE;
-use crate::texts::{
-    COUNTED, DOUBLE, HALVES, HUNDRED, ITEMS, NO_PICKS, READ_FAULT, REFUSED_PICK, WRITE_FAULT,
-};
-use crate::world::{
-    Course, Ended, Ends, FOURTH_FILE, Faults, Held, NO_PUT, NO_TAKE, NONE, Step, holding, perform,
-    take, take_all, take_courses,
-};
+use crate::damage::{Evidence, refuse_one_more, refuse_rows};
+use crate::texts::text_of;
+use crate::world::{Ended, files_of, left_by, perform, play};
 use p3l_io::MemFiles;
 use std::alloc::Global;
 use std::process::Abort;
 use std::test::Fail;
 
-/// All files that the commands below read.
-const ALL: &[Held] = &[
-    Held("m.p3l", DOUBLE),
-    Held("h.p3l", HUNDRED),
-    Held("p", "0 2 0 1\n"),
-    Held("sources", "0 0 0\n"),
-    Held("one", "0 2 1\n"),
-    Held("front", "0 2\n"),
-    Held("idle", "1 2\n"),
-    Held("empty", ""),
-    Held("other", "3\n"),
-];
+const CASES: &str = r#"
+= Two parts of a run write what it writes.
+# All files that the commands below read.
+file m.p3l = double
+file h.p3l = hundred
+file p
+| 0 2 0 1
+file sources
+| 0 0 0
+file one
+| 0 2 1
+file front
+| 0 2
+file idle
+| 1 2
+file empty
+file other
+| 3
 
-const SAVED: Step = Step(
-    "save m.p3l --processors 4 --schedule file:p --output s",
-    ITEMS,
-    Ends(0, "3\n", "saved: items 3, picks 4\n"),
-);
+# The third item stands in the inbox, and the second is on its way.
+# The sink can't fire, and the body can.
+$ save m.p3l --processors 4 --schedule file:p --output s
+< 1
+< 2
+< -3
+> 3
+! saved: items 3, picks 4
+$ resume s --stats
+> 5
+> -5
+! stats: items 3, fired 5, idle 0, bound 9
+$ resume s --schedule seed:7 --stats
+< 4
+> 5
+> -5
+> 9
+! stats: items 4, fired 8, idle 0, bound 12
+$ resume s --schedule file:idle --stats
+< 4
+! stats: items 2, fired 1, idle 1, bound 6
+! stopped: 1 fired, 1 idle
+? 1
+$ resume s
+< x
+> 5
+> -5
+! stream: line 1: 100 BadWord
+? 6
 
-/// The third item stands in the inbox, and the second is on its way.
-const IN_TWO_PARTS: &[Step] = &[
-    SAVED,
-    Step(
-        "resume s --stats",
-        "",
-        Ends(0, "5\n-5\n", "stats: items 3, fired 5, idle 0, bound 9\n"),
-    ),
-    Step(
-        "resume s --schedule seed:7 --stats",
-        "4\n",
-        Ends(
-            0,
-            "5\n-5\n9\n",
-            "stats: items 4, fired 8, idle 0, bound 12\n",
-        ),
-    ),
-    // The sink can't fire, and the body can.
-    Step(
-        "resume s --schedule file:idle --stats",
-        "4\n",
-        Ends(
-            1,
-            "",
-            "stats: items 2, fired 1, idle 1, bound 6\nstopped: 1 fired, 1 idle\n",
-        ),
-    ),
-    Step(
-        "resume s",
-        "x\n",
-        Ends(6, "5\n-5\n", "stream: line 1: 100 BadWord\n"),
-    ),
-];
+# The items end before the second pick.
+$ save m.p3l --processors 4 --schedule file:sources --output s
+< 1
+! saved: items 1, picks 1
+$ resume s
+< 2
+> 3
+> 5
 
-/// The items end before the second pick.
-const ENDED_EARLY: &[Step] = &[
-    Step(
-        "save m.p3l --processors 4 --schedule file:sources --output s",
-        "1\n",
-        Ends(0, "", "saved: items 1, picks 1\n"),
-    ),
-    Step("resume s", "2\n", Ends(0, "3\n5\n", "")),
-];
+# Items count from the first one of the part that was saved, whether they were sent in it or not.
+$ save h.p3l --processors 4 --schedule file:one --output s
+< 5
+< 0
+> 20
+! saved: items 2, picks 3
+$ resume s
+< 2
+! trap: item 2: division by zero in main
+? 7
+$ save h.p3l --processors 4 --schedule file:front --output s
+< 0
+< 1
+! saved: items 2, picks 2
+$ resume s
+! trap: item 1: division by zero in main
+? 7
 
-/// Items count from the first one of the part that was saved, whether they were sent in it or not.
-const TRAPPED: &[Step] = &[
-    Step(
-        "save h.p3l --processors 4 --schedule file:one --output s",
-        "5\n0\n",
-        Ends(0, "20\n", "saved: items 2, picks 3\n"),
-    ),
-    Step(
-        "resume s",
-        "2\n",
-        Ends(7, "", "trap: item 2: division by zero in main\n"),
-    ),
-    Step(
-        "save h.p3l --processors 4 --schedule file:front --output s",
-        "0\n1\n",
-        Ends(0, "", "saved: items 2, picks 2\n"),
-    ),
-    Step(
-        "resume s",
-        "",
-        Ends(7, "", "trap: item 1: division by zero in main\n"),
-    ),
-];
+# Without a pick nothing is taken and nothing is put.
+$ save m.p3l --processors 4 --schedule file:empty --output s
+< 1
+< 2
+< -3
+! saved: items 0, picks 0
+$ resume s --stats
+< 1
+< 2
+< -3
+> 3
+> 5
+> -5
+! stats: items 3, fired 9, idle 0, bound 9
 
-/// Without a pick nothing is taken and nothing is put.
-const NOTHING_YET: Step = Step(
-    "save m.p3l --processors 4 --schedule file:empty --output s",
-    ITEMS,
-    Ends(0, "", "saved: items 0, picks 0\n"),
-);
+fails file 4
+$ save m.p3l --processors 4 --schedule file:p --output s
+< 1
+< 2
+< -3
+> 3
+! saved: items 3, picks 4
+$ resume s --schedule file:p
+! file fault: s
+? 9
 
-const WHOLE_RUNS: &[Course] = &[
-    Course(ALL, NONE, IN_TWO_PARTS, &[], &[]),
-    Course(ALL, NONE, ENDED_EARLY, &[], &[]),
-    Course(ALL, NONE, TRAPPED, &[], &[]),
-    Course(
-        ALL,
-        NONE,
-        &[NOTHING_YET, Step("resume s --stats", ITEMS, COUNTED)],
-        &[],
-        &[],
-    ),
-];
+# The fifth call of the files fails: that after the snapshot is read.
+fails file 5
+$ save m.p3l --processors 4 --schedule file:p --output s
+< 1
+< 2
+< -3
+> 3
+! saved: items 3, picks 4
+$ resume s --schedule file:p
+! file fault: p
+? 9
 
-/// The fifth call of the files fails: that after the snapshot is read.
-const FIFTH_FILE: Faults = Faults {
-    files: &[5],
-    ..NONE
-};
+fails take 1
+$ save m.p3l --processors 4 --schedule file:empty --output s
+< 1
+< 2
+< -3
+! saved: items 0, picks 0
+$ resume s --schedule file:other
+< 1
+! schedule: line 1: 96 NoSuchProcess 3 of 3
+? 12
+$ resume s
+< 1
+! read fault
+? 8
 
-const CALLS_THAT_FAIL: &[Course] = &[
-    Course(
-        ALL,
-        FOURTH_FILE,
-        &[
-            SAVED,
-            Step(
-                "resume s --schedule file:p",
-                "",
-                Ends(9, "", "file fault: s\n"),
-            ),
-        ],
-        &[],
-        &[],
-    ),
-    Course(
-        ALL,
-        FIFTH_FILE,
-        &[SAVED, Step("resume s --schedule file:p", "", NO_PICKS)],
-        &[],
-        &[],
-    ),
-    Course(
-        ALL,
-        NO_TAKE,
-        &[
-            NOTHING_YET,
-            Step("resume s --schedule file:other", "1\n", REFUSED_PICK),
-            Step("resume s", "1\n", READ_FAULT),
-        ],
-        &[],
-        &[],
-    ),
-    Course(
-        ALL,
-        NO_PUT,
-        &[NOTHING_YET, Step("resume s", "1\nx\n", WRITE_FAULT)],
-        &[],
-        &[],
-    ),
-];
+fails put 1 after 0
+$ save m.p3l --processors 4 --schedule file:empty --output s
+< 1
+< 2
+< -3
+! saved: items 0, picks 0
+$ resume s
+< 1
+< x
+! write fault
+? 10
 
-#[test]
-fn two_parts_of_a_run_write_what_it_writes(rt: HostRuntime) -> Result<(), Fail> {
-    take_courses(&rt, rt.alloc(), &[WHOLE_RUNS, CALLS_THAT_FAIL])
-}
+= A state by hand is resumed.
+file s = double-snapshot
 
-/// A state worked out by hand, up to the bytes of the image: two of three items were sent and one
-/// came out, the third stands in the inbox, and the second in the channel after the source.
-const STATE: &str =
-    "P3LS\0\0\0\x01\0\0\0\0\0\0\0\x02\0\0\0\0\0\0\0\x01\x01\0\0\0\x01\0\0\0\0\0\0\0\x03\0\0\0\x03\0\0\0\0\0\0\0\0\0\0\0\0\0\0\0\0\0\0\0\0\0\0\0\0\0\0\0\0\0\0\0\0\0\0\0\0\0\0\0\x02\0\0\0\x01\0\0\0\0\0\0\0\0\x01\0\0\0\0\0\0\0\x02\0\0\0\0";
+$ resume s --stats
+> 5
+> 7
+! stats: items 3, fired 5, idle 0, bound 9
 
-/// The snapshot of this state, with the image of twice an item and one.
-fn spelled(alloc: Global) -> Result<Vec<u8>, Fail> {
-    let mut bytes = Vec::from_slice(alloc, STATE.as_bytes())?;
-    bytes.extend_from_slice(&[0, 0, 0, 194])?;
-    bytes.extend_from_slice(DOUBLE_IMAGE.as_bytes())?;
-    Ok(bytes)
-}
+= A beginning of a snapshot is refused, before picks that aren't there.
 
-/// Resumes a snapshot of these bytes.
-fn resume(
-    rt: &impl Abort,
-    alloc: Global,
-    bytes: &[u8],
-    words: &str,
-    ends: Ends,
-) -> Result<(), Fail> {
-    let mut files = holding(alloc, &[], &[])?;
-    files.add("s", bytes)?;
-    take(rt, alloc, &mut files, &Step(words, "", ends), &NONE)
-}
+file s
+$ resume s --schedule file:p
+! evidence: 130 BadShot 0
+? 13
 
-/// Resumes a snapshot that is refused with this line, before picks that aren't there.
-fn refuse(rt: &impl Abort, alloc: Global, bytes: &[u8], line: &str) -> Result<(), Fail> {
-    resume(
-        rt,
-        alloc,
+file s
+| P3LS\
+$ resume s --schedule file:p
+! evidence: 130 BadShot 4
+? 13
+"#;
+
+/// A snapshot of these bytes, which is resumed by picks that aren't there: it is refused before.
+fn snapshot_of(bytes: &[u8]) -> Evidence<'_> {
+    Evidence {
+        name: "s",
         bytes,
-        "resume s --schedule file:p",
-        Ends(13, "", line),
-    )
-}
-
-/// A place of the snapshot, another byte for it, and what is reported of it.
-#[derive(Clone, Copy)]
-struct Damage(usize, u8, &'static str);
-
-const OF_FIELDS: &[Damage] = &[
-    Damage(0, 0, "evidence: 130 BadShot 0\n"),
-    Damage(7, 2, "evidence: 130 BadShot 4\n"),
-    // Neither with an item nor without one; neither a value nor a trap.
-    Damage(24, 2, "evidence: 130 BadShot 24\n"),
-    Damage(89, 2, "evidence: 130 BadShot 89\n"),
-    // The image is a byte longer than it is, and a byte shorter.
-    Damage(109, 195, "evidence: 130 BadShot 304\n"),
-    Damage(109, 193, "evidence: 130 BadShot 303\n"),
-];
-
-const OF_THE_IMAGE: &[Damage] = &[
-    Damage(110, 0, "evidence: 80 BadMagic\n"),
-    Damage(117, 7, "evidence: 81 Version 7\n"),
-    Damage(121, 0, "evidence: 83 BadField 8\n"),
-    Damage(143, 2, "evidence: 92 TreeWrong\n"),
-    Damage(184, 2, "evidence: 90 CodeUnsafe 0\n"),
-    Damage(303, 0, "evidence: 91 NotLinked\n"),
-];
-
-const OF_THE_STATE: &[Damage] = &[
-    // An item more was sent, and one more came out.
-    Damage(15, 3, "evidence: 131 NotSound\n"),
-    Damage(23, 2, "evidence: 131 NotSound\n"),
-    // Numbers that no run counts up to.
-    Damage(8, 128, "evidence: 131 NotSound\n"),
-    Damage(41, 128, "evidence: 131 NotSound\n"),
-];
-
-const DAMAGES: &[&[Damage]] = &[OF_FIELDS, OF_THE_IMAGE, OF_THE_STATE];
-
-/// The snapshot with another byte at a place.
-fn with_byte(alloc: Global, bytes: &[u8], damage: &Damage) -> Result<Vec<u8>, Fail> {
-    let mut changed = Vec::new(alloc);
-    for (at, byte) in bytes.iter().enumerate() {
-        changed.push(if at == damage.0 { damage.1 } else { *byte })?;
+        head: "",
+        step: "resume s --schedule file:p",
     }
-    Ok(changed)
 }
 
-/// Resumes a snapshot with each damage of a table in turn.
-fn refuse_each(
-    rt: &impl Abort,
-    alloc: Global,
-    bytes: &[u8],
-    damages: &[Damage],
+/// Places of the snapshot by hand with other bytes for them, and what is reported.
+const DAMAGES: &str = "0=0: 130 BadShot 0
+7=2: 130 BadShot 4
+# Neither with an item nor without one; neither a value nor a trap.
+24=2: 130 BadShot 24
+89=2: 130 BadShot 89
+# The image is a byte longer than it is, and a byte shorter.
+109=195: 130 BadShot 304
+109=193: 130 BadShot 303
+110=0: 80 BadMagic
+117=7: 81 Version 7
+121=0: 83 BadField 8
+143=2: 92 TreeWrong
+184=2: 90 CodeUnsafe 0
+303=0: 91 NotLinked
+# An item more was sent, and one more came out.
+15=3: 131 NotSound
+23=2: 131 NotSound
+# Numbers that no run counts up to.
+8=128: 131 NotSound
+41=128: 131 NotSound";
+
+#[test]
+fn two_parts_of_a_run_write_what_it_writes_and_damages_are_refused(
+    rt: HostRuntime,
 ) -> Result<(), Fail> {
-    for damage in damages {
-        let changed = with_byte(alloc, bytes, damage)?;
-        refuse(rt, alloc, changed.as_slice(), damage.2)?;
-    }
-    Ok(())
+    play(&rt, rt.alloc(), CASES)?;
+    let bytes = text_of(rt.alloc(), "double-snapshot")?;
+    refuse_rows(&rt, rt.alloc(), &snapshot_of(bytes.as_slice()), DAMAGES)
 }
 
-#[test]
-fn a_state_by_hand_is_resumed_and_its_damages_are_refused(rt: HostRuntime) -> Result<(), Fail> {
-    let snapshot = spelled(rt.alloc())?;
-    let bytes = snapshot.as_slice();
-    let numbers = "stats: items 3, fired 5, idle 0, bound 9\n";
-    let ends = Ends(0, "5\n7\n", numbers);
-    resume(&rt, rt.alloc(), bytes, "resume s --stats", ends)?;
-    for damages in DAMAGES {
-        refuse_each(&rt, rt.alloc(), bytes, damages)?;
-    }
-    Ok(())
-}
-
-#[test]
-fn a_beginning_of_a_snapshot_is_refused(rt: HostRuntime) -> Result<(), Fail> {
-    refuse(&rt, rt.alloc(), b"", "evidence: 130 BadShot 0\n")?;
-    refuse(&rt, rt.alloc(), b"P3LS", "evidence: 130 BadShot 4\n")
-}
-
-/// The snapshot that is saved of three items after four picks.
-fn saved(rt: &impl Abort, alloc: Global) -> Result<Vec<u8>, Fail> {
-    let files = take_all(rt, alloc, ALL, &[SAVED])?;
-    match files.get("s") {
-        None => Ok(Vec::new(alloc)),
-        Some(bytes) => Ok(Vec::from_slice(alloc, bytes)?),
-    }
-}
-
-/// Resumes a snapshot with one item more that was sent.
-fn refuse_one_sent(rt: &impl Abort, alloc: Global, snapshot: &[u8]) -> Result<(), Fail> {
-    let counted = with_byte(alloc, snapshot, &Damage(15, 3, ""))?;
-    refuse(rt, alloc, counted.as_slice(), "evidence: 131 NotSound\n")
-}
-
-/// Resumes a snapshot with one byte more.
-fn refuse_one_byte(rt: &impl Abort, alloc: Global, snapshot: &[u8]) -> Result<(), Fail> {
-    let place = snapshot.len();
-    let mut more = Vec::from_slice(alloc, snapshot)?;
-    more.push(0)?;
-    let line = format!(in alloc; "evidence: 130 BadShot {place}\n")?;
-    refuse(rt, alloc, more.as_slice(), line.as_str())
-}
+/// Three items are sent, and one comes out.
+const SAVED: &str = r#"save m.p3l --processors 4 --schedule file:p --output s
+< 1
+< 2
+< -3
+> 3
+! saved: items 3, picks 4"#;
 
 #[test]
 fn a_saved_snapshot_with_one_more_is_refused(rt: HostRuntime) -> Result<(), Fail> {
-    let snapshot = saved(&rt, rt.alloc())?;
-    assert!(&rt; snapshot.len() > 110);
-    refuse_one_sent(&rt, rt.alloc(), snapshot.as_slice())?;
-    refuse_one_byte(&rt, rt.alloc(), snapshot.as_slice())
+    let head = "\nfile m.p3l = double\nfile p\n| 0 2 0 1";
+    let bytes = left_by(&rt, rt.alloc(), head, SAVED, "s")?;
+    let snapshot = snapshot_of(bytes.as_slice());
+    // One item more that was sent, and one byte more.
+    refuse_rows(&rt, rt.alloc(), &snapshot, "15=3: 131 NotSound")?;
+    refuse_one_more(&rt, rt.alloc(), &snapshot, "130 BadShot")
 }
 
-/// Picks by turns, but for one of the workers.
-const PICKS: [&str; 9] = ["0 ", "1 ", "2 ", "3 ", "4 ", "5 ", "7 ", "8 ", "9 "];
-
-/// The lines of forty items after this count of them.
-fn lines_after(alloc: Global, count: usize) -> Result<String, Fail> {
+/// The input of forty items after this count of them.
+fn input_after(alloc: Global, count: usize) -> Result<String, Fail> {
     let mut lines = String::new(alloc);
     for line in count..40 {
-        lines.push_str(if line % 2 == 0 { "64 0\n" } else { "3 0\n" })?;
+        lines.push_str(if line % 2 == 0 { "\n< 64 0" } else { "\n< 3 0" })?;
     }
     Ok(lines)
 }
@@ -343,60 +251,66 @@ fn items_in(alloc: Global, lines: &[u8], picks: usize) -> Result<Option<usize>, 
     Ok(None)
 }
 
-/// The program, and this count of picks.
+/// The program, and this count of picks by turns, but for one of the workers.
 fn files_for(alloc: Global, count: usize) -> Result<MemFiles, Fail> {
-    let mut picks = String::new(alloc);
-    for at in 0..count {
-        picks.push_str(PICKS[at % 9])?;
-    }
-    let mut files = holding(alloc, &[Held("m.p3l", HALVES)], &[])?;
-    files.add("p", picks.as_str().as_bytes())?;
+    let picks = "0 1 2 3 4 5 7 8 9 ".repeat(alloc, 7)?;
+    let length = count.saturating_mul(2);
+    let bytes = picks.as_str().as_bytes().get(..length).ok_or("too few")?;
+    let mut files = files_of(alloc, "\nfile m.p3l = halves")?;
+    files.add("p", bytes)?;
     Ok(files)
 }
 
-/// The first part of a run that is saved after this count of picks.
-fn first_part(
+/// Takes these words with the input after a count of items.
+fn part(
     rt: &impl Abort,
     alloc: Global,
+    words: &str,
+    items: usize,
     files: &mut MemFiles,
-    count: usize,
 ) -> Result<Ended, Fail> {
-    let words = "save m.p3l --processors 16 --capacity 1 --schedule file:p --output s";
-    let all = lines_after(alloc, 0)?;
-    let ended = perform(alloc, words, all.as_str(), files, &NONE)?;
-    assert_eq!(rt; ended.status, 0);
+    let input = input_after(alloc, items)?;
+    let step = format!(in alloc; "{words}{input}")?;
+    let ended = perform(alloc, "", step.as_str(), files)?;
+    assert_eq!(rt; ended.status, 0, "{words}");
     Ok(ended)
 }
 
-/// What the second part writes, on what is left after these items.
-fn second_part(
+/// The first part of a run that is saved after the picks, and the second part behind it.
+const FIRST: &str = "save m.p3l --processors 16 --capacity 1 --schedule file:p --output s";
+
+const SECOND: &str = "resume s";
+
+/// Resumes a run that was saved so after this count of picks: what both parts write is the whole.
+fn resume(
     rt: &impl Abort,
     alloc: Global,
+    first: &Ended,
+    count: usize,
     files: &mut MemFiles,
-    items: usize,
-) -> Result<Vec<u8>, Fail> {
-    let rest = lines_after(alloc, items)?;
-    let ended = perform(alloc, "resume s", rest.as_str(), files, &NONE)?;
-    assert_eq!(rt; ended.status, 0);
-    Ok(ended.output)
+) -> Result<(), Fail> {
+    let items = items_in(alloc, first.lines.as_slice(), count)?.ok_or("not saved")?;
+    let second = part(rt, alloc, SECOND, items, files)?;
+    let whole = "1 6\n1 1\n".repeat(alloc, 20)?;
+    let rest = whole
+        .as_str()
+        .as_bytes()
+        .strip_prefix(first.output.as_slice());
+    assert!(rt; rest == Some(second.output.as_slice()), "{count}");
+    Ok(())
 }
 
-/// What the two parts of a run write that is saved after this count of picks, one after the other.
-fn parts(rt: &impl Abort, alloc: Global, count: usize) -> Result<Vec<u8>, Fail> {
+/// Saves a run after this count of picks, and resumes it.
+fn cut(rt: &impl Abort, alloc: Global, count: usize) -> Result<(), Fail> {
     let mut files = files_for(alloc, count)?;
-    let first = first_part(rt, alloc, &mut files, count)?;
-    let items = items_in(alloc, first.lines.as_slice(), count)?.ok_or("not saved")?;
-    let mut both = first.output;
-    both.extend_from_slice(second_part(rt, alloc, &mut files, items)?.as_slice())?;
-    Ok(both)
+    let first = part(rt, alloc, FIRST, 0, &mut files)?;
+    resume(rt, alloc, &first, count, &mut files)
 }
 
 #[test]
 fn a_run_may_be_cut_after_each_of_its_picks(rt: HostRuntime) -> Result<(), Fail> {
-    let whole = "1 6\n1 1\n".repeat(rt.alloc(), 20)?;
     for count in 1..61 {
-        let both = parts(&rt, rt.alloc(), count)?;
-        assert!(&rt; both.as_slice() == whole.as_str().as_bytes(), "{count}");
+        cut(&rt, rt.alloc(), count)?;
     }
     Ok(())
 }

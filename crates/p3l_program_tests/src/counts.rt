@@ -1,150 +1,195 @@
 // The worker counts that are chosen, and the programs and costs that have none.
 
-use crate::texts::{
-    CHECK, FARMED, FARMED_FILES, REFUSED_KEY, REFUSED_NAME, RUN, TOO_FEW, UNDECLARED,
-};
-use crate::world::{Case, Cases, Ends, Held, NONE, Program, Programs, take_cases, take_programs};
+use crate::world::play;
 use std::test::Fail;
 
-const ON_EIGHT: Ends = Ends(
-    0,
-    "processors 8 used 8 service 12\n0 pipe main procs 8 service 12\n1 seq f procs 1 service 10\n2 farm w procs 7 service 12 count 5\n3 seq g procs 1 service 60\n",
-    "",
-);
+const CASES: &str = r#"
+= Counts are explained or refused by each command.
+file a.p3l = farmed
+file a.toml = farmed-costs
+none new
 
-const ON_NINE: Ends = Ends(
-    0,
-    "processors 9 used 9 service 10\n0 pipe main procs 9 service 10\n1 seq f procs 1 service 10\n2 farm w procs 8 service 10 count 6\n3 seq g procs 1 service 60\n",
-    "",
-);
+$ explain a.p3l --processors 8 --costs a.toml
+> processors 8 used 8 service 12
+> 0 pipe main procs 8 service 12
+> 1 seq f procs 1 service 10
+> 2 farm w procs 7 service 12 count 5
+> 3 seq g procs 1 service 60
 
-const ON_TWENTY: Ends = Ends(
-    0,
-    "processors 20 used 9 service 10\n0 pipe main procs 9 service 10\n1 seq f procs 1 service 10\n2 farm w procs 8 service 10 count 6\n3 seq g procs 1 service 60\n",
-    "",
-);
+$ explain a.p3l --processors 9 --costs a.toml
+> processors 9 used 9 service 10
+> 0 pipe main procs 9 service 10
+> 1 seq f procs 1 service 10
+> 2 farm w procs 8 service 10 count 6
+> 3 seq g procs 1 service 60
 
-const EXPLAINED: &[Cases] = &[
-    Cases(
-        "explain a.p3l --processors 8 --costs a.toml",
-        &[Case(FARMED_FILES, NONE, "", ON_EIGHT)],
-    ),
-    Cases(
-        "explain a.p3l --processors 9 --costs a.toml",
-        &[Case(FARMED_FILES, NONE, "", ON_NINE)],
-    ),
-    // More processors make it no faster.
-    Cases(
-        "explain a.p3l --processors 20 --costs a.toml",
-        &[Case(FARMED_FILES, NONE, "", ON_TWENTY)],
-    ),
-];
+# More processors make it no faster.
+$ explain a.p3l --processors 20 --costs a.toml
+> processors 20 used 9 service 10
+> 0 pipe main procs 9 service 10
+> 1 seq f procs 1 service 10
+> 2 farm w procs 8 service 10 count 6
+> 3 seq g procs 1 service 60
 
-const TOO_FEW_FOR_EACH: &[Cases] = &[
-    Cases(
-        "explain a.p3l --processors 3 --costs a.toml",
-        &[Case(FARMED_FILES, NONE, "", TOO_FEW)],
-    ),
-    Cases(
-        "run a.p3l --processors 3 --costs a.toml --stats",
-        &[Case(FARMED_FILES, NONE, "1\n", TOO_FEW)],
-    ),
-    Cases(
-        "compile a.p3l --processors 3 --output i --costs a.toml",
-        &[Case(FARMED_FILES, NONE, "", TOO_FEW)],
-    ),
-    Cases(
-        "check-trace a.p3l --processors 3 --trace t",
-        &[Case(FARMED_FILES, NONE, "1\n", TOO_FEW)],
-    ),
-];
+$ explain a.p3l --processors 3 --costs a.toml
+! too few processors: need 4
+? 5
 
-const WITHOUT_A_BODY: &[Held] = &[
-    Held("a.p3l", FARMED),
-    Held("a.toml", "setup = 0\nword = 0\n[seq]\nf = 10\n"),
-];
+$ run a.p3l --processors 3 --costs a.toml --stats
+< 1
+! too few processors: need 4
+? 5
 
-const WITH_A_SPEED: &[Held] = &[
-    Held("a.p3l", FARMED),
-    Held(
-        "a.toml",
-        "speed = 1\nsetup = 0\nword = 0\n[seq]\nf = 10\ng = 60\n",
-    ),
-];
+$ compile a.p3l --processors 3 --output i --costs a.toml
+! too few processors: need 4
+? 5
 
-const MISSING: Ends = Ends(4, "", "costs: 53 Missing g\n");
+$ check-trace a.p3l --processors 3 --trace t
+< 1
+! too few processors: need 4
+? 5
 
-const COSTS_REFUSED: &[Cases] = &[
-    Cases(
-        "explain a.p3l --processors 8 --costs a.toml",
-        &[
-            Case(WITHOUT_A_BODY, NONE, "", MISSING),
-            Case(WITH_A_SPEED, NONE, "", REFUSED_KEY),
-        ],
-    ),
-    Cases(
-        "run a.p3l --processors 16 --costs a.toml --stats",
-        &[Case(WITHOUT_A_BODY, NONE, "1\n", MISSING)],
-    ),
-    Cases(
-        "verify-cert a.p3l --cert c --costs a.toml",
-        &[Case(WITH_A_SPEED, NONE, "", REFUSED_KEY)],
-    ),
-];
+= Costs are refused.
+none new
+
+file a.p3l = farmed
+file a.toml
+| setup = 0
+| word = 0
+| [seq]
+| f = 10
+$ explain a.p3l --processors 8 --costs a.toml
+! costs: 53 Missing g
+? 4
+
+file a.p3l = farmed
+file a.toml
+| speed = 1
+| setup = 0
+| word = 0
+| [seq]
+| f = 10
+| g = 60
+$ explain a.p3l --processors 8 --costs a.toml
+! costs: 51 BadKey speed
+? 4
+
+file a.p3l = farmed
+file a.toml
+| setup = 0
+| word = 0
+| [seq]
+| f = 10
+$ run a.p3l --processors 16 --costs a.toml --stats
+< 1
+! costs: 53 Missing g
+? 4
+
+file a.p3l = farmed
+file a.toml
+| speed = 1
+| setup = 0
+| word = 0
+| [seq]
+| f = 10
+| g = 60
+$ verify-cert a.p3l --cert c --costs a.toml
+! costs: 51 BadKey speed
+? 4
+
+= Programs are counted or refused and not run.
+
+# Programs are counted or refused.
+file m.p3l = farmed
+$ check m.p3l
+> ok: 4 modules, 4 instances
+
+# A farm in a unit.
+file m.p3l
+| seq f in(int x) out(int y)
+| ${ y = x + 1; }$
+| end seq
+|
+| seq g in(int x) out(int y)
+| ${ y = x * 3; }$
+| end seq
+|
+| farm w in(int x) out(int y)
+|   g in(x) out(y)
+| end farm
+|
+| comp main in(int x) out(int y)
+|   f in(x) out(int t)
+|   w in(t) out(y)
+| end comp
+$ check m.p3l
+! source: 15:3: 28 NotInComp
+? 3
+
+# Three segments, which is no power of two.
+file m.p3l
+| seq sub in(int x, int y) out(int z)
+| ${
+|   z = x - y;
+| }$
+| end seq
+|
+| reduce main in(int a[5]) out(int s) workers 3
+|   sub in(a[*i]) out(s)
+| end reduce
+$ check m.p3l
+! source: 7:45: 30 BadWorkers
+? 3
+
+# Eight segments, of five elements.
+file m.p3l
+| seq sub in(int x, int y) out(int z)
+| ${
+|   z = x - y;
+| }$
+| end seq
+|
+| reduce main in(int a[5]) out(int s) workers 8
+|   sub in(a[*i]) out(s)
+| end reduce
+$ check m.p3l
+! source: 7:45: 30 BadWorkers
+? 3
+
+file m.p3l
+$ check m.p3l
+! source: 1:1: 21 NoMain
+? 3
+
+# A program that breaks a rule is not run.
+file m.p3l = undeclared
+$ run m.p3l --processors 16 --stats
+< 1
+! source: 2:8: 40 Undeclared
+? 3
+
+file m.p3l
+| seq sub in(int x, int y) out(int z)
+| ${
+|   z = x - y;
+| }$
+| end seq
+|
+| reduce main in(int a[5]) out(int s) workers 3
+|   sub in(a[*i]) out(s)
+| end reduce
+$ run m.p3l --processors 16 --stats
+< 1 2 3 4 5
+! source: 7:45: 30 BadWorkers
+? 3
+
+file m.p3l
+$ run m.p3l --processors 16 --stats
+! source: 1:1: 21 NoMain
+? 3
+"#;
 
 #[test]
 fn counts_are_explained_or_refused_by_each_command(rt: HostRuntime) -> Result<(), Fail> {
-    take_cases(
-        &rt,
-        rt.alloc(),
-        &[EXPLAINED, TOO_FEW_FOR_EACH, COSTS_REFUSED],
-    )
-}
-
-/// Three segments, which is no power of two.
-const FOLD_IN_THREE: &str =
-    "seq sub in(int x, int y) out(int z)\n${\n  z = x - y;\n}$\nend seq\n\nreduce main in(int a[5]) out(int s) workers 3\n  sub in(a[*i]) out(s)\nend reduce\n";
-
-/// Eight segments, of five elements.
-const FOLD_IN_EIGHT: &str =
-    "seq sub in(int x, int y) out(int z)\n${\n  z = x - y;\n}$\nend seq\n\nreduce main in(int a[5]) out(int s) workers 8\n  sub in(a[*i]) out(s)\nend reduce\n";
-
-/// A farm in a unit.
-const FARMED_IN_A_UNIT: &str =
-    "seq f in(int x) out(int y)\n${ y = x + 1; }$\nend seq\n\nseq g in(int x) out(int y)\n${ y = x * 3; }$\nend seq\n\nfarm w in(int x) out(int y)\n  g in(x) out(y)\nend farm\n\ncomp main in(int x) out(int y)\n  f in(x) out(int t)\n  w in(t) out(y)\nend comp\n";
-
-const BAD_WORKERS: Ends = Ends(3, "", "source: 7:45: 30 BadWorkers\n");
-
-const NO_MAIN: Ends = Ends(3, "", "source: 1:1: 21 NoMain\n");
-
-const PROGRAMS: &[Programs] = &[
-    // Programs are counted or refused.
-    Programs(
-        CHECK,
-        &[
-            Program(FARMED, "", Ends(0, "ok: 4 modules, 4 instances\n", "")),
-            Program(
-                FARMED_IN_A_UNIT,
-                "",
-                Ends(3, "", "source: 15:3: 28 NotInComp\n"),
-            ),
-            Program(FOLD_IN_THREE, "", BAD_WORKERS),
-            Program(FOLD_IN_EIGHT, "", BAD_WORKERS),
-            Program("", "", NO_MAIN),
-        ],
-    ),
-    // A program that breaks a rule is not run.
-    Programs(
-        RUN,
-        &[
-            Program(UNDECLARED, "1\n", REFUSED_NAME),
-            Program(FOLD_IN_THREE, "1 2 3 4 5\n", BAD_WORKERS),
-            Program("", "", NO_MAIN),
-        ],
-    ),
-];
-
-#[test]
-fn programs_are_counted_or_refused_and_not_run(rt: HostRuntime) -> Result<(), Fail> {
-    take_programs(&rt, rt.alloc(), PROGRAMS)
+    play(&rt, rt.alloc(), CASES)
 }

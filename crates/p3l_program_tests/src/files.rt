@@ -1,193 +1,278 @@
 // Files that can't be read or written, and files that are too long.
 
-use crate::spelled::DOUBLE_IMAGE;
-use crate::texts::{
-    CERTIFICATE, COUNTED, DOUBLE, FARMED, FARMED_COSTS, ITEMS, LESS_OF_FOUR, NO_COSTS, NO_IMAGE,
-    NO_PICKS, NO_PROGRAM, TRACE, WRITE_FAULT,
-};
-use crate::world::{
-    Case, Cases, Ends, FIRST_FILE, FOURTH_FILE, Held, NONE, SECOND_FILE, Step, THIRD_FILE, holding,
-    take, take_cases,
-};
+use crate::world::{play, take_with_file};
 use std::test::Fail;
 
-/// All files that the commands below read.
-const ALL: &[Held] = &[
-    Held("m.p3l", DOUBLE),
-    Held("c", "default = 1\n"),
-    Held("p", "0 2 1 0 2 1 0 2 1\n"),
-    Held("i", DOUBLE_IMAGE),
-    Held("t", TRACE),
-    Held("a.p3l", FARMED),
-    Held("a.toml", FARMED_COSTS),
-    Held("e", CERTIFICATE),
-];
+const CASES: &str = r#"
+= Each file of a command fails in turn.
+# All files that the commands below read.
+file m.p3l = double
+file c
+| default = 1
+file p
+| 0 2 1 0 2 1 0 2 1
+file i = double-image
+file t = trace
+file a.p3l = farmed
+file a.toml = farmed-costs
+file e = certificate
+none new
 
-const NO_FARM: Ends = Ends(9, "", "file fault: a.p3l\n");
+fails file 1
+$ run m.p3l --processors 16 --costs c --schedule file:p --stats
+< 1
+< 2
+< -3
+! file fault: m.p3l
+? 9
 
-const NO_FARM_COSTS: Ends = Ends(9, "", "file fault: a.toml\n");
+fails file 2
+$ run m.p3l --processors 16 --costs c --schedule file:p --stats
+< 1
+< 2
+< -3
+! file fault: c
+? 9
 
-const NO_CERTIFICATE: Ends = Ends(9, "", "file fault: e\n");
+fails file 3
+$ run m.p3l --processors 16 --costs c --schedule file:p --stats
+< 1
+< 2
+< -3
+! file fault: p
+? 9
 
-const VERIFIED: Ends = Ends(0, "certificate holds: processors 8 used 8 service 12\n", "");
+fails file 4
+$ run m.p3l --processors 16 --costs c --schedule file:p --stats
+< 1
+< 2
+< -3
+> 3
+> 5
+> -5
+! stats: items 3, fired 9, idle 0, bound 9
 
-const NO_TRACE: Ends = Ends(9, "", "file fault: t\n");
+fails file 1
+$ exec i --schedule file:p --stats
+< 1
+< 2
+< -3
+! file fault: i
+? 9
 
-const HELD: Ends = Ends(0, "trace holds: 3 fired, 0 idle\n", "");
+fails file 2
+$ exec i --schedule file:p --stats
+< 1
+< 2
+< -3
+! file fault: p
+? 9
 
-const CHECKED: Ends = Ends(0, "ok: 1 modules, 1 instances\n", "");
+fails file 3
+$ exec i --schedule file:p --stats
+< 1
+< 2
+< -3
+> 3
+> 5
+> -5
+! stats: items 3, fired 9, idle 0, bound 9
 
-const PROFILED: Ends = Ends(0, "setup = 10\nword = 1\n[seq]\nmain = 7\n", "");
+fails file 1
+$ compile m.p3l --processors 4 --costs c --output new
+! file fault: m.p3l
+? 9
 
-const OF_A_RUN: &[Cases] = &[Cases(
-    "run m.p3l --processors 16 --costs c --schedule file:p --stats",
-    &[
-        Case(ALL, FIRST_FILE, ITEMS, NO_PROGRAM),
-        Case(ALL, SECOND_FILE, ITEMS, NO_COSTS),
-        Case(ALL, THIRD_FILE, ITEMS, NO_PICKS),
-        Case(ALL, FOURTH_FILE, ITEMS, COUNTED),
-    ],
-)];
+fails file 2
+$ compile m.p3l --processors 4 --costs c --output new
+! file fault: c
+? 9
 
-const OF_AN_IMAGE: &[Cases] = &[Cases(
-    "exec i --schedule file:p --stats",
-    &[
-        Case(ALL, FIRST_FILE, ITEMS, NO_IMAGE),
-        Case(ALL, SECOND_FILE, ITEMS, NO_PICKS),
-        Case(ALL, THIRD_FILE, ITEMS, COUNTED),
-    ],
-)];
+fails file 3
+$ compile m.p3l --processors 4 --costs c --output new
+! write fault
+? 10
 
-const OF_COMPILING: &[Cases] = &[Cases(
-    "compile m.p3l --processors 4 --costs c --output new",
-    &[
-        Case(ALL, FIRST_FILE, "", NO_PROGRAM),
-        Case(ALL, SECOND_FILE, "", NO_COSTS),
-        Case(ALL, THIRD_FILE, "", WRITE_FAULT),
-    ],
-)];
+fails file 1
+$ explain a.p3l --processors 8 --costs a.toml --cert new
+! file fault: a.p3l
+? 9
 
-const OF_AN_EXPLANATION: &[Cases] = &[Cases(
-    "explain a.p3l --processors 8 --costs a.toml --cert new",
-    &[
-        Case(ALL, FIRST_FILE, "", NO_FARM),
-        Case(ALL, SECOND_FILE, "", NO_FARM_COSTS),
-        Case(ALL, THIRD_FILE, "", WRITE_FAULT),
-    ],
-)];
+fails file 2
+$ explain a.p3l --processors 8 --costs a.toml --cert new
+! file fault: a.toml
+? 9
 
-const OF_VERIFYING: &[Cases] = &[Cases(
-    "verify-cert a.p3l --cert e --costs a.toml",
-    &[
-        Case(ALL, FIRST_FILE, "", NO_FARM),
-        Case(ALL, SECOND_FILE, "", NO_FARM_COSTS),
-        Case(ALL, THIRD_FILE, "", NO_CERTIFICATE),
-        Case(ALL, FOURTH_FILE, "", VERIFIED),
-    ],
-)];
+fails file 3
+$ explain a.p3l --processors 8 --costs a.toml --cert new
+! write fault
+? 10
 
-const OF_CHECKING: &[Cases] = &[Cases(
-    "check-trace m.p3l --processors 4 --costs c --trace t",
-    &[
-        Case(ALL, FIRST_FILE, "1\n", NO_PROGRAM),
-        Case(ALL, SECOND_FILE, "1\n", NO_COSTS),
-        Case(ALL, THIRD_FILE, "1\n", NO_TRACE),
-        Case(ALL, FOURTH_FILE, "1\n", HELD),
-    ],
-)];
+fails file 1
+$ verify-cert a.p3l --cert e --costs a.toml
+! file fault: a.p3l
+? 9
 
-const LISTED: &[Held] = &[Held("m.p3l", LESS_OF_FOUR), Held("p", "0\n")];
+fails file 2
+$ verify-cert a.p3l --cert e --costs a.toml
+! file fault: a.toml
+? 9
 
-const OF_A_SCAN: &[Cases] = &[Cases(
-    "scan m.p3l --segments 1 --schedule file:p",
-    &[
-        Case(LISTED, FIRST_FILE, "1 2 3 4\n", NO_PROGRAM),
-        Case(LISTED, SECOND_FILE, "1 2 3 4\n", NO_PICKS),
-    ],
-)];
+fails file 3
+$ verify-cert a.p3l --cert e --costs a.toml
+! file fault: e
+? 9
 
-const OF_READING: &[Cases] = &[
-    Cases(
-        "check m.p3l",
-        &[
-            Case(ALL, FIRST_FILE, "", NO_PROGRAM),
-            Case(ALL, SECOND_FILE, "", CHECKED),
-        ],
-    ),
-    Cases("fmt m.p3l", &[Case(ALL, FIRST_FILE, "", NO_PROGRAM)]),
-];
+fails file 4
+$ verify-cert a.p3l --cert e --costs a.toml
+> certificate holds: processors 8 used 8 service 12
 
-const EACH: &[&[Cases]] = &[
-    OF_A_RUN,
-    OF_AN_IMAGE,
-    OF_COMPILING,
-    OF_AN_EXPLANATION,
-    OF_VERIFYING,
-    OF_CHECKING,
-    OF_READING,
-];
+fails file 1
+$ check-trace m.p3l --processors 4 --costs c --trace t
+< 1
+! file fault: m.p3l
+? 9
+
+fails file 2
+$ check-trace m.p3l --processors 4 --costs c --trace t
+< 1
+! file fault: c
+? 9
+
+fails file 3
+$ check-trace m.p3l --processors 4 --costs c --trace t
+< 1
+! file fault: t
+? 9
+
+fails file 4
+$ check-trace m.p3l --processors 4 --costs c --trace t
+< 1
+> trace holds: 3 fired, 0 idle
+
+fails file 1
+$ check m.p3l
+! file fault: m.p3l
+? 9
+
+fails file 2
+$ check m.p3l
+> ok: 1 modules, 1 instances
+
+fails file 1
+$ fmt m.p3l
+! file fault: m.p3l
+? 9
+
+fails file 1
+$ profile m.p3l
+< 1
+! file fault: m.p3l
+? 9
+
+fails file 2
+$ profile m.p3l
+< 1
+> setup = 10
+> word = 1
+> [seq]
+> main = 7
+
+= Each file of a scan fails in turn.
+none new
+
+fails file 1
+file m.p3l = less-of-four
+file p
+| 0
+$ scan m.p3l --segments 1 --schedule file:p
+< 1 2 3 4
+! file fault: m.p3l
+? 9
+
+fails file 2
+file m.p3l = less-of-four
+file p
+| 0
+$ scan m.p3l --segments 1 --schedule file:p
+< 1 2 3 4
+! file fault: p
+? 9
+
+= Each file of a checkpoint fails in turn.
+file m.p3l = double
+file c
+| default = 1
+file p
+| 0 2 1 0 2 1 0 2 1
+none new
+
+# The items end before the eighth pick, with the third on its way.
+fails file 1
+$ save m.p3l --processors 16 --costs c --schedule file:p --output new
+< 1
+< 2
+< -3
+! file fault: m.p3l
+? 9
+
+fails file 2
+$ save m.p3l --processors 16 --costs c --schedule file:p --output new
+< 1
+< 2
+< -3
+! file fault: c
+? 9
+
+fails file 3
+$ save m.p3l --processors 16 --costs c --schedule file:p --output new
+< 1
+< 2
+< -3
+! file fault: p
+? 9
+
+fails file 4
+$ save m.p3l --processors 16 --costs c --schedule file:p --output new
+< 1
+< 2
+< -3
+> 3
+> 5
+! write fault
+? 10
+"#;
 
 #[test]
 fn each_file_of_a_command_fails_in_turn(rt: HostRuntime) -> Result<(), Fail> {
-    take_cases(&rt, rt.alloc(), EACH)
+    play(&rt, rt.alloc(), CASES)
 }
 
-const OF_A_PROFILE: &[Cases] = &[Cases(
-    "profile m.p3l",
-    &[
-        Case(ALL, FIRST_FILE, "1\n", NO_PROGRAM),
-        Case(ALL, SECOND_FILE, "1\n", PROFILED),
-    ],
-)];
+/// All files that the commands above read.
+const ALL: &str = r#"
+file m.p3l = line.p3l
+file c
+| default = 1
+file p
+| 0 2 1 0 2 1 0 2 1
+file i = double-image
+file t = trace
+file a.p3l = farmed
+file a.toml = farmed-costs
+file e = certificate
+"#;
 
-#[test]
-fn each_file_of_a_scan_or_a_profile_fails_in_turn(rt: HostRuntime) -> Result<(), Fail> {
-    take_cases(&rt, rt.alloc(), &[OF_A_SCAN, OF_A_PROFILE])
-}
+const OF_A_LONG_FILE: &str = r#"compile long --processors 4 --output new
+! file too long: long
+? 9
+$ explain m.p3l --processors 4 --costs long
+! file too long: long
+? 9"#;
 
-const BUILT: &[Held] = &[
-    Held("m.p3l", DOUBLE),
-    Held("c", "default = 1\n"),
-    Held("p", "0 2 1 0 2 1 0 2 1\n"),
-];
-
-/// The items end before the eighth pick, with the third on its way.
-const OF_SAVING: &[Cases] = &[Cases(
-    "save m.p3l --processors 16 --costs c --schedule file:p --output new",
-    &[
-        Case(BUILT, FIRST_FILE, ITEMS, NO_PROGRAM),
-        Case(BUILT, SECOND_FILE, ITEMS, NO_COSTS),
-        Case(BUILT, THIRD_FILE, ITEMS, NO_PICKS),
-        Case(
-            BUILT,
-            FOURTH_FILE,
-            ITEMS,
-            Ends(10, "3\n5\n", "write fault\n"),
-        ),
-    ],
-)];
-
-#[test]
-fn each_file_of_a_checkpoint_fails_in_turn(rt: HostRuntime) -> Result<(), Fail> {
-    take_cases(&rt, rt.alloc(), &[OF_SAVING])
-}
-
-const TOO_LONG: Ends = Ends(9, "", "file too long: long\n");
-
-const OF_A_LONG_FILE: &[Step] = &[
-    Step("compile long --processors 4 --output new", "", TOO_LONG),
-    Step("explain m.p3l --processors 4 --costs long", "", TOO_LONG),
-];
-
-/// A file of one blank more than a file may have.
+/// A file has one blank more than a file may have.
 #[test]
 fn a_file_that_is_too_long_is_reported(rt: HostRuntime) -> Result<(), Fail> {
-    let alloc = rt.alloc();
-    for step in OF_A_LONG_FILE {
-        let mut files = holding(alloc, ALL, &[])?;
-        let long = " ".repeat(alloc, 1_048_577)?;
-        files.add("long", long.as_str().as_bytes())?;
-        take(&rt, alloc, &mut files, step, &NONE)?;
-    }
-    Ok(())
+    let long = " ".repeat(rt.alloc(), 1_048_577)?;
+    let bytes = long.as_str().as_bytes();
+    take_with_file(&rt, rt.alloc(), ALL, "long", bytes, OF_A_LONG_FILE)
 }

@@ -1,8 +1,9 @@
 //! The program over objects in memory, from the words to what is written, reported and answered.
 //!
-//! Rows of commands whose values come from outside, damaged evidence, files and calls that fail, which
-//! of two answers comes first, and the programs of `examples/` under two schedules. Nothing here reads
-//! that folder: `tools/examples_same.py` says whether the texts are those of its files.
+//! Transcripts of commands whose values come from outside, damaged evidence, files and calls that fail,
+//! which of two answers comes first, and the programs of `examples/` under two schedules: `world` says
+//! how a transcript is written. Nothing here reads that folder: `tools/examples_same.py` says whether
+//! the texts are those of its files.
 #![tactic(auto)]
 
 #[cfg(test)]
@@ -13,6 +14,8 @@ mod certificates;
 mod checkpoints;
 #[cfg(test)]
 mod counts;
+#[cfg(test)]
+mod damage;
 #[cfg(test)]
 mod damaged_images;
 #[cfg(test)]

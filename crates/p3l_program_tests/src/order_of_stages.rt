@@ -1,336 +1,572 @@
 // Where several stages of a command would refuse, the first of them does: each case breaks a stage that
 // comes before the one that the next case breaks.
 
-use crate::spelled::DOUBLE_IMAGE;
-use crate::texts::{
-    BAD_SEGMENTS, DOUBLE, DOUBLE_FILES, FARMED, LESS_OF_FIVE, LESS_OF_FOUR, NO_COSTS, NO_IMAGE,
-    NO_PICKS, NO_PROGRAM, NOT_REDUCE, READ_FAULT, REFUSED_KEY, REFUSED_NAME, REFUSED_PICK, TOO_FEW,
-    UNDECLARED, USAGE, WRITE_FAULT,
-};
-use crate::world::{Case, Cases, Ends, FIRST_PUT, Faults, Held, NO_PUT, NO_TAKE, NONE, take_cases};
+use crate::world::play;
 use std::test::Fail;
 
-/// An image that ends early, and no program.
-const SHORT: &[Held] = &[Held("i", "P3LI")];
+const CASES: &str = r#"
+= A run is refused by the first of its stages.
+none new
 
-const BROKEN: &[Held] = &[Held("m.p3l", UNDECLARED)];
+fails take 1
+file m.p3l = double
+$ run none.p3l --processors 0 --costs c
+< 1
+! usage: the words are not a command of p3l
+? 2
 
-const MANY: &[Held] = &[Held("m.p3l", FARMED)];
+# An image that ends early, and no program.
+# The stages of a program and its costs, before an input that can't be taken.
+fails take 1
+file i
+| P3LI\
+$ run m.p3l --processors 3 --costs c --schedule file:p
+< 1
+! file fault: m.p3l
+? 9
 
-const BAD_COSTS: &[Held] = &[Held("m.p3l", FARMED), Held("c", "speed = 1\n")];
+fails take 1
+file m.p3l = undeclared
+$ run m.p3l --processors 3 --costs c --schedule file:p
+< 1
+! source: 2:8: 40 Undeclared
+? 3
 
-/// Picks of a process that isn't there.
-const BAD_PICKS: &[Held] = &[Held("m.p3l", DOUBLE), Held("p", "3\n")];
+fails take 1
+file m.p3l = farmed
+$ run m.p3l --processors 3 --costs c --schedule file:p
+< 1
+! file fault: c
+? 9
 
-const IMAGE: &[Held] = &[Held("i", DOUBLE_IMAGE)];
+fails take 1
+file m.p3l = farmed
+file c
+| speed = 1
+$ run m.p3l --processors 3 --costs c --schedule file:p
+< 1
+! costs: 51 BadKey speed
+? 4
 
-const IMAGE_AND_PICKS: &[Held] = &[Held("i", DOUBLE_IMAGE), Held("p", "3\n")];
+fails take 1
+file m.p3l = farmed
+$ run m.p3l --processors 3 --schedule file:p
+< 1
+! too few processors: need 4
+? 5
 
-const NO_CERTIFICATE: &[Held] = &[Held("m.p3l", DOUBLE), Held("e", "p3l-cert\n")];
+fails take 1
+file m.p3l = double
+$ run m.p3l --processors 3 --schedule file:p
+< 1
+! file fault: p
+? 9
 
-const NO_TRACE: &[Held] = &[Held("m.p3l", DOUBLE), Held("t", "p3l-trace\n")];
+# Picks of a process that isn't there.
+fails take 1
+file m.p3l = double
+file p
+| 3
+$ run m.p3l --processors 3 --schedule file:p
+< 1
+! schedule: line 1: 96 NoSuchProcess 3 of 3
+? 12
 
-/// The second call of the files fails, and the first put of the output.
-const SECOND_AND_PUT: Faults = Faults {
-    files: &[2],
-    puts: FIRST_PUT,
-    ..NONE
-};
+fails take 1
+file m.p3l = double
+$ exec i --schedule file:p --processors 4
+< 1
+! usage: the words are not a command of p3l
+? 2
 
-/// The stages of a program and its costs, before an input that can't be taken.
-const FRONT_UNTAKEN: &[Case] = &[
-    Case(SHORT, NO_TAKE, "1\n", NO_PROGRAM),
-    Case(BROKEN, NO_TAKE, "1\n", REFUSED_NAME),
-    Case(MANY, NO_TAKE, "1\n", NO_COSTS),
-    Case(BAD_COSTS, NO_TAKE, "1\n", REFUSED_KEY),
-];
+fails take 1
+file m.p3l = double
+$ exec i --schedule file:p
+< 1
+! file fault: i
+? 9
 
-/// The same, before an output that can't be put.
-const FRONT_UNPUT: &[Case] = &[
-    Case(SHORT, NO_PUT, "", NO_PROGRAM),
-    Case(BROKEN, NO_PUT, "", REFUSED_NAME),
-    Case(MANY, NO_PUT, "", NO_COSTS),
-    Case(BAD_COSTS, NO_PUT, "", REFUSED_KEY),
-];
+fails take 1
+file i
+| P3LI\
+$ exec i --schedule file:p
+< 1
+! evidence: 82 Short 4
+? 13
 
-const A_RUN_IS_REFUSED: &[Cases] = &[
-    Cases(
-        "run none.p3l --processors 0 --costs c",
-        &[Case(DOUBLE_FILES, NO_TAKE, "1\n", USAGE)],
-    ),
-    Cases(
-        "run m.p3l --processors 3 --costs c --schedule file:p",
-        FRONT_UNTAKEN,
-    ),
-    Cases(
-        "run m.p3l --processors 3 --schedule file:p",
-        &[
-            Case(MANY, NO_TAKE, "1\n", TOO_FEW),
-            Case(DOUBLE_FILES, NO_TAKE, "1\n", NO_PICKS),
-            Case(BAD_PICKS, NO_TAKE, "1\n", REFUSED_PICK),
-        ],
-    ),
-];
+fails take 1
+file i = double-image
+$ exec i --schedule file:p
+< 1
+! file fault: p
+? 9
 
-const AN_IMAGE_IS_REFUSED: &[Cases] = &[
-    Cases(
-        "exec i --schedule file:p --processors 4",
-        &[Case(DOUBLE_FILES, NO_TAKE, "1\n", USAGE)],
-    ),
-    Cases(
-        "exec i --schedule file:p",
-        &[
-            Case(DOUBLE_FILES, NO_TAKE, "1\n", NO_IMAGE),
-            Case(
-                SHORT,
-                NO_TAKE,
-                "1\n",
-                Ends(13, "", "evidence: 82 Short 4\n"),
-            ),
-            Case(IMAGE, NO_TAKE, "1\n", NO_PICKS),
-            Case(IMAGE_AND_PICKS, NO_TAKE, "1\n", REFUSED_PICK),
-        ],
-    ),
-    Cases(
-        "exec i",
-        &[
-            Case(IMAGE, NO_TAKE, "1\n", READ_FAULT),
-            Case(IMAGE, NO_PUT, "1\nx\n", WRITE_FAULT),
-        ],
-    ),
-];
+fails take 1
+file i = double-image
+file p
+| 3
+$ exec i --schedule file:p
+< 1
+! schedule: line 1: 96 NoSuchProcess 3 of 3
+? 12
 
-const SAVING_IS_REFUSED: &[Cases] = &[
-    Cases(
-        "save none.p3l --processors 4 --schedule rr --output new",
-        &[Case(DOUBLE_FILES, NO_TAKE, "1\n", USAGE)],
-    ),
-    Cases(
-        "save m.p3l --processors 3 --costs c --schedule file:p --output new",
-        FRONT_UNTAKEN,
-    ),
-    Cases(
-        "save m.p3l --processors 3 --schedule file:p --output new",
-        &[
-            Case(MANY, NO_TAKE, "1\n", TOO_FEW),
-            Case(DOUBLE_FILES, NO_TAKE, "1\n", NO_PICKS),
-            Case(BAD_PICKS, NO_TAKE, "1\n", REFUSED_PICK),
-        ],
-    ),
-];
+fails take 1
+file i = double-image
+$ exec i
+< 1
+! read fault
+? 8
 
-/// A snapshot of nothing but the beginning of an image, which is looked at before the state is.
-const SNAPSHOT_OF_NONE: &[Held] = &[Held(
-    "s",
-    "P3LS\0\0\0\x01\0\0\0\0\0\0\0\x01\0\0\0\0\0\0\0\0\0\0\0\0\0\0\0\0\0\0\0\0\x04P3LI",
-)];
+fails put 1 after 0
+file i = double-image
+$ exec i
+< 1
+< x
+! write fault
+? 10
 
-const RESUMING_IS_REFUSED: &[Cases] = &[
-    Cases(
-        "resume s --processors 4",
-        &[Case(DOUBLE_FILES, NO_TAKE, "1\n", USAGE)],
-    ),
-    Cases(
-        "resume s --schedule file:p",
-        &[
-            Case(DOUBLE_FILES, NO_TAKE, "1\n", Ends(9, "", "file fault: s\n")),
-            Case(
-                &[Held("s", "P3LI")],
-                NO_TAKE,
-                "1\n",
-                Ends(13, "", "evidence: 130 BadShot 0\n"),
-            ),
-            Case(
-                SNAPSHOT_OF_NONE,
-                NO_TAKE,
-                "1\n",
-                Ends(13, "", "evidence: 82 Short 4\n"),
-            ),
-        ],
-    ),
-];
+fails take 1
+file m.p3l = double
+$ save none.p3l --processors 4 --schedule rr --output new
+< 1
+! usage: the words are not a command of p3l
+? 2
 
-const AN_EXPLANATION_IS_REFUSED: &[Cases] = &[
-    Cases(
-        "explain m.p3l --processors 0 --cert e",
-        &[Case(DOUBLE_FILES, SECOND_AND_PUT, "", USAGE)],
-    ),
-    Cases(
-        "explain m.p3l --processors 3 --costs c --cert e",
-        FRONT_UNPUT,
-    ),
-    Cases(
-        "explain m.p3l --processors 3 --cert e",
-        &[Case(MANY, SECOND_AND_PUT, "", TOO_FEW)],
-    ),
-    Cases(
-        "explain m.p3l --processors 4 --cert e",
-        &[Case(DOUBLE_FILES, SECOND_AND_PUT, "", WRITE_FAULT)],
-    ),
-];
+fails take 1
+file i
+| P3LI\
+$ save m.p3l --processors 3 --costs c --schedule file:p --output new
+< 1
+! file fault: m.p3l
+? 9
 
-const COMPILING_IS_REFUSED: &[Cases] = &[
-    Cases(
-        "compile m.p3l --processors 4",
-        &[Case(DOUBLE_FILES, SECOND_AND_PUT, "", USAGE)],
-    ),
-    Cases(
-        "compile m.p3l --processors 3 --costs c --output i",
-        &[
-            Case(SHORT, NONE, "", NO_PROGRAM),
-            Case(BROKEN, NONE, "", REFUSED_NAME),
-            Case(MANY, NONE, "", NO_COSTS),
-            Case(BAD_COSTS, NONE, "", REFUSED_KEY),
-        ],
-    ),
-    Cases(
-        "compile m.p3l --processors 3 --output i",
-        &[Case(MANY, SECOND_AND_PUT, "", TOO_FEW)],
-    ),
-    Cases(
-        "compile m.p3l --processors 4 --output i",
-        &[Case(DOUBLE_FILES, SECOND_AND_PUT, "", WRITE_FAULT)],
-    ),
-];
+fails take 1
+file m.p3l = undeclared
+$ save m.p3l --processors 3 --costs c --schedule file:p --output new
+< 1
+! source: 2:8: 40 Undeclared
+? 3
 
-const VERIFYING_IS_REFUSED: &[Cases] = &[
-    Cases(
-        "verify-cert m.p3l --costs c",
-        &[Case(DOUBLE_FILES, NO_PUT, "", USAGE)],
-    ),
-    Cases("verify-cert m.p3l --cert e --costs c", FRONT_UNPUT),
-    Cases(
-        "verify-cert m.p3l --cert e",
-        &[
-            Case(DOUBLE_FILES, NO_PUT, "", Ends(9, "", "file fault: e\n")),
-            Case(
-                NO_CERTIFICATE,
-                NO_PUT,
-                "",
-                Ends(13, "", "evidence: 73 BadText 1\n"),
-            ),
-        ],
-    ),
-];
+fails take 1
+file m.p3l = farmed
+$ save m.p3l --processors 3 --costs c --schedule file:p --output new
+< 1
+! file fault: c
+? 9
 
-const CHECKING_IS_REFUSED: &[Cases] = &[
-    Cases(
-        "check-trace m.p3l --trace t",
-        &[Case(DOUBLE_FILES, NO_TAKE, "1\n", USAGE)],
-    ),
-    Cases(
-        "check-trace m.p3l --processors 3 --costs c --trace t",
-        FRONT_UNTAKEN,
-    ),
-    Cases(
-        "check-trace m.p3l --processors 3 --trace t",
-        &[Case(MANY, NO_TAKE, "1\n", TOO_FEW)],
-    ),
-    Cases(
-        "check-trace m.p3l --processors 4 --trace t",
-        &[
-            Case(DOUBLE_FILES, NO_TAKE, "1\n", Ends(9, "", "file fault: t\n")),
-            Case(
-                NO_TRACE,
-                NO_TAKE,
-                "1\n",
-                Ends(13, "", "evidence: 110 BadLine 1\n"),
-            ),
-        ],
-    ),
-];
+fails take 1
+file m.p3l = farmed
+file c
+| speed = 1
+$ save m.p3l --processors 3 --costs c --schedule file:p --output new
+< 1
+! costs: 51 BadKey speed
+? 4
 
-const READING_IS_REFUSED: &[Cases] = &[
-    Cases("check m.p3l --stats", &[Case(SHORT, NO_PUT, "", USAGE)]),
-    Cases(
-        "check m.p3l",
-        &[
-            Case(SHORT, NO_PUT, "", NO_PROGRAM),
-            Case(BROKEN, NO_PUT, "", REFUSED_NAME),
-            Case(DOUBLE_FILES, NO_PUT, "", WRITE_FAULT),
-        ],
-    ),
-    Cases(
-        "fmt m.p3l",
-        &[
-            Case(SHORT, NO_PUT, "", NO_PROGRAM),
-            Case(BROKEN, NO_PUT, "", WRITE_FAULT),
-        ],
-    ),
-    Cases(
-        "profile none.p3l --processors 4",
-        &[Case(DOUBLE_FILES, NO_TAKE, "1\n", USAGE)],
-    ),
-    Cases(
-        "profile m.p3l",
-        &[
-            Case(SHORT, NO_TAKE, "1\n", NO_PROGRAM),
-            Case(BROKEN, NO_TAKE, "1\n", REFUSED_NAME),
-            Case(DOUBLE_FILES, NO_TAKE, "1\n", READ_FAULT),
-        ],
-    ),
-];
+fails take 1
+file m.p3l = farmed
+$ save m.p3l --processors 3 --schedule file:p --output new
+< 1
+! too few processors: need 4
+? 5
 
-/// A list of five elements, and no picks.
-const FIVE: &[Held] = &[Held("m.p3l", LESS_OF_FIVE)];
+fails take 1
+file m.p3l = double
+$ save m.p3l --processors 3 --schedule file:p --output new
+< 1
+! file fault: p
+? 9
 
-/// A list of four, and no picks; and picks of a process that isn't there.
-const FOUR: &[Held] = &[Held("m.p3l", LESS_OF_FOUR)];
+fails take 1
+file m.p3l = double
+file p
+| 3
+$ save m.p3l --processors 3 --schedule file:p --output new
+< 1
+! schedule: line 1: 96 NoSuchProcess 3 of 3
+? 12
 
-const FOUR_AND_PICKS: &[Held] = &[Held("m.p3l", LESS_OF_FOUR), Held("p", "99\n")];
+fails take 1
+file m.p3l = double
+$ resume s --processors 4
+< 1
+! usage: the words are not a command of p3l
+? 2
 
-const A_SCAN_IS_REFUSED: &[Cases] = &[
-    Cases(
-        "scan none.p3l --segments 0",
-        &[Case(DOUBLE_FILES, NO_TAKE, "1\n", USAGE)],
-    ),
-    Cases(
-        "scan m.p3l --segments 2 --schedule file:p",
-        &[
-            Case(SHORT, NO_TAKE, "1\n", NO_PROGRAM),
-            Case(BROKEN, NO_TAKE, "1\n", REFUSED_NAME),
-            Case(DOUBLE_FILES, NO_TAKE, "1\n", NOT_REDUCE),
-            Case(FIVE, NO_TAKE, "1\n", BAD_SEGMENTS),
-            Case(FOUR, NO_TAKE, "1\n", NO_PICKS),
-            Case(
-                FOUR_AND_PICKS,
-                NO_TAKE,
-                "1\n",
-                Ends(12, "", "schedule: line 1: 96 NoSuchProcess 99 of 9\n"),
-            ),
-        ],
-    ),
-    Cases(
-        "scan m.p3l --segments 2",
-        &[
-            Case(FOUR, NO_TAKE, "1 2 3 4\n", READ_FAULT),
-            Case(FOUR, NO_PUT, "1 2 3 4\nx\n", WRITE_FAULT),
-        ],
-    ),
-];
+fails take 1
+file m.p3l = double
+$ resume s --schedule file:p
+< 1
+! file fault: s
+? 9
+
+fails take 1
+file s
+| P3LI\
+$ resume s --schedule file:p
+< 1
+! evidence: 130 BadShot 0
+? 13
+
+# A snapshot of nothing but the beginning of an image, which is looked at before the state is.
+fails take 1
+file s
+| P3LS\0\0\0\x01\0\0\0\0\0\0\0\x01\0\0\0\0\0\0\0\0\0\0\0\0\0\0\0\0\0\0\0\0\x04P3LI\
+$ resume s --schedule file:p
+< 1
+! evidence: 82 Short 4
+? 13
+
+= What writes a file is refused by the first of its stages.
+none new
+
+# The second call of the files fails, and the first put of the output.
+fails file 2
+fails put 1 after 0
+file m.p3l = double
+$ explain m.p3l --processors 0 --cert e
+! usage: the words are not a command of p3l
+? 2
+
+# The stages of a program and its costs, before an output that can't be put.
+fails put 1 after 0
+file i
+| P3LI\
+$ explain m.p3l --processors 3 --costs c --cert e
+! file fault: m.p3l
+? 9
+
+fails put 1 after 0
+file m.p3l = undeclared
+$ explain m.p3l --processors 3 --costs c --cert e
+! source: 2:8: 40 Undeclared
+? 3
+
+fails put 1 after 0
+file m.p3l = farmed
+$ explain m.p3l --processors 3 --costs c --cert e
+! file fault: c
+? 9
+
+fails put 1 after 0
+file m.p3l = farmed
+file c
+| speed = 1
+$ explain m.p3l --processors 3 --costs c --cert e
+! costs: 51 BadKey speed
+? 4
+
+fails file 2
+fails put 1 after 0
+file m.p3l = farmed
+$ explain m.p3l --processors 3 --cert e
+! too few processors: need 4
+? 5
+
+fails file 2
+fails put 1 after 0
+file m.p3l = double
+$ explain m.p3l --processors 4 --cert e
+! write fault
+? 10
+
+fails file 2
+fails put 1 after 0
+file m.p3l = double
+$ compile m.p3l --processors 4
+! usage: the words are not a command of p3l
+? 2
+
+file i
+| P3LI\
+$ compile m.p3l --processors 3 --costs c --output i
+! file fault: m.p3l
+? 9
+
+file m.p3l = undeclared
+$ compile m.p3l --processors 3 --costs c --output i
+! source: 2:8: 40 Undeclared
+? 3
+
+file m.p3l = farmed
+$ compile m.p3l --processors 3 --costs c --output i
+! file fault: c
+? 9
+
+file m.p3l = farmed
+file c
+| speed = 1
+$ compile m.p3l --processors 3 --costs c --output i
+! costs: 51 BadKey speed
+? 4
+
+fails file 2
+fails put 1 after 0
+file m.p3l = farmed
+$ compile m.p3l --processors 3 --output i
+! too few processors: need 4
+? 5
+
+fails file 2
+fails put 1 after 0
+file m.p3l = double
+$ compile m.p3l --processors 4 --output i
+! write fault
+? 10
+
+= What reads evidence is refused by the first of its stages.
+none new
+
+fails put 1 after 0
+file m.p3l = double
+$ verify-cert m.p3l --costs c
+! usage: the words are not a command of p3l
+? 2
+
+fails put 1 after 0
+file i
+| P3LI\
+$ verify-cert m.p3l --cert e --costs c
+! file fault: m.p3l
+? 9
+
+fails put 1 after 0
+file m.p3l = undeclared
+$ verify-cert m.p3l --cert e --costs c
+! source: 2:8: 40 Undeclared
+? 3
+
+fails put 1 after 0
+file m.p3l = farmed
+$ verify-cert m.p3l --cert e --costs c
+! file fault: c
+? 9
+
+fails put 1 after 0
+file m.p3l = farmed
+file c
+| speed = 1
+$ verify-cert m.p3l --cert e --costs c
+! costs: 51 BadKey speed
+? 4
+
+fails put 1 after 0
+file m.p3l = double
+$ verify-cert m.p3l --cert e
+! file fault: e
+? 9
+
+fails put 1 after 0
+file m.p3l = double
+file e
+| p3l-cert
+$ verify-cert m.p3l --cert e
+! evidence: 73 BadText 1
+? 13
+
+fails take 1
+file m.p3l = double
+$ check-trace m.p3l --trace t
+< 1
+! usage: the words are not a command of p3l
+? 2
+
+fails take 1
+file i
+| P3LI\
+$ check-trace m.p3l --processors 3 --costs c --trace t
+< 1
+! file fault: m.p3l
+? 9
+
+fails take 1
+file m.p3l = undeclared
+$ check-trace m.p3l --processors 3 --costs c --trace t
+< 1
+! source: 2:8: 40 Undeclared
+? 3
+
+fails take 1
+file m.p3l = farmed
+$ check-trace m.p3l --processors 3 --costs c --trace t
+< 1
+! file fault: c
+? 9
+
+fails take 1
+file m.p3l = farmed
+file c
+| speed = 1
+$ check-trace m.p3l --processors 3 --costs c --trace t
+< 1
+! costs: 51 BadKey speed
+? 4
+
+fails take 1
+file m.p3l = farmed
+$ check-trace m.p3l --processors 3 --trace t
+< 1
+! too few processors: need 4
+? 5
+
+fails take 1
+file m.p3l = double
+$ check-trace m.p3l --processors 4 --trace t
+< 1
+! file fault: t
+? 9
+
+fails take 1
+file m.p3l = double
+file t
+| p3l-trace
+$ check-trace m.p3l --processors 4 --trace t
+< 1
+! evidence: 110 BadLine 1
+? 13
+
+= A scan and what reads a program are refused by the first of their stages.
+none new
+
+fails take 1
+file m.p3l = double
+$ scan none.p3l --segments 0
+< 1
+! usage: the words are not a command of p3l
+? 2
+
+fails take 1
+file i
+| P3LI\
+$ scan m.p3l --segments 2 --schedule file:p
+< 1
+! file fault: m.p3l
+? 9
+
+fails take 1
+file m.p3l = undeclared
+$ scan m.p3l --segments 2 --schedule file:p
+< 1
+! source: 2:8: 40 Undeclared
+? 3
+
+fails take 1
+file m.p3l = double
+$ scan m.p3l --segments 2 --schedule file:p
+< 1
+! scan: 120 NotReduce
+? 15
+
+# A list of five elements, and no picks.
+fails take 1
+file m.p3l = less-of-five
+$ scan m.p3l --segments 2 --schedule file:p
+< 1
+! scan: 121 BadSegments
+? 15
+
+# A list of four, and no picks; and picks of a process that isn't there.
+fails take 1
+file m.p3l = less-of-four
+$ scan m.p3l --segments 2 --schedule file:p
+< 1
+! file fault: p
+? 9
+
+fails take 1
+file m.p3l = less-of-four
+file p
+| 99
+$ scan m.p3l --segments 2 --schedule file:p
+< 1
+! schedule: line 1: 96 NoSuchProcess 99 of 9
+? 12
+
+fails take 1
+file m.p3l = less-of-four
+$ scan m.p3l --segments 2
+< 1 2 3 4
+! read fault
+? 8
+
+fails put 1 after 0
+file m.p3l = less-of-four
+$ scan m.p3l --segments 2
+< 1 2 3 4
+< x
+! write fault
+? 10
+
+fails put 1 after 0
+file i
+| P3LI\
+$ check m.p3l --stats
+! usage: the words are not a command of p3l
+? 2
+
+fails put 1 after 0
+file i
+| P3LI\
+$ check m.p3l
+! file fault: m.p3l
+? 9
+
+fails put 1 after 0
+file m.p3l = undeclared
+$ check m.p3l
+! source: 2:8: 40 Undeclared
+? 3
+
+fails put 1 after 0
+file m.p3l = double
+$ check m.p3l
+! write fault
+? 10
+
+fails put 1 after 0
+file i
+| P3LI\
+$ fmt m.p3l
+! file fault: m.p3l
+? 9
+
+fails put 1 after 0
+file m.p3l = undeclared
+$ fmt m.p3l
+! write fault
+? 10
+
+fails take 1
+file m.p3l = double
+$ profile none.p3l --processors 4
+< 1
+! usage: the words are not a command of p3l
+? 2
+
+fails take 1
+file i
+| P3LI\
+$ profile m.p3l
+< 1
+! file fault: m.p3l
+? 9
+
+fails take 1
+file m.p3l = undeclared
+$ profile m.p3l
+< 1
+! source: 2:8: 40 Undeclared
+? 3
+
+fails take 1
+file m.p3l = double
+$ profile m.p3l
+< 1
+! read fault
+? 8
+"#;
 
 #[test]
-fn a_run_is_refused_by_the_first_of_its_stages(rt: HostRuntime) -> Result<(), Fail> {
-    let saved = &[SAVING_IS_REFUSED, RESUMING_IS_REFUSED];
-    take_cases(&rt, rt.alloc(), &[A_RUN_IS_REFUSED, AN_IMAGE_IS_REFUSED])?;
-    take_cases(&rt, rt.alloc(), saved)
-}
-
-#[test]
-fn what_writes_a_file_is_refused_by_the_first_of_its_stages(rt: HostRuntime) -> Result<(), Fail> {
-    let written = &[AN_EXPLANATION_IS_REFUSED, COMPILING_IS_REFUSED];
-    take_cases(&rt, rt.alloc(), written)
-}
-
-#[test]
-fn what_reads_evidence_is_refused_by_the_first_of_its_stages(rt: HostRuntime) -> Result<(), Fail> {
-    let read = &[VERIFYING_IS_REFUSED, CHECKING_IS_REFUSED];
-    take_cases(&rt, rt.alloc(), read)
-}
-
-#[test]
-fn a_scan_and_what_reads_a_program_are_refused_by_the_first_of_their_stages(
-    rt: HostRuntime,
-) -> Result<(), Fail> {
-    take_cases(&rt, rt.alloc(), &[A_SCAN_IS_REFUSED, READING_IS_REFUSED])
+fn each_command_is_refused_by_the_first_of_its_stages(rt: HostRuntime) -> Result<(), Fail> {
+    play(&rt, rt.alloc(), CASES)
 }

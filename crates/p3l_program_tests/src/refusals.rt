@@ -1,10 +1,9 @@
 // Each number of refusal, each trap and each text of costs that is refused, once through the program
 // with ample memory.
 
-use crate::texts::{CHECK, RUN_PLAIN};
-use crate::world::{Ends, Held, NONE, Program, Programs, Step, holding, take, take_programs};
+use crate::world::{play, take_block};
 use p3l_base::List;
-use p3l_io::{MemFiles, MemSink};
+use p3l_io::MemSink;
 use p3l_report::{Finish, Verdict, put_report, report_of};
 use p3l_stream::Ending;
 use std::alloc::Global;
@@ -12,7 +11,7 @@ use std::process::Abort;
 use std::test::Fail;
 
 /// Modules that stand in line 1, before the programs of the table.
-pub const HEAD: &str =
+const HEAD: &str =
     "seq f in(int x) out(int y) ${ y = x; }$ end seq seq add in(int x, int y) out(int z) ${ z = x + y; }$ end seq seq g in(int x[4]) out(int y[4]) ${ y[0] = x[0]; }$ end seq farm w in(int a) out(int b) f in(a) out(b) end farm";
 
 /// Each line has the place of a fault, its number and its name, and a program that stands in line 2.
@@ -45,21 +44,13 @@ const FAULTS: &str = "2:5: 1 BadByte | seq @
 2:41: 43 IsArray | seq main in(int a[2]) out(int y) ${ y = a; }$ end seq
 2:34: 44 WriteToIn | seq main in(int x) out(int y) ${ x = 1; }$ end seq";
 
-/// A file of the modules of the head, and of a program behind them.
-fn after_the_head(alloc: Global, program: &str) -> Result<MemFiles, Fail> {
-    let text = format!(in alloc; "{HEAD}\n{program}\n")?;
-    let mut files = holding(alloc, &[], &[])?;
-    files.add("m.p3l", text.as_str().as_bytes())?;
-    Ok(files)
-}
-
-/// Checks the program of a row, which must be refused as it says.
+/// Checks the program of a row after the modules of the head, which must be refused as it says.
 fn refuse(rt: &impl Abort, alloc: Global, row: &str) -> Result<(), Fail> {
     let (fault, program) = row.split_once(" | ").ok_or("no fault")?;
-    let mut files = after_the_head(alloc, program)?;
-    let lines = format!(in alloc; "source: {fault}\n")?;
-    let step = Step(CHECK, "", Ends(3, "", lines.as_str()));
-    take(rt, alloc, &mut files, &step, &NONE)
+    let block = format!(in alloc;
+        "\nfile m.p3l\n| {HEAD}\n| {program}\n$ check m.p3l\n! source: {fault}\n? 3"
+    )?;
+    take_block(rt, alloc, block.as_str())
 }
 
 #[test]
@@ -70,80 +61,117 @@ fn each_number_of_a_program_is_reported(rt: HostRuntime) -> Result<(), Fail> {
     Ok(())
 }
 
-const TRAPS: &[Programs] = &[Programs(
-    RUN_PLAIN,
-    &[
-        Program(
-            "seq main in(int x) out(int y) ${ y = 1 / x; }$ end seq",
-            "0\n",
-            Ends(7, "", "trap: item 1: division by zero in main\n"),
-        ),
-        Program(
-            "seq main in(int x) out(int y) ${ y = x / -1; }$ end seq",
-            "-9223372036854775808\n",
-            Ends(7, "", "trap: item 1: division overflow in main\n"),
-        ),
-        Program(
-            "seq main in(int x) out(int y) ${ int a[2]; y = a[x]; }$ end seq",
-            "2\n",
-            Ends(7, "", "trap: item 1: index out of range in main\n"),
-        ),
-        Program(
-            "seq main in(int x) out(int y) ${ y = 1 << x; }$ end seq",
-            "64\n",
-            Ends(7, "", "trap: item 1: shift out of range in main\n"),
-        ),
-        Program(
-            "seq main in(int x) out(int y) budget 3 ${ int i; for (i = 0; i < x; i = i + 1) { y = y + 1; } }$ end seq",
-            "4\n",
-            Ends(7, "", "trap: item 1: budget spent in main\n"),
-        ),
-        Program(
-            "seq same in(int x) out(int y) ${ y = x; }$ end seq seq always in(int x) out(int b) ${ b = 1; }$ end seq loop main in(int x) out(int y) turns 3 same in(x) out(y) while always in(y) out(int b) end loop",
-            "1\n",
-            Ends(7, "", "trap: item 1: turns spent in main\n"),
-        ),
-    ],
-)];
+const CASES: &str = r#"
+= Each trap is reported.
+
+file m.p3l
+| seq main in(int x) out(int y) ${ y = 1 / x; }$ end seq\
+$ run m.p3l --processors 16
+< 0
+! trap: item 1: division by zero in main
+? 7
+
+file m.p3l
+| seq main in(int x) out(int y) ${ y = x / -1; }$ end seq\
+$ run m.p3l --processors 16
+< -9223372036854775808
+! trap: item 1: division overflow in main
+? 7
+
+file m.p3l
+| seq main in(int x) out(int y) ${ int a[2]; y = a[x]; }$ end seq\
+$ run m.p3l --processors 16
+< 2
+! trap: item 1: index out of range in main
+? 7
+
+file m.p3l
+| seq main in(int x) out(int y) ${ y = 1 << x; }$ end seq\
+$ run m.p3l --processors 16
+< 64
+! trap: item 1: shift out of range in main
+? 7
+
+file m.p3l
+| seq main in(int x) out(int y) budget 3 ${ int i; for (i = 0; i < x; i = i + 1) { y = y + 1; } }$ end seq\
+$ run m.p3l --processors 16
+< 4
+! trap: item 1: budget spent in main
+? 7
+
+file m.p3l
+| seq same in(int x) out(int y) ${ y = x; }$ end seq seq always in(int x) out(int b) ${ b = 1; }$ end seq loop main in(int x) out(int y) turns 3 same in(x) out(y) while always in(y) out(int b) end loop\
+$ run m.p3l --processors 16
+< 1
+! trap: item 1: turns spent in main
+? 7
+
+= Each number of costs is reported.
+file m.p3l
+| seq main in(int x) out(int y) ${ y = x; }$ end seq\
+
+file c
+| \xff\
+$ explain m.p3l --processors 4 --costs c
+! costs: 50 NotToml
+? 4
+
+file c
+| setup = 1
+| setup = 1
+$ explain m.p3l --processors 4 --costs c
+! costs: 50 NotToml
+? 4
+
+file c
+| ticks = 5
+$ explain m.p3l --processors 4 --costs c
+! costs: 51 BadKey ticks
+? 4
+
+file c
+| [turns]
+| main = 5
+$ explain m.p3l --processors 4 --costs c
+! costs: 51 BadKey turns.main
+? 4
+
+file c
+| [seq]
+| aaaaaaaaaaaaaaaaaaaaaaaaaaaaaaaaaaaaaaaaaaaaaaaaaaaaaaaaaaaaaaaaa = 5
+$ explain m.p3l --processors 4 --costs c
+! costs: 51 BadKey seq.aaaaaaaaaaaaaaaaaaaaaaaaaaaaaaaaaaaaaaaaaaaaaaaaaaaaaaaaaaaaaaaaa
+? 4
+
+file c
+| setup = 1000001
+$ explain m.p3l --processors 4 --costs c
+! costs: 52 BadValue setup
+? 4
+
+file c
+| [seq]
+| main = 1.5
+$ explain m.p3l --processors 4 --costs c
+! costs: 52 BadValue seq.main
+? 4
+
+file c
+| seq = 1
+$ explain m.p3l --processors 4 --costs c
+! costs: 52 BadValue seq
+? 4
+
+file c
+| setup = 1
+$ explain m.p3l --processors 4 --costs c
+! costs: 53 Missing main
+? 4
+"#;
 
 #[test]
-fn each_trap_is_reported(rt: HostRuntime) -> Result<(), Fail> {
-    take_programs(&rt, rt.alloc(), TRAPS)
-}
-
-/// Texts of costs, and what is reported of them.
-const COSTS: &[(&[u8], &str)] = &[
-    (b"\xff", "50 NotToml"),
-    (b"setup = 1\nsetup = 1\n", "50 NotToml"),
-    (b"ticks = 5\n", "51 BadKey ticks"),
-    (b"[turns]\nmain = 5\n", "51 BadKey turns.main"),
-    (
-        b"[seq]\naaaaaaaaaaaaaaaaaaaaaaaaaaaaaaaaaaaaaaaaaaaaaaaaaaaaaaaaaaaaaaaaa = 5\n",
-        "51 BadKey seq.aaaaaaaaaaaaaaaaaaaaaaaaaaaaaaaaaaaaaaaaaaaaaaaaaaaaaaaaaaaaaaaaa",
-    ),
-    (b"setup = 1000001\n", "52 BadValue setup"),
-    (b"[seq]\nmain = 1.5\n", "52 BadValue seq.main"),
-    (b"seq = 1\n", "52 BadValue seq"),
-    (b"setup = 1\n", "53 Missing main"),
-];
-
-/// Explains a program by costs that are refused so.
-fn refuse_costs(rt: &impl Abort, alloc: Global, costs: &[u8], fault: &str) -> Result<(), Fail> {
-    let program = "seq main in(int x) out(int y) ${ y = x; }$ end seq";
-    let lines = format!(in alloc; "costs: {fault}\n")?;
-    let mut files = holding(alloc, &[Held("m.p3l", program)], &[])?;
-    files.add("c", costs)?;
-    let words = "explain m.p3l --processors 4 --costs c";
-    let step = Step(words, "", Ends(4, "", lines.as_str()));
-    take(rt, alloc, &mut files, &step, &NONE)
-}
-
-#[test]
-fn each_number_of_costs_is_reported(rt: HostRuntime) -> Result<(), Fail> {
-    for (costs, fault) in COSTS {
-        refuse_costs(&rt, rt.alloc(), costs, fault)?;
-    }
-    Ok(())
+fn each_trap_and_each_number_of_costs_are_reported(rt: HostRuntime) -> Result<(), Fail> {
+    play(&rt, rt.alloc(), CASES)
 }
 
 /// No test has so long an input, so its end is reported here by what reports all ends.

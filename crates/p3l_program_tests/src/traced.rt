@@ -1,432 +1,440 @@
 // Traces that runs write, of programs and of images.
 
-use crate::spelled::DOUBLE_IMAGE;
-use crate::texts::{
-    COMPILED, COUNTED, DOUBLE, FARMED, GIVEN, HUNDRED, ITEMS, NO_COSTS, NO_IMAGE, NO_PICKS,
-    NO_PROGRAM, REFUSED_NAME, SILENT, TRACE, UNDECLARED, USAGE, WRITE_FAULT,
-};
-use crate::world::{
-    Course, Ends, FIRST_FILE, FOURTH_FILE, Faults, Held, NO_PUT, NO_TAKE, NONE, SECOND_FILE, Step,
-    THIRD_FILE, take_courses,
-};
-use p3l_io::PutFail;
+use crate::world::play;
 use std::test::Fail;
 
-/// All files that the commands below read.
-const ALL: &[Held] = &[
-    Held("m.p3l", DOUBLE),
-    Held("h.p3l", HUNDRED),
-    Held("a.p3l", FARMED),
-    Held("i", DOUBLE_IMAGE),
-    Held("c", "default = 1\n"),
-    Held("p", "0 2 1 0 2 1 0 2 1\n"),
-    Held("early", "1 1 0\n"),
-    // Its line has no end.
-    Held("later", "0 2 0 1"),
-    Held("none", ""),
-    Held("broken.p3l", UNDECLARED),
-    Held("empty.p3l", ""),
-];
+const CASES: &str = r#"
+= Runs are traced to each ending.
+# All files that the commands below read.
+file m.p3l = double
+file h.p3l = hundred
+file a.p3l = farmed
+file i = double-image
+file c
+| default = 1
+file p
+| 0 2 1 0 2 1 0 2 1
+file early
+| 1 1 0
+file later
+| 0 2 0 1\
+file none
+file broken.p3l = undeclared
+file empty.p3l
 
-/// No trace is in the file t.
-const NO_T: &[&str] = &["t"];
+$ run m.p3l --processors 16 --trace t --stats
+< 1
+> 3
+! stats: items 1, fired 3, idle 0, bound 3
+leaves t = trace
+leaves m.p3l = double
 
-/// The trace of one item is in the file t, and the program is what it was.
-const T_OF_ONE: &[Held] = &[Held("t", TRACE), Held("m.p3l", DOUBLE)];
+$ run m.p3l --processors 16 --trace t
+< 1
+< 2
+< -3
+> 3
+> 5
+> -5
+leaves t
+| p3l-trace 1
+| 0 source
+| 2 run
+| 0 source
+| 1 sink
+| 2 run
+| 0 source
+| 1 sink
+| 2 run
+| 1 sink
+| end 9 0
 
-const T_OF_NONE: &[Held] = &[Held("t", "p3l-trace 1\nend 0 0\n"), Held("m.p3l", DOUBLE)];
+$ run m.p3l --processors 16 --costs c --schedule file:p --trace t --stats
+< 1
+< 2
+< -3
+> 3
+> 5
+> -5
+! stats: items 3, fired 9, idle 0, bound 9
+leaves t
+| p3l-trace 1
+| 0 source
+| 2 run
+| 1 sink
+| 0 source
+| 2 run
+| 1 sink
+| 0 source
+| 2 run
+| 1 sink
+| end 9 0
 
-/// The trace of three items, by the picks of the file p.
-const T_OF_THREE: &[Held] = &[Held(
-    "t",
-    "p3l-trace 1\n0 source\n2 run\n1 sink\n0 source\n2 run\n1 sink\n0 source\n2 run\n1 sink\nend 9 0\n",
-)];
+$ run m.p3l --processors 16 --trace t
+leaves t
+| p3l-trace 1
+| end 0 0
+leaves m.p3l = double
 
-/// The same in turn: an item more is sent before the first comes out.
-const T_IN_TURN: &[Held] = &[Held(
-    "t",
-    "p3l-trace 1\n0 source\n2 run\n0 source\n1 sink\n2 run\n0 source\n1 sink\n2 run\n1 sink\nend 9 0\n",
-)];
+$ run a.p3l --processors 16 --trace t
+< 1
+> 6
+leaves t
+| p3l-trace 1
+| 0 source
+| 2 run
+| 3 emit
+| 5 run
+| 4 collect
+| 1 sink
+| end 6 0
 
-const T_OF_A_FARM: &[Held] = &[Held(
-    "t",
-    "p3l-trace 1\n0 source\n2 run\n3 emit\n5 run\n4 collect\n1 sink\nend 6 0\n",
-)];
+$ exec i --trace t --stats
+< 1
+> 3
+! stats: items 1, fired 3, idle 0, bound 3
+leaves t = trace
+leaves m.p3l = double
 
-/// The trace by the picks of the file early, and of the file later.
-const T_EARLY: &[Held] = &[Held("t", "p3l-trace 1\n1 idle\n1 idle\n0 source\nend 1 2\n")];
+$ exec i --trace t --schedule file:p
+< 1
+< 2
+< -3
+> 3
+> 5
+> -5
+leaves t
+| p3l-trace 1
+| 0 source
+| 2 run
+| 1 sink
+| 0 source
+| 2 run
+| 1 sink
+| 0 source
+| 2 run
+| 1 sink
+| end 9 0
 
-const T_LATER: &[Held] = &[Held(
-    "t",
-    "p3l-trace 1\n0 source\n2 run\n0 source\n1 sink\nend 4 0\n",
-)];
+$ exec i --trace t --schedule file:early
+< 1
+< 2
+< -3
+! stopped: 1 fired, 2 idle
+? 1
+leaves t
+| p3l-trace 1
+| 1 idle
+| 1 idle
+| 0 source
+| end 1 2
 
-const RUN: &str = "run m.p3l --processors 16 --trace t";
+$ exec i --trace t
+< x
+! stream: line 1: 100 BadWord
+? 6
+leaves t
+| p3l-trace 1
+| end 0 0
+leaves m.p3l = double
 
-const RUN_COUNTED: &str = "run m.p3l --processors 16 --trace t --stats";
+fails file 1
+$ exec i --trace t
+< 1
+< 2
+< -3
+! file fault: i
+? 9
+none t
 
-const RUN_BY_PICKS: &str =
-    "run m.p3l --processors 16 --costs c --schedule file:p --trace t --stats";
+# The runs end, but what they give or their trace is not written.
+fails file 2
+$ exec i --trace t
+< 1
+< 2
+< -3
+> 3
+> 5
+> -5
+! write fault
+? 10
+none t
 
-const EXEC: &str = "exec i --trace t";
+$ run m.p3l --processors 16 --schedule file:early --trace t --stats
+< 1
+< 2
+< -3
+! stats: items 1, fired 1, idle 2, bound 3
+! stopped: 1 fired, 2 idle
+? 1
+leaves t
+| p3l-trace 1
+| 1 idle
+| 1 idle
+| 0 source
+| end 1 2
 
-const ONE_GIVEN: Ends = Ends(0, "3\n", "");
+$ run m.p3l --processors 4 --trace t --schedule file:later
+< 1
+< 2
+< -3
+> 3
+! stopped: 4 fired, 0 idle
+? 1
+leaves t
+| p3l-trace 1
+| 0 source
+| 2 run
+| 0 source
+| 1 sink
+| end 4 0
 
-const ONE_COUNTED: Ends = Ends(0, "3\n", "stats: items 1, fired 3, idle 0, bound 3\n");
+$ run m.p3l --processors 4 --trace t --schedule file:none
+< 1
+< 2
+< -3
+! stopped: 0 fired, 0 idle
+? 1
+leaves t
+| p3l-trace 1
+| end 0 0
+leaves m.p3l = double
 
-const STOPPED_EARLY: Ends = Ends(1, "", "stopped: 1 fired, 2 idle\n");
+$ run m.p3l --processors 16 --trace t
+< 1
+< x
+> 3
+! stream: line 2: 100 BadWord
+? 6
+leaves t = trace
+leaves m.p3l = double
 
-/// The runs end, but what they give or their trace is not written.
-const UNWRITTEN: Ends = Ends(10, "3\n5\n-5\n", "write fault\n");
+$ run m.p3l --processors 16 --trace t --stats
+< x
+! stats: items 0, fired 0, idle 0, bound 0
+! stream: line 1: 100 BadWord
+? 6
+leaves t
+| p3l-trace 1
+| end 0 0
+leaves m.p3l = double
 
-const WHOLE_RUNS: &[Course] = &[
-    Course(
-        ALL,
-        NONE,
-        &[Step(RUN_COUNTED, "1\n", ONE_COUNTED)],
-        T_OF_ONE,
-        &[],
-    ),
-    Course(ALL, NONE, &[Step(RUN, ITEMS, GIVEN)], T_IN_TURN, &[]),
-    Course(
-        ALL,
-        NONE,
-        &[Step(RUN_BY_PICKS, ITEMS, COUNTED)],
-        T_OF_THREE,
-        &[],
-    ),
-    Course(ALL, NONE, &[Step(RUN, "", SILENT)], T_OF_NONE, &[]),
-    Course(
-        ALL,
-        NONE,
-        &[Step(
-            "run a.p3l --processors 16 --trace t",
-            "1\n",
-            Ends(0, "6\n", ""),
-        )],
-        T_OF_A_FARM,
-        &[],
-    ),
-];
+$ run h.p3l --processors 16 --trace t
+< 0
+! trap: item 1: division by zero in main
+? 7
+leaves t = trace
+leaves m.p3l = double
 
-const RUNS_OF_IMAGES: &[Course] = &[
-    Course(
-        ALL,
-        NONE,
-        &[Step("exec i --trace t --stats", "1\n", ONE_COUNTED)],
-        T_OF_ONE,
-        &[],
-    ),
-    Course(
-        ALL,
-        NONE,
-        &[Step("exec i --trace t --schedule file:p", ITEMS, GIVEN)],
-        T_OF_THREE,
-        &[],
-    ),
-    Course(
-        ALL,
-        NONE,
-        &[Step(
-            "exec i --trace t --schedule file:early",
-            ITEMS,
-            STOPPED_EARLY,
-        )],
-        T_EARLY,
-        &[],
-    ),
-    Course(
-        ALL,
-        NONE,
-        &[Step(EXEC, "x\n", Ends(6, "", "stream: line 1: 100 BadWord\n"))],
-        T_OF_NONE,
-        &[],
-    ),
-    Course(ALL, FIRST_FILE, &[Step(EXEC, ITEMS, NO_IMAGE)], &[], NO_T),
-    Course(ALL, SECOND_FILE, &[Step(EXEC, ITEMS, UNWRITTEN)], &[], NO_T),
-    // An image leaves the trace of its program.
-    Course(
-        &[Held("m.p3l", DOUBLE)],
-        NONE,
-        &[COMPILED, Step(EXEC, "1\n", ONE_GIVEN)],
-        T_OF_ONE,
-        &[],
-    ),
-];
+$ run h.p3l --processors 4 --stats --trace t
+< 0
+! stats: items 1, fired 3, idle 0, bound 3
+! trap: item 1: division by zero in main
+? 7
+leaves t = trace
+leaves m.p3l = double
 
-const EACH_ENDING: &[Course] = &[
-    Course(
-        ALL,
-        NONE,
-        &[Step(
-            "run m.p3l --processors 16 --schedule file:early --trace t --stats",
-            ITEMS,
-            Ends(
-                1,
-                "",
-                "stats: items 1, fired 1, idle 2, bound 3\nstopped: 1 fired, 2 idle\n",
-            ),
-        )],
-        T_EARLY,
-        &[],
-    ),
-    Course(
-        ALL,
-        NONE,
-        &[Step(
-            "run m.p3l --processors 4 --trace t --schedule file:later",
-            ITEMS,
-            Ends(1, "3\n", "stopped: 4 fired, 0 idle\n"),
-        )],
-        T_LATER,
-        &[],
-    ),
-    Course(
-        ALL,
-        NONE,
-        &[Step(
-            "run m.p3l --processors 4 --trace t --schedule file:none",
-            ITEMS,
-            Ends(1, "", "stopped: 0 fired, 0 idle\n"),
-        )],
-        T_OF_NONE,
-        &[],
-    ),
-    Course(
-        ALL,
-        NONE,
-        &[Step(
-            RUN,
-            "1\nx\n",
-            Ends(6, "3\n", "stream: line 2: 100 BadWord\n"),
-        )],
-        T_OF_ONE,
-        &[],
-    ),
-    Course(
-        ALL,
-        NONE,
-        &[Step(
-            RUN_COUNTED,
-            "x\n",
-            Ends(
-                6,
-                "",
-                "stats: items 0, fired 0, idle 0, bound 0\nstream: line 1: 100 BadWord\n",
-            ),
-        )],
-        T_OF_NONE,
-        &[],
-    ),
-    Course(
-        ALL,
-        NONE,
-        &[Step(
-            "run h.p3l --processors 16 --trace t",
-            "0\n",
-            Ends(7, "", "trap: item 1: division by zero in main\n"),
-        )],
-        T_OF_ONE,
-        &[],
-    ),
-    Course(
-        ALL,
-        NONE,
-        &[Step(
-            "run h.p3l --processors 4 --stats --trace t",
-            "0\n",
-            Ends(
-                7,
-                "",
-                "stats: items 1, fired 3, idle 0, bound 3\ntrap: item 1: division by zero in main\n",
-            ),
-        )],
-        T_OF_ONE,
-        &[],
-    ),
-    Course(
-        ALL,
-        NO_TAKE,
-        &[Step(
-            RUN_COUNTED,
-            "1\n",
-            Ends(
-                8,
-                "",
-                "stats: items 0, fired 0, idle 0, bound 0\nread fault\n",
-            ),
-        )],
-        T_OF_NONE,
-        &[],
-    ),
-    Course(
-        ALL,
-        NO_PUT,
-        &[Step(RUN_COUNTED, ITEMS, WRITE_FAULT)],
-        &[],
-        NO_T,
-    ),
-    Course(
-        ALL,
-        HALF_PUT,
-        &[Step(RUN_COUNTED, "1\n", Ends(10, "3", "write fault\n"))],
-        &[],
-        NO_T,
-    ),
-];
+fails take 1
+$ run m.p3l --processors 16 --trace t --stats
+< 1
+! stats: items 0, fired 0, idle 0, bound 0
+! read fault
+? 8
+leaves t
+| p3l-trace 1
+| end 0 0
+leaves m.p3l = double
 
-/// The first put of the output fails after its first byte.
-const HALF_PUT: Faults = Faults {
-    puts: &[PutFail { call: 1, prefix: 1 }],
-    ..NONE
-};
+fails put 1 after 0
+$ run m.p3l --processors 16 --trace t --stats
+< 1
+< 2
+< -3
+! write fault
+? 10
+none t
 
-const EACH_FILE: &[Course] = &[
-    Course(
-        ALL,
-        FIRST_FILE,
-        &[Step(RUN_BY_PICKS, ITEMS, NO_PROGRAM)],
-        &[],
-        NO_T,
-    ),
-    Course(
-        ALL,
-        SECOND_FILE,
-        &[Step(RUN_BY_PICKS, ITEMS, NO_COSTS)],
-        &[],
-        NO_T,
-    ),
-    Course(
-        ALL,
-        THIRD_FILE,
-        &[Step(RUN_BY_PICKS, ITEMS, NO_PICKS)],
-        &[],
-        NO_T,
-    ),
-    Course(
-        ALL,
-        FOURTH_FILE,
-        &[Step(RUN_BY_PICKS, ITEMS, UNWRITTEN)],
-        &[],
-        NO_T,
-    ),
-    Course(
-        ALL,
-        SECOND_FILE,
-        &[Step(RUN_COUNTED, "1\n", Ends(10, "3\n", "write fault\n"))],
-        &[],
-        NO_T,
-    ),
-    Course(
-        ALL,
-        NONE,
-        &[Step(
-            "run broken.p3l --processors 16 --trace t",
-            ITEMS,
-            REFUSED_NAME,
-        )],
-        &[],
-        NO_T,
-    ),
-    Course(
-        ALL,
-        NONE,
-        &[Step(
-            "run empty.p3l --processors 4 --stats --trace t",
-            "1\n",
-            Ends(3, "", "source: 1:1: 21 NoMain\n"),
-        )],
-        &[],
-        NO_T,
-    ),
-    Course(
-        ALL,
-        NONE,
-        &[Step("run m.p3l --processors 16 --trace", ITEMS, USAGE)],
-        &[],
-        NO_T,
-    ),
-];
+# The first put of the output fails after its first byte.
+fails put 1 after 1
+$ run m.p3l --processors 16 --trace t --stats
+< 1
+> 3\
+! write fault
+? 10
+none t
 
-const NINE_HELD: Ends = Ends(0, "trace holds: 9 fired, 0 idle\n", "");
+= An image leaves the trace of its program.
 
-const CHECK: &str = "check-trace m.p3l --processors 4 --trace t";
+file m.p3l = double
+$ compile m.p3l --processors 4 --output i
+$ exec i --trace t
+< 1
+> 3
+leaves t = trace
+leaves m.p3l = double
 
-/// What one step writes, the next reads, and the next run writes over it.
-const WHAT_A_RUN_TRACES: &[Course] = &[
-    Course(
-        ALL,
-        NONE,
-        &[
-            Step(
-                "run m.p3l --processors 16 --schedule seed:7 --trace t",
-                ITEMS,
-                GIVEN,
-            ),
-            Step(
-                "check-trace m.p3l --processors 16 --trace t",
-                ITEMS,
-                NINE_HELD,
-            ),
-            Step("exec i --schedule seed:3 --trace t", ITEMS, GIVEN),
-            Step(CHECK, ITEMS, NINE_HELD),
-            Step(
-                "run a.p3l --processors 8 --schedule seed:1 --trace t --capacity 1",
-                ITEMS,
-                Ends(0, "6\n9\n-6\n", ""),
-            ),
-            Step(
-                "check-trace a.p3l --processors 8 --trace t --capacity 1",
-                ITEMS,
-                Ends(0, "trace holds: 18 fired, 0 idle\n", ""),
-            ),
-        ],
-        &[],
-        &[],
-    ),
-    Course(
-        ALL,
-        NONE,
-        &[
-            Step(
-                "run m.p3l --processors 4 --trace t --schedule rr",
-                "1\n2\n",
-                Ends(0, "3\n5\n", ""),
-            ),
-            Step(
-                CHECK,
-                "1\n2\n",
-                Ends(0, "trace holds: 6 fired, 0 idle\n", ""),
-            ),
-            Step(
-                "run m.p3l --processors 4 --trace t --schedule seed:1",
-                "4\n",
-                Ends(0, "9\n", ""),
-            ),
-            Step(CHECK, "4\n", Ends(0, "trace holds: 3 fired, 0 idle\n", "")),
-            Step(
-                "run m.p3l --processors 4 --trace t --schedule seed:2",
-                "",
-                SILENT,
-            ),
-            Step(CHECK, "", Ends(0, "trace holds: 0 fired, 0 idle\n", "")),
-        ],
-        &[],
-        &[],
-    ),
-];
+= Each file of a traced run fails in turn.
+file m.p3l = double
+file h.p3l = hundred
+file a.p3l = farmed
+file i = double-image
+file c
+| default = 1
+file p
+| 0 2 1 0 2 1 0 2 1
+file early
+| 1 1 0
+file later
+| 0 2 0 1\
+file none
+file broken.p3l = undeclared
+file empty.p3l
+
+fails file 1
+$ run m.p3l --processors 16 --costs c --schedule file:p --trace t --stats
+< 1
+< 2
+< -3
+! file fault: m.p3l
+? 9
+none t
+
+fails file 2
+$ run m.p3l --processors 16 --costs c --schedule file:p --trace t --stats
+< 1
+< 2
+< -3
+! file fault: c
+? 9
+none t
+
+fails file 3
+$ run m.p3l --processors 16 --costs c --schedule file:p --trace t --stats
+< 1
+< 2
+< -3
+! file fault: p
+? 9
+none t
+
+fails file 4
+$ run m.p3l --processors 16 --costs c --schedule file:p --trace t --stats
+< 1
+< 2
+< -3
+> 3
+> 5
+> -5
+! write fault
+? 10
+none t
+
+fails file 2
+$ run m.p3l --processors 16 --trace t --stats
+< 1
+> 3
+! write fault
+? 10
+none t
+
+$ run broken.p3l --processors 16 --trace t
+< 1
+< 2
+< -3
+! source: 2:8: 40 Undeclared
+? 3
+none t
+
+$ run empty.p3l --processors 4 --stats --trace t
+< 1
+! source: 1:1: 21 NoMain
+? 3
+none t
+
+$ run m.p3l --processors 16 --trace
+< 1
+< 2
+< -3
+! usage: the words are not a command of p3l
+? 2
+none t
+
+= What a run traces holds.
+file m.p3l = double
+file h.p3l = hundred
+file a.p3l = farmed
+file i = double-image
+file c
+| default = 1
+file p
+| 0 2 1 0 2 1 0 2 1
+file early
+| 1 1 0
+file later
+| 0 2 0 1\
+file none
+file broken.p3l = undeclared
+file empty.p3l
+
+# What one step writes, the next reads, and the next run writes over it.
+$ run m.p3l --processors 16 --schedule seed:7 --trace t
+< 1
+< 2
+< -3
+> 3
+> 5
+> -5
+$ check-trace m.p3l --processors 16 --trace t
+< 1
+< 2
+< -3
+> trace holds: 9 fired, 0 idle
+$ exec i --schedule seed:3 --trace t
+< 1
+< 2
+< -3
+> 3
+> 5
+> -5
+$ check-trace m.p3l --processors 4 --trace t
+< 1
+< 2
+< -3
+> trace holds: 9 fired, 0 idle
+$ run a.p3l --processors 8 --schedule seed:1 --trace t --capacity 1
+< 1
+< 2
+< -3
+> 6
+> 9
+> -6
+$ check-trace a.p3l --processors 8 --trace t --capacity 1
+< 1
+< 2
+< -3
+> trace holds: 18 fired, 0 idle
+
+$ run m.p3l --processors 4 --trace t --schedule rr
+< 1
+< 2
+> 3
+> 5
+$ check-trace m.p3l --processors 4 --trace t
+< 1
+< 2
+> trace holds: 6 fired, 0 idle
+$ run m.p3l --processors 4 --trace t --schedule seed:1
+< 4
+> 9
+$ check-trace m.p3l --processors 4 --trace t
+< 4
+> trace holds: 3 fired, 0 idle
+$ run m.p3l --processors 4 --trace t --schedule seed:2
+$ check-trace m.p3l --processors 4 --trace t
+> trace holds: 0 fired, 0 idle
+"#;
 
 #[test]
 fn runs_are_traced_to_each_ending(rt: HostRuntime) -> Result<(), Fail> {
-    take_courses(&rt, rt.alloc(), &[WHOLE_RUNS, RUNS_OF_IMAGES, EACH_ENDING])
-}
-
-#[test]
-fn each_file_of_a_traced_run_fails_in_turn(rt: HostRuntime) -> Result<(), Fail> {
-    take_courses(&rt, rt.alloc(), &[EACH_FILE])
-}
-
-#[test]
-fn what_a_run_traces_holds(rt: HostRuntime) -> Result<(), Fail> {
-    take_courses(&rt, rt.alloc(), &[WHAT_A_RUN_TRACES])
+    play(&rt, rt.alloc(), CASES)
 }

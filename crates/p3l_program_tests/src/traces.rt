@@ -1,240 +1,332 @@
 // Traces held against runs: those that hold, that differ, and that are no traces.
 
-use crate::texts::{DOUBLE, DOUBLE_FILES, FARMED, HUNDRED, TRACE};
-use crate::world::{Ends, Faults, NO_TAKE, NONE, Step, THIRD_TAKE, holding, take};
-use std::alloc::Global;
-use std::process::Abort;
+use crate::damage::{Evidence, refuse_beginnings};
+use crate::texts::text_of;
+use crate::world::play;
 use std::test::Fail;
 
-const CHECK_TRACE: &str = "check-trace m.p3l --processors 16 --trace t";
+const CASES: &str = r#"
+= Traces that hold.
 
-/// A trace and an input, and what is reported of them: the output where the trace holds, and the
-/// lines where it doesn't.
-#[derive(Clone, Copy)]
-struct Expected(&'static str, &'static str, &'static str);
+# Traces of whole runs hold.
+file m.p3l = double
+file t = trace
+$ check-trace m.p3l --processors 16 --trace t
+< 1
+> trace holds: 3 fired, 0 idle
 
-/// A program, the calls that fail, the status, and traces of the program that end with it.
-#[derive(Clone, Copy)]
-struct Checked(&'static str, Faults, u8, &'static [Expected]);
+file m.p3l = double
+file t
+| p3l-trace 1
+| 0 source
+| 2 run
+| 1 sink
+| 0 source
+| 2 run
+| 1 sink
+| 0 source
+| 2 run
+| 1 sink
+| end 9 0
+$ check-trace m.p3l --processors 16 --trace t
+< 1
+< 2
+< -3
+> trace holds: 9 fired, 0 idle
 
-fn check(
-    rt: &impl Abort,
-    alloc: Global,
-    checked: &Checked,
-    expected: &Expected,
-) -> Result<(), Fail> {
-    let mut files = holding(alloc, &[], &[])?;
-    files.add("m.p3l", checked.0.as_bytes())?;
-    files.add("t", expected.0.as_bytes())?;
-    let ends = if checked.2 == 0 {
-        Ends(0, expected.2, "")
-    } else {
-        Ends(checked.2, "", expected.2)
-    };
-    take(
-        rt,
-        alloc,
-        &mut files,
-        &Step(CHECK_TRACE, expected.1, ends),
-        &checked.1,
-    )
-}
+file m.p3l = farmed
+file t
+| p3l-trace 1
+| 0 source
+| 2 run
+| 3 emit
+| 5 run
+| 4 collect
+| 1 sink
+| end 6 0
+$ check-trace m.p3l --processors 16 --trace t
+< 1
+> trace holds: 6 fired, 0 idle
 
-/// Traces of whole runs hold.
-const OF_WHOLE_RUNS: &[Expected] = &[
-    Expected(TRACE, "1\n", "trace holds: 3 fired, 0 idle\n"),
-    Expected(
-        "p3l-trace 1\n0 source\n2 run\n1 sink\n0 source\n2 run\n1 sink\n0 source\n2 run\n1 sink\nend 9 0\n",
-        "1\n2\n-3\n",
-        "trace holds: 9 fired, 0 idle\n",
-    ),
-];
+# Traces of other picks hold.
+# Picks that can't fire are idle.
+file m.p3l = double
+file t
+| p3l-trace 1
+| 1 idle
+| 0 source
+| 2 run
+| 2 idle
+| 1 sink
+| end 3 2
+$ check-trace m.p3l --processors 16 --trace t
+< 1
+> trace holds: 3 fired, 2 idle
 
-const OF_A_WHOLE_FARM: &[Expected] = &[Expected(
-    "p3l-trace 1\n0 source\n2 run\n3 emit\n5 run\n4 collect\n1 sink\nend 6 0\n",
-    "1\n",
-    "trace holds: 6 fired, 0 idle\n",
-)];
+# It may stop before the run does, and go on after its end.
+file m.p3l = double
+file t
+| p3l-trace 1
+| 0 source
+| end 1 0
+$ check-trace m.p3l --processors 16 --trace t
+< 1
+< 2
+> trace holds: 1 fired, 0 idle
 
-/// Traces of other picks hold.
-const OF_OTHER_PICKS: &[Expected] = &[
-    // Picks that can't fire are idle.
-    Expected(
-        "p3l-trace 1\n1 idle\n0 source\n2 run\n2 idle\n1 sink\nend 3 2\n",
-        "1\n",
-        "trace holds: 3 fired, 2 idle\n",
-    ),
-    // It may stop before the run does, and go on after its end.
-    Expected(
-        "p3l-trace 1\n0 source\nend 1 0\n",
-        "1\n2\n",
-        "trace holds: 1 fired, 0 idle\n",
-    ),
-    Expected(
-        "p3l-trace 1\n0 source\n2 run\n1 sink\n0 idle\nend 3 1\n",
-        "1\n",
-        "trace holds: 3 fired, 1 idle\n",
-    ),
-    // Nothing is requested at the last line, whatever the input has after.
-    Expected(
-        "p3l-trace 1\n0 source\nend 1 0\n",
-        "1\nx\n",
-        "trace holds: 1 fired, 0 idle\n",
-    ),
-    // Where no line is that of a pick, no item is requested.
-    Expected(
-        "p3l-trace 1\nend 0 0\n",
-        "x\n",
-        "trace holds: 0 fired, 0 idle\n",
-    ),
-];
+file m.p3l = double
+file t
+| p3l-trace 1
+| 0 source
+| 2 run
+| 1 sink
+| 0 idle
+| end 3 1
+$ check-trace m.p3l --processors 16 --trace t
+< 1
+> trace holds: 3 fired, 1 idle
 
-const AFTER_A_TRAP: &[Expected] = &[
-    // Nothing fires after a trap.
-    Expected(
-        "p3l-trace 1\n0 source\n2 run\n1 sink\n0 idle\nend 3 1\n",
-        "0\n5\n",
-        "trace holds: 3 fired, 1 idle\n",
-    ),
-];
+# Nothing is requested at the last line, whatever the input has after.
+file m.p3l = double
+file t
+| p3l-trace 1
+| 0 source
+| end 1 0
+$ check-trace m.p3l --processors 16 --trace t
+< 1
+< x
+> trace holds: 1 fired, 0 idle
 
-/// A pick differs.
-const IN_A_PICK: &[Expected] = &[
-    Expected(
-        "p3l-trace 1\n2 run\n2 run\n1 sink\nend 3 0\n",
-        "1\n",
-        "evidence: 111 Differs 2\n",
-    ),
-    Expected(
-        "p3l-trace 1\n0 idle\nend 0 1\n",
-        "1\n",
-        "evidence: 111 Differs 2\n",
-    ),
-    Expected(
-        "p3l-trace 1\n0 source\n2 emit\n1 sink\nend 3 0\n",
-        "1\n",
-        "evidence: 111 Differs 3\n",
-    ),
-    // There is no such process.
-    Expected(
-        "p3l-trace 1\n0 source\n2 run\n3 idle\nend 2 1\n",
-        "1\n",
-        "evidence: 111 Differs 4\n",
-    ),
-    Expected(TRACE, "", "evidence: 111 Differs 2\n"),
-];
+# Where no line is that of a pick, no item is requested.
+file m.p3l = double
+file t
+| p3l-trace 1
+| end 0 0
+$ check-trace m.p3l --processors 16 --trace t
+< x
+> trace holds: 0 fired, 0 idle
 
-/// A count differs.
-const IN_A_COUNT: &[Expected] = &[
-    Expected(
-        "p3l-trace 1\n0 source\n2 run\n1 sink\nend 3 1\n",
-        "1\n",
-        "evidence: 111 Differs 5\n",
-    ),
-    Expected(
-        "p3l-trace 1\n0 source\n2 run\n1 sink\nend 2 0\n",
-        "1\n",
-        "evidence: 111 Differs 5\n",
-    ),
-    // A line that differs comes before what the input ends with.
-    Expected(TRACE, "x\n", "evidence: 111 Differs 2\n"),
-    Expected(
-        "p3l-trace 1\n0 source\n2 run\n1 sink\nend 3 1\n",
-        "1\nx\n",
-        "evidence: 111 Differs 5\n",
-    ),
-];
+# Nothing fires after a trap.
+file m.p3l = hundred
+file t
+| p3l-trace 1
+| 0 source
+| 2 run
+| 1 sink
+| 0 idle
+| end 3 1
+$ check-trace m.p3l --processors 16 --trace t
+< 0
+< 5
+> trace holds: 3 fired, 1 idle
 
-/// A stream that is refused is reported: an item is requested before each line of a pick where none
-/// is waiting.
-const BY_THE_STREAM: &[Expected] = &[
-    Expected(TRACE, "1\nx\n", "stream: line 2: 100 BadWord\n"),
-    Expected(TRACE, "1\n2 3\n", "stream: line 2: 101 WrongCount 2\n"),
-    Expected(
-        "p3l-trace 1\n0 idle\nend 0 1\n",
-        "9223372036854775808\n",
-        "stream: line 1: 102 OutOfRange\n",
-    ),
-];
+= Traces that differ and that are none.
+file m.p3l = double
 
-/// Other texts are no traces.
-const NO_TRACES: &[Expected] = &[
-    Expected(
-        "p3l-trace 2\n0 source\n2 run\n1 sink\nend 3 0\n",
-        "1\n",
-        "evidence: 110 BadLine 1\n",
-    ),
-    Expected(
-        "p3l-trace 1\n00 source\n2 run\n1 sink\nend 3 0\n",
-        "1\n",
-        "evidence: 110 BadLine 2\n",
-    ),
-    Expected(
-        "p3l-trace 1\n0 source\n2  run\n1 sink\nend 3 0\n",
-        "1\n",
-        "evidence: 110 BadLine 3\n",
-    ),
-    Expected(
-        "p3l-trace 1\n0 source\n2 run\n4294967296 idle\nend 2 1\n",
-        "1\n",
-        "evidence: 110 BadLine 4\n",
-    ),
-    Expected(
-        "p3l-trace 1\n0 source\n2 run\n1 sink\nend 3 0\n\n",
-        "1\n",
-        "evidence: 110 BadLine 6\n",
-    ),
-];
+# A pick differs.
+file t
+| p3l-trace 1
+| 2 run
+| 2 run
+| 1 sink
+| end 3 0
+$ check-trace m.p3l --processors 16 --trace t
+< 1
+! evidence: 111 Differs 2
+? 13
 
-/// The trace holds, and reading the input fails after its first item.
-const UNREAD: &[Expected] = &[Expected(TRACE, "1\n2\n", "read fault\n")];
+file t
+| p3l-trace 1
+| 0 idle
+| end 0 1
+$ check-trace m.p3l --processors 16 --trace t
+< 1
+! evidence: 111 Differs 2
+? 13
 
-/// A line differs before the fault is reported.
-const UNREAD_AND_DIFFERS: &[Expected] = &[Expected(TRACE, "1\n", "evidence: 111 Differs 2\n")];
+file t
+| p3l-trace 1
+| 0 source
+| 2 emit
+| 1 sink
+| end 3 0
+$ check-trace m.p3l --processors 16 --trace t
+< 1
+! evidence: 111 Differs 3
+? 13
 
-const ALL: &[Checked] = &[
-    Checked(DOUBLE, NONE, 0, OF_WHOLE_RUNS),
-    Checked(FARMED, NONE, 0, OF_A_WHOLE_FARM),
-    Checked(DOUBLE, NONE, 0, OF_OTHER_PICKS),
-    Checked(HUNDRED, NONE, 0, AFTER_A_TRAP),
-    Checked(DOUBLE, NONE, 13, IN_A_PICK),
-    Checked(DOUBLE, NONE, 13, IN_A_COUNT),
-    Checked(DOUBLE, NONE, 6, BY_THE_STREAM),
-    Checked(DOUBLE, NONE, 13, NO_TRACES),
-    Checked(DOUBLE, THIRD_TAKE, 8, UNREAD),
-    Checked(DOUBLE, NO_TAKE, 13, UNREAD_AND_DIFFERS),
-];
+# There is no such process.
+file t
+| p3l-trace 1
+| 0 source
+| 2 run
+| 3 idle
+| end 2 1
+$ check-trace m.p3l --processors 16 --trace t
+< 1
+! evidence: 111 Differs 4
+? 13
+
+file t = trace
+$ check-trace m.p3l --processors 16 --trace t
+! evidence: 111 Differs 2
+? 13
+
+# A count differs.
+file t
+| p3l-trace 1
+| 0 source
+| 2 run
+| 1 sink
+| end 3 1
+$ check-trace m.p3l --processors 16 --trace t
+< 1
+! evidence: 111 Differs 5
+? 13
+
+file t
+| p3l-trace 1
+| 0 source
+| 2 run
+| 1 sink
+| end 2 0
+$ check-trace m.p3l --processors 16 --trace t
+< 1
+! evidence: 111 Differs 5
+? 13
+
+# A line that differs comes before what the input ends with.
+file t = trace
+$ check-trace m.p3l --processors 16 --trace t
+< x
+! evidence: 111 Differs 2
+? 13
+
+file t
+| p3l-trace 1
+| 0 source
+| 2 run
+| 1 sink
+| end 3 1
+$ check-trace m.p3l --processors 16 --trace t
+< 1
+< x
+! evidence: 111 Differs 5
+? 13
+
+# A stream that is refused is reported: an item is requested before each line of a pick where none
+# is waiting.
+file t = trace
+$ check-trace m.p3l --processors 16 --trace t
+< 1
+< x
+! stream: line 2: 100 BadWord
+? 6
+
+file t = trace
+$ check-trace m.p3l --processors 16 --trace t
+< 1
+< 2 3
+! stream: line 2: 101 WrongCount 2
+? 6
+
+file t
+| p3l-trace 1
+| 0 idle
+| end 0 1
+$ check-trace m.p3l --processors 16 --trace t
+< 9223372036854775808
+! stream: line 1: 102 OutOfRange
+? 6
+
+# Other texts are no traces.
+file t
+| p3l-trace 2
+| 0 source
+| 2 run
+| 1 sink
+| end 3 0
+$ check-trace m.p3l --processors 16 --trace t
+< 1
+! evidence: 110 BadLine 1
+? 13
+
+file t
+| p3l-trace 1
+| 00 source
+| 2 run
+| 1 sink
+| end 3 0
+$ check-trace m.p3l --processors 16 --trace t
+< 1
+! evidence: 110 BadLine 2
+? 13
+
+file t
+| p3l-trace 1
+| 0 source
+| 2  run
+| 1 sink
+| end 3 0
+$ check-trace m.p3l --processors 16 --trace t
+< 1
+! evidence: 110 BadLine 3
+? 13
+
+file t
+| p3l-trace 1
+| 0 source
+| 2 run
+| 4294967296 idle
+| end 2 1
+$ check-trace m.p3l --processors 16 --trace t
+< 1
+! evidence: 110 BadLine 4
+? 13
+
+file t
+| p3l-trace 1
+| 0 source
+| 2 run
+| 1 sink
+| end 3 0
+|
+$ check-trace m.p3l --processors 16 --trace t
+< 1
+! evidence: 110 BadLine 6
+? 13
+
+# The trace holds, and reading the input fails after its first item.
+fails take 3
+file t = trace
+$ check-trace m.p3l --processors 16 --trace t
+< 1
+< 2
+! read fault
+? 8
+
+# A line differs before the fault is reported.
+fails take 1
+file t = trace
+$ check-trace m.p3l --processors 16 --trace t
+< 1
+! evidence: 111 Differs 2
+? 13
+"#;
 
 #[test]
 fn traces_hold_or_differ_or_are_none(rt: HostRuntime) -> Result<(), Fail> {
-    for checked in ALL {
-        for expected in checked.3 {
-            check(&rt, rt.alloc(), checked, expected)?;
-        }
-    }
-    Ok(())
-}
-
-/// Checks a text that the trace begins with, of `whole` whole lines.
-fn refuse_beginning(rt: &impl Abort, alloc: Global, text: &[u8], whole: u64) -> Result<(), Fail> {
-    let mut files = holding(alloc, DOUBLE_FILES, &[])?;
-    files.add("t", text)?;
-    let line = whole.saturating_add(1);
-    let lines = format!(in alloc; "evidence: 110 BadLine {line}\n")?;
-    let step = Step(CHECK_TRACE, "1\n", Ends(13, "", lines.as_str()));
-    take(rt, alloc, &mut files, &step, &NONE)
+    play(&rt, rt.alloc(), CASES)
 }
 
 #[test]
 fn no_beginning_of_a_trace_is_one(rt: HostRuntime) -> Result<(), Fail> {
-    let alloc = rt.alloc();
-    let bytes = TRACE.as_bytes();
-    let mut whole: u64 = 0;
-    for (at, byte) in bytes.iter().enumerate() {
-        refuse_beginning(&rt, alloc, &bytes[..at], whole)?;
-        if *byte == b'\n' {
-            whole = whole.saturating_add(1);
-        }
-    }
-    Ok(())
+    let bytes = text_of(rt.alloc(), "trace")?;
+    let trace = Evidence {
+        name: "t",
+        bytes: bytes.as_slice(),
+        head: "\nfile m.p3l = double",
+        step: "check-trace m.p3l --processors 16 --trace t\n< 1",
+    };
+    refuse_beginnings(&rt, rt.alloc(), &trace, "110 BadLine", 1)
 }

@@ -1,136 +1,33 @@
-// Commands over objects in memory: what they are called with, and what they must end with.
+// Transcripts: commands over objects in memory, what they are called with and what they must end with.
+//
+// A transcript is sections. A section has a title behind `= `, the lines that all its blocks begin with,
+// and these blocks, with an empty line before each. A block begins anew, with no file that isn't said,
+// and has lines of these forms in this order:
+//
+//     # what a reader should know
+//     fails take 3          the third taking of the input fails in each step
+//     fails file 2          the second call of the files fails, counted over all steps
+//     fails put 1 after 4   the first put of the output fails, after four of its bytes
+//     fails say 1 after 0   the same of the lines of standard error
+//     file NAME             a file, of which each line stands behind `| `
+//     file NAME = TEXT      a file that holds the text of this name in `texts`
+//     $ run m.p3l           a step: its words, with a blank between two
+//     < 1                   its input, a line behind each `<`; or `<= TEXT`, the text of a name
+//     > 3                   its output, in the same way
+//     ! stats: items 1      its lines
+//     ? 7                   its status, where that is not 0
+//     leaves NAME           a file that is there after all steps, said as by `file`
+//     none NAME             a name that no file has after all steps
+//
+// `texts` says how lines spell bytes.
 
+use crate::texts::{first_line, spelled, text_of};
 use p3l_base::List;
 use p3l_io::{MemFiles, MemSink, MemSource, PutFail};
 use p3l_program::top::top;
 use std::alloc::Global;
 use std::process::Abort;
 use std::test::Fail;
-
-/// A file: its name and its text.
-#[derive(Clone, Copy)]
-pub struct Held(pub &'static str, pub &'static str);
-
-/// How a command ends: its status, its output and its lines.
-#[derive(Clone, Copy)]
-pub struct Ends<'a>(pub u8, pub &'a str, pub &'a str);
-
-/// A command: its words with a blank between two, its input, and how it ends.
-#[derive(Clone, Copy)]
-pub struct Step<'a>(pub &'a str, pub &'a str, pub Ends<'a>);
-
-/// What words are called with: the files, the calls that fail and the input; and how they end.
-#[derive(Clone, Copy)]
-pub struct Case(
-    pub &'static [Held],
-    pub Faults,
-    pub &'static str,
-    pub Ends<'static>,
-);
-
-/// Words, and cases of them.
-#[derive(Clone, Copy)]
-pub struct Cases(pub &'static str, pub &'static [Case]);
-
-/// A program in the file m.p3l and an input, and how words end on them.
-#[derive(Clone, Copy)]
-pub struct Program(pub &'static str, pub &'static str, pub Ends<'static>);
-
-/// Words, and programs that they are called with.
-#[derive(Clone, Copy)]
-pub struct Programs(pub &'static str, pub &'static [Program]);
-
-/// Files, the calls that fail, steps on these files one after another, and after these the files that
-/// hold a text, and the names that none has.
-#[derive(Clone, Copy)]
-pub struct Course(
-    pub &'static [Held],
-    pub Faults,
-    pub &'static [Step<'static>],
-    pub &'static [Held],
-    pub &'static [&'static str],
-);
-
-/// The calls that fail: takings of the input, readings and writings of files, puts of the output and of
-/// the lines.
-#[derive(Clone, Copy)]
-pub struct Faults {
-    pub takes: &'static [u64],
-    pub files: &'static [u64],
-    pub puts: &'static [PutFail],
-    pub says: &'static [PutFail],
-}
-
-/// No call fails.
-pub const NONE: Faults = Faults {
-    takes: &[],
-    files: &[],
-    puts: &[],
-    says: &[],
-};
-
-/// The first put, of which nothing is taken.
-pub const FIRST_PUT: &[PutFail] = &[PutFail { call: 1, prefix: 0 }];
-
-/// The first put of the output fails, and nothing of it is taken.
-pub const NO_PUT: Faults = Faults {
-    puts: FIRST_PUT,
-    ..NONE
-};
-
-/// The first taking of the input fails.
-pub const NO_TAKE: Faults = Faults {
-    takes: &[1],
-    ..NONE
-};
-
-/// The third taking of the input fails: that after an item of one digit.
-pub const THIRD_TAKE: Faults = Faults {
-    takes: &[3],
-    ..NONE
-};
-
-/// The first call of the files fails.
-pub const FIRST_FILE: Faults = Faults {
-    files: &[1],
-    ..NONE
-};
-
-pub const SECOND_FILE: Faults = Faults {
-    files: &[2],
-    ..NONE
-};
-
-pub const THIRD_FILE: Faults = Faults {
-    files: &[3],
-    ..NONE
-};
-
-pub const FOURTH_FILE: Faults = Faults {
-    files: &[4],
-    ..NONE
-};
-
-fn list<T: Copy + Drop>(alloc: Global, items: &[T]) -> Result<List<T>, Fail> {
-    Ok(List::from_vec(Vec::from_slice(alloc, items)?))
-}
-
-/// Files that hold these, of which the calls of these numbers fail.
-pub fn holding(alloc: Global, held: &[Held], fails: &[u64]) -> Result<MemFiles, Fail> {
-    let mut files = MemFiles::new(alloc, list(alloc, fails)?);
-    for file in held {
-        files.add(file.0, file.1.as_bytes())?;
-    }
-    Ok(files)
-}
-
-/// Whether the files hold these bytes under the name.
-pub fn holds(files: &MemFiles, name: &str, bytes: &[u8]) -> bool {
-    match files.get(name) {
-        None => false,
-        Some(held) => held == bytes,
-    }
-}
 
 /// How a command ended: its status, how many calls took from its input, its output and its lines.
 #[derive(Drop)]
@@ -141,15 +38,69 @@ pub struct Ended {
     pub lines: Vec<u8>,
 }
 
-/// An input of this text, which gives a byte at a time, and of which the takings of these numbers fail.
-fn source_of(alloc: Global, text: &str, fails: &[u64]) -> Result<MemSource, Fail> {
-    let bytes = list(alloc, text.as_bytes())?;
-    Ok(MemSource::new(bytes, 1, list(alloc, fails)?))
+/// The number that a word spells.
+fn number(word: &str) -> Result<u64, Fail> {
+    Ok(word.parse::<u64>().map_err(|_| "no number")?)
 }
 
-/// Room for an output, of which these puts fail.
-fn sink_of(alloc: Global, fails: &[PutFail]) -> Result<MemSink, Fail> {
-    Ok(MemSink::new(alloc, 65_536, list(alloc, fails)?)?)
+/// The numbers behind a mark at the beginnings of lines.
+fn numbers(alloc: Global, head: &str, mark: &str) -> Result<List<u64>, Fail> {
+    let mut all = List::new(alloc);
+    for line in head.lines() {
+        if let Some(word) = line.strip_prefix(mark) {
+            all.push(number(word)?)?;
+        }
+    }
+    Ok(all)
+}
+
+/// The put that fails, and how many bytes of it are taken, as `1 after 0`.
+fn put_of(words: &str) -> Result<PutFail, Fail> {
+    let (call, prefix) = words.split_once(" after ").ok_or("no prefix")?;
+    Ok(PutFail {
+        call: number(call)?,
+        prefix: prefix.parse::<usize>().map_err(|_| "no number")?,
+    })
+}
+
+/// The puts that fail, behind a mark at the beginnings of lines.
+fn puts(alloc: Global, head: &str, mark: &str) -> Result<List<PutFail>, Fail> {
+    let mut all = List::new(alloc);
+    for line in head.lines() {
+        if let Some(words) = line.strip_prefix(mark) {
+            all.push(put_of(words)?)?;
+        }
+    }
+    Ok(all)
+}
+
+/// What a step takes or gives behind a mark: the text of a name, or what its lines spell.
+fn stream(alloc: Global, step: &str, named: &str, mark: char) -> Result<Vec<u8>, Fail> {
+    match step.split_once(named) {
+        None => spelled(alloc, step, mark),
+        Some((_, rest)) => text_of(alloc, first_line(rest)),
+    }
+}
+
+/// The input of a step, which gives a byte at a time, and of which the takings fail that the head says.
+fn source_of(alloc: Global, step: &str, head: &str) -> Result<MemSource, Fail> {
+    let bytes = stream(alloc, step, "\n<= ", '<')?;
+    let fails = numbers(alloc, head, "fails take ")?;
+    Ok(MemSource::new(List::from_vec(bytes), 1, fails))
+}
+
+/// Room for an output, of which the puts behind this mark fail.
+fn sink_of(alloc: Global, head: &str, mark: &str) -> Result<MemSink, Fail> {
+    Ok(MemSink::new(alloc, 65_536, puts(alloc, head, mark)?)?)
+}
+
+/// The words of a line that has a blank between two.
+fn words_of<'a>(alloc: Global, line: &'a str) -> Result<Vec<&'a str>, Fail> {
+    let mut words = Vec::new(alloc);
+    for word in line.split(' ') {
+        words.push(word)?;
+    }
+    Ok(words)
 }
 
 /// What was given and said.
@@ -168,127 +119,242 @@ fn what_came(
     })
 }
 
-/// Does what words request with files and an input.
-fn call(
+/// Does what words request, where the calls fail that a head says.
+pub fn give(
     alloc: Global,
     words: &[&str],
-    input: &str,
+    input: &mut MemSource,
+    head: &str,
     files: &mut MemFiles,
-    faults: &Faults,
 ) -> Result<Ended, Fail> {
-    let mut input = source_of(alloc, input, faults.takes)?;
-    let mut out = sink_of(alloc, faults.puts)?;
-    let mut err = sink_of(alloc, faults.says)?;
-    let answer = top(alloc, words, files, &mut input, &mut out, &mut err);
+    let mut out = sink_of(alloc, head, "fails put ")?;
+    let mut err = sink_of(alloc, head, "fails say ")?;
+    let answer = top(alloc, words, files, input, &mut out, &mut err);
     what_came(alloc, answer.0, input.calls(), out.taken(), err.taken())
 }
 
-/// The words of a text that has a blank between two.
-fn words_of<'a>(alloc: Global, text: &'a str) -> Result<Vec<&'a str>, Fail> {
-    let mut words = Vec::new(alloc);
-    for word in text.split(' ') {
-        words.push(word)?;
+/// Does what the words of a step request, where the calls fail that a head says.
+pub fn perform(alloc: Global, head: &str, step: &str, files: &mut MemFiles) -> Result<Ended, Fail> {
+    let words = words_of(alloc, first_line(step))?;
+    let mut input = source_of(alloc, step, head)?;
+    give(alloc, words.as_slice(), &mut input, head, files)
+}
+
+/// The status of a step, which is 0 where it says none.
+fn status_of(step: &str) -> Result<u8, Fail> {
+    match step.split_once("\n? ") {
+        None => Ok(0),
+        Some((_, rest)) => Ok(first_line(rest).parse::<u8>().map_err(|_| "no status")?),
     }
-    Ok(words)
 }
 
-/// Does what the words of a text request, with files and an input.
-pub fn perform(
-    alloc: Global,
-    text: &str,
-    input: &str,
-    files: &mut MemFiles,
-    faults: &Faults,
-) -> Result<Ended, Fail> {
-    let words = words_of(alloc, text)?;
-    call(alloc, words.as_slice(), input, files, faults)
+/// The bytes that came of a step must be those that it says.
+fn see_bytes(rt: &impl Abort, step: &str, came: &[u8], said: &[u8]) {
+    let words = first_line(step);
+    assert_eq!(rt; came, said, "{words}");
 }
 
-/// Takes a step, and compares the status, the output and the lines.
-pub fn take(
-    rt: &impl Abort,
-    alloc: Global,
-    files: &mut MemFiles,
-    step: &Step,
-    faults: &Faults,
-) -> Result<(), Fail> {
-    let words = step.0;
-    let ended = perform(alloc, words, step.1, files, faults)?;
-    assert_eq!(rt; ended.status, step.2.0, "{words}");
-    assert_eq!(rt; ended.output.as_slice(), step.2.1.as_bytes(), "{words}");
-    assert_eq!(rt; ended.lines.as_slice(), step.2.2.as_bytes(), "{words}");
+/// The status that came of a step must be the one that it says.
+fn see_status(rt: &impl Abort, step: &str, came: u8) -> Result<(), Fail> {
+    let words = first_line(step);
+    let said = status_of(step)?;
+    assert_eq!(rt; came, said, "{words}");
     Ok(())
 }
 
-/// Takes steps on files that hold these, one after another.
-pub fn take_all(
+/// Compares the status, the output and the lines with those that the step says.
+pub fn compare(rt: &impl Abort, alloc: Global, step: &str, ended: &Ended) -> Result<(), Fail> {
+    see_status(rt, step, ended.status)?;
+    let output = stream(alloc, step, "\n>= ", '>')?;
+    see_bytes(rt, step, ended.output.as_slice(), output.as_slice());
+    let lines = spelled(alloc, step, '!')?;
+    see_bytes(rt, step, ended.lines.as_slice(), lines.as_slice());
+    Ok(())
+}
+
+/// Takes a step where the calls fail that a head says.
+fn take_where(
     rt: &impl Abort,
     alloc: Global,
-    held: &[Held],
-    steps: &[Step],
-) -> Result<MemFiles, Fail> {
-    let mut files = holding(alloc, held, &[])?;
-    for step in steps {
-        take(rt, alloc, &mut files, step, &NONE)?;
+    head: &str,
+    step: &str,
+    files: &mut MemFiles,
+) -> Result<(), Fail> {
+    let ended = perform(alloc, head, step, files)?;
+    compare(rt, alloc, step, &ended)
+}
+
+/// The name that the first line of a file has.
+fn name_of(part: &str) -> &str {
+    let line = first_line(part);
+    match line.split_once(" = ") {
+        None => line,
+        Some((name, _)) => name,
+    }
+}
+
+/// What a file holds: the text of the name in its first line, or what its lines spell.
+fn held_by(alloc: Global, part: &str) -> Result<Vec<u8>, Fail> {
+    match first_line(part).split_once(" = ") {
+        None => spelled(alloc, part, '|'),
+        Some((_, name)) => text_of(alloc, name),
+    }
+}
+
+/// Adds a file that a head says.
+fn add_file(alloc: Global, files: &mut MemFiles, part: &str) -> Result<(), Fail> {
+    let bytes = held_by(alloc, part)?;
+    Ok(files.add(name_of(part), bytes.as_slice())?)
+}
+
+/// Files that hold what a head says, of which the calls fail that it says.
+pub fn files_of(alloc: Global, head: &str) -> Result<MemFiles, Fail> {
+    let mut files = MemFiles::new(alloc, numbers(alloc, head, "fails file ")?);
+    if let Some((_, parts)) = head.split_once("\nfile ") {
+        for part in parts.split("\nfile ") {
+            add_file(alloc, &mut files, part)?;
+        }
     }
     Ok(files)
 }
 
-/// Takes the words in one of their cases, none of which leaves a file new.
-fn take_case(rt: &impl Abort, alloc: Global, words: &str, case: &Case) -> Result<(), Fail> {
-    let mut files = holding(alloc, case.0, case.1.files)?;
-    take(rt, alloc, &mut files, &Step(words, case.2, case.3), &case.1)?;
-    assert!(rt; files.get("new").is_none(), "{words}");
+/// Whether the files hold these bytes under the name.
+pub fn holds(files: &MemFiles, name: &str, bytes: &[u8]) -> bool {
+    match files.get(name) {
+        None => false,
+        Some(held) => held == bytes,
+    }
+}
+
+/// A file that is left holds what the block says.
+fn see_file(rt: &impl Abort, alloc: Global, files: &MemFiles, part: &str) -> Result<(), Fail> {
+    let name = name_of(part);
+    let bytes = held_by(alloc, part)?;
+    assert!(rt; holds(files, name, bytes.as_slice()), "{name}");
     Ok(())
 }
 
-/// Takes words in each of their cases.
-pub fn take_cases(rt: &impl Abort, alloc: Global, tables: &[&[Cases]]) -> Result<(), Fail> {
-    for table in tables {
-        for cases in *table {
-            for case in cases.1 {
-                take_case(rt, alloc, cases.0, case)?;
-            }
+/// Each file that is left holds what the block says.
+fn see_left(rt: &impl Abort, alloc: Global, block: &str, files: &MemFiles) -> Result<(), Fail> {
+    if let Some((_, parts)) = block.split_once("\nleaves ") {
+        for part in parts.split("\nleaves ") {
+            see_file(rt, alloc, files, part)?;
         }
     }
     Ok(())
 }
 
-/// Takes words with each of their programs.
-pub fn take_programs(rt: &impl Abort, alloc: Global, tables: &[Programs]) -> Result<(), Fail> {
-    for programs in tables {
-        for program in programs.1 {
-            let mut files = MemFiles::new(alloc, List::new(alloc));
-            files.add("m.p3l", program.0.as_bytes())?;
-            let step = Step(programs.0, program.1, program.2);
-            take(rt, alloc, &mut files, &step, &NONE)?;
+/// No file has a name that the block says is left out.
+fn see_none(rt: &impl Abort, block: &str, files: &MemFiles) {
+    for line in block.lines() {
+        if let Some(name) = line.strip_prefix("none ") {
+            assert!(rt; files.get(name).is_none(), "{name}");
         }
+    }
+}
+
+/// Takes the steps one after another.
+fn take_steps(
+    rt: &impl Abort,
+    alloc: Global,
+    head: &str,
+    steps: &str,
+    files: &mut MemFiles,
+) -> Result<(), Fail> {
+    for step in steps.split("\n$ ") {
+        take_where(rt, alloc, head, step, files)?;
     }
     Ok(())
 }
 
-/// Takes a course, and looks at the files that it leaves.
-fn take_course(rt: &impl Abort, alloc: Global, course: &Course) -> Result<(), Fail> {
-    let mut files = holding(alloc, course.0, course.1.files)?;
-    for step in course.2 {
-        take(rt, alloc, &mut files, step, &course.1)?;
+/// Takes steps, which have a line feed, `$` and a blank between two: does what the words of each request,
+/// and compares what comes of it.
+pub fn take(rt: &impl Abort, alloc: Global, steps: &str, files: &mut MemFiles) -> Result<(), Fail> {
+    take_steps(rt, alloc, "", steps, files)
+}
+
+/// What steps leave in the file of a name, with files that hold what a head says.
+pub fn left_by(
+    rt: &impl Abort,
+    alloc: Global,
+    head: &str,
+    steps: &str,
+    name: &str,
+) -> Result<Vec<u8>, Fail> {
+    let mut files = files_of(alloc, head)?;
+    take(rt, alloc, steps, &mut files)?;
+    match files.get(name) {
+        None => Err("nothing is left".into()),
+        Some(bytes) => Ok(Vec::from_slice(alloc, bytes)?),
     }
-    for left in course.3 {
-        let name = left.0;
-        assert!(rt; holds(&files, name, left.1.as_bytes()), "{name}");
+}
+
+/// Takes steps on files that hold what a head says, and one more of this name and these bytes.
+pub fn take_with_file(
+    rt: &impl Abort,
+    alloc: Global,
+    head: &str,
+    name: &str,
+    bytes: &[u8],
+    steps: &str,
+) -> Result<(), Fail> {
+    let mut files = files_of(alloc, head)?;
+    files.add(name, bytes)?;
+    take(rt, alloc, steps, &mut files)
+}
+
+/// Takes the steps of a block, and looks at the files that they leave.
+pub fn take_block(rt: &impl Abort, alloc: Global, block: &str) -> Result<(), Fail> {
+    let (head, steps) = block.split_once("\n$ ").ok_or("no words")?;
+    let mut files = files_of(alloc, head)?;
+    take_steps(rt, alloc, head, steps, &mut files)?;
+    see_none(rt, block, &files);
+    see_left(rt, alloc, block, &files)
+}
+
+/// How the lines of a transcript begin.
+const MARKS: &[&str] = &[
+    "= ", "#", "|", "file ", "fails ", "none ", "leaves ", "$ ", "<", ">", "!", "? ",
+];
+
+/// Whether the line is empty or begins as those of transcripts do.
+fn is_known(line: &str) -> bool {
+    for mark in MARKS {
+        if line.starts_with(*mark) {
+            return true;
+        }
     }
-    for name in course.4 {
-        assert!(rt; files.get(name).is_none(), "{name}");
+    line.is_empty()
+}
+
+/// No line begins otherwise, so that none is passed over.
+fn see_marks(rt: &impl Abort, transcript: &str) {
+    for line in transcript.lines() {
+        assert!(rt; is_known(line), "{line}");
+    }
+}
+
+/// Takes a block with what is common to it and others.
+fn take_with(rt: &impl Abort, alloc: Global, common: &str, block: &str) -> Result<(), Fail> {
+    let whole = format!(in alloc; "\n# {common}\n{block}")?;
+    take_block(rt, alloc, whole.as_str())
+}
+
+/// Takes each block of a section.
+fn take_section(rt: &impl Abort, alloc: Global, section: &str) -> Result<(), Fail> {
+    let (common, blocks) = section.split_once("\n\n").ok_or("no block")?;
+    for block in blocks.split("\n\n") {
+        take_with(rt, alloc, common, block)?;
     }
     Ok(())
 }
 
-/// Takes courses, each on files of its own.
-pub fn take_courses(rt: &impl Abort, alloc: Global, tables: &[&[Course]]) -> Result<(), Fail> {
-    for table in tables {
-        for course in *table {
-            take_course(rt, alloc, course)?;
-        }
+/// Takes each section of a transcript.
+pub fn play(rt: &impl Abort, alloc: Global, transcript: &str) -> Result<(), Fail> {
+    see_marks(rt, transcript);
+    let (_, sections) = transcript.split_once("\n= ").ok_or("no section")?;
+    for section in sections.split("\n= ") {
+        take_section(rt, alloc, section)?;
     }
     Ok(())
 }
