@@ -1,6 +1,7 @@
 // The text that explains an allocation.
 
-ghost use Rattle.std.specs.Prelude.{◌≡◌, ◌≤◌, ◌++◌, ℕ, IfOk, OnOk, string_bytes};
+ghost use Rattle.std.specs.Prelude.{◌≡◌, ◌≤◌, ◌++◌, ℕ, string_bytes};
+ghost use Rattle.p3l_base.specs.Memory.{IfGiven, OnGiven};
 ghost use Rattle.std.specs.List.{Contains};
 ghost use Rattle.p3l_skel.specs.Counts.{HasLawfulCounts, outside, outside_from};
 ghost use Rattle.p3l_skel.specs.Lawful.{IsLawfulTree};
@@ -35,7 +36,7 @@ fn kind_name(form: &Form) -> &'static str
 
 /// Puts what a node says of its count after a text, if it has one.
 fn put_count(alloc: Global, text: &mut String, form: &Form, count: u32) -> Result<(), NoMemory>
-    ensures { OnOk result (string_bytes text.new
+    ensures { OnGiven result (string_bytes text.new
         ≡ string_bytes text.old ++ count_words form.now count) }
 {
     match form {
@@ -63,7 +64,7 @@ fn put_node(
     requires counts { HasLawfulCounts tree.now counts.now.list }
     requires outside { Contains (outside tree.now) number }
     requires node { node.now ≡ node_at tree.now number }
-    ensures { OnOk result (string_bytes text.new
+    ensures { OnGiven result (string_bytes text.new
         ≡ string_bytes text.old ++ node_line tree.now costs.now counts.now.list number) }
 {
     let kind = kind_name(&node.form);
@@ -103,7 +104,7 @@ fn put_nodes(
     requires counts { HasLawfulCounts tree.now counts.now.list }
     requires outside { (node : ℕ) → Contains (outside_from tree.now levels number) node
         → Contains (outside tree.now) node }
-    ensures { OnOk result (string_bytes text.new
+    ensures { OnGiven result (string_bytes text.new
         ≡ string_bytes text.old
         ++ node_lines tree.now costs.now counts.now.list (outside_from tree.now levels number)) }
 {
@@ -133,7 +134,7 @@ pub fn allocation_text(
     requires tree { IsLawfulTree tree.now }
     requires costs { AreCostsOf tree.now costs.now }
     requires counts { HasLawfulCounts tree.now choice.now.counts.list }
-    ensures { IfOk result (λ text. text
+    ensures { IfGiven result (λ text. text
         ≡ allocation_text tree.now costs.now processors choice.now.counts.list choice.now.used
         choice.now.service) }
 {

@@ -1,6 +1,7 @@
 // The table of soonest service times.
 
-ghost use Rattle.std.specs.Prelude.{◌≡◌, ◌<◌, ◌≤◌, ◌+◌, ℕ, length, IfOk, slice_index};
+ghost use Rattle.std.specs.Prelude.{◌≡◌, ◌<◌, ◌≤◌, ◌+◌, ℕ, length, slice_index};
+ghost use Rattle.p3l_base.specs.Memory.{IfGiven};
 ghost use Rattle.p3l_skel.specs.Lawful.{IsLawfulTree};
 ghost use Rattle.p3l_skel.specs.Tree.{node_at};
 ghost use Rattle.p3l_cost.specs.Costs.{AreCostsOf};
@@ -36,7 +37,7 @@ pub fn table(
     requires tree { IsLawfulTree tree.now }
     requires costs { AreCostsOf tree.now costs.now }
     requires most { most ≤ 512 }
-    ensures { IfOk result (λ rows. IsTableFrom tree.now costs.now most rows 0) }
+    ensures { IfGiven result (λ rows. IsTableFrom tree.now costs.now most rows 0) }
 {
     let mut rows = List::new(alloc);
     for after in 0..tree.nodes.len() {
@@ -61,7 +62,7 @@ fn node_row(
     requires node { node < length tree.now.nodes }
     requires most { most ≤ 512 }
     requires rows { IsTableFrom tree.now costs.now most rows.now (node + 1) }
-    ensures { IfOk result (IsRowFor tree.now costs.now most node) }
+    ensures { IfGiven result (IsRowFor tree.now costs.now most node) }
 {
     let cost = node_cost(tree, costs, node);
     match &cost {
@@ -104,7 +105,7 @@ fn stages_row(
     most: u32,
 ) -> Result<List<u128>, NoMemory>
     requires { most ≤ 512 }
-    ensures { IfOk result (λ row. (below : ℕ → Costed)
+    ensures { IfGiven result (λ row. (below : ℕ → Costed)
         → AreRows tree.now rows.now below most parts.now
         → IsRow (stages below parts.now) most row) }
 {
@@ -124,7 +125,7 @@ fn cost_row(
     most: u32,
 ) -> Result<List<u128>, NoMemory>
     requires { most ≤ 512 }
-    ensures { IfOk result (λ row. (a : Costed) → HasPart cost.now a most part.now
+    ensures { IfGiven result (λ row. (a : Costed) → HasPart cost.now a most part.now
         → IsRow (over_part cost.now a) most row) }
 {
     let mut row = Vec::new(alloc);
@@ -142,7 +143,7 @@ fn both_row(
     most: u32,
 ) -> Result<List<u128>, NoMemory>
     requires { most ≤ 512 }
-    ensures { IfOk result (λ row. (a b : Costed) → IsRow a most first.now → IsRow b most others.now
+    ensures { IfGiven result (λ row. (a b : Costed) → IsRow a most first.now → IsRow b most others.now
         → IsRow (Both a b) most row) }
 {
     let mut row = Vec::new(alloc);

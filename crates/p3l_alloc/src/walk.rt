@@ -1,7 +1,8 @@
 // The walk down the tree that takes the first counts within a service time and a number of
 // processes.
 
-ghost use Rattle.std.specs.Prelude.{◌≡◌, ◌<◌, ◌≤◌, ◌+◌, ◌-◌, ◌/◌, ◌^◌, ℕ, min, IfOk, IfSome, IfNone, slice_index_or, sum_by};
+ghost use Rattle.std.specs.Prelude.{◌≡◌, ◌<◌, ◌≤◌, ◌+◌, ◌-◌, ◌/◌, ◌^◌, ℕ, min, IfSome, IfNone, slice_index_or, sum_by};
+ghost use Rattle.p3l_base.specs.Memory.{IfGiven};
 ghost use Rattle.p3l_skel.specs.Lawful.{IsLawfulTree};
 ghost use Rattle.p3l_skel.specs.Numbers.{joined_procs};
 ghost use Rattle.p3l_cost.specs.Costs.{AreCostsOf};
@@ -121,7 +122,7 @@ pub fn first_counts(
     requires time { time < never }
     requires slow { slowest (costed tree.now costs.now node) < never }
     requires can { CanServe (costed tree.now costs.now node) time processes }
-    ensures { IfOk result (AddsFirst (costed tree.now costs.now node)
+    ensures { IfGiven result (AddsFirst (costed tree.now costs.now node)
         time processes counts.old counts.new) }
 {
     if levels == 0 {
@@ -204,7 +205,7 @@ fn stages_counts(
     requires slow { slowest (costed tree.now costs.now node) < never }
     requires can { CanServe (costed tree.now costs.now node) time processes }
     requires pipe { node_cost tree.now costs.now node ≡ cost.Stages }
-    ensures { IfOk result (AddsFirst (costed tree.now costs.now node)
+    ensures { IfGiven result (AddsFirst (costed tree.now costs.now node)
         time processes counts.old counts.new) }
 {
     let parts = parts_of(tree, node);

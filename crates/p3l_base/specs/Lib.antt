@@ -1,3 +1,4 @@
 pub mod Cut
+pub mod Memory
 pub mod Slice
 pub mod laws

@@ -1,12 +1,13 @@
 // Cuts: how a map takes its token apart and puts the results together.
 
-ghost use Rattle.std.specs.Prelude.{◌≡◌, ◌+◌, ◌*◌, ◌^◌, ◌<◌, ◌≤◌, ◌++◌, length, OnOk, IfOk};
+ghost use Rattle.std.specs.Prelude.{◌≡◌, ◌+◌, ◌*◌, ◌^◌, ◌<◌, ◌≤◌, ◌++◌, length};
+ghost use Rattle.p3l_base.specs.Memory.{IfGiven, OnGiven};
 ghost use Rattle.std.specs.List.{All};
 ghost use Rattle.p3l_base.specs.Slice.{cut_size, taken_size};
 ghost use Rattle.p3l_base.specs.Cut.{element_size, element_count, HasIndexSize, HasLawfulOuts, next_first, next_second, next_place, array_words, result_word, joined_words};
 
 use crate::list::List;
-use crate::memory::NoMemory;
+use p3l_refusal::NoMemory;
 use crate::slice::{Dim, Place, Slice};
 use crate::words::Words;
 use std::alloc::Global;
@@ -27,7 +28,7 @@ pub fn join(alloc: Global, cut: &Cut, results: &List<Words>) -> Result<Words, No
     requires outs { HasLawfulOuts cut.now }
     requires count { length results.now ≡ element_count cut.now }
     requires sizes { All (λ words. length words ≡ element_size cut.now.outs) results.now }
-    ensures { IfOk result (λ token. token ≡ joined_words cut.now results.now) }
+    ensures { IfGiven result (λ token. token ≡ joined_words cut.now results.now) }
 {
     let results = results.as_slice();
     let element_len = results[0].len();
@@ -124,7 +125,7 @@ fn fill_array(
     requires sized { len ≡ cut_size dims.now }
     requires within { corner.at + len ≤ element_size cut.now.outs }
     requires small { element_size cut.now.outs < 2 ^ 64 }
-    ensures { OnOk result (token.new.items ≡ token.old.items
+    ensures { OnGiven result (token.new.items ≡ token.old.items
         ++ array_words (result_word results.now cut.now.second)
         dims.now corner.first corner.second corner.at) }
 {

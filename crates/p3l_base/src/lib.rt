@@ -4,7 +4,6 @@
 pub mod cut;
 pub mod laws;
 pub mod list;
-pub mod memory;
 pub mod name;
 pub mod outcome;
 pub mod slice;
@@ -12,7 +11,7 @@ pub mod words;
 
 pub use cut::{Cut, cut_len, join};
 pub use list::List;
-pub use memory::NoMemory;
+pub use p3l_refusal::NoMemory;
 pub use name::Name;
 pub use outcome::{Outcome, Trap, TrapKind};
 pub use slice::{Dim, Place, Slice, array_len, cut_at};

@@ -1,8 +1,9 @@
 // Lists that own their items.
 
-ghost use Rattle.std.specs.Prelude.{◌≡◌, ◌↔◌, [], ◌∷◌, ◌++◌, length, OnOk, OnErr, IsTrue};
+ghost use Rattle.std.specs.Prelude.{◌≡◌, ◌↔◌, [], ◌∷◌, ◌++◌, length, OnErr, IsTrue};
+ghost use Rattle.p3l_base.specs.Memory.{OnGiven};
 
-use crate::memory::NoMemory;
+use p3l_refusal::NoMemory;
 use std::alloc::Global;
 use std::marker::Model;
 
@@ -58,7 +59,7 @@ impl<T> List<T> {
     pub fn push(&mut self, item: T) -> Result<(), NoMemory>
     where
         T: Drop,
-        ensures ok { OnOk result (self.new ≡ self.old ++ item ∷ []) }
+        ensures ok { OnGiven result (self.new ≡ self.old ++ item ∷ []) }
         ensures err { OnErr result (self.new ≡ self.old) }
     {
         self.items.push(item)?;

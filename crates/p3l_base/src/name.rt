@@ -1,11 +1,12 @@
 // Names.
 
-ghost use Rattle.std.specs.Prelude.{◌≡◌, IfOk, bytes_eq};
+ghost use Rattle.std.specs.Prelude.{◌≡◌, bytes_eq};
+ghost use Rattle.p3l_base.specs.Memory.{IfGiven};
 ghost use Rattle.std.proofs.Common.{rules};
 ghost use Rattle.std.specs.Hash as fed;
 ghost use Rattle.std.specs.Cmp.Rules.{comparing, hashing};
 
-use crate::memory::NoMemory;
+use p3l_refusal::NoMemory;
 use std::alloc::Global;
 use std::hash::{Hash, Hasher};
 use std::marker::Model;
@@ -51,7 +52,7 @@ impl Hash for Name {
 impl Name {
     /// The name with the bytes of a text.
     pub fn from_text(alloc: Global, text: &str) -> Result<Name, NoMemory>
-        ensures { IfOk result (λ name. name ≡ text.now) }
+        ensures { IfGiven result (λ name. name ≡ text.now) }
     {
         let text = String::from_str(alloc, text)?;
         Ok(Name { text })

@@ -1,11 +1,12 @@
 // Slices: where the words of one element are in a token.
 
-ghost use Rattle.std.specs.Prelude.{◌≡◌, ◌+◌, ◌-◌, ◌^◌, ◌<◌, ◌≤◌, ◌++◌, length, OnOk, IfOk};
+ghost use Rattle.std.specs.Prelude.{◌≡◌, ◌+◌, ◌-◌, ◌^◌, ◌<◌, ◌≤◌, ◌++◌, length};
+ghost use Rattle.p3l_base.specs.Memory.{IfGiven, OnGiven};
 ghost use Rattle.std.specs.List.{range_with_len};
 ghost use Rattle.p3l_base.specs.Slice.{array_size, cut_size, taken_indices, cut_places, words_at, cut_words, LiesWithin, IsBelowSize, AreFreeIndices};
 
 use crate::list::List;
-use crate::memory::NoMemory;
+use p3l_refusal::NoMemory;
 use crate::words::Words;
 use std::alloc::Global;
 
@@ -46,8 +47,8 @@ pub fn cut_at(
 ) -> Result<Words, NoMemory>
     requires within { LiesWithin slice.now (length words.now) }
     requires free { AreFreeIndices slice.now.dims i j }
-    ensures words { IfOk result (λ cut. cut ≡ cut_words slice.now words.now i j) }
-    ensures size { IfOk result (λ cut. length cut ≡ cut_size slice.now.dims) }
+    ensures words { IfGiven result (λ cut. cut ≡ cut_words slice.now words.now i j) }
+    ensures size { IfGiven result (λ cut. length cut ≡ cut_size slice.now.dims) }
 {
     let dims = slice.dims.as_slice();
     let mut cut = Vec::new(alloc);
@@ -112,7 +113,7 @@ fn copy_cut(
     requires sized { len ≡ array_size dims.now }
     requires within { start + len ≤ length words.now }
     requires free { AreFreeIndices dims.now free.first free.second }
-    ensures { OnOk result (cut.new.items
+    ensures { OnGiven result (cut.new.items
         ≡ cut.old.items ++ words_at words.now (cut_places start dims.now free.first free.second)) }
 {
     let Some((dim, inner)) = dims.split_first() else {

@@ -1,8 +1,9 @@
 // Lists of 64-bit whole numbers.
 
-ghost use Rattle.std.specs.Prelude.{◌≡◌, ◌↔◌, [], ◌∷◌, ◌++◌, length, IfOk, OnOk, OnErr, IsTrue};
+ghost use Rattle.std.specs.Prelude.{◌≡◌, ◌↔◌, [], ◌∷◌, ◌++◌, length, OnErr, IsTrue};
+ghost use Rattle.p3l_base.specs.Memory.{IfGiven, OnGiven};
 
-use crate::memory::NoMemory;
+use p3l_refusal::NoMemory;
 use smallvec::SmallVec;
 use std::alloc::Global;
 use std::marker::Model;
@@ -45,7 +46,7 @@ impl Words {
 
     /// A copy of these words, which takes memory only where more come than lie in place.
     pub fn from_slice(alloc: Global, words: &[i64]) -> Result<Words, NoMemory>
-        ensures { IfOk result (λ copy. copy ≡ words.now) }
+        ensures { IfGiven result (λ copy. copy ≡ words.now) }
     {
         Ok(Words {
             items: SmallVec::from_slice(alloc, words)?,
@@ -54,7 +55,7 @@ impl Words {
 
     /// The words on the left followed by those on the right.
     pub fn joined(alloc: Global, left: &[i64], right: &[i64]) -> Result<Words, NoMemory>
-        ensures { IfOk result (λ both. both ≡ left.now ++ right.now) }
+        ensures { IfGiven result (λ both. both ≡ left.now ++ right.now) }
     {
         let mut items = SmallVec::with_capacity(alloc, left.len().saturating_add(right.len()))?;
         items.extend_from_slice(left)?;
@@ -78,7 +79,7 @@ impl Words {
 
     /// Puts a word after the others.
     pub fn push(&mut self, word: i64) -> Result<(), NoMemory>
-        ensures ok { OnOk result (self.new ≡ self.old ++ word ∷ []) }
+        ensures ok { OnGiven result (self.new ≡ self.old ++ word ∷ []) }
         ensures err { OnErr result (self.new ≡ self.old) }
     {
         self.items.push(word)?;

@@ -1,6 +1,7 @@
 // The variables that are declared, and what names stand for.
 
-ghost use Rattle.std.specs.Prelude.{◌≡◌, ◌+◌, ◌≤◌, ◌++◌, [], ◌∷◌, None, OnOk, OnErr, IfOk, map, bytes_eq, length};
+ghost use Rattle.std.specs.Prelude.{◌≡◌, ◌+◌, ◌≤◌, ◌++◌, [], ◌∷◌, None, OnErr, IfOk, map, bytes_eq, length};
+ghost use Rattle.p3l_base.specs.Memory.{OnGiven};
 ghost use Rattle.std.specs.Map.{lookup};
 ghost use Rattle.p3l_types.specs.Verdict.{Gives};
 ghost use Rattle.p3l_types.specs.Shape.{product};
@@ -52,7 +53,7 @@ impl Scope {
     /// Adds a variable whose name is not there yet.
     pub fn add(&mut self, name: Name, known: Known) -> Result<(), NoMemory>
         requires { lookup (bytes_eq name) self.old ≡ None }
-        ensures ok { OnOk result (self.new ≡ self.old ++ (name, known) ∷ []) }
+        ensures ok { OnGiven result (self.new ≡ self.old ++ (name, known) ∷ []) }
         ensures err { OnErr result (self.new ≡ self.old) }
     {
         self.known.insert(name, known)?;
@@ -133,7 +134,7 @@ pub fn declare_one(
 /// Adds a variable to a scope.
 pub fn enter(alloc: Global, is_fixed: bool, scope: &mut Scope, var: &Var) -> Result<(), NoMemory>
     requires { lookup (bytes_eq var.now.name) scope.old ≡ None }
-    ensures { OnOk result (scope.new ≡ scope.old ++ named is_fixed var.now ∷ []) }
+    ensures { OnGiven result (scope.new ≡ scope.old ++ named is_fixed var.now ∷ []) }
 {
     let name = Name::from_text(alloc, var.name.as_str())?;
     let known = Known {

@@ -1,6 +1,7 @@
 // The free indices of a map.
 
-ghost use Rattle.std.specs.Prelude.{◌≡◌, ◌++◌, [], OnOk, IfOk, slice_get};
+ghost use Rattle.std.specs.Prelude.{◌≡◌, ◌++◌, [], slice_get};
+ghost use Rattle.p3l_base.specs.Memory.{IfGiven, OnGiven};
 ghost use Rattle.std.specs.List.{list_all};
 ghost use Rattle.p3l_calls.specs.Index.{index_in, indices_in, are_indices, is_index, is_sized, is_free, is_free_of, free_count, stands_in, has_indices, member_rule, members_rule, size_rule, sizes_rule, second_place, place_named, place_in, first_size, second_size};
 
@@ -23,7 +24,7 @@ fn push_index(
     sub: &Sub,
     size: u32,
 ) -> Result<(), NoMemory>
-    ensures { OnOk result (indices.new ≡ indices.old ++ index_in sub.now size) }
+    ensures { OnGiven result (indices.new ≡ indices.old ++ index_in sub.now size) }
 {
     let Sub::Free(spot) = sub else {
         return Ok(());
@@ -40,7 +41,7 @@ pub(crate) fn indices_in(
     subs: &[Sub],
     sizes: &[u32],
 ) -> Result<List<Index>, NoMemory>
-    ensures { IfOk result (λ indices. indices ≡ indices_in subs.now sizes.now) }
+    ensures { IfGiven result (λ indices. indices ≡ indices_in subs.now sizes.now) }
 {
     let mut indices = List::new(alloc);
     for (k, size) in sizes.iter().enumerate() {

@@ -1,6 +1,7 @@
 // Where the ports of a module are in its token.
 
-ghost use Rattle.std.specs.Prelude.{◌≡◌, [], OnOk, IfOk, ℕ, List, bytes_eq, option_copied};
+ghost use Rattle.std.specs.Prelude.{◌≡◌, [], ℕ, List, bytes_eq, option_copied};
+ghost use Rattle.p3l_base.specs.Memory.{IfGiven, OnGiven};
 ghost use Rattle.std.specs.Map.{lookup};
 ghost use Rattle.p3l_calls.specs.Port.{AreSized};
 ghost use Rattle.p3l_calls.specs.Located.{added, located};
@@ -21,7 +22,7 @@ pub struct Located {
 
 /// A port of this shape that starts at a word.
 fn located_at(alloc: Global, start: u32, shape: &Shape) -> Result<Located, NoMemory>
-    ensures { IfOk result (λ port. port ≡ record { start = start; shape = shape.now }) }
+    ensures { IfGiven result (λ port. port ≡ record { start = start; shape = shape.now }) }
 {
     let sizes = List::from_vec(shape.sizes.as_slice().to_vec(alloc)?);
     Ok(Located {
@@ -56,7 +57,7 @@ impl Table {
 
     /// Enters a port that starts at a word, if its name is not there yet.
     pub fn add(&mut self, alloc: Global, start: u32, var: &Var) -> Result<(), NoMemory>
-        ensures { OnOk result (self.new
+        ensures { OnGiven result (self.new
             ≡ added self.old var.now.name (record { start = start; shape = var.now.shape })) }
     {
         if self.ports.get(&var.name).is_some() {
@@ -79,7 +80,7 @@ impl Table {
 /// The table of the ports of a module, the first of which starts at word 0.
 pub fn locate(alloc: Global, vars: &[Var]) -> Result<Table, NoMemory>
     requires { AreSized vars.now }
-    ensures { IfOk result (λ table. (name : List ℕ)
+    ensures { IfGiven result (λ table. (name : List ℕ)
         → lookup (bytes_eq name) table ≡ located vars.now name) }
 {
     let mut table = Table::new(alloc);

@@ -1,6 +1,7 @@
 // The call of a map.
 
 ghost use Rattle.std.specs.Prelude.{◌≡◌, ◌+◌, ◌≤◌, IfOk, drop, slice_get, bytes_eq};
+ghost use Rattle.p3l_base.specs.Memory.{IfGiven};
 ghost use Rattle.std.specs.Map.{lookup};
 ghost use Rattle.p3l_base.specs.Slice.{array_size};
 ghost use Rattle.p3l_types.specs.Verdict.{Gives};
@@ -29,7 +30,7 @@ fn dims_of(
     subs: &[Sub],
     sizes: &[u32],
 ) -> Result<List<Dim>, NoMemory>
-    ensures { IfOk result (λ dims. dims ≡ dims_of indices.now subs.now sizes.now) }
+    ensures { IfGiven result (λ dims. dims ≡ dims_of indices.now subs.now sizes.now) }
 {
     let mut dims = List::new(alloc);
     for (k, size) in sizes.iter().enumerate() {
@@ -49,7 +50,7 @@ fn slice_of(
     arg: &Arg,
     shape: &Shape,
 ) -> Result<Slice, NoMemory>
-    ensures { IfOk result (λ slice. slice ≡ slice_of indices.now start arg.now shape.now) }
+    ensures { IfGiven result (λ slice. slice ≡ slice_of indices.now start arg.now shape.now) }
 {
     let dims = dims_of(alloc, indices, arg.subs.as_slice(), shape.sizes.as_slice())?;
     Ok(Slice { start, dims })
@@ -63,7 +64,7 @@ fn leaves(
     arg: &Arg,
     shape: &Shape,
 ) -> Result<bool, NoMemory>
-    ensures { IfOk result (λ b. b ≡ leaves (slice_get ports.now k) arg.now.subs shape.now) }
+    ensures { IfGiven result (λ b. b ≡ leaves (slice_get ports.now k) arg.now.subs shape.now) }
 {
     match sliced(alloc, arg, shape)? {
         Some(left) => Ok(has_shape(ports, k, &left)),
@@ -217,7 +218,7 @@ fn map_ins(
 
 /// The free indices of a map with these out ports, which are those of its first out argument.
 fn indices_of(alloc: Global, vars: &[Var], outs: &[OutArg]) -> Result<List<Index>, NoMemory>
-    ensures { IfOk result (λ indices. indices ≡ indices_of vars.now outs.now) }
+    ensures { IfGiven result (λ indices. indices ≡ indices_of vars.now outs.now) }
 {
     match (vars, outs) {
         ([var, ..], [OutArg::Old(arg), ..]) => {

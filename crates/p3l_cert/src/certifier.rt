@@ -1,6 +1,7 @@
 // Certificates made of optimal numbers of workers.
 
 ghost use Rattle.std.specs.Prelude.{◌≡◌, ◌<◌, ◌≤◌, true, IfOk};
+ghost use Rattle.p3l_base.specs.Memory.{IfGiven};
 ghost use Rattle.p3l_skel.specs.Lawful.{IsLawfulTree};
 ghost use Rattle.p3l_skel.specs.Numbers.{procs};
 ghost use Rattle.p3l_cost.specs.Costs.{AreCostsOf};
@@ -39,7 +40,7 @@ fn needed_keys(
     requires service { service < never }
     requires some { 1 ≤ processors }
     requires few { processors ≤ 512 }
-    ensures { IfOk result (λ keys. keys.items ≡ needed_keys tree.now costs.now service processors) }
+    ensures { IfGiven result (λ keys. keys.items ≡ needed_keys tree.now costs.now service processors) }
 {
     let mut keys = Vec::new(alloc);
     let now = Key {
@@ -73,7 +74,7 @@ fn needed_rows(
     requires service { service < never }
     requires some { 1 ≤ processors }
     requires few { processors ≤ 512 }
-    ensures { IfOk result (λ rows. AreNeededRows tree.now costs.now service processors rows.items) }
+    ensures { IfGiven result (λ rows. AreNeededRows tree.now costs.now service processors rows.items) }
 {
     let table = table(alloc, tree, costs)?;
     let mut keys = needed_keys(alloc, tree, costs, table.as_slice(), service, processors)?;
@@ -85,7 +86,7 @@ fn needed_rows(
 
 // A copy of some numbers.
 fn copied(alloc: Global, numbers: &[u32]) -> Result<List<u32>, NoMemory>
-    ensures { IfOk result (λ list. list ≡ numbers.now) }
+    ensures { IfGiven result (λ list. list ≡ numbers.now) }
 {
     let mut items = Vec::new(alloc);
     items.extend_from_slice(numbers)?;
@@ -110,7 +111,7 @@ pub fn certify(
     requires optimal { IsOptimal tree.now costs.now processors counts.now.list }
     requires service { service ≡ service_of tree.now costs.now counts.now.list 0 }
     requires used { used ≡ procs tree.now counts.now.list 0 }
-    ensures claims { IfOk result (λ cert. (cert.processors ≡ processors)
+    ensures claims { IfGiven result (λ cert. (cert.processors ≡ processors)
         × (cert.counts.list ≡ counts.now.list) × (cert.service ≡ service) × (cert.used ≡ used)) }
     ensures rows { IfOk result (λ cert.
         AreNeededRows tree.now costs.now service processors cert.rows) }

@@ -1,6 +1,7 @@
 // Rows made for the keys that a certificate needs, and filled with what their rules find.
 
-ghost use Rattle.std.specs.Prelude.{◌≡◌, OnOk, IfOk};
+ghost use Rattle.std.specs.Prelude.{◌≡◌};
+ghost use Rattle.p3l_base.specs.Memory.{IfGiven, OnGiven};
 ghost use Rattle.std.specs.List.{All};
 ghost use Rattle.p3l_skel.specs.Lawful.{IsLawfulTree};
 ghost use Rattle.p3l_cost.specs.Costs.{AreCostsOf};
@@ -30,7 +31,7 @@ fn is_next(rows: &[Row], key: Key) -> bool
 
 // Puts a row of a key after others, if it is another than that of the last row.
 fn add(rows: &mut Vec<Row>, key: Key) -> Result<(), NoMemory>
-    ensures { OnOk result (rows.new.items ≡ with_key rows.old.items key) }
+    ensures { OnGiven result (rows.new.items ≡ with_key rows.old.items key) }
 {
     if !is_next(rows.as_slice(), key) {
         return Ok(());
@@ -48,7 +49,7 @@ fn add(rows: &mut Vec<Row>, key: Key) -> Result<(), NoMemory>
 pub fn rows_of(alloc: Global, keys: &[Key]) -> Result<Vec<Row>, NoMemory>
     requires sorted { AreSorted keys.now }
     requires small { All IsSmall keys.now }
-    ensures { IfOk result (λ rows. AreRowsOf keys.now rows.items) }
+    ensures { IfGiven result (λ rows. AreRowsOf keys.now rows.items) }
 {
     let mut rows: Vec<Row> = Vec::new(alloc);
     for key in keys {

@@ -1,6 +1,7 @@
 // The items of a certificate: its counts and its rows.
 
-ghost use Rattle.std.specs.Prelude.{◌≡◌, ◌++◌, [], ◌∷◌, OnOk};
+ghost use Rattle.std.specs.Prelude.{◌≡◌, ◌++◌, [], ◌∷◌};
+ghost use Rattle.p3l_base.specs.Memory.{OnGiven};
 ghost use Rattle.p3l_format.specs.Format.{Gives, within};
 ghost use Rattle.p3l_format.specs.Text.{text_then};
 ghost use Rattle.p3l_cert.specs.Text.{row_word, count_format, next_count, is_above, numbers_format, row_format, next_row};
@@ -111,7 +112,7 @@ fn read_row(above: Option<Row>, bytes: &[u8]) -> Result<(Row, &[u8]), ReadError>
 // Puts the numbers of a row after others.
 #[tactic(auto, unfolding(crate::specs::Text::numbers_format, p3l_format::specs::Format::pair, p3l_format::specs::Format::as_form, p3l_format::specs::Format::within, p3l_format::specs::Decimal::number_then, p3l_format::specs::Text::then_text, p3l_format::specs::Decimal::number_text))]
 fn write_numbers(alloc: Global, row: Row, out: &mut Vec<u8>) -> Result<(), NoMemory>
-    ensures { OnOk result (out.new.items ≡ out.old.items ++ numbers_format.spell row) }
+    ensures { OnGiven result (out.new.items ≡ out.old.items ++ numbers_format.spell row) }
 {
     write_number_then(alloc, row.node as u128, b" ", out)?;
     write_number_then(alloc, row.bound, b" ", out)?;

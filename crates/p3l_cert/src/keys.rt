@@ -1,6 +1,7 @@
 // The keys of the rows that a certificate needs.
 
-ghost use Rattle.std.specs.Prelude.{◌≡◌, ◌<◌, ◌≤◌, ◌^◌, ◌++◌, map, OnOk, IfOk};
+ghost use Rattle.std.specs.Prelude.{◌≡◌, ◌<◌, ◌≤◌, ◌^◌, ◌++◌, map};
+ghost use Rattle.p3l_base.specs.Memory.{IfGiven, OnGiven};
 ghost use Rattle.std.specs.List.Sorted.{IsPermutation};
 ghost use Rattle.p3l_skel.specs.Lawful.{IsLawfulTree};
 ghost use Rattle.p3l_cost.specs.Costs.{AreCostsOf};
@@ -22,7 +23,7 @@ use std::alloc::Global;
 
 // The keys of the stages of a pipe.
 fn stage_keys(alloc: Global, parts: &[u32], bound: u128, cap: u32) -> Result<List<Key>, NoMemory>
-    ensures { IfOk result (λ keys. keys ≡ map (λ p. key p bound cap) parts.now) }
+    ensures { IfGiven result (λ keys. keys ≡ map (λ p. key p bound cap) parts.now) }
 {
     let mut keys = List::new(alloc);
     for part in parts {
@@ -48,7 +49,7 @@ fn worker_keys(
     requires low { span.low ≤ 512 }
     requires bound { bound < 2 ^ 110 }
     requires cap { cap ≤ 512 }
-    ensures { IfOk result (λ keys. keys
+    ensures { IfGiven result (λ keys. keys
         ≡ worker_keys part (part_bound sharing bound) cap (low_of span) (run_of span cap)) }
 {
     let room = cap.saturating_sub(2);
@@ -77,7 +78,7 @@ fn dependencies_of(
     requires cost { IsUsable cost.now }
     requires bound { bound < 2 ^ 110 }
     requires cap { cap ≤ 512 }
-    ensures { IfOk result (λ keys. keys ≡ dependencies_of cost.now parts.now bound cap) }
+    ensures { IfGiven result (λ keys. keys ≡ dependencies_of cost.now parts.now bound cap) }
 {
     match cost {
         NodeCost::Unit { .. } | NodeCost::Segments { .. } => Ok(List::new(alloc)),
@@ -119,7 +120,7 @@ fn depends_on(
     requires costs { AreCostsOf tree.now costs.now }
     requires table { IsTable tree.now costs.now table.now }
     requires key { IsSmall key }
-    ensures { IfOk result (λ keys. keys ≡ depends_on tree.now costs.now key) }
+    ensures { IfGiven result (λ keys. keys ≡ depends_on tree.now costs.now key) }
 {
     let Some(cost) = cost_in(table, key.node) else {
         return Ok(List::new(alloc));
@@ -153,7 +154,7 @@ pub fn push_keys(
     requires costs { AreCostsOf tree.now costs.now }
     requires table { IsTable tree.now costs.now table.now }
     requires key { IsSmall key }
-    ensures { OnOk result (keys.new.items
+    ensures { OnGiven result (keys.new.items
         ≡ keys.old.items ++ keys_from tree.now costs.now levels key) }
 {
     if levels == 0 {

@@ -1,6 +1,7 @@
 // What each node outside units costs, kept for all rows.
 
-ghost use Rattle.std.specs.Prelude.{◌≡◌, ◌<◌, ◌≤◌, None, get_or, length, IfOk};
+ghost use Rattle.std.specs.Prelude.{◌≡◌, ◌<◌, ◌≤◌, None, get_or, length};
+ghost use Rattle.p3l_base.specs.Memory.{IfGiven};
 ghost use Rattle.std.specs.Option.{option_map};
 ghost use Rattle.p3l_skel.specs.Lawful.{IsLawfulTree};
 ghost use Rattle.p3l_cost.specs.Costs.{AreCostsOf};
@@ -31,7 +32,7 @@ fn cost_at(tree: &Tree, costs: &Costs, node: u32) -> Option<NodeCost>
 /// What the nodes of a tree cost, and none for those in units.
 pub fn table(alloc: Global, tree: &Tree, costs: &Costs) -> Result<List<Option<NodeCost>>, NoMemory>
     requires { length tree.now.nodes ≤ 128 }
-    ensures { IfOk result (IsTable tree.now costs.now) }
+    ensures { IfGiven result (IsTable tree.now costs.now) }
 {
     let mut table = List::new(alloc);
     for node in 0..tree.nodes.len() {

@@ -1,6 +1,7 @@
 // Certificates as text.
 
-ghost use Rattle.std.specs.Prelude.{◌≡◌, ℕ, ◌++◌, List, [], ◌∷◌, true, Ok, OnOk, IfOk};
+ghost use Rattle.std.specs.Prelude.{◌≡◌, ℕ, ◌++◌, List, [], ◌∷◌, true, Ok, IfOk};
+ghost use Rattle.p3l_base.specs.Memory.{IfGiven, OnGiven};
 ghost use Rattle.p3l_format.specs.Format.{Gives, read_all};
 ghost use Rattle.p3l_format.specs.Text.{text_then};
 ghost use Rattle.p3l_format.specs.Series.{until};
@@ -44,7 +45,7 @@ fn read_counts_line(alloc: Global, bytes: &[u8]) -> Result<(List<u32>, &[u8]), R
 #[tactic(auto, unfolding(crate::specs::Text::counts_format, p3l_format::specs::Line::line, p3l_format::specs::Text::text_then, p3l_format::specs::Series::until))]
 fn write_counts_line(alloc: Global, counts: &[u32], out: &mut Vec<u8>) -> Result<(), NoMemory>
     requires { counts_format.fits counts.now ≡ true }
-    ensures { OnOk result (out.new.items ≡ out.old.items ++ counts_format.spell counts.now) }
+    ensures { OnGiven result (out.new.items ≡ out.old.items ++ counts_format.spell counts.now) }
 {
     out.extend_from_slice(b"counts")?;
     write_series(alloc, CountItem, counts, out)?;
@@ -64,7 +65,7 @@ fn read_rows(alloc: Global, bytes: &[u8]) -> Result<(List<Row>, &[u8]), ReadErro
 #[tactic(auto, unfolding(crate::specs::Text::rows_format, p3l_format::specs::Series::until))]
 fn write_rows(alloc: Global, rows: &[Row], out: &mut Vec<u8>) -> Result<(), NoMemory>
     requires { rows_format.fits rows.now ≡ true }
-    ensures { OnOk result (out.new.items ≡ out.old.items ++ rows_format.spell rows.now) }
+    ensures { OnGiven result (out.new.items ≡ out.old.items ++ rows_format.spell rows.now) }
 {
     write_series(alloc, RowItem { above: None }, rows, out)?;
     out.extend_from_slice(b"end\n")?;
@@ -142,7 +143,7 @@ fn read_body(alloc: Global, bytes: &[u8]) -> Result<(Cert, &[u8]), ReadError>
 #[tactic(auto, unfolding(crate::specs::Text::body_format, p3l_format::specs::Format::pair, p3l_format::specs::Format::as_form))]
 fn write_body(alloc: Global, cert: &Cert, out: &mut Vec<u8>) -> Result<(), NoMemory>
     requires { body_format.fits cert.now ≡ true }
-    ensures { OnOk result (out.new.items ≡ out.old.items ++ body_format.spell cert.now) }
+    ensures { OnGiven result (out.new.items ≡ out.old.items ++ body_format.spell cert.now) }
 {
     PROCESSORS.write(alloc, cert.processors as u128, out)?;
     write_counts_line(alloc, cert.counts.list.as_slice(), out)?;
@@ -154,7 +155,7 @@ fn write_body(alloc: Global, cert: &Cert, out: &mut Vec<u8>) -> Result<(), NoMem
 /// The text of a certificate, whose numbers are in the ranges of the text, and whose rows ascend.
 pub fn cert_text(alloc: Global, cert: &Cert) -> Result<List<u8>, NoMemory>
     requires { cert_format.fits cert.now ≡ true }
-    ensures { IfOk result (λ text. text ≡ cert_format.spell cert.now) }
+    ensures { IfGiven result (λ text. text ≡ cert_format.spell cert.now) }
 {
     p3l_format::encode(&CertField { alloc }, alloc, cert)
 }

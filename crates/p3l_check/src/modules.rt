@@ -1,6 +1,7 @@
 // The modules before an entry.
 
 ghost use Rattle.std.specs.Prelude.{◌≡◌, ◌+◌, ◌<◌, ◌^◌, [], ◌∷◌, ◌++◌, None, IfOk, IfSome, IfErr, bytes_eq, length};
+ghost use Rattle.p3l_base.specs.Memory.{IfGiven};
 ghost use Rattle.std.specs.Map.{lookup};
 ghost use Rattle.p3l_check.specs.Modules.{no_modules, number_of, ports_at, with_module};
 ghost use Rattle.p3l_check.specs.Wired.{AreWired};
@@ -45,7 +46,7 @@ fn add_number(
     number: u32,
 ) -> Result<(), NoMemory>
     requires { lookup (bytes_eq name.now) numbers.old.entries ≡ None }
-    ensures { IfOk result (λ x. numbers.new.entries
+    ensures { IfGiven result (λ x. numbers.new.entries
         ≡ numbers.old.entries ++ (name.now, number) ∷ []) }
 {
     let name = Name::from_text(alloc, name.as_str())?;
@@ -60,7 +61,7 @@ fn add_module(
     wired: &mut List<Wired>,
     defined: Defined,
 ) -> Result<(), NoMemory>
-    ensures infos { IfOk result (λ x. infos.new ≡ infos.old ++ defined.info ∷ []) }
+    ensures infos { IfGiven result (λ x. infos.new ≡ infos.old ++ defined.info ∷ []) }
     ensures ports { IfOk result (λ x. ports.new ≡ ports.old ++ defined.ports ∷ []) }
     ensures wired { IfOk result (λ x. wired.new ≡ wired.old ++ defined.wired ∷ []) }
 {
@@ -118,7 +119,7 @@ impl Modules {
     pub fn with(self, alloc: Global, defined: Defined) -> Result<Modules, NoMemory>
         requires fresh { number_of self defined.info.name ≡ None }
         requires room { length self.infos + 1 < 2 ^ 32 }
-        ensures { IfOk result (λ modules. modules ≡ with_module self defined) }
+        ensures { IfGiven result (λ modules. modules ≡ with_module self defined) }
     {
         let number = self.len();
         let Modules {

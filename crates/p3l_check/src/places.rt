@@ -1,6 +1,7 @@
 // The names that entries define, and where they are defined.
 
-ghost use Rattle.std.specs.Prelude.{◌≡◌, IfOk, map};
+ghost use Rattle.std.specs.Prelude.{◌≡◌, map};
+ghost use Rattle.p3l_base.specs.Memory.{IfGiven};
 ghost use Rattle.p3l_ast.specs.Tree.{entry_tree};
 ghost use Rattle.p3l_check.specs.Places.{entry_spot, defined_from, ArePlaces};
 
@@ -37,7 +38,7 @@ pub fn spot_of(entry: &Entry) -> &Spot
 impl Places {
     /// The places of the names of entries.
     pub fn of(alloc: Global, entries: &[Entry]) -> Result<Places, NoMemory>
-        ensures { IfOk result (ArePlaces (map entry_tree entries.now)) }
+        ensures { IfGiven result (ArePlaces (map entry_tree entries.now)) }
     {
         let mut last = IndexMap::new(alloc);
         for (place, entry) in entries.iter().enumerate() {

@@ -1,6 +1,7 @@
 // The entries of a program, checked one after another.
 
 ghost use Rattle.std.specs.Prelude.{◌≡◌, ◌==◌, ◌||◌, ◌<◌, ◌≤◌, ◌^◌, ◌+◌, [], None, IfOk, map, length};
+ghost use Rattle.p3l_base.specs.Memory.{IfGiven};
 ghost use Rattle.std.specs.Option.{option_map};
 ghost use Rattle.p3l_ast.specs.Tree.{entry_tree, module_tree};
 ghost use Rattle.p3l_types.specs.Verdict.{Gives, broken_if};
@@ -62,7 +63,7 @@ fn kind_in(kind: Kind) -> ModuleKind
 
 /// A module with its name and its rescue number.
 fn info_of(alloc: Global, module: &Module, rescue: Option<i64>) -> Result<ModuleInfo, NoMemory>
-    ensures { IfOk result (λ info. info ≡ info_of (module_tree «module».now) rescue) }
+    ensures { IfGiven result (λ info. info ≡ info_of (module_tree «module».now) rescue) }
 {
     Ok(ModuleInfo {
         name: Name::from_text(alloc, module.at.name.as_str())?,
@@ -180,7 +181,7 @@ fn add_body<'a>(
     seqs: &mut List<CheckedSeq<'a>>,
     seq: Option<CheckedSeq<'a>>,
 ) -> Result<(), NoMemory>
-    ensures { IfOk result (λ x. map seq_tree seqs.new
+    ensures { IfGiven result (λ x. map seq_tree seqs.new
         ≡ with_body (map seq_tree seqs.old) (option_map seq_tree seq.entry)) }
 {
     match seq {
@@ -192,7 +193,7 @@ fn add_body<'a>(
 impl<'a> Progress<'a> {
     /// No entries, with the constants of a program held ready.
     fn new(alloc: Global, entries: &[Entry]) -> Result<Progress<'a>, NoMemory>
-        ensures { IfOk result (λ progress. checked_of progress ≡ none_checked) }
+        ensures { IfGiven result (λ progress. checked_of progress ≡ none_checked) }
     {
         Ok(Progress {
             consts: Consts::ahead(alloc, entries)?,
@@ -220,7 +221,7 @@ impl<'a> Progress<'a> {
     fn add_module(&mut self, alloc: Global, passed: Passed<'a>) -> Result<(), NoMemory>
         requires fresh { number_of self.old.modules passed.defined.info.name ≡ None }
         requires room { length self.old.modules.infos + 1 < 2 ^ 32 }
-        ensures { IfOk result (λ x. checked_of self.new
+        ensures { IfGiven result (λ x. checked_of self.new
             ≡ with_passed (checked_of self.old) passed.entry) }
     {
         let modules = mem::replace(&mut self.modules, Modules::new(alloc));

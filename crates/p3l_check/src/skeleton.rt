@@ -1,6 +1,7 @@
 // What a module is made of: the rules of its clauses and calls, by its kind.
 
 ghost use Rattle.std.specs.Prelude.{◌≡◌, [], ◌∷◌, ◌++◌, false, map, unwrap_or, IfOk};
+ghost use Rattle.p3l_base.specs.Memory.{IfGiven};
 ghost use Rattle.p3l_ast.specs.Tree.{module_tree};
 ghost use Rattle.p3l_types.specs.Verdict.{Gives};
 ghost use Rattle.p3l_body.specs.Scope.{named};
@@ -31,7 +32,7 @@ pub struct Skeleton {
 
 /// A list of one number.
 fn one(alloc: Global, k: u32) -> Result<List<u32>, NoMemory>
-    ensures { IfOk result (λ list. list ≡ k ∷ []) }
+    ensures { IfGiven result (λ list. list ≡ k ∷ []) }
 {
     let mut list = List::new(alloc);
     list.push(k)?;
@@ -262,7 +263,7 @@ fn loop_condition(
 
 /// A list of two numbers.
 fn two(alloc: Global, k: u32, l: u32) -> Result<List<u32>, NoMemory>
-    ensures { IfOk result (λ list. list ≡ k ∷ l ∷ []) }
+    ensures { IfGiven result (λ list. list ≡ k ∷ l ∷ []) }
 {
     let mut list = List::new(alloc);
     list.push(k)?;

@@ -1,6 +1,7 @@
 // Whole bodies.
 
-ghost use Rattle.std.specs.Prelude.{◌≡◌, ◌≤◌, IfOk};
+ghost use Rattle.std.specs.Prelude.{◌≡◌, ◌≤◌};
+ghost use Rattle.p3l_base.specs.Memory.{IfGiven};
 ghost use Rattle.p3l_body.specs.Seq.{seq_tree};
 ghost use Rattle.p3l_compile.specs.Scope.{names_of};
 ghost use Rattle.p3l_compile.specs.Condition.{total, IsCompilable, Compiles, body_code};
@@ -18,7 +19,7 @@ use std::alloc::Global;
 /// budget of turns.
 pub fn compile(alloc: Global, seq: &CheckedSeq<'_>) -> Result<SafeCode, NoMemory>
     requires { IsCompilable (seq_tree seq.now) }
-    ensures { IfOk result (Compiles (seq_tree seq.now)) }
+    ensures { IfGiven result (Compiles (seq_tree seq.now)) }
 {
     let ins = total(seq.ins.as_slice());
     let outs = total(seq.outs.as_slice());
@@ -36,7 +37,7 @@ pub fn compile(alloc: Global, seq: &CheckedSeq<'_>) -> Result<SafeCode, NoMemory
 // The instructions of a checked body.
 fn instrs_of(alloc: Global, seq: &CheckedSeq<'_>) -> Result<List<Instr>, NoMemory>
     requires { IsCompilable (seq_tree seq.now) }
-    ensures { IfOk result (λ instrs. instrs ≡ body_code (seq_tree seq.now)) }
+    ensures { IfGiven result (λ instrs. instrs ≡ body_code (seq_tree seq.now)) }
 {
     let scope = scope_of(alloc, seq)?;
     let mut instrs = Vec::new(alloc);
@@ -48,7 +49,7 @@ fn instrs_of(alloc: Global, seq: &CheckedSeq<'_>) -> Result<List<Instr>, NoMemor
 // The names of a checked body.
 fn scope_of<'s>(alloc: Global, seq: &'s CheckedSeq<'_>) -> Result<Scope<'s>, NoMemory>
     requires { IsCompilable (seq_tree seq.now) }
-    ensures { IfOk result (λ scope. scope ≡ names_of (seq_tree seq.now)) }
+    ensures { IfGiven result (λ scope. scope ≡ names_of (seq_tree seq.now)) }
 {
     let mut scope = Scope::new(alloc, &seq.consts);
     let outs = scope.enter(alloc, 0, seq.ins.as_slice())?;

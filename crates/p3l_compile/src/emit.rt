@@ -1,6 +1,7 @@
 // The code of expressions and statements, put after the code so far.
 
 ghost use Rattle.std.specs.Prelude.{◌≡◌, ℕ, pos, ◌+◌, ◌<◌, ◌≤◌, [], ◌∷◌, ◌++◌, length, slice_index, OnOk};
+ghost use Rattle.p3l_base.specs.Memory.{OnGiven};
 ghost use Rattle.p3l_ast.specs.Tree.{phrase, phrases, read, unary, binary};
 ghost use Rattle.p3l_compile.specs.Scope.{found, constant_of};
 ghost use Rattle.p3l_compile.specs.Phrase.{phrase_size, index_size, skip_code, decided, short_code, scalar_code, element_code, sizes_in, phrase_code, index_code};
@@ -14,7 +15,7 @@ use p3l_code::Instr;
 #[cycle(expression)]
 pub fn emit_expr(scope: &Scope<'_>, code: &mut Vec<Instr>, expr: &Expr) -> Result<(), NoMemory>
     requires { length code.old.items + phrase_size (phrase expr.now) ≤ 4194304 }
-    ensures code { OnOk result (code.new.items
+    ensures code { OnGiven result (code.new.items
         ≡ code.old.items ++ phrase_code scope.now (length code.old.items) (phrase expr.now)) }
     ensures size { OnOk result (length code.new.items
         ≡ length code.old.items + phrase_size (phrase expr.now)) }
@@ -36,7 +37,7 @@ fn emit_unary(
     operand: &Expr,
 ) -> Result<(), NoMemory>
     requires { length code.old.items + phrase_size (unary op (phrase operand.now)) ≤ 4194304 }
-    ensures code { OnOk result (code.new.items
+    ensures code { OnGiven result (code.new.items
         ≡ code.old.items
         ++ phrase_code scope.now (length code.old.items) (unary op (phrase operand.now))) }
     ensures size { OnOk result (length code.new.items
@@ -57,7 +58,7 @@ fn emit_binary(
 ) -> Result<(), NoMemory>
     requires { length code.old.items + phrase_size (binary op (phrase left.now) (phrase right.now))
         ≤ 4194304 }
-    ensures code { OnOk result (code.new.items
+    ensures code { OnGiven result (code.new.items
         ≡ code.old.items
         ++ phrase_code scope.now (length code.old.items)
         (binary op (phrase left.now) (phrase right.now))) }
@@ -86,7 +87,7 @@ fn emit_short(
 ) -> Result<(), NoMemory>
     requires { length code.old.items + phrase_size (phrase left.now)
         + phrase_size (phrase right.now) + 5 ≤ 4194304 }
-    ensures code { OnOk result (code.new.items ≡ code.old.items
+    ensures code { OnGiven result (code.new.items ≡ code.old.items
         ++ short_code op (length code.old.items)
         (phrase_code scope.now (length code.old.items) (phrase left.now))
         (phrase_size (phrase left.now))
@@ -129,7 +130,7 @@ fn decided(op: BinOp) -> i64
 fn emit_read(scope: &Scope<'_>, code: &mut Vec<Instr>, target: &Target) -> Result<(), NoMemory>
     requires { length code.old.items + phrase_size (read target.now.at (phrases
         target.now.index.items)) ≤ 4194304 }
-    ensures code { OnOk result (code.new.items
+    ensures code { OnGiven result (code.new.items
         ≡ code.old.items
         ++ phrase_code scope.now (length code.old.items)
         (read target.now.at (phrases target.now.index.items))) }
@@ -157,7 +158,7 @@ fn emit_only(
     index: &Expr,
 ) -> Result<(), NoMemory>
     requires { length code.old.items + phrase_size (phrase index.now) + 1 ≤ 4194304 }
-    ensures code { OnOk result (code.new.items ≡ code.old.items
+    ensures code { OnGiven result (code.new.items ≡ code.old.items
         ++ (phrase_code scope.now (length code.old.items) (phrase index.now)
         ++ element_code (found scope.now name.now) ∷ [])) }
     ensures size { OnOk result (length code.new.items
@@ -171,7 +172,7 @@ fn emit_only(
 #[cycle(expression)]
 pub fn emit_index(scope: &Scope<'_>, code: &mut Vec<Instr>, target: &Target) -> Result<(), NoMemory>
     requires { length code.old.items + index_size (phrases target.now.index.items) ≤ 4194304 }
-    ensures code { OnOk result (code.new.items
+    ensures code { OnGiven result (code.new.items
         ≡ code.old.items
         ++ index_code scope.now (length code.old.items)
         (sizes_in (found scope.now target.now.at.name)) (phrases target.now.index.items)) }
@@ -217,7 +218,7 @@ fn element(scope: &Scope<'_>, name: &Name) -> Instr
 // which gives a number.
 fn put_truth(code: &mut Vec<Instr>, other: i64) -> Result<(), NoMemory>
     requires { length code.old.items + 4 ≤ 4194304 }
-    ensures code { OnOk result (code.new.items ≡ code.old.items
+    ensures code { OnGiven result (code.new.items ≡ code.old.items
         ++ (Instr.Push (pos 0) ∷ Instr.Binary BinOp.Ne ∷ Instr.Jump (length code.old.items + 4)
         ∷ Instr.Push other ∷ [])) }
     ensures size { OnOk result (length code.new.items ≡ length code.old.items + 4) }
@@ -238,7 +239,7 @@ pub fn place(code: &Vec<Instr>) -> u32
 
 // Puts one more instruction after the code so far.
 pub fn put(code: &mut Vec<Instr>, instr: Instr) -> Result<(), NoMemory>
-    ensures code { OnOk result (code.new.items ≡ code.old.items ++ instr ∷ []) }
+    ensures code { OnGiven result (code.new.items ≡ code.old.items ++ instr ∷ []) }
     ensures size { OnOk result (length code.new.items ≡ length code.old.items + 1) }
 {
     code.push(instr)?;

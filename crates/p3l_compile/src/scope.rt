@@ -1,6 +1,7 @@
 // What the names of a body stand for, and where their words lie in the memory.
 
-ghost use Rattle.std.specs.Prelude.{◌≡◌, ◌+◌, ◌≤◌, [], ◌∷◌, ◌++◌, None, IfOk, OnOk, bytes_eq};
+ghost use Rattle.std.specs.Prelude.{◌≡◌, ◌+◌, ◌≤◌, [], ◌∷◌, ◌++◌, None, IfOk, bytes_eq};
+ghost use Rattle.p3l_base.specs.Memory.{IfGiven, OnGiven};
 ghost use Rattle.std.specs.List.{AllByRecursion};
 ghost use Rattle.std.specs.Map.{lookup};
 ghost use Rattle.std.specs.Option.{option_copied};
@@ -54,7 +55,7 @@ impl<'c> Scope<'c> {
     // Adds a variable whose name is not there yet.
     fn add(&mut self, name: Name, slot: Slot) -> Result<(), NoMemory>
         requires { lookup (bytes_eq name) self.old.slots ≡ None }
-        ensures { OnOk result (self.new
+        ensures { OnGiven result (self.new
             ≡ record self.old { slots = self.old.slots ++ (name, slot) ∷ [] }) }
     {
         self.slots.insert(name, slot)?;
@@ -66,7 +67,7 @@ impl<'c> Scope<'c> {
         requires fresh { AreFresh self.old.slots from vars.now }
         requires arrays { AllByRecursion IsArray vars.now }
         requires room { from + total vars.now ≤ 196608 }
-        ensures entered { OnOk result (self.new
+        ensures entered { OnGiven result (self.new
             ≡ record self.old { slots = self.old.slots ++ slots_from from vars.now }) }
         ensures after { IfOk result (λ after. after ≡ from + total vars.now) }
     {
@@ -110,7 +111,7 @@ impl<'c> Scope<'c> {
 // Where the words of a variable lie that stands at a slot.
 fn slot_of(alloc: Global, base: u32, var: &Var) -> Result<Slot, NoMemory>
     requires { IsArray var.now }
-    ensures { IfOk result (λ slot. slot ≡ slot_at base var.now) }
+    ensures { IfGiven result (λ slot. slot ≡ slot_at base var.now) }
 {
     Ok(Slot {
         sizes: List::from_vec(var.shape.sizes.as_slice().to_vec(alloc)?),

@@ -1,6 +1,7 @@
 // The code of statements, put after the code so far.
 
 ghost use Rattle.std.specs.Prelude.{◌≡◌, ℕ, ◌+◌, ◌≤◌, [], ◌++◌, length, OnOk};
+ghost use Rattle.p3l_base.specs.Memory.{OnGiven};
 ghost use Rattle.p3l_ast.specs.Tree.{phrase, phrases, one, statements as tree_of, join, done, assign, if_, if_else, while_, for_};
 ghost use Rattle.p3l_compile.specs.Scope.{found};
 ghost use Rattle.p3l_compile.specs.Statement.{assign_size, assign_code, statement_size, statement_code, store_code, store_at_code};
@@ -16,7 +17,7 @@ use p3l_code::Instr;
 #[cycle(statement)]
 pub fn emit_stmts(scope: &Scope<'_>, code: &mut Vec<Instr>, stmts: &[Stmt]) -> Result<(), NoMemory>
     requires { length code.old.items + statement_size (tree_of stmts.now) ≤ 4194304 }
-    ensures code { OnOk result (code.new.items
+    ensures code { OnGiven result (code.new.items
         ≡ code.old.items ++ statement_code scope.now (length code.old.items) (tree_of stmts.now)) }
     ensures size { OnOk result (length code.new.items
         ≡ length code.old.items + statement_size (tree_of stmts.now)) }
@@ -31,7 +32,7 @@ pub fn emit_stmts(scope: &Scope<'_>, code: &mut Vec<Instr>, stmts: &[Stmt]) -> R
 #[cycle(statement)]
 fn emit_stmt(scope: &Scope<'_>, code: &mut Vec<Instr>, stmt: &Stmt) -> Result<(), NoMemory>
     requires { length code.old.items + statement_size (one stmt.now) ≤ 4194304 }
-    ensures code { OnOk result (code.new.items
+    ensures code { OnGiven result (code.new.items
         ≡ code.old.items ++ statement_code scope.now (length code.old.items) (one stmt.now)) }
     ensures size { OnOk result (length code.new.items
         ≡ length code.old.items + statement_size (one stmt.now)) }
@@ -60,7 +61,7 @@ fn emit_if(
 ) -> Result<(), NoMemory>
     requires { length code.old.items + statement_size (if_ (phrase condition.now) (tree_of then.now)
         done) ≤ 4194304 }
-    ensures code { OnOk result (code.new.items
+    ensures code { OnGiven result (code.new.items
         ≡ code.old.items
         ++ statement_code scope.now (length code.old.items)
         (if_ (phrase condition.now) (tree_of then.now) done)) }
@@ -87,7 +88,7 @@ fn emit_choice(
 ) -> Result<(), NoMemory>
     requires { length code.old.items + statement_size (if_else (phrase condition.now)
         (tree_of then.now) (tree_of other.now) done) ≤ 4194304 }
-    ensures code { OnOk result (code.new.items
+    ensures code { OnGiven result (code.new.items
         ≡ code.old.items
         ++ statement_code scope.now (length code.old.items)
         (if_else (phrase condition.now) (tree_of then.now) (tree_of other.now) done)) }
@@ -117,7 +118,7 @@ fn emit_while(
 ) -> Result<(), NoMemory>
     requires { length code.old.items + statement_size (while_ (phrase condition.now)
         (tree_of body.now) done) ≤ 4194304 }
-    ensures code { OnOk result (code.new.items
+    ensures code { OnGiven result (code.new.items
         ≡ code.old.items
         ++ statement_code scope.now (length code.old.items)
         (while_ (phrase condition.now) (tree_of body.now) done)) }
@@ -149,7 +150,7 @@ fn emit_turns(
         (join (tree_of body.now)
         (assign next.now.at (phrases next.now.index.items) (phrase step.now) done)) done)
         ≤ 4194304 }
-    ensures code { OnOk result (code.new.items
+    ensures code { OnGiven result (code.new.items
         ≡ code.old.items
         ++ statement_code scope.now (length code.old.items)
         (while_ (phrase condition.now)
@@ -181,7 +182,7 @@ fn emit_assign(
 ) -> Result<(), NoMemory>
     requires { length code.old.items + assign_size (phrases target.now.index.items)
         (phrase expr.now) ≤ 4194304 }
-    ensures code { OnOk result (code.new.items
+    ensures code { OnGiven result (code.new.items
         ≡ code.old.items
         ++ assign_code scope.now (length code.old.items)
         target.now.at.name (phrases target.now.index.items) (phrase expr.now)) }
@@ -207,7 +208,7 @@ fn emit_scalar(
     requires empty { target.now.index.items ≡ [] }
     requires room { length code.old.items + assign_size (phrases target.now.index.items)
         (phrase expr.now) ≤ 4194304 }
-    ensures code { OnOk result (code.new.items
+    ensures code { OnGiven result (code.new.items
         ≡ code.old.items
         ++ assign_code scope.now (length code.old.items)
         target.now.at.name (phrases target.now.index.items) (phrase expr.now)) }

@@ -1,6 +1,7 @@
 // The units of a tree from the bodies of its modules.
 
 ghost use Rattle.std.specs.Prelude.{◌≡◌, IfOk, List, map};
+ghost use Rattle.p3l_base.specs.Memory.{IfGiven};
 ghost use Rattle.std.specs.List.{AllByRecursion};
 ghost use Rattle.p3l_body.specs.Seq.{SeqTree, seq_tree};
 ghost use Rattle.p3l_skel.specs.Lawful.{IsLawfulTree};
@@ -19,7 +20,7 @@ use std::alloc::Global;
 /// The codes of bodies, in their order.
 pub fn codes_of(alloc: Global, seqs: &[CheckedSeq<'_>]) -> Result<List<SafeCode>, NoMemory>
     requires { AllByRecursion IsCompilable (map seq_tree seqs.now) }
-    ensures { IfOk result (AreCodes (map seq_tree seqs.now)) }
+    ensures { IfGiven result (AreCodes (map seq_tree seqs.now)) }
 {
     let mut codes = List::new(alloc);
     for seq in seqs {
@@ -37,7 +38,7 @@ pub fn table_of<'t>(
 ) -> Result<UnitTable<'t>, NoMemory>
     requires lawful { IsLawfulTree tree.now }
     requires bodies { HasBodies tree.now codes }
-    ensures tree { IfOk result (λ table. table.tree ≡ tree.now) }
+    ensures tree { IfGiven result (λ table. table.tree ≡ tree.now) }
     ensures leaf { (seqs : List SeqTree) → AreBodies tree.now seqs → AreCodes seqs codes
         → IfOk result (λ table. leaf table ≡ body_leaf tree.now seqs) }
 {
@@ -53,7 +54,7 @@ pub fn units_of<'t>(
 ) -> Result<UnitTable<'t>, NoMemory>
     requires lawful { IsLawfulTree tree.now }
     requires bodies { AreBodies tree.now (map seq_tree seqs.now) }
-    ensures tree { IfOk result (λ table. table.tree ≡ tree.now) }
+    ensures tree { IfGiven result (λ table. table.tree ≡ tree.now) }
     ensures leaf { IfOk result (λ table. leaf table ≡ body_leaf tree.now (map seq_tree seqs.now)) }
 {
     let codes = codes_of(alloc, seqs)?;

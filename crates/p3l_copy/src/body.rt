@@ -1,6 +1,7 @@
 // Copies of expressions and statements.
 
 ghost use Rattle.std.specs.Prelude.{◌≡◌, IfOk};
+ghost use Rattle.p3l_base.specs.Memory.{IfGiven};
 ghost use Rattle.p3l_ast.specs.declared.statement.Stmt.TheVariants.{For};
 ghost use Rattle.p3l_ast.specs.Tree.{phrase, phrases, one, statements};
 
@@ -11,7 +12,7 @@ use std::alloc::Global;
 
 #[cycle(copying)]
 fn expression(alloc: Global, expr: &Expr) -> Result<Expr, NoMemory>
-    ensures { IfOk result (λ copy. phrase copy ≡ phrase expr.now) }
+    ensures { IfGiven result (λ copy. phrase copy ≡ phrase expr.now) }
 {
     match expr {
         Expr::Number(value) => Ok(Expr::Number(*value)),
@@ -30,7 +31,7 @@ fn expression(alloc: Global, expr: &Expr) -> Result<Expr, NoMemory>
 
 #[cycle(copying)]
 fn target(alloc: Global, place: &Target) -> Result<Target, NoMemory>
-    ensures at { IfOk result (λ copy. copy.at ≡ place.now.at) }
+    ensures at { IfGiven result (λ copy. copy.at ≡ place.now.at) }
     ensures index { IfOk result (λ copy. phrases copy.index.items
         ≡ phrases place.now.index.items) }
 {
@@ -47,7 +48,7 @@ fn target(alloc: Global, place: &Target) -> Result<Target, NoMemory>
 /// A copy of statements.
 #[cycle(statement)]
 pub fn block(alloc: Global, stmts: &[Stmt]) -> Result<Vec<Stmt>, NoMemory>
-    ensures { IfOk result (λ copy. statements copy.items ≡ statements stmts.now) }
+    ensures { IfGiven result (λ copy. statements copy.items ≡ statements stmts.now) }
 {
     let mut copies = Vec::new(alloc);
     for stmt in stmts {
@@ -64,7 +65,7 @@ struct Assignment {
 }
 
 fn assigned(alloc: Global, place: &Target, value: &Expr) -> Result<Assignment, NoMemory>
-    ensures at { IfOk result (λ copy. copy.place.at ≡ place.now.at) }
+    ensures at { IfGiven result (λ copy. copy.place.at ≡ place.now.at) }
     ensures index { IfOk result (λ copy. phrases copy.place.index.items
         ≡ phrases place.now.index.items) }
     ensures value { IfOk result (λ copy. phrase copy.value ≡ phrase value.now) }
@@ -76,7 +77,7 @@ fn assigned(alloc: Global, place: &Target, value: &Expr) -> Result<Assignment, N
 
 #[cycle(statement)]
 fn statement(alloc: Global, stmt: &Stmt) -> Result<Stmt, NoMemory>
-    ensures { IfOk result (λ copy. one copy ≡ one stmt.now) }
+    ensures { IfGiven result (λ copy. one copy ≡ one stmt.now) }
 {
     match stmt {
         Stmt::Assign(place, value) => {

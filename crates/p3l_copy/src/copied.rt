@@ -1,6 +1,7 @@
 // What can be copied.
 
-ghost use Rattle.std.specs.Prelude.{◌≡◌, IfOk};
+ghost use Rattle.std.specs.Prelude.{◌≡◌};
+ghost use Rattle.p3l_base.specs.Memory.{IfGiven};
 
 use p3l_base::{List, NoMemory};
 use std::alloc::Global;
@@ -9,12 +10,12 @@ use std::alloc::Global;
 pub trait Copied: Drop {
     /// A copy.
     fn copied(&self, alloc: Global) -> Result<Self, NoMemory>
-        ensures { IfOk result (λ copy. copy ≡ self.now) };
+        ensures { IfGiven result (λ copy. copy ≡ self.now) };
 }
 
 /// Copies of items, in their order.
 pub fn copies<T: Copied>(alloc: Global, items: &[T]) -> Result<List<T>, NoMemory>
-    ensures { IfOk result (λ copies. copies ≡ items.now) }
+    ensures { IfGiven result (λ copies. copies ≡ items.now) }
 {
     let mut copies = List::new(alloc);
     for item in items {

@@ -1,6 +1,7 @@
 // Copies of modules.
 
 ghost use Rattle.std.specs.Prelude.{◌≡◌, IfOk};
+ghost use Rattle.p3l_base.specs.Memory.{IfGiven};
 ghost use Rattle.p3l_ast.specs.Tree.{statements, inside_tree, module_tree};
 
 use crate::body::block;
@@ -20,7 +21,7 @@ impl Copied for Rescue {
 
 /// A copy of what may be there.
 fn option<T: Copied>(alloc: Global, given: &Option<T>) -> Result<Option<T>, NoMemory>
-    ensures { IfOk result (λ copy. copy ≡ given.now) }
+    ensures { IfGiven result (λ copy. copy ≡ given.now) }
 {
     match given {
         None => Ok(None),
@@ -53,7 +54,7 @@ impl Copied for Clauses {
 }
 
 fn limits_of(alloc: Global, clauses: &Clauses) -> Result<Limits, NoMemory>
-    ensures turns { IfOk result (λ limits. limits.turns ≡ clauses.now.turns) }
+    ensures turns { IfGiven result (λ limits. limits.turns ≡ clauses.now.turns) }
     ensures tokens { IfOk result (λ limits. limits.tokens ≡ clauses.now.tokens) }
 {
     let turns = option(alloc, &clauses.turns)?;
@@ -62,7 +63,7 @@ fn limits_of(alloc: Global, clauses: &Clauses) -> Result<Limits, NoMemory>
 }
 
 fn body(alloc: Global, own: &Block) -> Result<Block, NoMemory>
-    ensures locals { IfOk result (λ copy. copy.locals ≡ own.now.locals) }
+    ensures locals { IfGiven result (λ copy. copy.locals ≡ own.now.locals) }
     ensures stmts { IfOk result (λ copy. statements copy.stmts ≡ statements own.now.stmts) }
 {
     let locals = copies(alloc, own.locals.as_slice())?;
@@ -71,7 +72,7 @@ fn body(alloc: Global, own: &Block) -> Result<Block, NoMemory>
 }
 
 fn inside(alloc: Global, own: &Inside) -> Result<Inside, NoMemory>
-    ensures { IfOk result (λ copy. inside_tree copy ≡ inside_tree own.now) }
+    ensures { IfGiven result (λ copy. inside_tree copy ≡ inside_tree own.now) }
 {
     match own {
         Inside::Body(block) => Ok(Inside::Body(body(alloc, block)?)),
@@ -86,7 +87,7 @@ fn inside(alloc: Global, own: &Inside) -> Result<Inside, NoMemory>
 
 /// A copy of a module.
 pub fn module(alloc: Global, own: &Module) -> Result<Module, NoMemory>
-    ensures { IfOk result (λ copy. module_tree copy ≡ module_tree own.now) }
+    ensures { IfGiven result (λ copy. module_tree copy ≡ module_tree own.now) }
 {
     let inside = inside(alloc, &own.inside)?;
     with_inside(alloc, own, inside)
@@ -100,7 +101,7 @@ struct Ports {
 }
 
 fn ports_of(alloc: Global, own: &Module) -> Result<Ports, NoMemory>
-    ensures ins { IfOk result (λ ports. ports.ins ≡ own.now.ins) }
+    ensures ins { IfGiven result (λ ports. ports.ins ≡ own.now.ins) }
     ensures outs { IfOk result (λ ports. ports.outs ≡ own.now.outs) }
 {
     let ins = copies(alloc, own.ins.as_slice())?;
@@ -117,7 +118,7 @@ struct Header {
 }
 
 fn header_of(alloc: Global, own: &Module) -> Result<Header, NoMemory>
-    ensures at { IfOk result (λ header. header.at ≡ own.now.at) }
+    ensures at { IfGiven result (λ header. header.at ≡ own.now.at) }
     ensures ins { IfOk result (λ header. header.ports.ins ≡ own.now.ins) }
     ensures outs { IfOk result (λ header. header.ports.outs ≡ own.now.outs) }
     ensures clauses { IfOk result (λ header. header.clauses ≡ own.now.clauses) }
@@ -130,7 +131,7 @@ fn header_of(alloc: Global, own: &Module) -> Result<Header, NoMemory>
 
 /// A copy of a module with something else inside.
 pub fn with_inside(alloc: Global, own: &Module, inside: Inside) -> Result<Module, NoMemory>
-    ensures { IfOk result (λ copy. module_tree copy
+    ensures { IfGiven result (λ copy. module_tree copy
         ≡ record {
           kind = own.now.kind;
           at = own.now.at;

@@ -1,6 +1,7 @@
 // Copies of programs.
 
-ghost use Rattle.std.specs.Prelude.{◌≡◌, ◌++◌, IfOk, OnOk, map};
+ghost use Rattle.std.specs.Prelude.{◌≡◌, ◌++◌, map};
+ghost use Rattle.p3l_base.specs.Memory.{IfGiven, OnGiven};
 ghost use Rattle.p3l_ast.specs.Tree.{entry_tree, program_tree};
 
 use crate::copied::Copied;
@@ -11,7 +12,7 @@ use std::alloc::Global;
 
 /// A copy of an entry.
 pub fn entry(alloc: Global, own: &Entry) -> Result<Entry, NoMemory>
-    ensures { IfOk result (λ copy. entry_tree copy ≡ entry_tree own.now) }
+    ensures { IfGiven result (λ copy. entry_tree copy ≡ entry_tree own.now) }
 {
     match own {
         Entry::Constant(spot, value) => Ok(Entry::Constant(spot.copied(alloc)?, *value)),
@@ -21,7 +22,7 @@ pub fn entry(alloc: Global, own: &Entry) -> Result<Entry, NoMemory>
 
 /// Puts copies of entries after others.
 pub fn put_entries(alloc: Global, entries: &mut List<Entry>, own: &[Entry]) -> Result<(), NoMemory>
-    ensures { OnOk result (map entry_tree entries.new
+    ensures { OnGiven result (map entry_tree entries.new
         ≡ map entry_tree entries.old ++ map entry_tree own.now) }
 {
     for own in own {
@@ -32,7 +33,7 @@ pub fn put_entries(alloc: Global, entries: &mut List<Entry>, own: &[Entry]) -> R
 
 /// A copy of a program.
 pub fn program(alloc: Global, own: &Program) -> Result<Program, NoMemory>
-    ensures { IfOk result (λ copy. program_tree copy ≡ program_tree own.now) }
+    ensures { IfGiven result (λ copy. program_tree copy ≡ program_tree own.now) }
 {
     let mut entries = List::new(alloc);
     put_entries(alloc, &mut entries, own.entries.as_slice())?;

@@ -1,6 +1,7 @@
 // The numbers of the cost model.
 
 ghost use Rattle.std.specs.Prelude.{◌≡◌, IfOk};
+ghost use Rattle.p3l_base.specs.Memory.{IfGiven};
 ghost use Rattle.p3l_skel.specs.Lawful.{IsLawfulTree};
 ghost use Rattle.p3l_cost.specs.Costs.{AreCostsOf};
 ghost use Rattle.p3l_cost.specs.Standard.{standard_costs, standard_ticks, full_turns, turns_or, turns_in};
@@ -28,7 +29,7 @@ pub struct Costs {
 /// for each `loop` module as many turns as its clause allows.
 pub fn standard(alloc: Global, tree: &Tree) -> Result<Costs, NoMemory>
     requires { IsLawfulTree tree.now }
-    ensures costs { IfOk result (λ costs. costs ≡ standard_costs tree.now) }
+    ensures costs { IfGiven result (λ costs. costs ≡ standard_costs tree.now) }
     ensures lawful { IfOk result (AreCostsOf tree.now) }
 {
     let mut ticks = List::new(alloc);

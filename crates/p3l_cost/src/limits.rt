@@ -1,6 +1,7 @@
 // The greatest numbers of the entries of a table.
 
-ghost use Rattle.std.specs.Prelude.{◌≡◌, ◌<◌, ◌^◌, List, [], ℕ, Some, None, IfOk, OnOk, bytes_eq, if◌then◌else◌, length};
+ghost use Rattle.std.specs.Prelude.{◌≡◌, ◌<◌, ◌^◌, List, [], ℕ, Some, None, bytes_eq, if◌then◌else◌, length};
+ghost use Rattle.p3l_base.specs.Memory.{IfGiven, OnGiven};
 ghost use Rattle.std.specs.Map.{lookup};
 ghost use Rattle.std.specs.Option.{option_or};
 ghost use Rattle.p3l_cost.specs.File.{limit_of, most_of};
@@ -46,7 +47,7 @@ impl Limits {
 
     /// Adds a module, if there is none of its name.
     fn add(&mut self, alloc: Global, name: &Name, most: u32) -> Result<(), NoMemory>
-        ensures { OnOk result ((other : List ℕ) → lookup (bytes_eq other) self.new
+        ensures { OnGiven result ((other : List ℕ) → lookup (bytes_eq other) self.new
             ≡ option_or (lookup (bytes_eq other) self.old)
             (if bytes_eq other name.now then Some most else None)) }
     {
@@ -72,7 +73,7 @@ fn most_of(section: Section, nodes: &[Node], home: u32) -> u32
 /// The modules that a table speaks of.
 pub(crate) fn limits_of(alloc: Global, tree: &Tree, section: Section) -> Result<Limits, NoMemory>
     requires few { length tree.now.modules < 2 ^ 32 }
-    ensures { IfOk result (λ limits. (name : List ℕ)
+    ensures { IfGiven result (λ limits. (name : List ℕ)
         → lookup (bytes_eq name) limits ≡ limit_of tree.now section name) }
 {
     let mut limits = Limits::new(alloc);

@@ -1,6 +1,7 @@
 // Costs of a tree, read from a text.
 
 ghost use Rattle.std.specs.Prelude.{◌≡◌, ◌<◌, ◌^◌, IfOk, IfErr, length, option_map};
+ghost use Rattle.p3l_base.specs.Memory.{IfGiven};
 ghost use Rattle.toml.specs.Data.{get_member};
 ghost use Rattle.toml.specs.View.{table_view, view};
 ghost use Rattle.p3l_skel.specs.Lawful.{IsLawfulTree};
@@ -127,7 +128,7 @@ fn turns_of(tree: &Tree, document: &Table, home: u32, info: &ModuleInfo) -> u32
 /// The expected turns of all modules.
 fn all_turns(alloc: Global, tree: &Tree, document: &Table) -> Result<List<u32>, NoMemory>
     requires few { length tree.now.modules < 2 ^ 32 }
-    ensures { IfOk result (λ turns. turns
+    ensures { IfGiven result (λ turns. turns
         ≡ all_turns tree.now (table_view document.now) 0 tree.now.modules) }
 {
     let mut turns = List::new(alloc);

@@ -1,6 +1,7 @@
 // The rules of keys and values.
 
-ghost use Rattle.std.specs.Prelude.{◌≡◌, ◌<◌, ◌^◌, IfOk, bytes_eq, length, option_map};
+ghost use Rattle.std.specs.Prelude.{◌≡◌, ◌<◌, ◌^◌, bytes_eq, length, option_map};
+ghost use Rattle.p3l_base.specs.Memory.{IfGiven};
 ghost use Rattle.std.specs.Map.{lookup};
 ghost use Rattle.toml.specs.View.{table_view, view};
 ghost use Rattle.p3l_cost.specs.File.{Gives, entries_rule, entry_key, entry_within, found, is_number_key, key_rule, keys_rule, section_rule, whole_in};
@@ -32,7 +33,7 @@ pub(crate) fn whole_in(low: u32, high: u32, value: &Value) -> Option<u32>
 
 /// How an entry is written.
 fn entry_key(alloc: Global, section: Section, name: &str) -> Result<Name, NoMemory>
-    ensures { IfOk result (λ key. key ≡ entry_key section name.now) }
+    ensures { IfGiven result (λ key. key ≡ entry_key section name.now) }
 {
     let table = section.key();
     let text = format!(in alloc; "{table}.{name}")?;

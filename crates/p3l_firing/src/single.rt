@@ -1,6 +1,7 @@
 // The net of a tree that is one unit.
 
-ghost use Rattle.std.specs.Prelude.{◌≡◌, [], ◌∷◌, IfOk};
+ghost use Rattle.std.specs.Prelude.{◌≡◌, [], ◌∷◌};
+ghost use Rattle.p3l_base.specs.Memory.{IfGiven};
 ghost use Rattle.p3l_firing.specs.Single.{unit_net};
 
 use crate::net::{Chan, Net};
@@ -10,7 +11,7 @@ use std::alloc::Global;
 
 /// The net of source, run and sink in a row, with channels of this capacity.
 pub fn unit_net(alloc: Global, cap: u32) -> Result<Net, NoMemory>
-    ensures { IfOk result (λ net. net ≡ unit_net cap) }
+    ensures { IfGiven result (λ net. net ≡ unit_net cap) }
 {
     let mut procs = List::new(alloc);
     procs.push(process(ProcKind::Source, List::new(alloc), single(alloc, 0)?))?;
@@ -37,7 +38,7 @@ fn process(kind: ProcKind, ins: List<u32>, outs: List<u32>) -> Proc
 
 // The list of one channel.
 fn single(alloc: Global, channel: u32) -> Result<List<u32>, NoMemory>
-    ensures { IfOk result (λ list. list ≡ channel ∷ []) }
+    ensures { IfGiven result (λ list. list ≡ channel ∷ []) }
 {
     let mut list = List::new(alloc);
     list.push(channel)?;

@@ -1,6 +1,7 @@
 // Whether what is saved of a machine fits a linked net.
 
-ghost use Rattle.std.specs.Prelude.{◌≡◌, ◌↔◌, ◌≤◌, IsTrue, IfOk, IfSome, length};
+ghost use Rattle.std.specs.Prelude.{◌≡◌, ◌↔◌, ◌≤◌, IsTrue, IfSome, length};
+ghost use Rattle.p3l_base.specs.Memory.{IfGiven};
 ghost use Rattle.p3l_skel.specs.Numbers.{procs};
 ghost use Rattle.p3l_skel.specs.Tree.{node_at};
 ghost use Rattle.p3l_net.specs.Fitting.{Fitting};
@@ -67,7 +68,7 @@ pub fn is_fitting(
     shot: &Shot,
 ) -> Result<bool, NoMemory>
     requires { procs tree.now counts.now.list 0 ≤ 4096 }
-    ensures { IfOk result (λ yes. IsTrue yes ↔ Fitting tree.now net.now
+    ensures { IfGiven result (λ yes. IsTrue yes ↔ Fitting tree.now net.now
         (linked_widths tree.now counts.now.list) (linked_loops tree.now counts.now.list)
         shot.now) }
 {

@@ -1,6 +1,7 @@
 // What a linked net is surveyed to have.
 
-ghost use Rattle.std.specs.Prelude.{◌≡◌, ◌+◌, ◌≤◌, ◌++◌, ◌^◌, ◌<◌, OnOk, IfOk, length};
+ghost use Rattle.std.specs.Prelude.{◌≡◌, ◌+◌, ◌≤◌, ◌++◌, ◌^◌, ◌<◌, length};
+ghost use Rattle.p3l_base.specs.Memory.{IfGiven, OnGiven};
 ghost use Rattle.p3l_skel.specs.Numbers.{joined_procs};
 ghost use Rattle.p3l_fitting.specs.Survey.{end_survey, own_procs, own_loops};
 
@@ -49,7 +50,7 @@ pub struct Survey {
 impl Survey {
     /// The source and the sink, whose channels carry the root's in words and its out words.
     pub(crate) fn of_ends(alloc: Global, tree: &Tree) -> Result<Survey, NoMemory>
-        ensures { IfOk result (λ survey. survey ≡ end_survey tree.now) }
+        ensures { IfGiven result (λ survey. survey ≡ end_survey tree.now) }
     {
         let mut widths = List::new(alloc);
         widths.push(ins_width(tree, 0, 0))?;
@@ -86,7 +87,7 @@ pub(crate) fn push_loops(
     chan_to: usize,
 ) -> Result<(), NoMemory>
     requires { proc_from + 1 < 2 ^ 64 }
-    ensures { OnOk result (loops.new
+    ensures { OnGiven result (loops.new
         ≡ loops.old ++ own_loops form.now proc_from chan_from proc_to chan_to) }
 {
     match form {

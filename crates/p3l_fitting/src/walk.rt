@@ -1,6 +1,7 @@
 // The walk over the tree that surveys a linked net: in the order in which the linker places.
 
-ghost use Rattle.std.specs.Prelude.{◌≡◌, ◌+◌, ◌*◌, ◌≤◌, ◌<◌, ◌^◌, ◌++◌, OnOk, IfOk, length};
+ghost use Rattle.std.specs.Prelude.{◌≡◌, ◌+◌, ◌*◌, ◌≤◌, ◌<◌, ◌^◌, ◌++◌, length};
+ghost use Rattle.p3l_base.specs.Memory.{IfGiven, OnGiven};
 ghost use Rattle.p3l_skel.specs.Counts.{count_of};
 ghost use Rattle.p3l_skel.specs.Numbers.{procs};
 ghost use Rattle.p3l_fitting.specs.Survey.{followed, linked_survey, node_survey, own_loops, own_procs};
@@ -18,7 +19,7 @@ use std::alloc::Global;
 /// What the linked net of a tree under these counts has.
 pub fn surveyed(alloc: Global, tree: &Tree, counts: &Counts) -> Result<Survey, NoMemory>
     requires { procs tree.now counts.now.list 0 ≤ 4096 }
-    ensures { IfOk result (λ survey. survey ≡ linked_survey tree.now counts.now.list) }
+    ensures { IfGiven result (λ survey. survey ≡ linked_survey tree.now counts.now.list) }
 {
     let mut survey = Survey::of_ends(alloc, tree)?;
     survey_node(alloc, tree, counts, NESTING, 0, 0, &mut survey)?;
@@ -28,7 +29,7 @@ pub fn surveyed(alloc: Global, tree: &Tree, counts: &Counts) -> Result<Survey, N
 // The same number of copies of a list, one after the other.
 #[tactic(auto, unfolding(crate::specs::Widths::copies), using(crate::proofs::Segmenting::copies_more))]
 fn copies(alloc: Global, n: u32, parts: &[u32]) -> Result<List<u32>, NoMemory>
-    ensures { IfOk result (λ list. list ≡ copies n parts.now) }
+    ensures { IfGiven result (λ list. list ≡ copies n parts.now) }
 {
     let mut list = Vec::new(alloc);
     for _ in 0..n {
@@ -39,7 +40,7 @@ fn copies(alloc: Global, n: u32, parts: &[u32]) -> Result<List<u32>, NoMemory>
 
 // The nodes that are placed inside a node, in order.
 fn seat_nodes(alloc: Global, node: &Node, n: u32) -> Result<List<u32>, NoMemory>
-    ensures { IfOk result (λ list. list ≡ seat_nodes node.now n) }
+    ensures { IfGiven result (λ list. list ≡ seat_nodes node.now n) }
 {
     let parts = outside_parts(node);
     match &node.form {
@@ -65,7 +66,7 @@ fn survey_node(
     requires room { survey.old.procs
         + (node_survey tree.now (count_of tree.now counts.now.list) levels number tags
         survey.old.procs (length survey.old.widths)).procs < 2 ^ 32 }
-    ensures { OnOk result (survey.new ≡ followed survey.old
+    ensures { OnGiven result (survey.new ≡ followed survey.old
         (node_survey tree.now (count_of tree.now counts.now.list) levels number tags
         survey.old.procs (length survey.old.widths))) }
 {
@@ -100,7 +101,7 @@ fn begin(
 ) -> Result<(), NoMemory>
     requires tags { tags + 2 < 2 ^ 32 }
     requires room { survey.old.procs + own_procs node.now.form n < 2 ^ 32 }
-    ensures { OnOk result (survey.new ≡ record survey.old {
+    ensures { OnGiven result (survey.new ≡ record survey.old {
       procs = survey.old.procs + own_procs node.now.form n;
       widths = survey.old.widths
           ++ own_widths tree.now number n tags node.now.form node.now.parts;
@@ -118,7 +119,7 @@ fn close(
     chan_from: usize,
 ) -> Result<(), NoMemory>
     requires { proc_from < 2 ^ 32 }
-    ensures { OnOk result (survey.new ≡ record survey.old {
+    ensures { OnGiven result (survey.new ≡ record survey.old {
       loops = survey.old.loops
           ++ own_loops form.now proc_from chan_from survey.old.procs
           (length survey.old.widths);

@@ -1,6 +1,7 @@
 // What the channels of a linked net carry.
 
-ghost use Rattle.std.specs.Prelude.{◌≡◌, ◌++◌, ◌∷◌, [], ◌+◌, ◌^◌, ◌<◌, ◌≤◌, map, replicate, OnOk};
+ghost use Rattle.std.specs.Prelude.{◌≡◌, ◌++◌, ◌∷◌, [], ◌+◌, ◌^◌, ◌<◌, ◌≤◌, map, replicate};
+ghost use Rattle.p3l_base.specs.Memory.{OnGiven};
 ghost use Rattle.p3l_firing.specs.Segments.{level_up_to, segment_lengths};
 ghost use Rattle.p3l_fitting.specs.Widths.{deeper, ins_width, outs_width, own_widths, reduce_widths, segment_width, stage_widths, width_at, worker_widths};
 
@@ -60,7 +61,7 @@ pub(crate) fn deeper(form: &Form) -> u32
 
 /// Puts the same width behind the others, `n` times.
 fn push_same(row: &mut List<Width>, n: u32, width: Width) -> Result<(), NoMemory>
-    ensures { OnOk result (row.new ≡ row.old ++ replicate n width) }
+    ensures { OnGiven result (row.new ≡ row.old ++ replicate n width) }
 {
     for _ in 0..n {
         row.push(width)?;
@@ -70,7 +71,7 @@ fn push_same(row: &mut List<Width>, n: u32, width: Width) -> Result<(), NoMemory
 
 /// The channels between the stages of a pipe.
 fn push_stages(row: &mut List<Width>, tree: &Tree, tags: u32, parts: &[u32]) -> Result<(), NoMemory>
-    ensures { OnOk result (row.new ≡ row.old ++ stage_widths tree.now tags parts.now) }
+    ensures { OnGiven result (row.new ≡ row.old ++ stage_widths tree.now tags parts.now) }
 {
     let stages = &parts[..parts.len().saturating_sub(1)];
     for part in stages {
@@ -81,7 +82,7 @@ fn push_stages(row: &mut List<Width>, tree: &Tree, tags: u32, parts: &[u32]) -> 
 
 /// The channels to `n` workers, and those from them.
 fn push_workers(row: &mut List<Width>, n: u32, before: Width, after: Width) -> Result<(), NoMemory>
-    ensures { OnOk result (row.new ≡ row.old ++ worker_widths n before after) }
+    ensures { OnGiven result (row.new ≡ row.old ++ worker_widths n before after) }
 {
     push_same(row, n, before)?;
     push_same(row, n, after)
@@ -110,7 +111,7 @@ fn push_segments(
     level: u32,
     len: u32,
 ) -> Result<(), NoMemory>
-    ensures { OnOk result (row.new
+    ensures { OnGiven result (row.new
         ≡ row.old ++ map (segment_width elem tags) (segment_lengths level len)) }
 {
     if level == 0 {
@@ -134,7 +135,7 @@ fn push_reduce(
     level: u32,
 ) -> Result<(), NoMemory>
     requires { level ≤ 9 }
-    ensures { OnOk result (row.new
+    ensures { OnGiven result (row.new
         ≡ row.old ++ reduce_widths elem len joined.tags joined level) }
 {
     if level == 0 {
@@ -148,7 +149,7 @@ fn push_reduce(
 
 /// The channels of a loop: to its body, from it, back to the head, and the credits.
 fn push_loop(row: &mut List<Width>, ins: Width, outs: Width) -> Result<(), NoMemory>
-    ensures { OnOk result (row.new ≡ row.old
+    ensures { OnGiven result (row.new ≡ row.old
         ++ ins ∷ (outs ∷ (ins ∷ (record { words = 0; tags = 0 } ∷ [])))) }
 {
     row.push(ins)?;
@@ -168,7 +169,7 @@ pub(crate) fn push_own(
     tags: u32,
 ) -> Result<(), NoMemory>
     requires { tags + 2 < 2 ^ 32 }
-    ensures { OnOk result (row.new
+    ensures { OnGiven result (row.new
         ≡ row.old ++ own_widths tree.now number n tags node.now.form node.now.parts) }
 {
     match &node.form {

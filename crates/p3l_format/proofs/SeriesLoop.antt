@@ -22,7 +22,7 @@ until_goes_on item next stop k j p s rest v front total e is read so_far =
 
 pub until_fails : {P A : Type 0} (item : P → Format ℕ A) (next : A → P) (stop : List ℕ) (k j : ℕ) (p : P) (s : List ℕ) (e : ReadError) (front : List A) (total : Result (List A × List ℕ) Fault)
     → k ≡ suc j → after_text stop s ≡ None → Fails e ((item p).read s) → with_front front (read_from item next stop k p s) ≡ total → Fails e total
-until_fails item next stop k j p s errors.NoMemory front total n is read so_far = tt
+until_fails item next stop k j p s errors.NoMemory front total n is read so_far = read
 until_fails item next stop k j p s (errors.Wrong f) front total n is read so_far =
     let one : with_front front (read_from item next stop k p s) ≡ Err f = rw (n, is, read) refl in
     sym so_far ∙ one

@@ -1,6 +1,7 @@
 // Numbers in decimal.
 
-ghost use Rattle.std.specs.Prelude.{◌≡◌, ◌^◌, ◌≤◌, ◌++◌, true, length, position, OnOk, IfOk};
+ghost use Rattle.std.specs.Prelude.{◌≡◌, ◌^◌, ◌≤◌, ◌++◌, true, length, position, IfOk};
+ghost use Rattle.p3l_base.specs.Memory.{OnGiven};
 ghost use Rattle.std.specs.Char.{is_ascii_digit};
 ghost use Rattle.std.specs.List.{list_all};
 ghost use Rattle.std.specs.Fmt.{decimal};
@@ -100,7 +101,7 @@ pub fn read_number_then<'a>(
 
 /// Puts a number after others, in decimal.
 pub fn write_number(alloc: Global, number: u128, out: &mut Vec<u8>) -> Result<(), NoMemory>
-    ensures { OnOk result (out.new.items ≡ out.old.items ++ decimal number) }
+    ensures { OnGiven result (out.new.items ≡ out.old.items ++ decimal number) }
 {
     let digits = number.to_string(alloc)?;
     out.extend_from_slice(digits.as_str().as_bytes())?;
@@ -114,7 +115,7 @@ pub fn write_number_then(
     text: &[u8],
     out: &mut Vec<u8>,
 ) -> Result<(), NoMemory>
-    ensures { OnOk result (out.new.items ≡ out.old.items ++ (decimal number ++ text.now)) }
+    ensures { OnGiven result (out.new.items ≡ out.old.items ++ (decimal number ++ text.now)) }
 {
     write_number(alloc, number, out)?;
     out.extend_from_slice(text)?;

@@ -1,6 +1,7 @@
 // Lines of a word and a number, and the lines in which faults are reported.
 
-ghost use Rattle.std.specs.Prelude.{◌≡◌, ◌≤◌, ◌++◌, [], ◌∷◌, OnOk, IfOk};
+ghost use Rattle.std.specs.Prelude.{◌≡◌, ◌≤◌, ◌++◌, [], ◌∷◌, IfOk};
+ghost use Rattle.p3l_base.specs.Memory.{OnGiven};
 ghost use Rattle.p3l_format.specs.Format.{Gives};
 ghost use Rattle.p3l_format.specs.Decimal.{number_then};
 ghost use Rattle.p3l_format.specs.Line.{number_line, line_error, line_number};
@@ -69,7 +70,7 @@ impl<'w> NumberLine<'w> {
     /// Puts the line of a number after others.
     #[tactic(auto, unfolding(crate::specs::Line::number_line, crate::specs::Line::line, crate::specs::Text::text_then, crate::specs::Decimal::number_then, crate::specs::Text::then_text, crate::specs::Format::within, crate::specs::Decimal::number_text))]
     pub fn write(&self, alloc: Global, number: u128, out: &mut Vec<u8>) -> Result<(), NoMemory>
-        ensures { OnOk result (out.new.items
+        ensures { OnGiven result (out.new.items
             ≡ out.old.items
             ++ (number_line self.now.word.now self.now.low self.now.high).spell number) }
     {

@@ -1,6 +1,7 @@
 // Values up to a text that ends them.
 
-ghost use Rattle.std.specs.Prelude.{◌≡◌, ℕ, List, ◌++◌, ◌<◌, length, true, Ok, OnOk};
+ghost use Rattle.std.specs.Prelude.{◌≡◌, ℕ, List, ◌++◌, ◌<◌, length, true, Ok};
+ghost use Rattle.p3l_base.specs.Memory.{OnGiven};
 ghost use Rattle.p3l_format.specs.Format.{Format, Gives};
 ghost use Rattle.p3l_format.specs.Series.{fits_from, spell_from, until};
 
@@ -30,7 +31,7 @@ pub trait Item: Copy + Drop {
     /// Puts the value's spelling after others.
     fn write(&self, alloc: Global, value: &Self::Value, out: &mut Vec<u8>) -> Result<(), NoMemory>
         requires { (format self.now).fits value.now ≡ true }
-        ensures { OnOk result (out.new.items
+        ensures { OnGiven result (out.new.items
             ≡ out.old.items ++ (format self.now).spell value.now) };
 
     ghost takes_some: { (it : Self) (s : List ℕ) (v : Self.Value) (rest : List ℕ) → (format it).read s ≡ Ok (v, rest) → length rest < length s };
@@ -73,7 +74,7 @@ pub fn write_series<I: Item>(
     out: &mut Vec<u8>,
 ) -> Result<(), NoMemory>
     requires { fits_from I.format I.next first values.now ≡ true }
-    ensures { OnOk result (out.new.items
+    ensures { OnGiven result (out.new.items
         ≡ out.old.items ++ spell_from I.format I.next first values.now) }
 {
     let mut kind = first;

@@ -1,6 +1,7 @@
 // The texts that are generated.
 
-ghost use Rattle.std.specs.Prelude.{◌≡◌, ◌+◌, ◌≤◌, ◌<◌, ◌^◌, ◌++◌, IfOk, OnOk, string_bytes};
+ghost use Rattle.std.specs.Prelude.{◌≡◌, ◌+◌, ◌≤◌, ◌<◌, ◌^◌, ◌++◌, IfOk, string_bytes};
+ghost use Rattle.p3l_base.specs.Memory.{IfGiven, OnGiven};
 ghost use Rattle.p3l_gen.specs.Texts.{costs_text, factor_of, line_text, program_head, program_tail, program_text, stream_text, word_text};
 
 use p3l_base::{List, NoMemory};
@@ -36,7 +37,7 @@ fn program_tail() -> &'static str
 
 /// The program of a number, whose factor is one of 2 to 6.
 fn program_text(alloc: Global, n: u32) -> Result<List<u8>, NoMemory>
-    ensures { IfOk result (λ text. text ≡ program_text n) }
+    ensures { IfGiven result (λ text. text ≡ program_text n) }
 {
     let factor = n % 5 + 2;
     let digits = format!(in alloc; "{factor}")?;
@@ -48,7 +49,7 @@ fn program_text(alloc: Global, n: u32) -> Result<List<u8>, NoMemory>
 
 /// The costs of the program.
 fn costs_text(alloc: Global) -> Result<List<u8>, NoMemory>
-    ensures { IfOk result (λ text. text ≡ costs_text) }
+    ensures { IfGiven result (λ text. text ≡ costs_text) }
 {
     let text = String::from_str(
         alloc,
@@ -60,7 +61,7 @@ fn costs_text(alloc: Global) -> Result<List<u8>, NoMemory>
 /// Puts word `i` of a line after a text.
 fn put_word(alloc: Global, text: &mut String, first: u64, i: u64) -> Result<(), NoMemory>
     requires { first + i < 2 ^ 64 }
-    ensures { OnOk result (string_bytes text.new ≡ string_bytes text.old ++ word_text first i) }
+    ensures { OnGiven result (string_bytes text.new ≡ string_bytes text.old ++ word_text first i) }
 {
     if i > 0 {
         text.push(' ')?;
@@ -74,7 +75,7 @@ fn put_word(alloc: Global, text: &mut String, first: u64, i: u64) -> Result<(), 
 /// Puts a line after a text, which begins with a number.
 fn put_line(alloc: Global, text: &mut String, first: u64) -> Result<(), NoMemory>
     requires { first ≤ 2 ^ 63 }
-    ensures { OnOk result (string_bytes text.new ≡ string_bytes text.old ++ line_text first) }
+    ensures { OnGiven result (string_bytes text.new ≡ string_bytes text.old ++ line_text first) }
 {
     for i in 0..WORDS {
         put_word(alloc, text, first, i)?;
@@ -85,7 +86,7 @@ fn put_line(alloc: Global, text: &mut String, first: u64) -> Result<(), NoMemory
 
 /// The stream of a number with `items` items.
 fn stream_text(alloc: Global, n: u32, items: u32) -> Result<List<u8>, NoMemory>
-    ensures { IfOk result (λ text. text ≡ stream_text n items) }
+    ensures { IfGiven result (λ text. text ≡ stream_text n items) }
 {
     let mut text = String::new(alloc);
     for k in 0..items {
@@ -96,7 +97,7 @@ fn stream_text(alloc: Global, n: u32, items: u32) -> Result<List<u8>, NoMemory>
 
 /// The texts of a number: line `k` of the stream, from 1, has the words `n + k` to `n + k + 15`.
 pub fn generate(alloc: Global, n: u32, items: u32) -> Result<Generated, NoMemory>
-    ensures program { IfOk result (λ generated. generated.program ≡ program_text n) }
+    ensures program { IfGiven result (λ generated. generated.program ≡ program_text n) }
     ensures costs { IfOk result (λ generated. generated.costs ≡ costs_text) }
     ensures stream { IfOk result (λ generated. generated.stream ≡ stream_text n items) }
 {

@@ -1,6 +1,7 @@
 // The boxes of processes and the arrows of channels.
 
-ghost use Rattle.std.specs.Prelude.{◌≡◌, ◌++◌, ◌<◌, ◌^◌, OnOk, length, string_bytes};
+ghost use Rattle.std.specs.Prelude.{◌≡◌, ◌++◌, ◌<◌, ◌^◌, length, string_bytes};
+ghost use Rattle.p3l_base.specs.Memory.{OnGiven};
 ghost use Rattle.p3l_skel.specs.Tree.{node_at};
 ghost use Rattle.p3l_graph.specs.Boxes.{channel_line, is_placed, kind_name, label_of, name_at, name_in, process_line};
 
@@ -72,7 +73,7 @@ pub(crate) fn put_process(
     number: usize,
     process: &Proc,
 ) -> Result<(), NoMemory>
-    ensures { OnOk result (string_bytes text.new
+    ensures { OnGiven result (string_bytes text.new
         ≡ string_bytes text.old ++ process_line tree.now number process.now) }
 {
     let kind = kind_name(process.kind);
@@ -98,7 +99,7 @@ pub(crate) fn put_channel(
     requires small { number < 2 ^ 32 }
     requires written { number < length ends.now.writers }
     requires read { number < length ends.now.readers }
-    ensures { OnOk result (string_bytes text.new
+    ensures { OnGiven result (string_bytes text.new
         ≡ string_bytes text.old ++ channel_line ends.now number channel.now) }
 {
     let writer = ends.writer(number as u32);

@@ -1,6 +1,7 @@
 // The frames round the processes of skeletons.
 
-ghost use Rattle.std.specs.Prelude.{◌≡◌, ◌++◌, IfNone, IfSome, None, OnOk, Some, string_bytes};
+ghost use Rattle.std.specs.Prelude.{◌≡◌, ◌++◌, IfNone, IfSome, None, Some, string_bytes};
+ghost use Rattle.p3l_base.specs.Memory.{OnGiven};
 ghost use Rattle.std.specs.List.{flat_map};
 ghost use Rattle.p3l_graph.specs.Frames.{frame_head, frame_name, frame_to, member_line, members};
 
@@ -34,7 +35,7 @@ fn put_member(
     number: usize,
     process: &Proc,
 ) -> Result<(), NoMemory>
-    ensures { OnOk result (string_bytes text.new
+    ensures { OnGiven result (string_bytes text.new
         ≡ string_bytes text.old ++ member_line node number process.now) }
 {
     if is_placed(process.kind) && process.node == node {
@@ -46,7 +47,7 @@ fn put_member(
 
 /// Puts the processes of a node after a text.
 fn put_members(alloc: Global, text: &mut String, net: &Net, node: u32) -> Result<(), NoMemory>
-    ensures { OnOk result (string_bytes text.new ≡ string_bytes text.old ++ members net.now node) }
+    ensures { OnGiven result (string_bytes text.new ≡ string_bytes text.old ++ members net.now node) }
 {
     let processes = net.procs.as_slice();
     for number in 0..processes.len() {
@@ -63,7 +64,7 @@ fn put_head(
     number: u32,
     kind: &str,
 ) -> Result<(), NoMemory>
-    ensures { OnOk result (string_bytes text.new
+    ensures { OnGiven result (string_bytes text.new
         ≡ string_bytes text.old ++ frame_head tree.now number kind.now) }
 {
     let name = name_at(tree, number);
@@ -86,7 +87,7 @@ fn put_inner(
     number: u32,
     parts: &[u32],
 ) -> Result<(), NoMemory>
-    ensures { OnOk result (string_bytes text.new ≡ string_bytes text.old
+    ensures { OnGiven result (string_bytes text.new ≡ string_bytes text.old
         ++ (members net.now number ++ flat_map (frame_to tree.now net.now levels) parts.now)) }
 {
     put_members(alloc, text, net, number)?;
@@ -107,7 +108,7 @@ pub(crate) fn put_frame(
     levels: u32,
     number: u32,
 ) -> Result<(), NoMemory>
-    ensures { OnOk result (string_bytes text.new
+    ensures { OnGiven result (string_bytes text.new
         ≡ string_bytes text.old ++ frame_to tree.now net.now levels number) }
 {
     if levels == 0 {

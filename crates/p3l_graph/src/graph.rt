@@ -1,6 +1,7 @@
 // The text of a network.
 
-ghost use Rattle.std.specs.Prelude.{◌≡◌, ◌++◌, ◌≤◌, IfOk, OnOk, length, string_bytes};
+ghost use Rattle.std.specs.Prelude.{◌≡◌, ◌++◌, ◌≤◌, length, string_bytes};
+ghost use Rattle.p3l_base.specs.Memory.{IfGiven, OnGiven};
 ghost use Rattle.p3l_firing.specs.Typed.{IsTyped};
 ghost use Rattle.p3l_graph.specs.Boxes.{channel_line, process_line};
 ghost use Rattle.p3l_graph.specs.Frames.{frames};
@@ -18,7 +19,7 @@ use std::alloc::Global;
 
 /// Puts the boxes of all processes after a text.
 fn put_processes(alloc: Global, text: &mut String, tree: &Tree, net: &Net) -> Result<(), NoMemory>
-    ensures { OnOk result (string_bytes text.new
+    ensures { OnGiven result (string_bytes text.new
         ≡ string_bytes text.old ++ numbered (process_line tree.now) 0 net.now.procs) }
 {
     let processes = net.procs.as_slice();
@@ -33,7 +34,7 @@ fn put_channels(alloc: Global, text: &mut String, net: &Net, ends: &Sides) -> Re
     requires few { length net.now.chans ≤ 1048576 }
     requires written { length ends.now.writers ≡ length net.now.chans }
     requires read { length ends.now.readers ≡ length net.now.chans }
-    ensures { OnOk result (string_bytes text.new
+    ensures { OnGiven result (string_bytes text.new
         ≡ string_bytes text.old ++ numbered (channel_line ends.now) 0 net.now.chans) }
 {
     let channels = net.chans.as_slice();
@@ -48,7 +49,7 @@ fn put_channels(alloc: Global, text: &mut String, net: &Net, ends: &Sides) -> Re
 /// of each skeleton.
 pub fn graph_text(alloc: Global, tree: &Tree, net: &Net) -> Result<List<u8>, NoMemory>
     requires { IsTyped tree.now net.now }
-    ensures { IfOk result (IsGraph tree.now net.now) }
+    ensures { IfGiven result (IsGraph tree.now net.now) }
 {
     let ends = Sides::of(alloc, net)?;
     let mut text = String::from_str(

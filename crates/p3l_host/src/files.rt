@@ -1,6 +1,7 @@
 // The file system.
 
-ghost use Rattle.std.specs.Prelude.{◌≡◌, ◌≤◌, None, Some, length, IfOk, OnOk, OnErr};
+ghost use Rattle.std.specs.Prelude.{◌≡◌, ◌≤◌, None, Some, length, IfOk, OnErr};
+ghost use Rattle.p3l_base.specs.Memory.{OnGiven};
 ghost use Rattle.p3l_host.specs.Faults.{IsAfterFault};
 ghost use Rattle.p3l_host.specs.Reads.{ReadsWithin};
 
@@ -50,7 +51,7 @@ impl<'a, R: rt::Files, W: Write + Drop> HostFiles<'a, R, W> {
 
     /// Counts a fault of the file of this name, unless memory for the name runs out.
     fn fail(&mut self, alloc: Global, name: &str) -> Result<(), NoMemory>
-        ensures counted { OnOk result (IsAfterFault self.old self.new name.now) }
+        ensures counted { OnGiven result (IsAfterFault self.old self.new name.now) }
         ensures same { OnErr result (self.new ≡ self.old) }
     {
         self.failed = Some(Name::from_text(alloc, name)?);

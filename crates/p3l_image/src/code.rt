@@ -1,6 +1,7 @@
 // Instructions and codes as fields.
 
-ghost use Rattle.std.specs.Prelude.{◌≡◌, ◌++◌, OnOk};
+ghost use Rattle.std.specs.Prelude.{◌≡◌, ◌++◌};
+ghost use Rattle.p3l_base.specs.Memory.{OnGiven};
 ghost use Rattle.p3l_format.specs.Format.{Gives};
 ghost use Rattle.p3l_format.specs.Numbers.{one_of};
 ghost use Rattle.p3l_image.specs.Instr.{unary_number, unary_format, binary_number, binary_format, instr_kinds, instr_number, kind_of, operands, instr_format, code_format};
@@ -159,7 +160,7 @@ fn read_operands(kind: InstrKind, bytes: &[u8]) -> Result<(Instr, &[u8]), ReadEr
 // Puts the operands of an instruction after others.
 #[tactic(auto, unfolding(crate::specs::Instr::operands, p3l_format::specs::Format::pair, p3l_format::specs::Format::as_form, p3l_format::specs::Format::nothing))]
 fn write_operands(instr: Instr, out: &mut Vec<u8>) -> Result<(), NoMemory>
-    ensures { OnOk result (out.new.items
+    ensures { OnGiven result (out.new.items
         ≡ out.old.items ++ (operands (kind_of instr)).spell instr) }
 {
     match instr {
@@ -188,7 +189,7 @@ fn write_operands(instr: Instr, out: &mut Vec<u8>) -> Result<(), NoMemory>
 // Puts the byte of a value after others.
 #[tactic(auto, unfolding(p3l_format::specs::Numbers::one_of, p3l_format::specs::Numbers::u8_format, p3l_format::specs::Format::coded))]
 fn write_unary(value: UnOp, out: &mut Vec<u8>) -> Result<(), NoMemory>
-    ensures { OnOk result (out.new.items ≡ out.old.items ++ unary_format.spell value) }
+    ensures { OnGiven result (out.new.items ≡ out.old.items ++ unary_format.spell value) }
 {
     write_u8(unary_number(value), out)
 }
@@ -207,7 +208,7 @@ fn unary_number(value: UnOp) -> u8
 // Puts the byte of a value after others.
 #[tactic(auto, unfolding(p3l_format::specs::Numbers::one_of, p3l_format::specs::Numbers::u8_format, p3l_format::specs::Format::coded))]
 fn write_binary(value: BinOp, out: &mut Vec<u8>) -> Result<(), NoMemory>
-    ensures { OnOk result (out.new.items ≡ out.old.items ++ binary_format.spell value) }
+    ensures { OnGiven result (out.new.items ≡ out.old.items ++ binary_format.spell value) }
 {
     write_u8(binary_number(value), out)
 }
@@ -241,7 +242,7 @@ fn binary_number(value: BinOp) -> u8
 // Puts the byte of a value after others.
 #[tactic(auto, unfolding(p3l_format::specs::Numbers::one_of, p3l_format::specs::Numbers::u8_format, p3l_format::specs::Format::coded))]
 fn write_kind(value: InstrKind, out: &mut Vec<u8>) -> Result<(), NoMemory>
-    ensures { OnOk result (out.new.items
+    ensures { OnGiven result (out.new.items
         ≡ out.old.items ++ (one_of instr_kinds instr_number).spell value) }
 {
     write_u8(kind_number(value), out)

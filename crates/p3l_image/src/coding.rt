@@ -1,6 +1,7 @@
 // Images as bytes.
 
-ghost use Rattle.std.specs.Prelude.{◌≡◌, ◌≤◌, ◌++◌, true, slice_index, Ok, IfOk, OnOk};
+ghost use Rattle.std.specs.Prelude.{◌≡◌, ◌≤◌, ◌++◌, true, slice_index, Ok, IfOk};
+ghost use Rattle.p3l_base.specs.Memory.{IfGiven, OnGiven};
 ghost use Rattle.p3l_image.specs.declared.image.Image.{Image as TheImage};
 ghost use Rattle.p3l_image.specs.Image.{body_format, image_format, image_in, image_text, CanBeWritten, ImageBeginsNoOther, IsSpelling, OldTextsHaveNoRescue};
 ghost use Rattle.p3l_image.specs.Refusal.{Answers, refusal_of, version_at};
@@ -71,7 +72,7 @@ impl Field for BodyField {
 #[tactic(auto, unfolding(crate::specs::Image::image_format, p3l_format::specs::Format::pair, p3l_format::specs::Format::after, p3l_format::specs::Format::within))]
 fn write_image(version: Version, image: &Image, out: &mut Vec<u8>) -> Result<(), NoMemory>
     requires { image_format.fits (version, image.now) ≡ true }
-    ensures { OnOk result (out.new.items
+    ensures { OnGiven result (out.new.items
         ≡ out.old.items ++ image_format.spell (version, image.now)) }
 {
     write_u32(MAGIC, out)?;
@@ -112,7 +113,7 @@ impl Field for ImageField {
 /// `seq` and `comp` modules have rescue numbers.
 pub fn encode(alloc: Global, image: &Image) -> Result<List<u8>, NoMemory>
     requires { CanBeWritten image.now }
-    ensures { IfOk result (λ bytes. bytes ≡ image_text image.now) }
+    ensures { IfGiven result (λ bytes. bytes ≡ image_text image.now) }
 {
     let mut out = Vec::new(alloc);
     write_image(Version::Two, image, &mut out)?;

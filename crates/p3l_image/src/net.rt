@@ -1,6 +1,7 @@
 // Nets as fields.
 
-ghost use Rattle.std.specs.Prelude.{◌≡◌, ◌++◌, OnOk};
+ghost use Rattle.std.specs.Prelude.{◌≡◌, ◌++◌};
+ghost use Rattle.p3l_base.specs.Memory.{OnGiven};
 ghost use Rattle.p3l_format.specs.Format.{Gives};
 ghost use Rattle.p3l_image.specs.Net.{chan_format, proc_number, proc_kind_format, proc_format, procs_format, net_format};
 ghost use Rattle.p3l_image.specs.laws.Net.{lawful_chan, lawful_proc, lawful_procs, lawful_net};
@@ -70,7 +71,7 @@ fn read_kind(bytes: &[u8]) -> Result<(ProcKind, &[u8]), ReadError>
 // Puts a kind after others.
 #[tactic(auto, unfolding(p3l_format::specs::Numbers::one_of, p3l_format::specs::Numbers::u8_format, p3l_format::specs::Format::coded))]
 fn write_kind(kind: ProcKind, out: &mut Vec<u8>) -> Result<(), NoMemory>
-    ensures { OnOk result (out.new.items ≡ out.old.items ++ proc_kind_format.spell kind) }
+    ensures { OnGiven result (out.new.items ≡ out.old.items ++ proc_kind_format.spell kind) }
 {
     write_u8(kind_number(kind), out)
 }

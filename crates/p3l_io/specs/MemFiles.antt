@@ -7,6 +7,7 @@ use Rattle.p3l_io.specs.declared.fault.FileFault.{FileFault}
 use Rattle.p3l_io.specs.declared.fault.FileFault.TheVariants as file
 use Rattle.p3l_io.specs.declared.fault.WriteFault.{WriteFault}
 use Rattle.p3l_io.specs.declared.fault.WriteFault.TheVariants as write
+use Rattle.p3l_base.specs.Memory.{Refused}
 use Rattle.p3l_io.specs.Calls.{next_count, names_call}
 use Rattle.p3l_io.specs.Content.{Held, IsPut}
 
@@ -41,12 +42,12 @@ write_failed (Err write.NoMemory) = false
 
 -- a reading fails where it is to fail and nowhere else, unless it is out of memory
 abbrev pub ReadFailsIf : {T : Type 0} → Bool → Result T FileFault → Type 0
-ReadFailsIf pending (Err file.NoMemory) = Unit {0}
+ReadFailsIf pending (Err file.NoMemory) = Refused
 ReadFailsIf pending result = read_failed result ≡ pending
 
 -- and so a writing
 abbrev pub WriteFailsIf : {T : Type 0} → Bool → Result T WriteFault → Type 0
-WriteFailsIf pending (Err write.NoMemory) = Unit {0}
+WriteFailsIf pending (Err write.NoMemory) = Refused
 WriteFailsIf pending result = write_failed result ≡ pending
 
 -- the files after a call of this name that changed none and failed or not
@@ -69,7 +70,7 @@ abbrev pub IsCopy : Option (List ℕ) → ℕ → Result (List ℕ) FileFault �
 IsCopy found limit (Ok bytes) = (found ≡ Some bytes) × (length bytes ≤ limit)
 IsCopy found limit (Err file.Failed) = found ≡ None
 IsCopy found limit (Err file.TooLong) = (bytes : List ℕ) × (found ≡ Some bytes) × (limit < length bytes)
-IsCopy found limit (Err file.NoMemory) = IsSome found
+IsCopy found limit (Err file.NoMemory) = IsSome found × Refused
 
 -- the bytes were put under the name, and no call was made
 pub record IsAdded (old new : FilesState) (name bytes : List ℕ) : Type 0 where

@@ -1,6 +1,7 @@
 // Files in memory.
 
-ghost use Rattle.std.specs.Prelude.{◌≡◌, ◌≤◌, [], Some, None, false, length, is_none, is_ok, ◌||◌, IfOk, OnOk, OnErr};
+ghost use Rattle.std.specs.Prelude.{◌≡◌, ◌≤◌, [], Some, None, false, length, is_none, is_ok, ◌||◌, IfOk, OnErr};
+ghost use Rattle.p3l_base.specs.Memory.{OnGiven, Refused};
 ghost use Rattle.std.specs.Option.{option_copied};
 ghost use Rattle.p3l_io.specs.Causes.{HasReadCause, HasWriteCause, ReadBlames, WriteBlames};
 ghost use Rattle.p3l_io.specs.Content.{IsPut, Reads, Writes};
@@ -42,7 +43,7 @@ fn put(
     name: &str,
     bytes: &[u8],
 ) -> Result<(), NoMemory>
-    ensures ok { OnOk result (IsPut (bytes_under (texts files.old.entries))
+    ensures ok { OnGiven result (IsPut (bytes_under (texts files.old.entries))
         (bytes_under (texts files.new.entries)) name.now bytes.now) }
     ensures err { OnErr result (files.new.entries ≡ files.old.entries) }
 {
@@ -70,7 +71,7 @@ impl MemFiles {
 
     /// Puts bytes under a name, in the place of those that it had. This is no call that is counted.
     pub fn add(&mut self, name: &str, bytes: &[u8]) -> Result<(), NoMemory>
-        ensures ok { OnOk result (IsAdded self.old self.new name.now bytes.now) }
+        ensures ok { OnGiven result (IsAdded self.old self.new name.now bytes.now) }
         ensures err { OnErr result (self.new ≡ self.old) }
     {
         put(self.alloc, &mut self.files, name, bytes)
@@ -103,6 +104,7 @@ impl MemFiles {
     /// Counts a call that fails, on the file of this name; it is no fault where memory for the name is
     /// runs out.
     fn fail(&mut self, name: &str) -> Result<(), NoMemory>
+        ensures refused { OnErr result Refused }
         ensures after { self.new ≡ after_call self.old name.now (is_ok result) }
         ensures later { self.old.faults ≤ self.new.faults }
     {
@@ -122,7 +124,10 @@ fn copy_within(alloc: Global, found: Option<&[u8]>, limit: u64) -> Result<List<u
         Some(bytes) if bytes.len() as u64 > limit => Err(FileFault::TooLong),
         Some(bytes) => match Vec::from_slice(alloc, bytes) {
             Ok(copy) => Ok(List::from_vec(copy)),
-            Err(_) => Err(FileFault::NoMemory),
+            Err(failed) => {
+                let _want = NoMemory::from(failed);
+                Err(FileFault::NoMemory)
+            }
         },
     }
 }

@@ -1,6 +1,7 @@
 // A sink in memory.
 
-ghost use Rattle.std.specs.Prelude.{◌≡◌, ◌-◌, ◌≤◌, [], ◌++◌, Some, length, is_err, IfOk};
+ghost use Rattle.std.specs.Prelude.{◌≡◌, ◌-◌, ◌≤◌, [], ◌++◌, Some, length, is_err};
+ghost use Rattle.p3l_base.specs.Memory.{IfGiven};
 ghost use Rattle.p3l_io.specs.Causes.{HasCause};
 ghost use Rattle.p3l_io.specs.Content.{Puts};
 ghost use Rattle.p3l_io.specs.MemSink.{after_put, entry_of, fails_at};
@@ -55,7 +56,7 @@ impl MemSink {
     /// A sink that takes the memory for `room` bytes now and no more later. `fails` has the calls
     /// that fail, of which the first entry of a call counts.
     pub fn new(alloc: Global, room: usize, fails: List<PutFail>) -> Result<MemSink, NoMemory>
-        ensures { IfOk result (λ sink. sink
+        ensures { IfGiven result (λ sink. sink
             ≡ record { taken = []; left = room; fails = fails; calls = 0; faults = 0 }) }
     {
         Ok(MemSink {

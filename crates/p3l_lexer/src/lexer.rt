@@ -1,6 +1,7 @@
 // The tokens of a text.
 
-ghost use Rattle.std.specs.Prelude.{◌≡◌, ◌-◌, ◌<◌, ◌^◌, ◌++◌, List, length, Some, IfOk, OnOk, IsSome};
+ghost use Rattle.std.specs.Prelude.{◌≡◌, ◌-◌, ◌<◌, ◌^◌, ◌++◌, List, length, Some, IfOk, IsSome};
+ghost use Rattle.p3l_base.specs.Memory.{IfGiven, OnGiven};
 ghost use Rattle.p3l_lexer.specs.declared.token.Piece.{Piece};
 ghost use Rattle.p3l_lexer.specs.declared.token.Token.{Token};
 ghost use Rattle.p3l_lexer.specs.Piece.{piece_of};
@@ -18,7 +19,7 @@ use std::alloc::Global;
 fn put(alloc: Global, tokens: &mut List<Token>, text: &[u8], at: Pos) -> Result<(), NoMemory>
     requires some { 0 < length text.now }
     requires piece { IsSome (piece_of text.now) }
-    ensures { OnOk result ((piece : Piece) → piece_of text.now ≡ Some piece
+    ensures { OnGiven result ((piece : Piece) → piece_of text.now ≡ Some piece
         → tokens.new ≡ tokens.old ++ token_at at piece) }
 {
     match piece(alloc, text)? {
@@ -30,7 +31,7 @@ fn put(alloc: Global, tokens: &mut List<Token>, text: &[u8], at: Pos) -> Result<
 /// The tokens of a text in order, each the longest that begins there.
 pub fn tokens(alloc: Global, text: &[u8]) -> Result<List<Token>, NoMemory>
     requires { length text.now < 2 ^ 32 - 1 }
-    ensures found { IfOk result (λ tokens. IsTokens text.now tokens) }
+    ensures found { IfGiven result (λ tokens. IsTokens text.now tokens) }
     ensures only { IfOk result (λ tokens. (others : List Token) → IsTokens text.now others
         → others ≡ tokens) }
 {

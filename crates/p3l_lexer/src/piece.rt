@@ -1,6 +1,7 @@
 // What a piece of a text is.
 
-ghost use Rattle.std.specs.Prelude.{◌≡◌, ◌<◌, ◌≤◌, ◌^◌, ◌∷◌, [], length, true, pos, Some, None, IfOk, IsSome, MatchOption};
+ghost use Rattle.std.specs.Prelude.{◌≡◌, ◌<◌, ◌≤◌, ◌^◌, ◌∷◌, [], length, true, pos, Some, None, IsSome, MatchOption};
+ghost use Rattle.p3l_base.specs.Memory.{IfGiven};
 ghost use Rattle.std.specs.List.{list_all};
 ghost use Rattle.p3l_lexer.specs.Mark.{keyword_of, punctuation_of};
 ghost use Rattle.p3l_lexer.specs.Piece.{is_digit, is_word_byte, is_number, value_of, word_or_keyword, number_of, sign_or_byte, after_close, block_of, slash_of, piece_of};
@@ -19,7 +20,7 @@ pub const NAME_LIMIT: usize = 64;
 /// The name that a run of letters and digits is.
 fn name(alloc: Global, text: &[u8]) -> Result<Name, NoMemory>
     requires { list_all is_word_byte text.now ≡ true }
-    ensures { IfOk result (λ name. name ≡ text.now) }
+    ensures { IfGiven result (λ name. name ≡ text.now) }
 {
     match str::from_utf8(text) {
         Ok(text) => Name::from_text(alloc, text),
@@ -31,7 +32,7 @@ fn name(alloc: Global, text: &[u8]) -> Result<Name, NoMemory>
 #[tactic(auto, unfolding(crate::specs::Piece::word_or_keyword))]
 fn word(alloc: Global, text: &[u8]) -> Result<Lexeme, NoMemory>
     requires { list_all is_word_byte text.now ≡ true }
-    ensures { IfOk result (λ lexeme. lexeme ≡ word_or_keyword (keyword_of text.now) text.now) }
+    ensures { IfGiven result (λ lexeme. lexeme ≡ word_or_keyword (keyword_of text.now) text.now) }
 {
     if let Some(mark) = keyword(text) {
         return Ok(Lexeme::Sign(mark));
@@ -147,7 +148,7 @@ fn slash(text: &[u8]) -> Piece
 pub fn piece(alloc: Global, text: &[u8]) -> Result<Piece, NoMemory>
     requires some { 0 < length text.now }
     requires piece { IsSome (piece_of text.now) }
-    ensures { IfOk result (λ piece. piece_of text.now ≡ Some piece) }
+    ensures { IfGiven result (λ piece. piece_of text.now ≡ Some piece) }
 {
     if letter(text[0]) {
         let word = word(alloc, text)?;

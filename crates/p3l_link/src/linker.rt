@@ -1,6 +1,7 @@
 // The net of a tree.
 
 ghost use Rattle.std.specs.Prelude.{◌≡◌, ◌↔◌, ◌≤◌, ◌+◌, ◌*◌, IfOk, IsTrue, ℕ, List, length};
+ghost use Rattle.p3l_base.specs.Memory.{IfGiven};
 ghost use Rattle.p3l_skel.specs.declared.tree.Tree.{Tree};
 ghost use Rattle.p3l_skel.specs.Counts.{HasLawfulCounts};
 ghost use Rattle.p3l_skel.specs.Lawful.{IsLawfulTree};
@@ -28,7 +29,7 @@ pub fn link(alloc: Global, tree: &Tree, counts: &Counts, cap: u32) -> Result<Net
     requires counts { HasLawfulCounts tree.now counts.now.list }
     requires procs { procs tree.now counts.now.list 0 ≤ 4096 }
     requires cap { (1 ≤ cap) × (cap ≤ 1024) }
-    ensures net { IfOk result (λ net. net ≡ linked_net tree.now counts.now.list cap) }
+    ensures net { IfGiven result (λ net. net ≡ linked_net tree.now counts.now.list cap) }
     ensures typed { IfOk result (λ net. IsTyped tree.now net) }
 {
     let mut builder = with_ends(alloc, cap)?;
@@ -42,7 +43,7 @@ pub fn link(alloc: Global, tree: &Tree, counts: &Counts, cap: u32) -> Result<Net
 
 /// The source and the sink, with the channels that they write and read.
 fn with_ends(alloc: Global, cap: u32) -> Result<Builder, NoMemory>
-    ensures { IfOk result (λ builder. builder ≡ end_net cap) }
+    ensures { IfGiven result (λ builder. builder ≡ end_net cap) }
 {
     let mut builder = Builder::new(alloc);
     let first = builder.channel(cap, 0)?;
@@ -78,7 +79,7 @@ pub fn is_linked(
     requires counts { HasLawfulCounts tree.now counts.now.list }
     requires procs { procs tree.now counts.now.list 0 ≤ 4096 }
     requires cap { (1 ≤ cap) × (cap ≤ 1024) }
-    ensures { IfOk result (λ same. IsTrue same
+    ensures { IfGiven result (λ same. IsTrue same
         ↔ (net.now ≡ linked_net tree.now counts.now.list cap)) }
 {
     let linked = link(alloc, tree, counts, cap)?;

@@ -1,6 +1,7 @@
 // The places of a node of a tree, and of all that is below it, in a net that is being built.
 
 ghost use Rattle.std.specs.Prelude.{◌≡◌, ◌<◌, length, slice_index, IfOk};
+ghost use Rattle.p3l_base.specs.Memory.{IfGiven};
 ghost use Rattle.p3l_skel.specs.Counts.{count_of};
 ghost use Rattle.p3l_skel.specs.Lawful.{IsLawfulTree};
 ghost use Rattle.p3l_skel.specs.Tree.{node_at};
@@ -36,7 +37,7 @@ fn place_as<T: Template>(
     requires own { shape_of tree.now counts.now.list number ≡ T.shape template.now }
     requires room { HasRoom builder.old
         (own_piece (shape_of tree.now counts.now.list number) cap (base_of at.now builder.old)) }
-    ensures placed { IfOk result (λ ports. builder.new
+    ensures placed { IfGiven result (λ ports. builder.new
         ≡ with_piece builder.old
         (own_piece (shape_of tree.now counts.now.list number) cap (base_of at.now builder.old))) }
     ensures ports { IfOk result (λ ports. ports
@@ -61,7 +62,7 @@ fn place_own(
         number) }
     requires room { HasRoom builder.old
         (own_piece (shape_of tree.now counts.now.list number) cap (base_of at.now builder.old)) }
-    ensures placed { IfOk result (λ ports. builder.new
+    ensures placed { IfGiven result (λ ports. builder.new
         ≡ with_piece builder.old
         (own_piece (shape_of tree.now counts.now.list number) cap (base_of at.now builder.old))) }
     ensures ports { IfOk result (λ ports. ports
@@ -141,7 +142,7 @@ pub(crate) fn place_node(
     requires counted { IsCounted tree.now (count_of tree.now counts.now.list) levels number }
     requires room { HasRoom builder.old
         (node_piece tree.now counts.now.list cap levels number (base_of at.now builder.old)) }
-    ensures { IfOk result (λ _. builder.new
+    ensures { IfGiven result (λ _. builder.new
         ≡ with_piece builder.old
         (node_piece tree.now counts.now.list cap levels number (base_of at.now builder.old))) }
 {

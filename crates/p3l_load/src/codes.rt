@@ -1,6 +1,7 @@
 // The codes of a tree's `seq` modules.
 
-ghost use Rattle.std.specs.Prelude.{◌≡◌, ◌↔◌, ◌<◌, ◌^◌, length, IsTrue, IfOk};
+ghost use Rattle.std.specs.Prelude.{◌≡◌, ◌↔◌, ◌<◌, ◌^◌, length, IsTrue};
+ghost use Rattle.p3l_base.specs.Memory.{IfGiven};
 ghost use Rattle.std.specs.Option.{option_map};
 ghost use Rattle.p3l_units.specs.Table.{HasCode, HasPlaces, HasWordsOf};
 ghost use Rattle.p3l_units.specs.Table.{code_of, is_seq_kind, one_if_seq};
@@ -52,7 +53,7 @@ impl<'a> CodeTable<'a> {
     // The table of a tree and these codes.
     fn new(alloc: Global, tree: &'a Tree, codes: &'a [Code]) -> Result<CodeTable<'a>, NoMemory>
         requires { length tree.now.modules < 2 ^ 32 }
-        ensures { IfOk result (λ table. table ≡ record { tree = tree.now; codes = codes.now }) }
+        ensures { IfGiven result (λ table. table ≡ record { tree = tree.now; codes = codes.now }) }
     {
         let places = code_places(alloc, tree.modules.as_slice())?;
         Ok(CodeTable {
@@ -108,7 +109,7 @@ fn one_if_seq(info: &ModuleInfo) -> u32
 // For each module, the number of `seq` modules before it.
 fn code_places(alloc: Global, modules: &[ModuleInfo]) -> Result<List<u32>, NoMemory>
     requires { length modules.now < 2 ^ 32 }
-    ensures { IfOk result (HasPlaces modules.now) }
+    ensures { IfGiven result (HasPlaces modules.now) }
 {
     let mut places = List::new(alloc);
     let mut before: u32 = 0;
@@ -123,7 +124,7 @@ fn code_places(alloc: Global, modules: &[ModuleInfo]) -> Result<List<u32>, NoMem
 /// module's nodes.
 pub fn has_codes(alloc: Global, tree: &Tree, codes: &[Code]) -> Result<bool, NoMemory>
     requires { length tree.now.modules < 2 ^ 32 }
-    ensures { IfOk result (λ has. IsTrue has ↔ HasCodes tree.now codes.now) }
+    ensures { IfGiven result (λ has. IsTrue has ↔ HasCodes tree.now codes.now) }
 {
     if codes.len() != seqs_in(tree.modules.as_slice()) {
         return Ok(false);

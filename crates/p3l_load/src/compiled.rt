@@ -1,6 +1,7 @@
 // The image of a program: made from its tree, counts and codes, and written.
 
 ghost use Rattle.std.specs.Prelude.{◌≡◌, ◌≤◌, IfOk};
+ghost use Rattle.p3l_base.specs.Memory.{IfGiven};
 ghost use Rattle.std.specs.List.{All};
 ghost use Rattle.p3l_skel.specs.Counts.{HasLawfulCounts};
 ghost use Rattle.p3l_skel.specs.Lawful.{IsLawfulTree};
@@ -23,7 +24,7 @@ use std::alloc::Global;
 
 // A copy of a code that was sealed.
 fn copy_of(alloc: Global, safe: &SafeCode) -> Result<Code, NoMemory>
-    ensures same { IfOk result (λ code. code ≡ safe.now) }
+    ensures same { IfGiven result (λ code. code ≡ safe.now) }
     ensures safe { IfOk result IsSafe }
 {
     let code = safe.code();
@@ -39,7 +40,7 @@ fn copy_of(alloc: Global, safe: &SafeCode) -> Result<Code, NoMemory>
 
 // Copies of codes that were sealed.
 fn copies(alloc: Global, codes: &[SafeCode]) -> Result<List<Code>, NoMemory>
-    ensures same { IfOk result (λ copies. copies ≡ codes.now) }
+    ensures same { IfGiven result (λ copies. copies ≡ codes.now) }
     ensures safe { IfOk result (All IsSafe) }
 {
     let mut copies = List::new(alloc);
@@ -62,7 +63,7 @@ pub fn image_of(
     requires counted { HasLawfulCounts tree counts.list }
     requires procs { procs tree counts.list 0 ≤ 4096 }
     requires capacity { (1 ≤ capacity) × (capacity ≤ 1024) }
-    ensures image { IfOk result (λ image. image ≡ image_of tree counts.list codes.now capacity) }
+    ensures image { IfGiven result (λ image. image ≡ image_of tree counts.list codes.now capacity) }
     ensures safe { IfOk result (λ image. All IsSafe image.codes) }
 {
     let net = link(alloc, &tree, &counts, capacity)?;
@@ -90,7 +91,7 @@ pub fn image_text(
     requires procs { procs tree counts.list 0 ≤ 4096 }
     requires some { 1 ≤ capacity }
     requires few { capacity ≤ 1024 }
-    ensures { IfOk result (IsImageText (image_of tree counts.list codes.now capacity)) }
+    ensures { IfGiven result (IsImageText (image_of tree counts.list codes.now capacity)) }
 {
     every_module_has_a_name();
     every_compiled_image_can_be_run();

@@ -1,6 +1,7 @@
 // Images are loaded.
 
 ghost use Rattle.std.specs.Prelude.{◌≡◌, ◌↔◌, ◌≤◌, IsTrue, IfOk, IfErr};
+ghost use Rattle.p3l_base.specs.Memory.{IfGiven};
 ghost use Rattle.p3l_load.specs.Load.{IsWhole, IsRunnable, Refuses, loaded_of};
 
 use crate::codes::has_codes;
@@ -20,7 +21,7 @@ const MOST_PROCS: u64 = 4_096;
 /// Whether the tree of an image, its counts and its codes are lawful together, and the tree has few
 /// processes.
 pub(crate) fn is_whole(alloc: Global, image: &Image) -> Result<bool, NoMemory>
-    ensures { IfOk result (λ whole. IsTrue whole ↔ IsWhole image.now) }
+    ensures { IfGiven result (λ whole. IsTrue whole ↔ IsWhole image.now) }
 {
     if !lawful_tree(&image.tree) || !lawful_counts(&image.tree, &image.counts) {
         return Ok(false);

@@ -1,6 +1,7 @@
 // Codes are verified and sealed.
 
 ghost use Rattle.std.specs.Prelude.{◌≡◌, ◌<◌, ◌^◌, length, IfOk, IfErr};
+ghost use Rattle.p3l_base.specs.Memory.{IfGiven};
 ghost use Rattle.std.specs.List.{All};
 ghost use Rattle.p3l_code.specs.Safe.{IsSafe};
 ghost use Rattle.p3l_load.specs.Load.{IsUnsafe};
@@ -13,7 +14,7 @@ use std::alloc::Global;
 
 // A copy of a code.
 fn copy_of(alloc: Global, code: &Code) -> Result<Code, NoMemory>
-    ensures { IfOk result (λ copy. copy ≡ code.now) }
+    ensures { IfGiven result (λ copy. copy ≡ code.now) }
 {
     let instrs = List::from_vec(code.instrs.as_slice().to_vec(alloc)?);
     Ok(Code {

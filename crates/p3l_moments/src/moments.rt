@@ -1,6 +1,7 @@
 // Due moments of numbers: a tree of the least ones, kept in an array.
 
-ghost use Rattle.std.specs.Prelude.{◌≡◌, ◌≢◌, ℕ, suc, ◌+◌, ◌^◌, ◌<◌, ◌≤◌, length, drop, replicate, set, slice_set, IsTrue, IsFalse, IfOk, IfSome, IsNone, Some, None};
+ghost use Rattle.std.specs.Prelude.{◌≡◌, ◌≢◌, ℕ, suc, ◌+◌, ◌^◌, ◌<◌, ◌≤◌, length, drop, replicate, set, slice_set, IsTrue, IsFalse, IfSome, IsNone, Some, None};
+ghost use Rattle.p3l_base.specs.Memory.{IfGiven};
 ghost use Rattle.p3l_moments.specs.Moments.{IsDown, IsLeast, IsNeverDue, IsNoLater, IsSooner, IsSoonest, IsTree, IsTreeBut, due_at};
 
 use p3l_base::NoMemory;
@@ -106,7 +107,7 @@ impl Moments {
     /// `count` numbers at least, none of which is due.
     pub fn new(alloc: Global, count: u32) -> Result<Moments, NoMemory>
         requires { count ≤ 1048576 }
-        ensures { IfOk result (λ moments. (count ≤ length moments) × IsNeverDue moments) }
+        ensures { IfGiven result (λ moments. (count ≤ length moments) × IsNeverDue moments) }
     {
         let mut levels = 0;
         let mut size = 1;

@@ -1,6 +1,7 @@
 // Machines of linked nets, run on items under a schedule.
 
-ghost use Rattle.std.specs.Prelude.{◌≡◌, ◌<◌, length, IfOk, IsTrue};
+ghost use Rattle.std.specs.Prelude.{◌≡◌, ◌<◌, length, IsTrue};
+ghost use Rattle.p3l_base.specs.Memory.{IfGiven};
 ghost use Rattle.p3l_net.specs.Machine.{can_step};
 ghost use Rattle.p3l_firing.specs.Typed.{IsTyped};
 ghost use Rattle.p3l_sched.specs.Picker.{HasPlace};
@@ -44,7 +45,7 @@ fn net_of(
     cap: u32,
 ) -> Result<Net, NoMemory>
     requires { IsLawfulTree tree.now }
-    ensures { IfOk result (λ net. IsTyped tree.now net) }
+    ensures { IfGiven result (λ net. IsTyped tree.now net) }
 {
     assert!(rt; lawful_counts(tree, counts));
     assert!(rt; is_outside(tree, 0));
@@ -61,7 +62,7 @@ fn machine_of<'t>(
     counts: &Counts,
     cap: u32,
 ) -> Result<Machine<'t>, NoMemory>
-    ensures tree { IfOk result (λ machine. machine.tree ≡ units.now.tree) }
+    ensures tree { IfGiven result (λ machine. machine.tree ≡ units.now.tree) }
 {
     let tree = units.tree();
     let net = net_of(rt, alloc, tree, counts, cap)?;

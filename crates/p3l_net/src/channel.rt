@@ -1,6 +1,7 @@
 // Channels of the machine: rings of outcomes and of tags, whose room is taken when they are made.
 
-ghost use Rattle.std.specs.Prelude.{◌≡◌, ◌+◌, ◌<◌, ◌≤◌, [], ◌∷◌, ◌++◌, drop, length, map, IfOk, IsTrue, nat_lt};
+ghost use Rattle.std.specs.Prelude.{◌≡◌, ◌+◌, ◌<◌, ◌≤◌, [], ◌∷◌, ◌++◌, drop, length, map, IsTrue, nat_lt};
+ghost use Rattle.p3l_base.specs.Memory.{IfGiven};
 ghost use Rattle.std.specs.List.{All};
 ghost use Rattle.p3l_net.specs.Channel.{opened};
 ghost use Rattle.p3l_net.specs.Rings.{lists_in, lists_of, token_in, tokens_of};
@@ -55,7 +56,7 @@ fn saved_slot(
     next: usize,
 ) -> Result<SavedToken, NoMemory>
     requires { next + lists_of slot.now ≤ length tags.now.items }
-    ensures { IfOk result (λ saved. saved ≡ saved_token (token_in slot.now
+    ensures { IfGiven result (λ saved. saved ≡ saved_token (token_in slot.now
         (drop next tags.now.items))) }
 {
     match slot {
@@ -71,7 +72,7 @@ fn saved_slots(
     tags: &HeapCircularBuffer<Tags>,
 ) -> Result<List<SavedToken>, NoMemory>
     requires { length tags.now.items ≡ lists_in slots.now.items }
-    ensures { IfOk result (λ saved. saved
+    ensures { IfGiven result (λ saved. saved
         ≡ map saved_token (tokens_of slots.now.items tags.now.items)) }
 {
     let mut saved = List::new(alloc);
@@ -107,7 +108,7 @@ impl Model for Channel {
 impl Channel {
     // The channel without tokens.
     fn empty(alloc: Global, chan: &Chan) -> Result<Channel, NoMemory>
-        ensures { IfOk result (λ channel. channel ≡ record { tokens = []; room = chan.now.cap }) }
+        ensures { IfGiven result (λ channel. channel ≡ record { tokens = []; room = chan.now.cap }) }
     {
         let slots = HeapCircularBuffer::with_capacity(alloc, chan.cap as usize)?;
         let tags = HeapCircularBuffer::with_capacity(alloc, chan.cap as usize)?;
@@ -117,7 +118,7 @@ impl Channel {
     /// The channel as it is before anything has fired: empty but for its credits.
     pub(crate) fn open(alloc: Global, chan: &Chan) -> Result<Channel, NoMemory>
         requires { chan.now.credits ≤ chan.now.cap }
-        ensures { IfOk result (λ channel. channel ≡ opened chan.now) }
+        ensures { IfGiven result (λ channel. channel ≡ opened chan.now) }
     {
         let mut channel = Channel::empty(alloc, chan)?;
         for _ in 0..chan.credits {
@@ -134,7 +135,7 @@ impl Channel {
     ) -> Result<Channel, NoMemory>
         requires room { length saved.now ≤ chan.now.cap }
         requires tags { All HasFewTags saved.now }
-        ensures { IfOk result (λ channel. channel ≡ queue_of chan.now saved.now) }
+        ensures { IfGiven result (λ channel. channel ≡ queue_of chan.now saved.now) }
     {
         let mut channel = Channel::empty(alloc, chan)?;
         for token in saved {
@@ -145,7 +146,7 @@ impl Channel {
 
     /// Its tokens, as they are saved.
     pub(crate) fn save(&self, alloc: Global) -> Result<List<SavedToken>, NoMemory>
-        ensures { IfOk result (λ saved. saved ≡ saved_queue self.now) }
+        ensures { IfGiven result (λ saved. saved ≡ saved_queue self.now) }
     {
         saved_slots(alloc, &self.slots, &self.tags)
     }

@@ -1,6 +1,7 @@
 // All channels of a machine, by their numbers.
 
-ghost use Rattle.std.specs.Prelude.{◌≡◌, ◌<◌, ◌≤◌, [], length, map, IfOk, IsTrue, nat_lt, slice_index_or, EachIndex};
+ghost use Rattle.std.specs.Prelude.{◌≡◌, ◌<◌, ◌≤◌, [], length, map, IsTrue, nat_lt, slice_index_or, EachIndex};
+ghost use Rattle.p3l_base.specs.Memory.{IfGiven};
 ghost use Rattle.p3l_net.specs.Channel.{queue_at, tokens_at, opened, appended, prepended, taken};
 ghost use Rattle.p3l_firing.specs.Lists.{has_first, first_or};
 ghost use Rattle.p3l_firing.specs.State.{no_chan};
@@ -34,7 +35,7 @@ impl Channels {
     pub(crate) fn open(alloc: Global, chans: &List<Chan>) -> Result<Channels, NoMemory>
         requires { EachIndex chans.now (λ c. (slice_index_or chans.now c no_chan).credits
             ≤ (slice_index_or chans.now c no_chan).cap) }
-        ensures { IfOk result (λ channels. channels ≡ map opened chans.now) }
+        ensures { IfGiven result (λ channels. channels ≡ map opened chans.now) }
     {
         let mut list = Vec::new(alloc);
         for chan in chans.as_slice() {
@@ -52,7 +53,7 @@ impl Channels {
         requires all { length saved.now ≡ length chans.now }
         requires fit { EachIndex chans.now (λ c. HasRoom
             (slice_index_or chans.now c no_chan) (slice_index_or saved.now c [])) }
-        ensures { IfOk result (λ channels. channels ≡ queues_of chans.now saved.now) }
+        ensures { IfGiven result (λ channels. channels ≡ queues_of chans.now saved.now) }
     {
         let chans = chans.as_slice();
         let lists = saved.as_slice();
@@ -65,7 +66,7 @@ impl Channels {
 
     /// The tokens of each channel, as they are saved.
     pub(crate) fn save(&self, alloc: Global) -> Result<List<List<SavedToken>>, NoMemory>
-        ensures { IfOk result (λ saved. saved ≡ map saved_queue self.now) }
+        ensures { IfGiven result (λ saved. saved ≡ map saved_queue self.now) }
     {
         let mut saved = List::new(alloc);
         for channel in &self.list {

@@ -1,6 +1,7 @@
 // Copies of outcomes.
 
-ghost use Rattle.std.specs.Prelude.{◌≡◌, IfOk};
+ghost use Rattle.std.specs.Prelude.{◌≡◌};
+ghost use Rattle.p3l_base.specs.Memory.{IfGiven};
 
 use p3l_base::{NoMemory, Outcome};
 use p3l_skel::outcome::copied;
@@ -8,7 +9,7 @@ use std::alloc::Global;
 
 /// The same outcome again.
 pub(crate) fn same(alloc: Global, outcome: &Outcome) -> Result<Outcome, NoMemory>
-    ensures { IfOk result (λ copy. copy ≡ outcome.now) }
+    ensures { IfGiven result (λ copy. copy ≡ outcome.now) }
 {
     match outcome {
         Outcome::Value(words) => Ok(Outcome::Value(copied(alloc, words)?)),

@@ -1,6 +1,7 @@
 // The two ends of each channel.
 
-ghost use Rattle.std.specs.Prelude.{◌≡◌, ◌<◌, length, slice_index, IfOk};
+ghost use Rattle.std.specs.Prelude.{◌≡◌, ◌<◌, length, slice_index};
+ghost use Rattle.p3l_base.specs.Memory.{IfGiven};
 ghost use Rattle.std.specs.List.{AllByRecursion};
 ghost use Rattle.p3l_skel.specs.declared.tree.Tree.{Tree};
 ghost use Rattle.p3l_net.specs.Steps.{HasEnds, marked};
@@ -40,7 +41,7 @@ impl Sides {
     /// The ends of the channels of a net.
     pub fn of(alloc: Global, net: &Net) -> Result<Sides, NoMemory>
         requires { (tree : Tree) × IsTyped tree net.now }
-        ensures { IfOk result (λ sides. HasEnds net.now sides) }
+        ensures { IfGiven result (λ sides. HasEnds net.now sides) }
     {
         let count = net.chans.len();
         let mut writers = vec![in alloc; 0u32; count]?;

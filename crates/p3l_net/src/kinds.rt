@@ -14,7 +14,8 @@ mod source;
 mod split;
 mod tail;
 
-ghost use Rattle.std.specs.Prelude.{◌≡◌, ◌≢◌, ◌<◌, ◌^◌, length, Some, None, true, IfOk, OnErr};
+ghost use Rattle.std.specs.Prelude.{◌≡◌, ◌≢◌, ◌<◌, ◌^◌, length, Some, None, true, OnErr};
+ghost use Rattle.p3l_base.specs.Memory.{IfGiven};
 ghost use Rattle.p3l_firing.specs.Process.{kind_at};
 ghost use Rattle.p3l_net.specs.Machine.{IsSound, Stands, may_want_memory};
 ghost use Rattle.p3l_net.specs.Steps.{Done, ready_at};
@@ -80,7 +81,7 @@ impl<'t> Store<'t> {
         requires units { U.tree units.now ≡ self.old.tree }
         requires no_sink { kind_at self.old.net p ≢ Some ProcKind.Sink }
         requires no_run { kind_at self.old.net p ≢ Some ProcKind.Run }
-        ensures done { IfOk result (λ touched. Done (U.leaf units.now)
+        ensures done { IfGiven result (λ touched. Done (U.leaf units.now)
             self.old self.new p touched None) }
         ensures err { OnErr result (self.new ≡ self.old) }
         ensures memory { OnErr result (may_want_memory self.old p ≡ true) }

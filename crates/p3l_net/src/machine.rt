@@ -1,6 +1,7 @@
 // The machine: a net that fires, one process at a time.
 
 ghost use Rattle.std.specs.Prelude.{◌≡◌, ◌≢◌, ◌<◌, length, None, IsTrue, ◌↔◌, IfOk, OnOk, OnErr, Some, [], ◌^◌, ℕ, List, IsSome, IfSome, IfNone, true, false, slice_get, find};
+ghost use Rattle.p3l_base.specs.Memory.{IfGiven, OnGiven};
 ghost use Rattle.p3l_ready.specs.Flags.{in_turn};
 ghost use Rattle.p3l_net.specs.Machine.{can_step, started, state_of, HasEmitted, Fires, may_want_memory, ready_list};
 ghost use Rattle.p3l_net.specs.Steps.{CanFire, FiresLocally, IsReader, IsWriter, OthersStay, ready_at};
@@ -50,7 +51,7 @@ impl<'t> Machine<'t> {
     /// A machine in which nothing has fired. All channels are empty but for their credits.
     pub fn start(alloc: Global, tree: &'t Tree, net: Net) -> Result<Machine<'t>, NoMemory>
         requires { IsTyped tree.now net }
-        ensures started { IfOk result (λ machine. machine ≡ started tree.now net) }
+        ensures started { IfGiven result (λ machine. machine ≡ started tree.now net) }
         ensures state { IfOk result (λ machine. state_of machine [] ≡ first_state net []) }
     {
         let sides = Sides::of(alloc, &net)?;
@@ -72,7 +73,7 @@ impl<'t> Machine<'t> {
         shot: Shot,
     ) -> Result<Machine<'t>, NoMemory>
         requires { CanRestore tree.now net shot }
-        ensures { IfOk result (λ machine. machine ≡ restored tree.now net shot) }
+        ensures { IfGiven result (λ machine. machine ≡ restored tree.now net shot) }
     {
         let sides = Sides::of(alloc, &net)?;
         let store = Store::restore(alloc, tree, net, shot)?;
@@ -88,7 +89,7 @@ impl<'t> Machine<'t> {
     /// What is saved of the state that it is in.
     pub fn save(&self, alloc: Global) -> Result<Shot, NoMemory>
         requires { self.now.trapped ≡ false }
-        ensures saved { IfOk result (λ shot. shot ≡ shot_of self.now) }
+        ensures saved { IfGiven result (λ shot. shot ≡ shot_of self.now) }
         ensures back { IfOk result (λ shot. restored self.now.tree self.now.net shot
             ≡ record self.now { fired = 0 }) }
         ensures fits { IfOk result (λ shot. IsCountable shot
@@ -122,7 +123,7 @@ impl<'t> Machine<'t> {
     pub fn offer(&mut self, _alloc: Global, item: Words) -> Result<(), NoMemory>
         requires empty { self.old.inbox ≡ None }
         requires fits { length item ≡ (node_at self.old.tree 0).ins }
-        ensures ok { OnOk result (self.new ≡ record self.old { inbox = Some item }) }
+        ensures ok { OnGiven result (self.new ≡ record self.old { inbox = Some item }) }
         ensures err { OnErr result (self.new ≡ self.old) }
         ensures others { OnOk result ((r : ℕ) → r ≢ 0 → ready_at self.new r ≡ ready_at self.old r) }
     {
@@ -226,7 +227,7 @@ impl<'t> Machine<'t> {
         requires count { self.old.fired < 2 ^ 63 }
         requires tree { tree.now ≡ self.old.tree }
         requires units { U.tree units.now ≡ tree.now }
-        ensures fires { IfOk result (λ done. Fires (U.leaf units.now)
+        ensures fires { IfGiven result (λ done. Fires (U.leaf units.now)
             self.old self.new p done.emitted) }
         ensures kind { IfOk result (λ done. kind_at self.old.net p ≡ Some done.kind) }
         ensures sink { IfOk result (λ done. IsSome done.emitted ↔ (done.kind ≡ ProcKind.Sink)) }
@@ -266,7 +267,7 @@ impl<'t> Machine<'t> {
         requires tree { tree.now ≡ self.old.tree }
         requires units { U.tree units.now ≡ tree.now }
         requires within { kind_at self.old.net p ≢ Some ProcKind.Sink }
-        ensures fires { OnOk result (Fires (U.leaf units.now) self.old self.new p None) }
+        ensures fires { OnGiven result (Fires (U.leaf units.now) self.old self.new p None) }
         ensures err { OnErr result (self.new ≡ self.old) }
         ensures memory { OnErr result (may_want_memory self.old p ≡ true) }
         ensures others { OnOk result (OthersStay self.old self.new p) }
@@ -297,7 +298,7 @@ impl<'t> Machine<'t> {
         requires can { CanFire self.old p }
         requires units { U.tree units.now ≡ self.old.tree }
         requires run { kind_at self.old.net p ≡ Some ProcKind.Run }
-        ensures ok { OnOk result (FiresLocally (U.leaf units.now) self.old self.new p None) }
+        ensures ok { OnGiven result (FiresLocally (U.leaf units.now) self.old self.new p None) }
         ensures err { OnErr result (self.new ≡ self.old) }
         ensures memory { OnErr result (may_want_memory self.old p ≡ true) }
     {
@@ -318,7 +319,7 @@ impl<'t> Machine<'t> {
         requires units { U.tree units.now ≡ self.old.tree }
         requires no_sink { kind_at self.old.net p ≢ Some ProcKind.Sink }
         requires no_run { kind_at self.old.net p ≢ Some ProcKind.Run }
-        ensures ok { OnOk result (FiresLocally (U.leaf units.now) self.old self.new p None) }
+        ensures ok { OnGiven result (FiresLocally (U.leaf units.now) self.old self.new p None) }
         ensures err { OnErr result (self.new ≡ self.old) }
         ensures memory { OnErr result (may_want_memory self.old p ≡ true) }
     {

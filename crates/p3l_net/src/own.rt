@@ -1,6 +1,7 @@
 // What the processes of a machine keep.
 
-ghost use Rattle.std.specs.Prelude.{◌≡◌, ◌+◌, ◌<◌, ◌^◌, length, map, replicate, slice_set, true, false, IfSome, IfNone, IfOk, IfErr, OnOk, OnErr};
+ghost use Rattle.std.specs.Prelude.{◌≡◌, ◌+◌, ◌<◌, ◌^◌, length, map, replicate, slice_set, true, false, IfSome, IfNone, IfErr, OnOk, OnErr};
+ghost use Rattle.p3l_base.specs.Memory.{IfGiven};
 ghost use Rattle.std.specs.List.{All};
 ghost use Rattle.p3l_firing.specs.State.{fresh, own_at, counted, holding, gathering, released};
 ghost use Rattle.p3l_firing.specs.kinds.Tail.{has_number, pick_number, after_release};
@@ -33,7 +34,7 @@ impl Model for Keep {
 
 impl Keep {
     fn new(alloc: Global) -> Result<Keep, NoMemory>
-        ensures { IfOk result (λ keep. keep ≡ fresh) }
+        ensures { IfGiven result (λ keep. keep ≡ fresh) }
     {
         Ok(Keep {
             number: 0,
@@ -44,7 +45,7 @@ impl Keep {
     // With room for one token at least.
     fn restore(alloc: Global, saved: &SavedOwn) -> Result<Keep, NoMemory>
         requires { All HasFewTags saved.now.held }
-        ensures { IfOk result (λ keep. keep ≡ own_of saved.now) }
+        ensures { IfGiven result (λ keep. keep ≡ own_of saved.now) }
     {
         let tokens = saved.held.as_slice();
         let mut held = Vec::with_capacity(alloc, tokens.len().max(1))?;
@@ -58,7 +59,7 @@ impl Keep {
     }
 
     fn save(&self, alloc: Global) -> Result<SavedOwn, NoMemory>
-        ensures { IfOk result (λ saved. saved ≡ saved_own self.now) }
+        ensures { IfGiven result (λ saved. saved ≡ saved_own self.now) }
     {
         let mut held = List::new(alloc);
         save_tokens(alloc, self.held.as_slice(), &mut held)?;
@@ -166,7 +167,7 @@ impl Model for Keeps {
 impl Keeps {
     /// What `size` processes keep before anything has fired.
     pub(crate) fn new(alloc: Global, size: usize) -> Result<Keeps, NoMemory>
-        ensures { IfOk result (λ keeps. keeps ≡ replicate size fresh) }
+        ensures { IfGiven result (λ keeps. keeps ≡ replicate size fresh) }
     {
         let mut list = Vec::with_capacity(alloc, size)?;
         for _ in 0..size {
@@ -178,7 +179,7 @@ impl Keeps {
     /// What each process keeps, as it was saved.
     pub(crate) fn restore(alloc: Global, saved: &List<SavedOwn>) -> Result<Keeps, NoMemory>
         requires { All (λ own. All HasFewTags own.held) saved.now }
-        ensures { IfOk result (λ keeps. keeps ≡ map own_of saved.now) }
+        ensures { IfGiven result (λ keeps. keeps ≡ map own_of saved.now) }
     {
         let saved = saved.as_slice();
         let mut list = Vec::with_capacity(alloc, saved.len())?;
@@ -190,7 +191,7 @@ impl Keeps {
 
     /// What each process keeps, as it is saved.
     pub(crate) fn save(&self, alloc: Global) -> Result<List<SavedOwn>, NoMemory>
-        ensures { IfOk result (λ saved. saved ≡ map saved_own self.now) }
+        ensures { IfGiven result (λ saved. saved ≡ map saved_own self.now) }
     {
         let mut saved = List::new(alloc);
         for keep in &self.list {

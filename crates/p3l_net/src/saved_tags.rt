@@ -1,6 +1,7 @@
 // The tags of tokens as they are saved: a list from the oldest to the newest.
 
-ghost use Rattle.std.specs.Prelude.{◌≡◌, ◌≤◌, ◌↔◌, [], length, reverse, IsTrue, IfOk};
+ghost use Rattle.std.specs.Prelude.{◌≡◌, ◌≤◌, ◌↔◌, [], length, reverse, IsTrue};
+ghost use Rattle.p3l_base.specs.Memory.{IfGiven};
 ghost use Rattle.p3l_firing.specs.Token.{first_tag, most_tags};
 
 use p3l_base::{List, NoMemory};
@@ -30,7 +31,7 @@ pub(crate) fn is_bare(tags: &Tags) -> bool
 /// The tags of a token, as they are saved.
 #[cycle(saved_tags)]
 pub(crate) fn saved_tags(alloc: Global, tags: &Tags) -> Result<List<u64>, NoMemory>
-    ensures { IfOk result (λ saved. saved ≡ reverse tags.now) }
+    ensures { IfGiven result (λ saved. saved ≡ reverse tags.now) }
 {
     if is_bare(tags) {
         return Ok(List::new(alloc));

@@ -1,6 +1,7 @@
 // What is saved of a machine.
 
-ghost use Rattle.std.specs.Prelude.{◌≡◌, ◌≤◌, ◌↔◌, ◌++◌, length, map, IsTrue, IfOk, OnOk};
+ghost use Rattle.std.specs.Prelude.{◌≡◌, ◌≤◌, ◌↔◌, ◌++◌, length, map, IsTrue};
+ghost use Rattle.p3l_base.specs.Memory.{IfGiven, OnGiven};
 ghost use Rattle.p3l_firing.specs.Token.{most_tags, plain};
 ghost use Rattle.p3l_net.specs.Shot.{IsCountable, saved_token, token_of};
 
@@ -57,7 +58,7 @@ impl Shot {
 impl SavedToken {
     /// A token with these tags, as it is saved.
     pub(crate) fn tagged(alloc: Global, tags: &Tags, body: &Outcome) -> Result<SavedToken, NoMemory>
-        ensures { IfOk result (λ saved. saved
+        ensures { IfGiven result (λ saved. saved
             ≡ saved_token (record { tags = tags.now; body = body.now })) }
     {
         Ok(SavedToken {
@@ -68,7 +69,7 @@ impl SavedToken {
 
     /// A token without tags, as it is saved.
     pub(crate) fn plain(alloc: Global, body: &Outcome) -> Result<SavedToken, NoMemory>
-        ensures { IfOk result (λ saved. saved ≡ saved_token (plain body.now)) }
+        ensures { IfGiven result (λ saved. saved ≡ saved_token (plain body.now)) }
     {
         Ok(SavedToken {
             tags: List::new(alloc),
@@ -79,7 +80,7 @@ impl SavedToken {
     /// The token that was saved.
     pub(crate) fn restore(&self, alloc: Global) -> Result<Token, NoMemory>
         requires { length self.now.tags ≤ most_tags }
-        ensures { IfOk result (λ token. token ≡ token_of self.now) }
+        ensures { IfGiven result (λ token. token ≡ token_of self.now) }
     {
         Ok(Token {
             tags: restored_tags(self.tags.as_slice()),
@@ -94,7 +95,7 @@ pub(crate) fn save_tokens(
     tokens: &[Token],
     saved: &mut List<SavedToken>,
 ) -> Result<(), NoMemory>
-    ensures { OnOk result (saved.new ≡ saved.old ++ map saved_token tokens.now) }
+    ensures { OnGiven result (saved.new ≡ saved.old ++ map saved_token tokens.now) }
 {
     for token in tokens {
         saved.push(SavedToken::tagged(alloc, &token.tags, &token.body)?)?;

@@ -1,6 +1,7 @@
 // What a machine holds: the tokens of a net, and the steps that its firings are made of.
 
-ghost use Rattle.std.specs.Prelude.{◌≡◌, ◌<◌, ◌≤◌, ◌+◌, ◌^◌, ◌↔◌, [], length, None, Some, IsTrue, true, IfOk, OnOk, OnErr, slice_get, is_some, cond};
+ghost use Rattle.std.specs.Prelude.{◌≡◌, ◌<◌, ◌≤◌, ◌+◌, ◌^◌, ◌↔◌, [], length, None, Some, IsTrue, true, OnErr, slice_get, is_some, cond};
+ghost use Rattle.p3l_base.specs.Memory.{IfGiven, OnGiven};
 ghost use Rattle.p3l_base.specs.declared.outcome.Outcome.TheVariants.{Trapped};
 ghost use Rattle.p3l_firing.specs.Lists.{has_first, first_or};
 ghost use Rattle.p3l_firing.specs.State.{chan_at, own_at, counted, fresh, gathering, holding, released};
@@ -50,7 +51,7 @@ impl<'t> Store<'t> {
     /// A net in which nothing has fired. All channels are empty but for their credits.
     pub(crate) fn start(alloc: Global, tree: &'t Tree, net: Net) -> Result<Store<'t>, NoMemory>
         requires { IsTyped tree.now net }
-        ensures { IfOk result (λ store. store ≡ started tree.now net) }
+        ensures { IfGiven result (λ store. store ≡ started tree.now net) }
     {
         let channels = Channels::open(alloc, &net.chans)?;
         let keeps = Keeps::new(alloc, net.procs.len())?;
@@ -75,7 +76,7 @@ impl<'t> Store<'t> {
         shot: Shot,
     ) -> Result<Store<'t>, NoMemory>
         requires { IsHeld net shot }
-        ensures { IfOk result (λ store. store ≡ restored tree.now net shot) }
+        ensures { IfGiven result (λ store. store ≡ restored tree.now net shot) }
     {
         let channels = Channels::restore(alloc, &net.chans, &shot.chans)?;
         let keeps = Keeps::restore(alloc, &shot.owns)?;
@@ -94,7 +95,7 @@ impl<'t> Store<'t> {
 
     // The item in the inbox, as it is saved.
     fn saved_inbox(&self, alloc: Global) -> Result<Option<Words>, NoMemory>
-        ensures { IfOk result (λ inbox. inbox ≡ self.now.inbox) }
+        ensures { IfGiven result (λ inbox. inbox ≡ self.now.inbox) }
     {
         match &self.inbox {
             Some(item) => Ok(Some(copied(alloc, item)?)),
@@ -104,7 +105,7 @@ impl<'t> Store<'t> {
 
     /// What is saved of the state.
     pub(crate) fn save(&self, alloc: Global) -> Result<Shot, NoMemory>
-        ensures { IfOk result (λ shot. shot ≡ shot_of self.now) }
+        ensures { IfGiven result (λ shot. shot ≡ shot_of self.now) }
     {
         Ok(Shot {
             chans: self.channels.save(alloc)?,
@@ -282,7 +283,7 @@ impl<'t> Store<'t> {
         requires there { p < length self.old.owns }
         requires token { CanTake self.old c }
         requires room { length (tokens_at self.old.queues c) ≤ (queue_at self.old.queues c).room }
-        ensures ok { OnOk result (self.new
+        ensures ok { OnGiven result (self.new
             ≡ with_own (without_first self.old c)
             p (gathering (own_at self.old.owns p) (first_or credit (tokens_at self.old.queues c)))) }
         ensures err { OnErr result (self.new ≡ self.old) }
@@ -325,7 +326,7 @@ impl<'t> Store<'t> {
         requires there { p < length self.old.owns }
         requires token { CanTake self.old c }
         requires room { length (tokens_at self.old.queues c) ≤ (queue_at self.old.queues c).room }
-        ensures ok { OnOk result (self.new
+        ensures ok { OnGiven result (self.new
             ≡ with_own (without_first self.old c)
             p (gathering (own_at self.old.owns p)
             (record (first_or credit (tokens_at self.old.queues c)) { body = Trapped trap }))) }

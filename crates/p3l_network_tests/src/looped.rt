@@ -1,6 +1,7 @@
 // A loop that counts down.
 
 ghost use Rattle.std.specs.Prelude.{◌≡◌, ◌<◌, pos, suc, zero, ◌+ℤ◌, ◌-ℤ◌, [], ◌∷◌, length};
+ghost use Rattle.p3l_base.specs.Memory.{IfGiven};
 ghost use Rattle.std.specs.Prelude.{IfOk, IfSome};
 ghost use Rattle.p3l_base.specs.declared.outcome.Outcome.TheVariants.{Value};
 ghost use Rattle.p3l_skel.specs.declared.tree.Form.TheVariants.{Seq};
@@ -26,7 +27,7 @@ fn seq_node(alloc: Global, home: u32, outs: u32) -> Node
 
 /// The modules of the loop, of its body and of its condition.
 fn modules(alloc: Global) -> Result<List<ModuleInfo>, NoMemory>
-    ensures { IfOk result (λ modules. modules ≡ loop_modules) }
+    ensures { IfGiven result (λ modules. modules ≡ loop_modules) }
 {
     let mut modules = List::new(alloc);
     add(alloc, &mut modules, "main", ModuleKind::Loop)?;
@@ -37,7 +38,7 @@ fn modules(alloc: Global) -> Result<List<ModuleInfo>, NoMemory>
 
 /// The tree of a loop of three turns and two tokens at most, whose items have two words.
 pub fn tree_of_loop(alloc: Global) -> Result<Tree, NoMemory>
-    ensures { IfOk result (λ tree. tree ≡ counting_loop) }
+    ensures { IfGiven result (λ tree. tree ≡ counting_loop) }
 {
     let mut nodes = List::new(alloc);
     nodes.push(Node {
@@ -66,7 +67,7 @@ fn plus(left: i64, right: i64) -> Option<i64>
 /// One turn of the body on two words; refused where a number doesn't fit.
 fn counted(alloc: Global, words: &Words) -> Result<Outcome, NoMemory>
     requires { 1 < length words.now }
-    ensures { IfOk result (λ outcome. outcome ≡ counts_down (suc zero) words.now) }
+    ensures { IfGiven result (λ outcome. outcome ≡ counts_down (suc zero) words.now) }
 {
     let Some(down) = minus(word(words, 0), 1) else {
         return Err(NoMemory);

@@ -1,6 +1,7 @@
 // Elements, halves and answers of the plain program, by hand.
 
-ghost use Rattle.std.specs.Prelude.{◌≡◌, IfOk};
+ghost use Rattle.std.specs.Prelude.{◌≡◌};
+ghost use Rattle.p3l_base.specs.Memory.{IfGiven};
 
 use p3l_base::{NoMemory, Outcome, Trap, TrapKind, Words};
 use p3l_skel::element::elements;
@@ -10,7 +11,7 @@ use std::alloc::Global;
 use std::test::*;
 
 fn words(alloc: Global, words: &[i64]) -> Result<Words, NoMemory>
-    ensures { IfOk result (λ list. list ≡ words.now) }
+    ensures { IfGiven result (λ list. list ≡ words.now) }
 {
     Ok(Words::from_vec(words.to_vec(alloc)?))
 }

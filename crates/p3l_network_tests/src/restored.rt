@@ -1,6 +1,7 @@
 // Machines that are saved, and go on as what is restored.
 
 ghost use Rattle.std.specs.Prelude.{◌≡◌, IfOk};
+ghost use Rattle.p3l_base.specs.Memory.{IfGiven};
 ghost use Rattle.p3l_link.specs.Net.{linked_net};
 
 use crate::stepping::net_of;
@@ -20,7 +21,7 @@ fn again<'t>(
 ) -> Result<Machine<'t>, NoMemory>
     requires tree { machine.now.tree ≡ tree.now }
     requires net { machine.now.net ≡ linked_net tree.now counts.now.list 1 }
-    ensures tree { IfOk result (λ same. same.tree ≡ tree.now) }
+    ensures tree { IfGiven result (λ same. same.tree ≡ tree.now) }
     ensures net { IfOk result (λ same. same.net ≡ linked_net tree.now counts.now.list 1) }
 {
     assert!(rt; !machine.trapped());

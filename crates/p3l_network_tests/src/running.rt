@@ -1,6 +1,7 @@
 // The machine under round robin, against the plain program of the meaning.
 
-ghost use Rattle.std.specs.Prelude.{◌≡◌, ◌∷◌, [], IfOk};
+ghost use Rattle.std.specs.Prelude.{◌≡◌, ◌∷◌, []};
+ghost use Rattle.p3l_base.specs.Memory.{IfGiven};
 ghost use Rattle.p3l_sketch.specs.OneNode.{one_node};
 
 use p3l_base::{List, NoMemory, Outcome, Words};
@@ -14,7 +15,7 @@ use std::test::Fail;
 
 /// The words of an item of one word.
 fn item_of(alloc: Global, word: i64) -> Result<Words, NoMemory>
-    ensures { IfOk result (λ words. words ≡ word ∷ []) }
+    ensures { IfGiven result (λ words. words ≡ word ∷ []) }
 {
     let mut words = Words::new(alloc);
     words.push(word)?;
@@ -67,7 +68,7 @@ fn step<U: Units>(
 /// The machine of one body.
 fn machine_of<'t>(rt: &impl Abort, alloc: Global, tree: &'t Tree) -> Result<Machine<'t>, NoMemory>
     requires { tree.now ≡ one_node }
-    ensures { IfOk result (λ machine. machine.tree ≡ one_node) }
+    ensures { IfGiven result (λ machine. machine.tree ≡ one_node) }
 {
     laws::the_net_of_one_unit_is_typed();
     assert!(rt; lawful_tree(tree));

@@ -1,6 +1,7 @@
 // Machines fired process by process, by tables worked out from the rows of the kinds.
 
 ghost use Rattle.std.specs.Prelude.{◌≡◌, ◌<◌, None, length, IfOk};
+ghost use Rattle.p3l_base.specs.Memory.{IfGiven};
 ghost use Rattle.p3l_firing.specs.Typed.{IsTyped};
 ghost use Rattle.p3l_link.specs.Net.{linked_net};
 
@@ -16,7 +17,7 @@ use std::process::Abort;
 
 /// The net of a tree with these numbers of workers, and with room for one token in each channel.
 pub fn net_of(rt: &impl Abort, alloc: Global, tree: &Tree, counts: &Counts) -> Result<Net, NoMemory>
-    ensures net { IfOk result (λ net. net ≡ linked_net tree.now counts.now.list 1) }
+    ensures net { IfGiven result (λ net. net ≡ linked_net tree.now counts.now.list 1) }
     ensures typed { IfOk result (λ net. IsTyped tree.now net) }
 {
     assert!(rt; lawful_tree(tree));
@@ -43,7 +44,7 @@ fn machine_of<'t>(
     tree: &'t Tree,
     counts: &Counts,
 ) -> Result<Machine<'t>, NoMemory>
-    ensures tree { IfOk result (λ machine. machine.tree ≡ tree.now) }
+    ensures tree { IfGiven result (λ machine. machine.tree ≡ tree.now) }
     ensures net { IfOk result (λ machine. machine.net ≡ linked_net tree.now counts.now.list 1) }
 {
     let net = net_of(rt, alloc, tree, counts)?;

@@ -1,6 +1,7 @@
 // Trees of a root with one `seq` part, and what their parts do.
 
 ghost use Rattle.std.specs.Prelude.{◌≡◌, ◌<◌, pos, [], ◌∷◌, ◌++◌, ◌-ℤ◌, length, slice_index_or};
+ghost use Rattle.p3l_base.specs.Memory.{IfGiven, OnGiven};
 ghost use Rattle.std.specs.Prelude.{IfOk, IfSome, OnOk};
 ghost use Rattle.p3l_base.specs.declared.outcome.Outcome.TheVariants.{Value};
 ghost use Rattle.p3l_base.specs.declared.slice.Place.TheVariants as places;
@@ -13,7 +14,7 @@ use std::alloc::Global;
 
 /// The list of one slice, over four words of which each is an element.
 fn slices_of_four(alloc: Global) -> Result<List<Slice>, NoMemory>
-    ensures { IfOk result (λ slices. slices
+    ensures { IfGiven result (λ slices. slices
         ≡ record { start = 0; dims = record { size = 4; place = places.First } ∷ [] } ∷ []) }
 {
     let mut dims = List::new(alloc);
@@ -28,7 +29,7 @@ fn slices_of_four(alloc: Global) -> Result<List<Slice>, NoMemory>
 
 /// The cut of four words, one by one.
 fn cut_of_four(alloc: Global) -> Result<Cut, NoMemory>
-    ensures { IfOk result (λ cut. cut ≡ four_cut) }
+    ensures { IfGiven result (λ cut. cut ≡ four_cut) }
 {
     let ins = slices_of_four(alloc)?;
     let outs = slices_of_four(alloc)?;
@@ -47,7 +48,7 @@ pub fn add(
     name: &str,
     kind: ModuleKind,
 ) -> Result<(), NoMemory>
-    ensures ok { OnOk result (modules.new
+    ensures ok { OnGiven result (modules.new
         ≡ modules.old ++ record { name = name.now; kind = kind; rescue = None } ∷ []) }
 {
     let name = Name::from_text(alloc, name)?;
@@ -60,7 +61,7 @@ pub fn add(
 
 /// The modules of a root of this kind and of its part.
 fn modules_of(alloc: Global, kind: ModuleKind) -> Result<List<ModuleInfo>, NoMemory>
-    ensures { IfOk result (λ modules. modules ≡ two_modules kind) }
+    ensures { IfGiven result (λ modules. modules ≡ two_modules kind) }
 {
     let mut modules = List::new(alloc);
     add(alloc, &mut modules, "main", kind)?;
@@ -76,7 +77,7 @@ fn tree_of(
     root: (u32, u32),
     part: (u32, u32),
 ) -> Result<Tree, NoMemory>
-    ensures { IfOk result (λ tree. tree ≡ with_part form kind root.0 root.1 part.0 part.1) }
+    ensures { IfGiven result (λ tree. tree ≡ with_part form kind root.0 root.1 part.0 part.1) }
 {
     let mut nodes = List::new(alloc);
     nodes.push(Node {
@@ -99,7 +100,7 @@ fn tree_of(
 
 /// The tree of a map of four words, one by one.
 pub fn tree_of_map(alloc: Global) -> Result<Tree, NoMemory>
-    ensures { IfOk result (λ tree. tree ≡ four_map) }
+    ensures { IfGiven result (λ tree. tree ≡ four_map) }
 {
     let form = Form::Map {
         workers: None,
@@ -110,7 +111,7 @@ pub fn tree_of_map(alloc: Global) -> Result<Tree, NoMemory>
 
 /// The tree of a reduce of this number of words.
 pub fn tree_of_reduce(alloc: Global, len: u32) -> Result<Tree, NoMemory>
-    ensures { IfOk result (λ tree. tree ≡ reduce_of len) }
+    ensures { IfGiven result (λ tree. tree ≡ reduce_of len) }
 {
     let form = Form::Reduce {
         workers: None,
@@ -122,7 +123,7 @@ pub fn tree_of_reduce(alloc: Global, len: u32) -> Result<Tree, NoMemory>
 
 /// The outcome of one word.
 fn value(alloc: Global, word: i64) -> Result<Outcome, NoMemory>
-    ensures { IfOk result (λ outcome. outcome ≡ Value (word ∷ [])) }
+    ensures { IfGiven result (λ outcome. outcome ≡ Value (word ∷ [])) }
 {
     let mut words = Words::new(alloc);
     words.push(word)?;
@@ -131,7 +132,7 @@ fn value(alloc: Global, word: i64) -> Result<Outcome, NoMemory>
 
 /// The number, or a trap where it is 0 and another one where it is below.
 fn checked(alloc: Global, word: i64) -> Result<Outcome, NoMemory>
-    ensures { IfOk result (λ outcome. outcome ≡ checked (word ∷ [])) }
+    ensures { IfGiven result (λ outcome. outcome ≡ checked (word ∷ [])) }
 {
     if word == 0 {
         return Ok(Outcome::Trapped(Trap {
@@ -159,7 +160,7 @@ pub fn word(words: &Words, k: usize) -> i64
 /// The outcome of the first of some words.
 pub fn first_value(alloc: Global, words: &Words) -> Result<Outcome, NoMemory>
     requires { 0 < length words.now }
-    ensures { IfOk result (λ outcome. outcome ≡ Value (slice_index_or words.now 0 (pos 0) ∷ [])) }
+    ensures { IfGiven result (λ outcome. outcome ≡ Value (slice_index_or words.now 0 (pos 0) ∷ [])) }
 {
     value(alloc, word(words, 0))
 }
@@ -167,7 +168,7 @@ pub fn first_value(alloc: Global, words: &Words) -> Result<Outcome, NoMemory>
 /// What the part of the map makes of one word.
 fn checked_word(alloc: Global, words: &Words) -> Result<Outcome, NoMemory>
     requires { 0 < length words.now }
-    ensures { IfOk result (λ outcome. outcome ≡ checked (slice_index_or words.now 0 (pos 0) ∷ [])) }
+    ensures { IfGiven result (λ outcome. outcome ≡ checked (slice_index_or words.now 0 (pos 0) ∷ [])) }
 {
     checked(alloc, word(words, 0))
 }
@@ -203,7 +204,7 @@ pub fn minus(left: i64, right: i64) -> Option<i64>
 /// The outcome of the difference of two words; refused where it doesn't fit.
 fn difference(alloc: Global, words: &Words) -> Result<Outcome, NoMemory>
     requires { 1 < length words.now }
-    ensures { IfOk result (λ outcome. outcome ≡ Value ((slice_index_or words.now 0 (pos 0)
+    ensures { IfGiven result (λ outcome. outcome ≡ Value ((slice_index_or words.now 0 (pos 0)
         -ℤ slice_index_or words.now 1 (pos 0)) ∷ [])) }
 {
     match minus(word(words, 0), word(words, 1)) {
@@ -215,7 +216,7 @@ fn difference(alloc: Global, words: &Words) -> Result<Outcome, NoMemory>
 /// The outcome of the fold of three words: the first less the difference of the others.
 fn difference_of_three(alloc: Global, words: &Words) -> Result<Outcome, NoMemory>
     requires { 2 < length words.now }
-    ensures { IfOk result (λ outcome. outcome ≡ Value ((slice_index_or words.now 0 (pos 0)
+    ensures { IfGiven result (λ outcome. outcome ≡ Value ((slice_index_or words.now 0 (pos 0)
         -ℤ (slice_index_or words.now 1 (pos 0) -ℤ slice_index_or words.now 2 (pos 0))) ∷ [])) }
 {
     let Some(rest) = minus(word(words, 1), word(words, 2)) else {

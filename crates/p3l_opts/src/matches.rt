@@ -1,6 +1,7 @@
 // What `clap` finds in the words of a command.
 
 ghost use Rattle.std.specs.Prelude.{◌≡◌, ◌≢◌, ℕ, [], Some, None, IfOk, IfSome, IfNone, IsErrOf, option_map};
+ghost use Rattle.p3l_base.specs.Memory.{IfGiven};
 ghost use Rattle.clap.specs.Words.{first_of, found_of, kind_of, rows_of};
 ghost use Rattle.p3l_opts.specs.Command.{HasCapacity, HasItems, HasNumber, HasProcessors, HasSchedule, HasSegments, says_true, texts_of};
 ghost use Rattle.p3l_opts.specs.declared.command.Sched.{Sched};
@@ -90,7 +91,7 @@ pub(crate) fn name_if_given(
     matches: &ArgMatches,
     id: &str,
 ) -> Result<Option<Name>, NoMemory>
-    ensures { IfOk result (λ name. name ≡ first_of id.now (rows_of (found_of matches.now))) }
+    ensures { IfGiven result (λ name. name ≡ first_of id.now (rows_of (found_of matches.now))) }
 {
     match text_of(matches, id) {
         Some(text) => Ok(Some(Name::from_text(alloc, text)?)),

@@ -1,6 +1,7 @@
 // Commands of `clap`, each made from a table of its words.
 
-ghost use Rattle.std.specs.Prelude.{◌≡◌, IfOk, false};
+ghost use Rattle.std.specs.Prelude.{◌≡◌, false};
+ghost use Rattle.p3l_base.specs.Memory.{IfGiven};
 ghost use Rattle.clap.specs.Words.{app_of, new_app, rule_of};
 ghost use Rattle.p3l_opts.specs.Table.{app_with, rule_for};
 
@@ -41,7 +42,7 @@ pub(crate) fn command_with<'a>(
     name: &'a str,
     words: &[(&'a str, Spelling)],
 ) -> Result<Command<'a>, NoMemory>
-    ensures { IfOk result (λ c. app_of c ≡ app_with (new_app name.entry.now) words.now) }
+    ensures { IfGiven result (λ c. app_of c ≡ app_with (new_app name.entry.now) words.now) }
 {
     let mut command = Command::new(alloc, name);
     'words: for word in words {

@@ -1,6 +1,7 @@
 // The first words of commands, and the table of each command.
 
-ghost use Rattle.std.specs.Prelude.{◌≡◌, ◌↔◌, IfOk, IfSome, IfNone, IsTrue};
+ghost use Rattle.std.specs.Prelude.{◌≡◌, ◌↔◌, IfSome, IfNone, IsTrue};
+ghost use Rattle.p3l_base.specs.Memory.{IfGiven};
 ghost use Rattle.clap.specs.Words.{app_of};
 ghost use Rattle.p3l_opts.specs.Verb.{app_for, name_of};
 
@@ -99,7 +100,7 @@ pub fn verb_of(word: &str) -> Option<Verb>
 
 /// The command of `clap` that reads the words of a verb.
 pub(crate) fn clap_command<'a>(alloc: Global, verb: Verb) -> Result<Command<'a>, NoMemory>
-    ensures { IfOk result (λ command. app_of command ≡ app_for verb) }
+    ensures { IfGiven result (λ command. app_of command ≡ app_for verb) }
 {
     match verb {
         Verb::Check => command_with(alloc, "check", &[("program", Spelling::Positional)]),

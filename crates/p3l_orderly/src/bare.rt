@@ -1,6 +1,7 @@
 // Tokens without their outcomes: whether a part is orderly depends on tags alone.
 
-ghost use Rattle.std.specs.Prelude.{◌≡◌, ◌++◌, IfOk, map};
+ghost use Rattle.std.specs.Prelude.{◌≡◌, ◌++◌, map};
+ghost use Rattle.p3l_base.specs.Memory.{IfGiven};
 ghost use Rattle.p3l_firing.specs.Token.{peeled};
 ghost use Rattle.p3l_orderly.specs.Finding.{bare, bares};
 
@@ -17,7 +18,7 @@ pub fn bare(alloc: Global, token: &Token) -> Token
 
 /// Puts tokens after others, without their outcomes.
 pub fn add_bare(alloc: Global, to: &mut List<Token>, tokens: &[Token]) -> Result<(), NoMemory>
-    ensures { IfOk result (λ _. to.new ≡ to.old ++ bares tokens.now) }
+    ensures { IfGiven result (λ _. to.new ≡ to.old ++ bares tokens.now) }
 {
     for token in tokens {
         to.push(bare(alloc, token))?;
@@ -27,7 +28,7 @@ pub fn add_bare(alloc: Global, to: &mut List<Token>, tokens: &[Token]) -> Result
 
 /// Puts tokens after others, without their outcomes and without their newest tags.
 pub fn add_peeled(alloc: Global, to: &mut List<Token>, tokens: &[Token]) -> Result<(), NoMemory>
-    ensures { IfOk result (λ _. to.new ≡ to.old ++ map peeled (bares tokens.now)) }
+    ensures { IfGiven result (λ _. to.new ≡ to.old ++ map peeled (bares tokens.now)) }
 {
     for token in tokens {
         to.push(bare(alloc, token).peeled())?;

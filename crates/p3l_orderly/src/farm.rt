@@ -1,6 +1,7 @@
 // What is found in a farm: the tokens of all workers' lines in the order of their numbers.
 
-ghost use Rattle.std.specs.Prelude.{◌≡◌, ◌+◌, ◌≤◌, ℕ, [], length, IfOk, nat_eq};
+ghost use Rattle.std.specs.Prelude.{◌≡◌, ◌+◌, ◌≤◌, ℕ, [], length, nat_eq};
+ghost use Rattle.p3l_base.specs.Memory.{IfGiven};
 ghost use Rattle.p3l_farm.specs.Farm.{all_rising, joined, rising};
 ghost use Rattle.p3l_template.specs.Shape.{fan_seats};
 ghost use Rattle.p3l_orderly.specs.Farm.{farm_finds, found_by, lines_by, seen_of};
@@ -41,7 +42,7 @@ pub(crate) fn all_lines(
 ) -> Result<List<List<Token>>, NoMemory>
     requires inner { length inner.now ≡ workers }
     requires room { chan + (workers + workers) ≤ 1048576 }
-    ensures { IfOk result (λ lines. lines
+    ensures { IfGiven result (λ lines. lines
         ≡ lines_by (state_of snapshot.now) (fan_seats chan (chan + workers) workers) inner.now) }
 {
     let mut lines = List::new(alloc);
@@ -71,7 +72,7 @@ fn all_are_rising(lines: &[List<Token>]) -> bool
 
 // The tokens of all lines, without their outcomes.
 fn join_lines(alloc: Global, lines: &[List<Token>]) -> Result<List<Token>, NoMemory>
-    ensures { IfOk result (λ list. list ≡ bares (joined lines.now)) }
+    ensures { IfGiven result (λ list. list ≡ bares (joined lines.now)) }
 {
     let mut list = List::new(alloc);
     for line in lines {
@@ -95,7 +96,7 @@ fn by_lines(
     least: u64,
     lines: &[List<Token>],
 ) -> Result<Option<List<Token>>, NoMemory>
-    ensures { IfOk result (λ pending. pending
+    ensures { IfGiven result (λ pending. pending
         ≡ if_orderly (found_by (record {
           next = next;
           least = least;

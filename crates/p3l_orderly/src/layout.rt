@@ -1,6 +1,7 @@
 // Where the inner parts of a node are placed.
 
-ghost use Rattle.std.specs.Prelude.{◌≡◌, ◌+◌, ◌-◌, ◌<◌, ◌≤◌, [], ◌∷◌, length, map, slice_index, IfOk};
+ghost use Rattle.std.specs.Prelude.{◌≡◌, ◌+◌, ◌-◌, ◌<◌, ◌≤◌, [], ◌∷◌, length, map, slice_index};
+ghost use Rattle.p3l_base.specs.Memory.{IfGiven};
 ghost use Rattle.p3l_skel.specs.Counts.{count_of};
 ghost use Rattle.p3l_skel.specs.Lawful.{IsLawfulTree};
 ghost use Rattle.p3l_skel.specs.Numbers.{joined_procs};
@@ -44,7 +45,7 @@ fn stages(
 ) -> Result<List<InnerPart>, NoMemory>
     requires some { 1 ≤ length node.now.parts }
     requires room { chan + (length node.now.parts - 1) ≤ 1048576 }
-    ensures { IfOk result (λ inner. inner
+    ensures { IfGiven result (λ inner. inner
         ≡ map (inner_part (slice_index node.now.parts))
         (stage_seats 0 from chan to (length node.now.parts - 1))) }
 {
@@ -72,7 +73,7 @@ fn stages(
 // on, and their out channels come after them.
 fn copies(alloc: Global, node: u32, workers: u32, chan: u32) -> Result<List<InnerPart>, NoMemory>
     requires { chan + (workers + workers) ≤ 1048576 }
-    ensures { IfOk result (λ inner. inner
+    ensures { IfGiven result (λ inner. inner
         ≡ map (inner_part (λ _. node)) (fan_seats chan (chan + workers) workers)) }
 {
     let mut inner = List::new(alloc);
@@ -89,7 +90,7 @@ fn copies(alloc: Global, node: u32, workers: u32, chan: u32) -> Result<List<Inne
 // The body of a loop.
 fn body(alloc: Global, node: u32, chan: u32) -> Result<List<InnerPart>, NoMemory>
     requires { chan < 1048576 }
-    ensures { IfOk result (λ inner. inner
+    ensures { IfGiven result (λ inner. inner
         ≡ record { input = chan; output = chan + 1; node = node } ∷ []) }
 {
     let mut inner = List::new(alloc);
@@ -117,7 +118,7 @@ fn after(inner: List<InnerPart>, place: &Place, procs: u32, chans: u32) -> Layou
 // The layout of a farm or a map, of whose part `workers` workers run copies.
 fn with_workers(alloc: Global, node: u32, workers: u32, place: &Place) -> Result<Layout, NoMemory>
     requires { (place.now.proc + 2 ≤ 1048576) × (place.now.chan + (workers + workers) ≤ 1048576) }
-    ensures { IfOk result (λ layout. layout
+    ensures { IfGiven result (λ layout. layout
         ≡ record {
           inner = map (inner_part (λ _. node)) (fan_seats place.now.chan (place.now.chan + workers) workers);
           proc = place.now.proc + 2;
@@ -155,7 +156,7 @@ pub(crate) fn layout_of(
     requires count { HasOwnCount (node_at tree.now number).form (count_of tree.now counts.now.list
         number) }
     requires room { FitsAt (shape_of tree.now counts.now.list number) place.now }
-    ensures { IfOk result (λ layout. layout
+    ensures { IfGiven result (λ layout. layout
         ≡ layout_at tree.now (count_of tree.now counts.now.list) number place.now) }
 {
     let Some(node) = tree.node(number) else {

@@ -1,6 +1,7 @@
 // What is found in a loop: the admitted tokens in the order of their numbers.
 
-ghost use Rattle.std.specs.Prelude.{◌≡◌, ◌+◌, ◌≤◌, List, length, nat_eq, IfOk};
+ghost use Rattle.std.specs.Prelude.{◌≡◌, ◌+◌, ◌≤◌, List, length, nat_eq};
+ghost use Rattle.p3l_base.specs.Memory.{IfGiven};
 ghost use Rattle.p3l_firing.specs.Nodes.{turns_of};
 ghost use Rattle.p3l_firing.specs.declared.token.Token.{Token};
 ghost use Rattle.p3l_loop.specs.Loop.{in_turns};
@@ -74,7 +75,7 @@ fn look_at(
     pending: &List<Token>,
 ) -> Result<Seen, NoMemory>
     requires room { (place.now.proc + 2 ≤ 1048576) × (place.now.chan + 4 ≤ 1048576) }
-    ensures { IfOk result (λ seen. seen
+    ensures { IfGiven result (λ seen. seen
         ≡ seen_of place.now (state_of snapshot.now) pending.now) }
 {
     let seat = Ports {
@@ -100,7 +101,7 @@ fn look_at(
 
 // The admitted tokens, without their turns.
 fn bag_of(alloc: Global, seen: &Seen) -> Result<List<Token>, NoMemory>
-    ensures { IfOk result (λ bag. bag ≡ seen_bag seen.now) }
+    ensures { IfGiven result (λ bag. bag ≡ seen_bag seen.now) }
 {
     let mut bag = List::new(alloc);
     add_peeled(alloc, &mut bag, seen.held.as_slice())?;
@@ -135,7 +136,7 @@ fn by_seen(
     tokens: u32,
     seen: &Seen,
 ) -> Result<Option<List<Token>>, NoMemory>
-    ensures { IfOk result (λ pending. pending ≡ if_orderly (found_by turns tokens seen.now)) }
+    ensures { IfGiven result (λ pending. pending ≡ if_orderly (found_by turns tokens seen.now)) }
 {
     let bag = bag_of(alloc, seen)?;
     if !is_counted(turns, tokens, seen, bag.len()) {

@@ -1,6 +1,7 @@
 // What is found in a map: the pieces of all tokens by turns, in groups that each become one token.
 
 ghost use Rattle.std.specs.Prelude.{◌≡◌, ◌+◌, ◌++◌, ◌≤◌, ◌<◌, [], ◌∷◌, List, ℕ, suc, length, replicate, IfOk, IsTrue, IsFalse};
+ghost use Rattle.p3l_base.specs.Memory.{IfGiven};
 ghost use Rattle.p3l_firing.specs.At.{at};
 ghost use Rattle.p3l_firing.specs.Lists.{first_or, has_first, rest_of};
 ghost use Rattle.p3l_firing.specs.Nodes.{last_element};
@@ -38,7 +39,7 @@ fn number_of_pieces(tree: &Tree, node: u32) -> u64
 
 // How many tokens the lines have. Memory doesn't have as many as fit no number.
 fn count_tokens(lines: &[List<Token>]) -> Result<usize, NoMemory>
-    ensures { IfOk result (λ count. count ≡ count_of lines.now) }
+    ensures { IfGiven result (λ count. count ≡ count_of lines.now) }
 {
     let mut count: usize = 0;
     for line in lines {
@@ -52,7 +53,7 @@ fn count_tokens(lines: &[List<Token>]) -> Result<usize, NoMemory>
 
 // For each line, that no token was taken from it yet.
 fn none_taken(alloc: Global, lines: usize) -> Result<Vec<usize>, NoMemory>
-    ensures { IfOk result (λ taken. taken.items ≡ replicate lines 0) }
+    ensures { IfGiven result (λ taken. taken.items ≡ replicate lines 0) }
 {
     let mut taken = Vec::new(alloc);
     for _line in 0..lines {
@@ -81,7 +82,7 @@ fn take_next(
     requires lines { length taken.old ≡ length lines.now }
     requires line { line < length lines.now }
     ensures length { length taken.new ≡ length taken.old }
-    ensures some { IfOk result (λ some. some ≡ has_first (left_at lines.now taken.old line)) }
+    ensures some { IfGiven result (λ some. some ≡ has_first (left_at lines.now taken.old line)) }
     ensures list { IfOk result (λ some. IsTrue some
         → list.new ≡ list.old ++ bare (first_or credit (left_at lines.now taken.old line)) ∷ []) }
     ensures left { IfOk result (λ some. IsTrue some → left_at lines.now taken.new
@@ -106,7 +107,7 @@ fn add_by_turns(
 ) -> Result<bool, NoMemory>
     requires number { 1 ≤ number }
     requires lines { 1 ≤ length lines.now }
-    ensures all { IfOk result (λ all. all ≡ are_in_turn number lines.now (length list.old)) }
+    ensures all { IfGiven result (λ all. all ≡ are_in_turn number lines.now (length list.old)) }
     ensures list { IfOk result (λ all. IsTrue all
         → list.new ≡ list.old ++ bares (by_turns number lines.now (length list.old))) }
 {
@@ -130,7 +131,7 @@ fn add_piece(
     piece: &Token,
 ) -> Result<bool, NoMemory>
     requires { IsFalse is_first → 1 ≤ length firsts.old }
-    ensures first { IsTrue is_first → IfOk result (λ alike. IsTrue alike) }
+    ensures first { IsTrue is_first → IfGiven result (λ alike. IsTrue alike) }
     ensures one_more { IsTrue is_first
         → IfOk result (λ alike. firsts.new ≡ firsts.old ++ bare piece.now ∷ []) }
     ensures later { IsFalse is_first → (xs : List Token) (x : Token) → firsts.old ≡ xs ++ x ∷ []
@@ -153,7 +154,7 @@ fn firsts_of_groups(
     pieces: &[Token],
 ) -> Result<Option<List<Token>>, NoMemory>
     requires { 1 ≤ number }
-    ensures { IfOk result (λ firsts. firsts ≡ made_alike (begun number pieces.now)) }
+    ensures { IfGiven result (λ firsts. firsts ≡ made_alike (begun number pieces.now)) }
 {
     let mut firsts = List::new(alloc);
     for k in 0..pieces.len() {
@@ -193,7 +194,7 @@ fn by_lines(
 ) -> Result<Option<List<Token>>, NoMemory>
     requires number { 1 ≤ number }
     requires lines { 1 ≤ length lines.now }
-    ensures { IfOk result (λ pending. pending
+    ensures { IfGiven result (λ pending. pending
         ≡ if_orderly (found_by (bare_pieces number (length lines.now)) (record {
           lines = line_at lines.now;
           held = held.now;

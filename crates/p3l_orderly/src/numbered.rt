@@ -1,6 +1,7 @@
 // Tokens in the order of their numbers, in a pass over the tokens and one over as many slots.
 
-ghost use Rattle.std.specs.Prelude.{◌≡◌, ◌+◌, ◌++◌, [], ◌∷◌, List, ℕ, IfOk, IsTrue, IsFalse, None, Option, length, replicate, false};
+ghost use Rattle.std.specs.Prelude.{◌≡◌, ◌+◌, ◌++◌, [], ◌∷◌, List, ℕ, IsTrue, IsFalse, None, Option, length, replicate, false};
+ghost use Rattle.p3l_base.specs.Memory.{IfGiven};
 ghost use Rattle.p3l_firing.specs.declared.token.Token.{Token};
 ghost use Rattle.p3l_template.specs.Bag.{all_within, numbered};
 ghost use Rattle.p3l_orderly.specs.Numbered.{AreSlotted, ordered};
@@ -25,7 +26,7 @@ pub fn lie_within(tokens: &[Token], from: u64, to: u64) -> bool
 
 // `count` slots without a token.
 fn free_slots(alloc: Global, count: usize) -> Result<Vec<Option<Token>>, NoMemory>
-    ensures { IfOk result (λ slots. slots.items ≡ replicate count None) }
+    ensures { IfGiven result (λ slots. slots.items ≡ replicate count None) }
 {
     let mut slots = Vec::new(alloc);
     for _slot in 0..count {
@@ -63,7 +64,7 @@ fn fill(alloc: Global, slots: &mut [Option<Token>], from: u64, token: &Token) ->
 fn unslot(alloc: Global, slots: Vec<Option<Token>>) -> Result<Option<List<Token>>, NoMemory>
     ensures { (xs : List Token) (from : ℕ) → AreSlotted from slots.items xs
         → length xs ≡ length slots.items
-        → IfOk result (λ list. list ≡ ordered xs from) }
+        → IfGiven result (λ list. list ≡ ordered xs from) }
 {
     let mut list = List::new(alloc);
     for slot in slots {
@@ -78,7 +79,7 @@ fn unslot(alloc: Global, slots: Vec<Option<Token>>) -> Result<Option<List<Token>
 /// The tokens in the order of their numbers, without these and without their outcomes, if their
 /// numbers are those from `from` on, each once.
 pub fn in_order(alloc: Global, tokens: &[Token], from: u64) -> Result<Option<List<Token>>, NoMemory>
-    ensures { IfOk result (λ list. list ≡ ordered tokens.now from) }
+    ensures { IfGiven result (λ list. list ≡ ordered tokens.now from) }
 {
     let mut slots = free_slots(alloc, tokens.len())?;
     for token in tokens {

@@ -1,6 +1,7 @@
 // What every template finds in a snapshot.
 
-ghost use Rattle.std.specs.Prelude.{◌≡◌, ◌++◌, ◌+◌, ◌≤◌, ℕ, List, length, IfOk};
+ghost use Rattle.std.specs.Prelude.{◌≡◌, ◌++◌, ◌+◌, ◌≤◌, ℕ, List, length};
+ghost use Rattle.p3l_base.specs.Memory.{IfGiven};
 ghost use Rattle.p3l_firing.specs.declared.token.Token.{Token};
 ghost use Rattle.p3l_template.specs.Shape.{Base};
 ghost use Rattle.p3l_orderly.specs.Finding.{Finds, IsFoundShape, if_orderly, line_of};
@@ -52,7 +53,7 @@ pub trait Orderly: Template {
         requires inner { length inner.now ≡ (Self.shape self.now).inner }
         requires room { (place.now.proc + length ((Self.shape self.now).procs place.now) ≤ 1048576)
             × (place.now.chan + (Self.shape self.now).chans place.now ≤ 1048576) }
-        ensures { IfOk result (λ pending. pending
+        ensures { IfGiven result (λ pending. pending
             ≡ if_orderly (finds self.now tree.now place.now (state_of snapshot.now) inner.now)) };
 
     /// That is what its part is, whatever the units make of words.
@@ -67,7 +68,7 @@ pub fn add_line(
     seat: &Ports,
     pending: &List<Token>,
 ) -> Result<(), NoMemory>
-    ensures { IfOk result (λ _. to.new
+    ensures { IfGiven result (λ _. to.new
         ≡ to.old ++ line_of (state_of snapshot.now) seat.now.input seat.now.output pending.now) }
 {
     add_bare(alloc, to, snapshot.tokens(seat.output))?;

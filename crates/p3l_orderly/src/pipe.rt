@@ -1,6 +1,7 @@
 // What is found in a pipe: what is pending in its stages and waits between them, from the last on.
 
-ghost use Rattle.std.specs.Prelude.{◌≡◌, ◌≤◌, ◌+◌, ◌++◌, ◌-◌, length, IfOk};
+ghost use Rattle.std.specs.Prelude.{◌≡◌, ◌≤◌, ◌+◌, ◌++◌, ◌-◌, length};
+ghost use Rattle.p3l_base.specs.Memory.{IfGiven};
 ghost use Rattle.p3l_orderly.specs.Finding.{bares};
 ghost use Rattle.p3l_orderly.specs.Pipe.{in_stages, pipe_finds, waiting};
 ghost use Rattle.p3l_orderly.specs.Snapshot.{state_of};
@@ -26,7 +27,7 @@ fn add_stage(
     pending: &List<Token>,
 ) -> Result<(), NoMemory>
     requires { chan + stage ≤ 1048577 }
-    ensures { IfOk result (λ _. list.new
+    ensures { IfGiven result (λ _. list.new
         ≡ list.old ++ (bares pending.now ++ waiting (state_of snapshot.now) chan stage)) }
 {
     add_bare(alloc, list, pending.as_slice())?;
@@ -44,7 +45,7 @@ fn in_pipe(
     inner: &[List<Token>],
 ) -> Result<List<Token>, NoMemory>
     requires { chan + length inner.now ≤ 1048577 }
-    ensures { IfOk result (λ list. list ≡ in_stages (state_of snapshot.now) chan inner.now) }
+    ensures { IfGiven result (λ list. list ≡ in_stages (state_of snapshot.now) chan inner.now) }
 {
     let mut list = List::new(alloc);
     for later in 0..inner.len() {

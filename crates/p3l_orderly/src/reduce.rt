@@ -1,7 +1,8 @@
 // What is found in a reduce: whether the flows of each join match, and what is still to come out of
 // the last one.
 
-ghost use Rattle.std.specs.Prelude.{◌≡◌, ◌+◌, ◌++◌, ◌≤◌, ◌<◌, ◌^◌, IfOk};
+ghost use Rattle.std.specs.Prelude.{◌≡◌, ◌+◌, ◌++◌, ◌≤◌, ◌<◌, ◌^◌};
+ghost use Rattle.p3l_base.specs.Memory.{IfGiven};
 ghost use Rattle.p3l_firing.specs.Segments.{level_of, level_up_to};
 ghost use Rattle.p3l_reduce.specs.JoinTree.{after_node, split_ok};
 ghost use Rattle.p3l_reduce.specs.Reduce.{tee};
@@ -65,7 +66,7 @@ fn from_segment(
 ) -> Result<List<Token>, NoMemory>
     requires chans { place.now.chan + q < 2 ^ 32 }
     requires segment { count ≤ q }
-    ensures { IfOk result (λ list. list
+    ensures { IfGiven result (λ list. list
         ≡ after_node (bare_folding count) (seen_of place.now count (state_of snapshot.now)) 0 q) }
 {
     let segment = q - count;
@@ -91,7 +92,7 @@ fn flow_of(
 ) -> Result<List<Token>, NoMemory>
     requires chans { place.now.chan + (count + q) < 2 ^ 32 }
     requires inside { 2 ≤ q }
-    ensures { IfOk result (λ flow. flow
+    ensures { IfGiven result (λ flow. flow
         ≡ bares ((state_of snapshot.now).tokens (tee place.now count q)) ++ bares coming.now) }
 {
     let mut flow = List::new(alloc);
@@ -118,7 +119,7 @@ fn to_come(
     requires chans { place.now.chan ≤ 1048576 }
     requires count { count ≤ 512 }
     requires places { Deep count depth q }
-    ensures { IfOk result (λ pending. pending
+    ensures { IfGiven result (λ pending. pending
         ≡ if_orderly (found_from count depth q (seen_of place.now count (state_of snapshot.now)))) }
 {
     if depth == 0 {
@@ -148,7 +149,7 @@ fn in_joins(
 ) -> Result<Option<List<Token>>, NoMemory>
     requires level { level ≤ 9 }
     requires chans { place.now.chan ≤ 1048576 }
-    ensures { let m = 2 ^ level in IfOk result (λ pending. pending
+    ensures { let m = 2 ^ level in IfGiven result (λ pending. pending
         ≡ if_orderly (found_by m level (seen_of place.now m (state_of snapshot.now)))) }
 {
     let count = power_of_two(level);

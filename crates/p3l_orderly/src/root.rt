@@ -1,6 +1,7 @@
 // Whether what was saved of a machine is a state in which a run of a linked net can be.
 
-ghost use Rattle.std.specs.Prelude.{◌≡◌, ◌↔◌, ◌+◌, ◌≤◌, length, IfOk, IsTrue};
+ghost use Rattle.std.specs.Prelude.{◌≡◌, ◌↔◌, ◌+◌, ◌≤◌, length, IsTrue};
+ghost use Rattle.p3l_base.specs.Memory.{IfGiven};
 ghost use Rattle.std.specs.Option.{option_to_list};
 ghost use Rattle.p3l_skel.specs.Counts.{HasLawfulCounts, count_of};
 ghost use Rattle.p3l_skel.specs.Lawful.{IsLawfulTree};
@@ -39,7 +40,7 @@ fn root_pending<T: Table>(
     requires tree { IsLawfulTree tree.now }
     requires counts { HasLawfulCounts tree.now counts.now.list }
     requires procs { procs tree.now counts.now.list 0 ≤ 4096 }
-    ensures { IfOk result (λ pending. pending
+    ensures { IfGiven result (λ pending. pending
         ≡ if_orderly (walk_found (T.finds table.now tree.now (count_of tree.now counts.now.list)) tree.now
         (count_of tree.now counts.now.list) nesting 0 root_base (state_of snapshot.now))) }
 {
@@ -93,7 +94,7 @@ pub fn is_orderly_by<T: Table>(
     requires counts { HasLawfulCounts tree.now counts.now.list }
     requires procs { procs tree.now counts.now.list 0 ≤ 4096 }
     requires tags { HaveFewTags shot.now }
-    ensures { IfOk result (λ yes. (leaf : Leaf) (net : Net)
+    ensures { IfGiven result (λ yes. (leaf : Leaf) (net : Net)
         → length shot.now.chans ≡ length net.chans → IsTrue yes
         ↔ IsOrderlyShot (record { tree = tree.now; leaf = leaf }) counts.now.list net
         shot.now) }
@@ -121,7 +122,7 @@ pub fn is_orderly(
     requires counts { HasLawfulCounts tree.now counts.now.list }
     requires procs { procs tree.now counts.now.list 0 ≤ 4096 }
     requires tags { HaveFewTags shot.now }
-    ensures { IfOk result (λ yes. (leaf : Leaf) (net : Net)
+    ensures { IfGiven result (λ yes. (leaf : Leaf) (net : Net)
         → length shot.now.chans ≡ length net.chans → IsTrue yes
         ↔ IsOrderlyShot (record { tree = tree.now; leaf = leaf }) counts.now.list net
         shot.now) }

@@ -1,6 +1,7 @@
 // What was saved of a machine, as a snapshot.
 
-ghost use Rattle.std.specs.Prelude.{◌≡◌, ◌≤◌, ◌↔◌, length, map, reverse, IfOk, IsTrue};
+ghost use Rattle.std.specs.Prelude.{◌≡◌, ◌≤◌, ◌↔◌, length, map, reverse, IsTrue};
+ghost use Rattle.p3l_base.specs.Memory.{IfGiven};
 ghost use Rattle.std.specs.List.{All};
 ghost use Rattle.p3l_firing.specs.Token.{most_tags};
 ghost use Rattle.p3l_skel.specs.declared.tree.Tree.{Tree};
@@ -57,7 +58,7 @@ fn tags_of(saved: &[u64]) -> Tags
 
 // The same outcome again.
 fn same(alloc: Global, outcome: &Outcome) -> Result<Outcome, NoMemory>
-    ensures { IfOk result (λ copy. copy ≡ outcome.now) }
+    ensures { IfGiven result (λ copy. copy ≡ outcome.now) }
 {
     match outcome {
         Outcome::Value(words) => Ok(Outcome::Value(copied(alloc, words)?)),
@@ -68,7 +69,7 @@ fn same(alloc: Global, outcome: &Outcome) -> Result<Outcome, NoMemory>
 // A token that was saved.
 fn token_of(alloc: Global, saved: &SavedToken) -> Result<Token, NoMemory>
     requires { HasFewTags saved.now }
-    ensures { IfOk result (λ token. token ≡ token_of saved.now) }
+    ensures { IfGiven result (λ token. token ≡ token_of saved.now) }
 {
     Ok(Token {
         tags: tags_of(saved.tags.as_slice()),
@@ -79,7 +80,7 @@ fn token_of(alloc: Global, saved: &SavedToken) -> Result<Token, NoMemory>
 // Tokens that were saved.
 fn tokens_of(alloc: Global, saved: &[SavedToken]) -> Result<List<Token>, NoMemory>
     requires { All HasFewTags saved.now }
-    ensures { IfOk result (λ tokens. tokens ≡ map token_of saved.now) }
+    ensures { IfGiven result (λ tokens. tokens ≡ map token_of saved.now) }
 {
     let mut tokens = List::new(alloc);
     for token in saved {
@@ -91,7 +92,7 @@ fn tokens_of(alloc: Global, saved: &[SavedToken]) -> Result<List<Token>, NoMemor
 // The tokens of each channel.
 fn chans_of(alloc: Global, saved: &[List<SavedToken>]) -> Result<List<List<Token>>, NoMemory>
     requires { All (All HasFewTags) saved.now }
-    ensures { IfOk result (λ chans. chans ≡ map (map token_of) saved.now) }
+    ensures { IfGiven result (λ chans. chans ≡ map (map token_of) saved.now) }
 {
     let mut chans = List::new(alloc);
     for tokens in saved {
@@ -103,7 +104,7 @@ fn chans_of(alloc: Global, saved: &[List<SavedToken>]) -> Result<List<List<Token
 // What a process kept.
 fn own_of(alloc: Global, saved: &SavedOwn) -> Result<Own, NoMemory>
     requires { All HasFewTags saved.now.held }
-    ensures { IfOk result (λ own. own ≡ own_of saved.now) }
+    ensures { IfGiven result (λ own. own ≡ own_of saved.now) }
 {
     Ok(Own {
         number: saved.number,
@@ -114,7 +115,7 @@ fn own_of(alloc: Global, saved: &SavedOwn) -> Result<Own, NoMemory>
 // What each process kept.
 fn owns_of(alloc: Global, saved: &[SavedOwn]) -> Result<List<Own>, NoMemory>
     requires { All (λ own. All HasFewTags own.held) saved.now }
-    ensures { IfOk result (λ owns. owns ≡ map own_of saved.now) }
+    ensures { IfGiven result (λ owns. owns ≡ map own_of saved.now) }
 {
     let mut owns = List::new(alloc);
     for own in saved {
@@ -126,7 +127,7 @@ fn owns_of(alloc: Global, saved: &[SavedOwn]) -> Result<List<Own>, NoMemory>
 /// The tokens of all channels, and what the processes keep, as they were saved.
 pub fn snapshot_of(alloc: Global, shot: &Shot) -> Result<Snapshot, NoMemory>
     requires { HaveFewTags shot.now }
-    ensures { IfOk result (λ snapshot. snapshot ≡ snapshot_of shot.now) }
+    ensures { IfGiven result (λ snapshot. snapshot ≡ snapshot_of shot.now) }
 {
     let chans = chans_of(alloc, shot.chans.as_slice())?;
     let owns = owns_of(alloc, shot.owns.as_slice())?;

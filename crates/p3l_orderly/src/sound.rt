@@ -1,6 +1,7 @@
 // Whether what was saved of a machine is a state in which a run of a linked net can be.
 
-ghost use Rattle.std.specs.Prelude.{◌↔◌, ◌≤◌, IfOk, IsTrue};
+ghost use Rattle.std.specs.Prelude.{◌↔◌, ◌≤◌, IsTrue};
+ghost use Rattle.p3l_base.specs.Memory.{IfGiven};
 ghost use Rattle.p3l_skel.specs.Counts.{HasLawfulCounts};
 ghost use Rattle.p3l_skel.specs.Lawful.{IsLawfulTree};
 ghost use Rattle.p3l_skel.specs.Numbers.{procs};
@@ -28,7 +29,7 @@ pub fn is_sound(
     requires tree { IsLawfulTree tree.now }
     requires counts { HasLawfulCounts tree.now counts.now.list }
     requires procs { procs tree.now counts.now.list 0 ≤ 4096 }
-    ensures { IfOk result (λ yes. (leaf : Leaf) → IsTrue yes
+    ensures { IfGiven result (λ yes. (leaf : Leaf) → IsTrue yes
         ↔ IsSound (record { tree = tree.now; leaf = leaf }) counts.now.list net.now shot.now) }
 {
     let fits = is_fitting(alloc, tree, counts, net, shot)?;

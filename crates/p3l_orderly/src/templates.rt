@@ -1,6 +1,7 @@
 // Which template each node of a tree has.
 
-ghost use Rattle.std.specs.Prelude.{◌≡◌, length, IfOk};
+ghost use Rattle.std.specs.Prelude.{◌≡◌, length};
+ghost use Rattle.p3l_base.specs.Memory.{IfGiven};
 ghost use Rattle.p3l_skel.specs.Counts.{count_of};
 ghost use Rattle.p3l_link.specs.Shape.{shape_of};
 ghost use Rattle.p3l_orderly.specs.Finding.{if_orderly};
@@ -43,7 +44,7 @@ fn pending_as<T: Orderly>(
     requires found { finds_at tree.now (count_of tree.now counts.now.list) number ≡ T.finds template.now }
     requires inner { length inner.now ≡ (shape_of tree.now counts.now.list number).inner }
     requires room { FitsAt (shape_of tree.now counts.now.list number) place.now }
-    ensures { IfOk result (λ pending. pending
+    ensures { IfGiven result (λ pending. pending
         ≡ if_orderly (finds_at tree.now (count_of tree.now counts.now.list) number tree.now place.now
         (state_of snapshot.now) inner.now)) }
 {

@@ -1,7 +1,8 @@
 // What is pending in a node and in all that is below it: one walk over the tree, in the order of the
 // linker.
 
-ghost use Rattle.std.specs.Prelude.{◌≡◌, ◌+◌, ◌≤◌, ◌<◌, ℕ, length, IfOk};
+ghost use Rattle.std.specs.Prelude.{◌≡◌, ◌+◌, ◌≤◌, ◌<◌, ℕ, length};
+ghost use Rattle.p3l_base.specs.Memory.{IfGiven};
 ghost use Rattle.p3l_skel.specs.declared.tree.Tree.{Tree};
 ghost use Rattle.p3l_skel.specs.Counts.{count_of};
 ghost use Rattle.p3l_skel.specs.Lawful.{IsLawfulTree};
@@ -45,7 +46,7 @@ pub trait Table {
             number) }
         requires inner { length inner.now ≡ (shape_of tree.now counts.now.list number).inner }
         requires room { FitsAt (shape_of tree.now counts.now.list number) place.now }
-        ensures { IfOk result (λ pending. pending
+        ensures { IfGiven result (λ pending. pending
             ≡ if_orderly (finds self.now tree.now (count_of tree.now counts.now.list) number tree.now
             place.now (state_of snapshot.now) inner.now)) };
 
@@ -78,7 +79,7 @@ pub(crate) fn find_in<T: Table>(
     requires counted { IsCounted tree.now (count_of tree.now counts.now.list) levels number }
     requires room { HasRoomAt (walk_piece tree.now (count_of tree.now counts.now.list) levels number
         place.now) place.now }
-    ensures { IfOk result (λ found. found
+    ensures { IfGiven result (λ found. found
         ≡ found_at (walk_found (T.finds table.now tree.now (count_of tree.now counts.now.list)) tree.now
         (count_of tree.now counts.now.list) levels number place.now (state_of snapshot.now))
         (walk_piece tree.now (count_of tree.now counts.now.list) levels number place.now) place.now) }

@@ -1,6 +1,7 @@
 // Calls of modules.
 
-ghost use Rattle.std.specs.Prelude.{◌≡◌, ◌++◌, OnOk, flat_map};
+ghost use Rattle.std.specs.Prelude.{◌≡◌, ◌++◌, flat_map};
+ghost use Rattle.p3l_base.specs.Memory.{OnGiven};
 ghost use Rattle.p3l_print.specs.Call.{sub_text, arg_text, out_arg_text, call_text};
 
 use crate::printer::{Print, Printer};
@@ -29,7 +30,7 @@ impl Print for OutArg {
 
 impl Printer {
     fn sub(&mut self, sub: &Sub) -> Result<(), NoMemory>
-        ensures { OnOk result (self.new ≡ self.old ++ sub_text sub.now) }
+        ensures { OnGiven result (self.new ≡ self.old ++ sub_text sub.now) }
     {
         match sub {
             Sub::Whole => self.put(b"[]"),
@@ -42,7 +43,7 @@ impl Printer {
     }
 
     fn subs(&mut self, subs: &[Sub]) -> Result<(), NoMemory>
-        ensures { OnOk result (self.new ≡ self.old ++ flat_map sub_text subs.now) }
+        ensures { OnGiven result (self.new ≡ self.old ++ flat_map sub_text subs.now) }
     {
         for sub in subs {
             self.sub(sub)?;
@@ -51,7 +52,7 @@ impl Printer {
     }
 
     pub fn call(&mut self, call: &Call) -> Result<(), NoMemory>
-        ensures { OnOk result (self.new ≡ self.old ++ call_text call.now) }
+        ensures { OnGiven result (self.new ≡ self.old ++ call_text call.now) }
     {
         self.name(&call.at.name)?;
         self.interface(call.ins.as_slice(), call.outs.as_slice())

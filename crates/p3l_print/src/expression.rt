@@ -1,6 +1,7 @@
 // Expressions, with parentheses exactly where the grouping needs them.
 
-ghost use Rattle.std.specs.Prelude.{◌≡◌, ◌++◌, OnOk};
+ghost use Rattle.std.specs.Prelude.{◌≡◌, ◌++◌};
+ghost use Rattle.p3l_base.specs.Memory.{OnGiven};
 ghost use Rattle.p3l_ast.specs.Tree.{phrase, phrases};
 ghost use Rattle.p3l_print.specs.Expression.{tightness, infix_text, operand_text, expression_text, index_text, target_text};
 
@@ -26,7 +27,7 @@ impl Printer {
     #[cycle(expression)]
     #[tactic(auto, using(crate::proofs::Lines::expressions))]
     pub fn expression(&mut self, expr: &Expr) -> Result<(), NoMemory>
-        ensures { OnOk result (self.new ≡ self.old ++ expression_text (phrase expr.now)) }
+        ensures { OnGiven result (self.new ≡ self.old ++ expression_text (phrase expr.now)) }
     {
         match expr {
             Expr::Number(value) => self.decimal(*value),
@@ -47,7 +48,7 @@ impl Printer {
     /// An operator between its operands, with a space on each side.
     #[tactic(auto, unfolding(crate::specs::Expression::infix_text))]
     fn infix(&mut self, operator: BinOp) -> Result<(), NoMemory>
-        ensures { OnOk result (self.new ≡ self.old ++ infix_text operator) }
+        ensures { OnGiven result (self.new ≡ self.old ++ infix_text operator) }
     {
         self.put(b" ")?;
         self.put(operator.sign().as_bytes())?;
@@ -58,7 +59,7 @@ impl Printer {
     #[cycle(expression)]
     #[tactic(auto, unfolding(crate::specs::Expression::operand_text))]
     fn operand(&mut self, least: u8, operand: &Expr) -> Result<(), NoMemory>
-        ensures { OnOk result (self.new ≡ self.old
+        ensures { OnGiven result (self.new ≡ self.old
             ++ operand_text least (tightness (phrase operand.now))
             (expression_text (phrase operand.now))) }
     {
@@ -72,7 +73,7 @@ impl Printer {
 
     #[cycle(expression)]
     pub fn target(&mut self, place: &Target) -> Result<(), NoMemory>
-        ensures { OnOk result (self.new
+        ensures { OnGiven result (self.new
             ≡ self.old ++ target_text place.now.at (phrases place.now.index.items)) }
     {
         self.name(&place.at.name)?;
@@ -81,7 +82,7 @@ impl Printer {
 
     #[cycle(expression)]
     fn index(&mut self, index: &Vec<Expr>) -> Result<(), NoMemory>
-        ensures { OnOk result (self.new ≡ self.old ++ index_text (phrases index.now.items)) }
+        ensures { OnGiven result (self.new ≡ self.old ++ index_text (phrases index.now.items)) }
     {
         for expr in index {
             self.put(b"[")?;

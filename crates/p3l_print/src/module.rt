@@ -1,6 +1,7 @@
 // Modules.
 
-ghost use Rattle.std.specs.Prelude.{◌≡◌, ◌++◌, OnOk, flat_map};
+ghost use Rattle.std.specs.Prelude.{◌≡◌, ◌++◌, flat_map};
+ghost use Rattle.p3l_base.specs.Memory.{OnGiven};
 ghost use Rattle.p3l_ast.specs.Tree.{statements, inside_tree, module_tree, turning};
 ghost use Rattle.p3l_ast.specs.Tree.{body as body_tree};
 ghost use Rattle.p3l_print.specs.Module.{clause_text, minus_text, rescue_text, clauses_text, signature_text, local_line, call_line, inside_text, module_text};
@@ -12,7 +13,7 @@ use p3l_grammar::mark::mark_of_kind;
 
 impl Printer {
     pub fn module(&mut self, tree: &Module) -> Result<(), NoMemory>
-        ensures { OnOk result (self.new ≡ self.old ++ module_text (module_tree tree.now)) }
+        ensures { OnGiven result (self.new ≡ self.old ++ module_text (module_tree tree.now)) }
     {
         self.head(tree)?;
         self.inside(&tree.inside)?;
@@ -23,7 +24,7 @@ impl Printer {
 
     /// The first line.
     fn head(&mut self, tree: &Module) -> Result<(), NoMemory>
-        ensures { OnOk result (self.new ≡ self.old ++ signature_text (module_tree tree.now)) }
+        ensures { OnGiven result (self.new ≡ self.old ++ signature_text (module_tree tree.now)) }
     {
         self.put(mark_of_kind(tree.kind).text().as_bytes())?;
         self.put(b" ")?;
@@ -35,7 +36,7 @@ impl Printer {
 
     #[tactic(auto, unfolding(crate::specs::Module::clauses_text))]
     fn clauses(&mut self, clauses: &Clauses) -> Result<(), NoMemory>
-        ensures { OnOk result (self.new ≡ self.old ++ clauses_text clauses.now) }
+        ensures { OnGiven result (self.new ≡ self.old ++ clauses_text clauses.now) }
     {
         self.clause(b"budget", &clauses.budget)?;
         self.rescue(&clauses.rescue)?;
@@ -46,7 +47,7 @@ impl Printer {
 
     /// A clause after a space, if it is given.
     fn clause(&mut self, word: &[u8], clause: &Option<Num>) -> Result<(), NoMemory>
-        ensures { OnOk result (self.new ≡ self.old ++ clause_text word.now clause.now) }
+        ensures { OnGiven result (self.new ≡ self.old ++ clause_text word.now clause.now) }
     {
         let Some(num) = clause else {
             return Ok(());
@@ -59,7 +60,7 @@ impl Printer {
 
     /// The rescue after a space, if it is given.
     fn rescue(&mut self, clause: &Option<Rescue>) -> Result<(), NoMemory>
-        ensures { OnOk result (self.new ≡ self.old ++ rescue_text clause.now) }
+        ensures { OnGiven result (self.new ≡ self.old ++ rescue_text clause.now) }
     {
         let Some(rescue) = clause else {
             return Ok(());
@@ -71,13 +72,13 @@ impl Printer {
 
     /// A minus, where there is one.
     fn minus(&mut self, is_there: bool) -> Result<(), NoMemory>
-        ensures { OnOk result (self.new ≡ self.old ++ minus_text is_there) }
+        ensures { OnGiven result (self.new ≡ self.old ++ minus_text is_there) }
     {
         if is_there { self.put(b"-") } else { Ok(()) }
     }
 
     fn inside(&mut self, inside: &Inside) -> Result<(), NoMemory>
-        ensures { OnOk result (self.new ≡ self.old ++ inside_text (inside_tree inside.now)) }
+        ensures { OnGiven result (self.new ≡ self.old ++ inside_text (inside_tree inside.now)) }
     {
         match inside {
             Inside::Body(body) => self.body(body),
@@ -87,7 +88,7 @@ impl Printer {
     }
 
     fn body(&mut self, body: &Block) -> Result<(), NoMemory>
-        ensures { OnOk result (self.new
+        ensures { OnGiven result (self.new
             ≡ self.old ++ inside_text (body_tree body.now.locals (statements body.now.stmts))) }
     {
         self.put(b"${\n")?;
@@ -97,7 +98,7 @@ impl Printer {
     }
 
     fn locals(&mut self, locals: &[Port]) -> Result<(), NoMemory>
-        ensures { OnOk result (self.new ≡ self.old ++ flat_map local_line locals.now) }
+        ensures { OnGiven result (self.new ≡ self.old ++ flat_map local_line locals.now) }
     {
         for port in locals {
             self.put(b"  ")?;
@@ -108,7 +109,7 @@ impl Printer {
     }
 
     fn calls(&mut self, calls: &[Call]) -> Result<(), NoMemory>
-        ensures { OnOk result (self.new ≡ self.old ++ flat_map call_line calls.now) }
+        ensures { OnGiven result (self.new ≡ self.old ++ flat_map call_line calls.now) }
     {
         for call in calls {
             self.call_line(call)?;
@@ -117,7 +118,7 @@ impl Printer {
     }
 
     fn call_line(&mut self, call: &Call) -> Result<(), NoMemory>
-        ensures { OnOk result (self.new ≡ self.old ++ call_line call.now) }
+        ensures { OnGiven result (self.new ≡ self.old ++ call_line call.now) }
     {
         self.put(b"  ")?;
         self.call(call)?;
@@ -126,7 +127,7 @@ impl Printer {
 
     /// The body's call and the condition's.
     fn turning(&mut self, body: &Call, condition: &Call) -> Result<(), NoMemory>
-        ensures { OnOk result (self.new
+        ensures { OnGiven result (self.new
             ≡ self.old ++ inside_text (turning body.now condition.now)) }
     {
         self.call_line(body)?;

@@ -1,6 +1,7 @@
 // Ports, and the numbers of sizes and clauses.
 
-ghost use Rattle.std.specs.Prelude.{◌≡◌, ◌++◌, OnOk, flat_map};
+ghost use Rattle.std.specs.Prelude.{◌≡◌, ◌++◌, flat_map};
+ghost use Rattle.p3l_base.specs.Memory.{OnGiven};
 ghost use Rattle.p3l_print.specs.Port.{num_text, size_text, port_text};
 
 use crate::printer::{Print, Printer};
@@ -17,13 +18,13 @@ impl Print for Port {
 
 impl Printer {
     pub fn name(&mut self, name: &Name) -> Result<(), NoMemory>
-        ensures { OnOk result (self.new ≡ self.old ++ name.now) }
+        ensures { OnGiven result (self.new ≡ self.old ++ name.now) }
     {
         self.put(name.as_str().as_bytes())
     }
 
     pub fn port(&mut self, port: &Port) -> Result<(), NoMemory>
-        ensures { OnOk result (self.new ≡ self.old ++ port_text port.now) }
+        ensures { OnGiven result (self.new ≡ self.old ++ port_text port.now) }
     {
         self.put(b"int ")?;
         self.name(&port.at.name)?;
@@ -31,7 +32,7 @@ impl Printer {
     }
 
     pub fn num(&mut self, num: &Num) -> Result<(), NoMemory>
-        ensures { OnOk result (self.new ≡ self.old ++ num_text num.now) }
+        ensures { OnGiven result (self.new ≡ self.old ++ num_text num.now) }
     {
         match num {
             Num::Digits(value, _) => self.decimal(*value),
@@ -40,7 +41,7 @@ impl Printer {
     }
 
     fn sizes(&mut self, sizes: &[Num]) -> Result<(), NoMemory>
-        ensures { OnOk result (self.new ≡ self.old ++ flat_map size_text sizes.now) }
+        ensures { OnGiven result (self.new ≡ self.old ++ flat_map size_text sizes.now) }
     {
         for size in sizes {
             self.put(b"[")?;

@@ -1,6 +1,7 @@
 // A text that grows at its end, and lists in it.
 
-ghost use Rattle.std.specs.Prelude.{◌≡◌, ◌++◌, [], OnOk};
+ghost use Rattle.std.specs.Prelude.{◌≡◌, ◌++◌, []};
+ghost use Rattle.p3l_base.specs.Memory.{OnGiven};
 ghost use Rattle.std.specs.Fmt.{signed_decimal};
 ghost use Rattle.std.specs.List.{join_by};
 ghost use Rattle.p3l_print.specs.Printer.{interface_text};
@@ -32,7 +33,7 @@ pub trait Print {
 
     /// Puts the value's text after the printer's.
     fn print_on(&self, printer: &mut Printer) -> Result<(), NoMemory>
-        ensures { OnOk result (printer.new ≡ printer.old ++ text self.now) };
+        ensures { OnGiven result (printer.new ≡ printer.old ++ text self.now) };
 }
 
 impl Printer {
@@ -56,7 +57,7 @@ impl Printer {
 
     /// Puts bytes after the text.
     pub fn put(&mut self, bytes: &[u8]) -> Result<(), NoMemory>
-        ensures { OnOk result (self.new ≡ self.old ++ bytes.now) }
+        ensures { OnGiven result (self.new ≡ self.old ++ bytes.now) }
     {
         self.text.extend_from_slice(bytes)?;
         Ok(())
@@ -64,7 +65,7 @@ impl Printer {
 
     /// Puts a number in decimal after the text.
     pub fn decimal(&mut self, number: i64) -> Result<(), NoMemory>
-        ensures { OnOk result (self.new ≡ self.old ++ signed_decimal number) }
+        ensures { OnGiven result (self.new ≡ self.old ++ signed_decimal number) }
     {
         let mut buffer = itoa::Buffer::new();
         self.put(buffer.format(number).as_bytes())
@@ -72,7 +73,7 @@ impl Printer {
 
     /// Puts the texts of items after the text, with a separator between each two.
     pub fn separated<T: Print>(&mut self, separator: &[u8], items: &[T]) -> Result<(), NoMemory>
-        ensures { OnOk result (self.new ≡ self.old ++ join_by T.text separator.now items.now) }
+        ensures { OnGiven result (self.new ≡ self.old ++ join_by T.text separator.now items.now) }
     {
         let Some((first, rest)) = items.split_first() else {
             return Ok(());
@@ -88,7 +89,7 @@ impl Printer {
     /// Puts what goes in and what comes out after the text.
     #[tactic(auto, unfolding(crate::specs::Printer::interface_text))]
     pub fn interface<I: Print, O: Print>(&mut self, ins: &[I], outs: &[O]) -> Result<(), NoMemory>
-        ensures { OnOk result (self.new
+        ensures { OnGiven result (self.new
             ≡ self.old ++ interface_text I.text ins.now O.text outs.now) }
     {
         self.put(b" in(")?;

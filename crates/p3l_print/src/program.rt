@@ -1,6 +1,7 @@
 // Programs.
 
 ghost use Rattle.std.specs.Prelude.{◌≡◌, ℕ, List, IfOk};
+ghost use Rattle.p3l_base.specs.Memory.{IfGiven};
 ghost use Rattle.p3l_ast.specs.Tree.{entry_tree, program_tree};
 ghost use Rattle.p3l_print.specs.Program.{entry_text, canonical, IsTextOf};
 
@@ -30,7 +31,7 @@ impl Print for Entry {
 /// grouping needs them, and one way to separate all other tokens.
 #[tactic(auto, using(crate::proofs::Entries::entries_text))]
 pub fn print(alloc: Global, program: &Program) -> Result<List<u8>, NoMemory>
-    ensures canonical { IfOk result (λ text. text ≡ canonical (program_tree program.now)) }
+    ensures canonical { IfGiven result (λ text. text ≡ canonical (program_tree program.now)) }
 
     // Where some text spells the program, the canonical text spells it too.
     ensures spells { IfOk result (λ text. (other : List ℕ)

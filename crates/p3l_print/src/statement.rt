@@ -1,6 +1,7 @@
 // Statements, each on lines of its own after a margin.
 
-ghost use Rattle.std.specs.Prelude.{◌≡◌, ◌++◌, OnOk, IfOk, codes};
+ghost use Rattle.std.specs.Prelude.{◌≡◌, ◌++◌, codes};
+ghost use Rattle.p3l_base.specs.Memory.{IfGiven, OnGiven};
 ghost use Rattle.p3l_ast.specs.Tree.{phrase, phrases, one, statements};
 ghost use Rattle.p3l_print.specs.Statement.{assignment_text, deeper, block_text, opening_text, for_opening_text, statements_text};
 
@@ -13,7 +14,7 @@ impl Printer {
     #[cycle(statement)]
     #[tactic(auto, using(crate::proofs::Lines::lines))]
     pub fn statements(&mut self, margin: &[u8], stmts: &[Stmt]) -> Result<(), NoMemory>
-        ensures { OnOk result (self.new
+        ensures { OnGiven result (self.new
             ≡ self.old ++ statements_text margin.now (statements stmts.now)) }
     {
         for stmt in stmts {
@@ -25,7 +26,7 @@ impl Printer {
     #[cycle(statement)]
     #[tactic(auto, using(crate::proofs::Lines::statement_lines))]
     fn statement(&mut self, margin: &[u8], stmt: &Stmt) -> Result<(), NoMemory>
-        ensures { OnOk result (self.new ≡ self.old ++ statements_text margin.now (one stmt.now)) }
+        ensures { OnGiven result (self.new ≡ self.old ++ statements_text margin.now (one stmt.now)) }
     {
         match stmt {
             Stmt::Assign(place, value) => self.assignment_line(margin, place, value),
@@ -57,7 +58,7 @@ impl Printer {
         place: &Target,
         value: &Expr,
     ) -> Result<(), NoMemory>
-        ensures { OnOk result (self.new ≡ self.old ++ (margin.now
+        ensures { OnGiven result (self.new ≡ self.old ++ (margin.now
             ++ assignment_text place.now.at (phrases place.now.index.items) (phrase value.now)
             ++ codes ";\n")) }
     {
@@ -68,7 +69,7 @@ impl Printer {
 
     #[tactic(auto, unfolding(crate::specs::Statement::assignment_text))]
     fn assignment(&mut self, place: &Target, value: &Expr) -> Result<(), NoMemory>
-        ensures { OnOk result (self.new
+        ensures { OnGiven result (self.new
             ≡ self.old
             ++ assignment_text place.now.at (phrases place.now.index.items) (phrase value.now)) }
     {
@@ -80,7 +81,7 @@ impl Printer {
     /// What stands before the block of an `if` or a `while`.
     #[tactic(auto, unfolding(crate::specs::Statement::opening_text))]
     fn opening(&mut self, margin: &[u8], word: &[u8], condition: &Expr) -> Result<(), NoMemory>
-        ensures { OnOk result (self.new
+        ensures { OnGiven result (self.new
             ≡ self.old ++ opening_text margin.now word.now (phrase condition.now)) }
     {
         self.put(margin)?;
@@ -101,7 +102,7 @@ impl Printer {
         next: &Target,
         step: &Expr,
     ) -> Result<(), NoMemory>
-        ensures { OnOk result (self.new ≡ self.old ++ for_opening_text margin.now
+        ensures { OnGiven result (self.new ≡ self.old ++ for_opening_text margin.now
             (assignment_text first.now.at (phrases first.now.index.items) (phrase start.now))
             (phrase condition.now)
             (assignment_text next.now.at (phrases next.now.index.items) (phrase step.now))) }
@@ -120,7 +121,7 @@ impl Printer {
     #[cycle(statement)]
     #[tactic(auto, unfolding(crate::specs::Statement::block_text))]
     fn block(&mut self, margin: &[u8], stmts: &[Stmt]) -> Result<(), NoMemory>
-        ensures { OnOk result (self.new
+        ensures { OnGiven result (self.new
             ≡ self.old
             ++ block_text margin.now (statements_text (deeper margin.now) (statements stmts.now))) }
     {
@@ -134,7 +135,7 @@ impl Printer {
     /// The last block of a statement, which ends its line.
     #[cycle(statement)]
     fn last_block(&mut self, margin: &[u8], stmts: &[Stmt]) -> Result<(), NoMemory>
-        ensures { OnOk result (self.new ≡ self.old
+        ensures { OnGiven result (self.new ≡ self.old
             ++ (block_text margin.now (statements_text (deeper margin.now) (statements stmts.now))
             ++ codes "\n")) }
     {
@@ -144,7 +145,7 @@ impl Printer {
 
     /// The margin of the lines in a block.
     fn deeper(&self, margin: &[u8]) -> Result<Vec<u8>, NoMemory>
-        ensures { IfOk result (λ inner. inner.items ≡ deeper margin.now) }
+        ensures { IfGiven result (λ inner. inner.items ≡ deeper margin.now) }
     {
         let mut inner = Vec::from_slice(self.alloc, b"  ")?;
         inner.extend_from_slice(margin)?;

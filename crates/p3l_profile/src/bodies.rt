@@ -1,6 +1,7 @@
 // The bodies of a tree's `seq` nodes, run and counted.
 
 ghost use Rattle.std.specs.Prelude.{◌≡◌, ◌<◌, length, IfOk, Some};
+ghost use Rattle.p3l_base.specs.Memory.{IfGiven};
 ghost use Rattle.p3l_skel.specs.declared.tree.Form.TheVariants as forms;
 ghost use Rattle.p3l_skel.specs.Tree.{node_at};
 ghost use Rattle.p3l_units.specs.Table.{IsTable, code_of, leaf};
@@ -50,7 +51,7 @@ impl<'t> Bodies<'t> {
         requires there { node < length self.now.tree.nodes }
         requires form { (node_at self.now.tree node).form ≡ forms.Seq }
         requires fits { length words.now ≡ (node_at self.now.tree node).ins }
-        ensures outcome { IfOk result (λ counted. counted.outcome
+        ensures outcome { IfGiven result (λ counted. counted.outcome
             ≡ leaf self.now (node_at self.now.tree node).«module» words.now) }
         ensures steps { IfOk result (λ counted. counted.steps
             ≡ steps_at self.now (node_at self.now.tree node).«module» words.now) }

@@ -1,6 +1,7 @@
 // The greatest numbers of each module so far.
 
-ghost use Rattle.std.specs.Prelude.{◌≡◌, ◌<◌, length, IfOk, slice_index};
+ghost use Rattle.std.specs.Prelude.{◌≡◌, ◌<◌, length, slice_index};
+ghost use Rattle.p3l_base.specs.Memory.{IfGiven};
 ghost use Rattle.p3l_profile.specs.Greatest.{none_noted, noted};
 ghost use Rattle.p3l_profile.specs.Notes.{ran, turn};
 
@@ -27,7 +28,7 @@ impl Model for Highs {
 impl Highs {
     /// Those of `modules` modules of which nothing was run: no work, and one turn.
     pub fn new(alloc: Global, modules: usize) -> Result<Highs, NoMemory>
-        ensures { IfOk result (λ highs. highs ≡ none_noted modules) }
+        ensures { IfGiven result (λ highs. highs ≡ none_noted modules) }
     {
         let work = vec![in alloc; 0; modules]?;
         let took = vec![in alloc; 1; modules]?;

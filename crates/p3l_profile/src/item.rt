@@ -12,6 +12,7 @@ ghost use Rattle.p3l_profile.specs.Greatest.{HasRoom, noted_all};
 ghost use Rattle.p3l_profile.specs.Notes.{fold_notes, map_notes, notes, notes_on, stage_notes, turn_notes};
 ghost use Rattle.std.specs.List.{All};
 ghost use Rattle.std.specs.Prelude.{◌≡◌, ◌<◌, ◌≤◌, ◌*◌, length, map, slice_index, IfOk, OnOk};
+ghost use Rattle.p3l_base.specs.Memory.{IfGiven};
 
 use crate::bodies::Bodies;
 use crate::highs::Highs;
@@ -37,7 +38,7 @@ pub fn item_outcome(
     requires room { HasRoom tree.now highs.old }
     requires there { node < length tree.now.nodes }
     requires fits { HasFittingLength tree.now node (length words.now) }
-    ensures item { IfOk result (λ outcome. outcome
+    ensures item { IfGiven result (λ outcome. outcome
         ≡ item tree.now (leaf bodies.now) node words.now) }
     ensures noted { OnOk result (highs.new
         ≡ noted_all highs.old (notes tree.now bodies.now node words.now)) }
@@ -83,7 +84,7 @@ fn body_outcome(
     requires node { node.now ≡ node_at tree.now number }
     requires form { node.now.form ≡ Form.Seq }
     requires fits { length words.now ≡ node.now.ins }
-    ensures item { IfOk result (λ outcome. outcome
+    ensures item { IfGiven result (λ outcome. outcome
         ≡ item tree.now (leaf bodies.now) number words.now) }
     ensures noted { OnOk result (highs.new
         ≡ noted_all highs.old (notes tree.now bodies.now number words.now)) }
@@ -108,7 +109,7 @@ fn next_outcome(
     requires room { HasRoom tree.now highs.old }
     requires there { node < length tree.now.nodes }
     requires fits { HasLength (node_at tree.now node).ins outcome }
-    ensures item { IfOk result (λ next. next
+    ensures item { IfGiven result (λ next. next
         ≡ on_value (item tree.now (leaf bodies.now) node) outcome) }
     ensures noted { OnOk result (highs.new
         ≡ noted_all highs.old (notes_on (notes tree.now bodies.now node) outcome)) }
@@ -135,7 +136,7 @@ fn stages_outcome(
     requires chain { IsChain tree.now node.now.ins node.now.outs node.now.parts }
     requires preorder { All (λ part. slice_index node.now.parts 0 ≤ part) node.now.parts }
     requires fits { length words.now ≡ node.now.ins }
-    ensures item { IfOk result (λ outcome. outcome
+    ensures item { IfGiven result (λ outcome. outcome
         ≡ in_order (item tree.now (leaf bodies.now)) node.now.parts (Value words.now)) }
     ensures noted { OnOk result (highs.new
         ≡ noted_all highs.old (stage_notes (item tree.now (leaf bodies.now))
@@ -165,7 +166,7 @@ fn map_outcome(
     requires there { part < length tree.now.nodes }
     requires cuts { IsLawfulCut cut.now (length words.now) (token_size cut.now.outs)
         (node_at tree.now part).ins (node_at tree.now part).outs }
-    ensures item { IfOk result (λ outcome. outcome
+    ensures item { IfGiven result (λ outcome. outcome
         ≡ mapped cut.now (item tree.now (leaf bodies.now) part) words.now) }
     ensures noted { OnOk result (highs.new
         ≡ noted_all highs.old (map_notes cut.now (item tree.now (leaf bodies.now) part)
@@ -201,7 +202,7 @@ fn fold_outcome(
     requires some { 1 ≤ length elements.now }
     requires sized { All (λ element. length element
         ≡ (node_at tree.now operator).outs) elements.now }
-    ensures folded { IfOk result (λ outcome. outcome
+    ensures folded { IfGiven result (λ outcome. outcome
         ≡ tree_fold (item tree.now (leaf bodies.now) operator)
         (map (λ element. Value element) elements.now)) }
     ensures sized { IfOk result (λ outcome. HasLength (node_at tree.now operator).outs outcome) }
@@ -241,7 +242,7 @@ fn loop_outcome(
         (slice_index node.now.parts 1) }
     requires preorder { slice_index node.now.parts 0 ≤ slice_index node.now.parts 1 }
     requires fits { length words.now ≡ node.now.ins }
-    ensures item { IfOk result (λ outcome. outcome
+    ensures item { IfGiven result (λ outcome. outcome
         ≡ turned (item tree.now (leaf bodies.now) (slice_index node.now.parts 0))
         (item tree.now (leaf bodies.now) (slice_index node.now.parts 1))
         (turns_spent node.now.«module») turns words.now) }

@@ -1,6 +1,7 @@
 // Profiles: what is noted of a tree, item by item.
 
 ghost use Rattle.std.specs.Prelude.{◌≡◌, length, IfOk, OnOk};
+ghost use Rattle.p3l_base.specs.Memory.{IfGiven};
 ghost use Rattle.std.specs.List.{All};
 ghost use Rattle.p3l_skel.specs.Item.{item};
 ghost use Rattle.p3l_skel.specs.Lawful.{IsLawfulTree};
@@ -41,7 +42,7 @@ impl Profile {
     /// The profile of a tree before its first item.
     pub fn new(alloc: Global, tree: &Tree) -> Result<Profile, NoMemory>
         requires { IsLawfulTree tree.now }
-        ensures none { IfOk result (λ profile. profile.greatest
+        ensures none { IfGiven result (λ profile. profile.greatest
             ≡ none_noted (length tree.now.modules)) }
         ensures of { IfOk result (IsProfileOf tree.now) }
     {
@@ -63,7 +64,7 @@ impl Profile {
         requires of { IsProfileOf tree.now self.old }
         requires codes { All (HasCode (record { tree = tree.now; codes = codes.now })) tree.now.nodes }
         requires fits { length words.now ≡ (node_at tree.now 0).ins }
-        ensures item { IfOk result (λ outcome. outcome
+        ensures item { IfGiven result (λ outcome. outcome
             ≡ item tree.now (leaf (record { tree = tree.now; codes = codes.now })) 0 words.now) }
         ensures noted { OnOk result (self.new.greatest
             ≡ noted_all self.old.greatest
@@ -76,7 +77,7 @@ impl Profile {
 
     /// The cost file of what was noted.
     pub fn text(&self, alloc: Global, tree: &Tree) -> Result<List<u8>, NoMemory>
-        ensures { IfOk result (λ text. text ≡ text_of tree.now self.now.greatest) }
+        ensures { IfGiven result (λ text. text ≡ text_of tree.now self.now.greatest) }
     {
         cost_text(alloc, tree, &self.highs)
     }
@@ -85,7 +86,7 @@ impl Profile {
 // For each module, how many `seq` modules are before it.
 fn code_places(alloc: Global, tree: &Tree) -> Result<List<u32>, NoMemory>
     requires { IsLawfulTree tree.now }
-    ensures { IfOk result (HasPlaces tree.now.modules) }
+    ensures { IfGiven result (HasPlaces tree.now.modules) }
 {
     let mut places = List::new(alloc);
     let mut before = 0;

@@ -1,6 +1,7 @@
 // The text of a cost file.
 
-ghost use Rattle.std.specs.Prelude.{◌≡◌, ◌++◌, ◌&&◌, IfOk, OnOk, slice_index, string_bytes};
+ghost use Rattle.std.specs.Prelude.{◌≡◌, ◌++◌, ◌&&◌, slice_index, string_bytes};
+ghost use Rattle.p3l_base.specs.Memory.{IfGiven, OnGiven};
 ghost use Rattle.p3l_profile.specs.Text.{entries, entry_if, is_used, number_of, speaks_of, text_of, turns_table};
 
 use crate::highs::Highs;
@@ -33,7 +34,7 @@ fn put_entry(
     info: &ModuleInfo,
     number: u64,
 ) -> Result<(), NoMemory>
-    ensures { OnOk result (string_bytes text.new
+    ensures { OnGiven result (string_bytes text.new
         ≡ string_bytes text.old ++ entry_if is_there info.now.name number) }
 {
     if is_there {
@@ -75,7 +76,7 @@ fn put_entries(
     tree: &Tree,
     highs: &Highs,
 ) -> Result<(), NoMemory>
-    ensures { OnOk result (string_bytes text.new
+    ensures { OnGiven result (string_bytes text.new
         ≡ string_bytes text.old ++ entries table
         (number_of table (slice_index highs.now.work) (slice_index highs.now.took))
         tree.now.nodes 0 tree.now.modules) }
@@ -90,7 +91,7 @@ fn put_entries(
 
 /// Puts the table of turns with these entries after a text, if there is one.
 fn put_turns(text: &mut String, turns: &str) -> Result<(), NoMemory>
-    ensures { OnOk result (string_bytes text.new ≡ string_bytes text.old ++ turns_table turns.now) }
+    ensures { OnGiven result (string_bytes text.new ≡ string_bytes text.old ++ turns_table turns.now) }
 {
     if turns.is_empty() {
         return Ok(());
@@ -102,7 +103,7 @@ fn put_turns(text: &mut String, turns: &str) -> Result<(), NoMemory>
 
 /// The cost file of what was noted of a tree.
 pub(crate) fn cost_text(alloc: Global, tree: &Tree, highs: &Highs) -> Result<List<u8>, NoMemory>
-    ensures { IfOk result (λ text. text ≡ text_of tree.now highs.now) }
+    ensures { IfGiven result (λ text. text ≡ text_of tree.now highs.now) }
 {
     let mut turns = String::new(alloc);
     put_entries(alloc, &mut turns, Table::Turns, tree, highs)?;

@@ -1,6 +1,7 @@
 // The command `check`: whether a program keeps all rules, and how large it is.
 
-ghost use Rattle.std.specs.Prelude.{◌≡◌, length, IfOk, string_bytes};
+ghost use Rattle.std.specs.Prelude.{◌≡◌, length, string_bytes};
+ghost use Rattle.p3l_base.specs.Memory.{IfGiven};
 ghost use Rattle.p3l_program.specs.Check.{IsCounted, ok_line};
 ghost use Rattle.p3l_program.specs.Text.{IsTextExpected};
 ghost use Rattle.p3l_program.specs.Stage.{program_stages};
@@ -16,7 +17,7 @@ use std::alloc::Global;
 
 /// The line of a program that keeps all rules.
 fn ok_line(alloc: Global, tree: &Tree) -> Result<String, NoMemory>
-    ensures { IfOk result (λ line. string_bytes line
+    ensures { IfGiven result (λ line. string_bytes line
         ≡ ok_line (length tree.now.modules) (length tree.now.nodes)) }
 {
     let modules = tree.modules.len();

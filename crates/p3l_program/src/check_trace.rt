@@ -1,6 +1,7 @@
 // The command `check-trace`: a trace of a file, checked against the run of a program on the input.
 
 ghost use Rattle.std.specs.Prelude.{◌≡◌, ◌<◌, ◌≤◌, ◌*◌, ◌^◌, IfOk, IfErr, OnOk, string_bytes};
+ghost use Rattle.p3l_base.specs.Memory.{IfGiven};
 ghost use Rattle.p3l_run.specs.Feed.{most_of_input};
 ghost use Rattle.p3l_run.specs.Network.{IsSound, network};
 ghost use Rattle.p3l_skel.specs.Tree.{node_at};
@@ -52,7 +53,7 @@ fn load_trace<F: Files>(alloc: Global, name: Name, files: &mut F) -> Result<Trac
 
 /// The line of a trace that is that of a run.
 fn holds_line(alloc: Global, traced: &Traced) -> Result<String, NoMemory>
-    ensures { IfOk result (λ line. string_bytes line ≡ holds_line traced.now) }
+    ensures { IfGiven result (λ line. string_bytes line ≡ holds_line traced.now) }
 {
     let fired = traced.fired;
     let idle = traced.idle;

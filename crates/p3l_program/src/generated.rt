@@ -1,6 +1,7 @@
 // The command `gen`: a program that is generated with its costs and its items, run in memory.
 
 ghost use Rattle.std.specs.Prelude.{◌≡◌, ◌≢◌, ◌++◌, ◌≤◌, ◌<◌, ◌^◌, ◌⊎◌, length, IfOk, IfErr, string_bytes};
+ghost use Rattle.p3l_base.specs.Memory.{IfGiven};
 ghost use Rattle.p3l_check.specs.Resolving.{ResolvedTree};
 ghost use Rattle.p3l_opts.specs.Command.{IsMade};
 ghost use Rattle.p3l_report.specs.declared.verdict.Verdict.TheVariants as verdict;
@@ -38,7 +39,7 @@ const CAPACITY: u32 = 4;
 
 /// The name that begins with one text and ends with another.
 fn name_with(alloc: Global, prefix: &Name, suffix: &str) -> Result<Name, NoMemory>
-    ensures { IfOk result (λ name. name ≡ prefix.now ++ suffix.now) }
+    ensures { IfGiven result (λ name. name ≡ prefix.now ++ suffix.now) }
 {
     let mut text = String::from_str(alloc, prefix.as_str())?;
     text.push_str(suffix)?;
@@ -181,7 +182,7 @@ fn run_text(alloc: Global, loaded: Allotted, request: Sched, text: List<u8>) -> 
 
 /// The numbers of a run, as the line has them.
 fn numbers_text(alloc: Global, numbers: &RunStats) -> Result<String, NoMemory>
-    ensures { IfOk result (λ text. string_bytes text ≡ numbers_text numbers.now) }
+    ensures { IfGiven result (λ text. string_bytes text ≡ numbers_text numbers.now) }
 {
     let items = numbers.items;
     let fired = numbers.fired;
@@ -198,7 +199,7 @@ fn summary_line(
     service: u128,
     used: u32,
 ) -> Result<String, NoMemory>
-    ensures { IfOk result (λ line. string_bytes line
+    ensures { IfGiven result (λ line. string_bytes line
         ≡ summary_line number ran.now.stats service used ran.now.sum) }
 {
     let text = numbers_text(alloc, &ran.stats)?;

@@ -1,6 +1,7 @@
 // A program that is loaded to be run, with the bytes of its image.
 
 ghost use Rattle.std.specs.Prelude.{◌≡◌, ◌≤◌, IfOk, IfErr, OnOk};
+ghost use Rattle.p3l_base.specs.Memory.{IfGiven};
 ghost use Rattle.p3l_load.specs.Compiled.{AreCodesOf, IsImageText, image_of};
 ghost use Rattle.p3l_resume.specs.Ranges.{IsFew};
 ghost use Rattle.p3l_skel.specs.Counts.{HasLawfulCounts};
@@ -46,7 +47,7 @@ fn write_image(
     requires procs { procs tree counts.list 0 ≤ 4096 }
     requires some { 1 ≤ capacity }
     requires few { capacity ≤ 1024 }
-    ensures image { IfOk result (λ made. made.0
+    ensures image { IfGiven result (λ made. made.0
         ≡ image_of tree counts.list codes.now capacity) }
     ensures text { IfOk result (λ made. IsImageText
         (image_of tree counts.list codes.now capacity) made.1) }
@@ -73,7 +74,7 @@ fn image_allotted(alloc: Global, loaded: Allotted, capacity: u32) -> Result<Imag
     requires procs { procs loaded.program.tree loaded.choice.counts.list 0 ≤ 4096 }
     requires some { 1 ≤ capacity }
     requires few { capacity ≤ 1024 }
-    ensures { IfOk result (IsImagedAs loaded capacity) }
+    ensures { IfGiven result (IsImagedAs loaded capacity) }
 {
     let Allotted {
         program,

@@ -1,6 +1,7 @@
 // The picks of a run, in a file of which a schedule is made.
 
-ghost use Rattle.std.specs.Prelude.{◌≡◌, ◌++◌, IfOk, OnOk};
+ghost use Rattle.std.specs.Prelude.{◌≡◌, ◌++◌};
+ghost use Rattle.p3l_base.specs.Memory.{IfGiven, OnGiven};
 ghost use Rattle.p3l_trace.specs.Agreement.{picks_of};
 ghost use Rattle.p3l_program.specs.Picks.{IsPicking, mark_before, picks_text};
 ghost use Rattle.p3l_program.specs.Saved.{HasSave};
@@ -23,7 +24,7 @@ fn mark_before(lines: &[TraceLine]) -> &'static [u8]
 
 /// Puts the text of the picks of lines after others.
 fn write_picks(alloc: Global, lines: &[TraceLine], out: &mut Vec<u8>) -> Result<(), NoMemory>
-    ensures { OnOk result (out.new.items ≡ out.old.items ++ picks_text (picks_of lines.now)) }
+    ensures { OnGiven result (out.new.items ≡ out.old.items ++ picks_text (picks_of lines.now)) }
 {
     let mut rest = lines;
     while let Some((line, after)) = rest.split_first() {
@@ -35,7 +36,7 @@ fn write_picks(alloc: Global, lines: &[TraceLine], out: &mut Vec<u8>) -> Result<
 
 /// The text of the picks of lines: decimal numbers, separated by one space and ended by a line feed.
 fn picks_text(alloc: Global, lines: &[TraceLine]) -> Result<Vec<u8>, NoMemory>
-    ensures { IfOk result (λ text. text.items ≡ picks_text (picks_of lines.now)) }
+    ensures { IfGiven result (λ text. text.items ≡ picks_text (picks_of lines.now)) }
 {
     let mut text = Vec::new(alloc);
     write_picks(alloc, lines, &mut text)?;

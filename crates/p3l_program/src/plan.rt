@@ -2,6 +2,7 @@
 // for it, and the net of its tree under them. Each command takes its beginning from here.
 
 ghost use Rattle.std.specs.Prelude.{◌≡◌, ◌<◌, ◌≤◌, ◌*◌, ◌^◌, length, IfOk, IfErr, OnOk};
+ghost use Rattle.p3l_base.specs.Memory.{IfGiven};
 ghost use Rattle.p3l_check.specs.Resolving.{ResolvedTree};
 ghost use Rattle.p3l_run.specs.Feed.{most_of_input};
 ghost use Rattle.p3l_run.specs.Network.{network};
@@ -196,7 +197,7 @@ fn link_allotted(alloc: Global, loaded: Allotted, capacity: u32) -> Result<Linke
     requires ready { IsReady loaded }
     requires some { 1 ≤ capacity }
     requires few { capacity ≤ 1024 }
-    ensures ready { IfOk result (λ linked. IsReadyImage linked.network) }
+    ensures ready { IfGiven result (λ linked. IsReadyImage linked.network) }
     ensures network { IfOk result (λ linked. (r : ResolvedTree) → IsCompiled r loaded.program
         → network_in linked.network ≡ network_of r loaded.choice.counts.list capacity) }
     ensures tree { IfOk result (λ linked. linked.network.tree ≡ loaded.program.tree) }

@@ -1,6 +1,7 @@
 // The command `profile`: the cost file of what a program does on the items of the input.
 
-ghost use Rattle.std.specs.Prelude.{◌≡◌, IfOk};
+ghost use Rattle.std.specs.Prelude.{◌≡◌};
+ghost use Rattle.p3l_base.specs.Memory.{IfGiven};
 ghost use Rattle.std.specs.List.{All};
 ghost use Rattle.p3l_skel.specs.Lawful.{IsLawfulTree};
 ghost use Rattle.p3l_units.specs.Table.{HasCode};
@@ -24,7 +25,7 @@ use std::alloc::Global;
 
 /// The name of the module of a number, and none where no module has it.
 fn name_of(alloc: Global, tree: &Tree, number: u32) -> Result<Name, NoMemory>
-    ensures { IfOk result (λ name. name ≡ module_name tree.now number) }
+    ensures { IfGiven result (λ name. name ≡ module_name tree.now number) }
 {
     match tree.modules.as_slice().get(number as usize) {
         Some(found) => Name::from_text(alloc, found.name.as_str()),

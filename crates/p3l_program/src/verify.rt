@@ -1,6 +1,7 @@
 // The command `verify-cert`: whether a certificate holds for a program and its costs.
 
-ghost use Rattle.std.specs.Prelude.{◌≡◌, IfOk, string_bytes};
+ghost use Rattle.std.specs.Prelude.{◌≡◌, string_bytes};
+ghost use Rattle.p3l_base.specs.Memory.{IfGiven};
 ghost use Rattle.p3l_program.specs.Text.{IsTextExpected};
 ghost use Rattle.p3l_program.specs.Stage.{verify_stages};
 ghost use Rattle.p3l_program.specs.Verify.{IsVerified, holds_line};
@@ -16,7 +17,7 @@ use std::alloc::Global;
 
 /// The line of a certificate that holds.
 fn holds_line(alloc: Global, cert: &Cert) -> Result<String, NoMemory>
-    ensures { IfOk result (λ line. string_bytes line
+    ensures { IfGiven result (λ line. string_bytes line
         ≡ holds_line cert.now.processors cert.now.used cert.now.service) }
 {
     let processors = cert.processors;

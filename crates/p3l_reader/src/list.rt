@@ -1,6 +1,7 @@
 // Lists: what may come again and again.
 
 ghost use Rattle.std.specs.Prelude.{◌≡◌, ◌≤◌, ◌<◌, [], ◌∷◌, length, IfOk, IfErr};
+ghost use Rattle.p3l_base.specs.Memory.{IfGiven};
 ghost use Rattle.p3l_reader.specs.Reading.{Reads, Fails, separated_list, parenthesized};
 
 use crate::mark::expect;
@@ -61,7 +62,7 @@ pub trait Separated: Listed {
 
 /// The list of one thing.
 pub fn list_of_one<T: Drop>(alloc: Global, item: T) -> Result<List<T>, NoMemory>
-    ensures { IfOk result (λ list. list ≡ item ∷ []) }
+    ensures { IfGiven result (λ list. list ≡ item ∷ []) }
 {
     let mut list = List::new(alloc);
     list.push(item)?;

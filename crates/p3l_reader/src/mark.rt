@@ -1,6 +1,7 @@
 // Single tokens.
 
 ghost use Rattle.std.specs.Prelude.{◌≡◌, ◌<◌, ◌↔◌, length, IsTrue, IfOk, IfErr, IfSome, IfNone, true, false};
+ghost use Rattle.p3l_base.specs.Memory.{IfGiven};
 ghost use Rattle.p3l_grammar.specs.Symbol.{sign, symbol, word};
 ghost use Rattle.p3l_grammar.specs.Parser.{any_word, any_digits, any_num};
 ghost use Rattle.p3l_reader.specs.Reading.{Begins, BeginsDigits, NotNext, IsWord, NoWord, NoSign, NoDigits, NotThere, Reads, Fails};
@@ -52,7 +53,7 @@ pub fn expect(tokens: &[Token], mark: Mark) -> Result<&[Token], Refusal>
 
 /// A name and its position.
 pub fn spot_of(alloc: Global, name: &Name, pos: Pos) -> Result<Spot, NoMemory>
-    ensures { IfOk result (λ x. x ≡ record { name = name.now; pos = pos }) }
+    ensures { IfGiven result (λ x. x ≡ record { name = name.now; pos = pos }) }
 {
     let name = Name::from_text(alloc, name.as_str())?;
     Ok(Spot { name, pos })
@@ -95,7 +96,7 @@ pub fn word_comes(tokens: &[Token]) -> bool
 
 /// The name that comes next, where one comes next.
 pub fn name_next(alloc: Global, tokens: &[Token]) -> Result<Option<(Spot, &[Token])>, NoMemory>
-    ensures some { IfOk result (λ o. IfSome o (λ x. Begins tokens.now (word x.0) x.1.now)) }
+    ensures some { IfGiven result (λ o. IfSome o (λ x. Begins tokens.now (word x.0) x.1.now)) }
     ensures shorter { IfOk result (λ o. IfSome o (λ x. length x.1.now < length tokens.now)) }
     ensures none { IfOk result (λ o. IfNone o (NoWord tokens.now)) }
 {

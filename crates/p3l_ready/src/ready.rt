@@ -1,6 +1,7 @@
 // The set of processes that are ready.
 
-ghost use Rattle.std.specs.Prelude.{◌≡◌, ℕ, ◌+◌, ◌-◌, ◌*◌, ◌<◌, ◌≤◌, length, replicate, slice_set, slice_index, true, false, nat_eq, IsTrue, IfOk, find};
+ghost use Rattle.std.specs.Prelude.{◌≡◌, ℕ, ◌+◌, ◌-◌, ◌*◌, ◌<◌, ◌≤◌, length, replicate, slice_set, slice_index, true, false, nat_eq, IsTrue, find};
+ghost use Rattle.p3l_base.specs.Memory.{IfGiven};
 ghost use Rattle.std.specs.List.{range_with_len};
 ghost use Rattle.p3l_ready.specs.Flags.{flag_at, count_from, in_turn};
 
@@ -35,7 +36,7 @@ impl ReadySet {
     /// The empty set of numbers below `size`.
     pub fn new(alloc: Global, size: u32) -> Result<ReadySet, NoMemory>
         requires { size ≤ 1048576 }
-        ensures { IfOk result (λ set. set ≡ replicate size false) }
+        ensures { IfGiven result (λ set. set ≡ replicate size false) }
     {
         let flags = vec![in alloc; false; size as usize]?;
         let blocks = vec![in alloc; 0u32; size.div_ceil(BLOCK) as usize]?;

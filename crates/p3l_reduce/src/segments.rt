@@ -1,6 +1,7 @@
 // The segments that a token is cut into.
 
-ghost use Rattle.std.specs.Prelude.{◌≡◌, ◌≤◌, IfOk};
+ghost use Rattle.std.specs.Prelude.{◌≡◌, ◌≤◌};
+ghost use Rattle.p3l_base.specs.Memory.{IfGiven};
 ghost use Rattle.p3l_firing.specs.Segments.{halved, segment_lengths, level_up_to};
 
 use p3l_base::NoMemory;
@@ -22,7 +23,7 @@ pub(crate) fn level_within(most: u32, segments: u32) -> u32
 
 // Each length cut into its first half, rounded down, and the rest.
 fn halves(alloc: Global, lengths: &[u32]) -> Result<Vec<u32>, NoMemory>
-    ensures { IfOk result (λ v. v.items ≡ halved lengths.now) }
+    ensures { IfGiven result (λ v. v.items ≡ halved lengths.now) }
 {
     let mut cut = Vec::new(alloc);
     for part in lengths {
@@ -35,7 +36,7 @@ fn halves(alloc: Global, lengths: &[u32]) -> Result<Vec<u32>, NoMemory>
 
 /// How many elements the segments have, in order.
 pub(crate) fn segment_lengths(alloc: Global, level: u32, len: u32) -> Result<Vec<u32>, NoMemory>
-    ensures { IfOk result (λ v. v.items ≡ segment_lengths level len) }
+    ensures { IfGiven result (λ v. v.items ≡ segment_lengths level len) }
 {
     let mut lengths = vec![in alloc; len]?;
     for _done in 0..level {

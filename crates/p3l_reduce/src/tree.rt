@@ -1,6 +1,7 @@
 // The processes and channels of a reduce of several segments.
 
-ghost use Rattle.std.specs.Prelude.{◌≡◌, ◌+◌, ◌-◌, ◌*◌, ◌<◌, ◌≤◌, ◌^◌, [], length, IfOk};
+ghost use Rattle.std.specs.Prelude.{◌≡◌, ◌+◌, ◌-◌, ◌*◌, ◌<◌, ◌≤◌, ◌^◌, [], length};
+ghost use Rattle.p3l_base.specs.Memory.{IfGiven};
 ghost use Rattle.p3l_reduce.specs.Reduce.{tee_by, join_at, fold_at, join_procs, fold_procs, tree_shape};
 ghost use Rattle.p3l_template.specs.Shape.{base_of, added};
 
@@ -23,7 +24,7 @@ fn tee(output: u32, from: u32, q: u32) -> u32
 // The join of place q, which reads the channels of the two places below it.
 fn join(alloc: Global, node: u32, output: u32, from: u32, q: u32) -> Result<Proc, NoMemory>
     requires { (from ≤ 1048576) × (q ≤ 1048576) }
-    ensures { IfOk result (λ proc. proc ≡ join_at node output from q) }
+    ensures { IfGiven result (λ proc. proc ≡ join_at node output from q) }
 {
     let ins = List::from_vec(vec![in alloc;
         tee(output, from, q + q),
@@ -52,7 +53,7 @@ fn fold(
     elements: u32,
 ) -> Result<Proc, NoMemory>
     requires { (first + s < 2 ^ 32) × (from + (count + s) < 2 ^ 32) }
-    ensures { IfOk result (λ proc. proc ≡ fold_at node count output first from s elements) }
+    ensures { IfGiven result (λ proc. proc ≡ fold_at node count output first from s elements) }
 {
     let ins = one_channel(alloc, first + s)?;
     let outs = one_channel(alloc, tee(output, from, count + s))?;
@@ -76,7 +77,7 @@ fn place_joins(
 ) -> Result<(), NoMemory>
     requires room { length builder.old.procs + m ≤ 1048576 }
     requires chans { from ≤ 1048576 }
-    ensures { IfOk result (λ _. builder.new
+    ensures { IfGiven result (λ _. builder.new
         ≡ added builder.old (join_procs node output from 1 (m - 1)) []) }
 {
     for q in 1..m {
@@ -98,7 +99,7 @@ fn place_folds(
 ) -> Result<(), NoMemory>
     requires room { length builder.old.procs + length lengths.now ≤ 1048576 }
     requires chans { (first ≤ 1048576) × (from ≤ 1048576) }
-    ensures { IfOk result (λ _. builder.new
+    ensures { IfGiven result (λ _. builder.new
         ≡ added builder.old (fold_procs node (length lengths.now) output first from 0 lengths.now)
         []) }
 {
@@ -132,7 +133,7 @@ pub(crate) fn place_tree(
     requires level { (0 < level) × (level ≤ 9) }
     requires room { (length builder.old.procs + 2 * 2 ^ level ≤ 1048576)
         × (length builder.old.chans + 3 * 2 ^ level ≤ 1048578) }
-    ensures { IfOk result (λ _. builder.new
+    ensures { IfGiven result (λ _. builder.new
         ≡ added builder.old ((tree_shape node (2 ^ level) (level - 1)
         len).procs (base_of at.now builder.old))
         ((tree_shape node (2 ^ level) (level - 1) len).laid cap (base_of at.now builder.old))) }

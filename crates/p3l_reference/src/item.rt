@@ -8,6 +8,7 @@ ghost use Rattle.p3l_skel.specs.Item.{in_order, item, mapped, on_value, turned, 
 ghost use Rattle.p3l_base.specs.declared.outcome.Outcome.TheVariants.{Value};
 ghost use Rattle.std.specs.List.{All};
 ghost use Rattle.std.specs.Prelude.{◌≡◌, ◌<◌, ◌≤◌, ◌*◌, length, map, slice_index, IfOk};
+ghost use Rattle.p3l_base.specs.Memory.{IfGiven};
 
 use p3l_base::{Cut, List, NoMemory, Outcome, Trap, TrapKind, Words, join};
 use p3l_skel::element::{elements, gather};
@@ -28,7 +29,7 @@ pub fn item_outcome<U: Units>(
     requires served { U.tree units.now ≡ tree.now }
     requires there { node < length tree.now.nodes }
     requires fits { HasFittingLength tree.now node (length words.now) }
-    ensures { IfOk result (λ outcome. outcome ≡ item tree.now (U.leaf units.now) node words.now) }
+    ensures { IfGiven result (λ outcome. outcome ≡ item tree.now (U.leaf units.now) node words.now) }
 {
     let Some(found) = tree.node(node) else {
         unreachable!();
@@ -63,7 +64,7 @@ fn next_outcome<U: Units>(
     requires served { U.tree units.now ≡ tree.now }
     requires there { node < length tree.now.nodes }
     requires fits { HasLength (node_at tree.now node).ins outcome }
-    ensures { IfOk result (λ next. next
+    ensures { IfGiven result (λ next. next
         ≡ on_value (item tree.now (U.leaf units.now) node) outcome) }
 {
     match outcome {
@@ -86,7 +87,7 @@ fn stages_outcome<U: Units>(
     requires chain { IsChain tree.now node.now.ins node.now.outs node.now.parts }
     requires preorder { All (λ part. slice_index node.now.parts 0 ≤ part) node.now.parts }
     requires fits { length words.now ≡ node.now.ins }
-    ensures { IfOk result (λ outcome. outcome
+    ensures { IfGiven result (λ outcome. outcome
         ≡ in_order (item tree.now (U.leaf units.now)) node.now.parts (Value words.now)) }
 {
     let mut outcome = Outcome::Value(copied(alloc, words)?);
@@ -111,7 +112,7 @@ fn map_outcome<U: Units>(
     requires there { part < length tree.now.nodes }
     requires cuts { IsLawfulCut cut.now (length words.now) (token_size cut.now.outs)
         (node_at tree.now part).ins (node_at tree.now part).outs }
-    ensures { IfOk result (λ outcome. outcome
+    ensures { IfGiven result (λ outcome. outcome
         ≡ mapped cut.now (item tree.now (U.leaf units.now) part) words.now) }
 {
     let mut results = List::new(alloc);
@@ -141,7 +142,7 @@ fn fold_outcome<U: Units>(
     requires some { 1 ≤ length elements.now }
     requires sized { All (λ element. length element
         ≡ (node_at tree.now operator).outs) elements.now }
-    ensures folded { IfOk result (λ outcome. outcome
+    ensures folded { IfGiven result (λ outcome. outcome
         ≡ tree_fold (item tree.now (U.leaf units.now) operator)
         (map (λ element. Value element) elements.now)) }
     ensures sized { IfOk result (λ outcome. HasLength (node_at tree.now operator).outs outcome) }
@@ -172,7 +173,7 @@ fn loop_outcome<U: Units>(
         (slice_index node.now.parts 1) }
     requires preorder { slice_index node.now.parts 0 ≤ slice_index node.now.parts 1 }
     requires fits { length words.now ≡ node.now.ins }
-    ensures { IfOk result (λ outcome. outcome
+    ensures { IfGiven result (λ outcome. outcome
         ≡ turned (item tree.now (U.leaf units.now) (slice_index node.now.parts 0))
         (item tree.now (U.leaf units.now) (slice_index node.now.parts 1))
         (turns_spent node.now.«module») turns words.now) }

@@ -1,6 +1,7 @@
 // Why a cost file is refused.
 
-ghost use Rattle.std.specs.Prelude.{◌≡◌, IfOk};
+ghost use Rattle.std.specs.Prelude.{◌≡◌};
+ghost use Rattle.p3l_base.specs.Memory.{IfGiven};
 ghost use Rattle.p3l_report.specs.CostFault.{cost_line, keyed_line};
 ghost use Rattle.p3l_report.specs.LineText.{line_text};
 
@@ -23,7 +24,7 @@ pub enum CostFault {
 
 /// The line of a cost file that is refused.
 pub fn cost_line(alloc: Global, fault: &CostFault) -> Result<Line, NoMemory>
-    ensures { IfOk result (λ line. line_text line ≡ cost_line fault.now) }
+    ensures { IfGiven result (λ line. line_text line ≡ cost_line fault.now) }
 {
     match fault {
         CostFault::NotToml => Ok(Line::Fixed("costs: 50 NotToml\n")),
@@ -35,7 +36,7 @@ pub fn cost_line(alloc: Global, fault: &CostFault) -> Result<Line, NoMemory>
 
 /// The line of a fault with its key.
 fn keyed_line(alloc: Global, what: &'static str, name: &Name) -> Result<Line, NoMemory>
-    ensures { IfOk result (λ line. line_text line ≡ keyed_line what.now name.now) }
+    ensures { IfGiven result (λ line. line_text line ≡ keyed_line what.now name.now) }
 {
     let name = name.as_str();
     let text = format!(in alloc; "costs: {what} {name}\n")?;

@@ -1,6 +1,7 @@
 // Why evidence is refused: a certificate, an image, a trace or a snapshot.
 
-ghost use Rattle.std.specs.Prelude.{◌≡◌, IfOk};
+ghost use Rattle.std.specs.Prelude.{◌≡◌};
+ghost use Rattle.p3l_base.specs.Memory.{IfGiven};
 ghost use Rattle.p3l_report.specs.Evidence.{claim_name, evidence_line};
 ghost use Rattle.p3l_report.specs.LineText.{line_text};
 
@@ -92,7 +93,7 @@ fn claim_name(claim: Claim) -> &'static str
 
 /// The line of evidence that is refused.
 pub fn evidence_line(alloc: Global, evidence: &Evidence) -> Result<Line, NoMemory>
-    ensures { IfOk result (λ line. line_text line ≡ evidence_line evidence.now) }
+    ensures { IfGiven result (λ line. line_text line ≡ evidence_line evidence.now) }
 {
     let text = match evidence {
         Evidence::RowWrong { row, kept, found } => format!(in alloc;

@@ -1,6 +1,7 @@
 // Lines for the standard error.
 
-ghost use Rattle.std.specs.Prelude.{◌≡◌, ◌++◌, IfOk, codes};
+ghost use Rattle.std.specs.Prelude.{◌≡◌, ◌++◌, codes};
+ghost use Rattle.p3l_base.specs.Memory.{IfGiven};
 ghost use Rattle.std.specs.Fmt.{decimal};
 ghost use Rattle.p3l_report.specs.Line.{counted_line, named_line, need_line, numbered_line, pick_line, source_line, stats_line, stopped_line, trap_line};
 ghost use Rattle.p3l_report.specs.LineText.{line_text};
@@ -33,7 +34,7 @@ impl Line {
 
 /// A line that says what became of a file.
 pub fn file_line(alloc: Global, what: &'static str, name: &Name) -> Result<Line, NoMemory>
-    ensures { IfOk result (λ line. line_text line ≡ named_line what.now name.now) }
+    ensures { IfGiven result (λ line. line_text line ≡ named_line what.now name.now) }
 {
     let name = name.as_str();
     let text = format!(in alloc; "{what}: {name}\n")?;
@@ -42,7 +43,7 @@ pub fn file_line(alloc: Global, what: &'static str, name: &Name) -> Result<Line,
 
 /// The line of a fault of the source text.
 pub fn fault_line(alloc: Global, fault: Fault, pos: Pos) -> Result<Line, NoMemory>
-    ensures { IfOk result (λ line. line_text line ≡ source_line fault pos) }
+    ensures { IfGiven result (λ line. line_text line ≡ source_line fault pos) }
 {
     let line = pos.line;
     let col = pos.col;
@@ -59,7 +60,7 @@ pub fn refused_line(
     number: u64,
     fault: LineFault,
 ) -> Result<Line, NoMemory>
-    ensures { IfOk result (λ line. line_text line ≡ numbered_line what.now number fault) }
+    ensures { IfGiven result (λ line. line_text line ≡ numbered_line what.now number fault) }
 {
     let code = fault.number();
     let name = fault.name();
@@ -69,7 +70,7 @@ pub fn refused_line(
 
 /// The line of a line of the stream that has another count of words than an item.
 pub fn count_line(alloc: Global, number: u64, fault: LineFault, had: u64) -> Result<Line, NoMemory>
-    ensures { IfOk result (λ line. line_text line ≡ counted_line number fault had) }
+    ensures { IfGiven result (λ line. line_text line ≡ counted_line number fault had) }
 {
     let code = fault.number();
     let name = fault.name();
@@ -85,7 +86,7 @@ pub fn process_line(
     pick: u64,
     count: u32,
 ) -> Result<Line, NoMemory>
-    ensures { IfOk result (λ line. line_text line ≡ pick_line number fault pick count) }
+    ensures { IfGiven result (λ line. line_text line ≡ pick_line number fault pick count) }
 {
     let code = fault.number();
     let name = fault.name();
@@ -95,7 +96,7 @@ pub fn process_line(
 
 /// The line of too few processors.
 pub fn few_line(alloc: Global, need: u64) -> Result<Line, NoMemory>
-    ensures { IfOk result (λ line. line_text line ≡ need_line need) }
+    ensures { IfGiven result (λ line. line_text line ≡ need_line need) }
 {
     let text = format!(in alloc; "too few processors: need {need}\n")?;
     Ok(Line::Made(text))
@@ -103,7 +104,7 @@ pub fn few_line(alloc: Global, need: u64) -> Result<Line, NoMemory>
 
 /// The line of picks that ended early.
 pub fn picks_line(alloc: Global, fired: u64, idle: u64) -> Result<Line, NoMemory>
-    ensures { IfOk result (λ line. line_text line ≡ stopped_line fired idle) }
+    ensures { IfGiven result (λ line. line_text line ≡ stopped_line fired idle) }
 {
     let text = format!(in alloc; "stopped: {fired} fired, {idle} idle\n")?;
     Ok(Line::Made(text))
@@ -111,7 +112,7 @@ pub fn picks_line(alloc: Global, fired: u64, idle: u64) -> Result<Line, NoMemory
 
 /// The line of an item that came to a trap.
 pub fn trapped_line(alloc: Global, item: u64, kind: TrapKind, home: &Name) -> Result<Line, NoMemory>
-    ensures { IfOk result (λ line. line_text line ≡ trap_line item kind home.now) }
+    ensures { IfGiven result (λ line. line_text line ≡ trap_line item kind home.now) }
 {
     let what = kind_text(kind);
     let name = home.as_str();
@@ -121,7 +122,7 @@ pub fn trapped_line(alloc: Global, item: u64, kind: TrapKind, home: &Name) -> Re
 
 /// The line of the numbers of a run.
 pub fn numbers_line(alloc: Global, stats: Stats) -> Result<Line, NoMemory>
-    ensures { IfOk result (λ line. line_text line ≡ stats_line stats) }
+    ensures { IfGiven result (λ line. line_text line ≡ stats_line stats) }
 {
     match stats {
         Stats::Scheduled {

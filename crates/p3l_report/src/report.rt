@@ -1,6 +1,7 @@
 // The lines that a verdict puts on the standard error.
 
 ghost use Rattle.std.specs.Prelude.{◌≡◌, ◌++◌, ◌≤◌, List, ℕ, Some, IfOk};
+ghost use Rattle.p3l_base.specs.Memory.{IfGiven};
 ghost use Rattle.p3l_io.specs.Causes.{Rose};
 ghost use Rattle.p3l_report.specs.declared.verdict.Verdict.TheVariants as verdicts;
 ghost use Rattle.p3l_report.specs.Verdict.{ending_line, finish_line, lines_of, refusal_line, reported_line, status_line};
@@ -29,7 +30,7 @@ pub struct Report {
 
 /// The line of a refusal.
 fn line_of_refusal(alloc: Global, refusal: &Refusal) -> Result<Line, NoMemory>
-    ensures { IfOk result (λ line. optional_text (Some line) ≡ refusal_line refusal.now) }
+    ensures { IfGiven result (λ line. optional_text (Some line) ≡ refusal_line refusal.now) }
 {
     match refusal {
         Refusal::Usage => Ok(Line::Fixed("usage: the words are not a command of p3l\n")),
@@ -53,7 +54,7 @@ fn line_of_refusal(alloc: Global, refusal: &Refusal) -> Result<Line, NoMemory>
 
 /// The line of a run whose stream ended so, if one is to be written.
 fn line_of_ending(alloc: Global, ending: Ending) -> Result<Option<Line>, NoMemory>
-    ensures { IfOk result (λ line. optional_text line ≡ ending_line ending) }
+    ensures { IfGiven result (λ line. optional_text line ≡ ending_line ending) }
 {
     match ending {
         Ending::End => Ok(None),
@@ -76,7 +77,7 @@ fn line_of_ending(alloc: Global, ending: Ending) -> Result<Option<Line>, NoMemor
 
 /// The line of an end, if one is to be written.
 fn line_of_finish(alloc: Global, finish: &Finish) -> Result<Option<Line>, NoMemory>
-    ensures { IfOk result (λ line. optional_text line ≡ finish_line finish.now) }
+    ensures { IfGiven result (λ line. optional_text line ≡ finish_line finish.now) }
 {
     match finish {
         Finish::Done => Ok(None),
@@ -94,7 +95,7 @@ fn line_of_finish(alloc: Global, finish: &Finish) -> Result<Option<Line>, NoMemo
 
 /// The line of a verdict's status, if one is to be written.
 fn line_of_status(alloc: Global, verdict: &Verdict) -> Result<Option<Line>, NoMemory>
-    ensures { IfOk result (λ line. optional_text line ≡ status_line verdict.now) }
+    ensures { IfGiven result (λ line. optional_text line ≡ status_line verdict.now) }
 {
     match verdict {
         Verdict::Refused(refusal) => Ok(Some(line_of_refusal(alloc, refusal)?)),
@@ -106,7 +107,7 @@ fn line_of_status(alloc: Global, verdict: &Verdict) -> Result<Option<Line>, NoMe
 
 /// The line of the numbers of a run, if it is to be written.
 fn line_of_numbers(alloc: Global, verdict: &Verdict) -> Result<Option<Line>, NoMemory>
-    ensures { IfOk result (λ line. optional_text line ≡ reported_line verdict.now) }
+    ensures { IfGiven result (λ line. optional_text line ≡ reported_line verdict.now) }
 {
     match verdict {
         Verdict::Ended(_, Some(stats)) => Ok(Some(numbers_line(alloc, *stats)?)),
@@ -116,7 +117,7 @@ fn line_of_numbers(alloc: Global, verdict: &Verdict) -> Result<Option<Line>, NoM
 
 /// The lines of a verdict.
 pub fn report_of(alloc: Global, verdict: &Verdict) -> Result<Report, NoMemory>
-    ensures text { IfOk result (λ report. report_text report ≡ lines_of verdict.now) }
+    ensures text { IfGiven result (λ report. report_text report ≡ lines_of verdict.now) }
     ensures lines { IfOk result (IsReportOf verdict.now) }
 {
     let numbers = line_of_numbers(alloc, verdict)?;

@@ -1,6 +1,7 @@
 // Snapshots as bytes.
 
 ghost use Rattle.std.specs.Prelude.{◌≡◌, ◌++◌, [], List, ℕ, Ok, IfOk};
+ghost use Rattle.p3l_base.specs.Memory.{IfGiven};
 ghost use Rattle.p3l_format.specs.Format.{read_all};
 ghost use Rattle.p3l_resume.specs.declared.saved.Saved.{Saved as TheSaved};
 ghost use Rattle.p3l_resume.specs.Refusal.{Answers, refusal_of};
@@ -78,7 +79,7 @@ impl Field for SavedField {
 /// The bytes of a snapshot whose lists can be counted in 32 bits.
 pub fn shot_text(alloc: Global, saved: &Saved) -> Result<List<u8>, NoMemory>
     requires { CanBeWritten saved.now }
-    ensures { IfOk result (λ bytes. bytes ≡ saved_text saved.now) }
+    ensures { IfGiven result (λ bytes. bytes ≡ saved_text saved.now) }
 {
     p3l_format::encode(&SavedField, alloc, saved)
 }

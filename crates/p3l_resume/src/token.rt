@@ -1,6 +1,7 @@
 // Tokens as fields.
 
-ghost use Rattle.std.specs.Prelude.{◌≡◌, ◌++◌, OnOk};
+ghost use Rattle.std.specs.Prelude.{◌≡◌, ◌++◌};
+ghost use Rattle.p3l_base.specs.Memory.{OnGiven};
 ghost use Rattle.p3l_format.specs.Format.{Gives};
 ghost use Rattle.p3l_resume.specs.Token.{outcome_format, token_format, trap_format, trap_kind_format, trap_number};
 ghost use Rattle.p3l_resume.specs.laws.Token.{lawful_outcome, lawful_token};
@@ -55,7 +56,7 @@ fn read_trap(bytes: &[u8]) -> Result<(Trap, &[u8]), ReadError>
 // Puts a trap after others.
 #[tactic(auto, unfolding(crate::specs::Token::trap_format, p3l_format::specs::Format::pair, p3l_format::specs::Format::as_form, p3l_format::specs::Numbers::one_of, p3l_format::specs::Numbers::u8_format, p3l_format::specs::Format::coded))]
 fn write_trap(trap: Trap, out: &mut Vec<u8>) -> Result<(), NoMemory>
-    ensures { OnOk result (out.new.items ≡ out.old.items ++ trap_format.spell trap) }
+    ensures { OnGiven result (out.new.items ≡ out.old.items ++ trap_format.spell trap) }
 {
     write_u8(trap_number(trap.kind), out)?;
     write_u32(trap.module, out)

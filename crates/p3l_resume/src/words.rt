@@ -1,6 +1,7 @@
 // The words of items and values as fields.
 
-ghost use Rattle.std.specs.Prelude.{◌≡◌, ◌++◌, OnOk};
+ghost use Rattle.std.specs.Prelude.{◌≡◌, ◌++◌};
+ghost use Rattle.p3l_base.specs.Memory.{OnGiven};
 ghost use Rattle.p3l_format.specs.Format.{Gives, read_many};
 ghost use Rattle.p3l_format.specs.Numbers.{i64_format};
 ghost use Rattle.p3l_resume.specs.Words.{flag_format, inbox_format, words_format};
@@ -61,7 +62,7 @@ pub fn read_flag(bytes: &[u8]) -> Result<(bool, &[u8]), ReadError>
 /// Puts whether something is so after others.
 #[tactic(auto, unfolding(p3l_format::specs::Numbers::one_of, p3l_format::specs::Numbers::u8_format, p3l_format::specs::Format::coded))]
 pub fn write_flag(flag: bool, out: &mut Vec<u8>) -> Result<(), NoMemory>
-    ensures { OnOk result (out.new.items ≡ out.old.items ++ flag_format.spell flag) }
+    ensures { OnGiven result (out.new.items ≡ out.old.items ++ flag_format.spell flag) }
 {
     let number = if flag { 1 } else { 0 };
     write_u8(number, out)

@@ -1,6 +1,7 @@
 // A walk along a trace, line by line.
 
-ghost use Rattle.std.specs.Prelude.{◌≡◌, ◌<◌, ◌≤◌, ◌^◌, None, length, IfOk, OnOk};
+ghost use Rattle.std.specs.Prelude.{◌≡◌, ◌<◌, ◌≤◌, ◌^◌, None, length};
+ghost use Rattle.p3l_base.specs.Memory.{IfGiven, OnGiven};
 ghost use Rattle.p3l_net.specs.Typed.{IsTyped};
 ghost use Rattle.p3l_skel.specs.Tree.{node_at};
 ghost use Rattle.p3l_retrace.specs.Walk.{FeedsOn, IsUnderWay, PassesOn, Steps, outside, started};
@@ -33,7 +34,7 @@ impl<'t> Walk<'t> {
     ) -> Result<Walk<'t>, NoMemory>
         requires typed { IsTyped tree.now net }
         requires wide { 1 ≤ width }
-        ensures { IfOk result (λ walk. walk ≡ started tree.now net width) }
+        ensures { IfGiven result (λ walk. walk ≡ started tree.now net width) }
     {
         Ok(Walk {
             machine: Machine::start(alloc, tree, net)?,
@@ -56,7 +57,7 @@ impl<'t> Walk<'t> {
         requires units { U.tree units.now ≡ tree.now }
         requires network { IsUnderWay (U.leaf units.now)
             (outside (S.rest input.old) (S.faults input.old)) self.old }
-        ensures { IfOk result (PassesOn (U.leaf units.now)
+        ensures { IfGiven result (PassesOn (U.leaf units.now)
             line.now (outside (S.rest input.old) (S.faults input.old))
             (outside (S.rest input.new) (S.faults input.new)) self.old self.new) }
     {
@@ -72,7 +73,7 @@ impl<'t> Walk<'t> {
     fn feed<S: Source>(&mut self, alloc: Global, input: &mut S) -> Result<(), NoMemory>
         requires wide { self.old.stream.words ≡ (node_at self.old.machine.tree 0).ins }
         requires open { self.old.close ≡ None → self.old.stream.closed ≡ None }
-        ensures { OnOk result (FeedsOn (outside (S.rest input.old) (S.faults input.old))
+        ensures { OnGiven result (FeedsOn (outside (S.rest input.old) (S.faults input.old))
             (outside (S.rest input.new) (S.faults input.new)) self.old self.new) }
     {
         self.close = feed(
@@ -97,7 +98,7 @@ impl<'t> Walk<'t> {
         requires count { self.old.machine.fired < 2 ^ 63 }
         requires tree { tree.now ≡ self.old.machine.tree }
         requires units { U.tree units.now ≡ tree.now }
-        ensures { OnOk result (Steps (U.leaf units.now) process self.old self.new) }
+        ensures { OnGiven result (Steps (U.leaf units.now) process self.old self.new) }
     {
         if self.machine.can_step(process) {
             self.machine.fire(alloc, tree, units, process)?;

@@ -1,6 +1,7 @@
 // The ways to write a program whose `main` is a pipe.
 
-ghost use Rattle.std.specs.Prelude.{◌≡◌, [], ◌∷◌, ◌++◌, IfOk, OnOk, Some, codes, map, option_map};
+ghost use Rattle.std.specs.Prelude.{◌≡◌, [], ◌∷◌, ◌++◌, Some, codes, map, option_map};
+ghost use Rattle.p3l_base.specs.Memory.{IfGiven, OnGiven};
 ghost use Rattle.std.specs.List.{list_all};
 ghost use Rattle.p3l_ast.specs.Tree.{module_tree, entry_tree, program_tree, defined};
 ghost use Rattle.p3l_skel.specs.Tree.{node_at, is_sequential};
@@ -48,7 +49,7 @@ fn put_farm(
     farms: &mut List<Module>,
     call: &Call,
 ) -> Result<(), NoMemory>
-    ensures { OnOk result (map module_tree farms.new
+    ensures { OnGiven result (map module_tree farms.new
         ≡ next_farms (map entry_tree front.now) sequential (map module_tree farms.old) call.now) }
 {
     let name = longer_name(alloc, &call.at.name, FARM)?;
@@ -69,7 +70,7 @@ fn farms_of(
     calls: &[Call],
     parts: &[u32],
 ) -> Result<List<Module>, NoMemory>
-    ensures { IfOk result (λ farms. map module_tree farms
+    ensures { IfGiven result (λ farms. map module_tree farms
         ≡ farms_of (map entry_tree front.now) tree.now [] calls.now parts.now) }
 {
     let mut farms = List::new(alloc);
@@ -101,7 +102,7 @@ fn are_sequential(tree: &Tree, parts: &[u32]) -> bool
 
 /// Puts copies of modules after entries.
 fn put_modules(alloc: Global, entries: &mut List<Entry>, modules: &[Module]) -> Result<(), NoMemory>
-    ensures { OnOk result (map entry_tree entries.new ≡ map entry_tree entries.old
+    ensures { OnGiven result (map entry_tree entries.new ≡ map entry_tree entries.old
         ++ map (λ m. defined m) (map module_tree modules.now)) }
 {
     for own in modules {
@@ -117,7 +118,7 @@ fn with_farms(
     farms: &[Module],
     calls: &[Call],
 ) -> Result<Entry, NoMemory>
-    ensures { IfOk result (λ entry. entry_tree entry ≡ defined (with_calls (module_tree main.now)
+    ensures { IfGiven result (λ entry. entry_tree entry ≡ defined (with_calls (module_tree main.now)
         (map (farm_called (map module_tree farms.now)) calls.now))) }
 {
     let called = farms_called(alloc, farms, calls)?;
@@ -132,7 +133,7 @@ fn put_farmed(
     farms: &[Module],
     calls: &[Call],
 ) -> Result<(), NoMemory>
-    ensures { OnOk result (map entry_tree entries.new ≡ (map entry_tree entries.old
+    ensures { OnGiven result (map entry_tree entries.new ≡ (map entry_tree entries.old
         ++ map (λ m. defined m) (map module_tree farms.now))
         ++ defined (with_calls (module_tree main.now)
         (map (farm_called (map module_tree farms.now)) calls.now)) ∷ []) }
@@ -148,7 +149,7 @@ fn farmed_entries(
     farms: &[Module],
     calls: &[Call],
 ) -> Result<List<Entry>, NoMemory>
-    ensures { IfOk result (λ entries. map entry_tree entries
+    ensures { IfGiven result (λ entries. map entry_tree entries
         ≡ farmed_entries (around_tree around.now) (map module_tree farms.now) calls.now) }
 {
     let mut entries = List::new(alloc);
@@ -166,7 +167,7 @@ fn farmed(
     around: &Around,
     calls: &[Call],
 ) -> Result<Option<Program>, NoMemory>
-    ensures { IfOk result (λ way. listed (option_map program_tree way)
+    ensures { IfGiven result (λ way. listed (option_map program_tree way)
         ≡ farmed_of (program_tree program.now) tree.now (around_tree around.now) calls.now) }
 {
     let farms = farms_of(alloc, around.front, tree, calls, root_parts(tree))?;
@@ -182,7 +183,7 @@ fn farmed(
 
 /// A comp of the calls of `main`, with its ports.
 fn work_of(alloc: Global, main: &Module, calls: &[Call]) -> Result<Module, NoMemory>
-    ensures { IfOk result (λ work. module_tree work ≡ work_of (module_tree main.now) calls.now) }
+    ensures { IfGiven result (λ work. module_tree work ≡ work_of (module_tree main.now) calls.now) }
 {
     let at = longer(alloc, &main.at, WORK)?;
     let ins = copies(alloc, main.ins.as_slice())?;
@@ -200,7 +201,7 @@ fn work_of(alloc: Global, main: &Module, calls: &[Call]) -> Result<Module, NoMem
 
 /// A farm of the comp of the stages of `main`, with its name and its ports.
 fn main_farm(alloc: Global, main: &Module) -> Result<Module, NoMemory>
-    ensures { IfOk result (λ farm. module_tree farm
+    ensures { IfGiven result (λ farm. module_tree farm
         ≡ farm_with main.now.at (longer (codes "_work") main.now.at) main.now.ins main.now.outs) }
 {
     let at = main.at.copied(alloc)?;
@@ -215,7 +216,7 @@ fn put_fused(
     main: &Module,
     calls: &[Call],
 ) -> Result<(), NoMemory>
-    ensures { OnOk result (map entry_tree entries.new ≡ map entry_tree entries.old
+    ensures { OnGiven result (map entry_tree entries.new ≡ map entry_tree entries.old
         ++ defined (work_of (module_tree main.now) calls.now)
         ∷ (defined (farm_with main.now.at (longer (codes "_work") main.now.at)
         main.now.ins main.now.outs) ∷ [])) }
@@ -228,7 +229,7 @@ fn put_fused(
 
 /// The entries with a comp in place of `main`, and a farm of it.
 fn fused_entries(alloc: Global, around: &Around, calls: &[Call]) -> Result<List<Entry>, NoMemory>
-    ensures { IfOk result (λ entries. map entry_tree entries
+    ensures { IfGiven result (λ entries. map entry_tree entries
         ≡ fused_entries (around_tree around.now) calls.now) }
 {
     let mut entries = List::new(alloc);
@@ -246,7 +247,7 @@ fn fused(
     around: &Around,
     calls: &[Call],
 ) -> Result<Option<Program>, NoMemory>
-    ensures { IfOk result (λ way. listed (option_map program_tree way)
+    ensures { IfGiven result (λ way. listed (option_map program_tree way)
         ≡ fused_of (program_tree program.now) tree.now (around_tree around.now) calls.now) }
 {
     if !are_sequential(tree, root_parts(tree)) {
@@ -282,7 +283,7 @@ fn ways_around(
     tree: &Tree,
     around: &Around,
 ) -> Result<Ways, NoMemory>
-    ensures { IfOk result (λ ways. ways_list ways
+    ensures { IfGiven result (λ ways. ways_list ways
         ≡ others_around (program_tree program.now) tree.now (Some (around_tree around.now))) }
 {
     match (around.main.kind, &around.main.inside) {
@@ -298,7 +299,7 @@ fn ways_around(
 /// The ways to write a program of this tree.
 #[tactic(auto, unfolding(crate::specs::Candidates::others))]
 pub fn find_ways(alloc: Global, program: &Program, tree: &Tree) -> Result<Ways, NoMemory>
-    ensures { IfOk result (λ ways. ways_list ways ≡ others (program_tree program.now) tree.now) }
+    ensures { IfGiven result (λ ways. ways_list ways ≡ others (program_tree program.now) tree.now) }
 {
     match around_main(program.entries.as_slice()) {
         Some(around) => ways_around(alloc, program, tree, &around),

@@ -1,6 +1,7 @@
 // Farms of modules, and calls of them.
 
-ghost use Rattle.std.specs.Prelude.{◌≡◌, [], ◌∷◌, ◌++◌, IfOk, map};
+ghost use Rattle.std.specs.Prelude.{◌≡◌, [], ◌∷◌, ◌++◌, map};
+ghost use Rattle.p3l_base.specs.Memory.{IfGiven};
 ghost use Rattle.p3l_ast.specs.Tree.{module_tree};
 ghost use Rattle.p3l_rewrite.specs.Candidates.{plain, plain_out, longer, no_clauses, call_with, farm_with, farm_of, is_among, farm_called};
 
@@ -14,7 +15,7 @@ pub const FARM: &str = "_farm";
 
 /// A name with more behind it.
 pub fn longer_name(alloc: Global, name: &Name, more: &str) -> Result<Name, NoMemory>
-    ensures { IfOk result (λ longer. longer ≡ name.now ++ more.now) }
+    ensures { IfGiven result (λ longer. longer ≡ name.now ++ more.now) }
 {
     let mut text = String::from_str(alloc, name.as_str())?;
     text.push_str(more)?;
@@ -23,7 +24,7 @@ pub fn longer_name(alloc: Global, name: &Name, more: &str) -> Result<Name, NoMem
 
 /// The same at its place.
 pub fn longer(alloc: Global, at: &Spot, more: &str) -> Result<Spot, NoMemory>
-    ensures { IfOk result (λ spot. spot ≡ longer more.now at.now) }
+    ensures { IfGiven result (λ spot. spot ≡ longer more.now at.now) }
 {
     Ok(Spot {
         name: longer_name(alloc, &at.name, more)?,
@@ -46,7 +47,7 @@ pub fn no_clauses() -> Clauses
 
 /// The plain name of a port as an argument.
 fn plain(alloc: Global, port: &Port) -> Result<Arg, NoMemory>
-    ensures { IfOk result (λ arg. arg ≡ plain port.now) }
+    ensures { IfGiven result (λ arg. arg ≡ plain port.now) }
 {
     let at = port.at.copied(alloc)?;
     Ok(Arg {
@@ -56,7 +57,7 @@ fn plain(alloc: Global, port: &Port) -> Result<Arg, NoMemory>
 }
 
 fn plain_ins(alloc: Global, ports: &[Port]) -> Result<List<Arg>, NoMemory>
-    ensures { IfOk result (λ args. args ≡ map plain ports.now) }
+    ensures { IfGiven result (λ args. args ≡ map plain ports.now) }
 {
     let mut args = List::new(alloc);
     for port in ports {
@@ -66,7 +67,7 @@ fn plain_ins(alloc: Global, ports: &[Port]) -> Result<List<Arg>, NoMemory>
 }
 
 fn plain_outs(alloc: Global, ports: &[Port]) -> Result<List<OutArg>, NoMemory>
-    ensures { IfOk result (λ args. args ≡ map plain_out ports.now) }
+    ensures { IfGiven result (λ args. args ≡ map plain_out ports.now) }
 {
     let mut args = List::new(alloc);
     for port in ports {
@@ -77,7 +78,7 @@ fn plain_outs(alloc: Global, ports: &[Port]) -> Result<List<OutArg>, NoMemory>
 
 /// The calls of a farm of a module with these ports.
 fn only_call(alloc: Global, worker: Spot, ports: &Module) -> Result<List<Call>, NoMemory>
-    ensures { IfOk result (λ calls. calls
+    ensures { IfGiven result (λ calls. calls
         ≡ call_with worker ports.now.ins ports.now.outs ∷ []) }
 {
     let ins = plain_ins(alloc, ports.ins.as_slice())?;
@@ -93,7 +94,7 @@ fn only_call(alloc: Global, worker: Spot, ports: &Module) -> Result<List<Call>, 
 
 /// A farm of this name with a module's ports, and a worker of this name.
 pub fn farm_with(alloc: Global, at: Spot, worker: Spot, ports: &Module) -> Result<Module, NoMemory>
-    ensures { IfOk result (λ farm. module_tree farm
+    ensures { IfGiven result (λ farm. module_tree farm
         ≡ farm_with at worker ports.now.ins ports.now.outs) }
 {
     let calls = only_call(alloc, worker, ports)?;
@@ -111,7 +112,7 @@ pub fn farm_with(alloc: Global, at: Spot, worker: Spot, ports: &Module) -> Resul
 
 /// A farm of a module.
 pub fn farm_of(alloc: Global, worker: &Module) -> Result<Module, NoMemory>
-    ensures { IfOk result (λ farm. module_tree farm ≡ farm_of (module_tree worker.now)) }
+    ensures { IfGiven result (λ farm. module_tree farm ≡ farm_of (module_tree worker.now)) }
 {
     let at = longer(alloc, &worker.at, FARM)?;
     let name = worker.at.copied(alloc)?;
@@ -127,7 +128,7 @@ pub fn is_among(modules: &[Module], name: &Name) -> bool
 
 /// A call of the farm of a module in place of that module, if it is among these.
 pub fn farm_called(alloc: Global, farms: &[Module], call: &Call) -> Result<Call, NoMemory>
-    ensures { IfOk result (λ called. called ≡ farm_called (map module_tree farms.now) call.now) }
+    ensures { IfGiven result (λ called. called ≡ farm_called (map module_tree farms.now) call.now) }
 {
     let at = longer(alloc, &call.at, FARM)?;
     if !is_among(farms, &at.name) {
@@ -140,7 +141,7 @@ pub fn farm_called(alloc: Global, farms: &[Module], call: &Call) -> Result<Call,
 
 /// Calls where farms among these are called in place of their workers.
 pub fn farms_called(alloc: Global, farms: &[Module], calls: &[Call]) -> Result<List<Call>, NoMemory>
-    ensures { IfOk result (λ called. called
+    ensures { IfGiven result (λ called. called
         ≡ map (farm_called (map module_tree farms.now)) calls.now) }
 {
     let mut called = List::new(alloc);

@@ -1,6 +1,7 @@
 // The best way to write a program.
 
-ghost use Rattle.std.specs.Prelude.{◌≤◌, [], ◌∷◌, IfOk, IfSome, option_map};
+ghost use Rattle.std.specs.Prelude.{◌≤◌, [], ◌∷◌, IfSome, option_map};
+ghost use Rattle.p3l_base.specs.Memory.{IfGiven};
 ghost use Rattle.p3l_ast.specs.Tree.{program_tree};
 ghost use Rattle.p3l_rewrite.specs.Costs.{KeepsCosts};
 ghost use Rattle.p3l_rewrite.specs.Rewriting.{IsAccepted, IsBest, StaysBest, MayBeRewritten, IsRewriting};
@@ -34,7 +35,7 @@ fn better(
     requires keeps { IfSome (option_map program_tree other) (KeepsCosts tree.now costs.now) }
     requires some { 1 ≤ processors }
     requires few { processors ≤ 512 }
-    ensures { IfOk result (λ better. StaysBest tree.now costs.now processors
+    ensures { IfGiven result (λ better. StaysBest tree.now costs.now processors
         (program_tree best.program) best.service (option_map program_tree other)
         (program_tree better.program) better.service) }
 {
@@ -53,7 +54,7 @@ fn better(
 /// The tree of a program that keeps the rules.
 fn own_tree(alloc: Global, program: &Program) -> Result<Tree, NoMemory>
     requires { IsAccepted (program_tree program.now) }
-    ensures { IfOk result (HasTree (program_tree program.now)) }
+    ensures { IfGiven result (HasTree (program_tree program.now)) }
 {
     match accepted_tree(alloc, program)? {
         Some(tree) => Ok(tree),
@@ -71,7 +72,7 @@ fn own(
 ) -> Result<Rewritten, NoMemory>
     requires may { MayBeRewritten (program_tree program.now) costs.now processors }
     requires tree { HasTree (program_tree program.now) tree.now }
-    ensures { IfOk result (λ own. IsBest tree.now costs.now processors
+    ensures { IfGiven result (λ own. IsBest tree.now costs.now processors
         (program_tree program.now ∷ []) (program_tree own.program) own.service) }
 {
     match service_time(alloc, tree, costs, processors)? {
@@ -93,7 +94,7 @@ pub fn rewrite(
     processors: u32,
 ) -> Result<Rewritten, NoMemory>
     requires { MayBeRewritten (program_tree program.now) costs.now processors }
-    ensures { IfOk result (λ best. IsRewriting (program_tree program.now) costs.now processors
+    ensures { IfGiven result (λ best. IsRewriting (program_tree program.now) costs.now processors
         (program_tree best.program) best.service) }
 {
     let tree = own_tree(alloc, program)?;

@@ -1,6 +1,7 @@
 // Whether a program serves in another's place, and its service time.
 
-ghost use Rattle.std.specs.Prelude.{◌≡◌, ◌-◌, ◌≤◌, ◌++◌, IfOk, OnOk, IfSome, IfNone, length, replicate};
+ghost use Rattle.std.specs.Prelude.{◌≡◌, ◌-◌, ◌≤◌, ◌++◌, IfSome, IfNone, length, replicate};
+ghost use Rattle.p3l_base.specs.Memory.{IfGiven, OnGiven};
 ghost use Rattle.p3l_ast.specs.Tree.{program_tree};
 ghost use Rattle.p3l_skel.specs.Lawful.{IsLawfulTree};
 ghost use Rattle.p3l_cost.specs.Costs.{AreCostsOf};
@@ -18,7 +19,7 @@ use std::alloc::Global;
 
 /// The tree of a program, if it keeps the rules.
 pub fn accepted_tree(alloc: Global, program: &Program) -> Result<Option<Tree>, NoMemory>
-    ensures { IfOk result (IsAcceptedTree (program_tree program.now)) }
+    ensures { IfGiven result (IsAcceptedTree (program_tree program.now)) }
 {
     match resolve(alloc, program) {
         Ok(resolved) => Ok(Some(resolved.tree)),
@@ -38,7 +39,7 @@ pub fn service_time(
     requires costs { AreCostsOf tree.now costs.now }
     requires some { 1 ≤ processors }
     requires few { processors ≤ 512 }
-    ensures { IfOk result (IsServiceTime tree.now costs.now processors) }
+    ensures { IfGiven result (IsServiceTime tree.now costs.now processors) }
 {
     match choose(alloc, tree, costs, processors) {
         Ok(choice) => Ok(Some(choice.service)),
@@ -49,7 +50,7 @@ pub fn service_time(
 
 /// So many numbers after others.
 fn put_times(all: &mut Vec<u32>, times: usize, number: u32) -> Result<(), NoMemory>
-    ensures { OnOk result (all.new.items ≡ all.old.items ++ replicate times number) }
+    ensures { OnGiven result (all.new.items ≡ all.old.items ++ replicate times number) }
 {
     for _ in 0..times {
         all.push(number)?;
@@ -65,7 +66,7 @@ fn with_added(
     number: u32,
     numbers: &[u32],
 ) -> Result<List<u32>, NoMemory>
-    ensures { IfOk result (λ all. all ≡ with_added root added number numbers.now) }
+    ensures { IfGiven result (λ all. all ≡ with_added root added number numbers.now) }
 {
     let mut all = Vec::new(alloc);
     if root < numbers.len() {
@@ -81,7 +82,7 @@ fn with_added(
 
 /// The costs of a tree, for another one that has more modules from `main` on.
 fn costs_for(alloc: Global, tree: &Tree, costs: &Costs, other: &Tree) -> Result<Costs, NoMemory>
-    ensures { IfOk result (λ own. own ≡ costs_for tree.now costs.now other.now) }
+    ensures { IfGiven result (λ own. own ≡ costs_for tree.now costs.now other.now) }
 {
     let root = match tree.node(0) {
         Some(root) => root.module as usize,
@@ -110,7 +111,7 @@ pub fn served(
     requires keeps { KeepsCosts tree.now costs.now (program_tree other.now) }
     requires some { 1 ≤ processors }
     requires few { processors ≤ 512 }
-    ensures { IfOk result (IsServed tree.now costs.now processors (program_tree other.now)) }
+    ensures { IfGiven result (IsServed tree.now costs.now processors (program_tree other.now)) }
 {
     let Some(own) = accepted_tree(alloc, other)? else {
         return Ok(None);

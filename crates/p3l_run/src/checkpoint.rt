@@ -1,6 +1,7 @@
 // Runs that end at a checkpoint, where the state of the network is saved.
 
-ghost use Rattle.std.specs.Prelude.{◌≡◌, ◌<◌, ◌≤◌, ◌+◌, ◌*◌, ◌^◌, None, false, length, IfOk};
+ghost use Rattle.std.specs.Prelude.{◌≡◌, ◌<◌, ◌≤◌, ◌+◌, ◌*◌, ◌^◌, None, false, length};
+ghost use Rattle.p3l_base.specs.Memory.{IfGiven};
 ghost use Rattle.std.specs.Option.{option_to_list};
 ghost use Rattle.p3l_sched.specs.Picker.{NamesProcesses};
 ghost use Rattle.p3l_sched.specs.declared.schedule.Schedule.TheVariants as schedule;
@@ -148,7 +149,7 @@ impl<'t> Execution<'t> {
         requires calm { self.now.machine.trapped ≡ false }
         requires sent { self.now.machine.sent < 2 ^ 63 }
         requires few { self.now.machine.fired + self.now.idle < 2 ^ 63 }
-        ensures { IfOk result (Saves self.now) }
+        ensures { IfGiven result (Saves self.now) }
     {
         let shot = self.machine.save(alloc)?;
         if !shot.is_countable() {
@@ -165,7 +166,7 @@ impl<'t> Execution<'t> {
     /// the modules of a tree name its trap.
     fn into_checkpoint(self, alloc: Global, named: &Tree) -> Result<CheckpointEnd, NoMemory>
         requires { IsHalted self }
-        ensures { IfOk result (ComesTo named.now self.entry) }
+        ensures { IfGiven result (ComesTo named.now self.entry) }
     {
         if self.report.trap.is_some() {
             let finish = finish_with(

@@ -1,6 +1,7 @@
 // A run under way, pick by pick.
 
 ghost use Rattle.std.specs.Prelude.{◌≡◌, ◌≢◌, ◌<◌, ◌≤◌, ◌+◌, ◌^◌, [], None, Some, length, IfOk, IsNone, IsSome, IsTrue, OnOk};
+ghost use Rattle.p3l_base.specs.Memory.{IfGiven, OnGiven};
 ghost use Rattle.p3l_firing.specs.Process.{kind_at};
 ghost use Rattle.p3l_net.specs.Machine.{can_step, ready_list};
 ghost use Rattle.p3l_net.specs.Steps.{OthersStay};
@@ -58,7 +59,7 @@ impl<'t> Execution<'t> {
     ) -> Result<Execution<'t>, NoMemory>
         requires typed { IsTyped tree.now net }
         requires wide { 1 ≤ width }
-        ensures { IfOk result (λ execution. execution
+        ensures { IfGiven result (λ execution. execution
             ≡ started tree.now net firings width schedule keeping) }
     {
         let machine = Machine::start(alloc, tree, net)?;
@@ -77,7 +78,7 @@ impl<'t> Execution<'t> {
         keeping: Keeping,
     ) -> Result<Execution<'t>, NoMemory>
         requires { 1 ≤ width }
-        ensures { IfOk result (λ execution. execution
+        ensures { IfGiven result (λ execution. execution
             ≡ begun_on machine.entry earlier firings width schedule keeping) }
     {
         Ok(Execution {
@@ -238,7 +239,7 @@ impl<'t> Execution<'t> {
         requires tree { tree.now ≡ self.old.machine.tree }
         requires units { U.tree units.now ≡ tree.now }
         requires within { kind_at self.old.machine.net process ≢ Some ProcKind.Sink }
-        ensures { OnOk result (HasFired (U.leaf units.now) process self.old self.new None) }
+        ensures { OnGiven result (HasFired (U.leaf units.now) process self.old self.new None) }
     {
         let kind = self.machine.kind(process);
         self.machine.fire_within(alloc, tree, units, process)?;
@@ -261,7 +262,7 @@ impl<'t> Execution<'t> {
     /// Counts an idle pick of a process, and keeps its line.
     pub(crate) fn pass(&mut self, process: u32) -> Result<(), NoMemory>
         requires { self.old.idle < 2 ^ 63 }
-        ensures { OnOk result (self.new ≡ after_idle process self.old) }
+        ensures { OnGiven result (self.new ≡ after_idle process self.old) }
     {
         self.idle += 1;
         keep(&mut self.kept, process, None)
@@ -280,7 +281,7 @@ impl<'t> Execution<'t> {
         requires count { self.old.machine.fired < 2 ^ 63 }
         requires tree { tree.now ≡ self.old.machine.tree }
         requires units { U.tree units.now ≡ tree.now }
-        ensures fired { IfOk result (HasFired (U.leaf units.now) process self.old self.new) }
+        ensures fired { IfGiven result (HasFired (U.leaf units.now) process self.old self.new) }
         ensures others { OnOk result (OthersStay self.old.machine self.new.machine process) }
         ensures item { OnOk result (process ≢ 0
             → self.new.machine.inbox ≡ self.old.machine.inbox) }
@@ -296,7 +297,7 @@ impl<'t> Execution<'t> {
         requires fits { self.earlier + self.machine.emitted < 2 ^ 64 }
         requires ended { ready_list self.machine ≡ [] → IsNone self.report.trap
             → IsSome self.close }
-        ensures finish { IfOk result (λ ran. IsFinish named.now self.entry ran.finish) }
+        ensures finish { IfGiven result (λ ran. IsFinish named.now self.entry ran.finish) }
         ensures stats { IfOk result (λ ran. ran.stats ≡ stats_at self.entry) }
         ensures lines { IfOk result (λ ran. ran.lines ≡ self.entry.kept) }
         ensures sum { IfOk result (λ ran. ran.sum ≡ self.entry.report.sum) }
@@ -316,7 +317,7 @@ impl<'t> Execution<'t> {
         requires fits { self.now.earlier + self.now.machine.emitted < 2 ^ 64 }
         requires ended { ready_list self.now.machine ≡ [] → IsNone self.now.report.trap
             → IsSome self.now.close }
-        ensures { IfOk result (IsFinish named.now self.now) }
+        ensures { IfGiven result (IsFinish named.now self.now) }
     {
         if self.machine.ready() == 0 {
             return finish_with(

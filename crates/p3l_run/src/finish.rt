@@ -1,6 +1,7 @@
 // How a run came to its end.
 
-ghost use Rattle.std.specs.Prelude.{◌≡◌, ◌*◌, IfOk, IsNone, IsSome};
+ghost use Rattle.std.specs.Prelude.{◌≡◌, ◌*◌, IsNone, IsSome};
+ghost use Rattle.p3l_base.specs.Memory.{IfGiven};
 ghost use Rattle.p3l_stream.specs.declared.items.Ending.{Ending};
 ghost use Rattle.p3l_run.specs.Run.{MayEnd, end_of, module_name};
 
@@ -13,7 +14,7 @@ use std::alloc::Global;
 
 /// The name of module `number`, and an empty one where there is no such module.
 fn name_of(alloc: Global, tree: &Tree, number: u32) -> Result<Name, NoMemory>
-    ensures { IfOk result (λ name. name ≡ module_name tree.now number) }
+    ensures { IfGiven result (λ name. name ≡ module_name tree.now number) }
 {
     match tree.modules.as_slice().get(number as usize) {
         Some(found) => Name::from_text(alloc, found.name.as_str()),
@@ -31,7 +32,7 @@ pub(crate) fn finish_with(
     close: Option<Ending>,
 ) -> Result<RunEnd, NoMemory>
     requires { IsNone trap → IsSome close }
-    ensures { IfOk result (λ finish. (e : Ending) → MayEnd close e
+    ensures { IfGiven result (λ finish. (e : Ending) → MayEnd close e
         → finish ≡ end_of tree.now trap number e) }
 {
     match trap {

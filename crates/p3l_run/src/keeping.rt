@@ -1,6 +1,7 @@
 // The lines of a trace, where they are kept.
 
-ghost use Rattle.std.specs.Prelude.{◌≡◌, ◌∷◌, ◌++◌, [], OnOk, option_map};
+ghost use Rattle.std.specs.Prelude.{◌≡◌, ◌∷◌, ◌++◌, [], option_map};
+ghost use Rattle.p3l_base.specs.Memory.{OnGiven};
 ghost use Rattle.p3l_run.specs.Keeping.{kept_by};
 
 use p3l_base::{List, NoMemory};
@@ -34,7 +35,7 @@ pub(crate) fn keep(
     pick: u32,
     kind: Option<ProcKind>,
 ) -> Result<(), NoMemory>
-    ensures { OnOk result (kept.new
+    ensures { OnGiven result (kept.new
         ≡ option_map (λ lines. lines ++ record { pick = pick; kind = kind } ∷ []) kept.old) }
 {
     match kept {

@@ -1,6 +1,7 @@
 // A machine fed from a stream of few bytes.
 
-ghost use Rattle.std.specs.Prelude.{◌≡◌, IfOk};
+ghost use Rattle.std.specs.Prelude.{◌≡◌};
+ghost use Rattle.p3l_base.specs.Memory.{IfGiven};
 ghost use Rattle.p3l_sketch.specs.OneNode.{one_node};
 
 use p3l_base::{List, NoMemory};
@@ -17,7 +18,7 @@ use std::test::Fail;
 /// The machine of the tree of one node.
 fn machine_of<'t>(alloc: Global, tree: &'t Tree) -> Result<Machine<'t>, NoMemory>
     requires { tree.now ≡ one_node }
-    ensures { IfOk result (λ machine. machine.tree ≡ one_node) }
+    ensures { IfGiven result (λ machine. machine.tree ≡ one_node) }
 {
     the_net_of_one_unit_is_typed();
     let net = unit_net(alloc, 4)?;

@@ -1,6 +1,7 @@
 // The profile of an input.
 
-ghost use Rattle.std.specs.Prelude.{◌≡◌, ◌≤◌, IfOk, OnOk};
+ghost use Rattle.std.specs.Prelude.{◌≡◌, ◌≤◌, OnOk};
+ghost use Rattle.p3l_base.specs.Memory.{IfGiven};
 ghost use Rattle.std.specs.List.{All};
 ghost use Rattle.p3l_skel.specs.Lawful.{IsLawfulTree};
 ghost use Rattle.p3l_skel.specs.Tree.{node_at};
@@ -43,7 +44,7 @@ pub fn sample<S: Source>(
     requires lawful { IsLawfulTree tree.now }
     requires of { IsProfileOf tree.now profile.old }
     requires codes { All (HasCode (record { tree = tree.now; codes = codes.now })) tree.now.nodes }
-    ensures sampled { IfOk result (IsSampled tree.now
+    ensures sampled { IfGiven result (IsSampled tree.now
         (record { tree = tree.now; codes = codes.now })
         profile.old.greatest profile.new.greatest
         (S.rest input.old) (S.rest input.new) (S.faults input.old) (S.faults input.new)) }

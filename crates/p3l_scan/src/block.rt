@@ -1,6 +1,7 @@
 // What the steps of a plan do with a block: the scan of it, or its halves merged.
 
-ghost use Rattle.std.specs.Prelude.{◌≡◌, ◌≤◌, ◌<◌, ◌+◌, ◌*◌, ◌++◌, ℕ, length, IfOk};
+ghost use Rattle.std.specs.Prelude.{◌≡◌, ◌≤◌, ◌<◌, ◌+◌, ◌*◌, ◌++◌, ℕ, length};
+ghost use Rattle.p3l_base.specs.Memory.{IfGiven};
 ghost use Rattle.p3l_skel.specs.Item.{elements, item};
 ghost use Rattle.p3l_skel.specs.Tree.{HasLength};
 ghost use Rattle.p3l_scan.specs.Scan.{in_words, merged, scan};
@@ -23,7 +24,7 @@ fn combine<U: Units>(
     requires operator { IsOperator (U.tree units.now) op elem }
     requires left { length left.now ≡ elem }
     requires right { length right.now ≡ elem }
-    ensures combined { IfOk result (λ outcome. outcome
+    ensures combined { IfGiven result (λ outcome. outcome
         ≡ item (U.tree units.now) (U.leaf units.now) op (left.now ++ right.now)) }
 {
     let pair = Words::joined(alloc, left, right)?;
@@ -42,7 +43,7 @@ pub(crate) fn merge<U: Units>(
     requires operator { IsOperator (U.tree units.now) op elem }
     requires front { HasElements elem front.now }
     requires back { HasElements elem back.now }
-    ensures { IfOk result (λ outcome. outcome
+    ensures { IfGiven result (λ outcome. outcome
         ≡ in_words (merged (item (U.tree units.now) (U.leaf units.now) op)
         (elements elem front.now) (elements elem back.now))) }
 {
@@ -71,7 +72,7 @@ pub(crate) fn scan<U: Units>(
 ) -> Result<Outcome, NoMemory>
     requires operator { IsOperator (U.tree units.now) op elem }
     requires block { HasElements elem block.now }
-    ensures { IfOk result (λ outcome. outcome
+    ensures { IfGiven result (λ outcome. outcome
         ≡ in_words (scan (item (U.tree units.now) (U.leaf units.now) op)
         (elements elem block.now))) }
 {
@@ -104,7 +105,7 @@ pub(crate) fn merge_halves<U: Units>(
 ) -> Result<Outcome, NoMemory>
     requires operator { IsOperator (U.tree units.now) op elem }
     requires block { HasHalves elem block.now }
-    ensures { IfOk result (λ outcome. outcome
+    ensures { IfGiven result (λ outcome. outcome
         ≡ in_words (merged_halves (item (U.tree units.now) (U.leaf units.now) op)
         (elements elem block.now))) }
 {

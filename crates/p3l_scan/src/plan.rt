@@ -1,6 +1,7 @@
 // The plan of a scan: a pipe of stages, each a map over blocks.
 
 ghost use Rattle.std.specs.Prelude.{◌≡◌, ◌↔◌, ◌≤◌, ◌*◌, ℕ, IfOk, IfErr, IsTrue};
+ghost use Rattle.p3l_base.specs.Memory.{IfGiven};
 ghost use Rattle.std.specs.Int.{IsPowerOfTwo};
 ghost use Rattle.p3l_skel.specs.Lawful.{IsLawfulTree};
 ghost use Rattle.p3l_scan.specs.Plan.{IsScannable};
@@ -64,7 +65,7 @@ pub fn can_scan(tree: &Tree, segments: u32) -> Result<(), ScanRefusal>
 pub fn scan_plan(alloc: Global, tree: &Tree, segments: u32) -> Result<ScanPlan, NoMemory>
     requires lawful { IsLawfulTree tree.now }
     requires can { IsScannable tree.now segments }
-    ensures planned { IfOk result (IsPlanOf tree.now segments) }
+    ensures planned { IfGiven result (IsPlanOf tree.now segments) }
     ensures runs { IfOk result IsRunnable }
 {
     let Some(root) = tree.node(0) else {

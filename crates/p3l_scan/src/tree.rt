@@ -1,6 +1,7 @@
 // The tree of a plan, and its numbers of blocks.
 
-ghost use Rattle.std.specs.Prelude.{◌≡◌, ◌≤◌, ◌+◌, ◌*◌, ◌^◌, [], ◌∷◌, ◌++◌, None, IfOk, OnOk};
+ghost use Rattle.std.specs.Prelude.{◌≡◌, ◌≤◌, ◌+◌, ◌*◌, ◌^◌, [], ◌∷◌, ◌++◌, None};
+ghost use Rattle.p3l_base.specs.Memory.{IfGiven, OnGiven};
 ghost use Rattle.p3l_scan.specs.Plan.{blocks_cut, blocks_slice, counts_of, infos_of, main_info, numbers_of, plan_tree, root_of, stage_of, stages_from, step_of};
 
 use p3l_base::{Cut, Dim, List, Name, NoMemory, Place, Slice};
@@ -11,7 +12,7 @@ use std::alloc::Global;
 pub(crate) fn plan_tree(alloc: Global, levels: u32, words: u32) -> Result<Tree, NoMemory>
     requires few { levels ≤ 9 }
     requires small { 2 ^ levels * words ≤ 65536 }
-    ensures { IfOk result (λ tree. tree ≡ plan_tree levels words) }
+    ensures { IfGiven result (λ tree. tree ≡ plan_tree levels words) }
 {
     let mut nodes = List::new(alloc);
     nodes.push(root(alloc, levels, words)?)?;
@@ -23,7 +24,7 @@ pub(crate) fn plan_tree(alloc: Global, levels: u32, words: u32) -> Result<Tree, 
 /// The numbers of blocks of a plan in which `levels` stages follow the first.
 pub(crate) fn plan_counts(alloc: Global, levels: u32) -> Result<List<u32>, NoMemory>
     requires few { levels ≤ 9 }
-    ensures { IfOk result (λ counts. counts ≡ counts_of levels) }
+    ensures { IfGiven result (λ counts. counts ≡ counts_of levels) }
 {
     let mut counts = List::new(alloc);
     add_counts(&mut counts, levels)?;
@@ -42,7 +43,7 @@ pub(crate) fn power_of_two(exponent: u32) -> u32
 fn root(alloc: Global, levels: u32, words: u32) -> Result<Node, NoMemory>
     requires few { levels ≤ 9 }
     requires small { 2 ^ levels * words ≤ 65536 }
-    ensures { IfOk result (λ node. node ≡ root_of levels words) }
+    ensures { IfGiven result (λ node. node ≡ root_of levels words) }
 {
     let mut parts = List::new(alloc);
     add_numbers(&mut parts, 0, levels)?;
@@ -61,7 +62,7 @@ fn add_numbers(numbers: &mut List<u32>, stage: u32, more: u32) -> Result<(), NoM
     requires few { more ≤ 9 }
     requires low { stage ≤ 9 }
     requires there { stage + more ≤ 9 }
-    ensures { OnOk result (numbers.new ≡ numbers.old ++ numbers_of stage more) }
+    ensures { OnGiven result (numbers.new ≡ numbers.old ++ numbers_of stage more) }
 {
     numbers.push(2 * stage + 1)?;
     if more > 0 {
@@ -73,7 +74,7 @@ fn add_numbers(numbers: &mut List<u32>, stage: u32, more: u32) -> Result<(), NoM
 /// Adds how many blocks a stage has that `more` stages follow, and each of these.
 fn add_counts(counts: &mut List<u32>, more: u32) -> Result<(), NoMemory>
     requires few { more ≤ 9 }
-    ensures { OnOk result (counts.new ≡ counts.old ++ counts_of more) }
+    ensures { OnGiven result (counts.new ≡ counts.old ++ counts_of more) }
 {
     counts.push(power_of_two(more))?;
     if more > 0 {
@@ -93,7 +94,7 @@ fn add_stages(
 ) -> Result<(), NoMemory>
     requires there { stage + more ≤ 9 }
     requires small { 2 ^ more * words ≤ 65536 }
-    ensures { OnOk result (nodes.new ≡ nodes.old ++ stages_from stage more words) }
+    ensures { OnGiven result (nodes.new ≡ nodes.old ++ stages_from stage more words) }
 {
     nodes.push(map_node(alloc, stage, power_of_two(more), words)?)?;
     nodes.push(step_node(alloc, stage, words))?;
@@ -107,7 +108,7 @@ fn add_stages(
 fn map_node(alloc: Global, stage: u32, blocks: u32, words: u32) -> Result<Node, NoMemory>
     requires low { stage ≤ 9 }
     requires small { blocks * words ≤ 65536 }
-    ensures { IfOk result (λ node. node ≡ stage_of stage blocks words) }
+    ensures { IfGiven result (λ node. node ≡ stage_of stage blocks words) }
 {
     let cut = blocks_cut(alloc, blocks, words)?;
     let mut parts = List::new(alloc);
@@ -137,7 +138,7 @@ fn step_node(alloc: Global, stage: u32, words: u32) -> Node
 
 /// The cut of `blocks` blocks of `words` words, an element each.
 fn blocks_cut(alloc: Global, blocks: u32, words: u32) -> Result<Cut, NoMemory>
-    ensures { IfOk result (λ cut. cut ≡ blocks_cut blocks words) }
+    ensures { IfGiven result (λ cut. cut ≡ blocks_cut blocks words) }
 {
     let mut ins = List::new(alloc);
     ins.push(blocks_slice(alloc, blocks, words)?)?;
@@ -153,7 +154,7 @@ fn blocks_cut(alloc: Global, blocks: u32, words: u32) -> Result<Cut, NoMemory>
 
 /// `blocks` blocks of `words` words, one after the other.
 fn blocks_slice(alloc: Global, blocks: u32, words: u32) -> Result<Slice, NoMemory>
-    ensures { IfOk result (λ slice. slice ≡ blocks_slice blocks words) }
+    ensures { IfGiven result (λ slice. slice ≡ blocks_slice blocks words) }
 {
     let mut dims = List::new(alloc);
     dims.push(Dim {
@@ -169,7 +170,7 @@ fn blocks_slice(alloc: Global, blocks: u32, words: u32) -> Result<Slice, NoMemor
 
 /// A module of each node, in preorder.
 fn plan_modules(alloc: Global, levels: u32) -> Result<List<ModuleInfo>, NoMemory>
-    ensures { IfOk result (λ modules. modules ≡ main_info ∷ infos_of levels) }
+    ensures { IfGiven result (λ modules. modules ≡ main_info ∷ infos_of levels) }
 {
     let mut modules = List::new(alloc);
     add_module(alloc, &mut modules, "main", ModuleKind::Pipe)?;
@@ -179,7 +180,7 @@ fn plan_modules(alloc: Global, levels: u32) -> Result<List<ModuleInfo>, NoMemory
 
 /// Adds the modules of a stage that `more` stages follow, and of these.
 fn add_modules(alloc: Global, modules: &mut List<ModuleInfo>, more: u32) -> Result<(), NoMemory>
-    ensures { OnOk result (modules.new ≡ modules.old ++ infos_of more) }
+    ensures { OnGiven result (modules.new ≡ modules.old ++ infos_of more) }
 {
     add_module(alloc, modules, "stage", ModuleKind::Map)?;
     add_module(alloc, modules, "step", ModuleKind::Seq)?;
@@ -196,7 +197,7 @@ fn add_module(
     name: &str,
     kind: ModuleKind,
 ) -> Result<(), NoMemory>
-    ensures { OnOk result (modules.new
+    ensures { OnGiven result (modules.new
         ≡ modules.old ++ record { name = name.now; kind = kind; rescue = None } ∷ []) }
 {
     let name = Name::from_text(alloc, name)?;

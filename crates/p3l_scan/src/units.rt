@@ -1,6 +1,7 @@
 // The units of a plan: its steps, by the operator of the tree that is scanned.
 
 ghost use Rattle.std.specs.Prelude.{◌≡◌, ◌≤◌, ◌-◌, ◌*◌, ◌^◌, length, map, IfOk};
+ghost use Rattle.p3l_base.specs.Memory.{IfGiven};
 ghost use Rattle.p3l_skel.specs.Item.{item, pieces};
 ghost use Rattle.p3l_skel.specs.Lawful.{IsLawfulTree};
 ghost use Rattle.p3l_skel.specs.Tree.{node_at};
@@ -54,7 +55,7 @@ impl<U: Units> ScanUnits<U> {
     pub fn new(plan: &ScanPlan, inner: U) -> Result<ScanUnits<U>, NoMemory>
         requires lawful { IsLawfulTree (U.tree inner) }
         requires planned { IsPlanOf (U.tree inner) plan.now.segments plan.now }
-        ensures tree { IfOk result (λ units. plan_tree units.levels units.words ≡ plan.now.tree) }
+        ensures tree { IfGiven result (λ units. plan_tree units.levels units.words ≡ plan.now.tree) }
         ensures elem { IfOk result (λ units. units.elem ≡ plan.now.elem) }
         ensures op { IfOk result (λ units. units.op ≡ plan.now.op) }
         ensures inner { IfOk result (λ units. units.inner ≡ inner) }
@@ -80,7 +81,7 @@ impl<U: Units> ScanUnits<U> {
     fn step(&self, alloc: Global, stage: u32, block: &[i64]) -> Result<Outcome, NoMemory>
         requires there { stage ≤ self.now.levels }
         requires fits { length block.now ≡ 2 ^ stage * self.now.words }
-        ensures { IfOk result (λ outcome. outcome
+        ensures { IfGiven result (λ outcome. outcome
             ≡ step_leaf self.now.elem
             (item (U.tree self.now.inner) (U.leaf self.now.inner) self.now.op) (step_node stage)
             block.now) }
@@ -107,7 +108,7 @@ fn row_outcome<U: Units>(
     requires there { stage ≤ units.now.levels }
     requires size { size ≡ 2 ^ stage * units.now.words }
     requires fits { length words.now ≡ blocks * size }
-    ensures { IfOk result (λ outcome. outcome
+    ensures { IfGiven result (λ outcome. outcome
         ≡ in_row (map (step_leaf units.now.elem
         (item (U.tree units.now.inner) (U.leaf units.now.inner) units.now.op) (step_node stage))
         (pieces blocks size words.now))) }
@@ -126,7 +127,7 @@ impl<U: Units> ScanUnits<U> {
     fn stage(&self, alloc: Global, stage: u32, words: &[i64]) -> Result<Outcome, NoMemory>
         requires there { stage ≤ self.now.levels }
         requires fits { length words.now ≡ 2 ^ (self.now.levels - stage) * (2 ^ stage * self.now.words) }
-        ensures { IfOk result (λ outcome. outcome
+        ensures { IfGiven result (λ outcome. outcome
             ≡ in_row (map (step_leaf self.now.elem
             (item (U.tree self.now.inner) (U.leaf self.now.inner) self.now.op) (step_node stage))
             (pieces (2 ^ (self.now.levels - stage)) (2 ^ stage * self.now.words) words.now))) }

@@ -6,6 +6,7 @@ ghost use Rattle.p3l_base.specs.Cut.{HasFreeSizes, element_count, element_words}
 ghost use Rattle.p3l_skel.specs.Item.{elements};
 ghost use Rattle.std.specs.List.{All};
 ghost use Rattle.std.specs.Prelude.{◌≡◌, ◌<◌, length, IfOk};
+ghost use Rattle.p3l_base.specs.Memory.{IfGiven};
 
 use p3l_base::{Cut, List, NoMemory, Words, cut_at};
 use std::alloc::Global;
@@ -15,7 +16,7 @@ pub fn gather(alloc: Global, cut: &Cut, words: &Words, element: u64) -> Result<W
     requires there { element < element_count cut.now }
     requires sizes { All (HasFreeSizes cut.now.first cut.now.second) cut.now.ins }
     requires within { All (λ (slice : Slice). LiesWithin slice (length words.now)) cut.now.ins }
-    ensures { IfOk result (λ gathered. gathered
+    ensures { IfGiven result (λ gathered. gathered
         ≡ element_words cut.now.ins cut.now.second words.now element) }
 {
     prove!(element / (cut.second as u64) < cut.first as u64);
@@ -32,7 +33,7 @@ pub fn gather(alloc: Global, cut: &Cut, words: &Words, element: u64) -> Result<W
 /// The elements of `size` words each, in order.
 pub fn elements(alloc: Global, words: &Words, size: u32) -> Result<List<Words>, NoMemory>
     requires { 0 < size }
-    ensures elements { IfOk result (λ list. list ≡ elements size words.now) }
+    ensures elements { IfGiven result (λ list. list ≡ elements size words.now) }
     ensures sized { IfOk result (λ list. All (λ element. length element ≡ size) list) }
 {
     let size = size as usize;

@@ -4,7 +4,8 @@ ghost use Rattle.p3l_base.specs.declared.outcome.Outcome.{Outcome};
 ghost use Rattle.p3l_skel.specs.Fold.{combined};
 ghost use Rattle.p3l_skel.specs.Item.{is_done, on_value, rescued};
 ghost use Rattle.p3l_skel.specs.Tree.{rescue_of};
-ghost use Rattle.std.specs.Prelude.{◌≡◌, ℤ, List, replicate, IfOk};
+ghost use Rattle.std.specs.Prelude.{◌≡◌, ℤ, List, replicate};
+ghost use Rattle.p3l_base.specs.Memory.{IfGiven};
 
 use crate::tree::{Node, Tree};
 use p3l_base::{NoMemory, Outcome, Words};
@@ -12,7 +13,7 @@ use std::alloc::Global;
 
 /// The same words again.
 pub fn copied(alloc: Global, words: &Words) -> Result<Words, NoMemory>
-    ensures { IfOk result (λ copy. copy ≡ words.now) }
+    ensures { IfGiven result (λ copy. copy ≡ words.now) }
 {
     Words::from_slice(alloc, words.as_slice())
 }
@@ -20,7 +21,7 @@ pub fn copied(alloc: Global, words: &Words) -> Result<Words, NoMemory>
 /// What an operator is to be run on, of what the two halves of a fold came to: the words of the
 /// left followed by those of the right, or the left trap, else the right one.
 pub fn paired(alloc: Global, left: Outcome, right: Outcome) -> Result<Outcome, NoMemory>
-    ensures { IfOk result (λ both. (operator : List ℤ → Outcome)
+    ensures { IfGiven result (λ both. (operator : List ℤ → Outcome)
         → on_value operator both ≡ combined operator left right) }
 {
     match (left, right) {
@@ -51,7 +52,7 @@ pub fn rescue(
     node: &Node,
     outcome: Outcome,
 ) -> Result<Outcome, NoMemory>
-    ensures { IfOk result (λ kept. kept
+    ensures { IfGiven result (λ kept. kept
         ≡ rescued (rescue_of tree.now node.now.«module») node.now.outs outcome) }
 {
     match outcome {
@@ -65,7 +66,7 @@ pub fn rescue(
 
 /// `count` words, each this number.
 fn filled(alloc: Global, number: i64, count: u32) -> Result<Words, NoMemory>
-    ensures { IfOk result (λ words. words ≡ replicate count number) }
+    ensures { IfGiven result (λ words. words ≡ replicate count number) }
 {
     Ok(Words::from_vec(vec![in alloc; number; count as usize]?))
 }

@@ -1,6 +1,7 @@
 // The tree of skeletons and the counts of workers.
 
-ghost use Rattle.std.specs.Prelude.{◌≡◌, ◌↔◌, ◌<◌, ◌≤◌, IsSome, IfOk, IfSome, IfNone, length, slice_index};
+ghost use Rattle.std.specs.Prelude.{◌≡◌, ◌↔◌, ◌<◌, ◌≤◌, IsSome, IfSome, IfNone, length, slice_index};
+ghost use Rattle.p3l_base.specs.Memory.{IfGiven};
 ghost use Rattle.p3l_skel.specs.Tree.{node_at, rescue_of, seq_tree};
 
 use p3l_base::{Cut, List, Name, NoMemory};
@@ -93,7 +94,7 @@ impl Tree {
     /// The tree of a program of one `seq` module with this name, which takes `ins` words and gives
     /// `outs`.
     pub fn of_seq(alloc: Global, name: Name, ins: u32, outs: u32) -> Result<Tree, NoMemory>
-        ensures { IfOk result (λ tree. tree ≡ seq_tree name ins outs) }
+        ensures { IfGiven result (λ tree. tree ≡ seq_tree name ins outs) }
     {
         let mut nodes = List::new(alloc);
         nodes.push(Node {

@@ -1,6 +1,7 @@
 // The nodes that run in one process.
 
-ghost use Rattle.std.specs.Prelude.{IfOk, ◌≡◌};
+ghost use Rattle.std.specs.Prelude.{◌≡◌};
+ghost use Rattle.p3l_base.specs.Memory.{IfGiven};
 
 use p3l_base::{NoMemory, Outcome, Words};
 use std::alloc::Global;
@@ -27,7 +28,7 @@ pub trait Units {
     fn run(&self, alloc: Global, node: u32, words: &Words) -> Result<Outcome, NoMemory>
         requires sequential { IsUnit (tree self.now) node }
         requires fits { HasFittingLength (tree self.now) node (length words.now) }
-        ensures { IfOk result (λ outcome. outcome
+        ensures { IfGiven result (λ outcome. outcome
             ≡ item (tree self.now) (leaf self.now) node words.now) };
 
     /// A value that a `seq` module gives has the out words of the module's nodes.

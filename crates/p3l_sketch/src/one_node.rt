@@ -1,6 +1,7 @@
 // The tree of one node, and bodies for it. Contracts see the tree, and what the bodies make of words.
 
-ghost use Rattle.std.specs.Prelude.{◌≡◌, IfOk};
+ghost use Rattle.std.specs.Prelude.{◌≡◌};
+ghost use Rattle.p3l_base.specs.Memory.{IfGiven};
 ghost use Rattle.p3l_sketch.specs.OneNode.{one_node};
 
 use p3l_base::{List, Name, NoMemory, Outcome, Trap, TrapKind, Words};
@@ -49,7 +50,7 @@ impl Units for Refusing {
 
 /// The tree of the node `main`, a `seq` that takes and gives one word.
 pub fn tree_of_one(alloc: Global) -> Result<Tree, NoMemory>
-    ensures { IfOk result (λ tree. tree ≡ one_node) }
+    ensures { IfGiven result (λ tree. tree ≡ one_node) }
 {
     let mut nodes = List::new(alloc);
     nodes.push(Node {

@@ -1,6 +1,7 @@
 // Bytes that were taken and not yet answered.
 
-ghost use Rattle.std.specs.Prelude.{◌≡◌, ◌≤◌, [], ◌++◌, drop, take, length, position, IfOk, OnOk, OnErr};
+ghost use Rattle.std.specs.Prelude.{◌≡◌, ◌≤◌, [], ◌++◌, drop, take, length, position, OnErr};
+ghost use Rattle.p3l_base.specs.Memory.{IfGiven, OnGiven};
 ghost use Rattle.p3l_stream.specs.Lines.{is_feed};
 
 use crate::line::first_feed;
@@ -34,7 +35,7 @@ impl Model for Buffer {
 impl Buffer {
     /// No bytes yet, and room for `room`.
     pub(crate) fn new(alloc: Global, room: usize) -> Result<Buffer, NoMemory>
-        ensures { IfOk result (λ buffer. buffer ≡ []) }
+        ensures { IfGiven result (λ buffer. buffer ≡ []) }
     {
         Ok(Buffer {
             bytes: Vec::with_capacity(alloc, room)?,
@@ -100,7 +101,7 @@ impl Buffer {
 
     /// Puts a piece after the bytes.
     pub(crate) fn push(&mut self, piece: &[u8]) -> Result<(), NoMemory>
-        ensures ok { OnOk result (self.new ≡ self.old ++ piece.now) }
+        ensures ok { OnGiven result (self.new ≡ self.old ++ piece.now) }
         ensures err { OnErr result (self.new ≡ self.old) }
     {
         self.forget_passed();

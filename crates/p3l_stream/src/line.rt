@@ -1,6 +1,7 @@
 // The lines of a text, and what each holds.
 
-ghost use Rattle.std.specs.Prelude.{◌≡◌, take, Some, Ok, IfOk, IfSome, position};
+ghost use Rattle.std.specs.Prelude.{◌≡◌, take, Some, Ok, IfSome, position};
+ghost use Rattle.p3l_base.specs.Memory.{IfGiven};
 ghost use Rattle.std.specs.Str.Lines.{strip_carriage_return};
 ghost use Rattle.p3l_stream.specs.Lines.{is_feed, line_from, line_of};
 ghost use Rattle.p3l_stream.specs.Words.{number_of};
@@ -58,7 +59,7 @@ pub(crate) fn without_return(line: &[u8]) -> &[u8]
 
 /// What a line holds, where an item has `width` words.
 pub(crate) fn read_line(alloc: Global, bytes: &[u8], width: u32) -> Result<Line, NoMemory>
-    ensures { IfOk result (λ read. read ≡ line_of width bytes.now) }
+    ensures { IfGiven result (λ read. read ≡ line_of width bytes.now) }
 {
     match read_numbers(alloc, bytes)? {
         Ok(numbers) => Ok(counted(numbers, width)),

@@ -1,6 +1,7 @@
 // The stream, item by item.
 
 ghost use Rattle.std.specs.Prelude.{◌≡◌, ◌+◌, ◌≤◌, ◌<◌, ◌↔◌, ◌⊎◌, None, Some, Ok, Result, true, false, length, take, drop, position, IfOk, IfSome, IsTrue, OnErr, OnSome};
+ghost use Rattle.p3l_base.specs.Memory.{IfGiven, Refused};
 ghost use Rattle.p3l_stream.specs.Answers.{Answers, NextCause, TakeCause};
 ghost use Rattle.p3l_stream.specs.Ended.{HasLine, IsLine};
 ghost use Rattle.p3l_stream.specs.Lines.{is_feed};
@@ -54,7 +55,7 @@ impl Lines {
     pub fn new(alloc: Global, words: u32, limit: u64) -> Result<Lines, NoMemory>
         requires words { 1 ≤ words }
         requires limit { 1 ≤ limit }
-        ensures { IfOk result (λ lines. lines ≡ started words limit) }
+        ensures { IfGiven result (λ lines. lines ≡ started words limit) }
     {
         Ok(Lines {
             alloc,
@@ -89,6 +90,7 @@ impl Lines {
         ensures at_end { self.old.at_end ≡ true → source.new ≡ source.old }
 
         // What stays to be answered is less than a piece, and the items are at most half the limit and one.
+        ensures refused { self.old.closed ≡ None → OnErr result Refused }
         ensures few { IfOk result (λ next. item_count next ≡ 1
             → (length self.new.held < 4096) ⊎ (source.new ≡ source.old)) }
         ensures items { IfOk result (λ next. item_count next + most_items self.new
@@ -126,7 +128,7 @@ impl Lines {
         ensures cause { NextCause result (S.faults source.old) (S.faults source.new) }
         ensures ready { HasLine self.old.words self.old.held → source.new ≡ source.old }
         ensures at_end { self.old.at_end ≡ true → source.new ≡ source.old }
-        ensures few { IfOk result (λ next. item_count next ≡ 1
+        ensures few { IfGiven result (λ next. item_count next ≡ 1
             → (length self.new.held < 4096) ⊎ (source.new ≡ source.old)) }
     {
         match self.pass_blanks()? {
@@ -143,7 +145,7 @@ impl Lines {
         ensures answers { Answers self.old self.new (S.rest source.old) (S.rest source.new) result }
         ensures cause { NextCause result (S.faults source.old) (S.faults source.new) }
         ensures at_end { self.old.at_end ≡ true → source.new ≡ source.old }
-        ensures few { IfOk result (λ next. item_count next ≡ 1 → length self.new.held < 4096) }
+        ensures few { IfGiven result (λ next. item_count next ≡ 1 → length self.new.held < 4096) }
     {
         while !self.at_end && self.taken < self.limit {
             if self.take_piece(source)?.is_err() {
@@ -166,6 +168,7 @@ impl Lines {
     fn take_piece<S: Source>(&mut self, source: &mut S) -> Result<Result<(), Failed>, NoMemory>
         requires open { self.old.at_end ≡ false }
         requires room { self.old.taken < self.old.limit }
+        ensures refused { OnErr result Refused }
         ensures requests { RequestsOnce self.old self.new (S.rest source.old) (S.rest source.new) result }
         ensures cause { TakeCause result (S.faults source.old) (S.faults source.new) }
     {
@@ -184,6 +187,7 @@ impl Lines {
         requires filled { 0 < length buf.old }
         requires short { length buf.old ≤ 4096 }
         requires room { self.old.taken + length buf.old ≤ self.old.limit }
+        ensures refused { OnErr result Refused }
         ensures requests { RequestsOnce self.old self.new (S.rest source.old) (S.rest source.new) result }
         ensures cause { TakeCause result (S.faults source.old) (S.faults source.new) }
     {
@@ -203,7 +207,7 @@ impl Lines {
 
     /// Passes the ended lines without words, and the first that has some, if there is one.
     fn pass_blanks(&mut self) -> Result<Option<Line>, NoMemory>
-        ensures ok { IfOk result (MayPassFilled self.old self.new) }
+        ensures ok { IfGiven result (MayPassFilled self.old self.new) }
         ensures err { OnErr result (OnlyPasses self.old self.new) }
     {
         while let Some(line) = self.pass_line()? {
@@ -216,7 +220,7 @@ impl Lines {
 
     /// Passes the first line, if it is ended, and says what it holds.
     fn pass_line(&mut self) -> Result<Option<Line>, NoMemory>
-        ensures ok { IfOk result (MayPassLine self.old self.new) }
+        ensures ok { IfGiven result (MayPassLine self.old self.new) }
         ensures err { OnErr result (self.new ≡ self.old) }
     {
         match self.plain_line() {
@@ -256,7 +260,7 @@ impl Lines {
 
     /// Passes the first line, if it is ended, and says what it holds, whatever it is.
     fn pass_any_line(&mut self) -> Result<Option<Line>, NoMemory>
-        ensures ok { IfOk result (MayPassLine self.old self.new) }
+        ensures ok { IfGiven result (MayPassLine self.old self.new) }
         ensures err { OnErr result (self.new ≡ self.old) }
     {
         let Some(end) = self.held.first_feed() else {
@@ -269,7 +273,7 @@ impl Lines {
 
     /// Passes the line that the input's end ends, and says what it holds; no byte is no line.
     fn pass_last(&mut self) -> Result<Line, NoMemory>
-        ensures ok { IfOk result (PassesLast self.old self.new) }
+        ensures ok { IfGiven result (PassesLast self.old self.new) }
         ensures err { OnErr result (self.new ≡ self.old) }
     {
         let bytes = self.held.front(self.held.len());

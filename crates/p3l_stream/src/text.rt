@@ -1,6 +1,7 @@
 // The text that outcomes are written as.
 
-ghost use Rattle.std.specs.Prelude.{◌≡◌, ◌++◌, [], ◌∷◌, IfOk, OnOk};
+ghost use Rattle.std.specs.Prelude.{◌≡◌, ◌++◌, [], ◌∷◌};
+ghost use Rattle.p3l_base.specs.Memory.{IfGiven, OnGiven};
 ghost use Rattle.p3l_stream.specs.Text as as_text;
 
 use p3l_base::{NoMemory, Outcome, Words};
@@ -32,7 +33,7 @@ impl Model for Text {
 impl Text {
     /// No bytes, and room for `room`.
     fn with_room(alloc: Global, room: usize) -> Result<Text, NoMemory>
-        ensures { IfOk result (λ text. text ≡ []) }
+        ensures { IfGiven result (λ text. text ≡ []) }
     {
         Ok(Text {
             bytes: SmallVec::with_capacity(alloc, room)?,
@@ -41,7 +42,7 @@ impl Text {
 
     /// Puts bytes after the others.
     fn append(&mut self, bytes: &[u8]) -> Result<(), NoMemory>
-        ensures { OnOk result (self.new ≡ self.old ++ bytes.now) }
+        ensures { OnGiven result (self.new ≡ self.old ++ bytes.now) }
     {
         self.bytes.extend_from_slice(bytes)?;
         Ok(())
@@ -49,7 +50,7 @@ impl Text {
 
     /// Puts a byte after the others.
     fn push(&mut self, byte: u8) -> Result<(), NoMemory>
-        ensures { OnOk result (self.new ≡ self.old ++ byte ∷ []) }
+        ensures { OnGiven result (self.new ≡ self.old ++ byte ∷ []) }
     {
         self.bytes.push(byte)?;
         Ok(())
@@ -66,7 +67,7 @@ impl Text {
 /// The line of an item: its words in decimal without leading zeros, separated by one space, and a line
 /// feed. Up to four words take no memory.
 pub fn item_text(alloc: Global, words: &Words) -> Result<Text, NoMemory>
-    ensures { IfOk result (λ text. text ≡ as_text.item_text words.now) }
+    ensures { IfGiven result (λ text. text ≡ as_text.item_text words.now) }
 {
     let mut text = Text::with_room(alloc, words.len().saturating_mul(LONGEST_WORD))?;
     write_item(&mut text, words)?;
@@ -75,7 +76,7 @@ pub fn item_text(alloc: Global, words: &Words) -> Result<Text, NoMemory>
 
 /// One line for each value, in order, and nothing for a trap.
 pub fn text_of(alloc: Global, outcomes: &[Outcome]) -> Result<Text, NoMemory>
-    ensures { IfOk result (λ text. text ≡ as_text.text_of outcomes.now) }
+    ensures { IfGiven result (λ text. text ≡ as_text.text_of outcomes.now) }
 {
     let mut text = Text::with_room(alloc, 0)?;
     for outcome in outcomes {
@@ -88,7 +89,7 @@ pub fn text_of(alloc: Global, outcomes: &[Outcome]) -> Result<Text, NoMemory>
 
 /// Puts the line of an item after a text.
 fn write_item(text: &mut Text, words: &Words) -> Result<(), NoMemory>
-    ensures { OnOk result (text.new ≡ text.old ++ as_text.item_text words.now) }
+    ensures { OnGiven result (text.new ≡ text.old ++ as_text.item_text words.now) }
 {
     write_words(text, words.as_slice())?;
     text.push(b'\n')
@@ -96,7 +97,7 @@ fn write_item(text: &mut Text, words: &Words) -> Result<(), NoMemory>
 
 /// Puts words in decimal after a text, separated by one space.
 fn write_words(text: &mut Text, words: &[i64]) -> Result<(), NoMemory>
-    ensures { OnOk result (text.new ≡ text.old ++ as_text.words_text words.now) }
+    ensures { OnGiven result (text.new ≡ text.old ++ as_text.words_text words.now) }
 {
     for (index, word) in words.iter().enumerate() {
         write_word(text, index, *word)?;
@@ -106,7 +107,7 @@ fn write_words(text: &mut Text, words: &[i64]) -> Result<(), NoMemory>
 
 /// Puts a word after a text that has `index` of the item's words.
 fn write_word(text: &mut Text, index: usize, word: i64) -> Result<(), NoMemory>
-    ensures { OnOk result (text.new ≡ text.old ++ as_text.word_text index word) }
+    ensures { OnGiven result (text.new ≡ text.old ++ as_text.word_text index word) }
 {
     if index > 0 {
         text.push(b' ')?;

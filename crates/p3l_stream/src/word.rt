@@ -1,6 +1,7 @@
 // The words of a line, and the numbers that they write.
 
-ghost use Rattle.std.specs.Prelude.{◌≡◌, Some, Ok, IfOk, IfSome, position};
+ghost use Rattle.std.specs.Prelude.{◌≡◌, Some, Ok, IfSome, position};
+ghost use Rattle.p3l_base.specs.Memory.{IfGiven};
 ghost use Rattle.std.specs.Char.{is_ascii_digit};
 ghost use Rattle.std.specs.List.{list_all};
 ghost use Rattle.std.specs.Option.{option_map};
@@ -117,7 +118,7 @@ fn next_number(bytes: &[u8]) -> Option<(Result<i64, WordFault>, &[u8])>
 
 /// The numbers that the words of a line write, or the fault of the first word that writes none.
 pub(crate) fn read_numbers(alloc: Global, line: &[u8]) -> Result<Result<Words, WordFault>, NoMemory>
-    ensures { IfOk result (λ read. read ≡ numbers_of (words_of line.now)) }
+    ensures { IfGiven result (λ read. read ≡ numbers_of (words_of line.now)) }
 {
     let mut numbers = Words::new(alloc);
     let mut rest = line;

@@ -1,6 +1,7 @@
 // Nets that are being built.
 
 ghost use Rattle.std.specs.Prelude.{◌≡◌, ◌<◌, ◌≤◌, ◌+◌, ◌++◌, [], ◌∷◌, length, IfOk, replicate};
+ghost use Rattle.p3l_base.specs.Memory.{IfGiven};
 ghost use Rattle.p3l_template.specs.Shape.{empty_chan};
 ghost use Rattle.p3l_template.specs.Shape.{numbers_from};
 
@@ -11,7 +12,7 @@ use std::marker::Model;
 
 /// The list of one channel.
 pub fn one_channel(alloc: Global, channel: u32) -> Result<List<u32>, NoMemory>
-    ensures { IfOk result (λ channels. channels ≡ channel ∷ []) }
+    ensures { IfGiven result (λ channels. channels ≡ channel ∷ []) }
 {
     let mut channels = List::new(alloc);
     channels.push(channel)?;
@@ -49,7 +50,7 @@ impl Builder {
     /// Adds a channel and gives its number.
     pub fn channel(&mut self, cap: u32, credits: u32) -> Result<u32, NoMemory>
         requires { length self.old.chans < 1048576 }
-        ensures number { IfOk result (λ n. n ≡ length self.old.chans) }
+        ensures number { IfGiven result (λ n. n ≡ length self.old.chans) }
         ensures added { IfOk result (λ n. self.new
             ≡ record {
               procs = self.old.procs;
@@ -65,7 +66,7 @@ impl Builder {
     /// Adds a process and gives its number.
     pub fn process(&mut self, proc: Proc) -> Result<u32, NoMemory>
         requires { length self.old.procs < 1048576 }
-        ensures number { IfOk result (λ n. n ≡ length self.old.procs) }
+        ensures number { IfGiven result (λ n. n ≡ length self.old.procs) }
         ensures added { IfOk result (λ n. self.new
             ≡ record { procs = self.old.procs ++ proc ∷ []; chans = self.old.chans }) }
     {
@@ -77,7 +78,7 @@ impl Builder {
     /// Adds `count` channels without credits and gives their numbers.
     pub fn channels(&mut self, alloc: Global, count: u32, cap: u32) -> Result<List<u32>, NoMemory>
         requires { length self.old.chans + count ≤ 1048576 }
-        ensures numbers { IfOk result (λ numbers. numbers
+        ensures numbers { IfGiven result (λ numbers. numbers
             ≡ numbers_from (length self.old.chans) count) }
         ensures added { IfOk result (λ numbers. self.new
             ≡ record {

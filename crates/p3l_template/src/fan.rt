@@ -1,6 +1,7 @@
 // Workers side by side between two processes of their node: what a farm and a map place alike.
 
 ghost use Rattle.std.specs.Prelude.{◌≡◌, ◌+◌, IfOk, replicate};
+ghost use Rattle.p3l_base.specs.Memory.{IfGiven};
 ghost use Rattle.p3l_template.specs.Built.{all_ports};
 ghost use Rattle.p3l_template.specs.Fan.{fan_procs};
 ghost use Rattle.p3l_template.specs.Shape.{base_of, added, HasRoomFor, empty_chan, fan_seats};
@@ -34,7 +35,7 @@ impl Fan {
         cap: u32,
     ) -> Result<List<Ports>, NoMemory>
         requires room { HasRoomFor builder.old 2 (self.now.workers + self.now.workers) }
-        ensures placed { IfOk result (λ ports. builder.new
+        ensures placed { IfGiven result (λ ports. builder.new
             ≡ added builder.old
             (fan_procs self.now.first self.now.last self.now.node self.now.workers (base_of at.now
             builder.old))

@@ -1,6 +1,7 @@
 // What every template does, and what it must satisfy.
 
 ghost use Rattle.std.specs.Prelude.{◌≡◌, ℕ, ◌≤◌, ◌<◌, length, IfOk};
+ghost use Rattle.p3l_base.specs.Memory.{IfGiven};
 ghost use Rattle.p3l_skel.specs.declared.tree.Tree.{Tree};
 ghost use Rattle.p3l_firing.specs.declared.net.Net.{Net};
 ghost use Rattle.p3l_template.specs.Built.{all_ports};
@@ -43,7 +44,7 @@ pub trait Template {
         requires room { HasRoomFor builder.old (length ((shape self.now).procs (base_of at.now
             builder.old)))
             ((shape self.now).chans (base_of at.now builder.old)) }
-        ensures placed { IfOk result (λ ports. builder.new
+        ensures placed { IfGiven result (λ ports. builder.new
             ≡ added builder.old ((shape self.now).procs (base_of at.now builder.old))
             ((shape self.now).laid cap (base_of at.now builder.old))) }
         ensures ports { IfOk result (λ ports. ports

@@ -1,6 +1,7 @@
 // The ports of workers side by side.
 
-ghost use Rattle.std.specs.Prelude.{◌≡◌, ◌+◌, ◌≤◌, IfOk};
+ghost use Rattle.std.specs.Prelude.{◌≡◌, ◌+◌, ◌≤◌};
+ghost use Rattle.p3l_base.specs.Memory.{IfGiven};
 ghost use Rattle.p3l_template.specs.Built.{all_ports};
 ghost use Rattle.p3l_template.specs.Shape.{fan_seats};
 
@@ -12,7 +13,7 @@ use std::alloc::Global;
 /// channels come after them.
 pub(crate) fn worker_ports(alloc: Global, first: u32, workers: u32) -> Result<List<Ports>, NoMemory>
     requires { (first + workers) + workers ≤ 1048576 }
-    ensures { IfOk result (λ ports. ports ≡ all_ports (fan_seats first (first + workers) workers)) }
+    ensures { IfGiven result (λ ports. ports ≡ all_ports (fan_seats first (first + workers) workers)) }
 {
     let mut ports = List::new(alloc);
     for worker in 0..workers {

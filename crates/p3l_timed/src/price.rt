@@ -1,6 +1,7 @@
 // Prices: what a firing of each process costs.
 
-ghost use Rattle.std.specs.Prelude.{◌≡◌, ◌+◌, ◌*◌, ◌<◌, ◌^◌, IfOk, length, max};
+ghost use Rattle.std.specs.Prelude.{◌≡◌, ◌+◌, ◌*◌, ◌<◌, ◌^◌, length, max};
+ghost use Rattle.p3l_base.specs.Memory.{IfGiven};
 ghost use Rattle.std.specs.Int.{div_ceil};
 ghost use Rattle.p3l_skel.specs.Tree.{node_at, part_at};
 ghost use Rattle.p3l_firing.specs.Nodes.{elem_of};
@@ -169,7 +170,7 @@ pub fn price(tree: &Tree, costs: &Costs, process: &Proc) -> u128
 /// The prices of the processes of a net, by their numbers.
 pub fn prices(alloc: Global, tree: &Tree, costs: &Costs, net: &Net) -> Result<Vec<u128>, NoMemory>
     requires { HasSmallPrices tree.now costs.now net.now }
-    ensures { IfOk result (λ prices. prices.items ≡ prices_of tree.now costs.now net.now) }
+    ensures { IfGiven result (λ prices. prices.items ≡ prices_of tree.now costs.now net.now) }
 {
     let mut prices = Vec::new(alloc);
     for process in net.procs.as_slice() {

@@ -1,6 +1,7 @@
 // The timer.
 
-ghost use Rattle.std.specs.Prelude.{◌≡◌, ◌≢◌, ◌<◌, ◌≤◌, ◌+◌, ◌^◌, ℕ, None, false, length, slice_index, IfOk, IfSome, IsNone};
+ghost use Rattle.std.specs.Prelude.{◌≡◌, ◌≢◌, ◌<◌, ◌≤◌, ◌+◌, ◌^◌, ℕ, None, false, length, slice_index, IfSome, IsNone};
+ghost use Rattle.p3l_base.specs.Memory.{IfGiven};
 ghost use Rattle.std.specs.Option.{is_some};
 ghost use Rattle.p3l_firing.specs.Typed.{IsTyped};
 ghost use Rattle.p3l_net.specs.Machine.{can_step};
@@ -64,7 +65,7 @@ impl Timer {
         requires small { HasSmallPrices tree.now costs.now machine.now.net }
         requires few { length machine.now.net.procs ≤ 1048576 }
         requires first { machine.now.fired ≡ 0 }
-        ensures { IfOk result (IsStarted (prices_of tree.now costs.now machine.now.net) machine.now) }
+        ensures { IfGiven result (IsStarted (prices_of tree.now costs.now machine.now.net) machine.now) }
     {
         let prices = prices(alloc, tree, costs, machine.net())?;
         let mut moments = Moments::new(alloc, machine.size())?;

@@ -1,6 +1,7 @@
 // The words of kinds.
 
-ghost use Rattle.std.specs.Prelude.{◌≡◌, ◌++◌, OnOk};
+ghost use Rattle.std.specs.Prelude.{◌≡◌, ◌++◌};
+ghost use Rattle.p3l_base.specs.Memory.{OnGiven};
 ghost use Rattle.p3l_format.specs.Format.{Gives};
 ghost use Rattle.p3l_trace.specs.Kind.{all_said, first_said, said_format, word_of};
 
@@ -74,7 +75,7 @@ pub(crate) fn read_said(bytes: &[u8]) -> Result<(Option<ProcKind>, &[u8]), ReadE
 /// Puts a word after others.
 #[tactic(auto, unfolding(crate::specs::Kind::said_format))]
 pub(crate) fn write_said(said: Option<ProcKind>, out: &mut Vec<u8>) -> Result<(), NoMemory>
-    ensures { OnOk result (out.new.items ≡ out.old.items ++ said_format.spell said) }
+    ensures { OnGiven result (out.new.items ≡ out.old.items ++ said_format.spell said) }
 {
     out.extend_from_slice(word_of(said))?;
     Ok(())

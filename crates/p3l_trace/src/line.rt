@@ -1,6 +1,7 @@
 // The lines of a trace.
 
-ghost use Rattle.std.specs.Prelude.{◌≡◌, ◌++◌, true, OnOk};
+ghost use Rattle.std.specs.Prelude.{◌≡◌, ◌++◌, true};
+ghost use Rattle.p3l_base.specs.Memory.{OnGiven};
 ghost use Rattle.p3l_format.specs.Format.{Gives};
 ghost use Rattle.p3l_trace.specs.Text.{pick_format, line_format, next_line};
 ghost use Rattle.p3l_trace.specs.laws.Text.{line_takes};
@@ -36,7 +37,7 @@ fn read_pick(bytes: &[u8]) -> Result<(TraceLine, &[u8]), ReadError>
 #[tactic(auto, using(crate::specs::laws::Text::pick_fits), unfolding(crate::specs::Text::pick_format, p3l_format::specs::Format::pair, p3l_format::specs::Format::as_form, p3l_format::specs::Format::within, p3l_format::specs::Decimal::number_then, p3l_format::specs::Text::then_text, p3l_format::specs::Decimal::number_text))]
 pub(crate) fn write_pick(alloc: Global, line: TraceLine, out: &mut Vec<u8>) -> Result<(), NoMemory>
     ensures fits { pick_format.fits line ≡ true }
-    ensures put { OnOk result (out.new.items ≡ out.old.items ++ pick_format.spell line) }
+    ensures put { OnGiven result (out.new.items ≡ out.old.items ++ pick_format.spell line) }
 {
     write_number_then(alloc, line.pick as u128, b" ", out)?;
     write_said(line.kind, out)?;

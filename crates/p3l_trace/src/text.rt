@@ -1,6 +1,7 @@
 // Traces as text.
 
 ghost use Rattle.std.specs.Prelude.{◌≡◌, ℕ, ◌++◌, List, [], true, Ok, OnOk, IfOk};
+ghost use Rattle.p3l_base.specs.Memory.{OnGiven};
 ghost use Rattle.p3l_format.specs.Format.{Gives, read_all};
 ghost use Rattle.p3l_trace.specs.declared.trace.Traced.{Traced as TheTraced};
 ghost use Rattle.p3l_trace.specs.Text.{lines_format, counts_format, body_format, trace_format, line_format, next_line, first_line};
@@ -27,7 +28,7 @@ fn read_lines(alloc: Global, bytes: &[u8]) -> Result<(List<TraceLine>, &[u8]), R
 // Puts the lines of picks after others.
 #[tactic(auto, unfolding(crate::specs::Text::line_format, p3l_format::specs::Line::line))]
 fn write_lines(alloc: Global, lines: &[TraceLine], out: &mut Vec<u8>) -> Result<(), NoMemory>
-    ensures fits { OnOk result (fits_from line_format next_line first_line lines.now ≡ true) }
+    ensures fits { OnGiven result (fits_from line_format next_line first_line lines.now ≡ true) }
     ensures put { OnOk result (out.new.items
         ≡ out.old.items ++ spell_from line_format next_line first_line lines.now) }
 {
@@ -51,7 +52,7 @@ fn read_counts(bytes: &[u8]) -> Result<((u64, u64), &[u8]), ReadError>
 #[tactic(auto, using(crate::specs::laws::Text::counts_fit), unfolding(crate::specs::Text::counts_format, p3l_format::specs::Format::pair, p3l_format::specs::Format::within, p3l_format::specs::Decimal::number_then, p3l_format::specs::Text::then_text, p3l_format::specs::Decimal::number_text))]
 fn write_counts(alloc: Global, fired: u64, idle: u64, out: &mut Vec<u8>) -> Result<(), NoMemory>
     ensures fits { counts_format.fits (fired, idle) ≡ true }
-    ensures put { OnOk result (out.new.items ≡ out.old.items ++ counts_format.spell (fired, idle)) }
+    ensures put { OnGiven result (out.new.items ≡ out.old.items ++ counts_format.spell (fired, idle)) }
 {
     write_number_then(alloc, fired as u128, b" ", out)?;
     write_number_then(alloc, idle as u128, b"\n", out)
@@ -77,7 +78,7 @@ fn read_body(alloc: Global, bytes: &[u8]) -> Result<(Traced, &[u8]), ReadError>
 // Puts a whole trace after others.
 #[tactic(auto, unfolding(crate::specs::Text::trace_format, crate::specs::Text::body_format, crate::specs::Text::lines_format, p3l_format::specs::Series::until, p3l_format::specs::Text::text_then, p3l_format::specs::Format::pair, p3l_format::specs::Format::as_form))]
 fn write_trace(alloc: Global, traced: &Traced, out: &mut Vec<u8>) -> Result<(), NoMemory>
-    ensures fits { OnOk result (trace_format.fits traced.now ≡ true) }
+    ensures fits { OnGiven result (trace_format.fits traced.now ≡ true) }
     ensures put { OnOk result (out.new.items ≡ out.old.items ++ trace_format.spell traced.now) }
 {
     out.extend_from_slice(b"p3l-trace 1\n")?;
@@ -113,7 +114,7 @@ impl Field for TraceField {
 
 /// The text of a trace: each has one.
 pub fn trace_text(alloc: Global, traced: &Traced) -> Result<List<u8>, NoMemory>
-    ensures fits { OnOk result (trace_format.fits traced.now ≡ true) }
+    ensures fits { OnGiven result (trace_format.fits traced.now ≡ true) }
     ensures text { IfOk result (λ text. text ≡ trace_format.spell traced.now) }
 {
     let mut out = Vec::new(alloc);

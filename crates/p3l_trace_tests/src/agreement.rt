@@ -1,6 +1,7 @@
 // Lines against the machine of one body: 0 is the source, 1 the sink, and 2 runs the body.
 
 ghost use Rattle.std.specs.Prelude.{◌≡◌, None, IfOk};
+ghost use Rattle.p3l_base.specs.Memory.{IfGiven};
 ghost use Rattle.p3l_firing.specs.Typed.{IsTyped};
 
 use p3l_base::{List, NoMemory, Words};
@@ -17,7 +18,7 @@ use std::test::Fail;
 
 /// The net of a tree without workers.
 fn net_of(rt: &impl Abort, alloc: Global, tree: &Tree) -> Result<Net, NoMemory>
-    ensures { IfOk result (λ net. IsTyped tree.now net) }
+    ensures { IfGiven result (λ net. IsTyped tree.now net) }
 {
     let counts = Counts {
         list: List::new(alloc),
@@ -31,7 +32,7 @@ fn net_of(rt: &impl Abort, alloc: Global, tree: &Tree) -> Result<Net, NoMemory>
 
 /// The machine of such a net, before the first firing.
 fn machine_of<'t>(rt: &impl Abort, alloc: Global, tree: &'t Tree) -> Result<Machine<'t>, NoMemory>
-    ensures tree { IfOk result (λ machine. machine.tree ≡ tree.now) }
+    ensures tree { IfGiven result (λ machine. machine.tree ≡ tree.now) }
     ensures empty { IfOk result (λ machine. machine.inbox ≡ None) }
 {
     let net = net_of(rt, alloc, tree)?;

@@ -1,6 +1,7 @@
 // The forms of nodes as fields.
 
-ghost use Rattle.std.specs.Prelude.{◌≡◌, ◌++◌, true, OnOk};
+ghost use Rattle.std.specs.Prelude.{◌≡◌, ◌++◌, true};
+ghost use Rattle.p3l_base.specs.Memory.{OnGiven};
 ghost use Rattle.p3l_format.specs.Format.{Gives};
 ghost use Rattle.p3l_tree_format.specs.Form.{clause_of, clause_format, form_format};
 ghost use Rattle.p3l_tree_format.specs.laws.Form.{lawful_form_of};
@@ -33,7 +34,7 @@ fn clause(number: u32) -> Option<u32>
 // Puts the number of a clause after others.
 #[tactic(auto, unfolding(crate::specs::Form::clause_format, p3l_format::specs::Format::as_form, p3l_format::specs::Format::within))]
 fn write_clause(clause: Option<u32>, out: &mut Vec<u8>) -> Result<(), NoMemory>
-    ensures { OnOk result (out.new.items ≡ out.old.items ++ clause_format.spell clause) }
+    ensures { OnGiven result (out.new.items ≡ out.old.items ++ clause_format.spell clause) }
 {
     write_u32(clause.unwrap_or(0), out)
 }

@@ -1,6 +1,7 @@
 // Modules as fields.
 
-ghost use Rattle.std.specs.Prelude.{◌≡◌, ◌++◌, OnOk};
+ghost use Rattle.std.specs.Prelude.{◌≡◌, ◌++◌};
+ghost use Rattle.p3l_base.specs.Memory.{OnGiven};
 ghost use Rattle.std.specs.List.{list_all};
 ghost use Rattle.p3l_format.specs.Format.{Gives};
 ghost use Rattle.p3l_lexer.specs.Piece.{is_word_byte};
@@ -136,7 +137,7 @@ fn read_kind(bytes: &[u8]) -> Result<(ModuleKind, &[u8]), ReadError>
 // Puts a kind after others.
 #[tactic(auto, unfolding(p3l_format::specs::Numbers::one_of, p3l_format::specs::Numbers::u8_format, p3l_format::specs::Format::coded))]
 fn write_kind(kind: ModuleKind, out: &mut Vec<u8>) -> Result<(), NoMemory>
-    ensures { OnOk result (out.new.items ≡ out.old.items ++ kind_format.spell kind) }
+    ensures { OnGiven result (out.new.items ≡ out.old.items ++ kind_format.spell kind) }
 {
     write_u8(kind_number(kind), out)
 }

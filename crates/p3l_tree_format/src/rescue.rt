@@ -1,6 +1,7 @@
 // The rescue numbers of modules as fields.
 
-ghost use Rattle.std.specs.Prelude.{◌≡◌, ◌++◌, OnOk};
+ghost use Rattle.std.specs.Prelude.{◌≡◌, ◌++◌};
+ghost use Rattle.p3l_base.specs.Memory.{OnGiven};
 ghost use Rattle.p3l_format.specs.Format.{Gives};
 ghost use Rattle.p3l_skel.specs.declared.tree.ModuleKind.{ModuleKind as TheKind};
 ghost use Rattle.p3l_tree_format.specs.declared.version.Version.TheVariants.{Two};
@@ -42,7 +43,7 @@ fn read_rescue(kind: ModuleKind, bytes: &[u8]) -> Result<(Option<i64>, &[u8]), R
 #[tactic(auto, unfolding(crate::specs::Rescue::rescue_format, crate::specs::Rescue::flag_format, crate::specs::Rescue::number_format, p3l_format::specs::Format::tagged, p3l_format::specs::Format::as_form, p3l_format::specs::Format::nothing, p3l_format::specs::Format::within, p3l_format::specs::Format::coded, p3l_format::specs::Numbers::one_of, p3l_format::specs::Numbers::u8_format))]
 fn write_rescue(rescue: Option<i64>, out: &mut Vec<u8>) -> Result<(), NoMemory>
     ensures { (kind : TheKind)
-        → OnOk result (out.new.items ≡ out.old.items ++ (rescue_format Two kind).spell rescue) }
+        → OnGiven result (out.new.items ≡ out.old.items ++ (rescue_format Two kind).spell rescue) }
 {
     match rescue {
         None => write_u8(0, out),

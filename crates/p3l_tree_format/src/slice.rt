@@ -1,6 +1,7 @@
 // Slices and cuts as fields.
 
-ghost use Rattle.std.specs.Prelude.{◌≡◌, ◌++◌, OnOk};
+ghost use Rattle.std.specs.Prelude.{◌≡◌, ◌++◌};
+ghost use Rattle.p3l_base.specs.Memory.{OnGiven};
 ghost use Rattle.p3l_format.specs.Format.{Gives};
 ghost use Rattle.p3l_tree_format.specs.Slice.{place_number, place_format, dim_format, slice_format, cut_format};
 ghost use Rattle.p3l_tree_format.specs.laws.Slice.{lawful_dim, lawful_slice, lawful_cut};
@@ -47,7 +48,7 @@ fn read_place(bytes: &[u8]) -> Result<(Place, &[u8]), ReadError>
 // Puts a place after others.
 #[tactic(auto, unfolding(p3l_format::specs::Numbers::one_of, p3l_format::specs::Numbers::u8_format, p3l_format::specs::Format::coded))]
 fn write_place(place: Place, out: &mut Vec<u8>) -> Result<(), NoMemory>
-    ensures { OnOk result (out.new.items ≡ out.old.items ++ place_format.spell place) }
+    ensures { OnGiven result (out.new.items ≡ out.old.items ++ place_format.spell place) }
 {
     write_u8(place_number(place), out)
 }

@@ -1,6 +1,7 @@
 // The versions of images.
 
-ghost use Rattle.std.specs.Prelude.{◌≡◌, ◌++◌, OnOk};
+ghost use Rattle.std.specs.Prelude.{◌≡◌, ◌++◌};
+ghost use Rattle.p3l_base.specs.Memory.{OnGiven};
 ghost use Rattle.p3l_format.specs.Format.{Gives};
 ghost use Rattle.p3l_tree_format.specs.Version.{version_format, version_number, version_of};
 
@@ -52,7 +53,7 @@ pub fn read_version(bytes: &[u8]) -> Result<(Version, &[u8]), ReadError>
 /// Puts a version after others.
 #[tactic(auto, unfolding(crate::specs::Version::version_format, p3l_format::specs::Format::coded))]
 pub fn write_version(version: Version, out: &mut Vec<u8>) -> Result<(), NoMemory>
-    ensures { OnOk result (out.new.items ≡ out.old.items ++ version_format.spell version) }
+    ensures { OnGiven result (out.new.items ≡ out.old.items ++ version_format.spell version) }
 {
     write_u32(version_number(version), out)
 }

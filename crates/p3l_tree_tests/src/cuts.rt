@@ -1,6 +1,7 @@
 // Cuts of matrices and cubes, and the tokens that results fill.
 
-ghost use Rattle.std.specs.Prelude.{◌≡◌, ◌+◌, ◌≤◌, List, [], ◌∷◌, ◌++◌, IfOk, OnOk};
+ghost use Rattle.std.specs.Prelude.{◌≡◌, ◌+◌, ◌≤◌, List, [], ◌∷◌, ◌++◌, IfOk};
+ghost use Rattle.p3l_base.specs.Memory.{IfGiven, OnGiven};
 ghost use Rattle.p3l_base.specs.Cut.{HasLawfulOuts, element_count, element_size};
 ghost use Rattle.p3l_base.specs.Slice.{array_size, AreFreeIndices};
 
@@ -34,7 +35,7 @@ const SECOND_2: Dim = Dim {
 };
 
 fn slice_of(alloc: Global, start: u32, dims: &[Dim]) -> Result<Slice, NoMemory>
-    ensures { IfOk result (λ slice. slice ≡ record { start = start; dims = dims.now }) }
+    ensures { IfGiven result (λ slice. slice ≡ record { start = start; dims = dims.now }) }
 {
     Ok(Slice {
         start,
@@ -79,14 +80,14 @@ fn lines_and_planes_of_a_cube(rt: HostRuntime) -> Result<(), Fail> {
 
 /// Puts these words after the other results.
 fn put(alloc: Global, results: &mut List<Words>, words: &[i64]) -> Result<(), NoMemory>
-    ensures { OnOk result (results.new ≡ results.old ++ words.now ∷ []) }
+    ensures { OnGiven result (results.new ≡ results.old ++ words.now ∷ []) }
 {
     results.push(Words::from_vec(Vec::from_slice(alloc, words)?))
 }
 
 /// The cut whose elements are the words of a 2 by 2 matrix.
 fn cut_of_a_matrix(alloc: Global) -> Result<Cut, NoMemory>
-    ensures lawful { IfOk result HasLawfulOuts }
+    ensures lawful { IfGiven result HasLawfulOuts }
     ensures elements { IfOk result (λ cut. element_count cut ≡ 4) }
     ensures words { IfOk result (λ cut. element_size cut.outs ≡ 1) }
 {
@@ -116,7 +117,7 @@ fn elements_fill_a_matrix(rt: HostRuntime) -> Result<(), Fail> {
 
 /// The cut whose elements are two columns, each with its sum.
 fn cut_of_columns(alloc: Global) -> Result<Cut, NoMemory>
-    ensures lawful { IfOk result HasLawfulOuts }
+    ensures lawful { IfGiven result HasLawfulOuts }
     ensures elements { IfOk result (λ cut. element_count cut ≡ 2) }
     ensures words { IfOk result (λ cut. element_size cut.outs ≡ 3) }
 {

@@ -1,6 +1,7 @@
 // Constants, and what numbers stand for.
 
-ghost use Rattle.std.specs.Prelude.{◌≡◌, ◌++◌, [], ◌∷◌, None, Some, IfOk, OnOk, OnErr, IsTrue, ◌<◌, ◌^◌, take, slice_get};
+ghost use Rattle.std.specs.Prelude.{◌≡◌, ◌++◌, [], ◌∷◌, None, Some, OnErr, IsTrue, ◌<◌, ◌^◌, take, slice_get};
+ghost use Rattle.p3l_base.specs.Memory.{IfGiven, OnGiven};
 ghost use Rattle.p3l_types.specs.Constants.{constant_of, number_of, natural, place_of};
 
 use indexmap::IndexMap;
@@ -50,7 +51,7 @@ fn front(
     values: &IndexMap<Name, i64>,
     len: usize,
 ) -> Result<IndexMap<Name, i64>, NoMemory>
-    ensures { IfOk result (λ front. front.entries ≡ take len values.now.entries) }
+    ensures { IfGiven result (λ front. front.entries ≡ take len values.now.entries) }
 {
     let mut front = IndexMap::new(alloc);
     for k in 0..usize::min(len, values.len()) {
@@ -66,7 +67,7 @@ fn front(
 impl Consts {
     /// No constants.
     pub fn new(alloc: Global) -> Result<Consts, NoMemory>
-        ensures { IfOk result (λ consts. consts ≡ []) }
+        ensures { IfGiven result (λ consts. consts ≡ []) }
     {
         Consts::ahead(alloc, &[])
     }
@@ -74,7 +75,7 @@ impl Consts {
     /// No constants. Those of these entries are held ready, each at its first entry: they are added
     /// in their order without a walk.
     pub fn ahead(alloc: Global, entries: &[Entry]) -> Result<Consts, NoMemory>
-        ensures { IfOk result (λ consts. consts ≡ []) }
+        ensures { IfGiven result (λ consts. consts ≡ []) }
     {
         let mut values = IndexMap::new(alloc);
         for entry in entries {
@@ -93,7 +94,7 @@ impl Consts {
     /// Adds a constant whose name is not there yet.
     pub fn add(&mut self, alloc: Global, name: &Name, value: i64) -> Result<(), NoMemory>
         requires { constant_of self.old name.now ≡ None }
-        ensures ok { OnOk result (self.new ≡ self.old ++ (name.now, value) ∷ []) }
+        ensures ok { OnGiven result (self.new ≡ self.old ++ (name.now, value) ∷ []) }
         ensures err { OnErr result (self.new ≡ self.old) }
     {
         if is_at(&self.values, self.len, name, value) {
@@ -111,7 +112,7 @@ impl Consts {
 
     /// The same constants.
     pub fn copy(&self) -> Result<Consts, NoMemory>
-        ensures { IfOk result (λ copy. copy ≡ self.now) }
+        ensures { IfGiven result (λ copy. copy ≡ self.now) }
     {
         Ok(Consts {
             values: self.values.clone()?,

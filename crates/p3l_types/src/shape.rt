@@ -1,6 +1,7 @@
 // Shapes of ports, and what brackets leave of them.
 
-ghost use Rattle.std.specs.Prelude.{◌≡◌, ◌≤◌, ◌<◌, ◌^◌, IfOk, length, min};
+ghost use Rattle.std.specs.Prelude.{◌≡◌, ◌≤◌, ◌<◌, ◌^◌, length, min};
+ghost use Rattle.p3l_base.specs.Memory.{IfGiven};
 ghost use Rattle.std.specs.Option.{option_map};
 ghost use Rattle.p3l_types.specs.Verdict.{Gives};
 ghost use Rattle.p3l_types.specs.Shape.{product, size_of, sizes_of, shape_of, whole_sizes, sliced};
@@ -83,7 +84,7 @@ pub fn shape_of(alloc: Global, port: &Port, consts: &Consts) -> Result<Shape, So
 /// The sizes at the empty brackets.
 fn whole_sizes(alloc: Global, subs: &[Sub], sizes: &[u32]) -> Result<List<u32>, NoMemory>
     requires { length subs.now ≡ length sizes.now }
-    ensures { IfOk result (λ left. left ≡ whole_sizes subs.now sizes.now) }
+    ensures { IfGiven result (λ left. left ≡ whole_sizes subs.now sizes.now) }
 {
     let mut left = List::new(alloc);
     for (k, sub) in subs.iter().enumerate() {
@@ -98,7 +99,7 @@ fn whole_sizes(alloc: Global, subs: &[Sub], sizes: &[u32]) -> Result<List<u32>, 
 /// What the brackets of an argument leave of a shape: the sizes at the empty ones, and the whole
 /// shape after a plain name. Nothing where there are as many brackets neither as none nor as sizes.
 pub fn sliced(alloc: Global, arg: &Arg, shape: &Shape) -> Result<Option<Shape>, NoMemory>
-    ensures { IfOk result (λ left. left ≡ sliced arg.now.subs shape.now) }
+    ensures { IfGiven result (λ left. left ≡ sliced arg.now.subs shape.now) }
 {
     let subs = arg.subs.as_slice();
     let sizes = shape.sizes.as_slice();

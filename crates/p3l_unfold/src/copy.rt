@@ -1,6 +1,7 @@
 // Copies of forms, of which each instance of a module has one.
 
-ghost use Rattle.std.specs.Prelude.{◌≡◌, IfOk};
+ghost use Rattle.std.specs.Prelude.{◌≡◌};
+ghost use Rattle.p3l_base.specs.Memory.{IfGiven};
 
 use p3l_base::{Cut, List, NoMemory, Slice};
 use p3l_skel::Form;
@@ -8,7 +9,7 @@ use std::alloc::Global;
 
 /// A copy of slices.
 fn copy_slices(alloc: Global, slices: &[Slice]) -> Result<List<Slice>, NoMemory>
-    ensures { IfOk result (λ copy. copy ≡ slices.now) }
+    ensures { IfGiven result (λ copy. copy ≡ slices.now) }
 {
     let mut copy = List::new(alloc);
     for slice in slices {
@@ -23,7 +24,7 @@ fn copy_slices(alloc: Global, slices: &[Slice]) -> Result<List<Slice>, NoMemory>
 
 /// A copy of a cut.
 fn copy_cut(alloc: Global, cut: &Cut) -> Result<Cut, NoMemory>
-    ensures { IfOk result (λ copy. copy ≡ cut.now) }
+    ensures { IfGiven result (λ copy. copy ≡ cut.now) }
 {
     let ins = copy_slices(alloc, cut.ins.as_slice())?;
     let outs = copy_slices(alloc, cut.outs.as_slice())?;
@@ -37,7 +38,7 @@ fn copy_cut(alloc: Global, cut: &Cut) -> Result<Cut, NoMemory>
 
 /// A copy of a form.
 pub(crate) fn copy_form(alloc: Global, form: &Form) -> Result<Form, NoMemory>
-    ensures { IfOk result (λ copy. copy ≡ form.now) }
+    ensures { IfGiven result (λ copy. copy ≡ form.now) }
 {
     match form {
         Form::Seq => Ok(Form::Seq),

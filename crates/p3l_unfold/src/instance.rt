@@ -1,6 +1,7 @@
 // The nodes of an instance of a module.
 
-ghost use Rattle.std.specs.Prelude.{◌≡◌, ◌+◌, ◌<◌, ◌≤◌, ◌∷◌, ◌++◌, IfOk, IfErr, OnOk, length};
+ghost use Rattle.std.specs.Prelude.{◌≡◌, ◌+◌, ◌<◌, ◌≤◌, ◌∷◌, ◌++◌, IfOk, IfErr, length};
+ghost use Rattle.p3l_base.specs.Memory.{IfGiven, OnGiven};
 ghost use Rattle.p3l_unfold.specs.Wiring.{module_at};
 ghost use Rattle.p3l_unfold.specs.Unfolding.{instance, node_of};
 ghost use Rattle.p3l_unfold.specs.Levels.{CallsAreThere};
@@ -32,7 +33,7 @@ fn with_parts(
     parts: List<u32>,
     below: Vec<Node>,
 ) -> Result<Vec<Node>, NoMemory>
-    ensures { IfOk result (λ nodes. nodes.items ≡ node_of wired.now k parts ∷ below.items) }
+    ensures { IfGiven result (λ nodes. nodes.items ≡ node_of wired.now k parts ∷ below.items) }
 {
     let mut nodes = Vec::new(alloc);
     nodes.push(Node {
@@ -49,7 +50,7 @@ fn with_parts(
 
 /// Puts nodes after others.
 fn extend(nodes: &mut Vec<Node>, more: Vec<Node>) -> Result<(), NoMemory>
-    ensures { OnOk result (nodes.new.items ≡ nodes.old.items ++ more.items) }
+    ensures { OnGiven result (nodes.new.items ≡ nodes.old.items ++ more.items) }
 {
     let mut more = more;
     nodes.append(&mut more)?;

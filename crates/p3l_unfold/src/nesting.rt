@@ -1,6 +1,7 @@
 // How deep the instances of modules are nested.
 
-ghost use Rattle.std.specs.Prelude.{◌≡◌, ◌<◌, IfOk, length, map};
+ghost use Rattle.std.specs.Prelude.{◌≡◌, ◌<◌, length, map};
+ghost use Rattle.p3l_base.specs.Memory.{IfGiven};
 ghost use Rattle.std.specs.List.{All};
 ghost use Rattle.p3l_skel.specs.Tree.{nesting};
 ghost use Rattle.p3l_unfold.specs.Refusing.{is_nested_within};
@@ -29,7 +30,7 @@ fn is_nested_by(level: &[bool], caller: &Wired) -> bool
 fn next_level(alloc: Global, wired: &[Wired], level: &[bool]) -> Result<Vec<bool>, NoMemory>
     requires calls { CallsAreThere wired.now }
     requires count { length level.now ≡ length wired.now }
-    ensures { IfOk result (λ next. next.items ≡ map (is_nested_by level.now) wired.now) }
+    ensures { IfGiven result (λ next. next.items ≡ map (is_nested_by level.now) wired.now) }
 {
     let mut next = Vec::with_capacity(alloc, wired.len())?;
     for module in wired {
@@ -42,7 +43,7 @@ fn next_level(alloc: Global, wired: &[Wired], level: &[bool]) -> Result<Vec<bool
 pub(crate) fn is_nested(alloc: Global, wired: &[Wired], root: u32) -> Result<bool, NoMemory>
     requires calls { CallsAreThere wired.now }
     requires root { root < length wired.now }
-    ensures { IfOk result (λ nested. nested ≡ is_nested_within wired.now nesting root) }
+    ensures { IfGiven result (λ nested. nested ≡ is_nested_within wired.now nesting root) }
 {
     let mut level = vec![in alloc; false; wired.len()]?;
     'levels: for _depth in 0..NESTING {

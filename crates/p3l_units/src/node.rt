@@ -10,6 +10,7 @@ ghost use Rattle.p3l_skel.specs.Item.{in_order, item, mapped, on_value, rescued}
 ghost use Rattle.p3l_units.specs.Table.{leaf};
 ghost use Rattle.std.specs.List.{All};
 ghost use Rattle.std.specs.Prelude.{◌≡◌, ◌<◌, ◌≤◌, ◌*◌, length, map, slice_index, IfOk};
+ghost use Rattle.p3l_base.specs.Memory.{IfGiven};
 
 use crate::table::UnitTable;
 use p3l_base::{Cut, List, NoMemory, Outcome, Words, join};
@@ -31,7 +32,7 @@ pub fn node_outcome(
     requires served { table.now.tree ≡ tree.now }
     requires unit { IsUnit tree.now node }
     requires fits { HasFittingLength tree.now node (length words.now) }
-    ensures { IfOk result (λ outcome. outcome ≡ item tree.now (leaf table.now) node words.now) }
+    ensures { IfGiven result (λ outcome. outcome ≡ item tree.now (leaf table.now) node words.now) }
 {
     let Some(found) = tree.node(node) else {
         unreachable!();
@@ -67,7 +68,7 @@ fn next_outcome(
     requires served { table.now.tree ≡ tree.now }
     requires unit { IsUnit tree.now node }
     requires fits { HasLength (node_at tree.now node).ins outcome }
-    ensures { IfOk result (λ next. next ≡ on_value (item tree.now (leaf table.now) node) outcome) }
+    ensures { IfGiven result (λ next. next ≡ on_value (item tree.now (leaf table.now) node) outcome) }
 {
     match outcome {
         Outcome::Value(words) => node_outcome(alloc, tree, table, node, &words),
@@ -90,7 +91,7 @@ fn stages_outcome(
     requires units { All (IsUnit tree.now) node.now.parts }
     requires preorder { All (λ part. slice_index node.now.parts 0 ≤ part) node.now.parts }
     requires fits { length words.now ≡ node.now.ins }
-    ensures { IfOk result (λ outcome. outcome
+    ensures { IfGiven result (λ outcome. outcome
         ≡ in_order (item tree.now (leaf table.now)) node.now.parts (Value words.now)) }
 {
     let mut outcome = Outcome::Value(copied(alloc, words)?);
@@ -115,7 +116,7 @@ fn map_outcome(
     requires unit { IsUnit tree.now part }
     requires cuts { IsLawfulCut cut.now (length words.now) (token_size cut.now.outs)
         (node_at tree.now part).ins (node_at tree.now part).outs }
-    ensures { IfOk result (λ outcome. outcome
+    ensures { IfGiven result (λ outcome. outcome
         ≡ mapped cut.now (item tree.now (leaf table.now) part) words.now) }
 {
     let mut results = List::new(alloc);
@@ -145,7 +146,7 @@ fn fold_outcome(
     requires some { 1 ≤ length elements.now }
     requires sized { All (λ element. length element
         ≡ (node_at tree.now operator).outs) elements.now }
-    ensures folded { IfOk result (λ outcome. outcome
+    ensures folded { IfGiven result (λ outcome. outcome
         ≡ tree_fold (item tree.now (leaf table.now) operator)
         (map (λ element. Value element) elements.now)) }
     ensures sized { IfOk result (λ outcome. HasLength (node_at tree.now operator).outs outcome) }

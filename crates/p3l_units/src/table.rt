@@ -1,6 +1,7 @@
 // Tables of units.
 
-ghost use Rattle.std.specs.Prelude.{◌≡◌, ◌<◌, length, IfOk, IfSome, Some};
+ghost use Rattle.std.specs.Prelude.{◌≡◌, ◌<◌, length, IfSome, Some};
+ghost use Rattle.p3l_base.specs.Memory.{IfGiven};
 ghost use Rattle.std.specs.List.{All};
 ghost use Rattle.p3l_skel.specs.declared.tree.Form.TheVariants as forms;
 ghost use Rattle.p3l_skel.specs.Tree.{node_at};
@@ -43,7 +44,7 @@ impl<'t> UnitTable<'t> {
     ) -> Result<UnitTable<'t>, NoMemory>
         requires lawful { IsLawfulTree tree.now }
         requires codes { All (HasCode (record { tree = tree.now; codes = codes })) tree.now.nodes }
-        ensures { IfOk result (λ table. table ≡ record { tree = tree.now; codes = codes }) }
+        ensures { IfGiven result (λ table. table ≡ record { tree = tree.now; codes = codes }) }
     {
         let places = code_places(alloc, tree)?;
         let codes = executables(alloc, codes)?;
@@ -85,7 +86,7 @@ impl<'t> UnitTable<'t> {
         requires there { node < length self.now.tree.nodes }
         requires form { (node_at self.now.tree node).form ≡ forms.Seq }
         requires fits { length words.now ≡ (node_at self.now.tree node).ins }
-        ensures { IfOk result (λ outcome. outcome
+        ensures { IfGiven result (λ outcome. outcome
             ≡ leaf self.now (node_at self.now.tree node).«module» words.now) }
     {
         let Some(found) = self.tree.node(node) else {
@@ -110,7 +111,7 @@ impl<'t> UnitTable<'t> {
 
 // The codes, each made ready to run.
 fn executables(alloc: Global, codes: List<SafeCode>) -> Result<List<Executable>, NoMemory>
-    ensures { IfOk result (λ executables. executables ≡ codes) }
+    ensures { IfGiven result (λ executables. executables ≡ codes) }
 {
     let mut executables = List::new(alloc);
     for code in codes.into_vec() {
@@ -122,7 +123,7 @@ fn executables(alloc: Global, codes: List<SafeCode>) -> Result<List<Executable>,
 // For each module, how many `seq` modules are before it.
 fn code_places(alloc: Global, tree: &Tree) -> Result<List<u32>, NoMemory>
     requires { IsLawfulTree tree.now }
-    ensures { IfOk result (HasPlaces tree.now.modules) }
+    ensures { IfGiven result (HasPlaces tree.now.modules) }
 {
     let mut places = List::new(alloc);
     let mut before = 0;

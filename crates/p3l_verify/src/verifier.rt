@@ -1,6 +1,7 @@
 // The verifier.
 
 ghost use Rattle.std.specs.Prelude.{◌≡◌, ◌↔◌, ◌+◌, ◌≤◌, length, slice_get, Some, IfOk, IfSome, IsSome, IsTrue};
+ghost use Rattle.p3l_base.specs.Memory.{IfGiven};
 ghost use Rattle.p3l_code.specs.Safe.{IsSafe};
 ghost use Rattle.p3l_verify.specs.Known.{HasSizes, HasDepths, IsSound};
 
@@ -12,7 +13,7 @@ use std::alloc::Global;
 
 /// The code, sealed, if it meets the rules of safe code, and None exactly where it breaks one.
 pub fn verify(alloc: Global, code: Code) -> Result<Option<SafeCode>, NoMemory>
-    ensures exact { IfOk result (λ found. IsSome found ↔ IsSafe code) }
+    ensures exact { IfGiven result (λ found. IsSome found ↔ IsSafe code) }
     ensures same { IfOk result (λ found. IfSome found (λ safe. safe ≡ code)) }
 {
     if has_sizes(&code) && has_depths(alloc, &code)? {
@@ -35,7 +36,7 @@ fn has_sizes(code: &Code) -> bool
 // Whether the places of a code have depths that keep the rules: goes over the places once, upwards.
 fn has_depths(alloc: Global, code: &Code) -> Result<bool, NoMemory>
     requires { length code.now.instrs ≤ 4194304 }
-    ensures { IfOk result (λ holds. IsTrue holds ↔ HasDepths code.now) }
+    ensures { IfGiven result (λ holds. IsTrue holds ↔ HasDepths code.now) }
 {
     let instrs = code.instrs.as_slice();
     if instrs.is_empty() {

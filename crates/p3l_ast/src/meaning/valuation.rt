@@ -1,7 +1,8 @@
 // What the names of a body stand for.
 
 ghost use Rattle.std.specs.List.{All};
-ghost use Rattle.std.specs.Prelude.{◌≡◌, ◌↔◌, ◌≤◌, length, IfOk, IsTrue};
+ghost use Rattle.std.specs.Prelude.{◌≡◌, ◌↔◌, ◌≤◌, length, IsTrue};
+ghost use Rattle.p3l_base.specs.Memory.{IfGiven};
 ghost use Rattle.p3l_ast.specs.Meaning.Valuation.{rebound, with_word, turned, HasSizes};
 
 use p3l_base::{List, Name, NoMemory, TrapKind, Words};
@@ -67,7 +68,7 @@ fn rebound(
     word: i64,
     binding: &Binding,
 ) -> Result<Binding, NoMemory>
-    ensures { IfOk result (λ next. next ≡ rebound name.now place word binding.now) }
+    ensures { IfGiven result (λ next. next ≡ rebound name.now place word binding.now) }
 {
     let mut words = binding.words.as_slice().to_vec(alloc)?;
     if binding.name == *name && place < words.len() {
@@ -88,7 +89,7 @@ pub fn with_word(
     place: usize,
     word: i64,
 ) -> Result<Valuation, NoMemory>
-    ensures { IfOk result (λ next. next ≡ with_word valuation.now name.now place word) }
+    ensures { IfGiven result (λ next. next ≡ with_word valuation.now name.now place word) }
 {
     let mut bindings = List::new(alloc);
     for binding in valuation.bindings.as_slice() {

@@ -1,6 +1,7 @@
 // Processes that gather the outcomes of segments, and fold them.
 
 ghost use Rattle.std.specs.Prelude.{◌≡◌, ◌<◌, ◌≤◌, true, length, None, Some, IfOk, OnErr, slice_get};
+ghost use Rattle.p3l_base.specs.Memory.{IfGiven};
 ghost use Rattle.std.specs.List.{AllByRecursion};
 ghost use Rattle.p3l_skel.specs.Fold.{tree_fold};
 ghost use Rattle.p3l_skel.specs.Item.{item};
@@ -37,7 +38,7 @@ fn folded<U: Units>(
     requires some { 1 ≤ length tokens.now }
     requires sized { AllByRecursion (λ (token : Token).
         HasLength (outs_of (U.tree units.now) operator) token.body) tokens.now }
-    ensures folded { IfOk result (λ outcome. outcome
+    ensures folded { IfGiven result (λ outcome. outcome
         ≡ tree_fold (item (U.tree units.now) (U.leaf units.now) operator) (bodies tokens.now)) }
     ensures sized { IfOk result (λ outcome. HasLength (outs_of (U.tree units.now) operator) outcome) }
 {
@@ -93,7 +94,7 @@ impl<'t> Store<'t> {
     ) -> Result<Touched, NoMemory>
         requires may { MayFire self.old p ProcKind.FoldGather }
         requires units { U.tree units.now ≡ self.old.tree }
-        ensures done { IfOk result (λ touched. Done (U.leaf units.now)
+        ensures done { IfGiven result (λ touched. Done (U.leaf units.now)
             self.old self.new p touched None) }
         ensures err { OnErr result (self.new ≡ self.old) }
     {
@@ -112,7 +113,7 @@ impl<'t> Store<'t> {
         requires full { (q : Proc) → slice_get self.old.net.procs p ≡ Some q
             → is_full (own_at self.old.owns p) q ≡ true }
         requires units { U.tree units.now ≡ self.old.tree }
-        ensures done { IfOk result (λ touched. Done (U.leaf units.now)
+        ensures done { IfGiven result (λ touched. Done (U.leaf units.now)
             self.old self.new p touched None) }
         ensures err { OnErr result (self.new ≡ self.old) }
     {
@@ -137,7 +138,7 @@ impl<'t> Store<'t> {
         requires kind { process.now.kind ≡ ProcKind.FoldGather }
         requires full { is_full (own_at self.now.owns p) process.now ≡ true }
         requires units { U.tree units.now ≡ self.now.tree }
-        ensures { IfOk result (λ token. token ≡ record {
+        ensures { IfGiven result (λ token. token ≡ record {
           tags = (first_or credit (own_at self.now.owns p).held).tags;
           body = fold_of self.now.tree (U.leaf units.now)
               process.now.node (bodies (own_at self.now.owns p).held);

@@ -1,6 +1,7 @@
 // Gathers.
 
-ghost use Rattle.std.specs.Prelude.{◌≡◌, ◌<◌, true, length, None, Some, IfOk, OnErr, slice_get};
+ghost use Rattle.std.specs.Prelude.{◌≡◌, ◌<◌, true, length, None, Some, OnErr, slice_get};
+ghost use Rattle.p3l_base.specs.Memory.{IfGiven};
 ghost use Rattle.std.specs.List.{AllByRecursion};
 ghost use Rattle.p3l_base.specs.Cut.{HasLawfulOuts, element_count, element_size, joined_words};
 ghost use Rattle.p3l_skel.specs.Item.{gathered};
@@ -30,7 +31,7 @@ fn joined_of(alloc: Global, cut: &Cut, held: &[Token]) -> Result<Outcome, NoMemo
     requires count { length held.now ≡ element_count cut.now }
     requires sizes { AllByRecursion (λ (token : Token). HasLength (element_size cut.now.outs)
         token.body) held.now }
-    ensures { IfOk result (λ whole. whole ≡ gathered (joined_words cut.now) (bodies held.now)) }
+    ensures { IfGiven result (λ whole. whole ≡ gathered (joined_words cut.now) (bodies held.now)) }
 {
     let mut results = List::new(alloc);
     for token in held {
@@ -84,7 +85,7 @@ impl<'t> Store<'t> {
     // Handed back is the channel touched.
     pub(super) fn fire_gather(&mut self, alloc: Global, p: u32) -> Result<Touched, NoMemory>
         requires { MayFire self.old p ProcKind.Gather }
-        ensures done { IfOk result (λ touched. (leaf : Leaf)
+        ensures done { IfGiven result (λ touched. (leaf : Leaf)
             → Done leaf self.old self.new p touched None) }
         ensures err { OnErr result (self.new ≡ self.old) }
     {
@@ -102,7 +103,7 @@ impl<'t> Store<'t> {
         requires may { MayFire self.old p ProcKind.Gather }
         requires full { (q : Proc) → slice_get self.old.net.procs p ≡ Some q
             → is_full self.old.tree (own_at self.old.owns p) q ≡ true }
-        ensures done { IfOk result (λ touched. (leaf : Leaf)
+        ensures done { IfGiven result (λ touched. (leaf : Leaf)
             → Done leaf self.old self.new p touched None) }
         ensures err { OnErr result (self.new ≡ self.old) }
     {
@@ -120,7 +121,7 @@ impl<'t> Store<'t> {
         requires stands { Stands self.now p process.now }
         requires kind { process.now.kind ≡ ProcKind.Gather }
         requires full { is_full self.now.tree (own_at self.now.owns p) process.now ≡ true }
-        ensures { IfOk result (λ token. token ≡ record {
+        ensures { IfGiven result (λ token. token ≡ record {
           tags = (first_or credit (own_at self.now.owns p).held).tags;
           body = joined_of self.now.tree process.now.node (bodies (own_at self.now.owns p).held);
         }) }

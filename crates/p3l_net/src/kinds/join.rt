@@ -1,6 +1,7 @@
 // Joins.
 
-ghost use Rattle.std.specs.Prelude.{◌≡◌, ◌+◌, length, None, IfOk, OnErr};
+ghost use Rattle.std.specs.Prelude.{◌≡◌, ◌+◌, length, None, OnErr};
+ghost use Rattle.p3l_base.specs.Memory.{IfGiven};
 ghost use Rattle.p3l_net.specs.Machine.{Stands};
 ghost use Rattle.p3l_net.specs.Steps.{Done, IfValues, MayFire, ready_at};
 ghost use Rattle.p3l_skel.specs.Fold.{combined};
@@ -26,7 +27,7 @@ pub(super) fn combined_of<U: Units>(
     requires sequential { IsUnit (U.tree units.now) operator }
     requires fits { IfValues left.now right.now (λ v w. HasFittingLength (U.tree units.now)
         operator (length v + length w)) }
-    ensures { IfOk result (λ made. made
+    ensures { IfGiven result (λ made. made
         ≡ combined (item (U.tree units.now) (U.leaf units.now) operator) left.now right.now) }
 {
     match (left, right) {
@@ -65,7 +66,7 @@ impl<'t> Store<'t> {
     ) -> Result<Touched, NoMemory>
         requires may { MayFire self.old p ProcKind.Join }
         requires units { U.tree units.now ≡ self.old.tree }
-        ensures done { IfOk result (λ touched. Done (U.leaf units.now)
+        ensures done { IfGiven result (λ touched. Done (U.leaf units.now)
             self.old self.new p touched None) }
         ensures err { OnErr result (self.new ≡ self.old) }
     {

@@ -1,6 +1,7 @@
 // What the processes that hand a token out in pieces, and those that gather pieces, have in common.
 
-ghost use Rattle.std.specs.Prelude.{◌≡◌, ◌<◌, ◌-◌, ◌≤◌, ◌^◌, [], ◌∷◌, length, IfOk, OnOk, OnErr};
+ghost use Rattle.std.specs.Prelude.{◌≡◌, ◌<◌, ◌-◌, ◌≤◌, ◌^◌, [], ◌∷◌, length, IfOk, OnErr};
+ghost use Rattle.p3l_base.specs.Memory.{OnGiven};
 ghost use Rattle.p3l_base.specs.Cut.{element_count};
 ghost use Rattle.p3l_firing.specs.Lists.{first_or};
 ghost use Rattle.p3l_firing.specs.Nodes.{cut_of};
@@ -60,7 +61,7 @@ impl<'t> Store<'t> {
         requires room { length (tokens_at self.old.queues input)
             ≤ (queue_at self.old.queues input).room }
         requires count { self.old.fired < 2 ^ 63 }
-        ensures after { OnOk result (self.new
+        ensures after { OnGiven result (self.new
             ≡ ticked (with_own (without_first self.old input)
             p (gathering (own_at self.old.owns p)
             (first_or credit (tokens_at self.old.queues input))))) }

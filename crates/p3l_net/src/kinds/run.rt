@@ -1,6 +1,7 @@
 // Runs.
 
 ghost use Rattle.std.specs.Prelude.{◌≡◌, [], ◌∷◌, None, true, IfOk, OnErr};
+ghost use Rattle.p3l_base.specs.Memory.{IfGiven};
 ghost use Rattle.p3l_net.specs.Machine.{Stands, may_want_memory};
 ghost use Rattle.p3l_net.specs.Steps.{Done, MayFire, Reads, Writes, ready_at};
 
@@ -36,7 +37,7 @@ impl<'t> Store<'t> {
     ) -> Result<(u32, u32), NoMemory>
         requires may { MayFire self.old p ProcKind.Run }
         requires units { U.tree units.now ≡ self.old.tree }
-        ensures done { IfOk result (λ ends. Done (U.leaf units.now)
+        ensures done { IfGiven result (λ ends. Done (U.leaf units.now)
             self.old self.new p (ends.0 ∷ (ends.1 ∷ [])) None) }
         ensures reads { IfOk result (λ ends. Reads self.old.net p ends.0) }
         ensures writes { IfOk result (λ ends. Writes self.old.net p ends.1) }

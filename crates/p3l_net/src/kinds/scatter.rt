@@ -1,6 +1,7 @@
 // Scatters.
 
-ghost use Rattle.std.specs.Prelude.{◌≡◌, ◌<◌, true, length, None, IfOk, OnErr};
+ghost use Rattle.std.specs.Prelude.{◌≡◌, ◌<◌, true, length, None, OnErr};
+ghost use Rattle.p3l_base.specs.Memory.{IfGiven};
 ghost use Rattle.p3l_base.specs.declared.outcome.Outcome.TheVariants.{Value};
 ghost use Rattle.p3l_base.specs.Cut.{HasLawfulIns, element_count, element_words};
 ghost use Rattle.p3l_skel.specs.Item.{on_value};
@@ -24,7 +25,7 @@ use std::alloc::Global;
 fn element_of(alloc: Global, cut: &Cut, k: u64, outcome: &Outcome) -> Result<Outcome, NoMemory>
     requires there { k < element_count cut.now }
     requires fits { IfValue outcome.now (λ words. HasLawfulIns cut.now (length words)) }
-    ensures { IfOk result (λ made. made
+    ensures { IfGiven result (λ made. made
         ≡ on_value (λ words. Value (element_words cut.now.ins cut.now.second words k)) outcome.now) }
 {
     match outcome {
@@ -64,7 +65,7 @@ impl<'t> Store<'t> {
     // is the channel touched.
     pub(super) fn fire_scatter(&mut self, alloc: Global, p: u32) -> Result<Touched, NoMemory>
         requires { MayFire self.old p ProcKind.Scatter }
-        ensures done { IfOk result (λ touched. (leaf : Leaf)
+        ensures done { IfGiven result (λ touched. (leaf : Leaf)
             → Done leaf self.old self.new p touched None) }
         ensures err { OnErr result (self.new ≡ self.old) }
     {
@@ -82,7 +83,7 @@ impl<'t> Store<'t> {
     fn send_element(&mut self, alloc: Global, p: u32) -> Result<Touched, NoMemory>
         requires may { MayFire self.old p ProcKind.Scatter }
         requires holds { has_first (own_at self.old.owns p).held ≡ true }
-        ensures done { IfOk result (λ touched. (leaf : Leaf)
+        ensures done { IfGiven result (λ touched. (leaf : Leaf)
             → Done leaf self.old self.new p touched None) }
         ensures err { OnErr result (self.new ≡ self.old) }
     {
@@ -102,7 +103,7 @@ impl<'t> Store<'t> {
         requires stands { Stands self.now p process.now }
         requires kind { process.now.kind ≡ ProcKind.Scatter }
         requires holds { has_first (own_at self.now.owns p).held ≡ true }
-        ensures { IfOk result (λ token. token
+        ensures { IfGiven result (λ token. token
             ≡ over (element_of self.now.tree process.now.node (own_at self.now.owns p).number)
             (first_or credit (own_at self.now.owns p).held)) }
     {

@@ -1,6 +1,7 @@
 // Splits.
 
-ghost use Rattle.std.specs.Prelude.{◌≡◌, ◌<◌, ◌≤◌, true, length, None, IfOk, OnErr};
+ghost use Rattle.std.specs.Prelude.{◌≡◌, ◌<◌, ◌≤◌, true, length, None, OnErr};
+ghost use Rattle.p3l_base.specs.Memory.{IfGiven};
 ghost use Rattle.std.specs.Int.{IsPowerOfTwo};
 ghost use Rattle.p3l_base.specs.declared.outcome.Outcome.TheVariants.{Value};
 ghost use Rattle.p3l_skel.specs.Item.{on_value};
@@ -67,7 +68,7 @@ fn segment_of(
     requires power { IsPowerOfTwo count }
     requires few { count ≤ 512 }
     requires there { s < count }
-    ensures { IfOk result (λ made. made
+    ensures { IfGiven result (λ made. made
         ≡ on_value (λ words. Value (segment_words elem count s words)) outcome.now) }
 {
     match outcome {
@@ -109,7 +110,7 @@ impl<'t> Store<'t> {
     // the channel touched.
     pub(super) fn fire_split(&mut self, alloc: Global, p: u32) -> Result<Touched, NoMemory>
         requires { MayFire self.old p ProcKind.Split }
-        ensures done { IfOk result (λ touched. (leaf : Leaf)
+        ensures done { IfGiven result (λ touched. (leaf : Leaf)
             → Done leaf self.old self.new p touched None) }
         ensures err { OnErr result (self.new ≡ self.old) }
     {
@@ -126,7 +127,7 @@ impl<'t> Store<'t> {
     fn send_segment(&mut self, alloc: Global, p: u32) -> Result<Touched, NoMemory>
         requires may { MayFire self.old p ProcKind.Split }
         requires holds { has_first (own_at self.old.owns p).held ≡ true }
-        ensures done { IfOk result (λ touched. (leaf : Leaf)
+        ensures done { IfGiven result (λ touched. (leaf : Leaf)
             → Done leaf self.old self.new p touched None) }
         ensures err { OnErr result (self.new ≡ self.old) }
     {
@@ -146,7 +147,7 @@ impl<'t> Store<'t> {
         requires stands { Stands self.now p process.now }
         requires kind { process.now.kind ≡ ProcKind.Split }
         requires holds { has_first (own_at self.now.owns p).held ≡ true }
-        ensures { IfOk result (λ token. token
+        ensures { IfGiven result (λ token. token
             ≡ over (segment_of self.now.tree process.now.node (length process.now.outs)
             (own_at self.now.owns p).number) (first_or credit (own_at self.now.owns p).held)) }
     {

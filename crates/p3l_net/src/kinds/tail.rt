@@ -1,6 +1,7 @@
 // Tails of loops.
 
-ghost use Rattle.std.specs.Prelude.{◌≡◌, ◌<◌, [], None, Some, true, false, length, slice_get, IfOk, OnErr};
+ghost use Rattle.std.specs.Prelude.{◌≡◌, ◌<◌, [], None, Some, true, false, length, slice_get, OnErr};
+ghost use Rattle.p3l_base.specs.Memory.{IfGiven};
 ghost use Rattle.p3l_base.specs.declared.outcome.Outcome.{Outcome};
 ghost use Rattle.p3l_base.specs.declared.outcome.Outcome.TheVariants.{Trapped};
 ghost use Rattle.p3l_skel.specs.Tree.{IsUnit, HasFittingLength};
@@ -68,7 +69,7 @@ fn turn_of<U: Units>(
     requires sequential { IsUnit (U.tree units.now) condition }
     requires fits { IfValue body.now (λ words. HasFittingLength (U.tree units.now)
         condition (length words)) }
-    ensures { IfOk result (λ turn. row_turn turn body.now
+    ensures { IfGiven result (λ turn. row_turn turn body.now
         ≡ turn_of (outcome_of (U.tree units.now) (U.leaf units.now) condition) (Trapped spent)
         more body.now) }
 {
@@ -131,7 +132,7 @@ impl<'t> Store<'t> {
     ) -> Result<Touched, NoMemory>
         requires may { MayFire self.old p ProcKind.Tail }
         requires units { U.tree units.now ≡ self.old.tree }
-        ensures done { IfOk result (λ touched. Done (U.leaf units.now)
+        ensures done { IfGiven result (λ touched. Done (U.leaf units.now)
             self.old self.new p touched None) }
         ensures err { OnErr result (self.new ≡ self.old) }
         ensures memory { OnErr result (may_want_memory self.old p ≡ true) }
@@ -169,7 +170,7 @@ impl<'t> Store<'t> {
         requires stays { (q : Proc) → slice_get self.old.net.procs p ≡ Some q
             → can_release self.old.net (state_of self.old []) (own_at self.old.owns p) q ≡ false }
         requires units { U.tree units.now ≡ self.old.tree }
-        ensures done { IfOk result (λ touched. Done (U.leaf units.now)
+        ensures done { IfGiven result (λ touched. Done (U.leaf units.now)
             self.old self.new p touched None) }
         ensures err { OnErr result (self.new ≡ self.old) }
     {
@@ -208,7 +209,7 @@ impl<'t> Store<'t> {
         requires kind { process.now.kind ≡ ProcKind.Tail }
         requires comes { has_first (tokens_at self.now.queues (in_of process.now 0)) ≡ true }
         requires units { U.tree units.now ≡ self.now.tree }
-        ensures { IfOk result (λ turn.
+        ensures { IfGiven result (λ turn.
             row_turn turn (first_or credit (tokens_at self.now.queues (in_of process.now 0))).body
             ≡ next_turn self.now.tree (U.leaf units.now) (state_of self.now []) process.now) }
     {
