@@ -8,13 +8,15 @@ use Rattle.p3l_skel.specs.declared.tree.Tree.{Tree}
 use Rattle.p3l_skel.specs.Item.{item, meaning}
 use Rattle.p3l_firing.specs.declared.net.Net.{Net}
 use Rattle.p3l_firing.specs.Token.{has_trap}
-use Rattle.p3l_firing.specs.State.{first_state}
+use Rattle.p3l_firing.specs.State.{State, first_state}
 use Rattle.p3l_firing.specs.Fire.{can_fire, IsStuck}
+use Rattle.p3l_firing.specs.Ways.{MayFire}
 use Rattle.p3l_firing.specs.Run.{Course, course_from, picked, after_picks, run}
 use Rattle.p3l_firing.specs.RoundRobin.{after, next_of, round_robin}
 use Rattle.p3l_firing.specs.Outcomes.{up_to_first_trap, IsPrefixOf}
 use Rattle.p3l_firing.specs.Carried.{Carry, whole, HaveInWords, IsCarried}
 use Rattle.p3l_firing.proofs.OutcomesLaw.{begins_all, trap_ends_all, meaning_is}
+use Rattle.p3l_firing.proofs.WaysLaw.{fire_is_a_way}
 use Rattle.p3l_firing.proofs.RoundRobinLaw.{next_can, next_stuck, fired_at, goes_on, stops, cases_next}
 
 -- what every run keeps
@@ -39,9 +41,10 @@ module _ (tree : Tree) (leaf : ℕ → List ℤ → Outcome) (net : Net) (firing
         work = omega arith;
       }
 
-  pub carried_fired : (c : Course) (p : ℕ) → IsKeptBy tree leaf firings carry items c → can_fire tree net c.state p ≡ true → IsKeptBy tree leaf firings carry items (fired_at tree leaf net c p)
-  carried_fired c p k can =
-      let s = laws.step c.state p can k.orderly in
+  -- whichever way a process fires
+  pub carried_way : (c : Course) (p : ℕ) (t : State) → IsKeptBy tree leaf firings carry items c → MayFire tree leaf net c.state p t → IsKeptBy tree leaf firings carry items (record c { state = t; fired = c.fired + 1 })
+  carried_way c p t k way =
+      let s = laws.step c.state t p way k.orderly in
       let count = k.count in
       let items' = s.items in
       let work = k.work in
@@ -53,6 +56,9 @@ module _ (tree : Tree) (leaf : ℕ → List ℤ → Outcome) (net : Net) (firing
         count = omega arith;
         work = omega arith;
       }
+
+  pub carried_fired : (c : Course) (p : ℕ) → IsKeptBy tree leaf firings carry items c → can_fire tree net c.state p ≡ true → IsKeptBy tree leaf firings carry items (fired_at tree leaf net c p)
+  carried_fired c p k can = carried_way c p _ k (fire_is_a_way tree leaf net c.state p can)
 
   pub carried_picked : (c : Course) (p : ℕ) → IsKeptBy tree leaf firings carry items c → IsKeptBy tree leaf firings carry items (picked tree leaf net c p)
   unfolding picked

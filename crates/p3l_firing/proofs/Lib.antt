@@ -11,6 +11,8 @@ pub mod row
 pub mod ChoiceLaw
 pub mod OutcomesLaw
 pub mod RoundRobinLaw
+pub mod WaysLaw
+pub mod FittingWays
 pub mod CarriedLaw
 pub mod SingleTyped
 pub mod SingleCarried

@@ -1,6 +1,6 @@
 -- The net of one unit is carried: what its tokens come to, and the firings that they still need.
 use Rattle.std.proofs.Common.{◌≡◌, ℕ, ℤ, zero, suc, ◌+◌, ◌*◌, ◌<◌, true, false, ◌&&◌, List, [], ◌∷◌, ◌++◌, length, map, refl, sym, ap, ap₂, ◌∙◌, subst, arith, append_assoc, length-append}
-use Rattle.std.proofs.lemmas.Bool.{and_parts, not-true, false≢true}
+use Rattle.std.proofs.lemmas.Bool.{and_parts}
 use Rattle.std.proofs.lemmas.List.{map-append}
 use Rattle.p3l_base.specs.declared.outcome.Outcome.{Outcome}
 use Rattle.p3l_base.specs.declared.outcome.Outcome.TheVariants.{Value}
@@ -19,14 +19,16 @@ use Rattle.p3l_firing.specs.Lists.{has_first, first_or, rest_of}
 use Rattle.p3l_firing.specs.Token.{plain, credit, over, has_trap}
 use Rattle.p3l_firing.specs.Nodes.{Leaf, outcome_of}
 use Rattle.p3l_firing.specs.State.{State, front, push, pop, has_room, first_state, at_first}
-use Rattle.p3l_firing.specs.Fire.{row_can, row_fire, is_ready, can_fire, fire, IsStuck}
+use Rattle.p3l_firing.specs.Fire.{row_can, row_fire, is_ready, fire, IsStuck}
+use Rattle.p3l_firing.specs.Ways.{MayFire}
 use Rattle.p3l_firing.specs.kinds.Source as source
 use Rattle.p3l_firing.specs.kinds.Sink as sink
 use Rattle.p3l_firing.specs.kinds.Run as run
 use Rattle.p3l_firing.specs.Single.{unit_net, the_source, the_sink, the_run}
 use Rattle.p3l_firing.specs.Carried.{Carry, whole, Keeps, IsDrained, IsCarried}
 use Rattle.p3l_firing.proofs.OutcomesLaw.{emit_more}
-use Rattle.p3l_firing.proofs.Rows.{front_split, no_first, moved-in, moved-out, ready_at, fire_at, none_ready, ready_from_can, calm_from_can, not_ready, and_right_true, room_when_empty}
+use Rattle.p3l_firing.proofs.Rows.{front_split, no_first, moved-in, moved-out, ready_at, fire_at, not_ready, and_right_true, room_when_empty}
+use Rattle.p3l_firing.proofs.WaysLaw.{one_way, sink_is_calm, no_way, strict_source, strict_sink, strict_run}
 
 -- the outcomes of tokens
 abbrev outcomes_of : List Token → List Outcome
@@ -162,18 +164,18 @@ module _ (tree : Tree) (leaf : Leaf) (cap : ℕ) where
       let after : length (at popped 1 (popped 1 ++ t ∷ []) 1) ≡ length (s.tokens 1) + 1 = ap length (moved-out s 0 1 t (λ e. omega (arith, e))) ∙ length-append (s.tokens 1) _ in
       record { orderly = refl; same = same s (applies tree leaf s) (apply_outcomes tree leaf s full); emitted = λ e. e; items = refl; work = omega arith }
 
-  step : (s : State) (p : ℕ) → can_fire tree (unit_net cap) s p ≡ true → Kept s (fire tree leaf (unit_net cap) s p)
-  step s zero can =
-      let ready = sym (source_ready tree leaf cap s) ∙ ready_from_can tree (unit_net cap) s 0 can in
-      subst (Kept s) (sym (source_fires tree leaf cap s)) (sent s (and_parts _ _ ready).0)
-  step s (suc zero) can =
-      let ready = sym (sink_ready tree leaf cap s) ∙ ready_from_can tree (unit_net cap) s 1 can in
-      subst (Kept s) (sym (sink_fires tree leaf cap s)) (taken s (not-true _ (calm_from_can tree (unit_net cap) s 1 can)) ready)
-  step s (suc (suc zero)) can =
-      let ready = sym (run_ready tree leaf cap s) ∙ ready_from_can tree (unit_net cap) s 2 can in
-      subst (Kept s) (sym (run_fires tree leaf cap s)) (applied s (and_parts _ _ ready).0)
-  step s (suc (suc (suc p))) can =
-      absurd (false≢true (sym (none_ready tree (unit_net cap) s (suc (suc (suc p))) refl) ∙ ready_from_can tree (unit_net cap) s _ can))
+  step : (s t : State) (p : ℕ) → MayFire tree leaf (unit_net cap) s p t → Kept s t
+  step s t zero way =
+      let w = one_way tree leaf (unit_net cap) s t 0 the_source refl strict_source way in
+      subst (Kept s) (sym (w.1 ∙ source_fires tree leaf cap s)) (sent s (and_parts _ _ (sym (source_ready tree leaf cap s) ∙ w.0)).0)
+  step s t (suc zero) way =
+      let w = one_way tree leaf (unit_net cap) s t 1 the_sink refl strict_sink way in
+      let calm = sink_is_calm tree leaf (unit_net cap) s t 1 the_sink refl refl way in
+      subst (Kept s) (sym (w.1 ∙ sink_fires tree leaf cap s)) (taken s calm (sym (sink_ready tree leaf cap s) ∙ w.0))
+  step s t (suc (suc zero)) way =
+      let w = one_way tree leaf (unit_net cap) s t 2 the_run refl strict_run way in
+      subst (Kept s) (sym (w.1 ∙ run_fires tree leaf cap s)) (applied s (and_parts _ _ (sym (run_ready tree leaf cap s) ∙ w.0)).0)
+  step s t (suc (suc (suc p))) way = absurd (no_way tree leaf (unit_net cap) _ s (suc (suc (suc p))) t refl way)
 
   module _ (room : 0 < cap) (s : State) (calm : has_trap s.emitted ≡ false) (stuck : IsStuck tree (unit_net cap) s) where
     idle_at : (p : ℕ) → is_ready tree (unit_net cap) s p ≡ false
@@ -195,7 +197,7 @@ module _ (tree : Tree) (leaf : Leaf) (cap : ℕ) where
   unfolding Kept first_state at_first
   three_carried room = record {
     begins = λ items long. record { orderly = refl; to_come = refl; owed = refl };
-    step = λ s p can orderly. step s p can;
+    step = λ s t p way orderly. step s t p way;
     drained = λ s orderly calm stuck. all_drained room s calm stuck;
   }
 

@@ -161,7 +161,7 @@ module _ (tree : Tree) (leaf : Leaf) (gives : GivesOuts tree leaf) (net : Net) (
       has_first_out cs long = has-nth cs 0 (omega (arith, long))
 
   module _ (s : State) (fit : IsFitting tree net typed.widths s) where
-    fits_row : (p : ℕ) (o : Own) (q : Proc) (k : ProcKind) → slice_get net.procs p ≡ Some q → q.kind ≡ k → FitsKind k tree typed.widths q → FitsOwn k tree typed.widths q o → row_can k tree net s o q ≡ true → IsFitting tree net typed.widths (row_fire k tree leaf net s p o q)
+    pub fits_row : (p : ℕ) (o : Own) (q : Proc) (k : ProcKind) → slice_get net.procs p ≡ Some q → q.kind ≡ k → FitsKind k tree typed.widths q → FitsOwn k tree typed.widths q o → row_can k tree net s o q ≡ true → IsFitting tree net typed.widths (row_fire k tree leaf net s p o q)
     unfolding row_can row_fire
     fits_row p o q kinds.Source stands kind fits keeps can = source.fits s q fit fits can
     fits_row p o q kinds.Sink stands kind fits keeps can = sink.fits s q fit

@@ -9,7 +9,8 @@ use Rattle.p3l_skel.specs.Item.{item}
 use Rattle.p3l_firing.specs.declared.net.Net.{Net}
 use Rattle.p3l_firing.specs.Token.{has_trap}
 use Rattle.p3l_firing.specs.State.{State, first_state}
-use Rattle.p3l_firing.specs.Fire.{can_fire, fire, IsStuck}
+use Rattle.p3l_firing.specs.Fire.{IsStuck}
+use Rattle.p3l_firing.specs.Ways.{MayFire}
 use Rattle.p3l_firing.specs.Outcomes.{up_to_first_trap}
 
 -- of each state of a net: whether it is orderly, the outcomes that its tokens will come to, in order, and the firings that they
@@ -49,5 +50,5 @@ HaveInWords tree items = AllByRecursion (λ words. length words ≡ (node_at tre
 -- the three laws of a net, of which every law over all picks follows
 pub record IsCarried (tree : Tree) (leaf : ℕ → List ℤ → Outcome) (net : Net) (firings : ℕ) (carry : Carry) : Type 0 where
   pub begins : (items : List (List ℤ)) → HaveInWords tree items → Begins carry (first_state net items)
-  pub step : (s : State) (p : ℕ) → can_fire tree net s p ≡ true → carry.orderly s ≡ true → Keeps carry (item tree leaf 0) firings s (fire tree leaf net s p)
+  pub step : (s t : State) (p : ℕ) → MayFire tree leaf net s p t → carry.orderly s ≡ true → Keeps carry (item tree leaf 0) firings s t
   pub drained : (s : State) → carry.orderly s ≡ true → has_trap s.emitted ≡ false → IsStuck tree net s → IsDrained carry s

@@ -10,6 +10,7 @@ pub mod Widths
 pub mod kinds
 pub mod Choice
 pub mod Fire
+pub mod Ways
 pub mod Run
 pub mod RoundRobin
 pub mod Outcomes

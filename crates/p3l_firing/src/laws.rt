@@ -12,7 +12,7 @@ ghost use Rattle.p3l_firing.specs.declared.net.Net.{Net};
 ghost use Rattle.p3l_firing.specs.Carried.{Carry, HaveInWords, IsCarried};
 ghost use Rattle.p3l_firing.specs.Choice.{Emptiest, Full, FirstDue, NoneDue};
 ghost use Rattle.p3l_firing.specs.Examples.{HandValues};
-ghost use Rattle.p3l_firing.specs.Fire.{IsStuck, can_fire, fire};
+ghost use Rattle.p3l_firing.specs.Fire.{IsStuck, can_fire, fire, is_ready};
 ghost use Rattle.p3l_firing.specs.Nodes.{Leaf};
 ghost use Rattle.p3l_firing.specs.Outcomes.{IsPrefixOf};
 ghost use Rattle.p3l_firing.specs.RoundRobin.{after, next_of, round_robin};
@@ -20,6 +20,7 @@ ghost use Rattle.p3l_firing.specs.Run.{Course, after_picks, picked, run};
 ghost use Rattle.p3l_firing.specs.Single.{unit_net};
 ghost use Rattle.p3l_firing.specs.State.{State, first_state};
 ghost use Rattle.p3l_firing.specs.Typed.{IsTyped, IsFitting};
+ghost use Rattle.p3l_firing.specs.Ways.{Eyes, Knows, MayFire, Sees};
 ghost use Rattle.p3l_firing.specs.kinds.Collect.{due_in};
 ghost use Rattle.p3l_firing.specs.kinds.Emit.{emptiest};
 
@@ -72,6 +73,21 @@ pub fn every_firing_keeps_words_and_tags()
         (p : ℕ)
         → GivesOuts tree leaf → IsFitting tree net typed.widths s → can_fire tree net s p ≡ true
         → IsFitting tree net typed.widths (fire tree leaf net s p) }
+    ensures ways { (tree : Tree) (leaf : Leaf) (net : Net) (typed : IsTyped tree net) (s t : State)
+        (p : ℕ)
+        → GivesOuts tree leaf → IsFitting tree net typed.widths s → MayFire tree leaf net s p t
+        → IsFitting tree net typed.widths t }
+{}
+
+/// The firing by the table of kinds is one of the ways that are open to a process, and where any is open the process
+/// is ready; and whoever knows more of the channels has all ways of one who knows less.
+pub fn ways_are_open()
+    ensures table { (tree : Tree) (leaf : Leaf) (net : Net) (s : State) (p : ℕ)
+        → can_fire tree net s p ≡ true → MayFire tree leaf net s p (fire tree leaf net s p) }
+    ensures ready { (tree : Tree) (leaf : Leaf) (net : Net) (s t : State) (p : ℕ)
+        → MayFire tree leaf net s p t → is_ready tree net s p ≡ true }
+    ensures more { (tree : Tree) (leaf : Leaf) (net : Net) (e f : Eyes) (s t : State) (p : ℕ)
+        → Knows e f → Sees tree leaf net e s p t → Sees tree leaf net f s p t }
 {}
 
 /// A run goes pick by pick, and so does the round robin, of which no pick is idle.

@@ -1,7 +1,7 @@
 -- THE LINKED NET IS CARRIED: what its tokens come to is what the root's part says, so all laws over
 -- all picks hold of it.
 use Rattle.std.proofs.Common.{◌≡◌, ℕ, ℤ, zero, suc, ◌+◌, ◌-◌, ◌*◌, ◌≤◌, ◌<◌, ◌&&◌, inl, inr, true, false, List, [], ◌∷◌, ◌++◌, map, length, Some, None, slice_get, refl, sym, ap, ap₂, ◌∙◌, subst, arith, append_assoc, length-append}
-use Rattle.std.proofs.lemmas.Bool.{and_parts, not-true, cases_lt, false≢true}
+use Rattle.std.proofs.lemmas.Bool.{and_parts, cases_lt}
 use Rattle.p3l_skel.specs.Counts.{count_of, HasLawfulCounts}
 use Rattle.p3l_skel.specs.Item.{item}
 use Rattle.p3l_skel.specs.Lawful.{IsLawfulTree}
@@ -10,14 +10,16 @@ use Rattle.p3l_skel.specs.Tree.{node_at, nesting, GivesOuts}
 use Rattle.p3l_firing.specs.declared.net.Net.{Net}
 use Rattle.p3l_firing.specs.declared.process.Proc.{Proc}
 use Rattle.p3l_firing.specs.Carried.{HaveInWords, Begins, Keeps, IsDrained, IsCarried}
-use Rattle.p3l_firing.specs.Fire.{row_can, row_fire, can_fire, fire, IsStuck}
+use Rattle.p3l_firing.specs.Fire.{row_can, IsStuck}
+use Rattle.p3l_firing.specs.Ways.{eyes_of, row_ways, MayFire}
 use Rattle.p3l_firing.specs.Lists.{has_first}
 use Rattle.p3l_firing.specs.Single.{the_source, the_sink}
 use Rattle.p3l_firing.specs.State.{State, chan_at, at_first, first_state}
 use Rattle.p3l_firing.specs.Token.{bodies, has_trap, over}
 use Rattle.p3l_firing.specs.kinds.Source as source
 use Rattle.p3l_firing.specs.kinds.Sink as sink
-use Rattle.p3l_firing.proofs.Rows.{no_first, fire_at, none_ready, ready_from_can, can_at, cannot_at, and_right_true, room_when_empty}
+use Rattle.p3l_firing.proofs.Rows.{no_first, cannot_at, and_right_true, room_when_empty}
+use Rattle.p3l_firing.proofs.WaysLaw.{ways_at, no_way}
 use Rattle.p3l_template.specs.Part.{Part, IsInside, line, inside, in_channels, in_hands}
 use Rattle.p3l_template.specs.Placed.{AreStanding, AreLaid, IsGoodBase}
 use Rattle.p3l_template.specs.Units.{Units}
@@ -120,49 +122,44 @@ module _ (units : Units) (counts : List ℕ) (cap : ℕ) (lawful : IsLawfulTree 
       ∙ role_fires units lawful (count_of units.tree counts) nesting 0 (root_counted units.tree counts lawful fits))
 
   module _ (s : State) where
-    source_can : can_fire units.tree net s 0 ≡ true → has_first s.unsent ≡ true
-    unfolding linked_net row_can source.can
-    source_can h = (and_parts _ _ (can_at units.tree net s 0 the_source refl h).1).0
+    source_does : (t : State) → MayFire units.tree units.leaf net s 0 t → (has_first s.unsent ≡ true) × (t ≡ sends s)
+    unfolding linked_net row_ways source.fire sends
+    source_does t way =
+        let w = ways_at units.tree units.leaf net s 0 t the_source refl (eyes_of net s) way in
+        ((and_parts _ _ w.0).0, w.1)
 
-    source_fires : fire units.tree units.leaf net s 0 ≡ sends s
-    unfolding linked_net row_fire source.fire sends
-    source_fires = fire_at units.tree net s 0 the_source refl units.leaf
+    sink_does : (t : State) → MayFire units.tree units.leaf net s 1 t →
+        (has_trap s.emitted ≡ false) × (has_first (s.tokens 1) ≡ true) × (t ≡ takes s)
+    unfolding linked_net row_ways sink.fire takes
+    sink_does t way = ways_at units.tree units.leaf net s 1 t the_sink refl (eyes_of net s) way
 
-    sink_can : can_fire units.tree net s 1 ≡ true → (has_trap s.emitted ≡ false) × (has_first (s.tokens 1) ≡ true)
-    unfolding linked_net row_can sink.can
-    sink_can h = let c = can_at units.tree net s 1 the_sink refl h in (not-true _ c.0, c.1)
-
-    sink_fires : fire units.tree units.leaf net s 1 ≡ takes s
-    unfolding linked_net row_fire sink.fire takes
-    sink_fires = fire_at units.tree net s 1 the_sink refl units.leaf
-
-    inside_can : (q : ℕ) → can_fire units.tree net s (suc (suc q)) ≡ true → IsInside P (suc (suc q))
+    inside_does : (q : ℕ) (t : State) → MayFire units.tree units.leaf net s (suc (suc q)) t → IsInside P (suc (suc q))
     unfolding linked_net
-    inside_can q h =
+    inside_does q t way =
         elim (cases_lt q (length piece.procs)) [
           | inl l ↦ record { from = omega (arith, root_sound.proc_from); to = omega (arith, root_sound.proc_to, l) }
           | inr l ↦
-              absurd (false≢true (sym (none_ready units.tree net s (suc (suc q)) (get_past piece.procs q l))
-              ∙ ready_from_can units.tree net s (suc (suc q)) h))
+              absurd (no_way units.tree units.leaf net (eyes_of net s) s (suc (suc q)) t (get_past piece.procs q l) way)
         ]
 
   module _ (gives : GivesOuts units.tree units.leaf) where
-    -- one firing
-    pub linked_step : (s : State) (p : ℕ) → can_fire units.tree net s p ≡ true → (root_carry units counts).orderly s ≡ true →
-        Keeps (root_carry units counts) (item units.tree units.leaf 0) (firings units.tree counts) s
-        (fire units.tree units.leaf net s p)
-    linked_step s zero can orderly =
-        subst (Keeps (root_carry units counts) (item units.tree units.leaf 0) (firings units.tree counts) s) (sym (source_fires s))
+    -- one firing, in whichever way
+    pub linked_step : (s t : State) (p : ℕ) → MayFire units.tree units.leaf net s p t →
+        (root_carry units counts).orderly s ≡ true →
+        Keeps (root_carry units counts) (item units.tree units.leaf 0) (firings units.tree counts) s t
+    linked_step s t zero way orderly =
+        let c = source_does s t way in
+        subst (Keeps (root_carry units counts) (item units.tree units.leaf 0) (firings units.tree counts) s) (sym c.1)
         (send_keeps units net P root_sound.lawful root_sound.input root_sound.output root_sound.chan_from (root_means gives)
-        (firings units.tree counts) root_fires s (source_can s can) orderly)
-    linked_step s (suc zero) can orderly =
-        let c = sink_can s can in
-        subst (Keeps (root_carry units counts) (item units.tree units.leaf 0) (firings units.tree counts) s) (sym (sink_fires s))
+        (firings units.tree counts) root_fires s c.0 orderly)
+    linked_step s t (suc zero) way orderly =
+        let c = sink_does s t way in
+        subst (Keeps (root_carry units counts) (item units.tree units.leaf 0) (firings units.tree counts) s) (sym c.2)
         (take_keeps units net P root_sound.lawful root_sound.input root_sound.output root_sound.chan_from (root_means gives)
         (firings units.tree counts) root_fires s c.0 c.1 orderly)
-    linked_step s (suc (suc q)) can orderly =
+    linked_step s t (suc (suc q)) way orderly =
         inner_keeps units net P root_sound.lawful root_sound.input root_sound.output root_sound.chan_from (root_means gives)
-        (firings units.tree counts) root_fires s (suc (suc q)) (inside_can s q can) can orderly
+        (firings units.tree counts) root_fires s t (suc (suc q)) (inside_does s q t way) way orderly
 
   -- nothing before the part, in it and after it
   line_empty : (s : State) → s.tokens 0 ≡ [] → P.pending s ≡ [] → s.tokens 1 ≡ [] → line P s ≡ []

@@ -7,9 +7,10 @@ use Rattle.p3l_skel.specs.Tree.{node_at, HasLength}
 use Rattle.p3l_firing.specs.Carried.{whole}
 use Rattle.p3l_firing.specs.State.{State, first_state}
 use Rattle.p3l_firing.proofs.CarriedLaw.{carried_run, carried_begins, carried_finished, carried_ends}
+use Rattle.p3l_firing.proofs.WaysLaw.{fire_is_a_way}
 use Rattle.p3l_firing.proofs.row.{fitting_first, fitting_fired}
 use Rattle.p3l_template.specs.Units.{Units}
-use Rattle.p3l_link.specs.Laws.{IsOrderly, net_of, EveryNodeDoesWhatItMeans, EveryRootIsAPart, EveryNetIsCarried, EveryRunBeginsOrderly, EveryFiringKeepsTheList, EveryRunBeginsFitting, EveryFiringKeepsFitting, EveryRunBeginsTheMeaning, StuckMeansEmpty, StuckMeansFinished, RoundRobinEnds, FiringsAreBounded, OwedIsBoundedByTokens}
+use Rattle.p3l_link.specs.Laws.{IsOrderly, net_of, EveryNodeDoesWhatItMeans, EveryRootIsAPart, EveryNetIsCarried, EveryRunBeginsOrderly, EveryFiringKeepsTheList, EveryWayKeepsTheList, EveryRunBeginsFitting, EveryFiringKeepsFitting, EveryRunBeginsTheMeaning, StuckMeansEmpty, StuckMeansFinished, RoundRobinEnds, FiringsAreBounded, OwedIsBoundedByTokens}
 use Rattle.p3l_link.specs.Whole.{all_long, root_carry}
 use Rattle.p3l_link.proofs.Carried.{root_sound, root_means, root_fires, linked_step, linked_begins, linked_drained, linked_carried, owed_bound, some_procs}
 use Rattle.p3l_link.proofs.NodeMeaning.{outcome-keeps}
@@ -68,10 +69,13 @@ run_begun units counts cap items l long =
     let b = linked_begins units counts cap l.lawful l.fit l.room items long in
     record { orderly = from_carry units counts _ b.orderly; whole = first_whole units counts cap items b.to_come }
 
-pub fired : EveryFiringKeepsTheList
-fired units counts cap s p l o can =
-    let k = linked_step units counts cap l.lawful l.fit l.room l.gives s p can (to_carry units counts s o) in
+pub way_keeps : EveryWayKeepsTheList
+way_keeps units counts cap s t p l o way =
+    let k = linked_step units counts cap l.lawful l.fit l.room l.gives s t p way (to_carry units counts s o) in
     record { orderly = from_carry units counts _ k.orderly; whole = k.same; items = k.items; work = k.work }
+
+pub fired : EveryFiringKeepsTheList
+fired units counts cap s p l o can = way_keeps units counts cap s _ p l o (fire_is_a_way units.tree units.leaf _ s p can)
 
 pub first_fitting : EveryRunBeginsFitting
 first_fitting units counts cap typed items long = fitting_first units.tree _ typed items long

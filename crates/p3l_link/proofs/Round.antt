@@ -10,7 +10,7 @@ use Rattle.p3l_template.specs.laws.Rows.{at-same, at-other}
 use Rattle.p3l_firing.specs.declared.net.Net.{Net}
 use Rattle.p3l_firing.specs.declared.token.Token.{Token}
 use Rattle.p3l_firing.specs.Carried.{Carry, whole, Keeps}
-use Rattle.p3l_firing.specs.Fire.{can_fire, fire}
+use Rattle.p3l_firing.specs.Ways.{MayFire}
 use Rattle.p3l_firing.specs.Lists.{has_first, first_or, rest_of}
 use Rattle.p3l_firing.specs.Outcomes.{up_to_first_trap}
 use Rattle.p3l_firing.specs.State.{State, front, push, pop}
@@ -198,10 +198,7 @@ module _ (units : Units) (net : Net) (P : Part) (law : IsLawfulPart net units P)
         }
 
   -- a process inside
-  module _ (s : State) (p : ℕ) (inside : IsInside P p) (can : can_fire units.tree net s p ≡ true) where
-    abbrev t : State
-    t = fire units.tree units.leaf net s p
-
+  module _ (s t : State) (p : ℕ) (inside : IsInside P p) (way : MayFire units.tree units.leaf net s p t) where
     due_at : (u : State) → due P u ≡ P.firings * length (u.tokens 0) + P.owed u
     unfolding due
     due_at u = ap (λ c. P.firings * length (u.tokens c) + P.owed u) input
@@ -209,24 +206,24 @@ module _ (units : Units) (net : Net) (P : Part) (law : IsLawfulPart net units P)
     inner_whole : P.orderly s ≡ true → whole carry (item units.tree units.leaf 0) t ≡ whole carry (item units.tree units.leaf 0) s
     unfolding whole
     inner_whole orderly =
-        let m = law.moves s p inside can in
+        let m = law.moves s t p inside way in
         ap₂ (λ x y. x ++ (bodies (line P t) ++ map (item units.tree units.leaf 0) y)) m.emitted m.unsent
-        ∙ ap (λ z. s.emitted ++ (bodies z ++ map (item units.tree units.leaf 0) s.unsent)) (law.step s p inside can orderly).line
+        ∙ ap (λ z. s.emitted ++ (bodies z ++ map (item units.tree units.leaf 0) s.unsent)) (law.step s t p inside way orderly).line
 
     inner_work : P.orderly s ≡ true → owed_round P t + 1 ≤ owed_round P s
     inner_work orderly =
-        let d = law.work s p inside can orderly in
-        let l : length (line P t) ≡ length (line P s) = ap length (law.step s p inside can orderly).line in
+        let d = law.work s t p inside way orderly in
+        let l : length (line P t) ≡ length (line P s) = ap length (law.step s t p inside way orderly).line in
         omega (arith, d, due_at s, due_at t, l, line_count s, line_count t, owed_at s, owed_at t)
 
     pub inner_keeps : carry.orderly s ≡ true → Kept s t
     inner_keeps orderly =
         let both = and_parts _ _ orderly in
-        let m = law.moves s p inside can in
+        let m = law.moves s t p inside way in
         let work = inner_work both.0 in
         let same_sent : firings * t.sent ≡ firings * s.sent = ap (λ z. firings * z) m.sent in
         record {
-          orderly = ap₂ (λ a b. a && b) (law.step s p inside can both.0).orderly (ap (all_long n) m.unsent ∙ both.1);
+          orderly = ap₂ (λ a b. a && b) (law.step s t p inside way both.0).orderly (ap (all_long n) m.unsent ∙ both.1);
           same = inner_whole both.0;
           emitted = λ e. subst (λ z. up_to_first_trap z ≡ z) (sym m.emitted) e;
           items = ap₂ (λ x y. x + length y) m.sent m.unsent;

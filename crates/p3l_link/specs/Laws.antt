@@ -15,6 +15,7 @@ use Rattle.p3l_firing.specs.Run.{Course, run}
 use Rattle.p3l_firing.specs.State.{State, first_state}
 use Rattle.p3l_firing.specs.Token.{has_trap}
 use Rattle.p3l_firing.specs.Typed.{IsFitting, IsTyped}
+use Rattle.p3l_firing.specs.Ways.{MayFire}
 use Rattle.p3l_template.specs.Part.{Part, IsLawfulPart}
 use Rattle.p3l_template.specs.Placed.{AreLaid, AreStanding, IsGoodBase}
 use Rattle.p3l_template.specs.Shape.{Base, Role}
@@ -133,6 +134,12 @@ EveryFiringKeepsTheList =
     (units : Units) (counts : List ℕ) (cap : ℕ) (s : State) (p : ℕ) → IsLinkable units counts cap → IsOrderly units counts s →
     can_fire units.tree (net_of units counts cap) s p ≡ true →
     IsStep units counts s (fire units.tree units.leaf (net_of units counts cap) s p)
+
+-- and so does a firing in any other way that is open to a process
+abbrev pub EveryWayKeepsTheList : Type 0
+EveryWayKeepsTheList =
+    (units : Units) (counts : List ℕ) (cap : ℕ) (s t : State) (p : ℕ) → IsLinkable units counts cap → IsOrderly units counts s →
+    MayFire units.tree units.leaf (net_of units counts cap) s p t → IsStep units counts s t
 
 -- besides, in a typed net every token has the words and the tags of its place, and no channel holds more than its room: at first, and
 -- after every firing

@@ -1,6 +1,6 @@
 // Laws of all linked nets: each is the contract of a function that does nothing.
 
-ghost use Rattle.p3l_link.specs.Laws.{EveryFiringKeepsFitting, EveryFiringKeepsTheList, EveryNetIsCarried, EveryNodeDoesWhatItMeans, EveryPlacedNodeIsAPart, EveryRootIsAPart, EveryRunBeginsFitting, EveryRunBeginsOrderly, EveryRunBeginsTheMeaning, FiringsAreBounded, OwedIsBoundedByTokens, RoundRobinEnds, StuckMeansEmpty, StuckMeansFinished};
+ghost use Rattle.p3l_link.specs.Laws.{EveryFiringKeepsFitting, EveryFiringKeepsTheList, EveryNetIsCarried, EveryNodeDoesWhatItMeans, EveryPlacedNodeIsAPart, EveryRootIsAPart, EveryRunBeginsFitting, EveryRunBeginsOrderly, EveryRunBeginsTheMeaning, EveryWayKeepsTheList, FiringsAreBounded, OwedIsBoundedByTokens, RoundRobinEnds, StuckMeansEmpty, StuckMeansFinished};
 
 /// A node of a lawful tree that is placed in a net with all that is below it is a lawful part of
 /// that net, whatever else is in it; and it makes of words what the language says, and fires as
@@ -23,6 +23,7 @@ pub fn every_linked_net_is_carried()
 pub fn every_firing_keeps_the_list()
     ensures begins { EveryRunBeginsOrderly }
     ensures step { EveryFiringKeepsTheList }
+    ensures way { EveryWayKeepsTheList }
     ensures first_words { EveryRunBeginsFitting }
     ensures words { EveryFiringKeepsFitting }
 {}

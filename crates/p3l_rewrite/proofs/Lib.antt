@@ -21,3 +21,4 @@ pub mod Best
 pub mod Means
 pub mod Places
 pub mod Served
+pub mod Placed

@@ -8,3 +8,4 @@ pub mod Rewriting
 pub mod Costs
 pub mod Ways
 pub mod Serving
+pub mod Placed

@@ -1,6 +1,7 @@
 // Laws of programs that mean the same: what the modules of a program make of words, one by one, and how a pipe may
 // be written otherwise.
 
+ghost use Rattle.p3l_rewrite.specs.Placed.{PlacedProgramsMean, PlacedProgramsServe};
 ghost use Rattle.p3l_rewrite.specs.Candidates.{OthersAreRewritten};
 ghost use Rattle.p3l_rewrite.specs.Costs.{OthersKeepCosts};
 ghost use Rattle.p3l_rewrite.specs.Programs.{RewrittenProgramsResolve, RewrittenProgramsMean};
@@ -49,4 +50,15 @@ pub fn others_have_texts()
 /// added have no ticks and one turn.
 pub fn others_keep_costs()
     ensures { OthersKeepCosts }
+{}
+
+/// What a text spells, where it spells a program but for positions, keeps the rules where the program does, and means the
+/// same.
+pub fn placed_programs_mean()
+    ensures { PlacedProgramsMean }
+{}
+
+/// And it has the program's service time.
+pub fn placed_programs_serve()
+    ensures { PlacedProgramsServe }
 {}

@@ -16,6 +16,7 @@ use Rattle.p3l_firing.specs.Outcomes.{up_to_first_trap, IsPrefixOf}
 use Rattle.p3l_firing.specs.Carried.{Carry, whole, IsCarried}
 use Rattle.p3l_firing.proofs.OutcomesLaw.{begins_all, trap_ends_all}
 use Rattle.p3l_firing.proofs.RoundRobinLaw.{fired_at}
+use Rattle.p3l_firing.proofs.WaysLaw.{fire_is_a_way}
 use Rattle.p3l_sched.specs.resumption.Orderly.{CanGoOn, IsBalanced, outcomes_from}
 use Rattle.p3l_sched.specs.resumption.Run.{run_from}
 
@@ -41,7 +42,7 @@ module _ (tree : Tree) (leaf : Leaf) (net : Net) (firings : ℕ) (carry : Carry)
 
   pub kept_fired : (c : Course) (p : ℕ) → IsKeptFrom tree leaf firings carry s c → can_fire tree net c.state p ≡ true → IsKeptFrom tree leaf firings carry s (fired_at tree leaf net c p)
   kept_fired c p k can =
-      let t = laws.step c.state p can k.orderly in
+      let t = laws.step c.state _ p (fire_is_a_way tree leaf net c.state p can) k.orderly in
       let count = k.count in
       let items = t.items in
       let work = k.work in

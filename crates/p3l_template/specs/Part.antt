@@ -6,7 +6,8 @@ use Rattle.p3l_firing.specs.declared.net.Net.{Net}
 use Rattle.p3l_firing.specs.declared.token.Token.{Token}
 use Rattle.p3l_firing.specs.Token.{over, has_trap}
 use Rattle.p3l_firing.specs.State.{State, fresh, has_room, at_first}
-use Rattle.p3l_firing.specs.Fire.{can_fire, fire}
+use Rattle.p3l_firing.specs.Fire.{can_fire}
+use Rattle.p3l_firing.specs.Ways.{MayFire}
 use Rattle.p3l_template.specs.Units.{Units}
 
 pub record Part : Type 0 where
@@ -109,15 +110,12 @@ pub record IsLawfulPart (net : Net) (units : Units) (P : Part) : Type 0 where
   pub reads : (s t : State) → IsSameInside P s t → IsAlike P s t
   -- it begins orderly, with nothing pending and nothing owed
   pub begins : (s : State) → IsFresh net P s → Begins P s
-  -- a firing inside touches nothing outside
-  pub moves : (s : State) (p : ℕ) → IsInside P p → can_fire units.tree net s p ≡ true →
-      Moves P s (fire units.tree units.leaf net s p)
+  -- a firing inside, in whichever way, touches nothing outside
+  pub moves : (s t : State) (p : ℕ) → IsInside P p → MayFire units.tree units.leaf net s p t → Moves P s t
   -- the step law: a firing inside keeps the order and the line
-  pub step : (s : State) (p : ℕ) → IsInside P p → can_fire units.tree net s p ≡ true → P.orderly s ≡ true →
-      Keeps P s (fire units.tree units.leaf net s p)
+  pub step : (s t : State) (p : ℕ) → IsInside P p → MayFire units.tree units.leaf net s p t → P.orderly s ≡ true → Keeps P s t
   -- the work law: a firing inside takes from the work that is left
-  pub work : (s : State) (p : ℕ) → IsInside P p → can_fire units.tree net s p ≡ true → P.orderly s ≡ true →
-      due P (fire units.tree units.leaf net s p) < due P s
+  pub work : (s t : State) (p : ℕ) → IsInside P p → MayFire units.tree units.leaf net s p t → P.orderly s ≡ true → due P t < due P s
   -- the size law
   pub size : (s : State) → P.orderly s ≡ true → IsSized P s
   -- the drain law: where nothing inside can fire, though the out channel has room, nothing is left

@@ -7,7 +7,8 @@ use Rattle.std.proofs.lemmas.List.{map-append}
 use Rattle.p3l_farm.specs.Farm.{rising, all_rising, joined, to_come, well_kept, lines_of, dues, emit_proc, collect_proc, view_of, farm_part, farm_shape}
 use Rattle.p3l_firing.proofs.ChoiceLaw.{emptiest_is, due_in_is}
 use Rattle.p3l_farm.specs.laws.ViewLaw.{change, view_line, Kept, kept_to, kept_from, Goes, none_ready, each_empty, emit_view, emit_goes, collect_view, collect_goes}
-use Rattle.p3l_firing.specs.Fire.{row_can, row_fire, can_fire, fire}
+use Rattle.p3l_firing.specs.Fire.{row_can, can_fire}
+use Rattle.p3l_firing.specs.Ways.{eyes_of, Deals, Collects, row_ways, MayFire}
 use Rattle.p3l_firing.specs.Lists.{first_or, rest_of, has_first}
 use Rattle.p3l_firing.specs.State.{State, has_room}
 use Rattle.p3l_firing.specs.Token.{over, newest_tag, peeled, tagged, has_trap, credit}
@@ -26,7 +27,7 @@ use Rattle.p3l_template.specs.laws.Chain.{all_same, all_kept, all_at, all_from}
 use Rattle.p3l_template.specs.laws.Fan.{Fan, fan_of, Around, Holds, around_moves, one_moves, same_alike, each_begins, fan_empty, fan_fires, fan_drained, fan_lawful}
 use Rattle.p3l_template.specs.laws.Inside.{insides, channels_split, around_inside, times_le, line_length}
 use Rattle.p3l_template.specs.laws.Row.{numbers_length, numbers_at, stands_two}
-use Rattle.p3l_template.specs.laws.Rows.{front, fire_at, can_at, cannot_at, emptied, and_right_true, room_when_empty}
+use Rattle.p3l_template.specs.laws.Rows.{front, way_at, cannot_at, emptied, and_right_true, room_when_empty}
 use Rattle.p3l_template.specs.laws.Touch.{passed, passed_in, passed_out, passed_other, passed_count, passed_own, passed_unsent, passed_sent, passed_emitted}
 use Rattle.p3l_firing.specs.kinds.Emit as emit
 use Rattle.p3l_firing.specs.kinds.Collect as collect
@@ -501,54 +502,42 @@ module _ (net : Net) (units : Units) (roles : ℕ → Role) (node n : ℕ) (pos 
   collect_stands = (stands_two net base.proc (emit_proc node n base) _ placed.procs).1
 
   module _ (s : State) where
-    emit_fires : (w : ℕ) → emptiest net s (numbers_from base.chan n) ≡ Some (base.chan + w) →
-        fire units.tree units.leaf net s base.proc ≡ emit_state w s
-    unfolding row_fire sent_to emit_state passed emit.fire collect.fire
-    emit_fires w e =
-        fire_at net units s base.proc (emit_proc node n base) emit_stands
-        ∙ ap (λ z. sent_to z s base.proc (s.own base.proc) (emit_proc node n base)) e
+    emit_sends : (w : ℕ) → sent_to (Some (base.chan + w)) s base.proc (s.own base.proc) (emit_proc node n base) ≡ emit_state w s
+    unfolding sent_to emit_state passed
+    emit_sends w = refl
 
-    emit_can : can_fire units.tree net s base.proc ≡ true →
-        (has_first (s.tokens base.input) ≡ true) × (is_some (emptiest net s (numbers_from base.chan n)) ≡ true)
-    unfolding row_can emit.can collect.can
-    emit_can can = and_parts _ _ (can_at net units s base.proc (emit_proc node n base) emit_stands can).1
-
-    emit_goes_to : (A : State → Type 0) →
+    -- to whichever worker Emit sends
+    emit_goes_to : (t : State) (A : State → Type 0) →
         ((w : ℕ) → w < n → has_first (s.tokens base.input) ≡ true → A (emit_state w s)) →
-        can_fire units.tree net s base.proc ≡ true → A (fire units.tree units.leaf net s base.proc)
-    emit_goes_to A g can =
-        elim (emptiest_is net s (numbers_from base.chan n)) [
-          | inl f ↦
-              let l : f.at < n = omega (arith, f.below, numbers_length base.chan n) in
-              subst A (sym (emit_fires f.at (f.is ∙ ap Some (numbers_at base.chan n f.at l)))) (g f.at l (emit_can can).0)
-          | inr f ↦ let z : false ≡ true = ap is_some (sym f.is) ∙ (emit_can can).1 in cc
-        ]
+        MayFire units.tree units.leaf net s base.proc t → A t
+    unfolding row_ways
+    emit_goes_to t A g way =
+        let f : Deals (eyes_of net s) s base.proc (s.own base.proc) (emit_proc node n base) t =
+        way_at net units s base.proc (emit_proc node n base) emit_stands t way in
+        let l : f.at < n = omega (arith, f.below, numbers_length base.chan n) in
+        subst A (sym (f.is
+        ∙ ap (λ z. sent_to (Some z) s base.proc (s.own base.proc) (emit_proc node n base)) (numbers_at base.chan n f.at l)
+        ∙ emit_sends f.at)) (g f.at l f.full)
 
-    collect_fires : (w : ℕ) →
-        due_in s (s.own (base.proc + 1)).number (numbers_from (base.chan + n) n) ≡ Some (base.chan + n + w) →
-        fire units.tree units.leaf net s (base.proc + 1) ≡ collect_state w s
-    unfolding row_fire taken_from collect_state passed emit.fire collect.fire
-    collect_fires w e =
-        fire_at net units s (base.proc + 1) (collect_proc node n base) collect_stands
-        ∙ ap (λ z. taken_from z s (base.proc + 1) (s.own (base.proc + 1)) (collect_proc node n base)) e
+    collect_takes : (w : ℕ) →
+        taken_from (Some (base.chan + n + w)) s (base.proc + 1) (s.own (base.proc + 1)) (collect_proc node n base) ≡ collect_state w s
+    unfolding taken_from collect_state passed
+    collect_takes w = refl
 
-    collect_can : can_fire units.tree net s (base.proc + 1) ≡ true →
-        is_some (due_in s (s.own (base.proc + 1)).number (numbers_from (base.chan + n) n)) ≡ true
-    unfolding row_can emit.can collect.can
-    collect_can can = (and_parts _ _ (can_at net units s (base.proc + 1) (collect_proc node n base) collect_stands can).1).0
-
-    collect_goes_to : (A : State → Type 0) →
+    -- from whichever worker Collect takes
+    collect_goes_to : (t : State) (A : State → Type 0) →
         ((w : ℕ) → w < n → front_is (s.own (base.proc + 1)).number (s.tokens (base.chan + n + w)) ≡ true →
-        A (collect_state w s)) → can_fire units.tree net s (base.proc + 1) ≡ true → A (fire units.tree units.leaf net s (base.proc + 1))
-    collect_goes_to A g can =
-        elim (due_in_is s (s.own (base.proc + 1)).number (numbers_from (base.chan + n) n)) [
-          | inl f ↦
-              let l : f.at < n = omega (arith, f.below, numbers_length (base.chan + n) n) in
-              let e = numbers_at (base.chan + n) n f.at l in
-              subst A (sym (collect_fires f.at (f.is ∙ ap Some e)))
-              (g f.at l (ap (λ z. front_is (s.own (base.proc + 1)).number (s.tokens z)) (sym e) ∙ f.front))
-          | inr f ↦ let z : false ≡ true = ap is_some (sym f.is) ∙ collect_can can in cc
-        ]
+        A (collect_state w s)) → MayFire units.tree units.leaf net s (base.proc + 1) t → A t
+    unfolding row_ways
+    collect_goes_to t A g way =
+        let f : Collects (eyes_of net s) s (base.proc + 1) (s.own (base.proc + 1)) (collect_proc node n base) t =
+        way_at net units s (base.proc + 1) (collect_proc node n base) collect_stands t way in
+        let l : f.at < n = omega (arith, f.below, numbers_length (base.chan + n) n) in
+        let e = numbers_at (base.chan + n) n f.at l in
+        subst A (sym (f.is
+        ∙ ap (λ z. taken_from (Some z) s (base.proc + 1) (s.own (base.proc + 1)) (collect_proc node n base)) e
+        ∙ collect_takes f.at))
+        (g f.at l (ap (λ z. front_is (s.own (base.proc + 1)).number (s.tokens z)) (sym e) ∙ f.front))
 
     -- A WORKER FIRES
     module _ (t : State) (one : OneFired Ps s t) where
@@ -569,24 +558,24 @@ module _ (net : Net) (units : Units) (roles : ℕ → Role) (node n : ℕ) (pos 
           }
 
   -- THE LAWS OF A FIRING
-  farm_moves : (s : State) (p : ℕ) → IsInside (farm_part n roles base Ps) p → can_fire units.tree net s p ≡ true →
-      Moves (farm_part n roles base Ps) s (fire units.tree units.leaf net s p)
-  farm_moves s p i can =
+  farm_moves : (s t : State) (p : ℕ) → IsInside (farm_part n roles base Ps) p → MayFire units.tree units.leaf net s p t →
+      Moves (farm_part n roles base Ps) s t
+  farm_moves s t p i way =
       let P = farm_part n roles base Ps in
       let own = around_moves net units roles n base Ps fan P holds s in
-      fan_fires net units roles n base Ps fan P holds s p i can (Moves P s)
-      (emit_goes_to s (Moves P s) (λ w l _. own _ (emit_around s w l)))
-      (collect_goes_to s (Moves P s) (λ w l _. own _ (collect_around s w l)))
-      (one_moves net units roles n base Ps fan P holds s)
+      fan_fires net units roles n base Ps fan P holds s t p i way (Moves P s t)
+      (emit_goes_to s t (Moves P s) (λ w l _. own _ (emit_around s w l)))
+      (collect_goes_to s t (Moves P s) (λ w l _. own _ (collect_around s w l)))
+      (one_moves net units roles n base Ps fan P holds s t)
 
-  farm_right : (s : State) (p : ℕ) → IsInside (farm_part n roles base Ps) p → can_fire units.tree net s p ≡ true →
-      (farm_part n roles base Ps).orderly s ≡ true → Right s (fire units.tree units.leaf net s p)
-  farm_right s p i can h =
+  farm_right : (s t : State) (p : ℕ) → IsInside (farm_part n roles base Ps) p → MayFire units.tree units.leaf net s p t →
+      (farm_part n roles base Ps).orderly s ≡ true → Right s t
+  farm_right s t p i way h =
       let a = and_parts (all_orderly Ps s) (well_kept (view_of base Ps s)) h in
       let k = kept_to (view_of base Ps s) a.1 in
-      fan_fires net units roles n base Ps fan (farm_part n roles base Ps) holds s p i can (Right s)
-      (emit_goes_to s (Right s) (λ w l full. emit_right s w l a.0 k full))
-      (collect_goes_to s (Right s) (λ w l f. collect_right s w l a.0 k f)) (λ t one. worker_right s t one a.0 k)
+      fan_fires net units roles n base Ps fan (farm_part n roles base Ps) holds s t p i way (Right s t)
+      (emit_goes_to s t (Right s) (λ w l full. emit_right s w l a.0 k full))
+      (collect_goes_to s t (Right s) (λ w l f. collect_right s w l a.0 k f)) (λ one. worker_right s t one a.0 k)
 
   -- DRAIN
   module _ (s : State) (h : (farm_part n roles base Ps).orderly s ≡ true)
@@ -700,13 +689,13 @@ module _ (net : Net) (units : Units) (roles : ℕ → Role) (node n : ℕ) (pos 
     reads = farm_reads;
     begins = farm_begins;
     moves = farm_moves;
-    step = λ s p i can h.
-        let r = farm_right s p i can h in
+    step = λ s t p i way h.
+        let r = farm_right s t p i way h in
         record {
           orderly = and_from _ _ r.parts (kept_from _ r.goes.kept);
-          line = farm_line (fire units.tree units.leaf net s p) ∙ r.goes.line ∙ sym (farm_line s);
+          line = farm_line t ∙ r.goes.line ∙ sym (farm_line s);
         };
-    work = λ s p i can h. (farm_right s p i can h).work;
+    work = λ s t p i way h. (farm_right s t p i way h).work;
     size = farm_size;
     drain = λ s h quiet calm room. farm_drained s h quiet calm room;
   }

@@ -77,11 +77,11 @@ rest_stays s rest p o q =
     ∙ taken_from-rest (due_in s o.number q.ins) s rest p o q
 
 module _ {tree : Tree} {net : Net} {widths : Widths} (s : State) (p : ℕ) (o : Own) (q : Proc) (fit : IsFitting tree net widths s) (stands : slice_get net.procs p ≡ Some q) (kind : q.kind ≡ Collect) (fits_q : Fits tree widths q) where
-  taken_fits : (c : ℕ) → due_in s o.number q.ins ≡ Some c → has_room net s (out_of q 0) ≡ true → o.held ≡ [] → IsFitting tree net widths (taken_from (Some c) s p o q)
+  pub taken_fits : (c : ℕ) → Has q.ins c → has_first (s.tokens c) ≡ true → has_room net s (out_of q 0) ≡ true → o.held ≡ [] → IsFitting tree net widths (taken_from (Some c) s p o q)
   unfolding taken_from
-  taken_fits c due room none =
-      let token : FitsToken widths c (front s c) = front_fits s fit c (due_full s o.number q.ins c due) in
-      let carries : Carries widths c (node_at tree q.node).outs (widths.tags (out_of q 0) + 1) = all-has _ q.ins fits_q.takes c (due_among s o.number q.ins c due) in
+  taken_fits c among full room none =
+      let token : FitsToken widths c (front s c) = front_fits s fit c full in
+      let carries : Carries widths c (node_at tree q.node).outs (widths.tags (out_of q 0) + 1) = all-has _ q.ins fits_q.takes c among in
       fitting-own _
       (fitting-push (pop s c) (fitting-pop s fit c) (out_of q 0) (peeled (front s c)) (room-pop net s c (out_of q 0) room)
       (record {
@@ -95,4 +95,4 @@ module _ {tree : Tree} {net : Net} {widths : Widths} (s : State) (p : ℕ) (o : 
   fits h none =
       let both = and_parts _ _ h in
       let some = some_one (due_in s o.number q.ins) both.0 in
-      subst (λ c. IsFitting tree net widths (taken_from c s p o q)) (sym some.1) (taken_fits some.0 some.1 both.1 none)
+      subst (λ c. IsFitting tree net widths (taken_from c s p o q)) (sym some.1) (taken_fits some.0 (due_among s o.number q.ins some.0 some.1) (due_full s o.number q.ins some.0 some.1) both.1 none)

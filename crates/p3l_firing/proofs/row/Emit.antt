@@ -110,15 +110,15 @@ some_one None h = cc
 some_one (Some x) h = (x, refl)
 
 module _ {tree : Tree} {net : Net} {widths : Widths} (s : State) (p : ℕ) (o : Own) (q : Proc) (fit : IsFitting tree net widths s) (stands : slice_get net.procs p ≡ Some q) (kind : q.kind ≡ Emit) (fits_q : Fits tree widths q) where
-  sent_fits : (c : ℕ) → has_first (s.tokens (in_of q 0)) ≡ true → emptiest net s q.outs ≡ Some c → o.held ≡ [] → IsFitting tree net widths (sent_to (Some c) s p o q)
+  pub sent_fits : (c : ℕ) → has_first (s.tokens (in_of q 0)) ≡ true → Has q.outs c → has_room net s c ≡ true → o.held ≡ [] → IsFitting tree net widths (sent_to (Some c) s p o q)
   unfolding sent_to
-  sent_fits c full chosen none =
+  sent_fits c full among room none =
       let token : FitsToken widths (in_of q 0) (front s (in_of q 0)) = front_fits s fit (in_of q 0) full in
-      let carries : Carries widths c (node_at tree q.node).ins (widths.tags (in_of q 0) + 1) = all-has _ q.outs fits_q.gives c (chosen_among net s s q.outs c chosen) in
+      let carries : Carries widths c (node_at tree q.node).ins (widths.tags (in_of q 0) + 1) = all-has _ q.outs fits_q.gives c among in
       let long = token.tags in
       fitting-own _
       (fitting-push (pop s (in_of q 0)) (fitting-pop s fit (in_of q 0)) c (tagged o.number (front s (in_of q 0)))
-      (room-pop net s (in_of q 0) c (chosen_roomy net s q.outs c chosen))
+      (room-pop net s (in_of q 0) c room)
       (fits_width _ carries (record { words = subst (λ n. HasLength n (front s (in_of q 0)).body) fits_q.takes token.words; tags = omega (arith, long) })))
       p q Emit (counted o) stands kind none
 
@@ -127,4 +127,4 @@ module _ {tree : Tree} {net : Net} {widths : Widths} (s : State) (p : ℕ) (o : 
   fits h none =
       let both = and_parts _ _ h in
       let some = some_one (emptiest net s q.outs) both.1 in
-      subst (λ c. IsFitting tree net widths (sent_to c s p o q)) (sym some.1) (sent_fits some.0 both.0 some.1 none)
+      subst (λ c. IsFitting tree net widths (sent_to c s p o q)) (sym some.1) (sent_fits some.0 both.0 (chosen_among net s s q.outs some.0 some.1) (chosen_roomy net s q.outs some.0 some.1) none)

@@ -42,14 +42,14 @@ comes_in true b c e h = cc
 comes_in false b c e h = and_parts b c h
 
 module _ {tree : Tree} {net : Net} {widths : Widths} (s : State) (p : ℕ) (o : Own) (q : Proc) (fit : IsFitting tree net widths s) (stands : slice_get net.procs p ≡ Some q) (kind : q.kind ≡ Head) (fits_q : Fits tree widths q) (room : has_room net s (out_of q 0) ≡ true) where
-  round_fits : has_first (s.tokens (in_of q 1)) ≡ true → IsFitting tree net widths (sent_round s q)
+  pub round_fits : has_first (s.tokens (in_of q 1)) ≡ true → IsFitting tree net widths (sent_round s q)
   unfolding sent_round
   round_fits full =
       let token : FitsToken widths (in_of q 1) (front s (in_of q 1)) = front_fits s fit (in_of q 1) full in
       fitting-push (pop s (in_of q 1)) (fitting-pop s fit (in_of q 1)) (out_of q 0) (front s (in_of q 1)) (room-pop net s (in_of q 1) (out_of q 0) room)
       (fits_width _ fits_q.gives (width_of _ fits_q.back token))
 
-  in_fits : has_first (s.tokens (in_of q 0)) ≡ true → o.held ≡ [] → IsFitting tree net widths (let_in s p o q)
+  pub in_fits : has_first (s.tokens (in_of q 0)) ≡ true → o.held ≡ [] → IsFitting tree net widths (let_in s p o q)
   unfolding let_in
   in_fits full none =
       let token : FitsToken widths (in_of q 0) (front s (in_of q 0)) = front_fits s fit (in_of q 0) full in

@@ -106,7 +106,7 @@ turn_long n test spent more (Trapped trap) long last = tt
 turn_long n test spent more (Value words) long last = tested_long n (test (Value words)) (Value words) spent more long last
 
 module _ {tree : Tree} {net : Net} {widths : Widths} (leaf : Leaf) (s : State) (p : ℕ) (o : Own) (q : Proc) (fit : IsFitting tree net widths s) (stands : slice_get net.procs p ≡ Some q) (kind : q.kind ≡ Tail) (fits_q : Fits tree widths q) where
-  released_fits : out_of q 2 ≢ out_of q 0 → can_release net s o q ≡ true → Keeps widths q o → IsFitting tree net widths (release s p o q)
+  pub released_fits : out_of q 2 ≢ out_of q 0 → can_release net s o q ≡ true → Keeps widths q o → IsFitting tree net widths (release s p o q)
   unfolding can_release release after_release
   released_fits apart h keeps =
       let both = and_parts _ _ h in
@@ -146,6 +146,9 @@ module _ {tree : Tree} {net : Net} {widths : Widths} (leaf : Leaf) (s : State) (
   or_right : (a b : Bool) → a ≡ false → (a || b) ≡ true → b ≡ true
   or_right true b e h = cc
   or_right false b e h = h
+
+  pub taken_fits : has_first (s.tokens (in_of q 0)) ≡ true → has_room net s (out_of q 1) ≡ true → Keeps widths q o → IsFitting tree net widths (take_turn (next_turn tree leaf s q) s p o q (front s (in_of q 0)))
+  taken_fits full room keeps = turned_fits (next_turn tree leaf s q) (next_long_held full) full room keeps
 
   pub fits : out_of q 2 ≢ out_of q 0 → can net s o q ≡ true → Keeps widths q o → IsFitting tree net widths (fire tree leaf net s p o q)
   unfolding can fire

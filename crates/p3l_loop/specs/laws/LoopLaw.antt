@@ -1,11 +1,12 @@
 -- THE LAW OF THE LOOP (`loop_lawful`): any number of tokens but 0, round any lawful body. A later token may be
 -- done first, and still they leave in the order in which they came, each with the outcome of its own turns.
 -- Credits and tokens inside are always as many as the loop has, so the feedback channel has room, and all drain.
-use Rattle.std.proofs.Common.{◌≡◌, ℕ, zero, suc, ◌+◌, ◌*◌, ◌-◌, ◌≤◌, ◌<◌, ◌≢◌, ◌⊎◌, inl, inr, ◌&&◌, ◌||◌, cond, nat_lt, Bool, true, false, List, [], ◌∷◌, ◌++◌, map, length, get_or, replicate, slice_get, Some, refl, sym, ap, ap₂, ◌∙◌, subst, arith, le_refl, append_assoc, append-nil, length-append, lt-ltb}
-use Rattle.std.proofs.lemmas.Bool.{cases_Bool, cases_lt, cases_eq, cond-true, cond-false, and_parts, and_from}
+use Rattle.std.proofs.Common.{◌≡◌, ℕ, zero, suc, ◌+◌, ◌*◌, ◌-◌, ◌≤◌, ◌<◌, ◌≢◌, ◌⊎◌, inl, inr, ◌&&◌, ◌||◌, nat_lt, Bool, true, false, List, [], ◌∷◌, ◌++◌, map, length, get_or, replicate, slice_get, Some, refl, sym, ap, ap₂, ◌∙◌, subst, arith, le_refl, append_assoc, append-nil, length-append, lt-ltb}
+use Rattle.std.proofs.lemmas.Bool.{cases_Bool, cases_lt, cases_eq, and_parts, and_from}
 use Rattle.std.proofs.lemmas.List.{map-append, length-map, length-replicate}
 use Rattle.p3l_base.specs.declared.outcome.Outcome.{Outcome}
-use Rattle.p3l_firing.specs.Fire.{row_can, row_fire, can_fire, fire}
+use Rattle.p3l_firing.specs.Fire.{row_can, can_fire}
+use Rattle.p3l_firing.specs.Ways.{eyes_of, SendsRound, LetsIn, LetsOut, TakesTurn, row_ways, MayFire}
 use Rattle.p3l_firing.specs.Lists.{first_or, rest_of, has_first}
 use Rattle.p3l_firing.specs.State.{Own, State, pop, push, set_own, counted, has_room, chan_at, no_chan, at_first, fresh}
 use Rattle.p3l_firing.specs.Token.{over, has_trap, credit, first_tag, newest_tag, peeled, admitted, once_more}
@@ -23,7 +24,7 @@ use Rattle.p3l_template.specs.Shape.{empty_chan, Role, Base, no_seat}
 use Rattle.p3l_template.specs.Units.{Units}
 use Rattle.p3l_template.specs.laws.BagLaw.{none_left, without_count, read_length}
 use Rattle.p3l_template.specs.laws.Inside.{channels_from, hands_from}
-use Rattle.p3l_template.specs.laws.Rows.{at-other, front, fire_at, can_at, cannot_at, emptied, room_when_empty, and_left_true, and_right_true}
+use Rattle.p3l_template.specs.laws.Rows.{at-other, front, way_at, cannot_at, emptied, room_when_empty, and_left_true, and_right_true}
 use Rattle.p3l_template.specs.laws.Touch.{pop_same, pop_other, push_same, push_other, set_tokens, own_same, own_other, pop_own, push_own}
 use Rattle.p3l_firing.specs.kinds.Head as head
 use Rattle.p3l_firing.specs.kinds.Tail as tail
@@ -171,11 +172,11 @@ round_falls : (fir f a b w g c h : ℕ) → total fir f a (b + 1) w g c h < tota
 unfolding total
 round_falls fir f a b w g c h = omega arith
 
-let_in_falls : (u f a b w g h : ℕ) →
-    total (1 + (u * (f + 2) + (f + 2))) f a (b + 1) w (g + ((u * (f + 2) + 2) + 0)) 0 h
-    < total (1 + (u * (f + 2) + (f + 2))) f (suc a) b w g 0 h
+let_in_falls : (u f a b w g i c h : ℕ) →
+    total (1 + (u * (f + 2) + (f + 2))) f a (b + 1) w (g + ((u * (f + 2) + 2) + i)) c h
+    < total (1 + (u * (f + 2) + (f + 2))) f (suc a) b w (g + i) c h
 unfolding total
-let_in_falls u f a b w g h = omega arith
+let_in_falls u f a b w g i c h = omega arith
 
 hold_falls : (fir f a b w u g c h : ℕ) → total fir f a b w g c (h + 1) < total fir f a b w ((u * (f + 2) + 2) + g) c h
 unfolding total
@@ -266,10 +267,10 @@ module _ (net : Net) (units : Units) (roles : ℕ → Role) (node tokens : ℕ) 
       ≡ (d ++ (p ++ map (over Q.meaning) b)) ++ map (over Q.meaning) (y ∷ f)
   round_ring d p b y f = simp (map-append, append_assoc)
 
-  let_in_ring : (d p b : List Token) (y : Token) →
-      (d ++ (p ++ map (over Q.meaning) (b ++ y ∷ []))) ++ map (over Q.meaning) []
-      ≡ ((d ++ (p ++ map (over Q.meaning) b)) ++ map (over Q.meaning) []) ++ over Q.meaning y ∷ []
-  let_in_ring d p b y = simp (map-append, append_assoc, append-nil)
+  let_in_ring : (d p b : List Token) (y : Token) (f : List Token) →
+      (d ++ (p ++ map (over Q.meaning) (b ++ y ∷ []))) ++ map (over Q.meaning) f
+      ≡ (d ++ (p ++ map (over Q.meaning) b)) ++ over Q.meaning y ∷ map (over Q.meaning) f
+  let_in_ring d p b y f = simp (map-append, append_assoc)
 
   again_ring : (d p b f : List Token) (y : Token) →
       (d ++ (p ++ map (over Q.meaning) b)) ++ map (over Q.meaning) (f ++ y ∷ [])
@@ -389,31 +390,38 @@ module _ (net : Net) (units : Units) (roles : ℕ → Role) (node tokens : ℕ) 
     counted_count : (o : Own) → (counted o).number ≡ o.number + 1
     counted_count o = refl
 
-    first_turn : (n : ℕ) (x : Token) →
-        ring_due (turns_of units.tree node) Q.firings (over Q.meaning (admitted n x) ∷ [])
-        ≡ ((turns_of units.tree node - 1) * (Q.firings + 2) + 2) + 0
+    first_turn : (n : ℕ) (x : Token) (f : List Token) →
+        ring_due (turns_of units.tree node) Q.firings (over Q.meaning (admitted n x) ∷ f)
+        ≡ ((turns_of units.tree node - 1) * (Q.firings + 2) + 2) + ring_due (turns_of units.tree node) Q.firings f
     unfolding ring_due first_tag
-    first_turn n x = refl
+    first_turn n x f = refl
 
-    let_in_right : s.tokens (base.chan + 2) ≡ [] → has_first (s.tokens base.input) ≡ true →
-        has_first (s.tokens (base.chan + 3)) ≡ true → Right s (let_in_state base s)
-    let_in_right none full credited =
+    line_now : line Q s ≡ s.tokens (base.chan + 1) ++ (Q.pending s ++ map (over Q.meaning) (s.tokens base.chan))
+    unfolding line
+    line_now = ap₂ (λ d b. s.tokens d ++ (Q.pending s ++ map (over Q.meaning) (s.tokens b))) fits.output fits.input
+
+    -- also while a token comes back
+    let_in_right : has_first (s.tokens base.input) ≡ true → has_first (s.tokens (base.chan + 3)) ≡ true →
+        Right s (let_in_state base s)
+    let_in_right full credited =
         let fi = front (s.tokens base.input) full in
         let fk = front (s.tokens (base.chan + 3)) credited in
         let al = around_alike s (let_in_state base s) (let_in_around base s) in
-        let x : Token = admitted (s.own base.proc).number (first_or credit (s.tokens base.input)) in
+        let f = let_in_other (base.chan + 2) (omega arith) (omega (arith, gi)) (omega arith) in
         let r : line Q (let_in_state base s) ++ map (over Q.meaning) ((let_in_state base s).tokens (base.chan + 2))
-        ≡ (line Q s ++ map (over Q.meaning) (s.tokens (base.chan + 2)))
-        ++ over Q.meaning (admitted (s.own base.proc).number (first_or credit (s.tokens base.input))) ∷ [] =
+        ≡ line Q s
+        ++ over Q.meaning (admitted (s.own base.proc).number (first_or credit (s.tokens base.input)))
+        ∷ map (over Q.meaning) (s.tokens (base.chan + 2)) =
         ring_is s (let_in_state base s) _ _ _ al.pending
-        (let_in_other (base.chan + 1) (omega arith) (omega (arith, gi)) (omega arith)) let_in_b
-        (let_in_other (base.chan + 2) (omega arith) (omega (arith, gi)) (omega arith) ∙ none)
+        (let_in_other (base.chan + 1) (omega arith) (omega (arith, gi)) (omega arith)) let_in_b f
         ∙ let_in_ring (s.tokens (base.chan + 1)) (Q.pending s) (s.tokens base.chan)
-        (admitted (s.own base.proc).number (first_or credit (s.tokens base.input)))
-        ∙ ap (λ z. z ++ over Q.meaning (admitted (s.own base.proc).number (first_or credit (s.tokens base.input))) ∷ [])
-        (ap (ring_at s (s.tokens (base.chan + 1)) (s.tokens base.chan)) (sym none) ∙ sym ring_now) in
+        (admitted (s.own base.proc).number (first_or credit (s.tokens base.input))) (s.tokens (base.chan + 2))
+        ∙ ap (λ z. z
+        ++ over Q.meaning (admitted (s.own base.proc).number (first_or credit (s.tokens base.input)))
+        ∷ map (over Q.meaning) (s.tokens (base.chan + 2))) (sym line_now) in
         let v : view_of base Q (let_in_state base s)
-        ≡ let_in_view (laps_of units node Q) tokens (view_of base Q s) k (first_or credit (s.tokens base.input))
+        ≡ let_in_view (laps_of units node Q) tokens (view_of base Q s) k (line Q s)
+        (map (over Q.meaning) (s.tokens (base.chan + 2))) (first_or credit (s.tokens base.input))
         (rest_of (s.tokens base.input)) (length (rest_of (s.tokens (base.chan + 3)))) =
         view_is (let_in_state base s) _ _ _ _ _ _ _
         (ap (λ o. o.number) let_in_head ∙ counted_count (s.own base.proc)) (ap (λ o. o.number) let_in_tail)
@@ -422,15 +430,16 @@ module _ (net : Net) (units : Units) (roles : ℕ → Role) (node tokens : ℕ) 
         let d = due_is (let_in_state base s) _ _ _ _ _ _ (ap length let_in_i)
         (ap length let_in_b ∙ one_more (s.tokens base.chan) _) al.owed
         (ap (ring_due (turns_of units.tree node) Q.firings) r ∙ ring_append (turns_of units.tree node) Q.firings _ _
-        ∙ ap (λ z. ring_due (turns_of units.tree node) Q.firings (line Q s ++ map (over Q.meaning) (s.tokens (base.chan + 2)))
-        + z) (first_turn _ _))
-        (ap length (let_in_other (base.chan + 2) (omega arith) (omega (arith, gi)) (omega arith) ∙ none))
+        ∙ ap (λ z. ring_due (turns_of units.tree node) Q.firings (line Q s) + z) (first_turn _ _ _))
+        (ap length f)
         (ap (λ o. length o.held) let_in_tail) in
-        let e = due_now _ _ _ _ _ _ (ap length fi) refl refl refl (ap length none) refl in
+        let e = due_now _ _ _ _ _ _ (ap length fi) refl refl
+        (ring_append (turns_of units.tree node) Q.firings (line Q s) (map (over Q.meaning) (s.tokens (base.chan + 2)))) refl refl in
         record {
           goes = subst (λ z. Goes (laps_of units node Q) tokens (view_of base Q s) z) (sym v)
-              (let_in_goes (laps_of units node Q) tokens (view_of base Q s) k _ _ _ fi (ap length fk));
-          work = less_by d e (let_in_falls _ _ _ _ _ _ _);
+              (let_in_goes (laps_of units node Q) tokens (view_of base Q s) k (line Q s)
+              (map (over Q.meaning) (s.tokens (base.chan + 2))) refl _ _ _ fi (ap length fk));
+          work = less_by d e (let_in_falls _ _ _ _ _ _ _ _ _);
         }
 
     -- HOLD
@@ -649,10 +658,13 @@ module _ (net : Net) (units : Units) (roles : ℕ → Role) (node tokens : ℕ) 
   head_stands = stands.0
 
   module _ (s : State) where
-    head_fires : fire units.tree units.leaf net s base.proc ≡ cond (has_first (s.tokens (base.chan + 2))) (round_state base s)
-        (let_in_state base s)
-    unfolding row_fire sent_round let_in round_state let_in_state head.fire
-    head_fires = fire_at net units s base.proc (head_proc node base) head_stands
+    head_round : sent_round s (head_proc node base) ≡ round_state base s
+    unfolding sent_round round_state
+    head_round = refl
+
+    head_in : let_in s base.proc (s.own base.proc) (head_proc node base) ≡ let_in_state base s
+    unfolding let_in let_in_state
+    head_in = refl
 
     -- what Tail finds
     abbrev verdict : Turn
@@ -665,11 +677,9 @@ module _ (net : Net) (units : Units) (roles : ℕ → Role) (node tokens : ℕ) 
         has_number (s.own (base.proc + 1)).number (s.own (base.proc + 1)).held
         && (has_room net s base.output && has_room net s (base.chan + 3))
 
-    tail_fires : fire units.tree units.leaf net s (base.proc + 1) ≡ cond releases (release_state base s)
-        (take_turn verdict s (base.proc + 1) (s.own (base.proc + 1)) (tail_proc node base)
-        (first_or credit (s.tokens (base.chan + 1))))
-    unfolding row_fire can_release release release_state tail.fire tail.after_release
-    tail_fires = fire_at net units s (base.proc + 1) (tail_proc node base) tail_stands
+    tail_out : release s (base.proc + 1) (s.own (base.proc + 1)) (tail_proc node base) ≡ release_state base s
+    unfolding release release_state tail.after_release
+    tail_out = refl
 
     take_held : (w : Outcome) →
         take_turn (Held w) s (base.proc + 1) (s.own (base.proc + 1)) (tail_proc node base)
@@ -687,67 +697,59 @@ module _ (net : Net) (units : Units) (roles : ℕ → Role) (node tokens : ℕ) 
     cases_turn Again = inr refl
 
     -- the state after Tail
-    tail_goes : (A : State → Type 0) → (releases ≡ true → A (release_state base s)) →
-        ((w : Outcome) → releases ≡ false → verdict ≡ Held w → A (hold_state base w s)) →
-        (releases ≡ false → verdict ≡ Again → A (again_state base s)) → A (fire units.tree units.leaf net s (base.proc + 1))
-    tail_goes A f g h =
-        elim (cases_Bool releases) [
-          | inl e ↦ subst A (sym (tail_fires ∙ cond-true _ _ _ e)) (f e)
-          | inr e ↦ elim (cases_turn verdict) [
+    -- whichever of the two it does
+    tail_goes : (t : State) (A : State → Type 0) →
+        (has_number (s.own (base.proc + 1)).number (s.own (base.proc + 1)).held ≡ true → A (release_state base s)) →
+        ((w : Outcome) → has_first (s.tokens (base.chan + 1)) ≡ true → verdict ≡ Held w → A (hold_state base w s)) →
+        (has_first (s.tokens (base.chan + 1)) ≡ true → verdict ≡ Again → A (again_state base s)) →
+        MayFire units.tree units.leaf net s (base.proc + 1) t → A t
+    unfolding row_ways
+    tail_goes t A f g h way =
+        let either : LetsOut (eyes_of net s) s (base.proc + 1) (s.own (base.proc + 1)) (tail_proc node base) t
+        ⊎ TakesTurn units.tree units.leaf (eyes_of net s) s (base.proc + 1) (s.own (base.proc + 1)) (tail_proc node base) t =
+        way_at net units s (base.proc + 1) (tail_proc node base) tail_stands t way in
+        elim either [
+          | inl w ↦ subst A (sym (w.is ∙ tail_out)) (f w.holds)
+          | inr w ↦ elim (cases_turn verdict) [
             | inl v ↦
-                subst A (sym (tail_fires ∙ cond-false _ _ _ e
+                subst A (sym (w.is
                 ∙ ap (λ z. take_turn z s (base.proc + 1) (s.own (base.proc + 1)) (tail_proc node base)
-                (first_or credit (s.tokens (base.chan + 1)))) v.1 ∙ take_held v.0)) (g v.0 e v.1)
+                (first_or credit (s.tokens (base.chan + 1)))) v.1 ∙ take_held v.0)) (g v.0 w.full v.1)
             | inr v ↦
-                subst A (sym (tail_fires ∙ cond-false _ _ _ e
+                subst A (sym (w.is
                 ∙ ap (λ z. take_turn z s (base.proc + 1) (s.own (base.proc + 1)) (tail_proc node base)
-                (first_or credit (s.tokens (base.chan + 1)))) v ∙ take_again)) (h e v)
+                (first_or credit (s.tokens (base.chan + 1)))) v ∙ take_again)) (h w.full v)
           ]
         ]
 
-    head_goes : (A : State → Type 0) → (has_first (s.tokens (base.chan + 2)) ≡ true → A (round_state base s)) →
-        (has_first (s.tokens (base.chan + 2)) ≡ false → A (let_in_state base s)) → A (fire units.tree units.leaf net s base.proc)
-    head_goes A f g =
-        elim (cases_Bool (has_first (s.tokens (base.chan + 2)))) [
-          | inl e ↦ subst A (sym (head_fires ∙ cond-true _ _ _ e)) (f e)
-          | inr e ↦ subst A (sym (head_fires ∙ cond-false _ _ _ e)) (g e)
+    head_goes : (t : State) (A : State → Type 0) → (has_first (s.tokens (base.chan + 2)) ≡ true → A (round_state base s)) →
+        (has_first (s.tokens base.input) ≡ true → has_first (s.tokens (base.chan + 3)) ≡ true → A (let_in_state base s)) →
+        MayFire units.tree units.leaf net s base.proc t → A t
+    unfolding row_ways
+    head_goes t A f g way =
+        let either : SendsRound (eyes_of net s) s (head_proc node base) t
+        ⊎ LetsIn (eyes_of net s) s base.proc (s.own base.proc) (head_proc node base) t =
+        way_at net units s base.proc (head_proc node base) head_stands t way in
+        elim either [
+          | inl w ↦ subst A (sym (w.is ∙ head_round)) (f w.back)
+          | inr w ↦ subst A (sym (w.is ∙ head_in)) (g w.full w.credit)
         ]
 
-    head_around : Around base s (fire units.tree units.leaf net s base.proc)
-    head_around = head_goes (Around base s) (λ _. round_around base s) (λ _. let_in_around base s)
+    head_around : (t : State) → MayFire units.tree units.leaf net s base.proc t → Around base s t
+    head_around t = head_goes t (Around base s) (λ _. round_around base s) (λ _ _. let_in_around base s)
 
-    tail_around : Around base s (fire units.tree units.leaf net s (base.proc + 1))
-    tail_around =
-        tail_goes (Around base s) (λ _. release_around base s) (λ w _ _. hold_around base s w)
+    tail_around : (t : State) → MayFire units.tree units.leaf net s (base.proc + 1) t → Around base s t
+    tail_around t =
+        tail_goes t (Around base s) (λ _. release_around base s) (λ w _ _. hold_around base s w)
         (λ _ _. again_around base s)
 
-    head_can : can_fire units.tree net s base.proc ≡ true →
-        (has_first (s.tokens (base.chan + 2))
-        || (has_first (s.tokens base.input) && has_first (s.tokens (base.chan + 3)))) ≡ true
-    unfolding row_can head.can tail.can
-    head_can can = (and_parts _ _ (can_at net units s base.proc (head_proc node base) head_stands can).1).1
+    head_right : Kept (laps_of units node Q) tokens (view_of base Q s) → (t : State) →
+        MayFire units.tree units.leaf net s base.proc t → Right s t
+    head_right k t = head_goes t (Right s) (round_right s k) (let_in_right s k)
 
-    tail_can : can_fire units.tree net s (base.proc + 1) ≡ true →
-        (releases || (has_first (s.tokens (base.chan + 1)) && has_room net s (base.chan + 2))) ≡ true
-    unfolding row_can can_release head.can tail.can
-    tail_can can = (can_at net units s (base.proc + 1) (tail_proc node base) tail_stands can).1
-
-    or_right : (x y : Bool) → x ≡ false → (x || y) ≡ true → y ≡ true
-    or_right true y h k = cc
-    or_right false y h k = k
-
-    head_right : Kept (laps_of units node Q) tokens (view_of base Q s) → can_fire units.tree net s base.proc ≡ true →
-        Right s (fire units.tree units.leaf net s base.proc)
-    head_right k can =
-        head_goes (Right s) (round_right s k)
-        (λ e. let a = and_parts _ _ (or_right _ _ e (head_can can)) in let_in_right s k (emptied _ e) a.0 a.1)
-
-    tail_right : Kept (laps_of units node Q) tokens (view_of base Q s) → can_fire units.tree net s (base.proc + 1) ≡ true →
-        Right s (fire units.tree units.leaf net s (base.proc + 1))
-    tail_right k can =
-        tail_goes (Right s) (λ e. release_right s k (and_parts _ _ e).0)
-        (λ w e v. hold_right s k w (and_parts _ _ (or_right _ _ e (tail_can can))).0 v)
-        (λ e v. again_right s k (and_parts _ _ (or_right _ _ e (tail_can can))).0 v)
+    tail_right : Kept (laps_of units node Q) tokens (view_of base Q s) → (t : State) →
+        MayFire units.tree units.leaf net s (base.proc + 1) t → Right s t
+    tail_right k t = tail_goes t (Right s) (release_right s k) (hold_right s k) (again_right s k)
 
     -- THE BODY FIRES
     module _ (t : State) (m : Moves Q s t) where
@@ -815,18 +817,14 @@ module _ (net : Net) (units : Units) (roles : ℕ → Role) (node tokens : ℕ) 
           ]
         ]
 
-    loop_moves : (p : ℕ) → IsInside (loop_over units node tokens base Q) p → can_fire units.tree net s p ≡ true →
-        Moves (loop_over units node tokens base Q) s (fire units.tree units.leaf net s p)
-    loop_moves p i can =
+    loop_moves : (t : State) (p : ℕ) → IsInside (loop_over units node tokens base Q) p → MayFire units.tree units.leaf net s p t →
+        Moves (loop_over units node tokens base Q) s t
+    loop_moves t p i way =
         elim (picked p i) [
-          | inl e ↦
-              subst (λ z. Moves (loop_over units node tokens base Q) s (fire units.tree units.leaf net s z)) (sym e)
-              (around_moves s _ head_around)
+          | inl e ↦ around_moves s t (head_around t (subst (λ z. MayFire units.tree units.leaf net s z t) e way))
           | inr r ↦ elim r [
-            | inl e ↦
-                subst (λ z. Moves (loop_over units node tokens base Q) s (fire units.tree units.leaf net s z)) (sym e)
-                (around_moves s _ tail_around)
-            | inr j ↦ body_moves _ (fits.lawful.moves s p j can)
+            | inl e ↦ around_moves s t (tail_around t (subst (λ z. MayFire units.tree units.leaf net s z t) e way))
+            | inr j ↦ body_moves t (fits.lawful.moves s t p j way)
           ]
         ]
 
@@ -835,28 +833,22 @@ module _ (net : Net) (units : Units) (roles : ℕ → Role) (node tokens : ℕ) 
       body : Q.orderly t ≡ true
       right : Right s t
 
-    loop_step : (p : ℕ) → IsInside (loop_over units node tokens base Q) p → can_fire units.tree net s p ≡ true →
-        Q.orderly s ≡ true → Kept (laps_of units node Q) tokens (view_of base Q s) → Step (fire units.tree units.leaf net s p)
-    loop_step p i can h k =
+    loop_step : (t : State) (p : ℕ) → IsInside (loop_over units node tokens base Q) p → MayFire units.tree units.leaf net s p t →
+        Q.orderly s ≡ true → Kept (laps_of units node Q) tokens (view_of base Q s) → Step t
+    loop_step t p i way h k =
         elim (picked p i) [
           | inl e ↦
-              subst (λ z. Step (fire units.tree units.leaf net s z)) (sym e)
-              (record {
-                body = (around_alike s _ head_around).orderly ∙ h;
-                right = head_right k (ap (can_fire units.tree net s) (sym e) ∙ can);
-              })
+              let w = subst (λ z. MayFire units.tree units.leaf net s z t) e way in
+              record { body = (around_alike s t (head_around t w)).orderly ∙ h; right = head_right k t w }
           | inr r ↦ elim r [
             | inl e ↦
-                subst (λ z. Step (fire units.tree units.leaf net s z)) (sym e)
-                (record {
-                  body = (around_alike s _ tail_around).orderly ∙ h;
-                  right = tail_right k (ap (can_fire units.tree net s) (sym e) ∙ can);
-                })
+                let w = subst (λ z. MayFire units.tree units.leaf net s z t) e way in
+                record { body = (around_alike s t (tail_around t w)).orderly ∙ h; right = tail_right k t w }
             | inr j ↦
-                let q = fits.lawful.step s p j can h in
+                let q = fits.lawful.step s t p j way h in
                 record {
                   body = q.orderly;
-                  right = body_right _ (fits.lawful.moves s p j can) k q.line (fits.lawful.work s p j can h);
+                  right = body_right t (fits.lawful.moves s t p j way) k q.line (fits.lawful.work s t p j way h);
                 }
           ]
         ]
@@ -1222,17 +1214,17 @@ module _ (net : Net) (units : Units) (roles : ℕ → Role) (node tokens : ℕ) 
       reads = loop_reads;
       begins = loop_begins;
       moves = loop_moves;
-      step = λ s p i can h.
+      step = λ s t p i way h.
           let a = and_parts _ _ h in
           let k = kept_to (laps_of units node Q) tokens (view_of base Q s) a.1 in
-          let r = loop_step s p i can a.0 k in
+          let r = loop_step s t p i way a.0 k in
           record {
             orderly = and_from _ _ r.body (kept_from _ tokens _ r.right.goes.kept);
-            line = loop_line (fire units.tree units.leaf net s p) ∙ r.right.goes.line ∙ sym (loop_line s);
+            line = loop_line t ∙ r.right.goes.line ∙ sym (loop_line s);
           };
-      work = λ s p i can h.
+      work = λ s t p i way h.
           let a = and_parts _ _ h in
-          (loop_step s p i can a.0 (kept_to (laps_of units node Q) tokens (view_of base Q s) a.1)).right.work;
+          (loop_step s t p i way a.0 (kept_to (laps_of units node Q) tokens (view_of base Q s) a.1)).right.work;
       size = loop_size;
       drain = λ s h quiet calm room. loop_drained s h quiet calm room rooms;
     }

@@ -1,7 +1,7 @@
 -- What the rows of Head and Tail do to what a loop shows: letting in, holding, sending round once more and releasing
 -- keep the list, the numbers, the turns and the credits (`let_in_goes` to `release_goes`), and the work falls.
 -- What the ring makes of an item is what the language says of its turns (`rounds_turns`).
-use Rattle.std.proofs.Common.{◌≡◌, ℕ, zero, suc, ◌+◌, ◌*◌, ◌-◌, ◌≤◌, ◌<◌, inl, inr, nat_eq, nat_lt, Bool, true, false, List, [], ◌∷◌, ◌++◌, map, length, refl, sym, ap, ap₂, ◌∙◌, subst, arith, append_assoc, length-append, eqb-true, eq-eqb, lt-ltb, ltb-true, le-ltb}
+use Rattle.std.proofs.Common.{◌≡◌, ℕ, zero, suc, ◌+◌, ◌*◌, ◌-◌, ◌≤◌, ◌<◌, inl, inr, nat_eq, nat_lt, Bool, true, false, List, [], ◌∷◌, ◌++◌, map, length, refl, sym, ap, ap₂, ◌∙◌, subst, arith, append_assoc, eqb-true, eq-eqb, lt-ltb, ltb-true, le-ltb}
 use Rattle.std.proofs.lemmas.Bool.{cases_Bool, cases_lt, cond-true, cond-false, and_parts, and_from}
 use Rattle.std.proofs.lemmas.List.{map-append}
 use Rattle.p3l_base.specs.declared.outcome.Outcome.{Outcome}
@@ -13,7 +13,7 @@ use Rattle.p3l_loop.specs.Loop.{Laps, ending, after, turns, rounds, settled, Vie
 use Rattle.p3l_loop.specs.laws.HeldLaw.{Found, found}
 use Rattle.p3l_skel.specs.Item.{is_done}
 use Rattle.p3l_template.specs.Bag.{read, IsNumbered}
-use Rattle.p3l_template.specs.laws.BagLaw.{numbered_to, numbered_from, append_numbered, append_read, moved_numbered, moved_read, moved_count, release_numbered, release_read, without_count}
+use Rattle.p3l_template.specs.laws.BagLaw.{numbered_to, numbered_from, insert_numbered, insert_read, moved_numbered, moved_read, moved_count, release_numbered, release_read, without_count}
 use Rattle.p3l_template.specs.laws.Inside.{times_le}
 
 -- the list that a loop keeps
@@ -171,42 +171,72 @@ module _ (l : Laps) (tokens : ℕ) (v : View) (k : Kept l tokens v) where
   unfolding first_tag
   new_first x = refl
 
-  abbrev pub let_in_view : Token → List Token → ℕ → View
-  let_in_view x xs c =
-      record v { next = v.next + 1; credits = c; ring = v.ring ++ over l.body (admitted v.next x) ∷ []; input = xs }
+  -- it comes after those of the ring that are before it in the body, and before those that come back (a and b)
+  abbrev pub let_in_view : List Token → List Token → Token → List Token → ℕ → View
+  let_in_view a b x xs c =
+      record v { next = v.next + 1; credits = c; ring = a ++ over l.body (admitted v.next x) ∷ b; input = xs }
 
-  let_in_bag : (x : Token) (xs : List Token) (c : ℕ) →
-      bag l (let_in_view x xs c) ≡ bag l v ++ settled l (over l.body (admitted v.next x)) ∷ []
-  unfolding bag
-  let_in_bag x xs c =
-      ap (λ z. map peeled v.held ++ z) (map-append (settled l) v.ring (over l.body (admitted v.next x) ∷ []))
-      ∙ sym (append_assoc (map peeled v.held) (map (settled l) v.ring) _)
+  module _ (a b : List Token) (ring : v.ring ≡ a ++ b) where
+    old_bag : bag l v ≡ (map peeled v.held ++ map (settled l) a) ++ map (settled l) b
+    unfolding bag
+    old_bag =
+        ap (λ z. map peeled v.held ++ map (settled l) z) ring
+        ∙ ap (λ z. map peeled v.held ++ z) (map-append (settled l) a b)
+        ∙ sym (append_assoc (map peeled v.held) (map (settled l) a) (map (settled l) b))
 
-  pub let_in_goes : (x : Token) (xs : List Token) (c : ℕ) → v.input ≡ x ∷ xs → v.credits ≡ suc c →
-      Goes l tokens v (let_in_view x xs c)
-  unfolding view_line to_come
-  let_in_goes x xs c e f =
-      let b = let_in_bag x xs c in
-      let n : newest_tag (settled l (over l.body (admitted v.next x))) ≡ v.least + length (bag l v) =
-      new_turn x ∙ sym k.count in
-      let len = ap length b ∙ length-append (bag l v) (settled l (over l.body (admitted v.next x)) ∷ []) in
-      record {
-        kept = record {
-          count = omega (arith, len, k.count);
-          credits = omega (arith, len, k.credits, f);
-          turns = turns_append l.turns v.ring _ k.turns
-              (turns_one l.turns _ (omega (arith, new_first x)) (omega (arith, new_first x)));
-          spent = k.spent;
-          numbered = subst (λ z. IsNumbered z v.least) (sym b) (append_numbered (bag l v) _ v.least k.numbered n);
-        };
-        line =
-            ap (λ z. v.output ++ (read z v.least (length z) ++ map (over (rounds l)) xs)) b
-            ∙ ap (λ z. v.output ++ (z ++ map (over (rounds l)) xs))
-            (append_read (bag l v) _ v.least k.numbered n
-            ∙ ap (λ z. read (bag l v) v.least (length (bag l v)) ++ z ∷ []) (new_peeled x))
-            ∙ ap (λ z. v.output ++ z) (append_assoc (read (bag l v) v.least (length (bag l v))) _ _)
-            ∙ ap (λ z. v.output ++ (read (bag l v) v.least (length (bag l v)) ++ map (over (rounds l)) z)) (sym e);
-      }
+    let_in_bag : (x : Token) (xs : List Token) (c : ℕ) →
+        bag l (let_in_view a b x xs c)
+        ≡ (map peeled v.held ++ map (settled l) a) ++ settled l (over l.body (admitted v.next x)) ∷ map (settled l) b
+    unfolding bag
+    let_in_bag x xs c =
+        ap (λ z. map peeled v.held ++ z) (map-append (settled l) a (over l.body (admitted v.next x) ∷ b))
+        ∙ sym (append_assoc (map peeled v.held) (map (settled l) a) _)
+
+    turns_parts : (m : ℕ) (xs ys : List Token) → in_turns m (xs ++ ys) ≡ true → (in_turns m xs ≡ true) × (in_turns m ys ≡ true)
+    unfolding in_turns
+    turns_parts m [] ys h = (refl, h)
+    turns_parts m (x ∷ xs) ys h =
+        let p = and_parts _ _ h in
+        let r = turns_parts m xs ys p.1 in
+        (and_from _ _ p.0 r.0, r.1)
+
+    turns_before : (m : ℕ) (x : Token) (xs : List Token) → in_turns m (x ∷ []) ≡ true → in_turns m xs ≡ true →
+        in_turns m (x ∷ xs) ≡ true
+    unfolding in_turns
+    turns_before m x xs h r = and_from _ _ (and_parts _ _ h).0 r
+
+    pub let_in_goes : (x : Token) (xs : List Token) (c : ℕ) → v.input ≡ x ∷ xs → v.credits ≡ suc c →
+        Goes l tokens v (let_in_view a b x xs c)
+    unfolding view_line to_come
+    let_in_goes x xs c e f =
+        let g = let_in_bag x xs c in
+        let old = ap length old_bag in
+        let num : IsNumbered ((map peeled v.held ++ map (settled l) a) ++ map (settled l) b) v.least =
+        subst (λ z. IsNumbered z v.least) old_bag k.numbered in
+        let n : newest_tag (settled l (over l.body (admitted v.next x)))
+        ≡ v.least + length ((map peeled v.held ++ map (settled l) a) ++ map (settled l) b) =
+        new_turn x ∙ omega (arith, k.count, old) in
+        let len = ap length g
+        ∙ without_count (map peeled v.held ++ map (settled l) a) (settled l (over l.body (admitted v.next x))) (map (settled l) b) in
+        let t = turns_parts l.turns a b (ap (in_turns l.turns) (sym ring) ∙ k.turns) in
+        record {
+          kept = record {
+            count = omega (arith, len, old, k.count);
+            credits = omega (arith, len, old, k.credits, f);
+            turns = turns_append l.turns a _ t.0
+                (turns_before l.turns _ b (turns_one l.turns _ (omega (arith, new_first x)) (omega (arith, new_first x))) t.1);
+            spent = k.spent;
+            numbered = subst (λ z. IsNumbered z v.least) (sym g)
+                (insert_numbered (map peeled v.held ++ map (settled l) a) _ (map (settled l) b) v.least num n);
+          };
+          line =
+              ap (λ z. v.output ++ (read z v.least (length z) ++ map (over (rounds l)) xs)) g
+              ∙ ap (λ z. v.output ++ (z ++ map (over (rounds l)) xs))
+              (insert_read (map peeled v.held ++ map (settled l) a) _ (map (settled l) b) v.least num n
+              ∙ ap₂ (λ y z. read y v.least (length y) ++ z ∷ []) (sym old_bag) (new_peeled x))
+              ∙ ap (λ z. v.output ++ z) (append_assoc (read (bag l v) v.least (length (bag l v))) _ _)
+              ∙ ap (λ z. v.output ++ (read (bag l v) v.least (length (bag l v)) ++ map (over (rounds l)) z)) (sym e);
+        }
 
   -- Tail holds the value w of the token y
   abbrev pub hold_view : Token → List Token → Outcome → View

@@ -5,7 +5,9 @@ use Rattle.std.proofs.Common.{◌≡◌, ℕ, zero, suc, ◌+◌, ◌-◌, ◌%�
 use Rattle.std.proofs.Math.Nat.{mod-eq_of_lt}
 use Rattle.std.proofs.lemmas.Bool.{cases_Bool, and_parts, and_from, cases_eq, cond-true, cond-false}
 use Rattle.std.proofs.lemmas.List.{map-append, length-map}
-use Rattle.p3l_firing.specs.Fire.{row_can, row_fire, can_fire, fire}
+use Rattle.p3l_firing.specs.Fire.{row_can, row_fire, is_ready, can_fire, fire}
+use Rattle.p3l_firing.specs.Ways.{MayFire}
+use Rattle.p3l_firing.proofs.WaysLaw.{strict_scatter, strict_gather}
 use Rattle.p3l_firing.specs.Lists.{rest_of, first_or, has_first}
 use Rattle.p3l_firing.specs.Process.{in_of, out_of}
 use Rattle.p3l_firing.specs.At.{at}
@@ -29,7 +31,7 @@ use Rattle.p3l_template.specs.laws.Chain.{all_same, all_kept, all_at, all_from}
 use Rattle.p3l_template.specs.laws.Fan.{Fan, fan_of, Around, Holds, around_moves, one_moves, same_alike, each_begins, fan_empty, fan_fires, fan_drained, fan_lawful}
 use Rattle.p3l_template.specs.laws.Inside.{channels_split, around_inside, times_le, line_length, channels_sum, insides_sum}
 use Rattle.p3l_template.specs.laws.Row.{numbers_length, numbers_at, stands_two}
-use Rattle.p3l_template.specs.laws.Rows.{at-same, at-other, front, fire_at, can_at, cannot_at, emptied, room_when_empty}
+use Rattle.p3l_template.specs.laws.Rows.{at-same, at-other, front, fire_at, can_at, strict_at, cannot_at, emptied, room_when_empty}
 use Rattle.p3l_template.specs.laws.SumLaw.{sum_same, sum_none, sum_change, sum_le, sum_times, sum_add}
 use Rattle.p3l_template.specs.laws.Touch.{pop_same, pop_other, push_same, push_other, set_tokens, own_same, own_other, pop_own, push_own}
 use Rattle.p3l_firing.specs.kinds.Scatter as scatter
@@ -604,23 +606,23 @@ module _ (net : Net) (units : Units) (roles : ℕ → Role) (node n : ℕ) (pos 
           held = (s.own (base.proc + 1)).held ++ first_or credit (s.tokens c) ∷ [];
         }))) (gather_chan (length (s.own (base.proc + 1)).held))
 
-    scatter_can : can_fire units.tree net s base.proc ≡ true →
+    scatter_can : is_ready units.tree net s base.proc ≡ true →
         cond (has_first (s.own base.proc).held) (has_room net s (base.chan + (s.own base.proc).number % n))
         (has_first (s.tokens base.input)) ≡ true
     unfolding row_can scatter.can gather.can gather.is_full
     scatter_can can =
         ap (λ c. cond (has_first (s.own base.proc).held) (has_room net s c) (has_first (s.tokens base.input)))
         (sym (scatter_chan (s.own base.proc).number))
-        ∙ (can_at net units s base.proc (scatter_proc node n base) scatter_stands can).1
+        ∙ can_at net units s base.proc (scatter_proc node n base) scatter_stands can
 
-    gather_can : can_fire units.tree net s (base.proc + 1) ≡ true →
+    gather_can : is_ready units.tree net s (base.proc + 1) ≡ true →
         cond (nat_lt (last_element units.tree node) (length (s.own (base.proc + 1)).held)) (has_room net s base.output)
         (has_first (s.tokens (base.chan + n + length (s.own (base.proc + 1)).held % n))) ≡ true
     unfolding row_can scatter.can gather.can gather.is_full
     gather_can can =
         ap (λ c. cond (nat_lt (last_element units.tree node) (length (s.own (base.proc + 1)).held)) (has_room net s base.output)
         (has_first (s.tokens c))) (sym (gather_chan (length (s.own (base.proc + 1)).held)))
-        ∙ (can_at net units s (base.proc + 1) (gather_proc node n base) gather_stands can).1
+        ∙ can_at net units s (base.proc + 1) (gather_proc node n base) gather_stands can
 
     scatter_around : Around base n s (fire units.tree units.leaf net s base.proc)
     scatter_around =
@@ -636,7 +638,7 @@ module _ (net : Net) (units : Units) (roles : ℕ → Role) (node n : ℕ) (pos 
           | inr e ↦ subst (λ t. Around base n s t) (sym (gather_fires ∙ cond-false _ _ _ e)) collect_around
         ]
 
-    scatter_goes : Kept Q (view_of base Ps s) → can_fire units.tree net s base.proc ≡ true →
+    scatter_goes : Kept Q (view_of base Ps s) → is_ready units.tree net s base.proc ≡ true →
         Goes Q (view_of base Ps s) (view_of base Ps (fire units.tree units.leaf net s base.proc))
     scatter_goes k can =
         elim (cases_Bool (has_first (s.own base.proc).held)) [
@@ -648,7 +650,7 @@ module _ (net : Net) (units : Units) (roles : ℕ → Role) (node n : ℕ) (pos 
               (take_right k e (sym (cond-false _ _ _ e) ∙ scatter_can can))
         ]
 
-    gather_goes : Kept Q (view_of base Ps s) → can_fire units.tree net s (base.proc + 1) ≡ true →
+    gather_goes : Kept Q (view_of base Ps s) → is_ready units.tree net s (base.proc + 1) ≡ true →
         Goes Q (view_of base Ps s) (view_of base Ps (fire units.tree units.leaf net s (base.proc + 1)))
     gather_goes k can =
         elim (cases_Bool (nat_lt (last_element units.tree node) (length (s.own (base.proc + 1)).held))) [
@@ -690,13 +692,29 @@ module _ (net : Net) (units : Units) (roles : ℕ → Role) (node n : ℕ) (pos 
         (near_goes Q pos (view_of base Ps s) (lines_of Ps t) ls (view_of base Ps s) (record { kept = k; line = refl }))
 
     -- THE LAWS: what moves, and the step law
-    pub map_moves : (p : ℕ) → IsInside (map_part units node n roles base Ps) p → can_fire units.tree net s p ≡ true →
-        Moves (map_part units node n roles base Ps) s (fire units.tree units.leaf net s p)
-    map_moves p i can =
+    -- Scatter and Gather have one way to fire
+    scatter_way : (t : State) (A : State → Type 0) →
+        (is_ready units.tree net s base.proc ≡ true → A (fire units.tree units.leaf net s base.proc)) →
+        MayFire units.tree units.leaf net s base.proc t → A t
+    scatter_way t A g way =
+        let w = strict_at net units s base.proc (scatter_proc node n base) scatter_stands t strict_scatter way in
+        subst A (sym w.1) (g w.0)
+
+    gather_way : (t : State) (A : State → Type 0) →
+        (is_ready units.tree net s (base.proc + 1) ≡ true → A (fire units.tree units.leaf net s (base.proc + 1))) →
+        MayFire units.tree units.leaf net s (base.proc + 1) t → A t
+    gather_way t A g way =
+        let w = strict_at net units s (base.proc + 1) (gather_proc node n base) gather_stands t strict_gather way in
+        subst A (sym w.1) (g w.0)
+
+    pub map_moves : (t : State) (p : ℕ) → IsInside (map_part units node n roles base Ps) p → MayFire units.tree units.leaf net s p t →
+        Moves (map_part units node n roles base Ps) s t
+    map_moves t p i way =
         let P = map_part units node n roles base Ps in
         let own = around_moves net units roles n base Ps fan P holds s in
-        fan_fires net units roles n base Ps fan P holds s p i can (Moves P s) (λ _. own _ scatter_around)
-        (λ _. own _ gather_around) (one_moves net units roles n base Ps fan P holds s)
+        fan_fires net units roles n base Ps fan P holds s t p i way (Moves P s t)
+        (scatter_way t (Moves P s) (λ _. own _ scatter_around))
+        (gather_way t (Moves P s) (λ _. own _ gather_around)) (one_moves net units roles n base Ps fan P holds s t)
 
     map_line : (t : State) → line (map_part units node n roles base Ps) t ≡ view_line Q (view_of base Ps t)
     unfolding line view_line
@@ -713,17 +731,17 @@ module _ (net : Net) (units : Units) (roles : ℕ → Role) (node n : ℕ) (pos 
     own_orderly : (t : State) → Around base n s t → all_orderly Ps s ≡ true → all_orderly Ps t ≡ true
     own_orderly t a h = all_same Ps s t (λ w l. (fan.alike s t a w (omega (arith, fan.all.count))).orderly) ∙ h
 
-    pub map_step : (p : ℕ) → IsInside (map_part units node n roles base Ps) p → can_fire units.tree net s p ≡ true →
+    pub map_step : (t : State) (p : ℕ) → IsInside (map_part units node n roles base Ps) p → MayFire units.tree units.leaf net s p t →
         (map_part units node n roles base Ps).orderly s ≡ true →
-        Keeps (map_part units node n roles base Ps) s (fire units.tree units.leaf net s p)
-    map_step p i can h =
+        Keeps (map_part units node n roles base Ps) s t
+    map_step t p i way h =
         let P = map_part units node n roles base Ps in
         let a = and_parts _ _ h in
         let k = kept_to Q (view_of base Ps s) a.0 in
-        fan_fires net units roles n base Ps fan P holds s p i can (Keeps P s)
-        (λ c. keeps_from _ (scatter_goes k c) (own_orderly _ scatter_around a.1))
-        (λ c. keeps_from _ (gather_goes k c) (own_orderly _ gather_around a.1))
-        (λ t one. keeps_from t (worker_goes t one a.1 k) (all_kept Ps s t one a.1))
+        fan_fires net units roles n base Ps fan P holds s t p i way (Keeps P s t)
+        (scatter_way t (Keeps P s) (λ c. keeps_from _ (scatter_goes k c) (own_orderly _ scatter_around a.1)))
+        (gather_way t (Keeps P s) (λ c. keeps_from _ (gather_goes k c) (own_orderly _ gather_around a.1)))
+        (λ one. keeps_from t (worker_goes t one a.1 k) (all_kept Ps s t one a.1))
 
     -- THE WORK
     view_length : (q : Pieces) (v : View) →
@@ -954,28 +972,28 @@ module _ (net : Net) (units : Units) (roles : ℕ → Role) (node n : ℕ) (pos 
         ap (λ z. (2 + suc (last_element units.tree node) * ((roles 0).firings + 2)) * z) i in
         omega (arith, g, x, z, d, a, i, o, c)
 
-    map_work : (p : ℕ) → IsInside (map_part units node n roles base Ps) p → can_fire units.tree net s p ≡ true →
+    map_work : (t : State) (p : ℕ) → IsInside (map_part units node n roles base Ps) p → MayFire units.tree units.leaf net s p t →
         (map_part units node n roles base Ps).orderly s ≡ true →
-        due (map_part units node n roles base Ps) (fire units.tree units.leaf net s p) < due (map_part units node n roles base Ps) s
-    map_work p i can h =
+        due (map_part units node n roles base Ps) t < due (map_part units node n roles base Ps) s
+    map_work t p i way h =
         let P = map_part units node n roles base Ps in
         let a = and_parts _ _ h in
         let k = kept_to Q (view_of base Ps s) a.0 in
-        fan_fires net units roles n base Ps fan P holds s p i can (λ t. due P t < due P s)
-        (λ c. elim (cases_Bool (has_first (s.own base.proc).held)) [
+        fan_fires net units roles n base Ps fan P holds s t p i way (due P t < due P s)
+        (scatter_way t (λ u. due P u < due P s) (λ c. elim (cases_Bool (has_first (s.own base.proc).held)) [
           | inl f ↦ subst (λ t. due P t < due P s) (sym (scatter_fires ∙ cond-true _ _ _ f)) (send_works k f)
           | inr f ↦
               subst (λ t. due P t < due P s) (sym (scatter_fires ∙ cond-false _ _ _ f))
               (take_works k f (sym (cond-false _ _ _ f) ∙ scatter_can c))
-        ])
-        (λ c. elim (cases_Bool (nat_lt (last_element units.tree node) (length (s.own (base.proc + 1)).held))) [
+        ]))
+        (gather_way t (λ u. due P u < due P s) (λ c. elim (cases_Bool (nat_lt (last_element units.tree node) (length (s.own (base.proc + 1)).held))) [
           | inl f ↦
               subst (λ t. due P t < due P s) (sym (gather_fires ∙ cond-true _ _ _ f))
               (emit_works k (omega (arith, ltb-true _ _ f, k.full)))
           | inr f ↦
               subst (λ t. due P t < due P s) (sym (gather_fires ∙ cond-false _ _ _ f))
               (collect_works k (omega (arith, ltb-false _ _ f)) (sym (cond-false _ _ _ f) ∙ gather_can c))
-        ]) (λ t one. worker_works t one a.1 k)
+        ])) (λ one. worker_works t one a.1 k)
 
     -- DRAIN
     module _ (h : (map_part units node n roles base Ps).orderly s ≡ true)

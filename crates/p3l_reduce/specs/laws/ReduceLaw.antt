@@ -6,11 +6,14 @@ use Rattle.std.proofs.Math.Nat.{pow-succ'}
 use Rattle.std.proofs.lemmas.Bool.{cases_Bool, and_parts, and_from, cases_eq, cases_lt, cond-true, cond-false}
 use Rattle.std.proofs.lemmas.List.{length-replicate}
 use Rattle.std.proofs.lemmas.Nat.{pow_pos}
-use Rattle.p3l_firing.specs.Fire.{row_can, row_fire, can_fire, fire}
+use Rattle.p3l_firing.specs.Fire.{row_can, row_fire, is_ready, can_fire, fire}
+use Rattle.p3l_firing.specs.Ways.{MayFire, IsStrict}
+use Rattle.p3l_firing.proofs.WaysLaw.{strict_split, strict_join, strict_run}
 use Rattle.p3l_firing.specs.Lists.{rest_of, first_or, has_first}
 use Rattle.p3l_firing.specs.State.{State, pop, push, set_own, fresh, has_room, at_first, chan_at}
 use Rattle.p3l_firing.specs.Token.{over, has_trap, credit}
 use Rattle.p3l_firing.specs.declared.net.Net.{Net}
+use Rattle.p3l_firing.specs.declared.process.Proc.{Proc}
 use Rattle.p3l_firing.specs.declared.token.Token.{Token}
 use Rattle.p3l_firing.specs.kinds.Join.{paired_by}
 use Rattle.p3l_firing.specs.kinds.Split.{after_segment}
@@ -28,7 +31,7 @@ use Rattle.p3l_template.specs.Units.{Units, outcome_at}
 use Rattle.p3l_template.specs.laws.Inside.{channels_split, channels_sum, times_le}
 use Rattle.p3l_template.specs.laws.Plain.{plain_empty, plain_room}
 use Rattle.p3l_template.specs.laws.Row.{numbers_length, numbers_at, stands_split}
-use Rattle.p3l_template.specs.laws.Rows.{and_left_true, and_right_true, front, fire_at, can_at, cannot_at, emptied, room_when_empty}
+use Rattle.p3l_template.specs.laws.Rows.{and_left_true, and_right_true, front, fire_at, can_at, strict_at, cannot_at, emptied, room_when_empty}
 use Rattle.p3l_template.specs.laws.RunLaw.{run_lawful}
 use Rattle.p3l_template.specs.laws.SumLaw.{sum_same, sum_none, sum_change}
 use Rattle.p3l_template.specs.laws.Touch.{pop_same, pop_other, push_same, push_other, set_tokens, own_same, own_other}
@@ -231,12 +234,12 @@ module _ (net : Net) (units : Units) (roles : ℕ → Role) (node m d len : ℕ)
         fire_at net units s (base.proc + m + u) (fold_proc node m base u (get_or (segment_lengths (suc d) len) u 0))
         (fold_stands u low)
 
-    fold_full : can_fire units.tree net s (base.proc + m + u) ≡ true → has_first (s.tokens (base.chan + u)) ≡ true
+    fold_full : is_ready units.tree net s (base.proc + m + u) ≡ true → has_first (s.tokens (base.chan + u)) ≡ true
     unfolding row_can run.can split.can join.can
     fold_full can =
         (and_parts _ _
         (can_at net units s (base.proc + m + u) (fold_proc node m base u (get_or (segment_lengths (suc d) len) u 0))
-        (fold_stands u low) can).1).0
+        (fold_stands u low) can)).0
 
     fold_other : (c : ℕ) → c ≢ base.chan + u → c ≢ tee base m (m + u) → (fold_state s u).tokens c ≡ s.tokens c
     unfolding fold_state
@@ -330,12 +333,12 @@ module _ (net : Net) (units : Units) (roles : ℕ → Role) (node m d len : ℕ)
     unfolding row_fire join_state run.fire split.fire join.fire split.segment_sent
     join_fires = fire_at net units s (base.proc + q) (join_proc node m base q) (join_stands q pos low)
 
-    join_full : can_fire units.tree net s (base.proc + q) ≡ true →
+    join_full : is_ready units.tree net s (base.proc + q) ≡ true →
         (has_first (s.tokens (tee base m (q + q))) ≡ true) × (has_first (s.tokens (tee base m (suc (q + q)))) ≡ true)
     unfolding row_can run.can split.can join.can
     join_full can =
         let a = and_parts _ _
-        (can_at net units s (base.proc + q) (join_proc node m base q) (join_stands q pos low) can).1 in
+        (can_at net units s (base.proc + q) (join_proc node m base q) (join_stands q pos low) can) in
         (a.0, (and_parts _ _ a.1).0)
 
     left_right : tee base m (suc (q + q)) ≢ tee base m (q + q)
@@ -460,13 +463,13 @@ module _ (net : Net) (units : Units) (roles : ℕ → Role) (node m d len : ℕ)
       (after_segment m (s.own base.proc))
 
   module _ (s : State) where
-    split_can : can_fire units.tree net s base.proc ≡ true →
+    split_can : is_ready units.tree net s base.proc ≡ true →
         cond (has_first (s.own base.proc).held)
         (nat_lt (s.own base.proc).number (length (numbers_from base.chan m))
         && has_room net s (get_or (numbers_from base.chan m) (s.own base.proc).number 0))
         (has_first (s.tokens base.input)) ≡ true
     unfolding row_can run.can split.can join.can
-    split_can can = (can_at net units s base.proc (split_proc node m base) split_stands can).1
+    split_can can = (can_at net units s base.proc (split_proc node m base) split_stands can)
 
     split_fires : fire units.tree units.leaf net s base.proc ≡ cond (has_first (s.own base.proc).held)
         (set_own (push s (get_or (numbers_from base.chan m) (s.own base.proc).number 0)
@@ -475,7 +478,7 @@ module _ (net : Net) (units : Units) (roles : ℕ → Role) (node m d len : ℕ)
     unfolding row_fire take_state run.fire split.fire join.fire split.segment_sent
     split_fires = fire_at net units s base.proc (split_proc node m base) split_stands
 
-    send_low : has_first (s.own base.proc).held ≡ true → can_fire units.tree net s base.proc ≡ true →
+    send_low : has_first (s.own base.proc).held ≡ true → is_ready units.tree net s base.proc ≡ true →
         (s.own base.proc).number < m
     send_low full can =
         let a = and_parts (nat_lt (s.own base.proc).number (length (numbers_from base.chan m))) _
@@ -496,7 +499,7 @@ module _ (net : Net) (units : Units) (roles : ℕ → Role) (node m d len : ℕ)
     take_fires : has_first (s.own base.proc).held ≡ false → fire units.tree units.leaf net s base.proc ≡ take_state s
     take_fires none = split_fires ∙ cond-false _ _ _ none
 
-    take_full : has_first (s.own base.proc).held ≡ false → can_fire units.tree net s base.proc ≡ true →
+    take_full : has_first (s.own base.proc).held ≡ false → is_ready units.tree net s base.proc ≡ true →
         has_first (s.tokens base.input) ≡ true
     take_full none can = sym (cond-false _ _ _ none) ∙ split_can can
 
@@ -693,11 +696,11 @@ module _ (net : Net) (units : Units) (roles : ℕ → Role) (node m d len : ℕ)
     Folds_one : (u : ℕ) → u < m → has_first (s.tokens (base.chan + u)) ≡ true →
         fire units.tree units.leaf net s p ≡ fold_state s u → Fires s p
 
-  fires_so : (s : State) (p : ℕ) → IsInside P p → can_fire units.tree net s p ≡ true → Fires s p
+  fires_so : (s : State) (p : ℕ) → IsInside P p → is_ready units.tree net s p ≡ true → Fires s p
   fires_so s p inside can =
       elim (cases_eq p base.proc) [
         | inl e ↦
-            let now : can_fire units.tree net s base.proc ≡ true = ap (can_fire units.tree net s) (sym e) ∙ can in
+            let now : is_ready units.tree net s base.proc ≡ true = ap (is_ready units.tree net s) (sym e) ∙ can in
             elim (cases_Bool (has_first (s.own base.proc).held)) [
               | inl full ↦ let low = send_low s full now in
                   Sends_one full low (ap (fire units.tree units.leaf net s) e ∙ send_fires s full low)
@@ -709,7 +712,7 @@ module _ (net : Net) (units : Units) (roles : ℕ → Role) (node m d len : ℕ)
               let at_q : p ≡ base.proc + (p - base.proc) = omega (arith, inside.from) in
               let full =
               join_full s (p - base.proc) (omega (arith, e, inside.from)) (omega (arith, l, e, inside.from))
-              (ap (can_fire units.tree net s) (sym at_q) ∙ can) in
+              (ap (is_ready units.tree net s) (sym at_q) ∙ can) in
               Joins_two (p - base.proc) (omega (arith, e, inside.from)) (omega (arith, l, e, inside.from)) full.0 full.1
               (ap (fire units.tree units.leaf net s) at_q
               ∙ join_fires s (p - base.proc) (omega (arith, e, inside.from)) (omega (arith, l, e, inside.from)))
@@ -717,10 +720,32 @@ module _ (net : Net) (units : Units) (roles : ℕ → Role) (node m d len : ℕ)
               let at_u : p ≡ base.proc + m + (p - (base.proc + m)) = omega (arith, l) in
               Folds_one (p - (base.proc + m)) (omega (arith, l, inside.to))
               (fold_full s (p - (base.proc + m)) (omega (arith, l, inside.to))
-              (ap (can_fire units.tree net s) (sym at_u) ∙ can))
+              (ap (is_ready units.tree net s) (sym at_u) ∙ can))
               (ap (fire units.tree units.leaf net s) at_u ∙ fold_fires s (p - (base.proc + m)) (omega (arith, l, inside.to)))
         ]
       ]
+
+  -- every process of a reduce has one way to fire
+  one_way : (s t : State) (p : ℕ) → IsInside P p → MayFire units.tree units.leaf net s p t →
+      (is_ready units.tree net s p ≡ true) × (t ≡ fire units.tree units.leaf net s p)
+  one_way s t p inside way =
+      elim (cases_eq p base.proc) [
+        | inl e ↦ at_place t p base.proc (sym e) (split_proc node m base) split_stands strict_split way
+        | inr e ↦ elim (cases_lt p (base.proc + m)) [
+          | inl l ↦
+              at_place t p (base.proc + (p - base.proc)) (omega (arith, inside.from)) (join_proc node m base (p - base.proc))
+              (join_stands (p - base.proc) (omega (arith, e, inside.from)) (omega (arith, l, e, inside.from))) strict_join way
+          | inr l ↦
+              at_place t p (base.proc + m + (p - (base.proc + m))) (omega (arith, l))
+              (fold_proc node m base (p - (base.proc + m)) (get_or (segment_lengths (suc d) len) (p - (base.proc + m)) 0))
+              (fold_stands (p - (base.proc + m)) (omega (arith, l, inside.to))) strict_run way
+        ]
+      ]
+    where
+      at_place : (t : State) (p r : ℕ) → r ≡ p → (q : Proc) → slice_get net.procs r ≡ Some q → IsStrict q.kind →
+          MayFire units.tree units.leaf net s p t → (is_ready units.tree net s p ≡ true) × (t ≡ fire units.tree units.leaf net s p)
+      at_place t p r e q stands strict way =
+          strict_at net units s p q (ap (slice_get net.procs) (sym e) ∙ stands) t strict way
 
   tree_moves : (s : State) (p : ℕ) → Fires s p → Moves P s (fire units.tree units.leaf net s p)
   tree_moves s p (Takes_one none full e) = subst (Moves P s) (sym e) (take_moves s)
@@ -907,9 +932,13 @@ module _ (net : Net) (units : Units) (roles : ℕ → Role) (node m d len : ℕ)
     chans = omega arith;
     reads = tree_reads;
     begins = tree_begins;
-    moves = λ s p inside can. tree_moves s p (fires_so s p inside can);
-    step = λ s p inside can h. tree_keeps s p h (fires_so s p inside can);
-    work = λ s p inside can h. tree_works s p h (fires_so s p inside can);
+    moves = λ s t p inside way.
+        let w = one_way s t p inside way in subst (Moves P s) (sym w.1) (tree_moves s p (fires_so s p inside w.0));
+    step = λ s t p inside way h.
+        let w = one_way s t p inside way in subst (Keeps P s) (sym w.1) (tree_keeps s p h (fires_so s p inside w.0));
+    work = λ s t p inside way h.
+        let w = one_way s t p inside way in
+        subst (λ u. due P u < due P s) (sym w.1) (tree_works s p h (fires_so s p inside w.0));
     size = λ s h. tree_size s;
     drain = tree_drained;
   }

@@ -4,7 +4,7 @@
 -- cannot tell it (`chain_fires`).
 use Rattle.std.proofs.Common.{◌≡◌, ℕ, zero, suc, ◌≤◌, ◌<◌, inl, inr, true, List, [], ◌∷◌, length, get_or, ◌&&◌, refl, sym, ap, ap₂, ◌∙◌, subst, arith, le_refl}
 use Rattle.std.proofs.lemmas.Bool.{cases_lt, cases_eq, and_parts, and_from}
-use Rattle.p3l_firing.specs.Fire.{can_fire, fire}
+use Rattle.p3l_firing.specs.Ways.{MayFire}
 use Rattle.p3l_firing.specs.State.{State}
 use Rattle.p3l_firing.specs.declared.net.Net.{Net}
 use Rattle.p3l_template.specs.Part.{Part, IsLawfulPart, IsInside, IsSameInside, Moves, OneFired, no_part, all_orderly}
@@ -114,21 +114,21 @@ apart_same P Q s t m ap_procs ap_chans i o = record {
 
 -- of the inner parts, one fires
 pub chain_fires : (net : Net) (units : Units) (roles : ℕ → Role) (low p c : ℕ) (xs : List Seat) (Ps : List Part) →
-    AreChained net units roles p c xs Ps → low ≤ c → AreBelow low xs → (s : State) (q : ℕ) → p ≤ q → q < proc_end p Ps →
-    can_fire units.tree net s q ≡ true → OneFired Ps s (fire units.tree units.leaf net s q)
+    AreChained net units roles p c xs Ps → low ≤ c → AreBelow low xs → (s t : State) (q : ℕ) → p ≤ q → q < proc_end p Ps →
+    MayFire units.tree units.leaf net s q t → OneFired Ps s t
 unfolding AreChained proc_end AreBelow
-chain_fires net units roles low p c [] [] h b lo s q f l can = absurd (omega arith)
-chain_fires net units roles low p c (x ∷ xs) (P ∷ Ps) h b lo s q f l can =
+chain_fires net units roles low p c [] [] h b lo s t q f l way = absurd (omega arith)
+chain_fires net units roles low p c (x ∷ xs) (P ∷ Ps) h b lo s t q f l way =
     elim (cases_lt q P.proc_to) [
       | inl e ↦
           let inside : IsInside P q = record { from = omega (arith, h.0.proc); to = e } in
-          let m : Moves P s (fire units.tree units.leaf net s q) = h.0.lawful.moves s q inside can in
+          let m : Moves P s t = h.0.lawful.moves s t q inside way in
           record {
             which = 0;
             below = omega arith;
             moves = m;
-            keeps = h.0.lawful.step s q inside can;
-            works = h.0.lawful.work s q inside can;
+            keeps = h.0.lawful.step s t q inside way;
+            works = h.0.lawful.work s t q inside way;
             others = elim [
               | zero ↦ λ _ ne. absurd (ne refl)
               | suc v ↦ λ k _.
@@ -143,7 +143,7 @@ chain_fires net units roles low p c (x ∷ xs) (P ∷ Ps) h b lo s q f l can =
           }
       | inr e ↦
           let r = chain_fires net units roles low P.proc_to P.chan_to xs Ps h.1
-          (omega (arith, h.0.chan, h.0.lawful.chans)) (λ v k. lo (suc v) (omega arith)) s q e l can in
+          (omega (arith, h.0.chan, h.0.lawful.chans)) (λ v k. lo (suc v) (omega arith)) s t q e l way in
           let y = chain_lies net units roles P.proc_to P.chan_to xs Ps h.1 r.which r.below in
           let len = chain_length net units roles P.proc_to P.chan_to xs Ps h.1 in
           record {
@@ -174,8 +174,8 @@ chain_fires net units roles low p c (x ∷ xs) (P ∷ Ps) h b lo s q f l can =
             ];
           }
     ]
-chain_fires net units roles low p c [] (P ∷ Ps) h b lo s q f l can = absurd h
-chain_fires net units roles low p c (x ∷ xs) [] h b lo s q f l can = absurd h
+chain_fires net units roles low p c [] (P ∷ Ps) h b lo s t q f l way = absurd h
+chain_fires net units roles low p c (x ∷ xs) [] h b lo s t q f l way = absurd h
 
 pub all_at : (Ps : List Part) (s : State) → all_orderly Ps s ≡ true → (v : ℕ) → v < length Ps →
     (get_or Ps v no_part).orderly s ≡ true

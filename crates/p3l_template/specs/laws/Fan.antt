@@ -6,7 +6,8 @@ use Rattle.std.proofs.Common.{◌≡◌, ℕ, zero, suc, ◌+◌, ◌-◌, ◌*�
 use Rattle.std.proofs.lemmas.Bool.{cases_eq}
 use Rattle.std.proofs.lemmas.List.{length-replicate}
 use Rattle.p3l_template.specs.Shape.{empty_chan}
-use Rattle.p3l_firing.specs.Fire.{can_fire, fire}
+use Rattle.p3l_firing.specs.Fire.{can_fire}
+use Rattle.p3l_firing.specs.Ways.{MayFire}
 use Rattle.p3l_firing.specs.State.{State, at_first, chan_at}
 use Rattle.p3l_firing.specs.Token.{over, has_trap}
 use Rattle.p3l_firing.specs.declared.net.Net.{Net}
@@ -321,21 +322,18 @@ module _ (net : Net) (units : Units) (roles : ℕ → Role) (n : ℕ) (base : Ba
       (plain_empty net base.chan (n + n) cap laid (c - base.chan) (omega (arith, f, l)))
 
   -- what holds after a firing of each of the two processes and of each worker holds after every firing inside
-  pub fan_fires : (s : State) (p : ℕ) → IsInside P p → can_fire units.tree net s p ≡ true → (A : State → Type 0) →
-      (can_fire units.tree net s base.proc ≡ true → A (fire units.tree units.leaf net s base.proc)) →
-      (can_fire units.tree net s (base.proc + 1) ≡ true → A (fire units.tree units.leaf net s (base.proc + 1))) →
-      ((t : State) → OneFired Ps s t → A t) → A (fire units.tree units.leaf net s p)
-  fan_fires s p i can A first last one =
+  pub fan_fires : (s t : State) (p : ℕ) → IsInside P p → MayFire units.tree units.leaf net s p t → (A : Type 0) →
+      (MayFire units.tree units.leaf net s base.proc t → A) →
+      (MayFire units.tree units.leaf net s (base.proc + 1) t → A) → (OneFired Ps s t → A) → A
+  fan_fires s t p i way A first last one =
       elim (cases_eq p base.proc) [
-        | inl e ↦
-            subst (λ z. can_fire units.tree net s z ≡ true → A (fire units.tree units.leaf net s z)) (sym e) first can
+        | inl e ↦ first (subst (λ z. MayFire units.tree units.leaf net s z t) e way)
         | inr e ↦ elim (cases_eq p (base.proc + 1)) [
-          | inl d ↦
-              subst (λ z. can_fire units.tree net s z ≡ true → A (fire units.tree units.leaf net s z)) (sym d) last can
+          | inl d ↦ last (subst (λ z. MayFire units.tree units.leaf net s z t) d way)
           | inr d ↦
-              one _ (chain_fires net units roles (base.chan + (n + n)) (base.proc + 2) (base.chan + (n + n)) _ Ps
-              fan.chained (le_refl _) (fan_low base.chan n) s p (omega (arith, e, d, i.from, h.proc_from))
-              (omega (arith, i.to, h.proc_to)) can)
+              one (chain_fires net units roles (base.chan + (n + n)) (base.proc + 2) (base.chan + (n + n)) _ Ps
+              fan.chained (le_refl _) (fan_low base.chan n) s t p (omega (arith, e, d, i.from, h.proc_from))
+              (omega (arith, i.to, h.proc_to)) way)
         ]
       ]
 

@@ -5,7 +5,8 @@ use Rattle.std.proofs.Common.{◌≡◌, ℕ, zero, suc, ◌+◌, ◌≤◌, ◌
 use Rattle.std.proofs.lemmas.Bool.{cases_lt}
 use Rattle.std.proofs.lemmas.List.{map-append, length-map, length-replicate}
 use Rattle.p3l_base.specs.declared.outcome.Outcome.{Outcome}
-use Rattle.p3l_firing.specs.Fire.{can_fire, fire}
+use Rattle.p3l_firing.specs.Fire.{can_fire}
+use Rattle.p3l_firing.specs.Ways.{MayFire}
 use Rattle.p3l_template.specs.Shape.{empty_chan}
 use Rattle.p3l_firing.specs.State.{State, has_room, at_first}
 use Rattle.p3l_firing.specs.Token.{over, has_trap}
@@ -683,13 +684,12 @@ module _ (net : Net) (units : Units) (roles : ℕ → Role) (k : ℕ) (base : Ba
           (λ v l. (stage_drained room (k - suc v) (suc v) (omega (arith, pipe_length))).input);
     }
 
-  pipe_one : (s : State) (p : ℕ) → IsInside (pipe_part k base Ps) p → can_fire units.tree net s p ≡ true →
-      OneFired Ps s (fire units.tree units.leaf net s p)
-  pipe_one s p inside can =
+  pipe_one : (s t : State) (p : ℕ) → IsInside (pipe_part k base Ps) p → MayFire units.tree units.leaf net s p t → OneFired Ps s t
+  pipe_one s t p inside way =
       chain_fires net units roles (base.chan + k) (base.proc + 0) (base.chan + k) _ Ps pipe_chain (le_refl _)
       (ports_low 0 base.input base.chan base.output k (omega (arith, placed.good.input))
       (omega (arith, placed.good.output)))
-      s p (omega (arith, inside.from)) inside.to can
+      s t p (omega (arith, inside.from)) inside.to way
 
   pipe_size : (s : State) → all_orderly Ps s ≡ true → IsSized (pipe_part k base Ps) s
   unfolding inside in_hands
@@ -716,9 +716,9 @@ module _ (net : Net) (units : Units) (roles : ℕ → Role) (k : ℕ) (base : Ba
         chans = omega (arith, g.1);
         reads = pipe_reads;
         begins = pipe_begins;
-        moves = λ s p inside can. pipe_moves s _ (pipe_one s p inside can);
-        step = λ s p inside can h. pipe_keeps s _ (pipe_one s p inside can) h;
-        work = λ s p inside can h. pipe_works s _ (pipe_one s p inside can) h;
+        moves = λ s t p inside way. pipe_moves s t (pipe_one s t p inside way);
+        step = λ s t p inside way h. pipe_keeps s t (pipe_one s t p inside way) h;
+        work = λ s t p inside way h. pipe_works s t (pipe_one s t p inside way) h;
         size = pipe_size;
         drain = λ s h quiet calm room. pipe_drained s h quiet calm room;
       }

@@ -1,8 +1,8 @@
 -- All that a template uses of the table of rows: where process q is at p, p can fire and fires as
--- the row of q's kind says (`can_at`, `cannot_at`, `fire_at`). Below them, what moving a token from
+-- the row of q's kind says (`can_at`, `cannot_at`, `fire_at`), or in one of its ways (`way_at`, `strict_at`). Below them, what moving a token from
 -- a to b does to each channel, and which channel has room.
-use Rattle.std.proofs.Common.{◌≡◌, ℕ, ◌≢◌, Bool, true, false, not, ◌&&◌, List, [], ◌∷◌, ◌++◌, length, Some, slice_get, nat_eq, refl, sym, ap, ◌∙◌, subst, eq-eqb, ne_eqb, ◌<◌, lt-ltb}
-use Rattle.std.proofs.lemmas.Bool.{and_parts, cond-true, cond-false, not_from_false}
+use Rattle.std.proofs.Common.{◌≡◌, ℕ, ◌≢◌, Bool, true, false, ◌&&◌, List, [], ◌∷◌, ◌++◌, length, Some, slice_get, nat_eq, refl, sym, ap, ◌∙◌, subst, eq-eqb, ne_eqb, ◌<◌, lt-ltb}
+use Rattle.std.proofs.lemmas.Bool.{cond-true, cond-false, not_from_false}
 use Rattle.p3l_firing.specs.declared.net.Net.{Net}
 use Rattle.p3l_firing.specs.declared.process.Proc.{Proc}
 use Rattle.p3l_firing.specs.declared.token.Token.{Token}
@@ -10,6 +10,8 @@ use Rattle.p3l_firing.specs.Lists.{has_first, first_or, rest_of}
 use Rattle.p3l_firing.specs.Token.{credit, has_trap}
 use Rattle.p3l_firing.specs.At.{at}
 use Rattle.p3l_firing.specs.State.{State, pop, push, has_room, chan_at}
+use Rattle.p3l_firing.specs.Ways.{eyes_of, row_ways, MayFire, IsStrict}
+use Rattle.p3l_firing.proofs.WaysLaw.{ways_at, one_way}
 use Rattle.p3l_firing.specs.Fire.{row_can, row_fire, ready_of, is_ready, fire_of, can_fire, fire}
 use Rattle.p3l_template.specs.Units.{Units}
 
@@ -55,12 +57,19 @@ module _ (net : Net) (units : Units) (s : State) (p : ℕ) (q : Proc) (stands : 
   unfolding fire fire_of
   fire_at = ap (λ o. fire_of o units.tree units.leaf net s p (s.own p)) stands
 
-  pub can_at : can_fire units.tree net s p ≡ true →
-      (not (has_trap s.emitted) ≡ true) × (row_can q.kind units.tree net s (s.own p) q ≡ true)
-  unfolding can_fire is_ready ready_of
-  can_at h =
-      let b = and_parts _ _ h in
-      (b.0, sym (ap (λ o. ready_of o units.tree net s (s.own p)) stands) ∙ b.1)
+  pub can_at : is_ready units.tree net s p ≡ true → row_can q.kind units.tree net s (s.own p) q ≡ true
+  unfolding is_ready ready_of
+  can_at h = sym (ap (λ o. ready_of o units.tree net s (s.own p)) stands) ∙ h
+
+  -- what q does, in one of its ways
+  pub way_at : (t : State) → MayFire units.tree units.leaf net s p t →
+      row_ways q.kind units.tree units.leaf (eyes_of net s) s p (s.own p) q t
+  way_at t way = ways_at units.tree units.leaf net s p t q stands (eyes_of net s) way
+
+  -- and where it has one way alone
+  pub strict_at : (t : State) → IsStrict q.kind → MayFire units.tree units.leaf net s p t →
+      (is_ready units.tree net s p ≡ true) × (t ≡ fire units.tree units.leaf net s p)
+  strict_at t strict way = one_way units.tree units.leaf net s t p q stands strict way
 
   pub cannot_at : has_trap s.emitted ≡ false → can_fire units.tree net s p ≡ false →
       row_can q.kind units.tree net s (s.own p) q ≡ false

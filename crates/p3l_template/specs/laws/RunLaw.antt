@@ -4,7 +4,8 @@
 use Rattle.std.proofs.Common.{◌≡◌, ℕ, ◌<◌, ◌≢◌, true, false, List, [], ◌∷◌, ◌++◌, map, length, refl, sym, ap, ◌∙◌, subst, arith, append_assoc, le_refl, slice_get, Some}
 use Rattle.std.proofs.lemmas.Bool.{and_parts}
 use Rattle.p3l_base.specs.declared.outcome.Outcome.{Outcome}
-use Rattle.p3l_firing.specs.Fire.{row_can, row_fire, can_fire, fire}
+use Rattle.p3l_firing.specs.Fire.{row_can, can_fire}
+use Rattle.p3l_firing.specs.Ways.{row_ways, MayFire}
 use Rattle.p3l_firing.specs.kinds.Run as run
 use Rattle.p3l_firing.specs.Lists.{first_or, has_first}
 use Rattle.p3l_firing.specs.State.{State, pop, push, has_room}
@@ -15,7 +16,7 @@ use Rattle.p3l_template.specs.Placed.{IsLawfulShape, LiesAt, IsPlaced, AreStandi
 use Rattle.p3l_template.specs.Run.{run_proc, run_part, run_shape}
 use Rattle.p3l_template.specs.Shape.{Role, Base}
 use Rattle.p3l_template.specs.Units.{Units, outcome_at}
-use Rattle.p3l_template.specs.laws.Rows.{front, moved-in, moved-out, moved-other, fire_at, can_at, cannot_at, emptied, and_right_true}
+use Rattle.p3l_template.specs.laws.Rows.{front, moved-in, moved-out, moved-other, way_at, cannot_at, emptied, and_right_true}
 
 -- a step that takes the first token of the in channel and puts f of it at the out channel
 unfoldable through_one : Base → (Outcome → Outcome) → State → State
@@ -52,13 +53,10 @@ module _ (net : Net) (units : Units) (node : ℕ) (base : Base) (s : State) (p :
   unfolding AreStanding
   stands_at = ap (λ k. slice_get net.procs k) is_it ∙ stands.0
 
-  run_fires : fire units.tree units.leaf net s p ≡ through_one base (outcome_at units node) s
-  unfolding row_fire run.fire through_one
-  run_fires = fire_at net units s p (run_proc node base) stands_at
-
-  run_full : can_fire units.tree net s p ≡ true → has_first (s.tokens base.input) ≡ true
-  unfolding row_can run.can
-  run_full h = (and_parts _ _ (can_at net units s p (run_proc node base) stands_at h).1).0
+  run_fires : (t : State) → MayFire units.tree units.leaf net s p t →
+      (t ≡ through_one base (outcome_at units node) s) × (has_first (s.tokens base.input) ≡ true)
+  unfolding row_ways run.fire through_one
+  run_fires t way = let w = way_at net units s p (run_proc node base) stands_at t way in (w.1, (and_parts _ _ w.0).0)
 
 run_lies : (net : Net) (units : Units) (roles : ℕ → Role) (node : ℕ) (base : Base) (parts : List Part) →
     IsPlaced net units roles (run_shape node) base parts →
@@ -100,20 +98,20 @@ run_lawful node = record {
     chans = le_refl _;
     reads = λ s t same. record { pending = refl; orderly = refl; owed = refl };
     begins = λ s fresh. record { orderly = refl; pending = refl; owed = refl };
-    moves = λ s p inside can.
-        subst (λ t. Moves (run_part (outcome_at units node) base) s t)
-        (sym (run_fires net units node base s p placed.procs inside))
+    moves = λ s t p inside way.
+        subst (λ u. Moves (run_part (outcome_at units node) base) s u)
+        (sym (run_fires net units node base s p placed.procs inside t way).0)
         (one_moves base (outcome_at units node) s placed.good.apart);
-    step = λ s p inside can orderly. record {
-      orderly = refl;
-      line = ap (line (run_part (outcome_at units node) base)) (run_fires net units node base s p placed.procs inside)
-          ∙ one_line base (outcome_at units node) s placed.good.apart
-          (run_full net units node base s p placed.procs inside can);
-    };
-    work = λ s p inside can orderly.
-        subst (λ t. due (run_part (outcome_at units node) base) t < due (run_part (outcome_at units node) base) s)
-        (sym (run_fires net units node base s p placed.procs inside))
-        (one_due base (outcome_at units node) s placed.good.apart (run_full net units node base s p placed.procs inside can));
+    step = λ s t p inside way orderly.
+        let w = run_fires net units node base s p placed.procs inside t way in
+        record {
+          orderly = refl;
+          line = ap (line (run_part (outcome_at units node) base)) w.0 ∙ one_line base (outcome_at units node) s placed.good.apart w.1;
+        };
+    work = λ s t p inside way orderly.
+        let w = run_fires net units node base s p placed.procs inside t way in
+        subst (λ u. due (run_part (outcome_at units node) base) u < due (run_part (outcome_at units node) base) s)
+        (sym w.0) (one_due base (outcome_at units node) s placed.good.apart w.1);
     size = λ s orderly. record { owed = omega arith; pending = omega arith };
     drain = λ s orderly quiet calm room.
         record {

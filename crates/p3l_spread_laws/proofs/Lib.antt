@@ -1,0 +1,4 @@
+pub mod SpreadLaw
+pub mod Taking
+pub mod WireLaw
+pub mod WireTaking
