@@ -1,4 +1,5 @@
 pub mod Cut
+pub mod Limits
 pub mod Memory
 pub mod Slice
 pub mod laws

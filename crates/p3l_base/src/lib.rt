@@ -3,6 +3,7 @@
 
 pub mod cut;
 pub mod laws;
+pub mod limits;
 pub mod list;
 pub mod name;
 pub mod outcome;

@@ -7,6 +7,7 @@ use Rattle.p3l_format.specs.declared.fault.Fault.{Fault}
 use Rattle.p3l_format.specs.Line.{line_number}
 use Rattle.p3l_format.specs.FirstLine.{IsFirstBadLine}
 use Rattle.p3l_cert.specs.Text.{cert_format}
+use Rattle.p3l_base.specs.Memory.{Refused}
 
 -- what reading gives, with the line of its fault
 abbrev pub answer_of : List ℕ → Result Cert Fault → Result Cert CertRefusal
@@ -15,7 +16,7 @@ answer_of text (Err fault) = Err (refusals.BadText (line_number text fault.left)
 
 -- a call answered what reading gives, unless out of memory
 abbrev pub Answers : List ℕ → Result Cert CertRefusal → Result Cert Fault → Type 0
-Answers text (Err refusals.NoMemory) read = ⊤
+Answers text (Err refusals.NoMemory) read = Refused
 Answers text answer read = answer ≡ answer_of text read
 
 -- a line that is reported is the first that isn't of a certificate's form

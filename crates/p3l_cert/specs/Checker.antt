@@ -1,5 +1,5 @@
 -- What a certificate says, and the first of its tests that fails.
-use Rattle.std.specs.Prelude.{◌≡◌, ℕ, suc, ◌+◌, ◌-◌, ◌<◌, ◌≤◌, ◌==◌, nat_le, if◌then◌else◌, Option, Some, None, Result, Ok, Err, List, [], ◌∷◌, length, ⊤}
+use Rattle.std.specs.Prelude.{◌≡◌, ℕ, suc, ◌+◌, ◌-◌, ◌<◌, ◌≤◌, ◌==◌, nat_le, if◌then◌else◌, Option, Some, None, Result, Ok, Err, List, [], ◌∷◌, length}
 use Rattle.std.specs.List.{All}
 use Rattle.p3l_skel.specs.declared.tree.Tree.{Tree}
 use Rattle.p3l_skel.specs.Counts.{HasLawfulCounts}
@@ -13,6 +13,7 @@ use Rattle.p3l_cert.specs.declared.cert.Claim.TheVariants as claims
 use Rattle.p3l_cert.specs.declared.cert.Key.{Key}
 use Rattle.p3l_cert.specs.declared.cert.Row.{Row}
 use Rattle.p3l_cert.specs.Rule.{key, key_of, kept, rule, Follows}
+use Rattle.p3l_base.specs.Memory.{Refused}
 
 -- its claims of the counts, and its rows, are true, and its rows say that no counts are better
 pub record CertHolds (tree : Tree) (costs : Costs) (cert : Cert) : Type 0 where
@@ -75,7 +76,7 @@ cert_fault tree costs cert = or_else (claims_fault tree costs cert) (or_else (ro
 -- a call answered with the first fault, unless out of memory
 abbrev pub Answers : {A : Type 0} → Result A CertRefusal → Option CertRefusal → Type 0
 Answers (Ok v) fault = fault ≡ None
-Answers (Err NoMemory) fault = ⊤
+Answers (Err NoMemory) fault = Refused
 Answers (Err refusal) fault = fault ≡ Some refusal
 
 -- the same, with the test of the counts before all others

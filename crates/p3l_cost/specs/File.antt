@@ -1,5 +1,5 @@
 -- What a cost file says of a tree's modules, over what its text is as TOML.
-use Rattle.std.specs.Prelude.{◌≡◌, ℕ, ℤ, pos, negsuc, ◌+◌, ◌==◌, ◌&&◌, Bool, true, false, nat_le, List, [], ◌∷◌, ◌++◌, Option, Some, None, unwrap_or, Result, Ok, Err, bytes_eq, codes, if◌then◌else◌, IsUtf8, ⊤}
+use Rattle.std.specs.Prelude.{◌≡◌, ℕ, ℤ, pos, negsuc, ◌+◌, ◌==◌, ◌&&◌, Bool, true, false, nat_le, List, [], ◌∷◌, ◌++◌, Option, Some, None, unwrap_or, Result, Ok, Err, bytes_eq, codes, if◌then◌else◌, IsUtf8}
 use Rattle.std.specs.List.{list_any}
 use Rattle.std.specs.Map.{lookup}
 use Rattle.std.specs.Option.{option_map_or}
@@ -17,6 +17,7 @@ use Rattle.p3l_cost.specs.declared.section.Section.{Section}
 use Rattle.p3l_cost.specs.declared.section.Section.TheVariants.{Ticks, Turns}
 use Rattle.p3l_cost.specs.Costs.{most_cost}
 use Rattle.p3l_cost.specs.Standard.{turns_or, full_turns}
+use Rattle.p3l_base.specs.Memory.{Refused}
 
 -- what a rule says
 abbrev pub Verdict : Type 0
@@ -38,7 +39,7 @@ Gives (Err NotToml) meant = ⊥
 Gives (Err (BadKey key)) meant = meant ≡ Err (BadKey key)
 Gives (Err (BadValue key)) meant = meant ≡ Err (BadValue key)
 Gives (Err (Missing name)) meant = meant ≡ Err (Missing name)
-Gives (Err NoMemory) meant = ⊤
+Gives (Err NoMemory) meant = Refused
 
 -- a whole number from `low` to `high`
 abbrev pub natural_in : ℕ → ℕ → ℤ → Option ℕ
@@ -196,7 +197,7 @@ IsNoDocument text NotToml = (document : Members) → IsDocument text document �
 IsNoDocument text (BadKey key) = ⊥
 IsNoDocument text (BadValue key) = ⊥
 IsNoDocument text (Missing name) = ⊥
-IsNoDocument text NoMemory = ⊤
+IsNoDocument text NoMemory = Refused
 
 -- what the text says of the tree
 pub record Says (tree : Tree) (text : List ℕ) (meant : Result Costs CostRefusal) : Type 0 where
@@ -211,4 +212,4 @@ IsRead tree text (Err NotToml) = (document : Members) → IsDocument text docume
 IsRead tree text (Err (BadKey key)) = Says tree text (Err (BadKey key))
 IsRead tree text (Err (BadValue key)) = Says tree text (Err (BadValue key))
 IsRead tree text (Err (Missing name)) = Says tree text (Err (Missing name))
-IsRead tree text (Err NoMemory) = ⊤
+IsRead tree text (Err NoMemory) = Refused

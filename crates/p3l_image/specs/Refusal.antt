@@ -1,5 +1,5 @@
 -- What is reported of bytes that are no image.
-use Rattle.std.specs.Prelude.{◌≡◌, ℕ, ◌-◌, List, [], ◌∷◌, length, slice_index, Result, Ok, Err, ◌==◌, if◌then◌else◌, ⊤}
+use Rattle.std.specs.Prelude.{◌≡◌, ℕ, ◌-◌, List, [], ◌∷◌, length, slice_index, Result, Ok, Err, ◌==◌, if◌then◌else◌}
 use Rattle.std.specs.Int.{w32, from_be_bytes}
 use Rattle.p3l_image.specs.declared.image.Image.{Image}
 use Rattle.p3l_image.specs.declared.image.ImageRefusal.{ImageRefusal}
@@ -7,6 +7,7 @@ use Rattle.p3l_image.specs.declared.image.ImageRefusal.TheVariants as refusals
 use Rattle.p3l_format.specs.declared.fault.Fault.{Fault}
 use Rattle.p3l_format.specs.declared.fault.Cause.{Cause}
 use Rattle.p3l_format.specs.declared.fault.Cause.TheVariants.{Short, Range, More}
+use Rattle.p3l_base.specs.Memory.{Refused}
 
 -- the number in the four bytes after the magic number
 abbrev pub version_at : List ℕ → ℕ
@@ -29,5 +30,5 @@ answer_of bytes (Err fault) = Err (refusal_of bytes fault)
 
 -- a call answered what reading gives, unless out of memory
 abbrev pub Answers : List ℕ → Result Image ImageRefusal → Result Image Fault → Type 0
-Answers bytes (Err refusals.NoMemory) read = ⊤
+Answers bytes (Err refusals.NoMemory) read = Refused
 Answers bytes answer read = answer ≡ answer_of bytes read

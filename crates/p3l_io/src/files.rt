@@ -1,6 +1,6 @@
 // Files by their names.
 
-ghost use Rattle.std.specs.Prelude.{◌≤◌, ℕ, List, Option, length, IfOk};
+ghost use Rattle.std.specs.Prelude.{◌≤◌, ℕ, Bool, List, Option, length, IfOk};
 ghost use Rattle.p3l_io.specs.Causes.{HasReadCause, HasWriteCause, ReadBlames, WriteBlames};
 ghost use Rattle.p3l_io.specs.Content.{Held, Reads, Writes};
 
@@ -18,6 +18,10 @@ pub trait Files {
 
     // the name of the file of the latest call that failed, if one did
     ghost failed: { Self → Option (List ℕ) };
+
+    // whether a call may answer that memory ran out where no request was refused, as an operating
+    // system may
+    ghost may_want: { Bool };
 
     /// The bytes under a name, if there are at most `limit`. A missing file is a fault.
     fn read(&mut self, alloc: Global, name: &str, limit: u64) -> Result<List<u8>, FileFault>

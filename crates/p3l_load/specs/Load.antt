@@ -1,5 +1,5 @@
 -- Which images are loaded, and why others are refused.
-use Rattle.std.specs.Prelude.{◌≡◌, ◌≢◌, ◌≤◌, List, ⊤}
+use Rattle.std.specs.Prelude.{◌≡◌, ◌≢◌, ◌≤◌, List}
 use Rattle.std.specs.List.{All}
 use Rattle.p3l_skel.specs.Counts.{HasLawfulCounts}
 use Rattle.p3l_skel.specs.Lawful.{IsLawfulTree}
@@ -14,6 +14,7 @@ use Rattle.p3l_load.specs.declared.loaded.Loaded.{Loaded}
 use Rattle.p3l_load.specs.declared.loaded.LoadRefusal.{LoadRefusal}
 use Rattle.p3l_load.specs.declared.loaded.LoadRefusal.TheVariants.{CodeUnsafe, NotLinked, TreeWrong, NoMemory}
 use Rattle.p3l_load.specs.Codes.{HasCodes, IsFirstUnsafe}
+use Rattle.p3l_base.specs.Memory.{Refused}
 
 -- the tree, its counts and its codes are lawful together, and the tree has few processes
 pub record IsWhole (image : Image) : Type 0 where
@@ -46,7 +47,7 @@ loaded_of image = record {
 -- why codes aren't sealed
 abbrev pub IsUnsafe : List Code → LoadRefusal → Type 0
 IsUnsafe codes (CodeUnsafe number) = IsFirstUnsafe codes number
-IsUnsafe codes NoMemory = ⊤
+IsUnsafe codes NoMemory = Refused
 IsUnsafe codes _ = ⊥
 
 -- why an image isn't loaded, the first of these
@@ -54,7 +55,7 @@ abbrev pub Refuses : Image → LoadRefusal → Type 0
 Refuses image TreeWrong = ¬ IsWhole image
 Refuses image (CodeUnsafe number) = IsWhole image × IsFirstUnsafe image.codes number
 Refuses image NotLinked = IsWhole image × All IsSafe image.codes × (image.net ≢ net_of image)
-Refuses image NoMemory = ⊤
+Refuses image NoMemory = Refused
 
 -- the image with the net of its tree in place of its own
 abbrev pub migrated_of : Image → Image

@@ -10,6 +10,7 @@ use Rattle.p3l_io.specs.Content.{Held}
 use Rattle.p3l_print.specs.Program.{canonical}
 use Rattle.p3l_program.specs.File.{HasProgram, text_limit}
 use Rattle.p3l_program.specs.Stage.{Stage, readable, spelled}
+use Rattle.p3l_base.specs.Memory.{Refused}
 
 -- the file is read, and its text spells a program
 abbrev pub fmt_stages : List ℕ → List Stage
@@ -35,4 +36,4 @@ pub record IsFaulty (text : List ℕ) (fault : Fault) (pos : Pos) : Type 0 where
 -- why there is no canonical text, unless memory ran out
 abbrev pub HasNoCanonical : List ℕ → SourceRefusal → Type 0
 HasNoCanonical text (source.At fault pos) = IsFaulty text fault pos
-HasNoCanonical text source.NoMemory = Unit {0}
+HasNoCanonical text source.NoMemory = Refused

@@ -17,6 +17,7 @@ use Rattle.p3l_program.specs.Certified.{HasCert, IsCertOf, IsNoCert, IsRefuted, 
 use Rattle.p3l_program.specs.File.{HasText}
 use Rattle.p3l_program.specs.Stage.{FilesCause, Refuses, readable}
 use Rattle.p3l_program.specs.World.{Change, IsCalm}
+use Rattle.p3l_base.specs.Memory.{Refused}
 
 -- a text spells a certificate that holds, so its counts are the best
 pub record AcceptsCert (tree : Tree) (costs : Costs) (text : List ℕ) (cert : Cert) : Type 0 where
@@ -25,7 +26,7 @@ pub record AcceptsCert (tree : Tree) (costs : Costs) (text : List ℕ) (cert : C
 
 -- a text is refused, or memory ran out
 abbrev pub IsCertRefused : Tree → Costs → List ℕ → CertRefusal → Type 0
-IsCertRefused tree costs text refusals.NoMemory = Unit {0}
+IsCertRefused tree costs text refusals.NoMemory = Refused
 IsCertRefused tree costs text refused = IsRefuted tree costs text refused
 
 -- the verdict of this

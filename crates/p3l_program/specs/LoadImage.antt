@@ -20,6 +20,7 @@ use Rattle.p3l_report.specs.declared.verdict.Verdict.{Verdict}
 use Rattle.p3l_report.specs.declared.verdict.Verdict.TheVariants as verdict
 use Rattle.p3l_program.specs.File.{HasText}
 use Rattle.p3l_program.specs.Image.{IsBrokenImage, IsImage, IsNoImage, IsRunnableImage, image_limit}
+use Rattle.p3l_base.specs.Memory.{Refused}
 
 -- the verdict of bytes that are no image
 abbrev pub image_verdict : ImageRefusal → Verdict
@@ -40,13 +41,13 @@ load_verdict load.NoMemory = verdict.NoMemory
 -- why bytes are no image
 abbrev pub IsUndecoded : List ℕ → Verdict → Type 0
 IsUndecoded bytes (verdict.Refused (refusal.Evidence e)) = IsNoImage e bytes
-IsUndecoded bytes verdict.NoMemory = Unit {0}
+IsUndecoded bytes verdict.NoMemory = Refused
 IsUndecoded bytes v = ⊥
 
 -- why they load none
 abbrev pub IsUnloadable : List ℕ → Verdict → Type 0
 IsUnloadable bytes (verdict.Refused (refusal.Evidence e)) = IsNoImage e bytes ⊎ IsBrokenImage e bytes
-IsUnloadable bytes verdict.NoMemory = Unit {0}
+IsUnloadable bytes verdict.NoMemory = Refused
 IsUnloadable bytes v = ⊥
 
 -- what was loaded can be run: its tree and counts are lawful, each `seq` module has its code, and the net is that of the tree

@@ -49,6 +49,7 @@ use Rattle.p3l_program.specs.File.{HasText, text_limit}
 use Rattle.p3l_program.specs.Image.{IsRunnableImage, image_limit}
 use Rattle.p3l_program.specs.Origin.{Origin, built, continued, imaged, scanned}
 use Rattle.p3l_program.specs.Snapshot.{IsResumable, snapshot_limit, units_in}
+use Rattle.p3l_base.specs.Memory.{Refused}
 
 -- the text spells a program that keeps all rules, with this tree and these bodies
 pub record IsAccepted (text : List ℕ) (r : ResolvedTree) : Type 0 where
@@ -95,7 +96,7 @@ pub record ComesTo (text : List ℕ) (r : ResolvedTree) (program : Accepted) : T
 -- a text is refused for a fault, or memory ran out
 abbrev pub IsTextRefused : List ℕ → SourceRefusal → Type 0
 IsTextRefused text (source.At fault pos) = IsNotAccepted text fault pos
-IsTextRefused text source.NoMemory = Unit {0}
+IsTextRefused text source.NoMemory = Refused
 
 -- the text of costs, where a file of costs is named
 abbrev pub HasCostText : Option Held → Option (List ℕ) → Option (List ℕ) → Type 0

@@ -17,6 +17,7 @@ use Rattle.p3l_lexer.specs.declared.token.Token.{Token}
 use Rattle.p3l_grammar.specs.Symbol.{symbols}
 use Rattle.p3l_grammar.specs.Limits.{at_rest, IsWithin}
 use Rattle.p3l_grammar.specs.Grammar.{Derives, IsViable, IsFaultOf, IsFirstFault}
+use Rattle.p3l_base.specs.Memory.{Refused}
 
 -- the fault of a token with which no program goes on
 abbrev pub own_fault : Lexeme → Fault
@@ -48,23 +49,23 @@ pub record IsFirstIn (tokens : List Token) (end : Pos) (fault : Fault) (at : Pos
   pub wrong : IsWrongBefore before after end fault at
 
 abbrev pub IsFaultIn : List Token → Pos → SourceRefusal → Type 0
-IsFaultIn tokens end NoMemory = Unit {0}
+IsFaultIn tokens end NoMemory = Refused
 IsFaultIn tokens end (At fault at) = IsFirstIn tokens end fault at
 
 -- the same, where the fault is at the last token or before it
 abbrev pub IsLastFault : List Token → Pos → SourceRefusal → Type 0
-IsLastFault tokens end NoMemory = Unit {0}
+IsLastFault tokens end NoMemory = Refused
 IsLastFault tokens end (At fault at) = (f : IsFirstIn tokens end fault at) × (0 < length f.after)
 
 -- what is derived is what was read, unless memory ran out
 abbrev pub IsOnlyList : List EntryTree → Result (lists.List Entry) SourceRefusal → Type 0
 IsOnlyList entries (Ok list) = map entry_tree list ≡ entries
-IsOnlyList entries (Err NoMemory) = Unit {0}
+IsOnlyList entries (Err NoMemory) = Refused
 IsOnlyList entries (Err (At fault at)) = ⊥
 
 abbrev pub IsOnly : ProgramTree → Result Program SourceRefusal → Type 0
 IsOnly program (Ok p) = program_tree p ≡ program
-IsOnly program (Err NoMemory) = Unit {0}
+IsOnly program (Err NoMemory) = Refused
 IsOnly program (Err (At fault at)) = ⊥
 
 -- the refusal of a text of more than 1,048,576 bytes
@@ -73,5 +74,5 @@ too_long = At SourceTooLong (record { line = 1; col = 1 })
 
 -- a refusal names the first fault, unless the text is too long or memory ran out
 abbrev pub IsRefusal : List ℕ → SourceRefusal → Type 0
-IsRefusal bytes NoMemory = Unit {0}
+IsRefusal bytes NoMemory = Refused
 IsRefusal bytes (At fault at) = length bytes ≤ 1048576 → IsFirstFault bytes fault at

@@ -15,6 +15,7 @@ use Rattle.p3l_grammar.specs.Symbol.{Symbol, word, digits, sign, symbol}
 use Rattle.p3l_grammar.specs.Parser.{Parser, entries, await, any_word, operand, another_index, value, another_stmt, Hole, after_unary, need, setting, if_from, end_of, infix_of, all}
 use Rattle.p3l_reader.specs.declared.refusal.Refusal.{Refusal}
 use Rattle.p3l_reader.specs.declared.refusal.Refusal.TheVariants.{NoMemory, Expected}
+use Rattle.p3l_base.specs.Memory.{Refused}
 
 -- the tokens are one that is seen so, and then the rest
 pub record Begins (tokens : List Token) (first : Symbol) (rest : List Token) : Type 0 where
@@ -78,12 +79,12 @@ pub record Reads {A : Type 0} (from : (A → Parser) → Parser) (tokens : List 
 
 -- whatever goes on after an A, the tokens are refused where this number of them is left
 abbrev pub Fails : {A : Type 0} → ((A → Parser) → Parser) → List Token → Refusal → Type 0
-Fails from tokens NoMemory = Unit {0}
+Fails from tokens NoMemory = Refused
 Fails from tokens (Expected left) = (go : _) → all (from go) tokens ≡ Err left
 
 -- the mark is refused
 abbrev pub NotThere : Mark → List Token → Refusal → Type 0
-NotThere m tokens NoMemory = Unit {0}
+NotThere m tokens NoMemory = Refused
 NotThere m tokens (Expected left) = NotNext m tokens × (left ≡ length tokens)
 
 -- Lists: what may come again and again.
@@ -98,7 +99,7 @@ pub record Leaves {A : Type 0} (list : List A → (List A → Parser) → Parser
 
 -- one more A is begun, and refused where this number of tokens is left
 abbrev pub Misses : {A : Type 0} → (List A → (List A → Parser) → Parser) → List Token → Refusal → Type 0
-Misses list tokens NoMemory = Unit {0}
+Misses list tokens NoMemory = Refused
 Misses list tokens (Expected left) = (xs : _) (go : _) → all (list xs go) tokens ≡ Err left
 
 -- things with commas between them, one at least, and the same in parentheses
@@ -115,7 +116,7 @@ pub record Closes (kind : Kind) (tokens rest : List Token) : Type 0 where
   pub goes : (s : Parser) → all (end_of kind s) tokens ≡ all s rest
 
 abbrev pub FailsEnd : Kind → List Token → Refusal → Type 0
-FailsEnd kind tokens NoMemory = Unit {0}
+FailsEnd kind tokens NoMemory = Refused
 FailsEnd kind tokens (Expected left) = (s : Parser) → all (end_of kind s) tokens ≡ Err left
 
 -- Expressions.
@@ -147,7 +148,7 @@ pub record Follows (n : ℕ) (tokens : List Token) (e : Phrase) (rest : List Tok
 
 -- there they are refused where this number of them is left
 abbrev pub FailsAt : ℕ → List Token → Refusal → Type 0
-FailsAt n tokens NoMemory = Unit {0}
+FailsAt n tokens NoMemory = Refused
 FailsAt n tokens (Expected left) = (h : Hole) → need h ≤ n → all (operand h) tokens ≡ Err left
 
 -- the same after an operator before its operand
@@ -156,7 +157,7 @@ pub record FollowsUnary (o : UnOp) (tokens : List Token) (e : Phrase) (rest : Li
   pub shorter : length rest < length tokens
 
 abbrev pub FailsUnary : UnOp → List Token → Refusal → Type 0
-FailsUnary o tokens NoMemory = Unit {0}
+FailsUnary o tokens NoMemory = Refused
 FailsUnary o tokens (Expected left) = (h : Hole) → all (operand (after_unary o h)) tokens ≡ Err left
 
 -- the tokens are one more index, and then the rest
@@ -167,7 +168,7 @@ pub record LeavesIndex (tokens : List Token) : Type 0 where
   pub goes : (is : Phrases) (go : Phrases → Parser) → all (another_index is go) tokens ≡ all (go is) tokens
 
 abbrev pub MissesIndex : List Token → Refusal → Type 0
-MissesIndex tokens NoMemory = Unit {0}
+MissesIndex tokens NoMemory = Refused
 MissesIndex tokens (Expected left) = (is : Phrases) (go : Phrases → Parser) → all (another_index is go) tokens ≡ Err left
 
 -- Statements.
@@ -177,7 +178,7 @@ pub record Targets (tokens : List Token) (x : Spot) (is : Phrases) (rest : List 
   pub goes : (go : Spot → Phrases → Parser) → all (any_word (λ y. another_index none (go y))) tokens ≡ all (go x is) rest
 
 abbrev pub FailsTarget : List Token → Refusal → Type 0
-FailsTarget tokens NoMemory = Unit {0}
+FailsTarget tokens NoMemory = Refused
 FailsTarget tokens (Expected left) = (go : Spot → Phrases → Parser) → all (any_word (λ y. another_index none (go y))) tokens ≡ Err left
 
 -- the tokens are an assignment up to a mark, and then the rest
@@ -185,7 +186,7 @@ pub record Sets (m : Mark) (tokens : List Token) (x : Spot) (is : Phrases) (e : 
   pub goes : (go : Spot → Phrases → Phrase → Parser) → all (setting (λ y js f. await m (go y js f))) tokens ≡ all (go x is e) rest
 
 abbrev pub FailsSetting : Mark → List Token → Refusal → Type 0
-FailsSetting m tokens NoMemory = Unit {0}
+FailsSetting m tokens NoMemory = Refused
 FailsSetting m tokens (Expected left) = (go : Spot → Phrases → Phrase → Parser) → all (setting (λ y js f. await m (go y js f))) tokens ≡ Err left
 
 -- the tokens are one more statement, and then the rest
@@ -196,7 +197,7 @@ pub record LeavesStmts (tokens : List Token) : Type 0 where
   pub goes : (c : Statements) (go : Statements → Parser) → all (another_stmt c go) tokens ≡ all (go c) tokens
 
 abbrev pub MissesStmt : List Token → Refusal → Type 0
-MissesStmt tokens NoMemory = Unit {0}
+MissesStmt tokens NoMemory = Refused
 MissesStmt tokens (Expected left) = (c : Statements) (go : Statements → Parser) → all (another_stmt c go) tokens ≡ Err left
 
 -- after an `if` the tokens are the rest of the choice, and then the rest
@@ -204,7 +205,7 @@ pub record FollowsIf (tokens : List Token) (d : Statements) (rest : List Token) 
   pub goes : (c : Statements) (go : Statements → Parser) → all (if_from c go) tokens ≡ all (another_stmt (join c d) go) rest
 
 abbrev pub FailsIf : List Token → Refusal → Type 0
-FailsIf tokens NoMemory = Unit {0}
+FailsIf tokens NoMemory = Refused
 FailsIf tokens (Expected left) = (c : Statements) (go : Statements → Parser) → all (if_from c go) tokens ≡ Err left
 
 -- Entries.
@@ -213,10 +214,10 @@ pub record AddsEntry (tokens : List Token) (e : EntryTree) (rest : List Token) :
   pub goes : (es : List EntryTree) → all (entries es) tokens ≡ all (entries (es ++ e ∷ [])) rest
 
 abbrev pub MissesEntry : List Token → Refusal → Type 0
-MissesEntry tokens NoMemory = Unit {0}
+MissesEntry tokens NoMemory = Refused
 MissesEntry tokens (Expected left) = (es : List EntryTree) → all (entries es) tokens ≡ Err left
 
 -- the text is refused where this number of tokens is left
 abbrev pub FailsText : List Token → Refusal → Type 0
-FailsText tokens NoMemory = Unit {0}
+FailsText tokens NoMemory = Refused
 FailsText tokens (Expected left) = all (entries []) tokens ≡ Err left

@@ -5,7 +5,8 @@ ghost use Rattle.p3l_refusal.specs.Memory.{Refused};
 
 use std::alloc::{AllocError, AllocFailed};
 
-/// Out of memory: the one answer that no clause ties to a cause.
+/// Out of memory. Every contract that ends with it says that a request for memory was refused, and only
+/// the two conversions of std's errors below conclude this.
 #[derive(Clone, Copy, Debug, Drop, PartialEq, Eq)]
 pub struct NoMemory;
 
@@ -25,7 +26,7 @@ impl From<AllocError> for NoMemory {
     }
 }
 
-/// A value that was not stored, and the want of memory for it.
+/// A value that was not stored, and the refusal of the memory for it.
 pub fn parted<T>(failed: AllocFailed<T>) -> (T, NoMemory)
     ensures value { result.0 ≡ failed.value }
     ensures refused { Refused }

@@ -5,6 +5,7 @@ use Rattle.std.specs.List.{list_all}
 use Rattle.std.specs.Str.Parse.{digits_value}
 use Rattle.p3l_sched.specs.declared.refusal.PickRefusal.{PickRefusal}
 use Rattle.p3l_sched.specs.declared.refusal.PickRefusal.TheVariants as refusal
+use Rattle.p3l_base.specs.Memory.{Refused}
 
 -- spaces, tabs, carriage returns and line feeds separate words
 abbrev pub is_gap : ℕ → Bool
@@ -85,6 +86,6 @@ pub record IsFirstRefused (text : List ℕ) (count : ℕ) (refused : PickRefusal
 -- all words are picks, and these; or the first that is none is refused
 abbrev pub Reads : List ℕ → ℕ → Result (List ℕ) PickRefusal → Type 0
 Reads text count (Ok picks) = (last : ℕ) × (rest : List ℕ) × AreRead count 1 text picks last rest × AreGap rest
-Reads text count (Err refusal.NoMemory) = Unit {0}
+Reads text count (Err refusal.NoMemory) = Refused
 Reads text count (Err (refusal.BadPick line)) = IsFirstRefused text count (refusal.BadPick line)
 Reads text count (Err (refusal.NoSuchProcess line pick of_count)) = IsFirstRefused text count (refusal.NoSuchProcess line pick of_count)

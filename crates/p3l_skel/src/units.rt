@@ -1,7 +1,7 @@
 // The nodes that run in one process.
 
-ghost use Rattle.std.specs.Prelude.{◌≡◌};
-ghost use Rattle.p3l_base.specs.Memory.{IfGiven};
+ghost use Rattle.std.specs.Prelude.{◌≡◌, Bool, true};
+ghost use Rattle.p3l_base.specs.Memory.{IfGivenOr};
 
 use p3l_base::{NoMemory, Outcome, Words};
 use std::alloc::Global;
@@ -23,13 +23,17 @@ pub trait Units {
     /// What the `seq` module of a number makes of an item's words.
     ghost leaf: { Self → ℕ → List ℤ → Outcome };
 
+    /// Whether `run` may say that memory ran out where no request was refused. Tables of compiled bodies
+    /// never do.
+    ghost may_want: { Bool };
+
     /// Runs a sequential node on the words of an item; a reduce node folds as many elements as
     /// the words hold.
     fn run(&self, alloc: Global, node: u32, words: &Words) -> Result<Outcome, NoMemory>
         requires sequential { IsUnit (tree self.now) node }
         requires fits { HasFittingLength (tree self.now) node (length words.now) }
-        ensures { IfGiven result (λ outcome. outcome
-            ≡ item (tree self.now) (leaf self.now) node words.now) };
+        ensures { IfGivenOr result (λ outcome. outcome
+            ≡ item (tree self.now) (leaf self.now) node words.now) (may_want ≡ true) };
 
     /// A value that a `seq` module gives has the out words of the module's nodes.
     ghost gives_outs: { (units : Self) → GivesOuts (tree units) (leaf units) };

@@ -1,9 +1,10 @@
 -- What rules say of a source text: that they are kept, or a fault and its place.
-use Rattle.std.specs.Prelude.{◌≡◌, Bool, List, [], ◌∷◌, Result, Ok, Err, if◌then◌else◌, ⊤}
+use Rattle.std.specs.Prelude.{◌≡◌, Bool, List, [], ◌∷◌, Result, Ok, Err, if◌then◌else◌}
 use Rattle.p3l_ast.specs.declared.position.Pos.{Pos}
 use Rattle.p3l_ast.specs.declared.refusal.Fault.{Fault}
 use Rattle.p3l_ast.specs.declared.refusal.SourceRefusal.{SourceRefusal}
 use Rattle.p3l_ast.specs.declared.refusal.SourceRefusal.TheVariants.{At, NoMemory}
+use Rattle.p3l_base.specs.Memory.{Refused}
 
 -- what a rule says
 abbrev pub Verdict : Type 0
@@ -29,5 +30,5 @@ given (Err refusal) go = Err refusal
 -- an answer is what is meant, value or refusal, unless out of memory
 abbrev pub Gives : {A : Type 0} → Result A SourceRefusal → Result A SourceRefusal → Type 0
 Gives (Ok x) meant = meant ≡ Ok x
-Gives (Err NoMemory) meant = ⊤
+Gives (Err NoMemory) meant = Refused
 Gives (Err (At fault pos)) meant = meant ≡ Err (At fault pos)

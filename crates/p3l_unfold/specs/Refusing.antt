@@ -1,5 +1,5 @@
 -- Why a module has no lawful tree.
-use Rattle.std.specs.Prelude.{◌≡◌, ℕ, ◌+◌, ◌<◌, ◌≤◌, Bool, true, false, List, length, ⊤}
+use Rattle.std.specs.Prelude.{◌≡◌, ℕ, ◌+◌, ◌<◌, ◌≤◌, Bool, true, false, List, length}
 use Rattle.std.specs.List.{list_all}
 use Rattle.p3l_skel.specs.declared.tree.ModuleInfo.{ModuleInfo}
 use Rattle.p3l_skel.specs.declared.tree.Tree.{Tree}
@@ -11,6 +11,7 @@ use Rattle.p3l_unfold.specs.declared.unfolding.UnfoldRefusal.{UnfoldRefusal}
 use Rattle.p3l_unfold.specs.declared.unfolding.UnfoldRefusal.TheVariants.{TooDeep, TooManyInstances, TooHeavy, NoMemory}
 use Rattle.p3l_unfold.specs.Wiring.{module_at}
 use Rattle.p3l_unfold.specs.Unfolding.{instance, tree_of}
+use Rattle.p3l_base.specs.Memory.{Refused}
 
 -- whether the instances in an instance of a module are nested no deeper than this, itself counting
 -- as one level
@@ -22,7 +23,7 @@ abbrev pub IsCutShort : List Wired → ℕ → ℕ → ℕ → UnfoldRefusal →
 IsCutShort wired levels k at TooDeep = ⊥
 IsCutShort wired levels k at TooManyInstances = 128 < at + length (instance wired levels k at)
 IsCutShort wired levels k at TooHeavy = ⊥
-IsCutShort wired levels k at NoMemory = ⊤
+IsCutShort wired levels k at NoMemory = Refused
 
 -- the tree of a module: its nesting, its instances and its work are within the limits
 pub record IsUnfolded (infos : List ModuleInfo) (wired : List Wired) (root : ℕ) (tree : Tree) : Type 0 where
@@ -37,4 +38,4 @@ IsRefused infos wired root TooManyInstances =
     (is_nested_within wired nesting root ≡ true) × (128 < length (instance wired nesting root 0))
 IsRefused infos wired root TooHeavy =
     (is_nested_within wired nesting root ≡ true) × (length (instance wired nesting root 0) ≤ 128) × (IsLight (tree_of infos wired root) → ⊥)
-IsRefused infos wired root NoMemory = ⊤
+IsRefused infos wired root NoMemory = Refused
