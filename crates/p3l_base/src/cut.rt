@@ -7,9 +7,9 @@ ghost use Rattle.p3l_base.specs.Slice.{cut_size, taken_size};
 ghost use Rattle.p3l_base.specs.Cut.{element_size, element_count, HasIndexSize, HasLawfulOuts, next_first, next_second, next_place, array_words, result_word, joined_words};
 
 use crate::list::List;
-use p3l_refusal::NoMemory;
 use crate::slice::{Dim, Place, Slice};
 use crate::words::Words;
+use p3l_refusal::NoMemory;
 use std::alloc::Global;
 
 /// How a map cuts its token into elements: the sizes of the two free indices, the slices whose

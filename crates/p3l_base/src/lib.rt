@@ -12,8 +12,8 @@ pub mod words;
 
 pub use cut::{Cut, cut_len, join};
 pub use list::List;
-pub use p3l_refusal::NoMemory;
 pub use name::Name;
 pub use outcome::{Outcome, Trap, TrapKind};
+pub use p3l_refusal::NoMemory;
 pub use slice::{Dim, Place, Slice, array_len, cut_at};
 pub use words::Words;

@@ -6,8 +6,8 @@ ghost use Rattle.std.specs.List.{range_with_len};
 ghost use Rattle.p3l_base.specs.Slice.{array_size, cut_size, taken_indices, cut_places, words_at, cut_words, LiesWithin, IsBelowSize, AreFreeIndices};
 
 use crate::list::List;
-use p3l_refusal::NoMemory;
 use crate::words::Words;
+use p3l_refusal::NoMemory;
 use std::alloc::Global;
 
 /// What a dimension of an array is in a slice.

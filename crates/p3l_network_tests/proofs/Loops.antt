@@ -1,6 +1,6 @@
 -- The loop, as it is built, and what its nodes make of words.
 use Rattle.std.proofs.Common.{◌≡◌, ℕ, ℤ, List, [], ◌∷◌, ◌++◌, Result, IfOk, sym, subst, None}
-use Rattle.p3l_base.specs.declared.memory.NoMemory.{NoMemory}
+use Rattle.p3l_base.specs.declared.NoMemory.{NoMemory}
 use Rattle.p3l_base.specs.declared.outcome.Outcome.{Outcome}
 use Rattle.p3l_skel.specs.Item.{item, item_to}
 use Rattle.p3l_skel.specs.Tree.{by_parts}

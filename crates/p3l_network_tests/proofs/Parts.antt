@@ -1,6 +1,6 @@
 -- The trees of a root with one part, as they are built, and what their nodes make of words.
 use Rattle.std.proofs.Common.{◌≡◌, ℕ, ℤ, pos, zero, suc, ◌-ℤ◌, List, [], ◌∷◌, ◌++◌, length, get_or, Result, IfOk, refl, sym, subst, arith, None}
-use Rattle.p3l_base.specs.declared.memory.NoMemory.{NoMemory}
+use Rattle.p3l_base.specs.declared.NoMemory.{NoMemory}
 use Rattle.p3l_base.specs.declared.outcome.Outcome.{Outcome}
 use Rattle.p3l_base.specs.declared.outcome.Outcome.TheVariants.{Value, Trapped}
 use Rattle.p3l_base.specs.declared.outcome.TrapKind.TheVariants.{DivZero}

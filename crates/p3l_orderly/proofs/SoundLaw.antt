@@ -1,7 +1,7 @@
 -- A shot is sound where it fits and is orderly.
 use Rattle.std.proofs.Common.{◌≡◌, ◌↔◌, ℕ, false, Bool, IsTrue, List, length, Result, Ok, Err, sym, ◌∙◌}
 use Rattle.std.specs.Result.{IfOk}
-use Rattle.p3l_base.specs.declared.memory.NoMemory.{NoMemory}
+use Rattle.p3l_base.specs.declared.NoMemory.{NoMemory}
 use Rattle.p3l_skel.specs.declared.tree.Tree.{Tree}
 use Rattle.p3l_firing.specs.Nodes.{Leaf}
 use Rattle.p3l_firing.specs.declared.net.Net.{Net}

@@ -1,6 +1,6 @@
 -- Runs under recorded picks that end at a checkpoint, where what is in them is saved.
 use Rattle.std.specs.Prelude.{◌≡◌, ◌≢◌, ℕ, ℤ, ◌<◌, List, [], ◌∷◌, ◌++◌, ◌⊎◌, true, false, length, Option, Some, None, Result, Ok, Err}
-use Rattle.p3l_base.specs.declared.memory.NoMemory.{NoMemory}
+use Rattle.p3l_base.specs.declared.NoMemory.{NoMemory}
 use Rattle.p3l_base.specs.declared.outcome.Outcome.{Outcome}
 use Rattle.p3l_firing.specs.Token.{has_trap}
 use Rattle.p3l_net.specs.Carried.{HaveInWords}

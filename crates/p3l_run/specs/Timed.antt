@@ -1,6 +1,6 @@
 -- A run whose picks a timer makes: it is the run under these picks, as if they had been recorded.
 use Rattle.std.specs.Prelude.{◌≡◌, ◌≢◌, ℕ, ℤ, ◌+◌, ◌<◌, true, false, Bool, List, [], ◌++◌, length, Option, None, Result, Ok, Err, slice_index}
-use Rattle.p3l_base.specs.declared.memory.NoMemory.{NoMemory}
+use Rattle.p3l_base.specs.declared.NoMemory.{NoMemory}
 use Rattle.p3l_firing.specs.Nodes.{Leaf}
 use Rattle.p3l_net.specs.Machine.{Seen}
 use Rattle.p3l_skel.specs.declared.tree.Tree.{Tree}

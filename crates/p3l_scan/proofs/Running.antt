@@ -2,7 +2,7 @@
 use Rattle.std.proofs.Common.{◌≡◌, ℕ, ℤ, zero, suc, ◌+◌, ◌-◌, ◌*◌, ◌/◌, ◌^◌, ◌<◌, ◌≤◌, Result, Ok, Err, IfOk, List, [], ◌++◌, take, drop, length, map, refl, arith, ap, sym, ◌∙◌, length-take, length-drop}
 use Rattle.std.proofs.Math.Nat.{add-mul, mul_assoc, suc-mul}
 use Rattle.std.proofs.lemmas.List.{take-append-drop}
-use Rattle.p3l_base.specs.declared.memory.NoMemory.{NoMemory}
+use Rattle.p3l_base.specs.declared.NoMemory.{NoMemory}
 use Rattle.p3l_base.specs.declared.outcome.Outcome.{Outcome}
 use Rattle.p3l_base.specs.declared.outcome.Outcome.TheVariants.{Value, Trapped}
 use Rattle.p3l_skel.specs.Fold.{combined}

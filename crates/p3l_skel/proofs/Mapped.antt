@@ -7,7 +7,7 @@ use Rattle.p3l_base.proofs.Pieces.{range_append}
 use Rattle.p3l_base.specs.declared.outcome.Outcome.{Outcome}
 use Rattle.p3l_base.specs.declared.outcome.Outcome.TheVariants.{Value, Trapped}
 use Rattle.p3l_base.specs.declared.outcome.Trap.{Trap}
-use Rattle.p3l_base.specs.declared.memory.NoMemory.{NoMemory}
+use Rattle.p3l_base.specs.declared.NoMemory.{NoMemory}
 use Rattle.p3l_skel.specs.Tree.{HasLength}
 use Rattle.p3l_skel.specs.Fold.{combined, tree_fold}
 use Rattle.p3l_skel.specs.Item.{on_value, gathered}

@@ -1,6 +1,6 @@
 -- Lines at hand, before pieces are taken.
 use Rattle.std.proofs.Common.{◌≡◌, ◌≢◌, ℕ, ◌+◌, ◌<◌, ◌≤◌, true, false, List, [], ◌∷◌, ◌++◌, length, Option, Result, Ok, Err, refl, ap, sym, ◌∙◌, inl, arith, append_assoc, append-nil, length-append}
-use Rattle.p3l_base.specs.declared.memory.NoMemory.{NoMemory}
+use Rattle.p3l_base.specs.declared.NoMemory.{NoMemory}
 use Rattle.p3l_stream.specs.declared.line.Line.{Line}
 use Rattle.p3l_stream.specs.declared.line.Line.TheVariants as line
 use Rattle.p3l_stream.specs.declared.next.Next.{Next}

@@ -1,7 +1,7 @@
 -- A piece that was taken.
 use Rattle.std.proofs.Common.{◌≡◌, ◌+◌, ◌≤◌, ℕ, List, ◌∙◌, Bool, true, false, Option, Result, Ok, Err, sym, take, length, ap₂, arith, length-take, refl}
 use Rattle.std.specs.Result.{IsErr}
-use Rattle.p3l_base.specs.declared.memory.NoMemory.{NoMemory}
+use Rattle.p3l_base.specs.declared.NoMemory.{NoMemory}
 use Rattle.p3l_io.specs.declared.fault.Failed.{Failed}
 use Rattle.p3l_io.specs.Content.{Takes}
 use Rattle.p3l_stream.specs.Passing.{RequestsOnce, TakesPiece}

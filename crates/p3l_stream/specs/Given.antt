@@ -1,7 +1,7 @@
 -- What a stream has answered of the bytes that it took.
 use Rattle.std.specs.Prelude.{◌≡◌, ℕ, ℤ, ◌+◌, ◌<◌, ◌≤◌, Bool, true, false, List, [], ◌∷◌, ◌++◌, length, Option, Some, None, Result, Ok, Err}
 use Rattle.std.specs.List.{AllByRecursion}
-use Rattle.p3l_base.specs.declared.memory.NoMemory.{NoMemory}
+use Rattle.p3l_base.specs.declared.NoMemory.{NoMemory}
 use Rattle.p3l_io.specs.Causes.{Rose}
 use Rattle.p3l_stream.specs.declared.items.Ending.{Ending}
 use Rattle.p3l_stream.specs.declared.items.Ending.TheVariants as ending

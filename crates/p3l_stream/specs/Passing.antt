@@ -1,6 +1,6 @@
 -- How the bytes at hand are gone through, line by line.
 use Rattle.std.specs.Prelude.{◌≡◌, ◌≢◌, ℕ, ◌+◌, ◌<◌, ◌≤◌, true, List, [], ◌∷◌, ◌++◌, ◌⊎◌, length, Option, Some, None, Result, Ok, Err}
-use Rattle.p3l_base.specs.declared.memory.NoMemory.{NoMemory}
+use Rattle.p3l_base.specs.declared.NoMemory.{NoMemory}
 use Rattle.p3l_io.specs.declared.fault.Failed.{Failed}
 use Rattle.p3l_stream.specs.declared.line.Line.{Line}
 use Rattle.p3l_stream.specs.declared.line.Line.TheVariants as line

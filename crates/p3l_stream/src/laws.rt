@@ -2,7 +2,7 @@
 // nothing.
 
 ghost use Rattle.std.specs.Prelude.{◌≡◌, ◌≤◌, ℕ, ℤ, List, [], ◌++◌, Option, None, Ok, Result, length};
-ghost use Rattle.p3l_base.specs.declared.memory.NoMemory.{NoMemory};
+ghost use Rattle.p3l_base.specs.declared.NoMemory.{NoMemory};
 ghost use Rattle.p3l_stream.specs.declared.next.Next.{Next};
 ghost use Rattle.p3l_stream.specs.declared.next.Next.TheVariants as next;
 ghost use Rattle.p3l_stream.specs.Answers.{Answers};

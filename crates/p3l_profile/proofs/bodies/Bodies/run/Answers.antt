@@ -1,5 +1,5 @@
 use Rattle.std.proofs.Common.{◌≡◌, ◌<◌, Some, Result, Ok, Err, length, IfOk, sym, ap, ◌∙◌, subst}
-use Rattle.p3l_base.specs.declared.memory.NoMemory.{NoMemory}
+use Rattle.p3l_base.specs.declared.NoMemory.{NoMemory}
 use Rattle.p3l_skel.specs.declared.tree.Form.TheVariants as forms
 use Rattle.p3l_skel.specs.declared.tree.Node.{Node}
 use Rattle.p3l_skel.specs.Tree.{node_at}
