@@ -12,7 +12,7 @@ use Rattle.p3l_load.specs.Compiled.{IsImageText, image_of}
 use Rattle.p3l_load.specs.Load.{loaded_of}
 use Rattle.p3l_net.specs.Machine.{Seen}
 use Rattle.p3l_net.specs.Offered.{Follows}
-use Rattle.p3l_net.specs.Outcomes.{IsPrefixOf}
+use Rattle.p3l_firing.specs.Outcomes.{IsPrefixOf}
 use Rattle.p3l_net.specs.Shot.{shot_of}
 use Rattle.p3l_net.specs.declared.shot.Shot.{Shot}
 use Rattle.p3l_opts.specs.declared.command.Build.{Build}
