@@ -19,8 +19,8 @@ use Rattle.p3l_firing.specs.Outcomes.{IsPrefixOf, up_to_first_trap}
 use Rattle.p3l_firing.specs.Run.{course_from}
 use Rattle.p3l_net.specs.Shot.{restored}
 use Rattle.p3l_firing.specs.State.{first_state, with_rest}
-use Rattle.p3l_sched.specs.resumption.Orderly as resumption
-use Rattle.p3l_sched.proofs.OrderlyLaw.{IsKeptFrom, few_firings, kept_begins, kept_finished, kept_run}
+use Rattle.p3l_firing.specs.Orderly as resumption
+use Rattle.p3l_firing.proofs.OrderlyLaw.{IsKeptFrom, few_firings, kept_begins, kept_finished, kept_run}
 use Rattle.p3l_skel.specs.Item.{item, meaning}
 use Rattle.p3l_skel.specs.declared.tree.Tree.{Tree}
 use Rattle.p3l_run.specs.Network.{IsSound, Network, begun_with, course_under, meaning_of, most_firings}

@@ -1,5 +1,5 @@
 use Rattle.p3l_sched.proofs.PicksLaw.{made_enough, made_stuck}
-use Rattle.p3l_sched.proofs.resumption.picks.picks_that_are_made_lead_to_the_end.Goals as goal
+use Rattle.p3l_sched.proofs.laws.picks_that_are_made_lead_to_the_end.Goals as goal
 
 pub returns-clause-ends : goal.returns-clause-ends
 returns-clause-ends c = λ tree leaf net firings carry s way most laws orderly made enough.
