@@ -16,19 +16,19 @@ use p3l_base::{Name, NoMemory};
 use std::alloc::Global;
 
 /// The most processors that a program can be given.
-const MOST_PROCESSORS: u32 = 512;
+pub(crate) const MOST_PROCESSORS: u32 = 512;
 
 /// The most segments that a list can be scanned in.
-const MOST_SEGMENTS: u32 = 512;
+pub(crate) const MOST_SEGMENTS: u32 = 512;
 
 /// The greatest capacity of channels that can be requested.
-const MOST_CAPACITY: u32 = 1024;
+pub(crate) const MOST_CAPACITY: u32 = 1024;
 
 /// How many tokens a channel holds at most where the words don't say it.
 pub(crate) const DEFAULT_CAPACITY: u32 = 4;
 
 /// The most items that can be generated.
-const MOST_ITEMS: u32 = 100_000;
+pub(crate) const MOST_ITEMS: u32 = 100_000;
 
 /// How many items are generated where the words don't say it.
 const DEFAULT_ITEMS: u32 = 1000;
