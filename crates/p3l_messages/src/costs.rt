@@ -1,5 +1,8 @@
 // Messages on a file of costs that is refused.
 
+ghost use Rattle.std.specs.Prelude.{OnErr};
+ghost use Rattle.p3l_base.specs.Memory.{Refused};
+
 use crate::place::{Style, line_of, put_line, put_place};
 use p3l_base::NoMemory;
 use std::alloc::Global;
@@ -12,7 +15,9 @@ pub(crate) fn put_key(
     file: &str,
     text: &[u8],
     key: &str,
-) -> Result<(), NoMemory> {
+) -> Result<(), NoMemory>
+    ensures { OnErr result Refused }
+{
     let Some(row) = row_of(alloc, text, key)? else {
         return Ok(());
     };
@@ -25,7 +30,9 @@ pub(crate) fn put_key(
 
 /// The number of the line that has a key, counted from 1: that of its last part, in its own section
 /// where the key names one, or else the first line or section of this name.
-fn row_of(alloc: Global, text: &[u8], key: &str) -> Result<Option<u32>, NoMemory> {
+fn row_of(alloc: Global, text: &[u8], key: &str) -> Result<Option<u32>, NoMemory>
+    ensures { OnErr result Refused }
+{
     let text = String::from_utf8_lossy(alloc, text)?;
     let (section, last) = match key.rsplit_once(".") {
         Some((section, last)) => (section, last),

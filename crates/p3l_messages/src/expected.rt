@@ -1,5 +1,8 @@
 // The tokens with which a program could go on.
 
+ghost use Rattle.std.specs.Prelude.{OnErr};
+ghost use Rattle.p3l_base.specs.Memory.{Refused};
+
 use crate::place::put_safely;
 use p3l_ast::{Fault, Pos, SourceRefusal};
 use p3l_base::NoMemory;
@@ -58,7 +61,9 @@ pub(crate) fn put_expected(
     text: &[u8],
     row: u32,
     column: u32,
-) -> Result<(), NoMemory> {
+) -> Result<(), NoMemory>
+    ensures { OnErr result Refused }
+{
     let Some(at) = offset_of(text, row, column) else {
         return Ok(());
     };
@@ -84,7 +89,9 @@ fn put_candidates(
     message: &mut String,
     before: &[u8],
     at: Pos,
-) -> Result<(), NoMemory> {
+) -> Result<(), NoMemory>
+    ensures { OnErr result Refused }
+{
     let mut between = "; a program goes on with ";
     for (name, token) in CANDIDATES.iter() {
         if goes_on(alloc, before, token, at)? {
@@ -97,7 +104,9 @@ fn put_candidates(
 }
 
 /// Whether a program goes on with a token after a text: no refusal is then at the token's place.
-fn goes_on(alloc: Global, before: &[u8], token: &str, at: Pos) -> Result<bool, NoMemory> {
+fn goes_on(alloc: Global, before: &[u8], token: &str, at: Pos) -> Result<bool, NoMemory>
+    ensures { OnErr result Refused }
+{
     let mut text = Vec::from_slice(alloc, before)?;
     text.extend_from_slice(token.as_bytes())?;
     text.push(b'\n')?;

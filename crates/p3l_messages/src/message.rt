@@ -1,5 +1,8 @@
 // The message after the line that the program answers with.
 
+ghost use Rattle.std.specs.Prelude.{OnErr};
+ghost use Rattle.p3l_base.specs.Memory.{Refused};
+
 use crate::costs::put_key;
 use crate::failure::Failure;
 use crate::heard::{after_name, number_in};
@@ -36,7 +39,9 @@ pub fn message<F: Files>(
     alloc: Global,
     answer: &Answer,
     files: &KeptFiles<F>,
-) -> Result<String, NoMemory> {
+) -> Result<String, NoMemory>
+    ensures { OnErr result Refused }
+{
     match answer.status.0 {
         2 => usage(alloc, answer.words),
         5 => sentence(alloc, "The number is how many processors the program needs at least."),
@@ -46,7 +51,9 @@ pub fn message<F: Files>(
 }
 
 /// A message of one sentence.
-fn sentence(alloc: Global, text: &str) -> Result<String, NoMemory> {
+fn sentence(alloc: Global, text: &str) -> Result<String, NoMemory>
+    ensures { OnErr result Refused }
+{
     Ok(format!(in alloc; "{text}\n")?)
 }
 
@@ -55,7 +62,9 @@ fn unreadable<F: Files>(
     alloc: Global,
     answer: &Answer,
     files: &KeptFiles<F>,
-) -> Result<String, NoMemory> {
+) -> Result<String, NoMemory>
+    ensures { OnErr result Refused }
+{
     match (files.failed(), answer.failure) {
         (Some(_), Some(failure)) => sentence(alloc, failure.sentence()),
         (Some(_), None) => sentence(alloc, Failure::Other.sentence()),
@@ -68,7 +77,9 @@ fn numbered<F: Files>(
     alloc: Global,
     answer: &Answer,
     files: &KeptFiles<F>,
-) -> Result<String, NoMemory> {
+) -> Result<String, NoMemory>
+    ensures { OnErr result Refused }
+{
     let mut message = String::new(alloc);
     let Some(number) = number_in(answer.line) else {
         return Ok(message);
@@ -99,7 +110,9 @@ fn put_source<F: Files>(
     answer: &Answer,
     files: &KeptFiles<F>,
     number: &str,
-) -> Result<(), NoMemory> {
+) -> Result<(), NoMemory>
+    ensures { OnErr result Refused }
+{
     let Some(name) = program_of(answer.words) else {
         return Ok(());
     };
@@ -124,7 +137,9 @@ fn put_costs<F: Files>(
     message: &mut String,
     answer: &Answer,
     files: &KeptFiles<F>,
-) -> Result<(), NoMemory> {
+) -> Result<(), NoMemory>
+    ensures { OnErr result Refused }
+{
     let (Some(name), Some(key)) = (value_of(answer.words, "--costs"), after_name(answer.line))
     else {
         return Ok(());
@@ -141,7 +156,9 @@ fn put_width<F: Files>(
     message: &mut String,
     answer: &Answer,
     files: &KeptFiles<F>,
-) -> Result<(), NoMemory> {
+) -> Result<(), NoMemory>
+    ensures { OnErr result Refused }
+{
     let Some(name) = program_of(answer.words) else {
         return Ok(());
     };

@@ -1,5 +1,8 @@
 // The pages of numbers of refusal, as far as a message has them.
 
+ghost use Rattle.std.specs.Prelude.{OnErr};
+ghost use Rattle.p3l_base.specs.Memory.{Refused};
+
 use p3l_base::NoMemory;
 use p3l_help::all_pages;
 
@@ -43,7 +46,9 @@ pub(crate) fn title(page: &'static str) -> &'static str {
 }
 
 /// Adds a text as lines of at most so many columns, cut between words.
-pub(crate) fn put_wrapped(message: &mut String, text: &str) -> Result<(), NoMemory> {
+pub(crate) fn put_wrapped(message: &mut String, text: &str) -> Result<(), NoMemory>
+    ensures { OnErr result Refused }
+{
     let mut column = 0;
     for word in text.split_ascii_whitespace() {
         if column > 0 && column + 1 + word.len() > COLUMNS {

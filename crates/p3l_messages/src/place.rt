@@ -1,5 +1,8 @@
 // A place in a text: its line as it stands there, and a mark below it.
 
+ghost use Rattle.std.specs.Prelude.{OnErr};
+ghost use Rattle.p3l_base.specs.Memory.{Refused};
+
 use crate::safe::safe_line;
 use p3l_base::NoMemory;
 use std::alloc::Global;
@@ -56,7 +59,9 @@ pub(crate) fn put_place(
     file: &str,
     line: u32,
     column: Option<u32>,
-) -> Result<(), NoMemory> {
+) -> Result<(), NoMemory>
+    ensures { OnErr result Refused }
+{
     message.push_str(style.strong())?;
     put_safely(alloc, message, file.as_bytes())?;
     let place = match column {
@@ -74,7 +79,9 @@ pub(crate) fn put_safely(
     alloc: Global,
     message: &mut String,
     bytes: &[u8],
-) -> Result<(), NoMemory> {
+) -> Result<(), NoMemory>
+    ensures { OnErr result Refused }
+{
     let safe = safe_line(alloc, bytes)?;
     let text = String::from_utf8_lossy(alloc, safe.as_slice())?;
     message.push_str(text.as_str())?;
@@ -89,7 +96,9 @@ pub(crate) fn put_line(
     style: Style,
     line: &[u8],
     column: u32,
-) -> Result<(), NoMemory> {
+) -> Result<(), NoMemory>
+    ensures { OnErr result Refused }
+{
     let at = (column.max(1) as usize - 1).min(line.len());
     let from = at - at.min(MOST_SIDE);
     let to = line.len().min(at + MOST_SIDE);

@@ -1,5 +1,8 @@
 // Messages on a program that is refused.
 
+ghost use Rattle.std.specs.Prelude.{OnErr};
+ghost use Rattle.p3l_base.specs.Memory.{Refused};
+
 use crate::expected::put_expected;
 use crate::heard::place_in;
 use crate::place::{Style, line_of, put_line, put_place, put_safely};
@@ -17,7 +20,9 @@ pub(crate) fn put_refusal(
     text: &[u8],
     heard: &str,
     number: &str,
-) -> Result<(), NoMemory> {
+) -> Result<(), NoMemory>
+    ensures { OnErr result Refused }
+{
     let Some((row, column)) = place_in(heard) else {
         return Ok(());
     };

@@ -1,5 +1,8 @@
 // Messages on words that are no command.
 
+ghost use Rattle.std.specs.Prelude.{OnErr};
+ghost use Rattle.p3l_base.specs.Memory.{Refused};
+
 use crate::page::{page_on, title};
 use crate::place::put_safely;
 use p3l_base::NoMemory;
@@ -8,7 +11,9 @@ use std::alloc::Global;
 
 /// The message on words that are no command: the list of commands, or what is wrong with the words of
 /// one and how they are written.
-pub(crate) fn usage(alloc: Global, words: &[&str]) -> Result<String, NoMemory> {
+pub(crate) fn usage(alloc: Global, words: &[&str]) -> Result<String, NoMemory>
+    ensures { OnErr result Refused }
+{
     let mut message = String::new(alloc);
     let Some(first) = words.first() else {
         put_commands(&mut message)?;
@@ -33,7 +38,9 @@ pub(crate) fn usage(alloc: Global, words: &[&str]) -> Result<String, NoMemory> {
 }
 
 /// Adds the lines of a text, each in a form that can't steer a terminal.
-fn put_lines(alloc: Global, message: &mut String, text: &str) -> Result<(), NoMemory> {
+fn put_lines(alloc: Global, message: &mut String, text: &str) -> Result<(), NoMemory>
+    ensures { OnErr result Refused }
+{
     for line in text.lines() {
         put_safely(alloc, message, line.as_bytes())?;
         message.push_str("\n")?;
@@ -42,7 +49,9 @@ fn put_lines(alloc: Global, message: &mut String, text: &str) -> Result<(), NoMe
 }
 
 /// Adds the list of commands.
-fn put_commands(message: &mut String) -> Result<(), NoMemory> {
+fn put_commands(message: &mut String) -> Result<(), NoMemory>
+    ensures { OnErr result Refused }
+{
     message.push_str("commands:\n")?;
     message.push_str(commands())?;
     message.push_str("\n")?;

@@ -1,5 +1,6 @@
 // Complaints about words that spell no command.
 
+ghost use Rattle.p3l_base.specs.Memory.{Refused};
 ghost use Rattle.std.specs.Prelude.{OnErr};
 
 use crate::matches::{MOST_CAPACITY, MOST_ITEMS, MOST_PROCESSORS, MOST_SEGMENTS};
@@ -24,7 +25,9 @@ enum Form {
 
 /// Says what is wrong with words of which the first names a command: what `clap` finds, or the first
 /// value that is out of its form. It says nothing of words that spell a command.
-pub fn complaint(alloc: Global, words: &[&str]) -> Result<Option<String>, NoMemory> {
+pub fn complaint(alloc: Global, words: &[&str]) -> Result<Option<String>, NoMemory>
+    ensures { OnErr result Refused }
+{
     let Some(first) = words.first() else {
         return Ok(None);
     };
@@ -35,7 +38,9 @@ pub fn complaint(alloc: Global, words: &[&str]) -> Result<Option<String>, NoMemo
 }
 
 /// Says what is wrong with words of which the first names this verb.
-fn complaint_of(alloc: Global, verb: Verb, words: &[&str]) -> Result<Option<String>, NoMemory> {
+fn complaint_of(alloc: Global, verb: Verb, words: &[&str]) -> Result<Option<String>, NoMemory>
+    ensures { OnErr result Refused }
+{
     let command = clap_command(alloc, verb)?;
     match command.try_get_matches_from(words) {
         Ok(matches) => value_complaint(alloc, verb, &matches),
@@ -48,7 +53,9 @@ fn value_complaint(
     alloc: Global,
     verb: Verb,
     matches: &ArgMatches,
-) -> Result<Option<String>, NoMemory> {
+) -> Result<Option<String>, NoMemory>
+    ensures { OnErr result Refused }
+{
     let schedule = match verb {
         Verb::Save => Form::Picks,
         _ => Form::Schedule,
@@ -83,7 +90,9 @@ impl Form {
     }
 
     /// Says that a value does not have the form.
-    fn complaint(self, alloc: Global, id: &str, text: &str) -> Result<String, NoMemory> {
+    fn complaint(self, alloc: Global, id: &str, text: &str) -> Result<String, NoMemory>
+    ensures { OnErr result Refused }
+{
         let complaint = match self {
             Form::Count(most) => {
                 format!(in alloc; "error: {id}: '{text}' is no number from 1 to {most}\n")
