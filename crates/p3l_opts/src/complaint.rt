@@ -3,11 +3,12 @@
 ghost use Rattle.p3l_base.specs.Memory.{Refused};
 ghost use Rattle.std.specs.Prelude.{OnErr};
 
-use crate::matches::{MOST_CAPACITY, MOST_ITEMS, MOST_PROCESSORS, MOST_SEGMENTS};
+use crate::matches::MOST_ITEMS;
 use crate::value::{count_of, number_in, schedule_of};
 use crate::verb::{Verb, clap_command, verb_of};
 use clap::ArgMatches;
 use p3l_base::NoMemory;
+use p3l_base::limits::{MOST_PROCESSORS, MOST_TOKENS, MOST_WORKERS};
 use std::alloc::Global;
 
 /// A form that a value must have.
@@ -62,8 +63,8 @@ fn value_complaint(
     };
     let forms = [
         ("processors", Form::Count(MOST_PROCESSORS)),
-        ("segments", Form::Count(MOST_SEGMENTS)),
-        ("capacity", Form::Count(MOST_CAPACITY)),
+        ("segments", Form::Count(MOST_WORKERS)),
+        ("capacity", Form::Count(MOST_TOKENS)),
         ("items", Form::Count(MOST_ITEMS)),
         ("number", Form::Number),
         ("schedule", schedule),

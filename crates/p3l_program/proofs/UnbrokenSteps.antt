@@ -13,7 +13,7 @@ use Rattle.p3l_io.specs.Content.{Held}
 use Rattle.p3l_link.specs.Laws.{EveryNetIsCarried}
 use Rattle.p3l_load.specs.Compiled.{image_of}
 use Rattle.p3l_load.specs.Load.{loaded_of}
-use Rattle.p3l_net.specs.Carried.{HaveInWords}
+use Rattle.p3l_firing.specs.Carried.{HaveInWords}
 use Rattle.p3l_net.specs.Machine.{IsShaped, Seen, state_of}
 use Rattle.p3l_net.specs.Offered.{Follows}
 use Rattle.p3l_net.specs.Shot.{restored, shot_of}

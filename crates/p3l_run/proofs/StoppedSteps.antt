@@ -1,9 +1,9 @@
 -- Runs whose picks are made by turns or by a seed end where no process can fire.
 use Rattle.std.proofs.Common.{◌≡◌, ℕ, ℤ, Bool, false, List, [], ◌∷◌, filter, refl, sym, ap, ◌∙◌, inl, inr}
 use Rattle.std.proofs.lemmas.Bool.{cond-false, false≢true}
-use Rattle.p3l_net.specs.Carried.{HaveInWords}
-use Rattle.p3l_net.specs.Fire.{IsStuck, can_fire}
-use Rattle.p3l_net.specs.Run.{Course, course_from}
+use Rattle.p3l_firing.specs.Carried.{HaveInWords}
+use Rattle.p3l_firing.specs.Fire.{IsStuck, can_fire}
+use Rattle.p3l_firing.specs.Run.{Course, course_from}
 use Rattle.p3l_sched.proofs.PicksLaw.{made_stuck, reads_all}
 use Rattle.p3l_sched.specs.declared.picker.Way.{Way}
 use Rattle.p3l_sched.specs.declared.schedule.Schedule.TheVariants as schedules
