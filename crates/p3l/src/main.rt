@@ -11,7 +11,7 @@ use p3l_base::NoMemory;
 use p3l_help::all_pages;
 use p3l_host::{HostErr, HostFiles, HostIn, HostOut, Output, SinkAfter, SourceAfter};
 use p3l_io::{Files, Sink};
-use p3l_messages::{Answer, KeptFiles, Screen, Style, message};
+use p3l_messages::{Answer, KeptFiles, Screen, Style, message_on};
 use p3l_program::top::top;
 use p3l_report::{Status, Verdict, put_no_memory, put_report, report_of};
 use std::env;
@@ -116,7 +116,7 @@ fn explain<F: Files>(
         failure: files.failed().map(|name| failure_of(rt, name)),
         style,
     };
-    let text = message(rt.alloc(), &answer, files)?;
+    let text = message_on(rt.alloc(), &answer, files)?;
     let mut err = HostErr::new(rt.stderr());
     let _ = err.put(text.as_str().as_bytes());
     Ok(())

@@ -19,6 +19,6 @@ mod usage;
 
 pub use failure::Failure;
 pub use kept::KeptFiles;
-pub use message::{Answer, message};
+pub use message::{Answer, message_on};
 pub use place::Style;
 pub use screen::Screen;

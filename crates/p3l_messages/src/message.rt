@@ -35,7 +35,7 @@ pub struct Answer<'a> {
 
 /// The message after an answer: the place that it speaks of, what it means, and where more is said.
 /// It is empty where the line says all.
-pub fn message<F: Files>(
+pub fn message_on<F: Files>(
     alloc: Global,
     answer: &Answer,
     files: &KeptFiles<F>,

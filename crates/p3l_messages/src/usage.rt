@@ -6,7 +6,7 @@ ghost use Rattle.p3l_base.specs.Memory.{Refused};
 use crate::page::{page_on, title};
 use crate::place::put_safely;
 use p3l_base::NoMemory;
-use p3l_opts::complaint;
+use p3l_opts::complaint_on;
 use std::alloc::Global;
 
 /// The message on words that are no command: the list of commands, or what is wrong with the words of
@@ -21,7 +21,7 @@ pub(crate) fn usage(alloc: Global, words: &[&str]) -> Result<String, NoMemory>
     };
     match page_on(first) {
         Some(page) => {
-            if let Some(text) = complaint(alloc, words)? {
+            if let Some(text) = complaint_on(alloc, words)? {
                 put_lines(alloc, &mut message, sentence_of(text.as_str()))?;
             }
             message.push_str(title(page))?;

@@ -26,7 +26,7 @@ enum Form {
 
 /// Says what is wrong with words of which the first names a command: what `clap` finds, or the first
 /// value that is out of its form. It says nothing of words that spell a command.
-pub fn complaint(alloc: Global, words: &[&str]) -> Result<Option<String>, NoMemory>
+pub fn complaint_on(alloc: Global, words: &[&str]) -> Result<Option<String>, NoMemory>
     ensures { OnErr result Refused }
 {
     let Some(first) = words.first() else {

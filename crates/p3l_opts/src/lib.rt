@@ -11,7 +11,7 @@ pub mod verb;
 mod words;
 
 pub use command::{Build, Command, OptsRefusal, Sched};
-pub use complaint::complaint;
+pub use complaint::complaint_on;
 pub use laws::one_command_at_most;
 pub use verb::Verb;
 pub use words::parse;
