@@ -4,10 +4,14 @@
 ghost use Rattle.std.specs.Prelude.{◌≡◌};
 ghost use Rattle.std.specs.Process.{exit_status};
 
+mod person;
+
+use person::{failure_of, is_terminal, style_of, wants_long};
 use p3l_base::NoMemory;
 use p3l_help::all_pages;
 use p3l_host::{HostErr, HostFiles, HostIn, HostOut, Output, SinkAfter, SourceAfter};
-use p3l_io::Sink;
+use p3l_io::{Files, Sink};
+use p3l_messages::{Answer, KeptFiles, Screen, Style, message_on};
 use p3l_program::top::top;
 use p3l_report::{Status, Verdict, put_no_memory, put_report, report_of};
 use std::env;
@@ -76,22 +80,46 @@ fn answer(rt: &HostRuntime, words: &[&str]) -> Result<Status, NoMemory> {
 
 /// Runs the program with the real files and streams. Its output is gathered, and written before the
 /// program waits for input, before a file is written, before a line of the standard error, and at the
-/// end.
+/// end. A person gets a longer message after it.
 fn run(rt: &HostRuntime, words: &[&str]) -> Result<Status, NoMemory> {
-    let output = Output::new(rt.alloc(), rt.stdout())?;
-    let mut files = HostFiles::new(rt, &output);
+    let alloc = rt.alloc();
+    let is_terminal = is_terminal(rt);
+    let output = Output::new(alloc, rt.stdout())?;
+    let mut files = KeptFiles::new(alloc, HostFiles::new(rt, &output));
     let mut input = SourceAfter::new(HostIn::new(rt.stdin()), &output);
     let mut out = HostOut::new(&output);
-    let mut err = SinkAfter::new(HostErr::new(rt.stderr()), &output);
-    let status = top(
-        rt.alloc(),
+    let screen = Screen::new(alloc, HostErr::new(rt.stderr()), is_terminal);
+    let mut err = SinkAfter::new(screen, &output);
+    let status = top(alloc, words, &mut files, &mut input, &mut out, &mut err);
+    let status = finish(rt, &output, status);
+    if status.0 != 0 && wants_long(rt, is_terminal) {
+        let style = style_of(rt, is_terminal);
+        explain(rt, words, status, style, &files, err.sink().heard())?;
+    }
+    Ok(status)
+}
+
+/// Puts the message on an answer on the standard error. One that can't be made is left out.
+fn explain<F: Files>(
+    rt: &HostRuntime,
+    words: &[&str],
+    status: Status,
+    style: Style,
+    files: &KeptFiles<F>,
+    line: &[u8],
+) -> Result<(), NoMemory> {
+    let line = String::from_utf8_lossy(rt.alloc(), line)?;
+    let answer = Answer {
         words,
-        &mut files,
-        &mut input,
-        &mut out,
-        &mut err,
-    );
-    Ok(finish(rt, &output, status))
+        status,
+        line: line.as_str(),
+        failure: files.failed().map(|name| failure_of(rt, name)),
+        style,
+    };
+    let text = message_on(rt.alloc(), &answer, files)?;
+    let mut err = HostErr::new(rt.stderr());
+    let _ = err.put(text.as_str().as_bytes());
+    Ok(())
 }
 
 /// The exit code of a status.

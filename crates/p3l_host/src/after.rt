@@ -71,6 +71,13 @@ impl<'a, S: Sink + Drop, W: Write + Drop> SinkAfter<'a, S, W> {
             faults: 0,
         }
     }
+
+    /// The sink below.
+    pub fn sink(&self) -> &S
+        ensures { result.now ≡ self.now.0 }
+    {
+        &self.sink
+    }
 }
 
 impl<'a, S: Sink + Drop, W: Write + Drop> Sink for SinkAfter<'a, S, W> {

@@ -2,6 +2,7 @@
 #![tactic(auto)]
 
 pub mod command;
+pub mod complaint;
 pub mod laws;
 mod matches;
 mod table;
@@ -10,6 +11,7 @@ pub mod verb;
 mod words;
 
 pub use command::{Build, Command, OptsRefusal, Sched};
+pub use complaint::complaint_on;
 pub use laws::one_command_at_most;
 pub use verb::Verb;
 pub use words::parse;

@@ -21,7 +21,7 @@ use std::alloc::Global;
 pub(crate) const DEFAULT_CAPACITY: u32 = 4;
 
 /// The most items that can be generated.
-const MOST_ITEMS: u32 = 100_000;
+pub(crate) const MOST_ITEMS: u32 = 100_000;
 
 /// How many items are generated where the words don't say it.
 const DEFAULT_ITEMS: u32 = 1000;

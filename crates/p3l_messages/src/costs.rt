@@ -1,0 +1,73 @@
+// Messages on a file of costs that is refused.
+
+ghost use Rattle.std.specs.Prelude.{OnErr};
+ghost use Rattle.p3l_base.specs.Memory.{Refused};
+
+use crate::place::{Style, line_of, put_line, put_place};
+use p3l_base::NoMemory;
+use std::alloc::Global;
+
+/// Adds the line of a file of costs that has a key, if one has.
+pub(crate) fn put_key(
+    alloc: Global,
+    message: &mut String,
+    style: Style,
+    file: &str,
+    text: &[u8],
+    key: &str,
+) -> Result<(), NoMemory>
+    ensures { OnErr result Refused }
+{
+    let Some(row) = row_of(alloc, text, key)? else {
+        return Ok(());
+    };
+    put_place(alloc, message, style, file, row, None)?;
+    match line_of(text, row) {
+        Some(line) => put_line(alloc, message, style, line, 1),
+        None => Ok(()),
+    }
+}
+
+/// The number of the line that has a key, counted from 1: that of its last part, in its own section
+/// where the key names one, or else the first line or section of this name.
+fn row_of(alloc: Global, text: &[u8], key: &str) -> Result<Option<u32>, NoMemory>
+    ensures { OnErr result Refused }
+{
+    let text = String::from_utf8_lossy(alloc, text)?;
+    let (section, last) = match key.rsplit_once(".") {
+        Some((section, last)) => (section, last),
+        None => ("", key),
+    };
+    let mut row = 0u32;
+    let mut here = "";
+    for line in text.as_str().lines() {
+        row = row.saturating_add(1);
+        let line = line.trim();
+        if let Some(name) = section_of(line) {
+            here = name;
+            if name == key {
+                return Ok(Some(row));
+            }
+        } else if has_key(line, key) || (here == section && has_key(line, last)) {
+            return Ok(Some(row));
+        }
+    }
+    Ok(None)
+}
+
+/// The name of the section that a line begins, if it begins one.
+fn section_of(line: &str) -> Option<&str> {
+    let (name, _) = line.strip_prefix("[")?.split_once("]")?;
+    Some(name.trim())
+}
+
+/// Whether a line gives a value to a key, which may be in quotes.
+fn has_key(line: &str, key: &str) -> bool {
+    match line.split_once("=") {
+        Some((front, _)) => {
+            let name = front.trim();
+            name == key || name.trim_matches('"') == key
+        }
+        None => false,
+    }
+}

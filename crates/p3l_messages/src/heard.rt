@@ -1,0 +1,42 @@
+// The line that the program has answered with, taken apart.
+
+/// The number of refusal in a line: the first word of digits before a word that begins with a capital.
+pub(crate) fn number_in(line: &str) -> Option<&str> {
+    let mut last = "";
+    for word in line.split_ascii_whitespace() {
+        if is_number(last) && begins_with_capital(word) {
+            return Some(last);
+        }
+        last = word;
+    }
+    None
+}
+
+/// The line and the column that a line begins with, after its first word.
+pub(crate) fn place_in(line: &str) -> Option<(u32, u32)> {
+    let (_, rest) = line.split_once(" ")?;
+    let (row, rest) = rest.split_once(":")?;
+    let (column, _) = rest.split_once(":")?;
+    Some((row.parse::<u32>().ok()?, column.parse::<u32>().ok()?))
+}
+
+/// What stands behind a number of refusal and its name.
+pub(crate) fn after_name(line: &str) -> Option<&str> {
+    let (_, rest) = line.split_once(" ")?;
+    let (_, rest) = rest.split_once(" ")?;
+    let (_, rest) = rest.split_once(" ")?;
+    Some(rest.trim_end())
+}
+
+/// Whether a word is made of digits.
+fn is_number(word: &str) -> bool {
+    !word.is_empty() && word.as_bytes().iter().all(|byte| byte.is_ascii_digit())
+}
+
+/// Whether a word begins with a capital letter.
+fn begins_with_capital(word: &str) -> bool {
+    match word.as_bytes().first() {
+        Some(byte) => byte.is_ascii_uppercase(),
+        None => false,
+    }
+}

@@ -1,0 +1,110 @@
+// Files that keep what was read of them.
+
+ghost use Rattle.std.specs.Prelude.{IfSome};
+
+use p3l_base::{List, Name, NoMemory};
+use p3l_io::{FileFault, Files, WriteFault};
+use std::alloc::Global;
+use std::marker::Model;
+
+/// The most bytes of a text that is kept: those of a program, or of a file of costs.
+const MOST_KEPT: usize = 1_048_576;
+
+/// A text that was read, and the name of its file.
+#[derive(Drop)]
+struct Kept {
+    name: Name,
+    text: List<u8>,
+}
+
+/// Other files, with copies of the texts that were read of them. Contracts see the other files.
+#[derive(Drop)]
+pub struct KeptFiles<F: Files> {
+    files: F,
+    texts: Vec<Kept>,
+    /// The name of the last file that could not be read, if there is one.
+    failed: Option<Name>,
+}
+
+impl<F: Files> Model for KeptFiles<F> {
+    ghost Value = { F };
+
+    ghost view = { λ s. s.files };
+}
+
+impl<F: Files> KeptFiles<F> {
+    /// Files of which nothing was read yet.
+    pub fn new(alloc: Global, files: F) -> KeptFiles<F>
+        ensures { result ≡ files }
+    {
+        KeptFiles {
+            files,
+            texts: Vec::new(alloc),
+            failed: None,
+        }
+    }
+
+    /// The text that was read of the file of this name, if one was kept.
+    pub fn text_of(&self, name: &str) -> Option<&[u8]> {
+        for kept in self.texts.iter() {
+            if kept.name.as_str() == name {
+                return Some(kept.text.as_slice());
+            }
+        }
+        None
+    }
+
+    /// The name of the last file that could not be read, if there is one.
+    pub fn failed(&self) -> Option<&str> {
+        match &self.failed {
+            Some(name) => Some(name.as_str()),
+            None => None,
+        }
+    }
+}
+
+impl<F: Files> KeptFiles<F> {
+    /// Keeps a copy of a text, unless it is long or memory for it runs out.
+    fn keep(&mut self, alloc: Global, name: &str, text: &[u8])
+        ensures { self.new ≡ self.old }
+    {
+        if text.len() <= MOST_KEPT {
+            // a message is only shorter without the text
+            let _ = self.push(alloc, name, text);
+        }
+    }
+
+    /// Adds a copy of a text under its name.
+    fn push(&mut self, alloc: Global, name: &str, text: &[u8]) -> Result<(), NoMemory>
+        ensures { self.new ≡ self.old }
+    {
+        let name = Name::from_text(alloc, name)?;
+        let text = List::from_vec(Vec::from_slice(alloc, text)?);
+        self.texts.push(Kept { name, text })?;
+        Ok(())
+    }
+}
+
+impl<F: Files> Files for KeptFiles<F> {
+    ghost held = { F.held };
+
+    ghost faults = { F.faults };
+
+    ghost failed = { F.failed };
+
+    ghost may_want = { F.may_want };
+
+    fn read(&mut self, alloc: Global, name: &str, limit: u64) -> Result<List<u8>, FileFault> {
+        let answer = self.files.read(alloc, name, limit);
+        match &answer {
+            Ok(text) => self.keep(alloc, name, text.as_slice()),
+            Err(FileFault::Failed) => self.failed = Name::from_text(alloc, name).ok(),
+            Err(_) => {}
+        }
+        answer
+    }
+
+    fn write(&mut self, alloc: Global, name: &str, bytes: &[u8]) -> Result<(), WriteFault> {
+        self.files.write(alloc, name, bytes)
+    }
+}

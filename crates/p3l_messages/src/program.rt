@@ -1,0 +1,78 @@
+// Messages on a program that is refused.
+
+ghost use Rattle.std.specs.Prelude.{OnErr};
+ghost use Rattle.p3l_base.specs.Memory.{Refused};
+
+use crate::expected::put_expected;
+use crate::heard::place_in;
+use crate::place::{Style, line_of, put_line, put_place, put_safely};
+use p3l_ast::Fault;
+use p3l_base::NoMemory;
+use std::alloc::Global;
+
+/// Adds the place that a refusal names and its line to a message, and what it is about to a text.
+pub(crate) fn put_refusal(
+    alloc: Global,
+    message: &mut String,
+    about: &mut String,
+    style: Style,
+    file: &str,
+    text: &[u8],
+    heard: &str,
+    number: &str,
+) -> Result<(), NoMemory>
+    ensures { OnErr result Refused }
+{
+    let Some((row, column)) = place_in(heard) else {
+        return Ok(());
+    };
+    put_place(alloc, message, style, file, row, Some(column))?;
+    let Some(line) = line_of(text, row) else {
+        return Ok(());
+    };
+    put_line(alloc, message, style, line, column)?;
+    let rest = rest_of(line, column);
+    if is_number_of(Fault::Expected, number) {
+        return put_expected(alloc, about, text, row, column);
+    }
+    if names_something(number) {
+        about.push_str("It is about `")?;
+        put_safely(alloc, about, word_at(rest))?;
+        about.push_str("`. ")?;
+    }
+    Ok(())
+}
+
+/// Whether a number of refusal is this fault's.
+fn is_number_of(fault: Fault, number: &str) -> bool {
+    number.parse::<u8>().ok() == Some(fault.number())
+}
+
+/// Whether a number of refusal is about the name at its place.
+fn names_something(number: &str) -> bool {
+    match number.parse::<u8>() {
+        Ok(10) | Ok(20) | Ok(22..=26) | Ok(28) | Ok(40..=44) => true,
+        _ => false,
+    }
+}
+
+/// The part of a line from a column on.
+fn rest_of(line: &[u8], column: u32) -> &[u8] {
+    let at = (column.max(1) as usize - 1).min(line.len());
+    &line[at..]
+}
+
+/// The word that bytes begin with, or their first byte.
+fn word_at(bytes: &[u8]) -> &[u8] {
+    let len = match bytes.iter().position(|byte| !is_word_byte(*byte)) {
+        Some(0) => 1,
+        Some(len) => len,
+        None => bytes.len(),
+    };
+    &bytes[..len.min(bytes.len())]
+}
+
+/// Whether a byte can be part of a name.
+fn is_word_byte(byte: u8) -> bool {
+    byte == b'_' || byte.is_ascii_alphanumeric()
+}
