@@ -56,8 +56,8 @@ PHRASES = [
 ]
 PHRASES = [(re.compile(phrase, re.I), plain) for phrase, plain in PHRASES]
 LABEL = re.compile(r"\s*(?:Clauses?|Definitions?|Edits?|Call|Files?|Tests?): ")
-ITEM = re.compile(r"\s*(?:[-*]|\d+\.) ")
-END = re.compile(r"(?<=[.:;?!])[)\"'*_]*\s+")
+ITEM = re.compile(r"^\s*(?:[-*]|\d+\.) ")
+END = re.compile(r"[.:;?!][)\"'*_]*\s+")
 BEGINS = re.compile(r"(?:What|That|Where|Whether)\b")
 
 
