@@ -1,6 +1,6 @@
 // The file system.
 
-ghost use Rattle.std.specs.Prelude.{◌≡◌, ◌≤◌, None, Some, length, IfOk, OnErr};
+ghost use Rattle.std.specs.Prelude.{◌≡◌, ◌≤◌, None, Some, true, length, IfOk, OnErr};
 ghost use Rattle.p3l_base.specs.Memory.{OnGiven};
 ghost use Rattle.p3l_host.specs.Faults.{IsAfterFault};
 ghost use Rattle.p3l_host.specs.Reads.{ReadsWithin};
@@ -67,6 +67,8 @@ impl<'a, R: rt::Files, W: Write + Drop> Files for HostFiles<'a, R, W> {
 
     ghost failed = { λ faults. faults.failed };
 
+    ghost may_want = { true };
+
     fn read(&mut self, alloc: Global, name: &str, limit: u64) -> Result<List<u8>, FileFault> {
         match read_file(alloc, self.rt, name, limit) {
             Err(FileFault::Failed) => match self.fail(alloc, name) {
@@ -127,7 +129,8 @@ fn read_within<R: Read>(alloc: Global, reader: &mut R, limit: u64) -> Result<Lis
         if count as u64 > limit - bytes.len() as u64 {
             return Err(FileFault::TooLong);
         }
-        if bytes.extend_from_slice(&buf[..count]).is_err() {
+        if let Err(failed) = bytes.extend_from_slice(&buf[..count]) {
+            let _want = NoMemory::from(failed);
             return Err(FileFault::NoMemory);
         }
     }

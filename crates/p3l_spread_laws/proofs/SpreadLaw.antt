@@ -1,4 +1,4 @@
--- Each firing of a spread net is a firing of the whole net in one of its ways, so a run of it keeps what every run keeps.
+-- Each firing of a spread net is a firing of the whole net in one of its ways, so a spread run has the invariants of every run.
 use Rattle.std.proofs.Common.{◌≡◌, ℕ, ℤ, zero, suc, ◌≤◌, ◌<◌, inl, inr, true, not, ◌&&◌, List, [], ◌∷◌, ◌++◌, length, map, refl, sym, ap, ap₂, ◌∙◌, subst, arith, le_refl, lt-ltb, ltb-true, length-append}
 use Rattle.std.proofs.lemmas.Bool.{cases_Bool}
 use Rattle.std.proofs.lemmas.List.{append-nil, length-map}
@@ -43,7 +43,7 @@ net_begins tree net items typed = record {
   };
 }
 
--- WHAT IS KNOWN STAYS SO
+-- VIEWS STAY TRUE
 fires_sound : (tree : Tree) (leaf : Leaf) (net : Net) (d e : Spread) → IsSound net d → Fires tree leaf net d e → IsSound net e
 fires_sound tree leaf net d e k f = record {
   seen = λ c.
@@ -67,7 +67,7 @@ learns_sound net d e l = record {
 pub stays_sound : EveryStepStaysSound
 stays_sound tree leaf net d e k step = elim step [ inl f ↦ fires_sound tree leaf net d e k f | inr l ↦ learns_sound net d e l ]
 
--- WHAT IS KNOWN IS SO
+-- VIEWS ARE TRUE
 some_first : (ts : List Token) → 0 < length ts → has_first ts ≡ true
 some_first [] l = absurd (omega arith)
 some_first (t ∷ ts) l = refl
@@ -86,7 +86,7 @@ view_known net d k = record {
 pub view_true : EveryViewIsTrue
 view_true tree leaf net d p t k way = sees_more tree leaf net (view d) (eyes_of net d.state) (view_known net d k) d.state p t way
 
--- WHERE ALL IS QUIET
+-- QUIET NETS
 quiet_known : (tree : Tree) (leaf : Leaf) (net : Net) (d : Spread) → IsQuiet tree leaf net d → Knows (eyes_of net d.state) (view d)
 unfolding has_room
 quiet_known tree leaf net d q = record {
@@ -112,7 +112,7 @@ quiet_stuck tree leaf net d q = λ p.
     ]
 
 -- RUNS
--- a spread net as a run by picks sees it
+-- a spread net as a point of a run by picks
 abbrev course : Spread → Course
 course d = record { state = d.state; fired = d.fired; idle = 0 }
 
@@ -143,7 +143,7 @@ trap_stuck tree net s trap = λ p. ap (λ b. not b && is_ready tree net s p) tra
 
 module _ (tree : Tree) (leaf : Leaf) (net : Net) (most : ℕ) (carry : Carry) (laws : IsCarried tree leaf net most carry)
     (items : List (List ℤ)) (long : HaveInWords tree items) where
-  -- what every spread run keeps
+  -- the invariant of spread runs
   record IsKept (d : Spread) : Type 0 where
     sound : IsSound net d
     kept : IsKeptBy tree leaf most carry items (course d)
