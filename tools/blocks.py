@@ -1,13 +1,11 @@
 #!/usr/bin/env python3
-"""Runs each command that the documents and the pages of numbers show, and compares its output.
+"""Sessions in texts: runs each command that README.md, the files of docs/ and the pages of numbers show, and compares what it writes.
 
     tools/blocks.py PATH-OF-P3L [--mend] [FILE..]
 
-The documents are README.md and docs/*.md, unless files are named. A session is a block of lines in
-a fence, or four spaces to the right. `$ ` begins a command, `> ` continues it, and the lines after
-it are its output, standard error included. The sessions of a file run in their order, in one shell
-and in a folder of their own with a copy of examples/; each page of a number has a new one. With
---mend the files get the real output.
+A session is a block of lines, in a fence or four spaces to the right: `$ ` begins a command, `> ` goes on with it, and the lines after
+it are what it writes to standard output and standard error. The sessions of a file run in one shell, in a folder of their own with a
+copy of examples/, in their order; each page in a new one. With --mend the files get what the commands wrote.
 """
 
 import argparse

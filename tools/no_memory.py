@@ -1,11 +1,10 @@
 #!/usr/bin/env python3
-"""Each request for memory refused in turn: a run ends with 11, or as with ample memory.
+"""Each request for memory refused in turn: a run then ends with 11 and the line `no memory`, or as it ends with ample memory.
 
     tools/no_memory.py PATH_OF_P3L
 
-The program is loaded with tools/refused_memory.c in front of it, which refuses the request of one
-number. The output must be a prefix of the output with ample memory. Where the status is 11,
-standard error has the line `no memory` and no other.
+The program is loaded with tools/refused_memory.c in front of it, which refuses the request of one number. What was written by then must
+be a front of what is written with ample memory, and standard error has no line but `no memory` where the status is 11.
 """
 
 import os
