@@ -18,9 +18,10 @@ use Rattle.p3l_firing.specs.Run.{Course}
 use Rattle.p3l_firing.specs.State.{State, has_room, first_state}
 use Rattle.p3l_firing.specs.Token.{has_trap}
 use Rattle.p3l_firing.specs.Ways.{eyes_of, Knows}
-use Rattle.p3l_firing.proofs.CarriedLaw.{IsKeptBy, carried_first, carried_way, carried_begins, carried_bounded, carried_sent, carried_finished}
+use Rattle.p3l_firing.proofs.CarriedLaw.{first_orderly, carried_begins, carried_bounded, carried_sent, carried_finished}
 use Rattle.p3l_firing.proofs.Fitting.{fitting_at_first}
 use Rattle.p3l_firing.proofs.FittingWays.{fitting_way}
+use Rattle.p3l_firing.proofs.OrderlyLaw.{IsKeptFrom, kept_first, kept_way}
 use Rattle.p3l_firing.proofs.WaysLaw.{sees_more, fire_is_a_way}
 use Rattle.p3l_firing.proofs.row.{fitting_first}
 use Rattle.p3l_firing.specs.Typed.{IsTyped, IsFitting}
@@ -146,14 +147,15 @@ module _ (tree : Tree) (leaf : Leaf) (net : Net) (most : ℕ) (carry : Carry) (l
   -- the invariant of spread runs
   record IsKept (d : Spread) : Type 0 where
     sound : IsSound net d
-    kept : IsKeptBy tree leaf most carry items (course d)
+    kept : IsKeptFrom tree leaf most carry (first_state net items) (course d)
 
   begun_kept : (d : Spread) → IsBegun net items d → IsKept d
   begun_kept d b = record {
     sound = b.sound;
-    kept = subst (IsKeptBy tree leaf most carry items)
+    kept = subst (IsKeptFrom tree leaf most carry (first_state net items))
         (sym (ap₂ (λ s n. record { state = s; fired = n; idle = 0 }) b.state b.fired))
-        (carried_first tree leaf net most carry laws items long);
+        (kept_first tree leaf net most carry laws (first_state net items)
+        (first_orderly tree leaf net most carry laws items long));
   }
 
   step_kept : (d e : Spread) → IsKept d → Step tree leaf net d e → IsKept e
@@ -161,11 +163,12 @@ module _ (tree : Tree) (leaf : Leaf) (net : Net) (most : ℕ) (carry : Carry) (l
     sound = stays_sound tree leaf net d e k.sound step;
     kept = elim step [
       | inl f ↦
-          subst (λ n. IsKeptBy tree leaf most carry items (record { state = e.state; fired = n; idle = 0 })) (sym f.count)
-          (carried_way tree leaf net most carry laws items long (course d) f.by e.state k.kept
+          subst (λ n. IsKeptFrom tree leaf most carry (first_state net items) (record { state = e.state; fired = n; idle = 0 }))
+          (sym f.count)
+          (kept_way tree leaf net most carry laws (first_state net items) (course d) f.by e.state k.kept
           (view_true tree leaf net d f.by e.state k.sound f.way))
       | inr l ↦
-          subst (IsKeptBy tree leaf most carry items)
+          subst (IsKeptFrom tree leaf most carry (first_state net items))
           (sym (ap₂ (λ s n. record { state = s; fired = n; idle = 0 }) l.state l.fired)) k.kept
     ];
   }
