@@ -3,10 +3,11 @@
 
     bench/beside_run.py PATH [--firings N] [--instructions]
 
-`time` runs networks of 12 to 512 processes for N firings each (1,000,000 if not given), and `profile` the two bodies of bench/bodies.
-Printed are the processor time of both for a firing or an item, the least of five runs in turn without what a run without items takes,
-and the ratio; with --instructions the number of instructions, for 100,000 firings and a sixtieth of the items. As `--processors` is at
-most 512, no program gives `time` a larger network.
+`time` runs networks of 12 to 512 processes for N firings each (1,000,000 if not given), and
+`profile` the two bodies of bench/bodies. A row has the processor time of both for a firing or an
+item, the least of five runs in turn, without the time of a run without items; and the ratio. With
+--instructions it has the number of instructions, for 100,000 firings and a sixtieth of the items.
+As `--processors` is at most 512, no program gives `time` a larger network.
 """
 
 import argparse

@@ -1,11 +1,13 @@
 #!/usr/bin/env python3
-"""Firings a second of `p3l run` beside the same networks in C (bench/machine.c): pipes of 10 and 100 runs, farms of 8, 64 and 508.
+"""Firings a second of `p3l run` beside the same networks in C (bench/machine.c).
 
     bench/firings.py PATH_OF_P3L [FIRINGS]
 
-Each network gets as many items as make about FIRINGS firings (5,000,000 if not given). Both read the same numbers from a file,
-gather their results and write them to /dev/null. The times are those of the whole program, start and stream included, and the
-numbers of firings must be the same. `bench/speed.py` holds the same networks against their bounds.
+The networks are pipes of 10 and 100 runs and farms of 8, 64 and 508. Each gets as many items as
+make about FIRINGS firings (5,000,000 if not given). Both read the same numbers from a file, gather
+their results and write them to /dev/null. Times are those of the whole program, start and stream
+included, and the numbers of firings must be the same. `bench/speed.py` compares the same networks
+with bounds.
 """
 
 import os

@@ -1,8 +1,9 @@
-"""What a run of a command costs, measured so that other work on the machine matters little.
+"""The cost of a run of a command, measured so that other work on the machine matters little.
 
-The processor time, user's and system's together, is that of the command alone; the least of several runs, with those that are
-compared in turn, leaves out most of what others do to the caches. The instructions, by valgrind, are the same each time: they are
-the measure for a difference of a few parts in a hundred, and take some fifty times as long.
+Processor time is the user's and the system's together, of the command alone. The least of several
+runs, with those that are compared in turn, leaves out most effects of other work on the caches.
+Instruction counts, by valgrind, are stable under load: they show a difference of a few parts in a
+hundred, and take some fifty times as long.
 """
 
 import os

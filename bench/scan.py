@@ -1,12 +1,13 @@
 #!/usr/bin/env python3
-"""`p3l scan` beside `run` of the same reduce, and beside `exec` of the scan's plan that is written by hand as an image.
+"""`p3l scan` beside `run` of the same reduce, and beside `exec` of the scan's plan by hand.
 
     bench/scan.py PATH [--items N] [--instructions]
 
-The list has 4,096 words, and the operator adds. The plan by hand is the same pipe of stages, each a map over blocks, with a body of its
-own for the blocks of each stage, whose loops add in place. (As a source it can't be written: the ports between two stages have one
-shape, and the blocks of the two have others.) What it writes must be what `scan` writes. Printed are the processor time of each, the least
-of five runs in turn, and the ratios; with --instructions the number of instructions, on two items.
+The list has 4,096 words, and the operator adds. The plan by hand is an image of the same pipe of
+stages, each a map over blocks, with a body for each stage whose loops add in place. It can't be
+written as a source: the ports between two stages have one shape, and the blocks of the two have
+others. It must write what `scan` writes. A row has the processor time of each, the least of five
+runs in turn, and the ratios; with --instructions the number of instructions, on two items.
 """
 
 import argparse

@@ -1,12 +1,13 @@
 #!/usr/bin/env python3
-"""How the finish of a run moves with the number of processors, by `p3l time`.
+"""The finish of a run by the number of processors, by `p3l time`.
 
     bench/speedup.py PATH PROGRAM COSTS ITEMS [PICTURE]
 
-PATH is the path of p3l, PROGRAM a program, COSTS its cost file and ITEMS a file of items. For 1 to 512 processors, by steps that
-grow, it simulates the run and notes its finish and how much of that the busiest process works. Beside them is the finish
-that the model expects: the service time of the chosen counts, once for each item. Processors that are too few for the program have
-no row. With matplotlib on the machine and a PICTURE named, both are drawn there as SVG; the table is written in any case.
+PATH is the path of p3l, PROGRAM a program, COSTS its cost file and ITEMS a file of items. For 1 to
+512 processors, by growing steps, it runs the program in virtual time and notes its finish and the
+share of that for which the busiest process works. Beside them is the finish that the model expects:
+the service time of the chosen counts, once for each item. Too few processors have no row. With
+matplotlib and a PICTURE, both are drawn there as SVG; the table is written in any case.
 """
 
 import pathlib

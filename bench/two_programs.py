@@ -1,11 +1,12 @@
 #!/usr/bin/env python3
-"""Two programs of p3l side by side, as one of before a change and one of after it, on the bodies of bench/bodies.
+"""Two programs of p3l side by side, as from before and after a change, on bench/bodies.
 
     bench/two_programs.py OLD NEW [--part N] [--instructions]
 
-Each row has the processor time of both, the least of fifteen runs in turn, and the new one's by the old one's. Both have to be made in
-the same way. Programs that are slow, as one of `rt try` with its tests, are given a part in N of the work. With --instructions
-it is the number of instructions, and a sixtieth of the work unless N is given.
+A row has the processor time of both, the least of fifteen runs in turn, and their ratio. Both must
+be made in the same way. Slow programs, as one of `rt try` with its tests, are given a part in N of
+the work. With --instructions it has the number of instructions, and a sixtieth of the work unless N
+is given.
 """
 
 import argparse

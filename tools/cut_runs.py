@@ -1,10 +1,12 @@
 #!/usr/bin/env python3
-"""Runs that are cut in two: what `save` and `resume` write is together what one run writes, wherever it is cut.
+"""Runs that are cut in two: `save` and `resume` together write what one run writes.
 
     tools/cut_runs.py PATH_OF_P3L
 
-Each program of examples/ is run by a seed on its items, for two numbers of processors, with a trace. Then its first picks are saved, as many as some
-places say, and the rest is resumed three times: by turns, by another seed, and under the picks that are left. The last line is `N passed, M failed`.
+Each program of examples/ is run by a seed on its items, with a trace, for two numbers of
+processors. Then the run is saved after some of its picks, at several places. The rest is resumed
+three times: by turns, by another seed, and under the remaining picks. The last line is `N passed, M
+failed`.
 """
 
 import os

@@ -1,12 +1,14 @@
 #!/usr/bin/env python3
-"""Snapshots with one byte changed: `resume` refuses each by its name, or runs it to an end by itself.
+"""Snapshots with one byte changed: `resume` refuses each by a number, or runs it to an end.
 
     tools/damaged_snapshots.py PATH_OF_P3L
 
-A snapshot is saved in the middle of a run of three programs: a pipe, a farm of maps, and a loop round a farm. As it is, it must be resumed to
-the rest of what the whole run writes. Then each byte of it is changed in turn, in its lowest bit, in its highest bit, to 0 and to 255. An answer
-is status 13 with the line of one number of a snapshot or an image, or status 0, 6 or 7 with its line and lines of numbers as results.
-Anything else is reported: another status, another line, a signal, or no end in time. The last lines count the answers.
+A snapshot is saved in the middle of a run of three programs: a pipe, a farm of maps, and a loop
+round a farm. Unchanged, it must be resumed to the rest of the results. Then each byte is changed in
+turn: its lowest bit, its highest bit, to 0 and to 255. An answer is status 13 with a number of a
+snapshot or an image, or status 0, 6 or 7 with its line and lines of numbers as results. Anything
+else is reported: another status or line, a signal, or no end in time. The last lines count the
+answers.
 """
 
 import collections

@@ -3,10 +3,11 @@
 
     tools/edits.py [NAME..]
 
-They have the form of must-fail edits, and `rt must-fail` tries them, in a copy of the checkout that takes what is built
-there. The gate tries those of crates/NAME/must-fail: of the crates that carry a run, its counts and its evidence, and of
-those whose check is short. Since a crate's edits cost a second check of that crate, those of texts, rules and words are
-tried here, after a change of their crates. The last line is `N refused, M not`.
+They have the form of must-fail edits. `rt must-fail` tries them in a copy of the checkout, which
+reuses what is built there. The gate tries those of crates/NAME/must-fail: of crates that carry a
+run, its counts and its evidence, and of crates whose check is short. The edits of a crate cost a
+second check of it, so those of texts, rules and words are tried here, after a change of their
+crates. The last line is `N refused, M not`.
 """
 
 import pathlib

@@ -1,11 +1,12 @@
 #!/usr/bin/env python3
-"""Hostile input: every file and stream that p3l reads, spoiled, and a named answer each time.
+"""Hostile input: each file and stream that p3l reads, damaged, gets a documented answer.
 
     tools/hostile.py PATH_OF_P3L [--quick]
 
-Each kind of input (a source text, costs, a certificate, an image, a trace, picks, a snapshot, the stream) is tried empty, of one byte, of
-random bytes by a fixed seed, of the greatest length and one byte more, and valid with one byte changed at each place. Each
-answer must have a status of docs/COMMANDS.md and lines of its forms, and must come in time that grows with the bytes. The
+Each kind of input is tried: a source text, costs, a certificate, an image, a trace, picks, a
+snapshot and the stream. It is empty, of one byte, of random bytes by a fixed seed, of the greatest
+length and one byte more, and valid with one byte changed at each place. Each answer must have a
+status of docs/COMMANDS.md and lines of its form, and come in a time that grows with the bytes. The
 last table gives seconds by length.
 """
 

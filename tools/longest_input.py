@@ -1,11 +1,11 @@
 #!/usr/bin/env python3
-"""The longest input: one of 2^36 bytes is too long, which ends with 14, and one of a byte less is not.
+"""The longest input: 2^36 bytes are too long, which gives status 14, and a byte less is not.
 
     tools/longest_input.py PATH_OF_P3L [BYTES [COMMAND..]]
 
-Each command that reads the input, or those that are named, is fed so through a pipe, with lines of blanks, which are passed. BYTES is the
-limit of a program that was made with another one. A whole run takes many minutes, so it is no part of the gate. The last line is
-`N passed, M failed`.
+Each command that reads the input, or those that are named, gets lines of blanks through a pipe;
+blank lines are skipped. BYTES is the limit of a program that was made with another one. A whole run
+takes many minutes, so it is no part of the gate. The last line is `N passed, M failed`.
 """
 
 import os

@@ -1,11 +1,12 @@
 #!/usr/bin/env python3
-"""Rewritten programs beside those that they were made of: examples and generated programs.
+"""Rewritten programs beside their originals: examples and generated programs.
 
     tools/rewrites.py PATH [COUNT]
 
-PATH is the program that was built. For each program of examples/ with its input, and for COUNT generated ones (200 if not given) with
-their costs, on 512 processors: what `rewrite` writes is its own canonical text; `run` of it writes and ends as `run` of the program
-does; and the service time that `explain` gives it is no greater.
+PATH is the built program. It works on each program of examples/ with its input, and on COUNT
+generated ones (200 if not given) with their costs, on 512 processors. The output of `rewrite` must
+be its own canonical text; `run` of it must write and end as `run` of the original does; and the
+service time that `explain` gives it must be no greater.
 """
 
 import os
