@@ -271,8 +271,8 @@ file is written.
   --capacity C     how many tokens a channel holds at most, 1 to 1,024 (4 if not
                    given)
 
-example: p3l save m.p3l --processors 16 --schedule file:m.picks --output m.shot
-         < items
+example: p3l save m.p3l --processors 16 --schedule file:m.picks \\
+         --output m.shot < items
 ";
 
 /// What `resume` does.
