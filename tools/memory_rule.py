@@ -3,9 +3,9 @@
 
     tools/memory_rule.py [ROOT]
 
-Every contract that ends with out of memory says that a request was refused, and only the conversions
-of std's two errors in p3l_refusal conclude this. A proof can't see who made such an error, so this
-script looks: in the src/ of each crate but crates of tests and p3l_refusal
+Every contract that ends with out of memory says that a request was refused, and only the
+conversions of std's two errors in p3l_refusal conclude this. A proof can't see who made such an
+error, so this script looks: in the src/ of each crate but crates of tests and p3l_refusal
 
   - `AllocError` stands only in imports, in the signatures of functions and in the heads of impls;
   - `AllocFailed {` stands nowhere, and neither error is imported under another name;
@@ -41,7 +41,7 @@ LIMITLESS = re.compile(r"\b(?:usize|u64|isize)\s*::\s*MAX\b|\b18_?446_?744_?073_
 FORGED_FILE = "crates/p3l_format/src/fault.rt"
 FORGERIES = [
     "fn forged() -> NoMemory {\n    NoMemory::from(AllocError)\n}\n",
-    "fn forged() -> NoMemory {\n    let error: AllocError = Default::default();\n    error.into()\n}\n",
+    "fn forged() -> NoMemory {\n    let error: AllocError = made();\n    error.into()\n}\n",
     "fn forged() -> Result<(), NoMemory> {\n    Err(std::alloc::AllocError)?\n}\n",
     "type Wanted = AllocError;\n",
     "use std::alloc::{AllocError as Wanted};\n",
@@ -104,7 +104,8 @@ def places_of_faults(text):
 def faults_of(text):
     """The lines of a text that break the rule, each with what is wrong there."""
     ends = [at for at, sign in enumerate(text) if sign == "\n"]
-    return [(bisect.bisect(ends, at - 1) + 1, wrong) for at, wrong in sorted(places_of_faults(text))]
+    found = sorted(places_of_faults(text))
+    return [(bisect.bisect(ends, at - 1) + 1, wrong) for at, wrong in found]
 
 
 def files(root):
