@@ -238,7 +238,7 @@ counts of elements, turns and stages multiply along the tree. The place is
     > loop main in(int x) out(int y) turns 65536
     > l in(x) out(y) while one in(y) out(int c) end loop' >a.p3l
     $ p3l check a.p3l
-    source: 3:6: 33 TooHeavy
+    source: 4:6: 33 TooHeavy
 
 To mend it: give fewer `turns`, or let a body do by a `while` what small
 processes do one by one.
