@@ -1,11 +1,14 @@
 #!/usr/bin/env python3
-"""Sessions in texts: runs each command that README.md, the files of docs/ and the pages of numbers show, and compares what it writes.
+"""Sessions in texts: runs each command that README.md, the files of docs/ and the pages of numbers
+show, and compares what it writes.
 
-    tools/blocks.py PATH-OF-P3L [--mend] [FILE..]
+    tools/blocks.py PATH-OF-P3L [--mend] [FILE..]       these files, or all of them and the pages
+    tools/blocks.py PATH-OF-P3L --pages                 the pages alone
 
-A session is a block of lines, in a fence or four spaces to the right: `$ ` begins a command, `> ` goes on with it, and the lines after
-it are what it writes to standard output and standard error. The sessions of a file run in one shell, in a folder of their own with a
-copy of examples/, in their order; each page in a new one. With --mend the files get what the commands wrote.
+A session is a block of lines, in a fence or four spaces to the right: `$ ` begins a command, `> `
+goes on with it, and the lines after it are what it writes to standard output and standard error.
+The sessions of a file run in one shell, in a folder of their own with a copy of examples/, in their
+order; each page in a new one. With --mend the files get what the commands wrote.
 """
 
 import argparse
@@ -24,10 +27,15 @@ NUMBER = re.compile(r"\| (\d+) \| \w+ (?=\|)")
 
 
 class Command:
-    """A command of a session, with the lines that show it and those that it is expected to write."""
+    """A command of a session, with the lines that show it and those that it shall write."""
 
     def __init__(self, indent, line):
-        self.indent, self.shown, self.text, self.expected = indent, [line], [line[len(indent) + 2 :]], []
+        self.indent, self.shown = indent, [line]
+        self.text, self.expected = [line[len(indent) + 2 :]], []
+
+    def goes_on(self, body):
+        """Whether a line goes on with the command."""
+        return not self.expected and (body == ">" or body.startswith("> "))
 
 
 def pieces_of(text):
@@ -41,7 +49,7 @@ def pieces_of(text):
         if body is not None and body.startswith("$ ") and not fence:
             command = Command(indent, line)
             pieces.append(command)
-        elif command and not fence and body is not None and (body == ">" or body.startswith("> ")) and not command.expected:
+        elif command and not fence and body is not None and command.goes_on(body):
             command.shown.append(line)
             command.text.append(body[2:])
         elif command and not fence and body is not None:
@@ -61,7 +69,8 @@ def run_all(commands, program):
         os.symlink(program, f"{folder}/.bin/p3l")
         env = {**os.environ, "PATH": f"{folder}/.bin:{os.environ['PATH']}", "LC_ALL": "C"}
         how = {"stdin": subprocess.DEVNULL, "stdout": subprocess.PIPE, "stderr": subprocess.STDOUT}
-        shell = subprocess.run(["bash", "-c", script], cwd=folder, env=env, timeout=SECONDS, **how)
+        how |= {"cwd": folder, "env": env, "timeout": SECONDS}
+        shell = subprocess.run(["bash", "-c", script], **how)
     return shell.stdout.decode(errors="replace").split(MARK)
 
 
@@ -70,7 +79,7 @@ def lines_of(output):
 
 
 def compare(name, text, program):
-    """The text with what its commands wrote in the place of what it says; prints each that differs."""
+    """The text with what its commands wrote in the place of what it says; prints what differs."""
     pieces = pieces_of(text)
     commands = [it for it in pieces if isinstance(it, Command)]
     wrong = 0
@@ -96,16 +105,19 @@ def pages(program):
     table = (ROOT / "docs/COMMANDS.md").read_text().partition("## Numbers and names")[2]
     for number in sorted(NUMBER.findall(table), key=int):
         ran = subprocess.run([program, "help", number], capture_output=True, text=True)
-        yield f"help {number}", ran.stdout if ran.returncode == 0 else f"    $ p3l help {number}\n"
+        missing = f"    $ p3l help {number}\n"
+        yield f"help {number}", missing if ran.returncode else ran.stdout
 
 
 def main():
     words = argparse.ArgumentParser(description=__doc__.split("\n")[0])
     words.add_argument("program", type=lambda path: str(pathlib.Path(path).resolve()))
     words.add_argument("--mend", action="store_true")
+    words.add_argument("--pages", action="store_true")
     words.add_argument("files", nargs="*", type=pathlib.Path)
     given = words.parse_intermixed_args()
     files = given.files or [ROOT / "README.md", *sorted((ROOT / "docs").glob("*.md"))]
+    files = [] if given.pages else files
     count = wrong = 0
     for file in files:
         text = file.read_text()

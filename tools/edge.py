@@ -1,15 +1,19 @@
 #!/usr/bin/env python3
-"""The edge: what the built program does with words, files and streams of the operating system, which no proof sees.
+"""The edge: what the built program does with words, files and streams of the operating system,
+which no proof sees.
 
     tools/edge.py PATH_OF_P3L
 
-Each case is a command line with what it is given, and the status, the standard output and the lines of standard error that
-docs/COMMANDS.md says. Then come real pipes, read piece by piece and line by line, full disks and closed pipes, a directory in
-the place of a file, bytes that aren't UTF-8, and no memory for the words; and the calls of the system are counted that read a
-file and write results. The last line is `N passed, M failed`.
+Each case is a command line with what it is given, and the status, the standard output and the lines
+of standard error that docs/COMMANDS.md says. Then come real pipes, read piece by piece and line by
+line, terminals, full disks and closed pipes, a directory in the place of a file, bytes that aren't
+UTF-8, and no memory for the words; and the calls of the system are counted that read a file and
+write results. The last line is `N passed, M failed`.
 """
 
 import os
+import pty
+import re
 import resource
 import shutil
 import signal
@@ -21,12 +25,14 @@ import time
 DOUBLE = b"seq main in(int x) out(int y)\n${ y = x * 2 + 1; }$\nend seq\n"
 DOUBLE_TEXT = b"seq main in(int x) out(int y)\n${\n  y = x * 2 + 1;\n}$\nend seq\n"
 DIVISION = b"seq main in(int x) out(int y)\n${ y = 100 / x; }$\nend seq\n"
-FARM = b"seq f in(int x) out(int y) ${ y = x + 1; }$ end seq farm main in(int x) out(int y) workers 3 f in(x) out(y) end farm"
+FARM = b"""seq f in(int x) out(int y) ${ y = x + 1; }$ end seq
+farm main in(int x) out(int y) workers 3 f in(x) out(y) end farm"""
 RUN = ["run", "m.p3l", "--processors", "4"]
 STATS = "stats: items {0}, fired {1}, idle 0, bound {1}\n"
 USAGE = "usage: the words are not a command of p3l\n"
 WRITE_FAULT = "write fault\n"
 FULL, SECONDS = "/dev/full", 120
+VERSION = re.compile(rb"p3l \d+\.\d+\.\d+\n(proved by rattle, logic [0-9a-f]{16}|not proved)\n")
 FILES = {
     "m.p3l": DOUBLE,
     "d.p3l": DIVISION,
@@ -43,14 +49,14 @@ FILES = {
     "bad.image": b"P3LIx",
 }
 
-# The words, the input, and what ends them: the status, the output and the lines. A text that isn't given isn't compared.
+# The words, the input, and what ends them: the status, the output and the lines. A text that isn't
+# given isn't compared.
 WORDS = [
     ([], b"", 2, "", USAGE),
     (["walk"], b"", 2, "", USAGE),
     (["run", "m.p3l"], b"", 2, "", USAGE),
     ([*RUN, "--stats", "--stats"], b"1\n", 2, "", USAGE),
     (["run", "m.p3l", "--processors", "513"], b"1\n", 2, "", USAGE),
-    (["--version"], b"", 0, "p3l 0.1.0\nproved by rattle, logic dac8208d650f15bf\n", ""),
     (["--help"], b"", 0, None, ""),
     (["run", "-h"], b"", 0, None, ""),
     (RUN, b"1\n2\n-3\n", 0, "3\n5\n-5\n", ""),
@@ -58,7 +64,8 @@ WORDS = [
     (RUN, b"", 0, "", ""),
     ([*RUN, "--schedule", "seed:7", "--capacity", "1024"], b"1\n\n 2\t\r\n3", 0, "3\n5\n7\n", ""),
     ([*RUN, "--schedule", "file:picks"], b"1\n", 0, "3\n", ""),
-    ([*RUN, "--schedule", "file:short.picks"], b"1\n2\n3\n", 1, "3\n", "stopped: 4 fired, 0 idle\n"),
+    ([*RUN, "--schedule", "file:short.picks"], b"1\n2\n3\n", 1, "3\n",
+     "stopped: 4 fired, 0 idle\n"),
     (["check", "bad.p3l"], b"", 3, "", "source: 1:17: 2 BadToken\n"),
     (["check", "w.p3l"], b"", 0, "ok: 2 modules, 2 instances\n", ""),
     (["fmt", "m.p3l"], b"", 0, DOUBLE_TEXT.decode(), ""),
@@ -66,31 +73,33 @@ WORDS = [
     (RUN, b"1\nx\n", 6, "3\n", "stream: line 2: 100 BadWord\n"),
     (RUN, b"1\n2 3\n", 6, "3\n", "stream: line 2: 101 WrongCount 2\n"),
     (RUN, b"9223372036854775808\n", 6, "", "stream: line 1: 102 OutOfRange\n"),
-    (["run", "d.p3l", "--processors", "4"], b"5\n0\n2\n", 7, "20\n", "trap: item 2: division by zero in main\n"),
+    (["run", "d.p3l", "--processors", "4"], b"5\n0\n2\n", 7, "20\n",
+     "trap: item 2: division by zero in main\n"),
     (["run", "none.p3l", "--processors", "4"], b"1\n", 9, "", "file fault: none.p3l\n"),
     (["fmt", "long.p3l"], b"", 9, "", "file too long: long.p3l\n"),
     ([*RUN, "--schedule", "file:none"], b"1\n", 9, "", "file fault: none\n"),
     (["exec", "bad.image"], b"1\n", 13, "", "evidence: 82 Short 4\n"),
-    (["explain", "m.p3l", "--processors", "4"], b"", 0, "processors 4 used 1 service 122\n0 seq main procs 1 service 122\n", ""),
+    (["explain", "m.p3l", "--processors", "4"], b"", 0,
+     "processors 4 used 1 service 122\n0 seq main procs 1 service 122\n", ""),
 ]
 
 # Directories in the place of files, and bytes that are no text.
 ODD = [
     (["check", "."], b"", 9, "", "file fault: .\n"),
     (["exec", "."], b"", 9, "", "file fault: .\n"),
-    (["explain", "m.p3l", "--processors", "4", "--costs", "."], b"", 9, "", "file fault: .\n"),
+    (["explain", "m.p3l", *RUN[2:], "--costs", "."], b"", 9, "", "file fault: .\n"),
     ([*RUN, "--schedule", "file:."], b"1\n", 9, "", "file fault: .\n"),
     (["compile", "m.p3l", "--processors", "4", "--output", "."], b"", 10, "", WRITE_FAULT),
-    (["compile", "m.p3l", "--processors", "4", "--output", "none/image"], b"", 10, "", WRITE_FAULT),
+    (["compile", "m.p3l", *RUN[2:], "--output", "none/image"], b"", 10, "", WRITE_FAULT),
     (["compile", "m.p3l", "--processors", "4", "--output", FULL], b"", 10, "", WRITE_FAULT),
     ([*RUN, "--trace", "."], b"1\n", 10, "3\n", WRITE_FAULT),
     ([*RUN, "--trace", FULL], b"1\n", 10, "3\n", WRITE_FAULT),
-    (["gen", "7", "--processors", "4", "--items", "1", "--save", "none/seven"], b"", 10, "", WRITE_FAULT),
+    (["gen", "7", *RUN[2:], "--items", "1", "--save", "none/seven"], b"", 10, "", WRITE_FAULT),
     (["check", b"m\xff.p3l"], b"", 2, "", USAGE),
     ([b"\xff"], b"", 2, "", USAGE),
     (["check", "latin.p3l"], b"", 0, "ok: 1 modules, 1 instances\n", ""),
     (["check", "byte.p3l"], b"", 3, "", "source: 1:5: 1 BadByte\n"),
-    (["explain", "m.p3l", "--processors", "4", "--costs", "latin.toml"], b"", 4, "", "costs: 50 NotToml\n"),
+    (["explain", "m.p3l", *RUN[2:], "--costs", "latin.toml"], b"", 4, "", "costs: 50 NotToml\n"),
     ([*RUN, "--schedule", "file:bad.picks"], b"1\n", 12, "", "schedule: line 2: 95 BadPick\n"),
     (RUN, b"1\n\xff\n", 6, "3\n", "stream: line 2: 100 BadWord\n"),
 ]
@@ -100,10 +109,12 @@ COURSE = [
     (["compile", "m.p3l", "--processors", "4", "--output", "image"], b"", 0, "", ""),
     (["exec", "image", "--stats"], b"1\n2\n-3\n", 0, "3\n5\n-5\n", STATS.format(3, 9)),
     (["explain", "m.p3l", "--processors", "4", "--cert", "cert"], b"", 0, None, ""),
-    (["verify-cert", "m.p3l", "--cert", "cert"], b"", 0, "certificate holds: processors 4 used 1 service 122\n", ""),
+    (["verify-cert", "m.p3l", "--cert", "cert"], b"", 0,
+     "certificate holds: processors 4 used 1 service 122\n", ""),
     ([*RUN, "--trace", "trace"], b"1\n", 0, "3\n", ""),
-    (["check-trace", "m.p3l", "--processors", "4", "--trace", "trace"], b"1\n", 0, "trace holds: 3 fired, 0 idle\n", ""),
-    (["check-trace", "m.p3l", "--processors", "4", "--trace", "trace"], b"", 13, "", "evidence: 111 Differs 2\n"),
+    (["check-trace", *RUN[1:], "--trace", "trace"], b"1\n", 0,
+     "trace holds: 3 fired, 0 idle\n", ""),
+    (["check-trace", *RUN[1:], "--trace", "trace"], b"", 13, "", "evidence: 111 Differs 2\n"),
 ]
 
 
@@ -139,7 +150,8 @@ class Edge:
 def try_full(edge):
     """A full disk in the place of standard output, of standard error, and of both."""
     with open(FULL, "wb") as full:
-        for words in (RUN, ["fmt", "m.p3l"], ["check", "m.p3l"], ["--help"], ["explain", "m.p3l", "--processors", "4"]):
+        explain = ["explain", *RUN[1:]]
+        for words in (RUN, ["fmt", "m.p3l"], ["check", "m.p3l"], ["--help"], explain):
             status, _, lines = edge.run(words, b"1\n", out=full)
             edge.expect(("full output", words), (status, lines), (10, WRITE_FAULT.encode()))
         for words, stream, wanted in (
@@ -151,12 +163,13 @@ def try_full(edge):
         edge.expect("both are full", edge.run(RUN, b"1\n", out=full, err=full)[:1], (10,))
         for stream in (b"1\nx\n", b"1\n" * 50_000):
             status, _, lines = edge.run([*RUN, "--trace", "unwritten"], stream, out=full)
-            left = os.path.exists(f"{edge.folder}/unwritten")
-            edge.expect(("results before a line or a file", len(stream)), (status, lines, left), (10, WRITE_FAULT.encode(), False))
+            found = status, lines, os.path.exists(f"{edge.folder}/unwritten")
+            name = "results before a line or a file", len(stream)
+            edge.expect(name, found, (10, WRITE_FAULT.encode(), False))
 
 
 def try_pieces(edge):
-    """An input that comes a byte at a time, and results that are read before the next item is given."""
+    """An input that comes a byte at a time, and results that are read before the next item."""
     child = edge.start(RUN, stdin=subprocess.PIPE, stdout=subprocess.PIPE, stderr=subprocess.PIPE)
     for byte in b"1\n2\n-3\n":
         child.stdin.write(bytes([byte]))
@@ -174,15 +187,17 @@ def try_pieces(edge):
 
 
 def try_pipes(edge):
-    """Two programs one after the other, an output that is closed, and an input that is a directory or is closed."""
+    """Two programs one after the other, an output that is closed, and an input that is none."""
     first = edge.start(RUN, stdin=subprocess.PIPE, stdout=subprocess.PIPE)
     second = edge.start(RUN, stdin=first.stdout, stdout=subprocess.PIPE)
     first.stdout.close()
     first.stdin.write(b"1\n2\n")
     first.stdin.close()
     output, _ = second.communicate(timeout=SECONDS)
-    edge.expect("two in a pipe", (first.wait(SECONDS), second.returncode, output), (0, 0, b"7\n11\n"))
-    child = edge.start(RUN, stdin=subprocess.PIPE, stdout=subprocess.PIPE, stderr=subprocess.PIPE, bufsize=0)
+    found = first.wait(SECONDS), second.returncode, output
+    edge.expect("two in a pipe", found, (0, 0, b"7\n11\n"))
+    pipes = {"stdin": subprocess.PIPE, "stdout": subprocess.PIPE, "stderr": subprocess.PIPE}
+    child = edge.start(RUN, **pipes, bufsize=0)
     child.stdin.write(b"1\n2\n3\n")
     first = child.stdout.readline()
     child.stdout.close()
@@ -190,7 +205,8 @@ def try_pipes(edge):
     child.stdin.close()
     status, lines = child.wait(SECONDS), child.stderr.read()
     child.stderr.close()
-    edge.expect("a pipe that is closed after a result", (first, status, lines), (b"3\n", 10, WRITE_FAULT.encode()))
+    wanted = b"3\n", 10, WRITE_FAULT.encode()
+    edge.expect("a pipe that is closed after a result", (first, status, lines), wanted)
     reader, writer = os.pipe()
     os.close(reader)
     status, _, lines = edge.run(RUN, b"1\n", out=writer)
@@ -200,7 +216,8 @@ def try_pipes(edge):
     child = edge.start(RUN, stdin=folder, stdout=subprocess.PIPE, stderr=subprocess.PIPE)
     output, lines = child.communicate(timeout=SECONDS)
     os.close(folder)
-    edge.expect("a directory for an input", (child.returncode, output, lines), (8, b"", b"read fault\n"))
+    found = child.returncode, output, lines
+    edge.expect("a directory for an input", found, (8, b"", b"read fault\n"))
 
 
 def try_left(edge):
@@ -218,7 +235,8 @@ def try_left(edge):
 
 
 def calls_of(child, which):
-    """How many calls of the system a program that waits for input has made: `syscr` that read, `syscw` that write."""
+    """How many calls of the system a program that waits for input has made: `syscr` that read,
+    `syscw` that write."""
     ends = time.monotonic() + SECONDS
     while state_of(child) != "S" and time.monotonic() < ends:
         time.sleep(0.01)
@@ -233,11 +251,13 @@ def state_of(child):
 
 
 def try_calls(edge):
-    """A file of 1 MiB is read by at most 100 calls; items given at once are read by one, and their results written by one."""
+    """A file of 1 MiB is read by at most 100 calls; items given at once are read by one, and their
+    results written by one."""
     if not os.access("/proc/self/io", os.R_OK):
         print("edge: this system doesn't count calls, so they aren't compared")
         return
-    child = edge.start(["run", "wide.p3l", *RUN[2:]], stdin=subprocess.PIPE, stdout=subprocess.PIPE)
+    pipes = {"stdin": subprocess.PIPE, "stdout": subprocess.PIPE}
+    child = edge.start(["run", "wide.p3l", *RUN[2:]], **pipes)
     # A result comes out once the source's inbox holds the item after the next one.
     child.stdin.write(b"1\n2\n3\n")
     child.stdin.flush()
@@ -248,7 +268,8 @@ def try_calls(edge):
     child.stdin.flush()
     lines = [child.stdout.readline() for _ in range(3)]
     made = [calls_of(child, which) - was for which, was in zip(("syscr", "syscw"), before)]
-    edge.expect("a call for what comes at once", (lines, made), ([b"5\n", b"7\n", b"41\n"], [1, 1]))
+    wanted = [b"5\n", b"7\n", b"41\n"], [1, 1]
+    edge.expect("a call for what comes at once", (lines, made), wanted)
     child.communicate(timeout=SECONDS)
 
 
@@ -257,14 +278,16 @@ def limit_memory(limit):
 
 
 def try_no_memory(edge):
-    """Megabytes of words, with more and more memory: the program doesn't start, has no memory for them, or takes them. One that `rt try`
-    made doesn't start under a limit, but its sanitizer refuses what takes more than a megabyte; no other program has this option."""
+    """Megabytes of words, with more and more memory: the program doesn't start, has no memory for
+    them, or takes them. One that `rt try` made doesn't start under a limit, but its sanitizer
+    refuses what takes more than a megabyte; no other program has this option."""
     ended = set()
 
     def note(words, **how):
         done = subprocess.run([edge.binary, *words], capture_output=True, timeout=SECONDS, **how)
         if 0 <= done.returncode <= 14 and b"AddressSanitizer: CHECK failed" not in done.stderr:
-            ended.add((done.returncode, done.stdout, done.stderr[done.stderr.rfind(b"\n", 0, -1) + 1 :]))
+            last = done.stderr[done.stderr.rfind(b"\n", 0, -1) + 1 :]
+            ended.add((done.returncode, done.stdout, last))
 
     for limit in range(1 << 20, 64 << 20, 1 << 18):
         try:
@@ -272,8 +295,61 @@ def try_no_memory(edge):
         except OSError:
             continue
     note(["w" * 10] * 60_000)
-    note(["w" * 10] * 60_000, env={**os.environ, "ASAN_OPTIONS": "allocator_may_return_null=1:max_allocation_size_mb=1"})
-    edge.expect("no memory for the words", (ended,), ({(2, b"", USAGE.encode()), (11, b"", b"no memory\n")},))
+    limits = "allocator_may_return_null=1:max_allocation_size_mb=1"
+    note(["w" * 10] * 60_000, env={**os.environ, "ASAN_OPTIONS": limits})
+    wanted = {(2, b"", USAGE.encode()), (11, b"", b"no memory\n")}
+    edge.expect("no memory for the words", (ended,), (wanted,))
+
+
+def try_version(edge):
+    """The version, which says what the program is proved by, or that it isn't."""
+    status, output, lines = edge.run(["--version"])
+    edge.expect("the version", (status, bool(VERSION.fullmatch(output)), lines), (0, True, b""))
+
+
+class Terminal:
+    """The inner end of a terminal, for a stream of a program, and what was written to it."""
+
+    def __init__(self):
+        self.outer, self.inner = pty.openpty()
+
+    def written(self):
+        """What was written until the program closed it, with the line ends that it wrote."""
+        os.close(self.inner)
+        said = b""
+        try:
+            while piece := os.read(self.outer, 65536):
+                said += piece
+        except OSError:
+            # a terminal that nobody has open any more ends so
+            pass
+        os.close(self.outer)
+        return said.replace(b"\r\n", b"\n")
+
+
+def on_terminal(edge, words, stream=b"", **env):
+    """Status, output and lines of a run whose standard error is a terminal."""
+    terminal = Terminal()
+    how = {"stdin": subprocess.PIPE, "stdout": subprocess.PIPE, "stderr": terminal.inner}
+    how["env"] = {**os.environ, **env}
+    child = edge.start(words, **how)
+    output, _ = child.communicate(stream, timeout=SECONDS)
+    return child.returncode, output, terminal.written()
+
+
+def try_terminals(edge):
+    """The lines of a terminal begin with those of a pipe; with short messages they are the same."""
+    for words, stream, status, output, lines in (*WORDS, *ODD):
+        found = on_terminal(edge, words, stream)
+        wanted = status, None if output is None else output.encode(), True
+        is_front = found[2].startswith(lines.encode())
+        edge.expect(("on a terminal", words), (*found[:2], is_front), wanted)
+        found = on_terminal(edge, words, stream, P3L_MESSAGES="short")
+        edge.expect(("short on a terminal", words), found, (*wanted[:2], lines.encode()))
+
+
+ATTEMPTS = [try_version, try_full, try_pieces, try_pipes, try_terminals, try_left, try_calls]
+ATTEMPTS += [try_no_memory]
 
 
 def main():
@@ -288,7 +364,7 @@ def main():
         edge = Edge(os.path.abspath(sys.argv[1]), folder)
         for cases in (WORDS, ODD, COURSE):
             edge.try_words(cases)
-        for attempt in (try_full, try_pieces, try_pipes, try_left, try_calls, try_no_memory):
+        for attempt in ATTEMPTS:
             try:
                 attempt(edge)
             except (OSError, subprocess.TimeoutExpired) as fault:

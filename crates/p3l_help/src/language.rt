@@ -18,12 +18,13 @@ is a line of the output. Values are whole numbers of 64 bits.
     end map
 
 Modules
-  seq NAME in(PORTS) out(PORTS) [budget B] [rescue R] ${ DECLARATIONS STATEMENTS }$ end seq
+  seq NAME in(PORTS) out(PORTS) [budget B] [rescue R]
+      ${ DECLARATIONS STATEMENTS }$ end seq
                                 a body
   comp NAME .. [rescue R] CALL CALL .. end comp
                                 one after another, in one process
   pipe NAME .. CALL CALL .. end pipe
-                                one after another, each with processes of its own
+                                one after another, each in its own processes
   farm NAME .. [workers W] CALL end farm
                                 copies of one module, which take items by turns
   map NAME .. [workers W] CALL end map
@@ -33,12 +34,13 @@ Modules
   loop NAME .. turns T [tokens K] CALL while CALL end loop
                                 again and again while the second call gives no 0
 
-Ports are `int x` or `int a[3][4]`. A call is `NAME in(ARGUMENTS) out(ARGUMENTS)`;
-between stages of a `pipe` or `comp`, and as the out of a loop's condition, an
-out is a new port, `out(int z)`. In a `map` and a `reduce` a star marks an index
-that tells elements apart, `a[*i]`, and empty brackets leave a whole row, `a[*i][]`.
-A module calls only modules that stand above it. Where a trap comes in a module with
-`rescue -1`, each word that it gives is -1, and the stream goes on.
+Ports are `int x` or `int a[3][4]`. A call is
+`NAME in(ARGUMENTS) out(ARGUMENTS)`; between stages of a `pipe` or `comp`, and
+as the out of a loop's condition, an out is a new port, `out(int z)`. In a `map`
+and a `reduce` a star marks an index that tells elements apart, `a[*i]`, and
+empty brackets leave a whole row, `a[*i][]`. A module calls only modules that
+stand above it. Where a trap comes in a module with `rescue -1`, each word that
+it gives is -1, and the stream goes on.
 
 Bodies
   int i; int t[8];              local variables, which begin at 0, as outs do
@@ -51,8 +53,9 @@ Operators, the loosest first; all of a line group to the left
   ||        &&        |        ^        &        == !=        < <= > >=
   << >>     + -       * / %    and before an operand: - ! ~
 Sums, differences, products and - wrap. / truncates, and % has the sign of the
-dividend. >> keeps the sign. Comparisons, !, && and || give 0 or 1. A zero divisor,
-an index or a shift out of range ends the run by a trap: see p3l help status.
+dividend. >> keeps the sign. Comparisons, !, && and || give 0 or 1. A zero
+divisor, an index or a shift out of range ends the run by a trap: see p3l help
+status.
 
 Limits
   64 bytes a name, 3 sizes of 1 to 65,536 an array, 65,536 words in, out and in
@@ -71,9 +74,9 @@ Not in the language, and what to write instead
   c ? a : b                     if (c) { y = a; } else { y = b; }
   recursion                     a loop, or while in a body
   1.5                           15, counted in tenths
-  names that clash with words   seq pipe farm map reduce comp loop end in out int
-                                const workers turns tokens budget rescue while if else
-                                for
+  names that clash with words   seq pipe farm map reduce comp loop end in out
+                                int const workers turns tokens budget rescue
+                                while if else for
 
 `p3l help NUMBER` has the rule of a refusal. `p3l fmt` shows the canonical text.
 ";

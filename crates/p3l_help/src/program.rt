@@ -7,35 +7,37 @@ pub(crate) const PROGRAM: &str =
 usage: p3l COMMAND ..
 
 commands:
-  run PROGRAM --processors P ..           run a program on the standard input
-  compile PROGRAM --processors P ..       write the image of a program to a file
-  exec IMAGE ..                           run an image on the standard input
-  migrate IMAGE --output FILE             write an image of the newest version, linked anew
-  explain PROGRAM --processors P ..       write the worker counts that are chosen for a program
-  graph PROGRAM --processors P ..         write a picture of a program's network, for Graphviz
-  verify-cert PROGRAM --cert FILE ..      check a certificate that worker counts are the best
-  check-trace PROGRAM --processors P ..   check a trace against a run on the standard input
-  check PROGRAM                           say whether a program keeps the rules of the language
-  fmt PROGRAM                             write a program in its canonical text, without comments
-  gen N --processors P ..                 generate a program with its items by a number, and run it
-  rewrite PROGRAM --processors P ..       write a program that means the same and takes no more time
-  profile PROGRAM                         write the costs that a program shows on the standard input
-  time PROGRAM --processors P ..          run a program in virtual time, and say how long it took
-  scan PROGRAM --segments M ..            fold all fronts of the lists of the standard input
-  save PROGRAM --processors P ..          run recorded picks, and write what is then in the network
-  resume SNAPSHOT ..                      go on from what save wrote, on the standard input
+  run PROGRAM ..           run a program on the standard input
+  compile PROGRAM ..       write the image of a program to a file
+  exec IMAGE ..            run an image on the standard input
+  migrate IMAGE ..         convert an image to the newest version and relink it
+  explain PROGRAM ..       write the worker counts that are chosen for a program
+  graph PROGRAM ..         write a picture of a program's network, for Graphviz
+  verify-cert PROGRAM ..   check a certificate that worker counts are the best
+  check-trace PROGRAM ..   check a trace against a run on the standard input
+  check PROGRAM            say whether a program keeps the rules of the language
+  fmt PROGRAM              write a program in its canonical text
+  gen N ..                 generate a program and its items by a number, run it
+  rewrite PROGRAM ..       write a program that means the same and is no slower
+  profile PROGRAM          write the costs that a program shows on an input
+  time PROGRAM ..          run a program in virtual time, say how long it took
+  scan PROGRAM ..          fold every prefix of each list of the standard input
+  save PROGRAM ..          run a recorded schedule and save the network's state
+  resume SNAPSHOT ..       continue from a snapshot, on the standard input
 
 help:
-  help COMMAND      what a command does, its words and an example; p3l COMMAND --help says the same
+  help COMMAND      what a command does, its words and an example; the same as
+                    p3l COMMAND --help
   help status       what the program's status and its message say
-  help NUMBER       a number of refusal: the rule, a text that breaks it, and how to mend it
+  help NUMBER       a number of refusal: the rule, a text that breaks it, and
+                    how to mend it
   help language     the language on a page
   --version         the version, and the logic by which the program is proved
 
-Options stand in any order, each once at most; numbers have no sign and no leading zero.
-Results go to the standard output, and a message to the standard error says why the program
-ended with another status than 0. One thread runs: --processors chooses worker counts, and
-makes no run faster.
+Options may come in any order, at most once each; numbers have no sign and no
+leading zero. Results go to the standard output, and a message to the standard
+error says why the program ended with another status than 0. One thread runs:
+--processors chooses worker counts, and makes no run faster.
 ";
 
 /// The version of the program, and the logic by which it is proved: that of the toolchain.
@@ -69,12 +71,13 @@ says more of it.
    9  file fault: NAME, or file too long: NAME
       a file could not be read, or is longer than its limit
   10  write fault
-      the standard output or a file could not be written
+      the standard output or a file could not be written; or the file was read
+      by this command, or is its standard input or output
   11  no memory
   12  schedule: line N: NUMBER NAME
       the file of picks is refused at this line
   13  evidence: NUMBER NAME ..
-      an image, a certificate, a trace or a snapshot is refused, or a trace differs
+      an image, certificate, trace or snapshot is refused, or a trace differs
   14  input too long
       the input came to 68,719,476,736 bytes
   15  scan: NUMBER NAME

@@ -13,7 +13,8 @@ below it. The line has the row, counted from 0, what it keeps and what is found.
 
     $ echo 'seq main in(int x) out(int y) ${ y = x; }$ end seq' >a.p3l
     $ p3l explain a.p3l --processors 4 --cert a.cert >counts.txt
-    $ sed -i 's/^row 0 121 4 .*/row 0 121 4 3/' a.cert; p3l verify-cert a.p3l --cert a.cert
+    $ sed -i 's/^row 0 121 4 .*/row 0 121 4 3/' a.cert
+    $ p3l verify-cert a.p3l --cert a.cert
     evidence: 70 RowWrong 0: 3 is not 5
 
 To mend it: make the certificate anew by `p3l explain --cert`. One for other
@@ -48,7 +49,8 @@ none are better (Least).
 
     $ echo 'seq main in(int x) out(int y) ${ y = x; }$ end seq' >a.p3l
     $ p3l explain a.p3l --processors 4 --cert a.cert >counts.txt
-    $ sed -i 's/^service .*/service 1/' a.cert; p3l verify-cert a.p3l --cert a.cert
+    $ sed -i 's/^service .*/service 1/' a.cert
+    $ p3l verify-cert a.p3l --cert a.cert
     evidence: 72 ClaimWrong Service
 
 To mend it: name the program and the `--costs` that the certificate was made
@@ -75,7 +77,8 @@ To mend it: make it anew; an editor that changes line ends or blanks spoils it.
 
 The file is no image: it begins with other bytes than `P3LI`.
 
-    $ echo 'seq main in(int x) out(int y) ${ y = x; }$ end seq' >a.p3l; p3l exec a.p3l </dev/null
+    $ echo 'seq main in(int x) out(int y) ${ y = x; }$ end seq' >a.p3l
+    $ p3l exec a.p3l </dev/null
     evidence: 80 BadMagic
 
 To mend it: `exec` takes what `p3l compile --output` wrote; a program's text is
@@ -128,7 +131,8 @@ byte 8 is the capacity.
 Bytes stand after the end of the image, from this place on.
 
     $ echo 'seq main in(int x) out(int y) ${ y = x; }$ end seq' >a.p3l
-    $ p3l compile a.p3l --processors 4 --output a.img; echo >>a.img; p3l exec a.img </dev/null
+    $ p3l compile a.p3l --processors 4 --output a.img; echo >>a.img
+    $ p3l exec a.img </dev/null
     evidence: 84 TrailingBytes 173
 
 To mend it: copy the file as bytes, not as text.
@@ -144,7 +148,8 @@ reach past its memory, or take more from its stack than is there. No code that
 
     $ echo 'seq main in(int x) out(int y) ${ y = x; }$ end seq' >a.p3l
     $ p3l compile a.p3l --processors 4 --output a.img
-    $ printf '\\11' | dd of=a.img bs=1 seek=79 conv=notrunc status=none; p3l exec a.img </dev/null
+    $ printf '\\11' | dd of=a.img bs=1 seek=79 conv=notrunc status=none
+    $ p3l exec a.img </dev/null
     evidence: 90 CodeUnsafe 0
 
 To mend it: the image was changed by hand or damaged. Compile the program anew.
@@ -159,7 +164,8 @@ capacity.
 
     $ echo 'seq main in(int x) out(int y) ${ y = x; }$ end seq' >a.p3l
     $ p3l compile a.p3l --processors 4 --output a.img
-    $ printf '\\2' | dd of=a.img bs=1 seek=11 conv=notrunc status=none; p3l exec a.img </dev/null
+    $ printf '\\2' | dd of=a.img bs=1 seek=11 conv=notrunc status=none
+    $ p3l exec a.img </dev/null
     evidence: 91 NotLinked
 
 To mend it: the image was changed by hand or damaged. Compile the program anew.
@@ -175,7 +181,8 @@ of its nodes.
 
     $ echo 'seq main in(int x) out(int y) ${ y = x; }$ end seq' >a.p3l
     $ p3l compile a.p3l --processors 4 --output a.img
-    $ printf '\\2' | dd of=a.img bs=1 seek=37 conv=notrunc status=none; p3l exec a.img </dev/null
+    $ printf '\\2' | dd of=a.img bs=1 seek=37 conv=notrunc status=none
+    $ p3l exec a.img </dev/null
     evidence: 92 TreeWrong
 
 To mend it: the image was changed by hand or damaged. Compile the program anew.

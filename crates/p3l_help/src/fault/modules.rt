@@ -12,7 +12,8 @@ A name is taken: by another entry, by another port of the module, or by a
 constant. New ports that calls of a `pipe` or `comp` name count for the whole
 module.
 
-    $ echo 'seq main in(int x, int x) out(int y) ${ y = x; }$ end seq' >a.p3l; p3l check a.p3l
+    $ echo 'seq main in(int x, int x) out(int y) ${ y = x; }$ end seq' >a.p3l
+    $ p3l check a.p3l
     source: 1:24: 20 Twice
 
 To mend it: rename one of the two.
@@ -38,7 +39,8 @@ A call names this very module, or an entry that stands further down. So no
 module calls itself, not even through others.
 
     $ echo 'pipe main in(int x) out(int y) one in(x) out(y) end pipe
-    > seq one in(int x) out(int y) ${ y = x; }$ end seq' >a.p3l; p3l check a.p3l
+    > seq one in(int x) out(int y) ${ y = x; }$ end seq' >a.p3l
+    $ p3l check a.p3l
     source: 1:32: 22 UsedBeforeDefined
 
 To mend it: put the callee above its callers. In place of a recursion write a
@@ -53,7 +55,8 @@ A call has too many or too few arguments: as many ins and outs as the callee has
 ports, and one of each in a `reduce`.
 
     $ echo 'seq one in(int x) out(int y) ${ y = x; }$ end seq
-    > farm main in(int x) out(int y) one in(x, x) out(y) end farm' >a.p3l; p3l check a.p3l
+    > farm main in(int x) out(int y) one in(x, x) out(y) end farm' >a.p3l
+    $ p3l check a.p3l
     source: 2:32: 23 Arity
 
 To mend it: `p3l fmt` shows each module's ports on its first line; give one
@@ -69,7 +72,8 @@ a `reduce` the sizes that count are those which empty brackets leave: of
 `a[*i][]` with `int a[3][5]` that is `[5]`.
 
     $ echo 'seq one in(int x) out(int y) ${ y = x; }$ end seq
-    > farm main in(int x[3]) out(int y) one in(x) out(y) end farm' >a.p3l; p3l check a.p3l
+    > farm main in(int x[3]) out(int y) one in(x) out(y) end farm' >a.p3l
+    $ p3l check a.p3l
     source: 2:42: 24 TypeDiffers
 
 To mend it: give the port the callee's sizes, or wire the elements by a `map`:
@@ -88,7 +92,8 @@ all others are new ports, `out(int z)`. Names that are left over are reported at
 the call's name.
 
     $ echo 'seq one in(int x) out(int y) ${ y = x; }$ end seq
-    > farm main in(int x) out(int y) one in(y) out(y) end farm' >a.p3l; p3l check a.p3l
+    > farm main in(int x) out(int y) one in(y) out(y) end farm' >a.p3l
+    $ p3l check a.p3l
     source: 2:39: 25 Wiring
 
 To mend it: write the names in that order, all of them. Where a later stage
@@ -105,7 +110,9 @@ each stands for one size. The array of a `reduce` has its first bracket free and
 the others empty.
 
     $ echo 'seq one in(int x) out(int y) ${ y = x; }$ end seq
-    > map main in(int a[3]) out(int b[3]) one in(a[*k]) out(b[*i]) end map' >a.p3l; p3l check a.p3l
+    > map main in(int a[3]) out(int b[3]) one in(a[*k]) out(b[*i])
+    > end map' >a.p3l
+    $ p3l check a.p3l
     source: 2:47: 26 FreeIndex
 
 To mend it: give each array a bracket for each size, `[*i]` where the elements
@@ -121,7 +128,9 @@ the out of the `reduce` is such an element; or the module itself has other ports
 than one in, an array, and one out.
 
     $ echo 'seq one in(int x) out(int y) ${ y = x; }$ end seq
-    > reduce main in(int a[4]) out(int s) one in(a[*i]) out(s) end reduce' >a.p3l; p3l check a.p3l
+    > reduce main in(int a[4]) out(int s) one in(a[*i]) out(s)
+    > end reduce' >a.p3l
+    $ p3l check a.p3l
     source: 2:37: 27 BadOperator
 
 To mend it: call a module as `seq add in(int x, int y) out(int z)`. It is to be
@@ -138,7 +147,8 @@ A `farm`, a `pipe` and a `loop` have processes of their own.
 
     $ echo 'seq one in(int x) out(int y) ${ y = x; }$ end seq
     > farm two in(int x) out(int y) one in(x) out(y) end farm
-    > comp main in(int x) out(int y) two in(x) out(y) end comp' >a.p3l; p3l check a.p3l
+    > comp main in(int x) out(int y) two in(x) out(y) end comp' >a.p3l
+    $ p3l check a.p3l
     source: 3:32: 28 NotInComp
 
 To mend it: call the module inside instead (`one`), or make the caller a `pipe`.
@@ -154,7 +164,8 @@ same order; or the condition has another result than one new port without sizes,
 
     $ echo 'seq one in(int x) out(int y) ${ y = x; }$ end seq
     > loop main in(int x) out(int y[2]) turns 4
-    > one in(x) out(y) while one in(y) out(int c) end loop' >a.p3l
+    > one in(x) out(y)
+    > while one in(y) out(int c) end loop' >a.p3l
     $ p3l check a.p3l
     source: 2:6: 29 LoopTypes
 
@@ -204,7 +215,7 @@ Instances are nested more than 6 deep, `main` counting as one. The place is
 
     $ (echo 'seq m0 in(int x) out(int y) ${ y = x; }$ end seq'
     >  for i in 1 2 3 4 5 6; do
-    >    echo \"farm m$i in(int x) out(int y) m$((i - 1)) in(x) out(y) end farm\"
+    >  echo \"farm m$i in(int x) out(int y) m$((i - 1)) in(x) out(y) end farm\"
     >  done) |
     > sed 's/farm m6/farm main/' >a.p3l; p3l check a.p3l
     source: 7:6: 32 TooDeep
@@ -222,11 +233,12 @@ counts of elements, turns and stages multiply along the tree. The place is
 `main`'s name.
 
     $ echo 'seq one in(int x) out(int y) ${ y = x; }$ end seq
-    > loop l in(int x) out(int y) turns 65536 one in(x) out(y) while one in(y) out(int c) end loop
+    > loop l in(int x) out(int y) turns 65536 one in(x) out(y)
+    > while one in(y) out(int c) end loop
     > loop main in(int x) out(int y) turns 65536
     > l in(x) out(y) while one in(y) out(int c) end loop' >a.p3l
     $ p3l check a.p3l
-    source: 3:6: 33 TooHeavy
+    source: 4:6: 33 TooHeavy
 
 To mend it: give fewer `turns`, or let a body do by a `while` what small
 processes do one by one.

@@ -12,7 +12,8 @@ A word of the file of picks is no number: digits without a sign, up to
 18446744073709551615. The line counts from 1.
 
     $ echo 'seq main in(int x) out(int y) ${ y = x; }$ end seq' >a.p3l
-    $ echo '0 2 one' >picks; echo 5 | p3l run a.p3l --processors 4 --schedule file:picks
+    $ echo '0 2 one' >picks
+    $ echo 5 | p3l run a.p3l --processors 4 --schedule file:picks
     schedule: line 1: 95 BadPick
 
 To mend it: separate the numbers by blanks. The first words of a trace's lines
@@ -27,7 +28,8 @@ A pick is the number of no process of the network. The line has the pick and how
 many processes there are; they count from 0.
 
     $ echo 'seq main in(int x) out(int y) ${ y = x; }$ end seq' >a.p3l
-    $ echo '0 2 9' >picks; echo 5 | p3l run a.p3l --processors 4 --schedule file:picks
+    $ echo '0 2 9' >picks
+    $ echo 5 | p3l run a.p3l --processors 4 --schedule file:picks
     schedule: line 1: 96 NoSuchProcess 9 of 3
 
 To mend it: picks belong to one program with one number of processors and one
@@ -87,7 +89,8 @@ The first line, counted from 1, at which a trace is not of its form: `p3l-trace
 1`, then lines as `2 run` or `1 idle`, then `end FIRED IDLE`.
 
     $ echo 'seq main in(int x) out(int y) ${ y = x; }$ end seq' >a.p3l
-    $ echo 'p3l-trace 2' >a.trace; echo 5 | p3l check-trace a.p3l --processors 4 --trace a.trace
+    $ echo 'p3l-trace 2' >a.trace
+    $ echo 5 | p3l check-trace a.p3l --processors 4 --trace a.trace
     evidence: 110 BadLine 1
 
 To mend it: record the trace anew by `p3l run --trace`.
@@ -122,8 +125,8 @@ The module `main` of a program that is to be scanned is no reduce.
     $ echo 5 | p3l scan a.p3l --segments 1
     scan: 120 NotReduce
 
-To mend it: let `main` be a reduce of the list, and write what else is to be done
-with its items as another program.
+To mend it: let `main` be a reduce of the list, and write what else is to be
+done with its items as another program.
 ",
     },
     Page {
@@ -134,7 +137,8 @@ The segments are no power of two, or don't divide the length of the list that
 `main` folds. This one has six elements, so 1 and 2 segments do.
 
     $ echo 'seq add in(int x, int y) out(int z) ${ z = x + y; }$ end seq
-    > reduce main in(int a[6]) out(int s) add in(a[*i]) out(s) end reduce' >a.p3l
+    > reduce main in(int a[6]) out(int s) add in(a[*i]) out(s)
+    > end reduce' >a.p3l
     $ echo 1 2 3 4 5 6 | p3l scan a.p3l --segments 4
     scan: 121 BadSegments
 
@@ -149,11 +153,12 @@ The file is no snapshot: a field of it isn't whole or is out of its range, or
 bytes stand after its end. The place is the number of bytes before that field,
 or before the first byte too many.
 
-    $ echo 'seq main in(int x) out(int y) ${ y = x; }$ end seq' >a.p3l; p3l resume a.p3l </dev/null
+    $ echo 'seq main in(int x) out(int y) ${ y = x; }$ end seq' >a.p3l
+    $ p3l resume a.p3l </dev/null
     evidence: 130 BadShot 0
 
-To mend it: `resume` takes what `p3l save --output` wrote. Copy the file again, as
-bytes, or save anew. `docs/FORMATS.md` has the fields.
+To mend it: `resume` takes what `p3l save --output` wrote. Copy the file again,
+as bytes, or save anew. `docs/FORMATS.md` has the fields.
 ",
     },
     Page {
@@ -163,8 +168,10 @@ bytes, or save anew. `docs/FORMATS.md` has the fields.
 No run of the network in the snapshot can be in the state that the snapshot has:
 here two items were sent, and one token is all that is there of them.
 
-    $ echo 'seq main in(int x) out(int y) ${ y = x; }$ end seq' >a.p3l; echo 0 >picks
-    $ echo 5 | p3l save a.p3l --processors 4 --schedule file:picks --output a.shot
+    $ echo 'seq main in(int x) out(int y) ${ y = x; }$ end seq' >a.p3l
+    $ echo 0 >picks
+    $ echo 5 | p3l save a.p3l --processors 4 --schedule file:picks \\
+    > --output a.shot
     saved: items 1, picks 1
     $ printf '\\2' | dd of=a.shot bs=1 seek=15 conv=notrunc status=none
     $ p3l resume a.shot </dev/null

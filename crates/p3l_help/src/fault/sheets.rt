@@ -11,7 +11,8 @@ pub(crate) const SHEETS: &[Page] = &[
 A name in a body is no port of its module, no local variable and no constant
 above.
 
-    $ echo 'seq main in(int x) out(int y) ${ y = z; }$ end seq' >a.p3l; p3l check a.p3l
+    $ echo 'seq main in(int x) out(int y) ${ y = z; }$ end seq' >a.p3l
+    $ p3l check a.p3l
     source: 1:38: 40 Undeclared
 
 To mend it: declare it at the start of the body: `int z;`.
@@ -24,7 +25,8 @@ To mend it: declare it at the start of the body: `int z;`.
 The name of a local variable is that of another one, of a port of the module, or
 of a constant.
 
-    $ echo 'seq main in(int x) out(int y) ${ int x; y = x; }$ end seq' >a.p3l; p3l check a.p3l
+    $ echo 'seq main in(int x) out(int y) ${ int x; y = x; }$ end seq' >a.p3l
+    $ p3l check a.p3l
     source: 1:38: 41 DeclaredTwice
 
 To mend it: rename the variable.
@@ -37,7 +39,8 @@ To mend it: rename the variable.
 A name with brackets is a single word: a port or variable without sizes, or a
 constant.
 
-    $ echo 'seq main in(int x) out(int y) ${ y[0] = x; }$ end seq' >a.p3l; p3l check a.p3l
+    $ echo 'seq main in(int x) out(int y) ${ y[0] = x; }$ end seq' >a.p3l
+    $ p3l check a.p3l
     source: 1:34: 42 NotArray
 
 To mend it: take the brackets out, or give the port its size, `out(int y[1])`.
@@ -50,7 +53,8 @@ To mend it: take the brackets out, or give the port its size, `out(int y[1])`.
 An array stands with fewer or more brackets than it has sizes. A body has no
 arrays as values: it reads and writes their words.
 
-    $ echo 'seq main in(int a[3]) out(int y) ${ y = a; }$ end seq' >a.p3l; p3l check a.p3l
+    $ echo 'seq main in(int a[3]) out(int y) ${ y = a; }$ end seq' >a.p3l
+    $ p3l check a.p3l
     source: 1:41: 43 IsArray
 
 To mend it: give an index for each size; copy an array by a `for` over its
@@ -63,7 +67,8 @@ words.
 
 A body assigns to an in port or a constant. Ports that come in are read alone.
 
-    $ echo 'seq main in(int x) out(int y) ${ x = 1; }$ end seq' >a.p3l; p3l check a.p3l
+    $ echo 'seq main in(int x) out(int y) ${ x = 1; }$ end seq' >a.p3l
+    $ p3l check a.p3l
     source: 1:34: 44 WriteToIn
 
 To mend it: copy it to a local variable first: `int n; n = x;`.
@@ -93,7 +98,8 @@ A key of the file of costs is none of `setup`, `word`, `default`, `seq` and
 module.
 
     $ echo 'seq main in(int x) out(int y) ${ y = x; }$ end seq' >a.p3l
-    $ echo 'ticks = 5' >a.toml; p3l explain a.p3l --processors 4 --costs a.toml
+    $ echo 'ticks = 5' >a.toml
+    $ p3l explain a.p3l --processors 4 --costs a.toml
     costs: 51 BadKey ticks
 
 To mend it: write the module's name as the program has it. Farms, maps and pipes
@@ -108,7 +114,8 @@ A number of the file of costs is not whole, below 0 or above 1,000,000; one of
 `turns` is below 1 or above the loop's clause; or `seq` or `turns` is no table.
 
     $ echo 'seq main in(int x) out(int y) ${ y = x; }$ end seq' >a.p3l
-    $ printf '[seq]\\nmain = 1.5\\n' >a.toml; p3l explain a.p3l --processors 4 --costs a.toml
+    $ printf '[seq]\\nmain = 1.5\\n' >a.toml
+    $ p3l explain a.p3l --processors 4 --costs a.toml
     costs: 52 BadValue seq.main
 
 To mend it: count in smaller ticks, so that all numbers are whole.
@@ -122,7 +129,8 @@ A `seq` module of the program has no entry in the table `seq`, and the file
 gives no `default`.
 
     $ echo 'seq main in(int x) out(int y) ${ y = x; }$ end seq' >a.p3l
-    $ echo 'setup = 10' >a.toml; p3l explain a.p3l --processors 4 --costs a.toml
+    $ echo 'setup = 10' >a.toml
+    $ p3l explain a.p3l --processors 4 --costs a.toml
     costs: 53 Missing main
 
 To mend it: add `main = 100` under `[seq]`, or a line `default = 100` at the

@@ -108,7 +108,8 @@ In a body, a 65th bracket `(`, `[` or `{` is open at once, or an expression has
 a 257th operator. The first such place is reported.
 
     $ z() { printf \"$1%.0s\" $(seq $2); }
-    $ echo \"seq main in(int x) out(int y) \\${ y = $(z '(' 65)x$(z ')' 65); }\\$ end seq\" >a.p3l
+    $ echo \"seq main in(int x) out(int y) \\${ y = $(z '(' 65)x$(z ')' 65);
+    > }\\$ end seq\" >a.p3l
     $ p3l fmt a.p3l
     source: 1:102: 8 TooNested
 
@@ -125,7 +126,8 @@ This is the refusal 8. What the status 8 means, `p3l help status` says.
 A call names no module, or a size or a clause names no constant. A constant
 stands before the entry that names it.
 
-    $ echo 'seq main in(int a[N]) out(int y) ${ y = a[0]; }$ end seq' >a.p3l; p3l check a.p3l
+    $ echo 'seq main in(int a[N]) out(int y) ${ y = a[0]; }$ end seq' >a.p3l
+    $ p3l check a.p3l
     source: 1:19: 10 UnknownName
 
 To mend it: write `const N = 4;` above, or mend the name's letters. Case counts.
@@ -140,7 +142,8 @@ This is the refusal 10. What the status 10 means, `p3l help status` says.
 A size in brackets is 0 or above 65,536, or it is the fourth of one port: arrays
 have at most three.
 
-    $ echo 'seq main in(int a[0]) out(int y) ${ y = 1; }$ end seq' >a.p3l; p3l check a.p3l
+    $ echo 'seq main in(int a[0]) out(int y) ${ y = 1; }$ end seq' >a.p3l
+    $ p3l check a.p3l
     source: 1:19: 11 BadSize
 
 To mend it: give each size as 1 to 65,536. Four indices fit into three sizes as
@@ -156,7 +159,9 @@ This is the refusal 11. What the status 11 means, `p3l help status` says.
 A port, all ins, all outs, or all local variables of a body come to more than
 65,536 words. The place is that of the port that passes the limit.
 
-    $ echo 'seq main in(int a[256][257]) out(int y) ${ y = 1; }$ end seq' >a.p3l; p3l check a.p3l
+    $ echo 'seq main in(int a[256][257]) out(int y)
+    > ${ y = 1; }$ end seq' >a.p3l
+    $ p3l check a.p3l
     source: 1:17: 12 TooWide
 
 To mend it: send less in one item, and let more items carry it.
