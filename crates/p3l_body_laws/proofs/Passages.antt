@@ -169,3 +169,16 @@ spelled_keeps bytes program s =
     let same : length (symbols s.tokens) ≡ length (spell_text d.written []) = ap (length {A = Symbol}) d.spelled in
     subst (AllByRecursion (EntryKeeps (length bytes))) d.tree_is
     (text_keeps (length bytes) d.written (omega (arith, few, same)) (subst (IsWithin at_rest) d.spelled s.within))
+
+-- each entry has a symbol of its own
+entries_count : (is : List Passage) → length (text_tree is) ≤ length (spell_text is [])
+entries_count [] = omega arith
+entries_count (i ∷ is) = omega (arith, passage_longer i (spell_text is []), entries_count is)
+
+-- a program that a text spells has no more entries than the text has bytes
+pub entries_few : (bytes : List ℕ) (program : ProgramTree) → Spells bytes program → length program.entries ≤ length bytes
+entries_few bytes program s =
+    let d = s.derives in
+    let few = symbols_few bytes s.tokens s.are_tokens in
+    let same : length (symbols s.tokens) ≡ length (spell_text d.written []) = ap (length {A = Symbol}) d.spelled in
+    subst (λ entries. length entries ≤ length bytes) d.tree_is (omega (arith, few, same, entries_count d.written))

@@ -17,3 +17,4 @@ pub mod Totals
 pub mod Entered
 pub mod Compiled
 pub mod Leaves
+pub mod Given

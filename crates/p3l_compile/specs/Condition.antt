@@ -14,6 +14,7 @@ use Rattle.p3l_compile.specs.declared.scope.Slot.{Slot}
 use Rattle.p3l_compile.specs.Scope.{slot_at, names_of}
 use Rattle.p3l_compile.specs.Statement.{FitsCode, statement_code}
 use Rattle.p3l_compile.specs.Limits.{KeepsLimits, code_items}
+use Rattle.p3l_base.specs.Limits.{most_budget, most_words}
 
 -- how many words variables have
 abbrev pub total : List Var → ℕ
@@ -30,7 +31,7 @@ Differ (var ∷ vars) constants =
 -- a variable has at most 65,536 words, and no size of 0
 pub record IsArray (var : Var) : Type 0 where
   pub some : AllByRecursion (λ n. 1 ≤ n) var.shape.sizes
-  pub few : width var ≤ 65536
+  pub few : width var ≤ most_words
 
 -- variables that lie one after the other from a slot on have names that no variable before them has
 abbrev pub AreFresh : List (List ℕ × Slot) → ℕ → List Var → Type 0
@@ -43,11 +44,11 @@ AreFresh slots base (var ∷ vars) =
 pub record IsCompilable (seq : SeqTree) : Type 0 where
   pub differ : Differ ((seq.ins ++ seq.outs) ++ seq.locals) seq.constants
   pub arrays : AllByRecursion IsArray ((seq.ins ++ seq.outs) ++ seq.locals)
-  pub few_ins : total seq.ins ≤ 65536
-  pub few_outs : total seq.outs ≤ 65536
-  pub few_locals : total seq.locals ≤ 65536
+  pub few_ins : total seq.ins ≤ most_words
+  pub few_outs : total seq.outs ≤ most_words
+  pub few_locals : total seq.locals ≤ most_words
   pub some_budget : 1 ≤ seq.budget
-  pub small_budget : seq.budget ≤ 100000000
+  pub small_budget : seq.budget ≤ most_budget
   pub fits : FitsCode (names_of seq) seq.body
   pub limits : KeepsLimits seq.body
   pub few : code_items seq.body < 1048576

@@ -11,6 +11,7 @@ use Rattle.p3l_body.specs.declared.var.Var.{Var}
 use Rattle.p3l_body.specs.Eval.{width, constant}
 use Rattle.p3l_body.specs.Seq.{SeqTree}
 use Rattle.p3l_compile.specs.declared.scope.Slot.{Slot}
+use Rattle.p3l_base.specs.Limits.{most_words}
 
 -- the variables of a body with their slots, and the constants before it
 pub record Names : Type 0 where
@@ -43,7 +44,7 @@ IsAlone name slots constants =
 abbrev pub LieFrom : ℕ → List (List ℕ × Slot) → Constants → ℕ → Type 0
 LieFrom from [] constants size = from ≡ size
 LieFrom from (p ∷ slots) constants size =
-    (p.1.base ≡ from) × (p.1.words ≡ product p.1.sizes) × AllByRecursion (λ n. 1 ≤ n) p.1.sizes × (p.1.words ≤ 65536)
+    (p.1.base ≡ from) × (p.1.words ≡ product p.1.sizes) × AllByRecursion (λ n. 1 ≤ n) p.1.sizes × (p.1.words ≤ most_words)
     × IsAlone p.0 slots constants × LieFrom (from + p.1.words) slots constants size
 
 abbrev pub IsLaid : Names → ℕ → Type 0

@@ -2,6 +2,7 @@
 
 ghost use Rattle.std.specs.Prelude.{◌≡◌, ◌≤◌};
 ghost use Rattle.p3l_base.specs.Memory.{IfGiven};
+ghost use Rattle.p3l_base.specs.Limits.{most_words};
 ghost use Rattle.p3l_body.specs.Seq.{seq_tree};
 ghost use Rattle.p3l_compile.specs.Scope.{names_of};
 ghost use Rattle.p3l_compile.specs.Condition.{total, IsCompilable, Compiles, body_code};
@@ -58,9 +59,9 @@ fn scope_of<'s>(alloc: Global, seq: &'s CheckedSeq<'_>) -> Result<Scope<'s>, NoM
     Ok(scope)
 }
 
-// How many words variables have.
+// The number of words of variables.
 fn total(vars: &[Var]) -> u32
-    requires { total vars.now ≤ 65536 }
+    requires { total vars.now ≤ most_words }
     ensures { result ≡ total vars.now }
 {
     let mut words = 0;

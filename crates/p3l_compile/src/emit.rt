@@ -2,6 +2,7 @@
 
 ghost use Rattle.std.specs.Prelude.{◌≡◌, ℕ, pos, ◌+◌, ◌<◌, ◌≤◌, [], ◌∷◌, ◌++◌, length, slice_index, OnOk};
 ghost use Rattle.p3l_base.specs.Memory.{OnGiven};
+ghost use Rattle.p3l_base.specs.Limits.{most_instructions};
 ghost use Rattle.p3l_ast.specs.Tree.{phrase, phrases, read, unary, binary};
 ghost use Rattle.p3l_compile.specs.Scope.{found, constant_of};
 ghost use Rattle.p3l_compile.specs.Phrase.{phrase_size, index_size, skip_code, decided, short_code, scalar_code, element_code, sizes_in, phrase_code, index_code};
@@ -14,7 +15,7 @@ use p3l_code::Instr;
 /// Puts the code of an expression after the code so far.
 #[cycle(expression)]
 pub fn emit_expr(scope: &Scope<'_>, code: &mut Vec<Instr>, expr: &Expr) -> Result<(), NoMemory>
-    requires { length code.old.items + phrase_size (phrase expr.now) ≤ 4194304 }
+    requires { length code.old.items + phrase_size (phrase expr.now) ≤ most_instructions }
     ensures code { OnGiven result (code.new.items
         ≡ code.old.items ++ phrase_code scope.now (length code.old.items) (phrase expr.now)) }
     ensures size { OnOk result (length code.new.items
@@ -36,7 +37,7 @@ fn emit_unary(
     op: UnOp,
     operand: &Expr,
 ) -> Result<(), NoMemory>
-    requires { length code.old.items + phrase_size (unary op (phrase operand.now)) ≤ 4194304 }
+    requires { length code.old.items + phrase_size (unary op (phrase operand.now)) ≤ most_instructions }
     ensures code { OnGiven result (code.new.items
         ≡ code.old.items
         ++ phrase_code scope.now (length code.old.items) (unary op (phrase operand.now))) }
@@ -57,7 +58,7 @@ fn emit_binary(
     right: &Expr,
 ) -> Result<(), NoMemory>
     requires { length code.old.items + phrase_size (binary op (phrase left.now) (phrase right.now))
-        ≤ 4194304 }
+        ≤ most_instructions }
     ensures code { OnGiven result (code.new.items
         ≡ code.old.items
         ++ phrase_code scope.now (length code.old.items)
@@ -86,7 +87,7 @@ fn emit_short(
     right: &Expr,
 ) -> Result<(), NoMemory>
     requires { length code.old.items + phrase_size (phrase left.now)
-        + phrase_size (phrase right.now) + 5 ≤ 4194304 }
+        + phrase_size (phrase right.now) + 5 ≤ most_instructions }
     ensures code { OnGiven result (code.new.items ≡ code.old.items
         ++ short_code op (length code.old.items)
         (phrase_code scope.now (length code.old.items) (phrase left.now))
@@ -115,7 +116,7 @@ fn skip(op: BinOp, to: u32) -> Instr
     }
 }
 
-// What `||` or `&&` gives where its left operand decides.
+// The word of `||` or `&&` where its left operand decides.
 fn decided(op: BinOp) -> i64
     ensures { result ≡ decided op }
 {
@@ -129,7 +130,7 @@ fn decided(op: BinOp) -> i64
 #[cycle(expression)]
 fn emit_read(scope: &Scope<'_>, code: &mut Vec<Instr>, target: &Target) -> Result<(), NoMemory>
     requires { length code.old.items + phrase_size (read target.now.at (phrases
-        target.now.index.items)) ≤ 4194304 }
+        target.now.index.items)) ≤ most_instructions }
     ensures code { OnGiven result (code.new.items
         ≡ code.old.items
         ++ phrase_code scope.now (length code.old.items)
@@ -157,7 +158,7 @@ fn emit_only(
     name: &Name,
     index: &Expr,
 ) -> Result<(), NoMemory>
-    requires { length code.old.items + phrase_size (phrase index.now) + 1 ≤ 4194304 }
+    requires { length code.old.items + phrase_size (phrase index.now) + 1 ≤ most_instructions }
     ensures code { OnGiven result (code.new.items ≡ code.old.items
         ++ (phrase_code scope.now (length code.old.items) (phrase index.now)
         ++ element_code (found scope.now name.now) ∷ [])) }
@@ -171,7 +172,7 @@ fn emit_only(
 // Puts the code of a target's indices after the code so far, each with the test against its size.
 #[cycle(expression)]
 pub fn emit_index(scope: &Scope<'_>, code: &mut Vec<Instr>, target: &Target) -> Result<(), NoMemory>
-    requires { length code.old.items + index_size (phrases target.now.index.items) ≤ 4194304 }
+    requires { length code.old.items + index_size (phrases target.now.index.items) ≤ most_instructions }
     ensures code { OnGiven result (code.new.items
         ≡ code.old.items
         ++ index_code scope.now (length code.old.items)
@@ -194,7 +195,7 @@ fn size_at(sizes: &[u32], dimension: usize) -> u32
     sizes.get(dimension).copied().unwrap_or(0)
 }
 
-// What reads a scalar or a constant.
+// The instruction that reads a scalar or a constant.
 fn scalar(scope: &Scope<'_>, name: &Name) -> Instr
     ensures { result ≡ scalar_code (found scope.now name.now) (constant_of scope.now name.now) }
 {
@@ -204,7 +205,7 @@ fn scalar(scope: &Scope<'_>, name: &Name) -> Instr
     }
 }
 
-// What reads the element whose place is on the stack.
+// The instruction that reads the element whose place is on the stack.
 fn element(scope: &Scope<'_>, name: &Name) -> Instr
     ensures { result ≡ element_code (found scope.now name.now) }
 {
@@ -217,7 +218,7 @@ fn element(scope: &Scope<'_>, name: &Name) -> Instr
 // Puts the code after a right operand of `||` or `&&`: its truth, and a jump past the other way,
 // which gives a number.
 fn put_truth(code: &mut Vec<Instr>, other: i64) -> Result<(), NoMemory>
-    requires { length code.old.items + 4 ≤ 4194304 }
+    requires { length code.old.items + 4 ≤ most_instructions }
     ensures code { OnGiven result (code.new.items ≡ code.old.items
         ++ (Instr.Push (pos 0) ∷ Instr.Binary BinOp.Ne ∷ Instr.Jump (length code.old.items + 4)
         ∷ Instr.Push other ∷ [])) }
@@ -231,7 +232,7 @@ fn put_truth(code: &mut Vec<Instr>, other: i64) -> Result<(), NoMemory>
 
 // The place after the code so far.
 pub fn place(code: &Vec<Instr>) -> u32
-    requires { length code.now.items ≤ 4194304 }
+    requires { length code.now.items ≤ most_instructions }
     ensures { result ≡ length code.now.items }
 {
     code.len() as u32

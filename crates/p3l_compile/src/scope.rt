@@ -1,4 +1,4 @@
-// What the names of a body stand for, and where their words lie in the memory.
+// The meanings of the names of a body, and the places of their words in the memory.
 
 ghost use Rattle.std.specs.Prelude.{◌≡◌, ◌+◌, ◌≤◌, [], ◌∷◌, ◌++◌, None, IfOk, bytes_eq};
 ghost use Rattle.p3l_base.specs.Memory.{IfGiven, OnGiven};
@@ -16,7 +16,7 @@ use p3l_types::{Consts, words_of};
 use std::alloc::Global;
 use std::marker::Model;
 
-/// Where the words of a variable lie: its sizes (the outermost first; a scalar has none), the slot
+/// The place of the words of a variable: its sizes (the outermost first; a scalar has none), the slot
 /// of its first word, and how many words it has.
 #[derive(Debug, Drop)]
 pub struct Slot {
@@ -108,7 +108,7 @@ impl<'c> Scope<'c> {
     }
 }
 
-// Where the words of a variable lie that stands at a slot.
+// The place of the words of a variable that stands at a slot.
 fn slot_of(alloc: Global, base: u32, var: &Var) -> Result<Slot, NoMemory>
     requires { IsArray var.now }
     ensures { IfGiven result (λ slot. slot ≡ slot_at base var.now) }

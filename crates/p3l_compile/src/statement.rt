@@ -2,6 +2,7 @@
 
 ghost use Rattle.std.specs.Prelude.{◌≡◌, ℕ, ◌+◌, ◌≤◌, [], ◌++◌, length, OnOk};
 ghost use Rattle.p3l_base.specs.Memory.{OnGiven};
+ghost use Rattle.p3l_base.specs.Limits.{most_instructions};
 ghost use Rattle.p3l_ast.specs.Tree.{phrase, phrases, one, statements as tree_of, join, done, assign, if_, if_else, while_, for_};
 ghost use Rattle.p3l_compile.specs.Scope.{found};
 ghost use Rattle.p3l_compile.specs.Statement.{assign_size, assign_code, statement_size, statement_code, store_code, store_at_code};
@@ -16,7 +17,7 @@ use p3l_code::Instr;
 /// Puts the code of statements after the code so far.
 #[cycle(statement)]
 pub fn emit_stmts(scope: &Scope<'_>, code: &mut Vec<Instr>, stmts: &[Stmt]) -> Result<(), NoMemory>
-    requires { length code.old.items + statement_size (tree_of stmts.now) ≤ 4194304 }
+    requires { length code.old.items + statement_size (tree_of stmts.now) ≤ most_instructions }
     ensures code { OnGiven result (code.new.items
         ≡ code.old.items ++ statement_code scope.now (length code.old.items) (tree_of stmts.now)) }
     ensures size { OnOk result (length code.new.items
@@ -31,7 +32,7 @@ pub fn emit_stmts(scope: &Scope<'_>, code: &mut Vec<Instr>, stmts: &[Stmt]) -> R
 // Puts the code of a statement after the code so far.
 #[cycle(statement)]
 fn emit_stmt(scope: &Scope<'_>, code: &mut Vec<Instr>, stmt: &Stmt) -> Result<(), NoMemory>
-    requires { length code.old.items + statement_size (one stmt.now) ≤ 4194304 }
+    requires { length code.old.items + statement_size (one stmt.now) ≤ most_instructions }
     ensures code { OnGiven result (code.new.items
         ≡ code.old.items ++ statement_code scope.now (length code.old.items) (one stmt.now)) }
     ensures size { OnOk result (length code.new.items
@@ -60,7 +61,7 @@ fn emit_if(
     then: &[Stmt],
 ) -> Result<(), NoMemory>
     requires { length code.old.items + statement_size (if_ (phrase condition.now) (tree_of then.now)
-        done) ≤ 4194304 }
+        done) ≤ most_instructions }
     ensures code { OnGiven result (code.new.items
         ≡ code.old.items
         ++ statement_code scope.now (length code.old.items)
@@ -87,7 +88,7 @@ fn emit_choice(
     other: &[Stmt],
 ) -> Result<(), NoMemory>
     requires { length code.old.items + statement_size (if_else (phrase condition.now)
-        (tree_of then.now) (tree_of other.now) done) ≤ 4194304 }
+        (tree_of then.now) (tree_of other.now) done) ≤ most_instructions }
     ensures code { OnGiven result (code.new.items
         ≡ code.old.items
         ++ statement_code scope.now (length code.old.items)
@@ -117,7 +118,7 @@ fn emit_while(
     body: &[Stmt],
 ) -> Result<(), NoMemory>
     requires { length code.old.items + statement_size (while_ (phrase condition.now)
-        (tree_of body.now) done) ≤ 4194304 }
+        (tree_of body.now) done) ≤ most_instructions }
     ensures code { OnGiven result (code.new.items
         ≡ code.old.items
         ++ statement_code scope.now (length code.old.items)
@@ -149,7 +150,7 @@ fn emit_turns(
     requires { length code.old.items + statement_size (while_ (phrase condition.now)
         (join (tree_of body.now)
         (assign next.now.at (phrases next.now.index.items) (phrase step.now) done)) done)
-        ≤ 4194304 }
+        ≤ most_instructions }
     ensures code { OnGiven result (code.new.items
         ≡ code.old.items
         ++ statement_code scope.now (length code.old.items)
@@ -181,7 +182,7 @@ fn emit_assign(
     expr: &Expr,
 ) -> Result<(), NoMemory>
     requires { length code.old.items + assign_size (phrases target.now.index.items)
-        (phrase expr.now) ≤ 4194304 }
+        (phrase expr.now) ≤ most_instructions }
     ensures code { OnGiven result (code.new.items
         ≡ code.old.items
         ++ assign_code scope.now (length code.old.items)
@@ -207,7 +208,7 @@ fn emit_scalar(
 ) -> Result<(), NoMemory>
     requires empty { target.now.index.items ≡ [] }
     requires room { length code.old.items + assign_size (phrases target.now.index.items)
-        (phrase expr.now) ≤ 4194304 }
+        (phrase expr.now) ≤ most_instructions }
     ensures code { OnGiven result (code.new.items
         ≡ code.old.items
         ++ assign_code scope.now (length code.old.items)
@@ -219,7 +220,7 @@ fn emit_scalar(
     put(code, store(scope, &target.at.name))
 }
 
-// What writes a scalar.
+// The instruction that writes a scalar.
 fn store(scope: &Scope<'_>, name: &Name) -> Instr
     ensures { result ≡ store_code (found scope.now name.now) }
 {
@@ -229,7 +230,7 @@ fn store(scope: &Scope<'_>, name: &Name) -> Instr
     }
 }
 
-// What writes the element whose place is on the stack below the word.
+// The instruction that writes the element whose place is on the stack below the word.
 fn store_at(scope: &Scope<'_>, name: &Name) -> Instr
     ensures { result ≡ store_at_code (found scope.now name.now) }
 {

@@ -9,7 +9,7 @@ use crate::line::Line;
 use p3l_base::NoMemory;
 use std::alloc::Global;
 
-/// What a certificate says of its counts.
+/// A claim of a certificate about its counts.
 #[derive(Clone, Copy, Drop)]
 pub enum Claim {
     /// They are lawful.
@@ -41,7 +41,7 @@ pub enum Evidence {
         bound: u128,
         cap: u32,
     },
-    /// What a certificate says of its counts is not so.
+    /// A claim of a certificate about its counts is wrong.
     ClaimWrong(Claim),
     /// A line of a certificate is not of the form.
     BadText {
@@ -55,7 +55,7 @@ pub enum Evidence {
     Short(u64),
     /// The field at this place of an image is out of its range.
     BadField(u64),
-    /// An image goes on at this place, after its last field.
+    /// Bytes stand after the last field of an image, from this place on.
     TrailingBytes(u64),
     /// The code of this number breaks the rules of safe code.
     CodeUnsafe(u32),

@@ -1,4 +1,4 @@
-//! What the program answers: how a command ended, with which status, and the lines that say so.
+//! The answers of the program: how a command ended, with which status, and the lines that say so.
 #![tactic(auto)]
 
 pub mod cost_fault;

@@ -3,7 +3,7 @@
 ghost use Rattle.std.specs.Prelude.{◌≡◌};
 ghost use Rattle.p3l_report.specs.LineFault.{number_of, name_of};
 
-/// What is wrong with a line, in the order of the numbers.
+/// The fault of a line, in the order of the numbers.
 #[derive(Clone, Copy, Drop)]
 pub enum LineFault {
     /// A word of a file of picks that is no number.

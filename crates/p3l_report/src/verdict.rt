@@ -73,7 +73,7 @@ pub enum Verdict {
     Ended(Finish, Option<Stats>),
     /// Writing failed.
     WriteFault,
-    /// Memory was wanting.
+    /// Out of memory.
     NoMemory,
 }
 

@@ -10,6 +10,7 @@ use Rattle.p3l_compile.specs.Scope.{found}
 use Rattle.p3l_compile.proofs.Trees.{number_tree, read_tree, unary_tree, binary_tree}
 use Rattle.p3l_compile.proofs.Emitted.{short_emitted, read_falls, index_falls, index_left, index_emitted, index_end, size_end, read_emitted, read_sized, operator_some, not_empty, not_one, many_falls}
 use Rattle.std.proofs.lemmas.Result.{on_ok_weaker}
+use Rattle.p3l_compile.proofs.Given.{given_weaker}
 use Rattle.p3l_compile.proofs.emit.+expression.Goals as goal
 
 pub emit_expr-emit_read-requires : goal.emit_expr-emit_read-requires
@@ -79,7 +80,7 @@ pub emit_read-returns-clause-code : goal.emit_read-returns-clause-code
 emit_read-returns-clause-code t c =
     let some = not_empty c.is_empty.result _ c.args.target.now.index.items c.is_empty.ensures c.if-is_empty.false c.args.target.now.index.ok.0 in
     let many = not_one c.len.result _ c.args.target.now.index.items c.len.ensures c.if-len-eq1.false c.args.target.now.index.ok.0 in
-    on_ok_weaker c.put-3.result (λ d.
+    given_weaker c.put-3.result (λ d.
     read_emitted c.args.scope.now c.args.target.now.at.name _ c.args.target.now.index.items _ c.args.code.now.items c.put-2.new.code.items c.emit_index.new.code.items c.put-3.new.code.items c.element.result
     some many c.in_ok-put.ensures.code c.in_ok-put.ensures.size c.in_ok-emit_index.ensures.code c.element.ensures d) c.put-3.ensures.code
 

@@ -1,5 +1,6 @@
 use Rattle.std.proofs.Common.{◌≡◌, ◌+◌, List, ◌∷◌, ◌++◌, length, refl, sym, ap, ◌∙◌, arith, length-append, append_assoc, length-set}
 use Rattle.std.proofs.lemmas.Result.{on_ok_weaker}
+use Rattle.p3l_compile.proofs.Given.{given_weaker}
 use Rattle.std.proofs.lemmas.List.{append-nil}
 use Rattle.p3l_ast.specs.declared.statement.Stmt.{Stmt}
 use Rattle.p3l_ast.specs.Tree.{phrase, phrases, statements, join, assign, done, while_}
@@ -49,7 +50,7 @@ emit_stmt-emit_turns-requires t c =
 
 pub emit_stmt-returns-in-Assign-clause-code : goal.emit_stmt-returns-in-Assign-clause-code
 emit_stmt-returns-in-Assign-clause-code t c =
-    rw (assign_tree c.args.stmt.now c.in-Assign.target c.in-Assign.expr c.in-Assign.is) (on_ok_weaker c.emit_assign.result (λ d. d ∙ ap (λ l. c.args.code.now.items ++ l) (sym (append-nil _))) c.emit_assign.ensures.code)
+    rw (assign_tree c.args.stmt.now c.in-Assign.target c.in-Assign.expr c.in-Assign.is) (given_weaker c.emit_assign.result (λ d. d ∙ ap (λ l. c.args.code.now.items ++ l) (sym (append-nil _))) c.emit_assign.ensures.code)
 
 pub emit_stmt-returns-in-Assign-clause-size : goal.emit_stmt-returns-in-Assign-clause-size
 emit_stmt-returns-in-Assign-clause-size t c =
@@ -85,7 +86,7 @@ pub emit_stmt-returns-in_ok-emit_assign-in-For-clause-code : goal.emit_stmt-retu
 emit_stmt-returns-in_ok-emit_assign-in-For-clause-code t c =
     let turn = λ (x : List Stmt). while_ (phrase c.in-For.condition) (join (statements x) (assign c.in-For.next.at (phrases c.in-For.next.index.items) (phrase c.in-For.step) done)) done in
     let first = assign_code c.args.scope.now (length c.args.code.now.items) c.in-For.first.at.name (phrases c.in-For.first.index.items) (phrase c.in-For.start) in
-    on_ok_weaker c.emit_turns.result (λ d. d
+    given_weaker c.emit_turns.result (λ d. d
     ∙ ap (λ l. l ++ statement_code c.args.scope.now (length c.emit_assign-in-For.new.code.items) (turn c.deref-in-For.result.now)) c.in_ok-emit_assign-in-For.ensures.code
     ∙ ap (λ n. (c.args.code.now.items ++ first) ++ statement_code c.args.scope.now n (turn c.deref-in-For.result.now)) c.in_ok-emit_assign-in-For.ensures.size
     ∙ ap (λ x. (c.args.code.now.items ++ first) ++ statement_code c.args.scope.now (length c.args.code.now.items + assign_size (phrases c.in-For.first.index.items) (phrase c.in-For.start)) (turn x)) c.deref-in-For.ensures.value
@@ -129,7 +130,7 @@ emit_choice-returns-clause-code t c =
 
 pub emit_while-returns-clause-code : goal.emit_while-returns-clause-code
 emit_while-returns-clause-code t c =
-    on_ok_weaker c.put-3.result (λ d.
+    given_weaker c.put-3.result (λ d.
     loop_emitted c.args.code.now.items (λ p. statement_code c.args.scope.now p (statements c.args.body.now)) (λ p. phrase_code c.args.scope.now p (phrase c.args.condition.now)) (statement_size (statements c.args.body.now)) (phrase_size (phrase c.args.condition.now))
     c.put.new.code.items c.put-2.new.code.items c.emit_stmts.new.code.items _ c.emit_expr.new.code.items c.put-3.new.code.items _ c.len-start.result c.place-top.result c.place.result
     (c.len-start.ensures ∙ c.args.code.now.ok.0) c.in_ok-put.ensures.code c.in_ok-put.ensures.size c.place-top.ensures c.in_ok-put-2.ensures.code c.in_ok-put-2.ensures.size c.in_ok-emit_stmts.ensures.code c.in_ok-emit_stmts.ensures.size c.place.ensures refl (length-set c.emit_stmts.new.code.items c.len-start.result (Jump c.place.result)) c.in_ok-emit_expr.ensures.code c.in_ok-emit_expr.ensures.size d) c.put-3.ensures.code
@@ -166,7 +167,7 @@ emit_turns-returns-clause-code t c =
     let j = size_join (statements c.args.body.now) (assign c.args.next.now.at (phrases c.args.next.now.index.items) (phrase c.args.step.now) done) in
     let body = stepped_emitted c.args.scope.now (statements c.args.body.now) c.args.next.now (phrase c.args.step.now) c.put-2.new.code.items c.emit_stmts.new.code.items c.emit_assign.new.code.items c.in_ok-emit_stmts.ensures.code c.in_ok-emit_stmts.ensures.size c.in_ok-emit_assign.ensures.code in
     let size : length c.emit_assign.new.code.items ≡ length c.put-2.new.code.items + statement_size (join (statements c.args.body.now) (assign c.args.next.now.at (phrases c.args.next.now.index.items) (phrase c.args.step.now) done)) = omega (arith, c.in_ok-emit_stmts.ensures.size, c.in_ok-emit_assign.ensures.size) in
-    on_ok_weaker c.put-3.result (λ d.
+    given_weaker c.put-3.result (λ d.
     loop_emitted c.args.code.now.items (λ p. statement_code c.args.scope.now p (join (statements c.args.body.now) (assign c.args.next.now.at (phrases c.args.next.now.index.items) (phrase c.args.step.now) done))) (λ p. phrase_code c.args.scope.now p (phrase c.args.condition.now)) (statement_size (join (statements c.args.body.now) (assign c.args.next.now.at (phrases c.args.next.now.index.items) (phrase c.args.step.now) done))) (phrase_size (phrase c.args.condition.now))
     c.put.new.code.items c.put-2.new.code.items c.emit_assign.new.code.items _ c.emit_expr.new.code.items c.put-3.new.code.items _ c.len-start.result c.place-top.result c.place.result
     (c.len-start.ensures ∙ c.args.code.now.ok.0) c.in_ok-put.ensures.code c.in_ok-put.ensures.size c.place-top.ensures c.in_ok-put-2.ensures.code c.in_ok-put-2.ensures.size body size c.place.ensures refl (length-set c.emit_assign.new.code.items c.len-start.result (Jump c.place.result)) c.in_ok-emit_expr.ensures.code c.in_ok-emit_expr.ensures.size d) c.put-3.ensures.code

@@ -31,7 +31,7 @@ returns-in-Ok-save-clause-expected g c =
     (loaded_passes c.args.build loads.r loaded files loads.is)
     (explained c.args.build loads.r loaded (held c.args.files.now) text loads.is c.in-Ok-allocation_text.ensures)
     (certified c.args.build loads.r loaded (held c.args.files.now) cert bytes loads.is claims.0 claims.1 c.in-Ok-certify.ensures.holds c.in-Ok-certify.ensures.rows claims.2 c.in-Ok-cert_text.ensures)
-    c.write_text.result save.0 save.1 (subst (λ t. IsWritten out t c.write_text.result) c.as_slice-in-Ok-save.ensures c.write_text.ensures)
+    c.write_text.result save.0 save.1 (subst (λ t. IsWritten out t c.write_text.result) c.as_slice-in-Ok-save.ensures c.write_text.ensures.written)
 
 pub returns-clause-expected : goal.returns-clause-expected
 returns-clause-expected g c =

@@ -16,4 +16,4 @@ returns-clause-expected g c =
     text_expected files out (build_stages c.args.build) (IsExplained (g.F.Files.held c.args.files.now) c.args.build) text c.write_text.result c.in-Ok.ensures.calm
     (loaded_passes c.args.build loads.r c.in-Ok.loaded files loads.is)
     (explained c.args.build loads.r c.in-Ok.loaded (g.F.Files.held c.args.files.now) text loads.is c.in-Ok-allocation_text.ensures)
-    (subst (λ written. IsWritten out written c.write_text.result) c.as_slice.ensures c.write_text.ensures)
+    (subst (λ written. IsWritten out written c.write_text.result) c.as_slice.ensures c.write_text.ensures.written)

@@ -20,8 +20,8 @@ returns-in-Ok-save_where g c =
     let q = gen_of c.args.number c.args.processors c.args.items c.args.request c.args.prefix in
     let texts = c.in-Ok.texts in
     let made = c.in-Ok.ensures in
-    let one = subst (λ p. HasSaves files (saves_with c.args.prefix p texts.costs texts.stream) (Ok tt)) made.program c.in-Ok-save_where.ensures in
+    let one = subst (λ p. HasSaves files (saves_with c.args.prefix p texts.costs texts.stream) (Ok tt)) made.program c.in-Ok-save_where.ensures.saved in
     let two = subst (λ t. HasSaves files (saves_with c.args.prefix (program_text c.args.number) t texts.stream) (Ok tt)) made.costs one in
     let saves = subst (λ t. HasSaves files (saves_with c.args.prefix (program_text c.args.number) costs_text t) (Ok tt)) made.stream two in
-    let run = c.run_texts.ensures q (record { program_is = made.program; costs_are = made.costs; stream_is = made.stream }) refl refl refl in
+    let run = c.run_texts.ensures.ran q (record { program_is = made.program; costs_are = made.costs; stream_is = made.stream }) refl refl refl in
     record { expected = inl (generated_expected files out q c.run_texts.result saves run) }

@@ -6,8 +6,8 @@ use Rattle.p3l_program.specs.World.{change}
 use Rattle.p3l_program.proofs.GenSteps.{gen_line, gen_refused, generated_by, texts_pass}
 use Rattle.p3l_program.proofs.generated.run_texts.Goals as goal
 
-pub returns-in-Err : goal.returns-in-Err
-returns-in-Err g c = λ q texts number processors request.
+pub returns-in-Err-clause-ran : goal.returns-in-Err-clause-ran
+returns-in-Err-clause-ran g c = λ q texts number processors request.
     let out = change g.K.Sink.taken g.K.Sink.faults c.args.out.now c.args.out.now in
     let v = c.in-Err.verdict in
     let costs = c.as_slice-2.result.now in
@@ -16,8 +16,8 @@ returns-in-Err g c = λ q texts number processors request.
     let here = subst (λ k. AreNotLoaded (program_text q.number) costs_text k v) (sym processors) two in
     gen_refused out q v (record { known = refl; calm = refl }) here
 
-pub returns-in-Ok-run_text : goal.returns-in-Ok-run_text
-returns-in-Ok-run_text g c = λ q texts number processors request.
+pub returns-in-Ok-run_text-clause-ran : goal.returns-in-Ok-run_text-clause-ran
+returns-in-Ok-run_text-clause-ran g c = λ q texts number processors request.
     let out = change g.K.Sink.taken g.K.Sink.faults c.args.out.now c.put_summary.new.out in
     let loaded = c.in-Ok.loaded in
     let ran = c.in-Ok-run_text.ran in
@@ -31,5 +31,5 @@ returns-in-Ok-run_text g c = λ q texts number processors request.
     let ran_there = subst (λ a. IsRanUnder n a c.args.texts.stream ran) (sym request) (c.in-Ok-run_text.ensures.ran loads.r loads.are.comes.compiled) in
     let ran_here = subst (λ t. IsRanUnder n q.request t ran) texts.stream_is ran_there in
     let is = generated_by q loaded ran loads ran_here in
-    let known = subst (λ k. IsLineOf out ran.finish (line_at ran.finish (summary_line k ran.stats service used ran.sum)) c.put_summary.result) (sym number) c.put_summary.ensures in
+    let known = subst (λ k. IsLineOf out ran.finish (line_at ran.finish (summary_line k ran.stats service used ran.sum)) c.put_summary.result) (sym number) c.put_summary.ensures.put in
     gen_line out q ran.finish (line_at ran.finish (summary_line q.number ran.stats service used ran.sum)) is (texts_pass (program_text q.number) costs_text q.processors loaded loads) c.put_summary.result known

@@ -6,8 +6,8 @@ use Rattle.p3l_program.specs.World.{files_change}
 use Rattle.p3l_program.proofs.SeriesSteps.{costs_separated, program_separated, saves_failed, saves_last, saves_then}
 use Rattle.p3l_program.proofs.generated.save_texts.Goals as goal
 
-pub returns-in_err-save_as : goal.returns-in_err-save_as
-returns-in_err-save_as g c =
+pub returns-in_err-save_as-clause-saved : goal.returns-in_err-save_as-clause-saved
+returns-in_err-save_as-clause-saved g c =
     let p = err_from_is_err_and c.from_residual.result c.from_residual.ensures.1 in
     let prefix = c.args.prefix.now in
     let texts = c.args.texts.now in
@@ -16,8 +16,8 @@ returns-in_err-save_as g c =
     let unsaved = subst (λ b. HasSave files (prefix ++ codes ".p3l") b (Err v)) c.as_slice.ensures c.in_err-save_as.ensures in
     rw (p.1, p.2) (saves_failed files (prefix ++ codes ".p3l") texts.program ((prefix ++ codes ".toml", texts.costs) ∷ ((prefix ++ codes ".txt", texts.stream) ∷ [])) v unsaved)
 
-pub returns-in_err-save_as-2 : goal.returns-in_err-save_as-2
-returns-in_err-save_as-2 g c =
+pub returns-in_err-save_as-2-clause-saved : goal.returns-in_err-save_as-2-clause-saved
+returns-in_err-save_as-2-clause-saved g c =
     let p = err_from_is_err_and c.from_residual-in_err-save_as-2.result c.from_residual-in_err-save_as-2.ensures.1 in
     let prefix = c.args.prefix.now in
     let texts = c.args.texts.now in
@@ -34,8 +34,8 @@ returns-in_err-save_as-2 g c =
     rw (p.1, p.2) (saves_then (held old) (held mid) (held end) (faults old) (faults mid) (faults end) (failed mid) (failed end) (prefix ++ codes ".p3l") texts.program
     ((prefix ++ codes ".toml", texts.costs) ∷ ((prefix ++ codes ".txt", texts.stream) ∷ [])) (program_separated prefix) first (Err v) more)
 
-pub returns : goal.returns
-returns g c =
+pub returns-clause-saved : goal.returns-clause-saved
+returns-clause-saved g c =
     let prefix = c.args.prefix.now in
     let texts = c.args.texts.now in
     let held = g.F.Files.held in
@@ -48,7 +48,7 @@ returns g c =
     let result = c.save_as-3.result in
     let first = subst (λ b. HasSave (files_change held faults failed old mid) (prefix ++ codes ".p3l") b (Ok tt)) c.as_slice.ensures c.in_ok-save_as.ensures in
     let second = subst (λ b. HasSave (files_change held faults failed mid late) (prefix ++ codes ".toml") b (Ok tt)) c.as_slice-2.ensures c.in_ok-save_as-2.ensures in
-    let third = subst (λ b. HasSave (files_change held faults failed late end) (prefix ++ codes ".txt") b result) c.as_slice-3.ensures c.save_as-3.ensures in
+    let third = subst (λ b. HasSave (files_change held faults failed late end) (prefix ++ codes ".txt") b result) c.as_slice-3.ensures c.save_as-3.ensures.saved in
     let last = saves_last (files_change held faults failed late end) (prefix ++ codes ".txt") texts.stream result third in
     let more = saves_then (held mid) (held late) (held end) (faults mid) (faults late) (faults end) (failed late) (failed end) (prefix ++ codes ".toml") texts.costs ((prefix ++ codes ".txt", texts.stream) ∷ []) (costs_separated prefix) second result last in
     saves_then (held old) (held mid) (held end) (faults old) (faults mid) (faults end) (failed mid) (failed end) (prefix ++ codes ".p3l") texts.program

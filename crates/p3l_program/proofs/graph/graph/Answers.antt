@@ -23,4 +23,4 @@ returns-clause-expected g c =
       has = record { texts = loads.texts; have = loads.have; is = loads.is };
       drawn = c.in-Ok-graph_text.ensures;
     })
-    (subst (λ written. IsWritten out written c.write_text.result) c.as_slice.ensures c.write_text.ensures)
+    (subst (λ written. IsWritten out written c.write_text.result) c.as_slice.ensures c.write_text.ensures.written)

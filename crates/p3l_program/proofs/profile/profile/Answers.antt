@@ -18,7 +18,7 @@ returns-in-Ok-clause-expected g c =
     let files = files_change g.F.Files.held g.F.Files.faults g.F.Files.failed c.args.files.now c.load_program.new.files in
     let input = change g.S.Source.rest g.S.Source.faults c.args.input.now c.profile_tree.new.input in
     let out = change g.K.Sink.taken g.K.Sink.faults c.args.out.now c.profile_tree.new.out in
-    profile_expected files input out c.args.name loaded.r c.in-Ok.field-0 loaded.is c.in-Ok.ensures.calm c.profile_tree.result c.profile_tree.ensures
+    profile_expected files input out c.args.name loaded.r c.in-Ok.field-0 loaded.is c.in-Ok.ensures.calm c.profile_tree.result c.profile_tree.ensures.profiled
 
 pub returns-in-Err-clause-expected : goal.returns-in-Err-clause-expected
 returns-in-Err-clause-expected g c =

@@ -18,7 +18,7 @@ returns-in-Ok-resume-clause-ran g c = λ r by.
     let input = change g.S.Source.rest g.S.Source.faults c.args.input.now c.resume.new.input in
     let out = change g.K.Sink.taken g.K.Sink.faults c.args.out.now c.resume.new.out in
     let same = same_change (held c.load_schedule.new.files) (held c.args.files.now) (held end) (faults c.load_schedule.new.files) (faults c.args.files.now) (faults end) (failed end) c.load_schedule.ensures.stays c.in-Ok.ensures.calm in
-    let closed = subst (λ f. IsClosed f c.in-Ok-resume.ran None c.args.reported c.close.result) same c.close.ensures in
+    let closed = subst (λ f. IsClosed f c.in-Ok-resume.ran None c.args.reported c.close.result) same c.close.ensures.closed in
     let request = subst (λ k. HasSchedule (held c.args.files.now) k c.args.request c.in-Ok.schedule) c.len-count.ensures c.in-Ok.ensures.request in
     closed_run n c.in-Ok.schedule files input out c.args.request c.in-Ok-resume.ran request c.in-Ok-resume.ensures.output None c.args.reported (c.in-Ok-resume.ensures.ends r by) c.close.result closed
 
@@ -33,7 +33,7 @@ returns-in-Ok-resume-clause-kept g c = λ r by.
     let input = change g.S.Source.rest g.S.Source.faults c.args.input.now c.resume.new.input in
     let out = change g.K.Sink.taken g.K.Sink.faults c.args.out.now c.resume.new.out in
     let same = same_change (held c.load_schedule.new.files) (held c.args.files.now) (held end) (faults c.load_schedule.new.files) (faults c.args.files.now) (faults end) (failed end) c.load_schedule.ensures.stays c.in-Ok.ensures.calm in
-    let closed = subst (λ f. IsClosed f c.in-Ok-resume.ran None c.args.reported c.close.result) same c.close.ensures in
+    let closed = subst (λ f. IsClosed f c.in-Ok-resume.ran None c.args.reported c.close.result) same c.close.ensures.closed in
     let request = subst (λ k. HasSchedule (held c.args.files.now) k c.args.request c.in-Ok.schedule) c.len-count.ensures c.in-Ok.ensures.request in
     closed_kept n c.in-Ok.schedule files input out c.args.request c.in-Ok-resume.ran request c.in-Ok-resume.ensures.output None c.args.reported (c.in-Ok-resume.ensures.ends r by) c.close.result closed
 

@@ -23,4 +23,4 @@ returns-clause-expected g c =
     text_expected files out (build_stages build) (IsRewritten (g.F.Files.held c.args.files.now) build) text c.write_text.result c.in-Ok.ensures.calm
     (counts_pass files build loads.r c.in-Ok.priced.costs loads.counts loads.has)
     (rewritten (g.F.Files.held c.args.files.now) build c.in-Ok.priced loads text c.in-Ok-best_text.ensures)
-    (subst (λ written. IsWritten out written c.write_text.result) c.as_slice.ensures c.write_text.ensures)
+    (subst (λ written. IsWritten out written c.write_text.result) c.as_slice.ensures c.write_text.ensures.written)

@@ -19,7 +19,7 @@ returns-in-Ok-run_named-clause-ran g c =
     let input = change g.S.Source.rest g.S.Source.faults c.args.input.now c.run_named.new.input in
     let out = change g.K.Sink.taken g.K.Sink.faults c.args.out.now c.run_named.new.out in
     let same = same_change (held c.load_schedule.new.files) (held c.args.files.now) (held end) (faults c.load_schedule.new.files) (faults c.args.files.now) (faults end) (failed end) c.load_schedule.ensures.stays c.in-Ok.ensures.calm in
-    let closed = subst (λ f. IsClosed f c.in-Ok-run_named.ran c.args.trace c.args.reported c.close.result) same c.close.ensures in
+    let closed = subst (λ f. IsClosed f c.in-Ok-run_named.ran c.args.trace c.args.reported c.close.result) same c.close.ensures.closed in
     let ends = subst (λ k. Finishes n c.in-Ok.schedule k input.old input.new input.before input.now out.old out.new c.in-Ok-run_named.ran) c.keeping_for-keeping.ensures c.in-Ok-run_named.ensures.ends in
     let request = subst (λ k. HasSchedule (held c.args.files.now) k c.args.request c.in-Ok.schedule) c.len-count.ensures c.in-Ok.ensures.request in
     closed_run n c.in-Ok.schedule files input out c.args.request c.in-Ok-run_named.ran request c.in-Ok-run_named.ensures.output c.args.trace c.args.reported ends c.close.result closed

@@ -41,6 +41,6 @@ returns-clause-saved g c =
     let there = subst (λ (n : Network). IsReached n (files_change held faults failed c.args.files.now c.reach.new.files) input out c.args.name c.in-Ok-reach.checkpoint) same c.in-Ok-reach.ensures.reached in
     let reached : IsReached (network_in loaded) files input out c.args.name c.in-Ok-reach.checkpoint = record { picks = there.picks; picks_are = there.picks_are; comes = there.comes } in
     let files_same = same_change (held c.reach.new.files) (held c.args.files.now) (held end) (faults c.reach.new.files) (faults c.args.files.now) (faults end) (failed end) c.reach.ensures.stays c.in-Ok-reach.ensures.calm.0 in
-    let writing = subst (λ f. IsWriting f c.in-Ok-reach.checkpoint c.args.imaged.image c.args.output c.write_snapshot.result) files_same c.write_snapshot.ensures in
+    let writing = subst (λ f. IsWriting f c.in-Ok-reach.checkpoint c.args.imaged.image c.args.output c.write_snapshot.result) files_same c.write_snapshot.ensures.written in
     let sound = sound_shot loaded c.requires.ready.ready c.every_saved_shot_is_sound.ensures c.every_table_names_modules.ensures files input out c.args.name c.in-Ok-reach.checkpoint reached in
     save_reached (network_in loaded) loaded.counts.list loaded.cap c.args.imaged.image files input out c.args.name c.args.output c.in-Ok-reach.checkpoint reached sound c.in-Ok-reach.ensures.calm.1 c.write_snapshot.result writing

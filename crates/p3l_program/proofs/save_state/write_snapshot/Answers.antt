@@ -10,10 +10,10 @@ shot_text-requires g c =
     let f = c.requires.fits in
     c.what_fits_can_be_written.ensures f.tree f.counts f.capacity (snapshot c.args.checkpoint.shot c.args.image) f.typed f.fit f.small f.fits c.have_ranges.ensures c.requires.few
 
-pub returns-in-Ok-save : goal.returns-in-Ok-save
-returns-in-Ok-save g c =
+pub returns-in-Ok-save-clause-written : goal.returns-in-Ok-save-clause-written
+returns-in-Ok-save-clause-written g c =
     let f = c.requires.fits in
     let files = files_change g.F.Files.held g.F.Files.faults g.F.Files.failed c.args.files.now c.save.new.files in
     let fits = c.what_fits_can_be_written.ensures f.tree f.counts f.capacity (snapshot c.args.checkpoint.shot c.args.image) f.typed f.fit f.small f.fits c.have_ranges.ensures c.requires.few in
-    let written = subst (λ b. HasSave files c.args.name.now b (Ok tt)) (c.as_slice.ensures ∙ c.in-Ok.ensures) c.in-Ok-save.ensures in
+    let written = subst (λ b. HasSave files c.args.name.now b (Ok tt)) (c.as_slice.ensures ∙ c.in-Ok.ensures) c.in-Ok-save.ensures.saved in
     (refl, refl, fits, written)

@@ -20,7 +20,7 @@ returns-in-Ok-clause-ran g c =
     let out = change g.K.Sink.taken g.K.Sink.faults c.args.out.now c.run_in_time.new.out in
     let size = length-map c.args.plan.net.procs (price_of c.args.plan.tree.now c.args.costs.now) in
     let ends = subst (λ k. EndsInTime (job n prices input out k) prices (after n prices input out) c.in-Ok.end.ran c.in-Ok.end.timer) c.keeping_for-keeping.ensures c.in-Ok.ensures in
-    closed_time n prices input out c.requires.sound.typed.few_procs refl c.a_timed_run_is_a_run.ensures c.a_finish_is_between_one_and_all.ensures files size c.in-Ok.end.ran c.in-Ok.end.timer c.args.picks ends c.close.result ends.ends.output c.close.ensures
+    closed_time n prices input out c.requires.sound.typed.few_procs refl c.a_timed_run_is_a_run.ensures c.a_finish_is_between_one_and_all.ensures files size c.in-Ok.end.ran c.in-Ok.end.timer c.args.picks ends c.close.result ends.ends.output c.close.ensures.closed
 
 pub returns-in-Ok-clause-kept : goal.returns-in-Ok-clause-kept
 returns-in-Ok-clause-kept g c =
@@ -31,7 +31,7 @@ returns-in-Ok-clause-kept g c =
     let out = change g.K.Sink.taken g.K.Sink.faults c.args.out.now c.run_in_time.new.out in
     let size = length-map c.args.plan.net.procs (price_of c.args.plan.tree.now c.args.costs.now) in
     let ends = subst (λ k. EndsInTime (job n prices input out k) prices (after n prices input out) c.in-Ok.end.ran c.in-Ok.end.timer) c.keeping_for-keeping.ensures c.in-Ok.ensures in
-    closed_time_kept n prices input out c.requires.sound.typed.few_procs refl c.a_timed_run_is_a_run.ensures c.a_finish_is_between_one_and_all.ensures files size c.in-Ok.end.ran c.in-Ok.end.timer c.args.picks ends c.close.result c.close.ensures
+    closed_time_kept n prices input out c.requires.sound.typed.few_procs refl c.a_timed_run_is_a_run.ensures c.a_finish_is_between_one_and_all.ensures files size c.in-Ok.end.ran c.in-Ok.end.timer c.args.picks ends c.close.result c.close.ensures.closed
 
 pub returns-in-Err : goal.returns-in-Err
 returns-in-Err g c =

@@ -19,4 +19,4 @@ returns-clause-expected g c =
     let line = c.in-Ok-holds_line.ensures in
     let is : c.as_bytes.result.now ≡ holds_line cert.processors cert.used cert.service = cc in
     text_expected files out (verify_stages args.program args.name args.costs) (IsVerified old args.program args.costs args.name) c.as_bytes.result.now c.write_text.result c.in-Ok.ensures.calm
-    (verified_passes files args.program args.costs args.name cert loads) (verified files args.program args.costs args.name cert loads c.as_bytes.result.now is) c.write_text.ensures
+    (verified_passes files args.program args.costs args.name cert loads) (verified files args.program args.costs args.name cert loads c.as_bytes.result.now is) c.write_text.ensures.written
