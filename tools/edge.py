@@ -457,7 +457,7 @@ def try_terminals(edge):
 
 
 ATTEMPTS = [try_version, try_full, try_pieces, try_pipes, try_terminals, try_left, try_calls]
-ATTEMPTS += [try_no_memory]
+ATTEMPTS += [try_inputs, try_whole, try_long_lines, try_no_memory]
 
 
 def main():
