@@ -18,7 +18,7 @@ use Rattle.p3l_program.specs.Load.{AcceptsText}
 -- a text that is refused by the reader is not accepted
 pub not_read : (text : List ℕ) (r : SourceRefusal) → length text ≤ 1048576 → ((program : ProgramTree) → Spells text program → IsOnly program (Err r)) → IsRefusal text r → IsTextRefused text r
 not_read text (source.At fault pos) within only first = record { why = inl (first within); never = λ r a. only a.program a.spelled }
-not_read text source.NoMemory within only first = tt
+not_read text source.NoMemory within only first = first
 
 module _ (text : List ℕ) (program : ProgramTree) (spelled : Spells text program) (only : (other : ProgramTree) → Spells text other → program ≡ other) where
   -- nor is one whose program breaks a rule
@@ -27,7 +27,7 @@ module _ (text : List ℕ) (program : ProgramTree) (spelled : Spells text progra
     why = inr (record { program = program; spelled = spelled; breaks = breaks });
     never = λ r a. (let same = only a.program a.spelled in let other = ap resolved same ∙ a.keeps in absurd cc);
   }
-  not_kept source.NoMemory breaks = tt
+  not_kept source.NoMemory breaks = breaks
 
   -- the bodies of one whose program keeps all rules are those of its tree
   pub bodies : ResolvedServe → (r : ResolvedTree) → length text ≤ 1048576 → resolved program ≡ Ok r → IsLawfulTree r.tree → AreBodies r.tree r.seqs
