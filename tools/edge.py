@@ -126,6 +126,8 @@ class Edge:
 
     def expect(self, name, found, wanted):
         """Compares what a case came to; where nothing is wanted of a part, it isn't compared."""
+        if not isinstance(wanted, tuple):
+            found, wanted = (found,), (wanted,)
         if all(want is None or have == want for have, want in zip(found, wanted)):
             self.passed += 1
         else:
@@ -348,8 +350,50 @@ def try_terminals(edge):
         edge.expect(("short on a terminal", words), found, (*wanted[:2], lines.encode()))
 
 
+# A long line: what is said again and again, what ends it, and how the run ends.
+LONG_LINES = [
+    (b" ", b"\n5\n", 0, b"11\n", b""),
+    (b"1 ", b"\n5\n", 6, b"", b"stream: line 1: 101 WrongCount %d\n"),
+    (b"0", b"7\n", 0, b"15\n", b""),
+    (b"9", b"\n", 6, b"", b"stream: line 1: 102 OutOfRange\n"),
+    (b"x", b"\n", 6, b"", b"stream: line 1: 100 BadWord\n"),
+]
+SHORT_LINE, LONG_LINE, MOST_GROWTH = 1 << 16, 1 << 26, 1 << 20
+
+
+def memory_on(edge, piece, count, end):
+    """How a run ends on a long line, and the most memory that it had."""
+    pipes = {"stdin": subprocess.PIPE, "stdout": subprocess.PIPE, "stderr": subprocess.PIPE}
+    child = edge.start(RUN, **pipes)
+    chunk = piece * (SHORT_LINE // len(piece))
+    try:
+        for _ in range(count // SHORT_LINE):
+            child.stdin.write(chunk)
+        child.stdin.write(end)
+        child.stdin.flush()
+    except BrokenPipeError:
+        # a refused line may be refused before its end
+        pass
+    # What is still in the pipe is little, beside what was read by then.
+    with open(f"/proc/{child.pid}/status") as status:
+        most = [int(line.split()[1]) for line in status if line.startswith("VmHWM")]
+    output, lines = child.communicate(timeout=SECONDS)
+    return (child.returncode, output, lines), (most or [0])[0] * 1024
+
+
+def try_long_lines(edge):
+    """Memory doesn't grow with a line, and the run ends on it as it should."""
+    for piece, end, status, output, lines in LONG_LINES:
+        _, few = memory_on(edge, piece, SHORT_LINE, end)
+        found, many = memory_on(edge, piece, LONG_LINE, end)
+        if b"%d" in lines:
+            lines = lines % (LONG_LINE // len(piece))
+        edge.expect(("a long line", piece), found, (status, output, lines))
+        edge.expect(("memory for a long line", piece, few, many), many - few < MOST_GROWTH, True)
+
+
 ATTEMPTS = [try_version, try_full, try_pieces, try_pipes, try_terminals, try_left, try_calls]
-ATTEMPTS += [try_no_memory]
+ATTEMPTS += [try_long_lines, try_no_memory]
 
 
 def main():
