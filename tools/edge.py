@@ -126,6 +126,8 @@ class Edge:
 
     def expect(self, name, found, wanted):
         """Compares what a case came to; where nothing is wanted of a part, it isn't compared."""
+        if not isinstance(wanted, tuple):
+            found, wanted = (found,), (wanted,)
         if all(want is None or have == want for have, want in zip(found, wanted)):
             self.passed += 1
         else:
@@ -232,114 +234,6 @@ def try_left(edge):
         edge.run(words, b"1\n")
         with open(f"{edge.folder}/kept", "rb") as file:
             edge.expect(("left as it was", words), (file.read(),), (b"kept",))
-
-
-def content(path):
-    """The bytes of a file, or nothing where it isn't there."""
-    try:
-        with open(path, "rb") as file:
-            return file.read()
-    except FileNotFoundError:
-        return None
-
-
-def try_inputs(edge):
-    """An output that would take the place of an input, or of the standard input or output: a write fault, and the file as it was."""
-    with open(f"{edge.folder}/two.p3l", "wb") as file:
-        file.write(DOUBLE)
-    os.symlink("two.p3l", f"{edge.folder}/by_link")
-    os.link(f"{edge.folder}/two.p3l", f"{edge.folder}/by_name")
-    for name in ("two.p3l", "by_link", "by_name", "./two.p3l"):
-        found = edge.run(["compile", "two.p3l", "--processors", "4", "--output", name])
-        edge.expect(("over the source", name), (*found, content(f"{edge.folder}/two.p3l")), (10, b"", WRITE_FAULT.encode(), DOUBLE))
-    with open(f"{edge.folder}/items", "wb") as file:
-        file.write(b"1\n2\n")
-    with open(f"{edge.folder}/items", "rb") as stream:
-        child = edge.start([*RUN, "--trace", "items"], stdin=stream, stdout=subprocess.PIPE, stderr=subprocess.PIPE)
-        output, lines = child.communicate(timeout=SECONDS)
-    edge.expect("over the standard input", (child.returncode, output, lines, content(f"{edge.folder}/items")), (10, b"3\n5\n", WRITE_FAULT.encode(), b"1\n2\n"))
-    for name in ("results", "/dev/stdout"):
-        with open(f"{edge.folder}/results", "wb") as stream:
-            status, _, lines = edge.run([*RUN, "--trace", name], b"1\n2\n", out=stream)
-        edge.expect(("over the standard output", name), (status, lines, content(f"{edge.folder}/results")), (10, WRITE_FAULT.encode(), b"3\n5\n"))
-
-
-def try_whole(edge):
-    """Files that are written whole or left as they were: through links, with their permissions, on a full disk and killed."""
-    compiled = ["compile", "m.p3l", "--processors", "4", "--output"]
-    edge.run([*compiled, "whole"])
-    image = content(f"{edge.folder}/whole")
-    os.mkdir(f"{edge.folder}/inner")
-    os.symlink("../other", f"{edge.folder}/inner/link")
-    os.symlink("inner/link", f"{edge.folder}/link")
-    for was in (None, b"old"):
-        if was:
-            with open(f"{edge.folder}/other", "wb") as file:
-                file.write(was)
-            os.chmod(f"{edge.folder}/other", 0o640)
-        found = edge.run([*compiled, "link"])
-        edge.expect(("through links", was), (*found, content(f"{edge.folder}/other"), os.path.islink(f"{edge.folder}/link")), (0, b"", b"", image, True))
-    edge.expect("permissions are kept", (os.stat(f"{edge.folder}/other").st_mode & 0o777,), (0o640,))
-    with open(f"{edge.folder}/other", "wb") as file:
-        file.write(b"old")
-    for name, left in (("other", b"old"), ("another", None)):
-        child = edge.start([*compiled, name], stderr=subprocess.PIPE, preexec_fn=limit_files)
-        _, lines = child.communicate(timeout=SECONDS)
-        edge.expect(("no room for the file", name), (child.returncode, lines, content(f"{edge.folder}/{name}")), (10, WRITE_FAULT.encode(), left))
-    edge.expect("no file is left behind", ([name for name in os.listdir(edge.folder) if name.startswith(".p3l")],), ([],))
-    if os.getuid():
-        os.chmod(f"{edge.folder}/other", 0o440)
-        edge.expect("a file that may not be written", (edge.run([*compiled, "other"])[0], content(f"{edge.folder}/other")), (10, b"old"))
-    items = b"1\n" * 100_000
-    edge.run([*RUN, "--trace", "long"], items)
-    whole, ended = content(f"{edge.folder}/long"), set()
-    for number in range(20):
-        with open(f"{edge.folder}/long", "wb") as file:
-            file.write(b"old")
-        child = edge.start([*RUN, "--trace", "long"], stdin=subprocess.PIPE, stdout=subprocess.DEVNULL, stderr=subprocess.DEVNULL)
-        child.stdin.write(items)
-        child.stdin.close()
-        while child.poll() is None and not any(name.startswith(".p3l") for name in os.listdir(edge.folder)):
-            pass
-        time.sleep(number / 10_000)
-        child.kill()
-        child.wait(SECONDS)
-        ended.add({b"old": "old", whole: "new"}.get(content(f"{edge.folder}/long"), "neither"))
-        for name in os.listdir(edge.folder):
-            if name.startswith(".p3l"):
-                os.remove(f"{edge.folder}/{name}")
-    edge.expect("killed as it writes", (sorted(ended - {"old", "new"}),), ([],))
-
-
-def limit_files():
-    """Lets a file grow to 16 bytes alone, as on a disk that is full."""
-    signal.signal(signal.SIGXFSZ, signal.SIG_IGN)
-    resource.setrlimit(resource.RLIMIT_FSIZE, (16, 16))
-
-
-def try_long_lines(edge):
-    """Lines of 64 MiB take the memory of short ones."""
-    million = 1 << 20
-    for name, piece, end, wanted in (
-        ("blanks", b" " * million, b"7\n", (0, b"15\n", b"")),
-        ("blanks alone", b"\t" * million, b"", (0, b"", b"")),
-        ("zeros", b"0" * million, b"7\n", (0, b"15\n", b"")),
-        ("words", b"1 " * (million // 2), b"\n", (6, b"", b"stream: line 1: 101 WrongCount 33554432\n")),
-        ("words before a bad one", b"1 " * (million // 2), b"x\n", (6, b"", b"stream: line 1: 100 BadWord\n")),
-        ("digits", b"9" * million, b"\n", (6, b"", b"stream: line 1: 102 OutOfRange\n")),
-        ("digits before a letter", b"9" * million, b"x\n", (6, b"", b"stream: line 1: 100 BadWord\n")),
-        ("a return at the end", b" " * million, b"7\r\n8", (0, b"15\n17\n", b"")),
-        ("a return before it", b" " * million, b"7\r \n", (6, b"", b"stream: line 1: 100 BadWord\n")),
-    ):
-        child = edge.start(RUN, stdin=subprocess.PIPE, stdout=subprocess.PIPE, stderr=subprocess.PIPE)
-        for _ in range(64):
-            child.stdin.write(piece)
-        child.stdin.write(end)
-        child.stdin.close()
-        output, lines = child.stdout.read(), child.stderr.read()
-        _, status, used = os.wait4(child.pid, 0)
-        child.returncode = os.waitstatus_to_exitcode(status)
-        edge.expect(("a long line", name), (child.returncode, output, lines, used.ru_maxrss < 60 << 10), (*wanted, True))
 
 
 def calls_of(child, which):
@@ -456,8 +350,50 @@ def try_terminals(edge):
         edge.expect(("short on a terminal", words), found, (*wanted[:2], lines.encode()))
 
 
+# A long line: what is said again and again, what ends it, and how the run ends.
+LONG_LINES = [
+    (b" ", b"\n5\n", 0, b"11\n", b""),
+    (b"1 ", b"\n5\n", 6, b"", b"stream: line 1: 101 WrongCount %d\n"),
+    (b"0", b"7\n", 0, b"15\n", b""),
+    (b"9", b"\n", 6, b"", b"stream: line 1: 102 OutOfRange\n"),
+    (b"x", b"\n", 6, b"", b"stream: line 1: 100 BadWord\n"),
+]
+SHORT_LINE, LONG_LINE, MOST_GROWTH = 1 << 16, 1 << 26, 1 << 20
+
+
+def memory_on(edge, piece, count, end):
+    """How a run ends on a long line, and the most memory that it had."""
+    pipes = {"stdin": subprocess.PIPE, "stdout": subprocess.PIPE, "stderr": subprocess.PIPE}
+    child = edge.start(RUN, **pipes)
+    chunk = piece * (SHORT_LINE // len(piece))
+    try:
+        for _ in range(count // SHORT_LINE):
+            child.stdin.write(chunk)
+        child.stdin.write(end)
+        child.stdin.flush()
+    except BrokenPipeError:
+        # a refused line may be refused before its end
+        pass
+    # What is still in the pipe is little, beside what was read by then.
+    with open(f"/proc/{child.pid}/status") as status:
+        most = [int(line.split()[1]) for line in status if line.startswith("VmHWM")]
+    output, lines = child.communicate(timeout=SECONDS)
+    return (child.returncode, output, lines), (most or [0])[0] * 1024
+
+
+def try_long_lines(edge):
+    """Memory doesn't grow with a line, and the run ends on it as it should."""
+    for piece, end, status, output, lines in LONG_LINES:
+        _, few = memory_on(edge, piece, SHORT_LINE, end)
+        found, many = memory_on(edge, piece, LONG_LINE, end)
+        if b"%d" in lines:
+            lines = lines % (LONG_LINE // len(piece))
+        edge.expect(("a long line", piece), found, (status, output, lines))
+        edge.expect(("memory for a long line", piece, few, many), many - few < MOST_GROWTH, True)
+
+
 ATTEMPTS = [try_version, try_full, try_pieces, try_pipes, try_terminals, try_left, try_calls]
-ATTEMPTS += [try_inputs, try_whole, try_long_lines, try_no_memory]
+ATTEMPTS += [try_long_lines, try_no_memory]
 
 
 def main():
