@@ -25,7 +25,7 @@ use Rattle.p3l_ast.specs.Meaning.Run.{Gives}
 -- a stop at a first step is the stop of the whole
 pub stop_given : {A B : Type 0} (stop : Stop) (r : Result A TrapKind) (go : A → Result B TrapKind) → Gives {A = A} (Err stop) r → Gives {A = B} (Err stop) (given r go)
 stop_given (Trapped trap) r go h = ap (λ x. given x go) h
-stop_given NoMemory r go h = tt
+stop_given NoMemory r go h = h
 
 -- a trap and a stop that are handed on
 pub trap_handed : (answer : Result Valuation Stop) (trap : TrapKind) (meant : Result Valuation TrapKind) → IsErrAnd answer (λ stop. stop ≡ Trapped trap) → Err trap ≡ meant → Gives answer meant

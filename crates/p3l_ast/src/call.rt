@@ -4,7 +4,7 @@ use crate::port::Port;
 use crate::position::Spot;
 use p3l_base::List;
 
-/// What is in one pair of brackets of an argument: nothing for a whole dimension, or `*` and
+/// The content of one pair of brackets of an argument: nothing for a whole dimension, or `*` and
 /// the name of a free index.
 #[derive(Debug, Drop)]
 pub enum Sub {

@@ -35,7 +35,7 @@ pub struct Clauses {
     pub rescue: Option<Rescue>,
 }
 
-/// What is between a module's head and its end.
+/// The inside of a module, between its head and its end.
 #[derive(Drop)]
 pub enum Inside {
     /// The body of a `seq`.

@@ -1,13 +1,15 @@
 // Why a source text is refused.
 
 ghost use Rattle.std.specs.Prelude.{◌≡◌};
+ghost use Rattle.p3l_base.specs.Memory.{Refused};
 ghost use Rattle.p3l_ast.specs.declared.refusal.SourceRefusal.TheVariants.{NoMemory};
 ghost use Rattle.p3l_ast.specs.Refusal.{number_of, name_of};
 
 use crate::position::Pos;
+use p3l_base::NoMemory as Wanting;
 use std::alloc::{AllocError, AllocFailed};
 
-/// What is wrong with a source text, in the order of the numbers.
+/// A fault of a source text, in the order of the numbers.
 #[derive(Clone, Copy, Debug, Drop, PartialEq, Eq)]
 pub enum Fault {
     /// A byte that is in no token.
@@ -52,7 +54,7 @@ pub enum Fault {
     LoopTypes,
     /// A number of a clause out of its range.
     BadWorkers,
-    /// More than 128 instances.
+    /// More instances of modules than a tree may have nodes.
     TooManyInstances,
     /// Modules nested deeper than 6.
     TooDeep,
@@ -155,25 +157,27 @@ pub enum SourceRefusal {
 }
 
 impl From<AllocError> for SourceRefusal {
-    ghost from_gives = { λ _ e. e ≡ NoMemory };
+    ghost from_gives = { λ _ e. (e ≡ NoMemory) × Refused };
 
-    fn from(_error: AllocError) -> SourceRefusal {
+    fn from(failed: AllocError) -> SourceRefusal {
+        let _want = Wanting::from(failed);
         SourceRefusal::NoMemory
     }
 }
 
 impl<T: Drop> From<AllocFailed<T>> for SourceRefusal {
-    ghost from_gives = { λ _ e. e ≡ NoMemory };
+    ghost from_gives = { λ _ e. (e ≡ NoMemory) × Refused };
 
-    fn from(_failed: AllocFailed<T>) -> SourceRefusal {
+    fn from(failed: AllocFailed<T>) -> SourceRefusal {
+        let _want = Wanting::from(failed);
         SourceRefusal::NoMemory
     }
 }
 
-impl From<p3l_base::NoMemory> for SourceRefusal {
+impl From<Wanting> for SourceRefusal {
     ghost from_gives = { λ _ e. e ≡ NoMemory };
 
-    fn from(_want: p3l_base::NoMemory) -> SourceRefusal {
+    fn from(_want: Wanting) -> SourceRefusal {
         SourceRefusal::NoMemory
     }
 }

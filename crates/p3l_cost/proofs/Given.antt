@@ -10,7 +10,7 @@ broken_first NotToml meant go h = h
 broken_first (BadKey key) meant go h = rw h refl
 broken_first (BadValue key) meant go h = rw h refl
 broken_first (Missing name) meant go h = rw h refl
-broken_first NoMemory meant go h = tt
+broken_first NoMemory meant go h = h
 
 -- one that is kept leaves the others
 pub kept_first : {A B : Type 0} (x : A) (meant : Result A CostRefusal) (go : A → Result B CostRefusal) → meant ≡ Ok x → given meant go ≡ go x

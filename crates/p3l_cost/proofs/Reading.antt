@@ -1,5 +1,5 @@
 -- What is read of a document are costs of its tree.
-use Rattle.std.proofs.Common.{◌≡◌, ℕ, zero, suc, ◌+◌, ◌<◌, ◌≤◌, ◌&&◌, Bool, true, false, List, [], ◌∷◌, get_or, length, Option, Some, None, Result, Ok, Err, refl, ap, ◌∙◌, subst, arith, pos, negsuc, codes}
+use Rattle.std.proofs.Common.{◌≡◌, ℕ, zero, suc, ◌+◌, ◌<◌, ◌≤◌, ◌&&◌, Bool, true, false, List, [], ◌∷◌, get_or, length, Option, Some, None, Result, Ok, Err, refl, ap, ◌∙◌, subst, arith, pos, negsuc, codes, inl}
 use Rattle.std.specs.Prelude.{IfOk, IfSome, unwrap_or, if◌then◌else◌, nat_le, slice_index}
 use Rattle.std.specs.List.{All}
 use Rattle.std.specs.Option.{option_map_or}
@@ -177,7 +177,7 @@ read_is tree text document (Err NotToml) is h = absurd h
 read_is tree text document (Err (BadKey key)) is h = record { document = document; is = is; says = h }
 read_is tree text document (Err (BadValue key)) is h = record { document = document; is = is; says = h }
 read_is tree text document (Err (Missing name)) is h = record { document = document; is = is; says = h }
-read_is tree text document (Err NoMemory) is h = tt
+read_is tree text document (Err NoMemory) is h = inl h
 
 -- the answer says which costs are lawful
 pub read_lawful : (tree : Tree) (document : Members) (answer : Result Costs CostRefusal) → IsLawfulTree tree → Gives answer (costs_in tree document) → IfOk answer (AreCostsOf tree)

@@ -6,10 +6,7 @@ use Rattle.p3l_skel.specs.declared.tree.Form.TheVariants.{Seq, Comp, Pipe, Farm,
 use Rattle.p3l_skel.specs.declared.tree.Node.{Node}
 use Rattle.p3l_skel.specs.declared.tree.Tree.{Tree}
 use Rattle.p3l_cost.specs.declared.costs.Costs.{Costs}
-
--- the greatest number of the cost model
-abbrev pub most_cost : ℕ
-most_cost = 1000000
+pub use Rattle.p3l_base.specs.Limits.{most_cost}
 
 -- n turns may be expected of a node of this form: no more than a loop allows
 abbrev pub IsWithinTurns : Form → ℕ → Type 0

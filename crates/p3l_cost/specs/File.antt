@@ -1,5 +1,5 @@
 -- What a cost file says of a tree's modules, over what its text is as TOML.
-use Rattle.std.specs.Prelude.{◌≡◌, ℕ, ℤ, pos, negsuc, ◌+◌, ◌==◌, ◌&&◌, Bool, true, false, nat_le, List, [], ◌∷◌, ◌++◌, Option, Some, None, unwrap_or, Result, Ok, Err, bytes_eq, codes, if◌then◌else◌, IsUtf8}
+use Rattle.std.specs.Prelude.{◌≡◌, ◌⊎◌, ℕ, ℤ, pos, negsuc, ◌+◌, ◌==◌, ◌&&◌, Bool, true, false, nat_le, List, [], ◌∷◌, ◌++◌, Option, Some, None, unwrap_or, Result, Ok, Err, bytes_eq, codes, if◌then◌else◌, IsUtf8}
 use Rattle.std.specs.List.{list_any}
 use Rattle.std.specs.Map.{lookup}
 use Rattle.std.specs.Option.{option_map_or}
@@ -17,6 +17,7 @@ use Rattle.p3l_cost.specs.declared.section.Section.{Section}
 use Rattle.p3l_cost.specs.declared.section.Section.TheVariants.{Ticks, Turns}
 use Rattle.p3l_cost.specs.Costs.{most_cost}
 use Rattle.p3l_cost.specs.Standard.{turns_or, full_turns}
+use Rattle.p3l_cost.specs.Wanted.{TomlWanted}
 use Rattle.p3l_base.specs.Memory.{Refused}
 
 -- what a rule says
@@ -31,8 +32,8 @@ abbrev pub given : {A B : Type 0} → Result A CostRefusal → (A → Result B C
 given (Ok x) go = go x
 given (Err refusal) go = Err refusal
 
--- an answer is what is meant, value or refusal, unless out of memory; no rule of keys and values
--- says that a text is no document
+-- an answer is what is meant, value or refusal, unless a request for memory was refused; no rule of
+-- keys and values says that a text is no document
 abbrev pub Gives : {A : Type 0} → Result A CostRefusal → Result A CostRefusal → Type 0
 Gives (Ok x) meant = meant ≡ Ok x
 Gives (Err NotToml) meant = ⊥
@@ -191,13 +192,13 @@ pub record IsDocument (text : List ℕ) (document : Members) : Type 0 where
   pub utf8 : IsUtf8 text
   pub parsed : parse_document text ≡ Some document
 
--- why a text is no document, unless out of memory
+-- why a text is no document, unless toml answered that memory ran out
 abbrev pub IsNoDocument : List ℕ → CostRefusal → Type 0
 IsNoDocument text NotToml = (document : Members) → IsDocument text document → ⊥
 IsNoDocument text (BadKey key) = ⊥
 IsNoDocument text (BadValue key) = ⊥
 IsNoDocument text (Missing name) = ⊥
-IsNoDocument text NoMemory = Refused
+IsNoDocument text NoMemory = TomlWanted
 
 -- what the text says of the tree
 pub record Says (tree : Tree) (text : List ℕ) (meant : Result Costs CostRefusal) : Type 0 where
@@ -205,11 +206,11 @@ pub record Says (tree : Tree) (text : List ℕ) (meant : Result Costs CostRefusa
   pub is : IsDocument text document
   pub says : costs_in tree document ≡ meant
 
--- what is read of the text
+-- the costs that are read of the text, or why it is refused
 abbrev pub IsRead : Tree → List ℕ → Result Costs CostRefusal → Type 0
 IsRead tree text (Ok costs) = Says tree text (Ok costs)
 IsRead tree text (Err NotToml) = (document : Members) → IsDocument text document → ⊥
 IsRead tree text (Err (BadKey key)) = Says tree text (Err (BadKey key))
 IsRead tree text (Err (BadValue key)) = Says tree text (Err (BadValue key))
 IsRead tree text (Err (Missing name)) = Says tree text (Err (Missing name))
-IsRead tree text (Err NoMemory) = Refused
+IsRead tree text (Err NoMemory) = Refused ⊎ TomlWanted

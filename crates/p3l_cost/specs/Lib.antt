@@ -1,3 +1,4 @@
 pub mod Costs
 pub mod Standard
+pub mod Wanted
 pub mod File

@@ -10,10 +10,7 @@ use p3l_base::{List, NoMemory};
 use p3l_skel::{Form, ModuleKind, Node, Tree};
 use std::alloc::Global;
 
-/// The greatest of the numbers of the cost model.
-pub const MOST_COST: u32 = 1_000_000;
-
-/// What the work of a tree's modules costs, in ticks. A token of `w` words is taken or handed on in
+/// The costs of a tree's modules, in ticks. A token of `w` words is taken or handed on in
 /// `setup + word * w` ticks; an item costs a `seq` module its `ticks`; and `turns` are how often a
 /// `loop` module's body is expected to run for an item. Both lists have one number for each module,
 /// in the order of the source, which counts only for a module of that skeleton.
@@ -56,14 +53,14 @@ fn standard_ticks(kind: ModuleKind) -> u32
     }
 }
 
-/// The turns that a loop module allows of which one of these nodes is, and 1 for other modules.
+/// The turns that a loop module allows, if one of these nodes is its loop; 1 for other modules.
 pub(crate) fn full_turns(nodes: &[Node], home: u32) -> u32
     ensures { result ≡ full_turns nodes.now home }
 {
     turns_or(nodes, home, 1)
 }
 
-/// The turns that a loop module allows of which one of these nodes is, and else another number.
+/// The turns that a loop module allows, if one of these nodes is its loop; otherwise another number.
 pub(crate) fn turns_or(nodes: &[Node], home: u32, other: u32) -> u32
     ensures { result ≡ turns_or other nodes.now home }
 {

@@ -3,9 +3,11 @@
 ghost use Rattle.std.specs.Prelude.{◌≡◌, ◌≤◌, ◌↔◌, IsTrue, slice_index};
 ghost use Rattle.std.specs.List.{All};
 ghost use Rattle.p3l_skel.specs.declared.tree.Node.{Node};
+ghost use Rattle.p3l_base.specs.Limits.{most_cost};
 ghost use Rattle.p3l_cost.specs.Costs.{AreCostsOf, IsTurns, IsWithinTurns};
 
-use crate::costs::{Costs, MOST_COST};
+use crate::costs::Costs;
+use p3l_base::limits::MOST_COST;
 use p3l_skel::{Form, Node, Tree};
 
 /// Whether there is a number for each module of a tree, all within the greatest, and no loop is
@@ -24,7 +26,7 @@ pub fn lawful_costs(tree: &Tree, costs: &Costs) -> bool
 
 /// Whether no number is past the greatest.
 fn are_few(numbers: &[u32]) -> bool
-    ensures { IsTrue result ↔ All (λ n. n ≤ 1000000) numbers.now }
+    ensures { IsTrue result ↔ All (λ n. n ≤ most_cost) numbers.now }
 {
     numbers.iter().all(|n| *n <= MOST_COST)
 }

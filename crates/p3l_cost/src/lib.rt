@@ -1,4 +1,4 @@
-//! What a tree's work costs: the numbers of the cost model, for each module of the source.
+//! The numbers of the cost model, for each module of the source.
 #![tactic(auto)]
 
 pub mod costs;

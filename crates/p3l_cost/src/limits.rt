@@ -6,9 +6,10 @@ ghost use Rattle.std.specs.Map.{lookup};
 ghost use Rattle.std.specs.Option.{option_or};
 ghost use Rattle.p3l_cost.specs.File.{limit_of, most_of};
 
-use crate::costs::{MOST_COST, turns_or};
+use crate::costs::turns_or;
 use crate::section::Section;
 use indexmap::IndexMap;
+use p3l_base::limits::MOST_COST;
 use p3l_base::{Name, NoMemory};
 use p3l_skel::{Node, Tree};
 use std::alloc::Global;

@@ -8,10 +8,11 @@ ghost use Rattle.p3l_skel.specs.Lawful.{IsLawfulTree};
 ghost use Rattle.p3l_cost.specs.Costs.{AreCostsOf};
 ghost use Rattle.p3l_cost.specs.File.{Gives, IsDocument, IsNoDocument, IsRead, all_ticks, all_turns, costs_in, entry_in, is_used, number_in, ticks_of, turns_of_module};
 
-use crate::costs::{Costs, MOST_COST, full_turns, turns_or};
+use crate::costs::{Costs, full_turns, turns_or};
 use crate::refusal::CostRefusal;
 use crate::rules::{check_keys, whole_in};
 use crate::section::Section;
+use p3l_base::limits::MOST_COST;
 use p3l_base::{List, Name, NoMemory};
 use p3l_skel::{ModuleInfo, Node, Tree};
 use std::alloc::Global;

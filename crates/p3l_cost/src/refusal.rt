@@ -8,7 +8,7 @@ use p3l_base::Name;
 /// Why a cost file is refused. Keys of entries are written `seq.NAME` and `turns.NAME`.
 #[derive(Debug, Drop)]
 pub enum CostRefusal {
-    /// The text is no UTF-8, or no TOML document.
+    /// The text is not UTF-8, or not a TOML document.
     NotToml,
     /// A key that costs don't have, or an entry that names no module of its table's skeleton.
     BadKey(Name),

@@ -4,12 +4,13 @@ ghost use Rattle.std.specs.Prelude.{◌≡◌, ◌<◌, ◌^◌, bytes_eq, lengt
 ghost use Rattle.p3l_base.specs.Memory.{IfGiven};
 ghost use Rattle.std.specs.Map.{lookup};
 ghost use Rattle.toml.specs.View.{table_view, view};
+ghost use Rattle.p3l_base.specs.Limits.{most_cost};
 ghost use Rattle.p3l_cost.specs.File.{Gives, entries_rule, entry_key, entry_within, found, is_number_key, key_rule, keys_rule, section_rule, whole_in};
 
-use crate::costs::MOST_COST;
 use crate::limits::{Limits, limits_of};
 use crate::refusal::CostRefusal;
 use crate::section::Section;
+use p3l_base::limits::MOST_COST;
 use p3l_base::{Name, NoMemory};
 use p3l_skel::Tree;
 use std::alloc::Global;
@@ -31,7 +32,7 @@ pub(crate) fn whole_in(low: u32, high: u32, value: &Value) -> Option<u32>
     }
 }
 
-/// How an entry is written.
+/// The key of an entry as a refusal reports it: `seq.NAME` or `turns.NAME`.
 fn entry_key(alloc: Global, section: Section, name: &str) -> Result<Name, NoMemory>
     ensures { IfGiven result (λ key. key ≡ entry_key section name.now) }
 {
@@ -105,7 +106,7 @@ fn is_number_key(key: &str) -> bool
 
 /// Whether a value is a number of the cost model.
 fn check_number(alloc: Global, key: &str, value: &Value) -> Result<(), CostRefusal>
-    ensures { Gives result (found key.now (whole_in 0 1000000 (view value.now))) }
+    ensures { Gives result (found key.now (whole_in 0 most_cost (view value.now))) }
 {
     match whole_in(0, MOST_COST, value) {
         Some(_) => Ok(()),

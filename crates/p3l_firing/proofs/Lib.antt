@@ -13,7 +13,11 @@ pub mod OutcomesLaw
 pub mod RoundRobinLaw
 pub mod WaysLaw
 pub mod FittingWays
+pub mod OrderlyLaw
 pub mod CarriedLaw
+pub mod CutLaw
+pub mod EarlierLaw
+pub mod EmitsLaw
 pub mod SingleTyped
 pub mod SingleCarried
 pub mod Hand

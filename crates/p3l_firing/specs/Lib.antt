@@ -15,6 +15,8 @@ pub mod Run
 pub mod RoundRobin
 pub mod Outcomes
 pub mod Carried
+pub mod Orderly
+pub mod Cut
 pub mod Typed
 pub mod Single
 pub mod Examples

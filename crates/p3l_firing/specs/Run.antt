@@ -28,6 +28,10 @@ picked tree leaf net c p =
 unfoldable pub after_picks : Tree → (ℕ → List ℤ → Outcome) → Net → Course → List ℕ → Course
 after_picks tree leaf net = fold (picked tree leaf net)
 
--- the run of a net on items under picks
+-- the run of a net from a state under picks
+abbrev pub run_from : Tree → (ℕ → List ℤ → Outcome) → Net → State → List ℕ → Course
+run_from tree leaf net s picks = after_picks tree leaf net (course_from s) picks
+
+-- the run of a net on items under picks: the one from its first state
 abbrev pub run : Tree → (ℕ → List ℤ → Outcome) → Net → List (List ℤ) → List ℕ → Course
-run tree leaf net items picks = after_picks tree leaf net (course_from (first_state net items)) picks
+run tree leaf net items picks = run_from tree leaf net (first_state net items) picks

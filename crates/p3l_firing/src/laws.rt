@@ -1,6 +1,6 @@
 // Laws of all runs: each is the contract of a function that does nothing.
 
-ghost use Rattle.std.specs.Prelude.{◌≡◌, ℕ, ℤ, suc, ◌+◌, ◌*◌, ◌<◌, ◌≤◌, List, [], ◌∷◌, ◌++◌, ◌⊎◌, Some, None, true, length};
+ghost use Rattle.std.specs.Prelude.{◌≡◌, ℕ, ℤ, suc, ◌+◌, ◌*◌, ◌<◌, ◌≤◌, List, [], ◌∷◌, ◌++◌, ◌⊎◌, Some, None, true, false, length};
 ghost use Rattle.std.specs.List.{AllByRecursion};
 ghost use Rattle.p3l_skel.specs.declared.tree.Tree.{Tree};
 ghost use Rattle.p3l_skel.specs.declared.tree.Form.TheVariants.{Seq};
@@ -14,11 +14,13 @@ ghost use Rattle.p3l_firing.specs.Choice.{Emptiest, Full, FirstDue, NoneDue};
 ghost use Rattle.p3l_firing.specs.Examples.{HandValues};
 ghost use Rattle.p3l_firing.specs.Fire.{IsStuck, can_fire, fire, is_ready};
 ghost use Rattle.p3l_firing.specs.Nodes.{Leaf};
+ghost use Rattle.p3l_firing.specs.Orderly.{CanGoOn, Emits, IsBalanced, left_from, outcomes_from};
 ghost use Rattle.p3l_firing.specs.Outcomes.{IsPrefixOf};
 ghost use Rattle.p3l_firing.specs.RoundRobin.{after, next_of, round_robin};
-ghost use Rattle.p3l_firing.specs.Run.{Course, after_picks, picked, run};
+ghost use Rattle.p3l_firing.specs.Run.{Course, after_picks, picked, run, run_from};
 ghost use Rattle.p3l_firing.specs.Single.{unit_net};
 ghost use Rattle.p3l_firing.specs.State.{State, first_state};
+ghost use Rattle.p3l_firing.specs.Token.{has_trap};
 ghost use Rattle.p3l_firing.specs.Typed.{IsTyped, IsFitting};
 ghost use Rattle.p3l_firing.specs.Ways.{Eyes, Knows, MayFire, Sees};
 ghost use Rattle.p3l_firing.specs.kinds.Collect.{due_in};
@@ -33,10 +35,65 @@ pub fn channels_are_chosen()
         → FirstDue s n cs (due_in s n cs) ⊎ NoneDue s n cs (due_in s n cs) }
 {}
 
-/// In a net that is carried, whatever the items, of the root's in words, and the picks: what was emitted begins the meaning
-/// of the items, and is all of it where nothing can fire; no more items are sent than there are, and
-/// the net fires at most `firings` times for each item sent. The round robin ends where nothing can
+/// The law of runs. A carried net goes on from any orderly state under any picks: the outcomes emitted
+/// at the end are a prefix of those emitted before, those to come and those of the items not yet sent,
+/// up to the first trap, and they are all of them where nothing can fire. The state at the end is
+/// again one to go on from, and balanced where the first was. The net fires at most as often as its
+/// tokens could still need, and as an item takes for each item sent since. The round robin ends where
+/// nothing can fire.
+pub fn a_carried_net_goes_on_from_any_orderly_state()
+    ensures going { (tree : Tree) (leaf : Leaf) (net : Net) (firings : ℕ) (carry : Carry)
+        (s : State) (picks : List ℕ)
+        → IsCarried tree leaf net firings carry → CanGoOn carry s
+        → CanGoOn carry (run_from tree leaf net s picks).state }
+    ensures balanced { (tree : Tree) (leaf : Leaf) (net : Net) (firings : ℕ) (carry : Carry)
+        (s : State) (picks : List ℕ)
+        → IsCarried tree leaf net firings carry → carry.orderly s ≡ true → IsBalanced carry s
+        → IsBalanced carry (run_from tree leaf net s picks).state }
+    ensures begins { (tree : Tree) (leaf : Leaf) (net : Net) (firings : ℕ) (carry : Carry)
+        (s : State) (picks : List ℕ)
+        → IsCarried tree leaf net firings carry → CanGoOn carry s
+        → IsPrefixOf (run_from tree leaf net s picks).state.emitted
+        (outcomes_from tree leaf carry s) }
+    ensures finished { (tree : Tree) (leaf : Leaf) (net : Net) (firings : ℕ) (carry : Carry)
+        (s : State) (picks : List ℕ)
+        → IsCarried tree leaf net firings carry → CanGoOn carry s
+        → IsStuck tree net (run_from tree leaf net s picks).state
+        → (run_from tree leaf net s picks).state.emitted ≡ outcomes_from tree leaf carry s }
+    ensures bounded { (tree : Tree) (leaf : Leaf) (net : Net) (firings : ℕ) (carry : Carry)
+        (s : State) (picks : List ℕ)
+        → IsCarried tree leaf net firings carry → carry.orderly s ≡ true
+        → ((run_from tree leaf net s picks).fired
+        + carry.owed (run_from tree leaf net s picks).state) + firings * s.sent
+        ≤ carry.owed s + firings * (run_from tree leaf net s picks).state.sent }
+    ensures sent { (tree : Tree) (leaf : Leaf) (net : Net) (firings : ℕ) (carry : Carry)
+        (s : State) (picks : List ℕ)
+        → IsCarried tree leaf net firings carry → carry.orderly s ≡ true
+        → (run_from tree leaf net s picks).state.sent
+        + length (run_from tree leaf net s picks).state.unsent ≡ s.sent + length s.unsent }
+    ensures ends { (tree : Tree) (leaf : Leaf) (net : Net) (firings : ℕ) (carry : Carry)
+        (s : State) (most from : ℕ)
+        → IsCarried tree leaf net firings carry → carry.orderly s ≡ true → from < length net.procs
+        → carry.owed s + firings * length s.unsent ≤ most
+        → IsStuck tree net
+        (run_from tree leaf net s (round_robin tree leaf net most s from)).state }
+{}
+
+/// From an orderly state in which no trap was emitted, a carried net emits a prefix of the outcomes to
+/// come and those of the items not yet sent, up to the first trap, and all of them where nothing can
 /// fire.
+pub fn a_carried_net_emits_what_is_left()
+    ensures { (tree : Tree) (leaf : Leaf) (net : Net) (firings : ℕ) (carry : Carry) (s : State)
+        (picks : List ℕ)
+        → IsCarried tree leaf net firings carry → carry.orderly s ≡ true
+        → has_trap s.emitted ≡ false
+        → Emits tree net (left_from tree leaf carry s) s (run_from tree leaf net s picks).state }
+{}
+
+/// The law of runs at the first state, which is orderly. Of items that have the root's in words, and
+/// any picks, the outcomes emitted are a prefix of the meaning, and all of it where nothing can fire;
+/// no more items are sent than there are, and the net fires at most `firings` times for each item
+/// sent. The round robin ends where nothing can fire.
 pub fn a_carried_net_means_its_items()
     ensures begins { (tree : Tree) (leaf : Leaf) (net : Net) (firings : ℕ) (carry : Carry)
         (items : List (List ℤ)) (picks : List ℕ)

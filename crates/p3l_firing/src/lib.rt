@@ -2,6 +2,7 @@
 //! of all runs.
 #![tactic(auto)]
 
+pub mod cut;
 pub mod laws;
 pub mod net;
 pub mod process;

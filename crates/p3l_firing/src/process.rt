@@ -4,7 +4,7 @@ ghost use Rattle.std.specs.Prelude.{◌≡◌, ◌<◌, length};
 
 use p3l_base::List;
 
-/// What a process does.
+/// The kinds of processes, by their work.
 #[derive(Clone, Copy, Debug, Drop, PartialEq, Eq)]
 pub enum ProcKind {
     /// Sends the items, one by one.

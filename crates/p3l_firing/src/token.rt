@@ -1,4 +1,4 @@
-// What travels through channels, and what a firing hands out.
+// Tokens, which travel through channels, and firings as they are reported.
 
 ghost use Rattle.std.specs.Prelude.{◌≡◌, ◌<◌, ◌^◌, length};
 ghost use Rattle.p3l_firing.specs.Token.{plain, credit, tagged, newest_tag, second_tag, peeled, once_more, is_trap};
@@ -8,15 +8,15 @@ use crate::tags::Tags;
 use p3l_base::{Outcome, Words};
 use std::alloc::Global;
 
-/// What travels through a channel: an outcome, with the tags that the processes on its way gave it.
+/// An outcome that travels through channels, with the tags that the processes on its way gave it.
 #[derive(Debug, Drop)]
 pub struct Token {
     pub tags: Tags,
     pub body: Outcome,
 }
 
-/// What a firing did: the kind of the process that fired, and the outcome that it took out of the
-/// net, if it is the sink.
+/// A firing: the kind of the process that fired, and the outcome that it took out of the net, if it
+/// is the sink.
 #[derive(Debug, Drop)]
 pub struct Fired {
     pub kind: ProcKind,
@@ -103,7 +103,7 @@ impl Token {
     }
 }
 
-/// Whether an outcome is a trap.
+/// Returns true exactly if the outcome is a trap.
 pub fn is_trap(outcome: &Outcome) -> bool
     ensures { result ≡ is_trap outcome.now }
 {

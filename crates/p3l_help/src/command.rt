@@ -2,7 +2,7 @@
 
 use crate::page::Page;
 
-/// What `run` does.
+/// The page of `run`.
 const RUN: &str = "usage: p3l run PROGRAM --processors P [--costs FILE] [--schedule S]
                [--capacity C] [--trace FILE] [--stats]
 
@@ -24,7 +24,7 @@ does not make the run faster.
 example: p3l run m.p3l --processors 16 --schedule seed:7 < items
 ";
 
-/// What `compile` does.
+/// The page of `compile`.
 const COMPILE: &str = "usage: p3l compile PROGRAM --processors P --output FILE [--costs FILE]
                    [--capacity C]
 
@@ -43,12 +43,14 @@ program nor its costs.
 example: p3l compile m.p3l --processors 16 --output m.img
 ";
 
-/// What `migrate` does.
+/// The page of `migrate`.
 const MIGRATE: &str = "usage: p3l migrate IMAGE --output FILE
 
 Reads an image of any version, relinks its network from its tree and its counts,
-and writes the image in the newest version to a file. An image whose
-tree or codes can't be run is refused, and no file is written.
+and writes the image in the newest version to a file. An image whose tree or
+codes can't be run is refused, and no file is written. The new image may be
+longer than the old one: one of more than 67,108,864 bytes is written, but
+`exec` refuses it (status 9).
 
   IMAGE            the file of the image
   --output FILE    where to write the image
@@ -56,7 +58,7 @@ tree or codes can't be run is refused, and no file is written.
 example: p3l migrate old.img --output new.img
 ";
 
-/// What `graph` does.
+/// The page of `graph`.
 const GRAPH: &str = "usage: p3l graph PROGRAM --processors P [--costs FILE] [--capacity C]
 
 Writes the network that run would run, as a text in the DOT language: a box for
@@ -73,7 +75,7 @@ channel with its capacity, and a frame round the processes of each skeleton.
 example: p3l graph m.p3l --processors 16 | dot -Tsvg > m.svg
 ";
 
-/// What `exec` does.
+/// The page of `exec`.
 const EXEC: &str = "usage: p3l exec IMAGE [--schedule S] [--trace FILE] [--stats]
 
 Reads items from the standard input, one a line, and writes one line for each
@@ -89,7 +91,7 @@ not lawful, safe and linked is refused.
 example: p3l exec m.img --schedule seed:7 < items
 ";
 
-/// What `explain` does.
+/// The page of `explain`.
 const EXPLAIN: &str = "usage: p3l explain PROGRAM --processors P [--costs FILE] [--cert FILE]
 
 Writes the worker counts that are chosen for a program, with the processes and
@@ -103,7 +105,7 @@ the service time of the whole and of each part.
 example: p3l explain m.p3l --processors 16 --cert m.cert
 ";
 
-/// What `verify-cert` does.
+/// The page of `verify-cert`.
 const VERIFY_CERT: &str = "usage: p3l verify-cert PROGRAM --cert FILE [--costs FILE]
 
 Checks a certificate that worker counts of a program are the best for some
@@ -116,7 +118,7 @@ processors, whoever wrote it, and writes what the counts come to.
 example: p3l verify-cert m.p3l --cert m.cert
 ";
 
-/// What `check-trace` does.
+/// The page of `check-trace`.
 const CHECK_TRACE: &str = "usage: p3l check-trace PROGRAM --processors P --trace FILE [--costs FILE]
                        [--capacity C]
 
@@ -135,7 +137,7 @@ standard input, or tells the first line that differs; the trace of `p3l run
 example: p3l check-trace m.p3l --processors 16 --trace m.trace < items
 ";
 
-/// What `check` does.
+/// The page of `check`.
 const CHECK: &str = "usage: p3l check PROGRAM
 
 Says whether a program keeps the rules of the language, how many modules it has,
@@ -146,7 +148,7 @@ and how many instances of them its module `main` comes to, with itself.
 example: p3l check m.p3l
 ";
 
-/// What `fmt` does.
+/// The page of `fmt`.
 const FMT: &str = "usage: p3l fmt PROGRAM
 
 Writes the canonical text of a program to the standard output. Comments are
@@ -157,7 +159,7 @@ dropped: don't write the text over a source whose comments you want to keep.
 example: p3l fmt m.p3l
 ";
 
-/// What `gen` does.
+/// The page of `gen`.
 const GEN: &str = "usage: p3l gen N --processors P [--items I] [--schedule S] [--save PREFIX]
 
 Generates a program, its costs and a stream of items by a number, runs the
@@ -175,7 +177,7 @@ of all words that came out, which wraps at 64 bits.
 example: p3l gen 7 --processors 16 --save seven
 ";
 
-/// What `rewrite` does.
+/// The page of `rewrite`.
 const REWRITE: &str = "usage: p3l rewrite PROGRAM --processors P [--costs FILE]
 
 Writes a program that means the same and whose service time is no greater, in
@@ -192,7 +194,7 @@ the program itself is written.
 example: p3l rewrite m.p3l --processors 16 > faster.p3l
 ";
 
-/// What `profile` does.
+/// The page of `profile`.
 const PROFILE: &str = "usage: p3l profile PROGRAM
 
 Computes what the program makes of the items of the standard input, and writes
@@ -205,7 +207,7 @@ item. Nothing is written where an item comes to a trap, or a line is no item.
 example: p3l profile m.p3l < sample > m.toml
 ";
 
-/// What `time` does.
+/// The page of `time`.
 const TIME: &str = "usage: p3l time PROGRAM --processors P [--costs FILE] [--capacity C]
                 [--picks FILE]
 
@@ -229,7 +231,7 @@ give the same line.
 example: p3l time m.p3l --processors 16 --costs m.toml <in.txt
 ";
 
-/// What `scan` does.
+/// The page of `scan`.
 const SCAN: &str = "usage: p3l scan PROGRAM --segments M [--schedule S] [--capacity C] [--stats]
 
 Reads items from the standard input, one a line, and writes for each the fold
@@ -250,7 +252,7 @@ depend on how many segments there are; main's `workers` clause is not used.
 example: p3l scan m.p3l --segments 4 < items
 ";
 
-/// What `save` does.
+/// The page of `save`.
 const SAVE: &str = "usage: p3l save PROGRAM --processors P --schedule file:NAME --output FILE
                 [--costs FILE] [--capacity C]
 
@@ -275,7 +277,7 @@ example: p3l save m.p3l --processors 16 --schedule file:m.picks \\
          --output m.shot < items
 ";
 
-/// What `resume` does.
+/// The page of `resume`.
 const RESUME: &str = "usage: p3l resume SNAPSHOT [--schedule S] [--stats]
 
 Continues from the snapshot that save wrote: reads further items from the

@@ -4,7 +4,7 @@ ghost use Rattle.std.specs.Prelude.{◌≡◌};
 ghost use Rattle.std.specs.Option.{option_map};
 ghost use Rattle.p3l_help.specs.Flag.{before_dashes, dashes_in, first_flag, flag_of, request_among, topic_of};
 
-/// What such a word requests.
+/// A request for help or for the version.
 #[derive(Clone, Copy, Debug, Drop, PartialEq, Eq)]
 pub enum Flag {
     /// Help on what the words are about.
@@ -25,7 +25,7 @@ impl Flag {
     }
 }
 
-/// What a word requests, if it requests one.
+/// The request that a word makes, if it makes one.
 pub(crate) fn flag_in(word: &str) -> Option<Flag>
     ensures { result ≡ flag_of word.now }
 {
@@ -36,7 +36,7 @@ pub(crate) fn flag_in(word: &str) -> Option<Flag>
     }
 }
 
-/// Where the first `--` is.
+/// The place of the first `--`.
 fn dashes_in(words: &[&str]) -> Option<usize>
     ensures { result ≡ dashes_in words.now }
 {
@@ -63,7 +63,7 @@ fn request_among<'a>(words: &'a [&'a str]) -> Option<&'a str>
         .map(|word| *word)
 }
 
-/// What the first word before `--` that requests something requests.
+/// The request of the first word before `--` that makes one.
 pub(crate) fn flag_among(words: &[&str]) -> Option<Flag>
     ensures { result ≡ first_flag words.now }
 {

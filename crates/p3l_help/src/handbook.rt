@@ -75,7 +75,7 @@ impl Handbook {
         text_on(self.runs, number)
     }
 
-    /// Whether a word is the first word of a command.
+    /// Tests that a word is the first word of a command.
     fn is_command(&self, word: &str) -> bool
         ensures { result ≡ is_command self.now word.now }
     {

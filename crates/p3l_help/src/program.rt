@@ -1,6 +1,6 @@
 // The pages of the program: what it is, its version, and how it ends.
 
-/// What the program is and which commands it has.
+/// The page of the program and its commands.
 pub(crate) const PROGRAM: &str =
     "p3l compiles P3L programs to networks of processes, and runs them on streams.
 

@@ -1,15 +1,18 @@
 // The file system.
 
-ghost use Rattle.std.specs.Prelude.{◌≡◌, ◌≤◌, None, Some, length, IfOk, OnErr};
+ghost use Rattle.std.specs.Prelude.{◌≡◌, ◌≤◌, None, Some, true, length, IfOk, OnErr};
 ghost use Rattle.p3l_base.specs.Memory.{OnGiven};
 ghost use Rattle.p3l_host.specs.Faults.{IsAfterFault};
 ghost use Rattle.p3l_host.specs.Reads.{ReadsWithin};
 
 use crate::gather::Output;
-use crate::retry::{after_fault, read_into, write_from};
+use crate::inputs::{Inputs, id_of};
+use crate::retry::{after_fault, read_into};
+use crate::whole::write_whole;
 use p3l_base::{List, Name, NoMemory};
 use p3l_io::{Failed, FileFault, Files, WriteFault};
 use std::alloc::Global;
+use std::fs::OpenFile;
 use std::io::{ErrorKind, Read, Write};
 use std::marker::Model;
 use std::{fs, rt};
@@ -18,7 +21,8 @@ use std::{fs, rt};
 const PIECE: usize = 16_384;
 
 /// The files of the file system, which contracts see as their faults. A file is written after all that
-/// was put on the output; where that can't be written, the file is left as it was.
+/// was put on the output; where that can't be written, the file is left as it was. One that was read
+/// is not written.
 #[derive(Drop)]
 pub struct HostFiles<'a, R: rt::Files, W: Write + Drop> {
     rt: &'a R,
@@ -26,6 +30,7 @@ pub struct HostFiles<'a, R: rt::Files, W: Write + Drop> {
     faults: u64,
     /// The name of the file of the latest call that failed, if one did.
     failed: Option<Name>,
+    inputs: Inputs,
 }
 
 impl<'a, R: rt::Files, W: Write + Drop> Model for HostFiles<'a, R, W> {
@@ -46,6 +51,7 @@ impl<'a, R: rt::Files, W: Write + Drop> HostFiles<'a, R, W> {
             output,
             faults: 0,
             failed: None,
+            inputs: Inputs::new(),
         }
     }
 
@@ -67,8 +73,10 @@ impl<'a, R: rt::Files, W: Write + Drop> Files for HostFiles<'a, R, W> {
 
     ghost failed = { λ faults. faults.failed };
 
+    ghost may_want = { true };
+
     fn read(&mut self, alloc: Global, name: &str, limit: u64) -> Result<List<u8>, FileFault> {
-        match read_file(alloc, self.rt, name, limit) {
+        match read_file(alloc, self.rt, &mut self.inputs, name, limit) {
             Err(FileFault::Failed) => match self.fail(alloc, name) {
                 Ok(()) => Err(FileFault::Failed),
                 Err(NoMemory) => Err(FileFault::NoMemory),
@@ -79,7 +87,7 @@ impl<'a, R: rt::Files, W: Write + Drop> Files for HostFiles<'a, R, W> {
 
     fn write(&mut self, alloc: Global, name: &str, bytes: &[u8]) -> Result<(), WriteFault> {
         let answer = match self.output.flush() {
-            Ok(()) => write_file(self.rt, name, bytes),
+            Ok(()) => write_whole(alloc, self.rt, &self.inputs, name, bytes),
             Err(Failed) => Err(WriteFault::Failed),
         };
         match answer {
@@ -92,18 +100,33 @@ impl<'a, R: rt::Files, W: Write + Drop> Files for HostFiles<'a, R, W> {
     }
 }
 
-/// The bytes of a file, if there are at most `limit`.
+/// The bytes of a file, if there are at most `limit`. It is then one of those that were read.
 fn read_file<R: rt::Files>(
     alloc: Global,
     rt: &R,
+    inputs: &mut Inputs,
     name: &str,
     limit: u64,
 ) -> Result<List<u8>, FileFault>
     ensures { IfOk result (λ bytes. length bytes ≤ limit) }
 {
     match fs::open(rt, name) {
-        Ok(mut file) => read_within(alloc, &mut file, limit),
+        Ok(mut file) => {
+            note_input(alloc, inputs, &file)?;
+            read_within(alloc, &mut file, limit)
+        }
         Err(error) if error.kind() == ErrorKind::OutOfMemory => Err(FileFault::NoMemory),
+        Err(_) => Err(FileFault::Failed),
+    }
+}
+
+/// Notes that an open file is read.
+fn note_input<F: OpenFile>(alloc: Global, inputs: &mut Inputs, file: &F) -> Result<(), FileFault> {
+    match file.metadata() {
+        Ok(found) => match inputs.note(alloc, id_of(&found)) {
+            Ok(()) => Ok(()),
+            Err(NoMemory) => Err(FileFault::NoMemory),
+        },
         Err(_) => Err(FileFault::Failed),
     }
 }
@@ -127,18 +150,10 @@ fn read_within<R: Read>(alloc: Global, reader: &mut R, limit: u64) -> Result<Lis
         if count as u64 > limit - bytes.len() as u64 {
             return Err(FileFault::TooLong);
         }
-        if bytes.extend_from_slice(&buf[..count]).is_err() {
+        if let Err(failed) = bytes.extend_from_slice(&buf[..count]) {
+            let _want = NoMemory::from(failed);
             return Err(FileFault::NoMemory);
         }
     }
     Err(FileFault::Failed)
-}
-
-/// Writes a file, whose bytes are then these alone.
-fn write_file<R: rt::Files>(rt: &R, name: &str, bytes: &[u8]) -> Result<(), WriteFault> {
-    match fs::create(rt, name) {
-        Ok(mut file) => write_from(&mut file, bytes).map_err(|_| WriteFault::Failed),
-        Err(error) if error.kind() == ErrorKind::OutOfMemory => Err(WriteFault::NoMemory),
-        Err(_) => Err(WriteFault::Failed),
-    }
 }

@@ -5,8 +5,10 @@ pub mod after;
 pub mod files;
 pub mod gather;
 pub mod input;
+mod inputs;
 pub mod output;
 mod retry;
+mod whole;
 
 pub use after::{SinkAfter, SourceAfter};
 pub use files::HostFiles;

@@ -1,5 +1,6 @@
 -- What the counts of faults say of the answers of calls on the outside.
-use Rattle.std.specs.Prelude.{◌≡◌, ℕ, ◌+◌, ◌-◌, ◌^◌, ◌≤◌, min, List, Option, Some, Result, Ok, Err, OnOk, OnErr}
+use Rattle.std.specs.Prelude.{◌≡◌, ℕ, ◌+◌, ◌-◌, ◌^◌, ◌≤◌, ◌⊎◌, min, Bool, true, List, Option, Some, Result, Ok, Err, OnOk, OnErr}
+use Rattle.p3l_base.specs.Memory.{Refused}
 use Rattle.p3l_io.specs.declared.fault.FileFault.{FileFault}
 use Rattle.p3l_io.specs.declared.fault.FileFault.TheVariants as file
 use Rattle.p3l_io.specs.declared.fault.WriteFault.{WriteFault}
@@ -50,3 +51,16 @@ abbrev pub WriteBlames : {T : Type 0} → (old new : Option (List ℕ)) → (nam
 WriteBlames old new name (Ok done) = new ≡ old
 WriteBlames old new name (Err write.Failed) = new ≡ Some name
 WriteBlames old new name (Err write.NoMemory) = new ≡ old
+
+-- a reading is out of memory only where a request was refused, or where the files may say so of themselves
+abbrev pub ReadWants : {T : Type 0} → (may_want : Bool) → Result T FileFault → Type 0
+ReadWants may_want (Ok bytes) = Unit {0}
+ReadWants may_want (Err file.Failed) = Unit {0}
+ReadWants may_want (Err file.TooLong) = Unit {0}
+ReadWants may_want (Err file.NoMemory) = Refused ⊎ (may_want ≡ true)
+
+-- and so a writing
+abbrev pub WriteWants : {T : Type 0} → (may_want : Bool) → Result T WriteFault → Type 0
+WriteWants may_want (Ok done) = Unit {0}
+WriteWants may_want (Err write.Failed) = Unit {0}
+WriteWants may_want (Err write.NoMemory) = Refused ⊎ (may_want ≡ true)

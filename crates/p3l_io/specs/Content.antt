@@ -4,7 +4,6 @@ use Rattle.p3l_io.specs.declared.fault.Failed.{Failed}
 use Rattle.p3l_io.specs.declared.fault.FileFault.{FileFault}
 use Rattle.p3l_io.specs.declared.fault.FileFault.TheVariants as file
 use Rattle.p3l_io.specs.declared.fault.WriteFault.{WriteFault}
-use Rattle.p3l_base.specs.Memory.{Refused}
 
 -- the first `n` bytes that were left are at the front of the buffer, and are none at the end alone
 pub record Took (rest : List ℕ) (new : Option (List ℕ)) (n : ℕ) (buf : List ℕ) : Type 0 where
@@ -34,7 +33,7 @@ abbrev pub ReadsFile : Option (List ℕ) → ℕ → Result (List ℕ) FileFault
 ReadsFile found limit (Ok bytes) = (found ≡ Some bytes) × (length bytes ≤ limit)
 ReadsFile found limit (Err file.TooLong) = (bytes : List ℕ) × (found ≡ Some bytes) × (limit < length bytes)
 ReadsFile found limit (Err file.Failed) = Unit {0}
-ReadsFile found limit (Err file.NoMemory) = Refused
+ReadsFile found limit (Err file.NoMemory) = Unit {0}
 
 -- a reading changes no file
 abbrev pub Reads : Option Held → Option Held → List ℕ → ℕ → Result (List ℕ) FileFault → Type 0

@@ -10,7 +10,7 @@ pub(crate) fn after_one_more(count: u64) -> u64
     count.saturating_add(1)
 }
 
-/// Whether the numbers name this call. None is named by the number at which the count stays.
+/// Decides whether the numbers name this call. None is named by the number at which the count stays.
 pub(crate) fn is_named(fails: &[u64], call: u64) -> bool
     ensures { result ≡ names_call fails.now call }
 {

@@ -1,7 +1,7 @@
 // Files by their names.
 
 ghost use Rattle.std.specs.Prelude.{◌≤◌, ℕ, Bool, List, Option, length, IfOk};
-ghost use Rattle.p3l_io.specs.Causes.{HasReadCause, HasWriteCause, ReadBlames, WriteBlames};
+ghost use Rattle.p3l_io.specs.Causes.{HasReadCause, HasWriteCause, ReadBlames, ReadWants, WriteBlames, WriteWants};
 ghost use Rattle.p3l_io.specs.Content.{Held, Reads, Writes};
 
 use crate::fault::{FileFault, WriteFault};
@@ -28,12 +28,14 @@ pub trait Files {
         ensures within { IfOk result (λ bytes. length bytes ≤ limit) }
         ensures bytes { Reads (held self.old) (held self.new) name.now limit result }
         ensures cause { HasReadCause (faults self.old) (faults self.new) result }
-        ensures blames { ReadBlames (failed self.old) (failed self.new) name.now result };
+        ensures blames { ReadBlames (failed self.old) (failed self.new) name.now result }
+        ensures wants { ReadWants may_want result };
 
     /// Puts the bytes under a name, in the place of those that it had. An error may leave any bytes
     /// under this one name.
     fn write(&mut self, alloc: Global, name: &str, bytes: &[u8]) -> Result<(), WriteFault>
         ensures bytes { Writes (held self.old) (held self.new) name.now bytes.now result }
         ensures cause { HasWriteCause (faults self.old) (faults self.new) result }
-        ensures blames { WriteBlames (failed self.old) (failed self.new) name.now result };
+        ensures blames { WriteBlames (failed self.old) (failed self.new) name.now result }
+        ensures wants { WriteWants may_want result };
 }

@@ -3,7 +3,7 @@
 ghost use Rattle.std.specs.Prelude.{◌≡◌, ◌≤◌, [], Some, None, false, length, is_none, is_ok, ◌||◌, IfOk, OnErr};
 ghost use Rattle.p3l_base.specs.Memory.{OnGiven, Refused};
 ghost use Rattle.std.specs.Option.{option_copied};
-ghost use Rattle.p3l_io.specs.Causes.{HasReadCause, HasWriteCause, ReadBlames, WriteBlames};
+ghost use Rattle.p3l_io.specs.Causes.{HasReadCause, HasWriteCause, ReadBlames, ReadWants, WriteBlames, WriteWants};
 ghost use Rattle.p3l_io.specs.Content.{IsPut, Reads, Writes};
 ghost use Rattle.p3l_io.specs.Calls.{next_count};
 ghost use Rattle.p3l_io.specs.MemFiles.{IsAdded, IsCalled, IsCopy, ReadFailsIf, WriteFailsIf, after_call, bytes_under, fails_next, read_failed, texts, write_failed};
@@ -87,7 +87,7 @@ impl MemFiles {
         }
     }
 
-    /// Whether the next call fails by its number.
+    /// Decides whether the next call fails by its number.
     fn fails_next(&self) -> bool
         ensures { result ≡ fails_next self.now }
     {
@@ -101,7 +101,7 @@ impl MemFiles {
         self.calls = after_one_more(self.calls);
     }
 
-    /// Counts a call that fails, on the file of this name; it is no fault where memory for the name is
+    /// Counts a call that fails, on the file of this name; it is no fault where memory for the name
     /// runs out.
     fn fail(&mut self, name: &str) -> Result<(), NoMemory>
         ensures refused { OnErr result Refused }
@@ -139,12 +139,15 @@ impl Files for MemFiles {
 
     ghost failed = { λ s. s.failed };
 
+    ghost may_want = { false };
+
     fn read(&mut self, alloc: Global, name: &str, limit: u64) -> Result<List<u8>, FileFault>
         ensures within { IfOk result (λ bytes. length bytes ≤ limit) }
         ensures bytes { Reads (Some (bytes_under self.old.files))
             (Some (bytes_under self.new.files)) name.now limit result }
         ensures cause { HasReadCause self.old.faults self.new.faults result }
         ensures blames { ReadBlames self.old.failed self.new.failed name.now result }
+        ensures wants { ReadWants false result }
         ensures failed { ReadFailsIf
             (fails_next self.old || is_none (bytes_under self.old.files name.now)) result }
         ensures after { self.new ≡ after_call self.old name.now (read_failed result) }
@@ -171,6 +174,7 @@ impl Files for MemFiles {
             (Some (bytes_under self.new.files)) name.now bytes.now result }
         ensures cause { HasWriteCause self.old.faults self.new.faults result }
         ensures blames { WriteBlames self.old.failed self.new.failed name.now result }
+        ensures wants { WriteWants false result }
         ensures failed { WriteFailsIf (fails_next self.old) result }
         ensures after { IsCalled self.old self.new name.now (write_failed result) }
         ensures kept { OnErr result (self.new.files ≡ self.old.files) }

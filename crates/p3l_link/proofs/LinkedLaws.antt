@@ -6,7 +6,7 @@ use Rattle.p3l_skel.specs.Item.{item}
 use Rattle.p3l_skel.specs.Tree.{node_at, HasLength}
 use Rattle.p3l_firing.specs.Carried.{whole}
 use Rattle.p3l_firing.specs.State.{State, first_state}
-use Rattle.p3l_firing.proofs.CarriedLaw.{carried_run, carried_begins, carried_finished, carried_ends}
+use Rattle.p3l_firing.proofs.CarriedLaw.{carried_run, carried_begins, carried_finished, carried_work, carried_ends}
 use Rattle.p3l_firing.proofs.WaysLaw.{fire_is_a_way}
 use Rattle.p3l_firing.proofs.row.{fitting_first, fitting_fired}
 use Rattle.p3l_template.specs.Units.{Units}
@@ -107,7 +107,9 @@ round_robin_ends units counts cap items l long =
 
 pub run_bounded : FiringsAreBounded
 run_bounded units counts cap items picks l long =
-    (carried_run units.tree units.leaf _ _ (root_carry units counts) (net_carried units counts cap l) items long picks).work
+    let laws = net_carried units counts cap l in
+    carried_work units.tree units.leaf _ _ (root_carry units counts) laws items long _
+    (carried_run units.tree units.leaf _ _ (root_carry units counts) laws items long picks)
 
 pub owed_bounded : OwedIsBoundedByTokens
 owed_bounded units counts cap s l o = owed_bound units counts cap l.lawful l.fit l.room s o.root

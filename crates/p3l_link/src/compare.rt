@@ -4,7 +4,7 @@ ghost use Rattle.std.specs.Prelude.{◌≡◌, ◌↔◌, IsTrue};
 
 use p3l_firing::{Chan, Net, Proc};
 
-/// Whether two processes are the same.
+/// Compares two processes.
 fn same_proc(one: &Proc, other: &Proc) -> bool
     ensures { IsTrue result ↔ (one.now ≡ other.now) }
 {
@@ -15,7 +15,7 @@ fn same_proc(one: &Proc, other: &Proc) -> bool
         && one.outs.as_slice() == other.outs.as_slice()
 }
 
-/// Whether two lists have the same processes.
+/// Compares two lists of processes.
 fn same_procs(one: &[Proc], other: &[Proc]) -> bool
     ensures { IsTrue result ↔ (one.now ≡ other.now) }
 {
@@ -30,7 +30,7 @@ fn same_procs(one: &[Proc], other: &[Proc]) -> bool
     true
 }
 
-/// Whether two lists have the same channels.
+/// Compares two lists of channels.
 fn same_chans(one: &[Chan], other: &[Chan]) -> bool
     ensures { IsTrue result ↔ (one.now ≡ other.now) }
 {
@@ -45,7 +45,7 @@ fn same_chans(one: &[Chan], other: &[Chan]) -> bool
     true
 }
 
-/// Whether two nets are the same.
+/// Compares two nets.
 pub(crate) fn same_net(one: &Net, other: &Net) -> bool
     ensures { IsTrue result ↔ (one.now ≡ other.now) }
 {

@@ -28,13 +28,14 @@ pub fn every_firing_keeps_the_list()
     ensures words { EveryFiringKeepsFitting }
 {}
 
-/// Whatever the picks, what a linked net has emitted begins the meaning of the items.
+/// Under every schedule, the outcomes that a linked net has emitted are a prefix of the meaning of
+/// the items.
 pub fn every_run_begins_the_meaning()
     ensures { EveryRunBeginsTheMeaning }
 {}
 
-/// Where nothing can fire, the whole meaning was emitted: either it ended with a trap, or nothing is
-/// left in the net. The round robin comes to such an end.
+/// A net in which nothing can fire has emitted the whole meaning: either it ended with a trap, or
+/// nothing is left in the net. The round robin comes to such an end.
 pub fn stuck_means_finished()
     ensures state { StuckMeansEmpty }
     ensures run { StuckMeansFinished }

@@ -1,6 +1,7 @@
 // The net of a tree.
 
 ghost use Rattle.std.specs.Prelude.{◌≡◌, ◌↔◌, ◌≤◌, ◌+◌, ◌*◌, IfOk, IsTrue, ℕ, List, length};
+ghost use Rattle.p3l_base.specs.Limits.{most_processes, most_tokens};
 ghost use Rattle.p3l_base.specs.Memory.{IfGiven};
 ghost use Rattle.p3l_skel.specs.declared.tree.Tree.{Tree};
 ghost use Rattle.p3l_skel.specs.Counts.{HasLawfulCounts};
@@ -27,8 +28,8 @@ use std::alloc::Global;
 pub fn link(alloc: Global, tree: &Tree, counts: &Counts, cap: u32) -> Result<Net, NoMemory>
     requires tree { IsLawfulTree tree.now }
     requires counts { HasLawfulCounts tree.now counts.now.list }
-    requires procs { procs tree.now counts.now.list 0 ≤ 4096 }
-    requires cap { (1 ≤ cap) × (cap ≤ 1024) }
+    requires procs { procs tree.now counts.now.list 0 ≤ most_processes }
+    requires cap { (1 ≤ cap) × (cap ≤ most_tokens) }
     ensures net { IfGiven result (λ net. net ≡ linked_net tree.now counts.now.list cap) }
     ensures typed { IfOk result (λ net. IsTyped tree.now net) }
 {
@@ -67,7 +68,7 @@ fn with_ends(alloc: Global, cap: u32) -> Result<Builder, NoMemory>
     Ok(builder)
 }
 
-/// Whether a net is the one of a tree under these counts, with channels of this capacity.
+/// Compares a net with the one of a tree under these counts, with channels of this capacity.
 pub fn is_linked(
     alloc: Global,
     net: &Net,
@@ -77,8 +78,8 @@ pub fn is_linked(
 ) -> Result<bool, NoMemory>
     requires tree { IsLawfulTree tree.now }
     requires counts { HasLawfulCounts tree.now counts.now.list }
-    requires procs { procs tree.now counts.now.list 0 ≤ 4096 }
-    requires cap { (1 ≤ cap) × (cap ≤ 1024) }
+    requires procs { procs tree.now counts.now.list 0 ≤ most_processes }
+    requires cap { (1 ≤ cap) × (cap ≤ most_tokens) }
     ensures { IfGiven result (λ same. IsTrue same
         ↔ (net.now ≡ linked_net tree.now counts.now.list cap)) }
 {
@@ -90,7 +91,7 @@ pub fn is_linked(
 pub fn a_linked_net_is_typed()
     ensures { (tree : Tree) (counts : List ℕ) (cap : ℕ) → IsLawfulTree tree
         → HasLawfulCounts tree counts
-        → procs tree counts 0 ≤ 4096 → 1 ≤ cap → IsTyped tree (linked_net tree counts cap) }
+        → procs tree counts 0 ≤ most_processes → 1 ≤ cap → IsTyped tree (linked_net tree counts cap) }
 {}
 
 /// The net of a lawful tree has a process for each that is counted, besides the source and the sink,

@@ -70,7 +70,7 @@ impl Template for LoopTemplate {
     ghost typed = { λ t tree node s. loop_serves tree t.node node t.tokens s };
 }
 
-/// What the ring makes of a token is what the turns of the loop do.
+/// The rounds of a token in the ring compute the turns of the loop.
 pub fn goes_round_as_said()
     ensures { (l : Laps) (outcome : Outcome) → 0 < l.turns
         → rounds l outcome ≡ turns l l.turns outcome }

@@ -1,11 +1,13 @@
-// What the nodes of a tree cost.
+// The costs of a tree's nodes.
 
 ghost use Rattle.std.specs.Prelude.{◌≡◌, ◌<◌, ◌≤◌, ◌+◌, ◌*◌, ◌^◌, min, max, slice_index};
 ghost use Rattle.p3l_base.specs.Cut.{element_count};
+ghost use Rattle.p3l_base.specs.Limits.{most_workers};
 ghost use Rattle.p3l_skel.specs.Tree.{node_at};
 ghost use Rattle.p3l_model.specs.Service.{transfer, ticks_row, ticks_to, ticks, unit_service, map_ends, fold_service, split_service, join_service};
 ghost use Rattle.p3l_model.specs.NodeCost.{never, timed, shared, segments_service, span_up_to, node_cost_row, node_cost};
 
+use p3l_base::limits::MOST_WORKERS;
 use p3l_base::{Cut, List};
 use p3l_cost::Costs;
 use p3l_skel::tree::NESTING;
@@ -13,9 +15,6 @@ use p3l_skel::{Form, Node, Tree};
 
 /// Later than any service time of a tree.
 pub const NEVER: u128 = 1 << 100;
-
-/// The most workers of a farm or map, and segments of a reduce.
-const MOST_WORKERS: u32 = 512;
 
 /// The numbers of workers that a node may have, from the least to the greatest; of segments only
 /// the powers of two among them.
@@ -44,7 +43,7 @@ pub struct FoldCost {
     pub operator: u128,
 }
 
-/// What a node costs besides its parts outside units. All times are in ticks; one that is later
+/// The costs of a node besides its parts outside units. All times are in ticks; one that is later
 /// than any service time counts as `NEVER`.
 #[derive(Clone, Copy, Debug, Drop, PartialEq, Eq)]
 pub enum NodeCost {
@@ -293,7 +292,7 @@ pub fn loop_time(tree: &Tree, costs: &Costs, node: &Node, turns: u32) -> u128
     admits.max(tests).min(NEVER)
 }
 
-/// What a node costs besides its parts.
+/// The costs of a node besides its parts.
 pub fn node_cost(tree: &Tree, costs: &Costs, number: u32) -> NodeCost
     ensures { result ≡ node_cost tree.now costs.now number }
 {
@@ -303,7 +302,7 @@ pub fn node_cost(tree: &Tree, costs: &Costs, number: u32) -> NodeCost
     }
 }
 
-// What a node that is there costs.
+// The costs of a node of the tree.
 fn cost_over(tree: &Tree, costs: &Costs, number: u32, node: &Node) -> NodeCost
     requires { node.now ≡ node_at tree.now number }
     ensures { result ≡ node_cost_row tree.now costs.now number node.now.form }
@@ -348,7 +347,7 @@ pub fn fold_cost(tree: &Tree, costs: &Costs, node: &Node, len: u32, elem: u32) -
     }
 }
 
-// What a map costs.
+// The costs of a map.
 fn map_cost(
     tree: &Tree,
     costs: &Costs,
@@ -359,7 +358,7 @@ fn map_cost(
 ) -> NodeCost
     requires { node.now ≡ node_at tree.now number }
     ensures { result
-        ≡ NodeCost.Workers (span_up_to workers (min (element_count cut.now) 512))
+        ≡ NodeCost.Workers (span_up_to workers (min (element_count cut.now) most_workers))
         (Sharing.Elements (element_count cut.now))
         (timed (map_ends tree.now costs.now number cut.now)) }
 {
@@ -371,7 +370,7 @@ fn map_cost(
     }
 }
 
-// What a loop costs.
+// The costs of a loop.
 fn loop_cost(tree: &Tree, costs: &Costs, node: &Node) -> NodeCost
     ensures { let turns = slice_index costs.now.turns node.now.module in
         result ≡ NodeCost.Loop turns (timed (max (2 * (turns * transfer costs.now node.now.ins))

@@ -1,6 +1,6 @@
 // A loop that counts down.
 
-ghost use Rattle.std.specs.Prelude.{◌≡◌, ◌<◌, pos, suc, zero, ◌+ℤ◌, ◌-ℤ◌, [], ◌∷◌, length};
+ghost use Rattle.std.specs.Prelude.{◌≡◌, ◌<◌, pos, suc, zero, ◌+ℤ◌, ◌-ℤ◌, [], ◌∷◌, length, IfOk};
 ghost use Rattle.p3l_base.specs.Memory.{IfGiven};
 ghost use Rattle.std.specs.Prelude.{IfOk, IfSome};
 ghost use Rattle.p3l_base.specs.declared.outcome.Outcome.TheVariants.{Value};
@@ -67,7 +67,7 @@ fn plus(left: i64, right: i64) -> Option<i64>
 /// One turn of the body on two words; refused where a number doesn't fit.
 fn counted(alloc: Global, words: &Words) -> Result<Outcome, NoMemory>
     requires { 1 < length words.now }
-    ensures { IfGiven result (λ outcome. outcome ≡ counts_down (suc zero) words.now) }
+    ensures { IfOk result (λ outcome. outcome ≡ counts_down (suc zero) words.now) }
 {
     let Some(down) = minus(word(words, 0), 1) else {
         return Err(NoMemory);
@@ -91,6 +91,8 @@ impl Units for CountsDown {
     ghost tree = { λ _. counting_loop };
 
     ghost leaf = { λ _. counts_down };
+
+    ghost may_want = { true };
 
     ghost gives_outs = { λ _. counts_give };
 

@@ -1,6 +1,6 @@
 // Trees of a root with one `seq` part, and what their parts do.
 
-ghost use Rattle.std.specs.Prelude.{◌≡◌, ◌<◌, pos, [], ◌∷◌, ◌++◌, ◌-ℤ◌, length, slice_index_or};
+ghost use Rattle.std.specs.Prelude.{◌≡◌, ◌<◌, pos, [], ◌∷◌, ◌++◌, ◌-ℤ◌, length, slice_index_or, IfOk};
 ghost use Rattle.p3l_base.specs.Memory.{IfGiven, OnGiven};
 ghost use Rattle.std.specs.Prelude.{IfOk, IfSome, OnOk};
 ghost use Rattle.p3l_base.specs.declared.outcome.Outcome.TheVariants.{Value};
@@ -184,6 +184,8 @@ impl Units for Checks {
 
     ghost leaf = { λ _. checks };
 
+    ghost may_want = { true };
+
     ghost gives_outs = { λ _. checks_give };
 
     fn run(&self, alloc: Global, node: u32, words: &Words) -> Result<Outcome, NoMemory> {
@@ -204,7 +206,7 @@ pub fn minus(left: i64, right: i64) -> Option<i64>
 /// The outcome of the difference of two words; refused where it doesn't fit.
 fn difference(alloc: Global, words: &Words) -> Result<Outcome, NoMemory>
     requires { 1 < length words.now }
-    ensures { IfGiven result (λ outcome. outcome ≡ Value ((slice_index_or words.now 0 (pos 0)
+    ensures { IfOk result (λ outcome. outcome ≡ Value ((slice_index_or words.now 0 (pos 0)
         -ℤ slice_index_or words.now 1 (pos 0)) ∷ [])) }
 {
     match minus(word(words, 0), word(words, 1)) {
@@ -216,7 +218,7 @@ fn difference(alloc: Global, words: &Words) -> Result<Outcome, NoMemory>
 /// The outcome of the fold of three words: the first less the difference of the others.
 fn difference_of_three(alloc: Global, words: &Words) -> Result<Outcome, NoMemory>
     requires { 2 < length words.now }
-    ensures { IfGiven result (λ outcome. outcome ≡ Value ((slice_index_or words.now 0 (pos 0)
+    ensures { IfOk result (λ outcome. outcome ≡ Value ((slice_index_or words.now 0 (pos 0)
         -ℤ (slice_index_or words.now 1 (pos 0) -ℤ slice_index_or words.now 2 (pos 0))) ∷ [])) }
 {
     let Some(rest) = minus(word(words, 1), word(words, 2)) else {
@@ -239,6 +241,8 @@ impl Units for Subtracts {
     ghost tree = { λ _. five_reduce };
 
     ghost leaf = { λ _. subtracts };
+
+    ghost may_want = { true };
 
     ghost gives_outs = { λ _. subtracts_give };
 
@@ -265,6 +269,8 @@ impl Units for Refuses {
     ghost tree = { λ _. three_reduce };
 
     ghost leaf = { λ _. refusing };
+
+    ghost may_want = { true };
 
     ghost gives_outs = { λ _. refusing_gives };
 

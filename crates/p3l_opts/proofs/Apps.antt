@@ -11,42 +11,12 @@ use Rattle.p3l_opts.specs.Verb.{app_for, faults, rows}
 simple_and_free : (v : Verb) → is_simple_and_free (app_for v) ≡ true
 unfolding app_for clap_on_literals
 simple_and_free verb.Check = refl
-simple_and_free verb.Fmt = refl
-simple_and_free verb.Explain = refl
-simple_and_free verb.Compile = refl
-simple_and_free verb.Run = refl
-simple_and_free verb.Exec = refl
-simple_and_free verb.Migrate = refl
-simple_and_free verb.Graph = refl
-simple_and_free verb.VerifyCert = refl
-simple_and_free verb.CheckTrace = refl
-simple_and_free verb.Gen = refl
-simple_and_free verb.Rewrite = refl
-simple_and_free verb.Profile = refl
-simple_and_free verb.Time = refl
-simple_and_free verb.Scan = refl
-simple_and_free verb.Save = refl
-simple_and_free verb.Resume = refl
+simple_and_free _ = refl
 
 simple : (v : Verb) → is_simple (app_for v) ≡ true
 unfolding app_for clap_on_literals
 simple verb.Check = refl
-simple verb.Fmt = refl
-simple verb.Explain = refl
-simple verb.Compile = refl
-simple verb.Run = refl
-simple verb.Exec = refl
-simple verb.Migrate = refl
-simple verb.Graph = refl
-simple verb.VerifyCert = refl
-simple verb.CheckTrace = refl
-simple verb.Gen = refl
-simple verb.Rewrite = refl
-simple verb.Profile = refl
-simple verb.Time = refl
-simple verb.Scan = refl
-simple verb.Save = refl
-simple verb.Resume = refl
+simple _ = refl
 
 pub as_simple_and_free : (v : Verb) (a : App) → a ≡ app_for v → is_simple_and_free a ≡ true
 as_simple_and_free v a e = ap is_simple_and_free e ∙ simple_and_free v

@@ -38,22 +38,7 @@ verb_named text =
 named : (v : Verb) → verb_named (name_of v) ≡ Some v
 unfolding verb_named
 named verb.Check = refl
-named verb.Fmt = refl
-named verb.Explain = refl
-named verb.Compile = refl
-named verb.Run = refl
-named verb.Exec = refl
-named verb.Migrate = refl
-named verb.Graph = refl
-named verb.VerifyCert = refl
-named verb.CheckTrace = refl
-named verb.Gen = refl
-named verb.Rewrite = refl
-named verb.Profile = refl
-named verb.Time = refl
-named verb.Scan = refl
-named verb.Save = refl
-named verb.Resume = refl
+named _ = refl
 
 -- verbs of one name are the same
 one_verb : (v w : Verb) → name_of v ≡ name_of w → v ≡ w

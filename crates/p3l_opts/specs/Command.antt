@@ -2,6 +2,7 @@
 use Rattle.std.specs.Prelude.{◌≡◌, ℕ, ◌≤◌, ◌<◌, ◌^◌, ◌++◌, Bool, false, List, [], Option, Some, None, bytes_eq, codes, map, slice_get}
 use Rattle.std.specs.Borrow.{Bor}
 use Rattle.std.specs.Fmt.{decimal}
+use Rattle.p3l_base.specs.Limits.{most_processors, most_tokens, most_workers}
 use Rattle.clap.specs.Words.{Row, Text, first_of}
 use Rattle.p3l_opts.specs.declared.command.Build.{Build}
 use Rattle.p3l_opts.specs.declared.command.Command.{Command}
@@ -44,16 +45,16 @@ pub record HasCount (most : ℕ) (text : Option Text) (count : ℕ) : Type 0 whe
 
 -- the same of a number of processors
 abbrev pub HasProcessors : Option Text → ℕ → Type 0
-HasProcessors = HasCount 512
+HasProcessors = HasCount most_processors
 
 -- the same of a number of segments
 abbrev pub HasSegments : Option Text → ℕ → Type 0
-HasSegments = HasCount 512
+HasSegments = HasCount most_workers
 
 -- the same of a capacity, which is 4 where no word spells it
 abbrev pub HasCapacity : Option Text → ℕ → Type 0
 HasCapacity None capacity = capacity ≡ 4
-HasCapacity (Some text) capacity = HasCount 1024 (Some text) capacity
+HasCapacity (Some text) capacity = HasCount most_tokens (Some text) capacity
 
 -- the text is `rr`, `seed:N` with a number of 64 bits in decimal digits without a leading zero, or `file:NAME`
 abbrev pub SpellsSchedule : Text → Sched → Type 0

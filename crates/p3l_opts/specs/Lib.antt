@@ -1,4 +1,5 @@
 pub mod Table
 pub mod Verb
 pub mod Command
+pub mod Wanted
 pub mod Laws

@@ -60,7 +60,7 @@ pub enum Command {
     /// runs recorded picks on the input and writes the state that they come to. It has how the network
     /// is built, the name of the file of picks, and the name of the snapshot's file.
     Save(Build, Name, Name),
-    /// `resume SNAPSHOT [--schedule S] [--stats]`: goes on from a state that was saved, on the input.
+    /// `resume SNAPSHOT [--schedule S] [--stats]`: continues from a saved state, on the input.
     /// It has the name of the snapshot's file, how picks are made, and whether the numbers of the run
     /// are reported.
     Resume(Name, Sched, bool),
@@ -95,7 +95,7 @@ pub enum Sched {
 pub enum OptsRefusal {
     /// The words spell none.
     Usage,
-    /// Memory for the values was wanting.
+    /// Out of memory.
     NoMemory,
 }
 

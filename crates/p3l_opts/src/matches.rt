@@ -1,28 +1,21 @@
 // What `clap` finds in the words of a command.
 
-ghost use Rattle.std.specs.Prelude.{◌≡◌, ◌≢◌, ℕ, [], Some, None, IfOk, IfSome, IfNone, IsErrOf, option_map};
-ghost use Rattle.p3l_base.specs.Memory.{IfGiven};
+ghost use Rattle.std.specs.Prelude.{◌≡◌, ◌≢◌, ◌⊎◌, ℕ, [], Some, None, IfOk, IfSome, IfNone, IsErrOf, option_map};
+ghost use Rattle.p3l_base.specs.Memory.{IfGiven, Refused};
 ghost use Rattle.clap.specs.Words.{first_of, found_of, kind_of, rows_of};
 ghost use Rattle.p3l_opts.specs.Command.{HasCapacity, HasItems, HasNumber, HasProcessors, HasSchedule, HasSegments, says_true, texts_of};
 ghost use Rattle.p3l_opts.specs.declared.command.Sched.{Sched};
 ghost use Rattle.p3l_opts.specs.Verb.{faults, rows};
+ghost use Rattle.p3l_opts.specs.Wanted.{ClapWanted};
 
 use crate::command::{OptsRefusal, Sched};
 use crate::value::{count_of, number_in, schedule_of};
 use crate::verb::{Verb, clap_command};
 use clap::error::ErrorKind;
 use clap::{ArgMatches, Error};
+use p3l_base::limits::{MOST_PROCESSORS, MOST_TOKENS, MOST_WORKERS};
 use p3l_base::{Name, NoMemory};
 use std::alloc::Global;
-
-/// The most processors that a program can be given.
-const MOST_PROCESSORS: u32 = 512;
-
-/// The most segments that a list can be scanned in.
-const MOST_SEGMENTS: u32 = 512;
-
-/// The greatest capacity of channels that can be requested.
-const MOST_CAPACITY: u32 = 1024;
 
 /// How many tokens a channel holds at most where the words don't say it.
 pub(crate) const DEFAULT_CAPACITY: u32 = 4;
@@ -33,7 +26,7 @@ const MOST_ITEMS: u32 = 100_000;
 /// How many items are generated where the words don't say it.
 const DEFAULT_ITEMS: u32 = 1000;
 
-/// What `clap` finds in the words, if it takes those after the first as words of this verb.
+/// Returns the matches of `clap`, if it takes the words after the first as words of this verb.
 pub(crate) fn matches_of<'a>(
     alloc: Global,
     verb: Verb,
@@ -43,10 +36,11 @@ pub(crate) fn matches_of<'a>(
     ensures found { IfOk result (λ matches. rows_of (found_of matches)
         ≡ rows verb (texts_of words.entry.now)) }
     ensures usage { IsErrOf result OptsRefusal.Usage → faults verb (texts_of words.entry.now) ≢ [] }
+    ensures memory { IsErrOf result OptsRefusal.NoMemory → Refused ⊎ ClapWanted }
 {
     let command = match clap_command(alloc, verb) {
         Ok(command) => command,
-        Err(_) => return Err(OptsRefusal::NoMemory),
+        Err(want) => return Err(OptsRefusal::from(want)),
     };
     match command.try_get_matches_from(words) {
         Ok(matches) => Ok(matches),
@@ -56,7 +50,8 @@ pub(crate) fn matches_of<'a>(
 
 /// Memory apart, each of `clap`'s errors is a fault of the words.
 fn refusal_of(error: &Error) -> OptsRefusal
-    ensures { result ≡ OptsRefusal.Usage → kind_of error.now ≢ ErrorKind.OutOfMemory }
+    ensures usage { result ≡ OptsRefusal.Usage → kind_of error.now ≢ ErrorKind.OutOfMemory }
+    ensures memory { result ≡ OptsRefusal.NoMemory → ClapWanted }
 {
     match error.kind() {
         ErrorKind::OutOfMemory => OptsRefusal::NoMemory,
@@ -78,6 +73,7 @@ pub(crate) fn name_of(alloc: Global, matches: &ArgMatches, id: &str) -> Result<N
         ≡ Some name) }
     ensures usage { IsErrOf result OptsRefusal.Usage
         → first_of id.now (rows_of (found_of matches.now)) ≡ None }
+    ensures memory { IsErrOf result OptsRefusal.NoMemory → Refused }
 {
     match text_of(matches, id) {
         Some(text) => Ok(Name::from_text(alloc, text)?),
@@ -118,7 +114,7 @@ pub(crate) fn segments_in(matches: &ArgMatches, id: &str) -> Option<u32>
         → HasSegments (first_of id.now (rows_of (found_of matches.now))) count → ⊥) }
 {
     match text_of(matches, id) {
-        Some(text) => count_of(text, MOST_SEGMENTS),
+        Some(text) => count_of(text, MOST_WORKERS),
         None => None,
     }
 }
@@ -130,7 +126,7 @@ pub(crate) fn capacity_in(matches: &ArgMatches, id: &str) -> Option<u32>
         → HasCapacity (first_of id.now (rows_of (found_of matches.now))) capacity → ⊥) }
 {
     match text_of(matches, id) {
-        Some(text) => count_of(text, MOST_CAPACITY),
+        Some(text) => count_of(text, MOST_TOKENS),
         None => Some(DEFAULT_CAPACITY),
     }
 }
@@ -144,6 +140,7 @@ pub(crate) fn schedule_in(
     ensures ok { IfOk result (HasSchedule (first_of id.now (rows_of (found_of matches.now)))) }
     ensures usage { IsErrOf result OptsRefusal.Usage → (schedule : Sched)
         → HasSchedule (first_of id.now (rows_of (found_of matches.now))) schedule → ⊥ }
+    ensures memory { IsErrOf result OptsRefusal.NoMemory → Refused }
 {
     match text_of(matches, id) {
         Some(text) => schedule_of(alloc, text),
@@ -175,7 +172,7 @@ pub(crate) fn number_of(matches: &ArgMatches, id: &str) -> Option<u32>
     }
 }
 
-/// Whether the words have this flag.
+/// Tests that the words have this flag.
 pub(crate) fn is_given(matches: &ArgMatches, id: &str) -> bool
     ensures { result ≡ says_true (first_of id.now (rows_of (found_of matches.now))) }
 {

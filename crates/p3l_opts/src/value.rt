@@ -2,6 +2,7 @@
 
 ghost use Rattle.std.specs.Prelude.{◌≡◌, ◌<◌, ◌≤◌, ◌^◌, ◌↔◌, ◌++◌, ℕ, List, slice_index, IsTrue, IfSome, IfNone, IfOk, IsErrOf};
 ghost use Rattle.std.specs.Fmt.{decimal};
+ghost use Rattle.p3l_base.specs.Memory.{Refused};
 ghost use Rattle.p3l_opts.specs.declared.command.Sched.{Sched};
 ghost use Rattle.p3l_opts.specs.Command.{SpellsSchedule};
 
@@ -10,7 +11,7 @@ use crate::verb::is_word;
 use p3l_base::Name;
 use std::alloc::Global;
 
-/// Whether a word begins with one of the digits 1 to 9.
+/// Tests that a word begins with one of the digits 1 to 9.
 fn begins_with_digit(word: &str) -> bool
     ensures { IsTrue result ↔ ((48 < slice_index word.now 0) × (slice_index word.now 0 < 58)) }
 {
@@ -70,7 +71,7 @@ pub(crate) fn number_in(word: &str) -> Option<u32>
     }
 }
 
-/// What follows a prefix in a word, if it begins with it.
+/// The text after a prefix of a word, if it begins with the prefix.
 fn after<'a>(word: &'a str, front: &str) -> Option<&'a str>
     ensures some { IfSome result (λ rest. word.entry.now ≡ front.now ++ rest.now) }
     ensures none { IfNone result ((rest : List ℕ) → word.entry.now ≡ front.now ++ rest → ⊥) }
@@ -83,6 +84,7 @@ pub(crate) fn schedule_of(alloc: Global, word: &str) -> Result<Sched, OptsRefusa
     ensures ok { IfOk result (SpellsSchedule word.now) }
     ensures usage { IsErrOf result OptsRefusal.Usage → (schedule : Sched)
         → SpellsSchedule word.now schedule → ⊥ }
+    ensures memory { IsErrOf result OptsRefusal.NoMemory → Refused }
 {
     if word == "rr" {
         return Ok(Sched::RoundRobin);

@@ -10,7 +10,7 @@ use clap::Command;
 use p3l_base::NoMemory;
 use std::alloc::Global;
 
-/// What a command does, as its first word says.
+/// The action of a command, named by its first word.
 #[derive(Clone, Copy, Drop)]
 pub enum Verb {
     Check,
@@ -32,7 +32,7 @@ pub enum Verb {
     Resume,
 }
 
-/// Whether a word is this text.
+/// Tests that a word is this text.
 pub(crate) fn is_word(word: &str, text: &str) -> bool
     ensures { IsTrue result ↔ (word.now ≡ text.now) }
 {

@@ -1,9 +1,11 @@
 // The command that the words of a command line spell.
 
-ghost use Rattle.std.specs.Prelude.{◌≡◌, ℕ, List, Option, None, Some, IfOk, IsErrOf, codes, slice_get};
+ghost use Rattle.std.specs.Prelude.{◌≡◌, ◌⊎◌, ℕ, List, Option, None, Some, IfOk, IsErrOf, codes, slice_get};
+ghost use Rattle.p3l_base.specs.Memory.{Refused};
 ghost use Rattle.clap.specs.Words.{first_of, found_of, rows_of};
 ghost use Rattle.p3l_opts.specs.Command.{HasBuild, HasCapacity, HasSchedule, HasValues, IsMade, Spells, texts_of, verb_of};
 ghost use Rattle.p3l_opts.specs.Verb.{name_of};
+ghost use Rattle.p3l_opts.specs.Wanted.{ClapWanted};
 
 use crate::command::{Build, Command, OptsRefusal, Sched};
 use crate::matches::{
@@ -20,6 +22,7 @@ pub fn parse(alloc: Global, words: &[&str]) -> Result<Command, OptsRefusal>
     ensures spelled { IfOk result (Spells (texts_of words.now)) }
     ensures usage { IsErrOf result OptsRefusal.Usage → (command : Command)
         → Spells (texts_of words.now) command → ⊥ }
+    ensures memory { IsErrOf result OptsRefusal.NoMemory → Refused ⊎ ClapWanted }
 {
     match words.first() {
         Some(first) => match verb_of(first) {
@@ -36,6 +39,7 @@ fn parse_after(alloc: Global, verb: Verb, words: &[&str]) -> Result<Command, Opt
     ensures spelled { IfOk result (Spells (texts_of words.now)) }
     ensures usage { IsErrOf result OptsRefusal.Usage → (command : Command)
         → Spells (texts_of words.now) command → ⊥ }
+    ensures memory { IsErrOf result OptsRefusal.NoMemory → Refused ⊎ ClapWanted }
 {
     let matches = matches_of(alloc, verb, words)?;
     command_of(alloc, verb, &matches)
@@ -47,6 +51,7 @@ fn command_of(alloc: Global, verb: Verb, matches: &ArgMatches) -> Result<Command
     ensures values { IfOk result (HasValues (rows_of (found_of matches.now))) }
     ensures usage { IsErrOf result OptsRefusal.Usage → (command : Command) → verb_of command ≡ verb
         → HasValues (rows_of (found_of matches.now)) command → ⊥ }
+    ensures memory { IsErrOf result OptsRefusal.NoMemory → Refused }
 {
     match verb {
         Verb::Check => Ok(Command::Check(name_of(alloc, matches, "program")?)),
@@ -75,6 +80,7 @@ fn build_with(alloc: Global, matches: &ArgMatches, capacity: u32) -> Result<Buil
         → HasBuild (rows_of (found_of matches.now)) text build) }
     ensures usage { IsErrOf result OptsRefusal.Usage → (text : Option (List ℕ)) (build : Build)
         → HasBuild (rows_of (found_of matches.now)) text build → ⊥ }
+    ensures memory { IsErrOf result OptsRefusal.NoMemory → Refused }
 {
     let program = name_of(alloc, matches, "program")?;
     let Some(processors) = processors_in(matches, "processors") else {
@@ -94,6 +100,7 @@ fn plain_build_of(alloc: Global, matches: &ArgMatches) -> Result<Build, OptsRefu
     ensures ok { IfOk result (HasBuild (rows_of (found_of matches.now)) None) }
     ensures usage { IsErrOf result OptsRefusal.Usage → (build : Build)
         → HasBuild (rows_of (found_of matches.now)) None build → ⊥ }
+    ensures memory { IsErrOf result OptsRefusal.NoMemory → Refused }
 {
     build_with(alloc, matches, DEFAULT_CAPACITY)
 }
@@ -105,6 +112,7 @@ fn build_of(alloc: Global, matches: &ArgMatches) -> Result<Build, OptsRefusal>
     ensures usage { IsErrOf result OptsRefusal.Usage → (build : Build)
         → HasBuild (rows_of (found_of matches.now))
         (first_of (codes "capacity") (rows_of (found_of matches.now))) build → ⊥ }
+    ensures memory { IsErrOf result OptsRefusal.NoMemory → Refused }
 {
     let Some(capacity) = capacity_in(matches, "capacity") else {
         return Err(OptsRefusal::Usage);
@@ -118,6 +126,7 @@ fn explain_of(alloc: Global, matches: &ArgMatches) -> Result<Command, OptsRefusa
     ensures values { IfOk result (HasValues (rows_of (found_of matches.now))) }
     ensures usage { IsErrOf result OptsRefusal.Usage → (command : Command)
         → verb_of command ≡ Verb.Explain → HasValues (rows_of (found_of matches.now)) command → ⊥ }
+    ensures memory { IsErrOf result OptsRefusal.NoMemory → Refused }
 {
     let build = plain_build_of(alloc, matches)?;
     let cert = name_if_given(alloc, matches, "cert")?;
@@ -130,6 +139,7 @@ fn compile_of(alloc: Global, matches: &ArgMatches) -> Result<Command, OptsRefusa
     ensures values { IfOk result (HasValues (rows_of (found_of matches.now))) }
     ensures usage { IsErrOf result OptsRefusal.Usage → (command : Command)
         → verb_of command ≡ Verb.Compile → HasValues (rows_of (found_of matches.now)) command → ⊥ }
+    ensures memory { IsErrOf result OptsRefusal.NoMemory → Refused }
 {
     let build = build_of(alloc, matches)?;
     let output = name_of(alloc, matches, "output")?;
@@ -142,6 +152,7 @@ fn run_of(alloc: Global, matches: &ArgMatches) -> Result<Command, OptsRefusal>
     ensures values { IfOk result (HasValues (rows_of (found_of matches.now))) }
     ensures usage { IsErrOf result OptsRefusal.Usage → (command : Command)
         → verb_of command ≡ Verb.Run → HasValues (rows_of (found_of matches.now)) command → ⊥ }
+    ensures memory { IsErrOf result OptsRefusal.NoMemory → Refused }
 {
     let build = build_of(alloc, matches)?;
     let schedule = schedule_in(alloc, matches, "schedule")?;
@@ -156,6 +167,7 @@ fn exec_of(alloc: Global, matches: &ArgMatches) -> Result<Command, OptsRefusal>
     ensures values { IfOk result (HasValues (rows_of (found_of matches.now))) }
     ensures usage { IsErrOf result OptsRefusal.Usage → (command : Command)
         → verb_of command ≡ Verb.Exec → HasValues (rows_of (found_of matches.now)) command → ⊥ }
+    ensures memory { IsErrOf result OptsRefusal.NoMemory → Refused }
 {
     let image = name_of(alloc, matches, "image")?;
     let schedule = schedule_in(alloc, matches, "schedule")?;
@@ -170,6 +182,7 @@ fn migrate_of(alloc: Global, matches: &ArgMatches) -> Result<Command, OptsRefusa
     ensures values { IfOk result (HasValues (rows_of (found_of matches.now))) }
     ensures usage { IsErrOf result OptsRefusal.Usage → (command : Command)
         → verb_of command ≡ Verb.Migrate → HasValues (rows_of (found_of matches.now)) command → ⊥ }
+    ensures memory { IsErrOf result OptsRefusal.NoMemory → Refused }
 {
     let image = name_of(alloc, matches, "image")?;
     let output = name_of(alloc, matches, "output")?;
@@ -183,6 +196,7 @@ fn verify_cert_of(alloc: Global, matches: &ArgMatches) -> Result<Command, OptsRe
     ensures usage { IsErrOf result OptsRefusal.Usage → (command : Command)
         → verb_of command ≡ Verb.VerifyCert → HasValues (rows_of (found_of matches.now)) command
         → ⊥ }
+    ensures memory { IsErrOf result OptsRefusal.NoMemory → Refused }
 {
     let program = name_of(alloc, matches, "program")?;
     let cert = name_of(alloc, matches, "cert")?;
@@ -197,6 +211,7 @@ fn check_trace_of(alloc: Global, matches: &ArgMatches) -> Result<Command, OptsRe
     ensures usage { IsErrOf result OptsRefusal.Usage → (command : Command)
         → verb_of command ≡ Verb.CheckTrace → HasValues (rows_of (found_of matches.now)) command
         → ⊥ }
+    ensures memory { IsErrOf result OptsRefusal.NoMemory → Refused }
 {
     let build = build_of(alloc, matches)?;
     let trace = name_of(alloc, matches, "trace")?;
@@ -209,6 +224,7 @@ fn gen_of(alloc: Global, matches: &ArgMatches) -> Result<Command, OptsRefusal>
     ensures values { IfOk result (HasValues (rows_of (found_of matches.now))) }
     ensures usage { IsErrOf result OptsRefusal.Usage → (command : Command)
         → verb_of command ≡ Verb.Gen → HasValues (rows_of (found_of matches.now)) command → ⊥ }
+    ensures memory { IsErrOf result OptsRefusal.NoMemory → Refused }
 {
     let Some(number) = number_of(matches, "number") else {
         return Err(OptsRefusal::Usage);
@@ -230,6 +246,7 @@ fn time_of(alloc: Global, matches: &ArgMatches) -> Result<Command, OptsRefusal>
     ensures values { IfOk result (HasValues (rows_of (found_of matches.now))) }
     ensures usage { IsErrOf result OptsRefusal.Usage → (command : Command)
         → verb_of command ≡ Verb.Time → HasValues (rows_of (found_of matches.now)) command → ⊥ }
+    ensures memory { IsErrOf result OptsRefusal.NoMemory → Refused }
 {
     let build = build_of(alloc, matches)?;
     let picks = name_if_given(alloc, matches, "picks")?;
@@ -243,6 +260,7 @@ fn made_in(alloc: Global, matches: &ArgMatches, id: &str) -> Result<Sched, OptsR
     ensures usage { IsErrOf result OptsRefusal.Usage → (schedule : Sched)
         → HasSchedule (first_of id.now (rows_of (found_of matches.now))) schedule → IsMade schedule
         → ⊥ }
+    ensures memory { IsErrOf result OptsRefusal.NoMemory → Refused }
 {
     match schedule_in(alloc, matches, id)? {
         Sched::RoundRobin => Ok(Sched::RoundRobin),
@@ -257,6 +275,7 @@ fn rewrite_of(alloc: Global, matches: &ArgMatches) -> Result<Command, OptsRefusa
     ensures values { IfOk result (HasValues (rows_of (found_of matches.now))) }
     ensures usage { IsErrOf result OptsRefusal.Usage → (command : Command)
         → verb_of command ≡ Verb.Rewrite → HasValues (rows_of (found_of matches.now)) command → ⊥ }
+    ensures memory { IsErrOf result OptsRefusal.NoMemory → Refused }
 {
     let program = name_of(alloc, matches, "program")?;
     let Some(processors) = processors_in(matches, "processors") else {
@@ -272,6 +291,7 @@ fn scan_of(alloc: Global, matches: &ArgMatches) -> Result<Command, OptsRefusal>
     ensures values { IfOk result (HasValues (rows_of (found_of matches.now))) }
     ensures usage { IsErrOf result OptsRefusal.Usage → (command : Command)
         → verb_of command ≡ Verb.Scan → HasValues (rows_of (found_of matches.now)) command → ⊥ }
+    ensures memory { IsErrOf result OptsRefusal.NoMemory → Refused }
 {
     let Some(segments) = segments_in(matches, "segments") else {
         return Err(OptsRefusal::Usage);
@@ -291,6 +311,7 @@ fn save_of(alloc: Global, matches: &ArgMatches) -> Result<Command, OptsRefusal>
     ensures values { IfOk result (HasValues (rows_of (found_of matches.now))) }
     ensures usage { IsErrOf result OptsRefusal.Usage → (command : Command)
         → verb_of command ≡ Verb.Save → HasValues (rows_of (found_of matches.now)) command → ⊥ }
+    ensures memory { IsErrOf result OptsRefusal.NoMemory → Refused }
 {
     let build = build_of(alloc, matches)?;
     let picks = recorded_in(alloc, matches, "schedule")?;
@@ -304,6 +325,7 @@ fn recorded_in(alloc: Global, matches: &ArgMatches, id: &str) -> Result<Name, Op
         HasSchedule (first_of id.now (rows_of (found_of matches.now))) (Sched.File name)) }
     ensures usage { IsErrOf result OptsRefusal.Usage → (name : List ℕ)
         → HasSchedule (first_of id.now (rows_of (found_of matches.now))) (Sched.File name) → ⊥ }
+    ensures memory { IsErrOf result OptsRefusal.NoMemory → Refused }
 {
     match schedule_in(alloc, matches, id)? {
         Sched::File(name) => Ok(name),
@@ -317,6 +339,7 @@ fn resume_of(alloc: Global, matches: &ArgMatches) -> Result<Command, OptsRefusal
     ensures values { IfOk result (HasValues (rows_of (found_of matches.now))) }
     ensures usage { IsErrOf result OptsRefusal.Usage → (command : Command)
         → verb_of command ≡ Verb.Resume → HasValues (rows_of (found_of matches.now)) command → ⊥ }
+    ensures memory { IsErrOf result OptsRefusal.NoMemory → Refused }
 {
     let snapshot = name_of(alloc, matches, "snapshot")?;
     let schedule = schedule_in(alloc, matches, "schedule")?;

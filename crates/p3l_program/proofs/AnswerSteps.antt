@@ -1,5 +1,5 @@
 -- What an answer says of its status.
-use Rattle.std.proofs.Common.{◌≡◌, ◌≢◌, ℕ, ◌<◌, true, List, [], ◌∷◌, ◌++◌, ◌⊎◌, Option, Some, refl, sym, ap, subst, inl, inr, ◌∙◌, arith}
+use Rattle.std.proofs.Common.{◌≡◌, ◌≢◌, ℕ, Bool, ◌<◌, true, List, [], ◌∷◌, ◌++◌, ◌⊎◌, Option, Some, refl, sym, ap, subst, inl, inr, ◌∙◌, arith}
 use Rattle.clap.specs.Words.{Text}
 use Rattle.p3l_io.specs.Content.{Held}
 use Rattle.p3l_opts.specs.declared.command.Command.{Command}
@@ -25,6 +25,7 @@ use Rattle.p3l_program.specs.Stage.{AllPass, FilesCause, IsRefusedBy, Stage, rea
 use Rattle.p3l_program.specs.Top.{Promises}
 use Rattle.p3l_run.specs.declared.end.RunStats.{RunStats}
 use Rattle.p3l_program.specs.Verdict.{run_stats}
+use Rattle.p3l_program.specs.Wants.{IsWanting, Wants}
 use Rattle.p3l_program.specs.World.{Change, HasNoFault, HasRisen, IsUntouched, World}
 use Rattle.p3l_program.proofs.FirstSteps.{first_writer, kept_first, left_first}
 use Rattle.p3l_program.proofs.Lawful.{IsCalmStatus}
@@ -127,7 +128,7 @@ files_refused : (r : Refusal) (files : Change Held) → FilesCause r files → f
 files_refused (refusal.FileFault name) files cause up = refl
 files_refused _ files cause up = absurd (omega arith)
 
-module _ (words : List Text) (w : World) (err : Change (List ℕ)) (n : ℕ) (a : Answers words w err n) where
+module _ (outside : Bool) (words : List Text) (w : World) (err : Change (List ℕ)) (n : ℕ) (a : Answers outside words w err n) where
   at : status_of a.verdict ≡ n
   at = sym a.status_is
 
@@ -305,7 +306,10 @@ module _ (words : List Text) (w : World) (err : Change (List ℕ)) (n : ℕ) (a 
   files_stay : (w.files.new ≡ w.files.old) ⊎ KeepsOthers words w
   files_stay = files_kept a.verdict a.expected
 
-  pub promises : SpellsOneAtMost → Promises words w err n
+  no_memory : n ≡ status.no_memory → IsWanting outside
+  no_memory is = subst (λ v. Wants outside v) (statuses.no_memory_is a.verdict (at ∙ is)) a.wants
+
+  pub promises : SpellsOneAtMost → Promises outside words w err n
   promises once = record {
     answers = a;
     begins = begins;
@@ -325,5 +329,6 @@ module _ (words : List Text) (w : World) (err : Change (List ℕ)) (n : ℕ) (a 
     out_failed = out_failed;
     files_failed = files_failed;
     input_failed = input_failed;
+    no_memory = no_memory;
     files_stay = files_stay;
   }

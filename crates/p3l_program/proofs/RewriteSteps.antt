@@ -10,6 +10,7 @@ use Rattle.p3l_opts.specs.declared.command.Build.{Build}
 use Rattle.p3l_check.specs.Resolving.{resolved}
 use Rattle.p3l_rewrite.specs.Rewriting.{IsRewriting, MayBeRewritten}
 use Rattle.p3l_rewrite.specs.Serving.{HasTree}
+use Rattle.p3l_rewrite.proofs.Placed.{placed_means, placed_serves}
 use Rattle.p3l_program.specs.declared.rewrite.Priced.{Priced}
 use Rattle.p3l_program.specs.declared.rewrite.Source.{Source}
 use Rattle.p3l_program.specs.Load.{LoadsCosts}
@@ -70,7 +71,8 @@ module _ (files : Option Held) (build : Build) (priced : Priced) (loads : LoadsP
   rewritten text best =
       let accepted = loads.has.allotted.priced.accepted in
       let is = subst (λ program. IsRewriting program priced.costs build.processors best.other best.time) (sym loads.program_is) best.is in
-      let has = is.has_text loads.has.text accepted.spelled in record {
+      let has = is.has_text loads.has.text accepted.spelled in
+      let spelled = best.spells has.text has.is_text in record {
         r = loads.r;
         cs = priced.costs;
         has = record { text = loads.has.text; has = loads.has.has; said = loads.has.said; says = loads.has.says; priced = loads.has.allotted.priced };
@@ -78,5 +80,7 @@ module _ (files : Option Held) (build : Build) (priced : Priced) (loads : LoadsP
         time = best.time;
         is = is;
         text_is = best.text_is;
-        spells = best.spells has.text has.is_text;
+        spells = spelled;
+        means = placed_means _ best.other spelled.placed spelled.same is.same;
+        serves = placed_serves loads.r.tree priced.costs build.processors best.time best.other spelled.placed spelled.same (is.best loads.r accepted.keeps).serves;
       }

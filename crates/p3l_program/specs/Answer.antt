@@ -1,5 +1,5 @@
 -- What the program answers, writes and says, and why.
-use Rattle.std.specs.Prelude.{◌≡◌, ◌≢◌, ℕ, List, [], ◌∷◌, ◌++◌, ◌⊎◌, Option, Some, None}
+use Rattle.std.specs.Prelude.{◌≡◌, ◌≢◌, ℕ, Bool, List, [], ◌∷◌, ◌++◌, ◌⊎◌, Option, Some, None}
 use Rattle.clap.specs.Words.{Text}
 use Rattle.p3l_io.specs.Content.{Held}
 use Rattle.p3l_opts.specs.declared.command.Command.{Command}
@@ -21,6 +21,7 @@ use Rattle.p3l_program.specs.Stage.{IsRefusedBy, Stage, readable}
 use Rattle.p3l_program.specs.File.{IsTooLong}
 use Rattle.p3l_run.specs.declared.end.RunStats.{RunStats}
 use Rattle.p3l_program.specs.Verdict.{run_stats}
+use Rattle.p3l_program.specs.Wants.{Wants}
 use Rattle.p3l_program.specs.World.{Change, HasRisen, IsStill, IsUntouched, World}
 use Rattle.p3l_program.specs.Origin.{Running}
 
@@ -65,10 +66,11 @@ IsExpected words w v = IsRequested words w v ⊎ (IsUsage words w v ⊎ (IsUnrea
 
 -- the answer of the program: how it ended, with this status, why, and its lines on the standard error, where its count of faults
 -- doesn't rise; where it does, a prefix of each of the lines of this same verdict, so that a fault there changes no status
-pub record Answers (words : List Text) (w : World) (err : Change (List ℕ)) (status : ℕ) : Type 0 where
+pub record Answers (outside : Bool) (words : List Text) (w : World) (err : Change (List ℕ)) (status : ℕ) : Type 0 where
   pub verdict : Verdict
   pub status_is : status ≡ status_of verdict
   pub expected : IsExpected words w verdict
+  pub wants : Wants outside verdict
   pub says : (said : List ℕ) → err.old ≡ Some said → (HasRisen err → ⊥) → err.new ≡ Some (said ++ lines_of verdict)
   pub begins_to_say : (said : List ℕ) → err.old ≡ Some said → PutsFronts said err.new (reported_line verdict) (status_line verdict)
 

@@ -41,5 +41,6 @@ pub mod Trace
 pub mod TraceFile
 pub mod Verdict
 pub mod Verify
+pub mod Wants
 pub mod Work
 pub mod World

@@ -11,7 +11,7 @@ use Rattle.p3l_opts.specs.declared.command.Build.{Build}
 use Rattle.p3l_print.specs.Program.{canonical, IsTextOf}
 use Rattle.p3l_types.specs.Verdict.{Gives}
 use Rattle.p3l_check.specs.Resolving.{ResolvedTree, resolved}
-use Rattle.p3l_rewrite.specs.Rewriting.{IsRewriting}
+use Rattle.p3l_rewrite.specs.Rewriting.{IsRewriting, MeansTheSame, Serves}
 use Rattle.p3l_program.specs.declared.rewrite.Priced.{Priced}
 use Rattle.p3l_program.specs.declared.rewrite.Source.{Source}
 use Rattle.p3l_program.specs.File.{HasText, text_limit}
@@ -30,8 +30,7 @@ plain_build program processors costs = record {
 -- the canonical text of the best way to write the program that the files have, by its costs and for this number of
 -- processors: a program that keeps all rules and means the same for all items, traps with kind and module
 -- included, in which the modules before `main` keep their numbers; its service time is no greater than the
--- program's, and it is the first, in the order of the ways, with the least; what the text spells is this program,
--- wherever its names and numbers stand in it
+-- program's, and it is the first, in the order of the ways, with the least; what the text spells is this program
 pub record IsRewritten (files : Option Held) (build : Build) (text : List ℕ) : Type 0 where
   pub r : ResolvedTree
   pub cs : Costs
@@ -41,6 +40,10 @@ pub record IsRewritten (files : Option Held) (build : Build) (text : List ℕ) :
   pub is : IsRewriting has.priced.accepted.program cs build.processors other time
   pub text_is : text ≡ canonical other
   pub spells : IsTextOf text other
+  -- the program that the text spells as it stands, each name and number at its own place in it, keeps all rules,
+  -- means the same, and has this service time
+  pub means : MeansTheSame has.priced.accepted.program spells.placed
+  pub serves : Serves r.tree cs build.processors spells.placed time
 
 -- a program breaks a rule, the first of them so, unless memory ran out
 abbrev pub BreaksRules : ProgramTree → SourceRefusal → Type 0

@@ -1,5 +1,5 @@
 -- What the program promises: how its status, what it read and wrote and its files go together.
-use Rattle.std.specs.Prelude.{◌≡◌, ◌≢◌, ◌<◌, ℕ, List, ◌⊎◌, Some, true}
+use Rattle.std.specs.Prelude.{◌≡◌, ◌≢◌, ◌<◌, ℕ, Bool, List, ◌⊎◌, Some, true}
 use Rattle.clap.specs.Words.{Text}
 use Rattle.p3l_opts.specs.declared.command.Command.{Command}
 use Rattle.p3l_opts.specs.Command.{Spells}
@@ -12,6 +12,7 @@ use Rattle.p3l_program.specs.Command.{IsStatusExpected, run_of, stages_of}
 use Rattle.p3l_program.specs.Origin.{Running}
 use Rattle.p3l_program.specs.Run.{Emits}
 use Rattle.p3l_program.specs.Stage.{AllPass}
+use Rattle.p3l_program.specs.Wants.{IsWanting}
 use Rattle.p3l_program.specs.World.{Change, HasNoFault, HasRisen, IsUntouched, WhenKnown, World}
 
 -- no memory was left, or the status is this
@@ -19,7 +20,7 @@ abbrev pub Gives : (status wanted : ℕ) → Type 0
 Gives k wanted = (k ≡ wanted) ⊎ (k ≡ status.no_memory)
 
 -- of words, of what was there before and after, and of a status
-pub record Promises (words : List Text) (w : World) (err : Change (List ℕ)) (k : ℕ) : Type 0 where
+pub record Promises (outside : Bool) (words : List Text) (w : World) (err : Change (List ℕ)) (k : ℕ) : Type 0 where
   -- How it ended: with this status, why, what was written, and the lines on the standard error.
   pub answers : Answers words w err k
   -- What is written begins what the command that the words spell writes: of `run` and `exec` the text
@@ -72,5 +73,8 @@ pub record Promises (words : List Text) (w : World) (err : Change (List ℕ)) (k
   pub files_failed : w.files.before < w.files.now →
       (k ≡ status.file) ⊎ ((k ≡ status.no_memory) ⊎ (SpellsWriter words × (k ≡ status.write)))
   pub input_failed : w.input.before < w.input.now → (k ≢ status.done) × (k ≢ status.too_long) × (k ≢ status.stream)
+  -- 11 comes only where a request for memory was refused, or where `clap`, `toml` or the files, if they
+  -- may, said themselves that memory ran out.
+  pub no_memory : k ≡ status.no_memory → IsWanting outside
   -- No file is changed but those that the words name for writing, and by a run none before it is over.
   pub files_stay : (w.files.new ≡ w.files.old) ⊎ KeepsOthers words w

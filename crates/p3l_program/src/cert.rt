@@ -8,6 +8,7 @@ ghost use Rattle.p3l_program.specs.Load.{IsNotLoaded};
 ghost use Rattle.p3l_program.specs.LoadCert.{AcceptsCert, IsCertRefused, IsCertless, LoadsCert, LoadsVerified, cert_verdict};
 ghost use Rattle.p3l_program.specs.Stage.{verify_stages};
 ghost use Rattle.p3l_program.specs.World.{files_change};
+ghost use Rattle.p3l_program.specs.Wants.{Wants};
 
 use crate::file::find_text;
 use crate::plan::{load_costs, load_program};
@@ -91,6 +92,7 @@ fn cert_in<F: Files>(
         (files_change F.held F.faults F.failed files.old files.new)
         name tree.now costs.now) }
     ensures stays { F.held files.new ≡ F.held files.old }
+    ensures wants { IfErr result (Wants F.may_want) }
 {
     match find_text(alloc, name, CERT_LIMIT, files) {
         Err(refusal) => Err(Verdict::from(refusal)),
@@ -116,6 +118,7 @@ pub fn load_cert<F: Files>(
         (files_change F.held F.faults F.failed files.old files.new)
         (verify_stages program name costs)) }
     ensures stays { F.held files.new ≡ F.held files.old }
+    ensures wants { IfErr result (Wants F.may_want) }
 {
     let program = match load_program(alloc, program, files) {
         Ok(program) => program,

@@ -6,6 +6,7 @@ ghost use Rattle.p3l_program.specs.Explain.{IsExplained};
 ghost use Rattle.p3l_program.specs.Saved.{IsSavingExpected, KeepsFiles};
 ghost use Rattle.p3l_program.specs.Stage.{build_stages};
 ghost use Rattle.p3l_program.specs.World.{change, files_change};
+ghost use Rattle.p3l_program.specs.Wants.{Wants};
 
 use crate::plan::{Allotted, allot};
 use crate::save::save;
@@ -34,6 +35,7 @@ pub fn certify<F: Files, K: Sink>(
         result }
     ensures kept { KeepsFiles
         (files_change F.held F.faults F.failed files.old files.new) (name ∷ []) result }
+    ensures wants { Wants F.may_want result }
 {
     let processors = build.processors;
     let Allotted {

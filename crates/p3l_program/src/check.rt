@@ -6,6 +6,7 @@ ghost use Rattle.p3l_program.specs.Check.{IsCounted, ok_line};
 ghost use Rattle.p3l_program.specs.Text.{IsTextExpected};
 ghost use Rattle.p3l_program.specs.Stage.{program_stages};
 ghost use Rattle.p3l_program.specs.World.{change, files_change};
+ghost use Rattle.p3l_program.specs.Wants.{Wants};
 
 use crate::plan::load_program;
 use crate::text::write_text;
@@ -31,6 +32,7 @@ pub fn check<F: Files, K: Sink>(alloc: Global, name: Name, files: &mut F, out: &
         (change K.taken K.faults out.old out.new) (program_stages name)
         (IsCounted (F.held files.old) name) result }
     ensures stays { F.held files.new ≡ F.held files.old }
+    ensures wants { Wants F.may_want result }
 {
     match load_program(alloc, name, files) {
         Err(verdict) => verdict,

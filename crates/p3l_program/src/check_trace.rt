@@ -1,6 +1,6 @@
 // The command `check-trace`: a trace of a file, checked against the run of a program on the input.
 
-ghost use Rattle.std.specs.Prelude.{◌≡◌, ◌<◌, ◌≤◌, ◌*◌, ◌^◌, IfOk, IfErr, OnOk, string_bytes};
+ghost use Rattle.std.specs.Prelude.{◌≡◌, ◌<◌, ◌≤◌, ◌*◌, ◌^◌, IfOk, IfErr, OnOk, string_bytes, Bool, ◌||◌};
 ghost use Rattle.p3l_base.specs.Memory.{IfGiven};
 ghost use Rattle.p3l_run.specs.Feed.{most_of_input};
 ghost use Rattle.p3l_run.specs.Network.{IsSound, network};
@@ -10,6 +10,7 @@ ghost use Rattle.p3l_program.specs.Plan.{network_in};
 ghost use Rattle.p3l_program.specs.Trace.{IsAgreed, IsCheckExpected, IsCheckOf, IsUntraced, holds_line};
 ghost use Rattle.p3l_program.specs.TraceFile.{HasTrace};
 ghost use Rattle.p3l_program.specs.World.{change, files_change, world};
+ghost use Rattle.p3l_program.specs.Wants.{Wants};
 
 use crate::file::find_text;
 use crate::plan::{load_network, plan_of};
@@ -38,6 +39,7 @@ fn load_trace<F: Files>(alloc: Global, name: Name, files: &mut F) -> Result<Trac
     ensures refused { IfErr result (IsUntraced
         (files_change F.held F.faults F.failed files.old files.new) name) }
     ensures stays { F.held files.new ≡ F.held files.old }
+    ensures wants { IfErr result (Wants F.may_want) }
 {
     match find_text(alloc, name, TRACE_LIMIT, files) {
         Err(refusal) => Err(Verdict::from(refusal)),
@@ -62,7 +64,8 @@ fn holds_line(alloc: Global, traced: &Traced) -> Result<String, NoMemory>
 
 /// The verdict of a trace of which no line differs, on a stream that ended so, if it did.
 fn agreed<K: Sink>(alloc: Global, traced: &Traced, close: Option<Ending>, out: &mut K) -> Verdict
-    ensures { IsAgreed (change K.taken K.faults out.old out.new) traced.now close result }
+    ensures checked { IsAgreed (change K.taken K.faults out.old out.new) traced.now close result }
+    ensures wants { (files : Bool) → Wants files result }
 {
     if let Some(ending) = close
         && ending != Ending::End
@@ -95,6 +98,7 @@ fn check_plan<U: Units, F: Files, S: Source, K: Sink>(
         (change S.rest S.faults input.old input.new)
         (change K.taken K.faults out.old out.new) name result }
     ensures stays { F.held files.new ≡ F.held files.old }
+    ensures wants { Wants (U.may_want || F.may_want) result }
 {
     let traced = match load_trace(alloc, name, files) {
         Ok(traced) => traced,
@@ -122,6 +126,7 @@ fn check_network<F: Files, S: Source, K: Sink>(
         (change S.rest S.faults input.old input.new) (change K.taken K.faults out.old out.new)
         name result }
     ensures stays { F.held files.new ≡ F.held files.old }
+    ensures wants { Wants F.may_want result }
 {
     every_linked_net_is_carried();
     let Loaded {
@@ -154,6 +159,7 @@ pub fn check_trace<F: Files, S: Source, K: Sink>(
         (change S.rest S.faults input.old input.new) (change K.taken K.faults out.old out.new))
         build name result }
     ensures stays { F.held files.new ≡ F.held files.old }
+    ensures wants { Wants F.may_want result }
 {
     match load_network(alloc, build, files) {
         Err(verdict) => verdict,

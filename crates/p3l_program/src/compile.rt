@@ -5,6 +5,7 @@ ghost use Rattle.p3l_program.specs.Compile.{IsImageOf};
 ghost use Rattle.p3l_program.specs.Saved.{IsFileExpected, KeepsFiles};
 ghost use Rattle.p3l_program.specs.Stage.{build_stages};
 ghost use Rattle.p3l_program.specs.World.{files_change};
+ghost use Rattle.p3l_program.specs.Wants.{Wants};
 
 use crate::plan::{Accepted, Allotted, allot};
 use crate::save::save;
@@ -25,6 +26,7 @@ pub fn compile<F: Files>(alloc: Global, build: Build, name: Name, files: &mut F)
         name (IsImageOf (F.held files.old) build) result }
     ensures kept { KeepsFiles
         (files_change F.held F.faults F.failed files.old files.new) (name ∷ []) result }
+    ensures wants { Wants F.may_want result }
 {
     let capacity = build.capacity;
     let Allotted {

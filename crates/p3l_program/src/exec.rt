@@ -6,6 +6,7 @@ ghost use Rattle.p3l_program.specs.Origin.{imaged};
 ghost use Rattle.p3l_program.specs.Run.{IsRunExpected, RunsOver};
 ghost use Rattle.p3l_program.specs.Saved.{KeepsFiles};
 ghost use Rattle.p3l_program.specs.World.{change, files_change, world};
+ghost use Rattle.p3l_program.specs.Wants.{Wants};
 
 use crate::image::load_image;
 use crate::running::run_network;
@@ -38,6 +39,7 @@ pub fn exec<F: Files, S: Source, K: Sink>(
         ⊎ RunsOver (world (files_change F.held F.faults F.failed files.old files.new)
         (change S.rest S.faults input.old input.new) (change K.taken K.faults out.old out.new))
         (imaged name) request }
+    ensures wants { Wants F.may_want result }
 {
     match load_image(alloc, name, files) {
         Err(verdict) => verdict,

@@ -5,6 +5,7 @@ ghost use Rattle.p3l_program.specs.Text.{IsTextExpected};
 ghost use Rattle.p3l_program.specs.Explain.{IsExplained};
 ghost use Rattle.p3l_program.specs.Stage.{build_stages};
 ghost use Rattle.p3l_program.specs.World.{change, files_change};
+ghost use Rattle.p3l_program.specs.Wants.{Wants};
 
 use crate::plan::allot;
 use crate::text::write_text;
@@ -26,6 +27,7 @@ pub fn explain<F: Files, K: Sink>(
         (change K.taken K.faults out.old out.new) (build_stages build)
         (IsExplained (F.held files.old) build) result }
     ensures stays { F.held files.new ≡ F.held files.old }
+    ensures wants { Wants F.may_want result }
 {
     let processors = build.processors;
     match allot(alloc, build, files) {

@@ -3,6 +3,7 @@
 ghost use Rattle.std.specs.Prelude.{◌≡◌, ◌≤◌, ◌<◌, ◌^◌, IfOk, IfErr, OnOk};
 ghost use Rattle.p3l_program.specs.File.{HasText};
 ghost use Rattle.p3l_program.specs.Load.{IsUnreadable, file_verdict};
+ghost use Rattle.p3l_program.specs.Wants.{Wants};
 ghost use Rattle.p3l_program.specs.World.{files_change};
 
 use p3l_base::{List, Name};
@@ -48,6 +49,7 @@ pub fn find_text<F: Files>(
         IsUnreadable
         (files_change F.held F.faults F.failed files.old files.new) limit name refusal) }
     ensures stays { F.held files.new ≡ F.held files.old }
+    ensures wants { IfErr result (λ refusal. Wants F.may_want (file_verdict refusal)) }
 {
     match files.read(alloc, name.as_str(), limit) {
         Ok(text) => Ok(text),

@@ -5,6 +5,7 @@ ghost use Rattle.p3l_program.specs.Text.{IsTextExpected};
 ghost use Rattle.p3l_program.specs.File.{text_limit};
 ghost use Rattle.p3l_program.specs.Fmt.{HasNoCanonical, IsCanonicalOf, IsFormatted, fmt_stages};
 ghost use Rattle.p3l_program.specs.World.{change, files_change};
+ghost use Rattle.p3l_program.specs.Wants.{Wants};
 
 use crate::file::{TEXT_LIMIT, find_text};
 use crate::text::write_text;
@@ -34,6 +35,7 @@ pub fn fmt<F: Files, K: Sink>(alloc: Global, name: Name, files: &mut F, out: &mu
         (change K.taken K.faults out.old out.new) (fmt_stages name)
         (IsFormatted (F.held files.old) name) result }
     ensures stays { F.held files.new ≡ F.held files.old }
+    ensures wants { Wants F.may_want result }
 {
     match find_text(alloc, name, TEXT_LIMIT, files) {
         Err(refusal) => Verdict::from(refusal),

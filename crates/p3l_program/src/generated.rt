@@ -1,6 +1,6 @@
 // The command `gen`: a program that is generated with its costs and its items, run in memory.
 
-ghost use Rattle.std.specs.Prelude.{◌≡◌, ◌≢◌, ◌++◌, ◌≤◌, ◌<◌, ◌^◌, ◌⊎◌, length, IfOk, IfErr, string_bytes};
+ghost use Rattle.std.specs.Prelude.{◌≡◌, ◌≢◌, ◌++◌, ◌≤◌, ◌<◌, ◌^◌, ◌⊎◌, length, IfOk, IfErr, string_bytes, Bool};
 ghost use Rattle.p3l_base.specs.Memory.{IfGiven};
 ghost use Rattle.p3l_check.specs.Resolving.{ResolvedTree};
 ghost use Rattle.p3l_opts.specs.Command.{IsMade};
@@ -11,6 +11,7 @@ ghost use Rattle.p3l_program.specs.Generated.{AreNotLoaded, AreTextsOf, Gen, IsG
 ghost use Rattle.p3l_program.specs.Load.{IsReady};
 ghost use Rattle.p3l_program.specs.Saved.{HasSave, HasSaves};
 ghost use Rattle.p3l_program.specs.World.{change, files_change};
+ghost use Rattle.p3l_program.specs.Wants.{Wants};
 
 use crate::memory::{NoSink, TextSource};
 use crate::plan::{Accepted, Allotted, accept, cost_verdict, plan_of};
@@ -54,8 +55,9 @@ fn save_as<F: Files>(
     text: &[u8],
     files: &mut F,
 ) -> Result<(), Verdict>
-    ensures { HasSave (files_change F.held F.faults F.failed files.old files.new) (prefix.now
+    ensures saved { HasSave (files_change F.held F.faults F.failed files.old files.new) (prefix.now
         ++ suffix.now) text.now result }
+    ensures wants { IfErr result (Wants F.may_want) }
 {
     match name_with(alloc, prefix, suffix) {
         Ok(name) => save(alloc, &name, text, files),
@@ -70,8 +72,9 @@ fn save_texts<F: Files>(
     texts: &Generated,
     files: &mut F,
 ) -> Result<(), Verdict>
-    ensures { HasSaves (files_change F.held F.faults F.failed files.old files.new)
+    ensures saved { HasSaves (files_change F.held F.faults F.failed files.old files.new)
         (saves_for prefix.now texts.now.program texts.now.costs texts.now.stream) result }
+    ensures wants { IfErr result (Wants F.may_want) }
 {
     save_as(alloc, prefix, ".p3l", texts.program.as_slice(), files)?;
     save_as(alloc, prefix, ".toml", texts.costs.as_slice(), files)?;
@@ -85,8 +88,9 @@ fn save_where<F: Files>(
     texts: &Generated,
     files: &mut F,
 ) -> Result<(), Verdict>
-    ensures { HasSaves (files_change F.held F.faults F.failed files.old files.new)
+    ensures saved { HasSaves (files_change F.held F.faults F.failed files.old files.new)
         (saves_with prefix texts.now.program texts.now.costs texts.now.stream) result }
+    ensures wants { IfErr result (Wants F.may_want) }
 {
     match prefix {
         Some(prefix) => save_texts(alloc, &prefix, texts, files),
@@ -107,6 +111,7 @@ fn load_texts(
     requires few { processors ≤ 512 }
     ensures loaded { IfOk result (LoadsTexts program.now costs.now processors) }
     ensures refused { IfErr result (AreNotLoaded program.now costs.now processors) }
+    ensures wants { (files : Bool) → IfErr result (Wants files) }
 {
     let program = match accept(alloc, program) {
         Ok(program) => program,
@@ -150,6 +155,7 @@ fn run_text(alloc: Global, loaded: Allotted, request: Sched, text: List<u8>) -> 
     ensures ran { IfOk result (λ ran. (r : ResolvedTree) → IsCompiled r loaded.program
         → IsRanUnder (network_of r loaded.choice.counts.list gen_capacity) request text ran) }
     ensures wanting { IfErr result (λ v. v ≡ verdict.NoMemory) }
+    ensures wants { (files : Bool) → IfErr result (Wants files) }
 {
     every_linked_net_is_carried();
     let Allotted {
@@ -224,8 +230,9 @@ fn put_summary<K: Sink>(
     used: u32,
     out: &mut K,
 ) -> Verdict
-    ensures { IsLineOf (change K.taken K.faults out.old out.new) ran.finish
+    ensures put { IsLineOf (change K.taken K.faults out.old out.new) ran.finish
         (line_at ran.finish (summary_line number ran.stats service used ran.sum)) result }
+    ensures wants { (files : Bool) → Wants files result }
 {
     if !comes_whole(&ran.finish) {
         return Verdict::Ended(run_finish(ran.finish), None);
@@ -252,8 +259,9 @@ fn run_texts<K: Sink>(
     requires made { IsMade request }
     requires within { length texts.program ≤ text_limit }
     requires short { length texts.stream < 2 ^ 36 }
-    ensures { (g : Gen) → AreTextsOf g texts → g.number ≡ number → g.processors ≡ processors
+    ensures ran { (g : Gen) → AreTextsOf g texts → g.number ≡ number → g.processors ≡ processors
         → g.request ≡ request → IsGenRun (change K.taken K.faults out.old out.new) g result }
+    ensures wants { (files : Bool) → Wants files result }
 {
     let Generated {
         program,
@@ -293,6 +301,7 @@ pub fn run_generated<F: Files, K: Sink>(
         ⊎ IsGenUnsaved (files_change F.held F.faults F.failed files.old files.new)
         (change K.taken K.faults out.old out.new) (gen_of number processors items request prefix)
         result }
+    ensures wants { Wants F.may_want result }
 {
     let Ok(texts) = generate(alloc, number, items) else {
         return Verdict::NoMemory;

@@ -5,6 +5,7 @@ ghost use Rattle.p3l_program.specs.Graph.{IsDrawn};
 ghost use Rattle.p3l_program.specs.Stage.{build_stages};
 ghost use Rattle.p3l_program.specs.Text.{IsTextExpected};
 ghost use Rattle.p3l_program.specs.World.{change, files_change};
+ghost use Rattle.p3l_program.specs.Wants.{Wants};
 
 use crate::plan::load_network;
 use crate::text::write_text;
@@ -22,6 +23,7 @@ pub fn graph<F: Files, K: Sink>(alloc: Global, build: Build, files: &mut F, out:
         (change K.taken K.faults out.old out.new) (build_stages build)
         (IsDrawn (F.held files.old) build) result }
     ensures stays { F.held files.new ≡ F.held files.old }
+    ensures wants { Wants F.may_want result }
 {
     match load_network(alloc, build, files) {
         Err(verdict) => verdict,

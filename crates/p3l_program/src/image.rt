@@ -1,6 +1,6 @@
 // Loading the image that a command runs.
 
-ghost use Rattle.std.specs.Prelude.{◌≡◌, ◌≤◌, IfOk, IfErr, OnOk};
+ghost use Rattle.std.specs.Prelude.{◌≡◌, ◌≤◌, IfOk, IfErr, OnOk, Bool};
 ghost use Rattle.p3l_program.specs.Load.{IsNotLoaded, LoadsNetwork};
 ghost use Rattle.p3l_program.specs.LoadImage.{IsReadyImage, IsUnloadable, LoadsBytes, image_verdict, load_verdict};
 ghost use Rattle.p3l_program.specs.Origin.{imaged};
@@ -8,6 +8,7 @@ ghost use Rattle.p3l_program.specs.Plan.{network_in};
 ghost use Rattle.p3l_program.specs.Migrate.{Migrates};
 ghost use Rattle.p3l_program.specs.Stage.{image_stages, migrate_stages};
 ghost use Rattle.p3l_program.specs.World.{files_change};
+ghost use Rattle.p3l_program.specs.Wants.{Wants};
 
 use crate::file::find_text;
 use p3l_base::Name;
@@ -52,6 +53,7 @@ fn load_verdict(refusal: LoadRefusal) -> Verdict
 pub fn load_bytes(alloc: Global, bytes: &[u8]) -> Result<Loaded, Verdict>
     ensures loaded { IfOk result (LoadsBytes bytes.now) }
     ensures refused { IfErr result (IsUnloadable bytes.now) }
+    ensures wants { (files : Bool) → IfErr result (Wants files) }
 {
     let image = match decode(alloc, bytes) {
         Ok(image) => image,
@@ -73,6 +75,7 @@ pub fn load_image<F: Files>(alloc: Global, name: Name, files: &mut F) -> Result<
         (files_change F.held F.faults F.failed files.old files.new)
         (image_stages name)) }
     ensures stays { F.held files.new ≡ F.held files.old }
+    ensures wants { IfErr result (Wants F.may_want) }
 {
     match find_text(alloc, name, IMAGE_LIMIT, files) {
         Ok(bytes) => load_bytes(alloc, bytes.as_slice()),
@@ -89,6 +92,7 @@ pub fn migrate_image<F: Files>(alloc: Global, name: Name, files: &mut F) -> Resu
         (files_change F.held F.faults F.failed files.old files.new)
         (migrate_stages name)) }
     ensures stays { F.held files.new ≡ F.held files.old }
+    ensures wants { IfErr result (Wants F.may_want) }
 {
     let bytes = match find_text(alloc, name, IMAGE_LIMIT, files) {
         Ok(bytes) => bytes,

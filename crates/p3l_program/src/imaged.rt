@@ -10,6 +10,7 @@ ghost use Rattle.p3l_program.specs.Load.{IsNotLoaded};
 ghost use Rattle.p3l_program.specs.SaveState.{IsImagedAs, IsReadyToSave, LoadsImaged};
 ghost use Rattle.p3l_program.specs.Stage.{build_stages};
 ghost use Rattle.p3l_program.specs.World.{files_change};
+ghost use Rattle.p3l_program.specs.Wants.{Wants};
 
 use crate::plan::{Accepted, Allotted, allot};
 use p3l_base::{List, NoMemory};
@@ -112,6 +113,7 @@ pub fn load_imaged<F: Files>(alloc: Global, build: Build, files: &mut F) -> Resu
         (files_change F.held F.faults F.failed files.old files.new)
         (build_stages build)) }
     ensures stays { F.held files.new ≡ F.held files.old }
+    ensures wants { IfErr result (Wants F.may_want) }
 {
     let capacity = build.capacity;
     let allotted = match allot(alloc, build, files) {

@@ -5,6 +5,7 @@ ghost use Rattle.p3l_program.specs.Migrate.{IsMigrated};
 ghost use Rattle.p3l_program.specs.Saved.{IsFileExpected, KeepsFiles};
 ghost use Rattle.p3l_program.specs.Stage.{migrate_stages};
 ghost use Rattle.p3l_program.specs.World.{files_change};
+ghost use Rattle.p3l_program.specs.Wants.{Wants};
 
 use crate::image::migrate_image;
 use crate::save::save;
@@ -24,6 +25,7 @@ pub fn migrate<F: Files>(alloc: Global, name: Name, output: Name, files: &mut F)
         (IsMigrated (F.held files.old) name) result }
     ensures kept { KeepsFiles
         (files_change F.held F.faults F.failed files.old files.new) (output ∷ []) result }
+    ensures wants { Wants F.may_want result }
 {
     every_migrated_image_can_be_written();
     let image = match migrate_image(alloc, name, files) {

@@ -1,11 +1,12 @@
 // The picks of a run, in a file of which a schedule is made.
 
-ghost use Rattle.std.specs.Prelude.{◌≡◌, ◌++◌};
+ghost use Rattle.std.specs.Prelude.{◌≡◌, ◌++◌, IfErr};
 ghost use Rattle.p3l_base.specs.Memory.{IfGiven, OnGiven};
 ghost use Rattle.p3l_trace.specs.Agreement.{picks_of};
 ghost use Rattle.p3l_program.specs.Picks.{IsPicking, mark_before, picks_text};
 ghost use Rattle.p3l_program.specs.Saved.{HasSave};
 ghost use Rattle.p3l_program.specs.World.{files_change};
+ghost use Rattle.p3l_program.specs.Wants.{Wants};
 
 use crate::save::save;
 use p3l_base::{List, Name, NoMemory};
@@ -50,8 +51,9 @@ fn save_lines<F: Files>(
     lines: &[TraceLine],
     files: &mut F,
 ) -> Result<(), Verdict>
-    ensures { HasSave (files_change F.held F.faults F.failed files.old files.new)
+    ensures saved { HasSave (files_change F.held F.faults F.failed files.old files.new)
         name.now (picks_text (picks_of lines.now)) result }
+    ensures wants { IfErr result (Wants F.may_want) }
 {
     match picks_text(alloc, lines) {
         Ok(text) => save(alloc, name, text.as_slice(), files),
@@ -66,8 +68,9 @@ pub fn save_picks<F: Files>(
     lines: Option<List<TraceLine>>,
     files: &mut F,
 ) -> Result<(), Verdict>
-    ensures { IsPicking (files_change F.held F.faults F.failed files.old files.new)
+    ensures saved { IsPicking (files_change F.held F.faults F.failed files.old files.new)
         name lines result }
+    ensures wants { IfErr result (Wants F.may_want) }
 {
     let Some(name) = name else {
         return Ok(());

@@ -18,6 +18,7 @@ ghost use Rattle.p3l_program.specs.Plan.{IsCompiled, IsTextRefused, network_in, 
 ghost use Rattle.p3l_program.specs.Stage.{build_stages, program_stages};
 ghost use Rattle.p3l_program.specs.Time.{LoadsLinked};
 ghost use Rattle.p3l_program.specs.World.{files_change};
+ghost use Rattle.p3l_program.specs.Wants.{Wants};
 
 use crate::file::{TEXT_LIMIT, find_text};
 use p3l_alloc::{AllocRefusal, Choice, choose};
@@ -71,6 +72,7 @@ pub fn load_program<F: Files>(alloc: Global, name: Name, files: &mut F) -> Resul
         (files_change F.held F.faults F.failed files.old files.new)
         (program_stages name)) }
     ensures stays { F.held files.new ≡ F.held files.old }
+    ensures wants { IfErr result (Wants F.may_want) }
 {
     match find_text(alloc, name, TEXT_LIMIT, files) {
         Err(refusal) => Err(Verdict::from(refusal)),
@@ -111,6 +113,7 @@ fn costs_in<F: Files>(
         (files_change F.held F.faults F.failed files.old files.new)
         (Some name) tree.now) }
     ensures stays { F.held files.new ≡ F.held files.old }
+    ensures wants { IfErr result (Wants F.may_want) }
 {
     match find_text(alloc, name, TEXT_LIMIT, files) {
         Err(refusal) => Err(Verdict::from(refusal)),
@@ -135,6 +138,7 @@ pub fn load_costs<F: Files>(
         (files_change F.held F.faults F.failed files.old files.new)
         name tree.now) }
     ensures stays { F.held files.new ≡ F.held files.old }
+    ensures wants { IfErr result (Wants F.may_want) }
 {
     match name {
         Some(name) => costs_in(alloc, name, tree, files),
@@ -163,6 +167,7 @@ pub fn allot<F: Files>(alloc: Global, build: Build, files: &mut F) -> Result<All
         (files_change F.held F.faults F.failed files.old files.new)
         (build_stages build)) }
     ensures stays { F.held files.new ≡ F.held files.old }
+    ensures wants { IfErr result (Wants F.may_want) }
 {
     let processors = build.processors;
     let program = match load_program(alloc, build.program, files) {
@@ -233,6 +238,7 @@ pub fn load_linked<F: Files>(alloc: Global, build: Build, files: &mut F) -> Resu
         (files_change F.held F.faults F.failed files.old files.new)
         (build_stages build)) }
     ensures stays { F.held files.new ≡ F.held files.old }
+    ensures wants { IfErr result (Wants F.may_want) }
 {
     let capacity = build.capacity;
     let allotted = match allot(alloc, build, files) {
@@ -257,6 +263,7 @@ pub fn load_network<F: Files>(alloc: Global, build: Build, files: &mut F) -> Res
         (files_change F.held F.faults F.failed files.old files.new)
         (build_stages build)) }
     ensures stays { F.held files.new ≡ F.held files.old }
+    ensures wants { IfErr result (Wants F.may_want) }
 {
     match load_linked(alloc, build, files) {
         Ok(linked) => Ok(linked.network),

@@ -1,6 +1,6 @@
 // The command `profile`: the cost file of what a program does on the items of the input.
 
-ghost use Rattle.std.specs.Prelude.{◌≡◌};
+ghost use Rattle.std.specs.Prelude.{◌≡◌, Bool};
 ghost use Rattle.p3l_base.specs.Memory.{IfGiven};
 ghost use Rattle.std.specs.List.{All};
 ghost use Rattle.p3l_skel.specs.Lawful.{IsLawfulTree};
@@ -9,6 +9,7 @@ ghost use Rattle.p3l_run.specs.Run.{module_name};
 ghost use Rattle.p3l_sample.specs.declared.stream.Sampled.TheVariants as sampled;
 ghost use Rattle.p3l_program.specs.Profile.{IsClosedProfile, IsProfileExpected, IsProfileOf, coded};
 ghost use Rattle.p3l_program.specs.World.{change, files_change, world};
+ghost use Rattle.p3l_program.specs.Wants.{Wants};
 
 use crate::plan::{Accepted, load_program};
 use crate::text::write_text;
@@ -41,8 +42,9 @@ fn close<K: Sink>(
     ending: Ending,
     out: &mut K,
 ) -> Verdict
-    ensures { IsClosedProfile tree.now profile.now.greatest (sampled.Stream ending)
+    ensures closed { IsClosedProfile tree.now profile.now.greatest (sampled.Stream ending)
         (change K.taken K.faults out.old out.new) result }
+    ensures wants { (files : Bool) → Wants files result }
 {
     if ending != Ending::End {
         return Verdict::Ended(Finish::Stream(ending), None);
@@ -61,8 +63,9 @@ fn finish<K: Sink>(
     sampled: Sampled,
     out: &mut K,
 ) -> Verdict
-    ensures { IsClosedProfile tree.now profile.now.greatest sampled
+    ensures closed { IsClosedProfile tree.now profile.now.greatest sampled
         (change K.taken K.faults out.old out.new) result }
+    ensures wants { (files : Bool) → Wants files result }
 {
     match sampled {
         Sampled::Stream(ending) => close(alloc, tree, profile, ending, out),
@@ -83,8 +86,9 @@ fn profile_tree<S: Source, K: Sink>(
 ) -> Verdict
     requires lawful { IsLawfulTree tree.now }
     requires codes { All (HasCode (record { tree = tree.now; codes = codes.now })) tree.now.nodes }
-    ensures { IsProfileOf (coded tree.now codes.now) (change S.rest S.faults input.old input.new)
+    ensures profiled { IsProfileOf (coded tree.now codes.now) (change S.rest S.faults input.old input.new)
         (change K.taken K.faults out.old out.new) result }
+    ensures wants { (files : Bool) → Wants files result }
 {
     a_profile_has_the_greatest();
     let Ok(mut profile) = Profile::new(alloc, tree) else {
@@ -109,6 +113,7 @@ pub fn profile<F: Files, S: Source, K: Sink>(
         (change S.rest S.faults input.old input.new) (change K.taken K.faults out.old out.new))
         name result }
     ensures stays { F.held files.new ≡ F.held files.old }
+    ensures wants { Wants F.may_want result }
 {
     match load_program(alloc, name, files) {
         Err(verdict) => verdict,

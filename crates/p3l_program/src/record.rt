@@ -1,10 +1,11 @@
 // The trace of a run, in a file.
 
-ghost use Rattle.std.specs.Prelude.{◌≡◌, true, OnOk};
+ghost use Rattle.std.specs.Prelude.{◌≡◌, true, OnOk, IfErr};
 ghost use Rattle.p3l_trace.specs.Text.{trace_format};
 ghost use Rattle.p3l_program.specs.Recorded.{IsRecording};
 ghost use Rattle.p3l_program.specs.Saved.{HasSave};
 ghost use Rattle.p3l_program.specs.World.{files_change};
+ghost use Rattle.p3l_program.specs.Wants.{Wants};
 
 use crate::save::save;
 use p3l_base::{List, Name};
@@ -24,6 +25,7 @@ fn save_trace<F: Files>(
     ensures saved { HasSave (files_change F.held F.faults F.failed files.old files.new)
         name.now (trace_format.spell traced.now) result }
     ensures fits { OnOk result (trace_format.fits traced.now ≡ true) }
+    ensures wants { IfErr result (Wants F.may_want) }
 {
     match trace_text(alloc, traced) {
         Ok(text) => save(alloc, name, text.as_slice(), files),
@@ -40,8 +42,9 @@ pub fn record<F: Files>(
     stats: &RunStats,
     files: &mut F,
 ) -> Result<(), Verdict>
-    ensures { IsRecording (files_change F.held F.faults F.failed files.old files.new)
+    ensures recorded { IsRecording (files_change F.held F.faults F.failed files.old files.new)
         trace lines stats.now result }
+    ensures wants { IfErr result (Wants F.may_want) }
 {
     let Some(name) = trace else {
         return Ok(());

@@ -1,6 +1,6 @@
 // The command `resume`: the image of a snapshot, run on the input from the state that was saved.
 
-ghost use Rattle.std.specs.Prelude.{◌≡◌, ◌≤◌, ◌⊎◌, [], None};
+ghost use Rattle.std.specs.Prelude.{◌≡◌, ◌≤◌, ◌⊎◌, [], None, ◌||◌};
 ghost use Rattle.p3l_run.specs.Network.{network, resumed};
 ghost use Rattle.p3l_run.specs.Resume.{IsResumable, IsResumedBy};
 ghost use Rattle.p3l_run.specs.Start.{Resumption};
@@ -11,6 +11,7 @@ ghost use Rattle.p3l_program.specs.Plan.{continued_network};
 ghost use Rattle.p3l_program.specs.Run.{IsRunExpected, IsRunOf, KeepsRun, RunsOver};
 ghost use Rattle.p3l_program.specs.Saved.{KeepsFiles};
 ghost use Rattle.p3l_program.specs.World.{change, files_change, world};
+ghost use Rattle.p3l_program.specs.Wants.{Wants};
 
 use crate::plan::plan_of;
 use crate::running::close;
@@ -63,6 +64,7 @@ fn resume_plan<U: Units, F: Files, S: Source, K: Sink>(
         (files_change F.held F.faults F.failed files.old files.new)
         (change S.rest S.faults input.old input.new)
         (change K.taken K.faults out.old out.new) request None result }
+    ensures wants { Wants (U.may_want || F.may_want) result }
 {
     let count = plan.net.procs.len() as u32;
     let schedule = match load_schedule(alloc, request, count, files) {
@@ -94,6 +96,7 @@ fn resume_network<F: Files, S: Source, K: Sink>(
         (files_change F.held F.faults F.failed files.old files.new)
         (change S.rest S.faults input.old input.new) (change K.taken K.faults out.old out.new)
         request None result }
+    ensures wants { Wants F.may_want result }
 {
     every_linked_net_is_carried();
     every_orderly_shot_goes_on();
@@ -134,6 +137,7 @@ pub fn resume<F: Files, S: Source, K: Sink>(
         ⊎ RunsOver (world (files_change F.held F.faults F.failed files.old files.new)
         (change S.rest S.faults input.old input.new) (change K.taken K.faults out.old out.new))
         (continued name) request }
+    ensures wants { Wants F.may_want result }
 {
     match load_snapshot(alloc, name, files) {
         Err(verdict) => verdict,

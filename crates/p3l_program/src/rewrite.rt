@@ -12,6 +12,7 @@ ghost use Rattle.p3l_program.specs.Rewrite.{BreaksRules, IsBestText, IsRewritten
 ghost use Rattle.p3l_program.specs.Stage.{build_stages, program_stages};
 ghost use Rattle.p3l_program.specs.Text.{IsTextExpected};
 ghost use Rattle.p3l_program.specs.World.{change, files_change};
+ghost use Rattle.p3l_program.specs.Wants.{Wants};
 
 use crate::file::{TEXT_LIMIT, find_text};
 use crate::plan::load_costs;
@@ -66,6 +67,7 @@ fn load_source<F: Files>(alloc: Global, name: Name, files: &mut F) -> Result<Sou
         (files_change F.held F.faults F.failed files.old files.new)
         (program_stages name)) }
     ensures stays { F.held files.new ≡ F.held files.old }
+    ensures wants { IfErr result (Wants F.may_want) }
 {
     match find_text(alloc, name, TEXT_LIMIT, files) {
         Err(refusal) => Err(Verdict::from(refusal)),
@@ -96,6 +98,7 @@ fn load_priced<F: Files>(alloc: Global, build: Build, files: &mut F) -> Result<P
         (files_change F.held F.faults F.failed files.old files.new)
         (build_stages build)) }
     ensures stays { F.held files.new ≡ F.held files.old }
+    ensures wants { IfErr result (Wants F.may_want) }
 {
     let processors = build.processors;
     let source = match load_source(alloc, build.program, files) {
@@ -141,6 +144,7 @@ pub fn rewrite<F: Files, K: Sink>(
         (build_stages (plain_build program processors costs))
         (IsRewritten (F.held files.old) (plain_build program processors costs)) result }
     ensures stays { F.held files.new ≡ F.held files.old }
+    ensures wants { Wants F.may_want result }
 {
     let build = Build {
         program,

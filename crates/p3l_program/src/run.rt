@@ -6,6 +6,7 @@ ghost use Rattle.p3l_program.specs.Origin.{built};
 ghost use Rattle.p3l_program.specs.Run.{IsRunExpected, RunsOver};
 ghost use Rattle.p3l_program.specs.Saved.{KeepsFiles};
 ghost use Rattle.p3l_program.specs.World.{change, files_change, world};
+ghost use Rattle.p3l_program.specs.Wants.{Wants};
 
 use crate::plan::load_network;
 use crate::running::run_network;
@@ -40,6 +41,7 @@ pub fn run<F: Files, S: Source, K: Sink>(
         ⊎ RunsOver (world (files_change F.held F.faults F.failed files.old files.new)
         (change S.rest S.faults input.old input.new) (change K.taken K.faults out.old out.new))
         (built build) request }
+    ensures wants { Wants F.may_want result }
 {
     match load_network(alloc, build, files) {
         Err(verdict) => verdict,

@@ -1,6 +1,6 @@
 // A network that is run under the schedule that words and files request, whatever it was made from.
 
-ghost use Rattle.std.specs.Prelude.{◌≡◌, ◌<◌, ◌≤◌, ◌*◌, ◌^◌};
+ghost use Rattle.std.specs.Prelude.{◌≡◌, ◌<◌, ◌≤◌, ◌*◌, ◌^◌, ◌||◌};
 ghost use Rattle.p3l_report.specs.declared.verdict.Verdict.TheVariants as verdict;
 ghost use Rattle.p3l_run.specs.Feed.{most_of_input};
 ghost use Rattle.p3l_run.specs.Network.{IsSound, network, network_named};
@@ -9,6 +9,7 @@ ghost use Rattle.p3l_program.specs.LoadImage.{IsReadyImage};
 ghost use Rattle.p3l_program.specs.Plan.{network_in};
 ghost use Rattle.p3l_program.specs.Run.{IsClosed, IsRunOf, KeepsRun, keeping_for, shown};
 ghost use Rattle.p3l_program.specs.World.{change, files_change};
+ghost use Rattle.p3l_program.specs.Wants.{Wants};
 
 use crate::plan::plan_of;
 use crate::record::record;
@@ -55,8 +56,9 @@ pub fn close<F: Files>(
     reported: bool,
     files: &mut F,
 ) -> Verdict
-    ensures { IsClosed
+    ensures closed { IsClosed
         (files_change F.held F.faults F.failed files.old files.new) ran trace reported result }
+    ensures wants { Wants F.may_want result }
 {
     let Ran {
         finish,
@@ -98,6 +100,7 @@ pub fn run_plan<U: Units, F: Files, S: Source, K: Sink>(
         (files_change F.held F.faults F.failed files.old files.new)
         (change S.rest S.faults input.old input.new)
         (change K.taken K.faults out.old out.new) request trace result }
+    ensures wants { Wants (U.may_want || F.may_want) result }
 {
     let count = plan.net.procs.len() as u32;
     let schedule = match load_schedule(alloc, request, count, files) {
@@ -131,6 +134,7 @@ pub fn run_network<F: Files, S: Source, K: Sink>(
         (files_change F.held F.faults F.failed files.old files.new)
         (change S.rest S.faults input.old input.new) (change K.taken K.faults out.old out.new)
         request trace result }
+    ensures wants { Wants F.may_want result }
 {
     every_linked_net_is_carried();
     let Loaded {

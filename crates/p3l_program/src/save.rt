@@ -1,7 +1,9 @@
 // The writing of a file of a command.
 
+ghost use Rattle.std.specs.Prelude.{IfErr};
 ghost use Rattle.p3l_program.specs.Saved.{HasSave};
 ghost use Rattle.p3l_program.specs.World.{files_change};
+ghost use Rattle.p3l_program.specs.Wants.{Wants};
 
 use p3l_base::Name;
 use p3l_io::{Files, WriteFault};
@@ -15,8 +17,9 @@ pub fn save<F: Files>(
     bytes: &[u8],
     files: &mut F,
 ) -> Result<(), Verdict>
-    ensures { HasSave
+    ensures saved { HasSave
         (files_change F.held F.faults F.failed files.old files.new) name.now bytes.now result }
+    ensures wants { IfErr result (Wants F.may_want) }
 {
     match files.write(alloc, name.as_str(), bytes) {
         Ok(()) => Ok(()),

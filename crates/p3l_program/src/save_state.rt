@@ -1,7 +1,7 @@
 // The command `save`: a program of a file, run on the input under recorded picks, and the state that
 // they come to written as a snapshot.
 
-ghost use Rattle.std.specs.Prelude.{◌≡◌, ◌∷◌, ◌<◌, ◌≤◌, ◌*◌, ◌^◌, ◌⊎◌, [], IfOk, IfErr};
+ghost use Rattle.std.specs.Prelude.{◌≡◌, ◌∷◌, ◌<◌, ◌≤◌, ◌*◌, ◌^◌, ◌⊎◌, [], IfOk, IfErr, ◌||◌};
 ghost use Rattle.p3l_resume.specs.Ranges.{IsFew};
 ghost use Rattle.p3l_run.specs.Feed.{most_of_input};
 ghost use Rattle.p3l_run.specs.Network.{IsSound, network};
@@ -10,6 +10,7 @@ ghost use Rattle.p3l_program.specs.Plan.{network_in};
 ghost use Rattle.p3l_program.specs.SaveState.{FitsSome, IsReached, IsReadyToSave, IsSaveExpected, IsSaveOf, IsUnreached, IsWriting, KeepsSave, SavesOver};
 ghost use Rattle.p3l_program.specs.Saved.{KeepsFiles};
 ghost use Rattle.p3l_program.specs.World.{change, files_change, world};
+ghost use Rattle.p3l_program.specs.Wants.{Wants};
 
 use crate::imaged::{Imaged, load_imaged};
 use crate::plan::plan_of;
@@ -59,6 +60,7 @@ fn reach<U: Units, F: Files, S: Source, K: Sink>(
         (change S.rest S.faults input.old input.new)
         (change K.taken K.faults out.old out.new) name) }
     ensures stays { F.held files.new ≡ F.held files.old }
+    ensures wants { IfErr result (Wants (U.may_want || F.may_want)) }
 {
     laws();
     let count = plan.net.procs.len() as u32;
@@ -83,8 +85,9 @@ fn write_snapshot<F: Files>(
 ) -> Verdict
     requires fits { FitsSome checkpoint.shot }
     requires few { IsFew image }
-    ensures { IsWriting (files_change F.held F.faults F.failed files.old files.new)
+    ensures written { IsWriting (files_change F.held F.faults F.failed files.old files.new)
         checkpoint image name.now result }
+    ensures wants { Wants F.may_want result }
 {
     what_fits_can_be_written();
     let Checkpoint { shot, items, picks } = checkpoint;
@@ -120,6 +123,7 @@ fn save_network<F: Files, S: Source, K: Sink>(
         (files_change F.held F.faults F.failed files.old files.new)
         (change S.rest S.faults input.old input.new) (change K.taken K.faults out.old out.new)
         name output result }
+    ensures wants { Wants F.may_want result }
 {
     every_linked_net_is_carried();
     every_table_names_modules();
@@ -165,6 +169,7 @@ pub fn save_state<F: Files, S: Source, K: Sink>(
         ⊎ SavesOver (world (files_change F.held F.faults F.failed files.old files.new)
         (change S.rest S.faults input.old input.new) (change K.taken K.faults out.old out.new))
         build name }
+    ensures wants { Wants F.may_want result }
 {
     match load_imaged(alloc, build, files) {
         Err(verdict) => verdict,

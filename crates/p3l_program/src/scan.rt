@@ -11,6 +11,7 @@ ghost use Rattle.p3l_program.specs.Saved.{KeepsFiles};
 ghost use Rattle.p3l_program.specs.Scan.{IsReadyScan, LoadsScan};
 ghost use Rattle.p3l_program.specs.Stage.{scan_stages};
 ghost use Rattle.p3l_program.specs.World.{change, files_change, world};
+ghost use Rattle.p3l_program.specs.Wants.{Wants};
 
 use crate::plan::{Accepted, load_program, plan_of};
 use crate::running::run_plan;
@@ -56,6 +57,7 @@ fn load_scan<F: Files>(
         (files_change F.held F.faults F.failed files.old files.new)
         (scan_stages name segments)) }
     ensures stays { F.held files.new ≡ F.held files.old }
+    ensures wants { IfErr result (Wants F.may_want) }
 {
     let program = match load_program(alloc, name, files) {
         Ok(program) => program,
@@ -94,6 +96,7 @@ fn run_scan<F: Files, S: Source, K: Sink>(
         (files_change F.held F.faults F.failed files.old files.new)
         (change S.rest S.faults input.old input.new) (change K.taken K.faults out.old out.new)
         request None result }
+    ensures wants { Wants F.may_want result }
 {
     every_linked_net_is_carried();
     let Planned { program, plan } = loaded;
@@ -138,6 +141,7 @@ pub fn scan<F: Files, S: Source, K: Sink>(
         ⊎ RunsOver (world (files_change F.held F.faults F.failed files.old files.new)
         (change S.rest S.faults input.old input.new) (change K.taken K.faults out.old out.new))
         (scanned name segments capacity) request }
+    ensures wants { Wants F.may_want result }
 {
     match load_scan(alloc, name, segments, files) {
         Err(verdict) => verdict,

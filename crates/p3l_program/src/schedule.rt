@@ -7,6 +7,7 @@ ghost use Rattle.p3l_program.specs.Scheduled.{HasPicks, HasSchedule};
 ghost use Rattle.p3l_program.specs.World.{files_change};
 ghost use Rattle.p3l_sched.specs.Picker.{NamesProcesses, recorded};
 ghost use Rattle.p3l_sched.specs.declared.schedule.Schedule.TheVariants as schedule;
+ghost use Rattle.p3l_program.specs.Wants.{Wants};
 
 use crate::file::find_text;
 use p3l_base::{List, Name};
@@ -35,6 +36,7 @@ pub fn picks_in<F: Files>(
         (files_change F.held F.faults F.failed files.old files.new)
         count (sched.File name)) }
     ensures stays { F.held files.new ≡ F.held files.old }
+    ensures wants { IfErr result (Wants F.may_want) }
 {
     match find_text(alloc, name, PICKS_LIMIT, files) {
         Err(refusal) => Err(Verdict::from(refusal)),
@@ -64,6 +66,7 @@ pub fn load_schedule<F: Files>(
         (files_change F.held F.faults F.failed files.old files.new)
         count request) }
     ensures stays { F.held files.new ≡ F.held files.old }
+    ensures wants { IfErr result (Wants F.may_want) }
 {
     match request {
         Sched::RoundRobin => Ok(Schedule::RoundRobin),

@@ -7,6 +7,7 @@ ghost use Rattle.p3l_program.specs.Origin.{continued};
 ghost use Rattle.p3l_program.specs.Plan.{continued_network};
 ghost use Rattle.p3l_program.specs.Stage.{snapshot_stages};
 ghost use Rattle.p3l_program.specs.World.{files_change};
+ghost use Rattle.p3l_program.specs.Wants.{Wants};
 
 use crate::file::find_text;
 use crate::image::load_bytes;
@@ -49,6 +50,7 @@ fn read_snapshot<F: Files>(alloc: Global, name: Name, files: &mut F) -> Result<S
         (files_change F.held F.faults F.failed files.old files.new)
         (snapshot_stages name)) }
     ensures stays { F.held files.new ≡ F.held files.old }
+    ensures wants { IfErr result (Wants F.may_want) }
 {
     match find_text(alloc, name, SNAPSHOT_LIMIT, files) {
         Err(refusal) => Err(Verdict::from(refusal)),
@@ -74,6 +76,7 @@ pub fn load_snapshot<F: Files>(
         (files_change F.held F.faults F.failed files.old files.new)
         (snapshot_stages name)) }
     ensures stays { F.held files.new ≡ F.held files.old }
+    ensures wants { IfErr result (Wants F.may_want) }
 {
     let saved = match read_snapshot(alloc, name, files) {
         Ok(saved) => saved,

@@ -1,6 +1,6 @@
 // The command `time`: a program of a file, run on the input in virtual time.
 
-ghost use Rattle.std.specs.Prelude.{◌≡◌, ◌<◌, ◌≤◌, ◌*◌, ◌^◌, ◌⊎◌, length, Some};
+ghost use Rattle.std.specs.Prelude.{◌≡◌, ◌<◌, ◌≤◌, ◌*◌, ◌^◌, ◌⊎◌, length, Some, ◌||◌};
 ghost use Rattle.std.specs.Option.{option_to_list};
 ghost use Rattle.p3l_run.specs.Feed.{most_of_input};
 ghost use Rattle.p3l_run.specs.Network.{IsSound, network};
@@ -11,6 +11,7 @@ ghost use Rattle.p3l_program.specs.Plan.{network_in};
 ghost use Rattle.p3l_program.specs.Saved.{KeepsFiles};
 ghost use Rattle.p3l_program.specs.Time.{AreReported, IsTimeClosed, IsTimeExpected, IsTimeOf, KeepsTime, TimesOver};
 ghost use Rattle.p3l_program.specs.World.{change, files_change, world};
+ghost use Rattle.p3l_program.specs.Wants.{Wants};
 
 use crate::picks::save_picks;
 use crate::plan::{Linked, load_linked, plan_of};
@@ -50,8 +51,9 @@ fn time_stats(stats: &RunStats, timer: &Timer) -> Stats
 /// ended.
 fn close<F: Files>(alloc: Global, end: TimedRan, picks: Option<Name>, files: &mut F) -> Verdict
     requires some { 0 < length end.timer.prices }
-    ensures { IsTimeClosed (files_change F.held F.faults F.failed files.old files.new)
+    ensures closed { IsTimeClosed (files_change F.held F.faults F.failed files.old files.new)
         end.ran end.timer picks result }
+    ensures wants { Wants F.may_want result }
 {
     let TimedRan { ran, timer } = end;
     let Ran {
@@ -96,6 +98,7 @@ fn time_plan<U: Units, F: Files, S: Source, K: Sink>(
         (files_change F.held F.faults F.failed files.old files.new)
         (change S.rest S.faults input.old input.new)
         (change K.taken K.faults out.old out.new) picks result }
+    ensures wants { Wants (U.may_want || F.may_want) result }
 {
     a_timed_run_is_a_run();
     a_finish_is_between_one_and_all();
@@ -127,6 +130,7 @@ fn time_linked<F: Files, S: Source, K: Sink>(
         (files_change F.held F.faults F.failed files.old files.new)
         (change S.rest S.faults input.old input.new) (change K.taken K.faults out.old out.new)
         picks result }
+    ensures wants { Wants F.may_want result }
 {
     every_linked_net_is_carried();
     let Linked { network, costs } = linked;
@@ -167,6 +171,7 @@ pub fn time<F: Files, S: Source, K: Sink>(
         ⊎ TimesOver (world (files_change F.held F.faults F.failed files.old files.new)
         (change S.rest S.faults input.old input.new) (change K.taken K.faults out.old out.new))
         build }
+    ensures wants { Wants F.may_want result }
 {
     linked_nets_have_small_prices();
     match load_linked(alloc, build, files) {

@@ -4,6 +4,7 @@ ghost use Rattle.p3l_opts.specs.Command.{texts_of};
 ghost use Rattle.p3l_program.specs.Answer.{Answers, IsExpected};
 ghost use Rattle.p3l_program.specs.Top.{Promises};
 ghost use Rattle.p3l_program.specs.World.{change, files_change, world};
+ghost use Rattle.p3l_program.specs.Wants.{Wants};
 
 use crate::certify::certify;
 use crate::check::check;
@@ -40,6 +41,7 @@ fn perform<F: Files, S: Source, K: Sink>(
         (world (files_change F.held F.faults F.failed files.old files.new)
         (change S.rest S.faults input.old input.new) (change K.taken K.faults out.old out.new))
         result }
+    ensures wants { Wants F.may_want result }
 {
     match parse(alloc, words) {
         Err(OptsRefusal::Usage) => Verdict::Refused(Refusal::Usage),
@@ -96,7 +98,7 @@ fn answer<F: Files, S: Source, K: Sink, E: Sink>(
     out: &mut K,
     err: &mut E,
 ) -> Status
-    ensures answers { Answers (texts_of words.now)
+    ensures answers { Answers F.may_want (texts_of words.now)
         (world (files_change F.held F.faults F.failed files.old files.new)
         (change S.rest S.faults input.old input.new) (change K.taken K.faults out.old out.new))
         (change E.taken E.faults err.old err.new) result.0 }
@@ -125,7 +127,7 @@ pub fn top<F: Files, S: Source, K: Sink, E: Sink>(
     out: &mut K,
     err: &mut E,
 ) -> Status
-    ensures { Promises (texts_of words.now)
+    ensures { Promises F.may_want (texts_of words.now)
         (world (files_change F.held F.faults F.failed files.old files.new)
         (change S.rest S.faults input.old input.new) (change K.taken K.faults out.old out.new))
         (change E.taken E.faults err.old err.new) result.0 }

@@ -6,6 +6,7 @@ ghost use Rattle.p3l_program.specs.Text.{IsTextExpected};
 ghost use Rattle.p3l_program.specs.Stage.{verify_stages};
 ghost use Rattle.p3l_program.specs.Verify.{IsVerified, holds_line};
 ghost use Rattle.p3l_program.specs.World.{change, files_change};
+ghost use Rattle.p3l_program.specs.Wants.{Wants};
 
 use crate::cert::load_cert;
 use crate::text::write_text;
@@ -42,6 +43,7 @@ pub fn verify_cert<F: Files, K: Sink>(
         (change K.taken K.faults out.old out.new) (verify_stages program name costs)
         (IsVerified (F.held files.old) program costs name) result }
     ensures stays { F.held files.new ≡ F.held files.old }
+    ensures wants { Wants F.may_want result }
 {
     match load_cert(alloc, program, costs, name, files) {
         Err(verdict) => verdict,

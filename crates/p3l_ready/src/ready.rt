@@ -9,7 +9,7 @@ use p3l_base::NoMemory;
 use std::alloc::Global;
 use std::marker::Model;
 
-/// How many numbers are counted together.
+/// The numbers that are counted together.
 const BLOCK: u32 = 64;
 
 /// A set of numbers below a size, which contracts see as a flag for each number. The numbers of each
@@ -47,7 +47,7 @@ impl ReadySet {
         })
     }
 
-    /// Whether a number is in the set.
+    /// Returns true exactly if the number is in the set.
     pub fn contains(&self, p: u32) -> bool
         requires { p < length self.now }
         ensures { result ≡ flag_at self.now p }
@@ -72,14 +72,14 @@ impl ReadySet {
         }
     }
 
-    /// How many numbers are in the set.
+    /// The count of numbers in the set.
     pub fn count(&self) -> u32
         ensures { result ≡ count_from (flag_at self.now) 0 (length self.now) }
     {
         self.count
     }
 
-    // How many numbers from `p` on are surely not in the set: none exactly where `p` is in it.
+    // A count of numbers from `p` on that are not in the set; it is 0 exactly where `p` is in it.
     fn gap(&self, p: u32) -> u32
         requires { p < length self.now }
         ensures here { result ≡ 0 → flag_at self.now p ≡ true }
@@ -125,8 +125,8 @@ impl ReadySet {
         }
     }
 
-    // Where the block of the number with `k` others before it begins, and how many
-    // of them are in the block.
+    // The start of the block that holds the number with `k` others before it, and the count of
+    // those others within the block.
     fn block_of(&self, k: u32) -> (u32, u32)
         requires { k < count_from (flag_at self.now) 0 (length self.now) }
         ensures inside { result.0 ≤ length self.now }

@@ -20,7 +20,8 @@ use tree::place_tree;
 
 /// A reduce of `len` elements, which are cut into `segments` segments: these are folded side by
 /// side, and their results are joined two by two. One segment is one process. A number of segments
-/// that is no power of two counts as the greatest one below it, and more than 512 count as 512.
+/// that is no power of two counts as the greatest one below it, and one above the limit of workers
+/// counts as that limit.
 #[derive(Clone, Copy, Debug, Drop)]
 pub struct ReduceTemplate {
     pub node: u32,

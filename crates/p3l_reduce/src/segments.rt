@@ -7,7 +7,7 @@ ghost use Rattle.p3l_firing.specs.Segments.{halved, segment_lengths, level_up_to
 use p3l_base::NoMemory;
 use std::alloc::Global;
 
-/// How often the number of segments can be halved, at most `most` times.
+/// The number of times that the segments can be halved, at most `most`.
 pub(crate) fn level_within(most: u32, segments: u32) -> u32
     ensures value { result ≡ level_up_to most segments }
     ensures bounded { result ≤ most }
@@ -34,7 +34,7 @@ fn halves(alloc: Global, lengths: &[u32]) -> Result<Vec<u32>, NoMemory>
     Ok(cut)
 }
 
-/// How many elements the segments have, in order.
+/// The number of elements of each segment, in order.
 pub(crate) fn segment_lengths(alloc: Global, level: u32, len: u32) -> Result<Vec<u32>, NoMemory>
     ensures { IfGiven result (λ v. v.items ≡ segment_lengths level len) }
 {

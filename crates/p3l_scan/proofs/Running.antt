@@ -1,7 +1,8 @@
 -- What the units of a plan run.
-use Rattle.std.proofs.Common.{◌≡◌, ℕ, ℤ, zero, suc, ◌+◌, ◌-◌, ◌*◌, ◌/◌, ◌^◌, ◌<◌, ◌≤◌, Result, Ok, Err, IfOk, List, [], ◌++◌, take, drop, length, map, refl, arith, ap, sym, ◌∙◌, length-take, length-drop}
+use Rattle.std.proofs.Common.{◌≡◌, ℕ, ℤ, zero, suc, ◌+◌, ◌-◌, ◌*◌, ◌/◌, ◌^◌, ◌<◌, ◌≤◌, Result, Ok, Err, inl, List, [], ◌++◌, take, drop, length, map, refl, arith, ap, sym, ◌∙◌, length-take, length-drop}
 use Rattle.std.proofs.Math.Nat.{add-mul, mul_assoc, suc-mul}
 use Rattle.std.proofs.lemmas.List.{take-append-drop}
+use Rattle.p3l_base.specs.Memory.{IfGiven, IfGivenOr}
 use Rattle.p3l_base.specs.declared.NoMemory.{NoMemory}
 use Rattle.p3l_base.specs.declared.outcome.Outcome.{Outcome}
 use Rattle.p3l_base.specs.declared.outcome.Outcome.TheVariants.{Value, Trapped}
@@ -86,9 +87,15 @@ block-small d s words l small =
     let low : 2 ^ s * words ≤ 2 ^ (d - s) * (2 ^ s * words) = times-low (2 ^ (d - s)) (2 ^ s * words) (power_pos (d - s)) in
     omega (arith, low, whole_words d s words l, small)
 
--- two outcomes that were paired are a row, if there was memory for it
-pub if_ok-row : (r : Result Outcome NoMemory) (one other : Outcome) →
-    IfOk r (λ both. (operator : List ℤ → Outcome) → on_value operator both ≡ combined operator one other) → (row : Outcome) →
-    with_next one other ≡ row → IfOk r (λ outcome. outcome ≡ row)
-if_ok-row (Ok both) one other h row e = paired-row both one other h ∙ e
-if_ok-row (Err x) one other h row e = tt
+-- two outcomes that were paired are a row, unless a request for memory was refused
+pub given-row : (want : Type 0) (r : Result Outcome NoMemory) (one other : Outcome) →
+    IfGiven r (λ both. (operator : List ℤ → Outcome) → on_value operator both ≡ combined operator one other) → (row : Outcome) →
+    with_next one other ≡ row → IfGivenOr r (λ outcome. outcome ≡ row) want
+given-row want (Ok both) one other h row e = paired-row both one other h ∙ e
+given-row want (Err x) one other refused row e = inl refused
+
+-- an outcome that is given is any that equals it
+pub given-same : (want : Type 0) (r : Result Outcome NoMemory) (x y : Outcome) → x ≡ y → IfGivenOr r (λ o. o ≡ x) want →
+    IfGivenOr r (λ o. o ≡ y) want
+given-same want (Ok o) x y same is = is ∙ same
+given-same want (Err e) x y same wants = wants

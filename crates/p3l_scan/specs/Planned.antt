@@ -1,5 +1,6 @@
 -- The plan that belongs to a tree, and why a tree has none.
 use Rattle.std.specs.Prelude.{◌≡◌, ℕ, ◌*◌, ◌≤◌}
+use Rattle.p3l_base.specs.Limits.{most_processes}
 use Rattle.p3l_skel.specs.declared.tree.Tree.{Tree}
 use Rattle.p3l_skel.specs.Counts.{HasLawfulCounts}
 use Rattle.p3l_skel.specs.Lawful.{IsLawfulTree}
@@ -29,4 +30,4 @@ IsUnscannable tree segments BadSegments = IsReduce (node_at tree 0).form × (IsS
 pub record IsRunnable (plan : ScanPlan) : Type 0 where
   pub tree : IsLawfulTree plan.tree
   pub counts : HasLawfulCounts plan.tree plan.counts.list
-  pub procs : procs plan.tree plan.counts.list 0 ≤ 4096
+  pub procs : procs plan.tree plan.counts.list 0 ≤ most_processes

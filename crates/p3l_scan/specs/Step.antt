@@ -1,5 +1,6 @@
 -- What the steps of a plan do with the words of a block.
 use Rattle.std.specs.Prelude.{◌≡◌, ℕ, ℤ, ◌*◌, ◌/◌, ◌^◌, ◌≤◌, nat_eq, nat_le, if◌then◌else◌, List, length, take, drop}
+use Rattle.p3l_base.specs.Limits.{most_words}
 use Rattle.p3l_base.specs.declared.outcome.Outcome.{Outcome}
 use Rattle.p3l_base.specs.declared.outcome.Outcome.TheVariants.{Value, Trapped}
 use Rattle.p3l_base.specs.declared.outcome.TrapKind.TheVariants.{Index}
@@ -58,4 +59,4 @@ pub record IsScanning (tree : Tree) (levels words elem op : ℕ) : Type 0 where
   pub size : ℕ
   pub some_size : 1 ≤ size
   pub sized : words ≡ size * elem
-  pub small : 2 ^ levels * words ≤ 65536
+  pub small : 2 ^ levels * words ≤ most_words

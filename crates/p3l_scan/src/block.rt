@@ -1,7 +1,7 @@
-// What the steps of a plan do with a block: the scan of it, or its halves merged.
+// The steps of a plan on a block: the scan of it, or the merge of its halves.
 
-ghost use Rattle.std.specs.Prelude.{◌≡◌, ◌≤◌, ◌<◌, ◌+◌, ◌*◌, ◌++◌, ℕ, length};
-ghost use Rattle.p3l_base.specs.Memory.{IfGiven};
+ghost use Rattle.std.specs.Prelude.{◌≡◌, ◌≤◌, ◌<◌, ◌+◌, ◌*◌, ◌++◌, ℕ, length, true};
+ghost use Rattle.p3l_base.specs.Memory.{IfGivenOr};
 ghost use Rattle.p3l_skel.specs.Item.{elements, item};
 ghost use Rattle.p3l_skel.specs.Tree.{HasLength};
 ghost use Rattle.p3l_scan.specs.Scan.{in_words, merged, scan};
@@ -12,7 +12,7 @@ use p3l_skel::Units;
 use p3l_skel::laws::keeps_words;
 use std::alloc::Global;
 
-/// What an operator makes of two elements.
+/// Combines two elements.
 fn combine<U: Units>(
     alloc: Global,
     units: &U,
@@ -24,14 +24,15 @@ fn combine<U: Units>(
     requires operator { IsOperator (U.tree units.now) op elem }
     requires left { length left.now ≡ elem }
     requires right { length right.now ≡ elem }
-    ensures combined { IfGiven result (λ outcome. outcome
-        ≡ item (U.tree units.now) (U.leaf units.now) op (left.now ++ right.now)) }
+    ensures combined { IfGivenOr result (λ outcome. outcome
+        ≡ item (U.tree units.now) (U.leaf units.now) op (left.now ++ right.now))
+        (U.may_want ≡ true) }
 {
     let pair = Words::joined(alloc, left, right)?;
     units.run(alloc, op, &pair)
 }
 
-/// The folds of a first half, and then its last one combined with each fold of the second half.
+/// The folds of a first half, and then its last fold combined with each fold of the second half.
 pub(crate) fn merge<U: Units>(
     alloc: Global,
     units: &U,
@@ -43,9 +44,9 @@ pub(crate) fn merge<U: Units>(
     requires operator { IsOperator (U.tree units.now) op elem }
     requires front { HasElements elem front.now }
     requires back { HasElements elem back.now }
-    ensures { IfGiven result (λ outcome. outcome
+    ensures { IfGivenOr result (λ outcome. outcome
         ≡ in_words (merged (item (U.tree units.now) (U.leaf units.now) op)
-        (elements elem front.now) (elements elem back.now))) }
+        (elements elem front.now) (elements elem back.now))) (U.may_want ≡ true) }
 {
     let size = elem as usize;
     let last = &front[front.len() - size..];
@@ -72,9 +73,9 @@ pub(crate) fn scan<U: Units>(
 ) -> Result<Outcome, NoMemory>
     requires operator { IsOperator (U.tree units.now) op elem }
     requires block { HasElements elem block.now }
-    ensures { IfGiven result (λ outcome. outcome
+    ensures { IfGivenOr result (λ outcome. outcome
         ≡ in_words (scan (item (U.tree units.now) (U.leaf units.now) op)
-        (elements elem block.now))) }
+        (elements elem block.now))) (U.may_want ≡ true) }
 {
     let size = elem as usize;
     if block.len() == size {
@@ -105,9 +106,9 @@ pub(crate) fn merge_halves<U: Units>(
 ) -> Result<Outcome, NoMemory>
     requires operator { IsOperator (U.tree units.now) op elem }
     requires block { HasHalves elem block.now }
-    ensures { IfGiven result (λ outcome. outcome
+    ensures { IfGivenOr result (λ outcome. outcome
         ≡ in_words (merged_halves (item (U.tree units.now) (U.leaf units.now) op)
-        (elements elem block.now))) }
+        (elements elem block.now))) (U.may_want ≡ true) }
 {
     let size = elem as usize;
     let (front, back) = block.split_at(block.len() / size / 2 * size);

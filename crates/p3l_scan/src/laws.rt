@@ -8,8 +8,8 @@ ghost use Rattle.p3l_scan.specs.Value.{EndsWithTheFold, IsScan};
 use crate::units::ScanUnits;
 use p3l_skel::Units;
 
-/// What the root of a plan makes of an item is the scan of its elements, or a trap where that is
-/// one; so it doesn't depend on the number of segments.
+/// The root of a plan turns an item into the scan of its elements, or into the trap that the scan comes to;
+/// so its outcome doesn't depend on the number of segments.
 pub fn a_plan_scans<U: Units>(_units: &ScanUnits<U>)
     ensures { IsScan _units.now.levels _units.now.words _units.now.elem
         (step_leaf _units.now.elem

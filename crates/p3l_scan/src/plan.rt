@@ -1,6 +1,7 @@
 // The plan of a scan: a pipe of stages, each a map over blocks.
 
 ghost use Rattle.std.specs.Prelude.{◌≡◌, ◌↔◌, ◌≤◌, ◌*◌, ℕ, IfOk, IfErr, IsTrue};
+ghost use Rattle.p3l_base.specs.Limits.{most_workers};
 ghost use Rattle.p3l_base.specs.Memory.{IfGiven};
 ghost use Rattle.std.specs.Int.{IsPowerOfTwo};
 ghost use Rattle.p3l_skel.specs.Lawful.{IsLawfulTree};
@@ -13,7 +14,7 @@ use p3l_base::NoMemory;
 use p3l_skel::{Counts, Form, Tree};
 use std::alloc::Global;
 
-/// How a scan runs: a pipe of stages, each a map over blocks, with the numbers of blocks.
+/// A pipe of stages, each a map over blocks, with the numbers of blocks.
 ///
 /// The first stage scans each of the `segments` blocks; each later one merges the two halves of its
 /// blocks, which are half as many.
@@ -23,28 +24,28 @@ pub struct ScanPlan {
     pub counts: Counts,
     /// The operator, a node of the tree that is scanned.
     pub op: u32,
-    /// How many words an element has.
+    /// The number of words of an element.
     pub elem: u32,
     pub segments: u32,
 }
 
-/// Whether a number is a power of two.
+/// Tests a number for a power of two.
 fn is_power_of_two(n: u32) -> bool
     ensures { IsTrue result ↔ IsPowerOfTwo n }
 {
     n != 0 && 1 << n.ilog2() == n
 }
 
-/// Whether `segments` is a power of two that divides `len`.
+/// Tests that `segments` is a power of two that divides `len`.
 fn divides(segments: u32, len: u32) -> bool
     ensures { IsTrue result ↔ (IsPowerOfTwo segments × ((size : ℕ) × (len ≡ segments * size))) }
 {
     is_power_of_two(segments) && len % segments == 0
 }
 
-/// Whether the root of a tree can be scanned in `segments` segments.
+/// Tests that the root of a tree can be scanned in `segments` segments.
 pub fn can_scan(tree: &Tree, segments: u32) -> Result<(), ScanRefusal>
-    requires few { segments ≤ 512 }
+    requires few { segments ≤ most_workers }
     ensures can { IfOk result (λ _. IsScannable tree.now segments) }
     ensures refused { IfErr result (IsUnscannable tree.now segments) }
 {

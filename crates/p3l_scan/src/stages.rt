@@ -29,7 +29,7 @@ fn stage_template(levels: u32, stage: usize) -> StageTemplate
 /// A pipe of stages, of which each has half as many blocks as the one before it, and the last has one.
 #[derive(Clone, Copy, Debug, Drop)]
 pub struct StagesTemplate {
-    /// How many stages follow the first.
+    /// The number of stages after the first.
     pub levels: u32,
 }
 

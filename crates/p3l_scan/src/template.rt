@@ -10,7 +10,7 @@ use p3l_base::{List, NoMemory};
 use p3l_template::{Builder, Ports, Template};
 use std::alloc::Global;
 
-/// What a plan places in a net: a pipe of stages, each a map over blocks.
+/// The processes and channels of a plan: a pipe of stages, each a map over blocks.
 #[derive(Debug, Drop)]
 pub struct ScanTemplate {
     pub plan: ScanPlan,

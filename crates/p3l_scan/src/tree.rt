@@ -1,6 +1,7 @@
 // The tree of a plan, and its numbers of blocks.
 
 ghost use Rattle.std.specs.Prelude.{◌≡◌, ◌≤◌, ◌+◌, ◌*◌, ◌^◌, [], ◌∷◌, ◌++◌, None};
+ghost use Rattle.p3l_base.specs.Limits.{most_words};
 ghost use Rattle.p3l_base.specs.Memory.{IfGiven, OnGiven};
 ghost use Rattle.p3l_scan.specs.Plan.{blocks_cut, blocks_slice, counts_of, infos_of, main_info, numbers_of, plan_tree, root_of, stage_of, stages_from, step_of};
 
@@ -11,7 +12,7 @@ use std::alloc::Global;
 /// The tree of a plan in which `levels` stages follow the first, whose blocks have `words` words.
 pub(crate) fn plan_tree(alloc: Global, levels: u32, words: u32) -> Result<Tree, NoMemory>
     requires few { levels ≤ 9 }
-    requires small { 2 ^ levels * words ≤ 65536 }
+    requires small { 2 ^ levels * words ≤ most_words }
     ensures { IfGiven result (λ tree. tree ≡ plan_tree levels words) }
 {
     let mut nodes = List::new(alloc);
@@ -42,7 +43,7 @@ pub(crate) fn power_of_two(exponent: u32) -> u32
 /// The root: all stages in order.
 fn root(alloc: Global, levels: u32, words: u32) -> Result<Node, NoMemory>
     requires few { levels ≤ 9 }
-    requires small { 2 ^ levels * words ≤ 65536 }
+    requires small { 2 ^ levels * words ≤ most_words }
     ensures { IfGiven result (λ node. node ≡ root_of levels words) }
 {
     let mut parts = List::new(alloc);
@@ -93,7 +94,7 @@ fn add_stages(
     words: u32,
 ) -> Result<(), NoMemory>
     requires there { stage + more ≤ 9 }
-    requires small { 2 ^ more * words ≤ 65536 }
+    requires small { 2 ^ more * words ≤ most_words }
     ensures { OnGiven result (nodes.new ≡ nodes.old ++ stages_from stage more words) }
 {
     nodes.push(map_node(alloc, stage, power_of_two(more), words)?)?;
@@ -107,7 +108,7 @@ fn add_stages(
 /// A stage: a map over `blocks` blocks of `words` words.
 fn map_node(alloc: Global, stage: u32, blocks: u32, words: u32) -> Result<Node, NoMemory>
     requires low { stage ≤ 9 }
-    requires small { blocks * words ≤ 65536 }
+    requires small { blocks * words ≤ most_words }
     ensures { IfGiven result (λ node. node ≡ stage_of stage blocks words) }
 {
     let cut = blocks_cut(alloc, blocks, words)?;

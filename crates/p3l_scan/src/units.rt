@@ -1,7 +1,7 @@
 // The units of a plan: its steps, by the operator of the tree that is scanned.
 
-ghost use Rattle.std.specs.Prelude.{◌≡◌, ◌≤◌, ◌-◌, ◌*◌, ◌^◌, length, map, IfOk};
-ghost use Rattle.p3l_base.specs.Memory.{IfGiven};
+ghost use Rattle.std.specs.Prelude.{◌≡◌, ◌≤◌, ◌-◌, ◌*◌, ◌^◌, length, map, true, IfOk};
+ghost use Rattle.p3l_base.specs.Memory.{IfGiven, IfGivenOr};
 ghost use Rattle.p3l_skel.specs.Item.{item, pieces};
 ghost use Rattle.p3l_skel.specs.Lawful.{IsLawfulTree};
 ghost use Rattle.p3l_skel.specs.Tree.{node_at};
@@ -40,7 +40,7 @@ impl<U: Units> Model for ScanUnits<U> {
     ghost invariant = { λ it. IsScanning (U.tree it.inner) it.levels it.words it.elem it.op };
 }
 
-/// How many words an item of a tree has.
+/// The number of words of an item of a tree.
 fn root_words(tree: &Tree) -> u32
     ensures { result ≡ (node_at tree.now 0).ins }
 {
@@ -69,7 +69,7 @@ impl<U: Units> ScanUnits<U> {
         })
     }
 
-    /// What the units keep.
+    /// States the invariant of the units.
     pub(crate) fn look(&self)
         ensures { IsScanning (U.tree self.now.inner) self.now.levels self.now.words self.now.elem
             self.now.op }
@@ -77,14 +77,14 @@ impl<U: Units> ScanUnits<U> {
         let _levels = self.levels;
     }
 
-    /// What the step of stage `stage` makes of a block.
+    /// Runs the step of stage `stage` on a block.
     fn step(&self, alloc: Global, stage: u32, block: &[i64]) -> Result<Outcome, NoMemory>
         requires there { stage ≤ self.now.levels }
         requires fits { length block.now ≡ 2 ^ stage * self.now.words }
-        ensures { IfGiven result (λ outcome. outcome
+        ensures { IfGivenOr result (λ outcome. outcome
             ≡ step_leaf self.now.elem
             (item (U.tree self.now.inner) (U.leaf self.now.inner) self.now.op) (step_node stage)
-            block.now) }
+            block.now) (U.may_want ≡ true) }
     {
         if stage == 0 {
             scan(alloc, &self.inner, self.op, self.elem, block)
@@ -94,7 +94,7 @@ impl<U: Units> ScanUnits<U> {
     }
 }
 
-/// What the step of stage `stage` makes of `blocks` blocks of `size` words, in a row.
+/// Runs the step of stage `stage` on `blocks` blocks of `size` words, one after the other.
 ///
 /// A net runs the steps of a stage on its own processes; this runs them one after the other.
 fn row_outcome<U: Units>(
@@ -108,10 +108,10 @@ fn row_outcome<U: Units>(
     requires there { stage ≤ units.now.levels }
     requires size { size ≡ 2 ^ stage * units.now.words }
     requires fits { length words.now ≡ blocks * size }
-    ensures { IfGiven result (λ outcome. outcome
+    ensures { IfGivenOr result (λ outcome. outcome
         ≡ in_row (map (step_leaf units.now.elem
         (item (U.tree units.now.inner) (U.leaf units.now.inner) units.now.op) (step_node stage))
-        (pieces blocks size words.now))) }
+        (pieces blocks size words.now))) (U.may_want ≡ true) }
 {
     if blocks == 0 {
         return Ok(Outcome::Value(Words::new(alloc)));
@@ -123,14 +123,15 @@ fn row_outcome<U: Units>(
 }
 
 impl<U: Units> ScanUnits<U> {
-    /// What stage `stage` makes of words.
+    /// Runs stage `stage` on words.
     fn stage(&self, alloc: Global, stage: u32, words: &[i64]) -> Result<Outcome, NoMemory>
         requires there { stage ≤ self.now.levels }
         requires fits { length words.now ≡ 2 ^ (self.now.levels - stage) * (2 ^ stage * self.now.words) }
-        ensures { IfGiven result (λ outcome. outcome
+        ensures { IfGivenOr result (λ outcome. outcome
             ≡ in_row (map (step_leaf self.now.elem
             (item (U.tree self.now.inner) (U.leaf self.now.inner) self.now.op) (step_node stage))
-            (pieces (2 ^ (self.now.levels - stage)) (2 ^ stage * self.now.words) words.now))) }
+            (pieces (2 ^ (self.now.levels - stage)) (2 ^ stage * self.now.words) words.now)))
+            (U.may_want ≡ true) }
     {
         let blocks = power_of_two(self.levels - stage);
         let size = power_of_two(stage) * self.words;
@@ -147,6 +148,8 @@ impl<U: Units> Units for ScanUnits<U> {
     ghost tree = { λ s. plan_tree s.levels s.words };
 
     ghost leaf = { λ s. step_leaf s.elem (item (U.tree s.inner) (U.leaf s.inner) s.op) };
+
+    ghost may_want = { U.may_want };
 
     ghost gives_outs = { λ s. gives_outs s.levels s.words s.elem
         (item (U.tree s.inner) (U.leaf s.inner) s.op) };

@@ -1,4 +1,4 @@
--- Each firing of a spread net is a firing of the whole net in one of its ways, so a run of it keeps what every run keeps.
+-- Each firing of a spread net is a firing of the whole net in one of its ways, so a spread run has the invariants of every run.
 use Rattle.std.proofs.Common.{◌≡◌, ℕ, ℤ, zero, suc, ◌≤◌, ◌<◌, inl, inr, true, not, ◌&&◌, List, [], ◌∷◌, ◌++◌, length, map, refl, sym, ap, ap₂, ◌∙◌, subst, arith, le_refl, lt-ltb, ltb-true, length-append}
 use Rattle.std.proofs.lemmas.Bool.{cases_Bool}
 use Rattle.std.proofs.lemmas.List.{append-nil, length-map}
@@ -18,9 +18,10 @@ use Rattle.p3l_firing.specs.Run.{Course}
 use Rattle.p3l_firing.specs.State.{State, has_room, first_state}
 use Rattle.p3l_firing.specs.Token.{has_trap}
 use Rattle.p3l_firing.specs.Ways.{eyes_of, Knows}
-use Rattle.p3l_firing.proofs.CarriedLaw.{IsKeptBy, carried_first, carried_way, carried_begins, carried_bounded, carried_sent, carried_finished}
+use Rattle.p3l_firing.proofs.CarriedLaw.{first_orderly, carried_begins, carried_bounded, carried_sent, carried_finished}
 use Rattle.p3l_firing.proofs.Fitting.{fitting_at_first}
 use Rattle.p3l_firing.proofs.FittingWays.{fitting_way}
+use Rattle.p3l_firing.proofs.OrderlyLaw.{IsKeptFrom, kept_first, kept_way}
 use Rattle.p3l_firing.proofs.WaysLaw.{sees_more, fire_is_a_way}
 use Rattle.p3l_firing.proofs.row.{fitting_first}
 use Rattle.p3l_firing.specs.Typed.{IsTyped, IsFitting}
@@ -43,7 +44,7 @@ net_begins tree net items typed = record {
   };
 }
 
--- WHAT IS KNOWN STAYS SO
+-- VIEWS STAY TRUE
 fires_sound : (tree : Tree) (leaf : Leaf) (net : Net) (d e : Spread) → IsSound net d → Fires tree leaf net d e → IsSound net e
 fires_sound tree leaf net d e k f = record {
   seen = λ c.
@@ -67,7 +68,7 @@ learns_sound net d e l = record {
 pub stays_sound : EveryStepStaysSound
 stays_sound tree leaf net d e k step = elim step [ inl f ↦ fires_sound tree leaf net d e k f | inr l ↦ learns_sound net d e l ]
 
--- WHAT IS KNOWN IS SO
+-- VIEWS ARE TRUE
 some_first : (ts : List Token) → 0 < length ts → has_first ts ≡ true
 some_first [] l = absurd (omega arith)
 some_first (t ∷ ts) l = refl
@@ -86,7 +87,7 @@ view_known net d k = record {
 pub view_true : EveryViewIsTrue
 view_true tree leaf net d p t k way = sees_more tree leaf net (view d) (eyes_of net d.state) (view_known net d k) d.state p t way
 
--- WHERE ALL IS QUIET
+-- QUIET NETS
 quiet_known : (tree : Tree) (leaf : Leaf) (net : Net) (d : Spread) → IsQuiet tree leaf net d → Knows (eyes_of net d.state) (view d)
 unfolding has_room
 quiet_known tree leaf net d q = record {
@@ -112,7 +113,7 @@ quiet_stuck tree leaf net d q = λ p.
     ]
 
 -- RUNS
--- a spread net as a run by picks sees it
+-- a spread net as a point of a run by picks
 abbrev course : Spread → Course
 course d = record { state = d.state; fired = d.fired; idle = 0 }
 
@@ -143,17 +144,18 @@ trap_stuck tree net s trap = λ p. ap (λ b. not b && is_ready tree net s p) tra
 
 module _ (tree : Tree) (leaf : Leaf) (net : Net) (most : ℕ) (carry : Carry) (laws : IsCarried tree leaf net most carry)
     (items : List (List ℤ)) (long : HaveInWords tree items) where
-  -- what every spread run keeps
+  -- the invariant of spread runs
   record IsKept (d : Spread) : Type 0 where
     sound : IsSound net d
-    kept : IsKeptBy tree leaf most carry items (course d)
+    kept : IsKeptFrom tree leaf most carry (first_state net items) (course d)
 
   begun_kept : (d : Spread) → IsBegun net items d → IsKept d
   begun_kept d b = record {
     sound = b.sound;
-    kept = subst (IsKeptBy tree leaf most carry items)
+    kept = subst (IsKeptFrom tree leaf most carry (first_state net items))
         (sym (ap₂ (λ s n. record { state = s; fired = n; idle = 0 }) b.state b.fired))
-        (carried_first tree leaf net most carry laws items long);
+        (kept_first tree leaf net most carry laws (first_state net items)
+        (first_orderly tree leaf net most carry laws items long));
   }
 
   step_kept : (d e : Spread) → IsKept d → Step tree leaf net d e → IsKept e
@@ -161,11 +163,12 @@ module _ (tree : Tree) (leaf : Leaf) (net : Net) (most : ℕ) (carry : Carry) (l
     sound = stays_sound tree leaf net d e k.sound step;
     kept = elim step [
       | inl f ↦
-          subst (λ n. IsKeptBy tree leaf most carry items (record { state = e.state; fired = n; idle = 0 })) (sym f.count)
-          (carried_way tree leaf net most carry laws items long (course d) f.by e.state k.kept
+          subst (λ n. IsKeptFrom tree leaf most carry (first_state net items) (record { state = e.state; fired = n; idle = 0 }))
+          (sym f.count)
+          (kept_way tree leaf net most carry laws (first_state net items) (course d) f.by e.state k.kept
           (view_true tree leaf net d f.by e.state k.sound f.way))
       | inr l ↦
-          subst (IsKeptBy tree leaf most carry items)
+          subst (IsKeptFrom tree leaf most carry (first_state net items))
           (sym (ap₂ (λ s n. record { state = s; fired = n; idle = 0 }) l.state l.fired)) k.kept
     ];
   }

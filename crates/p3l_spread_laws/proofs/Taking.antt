@@ -1,5 +1,5 @@
--- Every way that is open to a process of a typed net, by what its place knows, can be taken: the tokens that it takes were seen,
--- and for those that it appends room was known.
+-- Every way that is open to a process of a typed net by its rank's view can be taken: the tokens that it takes were seen, and there
+-- is credit for those that it appends.
 use Rattle.std.proofs.Common.{◌≡◌, ◌≢◌, ℕ, ◌+◌, ◌-◌, ◌≤◌, ◌<◌, nat_lt, inl, inr, ◌&&◌, Bool, true, List, [], ◌∷◌, ◌++◌, length, Option, Some, None, slice_get, slice_index, refl, sym, ap, ◌∙◌, subst, arith, ltb-true, length-append, append_assoc, append-nil}
 use Rattle.std.proofs.lemmas.Bool.{cases_Bool, cases_eq, cond-true, cond-false, and_parts}
 use Rattle.p3l_skel.specs.declared.tree.Tree.{Tree}
@@ -36,7 +36,7 @@ use Rattle.p3l_firing.proofs.WaysLaw.{ways_at, no_way}
 use Rattle.p3l_spread_laws.specs.Laws.{IsTaken, EveryWayCanBeTaken}
 use Rattle.p3l_spread_laws.specs.Spread.{Spread, IsSound, view, Shifts}
 
--- a token taken, and one appended
+-- the net with a token taken, and with one appended
 unfoldable popped : Spread → ℕ → Spread
 popped d a = record { state = pop d.state a; seen = at d.seen a (d.seen a - 1); credit = d.credit; fired = d.fired }
 
@@ -140,7 +140,7 @@ second_of_two : (b c : Bool) → (b && c) ≡ true → c ≡ true
 second_of_two b c h = (and_parts b c h).1
 
 module _ (tree : Tree) (leaf : Leaf) (net : Net) (typed : IsTyped tree net) (d : Spread) (sound : IsSound net d) (p : ℕ) where
-  -- the firing from d to state t, in which these channels changed so
+  -- the firing from d to state t, which shifts the channels from d to e
   done : (t : State) (e : Spread) → Sees tree leaf net (view d) d.state p t → ((c : ℕ) → Shifts d e c) →
       ((c : ℕ) → t.tokens c ≡ e.state.tokens c) → IsTaken tree leaf net d t
   done t e way h same = record {

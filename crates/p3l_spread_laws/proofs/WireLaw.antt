@@ -1,4 +1,4 @@
--- A net with its messages is a spread net: each of its steps is one, and where it is idle all is quiet.
+-- A net with its messages is a spread net: each of its steps is a step of that, and it is quiet where the messages are idle.
 use Rattle.std.proofs.Common.{◌≡◌, ℕ, ℤ, zero, suc, ◌≤◌, ◌⊎◌, inl, inr, List, ◌++◌, length, sym, ap, ◌∙◌, arith, length-append, append_assoc}
 use Rattle.p3l_skel.specs.declared.tree.Tree.{Tree}
 use Rattle.p3l_ready.proofs.AtLemmas.{same_function}
@@ -94,7 +94,7 @@ module _ (tree : Tree) (leaf : Leaf) (net : Net) (items : List (List ℤ)) (at :
 pub wired_spread : EveryWiredRunIsSpread
 wired_spread tree leaf net items at n r = run_spread tree leaf net items at n r
 
--- where nothing is on its way
+-- an idle net is quiet
 pub idle_quiet : IdleMeansQuiet
 idle_quiet tree leaf net items at n r idle =
     delivered_quiet tree leaf net (spread_of (at n))

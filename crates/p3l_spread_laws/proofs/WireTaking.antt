@@ -12,7 +12,7 @@ use Rattle.p3l_spread_laws.specs.Spread as spread
 use Rattle.p3l_spread_laws.specs.Wire.{Wired, spread_of}
 use Rattle.p3l_spread_laws.proofs.Taking.{way_taken}
 
--- what was taken of a ring and what is on the way was taken of the ring
+-- tokens taken of a ring with what is in flight behind it are tokens of the ring
 parted : (ring flight taken kept : List Token) → ring ++ flight ≡ taken ++ kept → length taken ≤ length ring →
     (ring ≡ taken ++ drop (length taken) ring) × (drop (length taken) ring ++ flight ≡ kept)
 parted ring flight [] kept e l = (refl, e)

@@ -1,4 +1,4 @@
--- The laws of spread nets: those of runs by picks, whatever the delays.
+-- The laws of spread nets: those of runs by picks, however late messages come.
 use Rattle.std.specs.Prelude.{◌≡◌, ℕ, ℤ, ◌*◌, ◌≤◌, true, List, length}
 use Rattle.p3l_skel.specs.declared.tree.Tree.{Tree}
 use Rattle.p3l_skel.specs.Item.{meaning}
@@ -24,12 +24,12 @@ abbrev pub EveryTypedNetBegins : Type 0
 EveryTypedNetBegins =
     (tree : Tree) (net : Net) (items : List (List ℤ)) → IsTyped tree net → IsBegun net items (begun net items)
 
--- what is known stays so
+-- each step keeps the views true
 abbrev pub EveryStepStaysSound : Type 0
 EveryStepStaysSound =
     (tree : Tree) (leaf : Leaf) (net : Net) (d e : Spread) → IsSound net d → Step tree leaf net d e → IsSound net e
 
--- a way that is open by what a place knows is one of the whole net
+-- a way that is open by a rank's view is a way of the whole net
 abbrev pub EveryViewIsTrue : Type 0
 EveryViewIsTrue =
     (tree : Tree) (leaf : Leaf) (net : Net) (d : Spread) (p : ℕ) (t : State) → IsSound net d →
@@ -41,18 +41,19 @@ pub record IsTaken (tree : Tree) (leaf : Leaf) (net : Net) (d : Spread) (t : Sta
   pub state : to.state ≡ t
   pub fires : Fires tree leaf net d to
 
--- in a typed net every way that is open by what a place knows can be taken: the tokens were seen, and room was known
+-- in a typed net every way that is open by a rank's view can be taken: its tokens were seen, and there is credit for what it appends
 abbrev pub EveryWayCanBeTaken : Type 0
 EveryWayCanBeTaken =
     (tree : Tree) (leaf : Leaf) (net : Net) (typed : IsTyped tree net) (d : Spread) (p : ℕ) (t : State) → IsSound net d →
     Sees tree leaf net (view d) d.state p t → IsTaken tree leaf net d t
 
--- where all is quiet, nothing can fire in the whole net
+-- in a quiet net nothing can fire in the whole net
 abbrev pub QuietMeansStuck : Type 0
 QuietMeansStuck = (tree : Tree) (leaf : Leaf) (net : Net) (d : Spread) → IsQuiet tree leaf net d → IsStuck tree net d.state
 
--- what has been emitted begins the meaning of the items; no more firings than are said for each item sent, and no more items than
--- there are; and all is emitted where as many outcomes were as there are items, where a trap was, or where all is quiet
+-- the outcomes emitted are a prefix of the items' meaning; each item sent takes at most `most` firings, and no more items are sent than
+-- there are. The prefix is the whole meaning once it has as many outcomes as there are items, once it ends with a trap, and once the
+-- net is quiet
 pub record Means (tree : Tree) (leaf : Leaf) (net : Net) (most : ℕ) (items : List (List ℤ)) (d : Spread) : Type 0 where
   pub begins : IsPrefixOf d.state.emitted (meaning tree leaf items)
   pub bounded : d.fired ≤ most * d.state.sent
@@ -61,21 +62,21 @@ pub record Means (tree : Tree) (leaf : Leaf) (net : Net) (most : ℕ) (items : L
   pub trapped : has_trap d.state.emitted ≡ true → d.state.emitted ≡ meaning tree leaf items
   pub finished : IsQuiet tree leaf net d → d.state.emitted ≡ meaning tree leaf items
 
--- where nothing is on its way, and no process has a way to fire by what its place knows, all is quiet
+-- a net with no message in flight is quiet if no process has a way to fire by its rank's view
 abbrev pub DeliveredMeansQuiet : Type 0
 DeliveredMeansQuiet =
     (tree : Tree) (leaf : Leaf) (net : Net) (d : Spread) → IsDelivered net d →
     ((p : ℕ) (t : State) → Sees tree leaf net (view d) d.state p t → ⊥) → IsQuiet tree leaf net d
 
--- in a typed net every token of a spread run has the words and the tags of its channel, and no channel has more tokens than its room,
--- wherever they are
+-- in a typed net every token of a spread run has the words and the tags of its channel, and no channel has more tokens than its
+-- capacity, with those in flight
 abbrev pub EverySpreadRunFits : Type 0
 EverySpreadRunFits =
     (tree : Tree) (leaf : Leaf) (net : Net) (typed : IsTyped tree net) (items : List (List ℤ)) (at : ℕ → Spread) (n : ℕ) →
     GivesOuts tree leaf → HaveInWords tree items → IsRun tree leaf net items at n →
     IsFitting tree net typed.widths (at n).state
 
--- a linked net is carried, so it is so of each
+-- the same of linked nets, which are carried
 abbrev pub EveryLinkedSpreadRunMeansItsItems : Type 0
 EveryLinkedSpreadRunMeansItsItems =
     (units : Units) (counts : List ℕ) (cap : ℕ) (items : List (List ℤ)) (at : ℕ → Spread) (n : ℕ) → IsLinkable units counts cap →
@@ -88,7 +89,7 @@ EverySpreadRunMeansItsItems =
     IsCarried tree leaf net most carry → HaveInWords tree items → IsRun tree leaf net items at n →
     Means tree leaf net most items (at n)
 
--- a net with its messages is a spread net
+-- a run with its messages is a spread run
 abbrev pub EveryWiredRunIsSpread : Type 0
 EveryWiredRunIsSpread =
     (tree : Tree) (leaf : Leaf) (net : Net) (items : List (List ℤ)) (at : ℕ → Wired) (n : ℕ) →
@@ -106,13 +107,13 @@ EveryWireCanTake =
     (tree : Tree) (leaf : Leaf) (net : Net) (typed : IsTyped tree net) (w : Wired) (p : ℕ) (t : State) → IsExact net w →
     Sees tree leaf net (view (spread_of w)) (spread_of w).state p t → IsWireTaken tree leaf net w t
 
--- where no place can do anything, and nothing is on its way, all is quiet
+-- a net in which no rank can fire and no message is in flight is quiet
 abbrev pub IdleMeansQuiet : Type 0
 IdleMeansQuiet =
     (tree : Tree) (leaf : Leaf) (net : Net) (items : List (List ℤ)) (at : ℕ → Wired) (n : ℕ) →
     IsWiredRun tree leaf net items at n → IsIdle tree leaf net (at n) → IsQuiet tree leaf net (spread_of (at n))
 
--- so what is said of a linked net that is spread is so of it with its messages
+-- so a linked net with its messages means its items
 abbrev pub EveryLinkedWiredRunMeansItsItems : Type 0
 EveryLinkedWiredRunMeansItsItems =
     (units : Units) (counts : List ℕ) (cap : ℕ) (items : List (List ℤ)) (at : ℕ → Wired) (n : ℕ) → IsLinkable units counts cap →

@@ -1,3 +1,4 @@
 pub mod Spread
 pub mod Wire
 pub mod Laws
+pub mod Examples

@@ -1,5 +1,5 @@
--- Nets whose processes are spread over several places that share no memory. A place knows a channel only with delay: its reader sees
--- the tokens that have arrived, and its writer counts on the room of which it was told.
+-- Nets whose processes run on several ranks that share no memory. A rank learns of the other ranks' firings late: the reader of
+-- a channel sees the tokens that have arrived, and its writer counts on the room that it was told of, its credit.
 use Rattle.std.specs.Prelude.{◌≡◌, ℕ, ℤ, suc, ◌+◌, ◌-◌, ◌≤◌, ◌<◌, nat_lt, ◌⊎◌, List, ◌++◌, length}
 use Rattle.p3l_skel.specs.declared.tree.Tree.{Tree}
 use Rattle.p3l_firing.specs.declared.net.Net.{Net}
@@ -8,24 +8,24 @@ use Rattle.p3l_firing.specs.Nodes.{Leaf}
 use Rattle.p3l_firing.specs.State.{State, chan_at, at_first, first_state}
 use Rattle.p3l_firing.specs.Ways.{Eyes, Sees}
 
--- the state of the whole net, the tokens on their way with those of their channel; of each channel how many of its tokens have arrived,
--- and of how much room its writer knows; and how often processes fired
+-- the state of the whole net, in which a token in flight is in its channel; for each channel the number of its tokens that have
+-- arrived, and its writer's credit; and the number of firings
 pub record Spread : Type 0 where
   pub state : State
   pub seen : ℕ → ℕ
   pub credit : ℕ → ℕ
   pub fired : ℕ
 
--- what is known is so: no token is seen that is not there, and no room is counted on that is not there
+-- each view is true: a reader sees no more tokens than there are, and a writer counts on no more room than there is
 pub record IsSound (net : Net) (d : Spread) : Type 0 where
   pub seen : (c : ℕ) → d.seen c ≤ length (d.state.tokens c)
   pub credit : (c : ℕ) → d.credit c + length (d.state.tokens c) ≤ (chan_at net c).cap
 
--- what the places see
+-- what the ranks know of the channels
 abbrev pub view : Spread → Eyes
 view d = record { fronts = λ c. nat_lt 0 (d.seen c); rooms = λ c. nat_lt 0 (d.credit c) }
 
--- a firing takes the first tokens of channel c, of those that were seen, and appends others, for which room was known
+-- a firing takes the first tokens of channel c, which were seen, and appends others, for which it spends credit
 pub record Shifts (d e : Spread) (c : ℕ) : Type 0 where
   pub taken : List Token
   pub kept : List Token
@@ -35,14 +35,14 @@ pub record Shifts (d e : Spread) (c : ℕ) : Type 0 where
   pub seen : e.seen c + length taken ≡ d.seen c
   pub credit : e.credit c + length given ≡ d.credit c
 
--- a process fires, in a way that is open to it by what its place knows
+-- a process fires, in a way that is open to it by its rank's view
 pub record Fires (tree : Tree) (leaf : Leaf) (net : Net) (d e : Spread) : Type 0 where
   pub by : ℕ
   pub way : Sees tree leaf net (view d) d.state by e.state
   pub shifts : (c : ℕ) → Shifts d e c
   pub count : e.fired ≡ d.fired + 1
 
--- tokens arrive, in their order, and room is told of; in any number, and of any channels
+-- messages arrive: tokens in their order, and credit for room; any number of each, of any channels
 pub record Learns (net : Net) (d e : Spread) : Type 0 where
   pub state : e.state ≡ d.state
   pub fired : e.fired ≡ d.fired
@@ -54,13 +54,13 @@ pub record Learns (net : Net) (d e : Spread) : Type 0 where
 abbrev pub Step : Tree → Leaf → Net → Spread → Spread → Type 0
 Step tree leaf net d e = Fires tree leaf net d e ⊎ Learns net d e
 
--- nothing has fired, and what is known is so
+-- nothing has fired, and each view is true
 pub record IsBegun (net : Net) (items : List (List ℤ)) (d : Spread) : Type 0 where
   pub state : d.state ≡ first_state net items
   pub fired : d.fired ≡ 0
   pub sound : IsSound net d
 
--- a beginning: each reader sees what its channel begins with, and each writer knows of all room that this leaves
+-- a beginning: each reader sees the tokens that its channel begins with, and each writer has credit for all other room
 abbrev pub begun : Net → List (List ℤ) → Spread
 begun net items =
     record {
@@ -70,19 +70,19 @@ begun net items =
       fired = 0;
     }
 
--- n steps of a spread net, from the beginning on, whatever comes when
+-- n steps of a spread net from a beginning on, in which messages may come at any time
 pub record IsRun (tree : Tree) (leaf : Leaf) (net : Net) (items : List (List ℤ)) (at : ℕ → Spread) (n : ℕ) : Type 0 where
   pub begun : IsBegun net items (at 0)
   pub steps : (i : ℕ) → i < n → Step tree leaf net (at i) (at (suc i))
 
--- no process has a way to fire by what its place knows; and where a token is, one has arrived, and where room is, its writer knows of
--- some: so it is where nothing is on its way, neither tokens nor word of room
+-- quiescence: no process has a way to fire by its rank's view; a channel with tokens has one that has arrived, and the writer of a
+-- channel with room has some credit. It follows where no message is in flight and no process has a way
 pub record IsQuiet (tree : Tree) (leaf : Leaf) (net : Net) (d : Spread) : Type 0 where
   pub none : (p : ℕ) (t : State) → Sees tree leaf net (view d) d.state p t → ⊥
   pub arrived : (c : ℕ) → 0 < length (d.state.tokens c) → 0 < d.seen c
   pub told : (c : ℕ) → length (d.state.tokens c) < (chan_at net c).cap → 0 < d.credit c
 
--- nothing is on its way
+-- no message is in flight
 pub record IsDelivered (net : Net) (d : Spread) : Type 0 where
   pub tokens : (c : ℕ) → d.seen c ≡ length (d.state.tokens c)
   pub rooms : (c : ℕ) → d.credit c + length (d.state.tokens c) ≡ (chan_at net c).cap

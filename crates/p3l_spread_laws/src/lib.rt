@@ -1,13 +1,14 @@
-//! Runs of nets whose processes are spread over several places, which know the channels between them only with delay:
-//! laws alone.
+//! Laws of runs on several ranks that share no memory, each of which learns of the other ranks'
+//! firings late. Each law is the contract of a function that does nothing.
 #![tactic(auto)]
 
+ghost use Rattle.p3l_spread_laws.specs.Examples.{FarmValues, LoopValues, WireValues};
 ghost use Rattle.p3l_spread_laws.specs.Laws.{DeliveredMeansQuiet, EveryLinkedSpreadRunMeansItsItems, EveryLinkedWiredRunMeansItsItems, EverySpreadRunFits, EverySpreadRunMeansItsItems, EveryStepStaysSound, EveryTypedNetBegins, EveryViewIsTrue, EveryWayCanBeTaken, EveryWireCanTake, EveryWiredRunIsSpread, IdleMeansQuiet, QuietMeansStuck};
 
-/// What the places know is so at every step, and what they do by it is a way to fire of the whole net, and
-/// can be done there. Where no place can do
-/// anything, and nothing is on its way, nothing can fire in the whole net.
-pub fn what_is_known_is_so()
+/// A rank's view of its channels is true at every step. Each way to fire by a view is a way of the
+/// whole net, and can be taken. Once all messages have arrived and no rank can fire by its view,
+/// nothing can fire in the whole net.
+pub fn views_are_sound()
     ensures begins { EveryTypedNetBegins }
     ensures sound { EveryStepStaysSound }
     ensures ways { EveryViewIsTrue }
@@ -16,20 +17,28 @@ pub fn what_is_known_is_so()
     ensures quiet { QuietMeansStuck }
 {}
 
-/// Whatever the delays, what a carried net that is spread has emitted begins the meaning of the items, with the same bound
-/// on its firings; and it is the whole where as many outcomes were emitted as there are items, where a trap was emitted, or
-/// where all is quiet.
-pub fn a_spread_net_means_its_items()
+/// A spread run of a carried net emits a prefix of the items' meaning, however late messages come,
+/// and its firings have the same bound as those of any run. The prefix is the whole meaning once as
+/// many outcomes were emitted as there are items, once a trap was emitted, and once the net is
+/// quiet.
+pub fn spread_runs_mean_their_items()
     ensures carried { EverySpreadRunMeansItsItems }
     ensures linked { EveryLinkedSpreadRunMeansItsItems }
     ensures words { EverySpreadRunFits }
 {}
 
-/// The same of nets with their messages: where the tokens of a channel are with its reader's place or on their way there, and the
-/// room that they left is known to its writer's place or on its way there.
-pub fn a_wired_net_is_a_spread_net()
+/// A run with its messages is a spread run: each token of a channel is in its reader's buffer or in
+/// flight, and the room of each token that was taken is in its writer's credit or on its way back.
+pub fn wired_runs_are_spread_runs()
     ensures spread { EveryWiredRunIsSpread }
     ensures taken { EveryWireCanTake }
     ensures idle { IdleMeansQuiet }
     ensures linked { EveryLinkedWiredRunMeansItsItems }
+{}
+
+/// Steps of small nets that were worked out by hand are those of the definitions.
+pub fn gives_hand_values()
+    ensures farm { FarmValues }
+    ensures loops { LoopValues }
+    ensures wires { WireValues }
 {}

@@ -95,7 +95,7 @@ impl Builder {
         Ok(numbers)
     }
 
-    /// How many channels there are.
+    /// The number of channels.
     pub fn channel_count(&self) -> usize
         ensures { result ≡ length self.now.chans }
     {

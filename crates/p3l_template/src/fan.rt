@@ -1,4 +1,4 @@
-// Workers side by side between two processes of their node: what a farm and a map place alike.
+// Workers side by side between two processes of their node, as in a farm and in a map.
 
 ghost use Rattle.std.specs.Prelude.{◌≡◌, ◌+◌, IfOk, replicate};
 ghost use Rattle.p3l_base.specs.Memory.{IfGiven};
@@ -18,9 +18,9 @@ use std::alloc::Global;
 pub struct Fan {
     pub node: u32,
     pub workers: u32,
-    /// What the process does that hands on to the workers.
+    /// The kind of the process before the workers.
     pub first: ProcKind,
-    /// What the process does that takes from them.
+    /// The kind of the process after the workers.
     pub last: ProcKind,
 }
 

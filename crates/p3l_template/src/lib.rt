@@ -1,5 +1,5 @@
-//! Templates: what a node of the tree places in a net, over any inner parts, and the law that each
-//! of them must satisfy for the linker.
+//! Templates: the processes and channels that a node of the tree places in a net, round any inner
+//! parts, and the law that each template must satisfy for the linker.
 #![tactic(auto)]
 
 pub mod builder;

@@ -1,4 +1,4 @@
-// What every template does, and what it must satisfy.
+// Templates: the calls of each, and the laws that it satisfies.
 
 ghost use Rattle.std.specs.Prelude.{◌≡◌, ℕ, ◌≤◌, ◌<◌, length, IfOk};
 ghost use Rattle.p3l_base.specs.Memory.{IfGiven};
@@ -20,9 +20,9 @@ pub struct Ports {
     pub output: u32,
 }
 
-/// What a node of the tree places in a net.
+/// The processes and channels that a node of the tree places in a net.
 pub trait Template {
-    /// What it places, over any inner parts.
+    /// Its processes and channels, round any inner parts.
     ghost shape: { Self → Shape };
 
     /// Its numbers are in range.
@@ -53,7 +53,7 @@ pub trait Template {
     /// Placed round lawful parts, it is a lawful part.
     ghost lawful: { (t : Self) → is_fit t → IsLawfulShape (shape t) };
 
-    /// For such a node its processes fit between channels of the words and tags that it says.
+    /// For such a node its processes fit between channels of the words and tags that `widths` says.
     ghost typed: { (t : Self) (tree : Tree) (node : ℕ) → serves t tree node → IsTypedShape tree node (shape t) };
 }
 

@@ -17,12 +17,12 @@ Constants = List (List ℕ × ℤ)
 abbrev pub constant_of : Constants → List ℕ → Option ℤ
 constant_of constants name = lookup (bytes_eq name) constants
 
--- where a number is
+-- the position of a number
 abbrev pub place_of : Num → Pos
 place_of (Digits value place) = place
 place_of (Named spot) = spot.pos
 
--- what a number stands for: itself, or the constant of its name, which must be there
+-- the value of a number: itself, or the constant of its name, which must be there
 abbrev pub number_of : Constants → Num → Result ℤ SourceRefusal
 number_of constants (Digits value place) = Ok value
 number_of constants (Named spot) = option_map_or Ok (constant_of constants spot.name) (Err (At UnknownName spot.pos))

@@ -1,4 +1,4 @@
--- What rules say of a source text: that they are kept, or a fault and its place.
+-- Verdicts of rules on a source text: kept, or a fault and its place.
 use Rattle.std.specs.Prelude.{◌≡◌, Bool, List, [], ◌∷◌, Result, Ok, Err, if◌then◌else◌}
 use Rattle.p3l_ast.specs.declared.position.Pos.{Pos}
 use Rattle.p3l_ast.specs.declared.refusal.Fault.{Fault}
@@ -6,7 +6,7 @@ use Rattle.p3l_ast.specs.declared.refusal.SourceRefusal.{SourceRefusal}
 use Rattle.p3l_ast.specs.declared.refusal.SourceRefusal.TheVariants.{At, NoMemory}
 use Rattle.p3l_base.specs.Memory.{Refused}
 
--- what a rule says
+-- the verdict of a rule
 abbrev pub Verdict : Type 0
 Verdict = Result (Unit {0}) SourceRefusal
 
@@ -22,7 +22,7 @@ first_of [] = kept
 first_of (Ok x ∷ rules) = first_of rules
 first_of (Err refusal ∷ rules) = Err refusal
 
--- what comes of a value, if its rules are kept
+-- the continuation of a value, if its rules are kept
 abbrev pub given : {A B : Type 0} → Result A SourceRefusal → (A → Result B SourceRefusal) → Result B SourceRefusal
 given (Ok x) go = go x
 given (Err refusal) go = Err refusal

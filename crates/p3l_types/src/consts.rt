@@ -1,4 +1,4 @@
-// Constants, and what numbers stand for.
+// Constants, and the values of numbers.
 
 ghost use Rattle.std.specs.Prelude.{◌≡◌, ◌++◌, [], ◌∷◌, None, Some, OnErr, IsTrue, ◌<◌, ◌^◌, take, slice_get};
 ghost use Rattle.p3l_base.specs.Memory.{IfGiven, OnGiven};
@@ -31,7 +31,7 @@ impl Model for Consts {
     ghost view = { λ it. take it.len it.values.value.entries };
 }
 
-/// Whether a map holds this constant at this place.
+/// True if a map holds this constant at this place.
 fn is_at(values: &IndexMap<Name, i64>, place: usize, name: &Name, value: i64) -> bool
     ensures entry { IsTrue result → slice_get values.now.entries place ≡ Some (name.now, value) }
     ensures small { IsTrue result → place < 2 ^ 63 }
@@ -129,7 +129,7 @@ impl Consts {
     }
 }
 
-/// What a number stands for; a name must be that of a constant.
+/// The value of a number; a name must be that of a constant.
 pub fn value_of(num: &Num, consts: &Consts) -> Result<i64, SourceRefusal>
     ensures { result ≡ number_of consts.now num.now }
 {
@@ -145,7 +145,7 @@ pub fn value_of(num: &Num, consts: &Consts) -> Result<i64, SourceRefusal>
     }
 }
 
-/// Where a number is.
+/// The position of a number.
 pub fn place_of(num: &Num) -> Pos
     ensures { result ≡ place_of num.now }
 {

@@ -1,6 +1,7 @@
-// Shapes of ports, and what brackets leave of them.
+// Shapes of ports, and the sizes that brackets leave.
 
 ghost use Rattle.std.specs.Prelude.{◌≡◌, ◌≤◌, ◌<◌, ◌^◌, length, min};
+ghost use Rattle.p3l_base.specs.Limits.{most_words};
 ghost use Rattle.p3l_base.specs.Memory.{IfGiven};
 ghost use Rattle.std.specs.Option.{option_map};
 ghost use Rattle.p3l_types.specs.Verdict.{Gives};
@@ -8,14 +9,9 @@ ghost use Rattle.p3l_types.specs.Shape.{product, size_of, sizes_of, shape_of, wh
 
 use crate::consts::{Consts, natural, place_of, value_of};
 use p3l_ast::{Arg, Fault, Num, Port, SourceRefusal, Sub};
+use p3l_base::limits::{MOST_SIZES, MOST_WORDS};
 use p3l_base::{List, NoMemory};
 use std::alloc::Global;
-
-/// The most words of a port, and the greatest size.
-const MOST_WORDS: u64 = 65_536;
-
-/// The most sizes of an array.
-const MOST_SIZES: usize = 3;
 
 /// The sizes of a port or of what is left of one, the outermost first; a scalar has none.
 #[derive(Debug, Drop)]
@@ -33,9 +29,9 @@ pub fn product(sizes: &[u32]) -> u64
     }
 }
 
-/// How many words a shape has.
+/// The number of words of a shape.
 pub fn words_of(shape: &Shape) -> u32
-    requires { product shape.now.sizes ≤ 65536 }
+    requires { product shape.now.sizes ≤ most_words }
     ensures { result ≡ product shape.now.sizes }
 {
     product(shape.sizes.as_slice()) as u32
@@ -96,8 +92,8 @@ fn whole_sizes(alloc: Global, subs: &[Sub], sizes: &[u32]) -> Result<List<u32>, 
     Ok(left)
 }
 
-/// What the brackets of an argument leave of a shape: the sizes at the empty ones, and the whole
-/// shape after a plain name. Nothing where there are as many brackets neither as none nor as sizes.
+/// The shape that the brackets of an argument leave: the sizes at the empty ones, or the whole shape
+/// after a plain name. None if there are brackets, but not one for each size.
 pub fn sliced(alloc: Global, arg: &Arg, shape: &Shape) -> Result<Option<Shape>, NoMemory>
     ensures { IfGiven result (λ left. left ≡ sliced arg.now.subs shape.now) }
 {

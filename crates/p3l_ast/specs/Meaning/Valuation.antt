@@ -1,12 +1,13 @@
 -- What the names of a body stand for.
 use Rattle.std.specs.Prelude.{ℕ, ℤ, ◌+◌, ◌≤◌, pos, length, slice_index, List, [], Option, find, map, bytes_eq, slice_index_or, slice_set, Result, Ok, Err, nat_lt, if◌then◌else◌}
 use Rattle.std.specs.Option.{option_map_or}
+use Rattle.p3l_base.specs.Limits.{most_sizes, most_words}
 use Rattle.p3l_base.specs.declared.outcome.TrapKind.{TrapKind}
 use Rattle.p3l_base.specs.declared.outcome.TrapKind.TheVariants.{Budget}
 use Rattle.p3l_ast.specs.declared.meaning.valuation.Binding.{Binding}
 use Rattle.p3l_ast.specs.declared.meaning.valuation.Valuation.{Valuation}
 
--- what a name stands for
+-- the binding of a name
 abbrev pub binding_of : Valuation → List ℕ → Option Binding
 binding_of valuation name = find (λ binding. bytes_eq binding.name name) valuation.bindings
 
@@ -30,7 +31,7 @@ with_word valuation name place word = record valuation { bindings = map (rebound
 abbrev pub turned : ℕ → Valuation → Result Valuation TrapKind
 turned budget valuation = if nat_lt valuation.turns budget then Ok (record valuation { turns = valuation.turns + 1 }) else Err Budget
 
--- every name has at most three sizes, each at most 65,536
+-- no name has more sizes than an array may have, nor a size above the most words
 pub record HasSizes (valuation : Valuation) : Type 0 where
-  pub few : (name : List ℕ) → length (sizes_of valuation name) ≤ 3
-  pub small : (name : List ℕ) (k : ℕ) → slice_index (sizes_of valuation name) k ≤ 65536
+  pub few : (name : List ℕ) → length (sizes_of valuation name) ≤ most_sizes
+  pub small : (name : List ℕ) (k : ℕ) → slice_index (sizes_of valuation name) k ≤ most_words

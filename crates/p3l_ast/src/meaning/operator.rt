@@ -14,7 +14,7 @@ fn number(it_holds: bool) -> i64
     if it_holds { 1 } else { 0 }
 }
 
-/// What an operator before its operand gives.
+/// Applies an operator that stands before its operand.
 pub fn unary(op: UnOp, value: i64) -> i64
     ensures { result ≡ unary_of op value }
 {
@@ -71,8 +71,8 @@ fn shift_right(value: i64, places: i64) -> Result<i64, TrapKind>
     Ok(value >> places)
 }
 
-/// What an operator between its operands gives, or the trap. Both operands are numbers here: that
-/// `&&` and `||` may skip the right one is up to who evaluates them.
+/// Applies an operator that stands between its operands; may trap. Both operands are numbers here:
+/// the caller decides if `&&` or `||` skips the right one.
 pub fn binary(op: BinOp, left: i64, right: i64) -> Result<i64, TrapKind>
     ensures { result ≡ binary_of op left right }
 {

@@ -16,7 +16,7 @@ use crate::statement::Stmt;
 use p3l_base::TrapKind;
 use std::alloc::Global;
 
-/// What statements make of a valuation within a budget of turns, one statement after another.
+/// Runs statements on a valuation within a budget of turns, one statement after another.
 #[cycle(statement)]
 pub fn run_statements(
     alloc: Global,
@@ -35,7 +35,7 @@ pub fn run_statements(
     Ok(valuation)
 }
 
-/// What a statement makes of a valuation within a budget of turns.
+/// Runs a statement on a valuation within a budget of turns.
 #[cycle(statement)]
 fn run_statement(
     alloc: Global,
@@ -66,7 +66,7 @@ fn run_statement(
     }
 }
 
-/// What a `while` makes of a valuation: its turns, as long as the condition holds.
+/// Runs a `while` on a valuation: its turns, as long as the condition holds.
 #[cycle(statement)]
 fn run_while(
     alloc: Global,
@@ -88,8 +88,8 @@ fn run_while(
     Ok(valuation)
 }
 
-/// What a `for` makes of the valuation after its first assignment: its turns, each with the assignment
-/// after the body.
+/// Runs a `for` on the valuation after its first assignment: its turns, each with the assignment after
+/// the body.
 #[cycle(statement)]
 fn run_for(
     alloc: Global,
@@ -115,7 +115,7 @@ fn run_for(
     Ok(valuation)
 }
 
-/// Whether a condition holds.
+/// True if a condition holds.
 fn holds(valuation: &Valuation, condition: &Expr) -> Result<bool, TrapKind>
     requires { HasSizes valuation.now }
     ensures { result
@@ -125,7 +125,7 @@ fn holds(valuation: &Valuation, condition: &Expr) -> Result<bool, TrapKind>
     Ok(word != 0)
 }
 
-/// What an assignment makes of a valuation: first the indices of the target, then the right side.
+/// Runs an assignment on a valuation: first the indices of the target, then the right side.
 fn assigned(
     alloc: Global,
     target: &Target,

@@ -2,9 +2,11 @@
 
 ghost use Rattle.std.specs.List.{All};
 ghost use Rattle.std.specs.Prelude.{◌≡◌, ◌↔◌, ◌≤◌, length, IsTrue};
+ghost use Rattle.p3l_base.specs.Limits.{most_sizes, most_words};
 ghost use Rattle.p3l_base.specs.Memory.{IfGiven};
 ghost use Rattle.p3l_ast.specs.Meaning.Valuation.{rebound, with_word, turned, HasSizes};
 
+use p3l_base::limits::{MOST_SIZES, MOST_WORDS};
 use p3l_base::{List, Name, NoMemory, TrapKind, Words};
 use std::alloc::Global;
 
@@ -17,7 +19,7 @@ pub struct Binding {
     pub words: Words,
 }
 
-/// What the names of a body stand for, and how many turns its loops have begun.
+/// The bindings of a body's names, and the number of turns that its loops have begun.
 #[derive(Debug, Drop)]
 pub struct Valuation {
     pub bindings: List<Binding>,
@@ -29,7 +31,7 @@ impl Valuation {
     ghost use Rattle.std.specs.Option.{option_copied};
     ghost use Rattle.p3l_ast.specs.Meaning.Valuation.{binding_of, sizes_of, word_of};
 
-    /// What a name stands for.
+    /// The binding of a name, if it has one.
     fn binding(&self, name: &Name) -> Option<&Binding>
         ensures { option_copied result ≡ binding_of self.now name.now }
     {
@@ -114,7 +116,7 @@ pub fn turned(budget: u32, valuation: Valuation) -> Result<Valuation, TrapKind>
     })
 }
 
-/// Whether every name has at most three sizes, each at most 65,536.
+/// True if each name has at most `MOST_SIZES` sizes, each at most `MOST_WORDS`.
 pub fn has_sizes(valuation: &Valuation) -> bool
     ensures { IsTrue result ↔ HasSizes valuation.now }
 {
@@ -126,9 +128,10 @@ pub fn has_sizes(valuation: &Valuation) -> bool
     true
 }
 
-/// Whether these are the sizes of a scalar or an array.
+/// True if these are the sizes of a scalar or an array.
 fn are_sizes(sizes: &[u32]) -> bool
-    ensures { IsTrue result ↔ ((length sizes.now ≤ 3) × All (λ size. size ≤ 65536) sizes.now) }
+    ensures { IsTrue result ↔ ((length sizes.now ≤ most_sizes)
+        × All (λ size. size ≤ most_words) sizes.now) }
 {
-    sizes.len() <= 3 && sizes.iter().all(|size| *size <= 65536)
+    sizes.len() <= MOST_SIZES && sizes.iter().all(|size| *size as u64 <= MOST_WORDS)
 }

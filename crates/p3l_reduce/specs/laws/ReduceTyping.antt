@@ -7,6 +7,7 @@ use Rattle.std.proofs.lemmas.List.Concat.{flat_map-append}
 use Rattle.std.proofs.lemmas.Bool.{cond-true, cond-false}
 use Rattle.std.proofs.lemmas.Nat.{pow_pos}
 use Rattle.std.proofs.Math.Nat.{pow-succ'}
+use Rattle.p3l_base.specs.Limits.{most_workers}
 use Rattle.p3l_skel.specs.declared.tree.Form.TheVariants.{Reduce}
 use Rattle.p3l_skel.specs.declared.tree.Tree.{Tree}
 use Rattle.p3l_skel.specs.Counts.{IsLawfulCount, IsCountInRange}
@@ -394,7 +395,7 @@ reduce_typed tree node segments len is =
     let range = subst (λ f. IsCountInRange f segments) is.form is.count.1 in
     let k : ℕ = range.0.0 in
     let power : segments ≡ 2 ^ k = range.0.1 in
-    let small : k ≤ 9 = small_exponent k (subst (λ z. z ≤ 512) power range.2) in
+    let small : k ≤ 9 = small_exponent k (subst (λ z. z ≤ most_workers) power range.2) in
     subst (λ z. IsTypedShape tree node (reduce_shape node len z)) (sym (ap level_of power ∙ level_exact 9 k small))
     (typed_at tree node segments len k is power small range.1)
 

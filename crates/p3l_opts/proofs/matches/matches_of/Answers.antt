@@ -19,4 +19,4 @@ pub returns-in-Err-try_get_matches_from-clause-usage :
 returns-in-Err-try_get_matches_from-clause-usage c usage none =
     let is_verb = c.in-Ok.ensures in
     let kinds = c.in-Err-try_get_matches_from.ensures.kinds (as_simple_and_free c.args.verb _ is_verb) in
-    c.refusal_of.ensures (search (rules, usage)) (no_kind _ c.in-Err-try_get_matches_from.error kinds (as_faults c.args.verb _ _ is_verb ∙ none))
+    c.refusal_of.ensures.usage (search (rules, usage)) (no_kind _ c.in-Err-try_get_matches_from.error kinds (as_faults c.args.verb _ _ is_verb ∙ none))

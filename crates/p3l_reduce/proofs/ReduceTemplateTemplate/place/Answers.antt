@@ -1,5 +1,6 @@
 -- One process at level 0, else the tree.
 use Rattle.std.proofs.Common.{◌≡◌, ◌≤◌, ◌-◌, ◌^◌, suc, length, IfOk, sym, ap, ◌∙◌, subst, arith}
+use Rattle.p3l_base.specs.Memory.{IfGiven}
 use Rattle.p3l_reduce.proofs.Placing.{shape_one, shape_tree, power_wide}
 use Rattle.p3l_firing.specs.Segments.{level_of}
 use Rattle.p3l_reduce.specs.Reduce.{tree_shape}
@@ -18,7 +19,7 @@ place-requires-clause-room c =
 
 pub returns-then-level-eq0-clause-placed : goal.returns-then-level-eq0-clause-placed
 returns-then-level-eq0-clause-placed c =
-    subst (λ sh. IfOk c.place.result
+    subst (λ sh. IfGiven c.place.result
     (λ ports. c.place.new.builder
     ≡ added c.args.builder.now (sh.procs (base_of c.args.at.now c.args.builder.now))
     (sh.laid c.args.cap (base_of c.args.at.now c.args.builder.now))))

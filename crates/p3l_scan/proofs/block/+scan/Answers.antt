@@ -1,12 +1,12 @@
 use Rattle.std.proofs.Common.{◌≡◌, ◌-◌, ◌/◌, length, arith, ap, ap₂, sym, ◌∙◌, subst}
 use Rattle.p3l_base.specs.declared.outcome.Outcome.TheVariants.{Value}
 use Rattle.p3l_skel.specs.Item.{elements, item}
-use Rattle.p3l_skel.proofs.Mapped.{if_ok-same}
 use Rattle.p3l_scan.specs.Scan.{both, in_words, merged, scan}
 use Rattle.p3l_scan.proofs.Combining.{combines}
 use Rattle.p3l_scan.proofs.Dividing.{back-less, back-length, back-trap, both-values, front-less, front-length, front-trap, halves-at, one-block, scan-words, several}
 use Rattle.p3l_scan.proofs.Merging.{elements-are, elements-count}
 use Rattle.p3l_scan.proofs.Scans.{Fits, scan-fits}
+use Rattle.p3l_scan.proofs.Running.{given-same}
 use Rattle.p3l_scan.proofs.block.+scan.Goals as goal
 
 pub returns-then-block-size : goal.returns-then-block-size
@@ -140,7 +140,7 @@ returns-in-Value-2 g t c =
     (scan-fits c.args.elem operator keeps (elements c.args.elem back)
     (let are = elements-are (n.0 - n.0 / 2) c.args.elem back some back_length in are.1)))
     (sym c.in-Value-2.is ∙ c.in_ok-right.ensures) in
-    if_ok-same c.merge.result _ _
+    given-same _ c.merge.result _ _
     (ap₂ (λ xs ys. in_words (merged operator (elements c.args.elem xs) (elements c.args.elem ys))) c.as_slice.ensures
     c.as_slice-in-Value-2.ensures
     ∙ both-values operator _ _ _ _ left_are.0 right_are.0 ∙ sym (ap in_words halves))

@@ -1,13 +1,12 @@
 use Rattle.std.proofs.Common.{◌≡◌, ◌-◌, ◌*◌, ◌^◌, length, arith, ap, sym, ◌∙◌}
 use Rattle.std.proofs.Math.Nat.{mul_assoc}
 use Rattle.p3l_skel.specs.Item.{item}
-use Rattle.p3l_skel.proofs.Mapped.{if_ok-same}
 use Rattle.p3l_scan.specs.Plan.{step_node}
 use Rattle.p3l_scan.specs.Step.{step_leaf}
 use Rattle.p3l_scan.specs.laws.Powers.{power_pos}
 use Rattle.p3l_scan.proofs.Combining.{combines}
 use Rattle.p3l_scan.proofs.Lawful.{times-some}
-use Rattle.p3l_scan.proofs.Running.{first-leaf, halves-of, later-leaf}
+use Rattle.p3l_scan.proofs.Running.{first-leaf, given-same, halves-of, later-leaf}
 use Rattle.p3l_scan.proofs.units.ScanUnits.step.Goals as goal
 
 pub merge_halves-requires-clause-block : goal.merge_halves-requires-clause-block
@@ -33,7 +32,7 @@ returns-then-stage-eq0 g c =
     let home : 2 ≡ step_node c.args.stage = omega (arith, zeroth) in
     let long : length c.args.block.now ≡ 2 ^ c.args.stage * kept.size * s.elem =
     fits ∙ ap (λ w. 2 ^ c.args.stage * w) kept.sized ∙ sym (mul_assoc (2 ^ c.args.stage) kept.size s.elem) in
-    if_ok-same c.scan.result _ _
+    given-same _ c.scan.result _ _
     (first-leaf s.elem some operator keeps (2 ^ c.args.stage * kept.size) c.args.block.now long
     ∙ ap (λ h. step_leaf s.elem operator h c.args.block.now) home
     ∙ ap (λ v. step_leaf v.elem (item (g.U.Units.tree v.inner) (g.U.Units.leaf v.inner) v.op) (step_node c.args.stage)
@@ -49,7 +48,7 @@ returns-else-stage-eq0 g c =
     let keeps = combines (g.U.Units.tree s.inner) (g.U.Units.leaf s.inner) (g.met.U.Units.gives_outs s.inner) s.op s.elem kept.operator in
     let some = let o = kept.operator in o.some in
     let later = c.if-stage-eq0.false in
-    if_ok-same c.merge_halves.result _ _
+    given-same _ c.merge_halves.result _ _
     (later-leaf s.elem some operator keeps (step_node c.args.stage) (2 ^ (c.args.stage - 1) * kept.size) c.args.block.now
     (omega (arith, later))
     (times-some (2 ^ (c.args.stage - 1)) kept.size (power_pos (c.args.stage - 1)) kept.some_size)

@@ -1,5 +1,5 @@
 use Rattle.p3l_spread_laws.proofs.SpreadLaw.{spread_means, linked_spread_means, spread_fits}
-use Rattle.p3l_spread_laws.proofs.a_spread_net_means_its_items.Goals as goal
+use Rattle.p3l_spread_laws.proofs.spread_runs_mean_their_items.Goals as goal
 
 pub returns-clause-carried : goal.returns-clause-carried
 returns-clause-carried c = spread_means

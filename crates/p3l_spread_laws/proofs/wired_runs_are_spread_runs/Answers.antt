@@ -1,6 +1,6 @@
 use Rattle.p3l_spread_laws.proofs.WireLaw.{wired_spread, idle_quiet, linked_wired_means}
 use Rattle.p3l_spread_laws.proofs.WireTaking.{every_wire_can_take}
-use Rattle.p3l_spread_laws.proofs.a_wired_net_is_a_spread_net.Goals as goal
+use Rattle.p3l_spread_laws.proofs.wired_runs_are_spread_runs.Goals as goal
 
 pub returns-clause-spread : goal.returns-clause-spread
 returns-clause-spread c = wired_spread

@@ -1,6 +1,6 @@
 use Rattle.p3l_spread_laws.proofs.SpreadLaw.{net_begins, stays_sound, view_true, delivered_quiet, quiet_stuck}
 use Rattle.p3l_spread_laws.proofs.Taking.{way_taken}
-use Rattle.p3l_spread_laws.proofs.what_is_known_is_so.Goals as goal
+use Rattle.p3l_spread_laws.proofs.views_are_sound.Goals as goal
 
 pub returns-clause-begins : goal.returns-clause-begins
 returns-clause-begins c = net_begins
