@@ -144,11 +144,13 @@ def try_writers(files):
 
 
 def try_links(files, writer, whole):
-    """A writer through a link, through two links, and through one that leads nowhere yet."""
+    """A writer through a link, through two or three, and through ones that lead nowhere yet."""
     (files.folder / "sub").mkdir()
     os.symlink("../new", files.folder / "sub/link")
     os.symlink("sub/link", files.folder / "link")
-    for name, is_there in (("sub/link", True), ("link", True), ("link", False)):
+    os.symlink(files.folder / "link", files.folder / "sub/whole")
+    cases = [(name, is_there) for name in ("sub/link", "link", "sub/whole") for is_there in (1, 0)]
+    for name, is_there in cases:
         files.remove("new")
         if is_there:
             files.put("new", OLD)
@@ -158,7 +160,7 @@ def try_links(files, writer, whole):
         found = status, files.get("new"), os.path.islink(files.folder / "new"), *links
         name = f"{writer} through {name}, {'to a file' if is_there else 'to nothing'}"
         files.expect(name, found, (0, whole, False, True, True))
-    files.remove("sub/link", "link")
+    files.remove("sub/link", "sub/whole", "link")
     (files.folder / "sub").rmdir()
 
 
@@ -180,6 +182,9 @@ def try_pipe(files):
     is_pipe = stat.S_ISFIFO((files.folder / "pipe").stat().st_mode)
     files.expect("a pipe stays a pipe", is_pipe, True)
     files.remove("pipe")
+    words, stream = words_to("/dev/stdout", "compile")
+    found = files.call(words, stream)
+    files.expect("the standard output, a pipe", found, (0, files.get("made.img"), b""))
 
 
 def try_long_name(files):
