@@ -32,7 +32,7 @@ STATS = "stats: items {0}, fired {1}, idle 0, bound {1}\n"
 USAGE = "usage: the words are not a command of p3l\n"
 WRITE_FAULT = "write fault\n"
 FULL, SECONDS = "/dev/full", 120
-VERSION = re.compile(rb"p3l 0\.1\.0\n(proved by rattle, logic [0-9a-f]{16}|not proved)\n")
+VERSION = re.compile(rb"p3l \d+\.\d+\.\d+\n(proved by rattle, logic [0-9a-f]{16}|not proved)\n")
 FILES = {
     "m.p3l": DOUBLE,
     "d.p3l": DIVISION,

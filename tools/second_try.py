@@ -9,6 +9,7 @@ The program of the sources must be there already, as after a first ./try.
 
 import os
 import pathlib
+import re
 import subprocess
 import sys
 import tempfile
@@ -17,9 +18,9 @@ TRY = str(pathlib.Path(__file__).resolve().parent.parent / "try")
 MOST_SECONDS = 1.0
 DOUBLE = "seq main in(int x) out(int y)\n${ y = x * 2 + 1; }$\nend seq\n"
 RUN = ["run", "m.p3l", "--processors", "4"]
-# The words, the input, and the status, output and lines of each.
+# The words, the input, and the status, output and lines of each: forms of these bytes.
 CASES = [
-    (["--version"], b"", (0, b"p3l 0.1.0\nnot proved\n", b"")),
+    (["--version"], b"", (0, rb"p3l \d+\.\d+\.\d+\nnot proved\n", b"")),
     (RUN, b"1\n2\n", (0, b"3\n5\n", b"")),
     (RUN, b"1\nx\n", (6, b"3\n", b"stream: line 2: 100 BadWord\n")),
     ([*RUN, "--trace", "trace"], b"1\n", (0, b"3\n", b"")),
@@ -37,9 +38,10 @@ def faults(folder):
     for words, stream, wanted in CASES:
         before = seconds_of_children()
         done = subprocess.run([TRY, *words], cwd=folder, input=stream, capture_output=True)
-        found = done.returncode, done.stdout, done.stderr
-        if found != wanted:
-            yield f"{words}: {found}, and not {wanted}"
+        found, (status, output, lines) = (done.stdout, done.stderr), wanted
+        is_form = re.fullmatch(output, done.stdout) and re.fullmatch(lines, done.stderr)
+        if done.returncode != status or not is_form:
+            yield f"{words}: {done.returncode}, {found}, and not {wanted}"
         taken = seconds_of_children() - before
         if taken > MOST_SECONDS:
             yield f"{words}: {taken:.2f} s of processor time"
