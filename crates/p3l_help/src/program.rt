@@ -71,7 +71,8 @@ says more of it.
    9  file fault: NAME, or file too long: NAME
       a file could not be read, or is longer than its limit
   10  write fault
-      the standard output or a file could not be written
+      the standard output or a file could not be written; or the file was read
+      by this command, or is its standard input or output
   11  no memory
   12  schedule: line N: NUMBER NAME
       the file of picks is refused at this line
