@@ -1,6 +1,7 @@
 -- The rows of the table, node by node.
 use Rattle.std.proofs.Common.{◌≡◌, ℕ, zero, suc, ◌+◌, ◌-◌, ◌*◌, ◌<◌, ◌≤◌, List, [], ◌∷◌, ◌++◌, drop, get_or, length, length-append, refl, sym, ap, ◌∙◌, subst, arith, inl, inr, add-one, Result, Ok, Err}
-use Rattle.std.specs.Prelude.{slice_index, slice_index_or, ⊤, IfOk}
+use Rattle.std.specs.Prelude.{slice_index, slice_index_or, ⊤}
+use Rattle.p3l_base.specs.Memory.{IfGiven}
 use Rattle.std.proofs.Math.Nat.{mul-le-mul_right}
 use Rattle.std.proofs.Math.Seq.{drop-cons}
 use Rattle.std.proofs.lemmas.Bool.{cases_lt}
@@ -60,9 +61,9 @@ table_more tree costs most rows row node inside table here =
       ];
     }
 
-pub ok_more : {A E : Type 0} (P Q : A → Type 0) (r : Result A E) → ((v : A) → P v → Q v) → IfOk r P → IfOk r Q
-ok_more P Q (Ok v) more h = more v h
-ok_more P Q (Err e) more h = h
+pub given_more : {A E : Type 0} (P Q : A → Type 0) (r : Result A E) → ((v : A) → P v → Q v) → IfGiven r P → IfGiven r Q
+given_more P Q (Ok v) more h = more v h
+given_more P Q (Err e) more h = h
 
 -- no stages are left
 pub stages_none : (below : ℕ → Costed) (parts : List ℕ) (n : ℕ) (P : Costed → Type 0) → length parts ≤ n → P Empty → P (stages below (drop n parts))

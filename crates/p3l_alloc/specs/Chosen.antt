@@ -1,4 +1,4 @@
--- What a refusal of the allocator says.
+-- The meaning of a refusal of the allocator.
 use Rattle.std.specs.Prelude.{ℕ, List}
 use Rattle.p3l_skel.specs.declared.tree.Tree.{Tree}
 use Rattle.p3l_skel.specs.Numbers.{Fits}

@@ -1,6 +1,7 @@
 // The best numbers of workers.
 
 ghost use Rattle.std.specs.Prelude.{◌≡◌, ◌≤◌, IfOk, IfErr};
+ghost use Rattle.p3l_base.specs.Limits.{most_processors};
 ghost use Rattle.p3l_skel.specs.Lawful.{IsLawfulTree};
 ghost use Rattle.p3l_skel.specs.Numbers.{procs};
 ghost use Rattle.p3l_cost.specs.Costs.{AreCostsOf};
@@ -32,6 +33,7 @@ pub struct Choice {
 pub enum AllocRefusal {
     /// No lawful numbers fit the processors; the least number of processes of any is `need`.
     TooFew { need: u64 },
+    /// Out of memory.
     NoMemory,
 }
 
@@ -57,7 +59,7 @@ pub fn choose(
     requires tree { IsLawfulTree tree.now }
     requires costs { AreCostsOf tree.now costs.now }
     requires some { 1 ≤ processors }
-    requires few { processors ≤ 512 }
+    requires few { processors ≤ most_processors }
     ensures chosen { IfOk result (λ choice.
         IsChosen tree.now costs.now processors choice.counts.list) }
     ensures service { IfOk result (λ choice. choice.service

@@ -1,6 +1,7 @@
 // The soonest service time of a node within a number of processes, from that of its part.
 
 ghost use Rattle.std.specs.Prelude.{◌≡◌, ◌≤◌, ◌↔◌, ◌^◌, IsTrue, slice_index_or};
+ghost use Rattle.p3l_base.specs.Limits.{most_processors};
 ghost use Rattle.p3l_skel.specs.Numbers.{joined_procs};
 ghost use Rattle.p3l_model.specs.declared.cost.NodeCost.TheVariants as cost;
 ghost use Rattle.p3l_model.specs.NodeCost.{never};
@@ -20,7 +21,7 @@ pub fn soonest(row: &[u128], processes: u32) -> u128
 /// The soonest service time of a node within `processes` processes, from the row of its first part.
 /// Of a pipe it is that of no stages.
 pub fn entry(cost: &NodeCost, part: &[u128], processes: u32) -> u128
-    requires { processes ≤ 512 }
+    requires { processes ≤ most_processors }
     ensures { (a : Costed) → HasPart cost.now a processes part.now
         → IsSoonest (over_part cost.now a) processes result }
 {
@@ -76,7 +77,7 @@ fn shared(sharing: Sharing, ends: u128, workers: u32, part: u128) -> u128
 // The soonest over all numbers of workers. Two processes are the ends; of the numbers that leave
 // each worker the same number of processes the last is the best.
 fn workers_entry(span: Span, sharing: Sharing, ends: u128, part: &[u128], processes: u32) -> u128
-    requires { processes ≤ 512 }
+    requires { processes ≤ most_processors }
     ensures { (a : Costed) → HasPart (cost.Workers span sharing ends) a processes part.now
         → IsSoonest (costs.Workers span sharing ends a) processes result }
 {
@@ -106,7 +107,7 @@ pub fn segments_procs(segments: u32) -> u64
 
 // The soonest over all numbers of segments.
 fn segments_entry(span: Span, fold: &FoldCost, processes: u32) -> u128
-    requires { processes ≤ 512 }
+    requires { processes ≤ most_processors }
     ensures { IsSoonest (costs.Segments span fold.now) processes result }
 {
     let mut best = NEVER;

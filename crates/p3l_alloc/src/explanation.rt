@@ -19,7 +19,7 @@ use p3l_skel::tree::NESTING;
 use p3l_skel::{Counts, Form, Node, Tree};
 use std::alloc::Global;
 
-/// How the skeleton of a form is written.
+/// The keyword of a form.
 fn kind_name(form: &Form) -> &'static str
     ensures { result.now ≡ kind_name form.now }
 {
@@ -34,7 +34,7 @@ fn kind_name(form: &Form) -> &'static str
     }
 }
 
-/// Puts what a node says of its count after a text, if it has one.
+/// Appends a node's count to a text, if the node has one.
 fn put_count(alloc: Global, text: &mut String, form: &Form, count: u32) -> Result<(), NoMemory>
     ensures { OnGiven result (string_bytes text.new
         ≡ string_bytes text.old ++ count_words form.now count) }
@@ -49,7 +49,7 @@ fn put_count(alloc: Global, text: &mut String, form: &Form, count: u32) -> Resul
     }
 }
 
-/// Puts the line of a node outside units after a text.
+/// Appends the line of a node outside units to a text.
 fn put_node(
     alloc: Global,
     text: &mut String,
@@ -88,7 +88,7 @@ fn name_of(tree: &Tree, number: u32) -> &str
     }
 }
 
-/// Puts the lines of a node outside units and of those outside units below it after a text, down
+/// Appends the lines of a node outside units and of those outside units below it to a text, down
 /// to `levels` levels.
 fn put_nodes(
     alloc: Global,

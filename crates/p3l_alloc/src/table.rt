@@ -2,6 +2,7 @@
 
 ghost use Rattle.std.specs.Prelude.{◌≡◌, ◌<◌, ◌≤◌, ◌+◌, ℕ, length, slice_index};
 ghost use Rattle.p3l_base.specs.Memory.{IfGiven};
+ghost use Rattle.p3l_base.specs.Limits.{most_processors};
 ghost use Rattle.p3l_skel.specs.Lawful.{IsLawfulTree};
 ghost use Rattle.p3l_skel.specs.Tree.{node_at};
 ghost use Rattle.p3l_cost.specs.Costs.{AreCostsOf};
@@ -36,7 +37,7 @@ pub fn table(
 ) -> Result<List<List<u128>>, NoMemory>
     requires tree { IsLawfulTree tree.now }
     requires costs { AreCostsOf tree.now costs.now }
-    requires most { most ≤ 512 }
+    requires most { most ≤ most_processors }
     ensures { IfGiven result (λ rows. IsTableFrom tree.now costs.now most rows 0) }
 {
     let mut rows = List::new(alloc);
@@ -60,7 +61,7 @@ fn node_row(
     requires tree { IsLawfulTree tree.now }
     requires costs { AreCostsOf tree.now costs.now }
     requires node { node < length tree.now.nodes }
-    requires most { most ≤ 512 }
+    requires most { most ≤ most_processors }
     requires rows { IsTableFrom tree.now costs.now most rows.now (node + 1) }
     ensures { IfGiven result (IsRowFor tree.now costs.now most node) }
 {
@@ -104,7 +105,7 @@ fn stages_row(
     parts: &[u32],
     most: u32,
 ) -> Result<List<u128>, NoMemory>
-    requires { most ≤ 512 }
+    requires { most ≤ most_processors }
     ensures { IfGiven result (λ row. (below : ℕ → Costed)
         → AreRows tree.now rows.now below most parts.now
         → IsRow (stages below parts.now) most row) }
@@ -124,7 +125,7 @@ fn cost_row(
     part: &[u128],
     most: u32,
 ) -> Result<List<u128>, NoMemory>
-    requires { most ≤ 512 }
+    requires { most ≤ most_processors }
     ensures { IfGiven result (λ row. (a : Costed) → HasPart cost.now a most part.now
         → IsRow (over_part cost.now a) most row) }
 {
@@ -142,7 +143,7 @@ fn both_row(
     others: &[u128],
     most: u32,
 ) -> Result<List<u128>, NoMemory>
-    requires { most ≤ 512 }
+    requires { most ≤ most_processors }
     ensures { IfGiven result (λ row. (a b : Costed) → IsRow a most first.now → IsRow b most others.now
         → IsRow (Both a b) most row) }
 {
@@ -175,7 +176,8 @@ fn split_time(first: &[u128], others: &[u128], processes: u32, given: u32) -> u1
     soonest(first, given).max(soonest(others, processes - given))
 }
 
-// With how many processes the stage is no longer later than those that follow it, found by halving.
+// The least number of processes with which the stage is no later than those that follow it, found
+// by halving.
 fn crossing(first: &[u128], others: &[u128], processes: u32) -> u32
     ensures { IsCrossing first.now others.now processes result }
 {

@@ -3,6 +3,7 @@
 
 ghost use Rattle.std.specs.Prelude.{◌≡◌, ◌<◌, ◌≤◌, ◌+◌, ◌-◌, ◌/◌, ◌^◌, ℕ, min, IfSome, IfNone, slice_index_or, sum_by};
 ghost use Rattle.p3l_base.specs.Memory.{IfGiven};
+ghost use Rattle.p3l_base.specs.Limits.{most_processors};
 ghost use Rattle.p3l_skel.specs.Lawful.{IsLawfulTree};
 ghost use Rattle.p3l_skel.specs.Numbers.{joined_procs};
 ghost use Rattle.p3l_cost.specs.Costs.{AreCostsOf};
@@ -66,7 +67,7 @@ fn first_workers(
     time: u128,
     processes: u32,
 ) -> Option<u32>
-    requires processes { processes ≤ 512 }
+    requires processes { processes ≤ most_processors }
     requires sharing { IsSharing sharing }
     ensures found { IfSome result (IsFirstCount span sharing part.now time processes) }
     ensures none { IfNone result ((m : ℕ) → IsIn span m → m + 2 ≤ processes
@@ -84,7 +85,7 @@ fn first_workers(
 
 // The first number of segments that stays within a time and a number of processes.
 fn first_segments(span: Span, fold: &FoldCost, time: u128, processes: u32) -> Option<u32>
-    requires processes { processes ≤ 512 }
+    requires processes { processes ≤ most_processors }
     requires time { time < never }
     ensures found { IfSome result (IsFirstSegments span fold.now time processes) }
     ensures none { IfNone result ((m : ℕ) → AreSegments span m → joined_procs m ≤ processes
@@ -116,7 +117,7 @@ pub fn first_counts(
     requires tree { IsLawfulTree tree.now }
     requires costs { AreCostsOf tree.now costs.now }
     requires rows { IsTableFrom tree.now costs.now most rows.now 0 }
-    requires most { most ≤ 512 }
+    requires most { most ≤ most_processors }
     requires processes { processes ≤ most }
     requires levels { IsWithin tree.now levels node }
     requires time { time < never }
@@ -198,7 +199,7 @@ fn stages_counts(
     requires tree { IsLawfulTree tree.now }
     requires costs { AreCostsOf tree.now costs.now }
     requires rows { IsTableFrom tree.now costs.now most rows.now 0 }
-    requires most { most ≤ 512 }
+    requires most { most ≤ most_processors }
     requires processes { processes ≤ most }
     requires levels { IsWithin tree.now levels node }
     requires time { time < never }

@@ -1,11 +1,10 @@
 -- The rules of names, by what expressions and statements are made of.
-use Rattle.std.proofs.Common.{◌≡◌, ℕ, ◌+◌, ◌<◌, ◌≤◌, ℤ, Bool, true, false, List, [], ◌∷◌, ◌++◌, length, get_or, drop, map, Result, Ok, Err, Some, None, refl, sym, ap, ◌∙◌, append_assoc, arith}
+use Rattle.std.proofs.Common.{◌≡◌, ℕ, ◌+◌, ◌<◌, ◌≤◌, ℤ, true, false, List, [], ◌∷◌, ◌++◌, length, get_or, drop, map, Ok, Err, Some, None, refl, sym, ap, ◌∙◌, append_assoc, arith}
 use Rattle.std.specs.declared.vec.Vec.{Vec}
 use Rattle.std.specs.declared.boxed.Box.{Box}
 use Rattle.std.specs.declared.alloc.Global.{Global}
 use Rattle.std.proofs.lemmas.List.{append-nil, drop_more, drop_all}
 use Rattle.p3l_ast.specs.declared.refusal.SourceRefusal.{SourceRefusal}
-use Rattle.p3l_ast.specs.declared.position.Spot.{Spot}
 use Rattle.p3l_ast.specs.declared.expression.UnOp.{UnOp}
 use Rattle.p3l_ast.specs.declared.expression.BinOp.{BinOp}
 use Rattle.p3l_ast.specs.declared.expression.Expr.{Expr}
@@ -13,12 +12,12 @@ use Rattle.p3l_ast.specs.declared.expression.Expr.TheVariants.{Number, Read, Una
 use Rattle.p3l_ast.specs.declared.expression.Target.{Target}
 use Rattle.p3l_ast.specs.declared.statement.Stmt.{Stmt}
 use Rattle.p3l_ast.specs.declared.statement.Stmt.TheVariants.{Assign, If, While, For}
-use Rattle.p3l_ast.specs.Tree.{Phrase, Phrases, none, more, Statements, done, assign, if_, if_else, while_, for_, phrase, phrases, one, statements, join}
+use Rattle.p3l_ast.specs.Tree.{Statements, done, assign, if_, if_else, while_, for_, phrase, phrases, one, statements, join}
 use Rattle.p3l_ast.proofs.Trees.{phrase_number, phrase_unary, phrase_binary, phrase_read, one_assign, one_if, one_if_else, one_while, one_for}
 use Rattle.p3l_types.specs.Verdict.{Verdict, kept, given, first_of}
 use Rattle.p3l_types.specs.Constants.{Constants}
 use Rattle.p3l_body.specs.Scope.{Names, known_of}
-use Rattle.p3l_body.specs.Mention.{Mention, brackets_of, mention, mentions, index_mentions, place_mentions, assignment_mentions, code_mentions, mention_rule, mentions_rule}
+use Rattle.p3l_body.specs.Mention.{Mention, brackets_of, mentions, index_mentions, place_mentions, assignment_mentions, code_mentions, mention_rule, mentions_rule}
 
 -- how many brackets an index has
 pub brackets-length : (es : List Expr) → brackets_of (phrases es) ≡ length es

@@ -1,4 +1,4 @@
--- What a checked body makes of the words of an item.
+-- The meaning of a checked body: from the words of an item to those of its outs.
 use Rattle.std.specs.Prelude.{ℕ, ℤ, pos, List, [], ◌∷◌, ◌++◌, map, take, drop, replicate, Result, Ok, Err}
 use Rattle.std.specs.List.{flat_map}
 use Rattle.std.specs.Option.{option_map_or}
@@ -45,7 +45,7 @@ start_of seq words = record {
 abbrev pub words_in : Valuation → Var → List ℤ
 words_in valuation var = option_map_or (λ (binding : Binding). binding.words) (binding_of valuation var.name) []
 
--- what a module's run comes to: the words of the outs in order, or its trap
+-- the result of a module's run: the words of the outs in order, or its trap
 abbrev pub outcome_of : ℕ → List Var → Result Valuation TrapKind → Outcome
 outcome_of home outs (Ok valuation) = Value (flat_map (words_in valuation) outs)
 outcome_of home outs (Err trap) = Trapped (record { kind = trap; «module» = home })

@@ -1,7 +1,8 @@
--- The variables that are declared, and what names stand for.
-use Rattle.std.specs.Prelude.{ℕ, ◌+◌, ◌||◌, Bool, true, false, List, [], ◌∷◌, ◌++◌, map, length, Result, Ok, Err, Option, Some, bytes_eq, is_some, nat_lt, if◌then◌else◌}
+-- The variables that are declared, and the meanings of names.
+use Rattle.std.specs.Prelude.{ℕ, ◌+◌, Bool, true, List, [], ◌∷◌, ◌++◌, length, Result, Ok, Err, Option, bytes_eq, is_some, nat_lt, if◌then◌else◌}
 use Rattle.std.specs.Option.{option_map}
 use Rattle.std.specs.Map.{lookup}
+use Rattle.p3l_base.specs.Limits.{most_words}
 use Rattle.p3l_ast.specs.declared.position.Spot.{Spot}
 use Rattle.p3l_ast.specs.declared.refusal.Fault.{Fault}
 use Rattle.p3l_ast.specs.declared.refusal.Fault.TheVariants.{TooWide}
@@ -26,7 +27,7 @@ named is_fixed var = (var.name, record { sizes = length var.shape.sizes; is_fixe
 abbrev pub fixed_scalar : Known
 fixed_scalar = record { sizes = 0; is_fixed = true }
 
--- what a name stands for: a variable, or else a constant
+-- the variable of a name, or else its constant
 abbrev pub known_of : Constants → Names → List ℕ → Option Known
 known_of constants names name =
     if is_some (lookup (bytes_eq name) names) then lookup (bytes_eq name) names
@@ -37,12 +38,12 @@ abbrev pub fresh : Fault → Constants → Names → Spot → Verdict
 fresh fault constants names spot =
     broken_if (is_some (known_of constants names spot.name)) fault spot.pos
 
--- a variable after others of n words: its shape is lawful, and there are no more than 65,536
--- words in all
+-- a variable after others of n words: its shape is lawful, and all together have no more words than
+-- an item may have
 abbrev pub measured : Constants → ℕ → Port → Result Var SourceRefusal
 measured constants words port =
     given (shape_of constants port)
-    (λ shape. if nat_lt 65536 (words + product shape.sizes) then Err (At TooWide port.at.pos)
+    (λ shape. if nat_lt most_words (words + product shape.sizes) then Err (At TooWide port.at.pos)
     else Ok (record { name = port.at.name; shape = shape }))
 
 -- a declaration of a variable after others

@@ -1,5 +1,6 @@
 -- The checked form of a `seq` module.
-use Rattle.std.specs.Prelude.{ℕ, ℤ, ◌&&◌, Bool, true, false, List, [], ◌∷◌, ◌++◌, map, Result, Ok, Err, Option, Some, None, nat_le, if◌then◌else◌}
+use Rattle.std.specs.Prelude.{ℕ, ℤ, ◌&&◌, Bool, true, false, List, [], ◌++◌, map, Result, Ok, Err, Option, Some, None, nat_le, if◌then◌else◌}
+use Rattle.p3l_base.specs.Limits.{most_budget}
 use Rattle.p3l_ast.specs.declared.position.Pos.{Pos}
 use Rattle.p3l_ast.specs.declared.refusal.Fault.TheVariants.{Expected, Twice, DeclaredTwice, BadWorkers}
 use Rattle.p3l_ast.specs.declared.refusal.SourceRefusal.{SourceRefusal}
@@ -36,10 +37,10 @@ limited low high constants num =
     (λ value. if nat_le low (natural value) && nat_le (natural value) high then Ok (natural value)
     else Err (At BadWorkers (place_of num)))
 
--- the turns that the loops of a body may begin: 1 to 100,000,000, and 1,000,000 without a clause
+-- the turns that the loops of a body may begin: at least 1, and 1,000,000 without a clause
 abbrev pub budget_of : Constants → Option Num → Result ℕ SourceRefusal
 budget_of constants None = Ok 1000000
-budget_of constants (Some num) = limited 1 100000000 constants num
+budget_of constants (Some num) = limited 1 most_budget constants num
 
 -- a number, or after a minus what the minus of bodies makes of it
 abbrev pub signed : Bool → ℤ → ℤ

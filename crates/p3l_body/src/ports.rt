@@ -9,6 +9,7 @@ use crate::var::Var;
 use p3l_ast::meaning::operator::unary;
 use p3l_ast::{Fault, Num, Port, Rescue, SourceRefusal, UnOp};
 use p3l_base::List;
+use p3l_base::limits::MOST_BUDGET;
 use p3l_types::{Consts, natural, place_of, value_of};
 use std::alloc::Global;
 
@@ -51,11 +52,8 @@ pub fn limited(low: u32, high: u32, consts: &Consts, num: &Num) -> Result<u32, S
     }
 }
 
-/// The most turns of a body without a clause.
+/// The budget of a body without a clause.
 const USUAL_BUDGET: u32 = 1_000_000;
-
-/// The most turns that a clause may give to a body.
-const MOST_BUDGET: u32 = 100_000_000;
 
 /// The turns that the loops of a body may begin.
 pub fn budget_of(consts: &Consts, clause: &Option<Num>) -> Result<u32, SourceRefusal>

@@ -1,6 +1,7 @@
-// The variables that are declared, and what names stand for.
+// The variables that are declared, and the meanings of names.
 
 ghost use Rattle.std.specs.Prelude.{◌≡◌, ◌+◌, ◌≤◌, ◌++◌, [], ◌∷◌, None, OnErr, IfOk, map, bytes_eq, length};
+ghost use Rattle.p3l_base.specs.Limits.{most_words};
 ghost use Rattle.p3l_base.specs.Memory.{OnGiven};
 ghost use Rattle.std.specs.Map.{lookup};
 ghost use Rattle.p3l_types.specs.Verdict.{Gives};
@@ -10,15 +11,13 @@ ghost use Rattle.p3l_body.specs.Scope.{named, known_of, fresh, measured, declare
 use crate::var::Var;
 use indexmap::IndexMap;
 use p3l_ast::{Fault, Port, SourceRefusal, Spot};
+use p3l_base::limits::MOST_WORDS;
 use p3l_base::{List, Name, NoMemory};
 use p3l_types::{Consts, product, shape_of, words_of};
 use std::alloc::Global;
 use std::marker::Model;
 
-/// The most words of all ins, of all outs, or of all local variables.
-const MOST_WORDS: u64 = 65_536;
-
-/// What is known of a name: how many sizes it has, and whether it may not be assigned to.
+/// A name's number of sizes, and true if it may not be assigned to.
 #[derive(Clone, Copy, Debug, Drop, PartialEq, Eq)]
 pub struct Known {
     pub sizes: usize,
@@ -60,7 +59,7 @@ impl Scope {
         Ok(())
     }
 
-    /// What a name stands for: a variable, or else a constant.
+    /// The variable of a name, or else its constant.
     pub fn known(&self, consts: &Consts, name: &Name) -> Option<Known>
         ensures { result ≡ known_of consts.now self.now name.now }
     {
@@ -79,9 +78,9 @@ impl Scope {
 
 /// A variable after others of `words` words.
 fn measured(alloc: Global, consts: &Consts, words: u64, port: &Port) -> Result<Var, SourceRefusal>
-    requires { words ≤ 65536 }
+    requires { words ≤ most_words }
     ensures var { Gives result (measured consts.now words port.now) }
-    ensures few { IfOk result (λ var. words + product var.shape.sizes ≤ 65536) }
+    ensures few { IfOk result (λ var. words + product var.shape.sizes ≤ most_words) }
 {
     let shape = shape_of(alloc, port, consts)?;
     if words + product(shape.sizes.as_slice()) > MOST_WORDS {
@@ -121,9 +120,9 @@ pub fn declare_one(
     words: u64,
     port: &Port,
 ) -> Result<Var, SourceRefusal>
-    requires { words ≤ 65536 }
+    requires { words ≤ most_words }
     ensures var { Gives result (declared_one fault consts.now scope.now words port.now) }
-    ensures few { IfOk result (λ var. words + product var.shape.sizes ≤ 65536) }
+    ensures few { IfOk result (λ var. words + product var.shape.sizes ≤ most_words) }
     ensures fresh { IfOk result (λ var. lookup (bytes_eq var.name) scope.now ≡ None) }
 {
     let var = measured(alloc, consts, words, port)?;

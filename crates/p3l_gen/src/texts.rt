@@ -7,7 +7,7 @@ ghost use Rattle.p3l_gen.specs.Texts.{costs_text, factor_of, line_text, program_
 use p3l_base::{List, NoMemory};
 use std::alloc::Global;
 
-/// How many words an item has.
+/// The number of words of an item.
 const WORDS: u64 = 16;
 
 /// A program, costs of it, and a stream of items for it.
@@ -58,7 +58,7 @@ fn costs_text(alloc: Global) -> Result<List<u8>, NoMemory>
     Ok(List::from_vec(text.into_bytes()))
 }
 
-/// Puts word `i` of a line after a text.
+/// Appends word `i` of a line to a text.
 fn put_word(alloc: Global, text: &mut String, first: u64, i: u64) -> Result<(), NoMemory>
     requires { first + i < 2 ^ 64 }
     ensures { OnGiven result (string_bytes text.new ≡ string_bytes text.old ++ word_text first i) }
@@ -72,7 +72,7 @@ fn put_word(alloc: Global, text: &mut String, first: u64, i: u64) -> Result<(), 
     Ok(())
 }
 
-/// Puts a line after a text, which begins with a number.
+/// Appends the line that begins with a number to a text.
 fn put_line(alloc: Global, text: &mut String, first: u64) -> Result<(), NoMemory>
     requires { first ≤ 2 ^ 63 }
     ensures { OnGiven result (string_bytes text.new ≡ string_bytes text.old ++ line_text first) }

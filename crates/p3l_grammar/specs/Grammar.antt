@@ -1,4 +1,4 @@
--- What a text spells, and where it is first wrong.
+-- The program that a text spells, and the first place where it is wrong.
 use Rattle.std.specs.Prelude.{◌≡◌, ℕ, List, [], ◌∷◌, ◌++◌}
 use Rattle.p3l_ast.specs.declared.position.Pos.{Pos}
 use Rattle.p3l_ast.specs.declared.refusal.Fault.{Fault}
@@ -43,7 +43,7 @@ IsFaultOf _ Expected upto = IsViable upto → ⊥
 IsFaultOf _ TooNested upto = IsViable upto × IsPast (nest_after at_rest upto)
 IsFaultOf _ _ upto = ⊥
 
--- what is wrong at the front of what is left: its fault and its position, at the end after the last byte
+-- the fault at the front of the tokens that are left, and its position, at the end after the last byte
 abbrev pub IsWrong : List ℕ → List Token → List Token → Fault → Pos → Type 0
 IsWrong bytes before [] fault at =
     (fault ≡ Expected) × (at ≡ position_after bytes) × ((entries : List EntryTree) → Derives (symbols before) entries → ⊥)

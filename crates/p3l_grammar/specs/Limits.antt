@@ -7,7 +7,7 @@ use Rattle.p3l_grammar.specs.declared.nest.Role.{Role}
 use Rattle.p3l_grammar.specs.declared.nest.Role.TheVariants as roles
 use Rattle.p3l_grammar.specs.Symbol.{Symbol, sign}
 
--- what a mark does to how deep a body nests
+-- the effect of a mark on the nesting of a body
 abbrev pub role_of : Mark → Role
 role_of marks.While = roles.Test
 role_of marks.If = roles.Test
@@ -31,11 +31,11 @@ role_of _ = roles.Other
 abbrev pub at_rest : Nest
 at_rest = record { in_body = false; brackets = 0; wanted = 0; in_term = false; base = 0; operators = 0 }
 
--- where a statement may begin
+-- the nesting where a statement may begin
 abbrev pub at_statement : ℕ → Nest
 at_statement brackets = record { in_body = true; brackets = brackets; wanted = 0; in_term = false; base = brackets; operators = 0 }
 
--- where a part of a statement begins: an expression, or a target
+-- the nesting where a part of a statement begins: an expression, or a target
 abbrev pub at_part : Nest → ℕ → Bool → ℕ → Nest
 at_part n wanted in_term base =
     record { in_body = true; brackets = n.brackets; wanted = wanted; in_term = in_term; base = base; operators = 0 }
@@ -90,7 +90,7 @@ IsKept n = (n.brackets ≤ 64) × (n.operators ≤ 256)
 abbrev pub IsPast : Nest → Type 0
 IsPast n = IsKept n → ⊥
 
--- how deep some symbols lead
+-- the nesting after some symbols
 abbrev pub nest_after : Nest → List Symbol → Nest
 nest_after n [] = n
 nest_after n (t ∷ ts) = nest_after (after_symbol n t) ts

@@ -60,13 +60,13 @@ mutual
     after_unary : UnOp → Hole → Hole
     after_binary : BinOp → Phrase → Hole → Hole
 
--- how tight an expression has to bind where it is
+-- the least level of an expression at its place
 abbrev pub need : Hole → ℕ
 need (whole go) = 0
 need (after_unary o h) = 10
 need (after_binary o a h) = suc (level o)
 
--- What may come, by the productions.
+-- The symbols that may come, by the productions.
 
 abbrev pub expression : (Phrase → Parser) → Parser
 expression go = operand (whole go)
@@ -137,7 +137,7 @@ local_from go = port_from (λ p. await marks.Semicolon (go p))
 abbrev pub block : (Statements → Parser) → Parser
 block go = await marks.OpenBrace (another_stmt done (λ b. await marks.CloseBrace (go b)))
 
--- what comes after the name of a place that is read
+-- the symbols after the name of a place that is read
 abbrev pub place_from : Spot → (Phrase → Parser) → Parser
 place_from x go = another_index none (λ is. go (read x is))
 
@@ -183,7 +183,7 @@ loop_calls go = call (λ b. await marks.While (call (λ c. go (turning b c))))
 abbrev pub loop_tokens : Num → (Filling → Parser) → Parser
 loop_tokens t go = clause marks.Tokens (λ n. loop_calls (λ i. go (turning_filling t n i)))
 
--- what is between the head of a module and its end
+-- the part of a module between its head and its end
 abbrev pub filling : Kind → (Filling → Parser) → Parser
 filling kinds.Seq go = clause marks.Budget (λ b. rescue_clause (λ x. body_from (λ i. go (body_filling b x i))))
 filling kinds.Comp go = rescue_clause (λ x. call_list (λ cs. go (chain_filling x cs)))
@@ -193,7 +193,7 @@ filling kinds.Map go = clause marks.Workers (λ w. call (λ c. go (spread_fillin
 filling kinds.Reduce go = clause marks.Workers (λ w. call (λ c. go (spread_filling w c)))
 filling kinds.Loop go = await marks.Turns (any_num (λ t. loop_tokens t go))
 
--- what comes after the keyword of a module
+-- the symbols after the keyword of a module
 abbrev pub module_from : Kind → (EntryTree → Parser) → Parser
 module_from k go = head (λ h. filling k (λ f. end_of k (go (module_of k h f))))
 

@@ -1,4 +1,4 @@
--- What the grammar sees of a token, and the marks of operators and modules.
+-- The symbol of a token, as the grammar sees it, and the marks of operators and modules.
 use Rattle.std.specs.Prelude.{ℤ, List, map}
 use Rattle.p3l_ast.specs.declared.position.Pos.{Pos}
 use Rattle.p3l_ast.specs.declared.position.Spot.{Spot}

@@ -66,7 +66,7 @@ pub data Passage : Type 0 where
 
 -- Which of these are texts of the language.
 
--- how tight the outermost construct of an expression binds
+-- the level of the outermost construct of an expression
 abbrev pub tight : Formula → ℕ
 tight (numeral v p) = 10
 tight (place x is) = 10
@@ -136,7 +136,7 @@ IsText (i ∷ is) = IsPassage i × IsText is
 
 -- The tokens: those of the first argument, and then those of the last.
 
--- what is written for each item, one after the other
+-- the symbols of each item, one after the other
 abbrev pub each : {A : Type 0} → (A → List Symbol → List Symbol) → List A → List Symbol → List Symbol
 each f [] r = r
 each f (x ∷ xs) r = f x (each f xs r)
@@ -144,7 +144,7 @@ each f (x ∷ xs) r = f x (each f xs r)
 abbrev pub after_comma : {A : Type 0} → (A → List Symbol → List Symbol) → A → List Symbol → List Symbol
 after_comma f x r = sign marks.Comma ∷ f x r
 
--- what is written for each item, with commas between them
+-- the symbols of each item, with commas between them
 abbrev pub separated : {A : Type 0} → (A → List Symbol → List Symbol) → List A → List Symbol → List Symbol
 separated f [] r = r
 separated f (x ∷ xs) r = f x (each (after_comma f) xs r)
@@ -159,7 +159,7 @@ spell_size n r = sign marks.OpenBracket ∷ num_symbol n ∷ sign marks.CloseBra
 abbrev pub spell_port : Port → List Symbol → List Symbol
 spell_port p r = sign marks.Int ∷ word p.at ∷ each spell_size p.sizes r
 
--- what comes after the bracket that opens
+-- the symbols after the bracket that opens
 abbrev pub in_brackets : Sub → List Symbol → List Symbol
 in_brackets Whole r = sign marks.CloseBracket ∷ r
 in_brackets (Free x) r = sign (marks.Operator ops.Mul) ∷ word x ∷ sign marks.CloseBracket ∷ r
@@ -279,7 +279,7 @@ script_tree (while_ e b c) = ast.while_ (tree e) (script_tree b) (script_tree c)
 script_tree (for_ x is e w y js f b c) =
     ast.for_ x (trees is) (tree e) (tree w) y (trees js) (tree f) (script_tree b) (script_tree c)
 
--- what is between the head of a module and its end
+-- the part of a module between its head and its end
 pub record Filling : Type 0 where
   pub clauses : Clauses
   pub inside : InsideTree

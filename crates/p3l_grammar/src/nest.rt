@@ -1,4 +1,4 @@
-// How deep a body nests: its open brackets, and the operators of the expression that goes on.
+// The nesting of a body: its open brackets, and the operators of the expression that goes on.
 
 ghost use Rattle.std.specs.Prelude.{◌≡◌, ◌<◌, ◌≤◌, ◌↔◌, suc, length, take, IsTrue, IfSome, IfNone};
 ghost use Rattle.p3l_grammar.specs.Symbol.{symbol, symbols};
@@ -6,7 +6,7 @@ ghost use Rattle.p3l_grammar.specs.Limits.{role_of, at_rest, at_statement, at_pa
 
 use p3l_lexer::{Lexeme, Mark, Token};
 
-/// What a mark does to how deep a body nests.
+/// The effect of a mark on the nesting of a body.
 #[derive(Clone, Copy, Debug, Drop, PartialEq, Eq)]
 pub enum Role {
     OpenBody,
@@ -26,7 +26,7 @@ pub enum Role {
     Other,
 }
 
-/// What a mark does to how deep a body nests.
+/// The effect of a mark on the nesting of a body.
 pub fn role_of(mark: Mark) -> Role
     ensures { result ≡ role_of mark }
 {
@@ -51,17 +51,17 @@ pub fn role_of(mark: Mark) -> Role
     }
 }
 
-/// How deep the tokens after us lead; outside bodies nothing is counted. An expression with all
-/// its parts is one, and each index of a target that is assigned is an expression of its own.
+/// The nesting after some tokens; outside bodies nothing is counted. An expression with all its parts is
+/// one, and each index of a target that is assigned is an expression of its own.
 #[derive(Clone, Copy, Debug, Drop, PartialEq, Eq)]
 pub struct Nest {
-    /// Whether a body is open.
+    /// True if a body is open.
     pub in_body: bool,
     /// Its open brackets.
     pub brackets: usize,
     /// The semicolons that the head of a `for` still needs.
     pub wanted: usize,
-    /// Whether an expression goes on up to a mark of its statement.
+    /// True if an expression goes on up to a mark of its statement.
     pub in_term: bool,
     /// If not, how many brackets are open outside the indices of the target.
     pub base: usize,
@@ -84,7 +84,7 @@ impl Nest {
         }
     }
 
-    /// Where a statement may begin.
+    /// The nesting where a statement may begin.
     fn at_statement(brackets: usize) -> Nest
         ensures { result ≡ at_statement brackets }
     {
@@ -98,7 +98,7 @@ impl Nest {
         }
     }
 
-    /// Where a part of a statement begins: an expression, or a target.
+    /// The nesting where a part of a statement begins: an expression, or a target.
     fn at_part(self, wanted: usize, in_term: bool, base: usize) -> Nest
         ensures { result ≡ at_part self wanted in_term base }
     {
@@ -204,7 +204,7 @@ impl Nest {
         }
     }
 
-    /// Whether at most 64 brackets are open, and the expression has at most 256 operators.
+    /// True if at most 64 brackets are open, and the expression has at most 256 operators.
     pub fn is_kept(self) -> bool
         ensures { IsTrue result ↔ IsKept self }
     {

@@ -1,4 +1,4 @@
--- How keywords and punctuation are written.
+-- The texts of keywords and punctuation.
 use Rattle.std.specs.Prelude.{ℕ, List, [], ◌∷◌, Option, Some, None, find, bytes_eq, codes}
 use Rattle.p3l_ast.specs.declared.expression.BinOp.{BinOp}
 use Rattle.p3l_ast.specs.Notation.{sign_of, operator_of}

@@ -1,4 +1,4 @@
--- What a text is as a whole: one token, one comment, one blank, or none of these.
+-- The kind of a whole text: one token, one comment, one blank, or none of these.
 use Rattle.std.specs.Prelude.{ℕ, ◌+◌, ◌-◌, ◌*◌, ◌^◌, Bool, not, ◌&&◌, ◌||◌, List, [], ◌∷◌, length, Option, Some, None, fold, nat_eq, nat_le, nat_lt, pos, slice_index, if◌then◌else◌}
 use Rattle.std.specs.List.{list_all}
 use Rattle.p3l_ast.specs.declared.refusal.Fault.TheVariants.{BadByte, BadToken, NumberTooBig, NameTooLong}
@@ -53,7 +53,7 @@ sign_or_byte None (byte ∷ []) =
     Some (if is_blank byte then Gap else (if nat_eq byte 36 then Token (Faulty BadToken) else Token (Faulty BadByte)))
 sign_or_byte None _ = None
 
--- what comes after the first `*/`
+-- the text after the first `*/`
 unfoldable pub after_close : List ℕ → Option (List ℕ)
 after_close [] = None
 after_close (first ∷ []) = None
@@ -73,7 +73,7 @@ slash_of (slash ∷ second ∷ body) =
     (if nat_eq second 42 then block_of (after_close body) else None)
 slash_of text = sign_or_byte (punctuation_of text) text
 
--- what the whole text is, if it is one piece
+-- the kind of the whole text, if it is one piece
 unfoldable pub piece_of : List ℕ → Option Piece
 piece_of [] = None
 piece_of (first ∷ rest) =

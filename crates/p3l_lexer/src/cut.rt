@@ -35,7 +35,7 @@ fn line(text: &[u8]) -> (&[u8], &[u8])
     text.split_at(n)
 }
 
-/// How many bytes there are up to and with the first `*/`.
+/// The number of bytes up to and with the first `*/`.
 pub fn close(body: &[u8]) -> Option<usize>
     ensures within { IfSome result (λ n. n ≤ length body.now) }
     ensures some { IfSome result (λ n. after_close body.now ≡ Some (drop n body.now)) }
@@ -51,7 +51,7 @@ pub fn close(body: &[u8]) -> Option<usize>
     None
 }
 
-/// Whether a mark of two bytes is at the front.
+/// True if a mark of two bytes is at the front.
 #[tactic(auto, unfolding(crate::specs::Cut::begins_with_pair))]
 fn pair(text: &[u8]) -> bool
     ensures pair { result ≡ begins_with_pair text.now }

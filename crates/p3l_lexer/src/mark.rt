@@ -61,7 +61,7 @@ pub enum Mark {
 }
 
 impl Mark {
-    /// How the mark is written.
+    /// The text of the mark.
     pub fn text(self) -> &'static str
         ensures { result.now ≡ mark_text self }
     {

@@ -1,4 +1,4 @@
-// What a piece of a text is.
+// The kinds of pieces of a text.
 
 ghost use Rattle.std.specs.Prelude.{◌≡◌, ◌<◌, ◌≤◌, ◌^◌, ◌∷◌, [], length, true, pos, Some, None, IsSome, MatchOption};
 ghost use Rattle.p3l_base.specs.Memory.{IfGiven};
@@ -44,14 +44,14 @@ fn word(alloc: Global, text: &[u8]) -> Result<Lexeme, NoMemory>
     Ok(Lexeme::Word(name))
 }
 
-/// Whether all bytes are digits.
+/// True if all bytes are digits.
 fn all_digits(text: &[u8]) -> bool
     ensures { result ≡ list_all is_digit text.now }
 {
     text.iter().all(|byte| digit(*byte))
 }
 
-/// Whether a text is one digit, or more of which the first is no 0.
+/// True if a text is one digit, or more of which the first is no 0.
 fn numeral(text: &[u8]) -> bool
     requires { 0 < length text.now }
     ensures { result ≡ is_number text.now }
@@ -144,7 +144,7 @@ fn slash(text: &[u8]) -> Piece
     Piece::Gap
 }
 
-/// What a text is that is one piece.
+/// The kind of a text that is one piece.
 pub fn piece(alloc: Global, text: &[u8]) -> Result<Piece, NoMemory>
     requires some { 0 < length text.now }
     requires piece { IsSome (piece_of text.now) }

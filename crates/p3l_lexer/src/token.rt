@@ -4,7 +4,7 @@ use crate::mark::Mark;
 use p3l_ast::{Fault, Pos};
 use p3l_base::Name;
 
-/// What a token is.
+/// The kind of a token.
 #[derive(Debug, Drop)]
 pub enum Lexeme {
     /// A name: a word of at most 64 bytes that is no keyword.
@@ -17,7 +17,7 @@ pub enum Lexeme {
     Faulty(Fault),
 }
 
-/// What a piece of a text is.
+/// The kind of a piece of a text.
 #[derive(Debug, Drop)]
 pub enum Piece {
     /// A blank byte or a comment, which separates tokens and means nothing.

@@ -8,8 +8,7 @@ use p3l_base::NoMemory;
 use std::alloc::Global;
 use std::marker::Model;
 
-/// For each number below a size the moment at which it is due, if it is: contracts see the list of
-/// these.
+/// The moments at which the numbers below a size are due, if they are: contracts see their list.
 ///
 /// They are the last `size` of twice as many cells, a power of two. Each cell j before them, from 1
 /// on, has the sooner of the moments in cells 2 j and 2 j + 1, so that cell 1 has the least of all;
@@ -123,7 +122,7 @@ impl Moments {
         })
     }
 
-    /// Number `p` is due at this moment, or isn't due; whatever was before.
+    /// Sets or clears the due time of number `p`.
     pub fn put(&mut self, p: u32, due: Option<u128>)
         requires { p < length self.old }
         ensures { self.new ≡ slice_set self.old p due }
@@ -133,7 +132,7 @@ impl Moments {
         mend(self.cells.as_mut_slice(), self.size, leaf);
     }
 
-    /// When number `p` is due.
+    /// The moment at which number `p` is due.
     pub fn due(&self, p: u32) -> Option<u128>
         requires { p < length self.now }
         ensures { result ≡ due_at self.now p }

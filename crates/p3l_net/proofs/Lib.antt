@@ -1,3 +1,4 @@
+pub mod Given
 pub mod Rings
 pub mod Queues
 pub mod StepLaw

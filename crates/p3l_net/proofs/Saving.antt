@@ -1,7 +1,6 @@
 -- What is saved of a machine is what is restored.
 use Rattle.std.proofs.Common.{◌≡◌, ℕ, zero, suc, ◌+◌, ◌^◌, ◌<◌, ◌≤◌, Bool, false, List, [], ◌∷◌, ◌++◌, length, map, take, get_or, slice_get, Some, Result, Ok, Err, refl, sym, ap, ap₂, ◌∙◌, subst, arith}
 use Rattle.std.specs.List.{AllByRecursion}
-use Rattle.std.specs.Result.{IfOk}
 use Rattle.std.proofs.lemmas.List.{reverse-reverse, length-reverse, length-map, get_or-map as map_there}
 use Rattle.std.proofs.lemmas.List.Elements.{All-from_recursion, recursion_from_All}
 use Rattle.p3l_skel.specs.declared.tree.Tree.{Tree}
@@ -173,8 +172,3 @@ saved_fits m sound calm small = record {
     countable = small;
   };
 }
-
--- what follows from a clause where a call was not refused
-pub if_ok_so : {A E : Type 0} {P Q : A → Type 0} (r : Result A E) → IfOk r P → ((x : A) → P x → Q x) → IfOk r Q
-if_ok_so (Ok x) p f = f x p
-if_ok_so (Err e) p f = tt

@@ -1,7 +1,7 @@
 -- What is known of the process at a number of a sound machine.
 use Rattle.std.proofs.Common.{◌≡◌, ◌≢◌, ℕ, ◌+◌, ◌^◌, ◌<◌, ◌≤◌, true, List, [], ◌∷◌, length, Some, zero, suc, slice_get, get_or, nat_lt, sym, ap, ◌∙◌, subst, arith, length-set}
 use Rattle.std.specs.Option.{option_map}
-use Rattle.std.specs.Result.{IfOk, OnOk, OnErr}
+use Rattle.std.specs.Result.{OnErr}
 use Rattle.std.proofs.Common.{Result, Ok, Err}
 use Rattle.std.specs.List.{AllByRecursion}
 use Rattle.std.proofs.lemmas.Bool.{ltb-true}
@@ -153,13 +153,3 @@ wants_as m p {q = q} {k = k} stands kind wants =
 pub on_err : {A E : Type 0} {P : Type 0} (r : Result A E) → P → OnErr r P
 on_err (Ok x) p = tt
 on_err (Err e) p = p
-
--- what follows from a clause where a call was not refused
-pub if_ok_so : {A E : Type 0} {P Q : A → Type 0} (r : Result A E) → IfOk r P → ((x : A) → P x → Q x) → IfOk r Q
-if_ok_so (Ok x) p f = f x p
-if_ok_so (Err e) p f = tt
-
--- what two clauses say together where a call was not refused
-pub if_ok_both : {A E : Type 0} {P : Type 0} {Q R : A → Type 0} (r : Result A E) → OnOk r P → IfOk r Q → ((x : A) → P → Q x → R x) → IfOk r R
-if_ok_both (Ok x) p q f = f x p q
-if_ok_both (Err e) p q f = tt

@@ -18,8 +18,8 @@ use p3l_firing::{Chan, Tags, Token};
 use std::alloc::Global;
 use std::marker::Model;
 
-/// What lies of a token in the ring of outcomes: its outcome, and whether its tags lie in the ring of
-/// tags. Those of a plain token lie nowhere: it has none.
+/// The entry of a token in the ring of outcomes: its outcome, and whether its tags lie in the ring
+/// of tags. Those of a plain token lie nowhere: it has none.
 #[derive(Debug, Drop)]
 enum Slot {
     Plain(Outcome),
@@ -27,7 +27,7 @@ enum Slot {
 }
 
 impl Slot {
-    // How many lists of tags it has in the ring of tags: one or none.
+    // The count of its lists of tags in the ring of tags: one or none.
     fn lists(&self) -> usize
         ensures { result ≡ lists_of self.now }
     {
@@ -151,21 +151,21 @@ impl Channel {
         saved_slots(alloc, &self.slots, &self.tags)
     }
 
-    /// Whether there is a token.
+    /// Returns true exactly if there is a token.
     pub(crate) fn has_token(&self) -> bool
         ensures { result ≡ has_first self.now.tokens }
     {
         !self.slots.is_empty()
     }
 
-    /// How many tokens there are.
+    /// The count of tokens.
     pub(crate) fn len(&self) -> usize
         ensures { result ≡ length self.now.tokens }
     {
         self.slots.len()
     }
 
-    /// Whether one more token may be appended.
+    /// Returns true exactly if one more token may be appended.
     pub(crate) fn has_room(&self) -> bool
         ensures { result ≡ nat_lt (length self.now.tokens) self.now.room }
     {
@@ -191,7 +191,7 @@ impl Channel {
         }
     }
 
-    /// Whether no tags lie there of the first token: then it has none.
+    /// Returns true exactly if the first token has no tags stored: then it has none.
     pub(crate) fn is_plain(&self) -> bool
         requires { 0 < length self.now.tokens }
         ensures { IsTrue result → (first_or credit self.now.tokens).tags ≡ [] }

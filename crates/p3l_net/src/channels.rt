@@ -75,7 +75,7 @@ impl Channels {
         Ok(saved)
     }
 
-    /// Whether a channel has a token.
+    /// Returns true exactly if a channel has a token.
     pub(crate) fn has_token(&self, c: u32) -> bool
         requires { c < length self.now }
         ensures { result ≡ has_first (tokens_at self.now c) }
@@ -83,7 +83,7 @@ impl Channels {
         self.list[c as usize].has_token()
     }
 
-    /// Whether a channel has room for one token more.
+    /// Returns true exactly if a channel has room for one token more.
     pub(crate) fn has_room(&self, c: u32) -> bool
         requires { c < length self.now }
         ensures { result ≡ nat_lt (length (tokens_at self.now c)) (queue_at self.now c).room }
@@ -91,7 +91,7 @@ impl Channels {
         self.list[c as usize].has_room()
     }
 
-    /// How many tokens a channel has.
+    /// The count of tokens in a channel.
     pub(crate) fn load(&self, c: u32) -> usize
         requires { c < length self.now }
         ensures { result ≡ length (tokens_at self.now c) }
@@ -108,7 +108,8 @@ impl Channels {
         self.list[c as usize].front_body()
     }
 
-    /// Whether no tags lie there of the first token of a channel that has one: then it has none.
+    /// Returns true exactly if the first token of a channel that has one has no tags stored: then
+    /// it has none.
     pub(crate) fn is_plain(&self, c: u32) -> bool
         requires there { c < length self.now }
         requires token { 0 < length (tokens_at self.now c) }

@@ -15,7 +15,7 @@ mod split;
 mod tail;
 
 ghost use Rattle.std.specs.Prelude.{◌≡◌, ◌≢◌, ◌<◌, ◌^◌, length, Some, None, true, OnErr};
-ghost use Rattle.p3l_base.specs.Memory.{IfGiven};
+ghost use Rattle.p3l_base.specs.Memory.{IfGivenOr};
 ghost use Rattle.p3l_firing.specs.Process.{kind_at};
 ghost use Rattle.p3l_net.specs.Machine.{IsSound, Stands, may_want_memory};
 ghost use Rattle.p3l_net.specs.Steps.{Done, ready_at};
@@ -28,8 +28,8 @@ use p3l_skel::Units;
 use std::alloc::Global;
 
 impl<'t> Store<'t> {
-    /// Whether process `p` is ready, as long as no trap was emitted. Most processes are runs, so these
-    /// are looked at without a call.
+    /// Returns true exactly if process `p` is ready, as long as no trap was emitted. Most
+    /// processes are runs, so these are looked at without a call.
     #[inline(always)]
     pub(crate) fn is_ready(&self, p: u32) -> bool
         requires sound { IsSound self.now }
@@ -43,7 +43,7 @@ impl<'t> Store<'t> {
         self.is_other_ready(p, process)
     }
 
-    // Whether a process that isn't a run is ready.
+    // Returns true exactly if a process that isn't a run is ready.
     #[inline(never)]
     fn is_other_ready(&self, p: u32, process: &Proc) -> bool
         requires stands { Stands self.now p process.now }
@@ -66,8 +66,8 @@ impl<'t> Store<'t> {
         }
     }
 
-    /// Fires process `p`, which is neither a sink nor a run: the step of its kind's row. Handed back are
-    /// the channels touched.
+    /// Fires process `p`, which is neither a sink nor a run: the step of its kind's row. Handed
+    /// back are the channels touched.
     pub(crate) fn fire_other<U: Units>(
         &mut self,
         alloc: Global,
@@ -81,8 +81,8 @@ impl<'t> Store<'t> {
         requires units { U.tree units.now ≡ self.old.tree }
         requires no_sink { kind_at self.old.net p ≢ Some ProcKind.Sink }
         requires no_run { kind_at self.old.net p ≢ Some ProcKind.Run }
-        ensures done { IfGiven result (λ touched. Done (U.leaf units.now)
-            self.old self.new p touched None) }
+        ensures done { IfGivenOr result (λ touched. Done (U.leaf units.now)
+            self.old self.new p touched None) (U.may_want ≡ true) }
         ensures err { OnErr result (self.new ≡ self.old) }
         ensures memory { OnErr result (may_want_memory self.old p ≡ true) }
     {

@@ -1,4 +1,5 @@
-//! The network machine: a net whose processes fire one at a time, with the set of those that are ready.
+//! The network machine: a net whose processes fire one at a time, with the set of those that are
+//! ready.
 #![tactic(auto)]
 
 mod channel;

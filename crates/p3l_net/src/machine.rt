@@ -1,7 +1,7 @@
 // The machine: a net that fires, one process at a time.
 
 ghost use Rattle.std.specs.Prelude.{◌≡◌, ◌≢◌, ◌<◌, length, None, IsTrue, ◌↔◌, IfOk, OnOk, OnErr, Some, [], ◌^◌, ℕ, List, IsSome, IfSome, IfNone, true, false, slice_get, find};
-ghost use Rattle.p3l_base.specs.Memory.{IfGiven, OnGiven};
+ghost use Rattle.p3l_base.specs.Memory.{IfGiven, IfGivenOr, OnGiven, OnGivenOr};
 ghost use Rattle.p3l_ready.specs.Flags.{in_turn};
 ghost use Rattle.p3l_net.specs.Machine.{can_step, started, state_of, HasEmitted, Fires, may_want_memory, ready_list};
 ghost use Rattle.p3l_net.specs.Steps.{CanFire, FiresLocally, IsReader, IsWriter, OthersStay, ready_at};
@@ -86,7 +86,7 @@ impl<'t> Machine<'t> {
         })
     }
 
-    /// What is saved of the state that it is in.
+    /// Saves the state.
     pub fn save(&self, alloc: Global) -> Result<Shot, NoMemory>
         requires { self.now.trapped ≡ false }
         ensures saved { IfGiven result (λ shot. shot ≡ shot_of self.now) }
@@ -98,7 +98,7 @@ impl<'t> Machine<'t> {
         self.store.save(alloc)
     }
 
-    /// How many processes there are.
+    /// The count of processes.
     pub fn size(&self) -> u32
         ensures { result ≡ length self.now.net.procs }
     {
@@ -112,7 +112,7 @@ impl<'t> Machine<'t> {
         self.store.net()
     }
 
-    /// Whether the inbox is empty.
+    /// Returns true exactly if the inbox is empty.
     pub fn wants_item(&self) -> bool
         ensures { IsTrue result ↔ (self.now.inbox ≡ None) }
     {
@@ -138,7 +138,8 @@ impl<'t> Machine<'t> {
         Ok(())
     }
 
-    /// Whether process `p` can fire; the source's next item is the one in the inbox.
+    /// Returns true exactly if process `p` can fire; the source's next item is the one in the
+    /// inbox.
     pub fn can_step(&self, p: u32) -> bool
         requires { p < length self.now.net.procs }
         ensures ready { result ≡ can_step self.now p }
@@ -166,7 +167,7 @@ impl<'t> Machine<'t> {
         self.sides.reader(c)
     }
 
-    /// How many processes can fire.
+    /// The count of processes that can fire.
     pub fn ready(&self) -> u32
         ensures { result ≡ length (ready_list self.now) }
     {
@@ -227,8 +228,8 @@ impl<'t> Machine<'t> {
         requires count { self.old.fired < 2 ^ 63 }
         requires tree { tree.now ≡ self.old.tree }
         requires units { U.tree units.now ≡ tree.now }
-        ensures fires { IfGiven result (λ done. Fires (U.leaf units.now)
-            self.old self.new p done.emitted) }
+        ensures fires { IfGivenOr result (λ done. Fires (U.leaf units.now)
+            self.old self.new p done.emitted) (U.may_want ≡ true) }
         ensures kind { IfOk result (λ done. kind_at self.old.net p ≡ Some done.kind) }
         ensures sink { IfOk result (λ done. IsSome done.emitted ↔ (done.kind ≡ ProcKind.Sink)) }
         ensures err { OnErr result (self.new ≡ self.old) }
@@ -251,8 +252,8 @@ impl<'t> Machine<'t> {
         })
     }
 
-    /// Fires process `p`, which isn't the sink, so that nothing is emitted: the step of its kind's row.
-    /// Refused, the machine is unchanged.
+    /// Fires process `p`, which isn't the sink, so that nothing is emitted: the step of its kind's
+    /// row. Refused, the machine is unchanged.
     #[inline(always)]
     pub fn fire_within<U: Units>(
         &mut self,
@@ -267,7 +268,8 @@ impl<'t> Machine<'t> {
         requires tree { tree.now ≡ self.old.tree }
         requires units { U.tree units.now ≡ tree.now }
         requires within { kind_at self.old.net p ≢ Some ProcKind.Sink }
-        ensures fires { OnGiven result (Fires (U.leaf units.now) self.old self.new p None) }
+        ensures fires { OnGivenOr result (Fires (U.leaf units.now) self.old self.new p None)
+            (U.may_want ≡ true) }
         ensures err { OnErr result (self.new ≡ self.old) }
         ensures memory { OnErr result (may_want_memory self.old p ≡ true) }
         ensures others { OnOk result (OthersStay self.old self.new p) }
@@ -298,7 +300,8 @@ impl<'t> Machine<'t> {
         requires can { CanFire self.old p }
         requires units { U.tree units.now ≡ self.old.tree }
         requires run { kind_at self.old.net p ≡ Some ProcKind.Run }
-        ensures ok { OnGiven result (FiresLocally (U.leaf units.now) self.old self.new p None) }
+        ensures ok { OnGivenOr result (FiresLocally (U.leaf units.now) self.old self.new p None)
+            (U.may_want ≡ true) }
         ensures err { OnErr result (self.new ≡ self.old) }
         ensures memory { OnErr result (may_want_memory self.old p ≡ true) }
     {
@@ -319,7 +322,8 @@ impl<'t> Machine<'t> {
         requires units { U.tree units.now ≡ self.old.tree }
         requires no_sink { kind_at self.old.net p ≢ Some ProcKind.Sink }
         requires no_run { kind_at self.old.net p ≢ Some ProcKind.Run }
-        ensures ok { OnGiven result (FiresLocally (U.leaf units.now) self.old self.new p None) }
+        ensures ok { OnGivenOr result (FiresLocally (U.leaf units.now) self.old self.new p None)
+            (U.may_want ≡ true) }
         ensures err { OnErr result (self.new ≡ self.old) }
         ensures memory { OnErr result (may_want_memory self.old p ≡ true) }
     {
@@ -329,28 +333,28 @@ impl<'t> Machine<'t> {
         Ok(())
     }
 
-    /// How many firings there were since the machine was started.
+    /// The count of firings since the machine was started.
     pub fn fired(&self) -> u64
         ensures { result ≡ self.now.fired }
     {
         self.store.fired()
     }
 
-    /// How many items the source has sent.
+    /// The count of items that the source has sent.
     pub fn sent(&self) -> u64
         ensures { result ≡ self.now.sent }
     {
         self.store.sent()
     }
 
-    /// How many outcomes the sink has emitted.
+    /// The count of outcomes that the sink has emitted.
     pub fn emitted(&self) -> u64
         ensures { result ≡ self.now.emitted }
     {
         self.store.emitted()
     }
 
-    /// Whether a trap was emitted.
+    /// Returns true exactly if a trap was emitted.
     pub fn trapped(&self) -> bool
         ensures { result ≡ self.now.trapped }
     {

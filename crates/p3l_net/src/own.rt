@@ -1,7 +1,7 @@
-// What the processes of a machine keep.
+// The local states of a machine's processes.
 
 ghost use Rattle.std.specs.Prelude.{◌≡◌, ◌+◌, ◌<◌, ◌^◌, length, map, replicate, slice_set, true, false, IfSome, IfNone, IfErr, OnOk, OnErr};
-ghost use Rattle.p3l_base.specs.Memory.{IfGiven};
+ghost use Rattle.p3l_base.specs.Memory.{IfGiven, Refused};
 ghost use Rattle.std.specs.List.{All};
 ghost use Rattle.p3l_firing.specs.State.{fresh, own_at, counted, holding, gathering, released};
 ghost use Rattle.p3l_firing.specs.kinds.Tail.{has_number, pick_number, after_release};
@@ -11,10 +11,11 @@ ghost use Rattle.p3l_net.specs.Turns.{IsDue};
 use crate::shot::{Own as SavedOwn, save_tokens};
 use p3l_base::{List, NoMemory};
 use p3l_firing::Token;
-use std::alloc::{AllocFailed, Global};
+use std::alloc::Global;
 use std::marker::Model;
 
-/// What a process keeps: a number, and the tokens that it holds, with room for one from the start.
+/// The local state of a process: a number, and the tokens that it holds, with room for one from the
+/// start.
 #[derive(Debug, Drop)]
 pub(crate) struct Keep {
     number: u64,
@@ -96,12 +97,16 @@ impl Keep {
         self.held.push(token).unwrap();
     }
 
-    fn gather(&mut self, token: Token) -> Result<(), AllocFailed<Token>>
+    fn gather(&mut self, token: Token) -> Result<(), (Token, NoMemory)>
         ensures ok { OnOk result (self.new ≡ gathering self.old token) }
         ensures err { OnErr result (self.new ≡ self.old) }
-        ensures back { IfErr result (λ failed. failed.value ≡ token) }
+        ensures back { IfErr result (λ failed. (failed.0 ≡ token) × Refused) }
     {
-        self.held.push(token)
+        if let Err(failed) = self.held.reserve(1) {
+            return Err((token, NoMemory::from(failed)));
+        }
+        self.held.push(token).unwrap();
+        Ok(())
     }
 
     // The place of the token held that is expected: the first of its number.
@@ -149,7 +154,7 @@ impl Keep {
     }
 }
 
-/// What each process keeps.
+/// The local state of each process.
 #[derive(Debug, Drop)]
 pub(crate) struct Keeps {
     list: Vec<Keep>,
@@ -165,7 +170,7 @@ impl Model for Keeps {
 }
 
 impl Keeps {
-    /// What `size` processes keep before anything has fired.
+    /// The local states of `size` processes before anything has fired.
     pub(crate) fn new(alloc: Global, size: usize) -> Result<Keeps, NoMemory>
         ensures { IfGiven result (λ keeps. keeps ≡ replicate size fresh) }
     {
@@ -176,7 +181,7 @@ impl Keeps {
         Ok(Keeps { list })
     }
 
-    /// What each process keeps, as it was saved.
+    /// Restores the local state of each process.
     pub(crate) fn restore(alloc: Global, saved: &List<SavedOwn>) -> Result<Keeps, NoMemory>
         requires { All (λ own. All HasFewTags own.held) saved.now }
         ensures { IfGiven result (λ keeps. keeps ≡ map own_of saved.now) }
@@ -189,7 +194,7 @@ impl Keeps {
         Ok(Keeps { list })
     }
 
-    /// What each process keeps, as it is saved.
+    /// Saves the local state of each process.
     pub(crate) fn save(&self, alloc: Global) -> Result<List<SavedOwn>, NoMemory>
         ensures { IfGiven result (λ saved. saved ≡ map saved_own self.now) }
     {
@@ -234,17 +239,17 @@ impl Keeps {
     }
 
     /// A process takes a token to those that it holds; refused, the token comes back.
-    pub(crate) fn gather(&mut self, p: u32, token: Token) -> Result<(), AllocFailed<Token>>
+    pub(crate) fn gather(&mut self, p: u32, token: Token) -> Result<(), (Token, NoMemory)>
         requires { p < length self.old }
         ensures ok { OnOk result (self.new
             ≡ slice_set self.old p (gathering (own_at self.old p) token)) }
         ensures err { OnErr result (self.new ≡ self.old) }
-        ensures back { IfErr result (λ failed. failed.value ≡ token) }
+        ensures back { IfErr result (λ failed. (failed.0 ≡ token) × Refused) }
     {
         self.list[p as usize].gather(token)
     }
 
-    /// Whether a process holds the token that is expected.
+    /// Returns true exactly if a process holds the token that is expected.
     pub(crate) fn holds_due(&self, p: u32) -> bool
         requires { p < length self.now }
         ensures { result ≡ has_number (own_at self.now p).number (own_at self.now p).held }

@@ -96,8 +96,9 @@ pub(crate) fn refresh(store: &Store, sides: &Sides, ready: &mut ReadySet, p: u32
     }
 }
 
-/// Looks again at the run `p`, at the process that writes the channel `input` that it reads, and at the
-/// one that reads the channel `output` that it writes. The other end of each of the two is `p` itself.
+/// Looks again at the run `p`, at the process that writes the channel `input` that it reads, and
+/// at the one that reads the channel `output` that it writes. The other end of each of the two is
+/// `p` itself.
 #[inline(always)]
 pub(crate) fn refresh_run(
     store: &Store,

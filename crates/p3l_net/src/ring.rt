@@ -1,5 +1,5 @@
-// Rings that are known to have room, or an item. What can't be is said by `unreachable!`, so that no
-// test of it is left.
+// Rings that are known to have room, or an item. What can't be is said by `unreachable!`, so that
+// no test of it is left.
 
 ghost use Rattle.std.specs.Prelude.{◌≡◌, ◌<◌, [], ◌∷◌, ◌++◌, length, slice_get, Some};
 ghost use Rattle.circular_buffer.specs.Buffer.{buffer};

@@ -8,7 +8,8 @@ use p3l_base::{List, NoMemory};
 use p3l_firing::Tags;
 use std::alloc::Global;
 
-// Whether there is no tag, where none shows. A newest tag that is 0 shows by being counted one more.
+// Returns true exactly if there is no tag, for tags that show none. A newest tag that is 0 shows by
+// being counted one more.
 fn is_bare_counted(tags: &Tags) -> bool
     requires { first_tag tags.now ≡ 0 }
     ensures { IsTrue result ↔ (tags.now ≡ []) }
@@ -18,7 +19,7 @@ fn is_bare_counted(tags: &Tags) -> bool
     counted.newest() == 0
 }
 
-/// Whether there is no tag.
+/// Returns true exactly if there is no tag.
 pub(crate) fn is_bare(tags: &Tags) -> bool
     ensures { IsTrue result ↔ (tags.now ≡ []) }
 {

@@ -1,4 +1,4 @@
-// What is saved of a machine.
+// Snapshots of machines.
 
 ghost use Rattle.std.specs.Prelude.{◌≡◌, ◌≤◌, ◌↔◌, ◌++◌, length, map, IsTrue};
 ghost use Rattle.p3l_base.specs.Memory.{IfGiven, OnGiven};
@@ -11,7 +11,7 @@ use p3l_base::{List, NoMemory, Outcome, Words};
 use p3l_firing::{Tags, Token};
 use std::alloc::Global;
 
-/// What is counted stays below this number, so that it can be counted on.
+/// Counts stay below this number, so that they can be counted on.
 const MOST_COUNTED: u64 = 1 << 63;
 
 /// A token as it is saved: an outcome, with its tags from the oldest to the newest.
@@ -21,7 +21,8 @@ pub struct SavedToken {
     pub body: Outcome,
 }
 
-/// What a process keeps from one of its firings to the next: a number, and the tokens that it holds.
+/// The local state of a process, from one of its firings to the next: a number, and the tokens
+/// that it holds.
 #[derive(Debug, Drop)]
 pub struct Own {
     pub number: u64,
@@ -41,7 +42,7 @@ pub struct Shot {
 }
 
 impl Shot {
-    /// Whether what was counted is below 2^63, as a machine that is restored needs it.
+    /// Returns true exactly if all counts are below 2^63, as a machine that is restored needs it.
     pub fn is_countable(&self) -> bool
         ensures { IsTrue result ↔ IsCountable self.now }
     {

@@ -1,4 +1,4 @@
-// What a machine holds: the tokens of a net, and the steps that its firings are made of.
+// The store of a machine: the tokens of a net, and the steps that its firings are made of.
 
 ghost use Rattle.std.specs.Prelude.{◌≡◌, ◌<◌, ◌≤◌, ◌+◌, ◌^◌, ◌↔◌, [], length, None, Some, IsTrue, true, OnErr, slice_get, is_some, cond};
 ghost use Rattle.p3l_base.specs.Memory.{IfGiven, OnGiven};
@@ -103,7 +103,7 @@ impl<'t> Store<'t> {
         }
     }
 
-    /// What is saved of the state.
+    /// Saves the state.
     pub(crate) fn save(&self, alloc: Global) -> Result<Shot, NoMemory>
         ensures { IfGiven result (λ shot. shot ≡ shot_of self.now) }
     {
@@ -116,7 +116,7 @@ impl<'t> Store<'t> {
         })
     }
 
-    /// How many processes there are.
+    /// The count of processes.
     pub(crate) fn size(&self) -> u32
         requires { length self.now.net.procs ≤ 1048576 }
         ensures { result ≡ length self.now.net.procs }
@@ -138,7 +138,7 @@ impl<'t> Store<'t> {
         &self.net
     }
 
-    /// Whether the inbox is empty.
+    /// Returns true exactly if the inbox is empty.
     pub(crate) fn wants_item(&self) -> bool
         ensures { IsTrue result ↔ (self.now.inbox ≡ None) }
     {
@@ -176,7 +176,8 @@ impl<'t> Store<'t> {
         self.channels.front_body(c)
     }
 
-    /// Whether no tags lie there of the first token of a channel that has one: then it has none.
+    /// Returns true exactly if the first token of a channel that has one has no tags stored: then
+    /// it has none.
     pub(crate) fn is_plain(&self, c: u32) -> bool
         requires { CanTake self.now c }
         ensures { IsTrue result → (first_or credit (tokens_at self.now.queues c)).tags ≡ [] }
@@ -234,8 +235,8 @@ impl<'t> Store<'t> {
         self.channels.append(c, token);
     }
 
-    /// Takes the first token of channel `input`, and appends it to channel `output`, which has room for
-    /// it, with another outcome; `plain` says whether it is known to have no tags.
+    /// Takes the first token of channel `input`, and appends it to channel `output`, which has
+    /// room for it, with another outcome; `plain` says whether it is known to have no tags.
     #[inline(always)]
     pub(crate) fn forward(&mut self, input: u32, output: u32, plain: bool, body: Outcome)
         requires token { CanTake self.old input }
@@ -248,8 +249,8 @@ impl<'t> Store<'t> {
         self.channels.forward(input, output, plain, body);
     }
 
-    /// Takes the first token of channel `input`, and appends it to channel `output`, which has room for
-    /// it, as it is.
+    /// Takes the first token of channel `input`, and appends it to channel `output`, which has
+    /// room for it, as it is.
     pub(crate) fn pass(&mut self, input: u32, output: u32)
         requires token { CanTake self.old input }
         requires room { CanPut (without_first self.old input) output }
@@ -291,14 +292,14 @@ impl<'t> Store<'t> {
         let token = self.channels.take(c);
         match self.keeps.gather(p, token) {
             Ok(()) => Ok(()),
-            Err(failed) => {
-                self.channels.put_back(c, failed.value);
-                Err(NoMemory)
+            Err((token, want)) => {
+                self.channels.put_back(c, token);
+                Err(want)
             }
         }
     }
 
-    /// Whether process `p` holds the token that is expected.
+    /// Returns true exactly if process `p` holds the token that is expected.
     pub(crate) fn holds_due(&self, p: u32) -> bool
         requires { p < length self.now.owns }
         ensures { result
@@ -320,8 +321,8 @@ impl<'t> Store<'t> {
         self.keeps.let_out(p)
     }
 
-    /// Process `p` takes the first token of channel `c` to those that it holds, with a trap in place
-    /// of its outcome. Refused, nothing changes.
+    /// Process `p` takes the first token of channel `c` to those that it holds, with a trap in
+    /// place of its outcome. Refused, nothing changes.
     pub(crate) fn gather_trapped(&mut self, p: u32, c: u32, trap: Trap) -> Result<(), NoMemory>
         requires there { p < length self.old.owns }
         requires token { CanTake self.old c }
@@ -339,9 +340,9 @@ impl<'t> Store<'t> {
         };
         match self.keeps.gather(p, trapped) {
             Ok(()) => Ok(()),
-            Err(failed) => {
-                self.channels.put_back(c, failed.value.with_body(body));
-                Err(NoMemory)
+            Err((token, want)) => {
+                self.channels.put_back(c, token.with_body(body));
+                Err(want)
             }
         }
     }
@@ -393,7 +394,7 @@ impl<'t> Store<'t> {
         self.keeps.held(p)
     }
 
-    /// Whether process `p` holds a token.
+    /// Returns true exactly if process `p` holds a token.
     pub(crate) fn is_holding(&self, p: u32) -> bool
         requires { p < length self.now.owns }
         ensures { result ≡ has_first (own_at self.now.owns p).held }
@@ -401,7 +402,7 @@ impl<'t> Store<'t> {
         !self.keeps.held(p).is_empty()
     }
 
-    /// Whether there is an item in the inbox.
+    /// Returns true exactly if there is an item in the inbox.
     pub(crate) fn has_item(&self) -> bool
         ensures { result ≡ is_some self.now.inbox }
     {
@@ -429,7 +430,7 @@ impl<'t> Store<'t> {
         self.trapped = is_trap(outcome);
     }
 
-    /// Whether a channel has a token.
+    /// Returns true exactly if a channel has a token.
     pub(crate) fn has_token(&self, c: u32) -> bool
         requires { c < length self.now.queues }
         ensures { result ≡ has_first (tokens_at self.now.queues c) }
@@ -437,7 +438,7 @@ impl<'t> Store<'t> {
         self.channels.has_token(c)
     }
 
-    /// Whether a channel has room for one token more.
+    /// Returns true exactly if a channel has room for one token more.
     pub(crate) fn has_room(&self, c: u32) -> bool
         requires { c < length self.now.queues }
         ensures { result ≡ room_at self.now c }
@@ -445,7 +446,7 @@ impl<'t> Store<'t> {
         self.channels.has_room(c)
     }
 
-    /// How many tokens a channel has.
+    /// The count of tokens in a channel.
     pub(crate) fn load(&self, c: u32) -> usize
         requires { c < length self.now.queues }
         ensures { result ≡ length (tokens_at self.now.queues c) }
@@ -453,7 +454,7 @@ impl<'t> Store<'t> {
         self.channels.load(c)
     }
 
-    /// How many tokens a channel may have.
+    /// The capacity of a channel.
     pub(crate) fn room(&self, c: u32) -> u32
         requires { c < length self.now.net.chans }
         ensures { result ≡ (chan_at self.now.net c).cap }
@@ -461,28 +462,28 @@ impl<'t> Store<'t> {
         self.net.chans.as_slice()[c as usize].cap
     }
 
-    /// How many firings there were.
+    /// The count of firings.
     pub(crate) fn fired(&self) -> u64
         ensures { result ≡ self.now.fired }
     {
         self.fired
     }
 
-    /// How many items the source has sent.
+    /// The count of items that the source has sent.
     pub(crate) fn sent(&self) -> u64
         ensures { result ≡ self.now.sent }
     {
         self.sent
     }
 
-    /// How many outcomes the sink has emitted.
+    /// The count of outcomes that the sink has emitted.
     pub(crate) fn emitted(&self) -> u64
         ensures { result ≡ self.now.emitted }
     {
         self.emitted
     }
 
-    /// Whether a trap was emitted.
+    /// Returns true exactly if a trap was emitted.
     pub(crate) fn trapped(&self) -> bool
         ensures { result ≡ self.now.trapped }
     {

@@ -5,8 +5,8 @@ use Rattle.p3l_skel.specs.declared.tree.Tree.{Tree}
 use Rattle.p3l_skel.specs.Lawful.{IsLawfulTree}
 use Rattle.p3l_skel.specs.Tree.{node_at}
 use Rattle.p3l_firing.specs.declared.net.Net.{Net}
-use Rattle.p3l_net.specs.Single.{unit_net}
-use Rattle.p3l_net.specs.Typed.{IsTyped}
+use Rattle.p3l_firing.specs.Single.{unit_net}
+use Rattle.p3l_firing.specs.Typed.{IsTyped}
 use Rattle.p3l_sketch.specs.OneNode.{one_node}
 use Rattle.p3l_sketch.proofs.OneNode.{node_is_seq, node_there}
 

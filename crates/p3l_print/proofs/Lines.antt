@@ -1,5 +1,6 @@
 -- The texts of expressions and statements, by what these are made of.
-use Rattle.std.proofs.Common.{◌≡◌, ℕ, suc, ℤ, List, ◌++◌, [], Some, None, Result, Ok, Err, OnOk, refl, sym, ap, ◌∙◌, append_assoc, append-nil, codes}
+use Rattle.std.proofs.Common.{◌≡◌, ℕ, suc, ℤ, List, ◌++◌, [], Some, None, Result, Ok, Err, refl, sym, ap, ◌∙◌, append_assoc, append-nil, codes}
+use Rattle.p3l_base.specs.Memory.{OnGiven}
 use Rattle.std.specs.Fmt.{signed_decimal}
 use Rattle.std.specs.declared.vec.Vec.{Vec}
 use Rattle.std.specs.declared.boxed.Box.{Box}
@@ -94,11 +95,11 @@ statements_text-join margin (while_ e b c) d = let h = statements_text-join marg
 statements_text-join margin (for_ x is e w y js f b c) d = let h = statements_text-join margin c d in rw h (simp append_assoc)
 
 -- one piece after another
-pub followed : {E : Type 0} (r : Result (Unit {0}) E) (old middle new first second text : List ℕ) → middle ≡ old ++ first → OnOk r (new ≡ middle ++ second)
-    → text ≡ first ++ second → OnOk r (new ≡ old ++ text)
+pub followed : {E : Type 0} (r : Result (Unit {0}) E) (old middle new first second text : List ℕ) → middle ≡ old ++ first → OnGiven r (new ≡ middle ++ second)
+    → text ≡ first ++ second → OnGiven r (new ≡ old ++ text)
 followed (Ok x) old middle new first second text p h q =
     h ∙ ap (λ t. t ++ second) p ∙ append_assoc old first second ∙ ap (λ t. old ++ t) (sym q)
-followed (Err e) old middle new first second text p h q = tt
+followed (Err e) old middle new first second text p h q = h
 
 pub then : (old middle new first second : List ℕ) → middle ≡ old ++ first → new ≡ middle ++ second → new ≡ old ++ (first ++ second)
 then old middle new first second p q = q ∙ ap (λ t. t ++ second) p ∙ append_assoc old first second

@@ -1,4 +1,4 @@
--- How calls are written.
+-- The texts of calls.
 use Rattle.std.specs.Prelude.{ℕ, List, ◌++◌, flat_map, codes}
 use Rattle.p3l_ast.specs.declared.call.Sub.{Sub}
 use Rattle.p3l_ast.specs.declared.call.Sub.TheVariants.{Whole, Free}

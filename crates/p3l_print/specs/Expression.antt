@@ -1,4 +1,4 @@
--- How expressions are written: parentheses stand exactly where the grouping needs them.
+-- The texts of expressions: parentheses stand exactly where the grouping needs them.
 use Rattle.std.specs.Prelude.{ℕ, suc, List, [], ◌++◌, nat_le, codes, if◌then◌else◌}
 use Rattle.std.specs.Fmt.{signed_decimal}
 use Rattle.p3l_ast.specs.declared.position.Spot.{Spot}
@@ -8,7 +8,7 @@ use Rattle.p3l_lexer.specs.Mark.{mark_text}
 use Rattle.p3l_ast.specs.Notation.{sign_of, level}
 use Rattle.p3l_grammar.specs.Symbol.{unary_mark}
 
--- how tight the outermost operator of an expression binds; 10 where none stands between operands
+-- the level of the outermost operator of an expression; 10 if none stands between operands
 abbrev pub tightness : Phrase → ℕ
 tightness (binary operator left right) = level operator
 tightness (number value) = 10

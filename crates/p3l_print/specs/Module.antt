@@ -1,4 +1,4 @@
--- How modules are written.
+-- The texts of modules.
 use Rattle.std.specs.Prelude.{ℕ, List, [], ◌++◌, flat_map, Bool, true, false, Option, Some, None, codes}
 use Rattle.p3l_ast.specs.declared.port.Num.{Num}
 use Rattle.p3l_ast.specs.declared.port.Port.{Port}

@@ -1,4 +1,4 @@
--- How ports, and the numbers of sizes and clauses, are written.
+-- The texts of ports, and of the numbers of sizes and clauses.
 use Rattle.std.specs.Prelude.{ℕ, List, ◌++◌, flat_map, codes}
 use Rattle.std.specs.Fmt.{signed_decimal}
 use Rattle.p3l_ast.specs.declared.port.Num.{Num}

@@ -1,4 +1,4 @@
--- How statements are written: on lines after a margin, which grows by two spaces in each block.
+-- The texts of statements: on lines after a margin, which grows by two spaces in each block.
 use Rattle.std.specs.Prelude.{ℕ, List, [], ◌++◌, codes}
 use Rattle.p3l_ast.specs.declared.position.Spot.{Spot}
 use Rattle.p3l_ast.specs.Tree.{Phrase, Phrases, Statements, done, assign, if_, if_else, while_, for_}
@@ -16,11 +16,11 @@ deeper margin = codes "  " ++ margin
 unfoldable pub block_text : List ℕ → List ℕ → List ℕ
 block_text margin lines = codes "{\n" ++ lines ++ margin ++ codes "}"
 
--- what stands before the block of an `if` or a `while`
+-- the head of an `if` or a `while`
 unfoldable pub opening_text : List ℕ → List ℕ → Phrase → List ℕ
 opening_text margin word condition = margin ++ word ++ codes " (" ++ expression_text condition ++ codes ") "
 
--- what stands before the block of a `for`
+-- the head of a `for`
 unfoldable pub for_opening_text : List ℕ → List ℕ → Phrase → List ℕ → List ℕ
 for_opening_text margin start condition step =
     margin ++ codes "for (" ++ start ++ codes "; " ++ expression_text condition ++ codes "; " ++ step ++ codes ") "

@@ -10,7 +10,7 @@ use p3l_ast::{BinOp, Expr, Target};
 use p3l_base::NoMemory;
 use p3l_grammar::mark::mark_of_unary;
 
-/// How tight an operand binds that no operator between operands has made.
+/// The level of an operand without an operator between operands.
 const TIGHTEST: u8 = 10;
 
 #[tactic(auto, using(crate::proofs::Lines::expressions))]

@@ -25,7 +25,7 @@ impl Model for Printer {
     ghost view = { λ it. it.text.items };
 }
 
-/// What is written as one piece.
+/// Values that are written as one piece.
 pub trait Print {
     ghost use Rattle.std.specs.Prelude.{List, ℕ};
 

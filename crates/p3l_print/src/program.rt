@@ -33,7 +33,7 @@ impl Print for Entry {
 pub fn print(alloc: Global, program: &Program) -> Result<List<u8>, NoMemory>
     ensures canonical { IfGiven result (λ text. text ≡ canonical (program_tree program.now)) }
 
-    // Where some text spells the program, the canonical text spells it too.
+    // If some text spells the program, the canonical text spells it too.
     ensures spells { IfOk result (λ text. (other : List ℕ)
         → IsTextOf other (program_tree program.now) → IsTextOf text (program_tree program.now)) }
 {

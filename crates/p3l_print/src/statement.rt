@@ -78,7 +78,7 @@ impl Printer {
         self.expression(value)
     }
 
-    /// What stands before the block of an `if` or a `while`.
+    /// Writes the head of an `if` or a `while`.
     #[tactic(auto, unfolding(crate::specs::Statement::opening_text))]
     fn opening(&mut self, margin: &[u8], word: &[u8], condition: &Expr) -> Result<(), NoMemory>
         ensures { OnGiven result (self.new
@@ -91,7 +91,7 @@ impl Printer {
         self.put(b") ")
     }
 
-    /// What stands before the block of a `for`.
+    /// Writes the head of a `for`.
     #[tactic(auto, unfolding(crate::specs::Statement::for_opening_text))]
     fn for_opening(
         &mut self,

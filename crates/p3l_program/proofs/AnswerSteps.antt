@@ -25,7 +25,7 @@ use Rattle.p3l_program.specs.Stage.{AllPass, FilesCause, IsRefusedBy, Stage, rea
 use Rattle.p3l_program.specs.Top.{Promises}
 use Rattle.p3l_run.specs.declared.end.RunStats.{RunStats}
 use Rattle.p3l_program.specs.Verdict.{run_stats}
-use Rattle.p3l_program.specs.Wants.{IsWanting, Wants}
+use Rattle.p3l_program.specs.Wants.{IsWanting, SavesLong, Wants}
 use Rattle.p3l_program.specs.World.{Change, HasNoFault, HasRisen, IsUntouched, World}
 use Rattle.p3l_program.proofs.FirstSteps.{first_writer, kept_first, left_first}
 use Rattle.p3l_program.proofs.Lawful.{IsCalmStatus}
@@ -306,8 +306,8 @@ module _ (outside : Bool) (words : List Text) (w : World) (err : Change (List �
   files_stay : (w.files.new ≡ w.files.old) ⊎ KeepsOthers words w
   files_stay = files_kept a.verdict a.expected
 
-  no_memory : n ≡ status.no_memory → IsWanting outside
-  no_memory is = subst (λ v. Wants outside v) (statuses.no_memory_is a.verdict (at ∙ is)) a.wants
+  no_memory : n ≡ status.no_memory → IsWanting outside ⊎ SavesLong words w.files.old
+  no_memory is = subst (λ v. Wants outside v ⊎ SavesLong words w.files.old) (statuses.no_memory_is a.verdict (at ∙ is)) a.wants
 
   pub promises : SpellsOneAtMost → Promises outside words w err n
   promises once = record {

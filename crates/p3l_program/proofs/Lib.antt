@@ -9,6 +9,7 @@ mod TreeSteps
 mod LoadSteps
 mod RewriteSteps
 mod ImageSteps
+mod JoinedSteps
 mod SnapshotSteps
 mod CompileSteps
 mod OnceSteps
@@ -40,6 +41,7 @@ mod ProfileLaws
 mod TimeLaws
 mod SaveStateLaws
 mod GenLaws
+mod WantSteps
 mod WorkLaws
 mod FirstSteps
 mod ExpectedSteps

@@ -4,8 +4,8 @@ use Rattle.p3l_base.specs.declared.outcome.Outcome.{Outcome}
 use Rattle.p3l_skel.specs.declared.tree.Tree.{Tree}
 use Rattle.p3l_firing.specs.declared.net.Net.{Net}
 use Rattle.p3l_io.specs.Content.{Held}
-use Rattle.p3l_net.specs.Run.{Course, after_picks, course_from, picked}
-use Rattle.p3l_net.specs.State.{State}
+use Rattle.p3l_firing.specs.Run.{Course, after_picks, course_from, picked}
+use Rattle.p3l_firing.specs.State.{State}
 use Rattle.p3l_run.specs.Network.{Network, begun_with, width_of}
 use Rattle.p3l_stream.specs.declared.items.Items.{Items}
 use Rattle.p3l_trace.specs.declared.trace.TraceLine.{TraceLine}

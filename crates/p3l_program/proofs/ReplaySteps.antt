@@ -10,7 +10,7 @@ use Rattle.std.proofs.lemmas.Str.Parse.{IsDigitsTest, IsNumeralModel, digit_from
 use Rattle.p3l_io.specs.Content.{Held}
 use Rattle.p3l_base.specs.declared.outcome.Outcome.{Outcome}
 use Rattle.p3l_skel.specs.declared.tree.Tree.{Tree}
-use Rattle.p3l_net.specs.Run.{Course, picked}
+use Rattle.p3l_firing.specs.Run.{Course, picked}
 use Rattle.p3l_firing.specs.declared.net.Net.{Net}
 use Rattle.p3l_run.specs.Network.{Network, course_of, size_of, stats_of, width_of}
 use Rattle.p3l_run.specs.declared.keeping.Keeping.{Keeping}

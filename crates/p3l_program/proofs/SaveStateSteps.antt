@@ -10,11 +10,11 @@ use Rattle.p3l_io.specs.Content.{Held}
 use Rattle.p3l_link.specs.Laws.{IsLinkable}
 use Rattle.p3l_link.specs.Net.{linked_net}
 use Rattle.p3l_load.specs.declared.loaded.Loaded.{Loaded as LoadedImage}
-use Rattle.p3l_net.specs.Carried.{HaveInWords}
+use Rattle.p3l_firing.specs.Carried.{HaveInWords}
 use Rattle.p3l_net.specs.Machine.{state_of}
 use Rattle.p3l_net.specs.Offered.{Follows}
 use Rattle.p3l_net.specs.Shot.{IsCountable}
-use Rattle.p3l_net.specs.Outcomes.{IsPrefixOf}
+use Rattle.p3l_firing.specs.Outcomes.{IsPrefixOf}
 use Rattle.p3l_opts.specs.declared.command.Build.{Build}
 use Rattle.p3l_opts.specs.declared.command.Sched.TheVariants as sched
 use Rattle.p3l_report.specs.declared.stats.Stats.{Stats}

@@ -7,7 +7,7 @@ use Rattle.p3l_firing.specs.declared.net.Net.{Net}
 use Rattle.p3l_io.specs.Content.{Held}
 use Rattle.p3l_link.specs.Laws.{EveryNetIsCarried}
 use Rattle.p3l_link.specs.Net.{linked_net}
-use Rattle.p3l_net.specs.Typed.{IsTyped}
+use Rattle.p3l_firing.specs.Typed.{IsTyped}
 use Rattle.p3l_report.specs.declared.scan_fault.ScanFault.{ScanFault}
 use Rattle.p3l_report.specs.declared.verdict.Refusal.TheVariants as refusal
 use Rattle.p3l_report.specs.declared.verdict.Verdict.TheVariants as verdict

@@ -13,7 +13,7 @@ use Rattle.p3l_report.specs.Verdict.{ending_status, finish_status}
 use Rattle.p3l_run.specs.declared.keeping.Keeping.{Keeping}
 use Rattle.p3l_run.specs.declared.run.Ran.{Ran}
 use Rattle.p3l_run.specs.Feed.{Gives, closed_so, input_limit}
-use Rattle.p3l_net.specs.Run.{Course}
+use Rattle.p3l_firing.specs.Run.{Course}
 use Rattle.p3l_run.specs.Network.{Network, course_of, goes_on, picks_of, width_of}
 use Rattle.p3l_run.specs.Run.{Finishes, MayCome, MayEnd, end_of, finish_of}
 use Rattle.p3l_run.specs.Start.{item_number}

@@ -12,8 +12,8 @@ use Rattle.p3l_compile.proofs.Leaves.{have_codes, same_leaf}
 use Rattle.p3l_firing.specs.declared.net.Net.{Net}
 use Rattle.p3l_units.specs.Table.{Served, leaf}
 use Rattle.p3l_units.specs.laws.Leaf.{gives_outs}
-use Rattle.p3l_net.specs.Carried.{IsCarried}
-use Rattle.p3l_net.specs.Typed.{IsTyped}
+use Rattle.p3l_firing.specs.Carried.{IsCarried}
+use Rattle.p3l_firing.specs.Typed.{IsTyped}
 use Rattle.p3l_link.specs.Laws.{EveryNetIsCarried}
 use Rattle.p3l_link.specs.Net.{linked_net}
 use Rattle.p3l_link.specs.Whole.{root_carry}

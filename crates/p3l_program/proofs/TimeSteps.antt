@@ -10,7 +10,7 @@ use Rattle.p3l_skel.specs.declared.tree.Tree.{Tree}
 use Rattle.p3l_firing.specs.declared.net.Net.{Net}
 use Rattle.p3l_cost.specs.declared.costs.Costs.{Costs}
 use Rattle.p3l_firing.specs.Fire.{can_fire}
-use Rattle.p3l_net.specs.Run.{after_picks, course_from, run}
+use Rattle.p3l_firing.specs.Run.{after_picks, course_from, run}
 use Rattle.p3l_io.specs.Content.{Held}
 use Rattle.p3l_opts.specs.declared.command.Build.{Build}
 use Rattle.p3l_report.specs.declared.stats.Stats.{Stats}

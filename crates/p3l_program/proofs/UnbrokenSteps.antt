@@ -2,7 +2,7 @@
 use Rattle.std.proofs.Common.{◌≡◌, ℕ, ℤ, ◌+◌, ◌*◌, ◌≤◌, Bool, false, List, [], ◌∷◌, ◌++◌, Option, Some, None, refl, sym, ap, subst, ◌∙◌, inl, inr, arith, append-nil}
 use Rattle.p3l_base.specs.declared.outcome.Outcome.{Outcome}
 use Rattle.p3l_firing.specs.Nodes.{Leaf}
-use Rattle.p3l_firing.specs.Run.{Course, run}
+use Rattle.p3l_firing.specs.Run.{Course, run, run_from}
 use Rattle.p3l_firing.specs.State.{with_rest}
 use Rattle.p3l_firing.specs.Token.{has_trap}
 use Rattle.p3l_firing.specs.declared.net.Net.{Net}
@@ -13,7 +13,7 @@ use Rattle.p3l_io.specs.Content.{Held}
 use Rattle.p3l_link.specs.Laws.{EveryNetIsCarried}
 use Rattle.p3l_load.specs.Compiled.{image_of}
 use Rattle.p3l_load.specs.Load.{loaded_of}
-use Rattle.p3l_net.specs.Carried.{HaveInWords}
+use Rattle.p3l_firing.specs.Carried.{HaveInWords}
 use Rattle.p3l_net.specs.Machine.{IsShaped, Seen, state_of}
 use Rattle.p3l_net.specs.Offered.{Follows}
 use Rattle.p3l_net.specs.Shot.{restored, shot_of}
@@ -36,7 +36,7 @@ use Rattle.p3l_run.specs.Start.{IsWithin, Resumption, fresh, uncounted}
 use Rattle.p3l_run.proofs.RunSteps.{wide_append}
 use Rattle.p3l_run.proofs.WriteSteps.{text_more}
 use Rattle.p3l_sched.specs.declared.schedule.Schedule.{Schedule}
-use Rattle.p3l_sched.specs.resumption.Run.{after_run, run_from, run_with_earlier}
+use Rattle.p3l_firing.specs.Cut.{after_run, run_with_earlier}
 use Rattle.p3l_skel.specs.declared.tree.Tree.{Tree}
 use Rattle.p3l_skel.specs.Numbers.{firings}
 use Rattle.p3l_skel.specs.Tree.{node_at}

@@ -21,7 +21,7 @@ use Rattle.p3l_program.specs.Stage.{IsRefusedBy, Stage, readable}
 use Rattle.p3l_program.specs.File.{IsTooLong}
 use Rattle.p3l_run.specs.declared.end.RunStats.{RunStats}
 use Rattle.p3l_program.specs.Verdict.{run_stats}
-use Rattle.p3l_program.specs.Wants.{Wants}
+use Rattle.p3l_program.specs.Wants.{SavesLong, Wants}
 use Rattle.p3l_program.specs.World.{Change, HasRisen, IsStill, IsUntouched, World}
 use Rattle.p3l_program.specs.Origin.{Running}
 
@@ -70,7 +70,7 @@ pub record Answers (outside : Bool) (words : List Text) (w : World) (err : Chang
   pub verdict : Verdict
   pub status_is : status ≡ status_of verdict
   pub expected : IsExpected words w verdict
-  pub wants : Wants outside verdict
+  pub wants : Wants outside verdict ⊎ SavesLong words w.files.old
   pub says : (said : List ℕ) → err.old ≡ Some said → (HasRisen err → ⊥) → err.new ≡ Some (said ++ lines_of verdict)
   pub begins_to_say : (said : List ℕ) → err.old ≡ Some said → PutsFronts said err.new (reported_line verdict) (status_line verdict)
 

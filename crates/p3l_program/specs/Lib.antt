@@ -12,6 +12,7 @@ pub mod File
 pub mod Fmt
 pub mod Generated
 pub mod Graph
+pub mod Joined
 pub mod Image
 pub mod Load
 pub mod LoadCert

@@ -12,7 +12,7 @@ use Rattle.p3l_load.specs.Compiled.{IsImageText, image_of}
 use Rattle.p3l_load.specs.Load.{loaded_of}
 use Rattle.p3l_net.specs.Machine.{Seen}
 use Rattle.p3l_net.specs.Offered.{Follows}
-use Rattle.p3l_net.specs.Outcomes.{IsPrefixOf}
+use Rattle.p3l_firing.specs.Outcomes.{IsPrefixOf}
 use Rattle.p3l_net.specs.Shot.{shot_of}
 use Rattle.p3l_net.specs.declared.shot.Shot.{Shot}
 use Rattle.p3l_opts.specs.declared.command.Build.{Build}
@@ -273,6 +273,16 @@ pub record IsImagedAs (loaded : Allotted) (capacity : ℕ) (imaged : Imaged) : T
   }
   pub text : IsImageText (image_of loaded.program.tree loaded.choice.counts.list loaded.program.codes capacity) imaged.image
   pub few : IsFew imaged.image
+
+-- the bytes of an image can't be counted in 32 bits, so no snapshot can hold them
+abbrev pub IsLongImage : Tree → List ℕ → List SafeCode → ℕ → Type 0
+IsLongImage tree counts codes capacity = 2 ^ 32 ≤ length (image_text (image_of tree counts codes capacity))
+
+-- so it is of the image of the one program that files and words request
+pub record HasLongImage (files : Option Held) (build : Build) : Type 0 where
+  pub loaded : Allotted
+  pub loads : Loads files build loaded
+  pub long : IsLongImage loaded.program.tree loaded.choice.counts.list loaded.program.codes build.capacity
 
 -- a network that was loaded with the bytes of its image, which can be counted in 32 bits
 pub record IsReadyToSave (imaged : Imaged) : Type 0 where

@@ -12,7 +12,7 @@ use Rattle.p3l_program.specs.Command.{IsStatusExpected, run_of, stages_of}
 use Rattle.p3l_program.specs.Origin.{Running}
 use Rattle.p3l_program.specs.Run.{Emits}
 use Rattle.p3l_program.specs.Stage.{AllPass}
-use Rattle.p3l_program.specs.Wants.{IsWanting}
+use Rattle.p3l_program.specs.Wants.{IsWanting, SavesLong}
 use Rattle.p3l_program.specs.World.{Change, HasNoFault, HasRisen, IsUntouched, WhenKnown, World}
 
 -- no memory was left, or the status is this
@@ -74,7 +74,7 @@ pub record Promises (outside : Bool) (words : List Text) (w : World) (err : Chan
       (k ≡ status.file) ⊎ ((k ≡ status.no_memory) ⊎ (SpellsWriter words × (k ≡ status.write)))
   pub input_failed : w.input.before < w.input.now → (k ≢ status.done) × (k ≢ status.too_long) × (k ≢ status.stream)
   -- 11 comes only where a request for memory was refused, or where `clap`, `toml` or the files, if they
-  -- may, said themselves that memory ran out.
-  pub no_memory : k ≡ status.no_memory → IsWanting outside
+  -- may, said themselves that memory ran out; and of `save`, where an image is too long for a snapshot.
+  pub no_memory : k ≡ status.no_memory → IsWanting outside ⊎ SavesLong words w.files.old
   -- No file is changed but those that the words name for writing, and by a run none before it is over.
   pub files_stay : (w.files.new ≡ w.files.old) ⊎ KeepsOthers words w

@@ -1,13 +1,13 @@
 // A program that is loaded to be run, with the bytes of its image.
 
-ghost use Rattle.std.specs.Prelude.{◌≡◌, ◌≤◌, IfOk, IfErr, OnOk};
-ghost use Rattle.p3l_base.specs.Memory.{IfGiven};
+ghost use Rattle.std.specs.Prelude.{◌≡◌, ◌≤◌, ◌⊎◌, IfOk, IfErr, OnOk};
+ghost use Rattle.p3l_base.specs.Memory.{IfGivenOr};
 ghost use Rattle.p3l_load.specs.Compiled.{AreCodesOf, IsImageText, image_of};
 ghost use Rattle.p3l_resume.specs.Ranges.{IsFew};
 ghost use Rattle.p3l_skel.specs.Counts.{HasLawfulCounts};
 ghost use Rattle.p3l_skel.specs.Numbers.{procs};
 ghost use Rattle.p3l_program.specs.Load.{IsNotLoaded};
-ghost use Rattle.p3l_program.specs.SaveState.{IsImagedAs, IsReadyToSave, LoadsImaged};
+ghost use Rattle.p3l_program.specs.SaveState.{HasLongImage, IsImagedAs, IsLongImage, IsReadyToSave, LoadsImaged};
 ghost use Rattle.p3l_program.specs.Stage.{build_stages};
 ghost use Rattle.p3l_program.specs.World.{files_change};
 ghost use Rattle.p3l_program.specs.Wants.{Wants};
@@ -34,8 +34,8 @@ pub struct Imaged {
     pub image: List<u8>,
 }
 
-/// An image of a program that keeps the rules, with its bytes. Bytes that can't be counted in 32 bits
-/// want more memory than there is.
+/// An image of a program that keeps the rules, with its bytes. It says that memory ran out where these
+/// can't be counted in 32 bits, too.
 fn write_image(
     alloc: Global,
     tree: Tree,
@@ -48,8 +48,9 @@ fn write_image(
     requires procs { procs tree counts.list 0 ≤ 4096 }
     requires some { 1 ≤ capacity }
     requires few { capacity ≤ 1024 }
-    ensures image { IfGiven result (λ made. made.0
-        ≡ image_of tree counts.list codes.now capacity) }
+    ensures image { IfGivenOr result (λ made. made.0
+        ≡ image_of tree counts.list codes.now capacity)
+        (IsLongImage tree counts.list codes.now capacity) }
     ensures text { IfOk result (λ made. IsImageText
         (image_of tree counts.list codes.now capacity) made.1) }
     ensures few { IfOk result (λ made. IsFew made.1) }
@@ -75,7 +76,8 @@ fn image_allotted(alloc: Global, loaded: Allotted, capacity: u32) -> Result<Imag
     requires procs { procs loaded.program.tree loaded.choice.counts.list 0 ≤ 4096 }
     requires some { 1 ≤ capacity }
     requires few { capacity ≤ 1024 }
-    ensures { IfGiven result (IsImagedAs loaded capacity) }
+    ensures { IfGivenOr result (IsImagedAs loaded capacity) (IsLongImage
+        loaded.program.tree loaded.choice.counts.list loaded.program.codes capacity) }
 {
     let Allotted {
         program,
@@ -113,7 +115,8 @@ pub fn load_imaged<F: Files>(alloc: Global, build: Build, files: &mut F) -> Resu
         (files_change F.held F.faults F.failed files.old files.new)
         (build_stages build)) }
     ensures stays { F.held files.new ≡ F.held files.old }
-    ensures wants { IfErr result (Wants F.may_want) }
+    ensures wants { IfErr result (λ v. Wants F.may_want v
+        ⊎ HasLongImage (F.held files.old) build) }
 {
     let capacity = build.capacity;
     let allotted = match allot(alloc, build, files) {

@@ -16,6 +16,7 @@ pub mod generated;
 pub mod graph;
 mod image;
 mod imaged;
+pub mod joined;
 mod memory;
 pub mod migrate;
 mod picks;

@@ -169,7 +169,7 @@ pub fn save_state<F: Files, S: Source, K: Sink>(
         ⊎ SavesOver (world (files_change F.held F.faults F.failed files.old files.new)
         (change S.rest S.faults input.old input.new) (change K.taken K.faults out.old out.new))
         build name }
-    ensures wants { Wants F.may_want result }
+    ensures wants { Wants F.may_want result ⊎ HasLongImage (F.held files.old) build }
 {
     match load_imaged(alloc, build, files) {
         Err(verdict) => verdict,

@@ -1,10 +1,11 @@
 // The top call: from the words of the command line to the status.
 
+ghost use Rattle.std.specs.Prelude.{◌⊎◌};
 ghost use Rattle.p3l_opts.specs.Command.{texts_of};
 ghost use Rattle.p3l_program.specs.Answer.{Answers, IsExpected};
 ghost use Rattle.p3l_program.specs.Top.{Promises};
 ghost use Rattle.p3l_program.specs.World.{change, files_change, world};
-ghost use Rattle.p3l_program.specs.Wants.{Wants};
+ghost use Rattle.p3l_program.specs.Wants.{SavesLong, Wants};
 
 use crate::certify::certify;
 use crate::check::check;
@@ -41,7 +42,7 @@ fn perform<F: Files, S: Source, K: Sink>(
         (world (files_change F.held F.faults F.failed files.old files.new)
         (change S.rest S.faults input.old input.new) (change K.taken K.faults out.old out.new))
         result }
-    ensures wants { Wants F.may_want result }
+    ensures wants { Wants F.may_want result ⊎ SavesLong (texts_of words.now) (F.held files.old) }
 {
     match parse(alloc, words) {
         Err(OptsRefusal::Usage) => Verdict::Refused(Refusal::Usage),

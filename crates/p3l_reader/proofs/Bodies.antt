@@ -30,7 +30,7 @@ call_adds ts r r' x c b f = record {
 }
 
 pub call_misses : (ts r : List Token) (x : Spot) (e : Refusal) → Begins ts (word x) r → Fails (call_from x) r e → Misses another_call ts e
-call_misses ts r x NoMemory b f = tt
+call_misses ts r x NoMemory b f = f
 call_misses ts r x (Expected left) b f =
     λ xs go. begins_all ts r (word x) b (another_call xs go) ∙ f (λ d. another_call (xs ++ d ∷ []) go)
 
@@ -59,7 +59,7 @@ pub place_reads : (ts rest : List Token) (x : Spot) (is : Phrases) → Reads (an
 place_reads ts rest x is f = record { goes = λ go. f.goes (λ js. go (read x js)) }
 
 pub fails_place : (ts r : List Token) (x : Spot) (e : Refusal) → Begins ts (word x) r → Fails (place_from x) r e → FailsAt 10 ts e
-fails_place ts r x NoMemory b f = tt
+fails_place ts r x NoMemory b f = f
 fails_place ts r x (Expected left) b f = λ h n. begins_all ts r (word x) b (operand h) ∙ f (λ d. value d h)
 
 unary_ends : (o : UnOp) (e : Phrase) (h : Hole) (rest : List Token) → all (value e (after_unary o h)) rest ≡ all (value (unary o e) h) rest
@@ -115,16 +115,16 @@ sets_all m ts r1 r2 r3 x is e t b f = record {
 }
 
 pub sets_fails_target : (m : Mark) (ts : List Token) (e : Refusal) → FailsTarget ts e → FailsSetting m ts e
-sets_fails_target m ts NoMemory h = tt
+sets_fails_target m ts NoMemory h = h
 sets_fails_target m ts (Expected left) h = λ go. h (λ y js. await marks.Assign (expression (λ d. await m (go y js d))))
 
 pub sets_fails_mark : (m : Mark) (ts r : List Token) (x : Spot) (is : Phrases) (e : Refusal) → Targets ts x is r → NotThere marks.Assign r e → FailsSetting m ts e
-sets_fails_mark m ts r x is NoMemory t h = tt
+sets_fails_mark m ts r x is NoMemory t h = h
 sets_fails_mark m ts r x is (Expected left) t h =
     λ go. t.goes (λ y js. await marks.Assign (expression (λ d. await m (go y js d)))) ∙ await_fails marks.Assign r h.0 (expression (λ d. await m (go x is d))) ∙ ap Err (sym h.1)
 
 pub sets_fails_value : (m : Mark) (ts r1 r2 : List Token) (x : Spot) (is : Phrases) (e : Refusal) → Targets ts x is r1 → Begins r1 (sign marks.Assign) r2 → Fails (upto m) r2 e → FailsSetting m ts e
-sets_fails_value m ts r1 r2 x is NoMemory t b h = tt
+sets_fails_value m ts r1 r2 x is NoMemory t b h = h
 sets_fails_value m ts r1 r2 x is (Expected left) t b h =
     λ go. t.goes (λ y js. await marks.Assign (expression (λ d. await m (go y js d)))) ∙ await_begins marks.Assign r1 r2 b (expression (λ d. await m (go x is d))) ∙ h (go x is)
 
@@ -144,7 +144,7 @@ assignment_adds ts r x is e w f = record {
 }
 
 pub assignment_misses : (ts : List Token) (e : Refusal) → IsWord ts → FailsSetting marks.Semicolon ts e → MissesStmt ts e
-assignment_misses ts NoMemory w h = tt
+assignment_misses ts NoMemory w h = h
 assignment_misses ts (Expected left) w h = λ c go. word_starts c go ts w ∙ h (λ y js d. another_stmt (join c (assign y js d done)) go)
 
 no_else : (t : Symbol) (c : Statements) (e : Phrase) (b : Statements) (go : Statements → Parser) → (t ≡ sign marks.Else → ⊥) → else_step t c e b go ≡ None
@@ -180,7 +180,7 @@ while_reads ts r1 r2 e b f g = record { goes = λ go. f.goes (λ d. block (λ t.
 -- The head of a `for`, part by part.
 
 pub for_fails_first : (ts r : List Token) (e : Refusal) → Begins ts (sign marks.OpenParen) r → FailsSetting marks.Semicolon r e → Fails for_from ts e
-for_fails_first ts r NoMemory b h = tt
+for_fails_first ts r NoMemory b h = h
 for_fails_first ts r (Expected left) b h =
     λ go. await_begins marks.OpenParen ts r b (setting (λ x is e. await marks.Semicolon (upto marks.Semicolon (λ w. setting (λ y js f. await marks.CloseParen (block (λ t. go (for_ x is e w y js f t done))))))))
     ∙ h (λ x is e. upto marks.Semicolon (λ w. setting (λ y js f. await marks.CloseParen (block (λ t. go (for_ x is e w y js f t done))))))
@@ -192,7 +192,7 @@ for_first ts r r1 x is e b f go =
     ∙ f.goes (λ x is e. upto marks.Semicolon (λ w. setting (λ y js f. await marks.CloseParen (block (λ t. go (for_ x is e w y js f t done))))))
 
 pub for_fails_test : (ts r r1 : List Token) (x : Spot) (is : Phrases) (e : Phrase) (d : Refusal) → Begins ts (sign marks.OpenParen) r → Sets marks.Semicolon r x is e r1 → Fails (upto marks.Semicolon) r1 d → Fails for_from ts d
-for_fails_test ts r r1 x is e NoMemory b f h = tt
+for_fails_test ts r r1 x is e NoMemory b f h = h
 for_fails_test ts r r1 x is e (Expected left) b f h =
     λ go. for_first ts r r1 x is e b f go ∙ h (λ w. setting (λ y js f. await marks.CloseParen (block (λ t. go (for_ x is e w y js f t done)))))
 
@@ -201,7 +201,7 @@ for_test ts r r1 r2 x is e w b f g go =
     for_first ts r r1 x is e b f go ∙ g.goes (λ w. setting (λ y js f. await marks.CloseParen (block (λ t. go (for_ x is e w y js f t done)))))
 
 pub for_fails_step : (ts r r1 r2 : List Token) (x : Spot) (is : Phrases) (e w : Phrase) (d : Refusal) → Begins ts (sign marks.OpenParen) r → Sets marks.Semicolon r x is e r1 → Reads (upto marks.Semicolon) r1 w r2 → FailsSetting marks.CloseParen r2 d → Fails for_from ts d
-for_fails_step ts r r1 r2 x is e w NoMemory b f g h = tt
+for_fails_step ts r r1 r2 x is e w NoMemory b f g h = h
 for_fails_step ts r r1 r2 x is e w (Expected left) b f g h =
     λ go. for_test ts r r1 r2 x is e w b f g go ∙ h (λ y js f. block (λ t. go (for_ x is e w y js f t done)))
 
@@ -210,7 +210,7 @@ for_step ts r r1 r2 r3 x y is js e w k b f g h go =
     for_test ts r r1 r2 x is e w b f g go ∙ h.goes (λ y js f. block (λ t. go (for_ x is e w y js f t done)))
 
 pub for_fails_body : (ts r r1 r2 r3 : List Token) (x y : Spot) (is js : Phrases) (e w k : Phrase) (d : Refusal) → Begins ts (sign marks.OpenParen) r → Sets marks.Semicolon r x is e r1 → Reads (upto marks.Semicolon) r1 w r2 → Sets marks.CloseParen r2 y js k r3 → Fails block r3 d → Fails for_from ts d
-for_fails_body ts r r1 r2 r3 x y is js e w k NoMemory b f g h i = tt
+for_fails_body ts r r1 r2 r3 x y is js e w k NoMemory b f g h i = i
 for_fails_body ts r r1 r2 r3 x y is js e w k (Expected left) b f g h i =
     λ go. for_step ts r r1 r2 r3 x y is js e w k b f g h go ∙ i (λ t. go (for_ x is e w y js k t done))
 

@@ -154,7 +154,7 @@ early_is ts before t left end w i h l =
 
 -- more tokens after change nothing
 pub fault_whole : (ts front more : List Token) (end : Pos) (e : SourceRefusal) → ts ≡ front ++ more → IsLastFault front end e → IsFaultIn ts end e
-fault_whole ts front more end NoMemory w h = tt
+fault_whole ts front more end NoMemory w h = h
 fault_whole ts front more end (At fault at) w h =
     let f = h.0 in
     record {
@@ -172,7 +172,7 @@ fault_whole ts front more end (At fault at) w h =
 
 -- the fault of a text from the fault of its tokens
 pub text_fault : (bytes : List ℕ) (ts : List Token) (end : Pos) (e : SourceRefusal) → IsTokens bytes ts → end ≡ position_after bytes → IsFaultIn ts end e → IsRefusal bytes e
-text_fault bytes ts end NoMemory t p h = tt
+text_fault bytes ts end NoMemory t p h = h
 text_fault bytes ts end (At fault at) t p h = λ l. record {
   tokens = ts;
   are_tokens = t;
@@ -204,7 +204,7 @@ if_ok (Err e) P h = tt
 
 pub only_residual : (program : ProgramTree) (r : Result Program SourceRefusal) (e : SourceRefusal) (es : List EntryTree) → IsErrAnd r (λ d. d ≡ e) → IsOnlyList es (Err e) → IsOnly program r
 only_residual program (Ok p) e es a h = absurd a
-only_residual program (Err d) NoMemory es a h = let P : SourceRefusal → Type 0 = λ q. IsOnly program (Err q) in subst P (sym a) tt
+only_residual program (Err d) NoMemory es a h = let P : SourceRefusal → Type 0 = λ q. IsOnly program (Err q) in subst P (sym a) h
 only_residual program (Err d) (At fault at) es a h = absurd h
 
 -- what the text spells is what its tokens derive

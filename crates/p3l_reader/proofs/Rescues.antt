@@ -25,5 +25,5 @@ plain_rescue [] h go = refl
 plain_rescue (t ∷ ts) h go = ap (λ o. next o (suc (length ts)) (λ s'. all s' ts)) (as_num (symbol t) go h)
 
 pub plain_fails : (ts : List Token) (e : Refusal) → NotNext (marks.Operator ops.Sub) ts → Fails any_num ts e → Fails any_rescue ts e
-plain_fails ts NoMemory h f = tt
+plain_fails ts NoMemory h f = f
 plain_fails ts (Expected left) h f = λ go. plain_rescue ts h go ∙ f (λ n. go (record { minus = false; num = n }))

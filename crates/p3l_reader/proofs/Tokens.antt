@@ -55,13 +55,13 @@ is_sign t found m b is same =
 -- A mark, and what follows it.
 
 pub mark_fails : {A : Type 0} (m : Mark) (from : (A → Parser) → Parser) (ts r : List Token) (e : Refusal) → Begins ts (sign m) r → Fails from r e → Fails (λ go. await m (from go)) ts e
-mark_fails m from ts r NoMemory b h = tt
+mark_fails m from ts r NoMemory b h = h
 mark_fails m from ts r (Expected left) b h = λ go. await_begins m ts r b (from go) ∙ h go
 
 -- One thing after another.
 
 pub then_fails : {A B : Type 0} (from : (A → Parser) → Parser) (k : A → (B → Parser) → Parser) (ts r : List Token) (x : A) (e : Refusal) → Reads from ts x r → Fails (k x) r e → Fails (λ go. from (λ a. k a go)) ts e
-then_fails from k ts r x NoMemory f h = tt
+then_fails from k ts r x NoMemory f h = h
 then_fails from k ts r x (Expected left) f h = λ go. f.goes (λ a. k a go) ∙ h go
 
 -- what holds of each error
@@ -82,5 +82,5 @@ on_residual (Err d) e Q p q = subst Q (sym p) q
 -- The end of a module.
 
 pub end_missing : (k : Kind) (ts r : List Token) (e : Refusal) → Begins ts (sign marks.End) r → NotThere (kind_mark k) r e → FailsEnd k ts e
-end_missing k ts r NoMemory b h = tt
+end_missing k ts r NoMemory b h = h
 end_missing k ts r (Expected left) b h = λ s. await_begins marks.End ts r b (await (kind_mark k) s) ∙ await_fails (kind_mark k) r h.0 s ∙ ap Err (sym h.1)

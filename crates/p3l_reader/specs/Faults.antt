@@ -33,7 +33,7 @@ wrong_at (t ∷ ts) end = At (own_fault t.lexeme) t.at
 abbrev pub too_nested : Token → SourceRefusal
 too_nested t = At TooNested t.at
 
--- what is wrong in front of the tokens that are left, where the text ends at this position
+-- the fault in front of the tokens that are left, if the text ends at this position
 abbrev pub IsWrongBefore : List Token → List Token → Pos → Fault → Pos → Type 0
 IsWrongBefore before [] end fault at =
     (fault ≡ Expected) × (at ≡ end) × ((entries : List EntryTree) → Derives (symbols before) entries → ⊥)
@@ -57,7 +57,7 @@ abbrev pub IsLastFault : List Token → Pos → SourceRefusal → Type 0
 IsLastFault tokens end NoMemory = Refused
 IsLastFault tokens end (At fault at) = (f : IsFirstIn tokens end fault at) × (0 < length f.after)
 
--- what is derived is what was read, unless memory ran out
+-- the entries that are derived are those that were read, unless memory ran out
 abbrev pub IsOnlyList : List EntryTree → Result (lists.List Entry) SourceRefusal → Type 0
 IsOnlyList entries (Ok list) = map entry_tree list ≡ entries
 IsOnlyList entries (Err NoMemory) = Refused
@@ -68,7 +68,7 @@ IsOnly program (Ok p) = program_tree p ≡ program
 IsOnly program (Err NoMemory) = Refused
 IsOnly program (Err (At fault at)) = ⊥
 
--- the refusal of a text of more than 1,048,576 bytes
+-- the refusal of a text of too many bytes
 abbrev pub too_long : SourceRefusal
 too_long = At SourceTooLong (record { line = 1; col = 1 })
 

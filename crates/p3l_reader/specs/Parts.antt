@@ -1,4 +1,4 @@
--- What a module is read in, without where it lies in memory.
+-- The parts in which a module is read, without their places in memory.
 use Rattle.p3l_ast.specs.Tree.{inside_tree}
 use Rattle.p3l_grammar.specs.Written as written
 use Rattle.p3l_reader.specs.declared.module.Heading.{Heading}

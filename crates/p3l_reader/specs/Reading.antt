@@ -1,4 +1,4 @@
--- What the functions of the reader give, by the parser.
+-- The results of the reader's functions, by the parser.
 use Rattle.std.specs.Prelude.{◌≡◌, ℕ, ℤ, ◌<◌, ◌≤◌, List, [], ◌∷◌, ◌++◌, length, Option, Some, None}
 use Rattle.std.specs.declared.result.Result.TheVariants.{Err}
 use Rattle.p3l_ast.specs.declared.position.Spot.{Spot}

@@ -13,7 +13,7 @@ use p3l_base::List;
 use p3l_lexer::{Mark, Token};
 use std::alloc::Global;
 
-/// What comes after an opening bracket.
+/// Reads on after an opening bracket.
 fn sub(alloc: Global, tokens: &[Token]) -> Result<(Sub, &[Token]), Refusal>
     ensures ok { IfOk result (λ x. Reads any_sub tokens.now x.0 x.1.now) }
     ensures shorter { IfOk result (λ x. length x.1.now < length tokens.now) }
@@ -32,7 +32,7 @@ fn sub(alloc: Global, tokens: &[Token]) -> Result<(Sub, &[Token]), Refusal>
     }
 }
 
-/// What comes after the name of an argument.
+/// Reads on after the name of an argument.
 fn arg_of(alloc: Global, at: Spot, tokens: &[Token]) -> Result<(Arg, &[Token]), Refusal>
     ensures ok { IfOk result (λ x. Reads (arg_from at) tokens.now x.0 x.1.now) }
     ensures shorter { IfOk result (λ x. length x.1.now ≤ length tokens.now) }
@@ -89,7 +89,7 @@ fn outs(alloc: Global, tokens: &[Token]) -> Result<(List<OutArg>, &[Token]), Ref
     parenthesized(alloc, tokens)
 }
 
-/// What comes after the name of a call.
+/// Reads on after the name of a call.
 fn call_of(alloc: Global, at: Spot, tokens: &[Token]) -> Result<(Call, &[Token]), Refusal>
     ensures ok { IfOk result (λ x. Reads (call_from at) tokens.now x.0 x.1.now) }
     ensures shorter { IfOk result (λ x. length x.1.now < length tokens.now) }

@@ -75,7 +75,7 @@ fn operand(alloc: Global, tokens: &[Token]) -> Result<(Expr, &[Token]), Refusal>
     }
 }
 
-/// What comes after an operator before its operand.
+/// Reads on after an operator before its operand.
 #[cycle(expression)]
 fn unary(alloc: Global, op: UnOp, tokens: &[Token]) -> Result<(Expr, &[Token]), Refusal>
     ensures ok { IfOk result (λ x. FollowsUnary op tokens.now (phrase x.0) x.1.now) }
@@ -85,7 +85,7 @@ fn unary(alloc: Global, op: UnOp, tokens: &[Token]) -> Result<(Expr, &[Token]), 
     Ok((Expr::Unary(op, Box::new(alloc, inner)?), rest))
 }
 
-/// What comes after the name of a place that is read.
+/// Reads on after the name of a place that is read.
 #[cycle(expression)]
 fn place(alloc: Global, at: Spot, tokens: &[Token]) -> Result<(Expr, &[Token]), Refusal>
     ensures ok { IfOk result (λ x. Reads (place_from at) tokens.now (phrase x.0) x.1.now) }

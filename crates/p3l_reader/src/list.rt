@@ -26,7 +26,7 @@ pub trait Listed: Drop + Sized {
         ensures err { IfErr result (λ e. Misses list tokens.now e) };
 }
 
-/// What is in a list after its first items, as many as there are.
+/// Reads the items of a list after its first ones, as many as there are.
 pub fn list_from<T: Listed>(
     alloc: Global,
     first: List<T>,

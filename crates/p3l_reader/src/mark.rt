@@ -12,7 +12,7 @@ use p3l_base::{Name, NoMemory};
 use p3l_lexer::{Lexeme, Mark, Token};
 use std::alloc::Global;
 
-/// Whether a token is this mark.
+/// True if a token is this mark.
 fn is_mark(token: &Token, mark: Mark) -> bool
     ensures { IsTrue result ↔ (symbol token.now ≡ sign mark) }
 {
@@ -22,7 +22,7 @@ fn is_mark(token: &Token, mark: Mark) -> bool
     }
 }
 
-/// What follows a mark, where the mark comes next.
+/// The tokens after a mark, if the mark comes next.
 pub fn skip(tokens: &[Token], mark: Mark) -> Option<&[Token]>
     ensures some { IfSome result (λ rest. Begins tokens.now (sign mark) rest.now) }
     ensures shorter { IfSome result (λ rest. length rest.now < length tokens.now) }
@@ -39,7 +39,7 @@ pub fn skip(tokens: &[Token], mark: Mark) -> Option<&[Token]>
     }
 }
 
-/// What follows a mark.
+/// The tokens after a mark.
 pub fn expect(tokens: &[Token], mark: Mark) -> Result<&[Token], Refusal>
     ensures ok { IfOk result (λ rest. Begins tokens.now (sign mark) rest.now) }
     ensures shorter { IfOk result (λ rest. length rest.now < length tokens.now) }
@@ -77,7 +77,7 @@ pub fn spot(alloc: Global, tokens: &[Token]) -> Result<(Spot, &[Token]), Refusal
     }
 }
 
-/// Whether a name comes next.
+/// True if a name comes next.
 pub fn word_comes(tokens: &[Token]) -> bool
     ensures yes { result ≡ true → IsWord tokens.now }
     ensures no { result ≡ false → NoWord tokens.now }

@@ -25,7 +25,7 @@ pub struct Heading {
     pub outs: List<Port>,
 }
 
-/// What is between the head of a module and its end.
+/// The part of a module between its head and its end.
 #[derive(Drop)]
 pub struct Contents {
     pub clauses: Clauses,
@@ -120,7 +120,7 @@ fn loop_calls(alloc: Global, tokens: &[Token]) -> Result<(Inside, &[Token]), Ref
     Ok((Inside::Turning(body, condition), rest))
 }
 
-/// What comes after the head of a `seq`.
+/// Reads on after the head of a `seq`.
 fn seq(alloc: Global, tokens: &[Token]) -> Result<(Contents, &[Token]), Refusal>
     ensures ok { IfOk result (λ x. Reads (filling Kind.Seq) tokens.now (filling_of x.0) x.1.now) }
     ensures shorter { IfOk result (λ x. length x.1.now < length tokens.now) }
@@ -139,7 +139,7 @@ fn seq(alloc: Global, tokens: &[Token]) -> Result<(Contents, &[Token]), Refusal>
     Ok((Contents { clauses, inside }, rest))
 }
 
-/// What comes after the head of a `comp`.
+/// Reads on after the head of a `comp`.
 fn comp(alloc: Global, tokens: &[Token]) -> Result<(Contents, &[Token]), Refusal>
     ensures ok { IfOk result (λ x. Reads (filling Kind.Comp) tokens.now (filling_of x.0) x.1.now) }
     ensures shorter { IfOk result (λ x. length x.1.now < length tokens.now) }
@@ -158,7 +158,7 @@ fn comp(alloc: Global, tokens: &[Token]) -> Result<(Contents, &[Token]), Refusal
     Ok((Contents { clauses, inside }, rest))
 }
 
-/// What comes after the head of a `pipe`.
+/// Reads on after the head of a `pipe`.
 fn pipe(alloc: Global, tokens: &[Token]) -> Result<(Contents, &[Token]), Refusal>
     ensures ok { IfOk result (λ x. Reads (filling Kind.Pipe) tokens.now (filling_of x.0) x.1.now) }
     ensures shorter { IfOk result (λ x. length x.1.now < length tokens.now) }
@@ -176,7 +176,7 @@ fn pipe(alloc: Global, tokens: &[Token]) -> Result<(Contents, &[Token]), Refusal
     Ok((Contents { clauses, inside }, rest))
 }
 
-/// What comes after the head of a `farm`, a `map` or a `reduce`.
+/// Reads on after the head of a `farm`, a `map` or a `reduce`.
 fn spread(alloc: Global, tokens: &[Token]) -> Result<(Contents, &[Token]), Refusal>
     ensures ok { IfOk result (λ x. Reads (filling Kind.Farm) tokens.now (filling_of x.0) x.1.now) }
     ensures shorter { IfOk result (λ x. length x.1.now < length tokens.now) }
@@ -197,7 +197,7 @@ fn spread(alloc: Global, tokens: &[Token]) -> Result<(Contents, &[Token]), Refus
     Ok((Contents { clauses, inside }, rest))
 }
 
-/// What comes after the head of a `loop`.
+/// Reads on after the head of a `loop`.
 fn turning(alloc: Global, tokens: &[Token]) -> Result<(Contents, &[Token]), Refusal>
     ensures ok { IfOk result (λ x. Reads (filling Kind.Loop) tokens.now (filling_of x.0) x.1.now) }
     ensures shorter { IfOk result (λ x. length x.1.now < length tokens.now) }
@@ -217,7 +217,7 @@ fn turning(alloc: Global, tokens: &[Token]) -> Result<(Contents, &[Token]), Refu
     Ok((Contents { clauses, inside }, rest))
 }
 
-/// What is between the head of a module and its end.
+/// The part of a module between its head and its end.
 fn whole_filling(
     alloc: Global,
     kind: Kind,
@@ -238,7 +238,7 @@ fn whole_filling(
     }
 }
 
-/// What follows the end of a module.
+/// The tokens after the end of a module.
 fn module_end(tokens: &[Token], kind: Kind) -> Result<&[Token], Refusal>
     ensures ok { IfOk result (λ rest. Closes kind tokens.now rest.now) }
     ensures shorter { IfOk result (λ rest. length rest.now < length tokens.now) }
@@ -248,7 +248,7 @@ fn module_end(tokens: &[Token], kind: Kind) -> Result<&[Token], Refusal>
     expect(rest, mark_of_kind(kind))
 }
 
-/// What comes after the keyword of a module.
+/// Reads on after the keyword of a module.
 pub fn module(alloc: Global, kind: Kind, tokens: &[Token]) -> Result<(Entry, &[Token]), Refusal>
     ensures ok { IfOk result (λ x. Reads (module_from kind) tokens.now (entry_tree x.0) x.1.now) }
     ensures shorter { IfOk result (λ x. length x.1.now < length tokens.now) }
@@ -268,7 +268,7 @@ pub fn module(alloc: Global, kind: Kind, tokens: &[Token]) -> Result<(Entry, &[T
     Ok((Entry::Module(module), rest))
 }
 
-/// What comes after `const`.
+/// Reads on after `const`.
 pub fn constant(alloc: Global, tokens: &[Token]) -> Result<(Entry, &[Token]), Refusal>
     ensures ok { IfOk result (λ x. Reads fixed_from tokens.now (entry_tree x.0) x.1.now) }
     ensures shorter { IfOk result (λ x. length x.1.now < length tokens.now) }

@@ -12,7 +12,7 @@ use p3l_base::List;
 use p3l_lexer::{Mark, Token};
 use std::alloc::Global;
 
-/// What comes after the `int` of a port.
+/// Reads on after the `int` of a port.
 pub fn port_name(alloc: Global, tokens: &[Token]) -> Result<(Port, &[Token]), Refusal>
     ensures ok { IfOk result (λ x. Reads port_from tokens.now x.0 x.1.now) }
     ensures shorter { IfOk result (λ x. length x.1.now < length tokens.now) }

@@ -1,8 +1,10 @@
 //! Why tokens could not be read.
 
 ghost use Rattle.std.specs.Prelude.{◌≡◌};
+ghost use Rattle.p3l_base.specs.Memory.{Refused};
 ghost use Rattle.p3l_reader.specs.declared.refusal.Refusal.TheVariants.{NoMemory};
 
+use p3l_base::NoMemory as Wanting;
 use std::alloc::{AllocError, AllocFailed};
 
 /// Why tokens could not be read.
@@ -15,25 +17,27 @@ pub enum Refusal {
 }
 
 impl From<AllocError> for Refusal {
-    ghost from_gives = { λ _ e. e ≡ NoMemory };
+    ghost from_gives = { λ _ e. (e ≡ NoMemory) × Refused };
 
-    fn from(_error: AllocError) -> Refusal {
+    fn from(failed: AllocError) -> Refusal {
+        let _want = Wanting::from(failed);
         Refusal::NoMemory
     }
 }
 
 impl<T: Drop> From<AllocFailed<T>> for Refusal {
-    ghost from_gives = { λ _ e. e ≡ NoMemory };
+    ghost from_gives = { λ _ e. (e ≡ NoMemory) × Refused };
 
-    fn from(_failed: AllocFailed<T>) -> Refusal {
+    fn from(failed: AllocFailed<T>) -> Refusal {
+        let _want = Wanting::from(failed);
         Refusal::NoMemory
     }
 }
 
-impl From<p3l_base::NoMemory> for Refusal {
+impl From<Wanting> for Refusal {
     ghost from_gives = { λ _ e. e ≡ NoMemory };
 
-    fn from(_want: p3l_base::NoMemory) -> Refusal {
+    fn from(_want: Wanting) -> Refusal {
         Refusal::NoMemory
     }
 }

@@ -139,10 +139,10 @@ fn entries(alloc: Global, tokens: &[Token], end: Pos) -> Result<List<Entry>, Sou
 
 /// The program of a source text, or the first fault of the text.
 pub fn read(alloc: Global, text: &[u8]) -> Result<Program, SourceRefusal>
-    // What is read is spelled so.
+    // The text spells the program that is read.
     ensures found { IfOk result (λ program. Spells text.now (program_tree program)) }
     ensures short { IfOk result (λ _. length text.now ≤ 1048576) }
-    // What is spelled so is read, unless memory runs out.
+    // A program that the text spells is read, unless memory runs out.
     ensures only { length text.now ≤ 1048576 → (program : ProgramTree) → Spells text.now program
         → IsOnly program result }
     // A longer text is refused as a whole, and any other at its first fault.

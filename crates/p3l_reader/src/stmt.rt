@@ -57,7 +57,7 @@ fn assignment(alloc: Global, tokens: &[Token]) -> Result<(Stmt, &[Token]), Refus
     Ok((Stmt::Assign(target, value), rest))
 }
 
-/// What comes after an `if`.
+/// Reads on after an `if`.
 #[cycle(statement)]
 fn if_statement(alloc: Global, tokens: &[Token]) -> Result<(Stmt, &[Token]), Refusal>
     ensures ok { IfOk result (λ x. FollowsIf tokens.now (one x.0) x.1.now) }
@@ -75,7 +75,7 @@ fn if_statement(alloc: Global, tokens: &[Token]) -> Result<(Stmt, &[Token]), Ref
     }
 }
 
-/// What comes after a `while`.
+/// Reads on after a `while`.
 #[cycle(statement)]
 fn while_statement(alloc: Global, tokens: &[Token]) -> Result<(Stmt, &[Token]), Refusal>
     ensures ok { IfOk result (λ x. Reads while_from tokens.now (one x.0) x.1.now) }
@@ -87,7 +87,7 @@ fn while_statement(alloc: Global, tokens: &[Token]) -> Result<(Stmt, &[Token]), 
     Ok((Stmt::While(condition, body), rest))
 }
 
-/// What comes after a `for`.
+/// Reads on after a `for`.
 #[cycle(statement)]
 fn for_statement(alloc: Global, tokens: &[Token]) -> Result<(Stmt, &[Token]), Refusal>
     ensures ok { IfOk result (λ x. Reads for_from tokens.now (one x.0) x.1.now) }

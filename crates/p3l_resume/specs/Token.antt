@@ -8,7 +8,7 @@ use Rattle.p3l_base.specs.declared.outcome.TrapKind.TheVariants.{DivZero, DivOve
 use Rattle.p3l_format.specs.Format.{Format, as_form, both, counted, record_of, tagged}
 use Rattle.p3l_format.specs.Numbers.{one_of, u32_format, u64_format}
 use Rattle.p3l_net.specs.declared.shot.SavedToken.{SavedToken}
-use Rattle.p3l_net.specs.Token.{is_trap}
+use Rattle.p3l_firing.specs.Token.{is_trap}
 use Rattle.p3l_resume.specs.Words.{count_format, flag_format, words_format}
 
 abbrev pub trap_kinds : List TrapKind

@@ -12,7 +12,7 @@ use Rattle.p3l_firing.specs.declared.token.Token.{Token}
 use Rattle.p3l_firing.specs.Carried.{Carry, HaveInWords, IsCarried}
 use Rattle.p3l_firing.specs.Fire.{can_fire, fire}
 use Rattle.p3l_firing.specs.Outcomes.{up_to_first_trap}
-use Rattle.p3l_firing.specs.Run.{Course, after_picks, course_from, picked}
+use Rattle.p3l_firing.specs.Run.{Course, after_picks, course_from, picked, run_from}
 use Rattle.p3l_firing.specs.Single.{the_source}
 use Rattle.p3l_firing.specs.State.{State, first_state, with_rest}
 use Rattle.p3l_firing.specs.Token.{bodies, has_trap, over}
@@ -28,11 +28,10 @@ use Rattle.p3l_link.proofs.Carried.{root_means, root_sound}
 use Rattle.p3l_link.proofs.LinkedLaws.{fired, fired_fitting, first_fitting, net_carried, owed_bounded, run_bounded, run_begun}
 use Rattle.p3l_link.proofs.Round.{long_all}
 use Rattle.p3l_resume_laws.specs.Linked.{BothPartsAreBounded, CanResume, EveryRestCanResume, EveryResumedRunEmitsWhatIsLeft, EveryResumedRunEnds, EveryRunCanResume, EveryRunStaysBalanced, EveryStartCanResume, EveryStartIsBalanced, IsBalanced, ResumedFiringsAreBounded, ahead_of, left_in}
-use Rattle.p3l_sched.specs.resumption.Orderly as carried
-use Rattle.p3l_sched.specs.resumption.Run.{run_from}
-use Rattle.p3l_sched.proofs.CutLaw.{unbroken}
-use Rattle.p3l_sched.proofs.EmitsLaw.{emits}
-use Rattle.p3l_sched.proofs.OrderlyLaw.{few_firings, kept_balanced, kept_run}
+use Rattle.p3l_firing.specs.Orderly as carried
+use Rattle.p3l_firing.proofs.CutLaw.{unbroken}
+use Rattle.p3l_firing.proofs.EmitsLaw.{emits}
+use Rattle.p3l_firing.proofs.OrderlyLaw.{few_firings, kept_balanced, kept_run}
 use Rattle.p3l_sched.proofs.PicksLaw.{made_stuck}
 
 bodies-append : (xs ys : List Token) → bodies (xs ++ ys) ≡ bodies xs ++ bodies ys

@@ -6,7 +6,7 @@ use Rattle.p3l_skel.specs.Numbers.{firings}
 use Rattle.p3l_firing.specs.Carried.{HaveInWords}
 use Rattle.p3l_firing.specs.Fire.{IsStuck}
 use Rattle.p3l_firing.specs.Outcomes.{up_to_first_trap}
-use Rattle.p3l_firing.specs.Run.{Course, course_from}
+use Rattle.p3l_firing.specs.Run.{Course, course_from, run_from}
 use Rattle.p3l_firing.specs.State.{State, first_state, with_rest}
 use Rattle.p3l_firing.specs.Token.{bodies, has_trap}
 use Rattle.p3l_firing.specs.Typed.{IsFitting, IsTyped}
@@ -16,9 +16,9 @@ use Rattle.p3l_link.specs.Part.{root_part}
 use Rattle.p3l_link.specs.Whole.{tokens_in}
 use Rattle.p3l_sched.specs.declared.picker.Way.{Way}
 use Rattle.p3l_sched.specs.Course.{picks_from}
-use Rattle.p3l_sched.specs.resumption.Orderly.{Emits}
-use Rattle.p3l_sched.specs.resumption.Picks.{IsMade}
-use Rattle.p3l_sched.specs.resumption.Run.{AreFilled, run_from}
+use Rattle.p3l_firing.specs.Orderly.{Emits}
+use Rattle.p3l_sched.specs.Picker.{IsMade}
+use Rattle.p3l_firing.specs.Cut.{AreFilled}
 
 -- a run of a linked net can go on from the state: the root is orderly, every token and every item has the words of its place, and
 -- no trap was emitted

@@ -2,7 +2,7 @@
 
 ghost use Rattle.std.specs.Prelude.{◌≡◌, ◌<◌, ◌≤◌, ◌^◌, None, length};
 ghost use Rattle.p3l_base.specs.Memory.{IfGiven, OnGiven};
-ghost use Rattle.p3l_net.specs.Typed.{IsTyped};
+ghost use Rattle.p3l_firing.specs.Typed.{IsTyped};
 ghost use Rattle.p3l_skel.specs.Tree.{node_at};
 ghost use Rattle.p3l_retrace.specs.Walk.{FeedsOn, IsUnderWay, PassesOn, Steps, outside, started};
 

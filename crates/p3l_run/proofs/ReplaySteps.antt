@@ -14,18 +14,17 @@ use Rattle.p3l_base.specs.declared.outcome.Trap.{Trap}
 use Rattle.p3l_firing.specs.declared.net.Chan.{Chan}
 use Rattle.p3l_firing.specs.declared.net.Net.{Net}
 use Rattle.p3l_firing.specs.Nodes.{Leaf}
-use Rattle.p3l_firing.specs.State.{Own, fresh as unused_own, own_at}
+use Rattle.p3l_firing.specs.State.{Own, fresh as unused_own, own_at, first_state, with_rest}
 use Rattle.p3l_firing.specs.Token.{has_trap}
 use Rattle.p3l_skel.specs.declared.tree.Tree.{Tree}
 use Rattle.p3l_skel.specs.Tree.{node_at}
-use Rattle.p3l_net.specs.Carried.{HaveInWords}
+use Rattle.p3l_firing.specs.Carried.{HaveInWords}
 use Rattle.p3l_net.specs.Channel.{Queue}
 use Rattle.p3l_net.specs.Machine as machine
 use Rattle.p3l_net.specs.Machine.{Fires, IsShaped, can_step, state_of}
 use Rattle.p3l_net.specs.Offered.{Follows, HasFilledInbox}
-use Rattle.p3l_net.specs.Run.{Course, after_picks, picked}
+use Rattle.p3l_firing.specs.Run.{Course, after_picks, picked}
 use Rattle.p3l_net.specs.Shot.{CanRestore, IsCountable, queues_of, restored, saved_own, shot_of}
-use Rattle.p3l_net.specs.State.{first_state, with_rest}
 use Rattle.p3l_net.specs.declared.shot.Own.{Own as SavedOwn}
 use Rattle.p3l_net.specs.declared.shot.SavedToken.{SavedToken}
 use Rattle.p3l_net.specs.declared.shot.Shot.{Shot}

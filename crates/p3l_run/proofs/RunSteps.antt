@@ -13,14 +13,14 @@ use Rattle.p3l_firing.specs.declared.net.Net.{Net}
 use Rattle.p3l_firing.specs.declared.process.ProcKind.{ProcKind}
 use Rattle.p3l_skel.specs.declared.tree.Tree.{Tree}
 use Rattle.p3l_skel.specs.Item.{item, meaning, up_to_trap}
-use Rattle.p3l_net.specs.Fire.{can_fire}
-use Rattle.p3l_net.specs.Process.{kind_at}
+use Rattle.p3l_firing.specs.Fire.{can_fire}
+use Rattle.p3l_firing.specs.Process.{kind_at}
 use Rattle.p3l_net.specs.Machine.{HasEmitted, Seen, Fires, can_step, ready_list, state_of}
 use Rattle.p3l_net.specs.Offered.{Follows, HasFilledInbox}
-use Rattle.p3l_net.specs.State.{with_rest}
-use Rattle.p3l_net.specs.Run.{Course, after_picks, course_from, picked}
-use Rattle.p3l_net.specs.Carried.{HaveInWords}
-use Rattle.p3l_net.specs.Outcomes.{IsPrefixOf, up_to_first_trap}
+use Rattle.p3l_firing.specs.State.{with_rest}
+use Rattle.p3l_firing.specs.Run.{Course, after_picks, course_from, picked}
+use Rattle.p3l_firing.specs.Carried.{HaveInWords}
+use Rattle.p3l_firing.specs.Outcomes.{IsPrefixOf, up_to_first_trap}
 use Rattle.p3l_net.specs.Shot.{restored}
 use Rattle.p3l_run.specs.declared.end.RunStats.{RunStats}
 use Rattle.p3l_sched.specs.declared.picker.Way.{Way}

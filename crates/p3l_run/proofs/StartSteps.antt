@@ -6,22 +6,21 @@ use Rattle.std.specs.Option.{option_map, option_to_list}
 use Rattle.p3l_base.specs.declared.outcome.Outcome.{Outcome}
 use Rattle.p3l_base.specs.declared.outcome.Outcome.TheVariants.{Value, Trapped}
 use Rattle.p3l_firing.proofs.OutcomesLaw.{meaning_is}
-use Rattle.p3l_firing.specs.Carried.{whole}
+use Rattle.p3l_firing.specs.Carried.{whole, Carry, HaveInWords, IsCarried}
 use Rattle.p3l_firing.specs.Nodes.{Leaf}
 use Rattle.p3l_firing.specs.Token.{has_trap}
 use Rattle.p3l_firing.specs.declared.net.Net.{Net}
 use Rattle.p3l_firing.specs.declared.process.Proc.{Proc}
 use Rattle.p3l_firing.specs.declared.process.ProcKind.TheVariants.{Source}
-use Rattle.p3l_net.specs.Carried.{Carry, HaveInWords, IsCarried}
-use Rattle.p3l_net.specs.Fire.{IsStuck}
+use Rattle.p3l_firing.specs.Fire.{IsStuck}
 use Rattle.p3l_net.specs.Machine.{state_of}
 use Rattle.p3l_net.specs.Offered.{Follows}
-use Rattle.p3l_net.specs.Outcomes.{IsPrefixOf, up_to_first_trap}
-use Rattle.p3l_net.specs.Run.{course_from}
+use Rattle.p3l_firing.specs.Outcomes.{IsPrefixOf, up_to_first_trap}
+use Rattle.p3l_firing.specs.Run.{course_from}
 use Rattle.p3l_net.specs.Shot.{restored}
-use Rattle.p3l_net.specs.State.{first_state, with_rest}
-use Rattle.p3l_sched.specs.resumption.Orderly as resumption
-use Rattle.p3l_sched.proofs.OrderlyLaw.{IsKeptFrom, few_firings, kept_begins, kept_finished, kept_run}
+use Rattle.p3l_firing.specs.State.{first_state, with_rest}
+use Rattle.p3l_firing.specs.Orderly as resumption
+use Rattle.p3l_firing.proofs.OrderlyLaw.{IsKeptFrom, few_firings, kept_begins, kept_finished, kept_run}
 use Rattle.p3l_skel.specs.Item.{item, meaning}
 use Rattle.p3l_skel.specs.declared.tree.Tree.{Tree}
 use Rattle.p3l_run.specs.Network.{IsSound, Network, begun_with, course_under, meaning_of, most_firings}

@@ -1,15 +1,14 @@
 -- Runs whose picks are made by turns or by a seed end where no process can fire.
 use Rattle.std.proofs.Common.{◌≡◌, ℕ, ℤ, Bool, false, List, [], ◌∷◌, filter, refl, sym, ap, ◌∙◌, inl, inr}
 use Rattle.std.proofs.lemmas.Bool.{cond-false, false≢true}
-use Rattle.p3l_net.specs.Carried.{HaveInWords}
-use Rattle.p3l_net.specs.Fire.{IsStuck, can_fire}
-use Rattle.p3l_net.specs.Run.{Course, course_from}
+use Rattle.p3l_firing.specs.Carried.{HaveInWords}
+use Rattle.p3l_firing.specs.Fire.{IsStuck, can_fire}
+use Rattle.p3l_firing.specs.Run.{Course, course_from}
 use Rattle.p3l_sched.proofs.PicksLaw.{made_stuck, reads_all}
 use Rattle.p3l_sched.specs.declared.picker.Way.{Way}
 use Rattle.p3l_sched.specs.declared.schedule.Schedule.TheVariants as schedules
 use Rattle.p3l_sched.specs.Course.{picks_from}
-use Rattle.p3l_sched.specs.Picker.{begun}
-use Rattle.p3l_sched.specs.resumption.Picks.{IsMade}
+use Rattle.p3l_sched.specs.Picker.{begun, IsMade}
 use Rattle.p3l_run.specs.Laws.{OnlyRecordedPicksStop}
 use Rattle.p3l_run.specs.Network.{IsSound, Network, begun_with, course_of, course_under, goes_on, is_some, most_firings, size_of}
 use Rattle.p3l_run.proofs.StartSteps.{enough, orderly, some_process}

@@ -12,12 +12,12 @@ use Rattle.p3l_skel.specs.Tree.{node_at}
 use Rattle.p3l_net.specs.Machine as machine
 use Rattle.p3l_net.specs.Machine.{Fires, can_step, ready_list}
 use Rattle.p3l_net.specs.Offered.{Follows, HasFilledInbox}
-use Rattle.p3l_net.specs.Run.{Course, after_picks, course_from, picked}
+use Rattle.p3l_firing.specs.Run.{Course, after_picks, course_from, picked}
 use Rattle.p3l_net.specs.Steps.{OthersStay, ShareNone}
-use Rattle.p3l_net.specs.Fire.{is_ready}
+use Rattle.p3l_firing.specs.Fire.{is_ready}
 use Rattle.p3l_firing.specs.declared.net.Net.{Net}
 use Rattle.p3l_ready.specs.Flags.{count_from}
-use Rattle.p3l_net.specs.Typed.{IsTyped}
+use Rattle.p3l_firing.specs.Typed.{IsTyped}
 use Rattle.p3l_net.proofs.Frame.{kth, offer_moves, offer_stays}
 use Rattle.p3l_sched.specs.declared.picker.Way.TheVariants as way
 use Rattle.p3l_sched.specs.declared.schedule.Schedule.TheVariants as schedules

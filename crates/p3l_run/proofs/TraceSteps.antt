@@ -5,7 +5,7 @@ use Rattle.p3l_base.specs.declared.outcome.Outcome.{Outcome}
 use Rattle.p3l_skel.specs.declared.tree.Tree.{Tree}
 use Rattle.p3l_firing.specs.declared.net.Net.{Net}
 use Rattle.p3l_firing.specs.declared.process.ProcKind.{ProcKind}
-use Rattle.p3l_net.specs.Run.{Course, after_picks, picked}
+use Rattle.p3l_firing.specs.Run.{Course, after_picks, picked}
 use Rattle.p3l_trace.specs.declared.trace.TraceLine.{TraceLine}
 use Rattle.p3l_trace.specs.Agreement.{AgreeFrom, AgreesIn, IsCounted, IsLineOf, fired_of, idle_of, is_kind, picks_of}
 

@@ -6,7 +6,7 @@ use Rattle.p3l_base.specs.declared.outcome.Outcome.{Outcome}
 use Rattle.p3l_base.specs.declared.outcome.Outcome.TheVariants.{Value, Trapped}
 use Rattle.p3l_io.specs.declared.fault.Failed.{Failed}
 use Rattle.p3l_io.specs.Content.{Puts}
-use Rattle.p3l_net.specs.Outcomes.{IsPrefixOf}
+use Rattle.p3l_firing.specs.Outcomes.{IsPrefixOf}
 use Rattle.p3l_stream.specs.Text.{item_text, text_of}
 use Rattle.p3l_io.specs.Causes.{Rose}
 use Rattle.p3l_run.specs.declared.fault.RunFault.{RunFault}

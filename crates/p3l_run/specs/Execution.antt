@@ -8,7 +8,7 @@ use Rattle.p3l_firing.specs.Nodes.{Leaf}
 use Rattle.p3l_skel.specs.declared.tree.Tree.{Tree}
 use Rattle.p3l_net.specs.Machine as machine
 use Rattle.p3l_net.specs.Machine.{Fires, can_step, ready_list}
-use Rattle.p3l_net.specs.Process.{kind_at}
+use Rattle.p3l_firing.specs.Process.{kind_at}
 use Rattle.p3l_run.specs.declared.end.RunStats.{RunStats}
 use Rattle.p3l_run.specs.declared.end.RunEnd.{RunEnd}
 use Rattle.p3l_run.specs.declared.end.RunEnd.TheVariants as finish

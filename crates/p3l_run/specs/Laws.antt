@@ -2,13 +2,13 @@
 use Rattle.std.specs.Prelude.{◌≡◌, ◌≢◌, ℕ, ℤ, suc, Bool, true, false, ◌+◌, ◌<◌, ◌≤◌, List, [], ◌∷◌, ◌++◌, Option, Some, None, IsTrue, length}
 use Rattle.std.specs.Option.{option_to_list}
 use Rattle.p3l_base.specs.declared.outcome.Outcome.{Outcome}
-use Rattle.p3l_net.specs.Fire.{IsStuck, can_fire}
+use Rattle.p3l_firing.specs.Fire.{IsStuck, can_fire}
 use Rattle.p3l_net.specs.Machine.{Seen, Fires, can_step, ready_list}
 use Rattle.p3l_net.specs.Offered.{Follows, HasFilledInbox}
-use Rattle.p3l_net.specs.Run.{Course, after_picks, course_from, picked}
-use Rattle.p3l_net.specs.Carried.{HaveInWords}
-use Rattle.p3l_net.specs.Outcomes.{IsPrefixOf}
-use Rattle.p3l_net.specs.Typed.{IsTyped}
+use Rattle.p3l_firing.specs.Run.{Course, after_picks, course_from, picked}
+use Rattle.p3l_firing.specs.Carried.{HaveInWords}
+use Rattle.p3l_firing.specs.Outcomes.{IsPrefixOf}
+use Rattle.p3l_firing.specs.Typed.{IsTyped}
 use Rattle.p3l_sched.specs.declared.picker.Way.{Way}
 use Rattle.p3l_sched.specs.declared.schedule.Schedule.{Schedule}
 use Rattle.p3l_sched.specs.declared.schedule.Schedule.TheVariants.{Recorded}

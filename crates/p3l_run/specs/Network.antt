@@ -6,11 +6,11 @@ use Rattle.p3l_skel.specs.Item.{meaning}
 use Rattle.p3l_skel.specs.Tree.{node_at}
 use Rattle.p3l_firing.specs.declared.net.Net.{Net}
 use Rattle.p3l_firing.specs.Fire.{can_fire}
-use Rattle.p3l_net.specs.Carried.{Carry, IsCarried}
-use Rattle.p3l_net.specs.Outcomes.{IsPrefixOf}
-use Rattle.p3l_net.specs.Run.{Course, after_picks, course_from}
-use Rattle.p3l_net.specs.State.{State}
-use Rattle.p3l_net.specs.Typed.{IsTyped}
+use Rattle.p3l_firing.specs.Carried.{Carry, IsCarried}
+use Rattle.p3l_firing.specs.Outcomes.{IsPrefixOf}
+use Rattle.p3l_firing.specs.Run.{Course, after_picks, course_from}
+use Rattle.p3l_firing.specs.State.{State}
+use Rattle.p3l_firing.specs.Typed.{IsTyped}
 use Rattle.p3l_run.specs.declared.end.RunStats.{RunStats}
 use Rattle.p3l_run.specs.Start.{CanBegin, IsWithin, Resumption, Start, fresh, most_from, outcomes_from, saved, state_from}
 use Rattle.p3l_sched.specs.declared.schedule.Schedule.{Schedule}

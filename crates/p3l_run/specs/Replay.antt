@@ -7,7 +7,7 @@ use Rattle.p3l_base.specs.declared.outcome.Outcome.{Outcome}
 use Rattle.p3l_firing.specs.Nodes.{Leaf}
 use Rattle.p3l_firing.specs.Token.{has_trap}
 use Rattle.p3l_skel.specs.declared.tree.Tree.{Tree}
-use Rattle.p3l_net.specs.Carried.{HaveInWords}
+use Rattle.p3l_firing.specs.Carried.{HaveInWords}
 use Rattle.p3l_net.specs.Machine.{IsShaped}
 use Rattle.p3l_net.specs.Offered.{Follows}
 use Rattle.p3l_net.specs.Shot.{IsCountable, shot_of}

@@ -5,8 +5,8 @@ use Rattle.p3l_base.specs.declared.outcome.Outcome.{Outcome}
 use Rattle.p3l_base.specs.declared.outcome.Trap.{Trap}
 use Rattle.p3l_skel.specs.declared.tree.Tree.{Tree}
 use Rattle.p3l_skel.specs.Tree.{no_module}
-use Rattle.p3l_net.specs.Carried.{HaveInWords}
-use Rattle.p3l_net.specs.Run.{Course}
+use Rattle.p3l_firing.specs.Carried.{HaveInWords}
+use Rattle.p3l_firing.specs.Run.{Course}
 use Rattle.p3l_run.specs.declared.end.RunStats.{RunStats}
 use Rattle.p3l_run.specs.declared.end.RunEnd.{RunEnd}
 use Rattle.p3l_run.specs.declared.end.RunEnd.TheVariants as finish

@@ -6,11 +6,11 @@ use Rattle.p3l_skel.specs.declared.tree.Tree.{Tree}
 use Rattle.p3l_skel.specs.Item.{item}
 use Rattle.p3l_firing.specs.declared.net.Net.{Net}
 use Rattle.p3l_firing.specs.Nodes.{Leaf}
-use Rattle.p3l_net.specs.Carried.{Carry, HaveInWords}
+use Rattle.p3l_firing.specs.Carried.{Carry, HaveInWords}
 use Rattle.p3l_net.specs.Machine.{Seen, started, state_of}
-use Rattle.p3l_net.specs.Outcomes.{up_to_first_trap}
+use Rattle.p3l_firing.specs.Outcomes.{up_to_first_trap}
 use Rattle.p3l_net.specs.Shot.{CanRestore, restored}
-use Rattle.p3l_net.specs.State.{State, first_state, with_rest}
+use Rattle.p3l_firing.specs.State.{State, first_state, with_rest}
 use Rattle.p3l_net.specs.declared.shot.Shot.{Shot}
 
 -- what was saved of a run; the outcomes that are to come of the tokens in it and of the item in its inbox; and how often the net can

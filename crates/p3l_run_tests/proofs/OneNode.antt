@@ -7,9 +7,9 @@ use Rattle.p3l_skel.specs.Lawful.{IsLawfulTree}
 use Rattle.p3l_skel.specs.Numbers.{firings}
 use Rattle.p3l_skel.specs.Tree.{node_at}
 use Rattle.p3l_firing.specs.declared.net.Net.{Net}
-use Rattle.p3l_net.specs.Carried.{Carry, IsCarried}
-use Rattle.p3l_net.specs.Single.{unit_net}
-use Rattle.p3l_net.specs.Typed.{IsTyped}
+use Rattle.p3l_firing.specs.Carried.{Carry, IsCarried}
+use Rattle.p3l_firing.specs.Single.{unit_net}
+use Rattle.p3l_firing.specs.Typed.{IsTyped}
 use Rattle.p3l_run.specs.Network.{IsSound, network}
 use Rattle.p3l_sketch.specs.OneNode.{one_node}
 use Rattle.p3l_sketch.proofs.OneNode.{one_lawful, three_firings}

@@ -3,8 +3,4 @@ pub mod Gaps
 pub mod Numbers
 pub mod Picking
 pub mod Reading
-pub mod EarlierLaw
-pub mod CutLaw
-pub mod OrderlyLaw
-pub mod EmitsLaw
 pub mod PicksLaw

@@ -14,10 +14,9 @@ use Rattle.p3l_firing.proofs.RoundRobinLaw.{fired_at, next_stuck}
 use Rattle.p3l_sched.specs.declared.picker.Way.{Way}
 use Rattle.p3l_sched.specs.declared.picker.Way.TheVariants as way
 use Rattle.p3l_sched.specs.Course.{picks_from}
-use Rattle.p3l_sched.specs.Picker.{after_pick, pick_of, ready_of}
+use Rattle.p3l_sched.specs.Picker.{IsMade, after_pick, pick_of, ready_of}
 use Rattle.p3l_sched.proofs.Picking.{none_can, picked_ready, picks_from-ended, picks_from-next, picks_from-stuck}
-use Rattle.p3l_sched.specs.resumption.Picks.{IsMade}
-use Rattle.p3l_sched.proofs.OrderlyLaw.{IsKeptFrom, few_firings, kept_first, kept_fired}
+use Rattle.p3l_firing.proofs.OrderlyLaw.{IsKeptFrom, few_firings, kept_first, kept_fired}
 
 -- where nothing passes a test, nothing of a list does
 filter_none : (test : ℕ → Bool) (xs : List ℕ) → ((p : ℕ) → test p ≡ false) → filter test xs ≡ []

@@ -61,3 +61,9 @@ HasProcesses size w = Unit {0}
 abbrev pub recorded : Schedule → ℕ
 recorded (schedule.Recorded picks) = length picks
 recorded s = 0
+
+-- picks are made by turns, from one of `size` processes on, or by a generator
+abbrev pub IsMade : ℕ → Way → Type 0
+IsMade size (way.Turns cursor) = cursor < size
+IsMade size (way.Draws generator) = Unit {0}
+IsMade size (way.Reads picks) = ⊥

@@ -1,18 +1,20 @@
 // Laws of picks, each as the contract of a function that does nothing.
 
-ghost use Rattle.std.specs.Prelude.{◌≡◌, ◌≢◌, ◌<◌, ℕ, ℤ, suc, Bool, List, [], ◌∷◌, None, Some, true, length};
+ghost use Rattle.std.specs.Prelude.{◌≡◌, ◌≢◌, ◌+◌, ◌*◌, ◌<◌, ◌≤◌, ◌⊎◌, ℕ, ℤ, suc, Bool, List, [], ◌∷◌, None, Some, true, length};
 ghost use Rattle.p3l_base.specs.declared.outcome.Outcome.{Outcome};
 ghost use Rattle.p3l_skel.specs.declared.tree.Tree.{Tree};
 ghost use Rattle.p3l_firing.specs.declared.net.Net.{Net};
+ghost use Rattle.p3l_firing.specs.Carried.{Carry, IsCarried};
 ghost use Rattle.p3l_firing.specs.Fire.{IsStuck, can_fire};
 ghost use Rattle.p3l_firing.specs.Nodes.{Leaf};
-ghost use Rattle.p3l_firing.specs.Run.{Course, picked};
+ghost use Rattle.p3l_firing.specs.Run.{Course, course_from, picked, run_from};
 ghost use Rattle.p3l_firing.specs.State.{State};
 ghost use Rattle.p3l_net.specs.Machine.{Seen, can_step, ready_list};
 ghost use Rattle.p3l_net.specs.Offered.{Follows, HasFilledInbox};
 ghost use Rattle.p3l_sched.specs.declared.picker.Way.{Way};
+ghost use Rattle.p3l_sched.specs.declared.picker.Way.TheVariants.{Reads};
 ghost use Rattle.p3l_sched.specs.Course.{picks_from};
-ghost use Rattle.p3l_sched.specs.Picker.{HasPlace, IsPickedFrom, after_pick, pick_of, ready_of};
+ghost use Rattle.p3l_sched.specs.Picker.{IsMade, IsPickedFrom, after_pick, pick_of, ready_of};
 
 use p3l_net::laws::a_filled_machine_follows_the_run;
 
@@ -34,8 +36,8 @@ pub fn picks_go_one_by_one()
         → picks_from tree leaf net most way c ≡ [] }
 {}
 
-/// Where some process can fire, a turn and a draw pick one that can, and of recorded picks one is
-/// read; no process can fire where none of the net's can.
+/// A turn and a draw pick a process that can fire, if there is one, and the first of recorded
+/// picks is read; a net where no listed process can fire is stuck.
 pub fn picks_are_ready()
     ensures ready { (can : ℕ → Bool) (size : ℕ) (way : Way) (p : ℕ) → pick_of can size way ≡ Some p
         → IsPickedFrom can size way p }
@@ -43,8 +45,8 @@ pub fn picks_are_ready()
         → ready_of (can_fire tree net s) (length net.procs) ≡ [] → IsStuck tree net s }
 {}
 
-/// What is picked for a machine whose empty inbox is filled before each pick is what is picked for
-/// the run on all the items.
+/// A machine whose empty inbox is filled before each pick is picked for as the run on all the
+/// items.
 pub fn a_filled_machine_is_picked_for_as_its_run()
     ensures ready { (m : Seen) (outcomes : List Outcome) (rest : List (List ℤ)) (c : Course)
         → Follows m outcomes rest c → HasFilledInbox m rest
@@ -56,3 +58,34 @@ pub fn a_filled_machine_is_picked_for_as_its_run()
 {
     a_filled_machine_follows_the_run();
 }
+
+/// Picks made by turns or by a generator lead from any orderly state of a carried net to one where
+/// nothing can fire, if the bound of picks is at least that of the law of runs; a greater bound
+/// makes no more picks.
+pub fn picks_that_are_made_lead_to_the_end()
+    ensures ends { (tree : Tree) (leaf : Leaf) (net : Net) (firings : ℕ) (carry : Carry) (s : State)
+        (way : Way) (most : ℕ)
+        → IsCarried tree leaf net firings carry → carry.orderly s ≡ true
+        → IsMade (length net.procs) way → carry.owed s + firings * length s.unsent ≤ most
+        → IsStuck tree net
+        (run_from tree leaf net s (picks_from tree leaf net most way (course_from s))).state }
+    ensures enough { (tree : Tree) (leaf : Leaf) (net : Net) (firings : ℕ) (carry : Carry)
+        (s : State) (way : Way) (most more : ℕ)
+        → IsCarried tree leaf net firings carry → carry.orderly s ≡ true
+        → IsMade (length net.procs) way → carry.owed s + firings * length s.unsent ≤ most
+        → picks_from tree leaf net (most + more) way (course_from s)
+        ≡ picks_from tree leaf net most way (course_from s) }
+{}
+
+/// Recorded picks are read from any state until all were made or nothing can fire; a greater bound
+/// reads no more.
+pub fn recorded_picks_are_read_to_the_end()
+    ensures ends { (tree : Tree) (leaf : Leaf) (net : Net) (s : State) (picks : List ℕ)
+        → (picks_from tree leaf net (length picks) (Reads picks) (course_from s) ≡ picks)
+        ⊎ IsStuck tree net
+        (run_from tree leaf net s
+        (picks_from tree leaf net (length picks) (Reads picks) (course_from s))).state }
+    ensures enough { (tree : Tree) (leaf : Leaf) (net : Net) (s : State) (picks : List ℕ) (more : ℕ)
+        → picks_from tree leaf net (length picks + more) (Reads picks) (course_from s)
+        ≡ picks_from tree leaf net (length picks) (Reads picks) (course_from s) }
+{}

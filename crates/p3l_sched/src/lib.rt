@@ -6,7 +6,6 @@ pub mod picker;
 pub mod picks;
 mod recording;
 pub mod refusal;
-pub mod resumption;
 pub mod schedule;
 mod word;
 

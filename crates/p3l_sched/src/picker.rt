@@ -1,4 +1,4 @@
-// Which process is picked next.
+// Picks of the next process.
 
 ghost use Rattle.std.specs.Prelude.{◌≡◌, ◌≢◌, ◌<◌, ◌+◌, ◌%◌, [], Some, IfSome, length, find, slice_get};
 ghost use Rattle.std.specs.Option.{option_map_or};
@@ -16,7 +16,7 @@ use rand_core::utils::NextWord;
 use rand_pcg::Lcg64Xsh32;
 use std::marker::Model;
 
-/// What the next pick is made by.
+/// The source of the next pick.
 #[derive(Drop)]
 pub(crate) enum Way {
     /// The process that comes first in turn.
@@ -94,8 +94,8 @@ fn take_turn(cursor: &mut u32, machine: &Machine<'_>) -> Option<u32>
     Some(process)
 }
 
-/// The process after this one in turn, of `size` of them, without a division: it would cost as much as
-/// the rest of a pick.
+/// The process after this one in turn, of `size` of them, without a division: it would cost as
+/// much as the rest of a pick.
 fn after(process: u32, size: u32) -> u32
     requires { process < size }
     ensures { result ≡ (process + 1) % size }

@@ -1,11 +1,11 @@
-// Why recorded picks are refused.
+// Refusals of recorded picks.
 
 ghost use Rattle.std.specs.Prelude.{◌≡◌};
 ghost use Rattle.p3l_sched.specs.declared.refusal.PickRefusal.TheVariants.{NoMemory};
 
 use thiserror::Error;
 
-/// Why recorded picks are refused. Lines count from 1.
+/// The reasons to refuse recorded picks. Lines count from 1.
 #[derive(Clone, Copy, Debug, Drop, PartialEq, Eq, Error)]
 pub enum PickRefusal {
     /// A word is no number of 64 bits in decimal digits.

@@ -1,8 +1,8 @@
-// How picks are made.
+// Schedules: the ways to make picks.
 
 use p3l_base::List;
 
-/// How picks are made.
+/// Schedules: the ways to make picks.
 #[derive(Debug, Drop)]
 pub enum Schedule {
     /// The processes take turns, from process 0 on.

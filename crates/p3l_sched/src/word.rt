@@ -8,7 +8,8 @@ ghost use Rattle.p3l_sched.specs.Picks.{IsNextWord, is_feed, is_gap, is_of_word,
 
 use crate::refusal::PickRefusal;
 
-/// Whether a byte separates words: a space, a tab, a carriage return or a line feed.
+/// Returns true exactly if a byte separates words: a space, a tab, a carriage return or a line
+/// feed.
 fn separates(byte: u8) -> bool
     ensures { result ≡ is_gap byte }
 {
@@ -22,14 +23,14 @@ fn first_gap(bytes: &[u8]) -> Option<usize>
     bytes.iter().position(|byte| separates(*byte))
 }
 
-/// Where the first byte of a word is.
+/// The place of the first byte of a word.
 fn first_of_word(bytes: &[u8]) -> Option<usize>
     ensures { result ≡ position is_of_word bytes.now }
 {
     bytes.iter().position(|byte| !separates(*byte))
 }
 
-/// What comes before the first word, the word, and what is after it.
+/// The bytes before the first word, the word, and the bytes after it.
 pub(crate) fn next_word(text: &[u8]) -> Option<(&[u8], &[u8], &[u8])>
     ensures { IsNextWord text.now (option_map (λ found. (found.0.now, found.1.now, found.2.now))
         result) }
@@ -40,14 +41,14 @@ pub(crate) fn next_word(text: &[u8]) -> Option<(&[u8], &[u8], &[u8])>
     Some((gap, word, after))
 }
 
-/// How many line feeds there are.
+/// The count of line feeds.
 pub(crate) fn feeds_in(bytes: &[u8]) -> u64
     ensures { result ≡ count_by is_feed bytes.now }
 {
     bytes.iter().filter(|byte| **byte == b'\n').count() as u64
 }
 
-/// Whether each byte is a digit.
+/// Returns true exactly if each byte is a digit.
 fn are_digits(bytes: &[u8]) -> bool
     ensures { result ≡ list_all is_ascii_digit bytes.now }
 {

@@ -4,11 +4,11 @@ use Rattle.p3l_base.specs.declared.outcome.Outcome.{Outcome}
 use Rattle.p3l_skel.specs.declared.tree.Tree.{Tree}
 use Rattle.p3l_firing.specs.declared.net.Net.{Net}
 use Rattle.p3l_firing.specs.declared.process.ProcKind.{ProcKind}
-use Rattle.p3l_net.specs.Fire.{can_fire}
+use Rattle.p3l_firing.specs.Fire.{can_fire}
 use Rattle.p3l_net.specs.Machine.{Seen, can_step}
-use Rattle.p3l_net.specs.Process.{kind_at}
-use Rattle.p3l_net.specs.Run.{Course, after_picks, course_from, picked}
-use Rattle.p3l_net.specs.State.{State}
+use Rattle.p3l_firing.specs.Process.{kind_at}
+use Rattle.p3l_firing.specs.Run.{Course, after_picks, course_from, picked}
+use Rattle.p3l_firing.specs.State.{State}
 use Rattle.p3l_trace.specs.declared.trace.TraceLine.{TraceLine}
 use Rattle.p3l_trace.specs.declared.trace.Traced.{Traced}
 

@@ -1,5 +1,6 @@
 -- The format of the forms of nodes, each under the kind of its module.
 use Rattle.std.specs.Prelude.{ℕ, zero, suc, Bool, true, false, [], Option, Some, None, ◌==◌, if◌then◌else◌}
+use Rattle.p3l_base.specs.Limits.{most_tokens, most_turns, most_words, most_workers}
 use Rattle.p3l_base.specs.declared.cut.Cut.{Cut}
 use Rattle.p3l_skel.specs.declared.tree.Form.{Form}
 use Rattle.p3l_skel.specs.declared.tree.Form.TheVariants as form
@@ -33,7 +34,7 @@ is_clause (Some zero) = false
 is_clause (Some (suc n)) = true
 
 unfoldable pub clause_format : Format ℕ (Option ℕ)
-clause_format = as_form is_clause clause_of clause_number (u32_in 0 512)
+clause_format = as_form is_clause clause_of clause_number (u32_in 0 most_workers)
 
 -- the numbers of a form, each with something where it has none
 abbrev pub workers_of : Form → Option ℕ
@@ -60,5 +61,5 @@ form_format kind.Comp = nothing (is_form kind.Comp) form.Comp
 form_format kind.Pipe = nothing (is_form kind.Pipe) form.Pipe
 form_format kind.Farm = as_form (is_form kind.Farm) (λ w. form.Farm w) workers_of clause_format
 form_format kind.Map = as_form (is_form kind.Map) (λ p. form.Map p.0 p.1) (λ f. (workers_of f, cut_of f)) (both clause_format cut_format)
-form_format kind.Reduce = as_form (is_form kind.Reduce) (λ p. form.Reduce p.0 p.1.0 p.1.1) (λ f. (workers_of f, fold_of f)) (both clause_format (both (u32_in 1 65536) (u32_in 1 65536)))
-form_format kind.Loop = as_form (is_form kind.Loop) (λ p. form.Loop p.0 p.1) loop_of (both (u32_in 1 65536) (u32_in 1 1024))
+form_format kind.Reduce = as_form (is_form kind.Reduce) (λ p. form.Reduce p.0 p.1.0 p.1.1) (λ f. (workers_of f, fold_of f)) (both clause_format (both (u32_in 1 most_words) (u32_in 1 most_words)))
+form_format kind.Loop = as_form (is_form kind.Loop) (λ p. form.Loop p.0 p.1) loop_of (both (u32_in 1 most_turns) (u32_in 1 most_tokens))

@@ -8,16 +8,17 @@ ghost use Rattle.p3l_tree_format.specs.laws.Form.{lawful_form_of};
 
 use crate::slice::CutField;
 use p3l_base::NoMemory;
+use p3l_base::limits::{MOST_TOKENS, MOST_TURNS, MOST_WORDS, MOST_WORKERS};
 use p3l_format::{Field, ReadError, read_u32_in, write_u32};
 use p3l_skel::{Form, ModuleKind};
 use std::alloc::Global;
 
-// The number of a clause, at most 512, and what is after it.
+// The number of a clause, at most that of workers, and the bytes after it.
 #[tactic(auto, unfolding(crate::specs::Form::clause_format, p3l_format::specs::Format::as_form))]
 fn read_clause(bytes: &[u8]) -> Result<(Option<u32>, &[u8]), ReadError>
     ensures { Gives (λ x. (x.0, x.1.now)) result (clause_format.read bytes.now) }
 {
-    let (number, rest) = read_u32_in(0, 512, bytes)?;
+    let (number, rest) = read_u32_in(0, MOST_WORKERS, bytes)?;
     Ok((clause(number), rest))
 }
 
@@ -69,13 +70,13 @@ impl Field for FormField {
             }
             ModuleKind::Reduce => {
                 let (workers, rest) = read_clause(bytes)?;
-                let (len, rest) = read_u32_in(1, 65_536, rest)?;
-                let (elem, rest) = read_u32_in(1, 65_536, rest)?;
+                let (len, rest) = read_u32_in(1, MOST_WORDS as u32, rest)?;
+                let (elem, rest) = read_u32_in(1, MOST_WORDS as u32, rest)?;
                 Ok((Form::Reduce { workers, len, elem }, rest))
             }
             ModuleKind::Loop => {
-                let (turns, rest) = read_u32_in(1, 65_536, bytes)?;
-                let (tokens, rest) = read_u32_in(1, 1_024, rest)?;
+                let (turns, rest) = read_u32_in(1, MOST_TURNS, bytes)?;
+                let (tokens, rest) = read_u32_in(1, MOST_TOKENS, rest)?;
                 Ok((Form::Loop { turns, tokens }, rest))
             }
         }

@@ -52,14 +52,14 @@ impl Field for NameField {
     }
 }
 
-// Whether each byte is a letter, a digit or `_`.
+// Tests that each byte is a letter, a digit or `_`.
 fn are_word_bytes(bytes: &[u8]) -> bool
     ensures { result ≡ list_all is_word_byte bytes.now }
 {
     bytes.iter().all(|byte| word_byte(*byte))
 }
 
-// Whether bytes are letters, digits and `_`, the first of them no digit.
+// Tests that bytes are letters, digits and `_`, the first of them no digit.
 fn is_word(bytes: &[u8]) -> bool
     ensures { result ≡ is_word bytes.now }
 {
@@ -69,7 +69,7 @@ fn is_word(bytes: &[u8]) -> bool
     letter(*first) && are_word_bytes(rest)
 }
 
-// Whether bytes are a word that is no keyword, or `rescue`, which was a name in the first images.
+// Tests that bytes are a word that is no keyword, or `rescue`, which was a name in the first images.
 fn is_name(bytes: &[u8]) -> bool
     ensures { result ≡ is_name bytes.now }
 {

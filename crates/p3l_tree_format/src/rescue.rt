@@ -14,7 +14,7 @@ use p3l_format::{Cause, Field, ReadError, fault_of, read_i64, read_one_of, write
 use p3l_skel::ModuleKind;
 use std::alloc::Global;
 
-// Whether a module of a kind has a rescue number, and what is after that.
+// Tests that a module of a kind has a rescue number; and the bytes after the flag.
 #[tactic(auto, unfolding(crate::specs::Rescue::flag_format, p3l_format::specs::Format::within))]
 fn read_flag(kind: ModuleKind, bytes: &[u8]) -> Result<(bool, &[u8]), ReadError>
     ensures { Gives (λ x. (x.0, x.1.now)) result ((flag_format kind).read bytes.now) }

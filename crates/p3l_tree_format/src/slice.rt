@@ -6,6 +6,7 @@ ghost use Rattle.p3l_format.specs.Format.{Gives};
 ghost use Rattle.p3l_tree_format.specs.Slice.{place_number, place_format, dim_format, slice_format, cut_format};
 ghost use Rattle.p3l_tree_format.specs.laws.Slice.{lawful_dim, lawful_slice, lawful_cut};
 
+use p3l_base::limits::{MOST_SIZES, MOST_WORDS};
 use p3l_base::{Cut, Dim, NoMemory, Place, Slice};
 use p3l_format::{
     Field, ListField, ReadError, read_one_of, read_so_many, read_u8_in, read_u32_in, write_each,
@@ -26,7 +27,7 @@ impl Field for DimField {
 
     #[tactic(auto, unfolding(crate::specs::Slice::dim_format, p3l_format::specs::Format::pair, p3l_format::specs::Format::as_form))]
     fn read<'a>(&self, _alloc: Global, bytes: &'a [u8]) -> Result<(Dim, &'a [u8]), ReadError> {
-        let (size, rest) = read_u32_in(1, 65_536, bytes)?;
+        let (size, rest) = read_u32_in(1, MOST_WORDS as u32, bytes)?;
         let (place, rest) = read_place(rest)?;
         Ok((Dim { size, place }, rest))
     }
@@ -78,7 +79,7 @@ impl Field for SliceField {
     #[tactic(auto, unfolding(crate::specs::Slice::slice_format, p3l_format::specs::Format::pair, p3l_format::specs::Format::as_form, p3l_format::specs::Format::counted))]
     fn read<'a>(&self, alloc: Global, bytes: &'a [u8]) -> Result<(Slice, &'a [u8]), ReadError> {
         let (start, rest) = read_u32_in(0, 65_535, bytes)?;
-        let (count, rest) = read_u8_in(0, 3, rest)?;
+        let (count, rest) = read_u8_in(0, MOST_SIZES as u8, rest)?;
         let (dims, rest) = read_so_many(&DimField, alloc, u32::from(count), rest)?;
         Ok((Slice { start, dims }, rest))
     }
@@ -110,8 +111,8 @@ impl Field for CutField {
 
     #[tactic(auto, unfolding(crate::specs::Slice::cut_format, p3l_format::specs::Format::pair, p3l_format::specs::Format::as_form))]
     fn read<'a>(&self, alloc: Global, bytes: &'a [u8]) -> Result<(Cut, &'a [u8]), ReadError> {
-        let (first, rest) = read_u32_in(1, 65_536, bytes)?;
-        let (second, rest) = read_u32_in(1, 65_536, rest)?;
+        let (first, rest) = read_u32_in(1, MOST_WORDS as u32, bytes)?;
+        let (second, rest) = read_u32_in(1, MOST_WORDS as u32, rest)?;
         let (ins, rest) = SLICES.read(alloc, rest)?;
         let (outs, rest) = SLICES.read(alloc, rest)?;
         Ok((

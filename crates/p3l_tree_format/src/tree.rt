@@ -8,6 +8,7 @@ use crate::form::FormField;
 use crate::module::ModuleField;
 use crate::number::{InField, IndicesField};
 use crate::version::Version;
+use p3l_base::limits::{MOST_NODES, MOST_WORDS, MOST_WORKERS};
 use p3l_base::{List, NoMemory};
 use p3l_format::{
     Field, ListField, ReadError, read_so_many, read_u32_below, read_u32_in, write_each, write_u32,
@@ -42,8 +43,8 @@ impl<'m> Field for NodeField<'m> {
     #[tactic(auto, unfolding(crate::specs::Tree::node_format, p3l_format::specs::Format::pair, p3l_format::specs::Format::as_form))]
     fn read<'a>(&self, alloc: Global, bytes: &'a [u8]) -> Result<(Node, &'a [u8]), ReadError> {
         let (module, rest) = read_u32_below(self.modules.len(), bytes)?;
-        let (ins, rest) = read_u32_in(1, 65_536, rest)?;
-        let (outs, rest) = read_u32_in(1, 65_536, rest)?;
+        let (ins, rest) = read_u32_in(1, MOST_WORDS as u32, rest)?;
+        let (outs, rest) = read_u32_in(1, MOST_WORDS as u32, rest)?;
         let kind = kind_of(self.modules, module);
         let (form, rest) = FormField { kind }.read(alloc, rest)?;
         let (parts, rest) = IndicesField { limit: self.nodes }.read(alloc, rest)?;
@@ -89,7 +90,7 @@ impl<'m> Field for NodesField<'m> {
         alloc: Global,
         bytes: &'a [u8],
     ) -> Result<(List<Node>, &'a [u8]), ReadError> {
-        let (nodes, rest) = read_u32_in(1, 128, bytes)?;
+        let (nodes, rest) = read_u32_in(1, MOST_NODES, bytes)?;
         let item = NodeField {
             modules: self.modules,
             nodes: nodes as usize,
@@ -113,7 +114,10 @@ impl<'m> Field for NodesField<'m> {
 pub const COUNTS: ListField<InField> = ListField {
     low: 0,
     high: 4_294_967_295,
-    item: InField { low: 1, high: 512 },
+    item: InField {
+        low: 1,
+        high: MOST_WORKERS,
+    },
 };
 
 /// The modules of a tree in a version of images.

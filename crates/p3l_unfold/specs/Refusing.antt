@@ -11,9 +11,10 @@ use Rattle.p3l_unfold.specs.declared.unfolding.UnfoldRefusal.{UnfoldRefusal}
 use Rattle.p3l_unfold.specs.declared.unfolding.UnfoldRefusal.TheVariants.{TooDeep, TooManyInstances, TooHeavy, NoMemory}
 use Rattle.p3l_unfold.specs.Wiring.{module_at}
 use Rattle.p3l_unfold.specs.Unfolding.{instance, tree_of}
+use Rattle.p3l_base.specs.Limits.{most_nodes}
 use Rattle.p3l_base.specs.Memory.{Refused}
 
--- whether the instances in an instance of a module are nested no deeper than this, itself counting
+-- true if the instances in an instance of a module are nested no deeper than this, itself counting
 -- as one level
 unfoldable pub is_nested_within : List Wired → ℕ → ℕ → Bool
 is_nested_within wired = by_parts (λ below k. list_all below (module_at wired k).calls) (λ k. false)
@@ -21,7 +22,7 @@ is_nested_within wired = by_parts (λ below k. list_all below (module_at wired k
 -- why an instance whose first node has the number `at` is cut short: it has a node too many
 abbrev pub IsCutShort : List Wired → ℕ → ℕ → ℕ → UnfoldRefusal → Type 0
 IsCutShort wired levels k at TooDeep = ⊥
-IsCutShort wired levels k at TooManyInstances = 128 < at + length (instance wired levels k at)
+IsCutShort wired levels k at TooManyInstances = most_nodes < at + length (instance wired levels k at)
 IsCutShort wired levels k at TooHeavy = ⊥
 IsCutShort wired levels k at NoMemory = Refused
 
@@ -35,7 +36,7 @@ pub record IsUnfolded (infos : List ModuleInfo) (wired : List Wired) (root : ℕ
 abbrev pub IsRefused : List ModuleInfo → List Wired → ℕ → UnfoldRefusal → Type 0
 IsRefused infos wired root TooDeep = is_nested_within wired nesting root ≡ false
 IsRefused infos wired root TooManyInstances =
-    (is_nested_within wired nesting root ≡ true) × (128 < length (instance wired nesting root 0))
+    (is_nested_within wired nesting root ≡ true) × (most_nodes < length (instance wired nesting root 0))
 IsRefused infos wired root TooHeavy =
-    (is_nested_within wired nesting root ≡ true) × (length (instance wired nesting root 0) ≤ 128) × (IsLight (tree_of infos wired root) → ⊥)
+    (is_nested_within wired nesting root ≡ true) × (length (instance wired nesting root 0) ≤ most_nodes) × (IsLight (tree_of infos wired root) → ⊥)
 IsRefused infos wired root NoMemory = Refused

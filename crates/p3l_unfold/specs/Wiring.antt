@@ -11,7 +11,7 @@ use Rattle.p3l_skel.specs.Counts.{IsCountInRange, workers_of}
 use Rattle.p3l_skel.specs.Lawful.{IsSize, HasSizes, HasOnePart, HasTwoParts, HasLoopLimits, HasKind, HasLawfulRescue, kind_of}
 use Rattle.p3l_unfold.specs.declared.wired.Wired.{Wired}
 
--- what a number past the modules is read as: a pipe of nothing
+-- the module of a number past the modules: a pipe of nothing
 abbrev pub no_module : Wired
 no_module = record { form = Pipe; ins = 0; outs = 0; calls = []; sequential = false }
 
@@ -54,7 +54,7 @@ pub record IsWiredLoop (turns tokens ins outs : ℕ) (body condition : Wired) : 
   pub tested : TakesAndGives condition ins 1
   pub sequential : IsTrue condition.sequential
 
--- what a module of a form requires of its calls
+-- the rules of the calls of a module of a form
 abbrev pub IsWiredForm : List Wired → Form → ℕ → ℕ → List ℕ → Type 0
 IsWiredForm wired Seq ins outs calls = calls ≡ []
 IsWiredForm wired Comp ins outs calls = (1 ≤ length calls) × IsCallChain wired ins outs calls × All (IsSequentialModule wired) calls

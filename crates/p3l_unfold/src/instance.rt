@@ -1,6 +1,7 @@
 // The nodes of an instance of a module.
 
 ghost use Rattle.std.specs.Prelude.{◌≡◌, ◌+◌, ◌<◌, ◌≤◌, ◌∷◌, ◌++◌, IfOk, IfErr, length};
+ghost use Rattle.p3l_base.specs.Limits.{most_nodes};
 ghost use Rattle.p3l_base.specs.Memory.{IfGiven, OnGiven};
 ghost use Rattle.p3l_unfold.specs.Wiring.{module_at};
 ghost use Rattle.p3l_unfold.specs.Unfolding.{instance, node_of};
@@ -10,12 +11,10 @@ ghost use Rattle.p3l_unfold.specs.Refusing.{IsCutShort};
 use crate::copy::copy_form;
 use crate::unfolding::UnfoldRefusal;
 use crate::wired::Wired;
+use p3l_base::limits::MOST_NODES;
 use p3l_base::{List, NoMemory};
 use p3l_skel::Node;
 use std::alloc::Global;
-
-/// The most nodes of a tree.
-const MOST_NODES: u32 = 128;
 
 /// The module of a number.
 fn module_of(wired: &[Wired], k: u32) -> &Wired
@@ -68,9 +67,9 @@ pub(crate) fn instance(
 ) -> Result<Vec<Node>, UnfoldRefusal>
     requires calls { CallsAreThere wired.now }
     requires module { k < length wired.now }
-    requires room { at ≤ 128 }
+    requires room { at ≤ most_nodes }
     ensures nodes { IfOk result (λ nodes. nodes.items ≡ instance wired.now levels k at) }
-    ensures few { IfOk result (λ nodes. at + length nodes.items ≤ 128) }
+    ensures few { IfOk result (λ nodes. at + length nodes.items ≤ most_nodes) }
     ensures refused { IfErr result (IsCutShort wired.now levels k at) }
 {
     if levels == 0 {

@@ -12,7 +12,7 @@ use p3l_base::NoMemory;
 use p3l_skel::tree::NESTING;
 use std::alloc::Global;
 
-/// Whether the instances of a module are nested no deeper than one level more than the table is for.
+/// True if the instances of a module are nested no deeper than one level more than the table is for.
 #[tactic(auto, unfolding(crate::specs::Levels::is_nested_by))]
 fn is_nested_by(level: &[bool], caller: &Wired) -> bool
     requires { All (λ c. c < length level.now) caller.now.calls }
@@ -39,7 +39,7 @@ fn next_level(alloc: Global, wired: &[Wired], level: &[bool]) -> Result<Vec<bool
     Ok(next)
 }
 
-/// Whether the instances in an instance of a module are nested no deeper than a program may be.
+/// True if the instances in an instance of a module are nested no deeper than a program may be.
 pub(crate) fn is_nested(alloc: Global, wired: &[Wired], root: u32) -> Result<bool, NoMemory>
     requires calls { CallsAreThere wired.now }
     requires root { root < length wired.now }

@@ -17,11 +17,11 @@ use std::alloc::Global;
 /// Why a module has no lawful tree; the first of these, in this order, is the one that is given.
 #[derive(Clone, Copy, Debug, Drop, PartialEq, Eq)]
 pub enum UnfoldRefusal {
-    /// Instances are nested more than 6 deep.
+    /// Instances are nested more than `NESTING` deep.
     TooDeep,
-    /// There are more than 128 instances.
+    /// There are more than `MOST_NODES` instances.
     TooManyInstances,
-    /// One item makes more than 134,217,728 firings or runs of bodies.
+    /// One item makes more firings or runs of bodies than a tree may make.
     TooHeavy,
     /// Out of memory.
     NoMemory,

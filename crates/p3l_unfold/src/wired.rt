@@ -6,7 +6,7 @@ use p3l_skel::Form;
 /// A module as its callers and its instances see it.
 #[derive(Debug, Drop)]
 pub struct Wired {
-    /// What each of its instances is.
+    /// The form of each of its instances.
     pub form: Form,
     /// The words that it takes.
     pub ins: u32,
@@ -15,6 +15,6 @@ pub struct Wired {
     /// The numbers of the modules that it calls, in the order of the text; a loop calls its body
     /// and then its condition.
     pub calls: List<u32>,
-    /// Whether one process can run it: a seq, a comp, or a map or reduce of such a module.
+    /// True if one process can run it: a seq, a comp, or a map or reduce of such a module.
     pub sequential: bool,
 }

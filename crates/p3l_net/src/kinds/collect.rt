@@ -13,7 +13,7 @@ use crate::touched::Touched;
 use p3l_firing::{Proc, ProcKind};
 
 impl<'t> Store<'t> {
-    // Whether the first token of a channel has this number.
+    // Returns true exactly if the first token of a channel has this number.
     fn is_due(&self, channel: u32, number: u64) -> bool
         requires { channel < length self.now.queues }
         ensures { result ≡ front_is number (tokens_at self.now.queues channel) }
@@ -38,7 +38,7 @@ impl<'t> Store<'t> {
         None
     }
 
-    // Whether a collect can fire.
+    // Returns true exactly if a collect can fire.
     pub(super) fn can_collect(&self, p: u32, process: &Proc) -> bool
         requires stands { Stands self.now p process.now }
         requires kind { process.now.kind ≡ ProcKind.Collect }
@@ -51,8 +51,8 @@ impl<'t> Store<'t> {
         due.is_some() & room
     }
 
-    // The collect `p` takes the token that is expected, and hands it on without its number. Handed back are
-    // the channels touched.
+    // The collect `p` takes the token that is expected, and hands it on without its number. Handed
+    // back are the channels touched.
     pub(super) fn fire_collect(&mut self, p: u32) -> Touched
         requires { MayFire self.old p ProcKind.Collect }
         ensures { (leaf : Leaf) → Done leaf self.old self.new p result None }

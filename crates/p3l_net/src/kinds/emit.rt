@@ -49,7 +49,7 @@ impl<'t> Store<'t> {
         }
     }
 
-    // Whether an emit can fire.
+    // Returns true exactly if an emit can fire.
     pub(super) fn can_emit(&self, p: u32, process: &Proc) -> bool
         requires stands { Stands self.now p process.now }
         requires kind { process.now.kind ≡ ProcKind.Emit }

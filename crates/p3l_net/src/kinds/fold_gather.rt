@@ -1,7 +1,7 @@
 // Processes that gather the outcomes of segments, and fold them.
 
 ghost use Rattle.std.specs.Prelude.{◌≡◌, ◌<◌, ◌≤◌, true, length, None, Some, IfOk, OnErr, slice_get};
-ghost use Rattle.p3l_base.specs.Memory.{IfGiven};
+ghost use Rattle.p3l_base.specs.Memory.{IfGivenOr};
 ghost use Rattle.std.specs.List.{AllByRecursion};
 ghost use Rattle.p3l_skel.specs.Fold.{tree_fold};
 ghost use Rattle.p3l_skel.specs.Item.{item};
@@ -38,8 +38,9 @@ fn folded<U: Units>(
     requires some { 1 ≤ length tokens.now }
     requires sized { AllByRecursion (λ (token : Token).
         HasLength (outs_of (U.tree units.now) operator) token.body) tokens.now }
-    ensures folded { IfGiven result (λ outcome. outcome
-        ≡ tree_fold (item (U.tree units.now) (U.leaf units.now) operator) (bodies tokens.now)) }
+    ensures folded { IfGivenOr result (λ outcome. outcome
+        ≡ tree_fold (item (U.tree units.now) (U.leaf units.now) operator) (bodies tokens.now))
+        (U.may_want ≡ true) }
     ensures sized { IfOk result (λ outcome. HasLength (outs_of (U.tree units.now) operator) outcome) }
 {
     if tokens.len() == 1 {
@@ -52,7 +53,7 @@ fn folded<U: Units>(
 }
 
 impl<'t> Store<'t> {
-    // Whether a fold-gather holds the outcomes of all segments.
+    // Returns true exactly if a fold-gather holds the outcomes of all segments.
     fn has_all_outcomes(&self, p: u32, process: &Proc) -> bool
         requires { p < length self.now.owns }
         ensures { result ≡ is_full (own_at self.now.owns p) process.now }
@@ -69,7 +70,7 @@ impl<'t> Store<'t> {
         process.nth_input(self.held(p).len())
     }
 
-    // Whether a fold-gather can fire.
+    // Returns true exactly if a fold-gather can fire.
     pub(super) fn can_fold_gather(&self, p: u32, process: &Proc) -> bool
         requires stands { Stands self.now p process.now }
         requires kind { process.now.kind ≡ ProcKind.FoldGather }
@@ -84,8 +85,8 @@ impl<'t> Store<'t> {
         }
     }
 
-    // The fold-gather `p` folds the outcomes that it holds, if these are all; else it takes the next
-    // one. Handed back is the channel touched.
+    // The fold-gather `p` folds the outcomes that it holds, if these are all; else it takes the
+    // next one. Handed back is the channel touched.
     pub(super) fn fire_fold_gather<U: Units>(
         &mut self,
         alloc: Global,
@@ -94,8 +95,8 @@ impl<'t> Store<'t> {
     ) -> Result<Touched, NoMemory>
         requires may { MayFire self.old p ProcKind.FoldGather }
         requires units { U.tree units.now ≡ self.old.tree }
-        ensures done { IfGiven result (λ touched. Done (U.leaf units.now)
-            self.old self.new p touched None) }
+        ensures done { IfGivenOr result (λ touched. Done (U.leaf units.now)
+            self.old self.new p touched None) (U.may_want ≡ true) }
         ensures err { OnErr result (self.new ≡ self.old) }
     {
         let process = self.process(p);
@@ -113,8 +114,8 @@ impl<'t> Store<'t> {
         requires full { (q : Proc) → slice_get self.old.net.procs p ≡ Some q
             → is_full (own_at self.old.owns p) q ≡ true }
         requires units { U.tree units.now ≡ self.old.tree }
-        ensures done { IfGiven result (λ touched. Done (U.leaf units.now)
-            self.old self.new p touched None) }
+        ensures done { IfGivenOr result (λ touched. Done (U.leaf units.now)
+            self.old self.new p touched None) (U.may_want ≡ true) }
         ensures err { OnErr result (self.new ≡ self.old) }
     {
         let process = self.process(p);
@@ -138,11 +139,11 @@ impl<'t> Store<'t> {
         requires kind { process.now.kind ≡ ProcKind.FoldGather }
         requires full { is_full (own_at self.now.owns p) process.now ≡ true }
         requires units { U.tree units.now ≡ self.now.tree }
-        ensures { IfGiven result (λ token. token ≡ record {
+        ensures { IfGivenOr result (λ token. token ≡ record {
           tags = (first_or credit (own_at self.now.owns p).held).tags;
           body = fold_of self.now.tree (U.leaf units.now)
               process.now.node (bodies (own_at self.now.owns p).held);
-        }) }
+        }) (U.may_want ≡ true) }
     {
         let operator = self.node(process.node).part(0);
         let held = self.held(p);

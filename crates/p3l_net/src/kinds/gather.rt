@@ -55,7 +55,7 @@ impl<'t> Store<'t> {
         ins[line]
     }
 
-    // Whether a gather holds the results of all elements.
+    // Returns true exactly if a gather holds the results of all elements.
     fn has_all_results(&self, p: u32, process: &Proc) -> bool
         requires there { p < length self.now.owns }
         requires node { process.now.node < length self.now.tree.nodes }
@@ -66,7 +66,7 @@ impl<'t> Store<'t> {
         last < self.held(p).len() as u64
     }
 
-    // Whether a gather can fire.
+    // Returns true exactly if a gather can fire.
     pub(super) fn can_gather(&self, p: u32, process: &Proc) -> bool
         requires stands { Stands self.now p process.now }
         requires kind { process.now.kind ≡ ProcKind.Gather }

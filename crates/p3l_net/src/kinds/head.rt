@@ -14,7 +14,7 @@ use crate::touched::Touched;
 use p3l_firing::{Proc, ProcKind};
 
 impl<'t> Store<'t> {
-    // Whether a head can fire.
+    // Returns true exactly if a head can fire.
     pub(super) fn can_head(&self, p: u32, process: &Proc) -> bool
         requires stands { Stands self.now p process.now }
         requires kind { process.now.kind ≡ ProcKind.Head }

@@ -1,7 +1,7 @@
 // Joins.
 
-ghost use Rattle.std.specs.Prelude.{◌≡◌, ◌+◌, length, None, OnErr};
-ghost use Rattle.p3l_base.specs.Memory.{IfGiven};
+ghost use Rattle.std.specs.Prelude.{◌≡◌, ◌+◌, true, length, None, OnErr};
+ghost use Rattle.p3l_base.specs.Memory.{IfGivenOr};
 ghost use Rattle.p3l_net.specs.Machine.{Stands};
 ghost use Rattle.p3l_net.specs.Steps.{Done, IfValues, MayFire, ready_at};
 ghost use Rattle.p3l_skel.specs.Fold.{combined};
@@ -15,8 +15,8 @@ use p3l_firing::{Proc, ProcKind};
 use p3l_skel::Units;
 use std::alloc::Global;
 
-// What an operator makes of two outcomes: the left trap, else the right trap, else what its node
-// makes of the words of the left followed by those of the right.
+// The outcome of an operator on two outcomes: the left trap, else the right trap, else what its
+// node makes of the words of the left followed by those of the right.
 pub(super) fn combined_of<U: Units>(
     alloc: Global,
     units: &U,
@@ -27,8 +27,9 @@ pub(super) fn combined_of<U: Units>(
     requires sequential { IsUnit (U.tree units.now) operator }
     requires fits { IfValues left.now right.now (λ v w. HasFittingLength (U.tree units.now)
         operator (length v + length w)) }
-    ensures { IfGiven result (λ made. made
-        ≡ combined (item (U.tree units.now) (U.leaf units.now) operator) left.now right.now) }
+    ensures { IfGivenOr result (λ made. made
+        ≡ combined (item (U.tree units.now) (U.leaf units.now) operator) left.now right.now)
+        (U.may_want ≡ true) }
 {
     match (left, right) {
         (Outcome::Trapped(trap), _) => Ok(Outcome::Trapped(*trap)),
@@ -41,7 +42,7 @@ pub(super) fn combined_of<U: Units>(
 }
 
 impl<'t> Store<'t> {
-    // Whether a join can fire.
+    // Returns true exactly if a join can fire.
     pub(super) fn can_join(&self, p: u32, process: &Proc) -> bool
         requires stands { Stands self.now p process.now }
         requires kind { process.now.kind ≡ ProcKind.Join }
@@ -56,8 +57,8 @@ impl<'t> Store<'t> {
         left_comes & (right_comes & room)
     }
 
-    // The join `p` takes a token on both sides, and appends what the operator makes of them, with the
-    // left one's tags. Handed back are the channels touched.
+    // The join `p` takes a token on both sides, and appends what the operator makes of them, with
+    // the left one's tags. Handed back are the channels touched.
     pub(super) fn fire_join<U: Units>(
         &mut self,
         alloc: Global,
@@ -66,8 +67,8 @@ impl<'t> Store<'t> {
     ) -> Result<Touched, NoMemory>
         requires may { MayFire self.old p ProcKind.Join }
         requires units { U.tree units.now ≡ self.old.tree }
-        ensures done { IfGiven result (λ touched. Done (U.leaf units.now)
-            self.old self.new p touched None) }
+        ensures done { IfGivenOr result (λ touched. Done (U.leaf units.now)
+            self.old self.new p touched None) (U.may_want ≡ true) }
         ensures err { OnErr result (self.new ≡ self.old) }
     {
         let process = self.process(p);

@@ -1,4 +1,4 @@
-// What the processes that hand a token out in pieces, and those that gather pieces, have in common.
+// Steps shared by processes that hand a token out in pieces and those that gather pieces.
 
 ghost use Rattle.std.specs.Prelude.{◌≡◌, ◌<◌, ◌-◌, ◌≤◌, ◌^◌, [], ◌∷◌, length, IfOk, OnErr};
 ghost use Rattle.p3l_base.specs.Memory.{OnGiven};
@@ -53,8 +53,8 @@ impl<'t> Store<'t> {
         Touched::one(input)
     }
 
-    // Process `p` takes the first token of a channel to those that it holds. Handed back is the channel
-    // touched. Refused, nothing changes.
+    // Process `p` takes the first token of a channel to those that it holds. Handed back is the
+    // channel touched. Refused, nothing changes.
     pub(super) fn take_piece(&mut self, p: u32, input: u32) -> Result<Touched, NoMemory>
         requires there { p < length self.old.owns }
         requires token { CanTake self.old input }

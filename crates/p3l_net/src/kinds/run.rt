@@ -1,7 +1,7 @@
 // Runs.
 
 ghost use Rattle.std.specs.Prelude.{◌≡◌, [], ◌∷◌, None, true, IfOk, OnErr};
-ghost use Rattle.p3l_base.specs.Memory.{IfGiven};
+ghost use Rattle.p3l_base.specs.Memory.{IfGivenOr};
 ghost use Rattle.p3l_net.specs.Machine.{Stands, may_want_memory};
 ghost use Rattle.p3l_net.specs.Steps.{Done, MayFire, Reads, Writes, ready_at};
 
@@ -12,7 +12,7 @@ use p3l_skel::Units;
 use std::alloc::Global;
 
 impl<'t> Store<'t> {
-    // Whether a run can fire.
+    // Returns true exactly if a run can fire.
     #[inline(always)]
     pub(super) fn can_run(&self, p: u32, process: &Proc) -> bool
         requires stands { Stands self.now p process.now }
@@ -26,8 +26,8 @@ impl<'t> Store<'t> {
         comes & room
     }
 
-    /// The run `p` takes a token, and appends what its node makes of it; a trap stays as it is. Handed
-    /// back are the channels that it read and wrote.
+    /// The run `p` takes a token, and appends what its node makes of it; a trap stays as it is.
+    /// Handed back are the channels that it read and wrote.
     #[inline(always)]
     pub(crate) fn fire_run<U: Units>(
         &mut self,
@@ -37,8 +37,8 @@ impl<'t> Store<'t> {
     ) -> Result<(u32, u32), NoMemory>
         requires may { MayFire self.old p ProcKind.Run }
         requires units { U.tree units.now ≡ self.old.tree }
-        ensures done { IfGiven result (λ ends. Done (U.leaf units.now)
-            self.old self.new p (ends.0 ∷ (ends.1 ∷ [])) None) }
+        ensures done { IfGivenOr result (λ ends. Done (U.leaf units.now)
+            self.old self.new p (ends.0 ∷ (ends.1 ∷ [])) None) (U.may_want ≡ true) }
         ensures reads { IfOk result (λ ends. Reads self.old.net p ends.0) }
         ensures writes { IfOk result (λ ends. Writes self.old.net p ends.1) }
         ensures err { OnErr result (self.new ≡ self.old) }

@@ -46,7 +46,7 @@ impl<'t> Store<'t> {
         outs[line as usize]
     }
 
-    // Whether a scatter can fire.
+    // Returns true exactly if a scatter can fire.
     pub(super) fn can_scatter(&self, p: u32, process: &Proc) -> bool
         requires stands { Stands self.now p process.now }
         requires kind { process.now.kind ≡ ProcKind.Scatter }
@@ -61,8 +61,8 @@ impl<'t> Store<'t> {
         }
     }
 
-    // The scatter `p` sends the next element of the token that it holds, or takes a token. Handed back
-    // is the channel touched.
+    // The scatter `p` sends the next element of the token that it holds, or takes a token. Handed
+    // back is the channel touched.
     pub(super) fn fire_scatter(&mut self, alloc: Global, p: u32) -> Result<Touched, NoMemory>
         requires { MayFire self.old p ProcKind.Scatter }
         ensures done { IfGiven result (λ touched. (leaf : Leaf)
@@ -78,8 +78,8 @@ impl<'t> Store<'t> {
         }
     }
 
-    // The scatter `p` sends the next element of the token that it holds, and lets go of it after the
-    // last.
+    // The scatter `p` sends the next element of the token that it holds, and lets go of it after
+    // the last.
     fn send_element(&mut self, alloc: Global, p: u32) -> Result<Touched, NoMemory>
         requires may { MayFire self.old p ProcKind.Scatter }
         requires holds { has_first (own_at self.old.owns p).held ≡ true }

@@ -11,7 +11,7 @@ use p3l_base::Outcome;
 use p3l_firing::{Proc, ProcKind};
 
 impl<'t> Store<'t> {
-    // Whether a sink can fire.
+    // Returns true exactly if a sink can fire.
     pub(super) fn can_sink(&self, p: u32, process: &Proc) -> bool
         requires stands { Stands self.now p process.now }
         requires kind { process.now.kind ≡ ProcKind.Sink }

@@ -11,7 +11,7 @@ use p3l_base::Outcome;
 use p3l_firing::{Proc, ProcKind};
 
 impl<'t> Store<'t> {
-    // Whether a source can fire.
+    // Returns true exactly if a source can fire.
     pub(super) fn can_source(&self, p: u32, process: &Proc) -> bool
         requires stands { Stands self.now p process.now }
         requires kind { process.now.kind ≡ ProcKind.Source }

@@ -1,6 +1,7 @@
 // Splits.
 
 ghost use Rattle.std.specs.Prelude.{◌≡◌, ◌<◌, ◌≤◌, true, length, None, OnErr};
+ghost use Rattle.p3l_base.specs.Limits.{most_workers};
 ghost use Rattle.p3l_base.specs.Memory.{IfGiven};
 ghost use Rattle.std.specs.Int.{IsPowerOfTwo};
 ghost use Rattle.p3l_base.specs.declared.outcome.Outcome.TheVariants.{Value};
@@ -22,7 +23,7 @@ use p3l_firing::{Proc, ProcKind, Token};
 use p3l_skel::{Form, Node};
 use std::alloc::Global;
 
-// How many words an element of a reduce has.
+// The count of words of a reduce's element.
 fn elem_of(node: &Node) -> u32
     requires { IsReduce node.now.form }
     ensures { result ≡ elem_of node.now.form }
@@ -39,7 +40,7 @@ fn segment(words: &[i64], elem: usize, count: usize, s: usize) -> &[i64]
     requires some { 0 < elem }
     requires whole { IsInElements elem (length words.now) }
     requires power { IsPowerOfTwo count }
-    requires few { count ≤ 512 }
+    requires few { count ≤ most_workers }
     requires there { s < count }
     ensures { result.now ≡ segment_words elem count s words.now }
 {
@@ -66,7 +67,7 @@ fn segment_of(
     requires some { 0 < elem }
     requires fits { IfValue outcome.now (λ words. IsInElements elem (length words)) }
     requires power { IsPowerOfTwo count }
-    requires few { count ≤ 512 }
+    requires few { count ≤ most_workers }
     requires there { s < count }
     ensures { IfGiven result (λ made. made
         ≡ on_value (λ words. Value (segment_words elem count s words)) outcome.now) }
@@ -91,7 +92,7 @@ impl<'t> Store<'t> {
         process.outs.as_slice()[number as usize]
     }
 
-    // Whether a split can fire.
+    // Returns true exactly if a split can fire.
     pub(super) fn can_split(&self, p: u32, process: &Proc) -> bool
         requires stands { Stands self.now p process.now }
         requires kind { process.now.kind ≡ ProcKind.Split }
@@ -106,8 +107,8 @@ impl<'t> Store<'t> {
         }
     }
 
-    // The split `p` sends the next segment of the token that it holds, or takes a token. Handed back is
-    // the channel touched.
+    // The split `p` sends the next segment of the token that it holds, or takes a token. Handed
+    // back is the channel touched.
     pub(super) fn fire_split(&mut self, alloc: Global, p: u32) -> Result<Touched, NoMemory>
         requires { MayFire self.old p ProcKind.Split }
         ensures done { IfGiven result (λ touched. (leaf : Leaf)
@@ -123,7 +124,8 @@ impl<'t> Store<'t> {
         }
     }
 
-    // The split `p` sends the next segment of the token that it holds, and lets go of it after the last.
+    // The split `p` sends the next segment of the token that it holds, and lets go of it after the
+    // last.
     fn send_segment(&mut self, alloc: Global, p: u32) -> Result<Touched, NoMemory>
         requires may { MayFire self.old p ProcKind.Split }
         requires holds { has_first (own_at self.old.owns p).held ≡ true }

@@ -1,7 +1,7 @@
 // Tails of loops.
 
 ghost use Rattle.std.specs.Prelude.{◌≡◌, ◌<◌, [], None, Some, true, false, length, slice_get, OnErr};
-ghost use Rattle.p3l_base.specs.Memory.{IfGiven};
+ghost use Rattle.p3l_base.specs.Memory.{IfGivenOr};
 ghost use Rattle.p3l_base.specs.declared.outcome.Outcome.{Outcome};
 ghost use Rattle.p3l_base.specs.declared.outcome.Outcome.TheVariants.{Trapped};
 ghost use Rattle.p3l_skel.specs.Tree.{IsUnit, HasFittingLength};
@@ -25,7 +25,7 @@ use p3l_skel::outcome::is_done;
 use p3l_skel::{Form, Units};
 use std::alloc::Global;
 
-// What a tail does with a token that comes out of the body.
+// The turn of a token that comes out of the body, as its tail decides it.
 #[derive(Clone, Copy, Debug, Drop)]
 enum Turn {
     // It holds the token.
@@ -56,7 +56,7 @@ fn by_test(answer: &Outcome, spent: Trap, more: bool) -> Turn
     }
 }
 
-// What becomes of a token with this outcome: a trap stays, and a value goes by the condition's
+// Decides the turn of a token with this outcome: a trap stays, and a value goes by the condition's
 // outcome on it.
 fn turn_of<U: Units>(
     alloc: Global,
@@ -69,9 +69,9 @@ fn turn_of<U: Units>(
     requires sequential { IsUnit (U.tree units.now) condition }
     requires fits { IfValue body.now (λ words. HasFittingLength (U.tree units.now)
         condition (length words)) }
-    ensures { IfGiven result (λ turn. row_turn turn body.now
+    ensures { IfGivenOr result (λ turn. row_turn turn body.now
         ≡ turn_of (outcome_of (U.tree units.now) (U.leaf units.now) condition) (Trapped spent)
-        more body.now) }
+        more body.now) (U.may_want ≡ true) }
 {
     match body {
         Outcome::Trapped(_) => Ok(Turn::Stays),
@@ -93,7 +93,7 @@ fn most_turns(form: &Form) -> u32
 }
 
 impl<'t> Store<'t> {
-    // Whether a tail can let a token out.
+    // Returns true exactly if a tail can let a token out.
     fn can_release(&self, p: u32, process: &Proc) -> bool
         requires stands { Stands self.now p process.now }
         requires kind { process.now.kind ≡ ProcKind.Tail }
@@ -108,7 +108,7 @@ impl<'t> Store<'t> {
         due & (room & credit_room)
     }
 
-    // Whether a tail can fire.
+    // Returns true exactly if a tail can fire.
     pub(super) fn can_tail(&self, p: u32, process: &Proc) -> bool
         requires stands { Stands self.now p process.now }
         requires kind { process.now.kind ≡ ProcKind.Tail }
@@ -132,8 +132,8 @@ impl<'t> Store<'t> {
     ) -> Result<Touched, NoMemory>
         requires may { MayFire self.old p ProcKind.Tail }
         requires units { U.tree units.now ≡ self.old.tree }
-        ensures done { IfGiven result (λ touched. Done (U.leaf units.now)
-            self.old self.new p touched None) }
+        ensures done { IfGivenOr result (λ touched. Done (U.leaf units.now)
+            self.old self.new p touched None) (U.may_want ≡ true) }
         ensures err { OnErr result (self.new ≡ self.old) }
         ensures memory { OnErr result (may_want_memory self.old p ≡ true) }
     {
@@ -170,8 +170,8 @@ impl<'t> Store<'t> {
         requires stays { (q : Proc) → slice_get self.old.net.procs p ≡ Some q
             → can_release self.old.net (state_of self.old []) (own_at self.old.owns p) q ≡ false }
         requires units { U.tree units.now ≡ self.old.tree }
-        ensures done { IfGiven result (λ touched. Done (U.leaf units.now)
-            self.old self.new p touched None) }
+        ensures done { IfGivenOr result (λ touched. Done (U.leaf units.now)
+            self.old self.new p touched None) (U.may_want ≡ true) }
         ensures err { OnErr result (self.new ≡ self.old) }
     {
         let process = self.process(p);
@@ -197,7 +197,7 @@ impl<'t> Store<'t> {
         }
     }
 
-    // What becomes of the token that comes out of the body.
+    // Decides the turn of the token that comes out of the body.
     fn next_turn<U: Units>(
         &self,
         alloc: Global,
@@ -209,9 +209,10 @@ impl<'t> Store<'t> {
         requires kind { process.now.kind ≡ ProcKind.Tail }
         requires comes { has_first (tokens_at self.now.queues (in_of process.now 0)) ≡ true }
         requires units { U.tree units.now ≡ self.now.tree }
-        ensures { IfGiven result (λ turn.
+        ensures { IfGivenOr result (λ turn.
             row_turn turn (first_or credit (tokens_at self.now.queues (in_of process.now 0))).body
-            ≡ next_turn self.now.tree (U.leaf units.now) (state_of self.now []) process.now) }
+            ≡ next_turn self.now.tree (U.leaf units.now) (state_of self.now []) process.now)
+            (U.may_want ≡ true) }
     {
         let input = process.input();
         let node = self.node(process.node);

@@ -10,7 +10,7 @@ use Rattle.p3l_format.specs.Lawful.{IsLawful}
 use Rattle.p3l_format.specs.laws.Parts.{first_true}
 use Rattle.p3l_format.specs.laws.Formats.{lawful_both, lawful_counted, lawful_form, lawful_record, lawful_tagged}
 use Rattle.p3l_format.specs.laws.Numbers.{lawful_one_of, lawful_u32, lawful_u64}
-use Rattle.p3l_net.specs.Token.{is_trap}
+use Rattle.p3l_firing.specs.Token.{is_trap}
 use Rattle.p3l_resume.specs.Token.{body_format, is_value, outcome_format, tags_format, token_format, tokens_format, trap_format, trap_kind_format, trap_kinds, trap_number, trap_of, words_of}
 use Rattle.p3l_resume.specs.laws.Words.{lawful_count, lawful_flag, lawful_words}
 

@@ -1,6 +1,7 @@
 -- The forms of nodes are read as they are spelled.
 use Rattle.std.proofs.Common.{◌≡◌, ℕ, zero, suc, true, Option, Some, None, refl}
 use Rattle.std.proofs.Math.Dec.{eqb-suc-zero}
+use Rattle.p3l_base.specs.Limits.{most_tokens, most_turns, most_words, most_workers}
 use Rattle.p3l_skel.specs.declared.tree.Form.{Form}
 use Rattle.p3l_skel.specs.declared.tree.Form.TheVariants as form
 use Rattle.p3l_skel.specs.declared.tree.ModuleKind.{ModuleKind}
@@ -26,7 +27,7 @@ clause_there (Some (suc n)) e = rw (eqb-suc-zero n) refl
 
 pub lawful_clause : IsLawful clause_format
 unfolding clause_format
-lawful_clause = lawful_form _ _ _ _ (record { back = λ n _. clause_back n; fine = λ n _. clause_fine n; there = clause_there }) (lawful_u32_in 0 512)
+lawful_clause = lawful_form _ _ _ _ (record { back = λ n _. clause_back n; fine = λ n _. clause_fine n; there = clause_there }) (lawful_u32_in 0 most_workers)
 
 only_seq : (v : Form) → is_form kind.Seq v ≡ true → form.Seq ≡ v
 only_seq form.Seq e = refl
@@ -64,5 +65,5 @@ lawful_form_of kind.Pipe = lawful_nothing _ _ refl only_pipe
 lawful_form_of kind.Farm = lawful_form _ _ _ _ (record { back = λ _ _. refl; fine = λ _ _. refl; there = farm_there }) lawful_clause
 lawful_form_of kind.Map = lawful_form _ _ _ _ (record { back = λ _ _. refl; fine = λ _ _. refl; there = map_there }) (lawful_both _ _ lawful_clause lawful_cut)
 lawful_form_of kind.Reduce = lawful_form _ _ _ _ (record { back = λ _ _. refl; fine = λ _ _. refl; there = reduce_there })
-    (lawful_both _ _ lawful_clause (lawful_both _ _ (lawful_u32_in 1 65536) (lawful_u32_in 1 65536)))
-lawful_form_of kind.Loop = lawful_form _ _ _ _ (record { back = λ _ _. refl; fine = λ _ _. refl; there = loop_there }) (lawful_both _ _ (lawful_u32_in 1 65536) (lawful_u32_in 1 1024))
+    (lawful_both _ _ lawful_clause (lawful_both _ _ (lawful_u32_in 1 most_words) (lawful_u32_in 1 most_words)))
+lawful_form_of kind.Loop = lawful_form _ _ _ _ (record { back = λ _ _. refl; fine = λ _ _. refl; there = loop_there }) (lawful_both _ _ (lawful_u32_in 1 most_turns) (lawful_u32_in 1 most_tokens))

@@ -1,6 +1,7 @@
 -- Slices and cuts are read as they are spelled.
 use Rattle.std.proofs.Common.{◌≡◌, Some, refl}
 use Rattle.std.specs.List.{slice_get}
+use Rattle.p3l_base.specs.Limits.{most_sizes, most_words}
 use Rattle.p3l_base.specs.declared.slice.Place.{Place}
 use Rattle.p3l_base.specs.declared.slice.Place.TheVariants.{Rest, First, Second}
 use Rattle.p3l_format.specs.Lawful.{IsLawful}
@@ -21,11 +22,11 @@ lawful_place = lawful_one_of places place_number refl place_there
 
 pub lawful_dim : IsLawful dim_format
 unfolding dim_format
-lawful_dim = lawful_record _ _ _ (λ _. refl) (λ _. refl) (lawful_both _ _ (lawful_u32_in 1 65536) lawful_place)
+lawful_dim = lawful_record _ _ _ (λ _. refl) (λ _. refl) (lawful_both _ _ (lawful_u32_in 1 most_words) lawful_place)
 
 pub lawful_slice : IsLawful slice_format
 unfolding slice_format
-lawful_slice = lawful_record _ _ _ (λ _. refl) (λ _. refl) (lawful_both _ _ (lawful_u32_in 0 65535) (lawful_counted _ _ (lawful_u8_in 0 3) (λ _. lawful_dim)))
+lawful_slice = lawful_record _ _ _ (λ _. refl) (λ _. refl) (lawful_both _ _ (lawful_u32_in 0 65535) (lawful_counted _ _ (lawful_u8_in 0 most_sizes) (λ _. lawful_dim)))
 
 pub lawful_slices : IsLawful slices_format
 lawful_slices = lawful_counted _ _ (lawful_u32_in 0 4294967295) (λ _. lawful_slice)

@@ -1,5 +1,6 @@
 -- Trees and counts are read as they are spelled.
 use Rattle.std.proofs.Common.{ℕ, List, refl}
+use Rattle.p3l_base.specs.Limits.{most_nodes, most_words, most_workers}
 use Rattle.p3l_skel.specs.declared.tree.ModuleInfo.{ModuleInfo}
 use Rattle.p3l_format.specs.Lawful.{IsLawful}
 use Rattle.p3l_format.specs.laws.Formats.{lawful_pair, lawful_both, lawful_record, lawful_counted}
@@ -21,7 +22,7 @@ lawful_node modules nodes = lawful_record _ _ _ (λ _. refl) (λ _. refl) (searc
 
 pub lawful_nodes : (modules : List ModuleInfo) → IsLawful (nodes_format modules)
 unfolding nodes_format
-lawful_nodes modules = lawful_counted _ _ (lawful_u32_in 1 128) (λ nodes. lawful_node modules nodes)
+lawful_nodes modules = lawful_counted _ _ (lawful_u32_in 1 most_nodes) (λ nodes. lawful_node modules nodes)
 
 pub lawful_modules : (version : Version) → IsLawful (modules_format version)
 lawful_modules version = lawful_counted _ _ (lawful_u32_in 1 4294967295) (λ _. lawful_module version)
@@ -31,4 +32,4 @@ unfolding tree_format
 lawful_tree version = lawful_record _ _ _ (λ _. refl) (λ _. refl) (lawful_pair _ _ (lawful_modules version) lawful_nodes)
 
 pub lawful_counts : IsLawful counts_format
-lawful_counts = lawful_counted _ _ (lawful_u32_in 0 4294967295) (λ _. lawful_u32_in 1 512)
+lawful_counts = lawful_counted _ _ (lawful_u32_in 0 4294967295) (λ _. lawful_u32_in 1 most_workers)

@@ -7,11 +7,11 @@ use Rattle.p3l_alloc.proofs.Chosen.{root_row, root_best, first_alone, chosen, fi
 use Rattle.p3l_alloc.proofs.allocation.choose.Goals as goal
 
 pub returns-in_err-rows-clause-refused : goal.returns-in_err-rows-clause-refused
-returns-in_err-rows-clause-refused c = let p = err_from_is_err_and c.from_residual.result c.from_residual.ensures.1 in rw (p.1, p.2) tt
+returns-in_err-rows-clause-refused c = let p = err_from_is_err_and c.from_residual.result c.from_residual.ensures.1 in rw (p.1, p.2) c.in_err-rows.ensures
 
 pub returns-in_err-used-clause-refused : goal.returns-in_err-used-clause-refused
 returns-in_err-used-clause-refused c =
-    let p = err_from_is_err_and c.from_residual-in_err-used.result c.from_residual-in_err-used.ensures.1 in rw (p.1, p.2) tt
+    let p = err_from_is_err_and c.from_residual-in_err-used.result c.from_residual-in_err-used.ensures.1 in rw (p.1, p.2) c.in_err-used.ensures
 
 pub returns-then-service-ge-NEVER-clause-refused : goal.returns-then-service-ge-NEVER-clause-refused
 returns-then-service-ge-NEVER-clause-refused c =

@@ -7,7 +7,7 @@ use Rattle.p3l_model.specs.NodeCost.{node_cost}
 use Rattle.p3l_model.specs.Costed.{costed, stages}
 use Rattle.p3l_alloc.specs.Soonest.{IsRow, HasPart, over_part}
 use Rattle.p3l_alloc.specs.Table.{row_in, IsRowFor, AreRows}
-use Rattle.p3l_alloc.proofs.Rows.{ok_more, part_ready, row_over, stages_are, stages_ready}
+use Rattle.p3l_alloc.proofs.Rows.{given_more, part_ready, row_over, stages_are, stages_ready}
 use Rattle.p3l_alloc.proofs.table.node_row.Goals as goal
 
 pub returns-in-Stages : goal.returns-in-Stages
@@ -15,7 +15,7 @@ returns-in-Stages c =
     let tree = c.args.tree.now in
     let costs = c.args.costs.now in
     let is : node_cost tree costs c.args.node ≡ Stages = sym c.node_cost-cost.ensures ∙ c.in-Stages.is in
-    ok_more _ (IsRowFor tree costs c.args.most c.args.node) c.stages_row.result
+    given_more _ (IsRowFor tree costs c.args.most c.args.node) c.stages_row.result
     (λ row made slow.
     let parts = c.parts_of.ensures in
     let rows = stages_ready tree costs c.requires.tree c.requires.costs c.args.node c.args.most (c.args.node + 1) c.args.rows.now c.requires.node (omega arith) is c.requires.rows slow in
@@ -31,7 +31,7 @@ returns-in_default c =
     let cost : c.node_cost-cost.result ≡ node_cost tree costs c.args.node = c.node_cost-cost.ensures in
     let row : c.row_in.result.now ≡ row_in tree c.args.rows.now (slice_index (node_at tree c.args.node).parts 0) = c.row_in.ensures ∙ ap (row_in tree c.args.rows.now) c.first_part.ensures in
     let first : ℕ = slice_index (node_at tree c.args.node).parts 0 in
-    ok_more _ (IsRowFor tree costs c.args.most c.args.node) c.cost_row.result
+    given_more _ (IsRowFor tree costs c.args.most c.args.node) c.cost_row.result
     (λ made_row made slow.
     let part = part_ready tree costs c.requires.tree c.requires.costs c.args.node c.args.most (c.args.node + 1) c.args.rows.now c.requires.node (omega arith) c.requires.rows slow in
     let over = row_over tree costs c.requires.tree c.requires.costs c.args.node c.requires.node (λ is. c.in_default.not-Stages (cost ∙ is)) in

@@ -1,5 +1,5 @@
 use Rattle.std.proofs.Common.{◌≡◌, [], drop, sym, ap, ◌∙◌, subst, arith}
-use Rattle.std.specs.Result.{IfOk}
+use Rattle.p3l_base.specs.Memory.{IfGiven}
 use Rattle.p3l_firing.specs.declared.token.Token.{Token}
 use Rattle.p3l_net.specs.declared.channel.Slot.{Slot}
 use Rattle.p3l_net.specs.Rings.{lists_of, token_in}
@@ -15,4 +15,4 @@ returns-in-Tagged c =
     let left = drop c.args.next c.args.tags.now.items in
     let token = ap (λ (x : Slot). token_in x left) c.in-Tagged.is
     ∙ ap (λ tags. record { tags = tags; body = c.in-Tagged.body }) (first-read [] c.args.tags.now.items c.args.next c.nth.result.now c.nth.ensures) in
-    subst (λ (t : Token). IfOk c.tagged.result (λ saved. saved ≡ saved_token t)) (sym token) c.tagged.ensures
+    subst (λ (t : Token). IfGiven c.tagged.result (λ saved. saved ≡ saved_token t)) (sym token) c.tagged.ensures

@@ -10,6 +10,6 @@ returns g c = record {
     expected = expected_no_memory _ _ c.perform-verdict.result c.perform-verdict.ensures.expected;
     says = c.put_no_memory.ensures.known;
     begins_to_say = c.put_no_memory.ensures.begun;
-    wants = inl c.report_of.ensures;
+    wants = inl (inl c.report_of.ensures.text);
   };
 }

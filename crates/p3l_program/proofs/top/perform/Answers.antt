@@ -1,4 +1,4 @@
-use Rattle.std.proofs.Common.{refl, rules, subst}
+use Rattle.std.proofs.Common.{refl, rules, subst, inl, inr}
 use Rattle.p3l_opts.specs.declared.command.Command.TheVariants as command
 use Rattle.p3l_opts.specs.Command.{Spells, texts_of}
 use Rattle.p3l_program.specs.Command.{work_of}
@@ -16,7 +16,7 @@ returns-in-Ok-Check g c =
           text_requested (texts_of c.args.words.now) _ spelled (files_change g.F.Files.held g.F.Files.faults g.F.Files.failed c.args.files.now c.check.new.files)
           (change g.K.Sink.taken g.K.Sink.faults c.args.out.now c.check.new.out) (g.S.Source.rest c.args.input.now) (g.S.Source.faults c.args.input.now)
           c.check.result _ _ refl c.check.ensures.expected c.check.ensures.stays;
-      wants = c.check.ensures.wants;
+      wants = inl c.check.ensures.wants;
     }
 
 pub returns-in-Ok-Fmt : goal.returns-in-Ok-Fmt
@@ -28,7 +28,7 @@ returns-in-Ok-Fmt g c =
           text_requested (texts_of c.args.words.now) _ spelled (files_change g.F.Files.held g.F.Files.faults g.F.Files.failed c.args.files.now c.fmt.new.files)
           (change g.K.Sink.taken g.K.Sink.faults c.args.out.now c.fmt.new.out) (g.S.Source.rest c.args.input.now) (g.S.Source.faults c.args.input.now)
           c.fmt.result _ _ refl c.fmt.ensures.expected c.fmt.ensures.stays;
-      wants = c.fmt.ensures.wants;
+      wants = inl c.fmt.ensures.wants;
     }
 
 pub returns-in-None : goal.returns-in-None
@@ -41,7 +41,7 @@ returns-in-None g c =
           text_requested words _ spelled (files_change g.F.Files.held g.F.Files.faults g.F.Files.failed c.args.files.now c.explain.new.files)
           (change g.K.Sink.taken g.K.Sink.faults c.args.out.now c.explain.new.out) (g.S.Source.rest c.args.input.now) (g.S.Source.faults c.args.input.now)
           c.explain.result _ _ refl c.explain.ensures.expected c.explain.ensures.stays;
-      wants = c.explain.ensures.wants;
+      wants = inl c.explain.ensures.wants;
     }
 
 pub returns-in-Some : goal.returns-in-Some
@@ -54,7 +54,7 @@ returns-in-Some g c =
           saving_requested words _ spelled (files_change g.F.Files.held g.F.Files.faults g.F.Files.failed c.args.files.now c.certify.new.files)
           (change g.K.Sink.taken g.K.Sink.faults c.args.out.now c.certify.new.out) (g.S.Source.rest c.args.input.now) (g.S.Source.faults c.args.input.now)
           c.certify.result _ _ _ _ refl c.certify.ensures.expected c.certify.ensures.kept;
-      wants = c.certify.ensures.wants;
+      wants = inl c.certify.ensures.wants;
     }
 
 pub returns-in-Ok-Compile : goal.returns-in-Ok-Compile
@@ -66,7 +66,7 @@ returns-in-Ok-Compile g c =
           file_requested (texts_of c.args.words.now) _ spelled (files_change g.F.Files.held g.F.Files.faults g.F.Files.failed c.args.files.now c.compile.new.files)
           (change g.K.Sink.taken g.K.Sink.faults c.args.out.now c.args.out.now) (g.S.Source.rest c.args.input.now) (g.S.Source.faults c.args.input.now)
           c.compile.result _ _ _ refl (record { known = refl; calm = refl }) c.compile.ensures.expected c.compile.ensures.kept;
-      wants = c.compile.ensures.wants;
+      wants = inl c.compile.ensures.wants;
     }
 
 pub returns-in-Ok-Migrate : goal.returns-in-Ok-Migrate
@@ -78,7 +78,7 @@ returns-in-Ok-Migrate g c =
           file_requested (texts_of c.args.words.now) _ spelled (files_change g.F.Files.held g.F.Files.faults g.F.Files.failed c.args.files.now c.migrate.new.files)
           (change g.K.Sink.taken g.K.Sink.faults c.args.out.now c.args.out.now) (g.S.Source.rest c.args.input.now) (g.S.Source.faults c.args.input.now)
           c.migrate.result _ _ _ refl (record { known = refl; calm = refl }) c.migrate.ensures.expected c.migrate.ensures.kept;
-      wants = c.migrate.ensures.wants;
+      wants = inl c.migrate.ensures.wants;
     }
 
 pub returns-in-Ok-Graph : goal.returns-in-Ok-Graph
@@ -90,7 +90,7 @@ returns-in-Ok-Graph g c =
           text_requested (texts_of c.args.words.now) _ spelled (files_change g.F.Files.held g.F.Files.faults g.F.Files.failed c.args.files.now c.graph.new.files)
           (change g.K.Sink.taken g.K.Sink.faults c.args.out.now c.graph.new.out) (g.S.Source.rest c.args.input.now) (g.S.Source.faults c.args.input.now)
           c.graph.result _ _ refl c.graph.ensures.expected c.graph.ensures.stays;
-      wants = c.graph.ensures.wants;
+      wants = inl c.graph.ensures.wants;
     }
 
 pub returns-in-Ok-Run : goal.returns-in-Ok-Run
@@ -103,7 +103,7 @@ returns-in-Ok-Run g c =
           (change g.S.Source.rest g.S.Source.faults c.args.input.now c.run.new.input)
           (change g.K.Sink.taken g.K.Sink.faults c.args.out.now c.run.new.out)
           c.run.result _ refl c.run.ensures.expected c.run.ensures.kept c.run.ensures.over;
-      wants = c.run.ensures.wants;
+      wants = inl c.run.ensures.wants;
     }
 
 pub returns-in-Ok-VerifyCert : goal.returns-in-Ok-VerifyCert
@@ -115,7 +115,7 @@ returns-in-Ok-VerifyCert g c =
           text_requested (texts_of c.args.words.now) _ spelled (files_change g.F.Files.held g.F.Files.faults g.F.Files.failed c.args.files.now c.verify_cert.new.files)
           (change g.K.Sink.taken g.K.Sink.faults c.args.out.now c.verify_cert.new.out) (g.S.Source.rest c.args.input.now) (g.S.Source.faults c.args.input.now)
           c.verify_cert.result _ _ refl c.verify_cert.ensures.expected c.verify_cert.ensures.stays;
-      wants = c.verify_cert.ensures.wants;
+      wants = inl c.verify_cert.ensures.wants;
     }
 
 pub returns-in-Ok-Exec : goal.returns-in-Ok-Exec
@@ -128,7 +128,7 @@ returns-in-Ok-Exec g c =
           (change g.S.Source.rest g.S.Source.faults c.args.input.now c.exec.new.input)
           (change g.K.Sink.taken g.K.Sink.faults c.args.out.now c.exec.new.out)
           c.exec.result _ refl c.exec.ensures.expected c.exec.ensures.kept c.exec.ensures.over;
-      wants = c.exec.ensures.wants;
+      wants = inl c.exec.ensures.wants;
     }
 
 pub returns-in-Ok-CheckTrace : goal.returns-in-Ok-CheckTrace
@@ -141,7 +141,7 @@ returns-in-Ok-CheckTrace g c =
           (change g.S.Source.rest g.S.Source.faults c.args.input.now c.check_trace.new.input)
           (change g.K.Sink.taken g.K.Sink.faults c.args.out.now c.check_trace.new.out)
           c.check_trace.result _ _ refl c.check_trace.ensures.expected c.check_trace.ensures.stays;
-      wants = c.check_trace.ensures.wants;
+      wants = inl c.check_trace.ensures.wants;
     }
 
 pub run_generated-requires-clause-items : goal.run_generated-requires-clause-items
@@ -159,7 +159,7 @@ returns-in-Ok-Gen g c =
           gen_requested (texts_of c.args.words.now) _ spelled (files_change g.F.Files.held g.F.Files.faults g.F.Files.failed c.args.files.now c.run_generated.new.files)
           (change g.K.Sink.taken g.K.Sink.faults c.args.out.now c.run_generated.new.out) (g.S.Source.rest c.args.input.now) (g.S.Source.faults c.args.input.now)
           c.run_generated.result _ refl c.run_generated.ensures.expected;
-      wants = c.run_generated.ensures.wants;
+      wants = inl c.run_generated.ensures.wants;
     }
 
 pub returns-in-Ok-Rewrite : goal.returns-in-Ok-Rewrite
@@ -171,7 +171,7 @@ returns-in-Ok-Rewrite g c =
           text_requested (texts_of c.args.words.now) _ spelled (files_change g.F.Files.held g.F.Files.faults g.F.Files.failed c.args.files.now c.rewrite.new.files)
           (change g.K.Sink.taken g.K.Sink.faults c.args.out.now c.rewrite.new.out) (g.S.Source.rest c.args.input.now) (g.S.Source.faults c.args.input.now)
           c.rewrite.result _ _ refl c.rewrite.ensures.expected c.rewrite.ensures.stays;
-      wants = c.rewrite.ensures.wants;
+      wants = inl c.rewrite.ensures.wants;
     }
 
 pub returns-in-Ok-Profile : goal.returns-in-Ok-Profile
@@ -184,7 +184,7 @@ returns-in-Ok-Profile g c =
           (change g.S.Source.rest g.S.Source.faults c.args.input.now c.profile.new.input)
           (change g.K.Sink.taken g.K.Sink.faults c.args.out.now c.profile.new.out)
           c.profile.result _ refl c.profile.ensures.expected c.profile.ensures.stays;
-      wants = c.profile.ensures.wants;
+      wants = inl c.profile.ensures.wants;
     }
 
 pub returns-in-Ok-Time : goal.returns-in-Ok-Time
@@ -197,7 +197,7 @@ returns-in-Ok-Time g c =
           (change g.S.Source.rest g.S.Source.faults c.args.input.now c.time.new.input)
           (change g.K.Sink.taken g.K.Sink.faults c.args.out.now c.time.new.out)
           c.time.result _ _ refl c.time.ensures.expected c.time.ensures.kept c.time.ensures.over;
-      wants = c.time.ensures.wants;
+      wants = inl c.time.ensures.wants;
     }
 
 pub returns-in-Ok-Scan : goal.returns-in-Ok-Scan
@@ -210,7 +210,7 @@ returns-in-Ok-Scan g c =
           (change g.S.Source.rest g.S.Source.faults c.args.input.now c.scan.new.input)
           (change g.K.Sink.taken g.K.Sink.faults c.args.out.now c.scan.new.out)
           c.scan.result _ refl c.scan.ensures.expected c.scan.ensures.kept c.scan.ensures.over;
-      wants = c.scan.ensures.wants;
+      wants = inl c.scan.ensures.wants;
     }
 
 pub returns-in-Ok-Save : goal.returns-in-Ok-Save
@@ -223,7 +223,10 @@ returns-in-Ok-Save g c =
           (change g.S.Source.rest g.S.Source.faults c.args.input.now c.save_state.new.input)
           (change g.K.Sink.taken g.K.Sink.faults c.args.out.now c.save_state.new.out)
           c.save_state.result _ _ _ refl c.save_state.ensures.expected c.save_state.ensures.kept c.save_state.ensures.over;
-      wants = c.save_state.ensures.wants;
+      wants = elim c.save_state.ensures.wants [
+        | inl own ↦ inl own
+        | inr long ↦ inr (record { build = request.build; picks = request.picks; output = request.output; spelled = spelled; long = long })
+      ];
     }
 
 pub returns-in-Ok-Resume : goal.returns-in-Ok-Resume
@@ -236,5 +239,5 @@ returns-in-Ok-Resume g c =
           (change g.S.Source.rest g.S.Source.faults c.args.input.now c.resume.new.input)
           (change g.K.Sink.taken g.K.Sink.faults c.args.out.now c.resume.new.out)
           c.resume.result _ refl c.resume.ensures.expected c.resume.ensures.kept c.resume.ensures.over;
-      wants = c.resume.ensures.wants;
+      wants = inl c.resume.ensures.wants;
     }

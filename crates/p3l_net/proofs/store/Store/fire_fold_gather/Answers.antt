@@ -5,7 +5,8 @@ use Rattle.p3l_firing.specs.Token.{credit}
 use Rattle.p3l_net.specs.Channel.{tokens_at}
 use Rattle.p3l_net.specs.Machine.{Seen}
 use Rattle.p3l_net.specs.Steps.{CanTake, ticked, with_own, without_first}
-use Rattle.p3l_net.proofs.Standing.{here, is_kind, own_there, within_room, if_ok_both}
+use Rattle.p3l_net.proofs.Standing.{here, is_kind, own_there, within_room}
+use Rattle.p3l_net.proofs.Given.{or_both}
 use Rattle.p3l_net.proofs.step.FoldGather.{held_few, takes, fired_taken}
 use Rattle.p3l_net.proofs.store.Store.fire_fold_gather.Goals as goal
 
@@ -39,7 +40,7 @@ pub returns-else-has_all_outcomes-clause-done : goal.returns-else-has_all_outcom
 returns-else-has_all_outcomes-clause-done g c =
     let m : Seen = c.args.self.now in
     let line = c.outcome_line-line.ensures in
-    if_ok_both c.take_piece.result c.take_piece.ensures.after c.take_piece.ensures.touched
+    or_both _ c.take_piece.result c.take_piece.ensures.after c.take_piece.ensures.touched
     (λ touched after named.
     fired_taken c.requires.may c.process-process.ensures (sym c.has_all_outcomes.ensures ∙ c.if-has_all_outcomes.false) (g.U.Units.leaf c.args.units.now) _
     (after ∙ ap (λ k. ticked (with_own (without_first m k) c.args.p (gathering (own_at m.owns c.args.p) (first_or credit (tokens_at m.queues k))))) line)

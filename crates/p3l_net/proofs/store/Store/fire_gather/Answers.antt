@@ -5,7 +5,8 @@ use Rattle.p3l_firing.specs.Token.{credit}
 use Rattle.p3l_net.specs.Channel.{tokens_at}
 use Rattle.p3l_net.specs.Machine.{Seen}
 use Rattle.p3l_net.specs.Steps.{CanTake, ticked, with_own, without_first}
-use Rattle.p3l_net.proofs.Standing.{here, is_kind, within_room, if_ok_both}
+use Rattle.p3l_net.proofs.Standing.{here, is_kind, within_room}
+use Rattle.p3l_net.proofs.Given.{match_both}
 use Rattle.p3l_net.proofs.step.Gather.{fits_gather, some_ins, is_map, takes, fired_taken}
 use Rattle.p3l_net.proofs.store.Store.fire_gather.Goals as goal
 
@@ -29,7 +30,7 @@ pub returns-else-has_all_results-clause-done : goal.returns-else-has_all_results
 returns-else-has_all_results-clause-done c =
     let m : Seen = c.args.self.now in
     let line = c.result_line-line.ensures in
-    if_ok_both c.take_piece.result c.take_piece.ensures.after c.take_piece.ensures.touched
+    match_both _ c.take_piece.result c.take_piece.ensures.after c.take_piece.ensures.touched
     (λ touched after named leaf.
     fired_taken c.requires c.process-process.ensures (sym c.has_all_results.ensures ∙ c.if-has_all_results.false) leaf _
     (after ∙ ap (λ k. ticked (with_own (without_first m k) c.args.p (gathering (own_at m.owns c.args.p) (first_or credit (tokens_at m.queues k))))) line)

@@ -1,6 +1,7 @@
 use Rattle.std.proofs.Common.{refl}
 use Rattle.p3l_firing.specs.Fire.{row_wants_memory}
-use Rattle.p3l_net.proofs.Standing.{if_ok_so, on_err, wants_as}
+use Rattle.p3l_net.proofs.Standing.{on_err, wants_as}
+use Rattle.p3l_net.proofs.Given.{or_so}
 use Rattle.p3l_net.proofs.store.Store.fire_other.Goals as goal
 
 pub returns-in-Source-clause-done : goal.returns-in-Source-clause-done
@@ -16,13 +17,13 @@ pub returns-in-Head-clause-done : goal.returns-in-Head-clause-done
 returns-in-Head-clause-done g c = c.fire_head.ensures (g.U.Units.leaf c.args.units.now)
 
 pub returns-in-Scatter-clause-done : goal.returns-in-Scatter-clause-done
-returns-in-Scatter-clause-done g c = if_ok_so c.fire_scatter.result c.fire_scatter.ensures.done (λ touched done. done (g.U.Units.leaf c.args.units.now))
+returns-in-Scatter-clause-done g c = or_so _ c.fire_scatter.result c.fire_scatter.ensures.done (λ touched done. done (g.U.Units.leaf c.args.units.now))
 
 pub returns-in-Gather-clause-done : goal.returns-in-Gather-clause-done
-returns-in-Gather-clause-done g c = if_ok_so c.fire_gather.result c.fire_gather.ensures.done (λ touched done. done (g.U.Units.leaf c.args.units.now))
+returns-in-Gather-clause-done g c = or_so _ c.fire_gather.result c.fire_gather.ensures.done (λ touched done. done (g.U.Units.leaf c.args.units.now))
 
 pub returns-in-Split-clause-done : goal.returns-in-Split-clause-done
-returns-in-Split-clause-done g c = if_ok_so c.fire_split.result c.fire_split.ensures.done (λ touched done. done (g.U.Units.leaf c.args.units.now))
+returns-in-Split-clause-done g c = or_so _ c.fire_split.result c.fire_split.ensures.done (λ touched done. done (g.U.Units.leaf c.args.units.now))
 
 pub returns-in-Scatter-clause-memory : goal.returns-in-Scatter-clause-memory
 unfolding row_wants_memory

@@ -11,7 +11,7 @@ returns-in-Err-clause-err c =
     let there = subst (λ (x : Seen). c.args.c < length x.queues) (sym c.self.view_is) c.requires.token.there in
     let token = subst (λ (x : Seen). 0 < length (tokens_at x.queues c.args.c)) (sym c.self.view_is) c.requires.token.token in
     let channels = c.put_back.ensures
-    ∙ ap₂ (λ x t. prepended x c.args.c t) c.take-token.ensures.rest (c.in-Err.ensures.back ∙ c.take-token.ensures.front)
+    ∙ ap₂ (λ x t. prepended x c.args.c t) c.take-token.ensures.rest (c.in-Err.ensures.back.0 ∙ c.take-token.ensures.front)
     ∙ put_back_same inside.channels c.args.c there token in
     let with : List Queue → List Own → Seen =
     λ queues owns. record { tree = inside.tree.now; net = inside.net; queues = queues; owns = owns; inbox = inside.inbox; fired = inside.fired; sent = inside.sent; emitted = inside.emitted; trapped = inside.trapped } in

@@ -11,7 +11,7 @@ returns-in-Err-clause-err c =
     let inside = c.self.inside in
     let there = subst (λ (x : Seen). c.args.c < length x.queues) (sym c.self.view_is) c.requires.token.there in
     let token = subst (λ (x : Seen). 0 < length (tokens_at x.queues c.args.c)) (sym c.self.view_is) c.requires.token.token in
-    let back = c.with_body.ensures ∙ ap (λ (x : Token). record x { body = c.take-tags.result.body }) c.in-Err.ensures.back in
+    let back = c.with_body.ensures ∙ ap (λ (x : Token). record x { body = c.take-tags.result.body }) c.in-Err.ensures.back.0 in
     let channels = c.put_back.ensures
     ∙ ap₂ (λ x t. prepended x c.args.c t) c.take-tags.ensures.rest (back ∙ c.take-tags.ensures.front)
     ∙ put_back_same inside.channels c.args.c there token in

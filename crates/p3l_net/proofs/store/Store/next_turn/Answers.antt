@@ -1,5 +1,5 @@
-use Rattle.std.proofs.Common.{◌≡◌, ℕ, nat_lt, [], length, slice_index, sym, ap, ap₂, ◌∙◌, subst}
-use Rattle.std.specs.Result.{IfOk}
+use Rattle.std.proofs.Common.{◌≡◌, ℕ, nat_lt, true, [], length, slice_index, sym, ap, ap₂, ◌∙◌, subst}
+use Rattle.p3l_base.specs.Memory.{IfGivenOr}
 use Rattle.p3l_base.specs.declared.outcome.Outcome.{Outcome}
 use Rattle.p3l_base.specs.declared.outcome.Outcome.TheVariants.{Trapped}
 use Rattle.p3l_base.specs.declared.outcome.TrapKind.TheVariants.{Turns}
@@ -66,5 +66,5 @@ returns g c =
     let turn = ap₂ (λ t k. turn_of (outcome_of t leaf k) (spent c.node-node.result.now) (nat_lt c.front_newest_tag.result c.most_turns.result) c.front_body.result.now) c.requires.units condition
     ∙ ap₂ (λ a b. turn_of (outcome_of m.tree leaf (part_at m.tree node 1)) (spent c.node-node.result.now) (nat_lt a b) c.front_body.result.now) newest most
     ∙ ap₂ (λ (n : Node) (x : Outcome). turn_of (outcome_of m.tree leaf (part_at m.tree node 1)) (spent n) (nat_lt (newest_tag first) (most_turns (node_at m.tree node).form)) x) c.node-node.ensures body in
-    subst (λ (x : Outcome). IfOk c.turn_of.result (λ t. row_turn t x ≡ next_turn m.tree leaf (state_of m []) c.args.process.now)) body
-    (subst (λ z. IfOk c.turn_of.result (λ t. row_turn t c.front_body.result.now ≡ z)) turn c.turn_of.ensures)
+    subst (λ (x : Outcome). IfGivenOr c.turn_of.result (λ t. row_turn t x ≡ next_turn m.tree leaf (state_of m []) c.args.process.now) (g.U.Units.may_want ≡ true)) body
+    (subst (λ z. IfGivenOr c.turn_of.result (λ t. row_turn t c.front_body.result.now ≡ z) (g.U.Units.may_want ≡ true)) turn c.turn_of.ensures)

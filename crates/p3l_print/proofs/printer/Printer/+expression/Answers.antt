@@ -1,4 +1,5 @@
-use Rattle.std.proofs.Common.{◌≡◌, ◌+◌, ◌++◌, OnOk, ap, ◌∙◌, add-one}
+use Rattle.std.proofs.Common.{◌≡◌, ◌+◌, ◌++◌, ap, ◌∙◌, add-one}
+use Rattle.p3l_base.specs.Memory.{OnGiven}
 use Rattle.p3l_ast.specs.declared.expression.Expr.{Expr}
 use Rattle.p3l_ast.specs.Tree.{phrase}
 use Rattle.p3l_ast.specs.Notation.{level}
@@ -26,7 +27,7 @@ expression-returns-in_ok-infix-in-Binary t c =
     let d = operand (c.level-level.result + 1) c.deref-in-Binary-2.result.now in
     let first : c.operand-in-Binary.new.self ≡ c.args.self.now ++ a = c.in_ok-operand-in-Binary.ensures in
     let second : c.infix.new.self ≡ c.operand-in-Binary.new.self ++ b = c.in_ok-infix-in-Binary.ensures in
-    let third : OnOk c.operand-in-Binary-2.result (c.operand-in-Binary-2.new.self ≡ c.infix.new.self ++ d) = c.operand-in-Binary-2.ensures in
+    let third : OnGiven c.operand-in-Binary-2.result (c.operand-in-Binary-2.new.self ≡ c.infix.new.self ++ d) = c.operand-in-Binary-2.ensures in
     let whole : expression_text (phrase c.args.expr.now) ≡ a ++ b ++ d = text ∙ cc in
     followed c.operand-in-Binary-2.result c.args.self.now c.infix.new.self c.operand-in-Binary-2.new.self (a ++ b) d (expression_text (phrase c.args.expr.now))
     (then c.args.self.now c.operand-in-Binary.new.self c.infix.new.self a b first second) third whole

@@ -1,4 +1,5 @@
-use Rattle.std.proofs.Common.{◌≡◌, ℕ, ◌+◌, List, [], ◌∷◌, ◌++◌, drop, codes, Option, OnOk, sym, ap, ◌∙◌, subst, arith, append_assoc, append-nil}
+use Rattle.std.proofs.Common.{◌≡◌, ℕ, ◌+◌, List, [], ◌∷◌, ◌++◌, drop, codes, Option, sym, ap, ◌∙◌, subst, arith, append_assoc, append-nil}
+use Rattle.p3l_base.specs.Memory.{OnGiven}
 use Rattle.std.proofs.lemmas.List.{drop_more, drop_all}
 use Rattle.p3l_ast.specs.declared.statement.Stmt.{Stmt}
 use Rattle.p3l_ast.specs.declared.statement.Stmt.TheVariants.{If}
@@ -10,7 +11,7 @@ use Rattle.p3l_print.proofs.printer.Printer.+statement.Goals as goal
 pub statement-returns-in-Assign : goal.statement-returns-in-Assign
 statement-returns-in-Assign t c =
     let text = ap (λ (s : Stmt). statements_text c.args.margin.now (one s)) c.in-Assign.is ∙ assign_lines c.args.margin.now c.in-Assign.place c.in-Assign.value in
-    subst (λ (x : List ℕ). OnOk c.assignment_line.result (c.assignment_line.new.self ≡ c.args.self.now ++ x)) (sym text) c.assignment_line.ensures
+    subst (λ (x : List ℕ). OnGiven c.assignment_line.result (c.assignment_line.new.self ≡ c.args.self.now ++ x)) (sym text) c.assignment_line.ensures
 
 pub statement-returns-in_ok-for_opening-in-For : goal.statement-returns-in_ok-for_opening-in-For
 statement-returns-in_ok-for_opening-in-For t c =
@@ -47,7 +48,7 @@ statement-returns-in-None t c =
     let body : c.deref.result.now ≡ c.in-If.then.items = c.deref.ensures.value in
     let first : c.opening.new.self ≡ c.args.self.now ++ a = c.in_ok-opening-in-If.ensures in
     let second : c.block.new.self ≡ c.opening.new.self ++ b = c.in_ok-block-in-If.ensures in
-    let third : OnOk c.put.result (c.put.new.self ≡ c.block.new.self ++ codes "\n") = c.put.ensures in
+    let third : OnGiven c.put.result (c.put.new.self ≡ c.block.new.self ++ codes "\n") = c.put.ensures in
     let whole : statements_text margin (one c.args.stmt.now) ≡ a ++ b ++ codes "\n" = text ∙ cc in
     followed c.put.result c.args.self.now c.block.new.self c.put.new.self (a ++ b) (codes "\n") (statements_text margin (one c.args.stmt.now))
     (then c.args.self.now c.opening.new.self c.block.new.self a b first second) third whole
@@ -66,7 +67,7 @@ statement-returns-in_ok-put-in-Some t c =
     let first : c.opening.new.self ≡ c.args.self.now ++ a = c.in_ok-opening-in-If.ensures in
     let second : c.block.new.self ≡ c.opening.new.self ++ b = c.in_ok-block-in-If.ensures in
     let third : c.put-in-Some.new.self ≡ c.block.new.self ++ codes " else " = c.in_ok-put-in-Some.ensures in
-    let last : OnOk c.last_block.result (c.last_block.new.self ≡ c.put-in-Some.new.self ++ d) = c.last_block.ensures in
+    let last : OnGiven c.last_block.result (c.last_block.new.self ≡ c.put-in-Some.new.self ++ d) = c.last_block.ensures in
     let whole : statements_text margin (one c.args.stmt.now) ≡ a ++ b ++ codes " else " ++ d = text ∙ cc in
     followed c.last_block.result c.args.self.now c.put-in-Some.new.self c.last_block.new.self (a ++ b ++ codes " else ") d (statements_text margin (one c.args.stmt.now))
     (then c.args.self.now c.block.new.self c.put-in-Some.new.self (a ++ b) (codes " else ") (then c.args.self.now c.opening.new.self c.block.new.self a b first second) third) last whole

@@ -1,0 +1,17 @@
+-- Why verdicts say that memory ran out, by the answers of the calls below.
+use Rattle.std.proofs.Common.{ℕ, List, Bool, Err, inl, inr, tt}
+use Rattle.p3l_skel.specs.declared.tree.Tree.{Tree}
+use Rattle.p3l_cost.specs.declared.refusal.CostRefusal.{CostRefusal}
+use Rattle.p3l_cost.specs.declared.refusal.CostRefusal.TheVariants as costs
+use Rattle.p3l_cost.specs.File.{IsRead}
+use Rattle.p3l_program.specs.Load.{cost_verdict}
+use Rattle.p3l_program.specs.Wants.{Wants}
+
+-- of a file of costs
+pub cost_wants : (outside : Bool) (tree : Tree) (text : List ℕ) (refusal : CostRefusal) → IsRead tree text (Err refusal) → Wants outside (cost_verdict refusal)
+cost_wants outside tree text costs.NotToml is = tt
+cost_wants outside tree text (costs.BadKey key) is = tt
+cost_wants outside tree text (costs.BadValue key) is = tt
+cost_wants outside tree text (costs.Missing name) is = tt
+cost_wants outside tree text costs.NoMemory (inl refused) = inl refused
+cost_wants outside tree text costs.NoMemory (inr toml) = inr (inr (inl toml))

@@ -1,3 +1,0 @@
-pub mod Run
-pub mod Orderly
-pub mod Picks
