@@ -9,3 +9,4 @@ pub mod Operators
 pub mod Orders
 pub mod Slices
 pub mod Tables
+pub mod Definite

@@ -80,7 +80,7 @@ sizes_rule indices subs [] = kept
 sizes_rule indices [] (size ∷ sizes) = kept
 sizes_rule indices (sub ∷ subs) (size ∷ sizes) = given (size_rule indices sub size) (λ x. sizes_rule indices subs sizes)
 
--- what a name is after the first free index
+-- the place of a name after the first free index
 abbrev pub second_place : List Index → List ℕ → Place
 second_place [] name = Rest
 second_place (j ∷ more) name = if bytes_eq j.name name then Second else Rest
@@ -90,7 +90,7 @@ abbrev pub place_named : List Index → List ℕ → Place
 place_named [] name = Rest
 place_named (i ∷ more) name = if bytes_eq i.name name then First else second_place more name
 
--- what a bracket makes of its dimension; after a plain name there is none
+-- the place of a bracket's dimension; after a plain name there is none
 abbrev pub place_in : List Index → Option Sub → Place
 place_in indices None = Rest
 place_in indices (Some Whole) = Rest

@@ -1,4 +1,4 @@
--- Where the ports of a module are in its token.
+-- The places of a module's ports in its token.
 use Rattle.std.specs.Prelude.{ℕ, ◌+◌, List, [], ◌∷◌, ◌++◌, Option, bytes_eq, is_some, if◌then◌else◌}
 use Rattle.std.specs.Map.{lookup}
 use Rattle.p3l_types.specs.Shape.{product}

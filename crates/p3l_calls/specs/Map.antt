@@ -36,7 +36,7 @@ dims_of indices subs (size ∷ sizes) =
 abbrev pub slice_of : List Index → ℕ → Arg → Shape → Slice
 slice_of indices start arg shape = record { start = start; dims = dims_of indices arg.subs shape.sizes }
 
--- what the brackets leave of the shape is the shape of the callee's port
+-- the brackets leave the shape of the callee's port
 abbrev pub leaves : Option Var → List Sub → Shape → Bool
 leaves port subs shape = option_map_or (has_shape port) (sliced subs shape) false
 

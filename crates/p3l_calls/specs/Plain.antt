@@ -42,7 +42,7 @@ plain_rule (Some var) port arg =
     given (broken_if (not (is_plain var.name arg)) Wiring arg.at.pos)
     (λ x. broken_if (not (has_shape port var.shape)) TypeDiffers arg.at.pos)
 
--- where an argument is expected, no port is declared
+-- an argument is expected, so a declaration of a port is refused
 abbrev pub plain_out_rule : Option Var → Option Var → OutArg → Verdict
 plain_out_rule var port (Fresh fresh) = Err (At Wiring fresh.at.pos)
 plain_out_rule var port (Old arg) = plain_rule var port arg

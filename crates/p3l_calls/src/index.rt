@@ -53,7 +53,7 @@ pub(crate) fn indices_in(
     Ok(indices)
 }
 
-/// Whether these are one free index, or two of different names.
+/// True if these are one free index, or two of different names.
 pub(crate) fn are_indices(indices: &[Index]) -> bool
     ensures { result ≡ are_indices indices.now }
 {
@@ -64,14 +64,14 @@ pub(crate) fn are_indices(indices: &[Index]) -> bool
     }
 }
 
-/// Whether one of the indices has this name.
+/// True if one of the indices has this name.
 fn is_index(indices: &[Index], name: &Name) -> bool
     ensures { result ≡ is_index indices.now name.now }
 {
     indices.iter().any(|index| index.name == *name)
 }
 
-/// Whether the index of this name has this size.
+/// True if the index of this name has this size.
 fn is_sized(indices: &[Index], name: &Name, size: u32) -> bool
     ensures { result ≡ is_sized indices.now name.now size }
 {
@@ -80,7 +80,7 @@ fn is_sized(indices: &[Index], name: &Name, size: u32) -> bool
         .any(|index| index.name == *name && index.size == size)
 }
 
-/// Whether a bracket holds a free index.
+/// True if a bracket holds a free index.
 fn is_free(sub: &Sub) -> bool
     ensures { result ≡ is_free sub.now }
 {
@@ -90,7 +90,7 @@ fn is_free(sub: &Sub) -> bool
     }
 }
 
-/// Whether a bracket holds the free index of this name.
+/// True if a bracket holds the free index of this name.
 fn is_free_of(name: &Name, sub: &Sub) -> bool
     ensures { result ≡ is_free_of name.now sub.now }
 {
@@ -107,21 +107,21 @@ pub(crate) fn free_count(subs: &[Sub]) -> usize
     subs.iter().filter(|sub| is_free(sub)).count()
 }
 
-/// Whether a free index of this name occurs in the brackets.
+/// True if a free index of this name occurs in the brackets.
 fn stands_in(subs: &[Sub], name: &Name) -> bool
     ensures { result ≡ stands_in subs.now name.now }
 {
     subs.iter().any(|sub| is_free_of(name, sub))
 }
 
-/// Whether each of the indices occurs in the brackets.
+/// True if each of the indices occurs in the brackets.
 fn all_stand_in(indices: &[Index], subs: &[Sub]) -> bool
     ensures { result ≡ list_all (λ (i : Index). stands_in subs.now i.name) indices.now }
 {
     indices.iter().all(|index| stands_in(subs, &index.name))
 }
 
-/// Whether the free indices in the brackets are exactly these, each once.
+/// True if the free indices in the brackets are exactly these, each once.
 pub(crate) fn has_indices(indices: &[Index], subs: &[Sub]) -> bool
     ensures { result ≡ has_indices indices.now subs.now }
 {
@@ -193,7 +193,7 @@ fn place_named(indices: &[Index], name: &Name) -> Place
     }
 }
 
-/// What the bracket of this number makes of its dimension.
+/// The place of the dimension of the bracket of this number.
 pub(crate) fn place_in(indices: &[Index], subs: &[Sub], k: usize) -> Place
     ensures { result ≡ place_in indices.now (slice_get subs.now k) }
 {

@@ -1,4 +1,4 @@
-// Where the ports of a module are in its token.
+// The places of a module's ports in its token.
 
 ghost use Rattle.std.specs.Prelude.{◌≡◌, [], ℕ, List, bytes_eq, option_copied};
 ghost use Rattle.p3l_base.specs.Memory.{IfGiven, OnGiven};

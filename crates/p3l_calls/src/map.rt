@@ -1,6 +1,7 @@
 // The call of a map.
 
 ghost use Rattle.std.specs.Prelude.{◌≡◌, ◌+◌, ◌≤◌, IfOk, drop, slice_get, bytes_eq};
+ghost use Rattle.p3l_base.specs.Limits.{most_words};
 ghost use Rattle.p3l_base.specs.Memory.{IfGiven};
 ghost use Rattle.std.specs.Map.{lookup};
 ghost use Rattle.p3l_base.specs.Slice.{array_size};
@@ -56,7 +57,7 @@ fn slice_of(
     Ok(Slice { start, dims })
 }
 
-/// Whether the brackets leave the shape of the callee's port of this number.
+/// True if the brackets leave the shape of the callee's port of this number.
 fn leaves(
     alloc: Global,
     ports: &[Var],
@@ -112,11 +113,11 @@ fn map_out(
     k: usize,
     out: &OutArg,
 ) -> Result<Slice, SourceRefusal>
-    requires { start + total (drop k vars.now) ≤ 65536 }
+    requires { start + total (drop k vars.now) ≤ most_words }
     ensures slice { Gives result (map_out indices.now start (slice_get vars.now k)
         (slice_get ports.now k) out.now) }
     ensures few { IfOk result (λ slice. (start + array_size slice.dims)
-        + total (drop (k + 1) vars.now) ≤ 65536) }
+        + total (drop (k + 1) vars.now) ≤ most_words) }
 {
     let arg = match out {
         OutArg::Fresh(port) => return refused(Fault::Wiring, port.at.pos),

@@ -10,7 +10,7 @@ use p3l_ast::{Arg, Call, Fault, OutArg, Pos, SourceRefusal};
 use p3l_base::Name;
 use p3l_body::{Ports, Var};
 
-/// Whether an argument is this name without brackets.
+/// True if an argument is this name without brackets.
 pub(crate) fn is_plain(name: &Name, arg: &Arg) -> bool
     ensures { result ≡ is_plain name.now arg.now }
 {

@@ -15,14 +15,14 @@ pub(crate) fn refused<T>(fault: Fault, pos: Pos) -> Result<T, SourceRefusal>
     Err(SourceRefusal::At { fault, pos })
 }
 
-/// Whether two lists of sizes are the same.
+/// True if two lists of sizes are the same.
 pub(crate) fn same_sizes(one: &[u32], other: &[u32]) -> bool
     ensures { result ≡ bytes_eq one.now other.now }
 {
     one == other
 }
 
-/// Whether the port at this place is there and has this shape.
+/// True if the port at this place is there and has this shape.
 pub(crate) fn has_shape(ports: &[Var], k: usize, shape: &Shape) -> bool
     ensures { result ≡ has_shape (slice_get ports.now k) shape.now }
 {

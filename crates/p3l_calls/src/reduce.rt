@@ -1,6 +1,7 @@
 // The call of a reduce.
 
 ghost use Rattle.std.specs.Prelude.{◌≡◌, ◌≤◌};
+ghost use Rattle.p3l_base.specs.Limits.{most_words};
 ghost use Rattle.p3l_types.specs.Shape.{product};
 ghost use Rattle.p3l_calls.specs.Port.{AreSized};
 ghost use Rattle.p3l_calls.specs.Index.{free_count};
@@ -13,14 +14,14 @@ use p3l_ast::{Arg, Call, Fault, OutArg, Pos, SourceRefusal, Sub};
 use p3l_body::{Ports, Var};
 use p3l_types::words_of;
 
-/// What a reduce folds: how many elements, and of how many words.
+/// The elements that a reduce folds: their number, and the words of each.
 #[derive(Clone, Copy, Debug, Drop, PartialEq, Eq)]
 pub struct Elements {
     pub len: u32,
     pub elem: u32,
 }
 
-/// Whether the first bracket holds a free index and no other does.
+/// True if the first bracket holds a free index and no other does.
 fn frees_first(subs: &[Sub]) -> bool
     ensures { result ≡ frees_first subs.now }
 {
@@ -30,7 +31,7 @@ fn frees_first(subs: &[Sub]) -> bool
     }
 }
 
-/// Whether an argument is the array with a bracket for each size, the first free.
+/// True if an argument is the array with a bracket for each size, the first free.
 fn is_rows(array: &Var, arg: &Arg) -> bool
     ensures { result ≡ is_rows array.now arg.now }
 {
@@ -67,7 +68,7 @@ fn check_result(call: Pos, out: &Var, outs: &[OutArg]) -> Result<(), SourceRefus
     }
 }
 
-/// Whether all ports have these sizes.
+/// True if all ports have these sizes.
 fn all_have(sizes: &[u32], ports: &[Var]) -> bool
     ensures { result ≡ all_have sizes.now ports.now }
 {
@@ -76,7 +77,7 @@ fn all_have(sizes: &[u32], ports: &[Var]) -> bool
         .all(|port| same_sizes(port.shape.sizes.as_slice(), sizes))
 }
 
-/// Whether the callee takes two elements of these sizes and gives one.
+/// True if the callee takes two elements of these sizes and gives one.
 fn is_operator(element: &[u32], callee: &Ports) -> bool
     ensures { result ≡ is_operator element.now callee.now }
 {
@@ -114,7 +115,7 @@ fn folded(
     callee: &Ports,
     call: &Call,
 ) -> Result<Elements, SourceRefusal>
-    requires { product out.now.shape.sizes ≤ 65536 }
+    requires { product out.now.shape.sizes ≤ most_words }
     ensures { result ≡ folded home array.now sizes.now out.now callee.now call.now }
 {
     let Some((len, element)) = sizes.split_first() else {

@@ -1,6 +1,7 @@
 // A call of a pipe or a comp that another follows.
 
 ghost use Rattle.std.specs.Prelude.{◌≡◌, ◌+◌, ◌≤◌, ◌++◌, None, false, IfOk, map, slice_get, bytes_eq};
+ghost use Rattle.p3l_base.specs.Limits.{most_words};
 ghost use Rattle.std.specs.Map.{lookup};
 ghost use Rattle.p3l_types.specs.Verdict.{Gives};
 ghost use Rattle.p3l_types.specs.Shape.{product};
@@ -25,10 +26,10 @@ fn fresh_out(
     k: usize,
     out: &OutArg,
 ) -> Result<Var, SourceRefusal>
-    requires { words ≤ 65536 }
+    requires { words ≤ most_words }
     ensures var { Gives result (fresh_out consts.now scope.now words (slice_get ports.now k)
         out.now) }
-    ensures few { IfOk result (λ var. words + product var.shape.sizes ≤ 65536) }
+    ensures few { IfOk result (λ var. words + product var.shape.sizes ≤ most_words) }
     ensures fresh { IfOk result (λ var. lookup (bytes_eq var.name) scope.now ≡ None) }
 {
     let fresh = match out {

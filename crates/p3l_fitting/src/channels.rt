@@ -1,4 +1,4 @@
-// Whether the tokens of channels fit.
+// Tests of the saved tokens of channels.
 
 ghost use Rattle.std.specs.Prelude.{◌≡◌, ◌↔◌, IsTrue, EachIndex};
 ghost use Rattle.p3l_firing.specs.State.{chan_at};
@@ -13,14 +13,15 @@ use p3l_firing::{Chan, Net};
 use p3l_net::{SavedToken, Shot};
 use p3l_skel::Tree;
 
-/// Whether a channel has room for its tokens, and they have its width.
+/// Returns true exactly if a channel has room for its tokens, and they have its width.
 fn queue_fits(tree: &Tree, chan: Chan, width: Width, saved: &[SavedToken]) -> bool
     ensures { IsTrue result ↔ QueueFits tree.now chan width saved.now }
 {
     saved.len() <= chan.cap as usize && tokens_fit(tree, width, saved)
 }
 
-/// Whether all channels have room for their tokens, and these have the widths of their channels.
+/// Returns true exactly if all channels have room for their tokens, and these have the widths of
+/// their channels.
 pub(crate) fn queues_fit(tree: &Tree, net: &Net, row: &[Width], shot: &Shot) -> bool
     ensures { IsTrue result ↔ EachIndex net.now.chans (λ c.
         QueueFits tree.now (chan_at net.now c) (width_at row.now c) (saved_at shot.now c)) }

@@ -1,6 +1,7 @@
-// Whether what is saved of a machine fits a linked net.
+// Tests that a snapshot of a machine fits a linked net.
 
 ghost use Rattle.std.specs.Prelude.{◌≡◌, ◌↔◌, ◌≤◌, IsTrue, IfSome, length};
+ghost use Rattle.p3l_base.specs.Limits.{most_processes};
 ghost use Rattle.p3l_base.specs.Memory.{IfGiven};
 ghost use Rattle.p3l_skel.specs.Numbers.{procs};
 ghost use Rattle.p3l_skel.specs.Tree.{node_at};
@@ -19,7 +20,7 @@ use p3l_net::Shot;
 use p3l_skel::{Counts, Tree};
 use std::alloc::Global;
 
-/// Whether an item in an inbox has the root's in words.
+/// Returns true exactly if an item in an inbox has the root's in words.
 fn inbox_fits(tree: &Tree, inbox: &Option<Words>) -> bool
     ensures { IsTrue result ↔ IfSome inbox.now (λ item. length item
         ≡ (node_at tree.now 0).ins) }
@@ -30,7 +31,7 @@ fn inbox_fits(tree: &Tree, inbox: &Option<Words>) -> bool
     }
 }
 
-/// How many words the root takes.
+/// The count of words that the root takes.
 fn ins_of_root(tree: &Tree) -> usize
     ensures { result ≡ (node_at tree.now 0).ins }
 {
@@ -40,7 +41,7 @@ fn ins_of_root(tree: &Tree) -> usize
     }
 }
 
-/// Whether a shot fits a net that has what was surveyed.
+/// Returns true exactly if a shot fits a net that has what was surveyed.
 fn fits_survey(tree: &Tree, net: &Net, survey: &Survey, shot: &Shot) -> bool
     ensures { IsTrue result
         ↔ AllFits tree.now net.now survey.now.widths survey.now.loops shot.now }
@@ -55,11 +56,11 @@ fn fits_survey(tree: &Tree, net: &Net, survey: &Survey, shot: &Shot) -> bool
         && loops_fit(tree, net, row, shot, survey.loops.as_slice())
 }
 
-/// Whether a shot fits the net that was linked for a tree under these counts, as every state of a run
-/// does, but for the order of tokens: there is a list for each channel, no longer than its capacity,
-/// and what each process keeps; each token has the words and the tags of its place, and a trap names a
-/// module; what was counted is below 2^63; each process holds no more than it may; each loop has as
-/// many credits as its tokens leave.
+/// Returns true exactly if a shot fits the net that was linked for a tree under these counts, as
+/// every state of a run does, but for the order of tokens: there is a list for each channel, no
+/// longer than its capacity, and what each process keeps; each token has the words and the tags of
+/// its place, and a trap names a module; what was counted is below 2^63; each process holds no
+/// more than it may; each loop has as many credits as its tokens leave.
 pub fn is_fitting(
     alloc: Global,
     tree: &Tree,
@@ -67,7 +68,7 @@ pub fn is_fitting(
     net: &Net,
     shot: &Shot,
 ) -> Result<bool, NoMemory>
-    requires { procs tree.now counts.now.list 0 ≤ 4096 }
+    requires { procs tree.now counts.now.list 0 ≤ most_processes }
     ensures { IfGiven result (λ yes. IsTrue yes ↔ Fitting tree.now net.now
         (linked_widths tree.now counts.now.list) (linked_loops tree.now counts.now.list)
         shot.now) }

@@ -1,4 +1,4 @@
-//! Whether what is saved of a machine fits a linked net: the words and tags of each channel, the
+//! Tests that a snapshot of a machine fits a linked net: the words and tags of each channel, the
 //! places of the loops, and what the processes keep.
 #![tactic(auto)]
 

@@ -1,4 +1,4 @@
-// Whether what is saved of loops fits.
+// Tests of the saved tokens of loops.
 
 ghost use Rattle.std.specs.Prelude.{◌≡◌, ◌↔◌, ◌≤◌, ◌<◌, ℕ, IsTrue};
 ghost use Rattle.std.specs.List.{All};
@@ -15,7 +15,7 @@ use p3l_firing::{Net, Proc};
 use p3l_net::{SavedToken, Shot};
 use p3l_skel::Tree;
 
-/// What the two tags of a loop keep to: its tokens have `depth` tags outside it, then a number below
+/// Bounds of the two tags of a loop: its tokens have `depth` tags outside it, then a number below
 /// `next`, then a turn from 1 to `turns`.
 #[derive(Clone, Copy, Drop)]
 struct Ring {
@@ -24,7 +24,7 @@ struct Ring {
     turns: u32,
 }
 
-/// Whether a token of a loop has a number and a turn that the loop can have given.
+/// Returns true exactly if a token of a loop has a number and a turn that the loop can have given.
 fn is_turning(ring: Ring, token: &SavedToken) -> bool
     ensures { IsTrue result ↔ IsTurning ring.depth ring.next ring.turns token.now }
 {
@@ -37,15 +37,15 @@ fn is_turning(ring: Ring, token: &SavedToken) -> bool
     tags[depth] < ring.next && 1 <= turn && turn <= ring.turns as u64
 }
 
-/// Whether all these tokens have such numbers and turns.
+/// Returns true exactly if all these tokens have such numbers and turns.
 fn are_turning(ring: Ring, tokens: &[SavedToken]) -> bool
     ensures { IsTrue result ↔ All (IsTurning ring.depth ring.next ring.turns) tokens.now }
 {
     tokens.iter().all(|token| is_turning(ring, token))
 }
 
-/// Whether all tokens in the channels from one number on and before another have such numbers and
-/// turns.
+/// Returns true exactly if all tokens in the channels from one number on and before another have
+/// such numbers and turns.
 fn sent_turn(ring: Ring, shot: &Shot, from: usize, to: usize) -> bool
     ensures { IsTrue result ↔ ((c : ℕ) → from ≤ c → c < to
         → All (IsTurning ring.depth ring.next ring.turns) (saved_at shot.now c)) }
@@ -58,8 +58,8 @@ fn sent_turn(ring: Ring, shot: &Shot, from: usize, to: usize) -> bool
     true
 }
 
-/// Whether all tokens that the processes from one number on and before another hold have such numbers
-/// and turns.
+/// Returns true exactly if all tokens that the processes from one number on and before another
+/// hold have such numbers and turns.
 fn held_turn(ring: Ring, shot: &Shot, from: usize, to: usize) -> bool
     ensures { IsTrue result ↔ ((p : ℕ) → from ≤ p → p < to
         → All (IsTurning ring.depth ring.next ring.turns) (own_saved_at shot.now p).held) }
@@ -72,7 +72,8 @@ fn held_turn(ring: Ring, shot: &Shot, from: usize, to: usize) -> bool
     true
 }
 
-/// Whether a loop has as many credits as its tokens leave, and these are in its turns.
+/// Returns true exactly if a loop has as many credits as its tokens leave, and these are in its
+/// turns.
 fn fits_loop(
     tree: &Tree,
     net: &Net,
@@ -98,7 +99,7 @@ fn fits_loop(
         && held_turn(ring, shot, place.proc_from, place.proc_to)
 }
 
-/// Whether a loop fits, if its head is there.
+/// Returns true exactly if a loop fits, if its head is there.
 #[tactic(auto, unfolding(crate::specs::Decided::LoopFits))]
 fn loop_fits(tree: &Tree, net: &Net, row: &[Width], shot: &Shot, place: &LoopPlace) -> bool
     ensures { IsTrue result ↔ LoopFits tree.now net.now row.now shot.now place.now }
@@ -109,7 +110,7 @@ fn loop_fits(tree: &Tree, net: &Net, row: &[Width], shot: &Shot, place: &LoopPla
     }
 }
 
-/// Whether all loops fit.
+/// Returns true exactly if all loops fit.
 pub(crate) fn loops_fit(
     tree: &Tree,
     net: &Net,

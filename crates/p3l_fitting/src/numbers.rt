@@ -18,7 +18,7 @@ pub(crate) fn channel(list: &List<u32>, k: usize) -> u32
     list.as_slice().get(k).copied().unwrap_or(0)
 }
 
-/// How many tokens a channel has room for.
+/// The count of tokens that a channel has room for.
 pub(crate) fn room(net: &Net, c: u32) -> u32
     ensures { result ≡ (chan_at net.now c).cap }
 {
@@ -85,7 +85,7 @@ pub(crate) fn most_turns(tree: &Tree, number: u32) -> u32
     }
 }
 
-/// How many tokens a loop lets in at once.
+/// The count of tokens that a loop lets in at once.
 pub(crate) fn most_tokens(tree: &Tree, number: u32) -> u32
     ensures { result ≡ most_tokens (node_at tree.now number).form }
 {

@@ -1,4 +1,4 @@
-// Whether what is saved of processes fits.
+// Tests of the saved local states of processes.
 
 ghost use Rattle.std.specs.Prelude.{◌≡◌, ◌↔◌, ◌≢◌, ◌≤◌, ◌<◌, ℕ, [], IsTrue, Some, length, slice_get};
 ghost use Rattle.p3l_firing.specs.declared.process.Proc.{Proc as TheProc};
@@ -14,21 +14,21 @@ use p3l_firing::{Net, Proc, ProcKind};
 use p3l_net::{Own, Shot};
 use p3l_skel::Tree;
 
-/// Whether `most` tokens at most are held, of this width.
+/// Returns true exactly if at most `most` tokens are held, all of this width.
 fn held_fits(tree: &Tree, width: Width, most: u64, own: &Own) -> bool
     ensures { IsTrue result ↔ HeldFits tree.now width most own.now }
 {
     own.held.len() as u64 <= most && tokens_fit(tree, width, own.held.as_slice())
 }
 
-/// Whether a number is below a limit, if a token is held.
+/// Returns true exactly if a number is below a limit, if a token is held.
 fn number_fits(own: &Own, limit: u64) -> bool
     ensures { IsTrue result ↔ (own.now.held ≢ [] → own.now.number < limit) }
 {
     own.held.is_empty() || own.number < limit
 }
 
-/// What is saved of a scatter.
+/// Tests the saved local state of a scatter.
 #[tactic(auto, unfolding(crate::specs::Decided::OwnFits))]
 fn scatter_fits(tree: &Tree, net: &Net, row: &[Width], shot: &Shot, q: &Proc, own: &Own) -> bool
     ensures { IsTrue result
@@ -38,7 +38,7 @@ fn scatter_fits(tree: &Tree, net: &Net, row: &[Width], shot: &Shot, q: &Proc, ow
     held_fits(tree, width, 1, own) && number_fits(own, last_element(tree, q.node) + 1)
 }
 
-/// What is saved of a gather.
+/// Tests the saved local state of a gather.
 #[tactic(auto, unfolding(crate::specs::Decided::OwnFits))]
 fn gather_fits(tree: &Tree, net: &Net, row: &[Width], shot: &Shot, q: &Proc, own: &Own) -> bool
     ensures { IsTrue result
@@ -49,7 +49,7 @@ fn gather_fits(tree: &Tree, net: &Net, row: &[Width], shot: &Shot, q: &Proc, own
     held_fits(tree, width, last_element(tree, q.node) + 1, own)
 }
 
-/// What is saved of a split.
+/// Tests the saved local state of a split.
 #[tactic(auto, unfolding(crate::specs::Decided::OwnFits))]
 fn split_fits(tree: &Tree, net: &Net, row: &[Width], shot: &Shot, q: &Proc, own: &Own) -> bool
     ensures { IsTrue result
@@ -59,7 +59,7 @@ fn split_fits(tree: &Tree, net: &Net, row: &[Width], shot: &Shot, q: &Proc, own:
     held_fits(tree, width, 1, own) && number_fits(own, q.outs.len() as u64)
 }
 
-/// What is saved of a process that folds the outcomes of segments.
+/// Tests the saved local state of a process that folds the outcomes of segments.
 #[tactic(auto, unfolding(crate::specs::Decided::OwnFits))]
 fn fold_gather_fits(tree: &Tree, net: &Net, row: &[Width], shot: &Shot, q: &Proc, own: &Own) -> bool
     ensures { IsTrue result
@@ -74,7 +74,7 @@ fn fold_gather_fits(tree: &Tree, net: &Net, row: &[Width], shot: &Shot, q: &Proc
     )
 }
 
-/// What is saved of a head, and the credits of its loop.
+/// Tests the saved local state of a head, and the credits of its loop.
 #[tactic(auto, unfolding(crate::specs::Decided::OwnFits))]
 fn head_fits(tree: &Tree, net: &Net, row: &[Width], shot: &Shot, q: &Proc, own: &Own) -> bool
     ensures { IsTrue result
@@ -83,7 +83,7 @@ fn head_fits(tree: &Tree, net: &Net, row: &[Width], shot: &Shot, q: &Proc, own: 
     own.held.is_empty() && are_credits(tokens(shot, channel(&q.ins, 2) as usize))
 }
 
-/// What is saved of a tail.
+/// Tests the saved local state of a tail.
 #[tactic(auto, unfolding(crate::specs::Decided::OwnFits))]
 fn tail_fits(tree: &Tree, net: &Net, row: &[Width], shot: &Shot, q: &Proc, own: &Own) -> bool
     ensures { IsTrue result
@@ -93,7 +93,7 @@ fn tail_fits(tree: &Tree, net: &Net, row: &[Width], shot: &Shot, q: &Proc, own: 
     held_fits(tree, width, room(net, channel(&q.outs, 2)) as u64, own)
 }
 
-/// Whether what is saved of a process fits its kind.
+/// Returns true exactly if what is saved of a process fits its kind.
 #[tactic(auto, unfolding(crate::specs::Decided::OwnFits))]
 fn own_fits(tree: &Tree, net: &Net, row: &[Width], shot: &Shot, q: &Proc, own: &Own) -> bool
     ensures { IsTrue result ↔ OwnFits q.now.kind tree.now net.now row.now shot.now q.now own.now }
@@ -114,7 +114,7 @@ fn own_fits(tree: &Tree, net: &Net, row: &[Width], shot: &Shot, q: &Proc, own: &
     }
 }
 
-/// Whether what is saved of each process fits its kind.
+/// Returns true exactly if what is saved of each process fits its kind.
 pub(crate) fn owns_fit(tree: &Tree, net: &Net, row: &[Width], shot: &Shot) -> bool
     requires { length shot.now.owns ≡ length net.now.procs }
     ensures { IsTrue result ↔ ((p : ℕ) (q : TheProc) → slice_get net.now.procs p ≡ Some q

@@ -1,4 +1,4 @@
-// What is saved, by the number of the channel or the process.
+// Saved parts of a snapshot, by the number of the channel or the process.
 
 ghost use Rattle.std.specs.Prelude.{◌≡◌, [], slice_index_or};
 ghost use Rattle.p3l_net.specs.Fitting.{own_saved_at};

@@ -1,4 +1,4 @@
-// What a linked net is surveyed to have.
+// Surveys of linked nets.
 
 ghost use Rattle.std.specs.Prelude.{◌≡◌, ◌+◌, ◌≤◌, ◌++◌, ◌^◌, ◌<◌, length};
 ghost use Rattle.p3l_base.specs.Memory.{IfGiven, OnGiven};
@@ -11,7 +11,7 @@ use p3l_skel::{Form, Tree};
 use std::alloc::Global;
 use std::marker::Model;
 
-/// Where a loop is placed in a net: its head and its tail, and from which number on and before which
+/// The place of a loop in a net: its head and its tail, and from which number on and before which
 /// the processes and the channels are its own or its body's.
 #[derive(Debug, Drop)]
 pub struct LoopPlace {
@@ -38,8 +38,8 @@ impl Model for LoopPlace {
     } };
 }
 
-/// What a linked net has: how many processes, the width of each channel, and the places of its loops,
-/// each after those inside it.
+/// A survey of a linked net: the count of its processes, the width of each channel, and the places
+/// of its loops, each after those inside it.
 #[derive(Debug, Drop)]
 pub struct Survey {
     pub procs: usize,
@@ -63,7 +63,7 @@ impl Survey {
     }
 }
 
-/// How many processes a node of this form places itself, with `n` workers or segments.
+/// The count of processes that a node of this form places itself, with `n` workers or segments.
 pub(crate) fn own_procs(form: &Form, n: u32) -> usize
     ensures value { result ≡ own_procs form.now n }
     ensures few { result ≤ 2 ^ 33 }
@@ -76,8 +76,8 @@ pub(crate) fn own_procs(form: &Form, n: u32) -> usize
     }
 }
 
-/// Puts the loop of a node behind the others, if its form is that of one: it lies from the process and
-/// the channel `from` on, before those of `to`.
+/// Puts the loop of a node behind the others, if its form is that of one: it lies from the process
+/// and the channel `from` on, before those of `to`.
 pub(crate) fn push_loops(
     loops: &mut List<LoopPlace>,
     form: &Form,

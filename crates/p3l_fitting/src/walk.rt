@@ -1,6 +1,7 @@
 // The walk over the tree that surveys a linked net: in the order in which the linker places.
 
 ghost use Rattle.std.specs.Prelude.{◌≡◌, ◌+◌, ◌*◌, ◌≤◌, ◌<◌, ◌^◌, ◌++◌, length};
+ghost use Rattle.p3l_base.specs.Limits.{most_processes};
 ghost use Rattle.p3l_base.specs.Memory.{IfGiven, OnGiven};
 ghost use Rattle.p3l_skel.specs.Counts.{count_of};
 ghost use Rattle.p3l_skel.specs.Numbers.{procs};
@@ -16,9 +17,9 @@ use p3l_skel::tree::NESTING;
 use p3l_skel::{Counts, Form, Node, Tree};
 use std::alloc::Global;
 
-/// What the linked net of a tree under these counts has.
+/// Surveys the linked net of a tree under these counts.
 pub fn surveyed(alloc: Global, tree: &Tree, counts: &Counts) -> Result<Survey, NoMemory>
-    requires { procs tree.now counts.now.list 0 ≤ 4096 }
+    requires { procs tree.now counts.now.list 0 ≤ most_processes }
     ensures { IfGiven result (λ survey. survey ≡ linked_survey tree.now counts.now.list) }
 {
     let mut survey = Survey::of_ends(alloc, tree)?;

@@ -1,4 +1,4 @@
-// What the channels of a linked net carry.
+// Widths of the channels of a linked net.
 
 ghost use Rattle.std.specs.Prelude.{◌≡◌, ◌++◌, ◌∷◌, [], ◌+◌, ◌^◌, ◌<◌, ◌≤◌, map, replicate};
 ghost use Rattle.p3l_base.specs.Memory.{OnGiven};
@@ -8,14 +8,14 @@ ghost use Rattle.p3l_fitting.specs.Widths.{deeper, ins_width, outs_width, own_wi
 use p3l_base::{List, NoMemory};
 use p3l_skel::{Form, Node, Tree};
 
-/// How many words a value in a channel has, and how many tags each of its tokens.
+/// The width of a channel: the count of words of its values, and of tags of its tokens.
 #[derive(Clone, Copy, Debug, Drop, PartialEq, Eq)]
 pub struct Width {
     pub words: u64,
     pub tags: u32,
 }
 
-/// What a channel of credits carries; also what a number without a channel is read as.
+/// The width of a channel of credits; a number without a channel is read as this too.
 const NO_WIDTH: Width = Width { words: 0, tags: 0 };
 
 /// The width of channel `c`.
@@ -47,7 +47,7 @@ pub(crate) fn outs_width(tree: &Tree, number: u32, tags: u32) -> Width
     Width { words, tags }
 }
 
-/// How many tags more the tokens inside a node of this form have.
+/// The count of tags that a node of this form adds to the tokens inside it.
 pub(crate) fn deeper(form: &Form) -> u32
     ensures more { result ≡ deeper form.now }
     ensures few { result ≤ 2 }
@@ -88,7 +88,7 @@ fn push_workers(row: &mut List<Width>, n: u32, before: Width, after: Width) -> R
     push_same(row, n, after)
 }
 
-/// How often `segments` can be halved, at most `most` times.
+/// The number of times that `segments` can be halved, at most `most` times.
 fn level_within(most: u32, segments: u32) -> u32
     ensures value { result ≡ level_up_to most segments }
     ensures bounded { result ≤ most }

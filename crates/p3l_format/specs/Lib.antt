@@ -6,4 +6,5 @@ pub mod Decimal
 pub mod Line
 pub mod Series
 pub mod FirstLine
+pub mod Places
 pub mod laws

@@ -6,3 +6,4 @@ pub mod Decimal
 pub mod Line
 pub mod Series
 pub mod FirstLine
+pub mod Places

@@ -29,7 +29,7 @@ fn count_digits(bytes: &[u8]) -> usize
     first_other(bytes).unwrap_or(bytes.len())
 }
 
-// Whether there are digits, and no leading zero.
+// Tests that there are digits, and no leading zero.
 fn is_plain(digits: &[u8]) -> bool
     ensures { result ≡ is_plain digits.now }
 {

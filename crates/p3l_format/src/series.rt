@@ -13,7 +13,7 @@ use std::alloc::Global;
 /// A kind of item in a series, whose format may depend on the item before. What it holds is what
 /// it depends on.
 pub trait Item: Copy + Drop {
-    /// What the item's bytes spell.
+    /// The type of the item's value.
     type Value;
 
     ghost format: { Self → Format ℕ Self.Value };

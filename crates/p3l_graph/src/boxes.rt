@@ -11,7 +11,7 @@ use p3l_net::ends::Sides;
 use p3l_skel::Tree;
 use std::alloc::Global;
 
-/// How a process is called in the picture, by what it does.
+/// The name of a process in the picture, by its kind.
 fn kind_name(kind: ProcKind) -> &'static str
     ensures { result.now ≡ kind_name kind }
 {
@@ -31,7 +31,8 @@ fn kind_name(kind: ProcKind) -> &'static str
     }
 }
 
-/// Whether a process belongs to a node of the tree: all but the source and the sink do.
+/// Returns true exactly if a process belongs to a node of the tree: all but the source and the
+/// sink do.
 pub(crate) fn is_placed(kind: ProcKind) -> bool
     ensures { result ≡ is_placed kind }
 {
@@ -87,8 +88,8 @@ pub(crate) fn put_process(
     Ok(())
 }
 
-/// Puts the arrow of a channel after a text, from the process that writes it to the one that reads it,
-/// with its capacity.
+/// Puts the arrow of a channel after a text, from the process that writes it to the one that reads
+/// it, with its capacity.
 pub(crate) fn put_channel(
     alloc: Global,
     text: &mut String,

@@ -12,7 +12,7 @@ use p3l_skel::counts::outside_parts;
 use p3l_skel::{Form, Tree};
 use std::alloc::Global;
 
-/// How the frame of a node of this form is called; a node that one process runs has no frame.
+/// The name of the frame of a node of this form; a node that one process runs has no frame.
 fn frame_name(form: &Form) -> Option<&'static str>
     ensures some { IfSome result (λ name. frame_name form.now ≡ Some name.now) }
     ensures none { IfNone result (frame_name form.now ≡ None) }
@@ -56,7 +56,8 @@ fn put_members(alloc: Global, text: &mut String, net: &Net, node: u32) -> Result
     Ok(())
 }
 
-/// Puts the beginning of the frame of a node after a text: its number, its skeleton, and its module.
+/// Puts the beginning of the frame of a node after a text: its number, its skeleton, and its
+/// module.
 fn put_head(
     alloc: Global,
     text: &mut String,
@@ -75,8 +76,8 @@ fn put_head(
     Ok(())
 }
 
-/// Puts the processes of a node and of the nodes below it that are outside units after a text, down to
-/// a number of levels.
+/// Puts the processes of a node and of the nodes below it that are outside units after a text,
+/// down to a number of levels.
 #[cycle(frame)]
 fn put_inner(
     alloc: Global,

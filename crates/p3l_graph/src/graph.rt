@@ -44,9 +44,9 @@ fn put_channels(alloc: Global, text: &mut String, net: &Net, ends: &Sides) -> Re
     Ok(())
 }
 
-/// The text of the network of a tree in the DOT language: a box for each process with its number, what
-/// it does and its module, an arrow for each channel with its capacity, and a frame round the processes
-/// of each skeleton.
+/// The text of the network of a tree in the DOT language: a box for each process with its number,
+/// what it does and its module, an arrow for each channel with its capacity, and a frame round the
+/// processes of each skeleton.
 pub fn graph_text(alloc: Global, tree: &Tree, net: &Net) -> Result<List<u8>, NoMemory>
     requires { IsTyped tree.now net.now }
     ensures { IfGiven result (IsGraph tree.now net.now) }

@@ -1,1 +1,2 @@
 pub mod OldText
+pub mod FirstFault

@@ -1,6 +1,7 @@
 -- The format of images.
 use Rattle.std.specs.Prelude.{◌≡◌, ◌↔◌, ◌++◌, ℕ, List, [], length, true, None, Result, Ok}
 use Rattle.std.specs.List.{All}
+use Rattle.p3l_base.specs.Limits.{most_tokens}
 use Rattle.p3l_skel.specs.declared.tree.ModuleInfo.{ModuleInfo}
 use Rattle.p3l_image.specs.declared.image.Image.{Image}
 use Rattle.p3l_format.specs.declared.fault.Fault.{Fault}
@@ -22,7 +23,7 @@ unfoldable pub body_format : Version → Format ℕ Image
 body_format version = record_of
     (λ p. record { cap = p.0; tree = p.1.0; counts = record { list = p.1.1.0 }; codes = p.1.1.1.0; net = p.1.1.1.1 })
     (λ i. (i.cap, (i.tree, (i.counts.list, (i.codes, i.net)))))
-    (both (u32_in 1 1024) (pair (tree_format version) (λ tree. both counts_format (both codes_format (net_format (length tree.nodes))))))
+    (both (u32_in 1 most_tokens) (pair (tree_format version) (λ tree. both counts_format (both codes_format (net_format (length tree.nodes))))))
 
 -- an image in a version: the version comes first, and what is after it depends on it
 unfoldable pub image_format : Format ℕ (Version × Image)

@@ -1,5 +1,6 @@
 -- The format of nets.
 use Rattle.std.specs.Prelude.{ℕ, List, [], ◌∷◌, length}
+use Rattle.p3l_base.specs.Limits.{most_tokens}
 use Rattle.p3l_firing.specs.declared.net.Chan.{Chan}
 use Rattle.p3l_firing.specs.declared.net.Net.{Net}
 use Rattle.p3l_firing.specs.declared.process.Proc.{Proc}
@@ -11,7 +12,7 @@ use Rattle.p3l_tree_format.specs.Tree.{indices_format}
 
 -- a channel has at most as many credits as it holds tokens
 unfoldable pub chan_format : Format ℕ Chan
-chan_format = record_of (λ p. record { cap = p.0; credits = p.1 }) (λ c. (c.cap, c.credits)) (pair (u32_in 1 1024) (λ cap. u32_in 0 cap))
+chan_format = record_of (λ p. record { cap = p.0; credits = p.1 }) (λ c. (c.cap, c.credits)) (pair (u32_in 1 most_tokens) (λ cap. u32_in 0 cap))
 
 abbrev pub chans_format : Format ℕ (List Chan)
 chans_format = counted (u32_in 0 4294967295) (λ _. chan_format)

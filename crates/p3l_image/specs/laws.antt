@@ -1,3 +1,4 @@
 pub mod Instr
 pub mod Net
 pub mod Image
+pub mod Places

@@ -1,15 +1,18 @@
 // Images as bytes.
 
 ghost use Rattle.std.specs.Prelude.{◌≡◌, ◌≤◌, ◌++◌, true, slice_index, Ok, IfOk};
+ghost use Rattle.p3l_base.specs.Limits.{most_tokens};
 ghost use Rattle.p3l_base.specs.Memory.{IfGiven, OnGiven};
 ghost use Rattle.p3l_image.specs.declared.image.Image.{Image as TheImage};
 ghost use Rattle.p3l_image.specs.Image.{body_format, image_format, image_in, image_text, CanBeWritten, ImageBeginsNoOther, IsSpelling, OldTextsHaveNoRescue};
+ghost use Rattle.p3l_image.specs.Places.{FieldsAreTheBytes, IsAtFirstFault};
 ghost use Rattle.p3l_image.specs.Refusal.{Answers, refusal_of, version_at};
 ghost use Rattle.p3l_image.specs.laws.Image.{lawful_body, lawful_image};
 
 use crate::code::CODES;
 use crate::image::{Image, ImageRefusal};
 use crate::net::NetField;
+use p3l_base::limits::MOST_TOKENS;
 use p3l_base::{List, NoMemory};
 use p3l_format::{Cause, Fault, Field, ReadError, read_exact, read_u32_in, write_u32};
 use p3l_skel::Counts;
@@ -18,7 +21,7 @@ use std::alloc::Global;
 
 const MAGIC: u32 = 0x5033_4c49;
 
-// What comes after the magic number and this version.
+// The fields after the magic number and this version.
 #[derive(Clone, Copy, Drop)]
 struct BodyField {
     version: Version,
@@ -34,7 +37,7 @@ impl Field for BodyField {
     #[tactic(auto, unfolding(crate::specs::Image::body_format, p3l_format::specs::Format::pair, p3l_format::specs::Format::as_form))]
     fn read<'a>(&self, alloc: Global, bytes: &'a [u8]) -> Result<(Image, &'a [u8]), ReadError> {
         let version = self.version;
-        let (cap, rest) = read_u32_in(1, 1_024, bytes)?;
+        let (cap, rest) = read_u32_in(1, MOST_TOKENS, bytes)?;
         let (tree, rest) = TreeField { version }.read(alloc, rest)?;
         let (list, rest) = COUNTS.read(alloc, rest)?;
         let (codes, rest) = CODES.read(alloc, rest)?;
@@ -123,16 +126,18 @@ pub fn encode(alloc: Global, image: &Image) -> Result<List<u8>, NoMemory>
 /// The image that bytes spell in version 1 or 2, or why they spell none, by the first fault. Memory
 /// is taken for what is there, and not for what a count promises.
 pub fn decode(alloc: Global, bytes: &[u8]) -> Result<Image, ImageRefusal>
-    // What is read is spelled so.
+    // The bytes are a spelling of the image that is read.
     ensures found { IfOk result (λ image. IsSpelling image bytes.now) }
-    // What is spelled so is read, unless memory runs out.
+    // An image that is spelled so is read, unless memory runs out.
     ensures only { (image : TheImage) → IsSpelling image bytes.now
         → Answers bytes.now result (Ok image) }
     // Its capacity is in its range.
     ensures some { IfOk result (λ image. 1 ≤ image.cap) }
-    ensures few { IfOk result (λ image. image.cap ≤ 1024) }
-    // What was read can be written, in version 2.
+    ensures few { IfOk result (λ image. image.cap ≤ most_tokens) }
+    // An image that was read can be written, in version 2.
     ensures again { IfOk result CanBeWritten }
+    // The place of a refusal is that of the first field that isn't whole or is out of its range.
+    ensures place { IsAtFirstFault bytes.now result }
     // Which fault it is.
     ensures exact { Answers bytes.now result (image_in bytes.now) }
 {
@@ -191,4 +196,9 @@ pub fn image_begins_no_other()
 /// number.
 pub fn old_texts_have_no_rescue()
     ensures { OldTextsHaveNoRescue }
+{}
+
+/// The fields of an image's spelling are its bytes.
+pub fn fields_are_the_bytes()
+    ensures { FieldsAreTheBytes }
 {}

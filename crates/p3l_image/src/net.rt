@@ -6,6 +6,7 @@ ghost use Rattle.p3l_format.specs.Format.{Gives};
 ghost use Rattle.p3l_image.specs.Net.{chan_format, proc_number, proc_kind_format, proc_format, procs_format, net_format};
 ghost use Rattle.p3l_image.specs.laws.Net.{lawful_chan, lawful_proc, lawful_procs, lawful_net};
 
+use p3l_base::limits::MOST_TOKENS;
 use p3l_base::{List, NoMemory};
 use p3l_firing::{Chan, Net, Proc, ProcKind};
 use p3l_format::{
@@ -28,7 +29,7 @@ impl Field for ChanField {
 
     #[tactic(auto, unfolding(crate::specs::Net::chan_format, p3l_format::specs::Format::pair, p3l_format::specs::Format::as_form))]
     fn read<'a>(&self, _alloc: Global, bytes: &'a [u8]) -> Result<(Chan, &'a [u8]), ReadError> {
-        let (cap, rest) = read_u32_in(1, 1_024, bytes)?;
+        let (cap, rest) = read_u32_in(1, MOST_TOKENS, bytes)?;
         let (credits, rest) = read_u32_in(0, cap, rest)?;
         Ok((Chan { cap, credits }, rest))
     }

@@ -4,4 +4,5 @@ pub mod Shot
 pub mod Saved
 pub mod Ranges
 pub mod Refusal
+pub mod Places
 pub mod laws

@@ -4,6 +4,7 @@ ghost use Rattle.std.specs.Prelude.{◌≡◌, ◌++◌, [], List, ℕ, Ok, IfOk
 ghost use Rattle.p3l_base.specs.Memory.{IfGiven};
 ghost use Rattle.p3l_format.specs.Format.{read_all};
 ghost use Rattle.p3l_resume.specs.declared.saved.Saved.{Saved as TheSaved};
+ghost use Rattle.p3l_resume.specs.Places.{FieldsAreTheBytes, IsAtFirstFault};
 ghost use Rattle.p3l_resume.specs.Refusal.{Answers, refusal_of};
 ghost use Rattle.p3l_resume.specs.Saved.{CanBeWritten, IsSpelling, SnapshotBeginsNoOther, body_format, saved_format, saved_text};
 ghost use Rattle.p3l_resume.specs.laws.Saved.{lawful_body, lawful_saved};
@@ -25,7 +26,7 @@ const IMAGE: ListField<ByteField> = ListField {
     item: ByteField,
 };
 
-// What stands after the magic number and the version.
+// The fields after the magic number and the version.
 #[derive(Clone, Copy, Drop)]
 struct BodyField;
 
@@ -88,14 +89,16 @@ pub fn shot_text(alloc: Global, saved: &Saved) -> Result<List<u8>, NoMemory>
 /// range, or of the first byte after the last field. Memory is taken for what is there, and not for
 /// what a count promises.
 pub fn read_shot(alloc: Global, bytes: &[u8]) -> Result<Saved, ShotRefusal>
-    // What is read is spelled so.
+    // The bytes are the spelling of the snapshot that is read.
     ensures found { IfOk result (λ saved. IsSpelling saved bytes.now) }
-    // What is spelled so is read, unless memory runs out.
+    // A snapshot that is spelled so is read, unless memory runs out.
     ensures only { (saved : TheSaved) → IsSpelling saved bytes.now
         → Answers bytes.now result (Ok saved) }
-    // What was read can be written.
+    // A snapshot that was read can be written.
     ensures again { IfOk result CanBeWritten }
-    // Which place it is.
+    // The place of a refusal is that of the first field that isn't whole or is out of its range.
+    ensures place { IsAtFirstFault bytes.now result }
+    // Which place it is, also after the last field.
     ensures exact { Answers bytes.now result (read_all saved_format bytes.now) }
 {
     match p3l_format::decode(&SavedField, alloc, bytes) {
@@ -115,4 +118,9 @@ fn refusal(bytes: &[u8], fault: Fault) -> ShotRefusal
 /// No snapshot begins another.
 pub fn snapshot_begins_no_other()
     ensures { SnapshotBeginsNoOther }
+{}
+
+/// The fields of a snapshot's spelling are its bytes.
+pub fn fields_are_the_bytes()
+    ensures { FieldsAreTheBytes }
 {}

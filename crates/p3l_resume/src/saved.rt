@@ -18,7 +18,7 @@ pub enum ShotRefusal {
     /// field, from this place on. A place is the number of bytes before it.
     #[error("the bytes are no snapshot, from byte {0} on")]
     BadShot(u64),
-    /// Memory was wanting.
+    /// Out of memory.
     #[error("no memory")]
     NoMemory,
 }

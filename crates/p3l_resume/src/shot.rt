@@ -1,4 +1,4 @@
-// What is saved of machines as fields.
+// The saved states of machines as fields.
 
 ghost use Rattle.p3l_resume.specs.Shot.{own_format, shot_format};
 ghost use Rattle.p3l_resume.specs.laws.Shot.{lawful_own, lawful_shot};
@@ -11,7 +11,7 @@ use p3l_format::{Field, ListField, ReadError, read_u64, write_u64};
 use p3l_net::{Own, Shot};
 use std::alloc::Global;
 
-/// What a process keeps: its number, and the tokens that it holds.
+/// The local state of a process: its number, and the tokens that it holds.
 #[derive(Clone, Copy, Drop)]
 pub struct OwnField;
 

@@ -52,14 +52,14 @@ impl Field for WordsField {
     }
 }
 
-/// Whether something is so, and what is after that.
+/// The flag in front, and the bytes after it.
 pub fn read_flag(bytes: &[u8]) -> Result<(bool, &[u8]), ReadError>
     ensures { Gives (λ x. (x.0, x.1.now)) result (flag_format.read bytes.now) }
 {
     read_one_of(&[false, true], bytes)
 }
 
-/// Puts whether something is so after others.
+/// Puts a flag after others.
 #[tactic(auto, unfolding(p3l_format::specs::Numbers::one_of, p3l_format::specs::Numbers::u8_format, p3l_format::specs::Format::coded))]
 pub fn write_flag(flag: bool, out: &mut Vec<u8>) -> Result<(), NoMemory>
     ensures { OnGiven result (out.new.items ≡ out.old.items ++ flag_format.spell flag) }

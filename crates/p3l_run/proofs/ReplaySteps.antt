@@ -6,7 +6,7 @@ use Rattle.std.proofs.Math.Seq.{drop-cons, take-suc}
 use Rattle.std.proofs.Math.ListN.{get_or-map}
 use Rattle.std.proofs.lemmas.Bool.{cases_lt}
 use Rattle.std.proofs.lemmas.List.{drop_all, get_or_past, length-map}
-use Rattle.std.proofs.lemmas.List.Elements.{All-get_or}
+use Rattle.std.proofs.lemmas.List.Elements.{All-cons, All-get_or, All-nil}
 use Rattle.std.proofs.lemmas.List.Sums.{fold-append}
 use Rattle.p3l_base.specs.declared.outcome.Outcome.{Outcome}
 use Rattle.p3l_base.specs.declared.outcome.Outcome.TheVariants.{Value, Trapped}
@@ -23,7 +23,10 @@ use Rattle.p3l_net.specs.Channel.{Queue}
 use Rattle.p3l_net.specs.Machine as machine
 use Rattle.p3l_net.specs.Machine.{Fires, IsShaped, can_step, state_of}
 use Rattle.p3l_net.specs.Offered.{Follows, HasFilledInbox}
+use Rattle.p3l_firing.specs.Fire.{fire}
 use Rattle.p3l_firing.specs.Run.{Course, after_picks, picked}
+use Rattle.p3l_net.proofs.CountLaw.{numbers_rise}
+use Rattle.p3l_net.proofs.Queues.{owns-first}
 use Rattle.p3l_net.specs.Shot.{CanRestore, IsCountable, queues_of, restored, saved_own, shot_of}
 use Rattle.p3l_net.specs.declared.shot.Own.{Own as SavedOwn}
 use Rattle.p3l_net.specs.declared.shot.SavedToken.{SavedToken}
@@ -49,7 +52,7 @@ use Rattle.p3l_run.specs.Execution.{HasFired, Outside, after_idle, outside, star
 use Rattle.p3l_run.specs.Feed.{Feeds, FeedsInVain, Gives, Offers, closed_so, input_limit}
 use Rattle.p3l_run.specs.Laws.{Laws, Runs}
 use Rattle.p3l_run.specs.Network.{Network, course_under, network, width_of}
-use Rattle.p3l_run.specs.Replay.{Comes, Halts, IsFilled, IsReady, Opens, Replay, Replays, Saves, cut_of, replay_of}
+use Rattle.p3l_run.specs.Replay.{Comes, Halts, IsFilled, IsHalted, IsLow, IsReady, Opens, Replay, Replays, Saves, cut_of, replay_of}
 use Rattle.p3l_run.specs.Run.{MayEnd, end_of}
 use Rattle.p3l_run.specs.Start.{Start, item_number, state_from}
 use Rattle.p3l_run.specs.Trap.{trap_after, trap_of}
@@ -123,6 +126,11 @@ may_end : (close : Option Ending) → MayEnd close (some_end close)
 may_end None = tt
 may_end (Some e) = refl
 
+-- one at most is handed out
+one_most : (handed : Option Outcome) → length (option_to_list handed) ≤ 1
+one_most None = omega arith
+one_most (Some outcome) = omega arith
+
 -- an inbox that is filled holds one item
 one_waits : (inbox : Option (List ℤ)) → inbox ≢ None → length (option_to_list inbox) ≡ 1
 one_waits None filled = absurd (filled refl)
@@ -166,6 +174,7 @@ opens_first tree leaf net firings picks before laws few named given width wide s
         untrapped = λ front p is later in_words. absurd (no_last front p is);
         filled = λ front p is later in_words. absurd (no_last front p is);
         counted = omega arith;
+        low = record { numbers = λ p. subst (λ (f : ℕ → Own). (f p).number ≤ 0) (sym (owns-first (length net.procs))) (omega arith); emitted = omega arith };
         trap_is = refl;
         put = put_nothing before.taken;
         quiet = refl;
@@ -244,6 +253,10 @@ module _ (r : Replay) where
       runs_fed [] same = (record { tree = ap (λ k. k.tree) same ∙ d.runs.tree; net = ap (λ k. k.net) same ∙ d.runs.net }, ap (λ k. k.fired) same)
       runs_fed (item ∷ more) offers = (record { tree = ap (λ k. k.tree) offers.1 ∙ d.runs.tree; net = ap (λ k. k.net) offers.1 ∙ d.runs.net }, ap (λ k. k.fired) offers.1)
 
+      low_fed : (more : List (List ℤ)) → Offers e.machine m more → IsLow m
+      low_fed [] same = subst IsLow (sym same) d.low
+      low_fed (item ∷ more) offers = subst IsLow (sym offers.1) (record { numbers = d.low.numbers; emitted = d.low.emitted })
+
       pub fed : Feeds (node_at e.machine.tree 0).ins e.machine m e.stream s now.rest left now.read_faults after e.close close → Replays r used unused (outside left after now.taken now.write_faults) new × IsFilled e new
       fed feeds =
           let f : Feeds (width_of n) e.machine m e.stream s now.rest left now.read_faults after e.close close = subst (λ k. Feeds k e.machine m e.stream s now.rest left now.read_faults after e.close close) same_width feeds in (
@@ -266,6 +279,7 @@ module _ (r : Replay) where
                   subst (λ i. (course_under n i front).state.sent < length (d.items ++ f.more)) (sym (append_assoc d.items f.more later))
                   (let low = d.filled front p is (f.more ++ later) (wide_append (width_of n) f.more later f.wide in_words) in let size = length-append d.items f.more in omega arith);
               counted = ap (λ k. k + e.idle) (runs_fed f.more f.offers).1 ∙ d.counted;
+              low = low_fed f.more f.offers;
               trap_is = d.trap_is;
               put = d.put;
               quiet = d.quiet;
@@ -370,6 +384,7 @@ module _ (r : Replay) where
         untrapped = untrapped_then;
         filled = filled_then;
         counted = (let count = d.counted in let size = length-append used (p ∷ []) in omega arith);
+        low = d.low;
         trap_is = d.trap_is;
         put = d.put;
         quiet = d.quiet;
@@ -429,6 +444,7 @@ module _ (r : Replay) where
           untrapped = untrapped_then;
           filled = filled_then;
           counted = (let count = d.counted in let up = fires.fired in let idle = same_idle in let size = length-append used (p ∷ []) in omega arith);
+          low = low_fired;
           trap_is = trap_is ∙ ap (λ t. fold trap_after t.trap (option_to_list handed)) same_report ∙ trap_more e.report.trap d.outcomes (option_to_list handed) d.trap_is;
           put = subst (λ t. HasPut r.before.taken taken t) (sym (text_more d.outcomes (option_to_list handed))) (put_more r.before.taken now.taken taken (text_of d.outcomes) (text_of (option_to_list handed)) d.put put);
           quiet = quiet ∙ d.quiet;
@@ -441,6 +457,26 @@ module _ (r : Replay) where
 
           same_idle : new.idle ≡ e.idle
           same_idle = ap (λ (k : Execution). k.idle) fired.rest
+
+          low_fired : IsLow new.machine
+          unfolding state_of
+          low_fired = record {
+            numbers = λ q.
+                let owns : own_at new.machine.owns ≡ (fire e.machine.tree n.leaf e.machine.net (state_of e.machine []) p).own = ap (λ x. x.own) (fires.state []) in
+                let up = numbers_rise e.machine.tree n.leaf e.machine.net (state_of e.machine []) p q in
+                let was = d.low.numbers q in
+                let count = fires.fired in
+                subst (λ (f : ℕ → Own). (f q).number ≤ new.machine.fired) (sym owns) (omega arith);
+            emitted =
+                let count = fires.fired in
+                let was = d.low.emitted in
+                let before = (d.follows [] tt).emitted in
+                let after = (fires.emitted d.outcomes before).count in
+                let size = length-append d.outcomes (option_to_list handed) in
+                let one = one_most handed in
+                let had = before.count in
+                omega arith;
+          }
 
 -- a run goes no further
 module _ (r : Replay) (used unused : List ℕ) (now : Outside) (e : Execution) (d : Replays r used unused now e) where
@@ -624,3 +660,21 @@ shaped_by m shot is back countable can = record {
   sent = (let same : shot.sent ≡ m.sent = ap (λ (k : Shot). k.sent) is in let low = countable.sent in omega arith);
   emitted = (let same : shot.emitted ≡ m.emitted = ap (λ (k : Shot). k.emitted) is in let low = countable.emitted in omega arith);
 }
+
+-- what processes keep has numbers below a bound
+few_numbers : (owns : List Own) (most : ℕ) → ((p : ℕ) → (own_at owns p).number < most) → All (λ (own : SavedOwn). own.number < most) (map saved_own owns)
+few_numbers [] most few = All-nil (λ (own : SavedOwn). own.number < most)
+few_numbers (own ∷ owns) most few = All-cons (λ (own : SavedOwn). own.number < most) (saved_own own) (map saved_own owns) (few 0) (few_numbers owns most (λ p. few (suc p)))
+
+-- the state at the end of a run under recorded picks can be counted: no more was counted than there are picks
+pub halted_countable : (e : Execution) → IsHalted e → IsCountable (shot_of e.machine)
+unfolding shot_of
+halted_countable e h =
+    let d = h.2.replays in
+    let few = few_picks h.0 h.2.used h.2.unused h.1 e d in
+    let low = d.low in
+    record {
+      numbers = few_numbers e.machine.owns (2 ^ 63) (λ p. let was = low.numbers p in omega arith);
+      sent = few_sent h.0 h.2.used h.2.unused h.1 e d;
+      emitted = (let was = low.emitted in omega arith);
+    }

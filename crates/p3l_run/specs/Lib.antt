@@ -13,3 +13,4 @@ pub mod Timed
 pub mod Resume
 pub mod Checkpoint
 pub mod Replay
+pub mod Wants

@@ -1,5 +1,5 @@
 -- A run under recorded picks that is to come to a checkpoint: where it is, and what each of its steps does.
-use Rattle.std.specs.Prelude.{◌≡◌, ◌≢◌, ℕ, ℤ, ◌+◌, ◌<◌, ◌^◌, false, List, [], ◌∷◌, ◌++◌, length, take, drop, Option, Some, None, Result, Ok, Err}
+use Rattle.std.specs.Prelude.{◌≡◌, ◌≢◌, ℕ, ℤ, ◌+◌, ◌<◌, ◌≤◌, ◌^◌, false, List, [], ◌∷◌, ◌++◌, length, take, drop, Option, Some, None, Result, Ok, Err}
 use Rattle.std.specs.List.{AllByRecursion}
 use Rattle.std.specs.Option.{option_to_list}
 use Rattle.p3l_base.specs.declared.NoMemory.{NoMemory}
@@ -8,7 +8,8 @@ use Rattle.p3l_firing.specs.Nodes.{Leaf}
 use Rattle.p3l_firing.specs.Token.{has_trap}
 use Rattle.p3l_skel.specs.declared.tree.Tree.{Tree}
 use Rattle.p3l_firing.specs.Carried.{HaveInWords}
-use Rattle.p3l_net.specs.Machine.{IsShaped}
+use Rattle.p3l_firing.specs.State.{own_at}
+use Rattle.p3l_net.specs.Machine.{IsShaped, Seen}
 use Rattle.p3l_net.specs.Offered.{Follows}
 use Rattle.p3l_net.specs.Shot.{IsCountable, shot_of}
 use Rattle.p3l_stream.specs.declared.items.Ending.{Ending}
@@ -42,6 +43,11 @@ pub record Comes (r : Replay) (now : Outside) (result : Result CheckpointEnd Run
   pub ends : IsCheckpointEnd r.network r.picks r.before.rest now.rest r.before.read_faults now.read_faults r.before.taken now.taken result
   pub output : WriteCause r.before.write_faults now.write_faults result
 
+-- a machine that began in the first state counts no more than its firings
+pub record IsLow (m : Seen) : Type 0 where
+  pub numbers : (p : ℕ) → (own_at m.owns p).number ≤ m.fired
+  pub emitted : m.emitted ≤ m.fired
+
 -- the run is under way: these of its picks were made, and those are left. The machine is where the run on the items that the stream
 -- gave, and on whatever items come after them, is under the picks made; the text of what it emitted is written. Before the last of these
 -- picks no trap was emitted, and an item that was given was not sent yet
@@ -62,6 +68,7 @@ pub record Replays (r : Replay) (used unused : List ℕ) (now : Outside) (e : Ex
   pub filled : (front : List ℕ) (p : ℕ) → used ≡ front ++ p ∷ [] → (later : List (List ℤ)) → HaveInWords r.network.tree later →
       (course_under r.network (items ++ later) front).state.sent < length items
   pub counted : e.machine.fired + e.idle ≡ length used
+  pub low : IsLow e.machine
   pub trap_is : e.report.trap ≡ trap_of outcomes
   pub put : HasPut r.before.taken now.taken (text_of outcomes)
   pub quiet : now.write_faults ≡ r.before.write_faults

@@ -1,7 +1,6 @@
 // A run under way, pick by pick.
 
-ghost use Rattle.std.specs.Prelude.{◌≡◌, ◌≢◌, ◌<◌, ◌≤◌, ◌+◌, ◌^◌, [], None, Some, length, IfOk, IsNone, IsSome, IsTrue, OnOk};
-ghost use Rattle.p3l_base.specs.Memory.{IfGiven, OnGiven};
+ghost use Rattle.std.specs.Prelude.{◌≡◌, ◌≢◌, ◌<◌, ◌≤◌, ◌+◌, ◌^◌, [], None, Some, length, IfOk, IsNone, IsSome, IsTrue, OnOk, IfErr, OnErr};
 ghost use Rattle.p3l_firing.specs.Process.{kind_at};
 ghost use Rattle.p3l_net.specs.Machine.{can_step, ready_list};
 ghost use Rattle.p3l_net.specs.Steps.{OthersStay};
@@ -9,6 +8,8 @@ ghost use Rattle.p3l_firing.specs.Typed.{IsTyped};
 ghost use Rattle.p3l_sched.specs.Picker.{HasPlace, HasProcesses};
 ghost use Rattle.p3l_skel.specs.Tree.{node_at};
 ghost use Rattle.p3l_run.specs.Execution.{Completes, FeedsOn, FiresOn, HasFired, IsFinish, IsInRange, IsUnderWay, MayPick, RunsOut, StepsOn, after_idle, begun_on, outside, started, stats_at};
+ghost use Rattle.p3l_run.specs.Wants.{IsWanting, Wants};
+ghost use Rattle.p3l_base.specs.Memory.{IfGiven, OnGiven, Refused};
 
 use crate::end::RunEnd;
 use crate::fault::RunFault;
@@ -109,10 +110,11 @@ impl<'t> Execution<'t> {
         requires job { IsUnderWay (U.leaf units.now)
             (outside (S.rest input.old) (S.faults input.old) (K.taken out.old) (K.faults out.old))
             self }
-        ensures { Completes (U.leaf units.now) named.now
+        ensures does { Completes (U.leaf units.now) named.now
             (outside (S.rest input.old) (S.faults input.old) (K.taken out.old) (K.faults out.old))
             (outside (S.rest input.new) (S.faults input.new) (K.taken out.new) (K.faults out.new))
             self.entry result }
+        ensures wants { IfErr result (Wants U.may_want) }
     {
         self.run_out(alloc, tree, units, input, out)?;
         Ok(self.into_ran(alloc, named)?)
@@ -133,10 +135,11 @@ impl<'t> Execution<'t> {
         requires job { IsUnderWay (U.leaf units.now)
             (outside (S.rest input.old) (S.faults input.old) (K.taken out.old) (K.faults out.old))
             self.old }
-        ensures { RunsOut (U.leaf units.now)
+        ensures does { RunsOut (U.leaf units.now)
             (outside (S.rest input.old) (S.faults input.old) (K.taken out.old) (K.faults out.old))
             (outside (S.rest input.new) (S.faults input.new) (K.taken out.new) (K.faults out.new))
             self.old self.new result }
+        ensures wants { IfErr result (Wants U.may_want) }
     {
         'picks: loop {
             self.feed(alloc, input)?;
@@ -151,8 +154,9 @@ impl<'t> Execution<'t> {
     fn feed<S: Source>(&mut self, alloc: Global, input: &mut S) -> Result<(), NoMemory>
         requires wide { self.old.stream.words ≡ (node_at self.old.machine.tree 0).ins }
         requires open { self.old.close ≡ None → self.old.stream.closed ≡ None }
-        ensures { FeedsOn (S.rest input.old) (S.rest input.new) (S.faults input.old)
+        ensures does { FeedsOn (S.rest input.old) (S.rest input.new) (S.faults input.old)
             (S.faults input.new) self.old self.new result }
+        ensures wants { OnErr result Refused }
     {
         if self.close.is_some() {
             return Ok(());
@@ -183,8 +187,9 @@ impl<'t> Execution<'t> {
         requires tree { tree.now ≡ self.old.machine.tree }
         requires units { U.tree units.now ≡ tree.now }
         requires range { IsInRange self.old }
-        ensures { StepsOn (U.leaf units.now) (K.taken out.old) (K.taken out.new) (K.faults out.old)
+        ensures does { StepsOn (U.leaf units.now) (K.taken out.old) (K.taken out.new) (K.faults out.old)
             (K.faults out.new) self.old self.new result }
+        ensures wants { IfErr result (Wants U.may_want) }
     {
         let Some(process) = self.pick() else {
             return Ok(false);
@@ -216,8 +221,9 @@ impl<'t> Execution<'t> {
         requires count { self.old.machine.fired < 2 ^ 63 }
         requires tree { tree.now ≡ self.old.machine.tree }
         requires units { U.tree units.now ≡ tree.now }
-        ensures { FiresOn (U.leaf units.now) process (K.taken out.old) (K.taken out.new)
+        ensures does { FiresOn (U.leaf units.now) process (K.taken out.old) (K.taken out.new)
             (K.faults out.old) (K.faults out.new) self.old self.new result }
+        ensures wants { IfErr result (Wants U.may_want) }
     {
         let emitted = self.fire(alloc, tree, units, process)?;
         self.report = write_emitted(alloc, emitted, self.report, out)?;
@@ -239,7 +245,8 @@ impl<'t> Execution<'t> {
         requires tree { tree.now ≡ self.old.machine.tree }
         requires units { U.tree units.now ≡ tree.now }
         requires within { kind_at self.old.machine.net process ≢ Some ProcKind.Sink }
-        ensures { OnGiven result (HasFired (U.leaf units.now) process self.old self.new None) }
+        ensures does { OnOk result (HasFired (U.leaf units.now) process self.old self.new None) }
+        ensures wants { OnErr result (IsWanting U.may_want) }
     {
         let kind = self.machine.kind(process);
         self.machine.fire_within(alloc, tree, units, process)?;
@@ -281,10 +288,11 @@ impl<'t> Execution<'t> {
         requires count { self.old.machine.fired < 2 ^ 63 }
         requires tree { tree.now ≡ self.old.machine.tree }
         requires units { U.tree units.now ≡ tree.now }
-        ensures fired { IfGiven result (HasFired (U.leaf units.now) process self.old self.new) }
+        ensures fired { IfOk result (HasFired (U.leaf units.now) process self.old self.new) }
         ensures others { OnOk result (OthersStay self.old.machine self.new.machine process) }
         ensures item { OnOk result (process ≢ 0
             → self.new.machine.inbox ≡ self.old.machine.inbox) }
+        ensures wants { OnErr result (IsWanting U.may_want) }
     {
         let fired = self.machine.fire(alloc, tree, units, process)?;
         keep(&mut self.kept, process, Some(fired.kind))?;

@@ -1,12 +1,14 @@
 // A run in virtual time: a timer makes its picks.
 
-ghost use Rattle.std.specs.Prelude.{◌≡◌, ◌<◌, ◌≤◌, ◌*◌, ◌^◌};
+ghost use Rattle.std.specs.Prelude.{◌≡◌, ◌<◌, ◌≤◌, ◌*◌, ◌^◌, IfErr, OnErr};
 ghost use Rattle.p3l_skel.specs.Tree.{node_at};
 ghost use Rattle.p3l_timed.specs.Price.{HasSmallPrices, prices_of};
 ghost use Rattle.p3l_run.specs.Execution.{outside};
 ghost use Rattle.p3l_run.specs.Feed.{most_of_input};
 ghost use Rattle.p3l_run.specs.Network.{IsSound, network};
 ghost use Rattle.p3l_run.specs.Timed.{CompletesInTime, FeedsInTime, IsInTime, IsTimedEnd, MayFeed, MayStep, RunsInTime, StepsInTime, timed_job};
+ghost use Rattle.p3l_run.specs.Wants.{Wants};
+ghost use Rattle.p3l_base.specs.Memory.{Refused};
 
 use crate::execution::Execution;
 use crate::fault::RunFault;
@@ -34,8 +36,9 @@ impl<'t> Execution<'t> {
         input: &mut S,
     ) -> Result<(), NoMemory>
         requires { MayFeed (S.rest input.old) (S.faults input.old) self.old timer.old }
-        ensures { FeedsInTime (S.rest input.old) (S.rest input.new) (S.faults input.old)
+        ensures does { FeedsInTime (S.rest input.old) (S.rest input.new) (S.faults input.old)
             (S.faults input.new) self.old self.new timer.old timer.new result }
+        ensures wants { OnErr result Refused }
     {
         self.close = feed(
             alloc,
@@ -61,8 +64,9 @@ impl<'t> Execution<'t> {
         requires units { U.tree units.now ≡ tree.now }
         requires job { MayStep (U.leaf units.now) (K.taken out.old) (K.faults out.old)
             self.old timer.old }
-        ensures { StepsInTime (U.leaf units.now) (K.taken out.old) (K.taken out.new)
+        ensures does { StepsInTime (U.leaf units.now) (K.taken out.old) (K.taken out.new)
             (K.faults out.old) (K.faults out.new) self.old self.new timer.old timer.new result }
+        ensures wants { IfErr result (Wants U.may_want) }
     {
         let Some(process) = timer.next() else {
             return Ok(false);
@@ -89,10 +93,11 @@ impl<'t> Execution<'t> {
         requires job { IsInTime (U.leaf units.now)
             (outside (S.rest input.old) (S.faults input.old) (K.taken out.old) (K.faults out.old))
             self.old timer.old }
-        ensures { RunsInTime (U.leaf units.now)
+        ensures does { RunsInTime (U.leaf units.now)
             (outside (S.rest input.old) (S.faults input.old) (K.taken out.old) (K.faults out.old))
             (outside (S.rest input.new) (S.faults input.new) (K.taken out.new) (K.faults out.new))
             self.old self.new timer.old timer.new result }
+        ensures wants { IfErr result (Wants U.may_want) }
     {
         'firings: loop {
             self.feed_in_time(alloc, timer, input)?;
@@ -127,10 +132,11 @@ impl<'t> Execution<'t> {
         requires job { IsInTime (U.leaf units.now)
             (outside (S.rest input.old) (S.faults input.old) (K.taken out.old) (K.faults out.old))
             self timer }
-        ensures { CompletesInTime (U.leaf units.now) tree.now
+        ensures does { CompletesInTime (U.leaf units.now) tree.now
             (outside (S.rest input.old) (S.faults input.old) (K.taken out.old) (K.faults out.old))
             (outside (S.rest input.new) (S.faults input.new) (K.taken out.new) (K.faults out.new))
             self.entry timer result }
+        ensures wants { IfErr result (Wants U.may_want) }
     {
         let mut timer = timer;
         self.run_in_time(alloc, tree, units, &mut timer, input, out)?;
@@ -157,12 +163,13 @@ pub fn run_in_time<U: Units, S: Source, K: Sink>(
     requires wide { 1 ≤ plan.width }
     requires fits { plan.firings * most_of_input < 2 ^ 63 }
     requires small { HasSmallPrices plan.tree.now costs.now plan.net }
-    ensures { IsTimedEnd (timed_job (network plan.entry.tree.now (U.leaf plan.entry.units.now)
+    ensures does { IsTimedEnd (timed_job (network plan.entry.tree.now (U.leaf plan.entry.units.now)
         plan.entry.net plan.entry.firings) keeping
         (outside (S.rest input.old) (S.faults input.old) (K.taken out.old) (K.faults out.old)))
         (prices_of plan.entry.tree.now costs.now plan.entry.net)
         (outside (S.rest input.new) (S.faults input.new) (K.taken out.new) (K.faults out.new))
         result }
+    ensures wants { IfErr result (Wants U.may_want) }
 {
     laws();
     a_stream_gives_its_items();

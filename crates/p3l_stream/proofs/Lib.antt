@@ -16,4 +16,7 @@ pub mod AtHand
 pub mod Counting
 pub mod LinesAfter
 pub mod PlainLines
+pub mod Parts
+pub mod LongWords
+pub mod PartlyRead
 pub mod GivenLaw

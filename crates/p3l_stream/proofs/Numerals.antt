@@ -53,7 +53,7 @@ no_minus : (byte : ℕ) → is_ascii_digit byte ≡ true → (byte == 45) ≡ fa
 no_minus byte digit = grind (arith, nat_tests)
 
 -- digits do not start with a minus sign
-plain : (bytes : List ℕ) → list_all is_ascii_digit bytes ≡ true → starts_with_minus bytes ≡ false
+pub plain : (bytes : List ℕ) → list_all is_ascii_digit bytes ≡ true → starts_with_minus bytes ≡ false
 plain [] digits = refl
 plain (byte ∷ bytes) digits = no_minus byte (and_parts (is_ascii_digit byte) (list_all is_ascii_digit bytes) digits).0
 

@@ -6,5 +6,7 @@ pub mod Taken
 pub mod Ended
 pub mod Seen
 pub mod Answers
+pub mod Part
+pub mod Long
 pub mod Passing
 pub mod Given

@@ -8,6 +8,9 @@ use Rattle.p3l_stream.specs.declared.taken.Cutoff.TheVariants as stop
 use Rattle.p3l_stream.specs.Answers.{IsAtEnd}
 use Rattle.p3l_stream.specs.Ended.{AreBlank, IsLine, ended, held_by}
 use Rattle.p3l_stream.specs.Lines.{last_line}
+use Rattle.std.specs.Str.Lines.{strip_carriage_return}
+use Rattle.p3l_stream.specs.Part.{FitsIn, PartSeen, StandsFor, line_after, no_part}
+use Rattle.p3l_stream.specs.Words.{numbers_of, words_of}
 use Rattle.p3l_stream.specs.Seen.{Seen}
 use Rattle.p3l_stream.specs.Taken.{IsTaken}
 
@@ -50,6 +53,31 @@ pub record PassedBlanks (old new : Seen) : Type 0 where
 abbrev pub MayPassFilled : Seen → Seen → Option Line → Type 0
 MayPassFilled old new None = PassedBlanks old new × IsLine new.held
 MayPassFilled old new (Some holds) = PassesFilled old new holds
+
+-- the first line was passed, whose first words were read before
+pub record EndsLine (old new : Seen) (part : PartSeen) (holds : Line) : Type 0 where
+  pub first : List ℕ
+  pub is_line : IsLine first
+  pub holds_it : line_after part (numbers_of (words_of (strip_carriage_return first))) ≡ holds
+  pub bytes_are : old.held ≡ first ++ 10 ∷ new.held
+  pub after : new ≡ moved_past old 1 new.held
+
+-- the first line was passed if it is ended; of the next one nothing was read
+abbrev pub MayEndLine : Seen → Seen → PartSeen → PartSeen → Option Line → Type 0
+MayEndLine old new part after None = IsLine old.held × (new ≡ old) × (after ≡ part)
+MayEndLine old new part after (Some holds) = EndsLine old new part holds × (after ≡ no_part part.width)
+
+-- ended lines without words were passed, and what is at hand stands for a line that isn't ended
+pub record PassedRead (old new : Seen) (part : PartSeen) : Type 0 where
+  pub so_far : List ℕ
+  pub passed : PassedBlanks old (record new { held = so_far })
+  pub stands : StandsFor part new.held so_far
+  pub fits : FitsIn part new
+
+-- ended lines were passed up to the first that has words, if there is one
+abbrev pub MayPassRead : Seen → Seen → PartSeen → Option Line → Type 0
+MayPassRead old new part None = PassedRead old new part
+MayPassRead old new part (Some holds) = PassesFilled old new holds
 
 -- some lines were passed, or none
 abbrev pub OnlyPasses : Seen → Seen → Type 0

@@ -1,6 +1,6 @@
 // Bytes that were taken and not yet answered.
 
-ghost use Rattle.std.specs.Prelude.{◌≡◌, ◌≤◌, [], ◌++◌, drop, take, length, position, OnErr};
+ghost use Rattle.std.specs.Prelude.{◌≡◌, ◌<◌, ◌≤◌, [], ◌∷◌, ◌++◌, drop, take, length, position, OnErr};
 ghost use Rattle.p3l_base.specs.Memory.{IfGiven, OnGiven};
 ghost use Rattle.p3l_stream.specs.Lines.{is_feed};
 
@@ -66,7 +66,7 @@ impl Buffer {
         &self.as_slice()[..count]
     }
 
-    /// Where the first line feed is.
+    /// The place of the first line feed.
     pub(crate) fn first_feed(&mut self) -> Option<usize>
         ensures same { self.new ≡ self.old }
         ensures first { result ≡ position is_feed self.old }
@@ -97,6 +97,15 @@ impl Buffer {
         self.bytes.clear();
         self.start = 0;
         self.searched = 0;
+    }
+
+    /// Puts a minus sign in the place of the first byte.
+    pub(crate) fn put_minus(&mut self)
+        requires { 0 < length self.old }
+        ensures { self.new ≡ 45 ∷ drop 1 self.old }
+    {
+        self.bytes[self.start] = b'-';
+        self.searched = self.start;
     }
 
     /// Puts a piece after the bytes.

@@ -11,7 +11,7 @@ use crate::word::{WordFault, read_numbers};
 use p3l_base::{NoMemory, Words};
 use std::alloc::Global;
 
-/// What a line holds.
+/// The content of a line.
 #[derive(Debug, Drop)]
 pub enum Line {
     /// No words.
@@ -26,7 +26,7 @@ pub enum Line {
     OutOfRange,
 }
 
-/// Where the first line feed is.
+/// The place of the first line feed.
 pub(crate) fn first_feed(bytes: &[u8]) -> Option<usize>
     ensures { result ≡ position is_feed bytes.now }
 {
@@ -57,7 +57,7 @@ pub(crate) fn without_return(line: &[u8]) -> &[u8]
     }
 }
 
-/// What a line holds, where an item has `width` words.
+/// The content of a line, where an item has `width` words.
 pub(crate) fn read_line(alloc: Global, bytes: &[u8], width: u32) -> Result<Line, NoMemory>
     ensures { IfGiven result (λ read. read ≡ line_of width bytes.now) }
 {
@@ -68,7 +68,7 @@ pub(crate) fn read_line(alloc: Global, bytes: &[u8], width: u32) -> Result<Line,
     }
 }
 
-/// What a line of these numbers holds.
+/// The content of a line of these numbers.
 fn counted(numbers: Words, width: u32) -> Line
     ensures { result ≡ line_from width (Ok numbers) }
 {

@@ -1,19 +1,22 @@
 // The stream, item by item.
 
-ghost use Rattle.std.specs.Prelude.{◌≡◌, ◌+◌, ◌≤◌, ◌<◌, ◌↔◌, ◌⊎◌, None, Some, Ok, Result, true, false, length, take, drop, position, IfOk, IfSome, IsTrue, OnErr, OnSome};
-ghost use Rattle.p3l_base.specs.Memory.{IfGiven, Refused};
+ghost use Rattle.std.specs.Prelude.{◌≡◌, ◌+◌, ◌^◌, ◌≤◌, ◌<◌, ◌↔◌, ◌⊎◌, ℕ, List, [], ◌++◌, ◌||◌, if◌then◌else◌, None, Some, Ok, Result, true, false, length, take, drop, position, IfOk, IfSome, IsTrue, OnErr, OnSome};
+ghost use Rattle.p3l_base.specs.Memory.{IfGiven, OnGiven, Refused};
 ghost use Rattle.p3l_stream.specs.Answers.{Answers, NextCause, TakeCause};
 ghost use Rattle.p3l_stream.specs.Ended.{HasLine, IsLine};
 ghost use Rattle.p3l_stream.specs.Lines.{is_feed};
-ghost use Rattle.p3l_stream.specs.Passing.{MayPassFilled, MayPassLine, OnlyPasses, PassesLast, RequestsOnce, moved_past};
+ghost use Rattle.p3l_stream.specs.Part.{FitsIn, StandsFor, behind, is_faulty};
+ghost use Rattle.p3l_stream.specs.Passing.{MayEndLine, MayPassFilled, MayPassLine, MayPassRead, OnlyPasses, PassesLast, RequestsOnce, moved_past};
 ghost use Rattle.p3l_stream.specs.Seen.{Seen, answer_of, closed_by, item_count, most_items, started};
-ghost use Rattle.p3l_stream.specs.Words.{number_of};
+ghost use Rattle.p3l_stream.specs.Words.{is_filled, number_of};
 
 use crate::buffer::Buffer;
 use crate::items::Ending;
 use crate::line::{Line, plain_line, read_line, without_return};
+use crate::long::{NINES, Shortening, how_to_shorten, last_blank};
 use crate::next::{Next, answer_for, ending_of, next_of};
 use crate::numeral::Numeral;
+use crate::part::Part;
 use p3l_base::{NoMemory, Words};
 use p3l_io::{Failed, Source};
 use std::alloc::Global;
@@ -21,6 +24,9 @@ use std::marker::Model;
 
 /// How many bytes are requested at a time, at most.
 const PIECE: usize = 4096;
+
+/// How many bytes of a word are held before it is shortened, more than the longest number has.
+const LONGEST_WORD: usize = 64;
 
 /// The items of a source's lines, requested one by one.
 ///
@@ -147,17 +153,21 @@ impl Lines {
         ensures at_end { self.old.at_end ≡ true → source.new ≡ source.old }
         ensures few { IfGiven result (λ next. item_count next ≡ 1 → length self.new.held < 4096) }
     {
+        let mut part = Part::new(self.alloc, self.words);
         while !self.at_end && self.taken < self.limit {
             if self.take_piece(source)?.is_err() {
                 self.held.clear();
                 return Ok(Next::ReadFault);
             }
-            if let Some(line) = self.pass_blanks()? {
+            if let Some(line) = self.pass_read(&mut part)? {
                 return Ok(answer_for(line, self.passed));
+            }
+            if self.held.len() >= PIECE {
+                self.read_ahead(&mut part)?;
             }
         }
         if self.at_end {
-            let line = self.pass_last()?;
+            let line = self.pass_last(&mut part)?;
             return Ok(answer_for(line, self.passed));
         }
         self.held.clear();
@@ -271,22 +281,155 @@ impl Lines {
         Ok(Some(line))
     }
 
-    /// Passes the line that the input's end ends, and says what it holds; no byte is no line.
-    fn pass_last(&mut self) -> Result<Line, NoMemory>
-        ensures ok { IfGiven result (PassesLast self.old self.new) }
+    /// Passes the line that the input's end ends, of which part was read, and says what it holds; no
+    /// byte is no line.
+    fn pass_last(&mut self, part: &mut Part) -> Result<Line, NoMemory>
+        requires { FitsIn part.old self.old }
+        ensures ok { IfGiven result (λ holds. (so_far : List ℕ)
+            → StandsFor part.old self.old.held so_far
+            → PassesLast (record self.old { held = so_far }) self.new holds) }
         ensures err { OnErr result (self.new ≡ self.old) }
     {
-        let bytes = self.held.front(self.held.len());
-        let line = read_line(self.alloc, without_return(bytes), self.words)?;
-        if self.held.len() > 0 {
+        part.read(without_return(self.held.front(self.held.len())))?;
+        self.pass_rest(part.has_begun());
+        Ok(part.end())
+    }
+
+    /// Passes the bytes at hand, a line if there are some or there were.
+    fn pass_rest(&mut self, begun: bool)
+        requires { (if begun then 1 else 0) + self.old.passed + length self.old.held
+            ≤ self.old.taken }
+        ensures { self.new ≡ moved_past self.old
+            (if begun || is_filled self.old.held then 1 else 0) [] }
+    {
+        if begun || self.held.len() > 0 {
             self.passed += 1;
         }
         self.held.clear();
-        Ok(line)
+    }
+
+    /// Passes the first line, of which part was read, and then as `pass_blanks` does.
+    fn pass_read(&mut self, part: &mut Part) -> Result<Option<Line>, NoMemory>
+        requires { FitsIn part.old self.old }
+        ensures ok { IfGiven result (λ passed. (held so_far piece : List ℕ)
+            → self.old.held ≡ held ++ piece → StandsFor part.old held so_far
+            → MayPassRead (record self.old { held = so_far ++ piece }) self.new part.new passed) }
+        ensures err { OnErr result (OnlyPasses self.old self.new) }
+    {
+        match self.end_line(part)? {
+            None => Ok(None),
+            Some(line) if is_blank(&line) => self.pass_blanks(),
+            Some(line) => Ok(Some(line)),
+        }
+    }
+
+    /// Passes the first line, if it is ended, of which part was read, and says what it holds.
+    fn end_line(&mut self, part: &mut Part) -> Result<Option<Line>, NoMemory>
+        requires { FitsIn part.old self.old }
+        ensures ok { IfGiven result (MayEndLine self.old self.new part.old part.new) }
+        ensures err { OnErr result (self.new ≡ self.old) }
+    {
+        let Some(end) = self.held.first_feed() else {
+            return Ok(None);
+        };
+        part.read(without_return(self.held.front(end)))?;
+        self.pass_to(end);
+        Ok(Some(part.end()))
+    }
+
+    /// Reads the words at hand that are ended, of a line that isn't, so that no more of it is held than
+    /// one word that is shortened.
+    fn read_ahead(&mut self, part: &mut Part) -> Result<(), NoMemory>
+        requires filled { 0 < length self.old.held }
+        requires fits { FitsIn part.old self.old }
+        ensures ok { OnGiven result ((so_far : List ℕ)
+            → StandsFor part.old self.old.held so_far
+            → StandsFor part.new self.new.held so_far) }
+        ensures same { self.new ≡ record self.old { held = self.new.held } }
+        ensures fits { OnGiven result (FitsIn part.new self.new) }
+    {
+        if part.is_faulty() {
+            return Ok(self.let_go(part));
+        }
+        self.read_words(part)?;
+        if part.is_faulty() {
+            return Ok(self.let_go(part));
+        }
+        self.shorten(part)
+    }
+
+    /// Reads the words at hand that are ended, of a line that isn't.
+    fn read_words(&mut self, part: &mut Part) -> Result<(), NoMemory>
+        requires filled { 0 < length self.old.held }
+        requires fits { FitsIn part.old self.old }
+        ensures ok { OnGiven result ((so_far : List ℕ)
+            → StandsFor part.old self.old.held so_far
+            → StandsFor part.new self.new.held so_far) }
+        ensures same { self.new ≡ record self.old { held = self.new.held } }
+        ensures some { OnGiven result (0 < behind part.new + length self.new.held) }
+        ensures fits { OnGiven result (FitsIn part.new self.new) }
+    {
+        let Some(end) = last_blank(self.held.as_slice()) else {
+            return Ok(());
+        };
+        part.read(self.held.front(end))?;
+        part.begin();
+        self.held.pass(end + 1);
+        Ok(())
+    }
+
+    /// Lets the bytes at hand go, of a line that is refused however it goes on.
+    fn let_go(&mut self, part: &mut Part)
+        requires faulty { is_faulty part.old ≡ true }
+        requires some { 0 < behind part.old + length self.old.held }
+        requires fits { FitsIn part.old self.old }
+        ensures stands { (so_far : List ℕ) → StandsFor part.old self.old.held so_far
+            → StandsFor part.new self.new.held so_far }
+        ensures same { self.new ≡ record self.old { held = [] } }
+        ensures fits { FitsIn part.new self.new }
+    {
+        part.begin();
+        self.held.clear();
+    }
+
+    /// Shortens the word at hand, which isn't ended, to one that stands for it.
+    fn shorten(&mut self, part: &mut Part) -> Result<(), NoMemory>
+        requires open { is_faulty part.old ≡ false }
+        requires fits { FitsIn part.old self.old }
+        ensures ok { OnGiven result ((so_far : List ℕ)
+            → StandsFor part.old self.old.held so_far
+            → StandsFor part.new self.new.held so_far) }
+        ensures same { self.new ≡ record self.old { held = self.new.held } }
+        ensures fits { OnGiven result (FitsIn part.new self.new) }
+    {
+        let len = self.held.len();
+        if len <= LONGEST_WORD {
+            return Ok(());
+        }
+        let last = self.held.as_slice()[len - 1];
+        match how_to_shorten(self.held.front(len - 1)) {
+            Shortening::None => {}
+            Shortening::Refused => {
+                part.refuse();
+                self.held.clear();
+            }
+            Shortening::TooGreat => {
+                self.held.clear();
+                self.held.push(&NINES)?;
+                self.held.push(&[last])?;
+            }
+            Shortening::Zeros { minus, count } => {
+                self.held.pass(count);
+                if minus {
+                    self.held.put_minus();
+                }
+            }
+        }
+        Ok(())
     }
 }
 
-/// Whether a line has no words.
+/// Decides whether a line has no words.
 fn is_blank(line: &Line) -> bool
     ensures { IsTrue result ↔ (line.now ≡ Line.Blank) }
 {

@@ -20,21 +20,21 @@ pub enum WordFault {
     Range,
 }
 
-/// Whether a byte separates words.
-fn separates_words(byte: u8) -> bool
+/// Decides whether a byte separates words.
+pub(crate) fn separates_words(byte: u8) -> bool
     ensures { result ≡ is_blank byte }
 {
     byte == b' ' || byte == b'\t'
 }
 
 /// The place of the first byte that separates words.
-fn first_blank(bytes: &[u8]) -> Option<usize>
+pub(crate) fn first_blank(bytes: &[u8]) -> Option<usize>
     ensures { result ≡ position is_blank bytes.now }
 {
     bytes.iter().position(|byte| separates_words(*byte))
 }
 
-/// Where the first byte of a word is.
+/// The place of the first byte of a word.
 fn first_of_word(bytes: &[u8]) -> Option<usize>
     ensures { result ≡ position is_of_word bytes.now }
 {
@@ -51,7 +51,7 @@ fn next_word(bytes: &[u8]) -> Option<(&[u8], &[u8])>
 }
 
 /// A word after its minus sign, if it has one.
-fn without_minus(word: &[u8]) -> &[u8]
+pub(crate) fn without_minus(word: &[u8]) -> &[u8]
     ensures { result.now ≡ digits_of word.now }
 {
     match word {
@@ -60,14 +60,14 @@ fn without_minus(word: &[u8]) -> &[u8]
     }
 }
 
-/// Whether each byte is a digit.
-fn are_digits(bytes: &[u8]) -> bool
+/// Decides whether each byte is a digit.
+pub(crate) fn are_digits(bytes: &[u8]) -> bool
     ensures { result ≡ list_all is_ascii_digit bytes.now }
 {
     bytes.iter().all(|byte| byte.is_ascii_digit())
 }
 
-/// Whether a word is an optional minus sign and one or more digits.
+/// Decides whether a word is an optional minus sign and one or more digits.
 fn has_form(word: &[u8]) -> bool
     ensures { result ≡ is_numeral word.now }
 {
@@ -76,7 +76,7 @@ fn has_form(word: &[u8]) -> bool
 }
 
 /// The number that a word writes.
-fn read_number(word: &[u8]) -> Result<i64, WordFault>
+pub(crate) fn read_number(word: &[u8]) -> Result<i64, WordFault>
     ensures { result ≡ number_of word.now }
 {
     if !has_form(word) {
@@ -106,7 +106,7 @@ fn plain_number(bytes: &[u8]) -> Option<(i64, &[u8])>
 }
 
 /// The number that the first word writes, or its fault, and the bytes after it.
-fn next_number(bytes: &[u8]) -> Option<(Result<i64, WordFault>, &[u8])>
+pub(crate) fn next_number(bytes: &[u8]) -> Option<(Result<i64, WordFault>, &[u8])>
     ensures { IsFirstNumber bytes.now (option_map (λ found. (found.0, found.1.now)) result) }
 {
     if let Some((number, after)) = plain_number(bytes) {

@@ -9,7 +9,7 @@ use crate::trace::{TraceLine, Traced};
 use p3l_firing::Net;
 use p3l_net::Machine;
 
-/// Whether a line agrees with a machine, whose net is given: the process that it names is there, and
+/// Tests that a line agrees with a machine, whose net is given: the process that it names is there, and
 /// can fire and is of the line's kind, or can't fire and the line is an idle one.
 pub fn agrees(line: &TraceLine, machine: &Machine<'_>, net: &Net) -> bool
     requires { net.now ≡ machine.now.net }
@@ -41,7 +41,7 @@ fn idle_of(lines: &[TraceLine]) -> u64
     lines.iter().filter(|line| line.kind.is_none()).count() as u64
 }
 
-/// Whether the counts of the last line are those of the others.
+/// Tests that the counts of the last line are those of the others.
 pub fn is_counted(traced: &Traced) -> bool
     ensures { IsTrue result ↔ IsCounted traced.now }
 {

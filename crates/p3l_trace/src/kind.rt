@@ -64,7 +64,7 @@ fn read_first<'a>(
     Err(fault_of(Cause::Range, bytes))
 }
 
-/// What is said in front, and what is after it.
+/// The word of a pick in front, and the bytes after it.
 #[tactic(auto, unfolding(crate::specs::Kind::said_format))]
 pub(crate) fn read_said(bytes: &[u8]) -> Result<(Option<ProcKind>, &[u8]), ReadError>
     ensures { Gives (λ x. (x.0, x.1.now)) result (said_format.read bytes.now) }

@@ -58,7 +58,7 @@ fn write_counts(alloc: Global, fired: u64, idle: u64, out: &mut Vec<u8>) -> Resu
     write_number_then(alloc, idle as u128, b"\n", out)
 }
 
-// What is after the first line.
+// The lines after the first.
 #[tactic(auto, unfolding(crate::specs::Text::body_format, p3l_format::specs::Format::pair, p3l_format::specs::Format::as_form))]
 fn read_body(alloc: Global, bytes: &[u8]) -> Result<(Traced, &[u8]), ReadError>
     ensures { Gives (λ x. (x.0, x.1.now)) result (body_format.read bytes.now) }
@@ -125,10 +125,10 @@ pub fn trace_text(alloc: Global, traced: &Traced) -> Result<List<u8>, NoMemory>
 /// The trace that a text spells, or the number of the first line that isn't of its form.
 #[tactic(auto, using(crate::proofs::FirstLine::trace_first_bad))]
 pub fn read_trace(alloc: Global, text: &[u8]) -> Result<Traced, TraceRefusal>
-    // What is read is spelled so.
+    // The text is the spelling of the trace that is read.
     ensures found { IfOk result (λ traced. (trace_format.fits traced ≡ true)
         × (text.now ≡ trace_format.spell traced)) }
-    // What is spelled so is read, unless memory runs out.
+    // A trace that is spelled so is read, unless memory runs out.
     ensures only { (traced : TheTraced) → trace_format.fits traced ≡ true
         → text.now ≡ trace_format.spell traced → Answers text.now result (Ok traced) }
     // The line that is reported is the first that isn't of its form, whatever reads it.

@@ -4,3 +4,4 @@ pub mod Rescue
 pub mod Module
 pub mod Form
 pub mod Tree
+pub mod Places

@@ -3,14 +3,15 @@ use Rattle.std.specs.Prelude.{◌≡◌, ℕ, ◌+◌, ◌<◌, ◌≤◌, ◌�
 use Rattle.p3l_code.specs.declared.instr.Instr.{Instr}
 use Rattle.p3l_code.specs.declared.instr.Code.{Code}
 use Rattle.p3l_code.specs.Safe.{IsWithin, Leads, EndsAt, pops, depth_after, target_of, goes_on, next_of, AreDepths, IsReached}
+use Rattle.p3l_base.specs.Limits.{most_budget, most_instructions, most_stack}
 
 -- the rules on the numbers of a code
 pub record HasSizes (code : Code) : Type 0 where
-  pub few : length code.instrs ≤ 4194304
+  pub few : length code.instrs ≤ most_instructions
   pub ports : code.ins + code.outs ≤ code.memory
   pub small : code.memory ≤ 196608
   pub budget_some : 1 ≤ code.budget
-  pub budget_small : code.budget ≤ 100000000
+  pub budget_small : code.budget ≤ most_budget
 
 -- the places of a code have depths
 abbrev pub HasDepths : Code → Type 0
@@ -19,7 +20,7 @@ HasDepths code = (depths : List ℕ) × AreDepths code depths
 -- the stack has the words that an instruction pops, and room for those that it pushes
 pub record HasRoom (i : Instr) (depth : ℕ) : Type 0 where
   pub pops_enough : pops i ≤ depth
-  pub shallow : depth_after depth i ≤ 1024
+  pub shallow : depth_after depth i ≤ most_stack
 
 -- the rules on one instruction at a place with `depth` words on the stack
 pub record IsLocal (code : Code) (place : ℕ) (i : Instr) (depth : ℕ) : Type 0 where

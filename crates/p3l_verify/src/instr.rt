@@ -1,10 +1,12 @@
-// What the rules say of one instruction.
+// The rules of a single instruction.
 
 ghost use Rattle.std.specs.Prelude.{◌≡◌, ◌↔◌, ◌<◌, Some, IsTrue};
+ghost use Rattle.p3l_base.specs.Limits.{most_instructions};
 ghost use Rattle.p3l_code.specs.Safe as safe;
 ghost use Rattle.p3l_code.specs.declared.instr.Instr.TheVariants.{Turn};
 ghost use Rattle.p3l_verify.specs.Known.{HasRoom, IsLocal};
 
+use p3l_base::limits::MOST_STACK;
 use p3l_code::{Code, Instr};
 
 /// How many words an instruction takes from the stack.
@@ -55,7 +57,7 @@ pub fn target_of(instr: Instr) -> Option<u32>
 
 /// The next place, if the machine may go on there.
 pub fn next_of(place: usize, instr: Instr) -> Option<u32>
-    requires { place < 4194304 }
+    requires { place < most_instructions }
     ensures { result ≡ safe.next_of place (safe.goes_on instr) }
 {
     if goes_on(instr) {
@@ -91,7 +93,7 @@ fn has_room(instr: Instr, depth: u32) -> bool
     ensures { IsTrue result ↔ HasRoom instr depth }
 {
     let popped = pops(instr);
-    depth >= popped && depth - popped <= 1024 - pushes(instr)
+    depth >= popped && depth - popped <= MOST_STACK - pushes(instr)
 }
 
 // Whether the slots that an instruction names lie in the memory.

@@ -2,12 +2,14 @@
 
 ghost use Rattle.std.specs.Prelude.{◌≡◌, ◌↔◌, ◌+◌, ◌≤◌, length, slice_get, Some, IfOk, IfSome, IsSome, IsTrue};
 ghost use Rattle.p3l_base.specs.Memory.{IfGiven};
+ghost use Rattle.p3l_base.specs.Limits.{most_instructions};
 ghost use Rattle.p3l_code.specs.Safe.{IsSafe};
 ghost use Rattle.p3l_verify.specs.Known.{HasSizes, HasDepths, IsSound};
 
 use crate::instr::{is_local, next_of, pops, pushes, target_of};
 use crate::known::{note_at, settle};
 use p3l_base::NoMemory;
+use p3l_base::limits::{MOST_BUDGET, MOST_INSTRUCTIONS};
 use p3l_code::{Code, Instr, SafeCode};
 use std::alloc::Global;
 
@@ -26,16 +28,16 @@ pub fn verify(alloc: Global, code: Code) -> Result<Option<SafeCode>, NoMemory>
 fn has_sizes(code: &Code) -> bool
     ensures { IsTrue result ↔ HasSizes code.now }
 {
-    code.instrs.len() <= 4_194_304
+    code.instrs.len() <= MOST_INSTRUCTIONS as usize
         && u64::from(code.ins) + u64::from(code.outs) <= u64::from(code.memory)
         && code.memory <= 196_608
         && code.budget >= 1
-        && code.budget <= 100_000_000
+        && code.budget <= MOST_BUDGET
 }
 
 // Whether the places of a code have depths that keep the rules: goes over the places once, upwards.
 fn has_depths(alloc: Global, code: &Code) -> Result<bool, NoMemory>
-    requires { length code.now.instrs ≤ 4194304 }
+    requires { length code.now.instrs ≤ most_instructions }
     ensures { IfGiven result (λ holds. IsTrue holds ↔ HasDepths code.now) }
 {
     let instrs = code.instrs.as_slice();
@@ -54,7 +56,7 @@ fn has_depths(alloc: Global, code: &Code) -> Result<bool, NoMemory>
 
 // Settles the depth of a place, and notes the depth after its instruction wherever that leads.
 fn visit(code: &Code, known: &mut [Option<u32>], place: usize, instr: Instr) -> bool
-    requires few { length code.now.instrs ≤ 4194304 }
+    requires few { length code.now.instrs ≤ most_instructions }
     requires at { slice_get code.now.instrs place ≡ Some instr }
     requires sound { IsSound code.now known.old place }
     ensures goes { IsTrue result → IsSound code.now known.new (place + 1) }

@@ -42,7 +42,7 @@ binary_there bin.Mul = refl
 binary_there bin.Div = refl
 binary_there bin.Rem = refl
 
-kind_there : (v : InstrKind) → slice_get instr_kinds (instr_number v) ≡ Some v
+pub kind_there : (v : InstrKind) → slice_get instr_kinds (instr_number v) ≡ Some v
 kind_there kind.Push = refl
 kind_there kind.Load = refl
 kind_there kind.Store = refl
@@ -57,65 +57,65 @@ kind_there kind.JumpNonZero = refl
 kind_there kind.Turn = refl
 kind_there kind.End = refl
 
-lawful_unary : IsLawful unary_format
+pub lawful_unary : IsLawful unary_format
 lawful_unary = lawful_one_of unaries unary_number refl unary_there
 
-lawful_binary : IsLawful binary_format
+pub lawful_binary : IsLawful binary_format
 lawful_binary = lawful_one_of binaries binary_number refl binary_there
 
 -- an instruction of a kind has that kind
-kind_is : (k : InstrKind) (v : Instr) → is_kind k v ≡ true → kind_of v ≡ k
+pub kind_is : (k : InstrKind) (v : Instr) → is_kind k v ≡ true → kind_of v ≡ k
 kind_is k v e = same_place instr_kinds instr_number kind_there (kind_of v) k (eqb-true _ _ e)
 
-of_push : (v : Instr) → is_kind kind.Push v ≡ true → instr.Push (whole_of v) ≡ v
+pub of_push : (v : Instr) → is_kind kind.Push v ≡ true → instr.Push (whole_of v) ≡ v
 of_push (instr.Push n) e = refl
 of_push _ e = absurd cc
 
-of_load : (v : Instr) → is_kind kind.Load v ≡ true → instr.Load (number_of v) ≡ v
+pub of_load : (v : Instr) → is_kind kind.Load v ≡ true → instr.Load (number_of v) ≡ v
 of_load (instr.Load n) e = refl
 of_load _ e = absurd cc
 
-of_store : (v : Instr) → is_kind kind.Store v ≡ true → instr.Store (number_of v) ≡ v
+pub of_store : (v : Instr) → is_kind kind.Store v ≡ true → instr.Store (number_of v) ≡ v
 of_store (instr.Store n) e = refl
 of_store _ e = absurd cc
 
-of_step : (v : Instr) → is_kind kind.Step v ≡ true → instr.Step (number_of v) ≡ v
+pub of_step : (v : Instr) → is_kind kind.Step v ≡ true → instr.Step (number_of v) ≡ v
 of_step (instr.Step n) e = refl
 of_step _ e = absurd cc
 
-of_loadat : (v : Instr) → is_kind kind.LoadAt v ≡ true → instr.LoadAt (numbers_of v).0 (numbers_of v).1 ≡ v
+pub of_loadat : (v : Instr) → is_kind kind.LoadAt v ≡ true → instr.LoadAt (numbers_of v).0 (numbers_of v).1 ≡ v
 of_loadat (instr.LoadAt n m) e = refl
 of_loadat _ e = absurd cc
 
-of_storeat : (v : Instr) → is_kind kind.StoreAt v ≡ true → instr.StoreAt (numbers_of v).0 (numbers_of v).1 ≡ v
+pub of_storeat : (v : Instr) → is_kind kind.StoreAt v ≡ true → instr.StoreAt (numbers_of v).0 (numbers_of v).1 ≡ v
 of_storeat (instr.StoreAt n m) e = refl
 of_storeat _ e = absurd cc
 
-of_unary : (v : Instr) → is_kind kind.Unary v ≡ true → instr.Unary (unary_of v) ≡ v
+pub of_unary : (v : Instr) → is_kind kind.Unary v ≡ true → instr.Unary (unary_of v) ≡ v
 of_unary (instr.Unary o) e = refl
 of_unary _ e = absurd cc
 
-of_binary : (v : Instr) → is_kind kind.Binary v ≡ true → instr.Binary (binary_of v) ≡ v
+pub of_binary : (v : Instr) → is_kind kind.Binary v ≡ true → instr.Binary (binary_of v) ≡ v
 of_binary (instr.Binary o) e = refl
 of_binary _ e = absurd cc
 
-of_jump : (v : Instr) → is_kind kind.Jump v ≡ true → instr.Jump (number_of v) ≡ v
+pub of_jump : (v : Instr) → is_kind kind.Jump v ≡ true → instr.Jump (number_of v) ≡ v
 of_jump (instr.Jump n) e = refl
 of_jump _ e = absurd cc
 
-of_jumpzero : (v : Instr) → is_kind kind.JumpZero v ≡ true → instr.JumpZero (number_of v) ≡ v
+pub of_jumpzero : (v : Instr) → is_kind kind.JumpZero v ≡ true → instr.JumpZero (number_of v) ≡ v
 of_jumpzero (instr.JumpZero n) e = refl
 of_jumpzero _ e = absurd cc
 
-of_jumpnonzero : (v : Instr) → is_kind kind.JumpNonZero v ≡ true → instr.JumpNonZero (number_of v) ≡ v
+pub of_jumpnonzero : (v : Instr) → is_kind kind.JumpNonZero v ≡ true → instr.JumpNonZero (number_of v) ≡ v
 of_jumpnonzero (instr.JumpNonZero n) e = refl
 of_jumpnonzero _ e = absurd cc
 
-of_turn : (v : Instr) → is_kind kind.Turn v ≡ true → instr.Turn ≡ v
+pub of_turn : (v : Instr) → is_kind kind.Turn v ≡ true → instr.Turn ≡ v
 of_turn instr.Turn e = refl
 of_turn _ e = absurd cc
 
-of_end : (v : Instr) → is_kind kind.End v ≡ true → instr.End ≡ v
+pub of_end : (v : Instr) → is_kind kind.End v ≡ true → instr.End ≡ v
 of_end instr.End e = refl
 of_end _ e = absurd cc
 

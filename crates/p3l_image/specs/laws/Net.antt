@@ -1,6 +1,7 @@
 -- Nets are read as they are spelled.
 use Rattle.std.proofs.Common.{◌≡◌, ℕ, length, Some, refl}
 use Rattle.std.specs.List.{slice_get}
+use Rattle.p3l_base.specs.Limits.{most_tokens}
 use Rattle.p3l_firing.specs.declared.process.ProcKind.{ProcKind}
 use Rattle.p3l_firing.specs.declared.process.ProcKind.TheVariants.{Source, Sink, Run, Emit, Collect, Scatter, Gather, Split, FoldGather, Join, Head, Tail}
 use Rattle.p3l_format.specs.Lawful.{IsLawful}
@@ -11,7 +12,7 @@ use Rattle.p3l_image.specs.Net.{chan_format, chans_format, proc_kinds, proc_numb
 
 pub lawful_chan : IsLawful chan_format
 unfolding chan_format
-lawful_chan = lawful_record _ _ _ (λ _. refl) (λ _. refl) (lawful_pair _ _ (lawful_u32_in 1 1024) (λ cap. lawful_u32_in 0 cap))
+lawful_chan = lawful_record _ _ _ (λ _. refl) (λ _. refl) (lawful_pair _ _ (lawful_u32_in 1 most_tokens) (λ cap. lawful_u32_in 0 cap))
 
 pub lawful_chans : IsLawful chans_format
 lawful_chans = lawful_counted _ _ (lawful_u32_in 0 4294967295) (λ _. lawful_chan)

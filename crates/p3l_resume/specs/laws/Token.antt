@@ -29,11 +29,11 @@ pub lawful_trap : IsLawful trap_format
 unfolding trap_format
 lawful_trap = lawful_record _ _ _ (λ _. refl) (λ _. refl) (lawful_both _ _ lawful_trap_kind lawful_u32)
 
-value_there : (o : Outcome) → is_value o ≡ true → Value (words_of o) ≡ o
+pub value_there : (o : Outcome) → is_value o ≡ true → Value (words_of o) ≡ o
 value_there (Value words) e = refl
 value_there (Trapped trap) e = absurd cc
 
-trap_there : (o : Outcome) → is_trap o ≡ true → Trapped (trap_of o) ≡ o
+pub trap_there : (o : Outcome) → is_trap o ≡ true → Trapped (trap_of o) ≡ o
 trap_there (Value words) e = absurd cc
 trap_there (Trapped trap) e = refl
 
@@ -46,7 +46,7 @@ no_trap : (o : Outcome) → is_value o ≡ true → is_trap o ≡ false
 no_trap (Value words) e = refl
 no_trap (Trapped trap) e = absurd cc
 
-body_is : (trapped : Bool) (o : Outcome) → (body_format trapped).fits o ≡ true → is_trap o ≡ trapped
+pub body_is : (trapped : Bool) (o : Outcome) → (body_format trapped).fits o ≡ true → is_trap o ≡ trapped
 unfolding body_format as_form
 body_is false o e = no_trap o (first_true (is_value o) _ e)
 body_is true o e = first_true (is_trap o) _ e

@@ -23,11 +23,11 @@ flag_there true = refl
 pub lawful_flag : IsLawful flag_format
 lawful_flag = lawful_one_of flags flag_number refl flag_there
 
-only_none : (item : Option (List ℤ)) → is_none item ≡ true → None ≡ item
+pub only_none : (item : Option (List ℤ)) → is_none item ≡ true → None ≡ item
 only_none None e = refl
 only_none (Some words) e = absurd cc
 
-some_there : (item : Option (List ℤ)) → is_some item ≡ true → Some (unwrap_or item []) ≡ item
+pub some_there : (item : Option (List ℤ)) → is_some item ≡ true → Some (unwrap_or item []) ≡ item
 some_there None e = absurd cc
 some_there (Some words) e = refl
 
@@ -36,7 +36,7 @@ unfolding item_format
 lawful_item false = lawful_nothing _ _ refl only_none
 lawful_item true = lawful_form _ _ _ _ (record { back = λ _ _. refl; fine = λ _ _. refl; there = some_there }) lawful_words
 
-item_has : (has : Bool) (item : Option (List ℤ)) → (item_format has).fits item ≡ true → is_some item ≡ has
+pub item_has : (has : Bool) (item : Option (List ℤ)) → (item_format has).fits item ≡ true → is_some item ≡ has
 unfolding item_format as_form nothing
 item_has false None e = refl
 item_has false (Some words) e = absurd cc

@@ -12,15 +12,15 @@ use Rattle.p3l_format.specs.laws.Numbers.{lawful_u32_in}
 use Rattle.p3l_tree_format.specs.Form.{is_form, clause_of, clause_number, is_clause, clause_format, workers_of, cut_of, fold_of, loop_of, form_format}
 use Rattle.p3l_tree_format.specs.laws.Slice.{lawful_cut}
 
-clause_fine : (n : ℕ) → is_clause (clause_of n) ≡ true
+pub clause_fine : (n : ℕ) → is_clause (clause_of n) ≡ true
 clause_fine zero = refl
 clause_fine (suc n) = rw (eqb-suc-zero n) refl
 
-clause_back : (n : ℕ) → clause_number (clause_of n) ≡ n
+pub clause_back : (n : ℕ) → clause_number (clause_of n) ≡ n
 clause_back zero = refl
 clause_back (suc n) = rw (eqb-suc-zero n) refl
 
-clause_there : (v : Option ℕ) → is_clause v ≡ true → clause_of (clause_number v) ≡ v
+pub clause_there : (v : Option ℕ) → is_clause v ≡ true → clause_of (clause_number v) ≡ v
 clause_there None e = refl
 clause_there (Some zero) e = absurd cc
 clause_there (Some (suc n)) e = rw (eqb-suc-zero n) refl
@@ -29,31 +29,31 @@ pub lawful_clause : IsLawful clause_format
 unfolding clause_format
 lawful_clause = lawful_form _ _ _ _ (record { back = λ n _. clause_back n; fine = λ n _. clause_fine n; there = clause_there }) (lawful_u32_in 0 most_workers)
 
-only_seq : (v : Form) → is_form kind.Seq v ≡ true → form.Seq ≡ v
+pub only_seq : (v : Form) → is_form kind.Seq v ≡ true → form.Seq ≡ v
 only_seq form.Seq e = refl
 only_seq _ e = absurd cc
 
-only_comp : (v : Form) → is_form kind.Comp v ≡ true → form.Comp ≡ v
+pub only_comp : (v : Form) → is_form kind.Comp v ≡ true → form.Comp ≡ v
 only_comp form.Comp e = refl
 only_comp _ e = absurd cc
 
-only_pipe : (v : Form) → is_form kind.Pipe v ≡ true → form.Pipe ≡ v
+pub only_pipe : (v : Form) → is_form kind.Pipe v ≡ true → form.Pipe ≡ v
 only_pipe form.Pipe e = refl
 only_pipe _ e = absurd cc
 
-farm_there : (v : Form) → is_form kind.Farm v ≡ true → form.Farm (workers_of v) ≡ v
+pub farm_there : (v : Form) → is_form kind.Farm v ≡ true → form.Farm (workers_of v) ≡ v
 farm_there (form.Farm w) e = refl
 farm_there _ e = absurd cc
 
-map_there : (v : Form) → is_form kind.Map v ≡ true → form.Map (workers_of v) (cut_of v) ≡ v
+pub map_there : (v : Form) → is_form kind.Map v ≡ true → form.Map (workers_of v) (cut_of v) ≡ v
 map_there (form.Map w cut) e = refl
 map_there _ e = absurd cc
 
-reduce_there : (v : Form) → is_form kind.Reduce v ≡ true → form.Reduce (workers_of v) (fold_of v).0 (fold_of v).1 ≡ v
+pub reduce_there : (v : Form) → is_form kind.Reduce v ≡ true → form.Reduce (workers_of v) (fold_of v).0 (fold_of v).1 ≡ v
 reduce_there (form.Reduce w len elem) e = refl
 reduce_there _ e = absurd cc
 
-loop_there : (v : Form) → is_form kind.Loop v ≡ true → form.Loop (loop_of v).0 (loop_of v).1 ≡ v
+pub loop_there : (v : Form) → is_form kind.Loop v ≡ true → form.Loop (loop_of v).0 (loop_of v).1 ≡ v
 loop_there (form.Loop turns tokens) e = refl
 loop_there _ e = absurd cc
 

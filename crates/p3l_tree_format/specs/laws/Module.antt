@@ -26,7 +26,7 @@ kind_there Loop = refl
 pub lawful_kind : IsLawful kind_format
 lawful_kind = lawful_one_of kinds kind_number refl kind_there
 
-name_back : (a : ℕ × List ℕ) → (pair (u8_in 1 64) (λ n. within is_name (block n))).fits a ≡ true → (length a.1, a.1) ≡ a
+pub name_back : (a : ℕ × List ℕ) → (pair (u8_in 1 64) (λ n. within is_name (block n))).fits a ≡ true → (length a.1, a.1) ≡ a
 unfolding pair within block
 name_back a fits =
     let both : (eqb (length a.1) a.0 && is_name a.1) ≡ true = second_true ((u8_in 1 64).fits a.0) _ fits in

@@ -12,19 +12,19 @@ use Rattle.p3l_tree_format.specs.declared.version.Version.{Version}
 use Rattle.p3l_tree_format.specs.declared.version.Version.TheVariants.{One, Two}
 use Rattle.p3l_tree_format.specs.Rescue.{flags, flag_number, flag_format, number_format, rescue_format}
 
-flag_there : (has : Bool) → slice_get flags (flag_number has) ≡ Some has
+pub flag_there : (has : Bool) → slice_get flags (flag_number has) ≡ Some has
 flag_there false = refl
 flag_there true = refl
 
-lawful_flag : (kind : ModuleKind) → IsLawful (flag_format kind)
+pub lawful_flag : (kind : ModuleKind) → IsLawful (flag_format kind)
 unfolding flag_format
 lawful_flag kind = lawful_within _ _ (lawful_one_of flags flag_number refl flag_there)
 
-only_none : (rescue : Option ℤ) → is_none rescue ≡ true → None ≡ rescue
+pub only_none : (rescue : Option ℤ) → is_none rescue ≡ true → None ≡ rescue
 only_none None e = refl
 only_none (Some n) e = absurd cc
 
-some_there : (rescue : Option ℤ) → is_some rescue ≡ true → Some (unwrap_or rescue (pos 0)) ≡ rescue
+pub some_there : (rescue : Option ℤ) → is_some rescue ≡ true → Some (unwrap_or rescue (pos 0)) ≡ rescue
 some_there None e = absurd cc
 some_there (Some n) e = refl
 
@@ -33,7 +33,7 @@ unfolding number_format
 lawful_number false = lawful_nothing _ _ refl only_none
 lawful_number true = lawful_form _ _ _ _ (record { back = λ _ _. refl; fine = λ _ _. refl; there = some_there }) lawful_i64
 
-number_has : (has : Bool) (rescue : Option ℤ) → (number_format has).fits rescue ≡ true → is_some rescue ≡ has
+pub number_has : (has : Bool) (rescue : Option ℤ) → (number_format has).fits rescue ≡ true → is_some rescue ≡ has
 unfolding number_format as_form nothing
 number_has false None e = refl
 number_has false (Some n) e = absurd cc

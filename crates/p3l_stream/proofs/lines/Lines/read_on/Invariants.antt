@@ -1,10 +1,14 @@
-use Rattle.std.proofs.Common.{◌≡◌, ◌+◌, ◌-◌, true, if◌then◌else◌}
+use Rattle.std.proofs.Common.{◌≡◌, ◌+◌, ◌-◌, List, ℕ, true, if◌then◌else◌}
+use Rattle.p3l_stream.specs.Part.{FitsIn, StandsFor}
 use Rattle.p3l_stream.proofs.Reading.{IsOnWay}
 use Rattle.p3l_stream.proofs.lines.Lines.read_on.Given as goal
 
 abbrev pub invariant-loop-self : goal.invariant-loop-self
 invariant-loop-self g l = record {
-  way : IsOnWay l.fn.self l.self (g.S.Source.rest l.fn.source) (g.S.Source.rest l.source);
+  so_far : List ℕ;
+  way : IsOnWay l.fn.self (record l.self { held = so_far }) (g.S.Source.rest l.fn.source) (g.S.Source.rest l.source);
+  stands : StandsFor l.part l.self.held so_far;
+  fits : FitsIn l.part l.self;
   same : g.S.Source.faults l.source ≡ g.S.Source.faults l.fn.source;
   still : l.fn.self.at_end ≡ true → l.source ≡ l.fn.source;
 }
