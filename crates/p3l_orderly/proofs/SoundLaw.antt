@@ -1,6 +1,6 @@
 -- A shot is sound where it fits and is orderly.
 use Rattle.std.proofs.Common.{◌≡◌, ◌↔◌, ℕ, false, Bool, IsTrue, List, length, Result, Ok, Err, sym, ◌∙◌}
-use Rattle.std.specs.Result.{IfOk}
+use Rattle.p3l_base.specs.Memory.{IfGiven}
 use Rattle.p3l_base.specs.declared.NoMemory.{NoMemory}
 use Rattle.p3l_skel.specs.declared.tree.Tree.{Tree}
 use Rattle.p3l_firing.specs.Nodes.{Leaf}
@@ -24,11 +24,11 @@ module _ (tree : Tree) (counts : List ℕ) (net : Net) (shot : Shot)
   units leaf = record { tree = tree; leaf = leaf }
 
   pub answered_sound : (result : Result Bool NoMemory) →
-      IfOk result (λ yes. (leaf : Leaf) (net : Net) → length shot.chans ≡ length net.chans → IsTrue yes ↔ IsOrderlyShot (units leaf) counts net shot) →
-      IfOk result (λ yes. (leaf : Leaf) → IsTrue yes ↔ IsSound (units leaf) counts net shot)
+      IfGiven result (λ yes. (leaf : Leaf) (net : Net) → length shot.chans ≡ length net.chans → IsTrue yes ↔ IsOrderlyShot (units leaf) counts net shot) →
+      IfGiven result (λ yes. (leaf : Leaf) → IsTrue yes ↔ IsSound (units leaf) counts net shot)
   answered_sound (Ok orderly) is = λ leaf.
       let same = is leaf net fitting.fits.chans in (
         λ h. (let found = same.0 h in record { fitting = fitting; orderly = found.orderly; balanced = found.balanced }),
         λ s. same.1 (record { orderly = s.orderly; balanced = s.balanced }),
       )
-  answered_sound (Err error) is = tt
+  answered_sound (Err error) is = is

@@ -1,4 +1,4 @@
-// What is found in a farm: the tokens of all workers' lines in the order of their numbers.
+// The tokens found in a farm: those of all workers' lines in the order of their numbers.
 
 ghost use Rattle.std.specs.Prelude.{◌≡◌, ◌+◌, ◌≤◌, ℕ, [], length, nat_eq};
 ghost use Rattle.p3l_base.specs.Memory.{IfGiven};
@@ -20,7 +20,7 @@ use p3l_skel::Tree;
 use p3l_template::Ports;
 use std::alloc::Global;
 
-// Whether the numbers of the tokens from `from` on rise from each to the next.
+// Returns true exactly if the numbers of the tokens from `from` on rise from each to the next.
 fn are_rising(tokens: &[Token]) -> bool
     ensures { result ≡ rising tokens.now }
 {
@@ -58,7 +58,7 @@ pub(crate) fn all_lines(
     Ok(lines)
 }
 
-// Whether the numbers rise in each line.
+// Returns true exactly if the numbers rise in each line.
 fn all_are_rising(lines: &[List<Token>]) -> bool
     ensures { result ≡ all_rising lines.now }
 {
@@ -81,7 +81,7 @@ fn join_lines(alloc: Global, lines: &[List<Token>]) -> Result<List<Token>, NoMem
     Ok(list)
 }
 
-/// Whether `count` numbers from `from` on lead to `to`.
+/// Returns true exactly if `count` numbers from `from` on lead to `to`.
 pub(crate) fn lead_to(from: u64, count: usize, to: u64) -> bool
     ensures { result ≡ nat_eq (from + count) to }
 {

@@ -24,7 +24,8 @@ ghost use Rattle.p3l_orderly.specs.Pipe.{pipe_finds};
 ghost use Rattle.p3l_orderly.specs.Reduce.{reduce_finds};
 ghost use Rattle.p3l_orderly.specs.Run.{run_finds};
 
-/// What is found in a node by the tags alone is what its part is, whatever the units make of words.
+/// The tokens found in a node by the tags alone are those of its part, whatever the units make of
+/// words.
 pub fn what_is_found_is_what_the_part_is()
     ensures run { (node : ℕ) → IsFoundShape (run_shape node) run_finds }
     ensures pipe { (k : ℕ) → IsFoundShape (pipe_shape k) pipe_finds }
@@ -35,8 +36,9 @@ pub fn what_is_found_is_what_the_part_is()
     ensures map { (node n : ℕ) → IsFoundShape (map_shape node n) (map_finds node n) }
 {}
 
-/// What is found in a tree, node by node, is what the root's part is in the state; so whether a state
-/// is orderly, and the tags of what is pending, don't depend on what the units make of words.
+/// The tokens found in a tree, node by node, are those of the root's part in the state; so whether
+/// a state is orderly, and the tags of what is pending, don't depend on what the units make of
+/// words.
 pub fn what_is_found_in_a_tree_is_what_its_part_is()
     ensures root { (units : Units) (counts : List ℕ) (cap : ℕ) (finds : ℕ → Finds) (s : State)
         → AreFound units.tree (count_of units.tree counts) finds

@@ -1,6 +1,7 @@
-// Where the inner parts of a node are placed.
+// Layouts: the places of a node's inner parts.
 
 ghost use Rattle.std.specs.Prelude.{◌≡◌, ◌+◌, ◌-◌, ◌<◌, ◌≤◌, [], ◌∷◌, length, map, slice_index};
+ghost use Rattle.p3l_base.specs.Limits.{most_workers};
 ghost use Rattle.p3l_base.specs.Memory.{IfGiven};
 ghost use Rattle.p3l_skel.specs.Counts.{count_of};
 ghost use Rattle.p3l_skel.specs.Lawful.{IsLawfulTree};
@@ -26,7 +27,7 @@ pub(crate) struct InnerPart {
     pub node: u32,
 }
 
-/// What a node places round its inner parts: these in order, and the first process and channel
+/// The layout of a node: its inner parts in order, and the first process and channel
 /// after its own.
 #[derive(Debug, Drop)]
 pub(crate) struct Layout {
@@ -129,10 +130,10 @@ fn with_workers(alloc: Global, node: u32, workers: u32, place: &Place) -> Result
     Ok(after(inner, place, 2, workers + workers))
 }
 
-// How many processes and channels a reduce of `segments` segments has: one that runs it all, or
+// The counts of processes and channels of a reduce of `segments` segments: one that runs it all, or
 // those that split, join and fold.
 fn joined(segments: u32) -> (u32, u32)
-    requires { segments ≤ 512 }
+    requires { segments ≤ most_workers }
     ensures procs { result.0 ≡ joined_procs segments }
     ensures chans { result.1 ≡ joined_chans segments }
 {
@@ -143,7 +144,7 @@ fn joined(segments: u32) -> (u32, u32)
     }
 }
 
-/// Where the inner parts of a node are, which is at this place itself.
+/// The layout of a node that is at this place itself.
 pub(crate) fn layout_of(
     alloc: Global,
     tree: &Tree,

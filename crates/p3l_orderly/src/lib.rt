@@ -1,5 +1,5 @@
-//! Whether a state of a net is orderly, and which tokens are pending in it: decided by the tags alone,
-//! for each kind of node, for a whole tree, and for what was saved of a machine.
+//! Decides whether a state of a net is orderly, and which tokens are pending in it: by the tags
+//! alone, for each kind of node, for a whole tree, and for what was saved of a machine.
 #![tactic(auto)]
 
 pub mod bare;

@@ -1,4 +1,4 @@
-// What is found in a loop: the admitted tokens in the order of their numbers.
+// The tokens found in a loop: the admitted ones in the order of their numbers.
 
 ghost use Rattle.std.specs.Prelude.{◌≡◌, ◌+◌, ◌≤◌, List, length, nat_eq};
 ghost use Rattle.p3l_base.specs.Memory.{IfGiven};
@@ -36,14 +36,14 @@ fn turns_of(tree: &Tree, node: u32) -> u32
     }
 }
 
-// Whether the newest tags of tokens lie in 1 to `turns` (to 1 where that is 0).
+// Returns true exactly if the newest tags of tokens lie in 1 to `turns` (to 1 where that is 0).
 fn are_in_turns(turns: u32, tokens: &[Token]) -> bool
     ensures { result ≡ in_turns turns tokens.now }
 {
     lie_within(tokens, 1, 2 + turns.saturating_sub(1) as u64)
 }
 
-// What a loop shows of a snapshot, without the outcomes.
+// The view of a loop in a snapshot, without the outcomes.
 #[derive(Drop)]
 struct Seen {
     next: u64,
@@ -67,7 +67,7 @@ impl Model for Seen {
     } };
 }
 
-// What is seen of a snapshot at a place, where these are pending in the body.
+// Reads the view of a loop at a place of a snapshot, where these tokens are pending in the body.
 fn look_at(
     alloc: Global,
     snapshot: &Snapshot,
@@ -109,15 +109,15 @@ fn bag_of(alloc: Global, seen: &Seen) -> Result<List<Token>, NoMemory>
     Ok(bag)
 }
 
-// Whether two numbers of tokens add up to `tokens`.
+// Returns true exactly if two numbers of tokens add up to `tokens`.
 fn add_up(one: usize, other: usize, tokens: u32) -> bool
     ensures { result ≡ nat_eq (one + other) tokens }
 {
     other <= tokens as usize && one == tokens as usize - other
 }
 
-// Whether the numbers, the credits and the turns are as a loop keeps them while `admitted` tokens
-// are in it.
+// Returns true exactly if the numbers, the credits and the turns are as a loop keeps them while
+// `admitted` tokens are in it.
 fn is_counted(turns: u32, tokens: u32, seen: &Seen, admitted: usize) -> bool
     requires { admitted ≡ length (seen_bag seen.now) }
     ensures { result ≡ is_counted turns tokens seen.now }

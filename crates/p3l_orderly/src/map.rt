@@ -1,7 +1,8 @@
-// What is found in a map: the pieces of all tokens by turns, in groups that each become one token.
+// The tokens found in a map: the pieces of all tokens by turns, in groups that each become one
+// token.
 
-ghost use Rattle.std.specs.Prelude.{◌≡◌, ◌+◌, ◌++◌, ◌≤◌, ◌<◌, [], ◌∷◌, List, ℕ, suc, length, replicate, IfOk, IsTrue, IsFalse};
-ghost use Rattle.p3l_base.specs.Memory.{IfGiven};
+ghost use Rattle.std.specs.Prelude.{◌≡◌, ◌+◌, ◌++◌, ◌≤◌, ◌<◌, [], ◌∷◌, List, ℕ, suc, length, replicate, IfOk, OnErr, IsTrue, IsFalse};
+ghost use Rattle.p3l_base.specs.Memory.{IfGiven, Refused};
 ghost use Rattle.p3l_firing.specs.At.{at};
 ghost use Rattle.p3l_firing.specs.Lists.{first_or, has_first, rest_of};
 ghost use Rattle.p3l_firing.specs.Nodes.{last_element};
@@ -37,18 +38,15 @@ fn number_of_pieces(tree: &Tree, node: u32) -> u64
     }
 }
 
-// How many tokens the lines have. Memory doesn't have as many as fit no number.
-fn count_tokens(lines: &[List<Token>]) -> Result<usize, NoMemory>
-    ensures { IfGiven result (λ count. count ≡ count_of lines.now) }
+// The count of tokens in the lines: of fewer than 2^64 lines, each of fewer than 2^64 tokens.
+fn count_tokens(lines: &[List<Token>]) -> u128
+    ensures { result ≡ count_of lines.now }
 {
-    let mut count: usize = 0;
+    let mut count: u128 = 0;
     for line in lines {
-        let Some(more) = count.checked_add(line.len()) else {
-            return Err(NoMemory);
-        };
-        count = more;
+        count += line.len() as u128;
     }
-    Ok(count)
+    count
 }
 
 // For each line, that no token was taken from it yet.
@@ -111,7 +109,7 @@ fn add_by_turns(
     ensures list { IfOk result (λ all. IsTrue all
         → list.new ≡ list.old ++ bares (by_turns number lines.now (length list.old))) }
 {
-    let count = count_tokens(lines)?;
+    let count = count_tokens(lines);
     let mut taken = none_taken(alloc, lines.len())?;
     for _turn in 0..count {
         let line = line_of_place(list.len(), number, lines.len());
@@ -137,6 +135,7 @@ fn add_piece(
     ensures later { IsFalse is_first → (xs : List Token) (x : Token) → firsts.old ≡ xs ++ x ∷ []
         → IfOk result (λ alike. alike ≡ same_tags piece.now.tags x.tags) }
     ensures same { IsFalse is_first → firsts.new ≡ firsts.old }
+    ensures refused { OnErr result Refused }
 {
     if is_first {
         firsts.push(bare(alloc, piece))?;
@@ -165,7 +164,7 @@ fn firsts_of_groups(
     Ok(Some(firsts))
 }
 
-// Whether one token is being scattered, of which a piece is left to send, or none.
+// Returns true exactly if one token is being scattered, of which a piece is left to send, or none.
 fn is_scattering(number: u64, sending: &[Token], sent: u64) -> bool
     ensures { (lines : ℕ) → result ≡ scatter_ok (bare_pieces number lines) sending.now sent }
 {

@@ -1,11 +1,11 @@
-// Whether two lists of tokens match: equally many, with equal tags.
+// Tests whether two lists of tokens match: equally many, with equal tags.
 
 ghost use Rattle.std.specs.Prelude.{◌≡◌, ◌↔◌, [], IsTrue};
 ghost use Rattle.p3l_reduce.specs.JoinTree.{matched, same_tags};
 
 use p3l_firing::{Tags, Token};
 
-// Whether there is no tag. A newest tag that is 0 shows by being counted one more.
+// Returns true exactly if there is no tag. A newest tag that is 0 shows by being counted one more.
 fn is_empty(tags: &Tags) -> bool
     ensures { IsTrue result ↔ (tags.now ≡ []) }
 {
@@ -17,7 +17,7 @@ fn is_empty(tags: &Tags) -> bool
     counted.newest() == 0
 }
 
-// Whether two tokens have the same tags, in the same order.
+// Returns true exactly if two tokens have the same tags, in the same order.
 fn are_same(left: &Tags, right: &Tags) -> bool
     ensures { result ≡ same_tags left.now right.now }
 {
@@ -33,7 +33,7 @@ fn are_same(left: &Tags, right: &Tags) -> bool
     is_empty(&theirs)
 }
 
-/// Whether two lists have equally many tokens, with the same tags.
+/// Returns true exactly if two lists have equally many tokens, with the same tags.
 pub(crate) fn are_matched(left: &[Token], right: &[Token]) -> bool
     ensures { result ≡ matched left.now right.now }
 {

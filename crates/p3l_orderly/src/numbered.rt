@@ -11,7 +11,7 @@ use p3l_base::{List, NoMemory};
 use p3l_firing::Token;
 use std::alloc::Global;
 
-/// Whether all numbers lie from `from` up to `to`.
+/// Returns true exactly if all numbers lie from `from` up to `to`.
 pub fn lie_within(tokens: &[Token], from: u64, to: u64) -> bool
     ensures { result ≡ all_within from to tokens.now }
 {

@@ -1,4 +1,4 @@
-// What every template finds in a snapshot.
+// Templates that find the pending tokens of a snapshot.
 
 ghost use Rattle.std.specs.Prelude.{◌≡◌, ◌++◌, ◌+◌, ◌≤◌, ℕ, List, length};
 ghost use Rattle.p3l_base.specs.Memory.{IfGiven};
@@ -16,7 +16,7 @@ use p3l_template::{Ports, Template};
 use std::alloc::Global;
 use std::marker::Model;
 
-/// Where a template stands: the two channels that it stands between, and its first process and
+/// The place of a template: the two channels that it stands between, and its first process and
 /// channel.
 #[derive(Debug, Drop)]
 pub struct Place {
@@ -37,7 +37,7 @@ impl Model for Place {
 /// A template whose part's order can be decided, where its inner parts are orderly and it is known
 /// what is pending in them.
 pub trait Orderly: Template {
-    /// What it finds of any state itself.
+    /// The tokens found in any state itself.
     ghost finds: { Self → Finds };
 
     /// The tokens pending in its part, without their outcomes, if the part is orderly.
@@ -56,7 +56,7 @@ pub trait Orderly: Template {
         ensures { IfGiven result (λ pending. pending
             ≡ if_orderly (finds self.now tree.now place.now (state_of snapshot.now) inner.now)) };
 
-    /// That is what its part is, whatever the units make of words.
+    /// The tokens found are those of its part, whatever the units make of words.
     ghost found: { (t : Self) → IsFoundShape (Self.shape t) (finds t) };
 }
 

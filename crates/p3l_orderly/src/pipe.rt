@@ -1,4 +1,4 @@
-// What is found in a pipe: what is pending in its stages and waits between them, from the last on.
+// The tokens found in a pipe: those pending in its stages and those between them, from the last on.
 
 ghost use Rattle.std.specs.Prelude.{◌≡◌, ◌≤◌, ◌+◌, ◌++◌, ◌-◌, length};
 ghost use Rattle.p3l_base.specs.Memory.{IfGiven};
@@ -37,7 +37,7 @@ fn add_stage(
     add_bare(alloc, list, snapshot.tokens(chan + (stage - 1) as u32))
 }
 
-// What is pending in a pipe whose own channels are those from `chan` on.
+// The tokens pending in a pipe whose own channels are those from `chan` on.
 fn in_pipe(
     alloc: Global,
     snapshot: &Snapshot,

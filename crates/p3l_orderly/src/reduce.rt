@@ -1,7 +1,8 @@
-// What is found in a reduce: whether the flows of each join match, and what is still to come out of
-// the last one.
+// The tokens found in a reduce: whether the flows of each join match, and what is still to come
+// out of the last one.
 
 ghost use Rattle.std.specs.Prelude.{◌≡◌, ◌+◌, ◌++◌, ◌≤◌, ◌<◌, ◌^◌};
+ghost use Rattle.p3l_base.specs.Limits.{most_workers};
 ghost use Rattle.p3l_base.specs.Memory.{IfGiven};
 ghost use Rattle.p3l_firing.specs.Segments.{level_of, level_up_to};
 ghost use Rattle.p3l_reduce.specs.JoinTree.{after_node, split_ok};
@@ -22,7 +23,7 @@ use p3l_reduce::ReduceTemplate;
 use p3l_skel::Tree;
 use std::alloc::Global;
 
-// How often the number of segments can be halved, at most `most` times.
+// The number of times that the number of segments can be halved, at most `most` times.
 fn level_within(most: u32, segments: u32) -> u32
     ensures value { result ≡ level_up_to most segments }
     ensures bounded { result ≤ most }
@@ -44,7 +45,8 @@ fn power_of_two(exponent: u32) -> u32
     1 << exponent
 }
 
-// Whether the process that sends the segments, if it holds a token, is at one of them.
+// Returns true exactly if the process that sends the segments, if it holds a token, is at one of
+// them.
 fn is_at_segment(snapshot: &Snapshot, place: &Place, count: u32) -> bool
     ensures { let own = (state_of snapshot.now).own place.now.proc in
         result ≡ split_ok (bare_folding count) (bares own.held) own.number }
@@ -80,8 +82,8 @@ fn from_segment(
     Ok(list)
 }
 
-// The flow of place q, where these are still to come to its channel: the tokens in that channel come
-// first.
+// The flow of place q, where these are still to come to its channel: the tokens in that channel
+// come first.
 fn flow_of(
     alloc: Global,
     snapshot: &Snapshot,
@@ -117,7 +119,7 @@ fn to_come(
     q: u32,
 ) -> Result<Option<List<Token>>, NoMemory>
     requires chans { place.now.chan ≤ 1048576 }
-    requires count { count ≤ 512 }
+    requires count { count ≤ most_workers }
     requires places { Deep count depth q }
     ensures { IfGiven result (λ pending. pending
         ≡ if_orderly (found_from count depth q (seen_of place.now count (state_of snapshot.now)))) }
@@ -140,7 +142,7 @@ fn to_come(
     Ok(Some(left))
 }
 
-// What is pending in a reduce of 2 to the power `level` segments, if it is orderly.
+// The tokens pending in a reduce of 2 to the power `level` segments, if it is orderly.
 fn in_joins(
     alloc: Global,
     snapshot: &Snapshot,

@@ -1,8 +1,9 @@
-// Whether what was saved of a machine is a state in which a run of a linked net can be.
+// Tests that a snapshot of a machine is a state in which a run of a linked net can be.
 
 ghost use Rattle.std.specs.Prelude.{◌≡◌, ◌↔◌, ◌+◌, ◌≤◌, length, IsTrue};
 ghost use Rattle.p3l_base.specs.Memory.{IfGiven};
 ghost use Rattle.std.specs.Option.{option_to_list};
+ghost use Rattle.p3l_base.specs.Limits.{most_processes};
 ghost use Rattle.p3l_skel.specs.Counts.{HasLawfulCounts, count_of};
 ghost use Rattle.p3l_skel.specs.Lawful.{IsLawfulTree};
 ghost use Rattle.p3l_skel.specs.Numbers.{procs};
@@ -39,7 +40,7 @@ fn root_pending<T: Table>(
 ) -> Result<Option<List<Token>>, NoMemory>
     requires tree { IsLawfulTree tree.now }
     requires counts { HasLawfulCounts tree.now counts.now.list }
-    requires procs { procs tree.now counts.now.list 0 ≤ 4096 }
+    requires procs { procs tree.now counts.now.list 0 ≤ most_processes }
     ensures { IfGiven result (λ pending. pending
         ≡ if_orderly (walk_found (T.finds table.now tree.now (count_of tree.now counts.now.list)) tree.now
         (count_of tree.now counts.now.list) nesting 0 root_base (state_of snapshot.now))) }
@@ -56,7 +57,7 @@ fn root_pending<T: Table>(
     }
 }
 
-// Whether the item of an inbox has the root's in words.
+// Returns true exactly if the item of an inbox has the root's in words.
 fn fits_root(tree: &Tree, inbox: &Option<Words>) -> bool
     ensures { IsTrue result ↔ HaveInWords tree.now (option_to_list inbox.now) }
 {
@@ -69,7 +70,8 @@ fn fits_root(tree: &Tree, inbox: &Option<Words>) -> bool
     }
 }
 
-// Whether each item sent was emitted, or waits after the root, is pending in it or waits before it.
+// Returns true exactly if each item sent was emitted, or waits after the root, is pending in it or
+// waits before it.
 fn is_balanced(shot: &Shot, snapshot: &Snapshot, pending: usize) -> bool
     ensures { IsTrue result
         ↔ (shot.now.sent
@@ -92,7 +94,7 @@ pub fn is_orderly_by<T: Table>(
 ) -> Result<bool, NoMemory>
     requires tree { IsLawfulTree tree.now }
     requires counts { HasLawfulCounts tree.now counts.now.list }
-    requires procs { procs tree.now counts.now.list 0 ≤ 4096 }
+    requires procs { procs tree.now counts.now.list 0 ≤ most_processes }
     requires tags { HaveFewTags shot.now }
     ensures { IfGiven result (λ yes. (leaf : Leaf) (net : Net)
         → length shot.now.chans ≡ length net.chans → IsTrue yes
@@ -109,9 +111,9 @@ pub fn is_orderly_by<T: Table>(
     }
 }
 
-/// Whether a run of the net of a tree under these counts can be in a state that was saved: the root
-/// is orderly, the item in the inbox has its in words, and each item sent was emitted or is still in
-/// the net. It is so whatever the `seq` modules make of words.
+/// Returns true exactly if a run of the net of a tree under these counts can be in a state that
+/// was saved: the root is orderly, the item in the inbox has its in words, and each item sent was
+/// emitted or is still in the net. It is so whatever the `seq` modules make of words.
 pub fn is_orderly(
     alloc: Global,
     tree: &Tree,
@@ -120,7 +122,7 @@ pub fn is_orderly(
 ) -> Result<bool, NoMemory>
     requires tree { IsLawfulTree tree.now }
     requires counts { HasLawfulCounts tree.now counts.now.list }
-    requires procs { procs tree.now counts.now.list 0 ≤ 4096 }
+    requires procs { procs tree.now counts.now.list 0 ≤ most_processes }
     requires tags { HaveFewTags shot.now }
     ensures { IfGiven result (λ yes. (leaf : Leaf) (net : Net)
         → length shot.now.chans ≡ length net.chans → IsTrue yes

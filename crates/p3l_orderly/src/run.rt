@@ -1,4 +1,4 @@
-// What is found in a node that is one process: nothing is ever pending in it.
+// The tokens found in a node that is one process: none is ever pending in it.
 
 ghost use Rattle.p3l_orderly.specs.Run.{run_finds};
 ghost use Rattle.p3l_orderly.specs.laws.RunLaw.{run_found};

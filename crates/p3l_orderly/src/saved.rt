@@ -1,4 +1,4 @@
-// What was saved of a machine, as a snapshot.
+// Conversion of a shot of a machine to a snapshot.
 
 ghost use Rattle.std.specs.Prelude.{◌≡◌, ◌≤◌, ◌↔◌, length, map, reverse, IsTrue};
 ghost use Rattle.p3l_base.specs.Memory.{IfGiven};
@@ -17,14 +17,14 @@ use p3l_net::{Own as SavedOwn, SavedToken, Shot};
 use p3l_skel::outcome::copied;
 use std::alloc::Global;
 
-// Whether no token has more tags than a token may have.
+// Returns true exactly if no token has more tags than a token may have.
 fn all_few(tokens: &[SavedToken]) -> bool
     ensures { IsTrue result ↔ All HasFewTags tokens.now }
 {
     tokens.iter().all(|token| token.tags.len() <= MOST_TAGS)
 }
 
-/// Whether no token that was saved has more tags than a token may have.
+/// Returns true exactly if no token that was saved has more tags than a token may have.
 pub fn have_few_tags(shot: &Shot) -> bool
     ensures { IsTrue result ↔ HaveFewTags shot.now }
 {
@@ -101,7 +101,7 @@ fn chans_of(alloc: Global, saved: &[List<SavedToken>]) -> Result<List<List<Token
     Ok(chans)
 }
 
-// What a process kept.
+// The local state of a process, as it was saved.
 fn own_of(alloc: Global, saved: &SavedOwn) -> Result<Own, NoMemory>
     requires { All HasFewTags saved.now.held }
     ensures { IfGiven result (λ own. own ≡ own_of saved.now) }
@@ -112,7 +112,7 @@ fn own_of(alloc: Global, saved: &SavedOwn) -> Result<Own, NoMemory>
     })
 }
 
-// What each process kept.
+// The local states of all processes, as they were saved.
 fn owns_of(alloc: Global, saved: &[SavedOwn]) -> Result<List<Own>, NoMemory>
     requires { All (λ own. All HasFewTags own.held) saved.now }
     ensures { IfGiven result (λ owns. owns ≡ map own_of saved.now) }

@@ -7,7 +7,7 @@ use p3l_base::List;
 use p3l_firing::Token;
 use std::marker::Model;
 
-/// What a process keeps: a number, and the tokens that it holds.
+/// The local state of a process: a number, and the tokens that it holds.
 #[derive(Debug, Drop)]
 pub struct Own {
     pub number: u64,
@@ -22,8 +22,8 @@ impl Model for Own {
     ghost view = { λ it. record { number = it.number; held = it.held } };
 }
 
-/// The tokens of each channel, and what each process keeps. A number without a channel is read as one
-/// without tokens, and one without a process as one that keeps nothing.
+/// The tokens of each channel, and what each process keeps. A number without a channel is read as
+/// one without tokens, and one without a process as one that keeps nothing.
 #[derive(Debug, Drop)]
 pub struct Snapshot {
     pub chans: List<List<Token>>,

@@ -1,6 +1,7 @@
-// Whether what was saved of a machine is a state in which a run of a linked net can be.
+// Tests that a snapshot of a machine is a state in which a run of a linked net can be.
 
 ghost use Rattle.std.specs.Prelude.{◌↔◌, ◌≤◌, IsTrue};
+ghost use Rattle.p3l_base.specs.Limits.{most_processes};
 ghost use Rattle.p3l_base.specs.Memory.{IfGiven};
 ghost use Rattle.p3l_skel.specs.Counts.{HasLawfulCounts};
 ghost use Rattle.p3l_skel.specs.Lawful.{IsLawfulTree};
@@ -16,9 +17,9 @@ use p3l_net::Shot;
 use p3l_skel::{Counts, Tree};
 use std::alloc::Global;
 
-/// Whether a run of the net of a tree under these counts can go on from what was saved: it fits the
-/// net, the root is orderly, and each item sent was emitted or is still in the net. It is so whatever
-/// the `seq` modules make of words.
+/// Returns true exactly if a run of the net of a tree under these counts can go on from what was
+/// saved: it fits the net, the root is orderly, and each item sent was emitted or is still in the
+/// net. It is so whatever the `seq` modules make of words.
 pub fn is_sound(
     alloc: Global,
     tree: &Tree,
@@ -28,7 +29,7 @@ pub fn is_sound(
 ) -> Result<bool, NoMemory>
     requires tree { IsLawfulTree tree.now }
     requires counts { HasLawfulCounts tree.now counts.now.list }
-    requires procs { procs tree.now counts.now.list 0 ≤ 4096 }
+    requires procs { procs tree.now counts.now.list 0 ≤ most_processes }
     ensures { IfGiven result (λ yes. (leaf : Leaf) → IsTrue yes
         ↔ IsSound (record { tree = tree.now; leaf = leaf }) counts.now.list net.now shot.now) }
 {

@@ -1,4 +1,4 @@
-// Whether two tokens have the same tags.
+// Tests whether two tokens have the same tags.
 
 ghost use Rattle.std.specs.Prelude.{◌≡◌, ◌&&◌, nat_eq};
 ghost use Rattle.p3l_firing.specs.Lists.{has_first};
@@ -7,7 +7,7 @@ ghost use Rattle.p3l_map.specs.Map.{same_tags};
 
 use p3l_firing::{Tags, Token};
 
-// Whether there is a tag. A newest tag that is 0 shows by being counted one more.
+// Returns true exactly if there is a tag. A newest tag that is 0 shows by being counted one more.
 fn has_tag(tags: &Tags) -> bool
     ensures { result ≡ has_first tags.now }
 {
@@ -19,7 +19,7 @@ fn has_tag(tags: &Tags) -> bool
     counted.newest() > 0
 }
 
-// Whether there is a tag in `others`, and the newest ones are the same.
+// Returns true exactly if there is a tag in `others`, and the newest ones are the same.
 fn have_same_newest(ones: &Tags, others: &Tags) -> bool
     ensures { result
         ≡ (has_first others.now && nat_eq (first_tag ones.now) (first_tag others.now)) }
@@ -27,7 +27,7 @@ fn have_same_newest(ones: &Tags, others: &Tags) -> bool
     has_tag(others) & (ones.newest() == others.newest())
 }
 
-/// Whether two tokens have the same tags.
+/// Returns true exactly if two tokens have the same tags.
 pub fn have_same_tags(one: &Token, other: &Token) -> bool
     ensures { result ≡ same_tags one.now.tags other.now.tags }
 {

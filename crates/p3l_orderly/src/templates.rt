@@ -1,4 +1,4 @@
-// Which template each node of a tree has.
+// The template of each node of a tree.
 
 ghost use Rattle.std.specs.Prelude.{◌≡◌, length};
 ghost use Rattle.p3l_base.specs.Memory.{IfGiven};
@@ -28,7 +28,7 @@ use std::alloc::Global;
 #[derive(Clone, Copy, Debug, Drop)]
 pub struct Templates;
 
-// What is pending in a node's part, by the template that the node has.
+// The tokens pending in a node's part, by the template that the node has.
 fn pending_as<T: Orderly>(
     alloc: Global,
     template: &T,

@@ -1,5 +1,5 @@
-// What is pending in a node and in all that is below it: one walk over the tree, in the order of the
-// linker.
+// The tokens pending in a node and in all nodes below it: one walk over the tree, in the order of
+// the linker.
 
 ghost use Rattle.std.specs.Prelude.{◌≡◌, ◌+◌, ◌≤◌, ◌<◌, ℕ, length};
 ghost use Rattle.p3l_base.specs.Memory.{IfGiven};
@@ -23,9 +23,9 @@ use p3l_firing::Token;
 use p3l_skel::{Counts, Tree};
 use std::alloc::Global;
 
-/// What the template of each node of a tree finds.
+/// A table of the templates of a tree's nodes.
 pub trait Table {
-    /// What it finds of any state itself, by the number of the node.
+    /// The tokens found in any state itself, by the number of the node.
     ghost finds: { Self → Tree → (ℕ → ℕ) → ℕ → Finds };
 
     /// The tokens pending in a node's part, without their outcomes, if the part is orderly, where
@@ -50,7 +50,7 @@ pub trait Table {
             ≡ if_orderly (finds self.now tree.now (count_of tree.now counts.now.list) number tree.now
             place.now (state_of snapshot.now) inner.now)) };
 
-    /// That is what the node's part is, whatever the units make of words.
+    /// The tokens found are those of the node's part, whatever the units make of words.
     ghost found: { (t : Self) (tree : Tree) (count : ℕ → ℕ) → AreFound tree count (finds t tree count) };
 }
 
@@ -63,7 +63,7 @@ pub(crate) struct Found {
     pub chan: u32,
 }
 
-/// What is found in a node and in all that is below it, `levels` levels at most, if its part is
+/// The tokens found in a node and in all nodes below it, `levels` levels at most, if its part is
 /// orderly.
 pub(crate) fn find_in<T: Table>(
     alloc: Global,

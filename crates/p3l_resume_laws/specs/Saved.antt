@@ -1,5 +1,6 @@
 -- Linked nets and what was saved of machines that run them.
 use Rattle.std.specs.Prelude.{◌≡◌, ℕ, ◌+◌, ◌≤◌, false, List, [], length}
+use Rattle.p3l_base.specs.Limits.{most_tokens}
 use Rattle.p3l_base.specs.declared.outcome.Outcome.{Outcome}
 use Rattle.p3l_skel.specs.declared.tree.Tree.{Tree}
 use Rattle.p3l_skel.specs.Counts.{HasLawfulCounts}
@@ -57,4 +58,4 @@ EveryBalancedShotIsBalanced =
 abbrev pub EveryFittingShotCanBeWritten : Type 0
 EveryFittingShotCanBeWritten =
     (tree : Tree) (counts : List ℕ) (cap : ℕ) (saved : Saved) → IsTyped tree (linked_net tree counts cap) → HasLawfulCounts tree counts
-    → cap ≤ 1024 → FitsLinked tree counts cap saved.shot → HasRanges saved → IsFew saved.image → CanBeWritten saved
+    → cap ≤ most_tokens → FitsLinked tree counts cap saved.shot → HasRanges saved → IsFew saved.image → CanBeWritten saved

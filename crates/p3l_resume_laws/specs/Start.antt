@@ -2,6 +2,7 @@
 -- fire for that.
 use Rattle.std.specs.Prelude.{◌≡◌, ℕ, ℤ, ◌+◌, ◌*◌, ◌^◌, ◌<◌, ◌≤◌, true, List, [], ◌++◌, length, map}
 use Rattle.std.specs.Option.{option_to_list}
+use Rattle.p3l_base.specs.Limits.{most_processes, most_tokens}
 use Rattle.p3l_skel.specs.declared.tree.Tree.{Tree}
 use Rattle.p3l_skel.specs.Counts.{HasLawfulCounts}
 use Rattle.p3l_skel.specs.Item.{item}
@@ -58,14 +59,14 @@ EveryItemHasFewFirings =
 abbrev pub EveryFittingShotHasFewTokens : Type 0
 EveryFittingShotHasFewTokens =
     (units : Units) (counts : List ℕ) (cap : ℕ) (shot : Shot) → IsTyped units.tree (net_of units counts cap)
-    → IsLinkable units counts cap → procs units.tree counts 0 ≤ 4096 → cap ≤ 1024 → FitsLinked units.tree counts cap shot
+    → IsLinkable units counts cap → procs units.tree counts 0 ≤ most_processes → cap ≤ most_tokens → FitsLinked units.tree counts cap shot
     → tokens_saved units counts cap shot ≤ 276955136
 
 -- so the firings of a run that goes on from there can be counted, where no more items come than an input of 2^36 bytes has
 abbrev pub EveryResumedRunCanBeCounted : Type 0
 EveryResumedRunCanBeCounted =
     (units : Units) (counts : List ℕ) (cap : ℕ) (shot : Shot) (count : ℕ) → IsTyped units.tree (net_of units counts cap)
-    → IsLinkable units counts cap → procs units.tree counts 0 ≤ 4096 → cap ≤ 1024 → FitsLinked units.tree counts cap shot
+    → IsLinkable units counts cap → procs units.tree counts 0 ≤ most_processes → cap ≤ most_tokens → FitsLinked units.tree counts cap shot
     → count ≤ 34359738369
     → firings units.tree counts * tokens_saved units counts cap shot
     + firings units.tree counts * (length (option_to_list shot.inbox) + count)

@@ -1,12 +1,11 @@
-// Laws of what is saved of machines that run linked nets.
+// Laws of the snapshots of machines that run linked nets.
 
 ghost use Rattle.p3l_resume_laws.specs.Kept.{EverySavedShotIsSound};
 ghost use Rattle.p3l_resume_laws.specs.Traps.{EveryTableNamesModules};
 
-/// Whatever the picks, what is saved of a machine that was started on a linked net, and fired with
-/// units whose traps name modules of its tree, is sound: it fits the net and its loops, the root is
-/// orderly, and each item that was sent was emitted or is still in the net. So it is never refused
-/// where it is resumed.
+/// A snapshot is sound under any picks, if its machine was started on a linked net and fired with units
+/// whose traps name modules of its tree: it fits the net and its loops, the root is orderly, and each
+/// item that was sent was emitted or is still in the net. So it is never refused when it is resumed.
 pub fn every_saved_shot_is_sound()
     ensures { EverySavedShotIsSound }
 {}

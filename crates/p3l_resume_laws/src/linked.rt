@@ -2,9 +2,9 @@
 
 ghost use Rattle.p3l_resume_laws.specs.Linked.{BothPartsAreBounded, EveryRestCanResume, EveryResumedRunEmitsWhatIsLeft, EveryResumedRunEnds, EveryRunCanResume, EveryRunStaysBalanced, EveryStartCanResume, EveryStartIsBalanced, ResumedFiringsAreBounded};
 
-/// Whatever the picks, each state that a run of a linked net reaches without a trap can be resumed:
-/// the root is orderly, and each token fits its place. Each item that was sent was emitted, or is
-/// still in the net. More items may come after those not yet sent.
+/// Each state that a run of a linked net reaches without a trap, under any picks, can be resumed: the
+/// root is orderly, and each token fits its place. Each item that was sent was emitted, or is still
+/// in the net. More items may come after those not yet sent.
 pub fn every_run_can_be_resumed()
     ensures starts { EveryStartCanResume }
     ensures starts_balanced { EveryStartIsBalanced }
@@ -13,9 +13,9 @@ pub fn every_run_can_be_resumed()
     ensures rest { EveryRestCanResume }
 {}
 
-/// Whatever the picks, a resumed run of a linked net emits what begins the outcomes of channel 1, the
-/// root's pending ones, and what comes of channel 0 and of the items not yet sent, up to the first
-/// trap, and all of it where nothing can fire.
+/// A resumed run of a linked net emits, under any picks, a prefix of the outcomes of channel 1, the
+/// root's pending ones, and those of channel 0 and of the items not yet sent, up to the first trap,
+/// and all of them where nothing can fire.
 pub fn every_resumed_run_emits_what_is_left()
     ensures { EveryResumedRunEmitsWhatIsLeft }
 {}

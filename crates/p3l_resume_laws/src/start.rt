@@ -2,10 +2,10 @@
 
 ghost use Rattle.p3l_resume_laws.specs.Start.{EveryFittingShotHasFewTokens, EveryItemHasFewFirings, EveryOrderlyShotGoesOn, EveryResumedRunCanBeCounted};
 
-/// Where a shot fits a linked net and the root is orderly, a run can go on from it, whatever items come
-/// then: a machine can be restored from it, it begins orderly, and the outcomes to come are those of
-/// channel 1, the root's pending ones, and what comes of channel 0 and of the item in the inbox. For
-/// each token in the net it fires at most as often as for an item.
+/// A run can go on from a shot that fits a linked net with an orderly root, for any later items: a
+/// machine can be restored from it, it begins orderly, and the outcomes to come are those of channel 1,
+/// the root's pending ones, and those of channel 0 and of the item in the inbox. For each token in the
+/// net it fires at most as often as for an item.
 pub fn every_orderly_shot_goes_on()
     ensures { EveryOrderlyShotGoesOn }
 {}

@@ -1,5 +1,5 @@
-//! Virtual time: what a firing of each process costs, when each process is due, and a timer that says
-//! which process of a machine fires next.
+//! Virtual time: what a firing of each process costs, when each process is due, and a timer that
+//! says which process of a machine fires next.
 #![tactic(auto)]
 
 mod greatest;

@@ -1,4 +1,4 @@
-// Prices: what a firing of each process costs.
+// Prices: the cost of a firing of each process.
 
 ghost use Rattle.std.specs.Prelude.{◌≡◌, ◌+◌, ◌*◌, ◌<◌, ◌^◌, length, max};
 ghost use Rattle.p3l_base.specs.Memory.{IfGiven};
@@ -47,7 +47,7 @@ fn part_of(tree: &Tree, number: u32, k: usize) -> u32
     }
 }
 
-// How many elements a node has, if it is a reduce.
+// The count of elements that a node has, if it is a reduce.
 fn len_of(tree: &Tree, number: u32) -> u32
     ensures { result ≡ len_of (node_at tree.now number).form }
 {

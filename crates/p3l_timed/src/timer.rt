@@ -21,8 +21,8 @@ use p3l_skel::Tree;
 use std::alloc::Global;
 use std::marker::Model;
 
-/// Says which process of a machine fires next: the one that is due first. A process that can fire is
-/// due at the moment at which it became able to, or fired last, plus its price.
+/// Says which process of a machine fires next: the one that is due first. A process that can fire
+/// is due at the moment at which it became able to, or fired last, plus its price.
 ///
 /// It is notified of each offer and each firing, and looks then at the processes that may have
 /// become able to fire by it, or unable. Moments are in ticks, from 0 on.
@@ -144,7 +144,7 @@ impl Timer {
         greatest(self.busy.as_slice()) as u32
     }
 
-    /// How long process `p` was busy.
+    /// The ticks that process `p` was busy.
     pub fn busy(&self, p: u32) -> u128
         requires { p < length self.now.prices }
         ensures { result ≡ slice_index self.now.busy p }

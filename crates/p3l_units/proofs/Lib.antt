@@ -1,3 +1,4 @@
 pub mod Sequential
 pub mod Places
 pub mod Body
+pub mod Given

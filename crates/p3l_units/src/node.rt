@@ -1,4 +1,4 @@
-// What a sequential node makes of the words of an item: one function a form, which call one
+// The outcomes of sequential nodes on the words of an item: one function a form, which call one
 // another.
 
 ghost use Rattle.p3l_base.specs.Cut.{IsLawfulCut, token_size};
@@ -19,7 +19,7 @@ use p3l_skel::outcome::{copied, paired, rescue};
 use p3l_skel::{Form, Node, Tree};
 use std::alloc::Global;
 
-/// What a sequential node makes of the words of an item.
+/// The outcome of a sequential node on the words of an item.
 #[cycle(node)]
 pub fn node_outcome(
     alloc: Global,
@@ -55,7 +55,7 @@ pub fn node_outcome(
     }
 }
 
-/// What a sequential node makes of an outcome: a trap is itself.
+/// Runs a sequential node on the value of an outcome; a trap stays itself.
 #[cycle(node)]
 fn next_outcome(
     alloc: Global,
@@ -76,7 +76,7 @@ fn next_outcome(
     }
 }
 
-/// What the stages of a comp make of words, one after the other.
+/// Runs the stages of a comp on words, one after the other.
 #[cycle(node)]
 fn stages_outcome(
     alloc: Global,
@@ -101,7 +101,7 @@ fn stages_outcome(
     Ok(outcome)
 }
 
-/// What a map of this part makes of words: it goes over the elements in order, up to a trap.
+/// Runs a map of this part on words: the elements in order, up to a trap.
 #[cycle(node)]
 fn map_outcome(
     alloc: Global,

@@ -1,4 +1,4 @@
-// A table of units is what runs a tree's sequential nodes.
+// Tables of units run the sequential nodes of a tree.
 
 use crate::node::node_outcome;
 use crate::table::UnitTable;
@@ -7,12 +7,15 @@ use p3l_skel::Units;
 use std::alloc::Global;
 
 impl<'t> Units for UnitTable<'t> {
+    ghost use Rattle.std.specs.Prelude.{false};
     ghost use Rattle.p3l_units.specs.Table.{leaf};
     ghost use Rattle.p3l_units.specs.laws.Leaf.{gives_outs};
 
     ghost tree = { λ table. table.tree };
 
     ghost leaf = { leaf };
+
+    ghost may_want = { false };
 
     ghost gives_outs = { gives_outs };
 

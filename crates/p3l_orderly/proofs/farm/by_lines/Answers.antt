@@ -1,4 +1,5 @@
-use Rattle.std.proofs.Common.{◌≡◌, ◌+◌, [], nat_eq, inl, inr, IfOk, subst, sym, ap, ◌∙◌}
+use Rattle.std.proofs.Common.{◌≡◌, ◌+◌, [], nat_eq, inl, inr, subst, sym, ap, ◌∙◌}
+use Rattle.p3l_base.specs.Memory.{IfGiven}
 use Rattle.p3l_farm.specs.Farm.{View}
 use Rattle.p3l_orderly.specs.Numbered.{ordered}
 use Rattle.p3l_orderly.proofs.FarmSteps.{none_found, found_in_order}
@@ -17,7 +18,7 @@ returns-then-not-lead_to c =
 pub returns : goal.returns
 returns c =
     let v : View = record { next = c.args.next; least = c.args.least; lines = c.args.lines.now; input = []; output = [] } in
-    subst (λ z. IfOk c.in_order.result (λ pending. pending ≡ z))
+    subst (λ z. IfGiven c.in_order.result (λ pending. pending ≡ z))
     (ap (λ z. ordered z c.args.least) c.as_slice.ensures
     ∙ found_in_order v c.in_ok-bag.bag c.in_ok-bag.ensures
     (ap (λ n. nat_eq (c.args.least + n) c.args.next) (sym c.len.ensures) ∙ sym c.lead_to.ensures ∙ c.if-not-lead_to.false)

@@ -1,5 +1,6 @@
 -- Each arm has the layout of its form.
-use Rattle.std.proofs.Common.{◌≡◌, ◌+◌, ◌-◌, ◌≤◌, [], ◌∷◌, IfOk, length, map, slice_index, sym, ap, ap₂, ◌∙◌, subst, arith}
+use Rattle.std.proofs.Common.{◌≡◌, ◌+◌, ◌-◌, ◌≤◌, [], ◌∷◌, length, map, slice_index, sym, ap, ap₂, ◌∙◌, subst, arith}
+use Rattle.p3l_base.specs.Memory.{IfGiven}
 use Rattle.p3l_skel.specs.Counts.{count_of}
 use Rattle.p3l_template.specs.Pipe.{stage_seats}
 use Rattle.p3l_template.specs.Shape.{Base}
@@ -75,14 +76,14 @@ returns-in_ok-inner-in-Pipe c =
 
 pub returns-in-Farm : goal.returns-in-Farm
 returns-in-Farm c =
-    subst (λ z. IfOk c.with_workers.result (λ layout. layout ≡ z))
+    subst (λ z. IfGiven c.with_workers.result (λ layout. layout ≡ z))
     (farm_layout c.args.tree.now (count_of c.args.tree.now c.args.counts.now.list) c.args.number c.args.place.now
     c.in-Some.node.now c.in-Some.ensures.found c.workers-workers.result c.part.result c.workers-workers.ensures c.part.ensures
     c.in-Farm.workers c.in-Farm.is) c.with_workers.ensures
 
 pub returns-in-Map : goal.returns-in-Map
 returns-in-Map c =
-    subst (λ z. IfOk c.with_workers-in-Map.result (λ layout. layout ≡ z))
+    subst (λ z. IfGiven c.with_workers-in-Map.result (λ layout. layout ≡ z))
     (map_layout c.args.tree.now (count_of c.args.tree.now c.args.counts.now.list) c.args.number c.args.place.now
     c.in-Some.node.now c.in-Some.ensures.found c.workers-workers-in-Map.result c.part-in-Map.result c.workers-workers-in-Map.ensures
     c.part-in-Map.ensures c.in-Map.workers c.in-Map.cut c.in-Map.is) c.with_workers-in-Map.ensures

@@ -1,4 +1,5 @@
-use Rattle.std.proofs.Common.{◌≡◌, IfOk, subst, sym, ap, ◌∙◌}
+use Rattle.std.proofs.Common.{◌≡◌, subst, sym, ap, ◌∙◌}
+use Rattle.p3l_base.specs.Memory.{IfGiven}
 use Rattle.p3l_orderly.specs.Loop.{Seen}
 use Rattle.p3l_orderly.proofs.LoopSteps.{none_found, found_in_order}
 use Rattle.p3l_orderly.proofs.loops.by_seen.Goals as goal
@@ -9,7 +10,7 @@ returns-then-not-is_counted c =
 
 pub returns : goal.returns
 returns c =
-    subst (λ z. IfOk c.in_order.result (λ pending. pending ≡ z))
+    subst (λ z. IfGiven c.in_order.result (λ pending. pending ≡ z))
     (found_in_order c.args.turns c.args.tokens c.args.seen.now c.as_slice.result.now c.seen.inside.least
     (c.as_slice.ensures ∙ c.in_ok-bag.ensures) (ap (λ (v : Seen). v.least) c.seen.view_is)
     (sym c.is_counted.ensures ∙ c.if-not-is_counted.false))

@@ -35,7 +35,7 @@ returns-then-not-branch-clause-all c =
     let none = sym (ap₂ (λ ts w. has_first (left_at c.args.lines.now ts w)) c.as_mut_slice.ensures.value line)
     ∙ sym c.in_ok-take_next.ensures.some ∙ c.if-not-branch.true in
     no_turn c.args.number c.args.lines.now c.args.list.now c.loop-turn._turn c.loop-turn.list c.loop-turn.taken.items c.loop-turn.invariant
-    (omega (arith, c.loop-turn-test.true, c.in_ok-count.ensures)) none
+    (omega (arith, c.loop-turn-test.true, c.count_tokens-count.ensures)) none
 
 pub loop-turn-preserved : goal.loop-turn-preserved
 loop-turn-preserved c =
@@ -54,15 +54,15 @@ loop-turn-preserved c =
     subst (λ z. IsTaking c.args.number c.args.lines.now c.args.list.now (c.loop-turn._turn + 1) c.take_next.new.list z)
     (sym (written c.take_next.new.taken c.loop-turn.taken.items c.loop-turn.taken.len same long))
     (next_turn c.args.number lines c.args.list.now c.loop-turn._turn c.loop-turn.list c.loop-turn.taken.items c.loop-turn.invariant
-    c.take_next.new.list c.take_next.new.taken (omega (arith, c.loop-turn-test.true, c.in_ok-count.ensures))
+    c.take_next.new.list c.take_next.new.taken (omega (arith, c.loop-turn-test.true, c.count_tokens-count.ensures))
     (turn_below c.args.number lines (length c.loop-turn.list) c.requires.lines) some same now left)
 
 pub returns-clause-all : goal.returns-clause-all
 returns-clause-all c =
     (all_turns c.args.number c.args.lines.now c.args.list.now c.loop-turn._turn c.loop-turn.list c.loop-turn.taken.items c.loop-turn.invariant
-    (omega (arith, c.loop-turn-test.false, c.in_ok-count.ensures))).0
+    (omega (arith, c.loop-turn-test.false, c.count_tokens-count.ensures))).0
 
 pub returns-clause-list : goal.returns-clause-list
 returns-clause-list c = λ yes.
     (all_turns c.args.number c.args.lines.now c.args.list.now c.loop-turn._turn c.loop-turn.list c.loop-turn.taken.items c.loop-turn.invariant
-    (omega (arith, c.loop-turn-test.false, c.in_ok-count.ensures))).1
+    (omega (arith, c.loop-turn-test.false, c.count_tokens-count.ensures))).1

@@ -1,6 +1,7 @@
-use Rattle.std.proofs.Common.{◌≡◌, ◌%◌, ◌++◌, ℕ, List, [], length, IfOk, subst, sym, ap, ap₂, ◌∙◌, arith}
+use Rattle.std.proofs.Common.{◌≡◌, ◌%◌, ◌++◌, ℕ, List, [], length, subst, sym, ap, ap₂, ◌∙◌, arith}
 use Rattle.std.proofs.lemmas.Bool.{false≢true}
 use Rattle.std.proofs.lemmas.List.{map-append}
+use Rattle.p3l_base.specs.Memory.{IfGiven}
 use Rattle.p3l_firing.specs.declared.token.Token.{Token}
 use Rattle.p3l_map.specs.Map.{View}
 use Rattle.p3l_orderly.specs.Finding.{bare, bares}
@@ -86,4 +87,4 @@ returns c =
     let path = ap (λ z. made_alike (begun c.args.number z)) (c.as_slice.ensures ∙ third)
     ∙ made_alike-bare c.args.number (gathered ++ c.args.sending.now)
     ∙ found_in_groups c.args.number n v (omega (arith, c.requires.number)) (omega (arith, c.if-held-number.false)) place in_turn scatter in
-    subst (λ z. IfOk c.firsts_of_groups.result (λ pending. pending ≡ z)) path c.firsts_of_groups.ensures
+    subst (λ z. IfGiven c.firsts_of_groups.result (λ pending. pending ≡ z)) path c.firsts_of_groups.ensures

@@ -1,4 +1,5 @@
-use Rattle.std.proofs.Common.{◌≡◌, ℕ, zero, suc, ◌+◌, ◌-◌, ◌<◌, ◌++◌, [], IfOk, subst, refl, sym, ap, ap₂, ◌∙◌, arith, append_assoc, append-nil}
+use Rattle.std.proofs.Common.{◌≡◌, ℕ, zero, suc, ◌+◌, ◌-◌, ◌<◌, ◌++◌, [], subst, refl, sym, ap, ap₂, ◌∙◌, arith, append_assoc, append-nil}
+use Rattle.p3l_base.specs.Memory.{IfGiven}
 use Rattle.p3l_firing.specs.State.{State}
 use Rattle.p3l_orderly.specs.Finding.{bares}
 use Rattle.p3l_orderly.specs.Pipe.{waiting}
@@ -29,4 +30,4 @@ returns c =
     let path = ap₂ (λ x y. x ++ bares y) (c.in_ok-add_bare.ensures ∙ ap (λ z. c.args.list.now ++ bares z) c.as_slice.ensures) c.tokens.ensures
     ∙ append_assoc c.args.list.now (bares c.args.pending.now) _
     ∙ ap (λ z. c.args.list.now ++ (bares c.args.pending.now ++ z)) (sym (later_waits s c.args.chan c.args.stage some)) in
-    subst (λ z. IfOk c.add_bare-2.result (λ x. c.add_bare-2.new.to ≡ z)) path c.add_bare-2.ensures
+    subst (λ z. IfGiven c.add_bare-2.result (λ x. c.add_bare-2.new.to ≡ z)) path c.add_bare-2.ensures

@@ -1,4 +1,5 @@
-use Rattle.std.proofs.Common.{◌≡◌, IfOk, subst, sym, ap, ◌∙◌, arith}
+use Rattle.std.proofs.Common.{◌≡◌, subst, sym, ap, ◌∙◌, arith}
+use Rattle.p3l_base.specs.Memory.{IfGiven}
 use Rattle.p3l_orderly.specs.Finding.{if_orderly}
 use Rattle.p3l_orderly.specs.Reduce.{seen_of, found_by}
 use Rattle.p3l_orderly.specs.Snapshot.{state_of}
@@ -22,7 +23,7 @@ pub returns : goal.returns
 returns c =
     let s = state_of c.args.snapshot.now in
     let base = c.args.place.now in
-    subst (λ z. IfOk c.to_come.result (λ pending. pending ≡ z))
+    subst (λ z. IfGiven c.to_come.result (λ pending. pending ≡ z))
     (found_whole c.power_of_two-count.result base s c.args.level (sym c.is_at_segment.ensures ∙ c.if-not-is_at_segment.false)
     ∙ ap (λ m. if_orderly (found_by m c.args.level (seen_of base m s))) c.power_of_two-count.ensures)
     c.to_come.ensures

@@ -1,4 +1,5 @@
-use Rattle.std.proofs.Common.{◌≡◌, IfOk, sym, ap, ◌∙◌, subst}
+use Rattle.std.proofs.Common.{◌≡◌, sym, ap, ◌∙◌, subst}
+use Rattle.p3l_base.specs.Memory.{IfGiven}
 use Rattle.p3l_template.specs.Shape.{Shape}
 use Rattle.p3l_orderly.specs.Finding.{Finds, if_orderly}
 use Rattle.p3l_orderly.specs.Layout.{FitsAt}
@@ -13,5 +14,5 @@ pending-requires-clause-room g c = subst (λ (s : Shape). FitsAt s c.args.place.
 
 pub returns : goal.returns
 returns g c =
-    subst (λ (f : Finds). IfOk c.pending.result (λ pending. pending
+    subst (λ (f : Finds). IfGiven c.pending.result (λ pending. pending
     ≡ if_orderly (f c.args.tree.now c.args.place.now (state_of c.args.snapshot.now) c.args.inner.now))) (sym c.requires.found) c.pending.ensures

@@ -9,7 +9,8 @@ use Rattle.p3l_skel.specs.declared.tree.Node.{Node}
 use Rattle.p3l_skel.specs.Tree.{node_at, rescue_of, HasLength, GivesOuts, IsUnit}
 use Rattle.p3l_skel.specs.Fold.{tree_fold}
 use Rattle.p3l_skel.specs.Item.{in_order, item, mapped, rescued}
-use Rattle.p3l_skel.proofs.Mapped.{if_ok-along, if_ok-same, mapped-trap, mapped-more, mapped-all, mapped-count, fold-one, fold-more, paired-fits}
+use Rattle.p3l_units.proofs.Given.{given-along, given-same}
+use Rattle.p3l_skel.proofs.Mapped.{mapped-trap, mapped-more, mapped-all, mapped-count, fold-one, fold-more, paired-fits}
 use Rattle.p3l_skel.proofs.Elements.{sized-more}
 use Rattle.p3l_skel.proofs.Parts.{some_elements, along_ins, form_at, fits_at, fitting, row_at, next_keeps, value_keeps, first_later, least, map_part, reduce_part}
 use Rattle.p3l_skel.proofs.Stages.{FitsStages, stage_there, stage_fits, stages_fit, in_order-more, in_order-all, FitsStages-first}
@@ -33,7 +34,7 @@ pub fold_outcome-returns-clause-folded : goal.fold_outcome-returns-clause-folded
 fold_outcome-returns-clause-folded t c =
     let operator = item c.args.tree.now (leaf c.args.table.now) c.args.operator in
     let several : 2 ≤ length c.args.elements.now = omega arith in
-    if_ok-same c.next_outcome.result _ _
+    given-same c.next_outcome.result _ _
     (fold-more operator c.args.elements.now _ _ c.in_ok-left.left c.in_ok-right.right c.in_ok-both.both several c.split_at.ensures.front c.split_at.ensures.back c.in_ok-left.ensures.folded c.in_ok-right.ensures.folded (c.in_ok-both.ensures operator))
     c.next_outcome.ensures
 
@@ -43,7 +44,7 @@ fold_outcome-returns-clause-sized t c =
     let leaf = leaf c.args.table.now in
     let gives = subst (λ (tr : Tree). GivesOuts tr leaf) c.requires.served (gives_outs c.args.table.now) in
     let fits = paired-fits (node_at tree c.args.operator).outs (node_at tree c.args.operator).ins c.in_ok-left.left c.in_ok-right.right c.in_ok-both.both c.in_ok-both.ensures c.requires.takes_two c.in_ok-left.ensures.sized c.in_ok-right.ensures.sized in
-    if_ok-along (HasLength (node_at tree c.args.operator).outs) c.next_outcome.result _
+    given-along (HasLength (node_at tree c.args.operator).outs) c.next_outcome.result _
     (next_keeps tree c.requires.lawful leaf gives c.args.operator c.in_ok-both.both c.requires.unit.in_tree fits)
     c.next_outcome.ensures
 
@@ -87,7 +88,7 @@ pub node_outcome-returns-in-Map : goal.node_outcome-returns-in-Map
 node_outcome-returns-in-Map t c =
     let tree = c.args.tree.now in
     let leaf = leaf c.args.table.now in
-    if_ok-same c.map_outcome.result _ _
+    given-same c.map_outcome.result _ _
     (ap (λ p. mapped c.in-Map.cut (item tree leaf p) c.args.words.now) c.part.ensures ∙ row_at tree c.requires.lawful leaf c.in-Some.found.now c.args.node _ c.args.words.now c.in-Some.ensures.found c.requires.unit.in_tree c.in-Map.is)
     c.map_outcome.ensures
 
@@ -96,7 +97,7 @@ node_outcome-returns-in_ok-list-in-Reduce t c =
     let tree = c.args.tree.now in
     let leaf = leaf c.args.table.now in
     let list = c.as_slice.ensures ∙ c.in_ok-list-in-Reduce.ensures.elements in
-    if_ok-same c.fold_outcome.result _ _
+    given-same c.fold_outcome.result _ _
     (ap (λ p. tree_fold (item tree leaf p) (map (λ (e : List ℤ). Value e) c.as_slice.result.now)) c.part-in-Reduce.ensures
     ∙ (ap (λ (l : List (List ℤ)). tree_fold (item tree leaf (slice_index c.in-Some.found.now.parts 0)) (map (λ e. Value e) l)) list
     ∙ row_at tree c.requires.lawful leaf c.in-Some.found.now c.args.node _ c.args.words.now c.in-Some.ensures.found c.requires.unit.in_tree c.in-Reduce.is))
@@ -105,7 +106,7 @@ node_outcome-returns-in_ok-list-in-Reduce t c =
 pub node_outcome-returns-in_ok-outcome-in-Comp : goal.node_outcome-returns-in_ok-outcome-in-Comp
 node_outcome-returns-in_ok-outcome-in-Comp t c =
     let node = c.in-Some.found.now in
-    if_ok-same c.rescue-in-Comp.result _ _
+    given-same c.rescue-in-Comp.result _ _
     (ap (rescued (rescue_of c.args.tree.now node.module) node.outs) c.in_ok-outcome-in-Comp.ensures
     ∙ row_at c.args.tree.now c.requires.lawful (leaf c.args.table.now) node c.args.node Comp c.args.words.now c.in-Some.ensures.found c.requires.unit.in_tree c.in-Comp.is)
     c.rescue-in-Comp.ensures
@@ -218,7 +219,7 @@ node_outcome-returns-in_ok-outcome-in-Seq t c =
     let tree = c.args.tree.now in
     let node = c.in-Some.found.now in
     let leaf = leaf c.args.table.now in
-    if_ok-same c.rescue.result _ _
+    given-same c.rescue.result _ _
     (ap (rescued (rescue_of tree node.module) node.outs)
     (c.in_ok-outcome-in-Seq.ensures
     ∙ (ap (λ (tr : Tree). leaf (node_at tr c.args.node).module c.args.words.now) c.requires.served

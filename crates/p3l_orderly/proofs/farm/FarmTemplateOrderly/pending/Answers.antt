@@ -1,4 +1,5 @@
-use Rattle.std.proofs.Common.{◌≡◌, [], IfOk, subst, ap, ◌∙◌}
+use Rattle.std.proofs.Common.{◌≡◌, [], subst, ap, ◌∙◌}
+use Rattle.p3l_base.specs.Memory.{IfGiven}
 use Rattle.p3l_template.specs.Shape.{Base}
 use Rattle.p3l_orderly.specs.Farm.{farm_finds, found_by, seen_of}
 use Rattle.p3l_orderly.specs.Finding.{if_orderly}
@@ -15,4 +16,4 @@ returns c =
     ≡ farm_finds n c.args._tree.now c.args.place.now s c.args.inner.now =
     (λ i. found_by (record { next = c.number-next.ensures i; least = c.number-least.ensures i; lines = lines i; input = []; output = [] }))
     ∙ ap (λ (x : Base). found_by (seen_of n x s c.args.inner.now)) c.place.view_is in
-    subst (λ z. IfOk c.by_lines.result (λ pending. pending ≡ if_orderly z)) e c.by_lines.ensures
+    subst (λ z. IfGiven c.by_lines.result (λ pending. pending ≡ if_orderly z)) e c.by_lines.ensures

@@ -1,4 +1,5 @@
-use Rattle.std.proofs.Common.{◌≡◌, ◌+◌, ℕ, zero, suc, List, [], ◌∷◌, length, IfOk, subst, refl, ap, ◌∙◌, arith}
+use Rattle.std.proofs.Common.{◌≡◌, ◌+◌, ℕ, zero, suc, List, [], ◌∷◌, length, subst, refl, ap, ◌∙◌, arith}
+use Rattle.p3l_base.specs.Memory.{IfGiven}
 use Rattle.p3l_firing.specs.Nodes.{last_element}
 use Rattle.p3l_firing.specs.State.{State}
 use Rattle.p3l_firing.specs.declared.token.Token.{Token}
@@ -50,4 +51,4 @@ returns c =
     (s.own c.place.inside.proc).held (s.own c.place.inside.proc).number
     ∙ ap (λ (x : Base). found_by (bare_pieces (suc (last_element c.args.tree.now c.args.self.now.node)) n) (seen_of n x s c.args.inner.now))
     c.place.view_is in
-    subst (λ z. IfOk c.by_lines.result (λ pending. pending ≡ if_orderly z)) e c.by_lines.ensures
+    subst (λ z. IfGiven c.by_lines.result (λ pending. pending ≡ if_orderly z)) e c.by_lines.ensures

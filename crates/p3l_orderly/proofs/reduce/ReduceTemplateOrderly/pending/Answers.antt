@@ -1,4 +1,5 @@
-use Rattle.std.proofs.Common.{◌≡◌, ◌^◌, Some, IfOk, subst, sym, ap, ◌∙◌}
+use Rattle.std.proofs.Common.{◌≡◌, ◌^◌, Some, subst, sym, ap, ◌∙◌}
+use Rattle.p3l_base.specs.Memory.{IfGiven}
 use Rattle.p3l_firing.specs.Segments.{level_of}
 use Rattle.p3l_orderly.specs.Finding.{if_orderly}
 use Rattle.p3l_orderly.specs.Reduce.{seen_of, found_by}
@@ -16,7 +17,7 @@ pub returns : goal.returns
 returns c =
     let s = state_of c.args.snapshot.now in
     let base = c.args.place.now in
-    subst (λ z. IfOk c.in_joins.result (λ pending. pending ≡ z))
+    subst (λ z. IfGiven c.in_joins.result (λ pending. pending ≡ z))
     (ap (λ k. if_orderly (found_by (2 ^ k) k (seen_of base (2 ^ k) s))) c.level_within-level.ensures.value
     ∙ finds_more c.args._tree.now base s c.args._inner.now (level_of c.args.self.now.segments)
     (λ e. c.if-level-eq0.false (c.level_within-level.ensures.value ∙ e)))
