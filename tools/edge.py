@@ -134,6 +134,14 @@ class Edge:
             self.failed += 1
             print(f"edge: {name}: found {found!r}, and not {wanted!r}")
 
+    def put(self, name, data):
+        with open(f"{self.folder}/{name}", "wb") as file:
+            file.write(data)
+
+    def get(self, name):
+        with open(f"{self.folder}/{name}", "rb") as file:
+            return file.read()
+
     def start(self, words, **streams):
         return subprocess.Popen([self.binary, *words], cwd=self.folder, **streams)
 
@@ -350,6 +358,90 @@ def try_terminals(edge):
         edge.expect(("short on a terminal", words), found, (*wanted[:2], lines.encode()))
 
 
+# Names that would steer a terminal, and how one shows them.
+STEERING = [
+    (b"a\x1b[31m.p3l", b"a\\x1b[31m.p3l"),
+    (b"a\rb.p3l", b"a\\x0db.p3l"),
+    (b"a\x07\x7f.p3l", b"a\\x07\\x7f.p3l"),
+    (b"a\nb.p3l", b"a\\x0ab.p3l"),
+    (b"a\xc2\x9b31m.p3l", b"a\\xc2\\x9b31m.p3l"),
+    (b"a\xe2\x80\xaeb.p3l", b"a\\xe2\\x80\\xaeb.p3l"),
+    (b"a\xe2\x81\xa6b.p3l", b"a\\xe2\\x81\\xa6b.p3l"),
+    ("pr\u00e9nom.p3l".encode(), "pr\u00e9nom.p3l".encode()),
+]
+RAW = re.compile(rb"[\x00-\x09\x0b-\x1f\x7f]|\xc2[\x80-\x9f]|\xe2\x80[\x8e\x8f\xaa-\xae]"
+                 rb"|\xe2\x81[\xa6-\xa9]")
+KINDS = ({"NO_COLOR": "1"}, {"P3L_MESSAGES": "short"}, {"P3L_MESSAGES": "long", "NO_COLOR": "1"})
+MOST_KEY, KEY = 200, b"k" * 5000
+
+
+def first_line(lines):
+    return lines.partition(b"\n")[0]
+
+
+def try_steering(edge):
+    """Nothing that would steer a terminal is written to one; elsewhere each name is exact."""
+    for name, shown in STEERING:
+        line = b"file fault: " + name + b"\n"
+        edge.expect(("in a pipe", name), edge.run(["check", name]), (9, b"", line))
+        for env in KINDS:
+            status, output, lines = on_terminal(edge, ["check", name], **env)
+            found = status, output, first_line(lines), RAW.search(lines)
+            edge.expect(("on a terminal", name, env), found, (9, b"", line[:12] + shown, None))
+
+
+def try_keys(edge):
+    """A key of costs that would steer a terminal, and one that is very long."""
+    words = ["explain", *RUN[1:], "--costs", "odd.toml"]
+    for key, shown in (b"a\x1b[31m", b"a\\x1b[31m"), (b"a\xc2\x9b", b"a\\xc2\\x9b"):
+        spelled = key.decode().replace("\x1b", "\\u001b").replace("\x9b", "\\u009b")
+        edge.put("odd.toml", f'"{spelled}" = 1\n'.encode())
+        front = b"costs: 51 BadKey "
+        edge.expect(("a key in a pipe", key), edge.run(words)[2], front + key + b"\n")
+        for env in KINDS:
+            status, _, lines = on_terminal(edge, words, **env)
+            found = status, first_line(lines), RAW.search(lines)
+            edge.expect(("a key on a terminal", key, env), found, (4, front + shown, None))
+    edge.put("odd.toml", KEY + b" = 1\n")
+    edge.expect("a long key in a pipe", edge.run(words)[2], b"costs: 51 BadKey " + KEY + b"\n")
+    for env in KINDS:
+        lines = on_terminal(edge, words, **env)[2]
+        longest = max(map(len, re.findall(b"k+", lines)))
+        edge.expect(("a long key on a terminal", env), longest, MOST_KEY)
+
+
+def try_long_messages(edge):
+    """Long messages come on a terminal, or where they are asked for; nowhere else."""
+    words, line = ["check", "bad.p3l"], b"source: 1:17: 2 BadToken\n"
+    edge.expect("a pipe has a line", edge.run(words), (3, b"", line))
+    found = on_terminal(edge, words)[2]
+    edge.expect("a terminal has more", (found[: len(line)], len(found) > len(line)), (line, True))
+    edge.expect("a terminal has colour", b"\x1b[" in found, True)
+    bare = on_terminal(edge, words, NO_COLOR="1")[2]
+    edge.expect("a terminal without colour", bare, re.sub(rb"\x1b\[[0-9;]*m", b"", found))
+    for kind, wanted in (("long", bare), ("short", line), ("", line), ("loud", line)):
+        env = {"env": {**os.environ, "P3L_MESSAGES": kind}}
+        how = {"cwd": edge.folder, "capture_output": True, "timeout": SECONDS}
+        done = subprocess.run([edge.binary, *words], **how, **env)
+        edge.expect(("in a pipe", kind), (done.returncode, done.stderr), (3, wanted))
+    for kind, wanted in (("short", line), ("loud", found), ("", found)):
+        said = on_terminal(edge, words, P3L_MESSAGES=kind)[2]
+        edge.expect(("on a terminal", kind), said, wanted)
+    edge.expect("a run that is done", on_terminal(edge, RUN, b"1\n"), (0, b"3\n", b""))
+
+
+def try_reads_only(edge):
+    """A long message writes nothing, and reads no more of the input."""
+    before = {name: edge.get(name) for name in FILES}
+    env = {"env": {**os.environ, "P3L_MESSAGES": "long"}}
+    for words, stream, status, output, _ in (*WORDS, *ODD):
+        how = {"cwd": edge.folder, "input": stream, "capture_output": True, "timeout": SECONDS}
+        done = subprocess.run([edge.binary, *words], **how, **env)
+        wanted = status, done.stdout if output is None else output.encode()
+        edge.expect(("with a long message", words), (done.returncode, done.stdout), wanted)
+    edge.expect("files after long messages", {name: edge.get(name) for name in FILES}, before)
+
+
 # A long line: what is said again and again, what ends it, and how the run ends.
 LONG_LINES = [
     (b" ", b"\n5\n", 0, b"11\n", b""),
@@ -393,7 +485,8 @@ def try_long_lines(edge):
 
 
 ATTEMPTS = [try_version, try_full, try_pieces, try_pipes, try_terminals, try_left, try_calls]
-ATTEMPTS += [try_long_lines, try_no_memory]
+ATTEMPTS += [try_steering, try_keys, try_long_messages, try_reads_only, try_long_lines]
+ATTEMPTS += [try_no_memory]
 
 
 def main():

@@ -23,6 +23,11 @@ FILES = [
     ("the FILE of \\-\\-trace, as m.trace", "Which process each pick took, and what it did."),
     ("the FILE of \\-\\-picks and of file:NAME", "In what order processes fired."),
 ]
+ENVIRONMENT = [
+    ("P3L_MESSAGES", "If it is long, messages to the standard error say more than a line; if it is "
+     "short, they do not. Otherwise they do at a terminal."),
+    ("NO_COLOR", "If it is not empty, messages have no colour. Otherwise they have at a terminal."),
+]
 MORE = """The repository of p3l has a tutorial, docs/TUTORIAL.md, the language, docs/LANGUAGE.md,
 and the formats of all files, docs/FORMATS.md."""
 
@@ -133,6 +138,9 @@ def man_page(pages):
     for each in pages.commands:
         summary = each.summary[:1].upper() + each.summary[1:]
         out += [".PP", f"{line_of(summary)}:", ".PP", *typed(each.example)]
+    out += [".SH ENVIRONMENT"]
+    for name, text in ENVIRONMENT:
+        out += described(f".B {name}", text)
     out += [".SH FILES"]
     for name, text in FILES:
         out += described(name, text)

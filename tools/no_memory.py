@@ -21,6 +21,7 @@ COSTS = b"setup = 0\nword = 0\n[seq]\nf = 10\ng = 60\n"
 PICKS = b"0 1 2 3 4 5 7 8 9 " * 200 + b"0 1 2 3 4 5 6 7 8 9 " * 200
 FEW = b"0 1 2 3 4 5 7 8 9 " * 6
 FILES = {"double.p3l": DOUBLE, "loop.p3l": LOOP, "farm.p3l": FARM, "less.p3l": LESS, "costs": COSTS, "picks": PICKS, "few": FEW}
+FILES |= {"bad.p3l": b"seq main in(int 1x)", "bad.costs": b"ticks = 5\n"}
 COSTED = ["farm.p3l", "--processors", "8", "--costs", "costs"]
 SAVED = ["save", "loop.p3l", "--processors", "16", "--capacity", "1", "--schedule", "file:few", "--output"]
 # The words of each run, its stream, and the words by which its files are made before.
@@ -46,6 +47,43 @@ RUNS = [
     ([*SAVED, "saved"], b"64 0\n3 0\n" * 5, []),
     (["resume", "made.shot", "--stats"], b"5 0\n", [*SAVED, "made.shot"]),
 ]
+# Refusals that a person gets a long message for: the words of each and its stream.
+REFUSED = [
+    (["walk"], b""),
+    (["run", "double.p3l"], b""),
+    (["check", "bad.p3l"], b""),
+    (["check", "none.p3l"], b""),
+    (["explain", *COSTED[:3], "--costs", "bad.costs"], b""),
+    (["run", "double.p3l", "--processors", "4"], b"1\nx\n"),
+]
+
+
+def is_front(done, whole):
+    """Whether a refusal came out as with ample memory, but for lines of its message that are left
+    out, or as that of no memory."""
+    if done.returncode == 11:
+        return done.stderr.startswith(b"no memory\n") and whole.stdout.startswith(done.stdout)
+    line = whole.stderr[: whole.stderr.index(b"\n") + 1]
+    is_same = (done.returncode, done.stdout) == (whole.returncode, whole.stdout)
+    return is_same and done.stderr.startswith(line) and whole.stderr.startswith(done.stderr)
+
+
+def try_refused(run, folder):
+    """Each request of a refusal with a long message refused in turn: how many tries were wrong."""
+    tried = wrong = 0
+    for words, stream in REFUSED:
+        whole = run(words, stream, 0, P3L_MESSAGES="long")
+        with open(f"{folder}/count") as it:
+            count = int(it.read())
+        for number in range(1, count + 1):
+            done = run(words, stream, number, P3L_MESSAGES="long")
+            tried += 1
+            if not is_front(done, whole):
+                wrong += 1
+                said = f"status {done.returncode}: {done.stderr[:200]!r}"
+                print(f"{' '.join(words)}, long: request {number}: {said}")
+        print(f"{' '.join(words)}, long: {count} requests, status {whole.returncode} with all")
+    return tried, wrong
 
 
 def main():
@@ -57,8 +95,9 @@ def main():
             with open(f"{folder}/{name}", "wb") as it:
                 it.write(data)
 
-        def run(words, stream, refuse=0):
-            given = {**os.environ, "LD_PRELOAD": library, "REFUSE": str(refuse), "COUNT": f"{folder}/count"}
+        def run(words, stream, refuse=0, **more):
+            given = {**os.environ, **more, "LD_PRELOAD": library, "REFUSE": str(refuse)}
+            given["COUNT"] = f"{folder}/count"
             return subprocess.run([binary, *words], cwd=folder, input=stream, capture_output=True, env=given, timeout=60)
 
         for words, stream, maker in RUNS:
@@ -80,6 +119,8 @@ def main():
                     wrong += 1
                     print(f"{' '.join(words)}: request {number}: status {done.returncode}: {done.stderr[:200]!r}")
             print(f"{' '.join(words)}: {count} requests, status {whole.returncode} with all")
+        also, faulty = try_refused(run, folder)
+        tried, wrong = tried + also, wrong + faulty
     print(f"tried {tried}, wrong {wrong}; statuses " + ", ".join(f"{status}: {times}" for status, times in sorted(ended.items())))
     return int(wrong > 0)
 

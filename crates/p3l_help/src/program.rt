@@ -95,4 +95,9 @@ Item N of a file is on the line that this prints:
 
 With --stats the line `stats: items N, fired F, idle I, bound B` stands before
 the message. Where save has written its file it puts `saved: items K, picks A`.
+
+At a terminal further lines say more: the place in the text, what is wrong
+there, and which page of help to read. P3L_MESSAGES=short in the environment
+leaves them out, P3L_MESSAGES=long shows them anywhere, and NO_COLOR takes the
+colour out of them.
 ";
