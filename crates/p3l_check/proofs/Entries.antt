@@ -1,12 +1,14 @@
 -- Entries that are checked one after another.
-use Rattle.std.proofs.Common.{◌≡◌, ℕ, ◌+◌, ◌<◌, List, ◌∷◌, length, map, drop, get_or, Ok, Err, sym, ap, ◌∙◌}
+use Rattle.std.proofs.Common.{◌≡◌, ℕ, ◌+◌, ◌<◌, List, ◌∷◌, length, map, drop, get_or, Result, Ok, Err, IsErrAnd, sym, ap, ◌∙◌, subst}
 use Rattle.std.proofs.lemmas.List.{drop_more, drop-map}
 use Rattle.p3l_ast.specs.declared.refusal.SourceRefusal.{SourceRefusal}
+use Rattle.p3l_ast.specs.declared.refusal.SourceRefusal.TheVariants.{At, NoMemory}
 use Rattle.p3l_ast.specs.declared.program.Entry.{Entry}
 use Rattle.p3l_ast.specs.Tree.{entry_tree}
-use Rattle.p3l_types.specs.Verdict.{given}
+use Rattle.p3l_types.specs.Verdict.{Gives, given}
 use Rattle.p3l_check.specs.Places.{defines, defined_from, ArePlaces}
-use Rattle.p3l_check.specs.Entry.{Checked, checked_entry, checked_entries}
+use Rattle.p3l_check.specs.declared.progress.Progress.{Progress}
+use Rattle.p3l_check.specs.Entry.{Checked, checked_result, checked_entry, checked_entries}
 
 module _ (checked : Checked) (entries : List Entry) (places : List (List ℕ × ℕ)) (are : ArePlaces (map entry_tree entries) places) (k : ℕ) where
   -- what is ahead, by the table
@@ -30,3 +32,14 @@ module _ (checked : Checked) (entries : List Entry) (places : List (List ℕ × 
       checked_entry checked (defined_from places k) (entry_tree e) ≡ Err refusal → checked_entries checked (map entry_tree (drop k entries)) ≡ Err refusal
   entries-refused e refusal inside is refused =
       entries-step e inside is ∙ ap (λ r. given r (λ next. checked_entries next (map entry_tree (drop (k + 1) entries)))) refused
+
+  -- a refusal of an entry, or the want of memory there, is that of the entries from it on
+  pub refused-left : (e : Entry) (refusal : SourceRefusal) → k < length entries → e ≡ get_or entries k e →
+      Gives {A = Checked} (Err refusal) (checked_entry checked (defined_from places k) (entry_tree e)) → Gives {A = Checked} (Err refusal) (checked_entries checked (map entry_tree (drop k entries)))
+  refused-left e NoMemory inside is g = g
+  refused-left e (At fault pos) inside is g = entries-refused e (At fault pos) inside is g
+
+pub handed-result : (r : Result Progress SourceRefusal) (refusal : SourceRefusal) (meant : Result Checked SourceRefusal) → IsErrAnd r (λ d. d ≡ refusal) → Gives {A = Checked} (Err refusal) meant →
+    Gives (checked_result r) meant
+handed-result (Ok progress) refusal meant is g = absurd is
+handed-result (Err d) refusal meant is g = subst (λ (q : SourceRefusal). Gives {A = Checked} (Err q) meant) (sym is) g

@@ -11,3 +11,4 @@ pub mod Staged
 pub mod Skeletons
 pub mod Sound
 pub mod Entries
+pub mod Definite

@@ -178,6 +178,22 @@ entry-sound checked is_ahead (defined m) next sound e =
     let same : with_module checked.modules module'.0 ≡ next.modules = modules-same checked _ _ (seq.2) in
     subst AreSound same (sound-more checked.modules module'.0 sound (next-follows (before_in checked is_ahead) m module'.0 sound module'.1))
 
+-- an entry adds one module at most
+pub entry-adds : (checked : Checked) (is_ahead : List ℕ → Bool) (entry : EntryTree) (next : Checked) →
+    checked_entry checked is_ahead entry ≡ Ok next → length next.modules.infos ≤ length checked.modules.infos + 1
+entry-adds checked is_ahead (constant at value) next e =
+    let name = given-taken (new_name checked at) _ next e in
+    let same : checked.modules ≡ next.modules = modules-same checked _ _ (name.2) in
+    let few : length checked.modules.infos ≤ length checked.modules.infos + 1 = omega arith in
+    subst (λ (m : Modules). length m.infos ≤ length checked.modules.infos + 1) same few
+entry-adds checked is_ahead (defined m) next e =
+    let name = given-taken (new_name checked m.at) _ next e in
+    let module' = given-taken (defined_in (before_in checked is_ahead) m) _ next name.2 in
+    let seq = given-taken (body_in m.kind checked.constants (length checked.modules.infos) m) _ next module'.2 in
+    let same : with_module checked.modules module'.0 ≡ next.modules = modules-same checked _ _ (seq.2) in
+    let few : length (with_module checked.modules module'.0).infos ≤ length checked.modules.infos + 1 = omega (arith, length-append checked.modules.infos (module'.0.info ∷ [])) in
+    subst (λ (m : Modules). length m.infos ≤ length checked.modules.infos + 1) same few
+
 pub entries-sound : (checked : Checked) (entries : List EntryTree) (all : Checked) → AreSound checked.modules →
     checked_entries checked entries ≡ Ok all → AreSound all.modules
 entries-sound checked [] all sound e =

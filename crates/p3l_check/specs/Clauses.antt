@@ -1,6 +1,7 @@
 -- The numbers of a module's clauses.
 use Rattle.std.specs.Prelude.{ℕ, ℤ, ◌==◌, Bool, List, [], ◌∷◌, Result, Ok, Err, Option, Some, None, min, if◌then◌else◌}
 use Rattle.std.specs.List.{list_any}
+use Rattle.p3l_base.specs.Limits.{most_workers, most_turns, most_tokens}
 use Rattle.p3l_ast.specs.declared.position.Pos.{Pos}
 use Rattle.p3l_ast.specs.declared.refusal.Fault.TheVariants.{Expected, BadWorkers}
 use Rattle.p3l_ast.specs.declared.refusal.SourceRefusal.{SourceRefusal}
@@ -19,13 +20,13 @@ abbrev pub workers_upto : ℕ → Constants → Option Num → Result (Option �
 workers_upto most constants None = Ok None
 workers_upto most constants (Some num) = given (limited 1 most constants num) (λ n. Ok (Some n))
 
--- the workers of a farm: 1 to 512
+-- the workers of a farm
 abbrev pub farm_workers : Constants → Option Num → Result (Option ℕ) SourceRefusal
-farm_workers = workers_upto 512
+farm_workers = workers_upto most_workers
 
 -- the workers of a map: no more than it has elements
 abbrev pub map_workers : ℕ → Constants → Option Num → Result (Option ℕ) SourceRefusal
-map_workers elements = workers_upto (min elements 512)
+map_workers elements = workers_upto (min elements most_workers)
 
 -- the powers of two that a number of workers may be
 abbrev pub powers : List ℕ
@@ -41,17 +42,17 @@ as_power num n = if is_power n then Ok (Some n) else Err (At BadWorkers (place_o
 -- the workers of a reduce: a power of two, no more than it has elements
 abbrev pub reduce_workers : ℕ → Constants → Option Num → Result (Option ℕ) SourceRefusal
 reduce_workers len constants None = Ok None
-reduce_workers len constants (Some num) = given (limited 1 (min len 512) constants num) (λ n. as_power num n)
+reduce_workers len constants (Some num) = given (limited 1 (min len most_workers) constants num) (λ n. as_power num n)
 
--- the turns of a loop, whose clause every text gives: 1 to 65,536
+-- the turns of a loop, whose clause every text gives
 abbrev pub turns_of : Pos → Constants → Option Num → Result ℕ SourceRefusal
 turns_of pos constants None = Err (At Expected pos)
-turns_of pos constants (Some num) = limited 1 65536 constants num
+turns_of pos constants (Some num) = limited 1 most_turns constants num
 
--- the tokens of a loop: 1 to 1,024, and 4 without a clause
+-- the tokens of a loop, 4 without a clause
 abbrev pub tokens_of : Constants → Option Num → Result ℕ SourceRefusal
 tokens_of constants None = Ok 4
-tokens_of constants (Some num) = limited 1 1024 constants num
+tokens_of constants (Some num) = limited 1 most_tokens constants num
 
 -- no rescue, which is all that texts spell of modules that are neither `seq` nor `comp`
 abbrev pub no_rescue : Pos → Option Rescue → Result (Option ℤ) SourceRefusal

@@ -27,7 +27,7 @@ use Rattle.p3l_check.specs.Environment.{Before}
 use Rattle.p3l_check.specs.Clauses.{rescue_in}
 use Rattle.p3l_check.specs.Skeleton.{skeleton_of}
 
--- what the entries so far come to: constants, modules, and the checked bodies of `seq` modules
+-- the result of the entries so far: constants, modules, and the checked bodies of `seq` modules
 pub record Checked : Type 0 where
   pub constants : Constants
   pub modules : Modules
@@ -43,12 +43,12 @@ checked_of progress = record {
   seqs = map seq_tree progress.seqs;
 }
 
--- what the entries of a program come to, or the refusal
+-- the result of the entries of a program, or the refusal
 abbrev pub checked_result : Result Progress SourceRefusal → Result Checked SourceRefusal
 checked_result (Ok progress) = Ok (checked_of progress)
 checked_result (Err refusal) = Err refusal
 
--- what the entries so far come to with one that was added, or the refusal
+-- the result of the entries so far with one that was added, or the refusal
 abbrev pub added_result : Progress → Result (Unit {0}) SourceRefusal → Result Checked SourceRefusal
 added_result progress (Ok x) = Ok (checked_of progress)
 added_result progress (Err refusal) = Err refusal
@@ -133,7 +133,7 @@ with_checked checked defined seq = record {
 abbrev pub with_passed : Checked → Passed → Checked
 with_passed checked passed = with_checked checked passed.defined (option_map seq_tree passed.seq)
 
--- what a module that passes comes to after others, or the refusal
+-- the result of a module that passes after others, or the refusal
 abbrev pub passed_result : Checked → Result Passed SourceRefusal → Result Checked SourceRefusal
 passed_result checked (Ok passed) = Ok (with_passed checked passed)
 passed_result checked (Err refusal) = Err refusal

@@ -1,4 +1,4 @@
--- What a module may speak of.
+-- The names that a module may use.
 use Rattle.std.specs.Prelude.{ℕ, Bool, List}
 use Rattle.p3l_types.specs.Constants.{Constants}
 use Rattle.p3l_check.specs.declared.environment.Environment.{Environment}

@@ -9,3 +9,4 @@ pub mod Inside
 pub mod Skeleton
 pub mod Entry
 pub mod Resolving
+pub mod Many

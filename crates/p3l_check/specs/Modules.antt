@@ -25,7 +25,7 @@ numbered k (info ∷ infos) = (info.name, k) ∷ numbered (k + 1) infos
 abbrev pub number_of : Modules → List ℕ → Option ℕ
 number_of modules name = lookup (bytes_eq name) (numbered 0 modules.infos)
 
--- what a number past the modules is read as: a module without ports
+-- the ports of a number past the modules: none
 abbrev pub no_ports : Ports
 no_ports = record { ins = []; outs = [] }
 

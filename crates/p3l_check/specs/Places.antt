@@ -11,7 +11,7 @@ abbrev pub entry_spot : EntryTree → Spot
 entry_spot (constant at value) = at
 entry_spot (defined m) = m.at
 
--- whether one of these entries defines a name
+-- true if one of these entries defines a name
 abbrev pub defines : List EntryTree → List ℕ → Bool
 defines entries name = list_any (λ entry. bytes_eq (entry_spot entry).name name) entries
 

@@ -1,6 +1,7 @@
 -- A whole program.
 use Rattle.std.specs.Prelude.{ℕ, ◌&&◌, not, Bool, List, [], ◌∷◌, map, length, Result, Ok, Err, nat_le, nat_lt, codes, bytes_eq, if◌then◌else◌}
 use Rattle.std.specs.Option.{option_map_or}
+use Rattle.p3l_base.specs.Limits.{most_nodes}
 use Rattle.p3l_ast.specs.declared.position.Pos.{Pos}
 use Rattle.p3l_ast.specs.declared.refusal.Fault.TheVariants.{NoMain, TooDeep, TooManyInstances, TooHeavy}
 use Rattle.p3l_ast.specs.declared.refusal.SourceRefusal.{SourceRefusal}
@@ -25,7 +26,7 @@ use Rattle.p3l_check.specs.Entry.{Checked, none_checked, checked_entries}
 abbrev pub main_name : List ℕ
 main_name = codes "main"
 
--- where the entry of the name `main` is
+-- the place of the entry of the name `main`
 abbrev pub main_place : Pos → List EntryTree → Pos
 main_place end [] = end
 main_place end (entry ∷ entries) =
@@ -53,7 +54,7 @@ abbrev pub limits_rule : Pos → Modules → ℕ → Verdict
 limits_rule at modules root =
     first_of (
     broken_if (not (is_nested_within modules.wired nesting root)) TooDeep at
-    ∷ (broken_if (nat_lt 128 (length (instance modules.wired nesting root 0))) TooManyInstances at
+    ∷ (broken_if (nat_lt most_nodes (length (instance modules.wired nesting root 0))) TooManyInstances at
     ∷ (broken_if (not (is_light (tree_of modules.infos modules.wired root))) TooHeavy at
     ∷ [])))
 

@@ -1,4 +1,4 @@
--- What a module is made of: the rules of its clauses and calls, by its kind.
+-- The skeleton of a module: the rules of its clauses and calls, by its kind.
 use Rattle.std.specs.Prelude.{ℕ, ◌==◌, ◌&&◌, not, Bool, true, false, List, [], ◌∷◌, ◌++◌, map, length, Result, Ok, bytes_eq}
 use Rattle.p3l_base.specs.Cut.{element_count}
 use Rattle.p3l_ast.specs.declared.position.Spot.{Spot}
@@ -27,7 +27,7 @@ use Rattle.p3l_check.specs.Clauses.{farm_workers, map_workers, reduce_workers, t
 use Rattle.p3l_check.specs.Callee.{called, operator_called}
 use Rattle.p3l_check.specs.Inside.{calls_of, call_of, turning_of}
 
--- what a call of a pipe or a comp hands on, which is handed these variables: the last one fills the
+-- the variables that a call of a pipe or a comp hands on, which is handed these: the last one fills the
 -- outs of the module, and any other declares new ports
 abbrev pub handed_on : Before → Names → List Var → List Var → Bool → Ports → Call → Result (List Var) SourceRefusal
 handed_on before names taken outs true callee call = given (plain_call taken outs callee call) (λ x. Ok [])

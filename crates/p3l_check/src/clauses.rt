@@ -4,17 +4,9 @@ ghost use Rattle.std.specs.Prelude.{◌≡◌};
 ghost use Rattle.p3l_check.specs.Clauses.{workers_upto, farm_workers, map_workers, is_power, as_power, reduce_workers, turns_of, tokens_of, no_rescue, rescue_in};
 
 use p3l_ast::{Clauses, Fault, Kind, Num, Pos, Rescue, SourceRefusal};
+use p3l_base::limits::{MOST_TOKENS, MOST_TURNS, MOST_WORKERS};
 use p3l_body::{budget_of, limited, rescue_of};
 use p3l_types::{Consts, place_of};
-
-/// The most workers of a farm or a map, and segments of a reduce.
-const MOST_WORKERS: u32 = 512;
-
-/// The most turns of a loop.
-const MOST_TURNS: u32 = 65_536;
-
-/// The most items that are in a loop at once.
-const MOST_TOKENS: u32 = 1024;
 
 /// The items that are in a loop at once, where no clause says it.
 const USUAL_TOKENS: u32 = 4;
@@ -54,7 +46,7 @@ pub fn map_workers(
     workers_upto(elements.min(MOST_WORKERS as u64) as u32, consts, clause)
 }
 
-/// Whether a reduce may have this number of workers, whatever its length.
+/// True if a reduce may have this number of workers, whatever its length.
 fn is_power(workers: u32) -> bool
     ensures { result ≡ is_power workers }
 {

@@ -1,4 +1,4 @@
-// What a module may speak of.
+// The names that a module may use.
 
 use crate::modules::Modules;
 use crate::places::Places;

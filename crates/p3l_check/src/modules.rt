@@ -84,7 +84,7 @@ impl Modules {
         }
     }
 
-    /// How many there are.
+    /// The number of modules.
     pub fn len(&self) -> u32
         ensures { result ≡ length self.now.infos }
     {
@@ -107,7 +107,7 @@ impl Modules {
         &self.ports.as_slice()[k as usize]
     }
 
-    /// Whether a module is sequential.
+    /// True if a module is sequential.
     pub fn is_sequential(&self, k: u32) -> bool
         requires { k < length self.now.wired }
         ensures { result ≡ (module_at self.now.wired k).sequential }

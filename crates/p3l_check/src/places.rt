@@ -48,7 +48,7 @@ impl Places {
         Ok(Places { last })
     }
 
-    /// Whether a name is defined at a place or after it.
+    /// True if a name is defined at a place or after it.
     pub fn is_defined_from(&self, from: usize, name: &Name) -> bool
         ensures { result ≡ defined_from self.now from name.now }
     {

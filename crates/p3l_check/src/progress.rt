@@ -11,6 +11,7 @@ ghost use Rattle.p3l_calls.specs.Port.{total, AreSized};
 ghost use Rattle.p3l_check.specs.Modules.{number_of};
 ghost use Rattle.p3l_check.specs.Environment.{before_of};
 ghost use Rattle.p3l_check.specs.Places.{defined_from};
+ghost use Rattle.p3l_check.specs.Many.{GivesUnlessMany};
 ghost use Rattle.p3l_check.specs.Entry.{none_checked, checked_of, checked_result, new_name, ports_in, body_in, body_tree, kind_in, info_of, defined_as, defined_in, added_result, with_body, with_passed, passed_result, checked_module, checked_entry, checked_entries};
 
 use crate::clauses::rescue_in;
@@ -28,10 +29,10 @@ use p3l_unfold::Wired;
 use std::alloc::Global;
 use std::mem;
 
-/// The most modules, so that 32 bits number them: more are out of memory.
-const MOST_MODULES: u32 = u32::MAX;
+/// The most entries, so that 32 bits number the modules among them. No text has as many.
+const MOST_ENTRIES: usize = u32::MAX as usize;
 
-/// What the entries so far come to: constants, modules, and the bodies of `seq` modules.
+/// The result of the entries so far: constants, modules, and the bodies of `seq` modules.
 #[derive(Drop)]
 pub struct Progress<'a> {
     pub consts: Consts,
@@ -129,7 +130,7 @@ fn body_in<'a>(
     }
 }
 
-/// How many words variables have.
+/// The number of words of variables.
 #[tactic(auto, using(crate::proofs::Totals::totals))]
 fn total(vars: &[Var]) -> u32
     requires { total vars.now ≤ 65536 }
@@ -237,16 +238,13 @@ impl<'a> Progress<'a> {
         from: usize,
         module: &'a Module,
     ) -> Result<Passed<'a>, SourceRefusal>
+        requires { length self.now.modules.infos + 1 < 2 ^ 32 }
         ensures passed { Gives (passed_result (checked_of self.now) result)
             (checked_module (checked_of self.now) (defined_from places.now from)
             (module_tree «module».now)) }
         ensures name { IfOk result (λ passed. passed.defined.info.name ≡ «module».now.at.name) }
-        ensures room { IfOk result (λ passed. length self.now.modules.infos + 1 < 2 ^ 32) }
     {
         let home = self.modules.len();
-        if home == MOST_MODULES {
-            return Err(SourceRefusal::NoMemory);
-        }
         let env = Environment {
             consts: &self.consts,
             modules: &self.modules,
@@ -268,6 +266,7 @@ impl<'a> Progress<'a> {
         from: usize,
         entry: &'a Entry,
     ) -> Result<(), SourceRefusal>
+        requires { length self.old.modules.infos + 1 < 2 ^ 32 }
         ensures { Gives (added_result self.new result)
             (checked_entry (checked_of self.old) (defined_from places.now from)
             (entry_tree entry.now)) }
@@ -290,6 +289,7 @@ impl<'a> Progress<'a> {
         from: usize,
         entry: &'a Entry,
     ) -> Result<Progress<'a>, SourceRefusal>
+        requires { length self.modules.infos + 1 < 2 ^ 32 }
         ensures { Gives (checked_result result)
             (checked_entry (checked_of self.entry) (defined_from places.now from)
             (entry_tree entry.now)) }
@@ -298,8 +298,9 @@ impl<'a> Progress<'a> {
         Ok(self)
     }
 
-    /// The entries of a program, one after another.
-    pub fn of(alloc: Global, entries: &'a [Entry]) -> Result<Progress<'a>, SourceRefusal>
+    /// The entries of a program that are not too many, one after another.
+    fn in_order(alloc: Global, entries: &'a [Entry]) -> Result<Progress<'a>, SourceRefusal>
+        requires { length entries.now < 2 ^ 32 }
         ensures { Gives (checked_result result)
             (checked_entries none_checked (map entry_tree entries.now)) }
     {
@@ -309,5 +310,16 @@ impl<'a> Progress<'a> {
             progress = progress.check_entry(alloc, &places, place, entry)?;
         }
         Ok(progress)
+    }
+
+    /// The entries of a program, one after another. Too many entries are out of memory too.
+    pub fn of(alloc: Global, entries: &'a [Entry]) -> Result<Progress<'a>, SourceRefusal>
+        ensures { GivesUnlessMany (map entry_tree entries.now) (checked_result result)
+            (checked_entries none_checked (map entry_tree entries.now)) }
+    {
+        if entries.len() > MOST_ENTRIES {
+            return Err(SourceRefusal::NoMemory);
+        }
+        Progress::in_order(alloc, entries)
     }
 }

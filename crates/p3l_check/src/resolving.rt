@@ -5,6 +5,7 @@ ghost use Rattle.p3l_ast.specs.Tree.{entry_tree, program_tree};
 ghost use Rattle.p3l_types.specs.Verdict.{Gives};
 ghost use Rattle.p3l_skel.specs.Lawful.{IsLawfulTree};
 ghost use Rattle.p3l_check.specs.Resolving.{main_place, root_of, limit_of, resolved_tree, whole, resolved};
+ghost use Rattle.p3l_check.specs.Many.{GivesUnlessMany};
 ghost use Rattle.p3l_check.specs.Wired.{AreWired};
 ghost use Rattle.p3l_check.specs.Entry.{checked_of};
 
@@ -29,7 +30,7 @@ pub struct Resolved<'a> {
 /// The name of the module that a stream of items goes into.
 const MAIN: &str = "main";
 
-/// Where the entry of the name `main` is.
+/// The position of the entry of the name `main`.
 #[tactic(auto, using(crate::proofs::MainPlace::places))]
 fn main_place(end: Pos, entries: &[Entry]) -> Pos
     ensures { result ≡ main_place end (map entry_tree entries.now) }
@@ -94,9 +95,10 @@ fn whole<'a>(
 }
 
 /// The tree and the bodies of a program that keeps the rules of the language; else the first fault in
-/// their order, at its place.
+/// their order, at its place. A program of too many entries is out of memory too.
 pub fn resolve<'a>(alloc: Global, program: &'a Program) -> Result<Resolved<'a>, SourceRefusal>
-    ensures resolved { Gives (resolved_tree result) (resolved (program_tree program.now)) }
+    ensures resolved { GivesUnlessMany (program_tree program.now).entries (resolved_tree result)
+        (resolved (program_tree program.now)) }
     ensures lawful { IfOk result (λ resolved. IsLawfulTree resolved.tree) }
 {
     match Progress::of(alloc, program.entries.as_slice()) {

@@ -1,4 +1,4 @@
-// What a module is made of: the rules of its clauses and calls, by its kind.
+// The skeleton of a module: the rules of its clauses and calls, by its kind.
 
 ghost use Rattle.std.specs.Prelude.{◌≡◌, [], ◌∷◌, ◌++◌, false, map, unwrap_or, IfOk};
 ghost use Rattle.p3l_base.specs.Memory.{IfGiven};
@@ -21,8 +21,7 @@ use p3l_calls::{check_condition, check_plain_call, check_stage, cut_of, elements
 use p3l_skel::Form;
 use std::alloc::Global;
 
-/// What a module is made of: its form, the numbers of the modules that it calls, and whether it is
-/// sequential.
+/// The form of a module, the numbers of the modules that it calls, and true if it is sequential.
 #[derive(Debug, Drop)]
 pub struct Skeleton {
     pub form: Form,
@@ -39,7 +38,7 @@ fn one(alloc: Global, k: u32) -> Result<List<u32>, NoMemory>
     Ok(list)
 }
 
-/// What a call of a pipe or a comp hands on.
+/// The variables that a call of a pipe or a comp hands on.
 fn hand_on(
     alloc: Global,
     env: Environment<'_>,
@@ -193,7 +192,7 @@ fn reduce_of(
     })
 }
 
-/// Whether variables have equal sizes in order.
+/// True if variables have equal sizes in order.
 #[tactic(auto, using(crate::proofs::Totals::types))]
 fn same_types(vars: &[Var], others: &[Var]) -> bool
     ensures { result ≡ same_types vars.now others.now }
