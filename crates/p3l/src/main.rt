@@ -94,7 +94,8 @@ fn run(rt: &HostRuntime, words: &[&str]) -> Result<Status, NoMemory> {
     let status = finish(rt, &output, status);
     if status.0 != 0 && wants_long(rt, is_terminal) {
         let style = style_of(rt, is_terminal);
-        explain(rt, words, status, style, &files, err.sink().heard())?;
+        // a message that memory runs out for is left out, and changes no status
+        let _ = explain(rt, words, status, style, &files, err.sink().heard());
     }
     Ok(status)
 }

@@ -74,6 +74,16 @@ pub(crate) fn put_place(
     Ok(())
 }
 
+/// The column of a place as a terminal shows it, by the column that counts bytes; both from 1.
+pub(crate) fn column_in(alloc: Global, line: &[u8], column: u32) -> Result<u32, NoMemory>
+    ensures { OnErr result Refused }
+{
+    let at = (column.max(1) as usize - 1).min(line.len());
+    let mut front = String::new(alloc);
+    put_safely(alloc, &mut front, &line[..at])?;
+    Ok((front.as_str().width() as u32).saturating_add(1))
+}
+
 /// Bytes of a file or of the words, in a form that can't steer a terminal.
 pub(crate) fn put_safely(
     alloc: Global,

@@ -5,7 +5,7 @@ ghost use Rattle.p3l_base.specs.Memory.{Refused};
 
 use crate::expected::put_expected;
 use crate::heard::place_in;
-use crate::place::{Style, line_of, put_line, put_place, put_safely};
+use crate::place::{Style, column_in, line_of, put_line, put_place, put_safely};
 use p3l_ast::Fault;
 use p3l_base::NoMemory;
 use std::alloc::Global;
@@ -26,10 +26,11 @@ pub(crate) fn put_refusal(
     let Some((row, column)) = place_in(heard) else {
         return Ok(());
     };
-    put_place(alloc, message, style, file, row, Some(column))?;
     let Some(line) = line_of(text, row) else {
-        return Ok(());
+        return put_place(alloc, message, style, file, row, Some(column));
     };
+    let shown = column_in(alloc, line, column)?;
+    put_place(alloc, message, style, file, row, Some(shown))?;
     put_line(alloc, message, style, line, column)?;
     let rest = rest_of(line, column);
     if is_number_of(Fault::Expected, number) {
@@ -51,7 +52,7 @@ fn is_number_of(fault: Fault, number: &str) -> bool {
 /// Whether a number of refusal is about the name at its place.
 fn names_something(number: &str) -> bool {
     match number.parse::<u8>() {
-        Ok(10) | Ok(20) | Ok(22..=26) | Ok(28) | Ok(40..=44) => true,
+        Ok(10) | Ok(20) | Ok(22..=28) | Ok(40..=44) => true,
         _ => false,
     }
 }
