@@ -1,5 +1,5 @@
 -- A run under way: its first state, what is fed, each pick, and its end.
-use Rattle.std.proofs.Common.{◌≡◌, ◌≢◌, ℕ, ℤ, ◌+◌, ◌*◌, ◌<◌, ◌≤◌, ◌^◌, Bool, true, false, List, [], ◌∷◌, ◌++◌, length, fold, Option, Some, None, Ok, Err, IsTrue, IsNone, IsSome, inl, inr, refl, sym, ap, subst, ◌∙◌, arith, append_assoc}
+use Rattle.std.proofs.Common.{◌≡◌, ◌≢◌, ℕ, ℤ, ◌+◌, ◌*◌, ◌<◌, ◌≤◌, ◌^◌, Bool, true, false, List, [], ◌∷◌, ◌++◌, length, fold, Option, Some, None, Ok, Err, IsTrue, IsNone, IsSome, inl, inr, refl, sym, ap, subst, ◌∙◌, arith, append_assoc, append-nil, length-append}
 use Rattle.std.specs.Option.{option_to_list}
 use Rattle.std.proofs.lemmas.Bool.{cond-false, cond-true}
 use Rattle.p3l_base.specs.declared.outcome.Outcome.{Outcome}
@@ -10,7 +10,11 @@ use Rattle.p3l_skel.specs.declared.tree.Tree.{Tree}
 use Rattle.p3l_skel.specs.Tree.{node_at}
 use Rattle.p3l_firing.specs.Carried.{HaveInWords}
 use Rattle.p3l_net.specs.Machine as machine
-use Rattle.p3l_net.specs.Machine.{Fires, can_step, ready_list}
+use Rattle.p3l_firing.specs.Run.{Course}
+use Rattle.p3l_firing.specs.State.{first_state, with_rest}
+use Rattle.p3l_firing.specs.declared.net.Net.{Net}
+use Rattle.p3l_net.specs.Shot.{restored}
+use Rattle.p3l_net.specs.Machine.{Fires, can_step, ready_list, state_of}
 use Rattle.p3l_net.specs.Offered.{HasFilledInbox}
 use Rattle.p3l_firing.specs.Process.{kind_at}
 use Rattle.p3l_run.specs.declared.end.RunStats.{RunStats}
@@ -35,9 +39,9 @@ use Rattle.p3l_run.specs.Execution.{AwaitsPick, Ends, Executes, GoesOn, HasFired
 use Rattle.p3l_run.specs.Feed.{Feeds, FeedsInVain, closed_so, input_limit, most_of_input}
 use Rattle.p3l_run.specs.Keeping.{kept_by}
 use Rattle.p3l_run.specs.Laws.{Laws}
-use Rattle.p3l_run.specs.Network.{Network, course_of, course_under, goes_on, is_some, meaning_of, most_firings, size_of, width_of}
+use Rattle.p3l_run.specs.Network.{Network, begun_with, course_of, course_under, goes_on, is_some, meaning_of, most_firings, size_of, width_of}
 use Rattle.p3l_run.specs.Run.{MayCome, MayEnd, end_of, finish_of}
-use Rattle.p3l_run.specs.Start.{beginning, item_number, most_from}
+use Rattle.p3l_run.specs.Start.{Start, beginning, fresh, item_number, most_from, saved, state_from, uncounted}
 use Rattle.p3l_run.specs.Steps.{Stands, left_of}
 use Rattle.p3l_run.specs.Sum.{sum_after}
 use Rattle.p3l_run.specs.Trap.{trap_after, trap_of}
@@ -45,6 +49,17 @@ use Rattle.p3l_run.specs.Write.{HasBegun, HasPut, WriteCause}
 use Rattle.p3l_run.proofs.FeedSteps.{fed_fired, gives_first}
 use Rattle.p3l_run.proofs.RunSteps as steps
 use Rattle.p3l_run.proofs.WriteSteps.{begun_whole, cause_on, put_more, put_nothing, text_more}
+
+-- an inbox holds one item at most
+at_most_one : (inbox : Option (List ℤ)) → length (option_to_list inbox) ≤ 1
+at_most_one None = omega arith
+at_most_one (Some item) = omega arith
+
+-- the items are to be sent where a run begins
+begun_unsent : (start : Start) (tree : Tree) (net : Net) (items : List (List ℤ)) → length items ≤ length (state_from start tree net items).unsent
+unfolding with_rest first_state
+begun_unsent fresh tree net items = omega arith
+begun_unsent (saved r) tree net items = omega (arith, length-append (state_of (restored tree net (uncounted r.shot)) []).unsent items)
 
 -- the lines that are kept are those of the trace with one more
 pub kept_more : (keeping : Keeping) (kept : Option (List TraceLine)) (walked : List TraceLine) (p : ℕ) (kind : Option ProcKind) → kept ≡ kept_by keeping walked →
@@ -235,6 +250,24 @@ module _ (job : Job) where
         by_trap None (Some x) calm is ends = refl
         by_trap (Some t) c calm is ends = absurd (let z : true ≡ false = calm in cc)
 
+    -- one at most of the items that were given was not sent
+    pub one_waits_at_most : (begun_with n d.items).sent + length d.items ≤ e.machine.sent + 1
+    unfolding with_rest state_of
+    one_waits_at_most =
+        let c : Course = course_under n (d.items ++ []) (trace.picks_of d.walked) in
+        let at = d.stands.at [] (steps.nothing_comes n e.close) in
+        let sent : e.machine.sent ≡ c.state.sent = ap (λ x. x.sent) at.follows.state in
+        let waits : option_to_list e.machine.inbox ++ [] ≡ c.state.unsent = ap (λ x. x.unsent) at.follows.state in
+        let all = d.laws.counted (d.items ++ []) (wide_plain d.items d.stands.wide) (trace.picks_of d.walked) in
+        let same = ap length (sym (append-nil (option_to_list e.machine.inbox)) ∙ waits) in
+        let first : (begun_with n (d.items ++ [])).sent ≡ (begun_with n d.items).sent = ap (λ i. (begun_with n i).sent) (append-nil d.items) in
+        let more : length d.items ≤ length (begun_with n (d.items ++ [])).unsent = subst (λ i. length d.items ≤ length (begun_with n i).unsent) (sym (append-nil d.items)) (begun_unsent n.start n.tree n.net d.items) in
+        let one : length (option_to_list e.machine.inbox) ≤ 1 = at_most_one e.machine.inbox in
+        omega (arith, sent, all, same, first, more, one)
+      where
+        wide_plain : (items : List (List ℤ)) → HaveInWords n.tree items → HaveInWords n.tree (items ++ [])
+        wide_plain items wide = subst (HaveInWords n.tree) (sym (append-nil items)) wide
+
     -- no pick is left
     module _ (over : IsOver e) (named : Tree) (named_is : named ≡ n.named) (ran : Ran) (finishes_so : IsFinish named e ran.finish) (stats_are : ran.stats ≡ stats_at e) (lines_are : ran.lines ≡ e.kept) (sum_is : ran.sum ≡ e.report.sum) where
       finish_is : IsFinish n.named e ran.finish
@@ -295,6 +328,7 @@ module _ (job : Job) where
           items = d.items;
           close = e.close;
           gives = d.gives;
+          requested = subst (λ (k : RunStats). (begun_with n d.items).sent + length d.items ≤ k.items + 1) (sym stats_are) one_waits_at_most;
           outcomes = d.outcomes;
           put = d.put;
           ran = steps.ran n d.laws job.schedule e.machine e.picker d.items e.close d.outcomes e.idle d.walked d.stands filled none_left ran.stats numbers;

@@ -1,12 +1,12 @@
 -- A run under recorded picks that is to come to a checkpoint: its first state, what is fed, each pick, and its end.
-use Rattle.std.proofs.Common.{◌≡◌, ◌≢◌, ℕ, ℤ, suc, ◌+◌, ◌<◌, ◌≤◌, ◌^◌, Bool, true, false, List, [], ◌∷◌, ◌++◌, ◌⊎◌, length, map, fold, take, drop, get_or, Option, Some, None, Ok, Err, IsTrue, inl, inr, refl, sym, ap, subst, ◌∙◌, arith, append_assoc, append-nil, length-append}
+use Rattle.std.proofs.Common.{◌≡◌, ◌≢◌, ℕ, ℤ, zero, suc, ◌+◌, ◌-◌, ◌<◌, ◌≤◌, ◌^◌, Bool, true, false, List, [], ◌∷◌, ◌++◌, ◌⊎◌, length, map, fold, take, drop, get_or, Option, Some, None, Ok, Err, IsTrue, inl, inr, refl, sym, ap, subst, ◌∙◌, arith, append_assoc, append-nil, length-append}
 use Rattle.std.specs.List.{All, AllByRecursion}
 use Rattle.std.specs.Option.{is_some, option_to_list}
-use Rattle.std.proofs.Math.Seq.{drop-cons, take-suc}
+use Rattle.std.proofs.Math.Seq.{drop-cons, take-append_seam, take-suc}
 use Rattle.std.proofs.Math.ListN.{get_or-map}
 use Rattle.std.proofs.lemmas.Bool.{cases_lt}
 use Rattle.std.proofs.lemmas.List.{drop_all, get_or_past, length-map}
-use Rattle.std.proofs.lemmas.List.Elements.{All-cons, All-get_or, All-nil}
+use Rattle.std.proofs.lemmas.List.Elements.{All-get_or}
 use Rattle.std.proofs.lemmas.List.Sums.{fold-append}
 use Rattle.p3l_base.specs.declared.outcome.Outcome.{Outcome}
 use Rattle.p3l_base.specs.declared.outcome.Outcome.TheVariants.{Value, Trapped}
@@ -17,16 +17,14 @@ use Rattle.p3l_firing.specs.Nodes.{Leaf}
 use Rattle.p3l_firing.specs.State.{Own, fresh as unused_own, own_at, first_state, with_rest}
 use Rattle.p3l_firing.specs.Token.{has_trap}
 use Rattle.p3l_skel.specs.declared.tree.Tree.{Tree}
+use Rattle.p3l_skel.specs.Item.{item, meaning, up_to_trap}
 use Rattle.p3l_skel.specs.Tree.{node_at}
 use Rattle.p3l_firing.specs.Carried.{HaveInWords}
 use Rattle.p3l_net.specs.Channel.{Queue}
 use Rattle.p3l_net.specs.Machine as machine
 use Rattle.p3l_net.specs.Machine.{Fires, IsShaped, can_step, state_of}
 use Rattle.p3l_net.specs.Offered.{Follows, HasFilledInbox}
-use Rattle.p3l_firing.specs.Fire.{fire}
-use Rattle.p3l_firing.specs.Run.{Course, after_picks, picked}
-use Rattle.p3l_net.proofs.CountLaw.{numbers_rise}
-use Rattle.p3l_net.proofs.Queues.{owns-first}
+use Rattle.p3l_firing.specs.Run.{Course, after_picks, course_from, picked}
 use Rattle.p3l_net.specs.Shot.{CanRestore, IsCountable, queues_of, restored, saved_own, shot_of}
 use Rattle.p3l_net.specs.declared.shot.Own.{Own as SavedOwn}
 use Rattle.p3l_net.specs.declared.shot.SavedToken.{SavedToken}
@@ -51,14 +49,30 @@ use Rattle.p3l_run.specs.Checkpoint.{Reaches}
 use Rattle.p3l_run.specs.Execution.{HasFired, Outside, after_idle, outside, started}
 use Rattle.p3l_run.specs.Feed.{Feeds, FeedsInVain, Gives, Offers, closed_so, input_limit}
 use Rattle.p3l_run.specs.Laws.{Laws, Runs}
-use Rattle.p3l_run.specs.Network.{Network, course_under, network, width_of}
-use Rattle.p3l_run.specs.Replay.{Comes, Halts, IsFilled, IsHalted, IsLow, IsReady, Opens, Replay, Replays, Saves, cut_of, replay_of}
+use Rattle.p3l_run.specs.Network.{Network, begun_with, course_under, network, width_of}
+use Rattle.p3l_run.specs.Requested as requested
+use Rattle.p3l_run.specs.Requested.{IsRequestedBy, requested_for, sent_before_last}
+use Rattle.p3l_run.specs.Replay.{AreAsked, Comes, Halts, IsFilled, IsReady, Opens, Replay, Replays, Saves, cut_of, replay_of}
 use Rattle.p3l_run.specs.Run.{MayEnd, end_of}
-use Rattle.p3l_run.specs.Start.{Start, item_number, state_from}
+use Rattle.p3l_run.specs.Start.{Start, item_number, outcomes_from, state_from}
 use Rattle.p3l_run.specs.Trap.{trap_after, trap_of}
 use Rattle.p3l_run.specs.Write.{HasBegun, HasPut, WriteCause}
 use Rattle.p3l_run.proofs.FeedSteps.{gives_first}
 use Rattle.p3l_run.proofs.WriteSteps.{begun_more, begun_whole, cause_on, put_more, put_nothing, text_more}
+
+-- the picks in front of the last one
+picks_front : (picks : List ℕ) (p : ℕ) → take (length (picks ++ p ∷ []) - 1) (picks ++ p ∷ []) ≡ picks
+picks_front picks p =
+    let size : length (picks ++ p ∷ []) - 1 ≡ length picks = omega (arith, length-append picks (p ∷ [])) in
+    ap (λ k. take k (picks ++ p ∷ [])) size ∙ take-append_seam picks (p ∷ [])
+
+-- where one item waits for the last of some picks, unless the stream has ended, items were requested before these picks
+pub request_last : (n : Network) (items : List (List ℤ)) (picks : List ℕ) (p given : ℕ) (close : Option Ending) → given ≡ (course_under n items picks).state.sent + requested.one_waits close → IsRequestedBy n items (picks ++ p ∷ []) given close
+request_last n items picks p given close is = by picks (is ∙ ap (λ ps. (course_under n items ps).state.sent + requested.one_waits close) (sym (picks_front picks p)))
+  where
+    by : (ps : List ℕ) → given ≡ sent_before_last n items (ps ++ p ∷ []) + requested.one_waits close → IsRequestedBy n items (ps ++ p ∷ []) given close
+    by [] so = so
+    by (q ∷ ps) so = so
 
 no_last : (front : List ℕ) (p : ℕ) → ◌≡◌ {A = List ℕ} [] (front ++ p ∷ []) → ⊥
 no_last [] p h = cc
@@ -126,11 +140,6 @@ may_end : (close : Option Ending) → MayEnd close (some_end close)
 may_end None = tt
 may_end (Some e) = refl
 
--- one at most is handed out
-one_most : (handed : Option Outcome) → length (option_to_list handed) ≤ 1
-one_most None = omega arith
-one_most (Some outcome) = omega arith
-
 -- an inbox that is filled holds one item
 one_waits : (inbox : Option (List ℤ)) → inbox ≢ None → length (option_to_list inbox) ≡ 1
 one_waits None filled = absurd (filled refl)
@@ -174,12 +183,12 @@ opens_first tree leaf net firings picks before laws few named given width wide s
         untrapped = λ front p is later in_words. absurd (no_last front p is);
         filled = λ front p is later in_words. absurd (no_last front p is);
         counted = omega arith;
-        low = record { numbers = λ p. subst (λ (f : ℕ → Own). (f p).number ≤ 0) (sym (owns-first (length net.procs))) (omega arith); emitted = omega arith };
         trap_is = refl;
         put = put_nothing before.taken;
         quiet = refl;
       };
       open_is = refl;
+      asked = λ later in_words. (refl, refl);
     }))
 
 module _ (r : Replay) where
@@ -253,10 +262,6 @@ module _ (r : Replay) where
       runs_fed [] same = (record { tree = ap (λ k. k.tree) same ∙ d.runs.tree; net = ap (λ k. k.net) same ∙ d.runs.net }, ap (λ k. k.fired) same)
       runs_fed (item ∷ more) offers = (record { tree = ap (λ k. k.tree) offers.1 ∙ d.runs.tree; net = ap (λ k. k.net) offers.1 ∙ d.runs.net }, ap (λ k. k.fired) offers.1)
 
-      low_fed : (more : List (List ℤ)) → Offers e.machine m more → IsLow m
-      low_fed [] same = subst IsLow (sym same) d.low
-      low_fed (item ∷ more) offers = subst IsLow (sym offers.1) (record { numbers = d.low.numbers; emitted = d.low.emitted })
-
       pub fed : Feeds (node_at e.machine.tree 0).ins e.machine m e.stream s now.rest left now.read_faults after e.close close → Replays r used unused (outside left after now.taken now.write_faults) new × IsFilled e new
       fed feeds =
           let f : Feeds (width_of n) e.machine m e.stream s now.rest left now.read_faults after e.close close = subst (λ k. Feeds k e.machine m e.stream s now.rest left now.read_faults after e.close close) same_width feeds in (
@@ -279,7 +284,6 @@ module _ (r : Replay) where
                   subst (λ i. (course_under n i front).state.sent < length (d.items ++ f.more)) (sym (append_assoc d.items f.more later))
                   (let low = d.filled front p is (f.more ++ later) (wide_append (width_of n) f.more later f.wide in_words) in let size = length-append d.items f.more in omega arith);
               counted = ap (λ k. k + e.idle) (runs_fed f.more f.offers).1 ∙ d.counted;
-              low = low_fed f.more f.offers;
               trap_is = d.trap_is;
               put = d.put;
               quiet = d.quiet;
@@ -330,6 +334,22 @@ module _ (r : Replay) where
     pub emitted_count : e.machine.emitted ≡ length d.outcomes
     emitted_count = (d.follows [] tt).emitted.count
 
+    -- where the inbox is filled, one of them waits
+    pub waits_given : e.machine.inbox ≢ None → length d.items ≡ e.machine.sent + 1
+    waits_given filled = sym items_given ∙ ap (λ k. e.machine.sent + k) (one_waits e.machine.inbox filled)
+
+    -- where it is empty, all were sent
+    pub all_sent : e.machine.inbox ≡ None → length d.items ≡ e.machine.sent + 0
+    all_sent empty = sym items_given ∙ ap (λ (o : Option (List ℤ)). e.machine.sent + length (option_to_list o)) empty
+
+    sent_on : (later : List (List ℤ)) → HaveInWords n.tree later → e.machine.sent ≡ (course later).state.sent
+    unfolding with_rest state_of
+    sent_on later in_words = ap (λ x. x.sent) (d.follows later in_words).state
+
+    -- an item was requested before a pick after these, and that is the last of all
+    pub requested_before : (p : ℕ) (close : Option Ending) → length d.items ≡ e.machine.sent + requested.one_waits close → (later : List (List ℤ)) → HaveInWords n.tree later → IsRequestedBy n (d.items ++ later) (used ++ p ∷ []) (length d.items) close
+    requested_before p close given later in_words = request_last n (d.items ++ later) used p (length d.items) close (given ∙ ap (λ k. k + requested.one_waits close) (sent_on later in_words))
+
   -- the next pick is one of a process
   pub there : (used unused : List ℕ) (p : ℕ) (now : Outside) (e : Execution) → Replays r used (p ∷ unused) now e → p < length e.machine.net.procs
   there used unused p now e d = subst (λ (k : Net). p < length k.procs) (sym d.runs.net) d.named.0
@@ -364,9 +384,15 @@ module _ (r : Replay) where
         let all = items_given used (p ∷ unused) now e d in
         omega arith)
 
+    -- and was requested before it, as the last of all
+    asked_then : (close : Option Ending) → close ≡ None → (later : List (List ℤ)) → HaveInWords n.tree later → IsRequestedBy n (d.items ++ later) (used ++ p ∷ []) (length d.items) close
+    asked_then close open_is later in_words =
+        requested_before used (p ∷ unused) now e d p close
+        (waits_given used (p ∷ unused) now e d ready.filled ∙ ap (λ (o : Option Ending). e.machine.sent + requested.one_waits o) (sym open_is)) later in_words
+
     -- whose process can't fire
-    pub passed : can_step e.machine p ≡ false → (new : Execution) → new ≡ after_idle p e → Replays r (used ++ p ∷ []) unused now new × (new.close ≡ None)
-    passed cannot new is = subst (λ k. Replays r (used ++ p ∷ []) unused now k × (k.close ≡ None)) (sym is) (
+    pub passed : can_step e.machine p ≡ false → (new : Execution) → new ≡ after_idle p e → (k : Replays r (used ++ p ∷ []) unused now new) × (new.close ≡ None) × AreAsked k
+    passed cannot new is = subst (λ (x : Execution). (k : Replays r (used ++ p ∷ []) unused now x) × (x.close ≡ None) × AreAsked k) (sym is) (
       record {
         laws = d.laws;
         begins = d.begins;
@@ -384,12 +410,12 @@ module _ (r : Replay) where
         untrapped = untrapped_then;
         filled = filled_then;
         counted = (let count = d.counted in let size = length-append used (p ∷ []) in omega arith);
-        low = d.low;
         trap_is = d.trap_is;
         put = d.put;
         quiet = d.quiet;
       },
       ready.open_is,
+      asked_then e.close ready.open_is,
     )
 
     -- whose process fired
@@ -427,7 +453,7 @@ module _ (r : Replay) where
 
       -- its line was written
       pub went_on : (report : Report) (taken : Option (List ℕ)) (after : ℕ) → report.trap ≡ fold trap_after new.report.trap (option_to_list handed) → HasPut now.taken taken (text_of (option_to_list handed)) → after ≡ now.write_faults →
-          Replays r (used ++ p ∷ []) unused (outside now.rest now.read_faults taken after) (record new { report = report }) × ((record new { report = report }).close ≡ None)
+          (k : Replays r (used ++ p ∷ []) unused (outside now.rest now.read_faults taken after) (record new { report = report })) × ((record new { report = report }).close ≡ None) × AreAsked k
       went_on report taken after trap_is put quiet = (
         record {
           laws = d.laws;
@@ -444,12 +470,12 @@ module _ (r : Replay) where
           untrapped = untrapped_then;
           filled = filled_then;
           counted = (let count = d.counted in let up = fires.fired in let idle = same_idle in let size = length-append used (p ∷ []) in omega arith);
-          low = low_fired;
           trap_is = trap_is ∙ ap (λ t. fold trap_after t.trap (option_to_list handed)) same_report ∙ trap_more e.report.trap d.outcomes (option_to_list handed) d.trap_is;
           put = subst (λ t. HasPut r.before.taken taken t) (sym (text_more d.outcomes (option_to_list handed))) (put_more r.before.taken now.taken taken (text_of d.outcomes) (text_of (option_to_list handed)) d.put put);
           quiet = quiet ∙ d.quiet;
         },
         ap (λ (k : Execution). k.close) fired.rest ∙ ready.open_is,
+        asked_then new.close (ap (λ (k : Execution). k.close) fired.rest ∙ ready.open_is),
       )
         where
           same_report : new.report ≡ e.report
@@ -458,46 +484,33 @@ module _ (r : Replay) where
           same_idle : new.idle ≡ e.idle
           same_idle = ap (λ (k : Execution). k.idle) fired.rest
 
-          low_fired : IsLow new.machine
-          unfolding state_of
-          low_fired = record {
-            numbers = λ q.
-                let owns : own_at new.machine.owns ≡ (fire e.machine.tree n.leaf e.machine.net (state_of e.machine []) p).own = ap (λ x. x.own) (fires.state []) in
-                let up = numbers_rise e.machine.tree n.leaf e.machine.net (state_of e.machine []) p q in
-                let was = d.low.numbers q in
-                let count = fires.fired in
-                subst (λ (f : ℕ → Own). (f q).number ≤ new.machine.fired) (sym owns) (omega arith);
-            emitted =
-                let count = fires.fired in
-                let was = d.low.emitted in
-                let before = (d.follows [] tt).emitted in
-                let after = (fires.emitted d.outcomes before).count in
-                let size = length-append d.outcomes (option_to_list handed) in
-                let one = one_most handed in
-                let had = before.count in
-                omega arith;
-          }
-
 -- a run goes no further
 module _ (r : Replay) (used unused : List ℕ) (now : Outside) (e : Execution) (d : Replays r used unused now e) where
+  -- while the stream isn't ended, items are requested before the picks that are made
+  made_alone : e.close ≡ None → AreAsked d → (later : List (List ℤ)) → HaveInWords r.network.tree later → IsRequestedBy r.network (d.items ++ later) (requested_for e.close used unused) (length d.items) e.close
+  made_alone open_is asked later in_words =
+      subst (λ ps. IsRequestedBy r.network (d.items ++ later) ps (length d.items) e.close) (sym (ap (λ (o : Option Ending). requested_for o used unused) open_is)) (asked later in_words)
+
   -- since a trap was emitted
-  pub halts_trapped : e.report.trap ≢ None → e.close ≡ None → Halts r now e
-  halts_trapped some open_is = record {
+  pub halts_trapped : e.report.trap ≢ None → e.close ≡ None → AreAsked d → Halts r now e
+  halts_trapped some open_is asked = record {
     used = used;
     unused = unused;
     replays = d;
     request = λ x ends. absurd (no_end x (sym open_is ∙ ends));
     over = λ none still. absurd (some none);
+    requested = made_alone open_is asked;
   }
 
   -- since no pick is left
-  pub halts_over : unused ≡ [] → e.close ≡ None → Halts r now e
-  halts_over over open_is = record {
+  pub halts_over : unused ≡ [] → e.close ≡ None → AreAsked d → Halts r now e
+  halts_over over open_is asked = record {
     used = used;
     unused = unused;
     replays = d;
     request = λ x ends. absurd (no_end x (sym open_is ∙ ends));
     over = λ none still. over;
+    requested = made_alone open_is asked;
   }
 
 -- since the stream is ended
@@ -508,7 +521,12 @@ halts_closed r used unused p now old e d f open_is ended = record {
   replays = d;
   request = λ x ends. (λ none. cc, f.empty x open_is ends);
   over = λ none still. absurd (ended still);
+  requested = λ later in_words. by e.close refl later in_words;
 }
+  where
+    by : (close : Option Ending) → e.close ≡ close → (later : List (List ℤ)) → HaveInWords r.network.tree later → IsRequestedBy r.network (d.items ++ later) (requested_for close used (p ∷ unused)) (length d.items) close
+    by None is later in_words = absurd (ended is)
+    by (Some x) is later in_words = requested_before r used (p ∷ unused) now e d p (Some x) (all_sent r used (p ∷ unused) now e d (f.empty x open_is is)) later in_words
 
 -- the picks in front of one that comes next, and it
 picks_longer : (picks : List ℕ) (i : ℕ) → i < length picks → take (i + 1) picks ≡ take i picks ++ get_or picks i 0 ∷ []
@@ -528,8 +546,9 @@ module _ (r : Replay) (picks : List ℕ) (made : ℕ) (now : Outside) (e : Execu
     pub next_is : Replays r (take made picks) (get_or picks made 0 ∷ drop (made + 1) picks) now e
     next_is = subst (λ l. Replays r (take made picks) l now e) (picks_left picks made low) d
 
-    pub one_made : (after : Outside) (new : Execution) → Replays r (take made picks ++ get_or picks made 0 ∷ []) (drop (made + 1) picks) after new → Replays r (take (made + 1) picks) (drop (made + 1) picks) after new
-    one_made after new then = subst (λ l. Replays r l (drop (made + 1) picks) after new) (sym (picks_longer picks made low)) then
+    pub one_made : (after : Outside) (new : Execution) → (k : Replays r (take made picks ++ get_or picks made 0 ∷ []) (drop (made + 1) picks) after new) × (new.close ≡ None) × AreAsked k
+        → (k : Replays r (take (made + 1) picks) (drop (made + 1) picks) after new) × (new.close ≡ None) × AreAsked k
+    one_made after new then = subst (λ l. (k : Replays r l (drop (made + 1) picks) after new) × (new.close ≡ None) × AreAsked k) (sym (picks_longer picks made low)) then
 
   -- it has no more
   pub all_made : length picks ≤ made → drop made picks ≡ []
@@ -558,6 +577,7 @@ module _ (r : Replay) (now : Outside) (e : Execution) (h : Halts r now e) where
     untrapped = d.untrapped;
     filled = d.filled;
     request = h.request;
+    requested = h.requested;
   }
 
   -- its state was saved
@@ -661,20 +681,58 @@ shaped_by m shot is back countable can = record {
   emitted = (let same : shot.emitted ≡ m.emitted = ap (λ (k : Shot). k.emitted) is in let low = countable.emitted in omega arith);
 }
 
--- what processes keep has numbers below a bound
-few_numbers : (owns : List Own) (most : ℕ) → ((p : ℕ) → (own_at owns p).number < most) → All (λ (own : SavedOwn). own.number < most) (map saved_own owns)
-few_numbers [] most few = All-nil (λ (own : SavedOwn). own.number < most)
-few_numbers (own ∷ owns) most few = All-cons (λ (own : SavedOwn). own.number < most) (saved_own own) (map saved_own owns) (few 0) (few_numbers owns most (λ p. few (suc p)))
+-- what is saved of processes counts no more than they do
+saved_low : (owns : List Own) → ((p : ℕ) → (own_at owns p).number < 2 ^ 63) → All (λ (o : SavedOwn). o.number < 2 ^ 63) (map saved_own owns)
+saved_low [] low k o below = absurd (omega arith)
+saved_low (own ∷ owns) low zero o below = low 0
+saved_low (own ∷ owns) low (suc k) o below = saved_low owns (λ p. low (suc p)) k o (omega arith)
 
--- the state at the end of a run under recorded picks can be counted: no more was counted than there are picks
-pub halted_countable : (e : Execution) → IsHalted e → IsCountable (shot_of e.machine)
-unfolding shot_of
-halted_countable e h =
-    let d = h.2.replays in
-    let few = few_picks h.0 h.2.used h.2.unused h.1 e d in
-    let low = d.low in
-    record {
-      numbers = few_numbers e.machine.owns (2 ^ 63) (λ p. let was = low.numbers p in omega arith);
-      sent = few_sent h.0 h.2.used h.2.unused h.1 e d;
-      emitted = (let was = low.emitted in omega arith);
-    }
+-- there is at most one outcome for each item
+meaning_within : (tree : Tree) (leaf : ℕ → List ℤ → Outcome) (items : List (List ℤ)) → length (meaning tree leaf items) ≤ length items
+meaning_within tree leaf [] = omega arith
+meaning_within tree leaf (words ∷ items) = by (item tree leaf 0 words) (meaning_within tree leaf items)
+  where
+    by : (o : Outcome) → length (meaning tree leaf items) ≤ length items → length (up_to_trap o (meaning tree leaf items)) ≤ suc (length items)
+    by (Value result) rest = omega (arith, rest)
+    by (Trapped trap) rest = omega arith
+
+-- a run that goes no further counts to less than 2^63
+module _ (r : Replay) (now : Outside) (e : Execution) (h : Halts r now e) where
+  abbrev at : Replays r h.used h.unused now e
+  at = h.replays
+
+  abbrev last : Course
+  last = course_under r.network (at.items ++ []) h.used
+
+  few_used : length h.used < 2 ^ 63
+  few_used = (let all : length h.used + length h.unused ≡ length r.picks = sym (length-append h.used h.unused) ∙ ap length at.whole in let few = at.few in omega arith)
+
+  first_number : (p : ℕ) → ((state_from r.network.start r.network.tree r.network.net (at.items ++ [])).own p).number ≡ 0
+  unfolding first_state
+  first_number p = ap (λ (k : Start). ((state_from k r.network.tree r.network.net (at.items ++ [])).own p).number) at.begins
+
+  low_own : (p : ℕ) → (own_at e.machine.owns p).number < 2 ^ 63
+  unfolding with_rest state_of
+  low_own p =
+      let same : (own_at e.machine.owns p).number ≡ (last.state.own p).number = ap (λ x. (x.own p).number) (at.follows [] tt).state in
+      let most = at.laws.numbers (course_from (begun_with r.network (at.items ++ []))) h.used p in
+      let first = first_number p in
+      let few = few_used in
+      omega arith
+
+  few_emitted : e.machine.emitted < 2 ^ 63
+  few_emitted =
+      let begins = at.laws.begins (at.items ++ []) (wide_append (width_of r.network) at.items [] at.wide tt) h.used in
+      let all : length at.outcomes ≡ length last.state.emitted = ap length (emitted_is r h.used h.unused now e at [] tt) in
+      let part = ap length begins.1 in
+      let size = length-append last.state.emitted begins.0 in
+      let within = meaning_within r.network.tree r.network.leaf (at.items ++ []) in
+      let plain = ap length (append-nil at.items) in
+      let count = emitted_count r h.used h.unused now e at in
+      let few = at.gives.few in
+      let start = ap (λ (k : Start). length (outcomes_from k (meaning r.network.tree r.network.leaf (at.items ++ [])))) at.begins in
+      omega arith
+
+  pub is_countable : IsCountable (shot_of e.machine)
+  unfolding shot_of
+  is_countable = record { numbers = saved_low e.machine.owns low_own; sent = few_sent r h.used h.unused now e at; emitted = few_emitted }

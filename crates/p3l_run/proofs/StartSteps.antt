@@ -1,5 +1,5 @@
 -- Where runs begin, and what every run keeps from there.
-use Rattle.std.proofs.Common.{◌≡◌, ℕ, ℤ, ◌+◌, ◌*◌, ◌<◌, ◌≤◌, true, List, [], ◌∷◌, ◌++◌, length, map, Some, refl, sym, ap, subst, ◌∙◌, arith, append_assoc, length-append}
+use Rattle.std.proofs.Common.{◌≡◌, ℕ, ℤ, ◌+◌, ◌*◌, ◌<◌, ◌≤◌, true, List, [], ◌∷◌, ◌++◌, cond, false, length, map, Some, refl, sym, ap, subst, ◌∙◌, arith, append_assoc, length-append}
 use Rattle.std.proofs.lemmas.List.{map-append}
 use Rattle.std.specs.List.{slice_get}
 use Rattle.std.specs.Option.{option_map, option_to_list}
@@ -12,13 +12,13 @@ use Rattle.p3l_firing.specs.Token.{has_trap}
 use Rattle.p3l_firing.specs.declared.net.Net.{Net}
 use Rattle.p3l_firing.specs.declared.process.Proc.{Proc}
 use Rattle.p3l_firing.specs.declared.process.ProcKind.TheVariants.{Source}
-use Rattle.p3l_firing.specs.Fire.{IsStuck}
+use Rattle.p3l_firing.specs.Fire.{IsStuck, can_fire, fire}
 use Rattle.p3l_net.specs.Machine.{state_of}
 use Rattle.p3l_net.specs.Offered.{Follows}
 use Rattle.p3l_firing.specs.Outcomes.{IsPrefixOf, up_to_first_trap}
-use Rattle.p3l_firing.specs.Run.{course_from}
+use Rattle.p3l_firing.specs.Run.{Course, after_picks, course_from, picked}
 use Rattle.p3l_net.specs.Shot.{restored}
-use Rattle.p3l_firing.specs.State.{first_state, with_rest}
+use Rattle.p3l_firing.specs.State.{State, first_state, with_rest}
 use Rattle.p3l_firing.specs.Orderly as resumption
 use Rattle.p3l_firing.proofs.OrderlyLaw.{IsKeptFrom, few_firings, kept_begins, kept_finished, kept_run}
 use Rattle.p3l_skel.specs.Item.{item, meaning}
@@ -148,3 +148,22 @@ module _ (n : Network) (sound : IsSound n) (items : List (List ℤ)) (wide : Hav
     pub finished : IsStuck n.tree n.net (course_under n items picks).state → (course_under n items picks).state.emitted ≡ meaning_of n items
     finished stuck =
         kept_finished n.tree n.leaf n.net n.firings carry sound.carried.1 (begun_with n items) (course_under n items picks) kept unemitted stuck ∙ outcomes_are
+
+-- what a process counts rises by one at most at each pick
+number_picked : (tree : Tree) (leaf : Leaf) (net : Net) → ((s : State) (p q : ℕ) → ((fire tree leaf net s p).own q).number ≤ (s.own q).number + 1) → (c : Course) (p q : ℕ) → ((picked tree leaf net c p).state.own q).number ≤ (c.state.own q).number + 1
+unfolding picked
+number_picked tree leaf net rises c p q =
+    elim (can_fire tree net c.state p) as (
+    λ b. ((cond b (record c { state = fire tree leaf net c.state p; fired = c.fired + 1 }) (record c { idle = c.idle + 1 })).state.own q).number ≤ (c.state.own q).number + 1
+    ) [
+      | true ↦ rises c.state p q
+      | false ↦ omega arith
+    ]
+
+pub numbers_within : (tree : Tree) (leaf : Leaf) (net : Net) → ((s : State) (p q : ℕ) → ((fire tree leaf net s p).own q).number ≤ (s.own q).number + 1) → (c : Course) (picks : List ℕ) (q : ℕ) → ((after_picks tree leaf net c picks).state.own q).number ≤ (c.state.own q).number + length picks
+unfolding after_picks
+numbers_within tree leaf net rises c [] q = omega arith
+numbers_within tree leaf net rises c (p ∷ picks) q =
+    let one : ((picked tree leaf net c p).state.own q).number ≤ (c.state.own q).number + 1 = number_picked tree leaf net rises c p q in
+    let rest : ((after_picks tree leaf net (picked tree leaf net c p) picks).state.own q).number ≤ ((picked tree leaf net c p).state.own q).number + length picks = numbers_within tree leaf net rises (picked tree leaf net c p) picks q in
+    omega (arith, one, rest)

@@ -17,6 +17,7 @@ use Rattle.p3l_run.specs.declared.fault.RunFault.{RunFault}
 use Rattle.p3l_run.specs.Feed.{Gives, closed_so}
 use Rattle.p3l_run.specs.Laws.{Runs}
 use Rattle.p3l_run.specs.Network.{Network, course_under, width_of}
+use Rattle.p3l_run.specs.Requested.{IsRequestedBy, requested_for}
 use Rattle.p3l_run.specs.Run.{MayFollow, end_of}
 use Rattle.p3l_run.specs.Start.{item_number}
 use Rattle.p3l_run.specs.Trap.{trap_of}
@@ -50,6 +51,9 @@ pub record Reaches (n : Network) (picks : List ℕ) (rest left : Option (List �
       (course_under n (items ++ later) front).state.sent < length items
   -- where the stream ended, it did so in place of an item, for a pick that was not made then
   pub request : (e : Ending) → close ≡ Some e → (unused ≢ []) × (m.inbox ≡ None)
+  -- an item was requested before each pick that was made, and before the one for which the stream ended, where the inbox was empty, and
+  -- at no other time
+  pub requested : (later : List (List ℤ)) → HaveInWords n.tree later → IsRequestedBy n (items ++ later) (requested_for close used unused) (length items) close
 
 -- the state that it came to was saved: the picks are ended, or the stream answered its end in place of an item
 pub record IsSaved (n : Network) (picks : List ℕ) (rest left : Option (List ℕ)) (before now : ℕ) (taken taken' : Option (List ℕ)) (saved : Checkpoint) : Type 0 where

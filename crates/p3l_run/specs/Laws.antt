@@ -58,6 +58,8 @@ pub record Laws (n : Network) : Type 0 where
   pub counted : (items : List (List ℤ)) → HaveInWords n.tree items → (picks : List ℕ) →
       (course_under n items picks).state.sent + length (course_under n items picks).state.unsent
       ≡ (begun_with n items).sent + length (begun_with n items).unsent
+  -- what a process counts rises by one at most at each pick
+  pub numbers : (c : Course) (picks : List ℕ) (p : ℕ) → ((after_picks n.tree n.leaf n.net c picks).state.own p).number ≤ (c.state.own p).number + length picks
   pub stops : (schedule : Schedule) (items : List (List ℤ)) → HaveInWords n.tree items →
       goes_on n (course_of n schedule items) ≡ true → schedule ≡ Recorded (picks_of n schedule items)
   pub begins : (items : List (List ℤ)) → HaveInWords n.tree items → (picks : List ℕ) → IsPrefixOf (course_under n items picks).state.emitted (meaning_of n items)

@@ -5,7 +5,9 @@ pub mod Trap
 pub mod Sum
 pub mod Keeping
 pub mod Write
+pub mod Wants
 pub mod Feed
+pub mod Requested
 pub mod Run
 pub mod Steps
 pub mod Execution
@@ -13,4 +15,3 @@ pub mod Timed
 pub mod Resume
 pub mod Checkpoint
 pub mod Replay
-pub mod Wants

@@ -1,5 +1,5 @@
 -- A run under recorded picks that is to come to a checkpoint: where it is, and what each of its steps does.
-use Rattle.std.specs.Prelude.{◌≡◌, ◌≢◌, ℕ, ℤ, ◌+◌, ◌<◌, ◌≤◌, ◌^◌, false, List, [], ◌∷◌, ◌++◌, length, take, drop, Option, Some, None, Result, Ok, Err}
+use Rattle.std.specs.Prelude.{◌≡◌, ◌≢◌, ℕ, ℤ, ◌+◌, ◌<◌, ◌^◌, false, List, [], ◌∷◌, ◌++◌, length, take, drop, Option, Some, None, Result, Ok, Err}
 use Rattle.std.specs.List.{AllByRecursion}
 use Rattle.std.specs.Option.{option_to_list}
 use Rattle.p3l_base.specs.declared.NoMemory.{NoMemory}
@@ -8,8 +8,7 @@ use Rattle.p3l_firing.specs.Nodes.{Leaf}
 use Rattle.p3l_firing.specs.Token.{has_trap}
 use Rattle.p3l_skel.specs.declared.tree.Tree.{Tree}
 use Rattle.p3l_firing.specs.Carried.{HaveInWords}
-use Rattle.p3l_firing.specs.State.{own_at}
-use Rattle.p3l_net.specs.Machine.{IsShaped, Seen}
+use Rattle.p3l_net.specs.Machine.{IsShaped}
 use Rattle.p3l_net.specs.Offered.{Follows}
 use Rattle.p3l_net.specs.Shot.{IsCountable, shot_of}
 use Rattle.p3l_stream.specs.declared.items.Ending.{Ending}
@@ -25,6 +24,7 @@ use Rattle.p3l_run.specs.Execution.{Outside, outside}
 use Rattle.p3l_run.specs.Feed.{Gives, closed_so}
 use Rattle.p3l_run.specs.Laws.{Laws, Runs}
 use Rattle.p3l_run.specs.Network.{Network, course_under, size_of, width_of}
+use Rattle.p3l_run.specs.Requested.{IsRequestedBy, requested_for}
 use Rattle.p3l_run.specs.Start.{fresh}
 use Rattle.p3l_run.specs.Trap.{trap_of}
 use Rattle.p3l_run.specs.Write.{HasPut, WriteCause}
@@ -42,11 +42,6 @@ replay_of network picks before = record { network = network; picks = picks; befo
 pub record Comes (r : Replay) (now : Outside) (result : Result CheckpointEnd RunFault) : Type 0 where
   pub ends : IsCheckpointEnd r.network r.picks r.before.rest now.rest r.before.read_faults now.read_faults r.before.taken now.taken result
   pub output : WriteCause r.before.write_faults now.write_faults result
-
--- a machine that began in the first state counts no more than its firings
-pub record IsLow (m : Seen) : Type 0 where
-  pub numbers : (p : ℕ) → (own_at m.owns p).number ≤ m.fired
-  pub emitted : m.emitted ≤ m.fired
 
 -- the run is under way: these of its picks were made, and those are left. The machine is where the run on the items that the stream
 -- gave, and on whatever items come after them, is under the picks made; the text of what it emitted is written. Before the last of these
@@ -68,10 +63,13 @@ pub record Replays (r : Replay) (used unused : List ℕ) (now : Outside) (e : Ex
   pub filled : (front : List ℕ) (p : ℕ) → used ≡ front ++ p ∷ [] → (later : List (List ℤ)) → HaveInWords r.network.tree later →
       (course_under r.network (items ++ later) front).state.sent < length items
   pub counted : e.machine.fired + e.idle ≡ length used
-  pub low : IsLow e.machine
   pub trap_is : e.report.trap ≡ trap_of outcomes
   pub put : HasPut r.before.taken now.taken (text_of outcomes)
   pub quiet : now.write_faults ≡ r.before.write_faults
+
+-- items were requested before the picks made, and none after
+abbrev pub AreAsked : {r : Replay} {used unused : List ℕ} {now : Outside} {e : Execution} → Replays r used unused now e → Type 0
+AreAsked {r} {used} {unused} {now} {e} d = (later : List (List ℤ)) → HaveInWords r.network.tree later → IsRequestedBy r.network (d.items ++ later) used (length d.items) e.close
 
 -- the next pick can be made: the stream isn't ended, the inbox is filled, and no trap was emitted
 pub record IsReady (e : Execution) : Type 0 where
@@ -96,7 +94,7 @@ FillsOn rest left before after old new (Err want) =
 abbrev pub MakesOn : Leaf → ℕ → Option (List ℕ) → Option (List ℕ) → ℕ → ℕ → Execution → Execution → Result (Unit {0}) RunFault → Type 0
 MakesOn leaf p taken taken' before after old new (Ok done) =
     (r : Replay) (used unused : List ℕ) (rest : Option (List ℕ)) (faults : ℕ) → r.network.leaf ≡ leaf → Replays r used (p ∷ unused) (outside rest faults taken before) old → IsReady old →
-    Replays r (used ++ p ∷ []) unused (outside rest faults taken' after) new × (new.close ≡ None)
+    (d : Replays r (used ++ p ∷ []) unused (outside rest faults taken' after) new) × (new.close ≡ None) × AreAsked d
 MakesOn leaf p taken taken' before after old new (Err failed) =
     (r : Replay) (used unused : List ℕ) (rest : Option (List ℕ)) (faults : ℕ) → r.network.leaf ≡ leaf → Replays r used (p ∷ unused) (outside rest faults taken before) old → IsReady old →
     Comes r (outside rest faults taken' after) (Err failed)
@@ -105,6 +103,7 @@ MakesOn leaf p taken taken' before after old new (Err failed) =
 pub record Opens (r : Replay) (picks : List ℕ) (now : Outside) (e : Execution) : Type 0 where
   pub replays : Replays r [] picks now e
   pub open_is : e.close ≡ None
+  pub asked : AreAsked replays
 
 -- a run that goes no further: a trap was emitted, or the stream ended in place of an item for the next pick, or no pick is left
 pub record Halts (r : Replay) (now : Outside) (e : Execution) : Type 0 where
@@ -113,6 +112,7 @@ pub record Halts (r : Replay) (now : Outside) (e : Execution) : Type 0 where
   pub replays : Replays r used unused now e
   pub request : (x : Ending) → e.close ≡ Some x → (unused ≢ []) × (e.machine.inbox ≡ None)
   pub over : e.report.trap ≡ None → e.close ≡ None → unused ≡ []
+  pub requested : (later : List (List ℤ)) → HaveInWords r.network.tree later → IsRequestedBy r.network (replays.items ++ later) (requested_for e.close used unused) (length replays.items) e.close
 
 -- some run is to be made of these picks, with these bodies of modules
 pub record IsToReplay (leaf : Leaf) (picks : List ℕ) (now : Outside) (e : Execution) : Type 0 where
@@ -122,7 +122,7 @@ pub record IsToReplay (leaf : Leaf) (picks : List ℕ) (now : Outside) (e : Exec
 
 -- whatever run it is, with these bodies of modules, this number of its picks were made, and its stream isn't ended
 abbrev pub LeadsTo : Leaf → List ℕ → ℕ → Outside → Outside → Execution → Execution → Type 0
-LeadsTo leaf picks made before now old new = (r : Replay) → r.network.leaf ≡ leaf → Opens r picks before old → Replays r (take made picks) (drop made picks) now new × (new.close ≡ None)
+LeadsTo leaf picks made before now old new = (r : Replay) → r.network.leaf ≡ leaf → Opens r picks before old → (d : Replays r (take made picks) (drop made picks) now new) × (new.close ≡ None) × AreAsked d
 
 -- whatever run it is, with these bodies of modules, an execution makes its picks until it goes no further
 abbrev pub HaltsOn : Leaf → List ℕ → Outside → Outside → Execution → Execution → Result (Unit {0}) RunFault → Type 0

@@ -1,5 +1,5 @@
 -- How a run ends: what was written, and its numbers.
-use Rattle.std.specs.Prelude.{◌≡◌, ℕ, ℤ, List, [], ◌++◌, cond, length, Option, Some, None, Result, Ok, Err, slice_index_or}
+use Rattle.std.specs.Prelude.{◌≡◌, ◌≤◌, ℕ, ℤ, ◌+◌, List, [], ◌++◌, cond, length, Option, Some, None, Result, Ok, Err, slice_index_or}
 use Rattle.p3l_base.specs.declared.NoMemory.{NoMemory}
 use Rattle.p3l_base.specs.declared.outcome.Outcome.{Outcome}
 use Rattle.p3l_base.specs.declared.outcome.Trap.{Trap}
@@ -67,6 +67,8 @@ pub record Finishes (n : Network) (schedule : Schedule) (keeping : Keeping) (res
   pub items : List (List ℤ)
   pub close : Option Ending
   pub gives : Gives (width_of n) rest left before now stream items (closed_so close)
+  -- of those that were given one at most was not sent: none was requested but where the inbox was empty
+  pub requested : (begun_with n items).sent + length items ≤ end.stats.items + 1
   pub outcomes : List Outcome
   pub put : HasPut taken taken' (text_of outcomes)
   pub ran : (later : List (List ℤ)) → MayCome n close later → IsRunOn n schedule (items ++ later) outcomes end.stats

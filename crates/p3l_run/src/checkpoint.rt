@@ -1,7 +1,9 @@
 // Runs that end at a checkpoint, where the state of the network is saved.
 
-ghost use Rattle.std.specs.Prelude.{◌≡◌, ◌<◌, ◌≤◌, ◌+◌, ◌*◌, ◌^◌, None, false, length, IfErr, OnErr};
+ghost use Rattle.std.specs.Prelude.{◌≡◌, ◌<◌, ◌≤◌, ◌+◌, ◌*◌, ◌^◌, None, OnErr, false, length, true};
+ghost use Rattle.p3l_base.specs.Memory.{IfGiven, Refused};
 ghost use Rattle.std.specs.Option.{option_to_list};
+ghost use Rattle.p3l_net.specs.Shot.{IsCountable, shot_of};
 ghost use Rattle.p3l_sched.specs.Picker.{NamesProcesses};
 ghost use Rattle.p3l_sched.specs.declared.schedule.Schedule.TheVariants as schedule;
 ghost use Rattle.p3l_skel.specs.Tree.{node_at};
@@ -10,10 +12,8 @@ ghost use Rattle.p3l_run.specs.Execution.{outside};
 ghost use Rattle.p3l_run.specs.Feed.{most_of_input};
 ghost use Rattle.p3l_run.specs.Network.{IsSound, network};
 ghost use Rattle.p3l_run.specs.Replay.{ComesTo, FillsOn, HaltsOn, IsHalted, IsToReplay, MakesOn, Saves, cut_of};
+ghost use Rattle.p3l_run.specs.Wants.{RanWants};
 ghost use Rattle.p3l_run.specs.Write.{WriteCause};
-ghost use Rattle.p3l_net.specs.Shot.{IsCountable, shot_of};
-ghost use Rattle.p3l_run.specs.Wants.{Wants};
-ghost use Rattle.p3l_base.specs.Memory.{IfGiven, Refused};
 
 use crate::end::RunEnd;
 use crate::execution::Execution;
@@ -57,7 +57,7 @@ impl<'t> Execution<'t> {
     fn fill<S: Source>(&mut self, alloc: Global, input: &mut S) -> Result<(), NoMemory>
         requires wide { self.old.stream.words ≡ (node_at self.old.machine.tree 0).ins }
         requires open { self.old.close ≡ None → self.old.stream.closed ≡ None }
-        ensures does { FillsOn (S.rest input.old) (S.rest input.new) (S.faults input.old)
+        ensures fills { FillsOn (S.rest input.old) (S.rest input.new) (S.faults input.old)
             (S.faults input.new) self.old self.new result }
         ensures wants { OnErr result Refused }
     {
@@ -85,9 +85,9 @@ impl<'t> Execution<'t> {
         requires few { self.old.machine.fired + self.old.idle < 2 ^ 63 }
         requires tree { tree.now ≡ self.old.machine.tree }
         requires units { U.tree units.now ≡ tree.now }
-        ensures does { MakesOn (U.leaf units.now) process (K.taken out.old) (K.taken out.new)
+        ensures makes { MakesOn (U.leaf units.now) process (K.taken out.old) (K.taken out.new)
             (K.faults out.old) (K.faults out.new) self.old self.new result }
-        ensures wants { IfErr result (Wants U.may_want) }
+        ensures wants { RanWants (U.may_want ≡ true) result }
     {
         if !self.machine.can_step(process) {
             self.pass(process)?;
@@ -114,11 +114,11 @@ impl<'t> Execution<'t> {
         requires replay { IsToReplay (U.leaf units.now) picks.now
             (outside (S.rest input.old) (S.faults input.old) (K.taken out.old) (K.faults out.old))
             self.old }
-        ensures does { HaltsOn (U.leaf units.now) picks.now
+        ensures halts { HaltsOn (U.leaf units.now) picks.now
             (outside (S.rest input.old) (S.faults input.old) (K.taken out.old) (K.faults out.old))
             (outside (S.rest input.new) (S.faults input.new) (K.taken out.new) (K.faults out.new))
             self.old self.new result }
-        ensures wants { IfErr result (Wants U.may_want) }
+        ensures wants { RanWants (U.may_want ≡ true) result }
     {
         for process in picks {
             if self.report.trap.is_some() {
@@ -150,8 +150,8 @@ impl<'t> Execution<'t> {
     fn save(&self, alloc: Global) -> Result<Checkpoint, NoMemory>
         requires calm { self.now.machine.trapped ≡ false }
         requires sent { self.now.machine.sent < 2 ^ 63 }
-        requires few { self.now.machine.fired + self.now.idle < 2 ^ 63 }
         requires countable { IsCountable (shot_of self.now.machine) }
+        requires few { self.now.machine.fired + self.now.idle < 2 ^ 63 }
         ensures { IfGiven result (Saves self.now) }
     {
         let shot = self.machine.save(alloc)?;
@@ -222,7 +222,7 @@ pub fn run_to_checkpoint<U: Units, S: Source, K: Sink>(
         (S.rest input.old) (S.rest input.new) (S.faults input.old) (S.faults input.new)
         (K.taken out.old) (K.taken out.new) result }
     ensures output { WriteCause (K.faults out.old) (K.faults out.new) result }
-    ensures wants { IfErr result (Wants U.may_want) }
+    ensures wants { RanWants (U.may_want ≡ true) result }
 {
     laws();
     a_stream_gives_its_items();

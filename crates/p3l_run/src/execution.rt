@@ -1,15 +1,15 @@
 // A run under way, pick by pick.
 
-ghost use Rattle.std.specs.Prelude.{◌≡◌, ◌≢◌, ◌<◌, ◌≤◌, ◌+◌, ◌^◌, [], None, Some, length, IfOk, IsNone, IsSome, IsTrue, OnOk, IfErr, OnErr};
+ghost use Rattle.std.specs.Prelude.{◌≡◌, ◌≢◌, ◌<◌, ◌≤◌, ◌+◌, ◌^◌, [], None, Some, length, IfOk, IsNone, IsSome, IsTrue, OnErr, OnOk, true};
+ghost use Rattle.p3l_base.specs.Memory.{IfGiven, IfGivenOr, OnGiven, OnGivenOr, Refused};
 ghost use Rattle.p3l_firing.specs.Process.{kind_at};
 ghost use Rattle.p3l_net.specs.Machine.{can_step, ready_list};
 ghost use Rattle.p3l_net.specs.Steps.{OthersStay};
 ghost use Rattle.p3l_firing.specs.Typed.{IsTyped};
 ghost use Rattle.p3l_sched.specs.Picker.{HasPlace, HasProcesses};
 ghost use Rattle.p3l_skel.specs.Tree.{node_at};
+ghost use Rattle.p3l_run.specs.Wants.{RanWants};
 ghost use Rattle.p3l_run.specs.Execution.{Completes, FeedsOn, FiresOn, HasFired, IsFinish, IsInRange, IsUnderWay, MayPick, RunsOut, StepsOn, after_idle, begun_on, outside, started, stats_at};
-ghost use Rattle.p3l_run.specs.Wants.{IsWanting, Wants};
-ghost use Rattle.p3l_base.specs.Memory.{IfGiven, OnGiven, Refused};
 
 use crate::end::RunEnd;
 use crate::fault::RunFault;
@@ -110,11 +110,11 @@ impl<'t> Execution<'t> {
         requires job { IsUnderWay (U.leaf units.now)
             (outside (S.rest input.old) (S.faults input.old) (K.taken out.old) (K.faults out.old))
             self }
-        ensures does { Completes (U.leaf units.now) named.now
+        ensures ends { Completes (U.leaf units.now) named.now
             (outside (S.rest input.old) (S.faults input.old) (K.taken out.old) (K.faults out.old))
             (outside (S.rest input.new) (S.faults input.new) (K.taken out.new) (K.faults out.new))
             self.entry result }
-        ensures wants { IfErr result (Wants U.may_want) }
+        ensures wants { RanWants (U.may_want ≡ true) result }
     {
         self.run_out(alloc, tree, units, input, out)?;
         Ok(self.into_ran(alloc, named)?)
@@ -135,11 +135,11 @@ impl<'t> Execution<'t> {
         requires job { IsUnderWay (U.leaf units.now)
             (outside (S.rest input.old) (S.faults input.old) (K.taken out.old) (K.faults out.old))
             self.old }
-        ensures does { RunsOut (U.leaf units.now)
+        ensures runs { RunsOut (U.leaf units.now)
             (outside (S.rest input.old) (S.faults input.old) (K.taken out.old) (K.faults out.old))
             (outside (S.rest input.new) (S.faults input.new) (K.taken out.new) (K.faults out.new))
             self.old self.new result }
-        ensures wants { IfErr result (Wants U.may_want) }
+        ensures wants { RanWants (U.may_want ≡ true) result }
     {
         'picks: loop {
             self.feed(alloc, input)?;
@@ -154,7 +154,7 @@ impl<'t> Execution<'t> {
     fn feed<S: Source>(&mut self, alloc: Global, input: &mut S) -> Result<(), NoMemory>
         requires wide { self.old.stream.words ≡ (node_at self.old.machine.tree 0).ins }
         requires open { self.old.close ≡ None → self.old.stream.closed ≡ None }
-        ensures does { FeedsOn (S.rest input.old) (S.rest input.new) (S.faults input.old)
+        ensures feeds { FeedsOn (S.rest input.old) (S.rest input.new) (S.faults input.old)
             (S.faults input.new) self.old self.new result }
         ensures wants { OnErr result Refused }
     {
@@ -187,9 +187,9 @@ impl<'t> Execution<'t> {
         requires tree { tree.now ≡ self.old.machine.tree }
         requires units { U.tree units.now ≡ tree.now }
         requires range { IsInRange self.old }
-        ensures does { StepsOn (U.leaf units.now) (K.taken out.old) (K.taken out.new) (K.faults out.old)
+        ensures steps { StepsOn (U.leaf units.now) (K.taken out.old) (K.taken out.new) (K.faults out.old)
             (K.faults out.new) self.old self.new result }
-        ensures wants { IfErr result (Wants U.may_want) }
+        ensures wants { RanWants (U.may_want ≡ true) result }
     {
         let Some(process) = self.pick() else {
             return Ok(false);
@@ -221,9 +221,9 @@ impl<'t> Execution<'t> {
         requires count { self.old.machine.fired < 2 ^ 63 }
         requires tree { tree.now ≡ self.old.machine.tree }
         requires units { U.tree units.now ≡ tree.now }
-        ensures does { FiresOn (U.leaf units.now) process (K.taken out.old) (K.taken out.new)
+        ensures fires { FiresOn (U.leaf units.now) process (K.taken out.old) (K.taken out.new)
             (K.faults out.old) (K.faults out.new) self.old self.new result }
-        ensures wants { IfErr result (Wants U.may_want) }
+        ensures wants { RanWants (U.may_want ≡ true) result }
     {
         let emitted = self.fire(alloc, tree, units, process)?;
         self.report = write_emitted(alloc, emitted, self.report, out)?;
@@ -245,8 +245,8 @@ impl<'t> Execution<'t> {
         requires tree { tree.now ≡ self.old.machine.tree }
         requires units { U.tree units.now ≡ tree.now }
         requires within { kind_at self.old.machine.net process ≢ Some ProcKind.Sink }
-        ensures does { OnOk result (HasFired (U.leaf units.now) process self.old self.new None) }
-        ensures wants { OnErr result (IsWanting U.may_want) }
+        ensures { OnGivenOr result (HasFired (U.leaf units.now) process self.old self.new None)
+            (U.may_want ≡ true) }
     {
         let kind = self.machine.kind(process);
         self.machine.fire_within(alloc, tree, units, process)?;
@@ -288,11 +288,11 @@ impl<'t> Execution<'t> {
         requires count { self.old.machine.fired < 2 ^ 63 }
         requires tree { tree.now ≡ self.old.machine.tree }
         requires units { U.tree units.now ≡ tree.now }
-        ensures fired { IfOk result (HasFired (U.leaf units.now) process self.old self.new) }
+        ensures fired { IfGivenOr result (HasFired (U.leaf units.now) process self.old self.new)
+            (U.may_want ≡ true) }
         ensures others { OnOk result (OthersStay self.old.machine self.new.machine process) }
         ensures item { OnOk result (process ≢ 0
             → self.new.machine.inbox ≡ self.old.machine.inbox) }
-        ensures wants { OnErr result (IsWanting U.may_want) }
     {
         let fired = self.machine.fire(alloc, tree, units, process)?;
         keep(&mut self.kept, process, Some(fired.kind))?;

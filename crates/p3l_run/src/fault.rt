@@ -10,7 +10,7 @@ use p3l_io::Failed;
 pub enum RunFault {
     /// Writing failed.
     Write,
-    /// Memory was wanting.
+    /// Out of memory.
     NoMemory,
 }
 

@@ -1,9 +1,9 @@
 // Feeding a machine from a stream.
 
 ghost use Rattle.std.specs.Prelude.{◌≡◌, ◌≤◌, None, OnErr};
+ghost use Rattle.p3l_base.specs.Memory.{Refused};
 ghost use Rattle.p3l_run.specs.Feed.{IsFed, input_limit};
 ghost use Rattle.p3l_skel.specs.Tree.{node_at};
-ghost use Rattle.p3l_base.specs.Memory.{Refused};
 
 use p3l_base::NoMemory;
 use p3l_io::Source;
@@ -26,7 +26,7 @@ pub fn feed<S: Source>(
 ) -> Result<Option<Ending>, NoMemory>
     requires wide { lines.old.words ≡ (node_at machine.old.tree 0).ins }
     requires open { close ≡ None → lines.old.closed ≡ None }
-    ensures does { IsFed (node_at machine.old.tree 0).ins machine.old machine.new lines.old lines.new
+    ensures fed { IsFed (node_at machine.old.tree 0).ins machine.old machine.new lines.old lines.new
         (S.rest input.old) (S.rest input.new) (S.faults input.old) (S.faults input.new)
         close result }
     ensures wants { OnErr result Refused }

@@ -1,14 +1,14 @@
 // A run in virtual time: a timer makes its picks.
 
-ghost use Rattle.std.specs.Prelude.{◌≡◌, ◌<◌, ◌≤◌, ◌*◌, ◌^◌, IfErr, OnErr};
+ghost use Rattle.std.specs.Prelude.{◌≡◌, ◌<◌, ◌≤◌, ◌*◌, ◌^◌, OnErr, true};
+ghost use Rattle.p3l_base.specs.Memory.{Refused};
 ghost use Rattle.p3l_skel.specs.Tree.{node_at};
 ghost use Rattle.p3l_timed.specs.Price.{HasSmallPrices, prices_of};
 ghost use Rattle.p3l_run.specs.Execution.{outside};
 ghost use Rattle.p3l_run.specs.Feed.{most_of_input};
 ghost use Rattle.p3l_run.specs.Network.{IsSound, network};
 ghost use Rattle.p3l_run.specs.Timed.{CompletesInTime, FeedsInTime, IsInTime, IsTimedEnd, MayFeed, MayStep, RunsInTime, StepsInTime, timed_job};
-ghost use Rattle.p3l_run.specs.Wants.{Wants};
-ghost use Rattle.p3l_base.specs.Memory.{Refused};
+ghost use Rattle.p3l_run.specs.Wants.{RanWants};
 
 use crate::execution::Execution;
 use crate::fault::RunFault;
@@ -36,7 +36,7 @@ impl<'t> Execution<'t> {
         input: &mut S,
     ) -> Result<(), NoMemory>
         requires { MayFeed (S.rest input.old) (S.faults input.old) self.old timer.old }
-        ensures does { FeedsInTime (S.rest input.old) (S.rest input.new) (S.faults input.old)
+        ensures feeds { FeedsInTime (S.rest input.old) (S.rest input.new) (S.faults input.old)
             (S.faults input.new) self.old self.new timer.old timer.new result }
         ensures wants { OnErr result Refused }
     {
@@ -64,9 +64,9 @@ impl<'t> Execution<'t> {
         requires units { U.tree units.now ≡ tree.now }
         requires job { MayStep (U.leaf units.now) (K.taken out.old) (K.faults out.old)
             self.old timer.old }
-        ensures does { StepsInTime (U.leaf units.now) (K.taken out.old) (K.taken out.new)
+        ensures steps { StepsInTime (U.leaf units.now) (K.taken out.old) (K.taken out.new)
             (K.faults out.old) (K.faults out.new) self.old self.new timer.old timer.new result }
-        ensures wants { IfErr result (Wants U.may_want) }
+        ensures wants { RanWants (U.may_want ≡ true) result }
     {
         let Some(process) = timer.next() else {
             return Ok(false);
@@ -93,11 +93,11 @@ impl<'t> Execution<'t> {
         requires job { IsInTime (U.leaf units.now)
             (outside (S.rest input.old) (S.faults input.old) (K.taken out.old) (K.faults out.old))
             self.old timer.old }
-        ensures does { RunsInTime (U.leaf units.now)
+        ensures runs { RunsInTime (U.leaf units.now)
             (outside (S.rest input.old) (S.faults input.old) (K.taken out.old) (K.faults out.old))
             (outside (S.rest input.new) (S.faults input.new) (K.taken out.new) (K.faults out.new))
             self.old self.new timer.old timer.new result }
-        ensures wants { IfErr result (Wants U.may_want) }
+        ensures wants { RanWants (U.may_want ≡ true) result }
     {
         'firings: loop {
             self.feed_in_time(alloc, timer, input)?;
@@ -132,11 +132,11 @@ impl<'t> Execution<'t> {
         requires job { IsInTime (U.leaf units.now)
             (outside (S.rest input.old) (S.faults input.old) (K.taken out.old) (K.faults out.old))
             self timer }
-        ensures does { CompletesInTime (U.leaf units.now) tree.now
+        ensures ends { CompletesInTime (U.leaf units.now) tree.now
             (outside (S.rest input.old) (S.faults input.old) (K.taken out.old) (K.faults out.old))
             (outside (S.rest input.new) (S.faults input.new) (K.taken out.new) (K.faults out.new))
             self.entry timer result }
-        ensures wants { IfErr result (Wants U.may_want) }
+        ensures wants { RanWants (U.may_want ≡ true) result }
     {
         let mut timer = timer;
         self.run_in_time(alloc, tree, units, &mut timer, input, out)?;
@@ -163,13 +163,13 @@ pub fn run_in_time<U: Units, S: Source, K: Sink>(
     requires wide { 1 ≤ plan.width }
     requires fits { plan.firings * most_of_input < 2 ^ 63 }
     requires small { HasSmallPrices plan.tree.now costs.now plan.net }
-    ensures does { IsTimedEnd (timed_job (network plan.entry.tree.now (U.leaf plan.entry.units.now)
+    ensures ends { IsTimedEnd (timed_job (network plan.entry.tree.now (U.leaf plan.entry.units.now)
         plan.entry.net plan.entry.firings) keeping
         (outside (S.rest input.old) (S.faults input.old) (K.taken out.old) (K.faults out.old)))
         (prices_of plan.entry.tree.now costs.now plan.entry.net)
         (outside (S.rest input.new) (S.faults input.new) (K.taken out.new) (K.faults out.new))
         result }
-    ensures wants { IfErr result (Wants U.may_want) }
+    ensures wants { RanWants (U.may_want ≡ true) result }
 {
     laws();
     a_stream_gives_its_items();

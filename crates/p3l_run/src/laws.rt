@@ -11,6 +11,7 @@ pub fn laws()
     ensures { (n : Network) → IsSound n → Laws n }
 {
     net::a_filled_machine_follows_the_run();
+    net::counts_rise_by_one_at_most();
     net::runs_go_pick_by_pick();
     sched::a_filled_machine_is_picked_for_as_its_run();
     sched::picks_are_ready();

@@ -29,7 +29,7 @@ returns-in_err-replay-clause-ends g c =
     let opens : Opens r c.args.picks before c.in_ok-execution.execution =
     opens_first c.args.plan.tree.now (g.U.Units.leaf c.args.plan.units.now) c.args.plan.net c.args.plan.firings c.args.picks before (c.laws.ensures _ c.requires.sound) c.requires.few c.requires.named (c.a_stream_gives_its_items.ensures.starts _ _) c.args.plan.width c.requires.width (schedules.Recorded c.new.result) Nothing c.in_ok-execution.execution c.in_ok-execution.ensures in
     let p = err_from_is_err_and c.from_residual-in_err-replay.result c.from_residual-in_err-replay.ensures.1 in
-    rw p.1 (c.in_err-replay.ensures r refl (subst (λ (ps : List ℕ). Opens r ps before c.in_ok-execution.execution) (sym c.as_slice.ensures) opens)).ends
+    rw p.1 (c.in_err-replay.ensures.halts r refl (subst (λ (ps : List ℕ). Opens r ps before c.in_ok-execution.execution) (sym c.as_slice.ensures) opens)).ends
 
 pub returns-in_err-replay-clause-output : goal.returns-in_err-replay-clause-output
 returns-in_err-replay-clause-output g c =
@@ -38,7 +38,7 @@ returns-in_err-replay-clause-output g c =
     let opens : Opens r c.args.picks before c.in_ok-execution.execution =
     opens_first c.args.plan.tree.now (g.U.Units.leaf c.args.plan.units.now) c.args.plan.net c.args.plan.firings c.args.picks before (c.laws.ensures _ c.requires.sound) c.requires.few c.requires.named (c.a_stream_gives_its_items.ensures.starts _ _) c.args.plan.width c.requires.width (schedules.Recorded c.new.result) Nothing c.in_ok-execution.execution c.in_ok-execution.ensures in
     let p = err_from_is_err_and c.from_residual-in_err-replay.result c.from_residual-in_err-replay.ensures.1 in
-    rw (p.1, p.2) (c.in_err-replay.ensures r refl (subst (λ (ps : List ℕ). Opens r ps before c.in_ok-execution.execution) (sym c.as_slice.ensures) opens)).output
+    rw (p.1, p.2) (c.in_err-replay.ensures.halts r refl (subst (λ (ps : List ℕ). Opens r ps before c.in_ok-execution.execution) (sym c.as_slice.ensures) opens)).output
 
 pub into_checkpoint-requires : goal.into_checkpoint-requires
 into_checkpoint-requires g c =
@@ -48,7 +48,7 @@ into_checkpoint-requires g c =
     opens_first c.args.plan.tree.now (g.U.Units.leaf c.args.plan.units.now) c.args.plan.net c.args.plan.firings c.args.picks before (c.laws.ensures _ c.requires.sound) c.requires.few c.requires.named (c.a_stream_gives_its_items.ensures.starts _ _) c.args.plan.width c.requires.width (schedules.Recorded c.new.result) Nothing c.in_ok-execution.execution c.in_ok-execution.ensures in (
       r,
       outside (g.S.Source.rest c.replay.new.input) (g.S.Source.faults c.replay.new.input) (g.K.Sink.taken c.replay.new.out) (g.K.Sink.faults c.replay.new.out),
-      c.in_ok-replay.ensures r refl (subst (λ (ps : List ℕ). Opens r ps before c.in_ok-execution.execution) (sym c.as_slice.ensures) opens),
+      c.in_ok-replay.ensures.halts r refl (subst (λ (ps : List ℕ). Opens r ps before c.in_ok-execution.execution) (sym c.as_slice.ensures) opens),
     )
 
 pub returns-in_err-into_checkpoint-clause-ends : goal.returns-in_err-into_checkpoint-clause-ends
@@ -58,7 +58,7 @@ returns-in_err-into_checkpoint-clause-ends g c =
     let r : Replay = replay_of (network c.args.plan.tree.now (g.U.Units.leaf c.args.plan.units.now) c.args.plan.net c.args.plan.firings) c.args.picks before in
     let opens : Opens r c.args.picks before c.in_ok-execution.execution =
     opens_first c.args.plan.tree.now (g.U.Units.leaf c.args.plan.units.now) c.args.plan.net c.args.plan.firings c.args.picks before (c.laws.ensures _ c.requires.sound) c.requires.few c.requires.named (c.a_stream_gives_its_items.ensures.starts _ _) c.args.plan.width c.requires.width (schedules.Recorded c.new.result) Nothing c.in_ok-execution.execution c.in_ok-execution.ensures in
-    let halts : Halts r now c.replay.new.self = c.in_ok-replay.ensures r refl (subst (λ (ps : List ℕ). Opens r ps before c.in_ok-execution.execution) (sym c.as_slice.ensures) opens) in
+    let halts : Halts r now c.replay.new.self = c.in_ok-replay.ensures.halts r refl (subst (λ (ps : List ℕ). Opens r ps before c.in_ok-execution.execution) (sym c.as_slice.ensures) opens) in
     let p = err_from_is_err_and c.from_residual-in_err-into_checkpoint.result c.from_residual-in_err-into_checkpoint.ensures.1 in
     rw p.1 (comes_early r halts.used halts.unused now c.replay.new.self halts.replays).ends
 
@@ -69,7 +69,7 @@ returns-in_err-into_checkpoint-clause-output g c =
     let r : Replay = replay_of (network c.args.plan.tree.now (g.U.Units.leaf c.args.plan.units.now) c.args.plan.net c.args.plan.firings) c.args.picks before in
     let opens : Opens r c.args.picks before c.in_ok-execution.execution =
     opens_first c.args.plan.tree.now (g.U.Units.leaf c.args.plan.units.now) c.args.plan.net c.args.plan.firings c.args.picks before (c.laws.ensures _ c.requires.sound) c.requires.few c.requires.named (c.a_stream_gives_its_items.ensures.starts _ _) c.args.plan.width c.requires.width (schedules.Recorded c.new.result) Nothing c.in_ok-execution.execution c.in_ok-execution.ensures in
-    let halts : Halts r now c.replay.new.self = c.in_ok-replay.ensures r refl (subst (λ (ps : List ℕ). Opens r ps before c.in_ok-execution.execution) (sym c.as_slice.ensures) opens) in
+    let halts : Halts r now c.replay.new.self = c.in_ok-replay.ensures.halts r refl (subst (λ (ps : List ℕ). Opens r ps before c.in_ok-execution.execution) (sym c.as_slice.ensures) opens) in
     let p = err_from_is_err_and c.from_residual-in_err-into_checkpoint.result c.from_residual-in_err-into_checkpoint.ensures.1 in
     rw (p.1, p.2) (comes_early r halts.used halts.unused now c.replay.new.self halts.replays).output
 
@@ -80,6 +80,6 @@ returns g c =
     let r : Replay = replay_of (network c.args.plan.tree.now (g.U.Units.leaf c.args.plan.units.now) c.args.plan.net c.args.plan.firings) c.args.picks before in
     let opens : Opens r c.args.picks before c.in_ok-execution.execution =
     opens_first c.args.plan.tree.now (g.U.Units.leaf c.args.plan.units.now) c.args.plan.net c.args.plan.firings c.args.picks before (c.laws.ensures _ c.requires.sound) c.requires.few c.requires.named (c.a_stream_gives_its_items.ensures.starts _ _) c.args.plan.width c.requires.width (schedules.Recorded c.new.result) Nothing c.in_ok-execution.execution c.in_ok-execution.ensures in
-    let halts : Halts r now c.replay.new.self = c.in_ok-replay.ensures r refl (subst (λ (ps : List ℕ). Opens r ps before c.in_ok-execution.execution) (sym c.as_slice.ensures) opens) in
+    let halts : Halts r now c.replay.new.self = c.in_ok-replay.ensures.halts r refl (subst (λ (ps : List ℕ). Opens r ps before c.in_ok-execution.execution) (sym c.as_slice.ensures) opens) in
     let end = c.in_ok-into_checkpoint.ensures r now refl halts in
-    record { ends = end.ends; output = end.output }
+    record { ends = end.ends; output = end.output; wants = tt }

@@ -24,6 +24,7 @@ returns c = λ n sound. record {
   fired_within = start.fired_within n sound;
   fired_most = start.fired_most n sound;
   counted = start.counted n sound;
+  numbers = start.numbers_within n.tree n.leaf n.net (c.counts_rise_by_one_at_most.ensures.numbers n.tree n.leaf n.net);
   stops = λ schedule items widths on. only_recorded_picks_stop n schedule items sound widths on;
   begins = start.begins n sound;
   finished = start.finished n sound;

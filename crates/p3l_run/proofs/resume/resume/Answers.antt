@@ -86,6 +86,6 @@ returns g c =
     let n : Network = network c.args.plan.tree.now (g.U.Units.leaf c.args.plan.units.now) c.args.plan.net c.args.plan.firings in
     let before : Outside = outside (g.S.Source.rest c.args.input.now) (g.S.Source.faults c.args.input.now) (g.K.Sink.taken c.args.out.now) (g.K.Sink.faults c.args.out.now) in
     let end : (r : Resumption) → IsResumedBy n c.args.shot r → Ends (job_from n c.args.schedule before r) _ c.complete.result =
-    λ r by. c.complete.ensures (job_from n c.args.schedule before r) refl refl
+    λ r by. c.complete.ensures.ends (job_from n c.args.schedule before r) refl refl
     (executes_from n c.args.schedule before c.args.shot r by c.laws.ensures c.requires.few c.requires.named (c.a_stream_gives_its_items.ensures.starts _ _) c.in_ok-machine.machine _ c.in_ok-machine.ensures c.uncounted.ensures c.args.plan.width c.requires.width c.in_ok-execution.execution c.in_ok-execution.ensures) in
-    record { ends = λ r by. (end r by).ends; output = (end c.requires.resumable.0 c.requires.resumable.1).output }
+    record { ends = λ r by. (end r by).ends; output = (end c.requires.resumable.0 c.requires.resumable.1).output; wants = c.complete.ensures.wants }

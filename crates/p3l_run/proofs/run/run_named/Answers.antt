@@ -31,5 +31,5 @@ complete-requires-clause-job g c =
 pub returns : goal.returns
 returns g c =
     let job : Job = job_of (network_named c.args.named.now c.args.plan.tree.now (g.U.Units.leaf c.args.plan.units.now) c.args.plan.net c.args.plan.firings) c.args.schedule c.args.keeping (outside (g.S.Source.rest c.args.input.now) (g.S.Source.faults c.args.input.now) (g.K.Sink.taken c.args.out.now) (g.K.Sink.faults c.args.out.now)) in
-    let end = c.complete.ensures job refl refl (executes_first job (c.laws.ensures _ (named_sound c.args.named.now _ _ _ _ c.requires.sound)) c.requires.fits c.requires.few c.requires.picks (c.a_stream_gives_its_items.ensures.starts _ _) _ refl 0 (omega arith) none_before c.args.plan.width c.requires.width c.in_ok-execution.execution c.in_ok-execution.ensures) in
-    record { ends = end.ends; output = end.output }
+    let end = c.complete.ensures.ends job refl refl (executes_first job (c.laws.ensures _ (named_sound c.args.named.now _ _ _ _ c.requires.sound)) c.requires.fits c.requires.few c.requires.picks (c.a_stream_gives_its_items.ensures.starts _ _) _ refl 0 (omega arith) none_before c.args.plan.width c.requires.width c.in_ok-execution.execution c.in_ok-execution.ensures) in
+    record { ends = end.ends; output = end.output; wants = c.complete.ensures.wants }

@@ -3,7 +3,7 @@ use Rattle.p3l_base.specs.declared.outcome.Trap.{Trap}
 use Rattle.p3l_stream.specs.declared.items.Ending.{Ending}
 use Rattle.p3l_run.specs.Replay.{cut_of}
 use Rattle.p3l_run.specs.Run.{end_of}
-use Rattle.p3l_run.proofs.ReplaySteps.{ends_cut, ends_saved, ends_trapped, few_sent, halted_countable, is_none, no_trap, not_none, trapped_is}
+use Rattle.p3l_run.proofs.ReplaySteps.{ends_cut, ends_saved, ends_trapped, few_sent, is_countable, is_none, no_trap, not_none, trapped_is}
 use Rattle.p3l_run.proofs.execution.Execution.into_checkpoint.Goals as goal
 
 -- where there is no other end, the stream isn't cut off
@@ -28,7 +28,7 @@ pub save-requires-clause-sent : goal.save-requires-clause-sent
 save-requires-clause-sent c = few_sent c.requires.0 c.requires.2.used c.requires.2.unused c.requires.1 c.args.self c.requires.2.replays
 
 pub save-requires-clause-countable : goal.save-requires-clause-countable
-save-requires-clause-countable c = halted_countable c.args.self c.requires
+save-requires-clause-countable c = is_countable c.requires.0 c.requires.1 c.args.self c.requires.2
 
 pub returns : goal.returns
 returns c = λ r now named_is h. ends_saved r now c.args.self h (is_none Trap c.args.self.report.trap c.is_some.result c.is_some.ensures c.if-is_some.false) (not_cut c.cut_off.result c.args.self.close c.cut_off.ensures c.in_default.not-Some) c.in_ok-saved.saved c.in_ok-saved.ensures
