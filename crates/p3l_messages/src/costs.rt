@@ -38,17 +38,17 @@ fn row_of(alloc: Global, text: &[u8], key: &str) -> Result<Option<u32>, NoMemory
         Some((section, last)) => (section, last),
         None => ("", key),
     };
-    let mut row = 0u32;
-    let mut here = "";
+    let mut row: u32 = 0;
+    let mut is_here = section.is_empty();
     for line in text.as_str().lines() {
         row = row.saturating_add(1);
         let line = line.trim();
         if let Some(name) = section_of(line) {
-            here = name;
+            is_here = name == section;
             if name == key {
                 return Ok(Some(row));
             }
-        } else if has_key(line, key) || (here == section && has_key(line, last)) {
+        } else if has_key(line, key) || (is_here && has_key(line, last)) {
             return Ok(Some(row));
         }
     }

@@ -1,6 +1,6 @@
 // The tokens with which a program could go on.
 
-ghost use Rattle.std.specs.Prelude.{OnErr};
+ghost use Rattle.std.specs.Prelude.{◌≤◌, IfSome, OnErr, length};
 ghost use Rattle.p3l_base.specs.Memory.{Refused};
 
 use crate::place::put_safely;
@@ -79,7 +79,15 @@ pub(crate) fn put_expected(
         message.push_str("`")?;
     }
     if at <= MOST_BEFORE {
-        put_candidates(alloc, message, &text[..at], Pos { line: row, col: column })?;
+        put_candidates(
+            alloc,
+            message,
+            &text[..at],
+            Pos {
+                line: row,
+                col: column,
+            },
+        )?;
     }
     message.push_str(". ")?;
     Ok(())
@@ -122,14 +130,18 @@ fn goes_on(alloc: Global, before: &[u8], token: &str, at: Pos) -> Result<bool, N
 }
 
 /// The number of bytes before a place, if the text has it.
-fn offset_of(text: &[u8], row: u32, column: u32) -> Option<usize> {
-    let mut at = 0;
-    let mut left = row;
-    while left > 1 {
-        let line = text.get(at..)?;
-        at += line.iter().position(|byte| *byte == b'\n')? + 1;
-        left -= 1;
+fn offset_of(text: &[u8], row: u32, column: u32) -> Option<usize>
+    ensures { IfSome result (λ at. at ≤ length text.now) }
+{
+    let mut rest = text;
+    for _ in 1..row {
+        let end = rest.iter().position(|byte| *byte == b'\n')?;
+        rest = &rest[end + 1..];
     }
-    let place = at + (column.max(1) as usize - 1);
-    if place <= text.len() { Some(place) } else { None }
+    let before = column.max(1) as usize - 1;
+    if before <= rest.len() {
+        Some(text.len().saturating_sub(rest.len() - before))
+    } else {
+        None
+    }
 }

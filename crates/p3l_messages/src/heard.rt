@@ -2,12 +2,27 @@
 
 /// The number of refusal in a line: the first word of digits before a word that begins with a capital.
 pub(crate) fn number_in(line: &str) -> Option<&str> {
-    let mut last = "";
+    let place = place_of_name(line)?;
+    let mut at: u64 = 0;
     for word in line.split_ascii_whitespace() {
-        if is_number(last) && begins_with_capital(word) {
-            return Some(last);
+        at = at.saturating_add(1);
+        if at == place {
+            return Some(word);
         }
-        last = word;
+    }
+    None
+}
+
+/// How many words stand before the first that begins with a capital and follows a number.
+fn place_of_name(line: &str) -> Option<u64> {
+    let mut at: u64 = 0;
+    let mut follows_number = false;
+    for word in line.split_ascii_whitespace() {
+        if follows_number && begins_with_capital(word) {
+            return Some(at);
+        }
+        at = at.saturating_add(1);
+        follows_number = is_number(word);
     }
     None
 }

@@ -1,6 +1,6 @@
 // Files that keep what was read of them.
 
-ghost use Rattle.std.specs.Prelude.{IfSome};
+ghost use Rattle.std.specs.Prelude.{◌≡◌};
 
 use p3l_base::{List, Name, NoMemory};
 use p3l_io::{FileFault, Files, WriteFault};

@@ -44,7 +44,10 @@ pub fn message_on<F: Files>(
 {
     match answer.status.0 {
         2 => usage(alloc, answer.words),
-        5 => sentence(alloc, "The number is how many processors the program needs at least."),
+        5 => sentence(
+            alloc,
+            "The number is how many processors the program needs at least.",
+        ),
         9 => unreadable(alloc, answer, files),
         _ => numbered(alloc, answer, files),
     }

@@ -49,18 +49,19 @@ pub(crate) fn title(page: &'static str) -> &'static str {
 pub(crate) fn put_wrapped(message: &mut String, text: &str) -> Result<(), NoMemory>
     ensures { OnErr result Refused }
 {
-    let mut column = 0;
+    let mut column: usize = 0;
     for word in text.split_ascii_whitespace() {
-        if column > 0 && column + 1 + word.len() > COLUMNS {
-            message.push_str("\n")?;
-            column = 0;
-        }
-        if column > 0 {
+        let end = column.saturating_add(1).saturating_add(word.len());
+        if column > 0 && end <= COLUMNS {
             message.push_str(" ")?;
-            column += 1;
+            column = end;
+        } else {
+            if column > 0 {
+                message.push_str("\n")?;
+            }
+            column = word.len();
         }
         message.push_str(word)?;
-        column += word.len();
     }
     message.push_str("\n")?;
     Ok(())

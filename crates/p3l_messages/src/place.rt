@@ -37,13 +37,11 @@ impl Style {
 /// The line of a number, counted from 1, if the text has it.
 pub(crate) fn line_of(text: &[u8], number: u32) -> Option<&[u8]> {
     let mut rest = text;
-    let mut left = number;
-    while left > 1 {
+    for _ in 1..number {
         match rest.iter().position(|byte| *byte == b'\n') {
             Some(end) => rest = &rest[end + 1..],
             None => return None,
         }
-        left -= 1;
     }
     match rest.iter().position(|byte| *byte == b'\n') {
         Some(end) => Some(&rest[..end]),
@@ -81,15 +79,11 @@ pub(crate) fn column_in(alloc: Global, line: &[u8], column: u32) -> Result<u32, 
     let at = (column.max(1) as usize - 1).min(line.len());
     let mut front = String::new(alloc);
     put_safely(alloc, &mut front, &line[..at])?;
-    Ok((front.as_str().width() as u32).saturating_add(1))
+    Ok(front.as_str().width().min(u32::MAX as usize - 1) as u32 + 1)
 }
 
 /// Bytes of a file or of the words, in a form that can't steer a terminal.
-pub(crate) fn put_safely(
-    alloc: Global,
-    message: &mut String,
-    bytes: &[u8],
-) -> Result<(), NoMemory>
+pub(crate) fn put_safely(alloc: Global, message: &mut String, bytes: &[u8]) -> Result<(), NoMemory>
     ensures { OnErr result Refused }
 {
     let safe = safe_line(alloc, bytes)?;

@@ -1,7 +1,7 @@
 // Lines as a terminal may get them.
 
 ghost use Rattle.p3l_base.specs.Memory.{Refused};
-ghost use Rattle.std.specs.Prelude.{OnErr};
+ghost use Rattle.std.specs.Prelude.{◌≤◌, OnErr, length};
 
 use p3l_base::NoMemory;
 use std::alloc::Global;
@@ -17,18 +17,24 @@ pub fn safe_line(alloc: Global, line: &[u8]) -> Result<Vec<u8>, NoMemory>
     ensures { OnErr result Refused }
 {
     let mut safe = Vec::new(alloc);
-    let mut rest = line;
-    let mut shown = 0;
-    while !rest.is_empty() {
-        let steering = steering_len(rest);
-        let count = steering.max(1);
-        shown = if is_gap(rest[0]) { 0 } else { shown + count };
+    // how many bytes a terminal would read as one with those before, and how many the word has had
+    let mut steering: usize = 0;
+    let mut shown: usize = 0;
+    for at in 0..line.len() {
+        if steering == 0 {
+            steering = steering_len(&line[at..]);
+        }
+        shown = if is_gap(line[at]) {
+            0
+        } else {
+            shown.saturating_add(1)
+        };
         if shown <= MOST_SHOWN {
-            put_part(&mut safe, &rest[..count], steering > 0)?;
-        } else if shown - count <= MOST_SHOWN {
+            put_byte(&mut safe, line[at], steering > 0)?;
+        } else if shown == MOST_SHOWN + 1 {
             safe.extend_from_slice(b"..")?;
         }
-        rest = &rest[count..];
+        steering = steering.saturating_sub(1);
     }
     Ok(safe)
 }
@@ -38,23 +44,18 @@ fn is_gap(byte: u8) -> bool {
     byte == b' ' || byte == b'\n'
 }
 
-/// Adds bytes as they are, or each by its number.
-fn put_part(safe: &mut Vec<u8>, part: &[u8], is_steering: bool) -> Result<(), NoMemory>
+/// Adds a byte as it is, or by its number; a tab becomes one blank, as the place below it counts.
+fn put_byte(safe: &mut Vec<u8>, byte: u8, is_steering: bool) -> Result<(), NoMemory>
     ensures { OnErr result Refused }
 {
-    if part == b"\t".as_slice() {
-        // one column wide, as the place below it counts
-        safe.push(b' ')?;
-        return Ok(());
-    }
-    if !is_steering {
-        safe.extend_from_slice(part)?;
-        return Ok(());
-    }
-    for byte in part.iter() {
-        let high = DIGITS[(*byte / 16) as usize];
-        let low = DIGITS[(*byte % 16) as usize];
+    if is_steering {
+        let high = DIGITS[(byte / 16) as usize];
+        let low = DIGITS[(byte % 16) as usize];
         safe.extend_from_slice(&[b'\\', b'x', high, low])?;
+    } else if byte == b'\t' {
+        safe.push(b' ')?;
+    } else {
+        safe.push(byte)?;
     }
     Ok(())
 }
