@@ -26,7 +26,7 @@ stop (RowWrong a b c) f g h = ap (λ o. or_else o g) h
 stop (RowMissing a b c d) f g h = ap (λ o. or_else o g) h
 stop (ClaimWrong a) f g h = ap (λ o. or_else o g) h
 stop (BadText a) f g h = ap (λ o. or_else o g) h
-stop NoMemory f g h = tt
+stop NoMemory f g h = h
 
 or_none : (f g : Option CertRefusal) → or_else f g ≡ None → (f ≡ None) × (g ≡ None)
 or_none None g e = (refl, e)

@@ -10,6 +10,7 @@ use Rattle.p3l_model.specs.Least.{part_bound}
 use Rattle.p3l_cert.specs.declared.cert.Key.{Key}
 use Rattle.p3l_cert.specs.Order.{key_before}
 use Rattle.p3l_cert.specs.Rule.{key, low_of, run_of, cost_at}
+use Rattle.p3l_base.specs.Limits.{most_processors}
 
 -- the keys of the part for the k numbers of workers from `low` on
 unfoldable pub worker_keys : ℕ → (ℕ → ℕ) → ℕ → ℕ → ℕ → List Key
@@ -48,7 +49,7 @@ needed_keys tree costs service processors =
 -- a key's numbers are small: those of the keys that it depends on are too
 pub record IsSmall (k : Key) : Type 0 where
   pub some_cap : 1 ≤ k.cap
-  pub cap : k.cap ≤ 512
+  pub cap : k.cap ≤ most_processors
   pub bound : k.bound * k.cap < 2 ^ 109
 
 -- no key comes before the one in front of it

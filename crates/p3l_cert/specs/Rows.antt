@@ -3,12 +3,13 @@ use Rattle.std.specs.Prelude.{◌≡◌, ℕ, true, ◌≤◌, ◌<◌, List, ge
 use Rattle.std.specs.List.{All}
 use Rattle.p3l_cert.specs.declared.cert.Row.{Row}
 use Rattle.p3l_cert.specs.Order.{comes_before}
+use Rattle.p3l_base.specs.Limits.{most_processors}
 
 -- a row's numbers are in their ranges
 pub record IsInRange (row : Row) : Type 0 where
   pub bound : row.bound < 1298074214633706907132624082305024
   pub some_cap : 1 ≤ row.cap
-  pub cap : row.cap ≤ 512
+  pub cap : row.cap ≤ most_processors
   pub some_least : 1 ≤ row.least
   pub least : row.least ≤ 513
 

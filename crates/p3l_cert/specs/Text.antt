@@ -10,6 +10,7 @@ use Rattle.p3l_format.specs.Text.{text_then}
 use Rattle.p3l_format.specs.Decimal.{number_in, number_then}
 use Rattle.p3l_format.specs.Line.{line, number_line}
 use Rattle.p3l_format.specs.Series.{until}
+use Rattle.p3l_base.specs.Limits.{most_processors}
 
 -- "p3l-cert 1" and a line feed
 abbrev pub header : List ℕ
@@ -75,7 +76,7 @@ is_above (Some other) row = comes_before other row
 
 unfoldable pub numbers_format : Format ℕ Row
 numbers_format = record_of (λ p. record { node = p.0; bound = p.1.0; cap = p.1.1.0; least = p.1.1.1 }) (λ r. (r.node, (r.bound, (r.cap, r.least))))
-    (both (number_then 0 most_number space) (both (number_then 0 most_bound space) (both (number_then 1 512 space) (number_then 1 513 feed))))
+    (both (number_then 0 most_number space) (both (number_then 0 most_bound space) (both (number_then 1 most_processors space) (number_then 1 513 feed))))
 
 -- a row above the one before it
 unfoldable pub row_format : RowItem → Format ℕ Row
@@ -96,7 +97,7 @@ unfoldable pub body_format : Format ℕ Cert
 body_format = record_of
     (λ p. record { processors = p.0; counts = record { list = p.1.0 }; service = p.1.1.0; used = p.1.1.1.0; rows = p.1.1.1.1 })
     (λ c. (c.processors, (c.counts.list, (c.service, (c.used, c.rows)))))
-    (both (number_line processors_word 1 512) (both counts_format (both (number_line service_word 0 most_bound) (both (number_line used_word 0 most_number) rows_format))))
+    (both (number_line processors_word 1 most_processors) (both counts_format (both (number_line service_word 0 most_bound) (both (number_line used_word 0 most_number) rows_format))))
 
 unfoldable pub cert_format : Format ℕ Cert
 cert_format = text_then header body_format

@@ -35,7 +35,7 @@ pub struct Cert {
     pub rows: List<Row>,
 }
 
-/// What a certificate says of its numbers of workers.
+/// A claim of a certificate on its numbers of workers.
 #[derive(Clone, Copy, Debug, Drop, PartialEq, Eq)]
 pub enum Claim {
     /// They are lawful.
@@ -44,9 +44,9 @@ pub enum Claim {
     Service,
     /// They make `used` processes.
     Used,
-    /// That many processes fit the processors.
+    /// The number of processes fits the processors.
     Fits,
-    /// The rows of the root say that fewer processes or a sooner service time are not to be had.
+    /// The rows of the root prove that no counts use fewer processes or less service time.
     Least,
 }
 

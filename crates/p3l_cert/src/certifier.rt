@@ -2,6 +2,7 @@
 
 ghost use Rattle.std.specs.Prelude.{◌≡◌, ◌<◌, ◌≤◌, true, IfOk};
 ghost use Rattle.p3l_base.specs.Memory.{IfGiven};
+ghost use Rattle.p3l_base.specs.Limits.{most_processors};
 ghost use Rattle.p3l_skel.specs.Lawful.{IsLawfulTree};
 ghost use Rattle.p3l_skel.specs.Numbers.{procs};
 ghost use Rattle.p3l_cost.specs.Costs.{AreCostsOf};
@@ -39,7 +40,7 @@ fn needed_keys(
     requires table { IsTable tree.now costs.now table.now }
     requires service { service < never }
     requires some { 1 ≤ processors }
-    requires few { processors ≤ 512 }
+    requires few { processors ≤ most_processors }
     ensures { IfGiven result (λ keys. keys.items ≡ needed_keys tree.now costs.now service processors) }
 {
     let mut keys = Vec::new(alloc);
@@ -73,7 +74,7 @@ fn needed_rows(
     requires costs { AreCostsOf tree.now costs.now }
     requires service { service < never }
     requires some { 1 ≤ processors }
-    requires few { processors ≤ 512 }
+    requires few { processors ≤ most_processors }
     ensures { IfGiven result (λ rows. AreNeededRows tree.now costs.now service processors rows.items) }
 {
     let table = table(alloc, tree, costs)?;
@@ -107,7 +108,7 @@ pub fn certify(
     requires tree { IsLawfulTree tree.now }
     requires costs { AreCostsOf tree.now costs.now }
     requires some { 1 ≤ processors }
-    requires few { processors ≤ 512 }
+    requires few { processors ≤ most_processors }
     requires optimal { IsOptimal tree.now costs.now processors counts.now.list }
     requires service { service ≡ service_of tree.now costs.now counts.now.list 0 }
     requires used { used ≡ procs tree.now counts.now.list 0 }

@@ -1,6 +1,7 @@
 // The checker of certificates.
 
 ghost use Rattle.std.specs.Prelude.{◌≡◌, ◌≤◌, Some, OnOk, IfOk, IfErr, true};
+ghost use Rattle.p3l_base.specs.Limits.{most_processors};
 ghost use Rattle.p3l_skel.specs.Counts.{HasLawfulCounts};
 ghost use Rattle.p3l_skel.specs.Lawful.{IsLawfulTree};
 ghost use Rattle.p3l_cost.specs.Costs.{AreCostsOf};
@@ -133,7 +134,7 @@ fn check_least(kept: u32, least: u32) -> Result<(), CertRefusal>
 // Whether the rows of the root are there, and say that no counts are better.
 fn check_top(cert: &Cert) -> Result<(), CertRefusal>
     requires rows { AreRows cert.now.rows }
-    requires processors { cert.now.processors ≤ 512 }
+    requires processors { cert.now.processors ≤ most_processors }
     ensures { Answers result (top_fault cert.now) }
 {
     let rows = cert.rows.as_slice();
@@ -153,7 +154,7 @@ fn check_lawful(alloc: Global, tree: &Tree, costs: &Costs, cert: &Cert) -> Resul
     requires costs { AreCostsOf tree.now costs.now }
     requires counts { HasLawfulCounts tree.now cert.now.counts.list }
     requires rows { AreRows cert.now.rows }
-    requires processors { cert.now.processors ≤ 512 }
+    requires processors { cert.now.processors ≤ most_processors }
     ensures { Answers result (cert_fault tree.now costs.now cert.now) }
 {
     check_claims(tree, costs, cert)?;

@@ -24,7 +24,7 @@ pub fn is_below(row: &Row, key: Key) -> bool
             && (row.bound < key.bound || row.bound == key.bound && row.cap < key.cap)
 }
 
-// How many rows come before that of a key.
+// The number of rows before that of a key.
 fn place(rows: &[Row], key: Key) -> usize
     requires { AreRows rows.now }
     ensures { IsPlace rows.now key result }

@@ -10,6 +10,7 @@ ghost use Rattle.p3l_cert.specs.laws.Text.{count_takes, row_takes};
 
 use crate::cert::Row;
 use p3l_base::NoMemory;
+use p3l_base::limits::MOST_PROCESSORS;
 use p3l_format::{
     Cause, Item, ReadError, fault_at, fault_of, read_number_in, read_number_then, read_text,
     write_number, write_number_then,
@@ -82,7 +83,7 @@ fn read_numbers(bytes: &[u8]) -> Result<(Row, &[u8]), ReadError>
 {
     let (node, rest) = read_number_then(0, u32::MAX as u128, b" ", bytes)?;
     let (bound, rest) = read_number_then(0, BOUND_LIMIT - 1, b" ", rest)?;
-    let (cap, rest) = read_number_then(1, 512, b" ", rest)?;
+    let (cap, rest) = read_number_then(1, MOST_PROCESSORS as u128, b" ", rest)?;
     let (least, rest) = read_number_then(1, 513, b"\n", rest)?;
     Ok((
         Row {

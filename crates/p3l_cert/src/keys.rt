@@ -3,6 +3,7 @@
 ghost use Rattle.std.specs.Prelude.{◌≡◌, ◌<◌, ◌≤◌, ◌^◌, ◌++◌, map};
 ghost use Rattle.p3l_base.specs.Memory.{IfGiven, OnGiven};
 ghost use Rattle.std.specs.List.Sorted.{IsPermutation};
+ghost use Rattle.p3l_base.specs.Limits.{most_processors};
 ghost use Rattle.p3l_skel.specs.Lawful.{IsLawfulTree};
 ghost use Rattle.p3l_cost.specs.Costs.{AreCostsOf};
 ghost use Rattle.p3l_model.specs.Costed.{IsSharing};
@@ -46,9 +47,9 @@ fn worker_keys(
     cap: u32,
 ) -> Result<List<Key>, NoMemory>
     requires sharing { IsSharing sharing }
-    requires low { span.low ≤ 512 }
+    requires low { span.low ≤ most_processors }
     requires bound { bound < 2 ^ 110 }
-    requires cap { cap ≤ 512 }
+    requires cap { cap ≤ most_processors }
     ensures { IfGiven result (λ keys. keys
         ≡ worker_keys part (part_bound sharing bound) cap (low_of span) (run_of span cap)) }
 {
@@ -77,7 +78,7 @@ fn dependencies_of(
 ) -> Result<List<Key>, NoMemory>
     requires cost { IsUsable cost.now }
     requires bound { bound < 2 ^ 110 }
-    requires cap { cap ≤ 512 }
+    requires cap { cap ≤ most_processors }
     ensures { IfGiven result (λ keys. keys ≡ dependencies_of cost.now parts.now bound cap) }
 {
     match cost {

@@ -1,6 +1,7 @@
 // The rules of rows.
 
 ghost use Rattle.std.specs.Prelude.{◌≡◌, ◌<◌, ◌≤◌, ◌^◌, slice_index};
+ghost use Rattle.p3l_base.specs.Limits.{most_processors};
 ghost use Rattle.p3l_skel.specs.Numbers.{joined_procs};
 ghost use Rattle.p3l_model.specs.Costed.{IsSharing};
 ghost use Rattle.p3l_model.specs.Least.{part_bound, capped};
@@ -15,7 +16,7 @@ use p3l_model::{FoldCost, NodeCost, Sharing, Span};
 // The stages of a pipe.
 fn stages_rule(rows: &[Row], bound: u128, cap: u32, parts: &[u32]) -> Result<u32, Key>
     requires rows { AreRows rows.now }
-    requires cap { cap ≤ 512 }
+    requires cap { cap ≤ most_processors }
     ensures { result ≡ stages_rule (needed rows.now) bound cap 0 parts.now }
 {
     let mut before = 0;
@@ -37,7 +38,7 @@ fn stages_rule(rows: &[Row], bound: u128, cap: u32, parts: &[u32]) -> Result<u32
 pub fn part_bound(sharing: Sharing, bound: u128, workers: u32) -> u128
     requires sharing { IsSharing sharing }
     requires some { 1 ≤ workers }
-    requires workers { workers ≤ 512 }
+    requires workers { workers ≤ most_processors }
     requires bound { bound < 2 ^ 110 }
     ensures { result ≡ part_bound sharing bound workers }
 {
@@ -60,7 +61,7 @@ fn workers_step(
     requires rows { AreRows rows.now }
     requires sharing { IsSharing sharing }
     requires some { 1 ≤ workers }
-    requires workers { workers ≤ 512 }
+    requires workers { workers ≤ most_processors }
     requires bound { bound < 2 ^ 110 }
     ensures { result
         ≡ workers_step (needed rows.now) part (part_bound sharing bound) cap workers best }
@@ -87,9 +88,9 @@ fn workers_rule(
 ) -> Result<u32, Key>
     requires rows { AreRows rows.now }
     requires sharing { IsSharing sharing }
-    requires low { span.low ≤ 512 }
+    requires low { span.low ≤ most_processors }
     requires bound { bound < 2 ^ 110 }
-    requires cap { cap ≤ 512 }
+    requires cap { cap ≤ most_processors }
     ensures { result
         ≡ workers_rule (needed rows.now) part (part_bound sharing bound) cap (low_of span)
         (run_of span cap) }
@@ -106,8 +107,8 @@ fn workers_rule(
 // With `segments` segments.
 fn segments_step(span: Span, fold: &FoldCost, bound: u128, cap: u32, segments: u32) -> u32
     requires some { 1 ≤ segments }
-    requires few { segments ≤ 512 }
-    requires cap { cap ≤ 512 }
+    requires few { segments ≤ most_processors }
+    requires cap { cap ≤ most_processors }
     ensures { result ≡ segments_step span fold.now bound cap segments }
 {
     if span.low <= segments && segments <= span.high && fold.service(segments) <= bound {
@@ -118,7 +119,7 @@ fn segments_step(span: Span, fold: &FoldCost, bound: u128, cap: u32, segments: u
 
 // The processes of a reduce with this number of segments.
 fn joined_procs(segments: u32) -> u32
-    requires { segments ≤ 512 }
+    requires { segments ≤ most_processors }
     ensures { result ≡ joined_procs segments }
 {
     if segments == 1 {
@@ -130,7 +131,7 @@ fn joined_procs(segments: u32) -> u32
 // With any lawful number of segments.
 #[tactic(auto, unfolding(crate::specs::Rule::segments_rule, p3l_model::specs::Least::least_over))]
 fn segments_rule(span: Span, fold: &FoldCost, bound: u128, cap: u32) -> u32
-    requires { cap ≤ 512 }
+    requires { cap ≤ most_processors }
     ensures { result ≡ segments_rule span fold.now bound cap }
 {
     let mut best = cap + 1;
@@ -143,7 +144,7 @@ fn segments_rule(span: Span, fold: &FoldCost, bound: u128, cap: u32) -> u32
 // A loop whose body stays within a bound.
 fn loop_rule(rows: &[Row], body: u32, bound: u128, cap: u32) -> Result<u32, Key>
     requires rows { AreRows rows.now }
-    requires cap { cap ≤ 512 }
+    requires cap { cap ≤ most_processors }
     requires room { 3 ≤ cap }
     ensures { result ≡ loop_rule (needed rows.now) body bound cap }
 {
@@ -178,7 +179,7 @@ pub fn rule_of(
     requires rows { AreRows rows.now }
     requires cost { IsUsable cost.now }
     requires bound { bound < 2 ^ 110 }
-    requires cap { cap ≤ 512 }
+    requires cap { cap ≤ most_processors }
     ensures { result ≡ rule_of (needed rows.now) cost.now parts.now bound cap }
 {
     match cost {

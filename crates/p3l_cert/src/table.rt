@@ -1,8 +1,9 @@
-// What each node outside units costs, kept for all rows.
+// The costs of the nodes outside units, kept for all rows.
 
 ghost use Rattle.std.specs.Prelude.{◌≡◌, ◌<◌, ◌≤◌, None, get_or, length};
 ghost use Rattle.p3l_base.specs.Memory.{IfGiven};
 ghost use Rattle.std.specs.Option.{option_map};
+ghost use Rattle.p3l_base.specs.Limits.{most_nodes};
 ghost use Rattle.p3l_skel.specs.Lawful.{IsLawfulTree};
 ghost use Rattle.p3l_cost.specs.Costs.{AreCostsOf};
 ghost use Rattle.p3l_cert.specs.Rows.{AreRows, IsInRange};
@@ -17,7 +18,7 @@ use p3l_model::{NodeCost, is_outside, node_cost};
 use p3l_skel::Tree;
 use std::alloc::Global;
 
-// What a node costs, if it is outside units.
+// The costs of a node, if it is outside units.
 #[tactic(auto, unfolding(crate::specs::Rule::cost_at))]
 fn cost_at(tree: &Tree, costs: &Costs, node: u32) -> Option<NodeCost>
     requires { node < length tree.now.nodes }
@@ -29,9 +30,9 @@ fn cost_at(tree: &Tree, costs: &Costs, node: u32) -> Option<NodeCost>
     None
 }
 
-/// What the nodes of a tree cost, and none for those in units.
+/// The costs of the nodes of a tree, and none for those in units.
 pub fn table(alloc: Global, tree: &Tree, costs: &Costs) -> Result<List<Option<NodeCost>>, NoMemory>
-    requires { length tree.now.nodes ≤ 128 }
+    requires { length tree.now.nodes ≤ most_nodes }
     ensures { IfGiven result (IsTable tree.now costs.now) }
 {
     let mut table = List::new(alloc);

@@ -12,6 +12,7 @@ ghost use Rattle.p3l_cert.specs.laws.Text.{lawful_cert};
 
 use crate::cert::{Cert, CertRefusal, Row};
 use crate::item::{BOUND_LIMIT, CountItem, RowItem};
+use p3l_base::limits::MOST_PROCESSORS;
 use p3l_base::{List, NoMemory};
 use p3l_format::{
     Field, NumberLine, ReadError, fault_at, line_at, read_text, read_until, write_series,
@@ -102,7 +103,7 @@ impl Field for CertField {
 const PROCESSORS: NumberLine = NumberLine {
     word: b"processors ",
     low: 1,
-    high: 512,
+    high: MOST_PROCESSORS as u128,
 };
 
 const SERVICE: NumberLine = NumberLine {
@@ -163,10 +164,10 @@ pub fn cert_text(alloc: Global, cert: &Cert) -> Result<List<u8>, NoMemory>
 /// The certificate that a text spells, or the number of the first line that isn't of its form.
 #[tactic(auto, using(crate::proofs::FirstLine::cert_first_bad))]
 pub fn read_cert(alloc: Global, text: &[u8]) -> Result<Cert, CertRefusal>
-    // What is read is spelled so.
+    // A text that is read is the spelling of its certificate.
     ensures found { IfOk result (λ cert. (cert_format.fits cert ≡ true)
         × (text.now ≡ cert_format.spell cert)) }
-    // What is spelled so is read, unless memory runs out.
+    // The spelling of a certificate is read, unless memory runs out.
     ensures only { (cert : TheCert) → cert_format.fits cert ≡ true
         → text.now ≡ cert_format.spell cert → Answers text.now result (Ok cert) }
     // The line that is reported is the first that isn't of its form, whatever reads it.

@@ -1,4 +1,4 @@
-// What can be copied.
+// Values that can be copied.
 
 ghost use Rattle.std.specs.Prelude.{◌≡◌};
 ghost use Rattle.p3l_base.specs.Memory.{IfGiven};
@@ -6,7 +6,7 @@ ghost use Rattle.p3l_base.specs.Memory.{IfGiven};
 use p3l_base::{List, NoMemory};
 use std::alloc::Global;
 
-/// What has copies that contracts can't distinguish from it.
+/// Values whose copies contracts can't distinguish from them.
 pub trait Copied: Drop {
     /// A copy.
     fn copied(&self, alloc: Global) -> Result<Self, NoMemory>

@@ -109,7 +109,7 @@ fn ports_of(alloc: Global, own: &Module) -> Result<Ports, NoMemory>
     Ok(Ports { ins, outs })
 }
 
-/// What stands before a module's inside.
+/// The head of a module, before its inside.
 #[derive(Drop)]
 struct Header {
     at: Spot,

@@ -1,5 +1,6 @@
 -- The images of programs that keep the rules of the language.
 use Rattle.std.specs.Prelude.{◌≡◌, ℕ, ◌≤◌, true, List, length, Ok}
+use Rattle.p3l_base.specs.Limits.{most_processes}
 use Rattle.std.specs.List.{All}
 use Rattle.p3l_ast.specs.Tree.{ProgramTree}
 use Rattle.p3l_grammar.specs.Grammar.{Spells}
@@ -69,4 +70,4 @@ abbrev pub EveryCompiledImageCanBeRun : Type 0
 EveryCompiledImageCanBeRun =
     (tree : Tree) (codes : List Code) (counts : List ℕ) (capacity : ℕ)
     → AreCodesOf tree codes → All IsSafe codes → HasLawfulCounts tree counts
-    → procs tree counts 0 ≤ 4096 → 1 ≤ capacity → IsRunnable (image_of tree counts codes capacity)
+    → procs tree counts 0 ≤ most_processes → 1 ≤ capacity → IsRunnable (image_of tree counts codes capacity)

@@ -14,13 +14,14 @@ use Rattle.p3l_load.specs.declared.loaded.Loaded.{Loaded}
 use Rattle.p3l_load.specs.declared.loaded.LoadRefusal.{LoadRefusal}
 use Rattle.p3l_load.specs.declared.loaded.LoadRefusal.TheVariants.{CodeUnsafe, NotLinked, TreeWrong, NoMemory}
 use Rattle.p3l_load.specs.Codes.{HasCodes, IsFirstUnsafe}
+use Rattle.p3l_base.specs.Limits.{most_processes}
 use Rattle.p3l_base.specs.Memory.{Refused}
 
 -- the tree, its counts and its codes are lawful together, and the tree has few processes
 pub record IsWhole (image : Image) : Type 0 where
   pub lawful : IsLawfulTree image.tree
   pub counted : HasLawfulCounts image.tree image.counts.list
-  pub few : procs image.tree image.counts.list 0 ≤ 4096
+  pub few : procs image.tree image.counts.list 0 ≤ most_processes
   pub coded : HasCodes image.tree image.codes
 
 -- the net of the image's tree under its counts, with channels of its capacity

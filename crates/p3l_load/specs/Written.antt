@@ -1,5 +1,6 @@
 -- Images that can be written.
 use Rattle.std.specs.Prelude.{◌≡◌, ℕ, ◌^◌, ◌<◌, ◌≤◌, true, List, length, Some, IfSome, ⊤}
+use Rattle.p3l_base.specs.Limits.{most_tokens}
 use Rattle.std.specs.List.{All, AllByRecursion}
 use Rattle.p3l_ast.specs.Tree.{EntryTree, ProgramTree, constant, defined}
 use Rattle.p3l_lexer.specs.declared.token.Lexeme.TheVariants.{Word}
@@ -58,7 +59,7 @@ HasRescueInRange info = IfSome info.rescue (λ number. is_i64 number ≡ true)
 -- an image that can be run can be written
 abbrev pub EveryRunnableImageCanBeWritten : Type 0
 EveryRunnableImageCanBeWritten =
-    (image : Image) → IsRunnable image → 1 ≤ image.cap → image.cap ≤ 1024
+    (image : Image) → IsRunnable image → 1 ≤ image.cap → image.cap ≤ most_tokens
     → All HasName image.tree.modules → All HasRescueInRange image.tree.modules
     → All HasAllOperands image.codes → CanBeWritten image
 

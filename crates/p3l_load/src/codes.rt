@@ -13,7 +13,7 @@ use p3l_skel::{Form, ModuleInfo, ModuleKind, Node, Tree};
 use std::alloc::Global;
 use std::marker::Model;
 
-// Whether a module is written as `seq`.
+// Tests that a module is written as `seq`.
 fn is_seq(info: &ModuleInfo) -> bool
     ensures { result ≡ is_seq_kind info.now.kind }
 {
@@ -75,7 +75,7 @@ impl<'a> CodeTable<'a> {
         self.codes.get(*place as usize)
     }
 
-    // Whether a node, if it is a `seq` node, has a code with its words.
+    // Tests that a node, if it is a `seq` node, has a code with its words.
     fn has_code(&self, node: &Node) -> bool
         ensures { IsTrue result ↔ HasCode self.now node.now }
     {
@@ -89,7 +89,7 @@ impl<'a> CodeTable<'a> {
     }
 }
 
-// Whether a code takes and gives the words of a node.
+// Tests that a code takes and gives the words of a node.
 fn has_words_of(node: &Node, code: &Code) -> bool
     ensures { IsTrue result ↔ HasWordsOf node.now code.now }
 {
@@ -120,7 +120,7 @@ fn code_places(alloc: Global, modules: &[ModuleInfo]) -> Result<List<u32>, NoMem
     Ok(places)
 }
 
-/// Whether there is one code for each `seq` module of a tree, in their order, with the words of that
+/// Tests that there is one code for each `seq` module of a tree, in their order, with the words of that
 /// module's nodes.
 pub fn has_codes(alloc: Global, tree: &Tree, codes: &[Code]) -> Result<bool, NoMemory>
     requires { length tree.now.modules < 2 ^ 32 }

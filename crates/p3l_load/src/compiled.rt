@@ -1,6 +1,7 @@
 // The image of a program: made from its tree, counts and codes, and written.
 
 ghost use Rattle.std.specs.Prelude.{◌≡◌, ◌≤◌, IfOk};
+ghost use Rattle.p3l_base.specs.Limits.{most_processes, most_tokens};
 ghost use Rattle.p3l_base.specs.Memory.{IfGiven};
 ghost use Rattle.std.specs.List.{All};
 ghost use Rattle.p3l_skel.specs.Counts.{HasLawfulCounts};
@@ -61,8 +62,8 @@ pub fn image_of(
 ) -> Result<Image, NoMemory>
     requires lawful { IsLawfulTree tree }
     requires counted { HasLawfulCounts tree counts.list }
-    requires procs { procs tree counts.list 0 ≤ 4096 }
-    requires capacity { (1 ≤ capacity) × (capacity ≤ 1024) }
+    requires procs { procs tree counts.list 0 ≤ most_processes }
+    requires capacity { (1 ≤ capacity) × (capacity ≤ most_tokens) }
     ensures image { IfGiven result (λ image. image ≡ image_of tree counts.list codes.now capacity) }
     ensures safe { IfOk result (λ image. All IsSafe image.codes) }
 {
@@ -88,9 +89,9 @@ pub fn image_text(
 ) -> Result<List<u8>, NoMemory>
     requires program { AreCodesOf tree codes.now }
     requires counted { HasLawfulCounts tree counts.list }
-    requires procs { procs tree counts.list 0 ≤ 4096 }
+    requires procs { procs tree counts.list 0 ≤ most_processes }
     requires some { 1 ≤ capacity }
-    requires few { capacity ≤ 1024 }
+    requires few { capacity ≤ most_tokens }
     ensures { IfGiven result (IsImageText (image_of tree counts.list codes.now capacity)) }
 {
     every_module_has_a_name();

@@ -24,7 +24,7 @@ pub fn no_runnable_image_is_refused()
     ensures { NoRunnableImageIsRefused }
 {}
 
-/// What the lexer takes for a word is a name of the language, of at most 64 bytes.
+/// A text that the lexer takes for a word is a name of the language, of at most 64 bytes.
 pub fn every_word_is_a_name()
     ensures { EveryWordIsAName }
 {}

@@ -1,5 +1,5 @@
 //! Images that may be run. Of those that were read only what is lawful, safe and linked is handed on
-//! (`load`); one whose net is not that of its tree can be migrated, which links it anew (`migrate`).
+//! (`load`); one whose net is not that of its tree can be migrated, which relinks it (`migrate`).
 //! The image of a program that keeps the rules is made here too (`image_text`), with the laws of all
 //! of these: whatever can be run can be written, and is read and loaded again.
 #![tactic(auto)]

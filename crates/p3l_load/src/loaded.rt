@@ -1,4 +1,4 @@
-// What was loaded, and why an image isn't.
+// Loaded programs, and why an image isn't loaded.
 
 ghost use Rattle.std.specs.Prelude.{◌≡◌};
 ghost use Rattle.p3l_load.specs.declared.loaded.LoadRefusal.TheVariants.{NoMemory as Wanting};
@@ -33,7 +33,7 @@ pub enum LoadRefusal {
     /// its `seq` modules.
     #[error("the tree, its counts or its codes are wrong")]
     TreeWrong,
-    /// Memory ran out.
+    /// Out of memory.
     #[error("no memory")]
     NoMemory,
 }

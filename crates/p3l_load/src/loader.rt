@@ -1,6 +1,7 @@
 // Images are loaded.
 
 ghost use Rattle.std.specs.Prelude.{◌≡◌, ◌↔◌, ◌≤◌, IsTrue, IfOk, IfErr};
+ghost use Rattle.p3l_base.specs.Limits.{most_tokens};
 ghost use Rattle.p3l_base.specs.Memory.{IfGiven};
 ghost use Rattle.p3l_load.specs.Load.{IsWhole, IsRunnable, Refuses, loaded_of};
 
@@ -8,6 +9,7 @@ use crate::codes::has_codes;
 use crate::loaded::{LoadRefusal, Loaded};
 use crate::seal::seal_codes;
 use p3l_base::NoMemory;
+use p3l_base::limits::MOST_PROCESSES;
 use p3l_image::Image;
 use p3l_link::is_linked;
 use p3l_link::linker::a_linked_net_is_typed;
@@ -15,18 +17,15 @@ use p3l_model::procs;
 use p3l_skel::{lawful_counts, lawful_tree};
 use std::alloc::Global;
 
-/// The most processes of a tree that is loaded. The source and the sink aren't counted.
-const MOST_PROCS: u64 = 4_096;
-
-/// Whether the tree of an image, its counts and its codes are lawful together, and the tree has few
-/// processes.
+/// Tests that the tree of an image, its counts and its codes are lawful together, and the tree has
+/// few processes; the source and the sink aren't counted.
 pub(crate) fn is_whole(alloc: Global, image: &Image) -> Result<bool, NoMemory>
     ensures { IfGiven result (λ whole. IsTrue whole ↔ IsWhole image.now) }
 {
     if !lawful_tree(&image.tree) || !lawful_counts(&image.tree, &image.counts) {
         return Ok(false);
     }
-    if procs(&image.tree, &image.counts, 0) > MOST_PROCS {
+    if procs(&image.tree, &image.counts, 0) > MOST_PROCESSES {
         return Ok(false);
     }
     has_codes(alloc, &image.tree, image.codes.as_slice())
@@ -36,7 +35,7 @@ pub(crate) fn is_whole(alloc: Global, image: &Image) -> Result<bool, NoMemory>
 /// list keeps its items.
 pub fn load(alloc: Global, image: Image) -> Result<Loaded, LoadRefusal>
     requires some { 1 ≤ image.cap }
-    requires few { image.cap ≤ 1024 }
+    requires few { image.cap ≤ most_tokens }
     ensures loaded { IfOk result (λ loaded. loaded ≡ loaded_of image) }
     ensures runs { IfOk result (λ loaded. IsRunnable image) }
     ensures refused { IfErr result (Refuses image) }

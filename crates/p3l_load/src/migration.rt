@@ -1,6 +1,7 @@
-// Images are migrated: their nets are linked anew.
+// Images are migrated: their nets are relinked.
 
 ghost use Rattle.std.specs.Prelude.{◌≡◌, ◌≤◌, IfOk, IfErr};
+ghost use Rattle.p3l_base.specs.Limits.{most_tokens};
 ghost use Rattle.p3l_load.specs.Load.{IsRunnable, RefusesMigration, migrated_of};
 
 use crate::loaded::LoadRefusal;
@@ -14,7 +15,7 @@ use std::alloc::Global;
 /// takes. It is refused as `load` refuses it, but for its net.
 pub fn migrate(alloc: Global, image: Image) -> Result<Image, LoadRefusal>
     requires some { 1 ≤ image.cap }
-    requires few { image.cap ≤ 1024 }
+    requires few { image.cap ≤ most_tokens }
     ensures migrated { IfOk result (λ migrated. migrated ≡ migrated_of image) }
     ensures runs { IfOk result IsRunnable }
     ensures refused { IfErr result (RefusesMigration image) }

@@ -11,7 +11,8 @@ use Rattle.p3l_profile.specs.declared.text.Table.TheVariants.{Ticks, Turns}
 use Rattle.p3l_profile.specs.Greatest.{Greatest, if_own, none_noted, noted, noted_all, raised, took_in, work_in}
 use Rattle.p3l_profile.specs.Law.{HasTheGreatest}
 use Rattle.p3l_profile.specs.Notes.{Note, ran, turn}
-use Rattle.p3l_profile.specs.Text.{entries, entry_if, entry_of, is_used, most_cost, number_of, speaks_of, turns_table}
+use Rattle.p3l_profile.specs.Text.{entries, entry_if, entry_of, is_used, number_of, speaks_of, turns_table}
+use Rattle.p3l_base.specs.Limits.{most_cost}
 
 eq_holds : (m n : ℕ) → (m == n) ≡ true → m ≡ n
 eq_holds m n h = grind (arith, nat_tests)

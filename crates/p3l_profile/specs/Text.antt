@@ -10,10 +10,7 @@ use Rattle.p3l_skel.specs.declared.tree.Tree.{Tree}
 use Rattle.p3l_profile.specs.declared.text.Table.{Table}
 use Rattle.p3l_profile.specs.declared.text.Table.TheVariants.{Ticks, Turns}
 use Rattle.p3l_profile.specs.Greatest.{Greatest}
-
--- the greatest number of a cost file
-abbrev pub most_cost : ℕ
-most_cost = 1000000
+use Rattle.p3l_base.specs.Limits.{most_cost}
 
 -- a module is that of some node
 abbrev pub is_used : List Node → ℕ → Bool

@@ -23,7 +23,7 @@ use p3l_skel::outcome::{copied, is_done, paired, rescue};
 use p3l_skel::{Form, Node, Tree};
 use std::alloc::Global;
 
-/// What a node makes of the words of an item.
+/// The outcome of a node on the words of an item.
 #[cycle(item)]
 pub fn item_outcome(
     alloc: Global,
@@ -67,7 +67,7 @@ pub fn item_outcome(
     }
 }
 
-/// What the body of a `seq` node makes of words, or the node's rescue number.
+/// Runs the body of a `seq` node on words; a trap becomes the node's rescue number, if it has one.
 fn body_outcome(
     alloc: Global,
     tree: &Tree,
@@ -94,7 +94,7 @@ fn body_outcome(
     rescue(alloc, tree, node, outcome)
 }
 
-/// What a node makes of an outcome: a trap is itself.
+/// Runs a node on the value of an outcome; a trap stays itself.
 #[cycle(item)]
 fn next_outcome(
     alloc: Global,
@@ -120,7 +120,7 @@ fn next_outcome(
     }
 }
 
-/// What the stages of a comp or a pipe make of words, one after the other.
+/// Runs the stages of a comp or a pipe on words, one after the other.
 #[cycle(item)]
 fn stages_outcome(
     alloc: Global,
@@ -149,7 +149,7 @@ fn stages_outcome(
     Ok(outcome)
 }
 
-/// What a map of this part makes of words: it goes over the elements in order, up to a trap.
+/// Runs a map of this part on words: the elements in order, up to a trap.
 #[cycle(item)]
 fn map_outcome(
     alloc: Global,
@@ -223,7 +223,7 @@ fn fold_outcome(
     next_outcome(alloc, tree, bodies, highs, operator, both)
 }
 
-/// What a loop with a limit on its turns makes of words.
+/// Runs a loop with a limit on its turns on words.
 #[cycle(item)]
 fn loop_outcome(
     alloc: Global,

@@ -1,5 +1,5 @@
-//! How much work the bodies of a program do on items, and how often its loops turn: the numbers of the
-//! cost model, measured.
+//! The work of the bodies of a program on items, and the turns of its loops: the numbers of the cost
+//! model, measured.
 #![tactic(auto)]
 
 pub mod bodies;

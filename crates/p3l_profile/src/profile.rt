@@ -21,7 +21,7 @@ use p3l_skel::{ModuleKind, Tree};
 use std::alloc::Global;
 use std::marker::Model;
 
-/// How much work the bodies of a tree did at most, and how often its loops turned. Its memory doesn't
+/// The most work that the bodies of a tree did, and the most turns of its loops. Its memory doesn't
 /// grow with the items.
 #[derive(Debug, Drop)]
 pub struct Profile {
@@ -51,8 +51,8 @@ impl Profile {
         Ok(Profile { highs, places })
     }
 
-    /// What the root of the tree makes of an item, with a code for each `seq` module in their order.
-    /// Its runs and turns are noted.
+    /// The outcome of the root of the tree on an item, with a code for each `seq` module in their
+    /// order. Its runs and turns are noted.
     pub fn item(
         &mut self,
         alloc: Global,

@@ -5,12 +5,10 @@ ghost use Rattle.p3l_base.specs.Memory.{IfGiven, OnGiven};
 ghost use Rattle.p3l_profile.specs.Text.{entries, entry_if, is_used, number_of, speaks_of, text_of, turns_table};
 
 use crate::highs::Highs;
+use p3l_base::limits::MOST_COST;
 use p3l_base::{List, NoMemory};
 use p3l_skel::{ModuleInfo, ModuleKind, Node, Tree};
 use std::alloc::Global;
-
-/// The greatest number of a cost file.
-const MOST_COST: u64 = 1_000_000;
 
 /// The tables of a cost file: the ticks of `seq` modules, and the turns of `loop` modules.
 #[derive(Clone, Copy, Debug, Drop, PartialEq, Eq)]
@@ -63,7 +61,7 @@ fn number_of(table: Table, highs: &Highs, home: usize) -> u64
         ≡ number_of table (slice_index highs.now.work) (slice_index highs.now.took) home }
 {
     match table {
-        Table::Ticks => highs.work(home).min(MOST_COST),
+        Table::Ticks => highs.work(home).min(MOST_COST as u64),
         Table::Turns => u64::from(highs.took(home)),
     }
 }

@@ -1,31 +1,16 @@
 -- How the check of a trace against a network ends.
-use Rattle.std.specs.Prelude.{◌≡◌, ℕ, ℤ, ◌+◌, ◌-◌, List, [], ◌∷◌, ◌++◌, length, take, Option, Some, None, Result, Ok, Err}
+use Rattle.std.specs.Prelude.{ℕ, ℤ, ◌-◌, List, ◌++◌, length, take, Option, Result, Ok, Err}
 use Rattle.p3l_base.specs.declared.NoMemory.{NoMemory}
 use Rattle.p3l_stream.specs.declared.items.Ending.{Ending}
 use Rattle.p3l_stream.specs.Seen.{Seen}
 use Rattle.p3l_run.specs.Feed.{Gives, closed_so}
-use Rattle.p3l_run.specs.Network.{Network, begun_with, course_under, width_of}
+use Rattle.p3l_run.specs.Network.{Network, begun_with, width_of}
+pub use Rattle.p3l_run.specs.Requested.{IsRequestedBy, one_waits, sent_before_last}
 use Rattle.p3l_run.specs.Run.{MayCome}
 use Rattle.p3l_trace.specs.declared.trace.Traced.{Traced}
 use Rattle.p3l_trace.specs.Agreement.{Agrees, DiffersAt, picks_of}
 use Rattle.p3l_retrace.specs.declared.retrace.Retraced.{Retraced}
 use Rattle.p3l_retrace.specs.declared.retrace.Retraced.TheVariants as retraced
-
--- how many items are sent before the last of some picks
-abbrev pub sent_before_last : Network → List (List ℤ) → List ℕ → ℕ
-sent_before_last n items picks = (course_under n items (take (length picks - 1) picks)).state.sent
-
--- the items that are given and not sent where a machine was fed: one, as long as the stream isn't ended
-abbrev pub one_waits : Option Ending → ℕ
-one_waits None = 1
-one_waits (Some close) = 0
-
--- a stream of these items, of which one is requested before each of these picks where the inbox is empty, and at no other time,
--- gave `given` of them, and then ended so, if it did: none was requested where there are no picks; else one item waits for the
--- last of them, or the stream has ended and all that it gave were sent before
-abbrev pub IsRequestedBy : Network → (items : List (List ℤ)) → (picks : List ℕ) → (given : ℕ) → Option Ending → Type 0
-IsRequestedBy n items [] given close = (given ≡ 0) × (close ≡ None)
-IsRequestedBy n items (p ∷ picks) given close = given ≡ sent_before_last n items (p ∷ picks) + one_waits close
 
 -- items of the stream were requested before these picks, and it gave these and then ended so, if it did; and this holds of them
 -- and whatever may still come after them

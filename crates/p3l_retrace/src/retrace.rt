@@ -1,9 +1,10 @@
 // The check of a trace.
 
-ghost use Rattle.std.specs.Prelude.{◌≡◌, ◌<◌, ◌≤◌, ◌*◌, ◌^◌};
+ghost use Rattle.std.specs.Prelude.{◌≡◌, ◌<◌, ◌≤◌, ◌*◌, ◌^◌, OnErr};
 ghost use Rattle.p3l_skel.specs.Tree.{node_at};
 ghost use Rattle.p3l_run.specs.Feed.{most_of_input};
 ghost use Rattle.p3l_run.specs.Network.{IsSound, network};
+ghost use Rattle.p3l_run.specs.Wants.{IsWanting};
 ghost use Rattle.p3l_retrace.specs.Retraced.{IsRetraced};
 
 use crate::walk::Walk;
@@ -17,7 +18,7 @@ use p3l_stream::laws::a_stream_gives_its_items;
 use p3l_trace::{Traced, is_counted};
 use std::alloc::Global;
 
-/// How a trace was checked.
+/// The outcome of a trace's check.
 #[derive(Clone, Copy, Debug, Drop, PartialEq, Eq)]
 pub enum Retraced {
     /// All lines agree, and the stream ended so, if it did.
@@ -41,9 +42,10 @@ pub fn retrace<U: Units, S: Source>(
     requires width { plan.width ≡ (node_at plan.tree.now 0).ins }
     requires wide { 1 ≤ plan.width }
     requires fits { plan.firings * most_of_input < 2 ^ 63 }
-    ensures { IsRetraced (network plan.entry.tree.now (U.leaf plan.entry.units.now)
+    ensures does { IsRetraced (network plan.entry.tree.now (U.leaf plan.entry.units.now)
         plan.entry.net plan.entry.firings) traced.now
         (S.rest input.old) (S.rest input.new) (S.faults input.old) (S.faults input.new) result }
+    ensures wants { OnErr result (IsWanting U.may_want) }
 {
     laws();
     a_stream_gives_its_items();

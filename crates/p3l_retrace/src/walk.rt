@@ -1,7 +1,7 @@
 // A walk along a trace, line by line.
 
-ghost use Rattle.std.specs.Prelude.{◌≡◌, ◌<◌, ◌≤◌, ◌^◌, None, length};
-ghost use Rattle.p3l_base.specs.Memory.{IfGiven, OnGiven};
+ghost use Rattle.std.specs.Prelude.{◌≡◌, ◌<◌, ◌≤◌, ◌^◌, None, length, true};
+ghost use Rattle.p3l_base.specs.Memory.{IfGiven, IfGivenOr, OnGiven, OnGivenOr};
 ghost use Rattle.p3l_firing.specs.Typed.{IsTyped};
 ghost use Rattle.p3l_skel.specs.Tree.{node_at};
 ghost use Rattle.p3l_retrace.specs.Walk.{FeedsOn, IsUnderWay, PassesOn, Steps, outside, started};
@@ -57,9 +57,10 @@ impl<'t> Walk<'t> {
         requires units { U.tree units.now ≡ tree.now }
         requires network { IsUnderWay (U.leaf units.now)
             (outside (S.rest input.old) (S.faults input.old)) self.old }
-        ensures { IfGiven result (PassesOn (U.leaf units.now)
+        ensures { IfGivenOr result (PassesOn (U.leaf units.now)
             line.now (outside (S.rest input.old) (S.faults input.old))
-            (outside (S.rest input.new) (S.faults input.new)) self.old self.new) }
+            (outside (S.rest input.new) (S.faults input.new)) self.old self.new)
+            (U.may_want ≡ true) }
     {
         self.feed(alloc, input)?;
         if !agrees(line, &self.machine, self.machine.net()) {
@@ -98,7 +99,8 @@ impl<'t> Walk<'t> {
         requires count { self.old.machine.fired < 2 ^ 63 }
         requires tree { tree.now ≡ self.old.machine.tree }
         requires units { U.tree units.now ≡ tree.now }
-        ensures { OnGiven result (Steps (U.leaf units.now) process self.old self.new) }
+        ensures { OnGivenOr result (Steps (U.leaf units.now) process self.old self.new)
+            (U.may_want ≡ true) }
     {
         if self.machine.can_step(process) {
             self.machine.fire(alloc, tree, units, process)?;

@@ -1,6 +1,6 @@
 // Runs that end at a checkpoint, where the state of the network is saved.
 
-ghost use Rattle.std.specs.Prelude.{◌≡◌, ◌<◌, ◌≤◌, ◌+◌, ◌*◌, ◌^◌, None, OnErr, false, length, true};
+ghost use Rattle.std.specs.Prelude.{◌≡◌, ◌<◌, ◌≤◌, ◌+◌, ◌*◌, ◌^◌, None, OnErr, false, length, IfErr};
 ghost use Rattle.p3l_base.specs.Memory.{IfGiven, Refused};
 ghost use Rattle.std.specs.Option.{option_to_list};
 ghost use Rattle.p3l_net.specs.Shot.{IsCountable, shot_of};
@@ -12,7 +12,7 @@ ghost use Rattle.p3l_run.specs.Execution.{outside};
 ghost use Rattle.p3l_run.specs.Feed.{most_of_input};
 ghost use Rattle.p3l_run.specs.Network.{IsSound, network};
 ghost use Rattle.p3l_run.specs.Replay.{ComesTo, FillsOn, HaltsOn, IsHalted, IsToReplay, MakesOn, Saves, cut_of};
-ghost use Rattle.p3l_run.specs.Wants.{RanWants};
+ghost use Rattle.p3l_run.specs.Wants.{Wants};
 ghost use Rattle.p3l_run.specs.Write.{WriteCause};
 
 use crate::end::RunEnd;
@@ -87,7 +87,7 @@ impl<'t> Execution<'t> {
         requires units { U.tree units.now ≡ tree.now }
         ensures makes { MakesOn (U.leaf units.now) process (K.taken out.old) (K.taken out.new)
             (K.faults out.old) (K.faults out.new) self.old self.new result }
-        ensures wants { RanWants (U.may_want ≡ true) result }
+        ensures wants { IfErr result (Wants U.may_want) }
     {
         if !self.machine.can_step(process) {
             self.pass(process)?;
@@ -118,7 +118,7 @@ impl<'t> Execution<'t> {
             (outside (S.rest input.old) (S.faults input.old) (K.taken out.old) (K.faults out.old))
             (outside (S.rest input.new) (S.faults input.new) (K.taken out.new) (K.faults out.new))
             self.old self.new result }
-        ensures wants { RanWants (U.may_want ≡ true) result }
+        ensures wants { IfErr result (Wants U.may_want) }
     {
         for process in picks {
             if self.report.trap.is_some() {
@@ -222,7 +222,7 @@ pub fn run_to_checkpoint<U: Units, S: Source, K: Sink>(
         (S.rest input.old) (S.rest input.new) (S.faults input.old) (S.faults input.new)
         (K.taken out.old) (K.taken out.new) result }
     ensures output { WriteCause (K.faults out.old) (K.faults out.new) result }
-    ensures wants { RanWants (U.may_want ≡ true) result }
+    ensures wants { IfErr result (Wants U.may_want) }
 {
     laws();
     a_stream_gives_its_items();

@@ -1,6 +1,6 @@
 // A run under way, pick by pick.
 
-ghost use Rattle.std.specs.Prelude.{◌≡◌, ◌≢◌, ◌<◌, ◌≤◌, ◌+◌, ◌^◌, [], None, Some, length, IfOk, IsNone, IsSome, IsTrue, OnErr, OnOk, true};
+ghost use Rattle.std.specs.Prelude.{◌≡◌, ◌≢◌, ◌<◌, ◌≤◌, ◌+◌, ◌^◌, [], None, Some, length, IfOk, IsNone, IsSome, IsTrue, OnErr, OnOk, true, IfErr};
 ghost use Rattle.p3l_base.specs.Memory.{IfGiven, IfGivenOr, OnGiven, OnGivenOr, Refused};
 ghost use Rattle.p3l_firing.specs.Process.{kind_at};
 ghost use Rattle.p3l_net.specs.Machine.{can_step, ready_list};
@@ -8,7 +8,7 @@ ghost use Rattle.p3l_net.specs.Steps.{OthersStay};
 ghost use Rattle.p3l_firing.specs.Typed.{IsTyped};
 ghost use Rattle.p3l_sched.specs.Picker.{HasPlace, HasProcesses};
 ghost use Rattle.p3l_skel.specs.Tree.{node_at};
-ghost use Rattle.p3l_run.specs.Wants.{RanWants};
+ghost use Rattle.p3l_run.specs.Wants.{Wants};
 ghost use Rattle.p3l_run.specs.Execution.{Completes, FeedsOn, FiresOn, HasFired, IsFinish, IsInRange, IsUnderWay, MayPick, RunsOut, StepsOn, after_idle, begun_on, outside, started, stats_at};
 
 use crate::end::RunEnd;
@@ -114,7 +114,7 @@ impl<'t> Execution<'t> {
             (outside (S.rest input.old) (S.faults input.old) (K.taken out.old) (K.faults out.old))
             (outside (S.rest input.new) (S.faults input.new) (K.taken out.new) (K.faults out.new))
             self.entry result }
-        ensures wants { RanWants (U.may_want ≡ true) result }
+        ensures wants { IfErr result (Wants U.may_want) }
     {
         self.run_out(alloc, tree, units, input, out)?;
         Ok(self.into_ran(alloc, named)?)
@@ -139,7 +139,7 @@ impl<'t> Execution<'t> {
             (outside (S.rest input.old) (S.faults input.old) (K.taken out.old) (K.faults out.old))
             (outside (S.rest input.new) (S.faults input.new) (K.taken out.new) (K.faults out.new))
             self.old self.new result }
-        ensures wants { RanWants (U.may_want ≡ true) result }
+        ensures wants { IfErr result (Wants U.may_want) }
     {
         'picks: loop {
             self.feed(alloc, input)?;
@@ -189,7 +189,7 @@ impl<'t> Execution<'t> {
         requires range { IsInRange self.old }
         ensures steps { StepsOn (U.leaf units.now) (K.taken out.old) (K.taken out.new) (K.faults out.old)
             (K.faults out.new) self.old self.new result }
-        ensures wants { RanWants (U.may_want ≡ true) result }
+        ensures wants { IfErr result (Wants U.may_want) }
     {
         let Some(process) = self.pick() else {
             return Ok(false);
@@ -223,7 +223,7 @@ impl<'t> Execution<'t> {
         requires units { U.tree units.now ≡ tree.now }
         ensures fires { FiresOn (U.leaf units.now) process (K.taken out.old) (K.taken out.new)
             (K.faults out.old) (K.faults out.new) self.old self.new result }
-        ensures wants { RanWants (U.may_want ≡ true) result }
+        ensures wants { IfErr result (Wants U.may_want) }
     {
         let emitted = self.fire(alloc, tree, units, process)?;
         self.report = write_emitted(alloc, emitted, self.report, out)?;

@@ -26,7 +26,7 @@ pub fn feed<S: Source>(
 ) -> Result<Option<Ending>, NoMemory>
     requires wide { lines.old.words ≡ (node_at machine.old.tree 0).ins }
     requires open { close ≡ None → lines.old.closed ≡ None }
-    ensures fed { IsFed (node_at machine.old.tree 0).ins machine.old machine.new lines.old lines.new
+    ensures does { IsFed (node_at machine.old.tree 0).ins machine.old machine.new lines.old lines.new
         (S.rest input.old) (S.rest input.new) (S.faults input.old) (S.faults input.new)
         close result }
     ensures wants { OnErr result Refused }

@@ -1,6 +1,6 @@
 // A run in virtual time: a timer makes its picks.
 
-ghost use Rattle.std.specs.Prelude.{◌≡◌, ◌<◌, ◌≤◌, ◌*◌, ◌^◌, OnErr, true};
+ghost use Rattle.std.specs.Prelude.{◌≡◌, ◌<◌, ◌≤◌, ◌*◌, ◌^◌, OnErr, true, IfErr};
 ghost use Rattle.p3l_base.specs.Memory.{Refused};
 ghost use Rattle.p3l_skel.specs.Tree.{node_at};
 ghost use Rattle.p3l_timed.specs.Price.{HasSmallPrices, prices_of};
@@ -8,7 +8,7 @@ ghost use Rattle.p3l_run.specs.Execution.{outside};
 ghost use Rattle.p3l_run.specs.Feed.{most_of_input};
 ghost use Rattle.p3l_run.specs.Network.{IsSound, network};
 ghost use Rattle.p3l_run.specs.Timed.{CompletesInTime, FeedsInTime, IsInTime, IsTimedEnd, MayFeed, MayStep, RunsInTime, StepsInTime, timed_job};
-ghost use Rattle.p3l_run.specs.Wants.{RanWants};
+ghost use Rattle.p3l_run.specs.Wants.{Wants};
 
 use crate::execution::Execution;
 use crate::fault::RunFault;
@@ -66,7 +66,7 @@ impl<'t> Execution<'t> {
             self.old timer.old }
         ensures steps { StepsInTime (U.leaf units.now) (K.taken out.old) (K.taken out.new)
             (K.faults out.old) (K.faults out.new) self.old self.new timer.old timer.new result }
-        ensures wants { RanWants (U.may_want ≡ true) result }
+        ensures wants { IfErr result (Wants U.may_want) }
     {
         let Some(process) = timer.next() else {
             return Ok(false);
@@ -97,7 +97,7 @@ impl<'t> Execution<'t> {
             (outside (S.rest input.old) (S.faults input.old) (K.taken out.old) (K.faults out.old))
             (outside (S.rest input.new) (S.faults input.new) (K.taken out.new) (K.faults out.new))
             self.old self.new timer.old timer.new result }
-        ensures wants { RanWants (U.may_want ≡ true) result }
+        ensures wants { IfErr result (Wants U.may_want) }
     {
         'firings: loop {
             self.feed_in_time(alloc, timer, input)?;
@@ -136,7 +136,7 @@ impl<'t> Execution<'t> {
             (outside (S.rest input.old) (S.faults input.old) (K.taken out.old) (K.faults out.old))
             (outside (S.rest input.new) (S.faults input.new) (K.taken out.new) (K.faults out.new))
             self.entry timer result }
-        ensures wants { RanWants (U.may_want ≡ true) result }
+        ensures wants { IfErr result (Wants U.may_want) }
     {
         let mut timer = timer;
         self.run_in_time(alloc, tree, units, &mut timer, input, out)?;
@@ -163,13 +163,13 @@ pub fn run_in_time<U: Units, S: Source, K: Sink>(
     requires wide { 1 ≤ plan.width }
     requires fits { plan.firings * most_of_input < 2 ^ 63 }
     requires small { HasSmallPrices plan.tree.now costs.now plan.net }
-    ensures ends { IsTimedEnd (timed_job (network plan.entry.tree.now (U.leaf plan.entry.units.now)
+    ensures does { IsTimedEnd (timed_job (network plan.entry.tree.now (U.leaf plan.entry.units.now)
         plan.entry.net plan.entry.firings) keeping
         (outside (S.rest input.old) (S.faults input.old) (K.taken out.old) (K.faults out.old)))
         (prices_of plan.entry.tree.now costs.now plan.entry.net)
         (outside (S.rest input.new) (S.faults input.new) (K.taken out.new) (K.faults out.new))
         result }
-    ensures wants { RanWants (U.may_want ≡ true) result }
+    ensures wants { IfErr result (Wants U.may_want) }
 {
     laws();
     a_stream_gives_its_items();

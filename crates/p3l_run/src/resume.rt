@@ -1,6 +1,6 @@
 // Runs that go on from what was saved of others.
 
-ghost use Rattle.std.specs.Prelude.{◌≡◌, ◌≤◌, ◌<◌, ◌^◌, length, true};
+ghost use Rattle.std.specs.Prelude.{◌≡◌, ◌≤◌, ◌<◌, ◌^◌, length, IfErr};
 ghost use Rattle.p3l_sched.specs.Picker.{NamesProcesses, recorded};
 ghost use Rattle.p3l_skel.specs.Tree.{node_at};
 ghost use Rattle.p3l_run.specs.declared.keeping.Keeping.TheVariants.{Nothing};
@@ -8,7 +8,7 @@ ghost use Rattle.p3l_run.specs.Network.{network, resumed};
 ghost use Rattle.p3l_run.specs.Resume.{IsResumable, IsResumedBy};
 ghost use Rattle.p3l_run.specs.Run.{IsRunEnd};
 ghost use Rattle.p3l_run.specs.Start.{Resumption, uncounted};
-ghost use Rattle.p3l_run.specs.Wants.{RanWants};
+ghost use Rattle.p3l_run.specs.Wants.{Wants};
 ghost use Rattle.p3l_run.specs.Write.{WriteCause};
 
 use crate::execution::Execution;
@@ -57,7 +57,7 @@ pub fn resume<U: Units, S: Source, K: Sink>(
         (S.rest input.old) (S.rest input.new) (S.faults input.old) (S.faults input.new)
         (K.taken out.old) (K.taken out.new) result }
     ensures output { WriteCause (K.faults out.old) (K.faults out.new) result }
-    ensures wants { RanWants (U.may_want ≡ true) result }
+    ensures wants { IfErr result (Wants U.may_want) }
 {
     laws();
     a_stream_gives_its_items();

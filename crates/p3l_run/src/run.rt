@@ -1,12 +1,12 @@
 // The run of a network from the input to the output.
 
-ghost use Rattle.std.specs.Prelude.{◌≡◌, ◌<◌, ◌≤◌, ◌*◌, ◌^◌, length, true};
+ghost use Rattle.std.specs.Prelude.{◌≡◌, ◌<◌, ◌≤◌, ◌*◌, ◌^◌, length, IfErr};
 ghost use Rattle.p3l_sched.specs.Picker.{NamesProcesses, recorded};
 ghost use Rattle.p3l_skel.specs.Tree.{node_at};
 ghost use Rattle.p3l_run.specs.Feed.{most_of_input};
 ghost use Rattle.p3l_run.specs.Network.{IsSound, network, network_named};
 ghost use Rattle.p3l_run.specs.Run.{IsRunEnd};
-ghost use Rattle.p3l_run.specs.Wants.{RanWants};
+ghost use Rattle.p3l_run.specs.Wants.{Wants};
 ghost use Rattle.p3l_run.specs.Write.{WriteCause};
 
 use crate::end::{RunEnd, RunStats};
@@ -59,7 +59,7 @@ pub fn run<U: Units, S: Source, K: Sink>(
         (S.rest input.old) (S.rest input.new) (S.faults input.old) (S.faults input.new)
         (K.taken out.old) (K.taken out.new) result }
     ensures output { WriteCause (K.faults out.old) (K.faults out.new) result }
-    ensures wants { RanWants (U.may_want ≡ true) result }
+    ensures wants { IfErr result (Wants U.may_want) }
 {
     let named = plan.tree;
     run_named(alloc, plan, named, schedule, keeping, input, out)
@@ -88,7 +88,7 @@ pub fn run_named<U: Units, S: Source, K: Sink>(
         (S.rest input.old) (S.rest input.new) (S.faults input.old) (S.faults input.new)
         (K.taken out.old) (K.taken out.new) result }
     ensures output { WriteCause (K.faults out.old) (K.faults out.new) result }
-    ensures wants { RanWants (U.may_want ≡ true) result }
+    ensures wants { IfErr result (Wants U.may_want) }
 {
     laws();
     a_stream_gives_its_items();

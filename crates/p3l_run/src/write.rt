@@ -1,10 +1,10 @@
 // The writing of texts and of what a network emits.
 
-ghost use Rattle.std.specs.Prelude.{◌≡◌, IfOk, OnOk, OnErr, fold};
+ghost use Rattle.std.specs.Prelude.{◌≡◌, IfOk, OnOk, OnErr, fold, IfErr, Bool};
 ghost use Rattle.std.specs.Option.{option_to_list};
 ghost use Rattle.p3l_run.specs.Sum.{sum_after};
 ghost use Rattle.p3l_run.specs.Trap.{trap_after};
-ghost use Rattle.p3l_run.specs.Wants.{RanWants};
+ghost use Rattle.p3l_run.specs.Wants.{Wants};
 ghost use Rattle.p3l_run.specs.Write.{HasBegun, HasPut, WriteCause};
 ghost use Rattle.p3l_stream.specs.Text.{text_of};
 
@@ -20,7 +20,7 @@ pub fn write<K: Sink>(out: &mut K, text: &[u8]) -> Result<(), RunFault>
     ensures put { OnOk result (HasPut (K.taken out.old) (K.taken out.new) text.now) }
     ensures begun { OnErr result (HasBegun (K.taken out.old) (K.taken out.new) text.now) }
     ensures cause { WriteCause (K.faults out.old) (K.faults out.new) result }
-    ensures wants { RanWants ⊥ result }
+    ensures wants { (units : Bool) → IfErr result (Wants units) }
 {
     if text.is_empty() {
         return Ok(());
@@ -55,7 +55,7 @@ pub(crate) fn write_emitted<K: Sink>(
     ensures begun { OnErr result (HasBegun (K.taken out.old) (K.taken out.new)
         (text_of (option_to_list emitted))) }
     ensures cause { WriteCause (K.faults out.old) (K.faults out.new) result }
-    ensures wants { RanWants ⊥ result }
+    ensures wants { (units : Bool) → IfErr result (Wants units) }
 {
     match emitted {
         None => Ok(report),

@@ -14,6 +14,7 @@ use Rattle.p3l_format.specs.laws.Text.{lawful_text_then, text_then_before, befor
 use Rattle.p3l_format.specs.laws.Decimal.{number_in_before, lawful_number_then, no_digit_first}
 use Rattle.p3l_format.specs.laws.Line.{lawful_line, lawful_number_line}
 use Rattle.p3l_format.specs.laws.Series.{IsSeries, lawful_until}
+use Rattle.p3l_base.specs.Limits.{most_processors}
 
 count_before : (item : CountItem) → IsLawfulBefore no_digit_first (count_format item)
 unfolding count_format
@@ -36,7 +37,7 @@ lawful_counts = lawful_line _ (lawful_text_then counts_word _ (lawful_until no_d
 pub lawful_numbers : IsLawful numbers_format
 unfolding numbers_format
 lawful_numbers = lawful_record _ _ _ (λ _. refl) (λ _. refl)
-    (lawful_both _ _ (lawful_number_then 0 most_number space (λ rest. refl)) (lawful_both _ _ (lawful_number_then 0 most_bound space (λ rest. refl)) (lawful_both _ _ (lawful_number_then 1 512 space (λ rest. refl)) (lawful_number_then 1 513 feed (λ rest. refl)))))
+    (lawful_both _ _ (lawful_number_then 0 most_number space (λ rest. refl)) (lawful_both _ _ (lawful_number_then 0 most_bound space (λ rest. refl)) (lawful_both _ _ (lawful_number_then 1 most_processors space (λ rest. refl)) (lawful_number_then 1 513 feed (λ rest. refl)))))
 
 pub lawful_row : (item : RowItem) → IsLawful (row_format item)
 unfolding row_format
@@ -59,7 +60,7 @@ lawful_rows = lawful_until any_rest row_format next_row first_row end_line rows_
 pub lawful_body : IsLawful body_format
 unfolding body_format
 lawful_body = lawful_record _ _ _ (λ _. refl) (λ _. refl)
-    (lawful_both _ _ (lawful_number_line processors_word 1 512) (lawful_both _ _ lawful_counts (lawful_both _ _ (lawful_number_line service_word 0 most_bound) (lawful_both _ _ (lawful_number_line used_word 0 most_number) lawful_rows))))
+    (lawful_both _ _ (lawful_number_line processors_word 1 most_processors) (lawful_both _ _ lawful_counts (lawful_both _ _ (lawful_number_line service_word 0 most_bound) (lawful_both _ _ (lawful_number_line used_word 0 most_number) lawful_rows))))
 
 pub lawful_cert : IsLawful cert_format
 unfolding cert_format

@@ -1,10 +1,10 @@
 use Rattle.std.proofs.Common.{◌≡◌, true, List, sym, ap, ◌∙◌, subst}
 use Rattle.std.specs.List.{All}
+use Rattle.std.proofs.lemmas.Result.{MatchResult-weaker}
 use Rattle.p3l_skel.specs.declared.tree.ModuleInfo.{ModuleInfo}
 use Rattle.p3l_skel.specs.declared.tree.Tree.{Tree}
 use Rattle.p3l_skel.specs.Lawful.{IsLawfulTree}
 use Rattle.p3l_code.specs.Safe.{IsSafe}
-use Rattle.p3l_compile.proofs.Leaves.{if_ok_then}
 use Rattle.p3l_image.specs.declared.image.Image.{Image}
 use Rattle.p3l_image.specs.Image.{CanBeWritten, image_text}
 use Rattle.p3l_load.specs.Written.{HasAllOperands, HasRescueInRange}
@@ -41,5 +41,6 @@ returns c =
     c.args.tree c.args.codes.now c.args.counts.list c.args.capacity c.requires.program (subst (All IsSafe) codes c.in_ok-image.ensures.safe)
     (rescues_in c.as_slice.result.now c.in_ok-image.image _ c.as_slice.ensures same c.have_rescues.ensures)
     (subst (All HasAllOperands) (c.as_slice-2.ensures ∙ codes) c.have_operands.ensures) c.requires.counted c.requires.procs c.requires.some c.requires.few in
-    if_ok_then c.encode.result _ (IsImageText image)
-    (λ bytes e. record { runs = whole.runs; fits = whole.fits; bytes_are = e ∙ ap (λ (i : Image). image_text i) same }) c.encode.ensures
+    MatchResult-weaker c.encode.result c.encode.ensures
+    (λ bytes e. record { runs = whole.runs; fits = whole.fits; bytes_are = e ∙ ap (λ (i : Image). image_text i) same })
+    (λ want refused. refused)

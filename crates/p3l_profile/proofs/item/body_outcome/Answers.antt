@@ -1,5 +1,5 @@
 use Rattle.std.proofs.Common.{◌≡◌, sym, ap, ◌∙◌}
-use Rattle.p3l_skel.proofs.Mapped.{if_ok-same}
+use Rattle.p3l_units.proofs.Given.{given-same}
 use Rattle.p3l_skel.proofs.Parts.{row_at}
 use Rattle.p3l_skel.specs.declared.tree.Form.TheVariants.{Seq}
 use Rattle.p3l_skel.specs.declared.tree.Node.{Node}
@@ -18,7 +18,7 @@ returns-clause-item c =
     let tree = c.args.tree.now in
     let node = c.args.node.now in
     let leaf = leaf c.args.bodies.now in
-    if_ok-same c.rescue.result _ _
+    given-same c.rescue.result _ _
     (ap (rescued (rescue_of tree node.module) node.outs)
     (c.in_ok-outcome.ensures.outcome
     ∙ (ap (λ (tr : Tree). leaf (node_at tr c.args.number).module c.args.words.now) c.requires.served

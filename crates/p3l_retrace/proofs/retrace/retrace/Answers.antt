@@ -27,8 +27,8 @@ pass-requires-clause-network g c = record {
   walks = c.loop-line.invariant.walks;
 }
 
-pub returns-then-not-branch : goal.returns-then-not-branch
-returns-then-not-branch g c =
+pub returns-then-not-branch-clause-does : goal.returns-then-not-branch-clause-does
+returns-then-not-branch-clause-does g c =
     walk.line_differs _ _ _ c.args.traced.now c.as_slice-line-items.result.now c.as_slice-line-items.ensures c.loop-line.line-index c.pass.new.self no_line c.loop-line-test.true _ c.if-not-branch.true (c.in_ok-pass.ensures _ _ _ refl c.loop-line.invariant.walks) (c.loop-line.number + 1)
     (let count = c.loop-line.invariant.number in omega arith)
 
@@ -38,11 +38,11 @@ loop-line-preserved g c = record {
   number = ap (λ k. k + 1) c.loop-line.invariant.number;
 }
 
-pub returns-then-not-is_counted : goal.returns-then-not-is_counted
-returns-then-not-is_counted g c =
+pub returns-then-not-is_counted-clause-does : goal.returns-then-not-is_counted-clause-does
+returns-then-not-is_counted-clause-does g c =
     walk.counts_differ _ _ _ c.args.traced.now c.as_slice-line-items.result.now c.as_slice-line-items.ensures c.loop-line.line-index c.loop-line.walk c.loop-line-test.false c.loop-line.invariant.walks c.loop-line.auto.line-index-end
     (λ counted. let yes = c.is_counted.ensures.1 counted in let no = c.if-not-is_counted.true in absurd cc) (c.loop-line.number + 1) (let count = c.loop-line.invariant.number in omega arith)
 
-pub returns : goal.returns
-returns g c =
+pub returns-clause-does : goal.returns-clause-does
+returns-clause-does g c =
     walk.lines_agree _ _ _ c.args.traced.now c.as_slice-line-items.result.now c.as_slice-line-items.ensures c.loop-line.line-index c.loop-line.walk c.loop-line-test.false c.loop-line.invariant.walks (c.is_counted.ensures.0 c.if-not-is_counted.false)

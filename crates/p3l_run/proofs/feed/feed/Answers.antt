@@ -4,14 +4,14 @@ use Rattle.p3l_skel.specs.Tree.{node_at}
 use Rattle.p3l_run.proofs.FeedSteps.{end_feeds, ending_closed, in_vain, is_none, item_closed, item_feeds, item_is, not_some, same_feeds}
 use Rattle.p3l_run.proofs.feed.feed.Goals as goal
 
-pub returns-then-is_some-clause-fed : goal.returns-then-is_some-clause-fed
-returns-then-is_some-clause-fed g c = same_feeds (node_at c.args.machine.now.tree 0).ins c.args.machine.now c.args.lines.now (g.S.Source.rest c.args.input.now) (g.S.Source.faults c.args.input.now) c.args.close (λ none. absurd (not_some c.args.close c.is_some.result c.is_some.ensures c.if-is_some.true none))
+pub returns-then-is_some-clause-does : goal.returns-then-is_some-clause-does
+returns-then-is_some-clause-does g c = same_feeds (node_at c.args.machine.now.tree 0).ins c.args.machine.now c.args.lines.now (g.S.Source.rest c.args.input.now) (g.S.Source.faults c.args.input.now) c.args.close (λ none. absurd (not_some c.args.close c.is_some.result c.is_some.ensures c.if-is_some.true none))
 
-pub returns-then-not-wants_item-clause-fed : goal.returns-then-not-wants_item-clause-fed
-returns-then-not-wants_item-clause-fed g c = same_feeds (node_at c.args.machine.now.tree 0).ins c.args.machine.now c.args.lines.now (g.S.Source.rest c.args.input.now) (g.S.Source.faults c.args.input.now) c.args.close (λ none empty. absurd (let z = c.wants_item.ensures.1 empty in let w = c.if-not-wants_item.true in cc))
+pub returns-then-not-wants_item-clause-does : goal.returns-then-not-wants_item-clause-does
+returns-then-not-wants_item-clause-does g c = same_feeds (node_at c.args.machine.now.tree 0).ins c.args.machine.now c.args.lines.now (g.S.Source.rest c.args.input.now) (g.S.Source.faults c.args.input.now) c.args.close (λ none empty. absurd (let z = c.wants_item.ensures.1 empty in let w = c.if-not-wants_item.true in cc))
 
-pub returns-in_err-answer-clause-fed : goal.returns-in_err-answer-clause-fed
-returns-in_err-answer-clause-fed g c =
+pub returns-in_err-answer-clause-does : goal.returns-in_err-answer-clause-does
+returns-in_err-answer-clause-does g c =
     let none = is_none c.args.close c.is_some.result c.is_some.ensures c.if-is_some.false in
     let s_open = c.requires.open none in
     let e = c.in_err-answer.ensures in
@@ -20,8 +20,8 @@ returns-in_err-answer-clause-fed g c =
     (λ bytes items given answers. c.a_stream_gives_its_items.ensures.answers _ c.args.lines.now c.next.new.self _ _ bytes items (Err c.in_err-answer.field-0.0) given s_open (e.closed s_open) answers)
     (e.answers s_open) (e.cause s_open) (e.closed s_open) e.items [] _ refl refl tt)
 
-pub returns-in_err-offer-in-Ok-clause-fed : goal.returns-in_err-offer-in-Ok-clause-fed
-returns-in_err-offer-in-Ok-clause-fed g c =
+pub returns-in_err-offer-in-Ok-clause-does : goal.returns-in_err-offer-in-Ok-clause-does
+returns-in_err-offer-in-Ok-clause-does g c =
     let none = is_none c.args.close c.is_some.result c.is_some.ensures c.if-is_some.false in
     let s_open = c.requires.open none in
     let e = c.in_ok-answer.ensures in
@@ -32,8 +32,8 @@ returns-in_err-offer-in-Ok-clause-fed g c =
     (e.answers s_open) (e.cause s_open) (e.closed s_open) e.items _ _ is.0 is.1
     (c.a_stream_gives_its_items.ensures.wide c.args.lines.now c.next.new.self _ _ c.in-Ok.item (item_is c.in_ok-answer.answer c.in-Ok.item (sym c.into_item.ensures ∙ c.in-Ok.is) _ _ _ _ (e.answers s_open)) ∙ c.requires.wide, tt))
 
-pub returns-in_ok-offer-in-Ok-clause-fed : goal.returns-in_ok-offer-in-Ok-clause-fed
-returns-in_ok-offer-in-Ok-clause-fed g c =
+pub returns-in_ok-offer-in-Ok-clause-does : goal.returns-in_ok-offer-in-Ok-clause-does
+returns-in_ok-offer-in-Ok-clause-does g c =
     let none = is_none c.args.close c.is_some.result c.is_some.ensures c.if-is_some.false in
     let s_open = c.requires.open none in
     let e = c.in_ok-answer.ensures in
@@ -44,8 +44,8 @@ returns-in_ok-offer-in-Ok-clause-fed g c =
     (c.a_stream_gives_its_items.ensures.wide c.args.lines.now c.next.new.self _ _ c.in-Ok.item (item_is c.in_ok-answer.answer c.in-Ok.item (sym c.into_item.ensures ∙ c.in-Ok.is) _ _ _ _ (e.answers s_open)) ∙ c.requires.wide)
     (c.wants_item.ensures.0 (search (rules, c.if-not-wants_item.false))) c.in_ok-offer-in-Ok.ensures.ok
 
-pub returns-in-Err-clause-fed : goal.returns-in-Err-clause-fed
-returns-in-Err-clause-fed g c =
+pub returns-in-Err-clause-does : goal.returns-in-Err-clause-does
+returns-in-Err-clause-does g c =
     let none = is_none c.args.close c.is_some.result c.is_some.ensures c.if-is_some.false in
     let s_open = c.requires.open none in
     let e = c.in_ok-answer.ensures in

@@ -7,10 +7,10 @@ use Rattle.p3l_run.proofs.execution.Execution.feed.Goals as goal
 pub returns-in_err-self-clause-feeds : goal.returns-in_err-self-clause-feeds
 returns-in_err-self-clause-feeds g c =
     let p = err_from_is_err_and c.from_residual.result c.from_residual.ensures.1 in
-    rw p.1 (λ job taken faults d. ends_unfed job _ _ d _ _ _ c.in_err-self.ensures.fed)
+    rw p.1 (λ job taken faults d. ends_unfed job _ _ d _ _ _ c.in_err-self.ensures.does)
 
 pub returns-clause-feeds : goal.returns-clause-feeds
-returns-clause-feeds g c = λ job taken faults d. fed job _ _ d _ _ _ _ _ c.in_ok-self.ensures.fed
+returns-clause-feeds g c = λ job taken faults d. fed job _ _ d _ _ _ _ _ c.in_ok-self.ensures.does
 
 pub returns-then-is_some-clause-feeds : goal.returns-then-is_some-clause-feeds
 returns-then-is_some-clause-feeds g c =

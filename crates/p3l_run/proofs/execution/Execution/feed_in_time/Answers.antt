@@ -18,19 +18,19 @@ feed-requires-clause-open g c =
 pub returns-in_err-self-clause-feeds : goal.returns-in_err-self-clause-feeds
 returns-in_err-self-clause-feeds g c =
     let p = err_from_is_err_and c.from_residual.result c.from_residual.ensures.1 in
-    rw p.1 (λ job prices taken faults is. unfed_in_time job prices _ _ _ is _ _ _ c.in_err-self.ensures.fed)
+    rw p.1 (λ job prices taken faults is. unfed_in_time job prices _ _ _ is _ _ _ c.in_err-self.ensures.does)
 
 pub offered-requires-clause-size : goal.offered-requires-clause-size
-offered-requires-clause-size g c = let way = c.requires in size_same way.job way.prices _ _ _ way.is _ c.in_ok-self.ensures.fed.more c.in_ok-self.ensures.fed.offers
+offered-requires-clause-size g c = let way = c.requires in size_same way.job way.prices _ _ _ way.is _ c.in_ok-self.ensures.does.more c.in_ok-self.ensures.does.offers
 
 pub offered-requires-clause-some : goal.offered-requires-clause-some
 offered-requires-clause-some g c = let way = c.requires in some_prices way.job way.prices _ _ _ way.is
 
 pub offered-requires-clause-others : goal.offered-requires-clause-others
-offered-requires-clause-others g c = let way = c.requires in others_due way.job way.prices _ _ _ way.is _ c.in_ok-self.ensures.fed.more c.in_ok-self.ensures.fed.offers
+offered-requires-clause-others g c = let way = c.requires in others_due way.job way.prices _ _ _ way.is _ c.in_ok-self.ensures.does.more c.in_ok-self.ensures.does.offers
 
 pub offered-requires-clause-over : goal.offered-requires-clause-over
-offered-requires-clause-over g c = let way = c.requires in over_same way.job way.prices _ _ _ way.is _ c.in_ok-self.ensures.fed.more c.in_ok-self.ensures.fed.offers
+offered-requires-clause-over g c = let way = c.requires in over_same way.job way.prices _ _ _ way.is _ c.in_ok-self.ensures.does.more c.in_ok-self.ensures.does.offers
 
 pub returns-clause-feeds : goal.returns-clause-feeds
-returns-clause-feeds g c = λ job prices taken faults is. fed_in_time job prices _ _ _ is _ _ _ _ _ _ c.in_ok-self.ensures.fed c.offered.ensures
+returns-clause-feeds g c = λ job prices taken faults is. fed_in_time job prices _ _ _ is _ _ _ _ _ _ c.in_ok-self.ensures.does c.offered.ensures

@@ -17,3 +17,8 @@ pub returns-clause-fires : goal.returns-clause-fires
 returns-clause-fires g c =
     λ job rest faults old leaf_is a picks can.
     went_on job _ _ a _ _ picks can _ leaf_is _ _ c.in_ok-emitted.ensures.fired _ _ _ c.in_ok-self.ensures.trap c.in_ok-self.ensures.sum c.in_ok-self.ensures.put c.in_ok-self.ensures.cause
+
+pub returns-in_err-self-clause-wants : goal.returns-in_err-self-clause-wants
+returns-in_err-self-clause-wants g c =
+    let p = err_from_is_err_and c.from_residual-in_err-self.result c.from_residual-in_err-self.ensures.1 in
+    rw (p.1, p.2) (c.in_err-self.ensures.wants g.U.Units.may_want)

@@ -26,3 +26,8 @@ pub returns-clause-makes : goal.returns-clause-makes
 returns-clause-makes g c =
     λ r used unused rest faults leaf_is d ready.
     went_on r used unused _ _ _ d ready (sym c.can_step.ensures.ready ∙ c.if-not-can_step.false) _ leaf_is _ _ c.in_ok-emitted.ensures.fired _ _ _ c.in_ok-self.ensures.trap c.in_ok-self.ensures.put c.in_ok-self.ensures.cause
+
+pub returns-in_err-self-clause-wants : goal.returns-in_err-self-clause-wants
+returns-in_err-self-clause-wants g c =
+    let p = err_from_is_err_and c.from_residual-in_err-self.result c.from_residual-in_err-self.ensures.1 in
+    rw (p.1, p.2) (c.in_err-self.ensures.wants g.U.Units.may_want)

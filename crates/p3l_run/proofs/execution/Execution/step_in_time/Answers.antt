@@ -45,3 +45,8 @@ returns-in_err-self-clause-steps g c =
 pub returns-clause-steps : goal.returns-clause-steps
 returns-clause-steps g c = λ job prices rest faults leaf_is a.
     went_in_time job prices _ _ _ a _ c.in-Some.ensures.next c.in-Some.ensures.there _ leaf_is _ _ c.in_ok-emitted.ensures.fired _ c.in_ok-emitted.ensures.item c.fired.ensures _ _ _ c.in_ok-self.ensures.trap c.in_ok-self.ensures.sum c.in_ok-self.ensures.put c.in_ok-self.ensures.cause
+
+pub returns-in_err-self-clause-wants : goal.returns-in_err-self-clause-wants
+returns-in_err-self-clause-wants g c =
+    let p = err_from_is_err_and c.from_residual-in_err-self.result c.from_residual-in_err-self.ensures.1 in
+    rw (p.1, p.2) (c.in_err-self.ensures.wants g.U.Units.may_want)
