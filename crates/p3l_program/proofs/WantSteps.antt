@@ -1,10 +1,14 @@
 -- Why verdicts say that memory ran out, by the answers of the calls below.
-use Rattle.std.proofs.Common.{ℕ, List, Bool, Err, inl, inr, tt}
+use Rattle.std.proofs.Common.{◌≡◌, ◌||◌, ℕ, List, Bool, true, Err, inl, inr, refl, subst, sym, tt}
 use Rattle.p3l_skel.specs.declared.tree.Tree.{Tree}
 use Rattle.p3l_cost.specs.declared.refusal.CostRefusal.{CostRefusal}
 use Rattle.p3l_cost.specs.declared.refusal.CostRefusal.TheVariants as costs
 use Rattle.p3l_cost.specs.File.{IsRead}
+use Rattle.p3l_run.specs.declared.fault.RunFault.{RunFault}
+use Rattle.p3l_run.specs.declared.fault.RunFault.TheVariants as fault
+use Rattle.p3l_run.specs.Wants as run
 use Rattle.p3l_program.specs.Load.{cost_verdict}
+use Rattle.p3l_program.specs.Verdict.{fault_verdict}
 use Rattle.p3l_program.specs.Wants.{Wants}
 
 -- of a file of costs
@@ -15,3 +19,9 @@ cost_wants outside tree text (costs.BadValue key) is = tt
 cost_wants outside tree text (costs.Missing name) is = tt
 cost_wants outside tree text costs.NoMemory (inl refused) = inl refused
 cost_wants outside tree text costs.NoMemory (inr toml) = inr (inr (inl toml))
+
+-- of a run, whose units are tables of compiled bodies or others
+pub run_wants : (units outside : Bool) (f : RunFault) → run.Wants units f → Wants (units || outside) (fault_verdict f)
+run_wants units outside fault.Write is = tt
+run_wants units outside fault.NoMemory (inl refused) = inl refused
+run_wants units outside fault.NoMemory (inr own) = inr (inr (inr (subst (λ b. (b || outside) ≡ true) (sym own) refl)))
