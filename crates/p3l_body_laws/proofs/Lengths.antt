@@ -128,7 +128,7 @@ body_longer h b x ls c r =
     let local : (p : Port) → Lengthens (spell_local p) = λ p s. omega (arith, port_longer p (sign marks.Semicolon ∷ s)) in
     omega (arith, script_long c r1, each_longer spell_local local ls r2, rescue_longer x r3, clause_longer marks.Budget b r4, signature_longer h (spell_clause marks.Budget b r4))
 
-pub passage_longer : (i : Passage) → Lengthens (spell_passage i)
+pub passage_longer : (i : Passage) (r : List Symbol) → length r < length (spell_passage i r)
 passage_longer (fixed x v p) r = omega arith
 passage_longer (bodied h b x ls c) r = omega (arith, body_longer h b x ls c r)
 passage_longer (chained k h x cs) r =

@@ -6,3 +6,4 @@ pub mod Fitting
 pub mod Bodies
 pub mod Ordered
 pub mod Resolved
+pub mod Few
