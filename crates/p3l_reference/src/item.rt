@@ -1,4 +1,4 @@
-// What a node makes of the words of an item: one function a form, which call one another.
+// The outcome of a node on the words of an item: one function a form, which call one another.
 
 ghost use Rattle.p3l_base.specs.Cut.{IsLawfulCut, token_size};
 ghost use Rattle.p3l_skel.specs.Tree.{node_at, HasFittingLength, HasLength};
@@ -7,8 +7,8 @@ ghost use Rattle.p3l_skel.specs.Fold.{tree_fold};
 ghost use Rattle.p3l_skel.specs.Item.{in_order, item, mapped, on_value, turned, turns_spent};
 ghost use Rattle.p3l_base.specs.declared.outcome.Outcome.TheVariants.{Value};
 ghost use Rattle.std.specs.List.{All};
-ghost use Rattle.std.specs.Prelude.{◌≡◌, ◌<◌, ◌≤◌, ◌*◌, length, map, slice_index, IfOk};
-ghost use Rattle.p3l_base.specs.Memory.{IfGiven};
+ghost use Rattle.std.specs.Prelude.{◌≡◌, ◌<◌, ◌≤◌, ◌*◌, length, map, slice_index, true, IfOk};
+ghost use Rattle.p3l_base.specs.Memory.{IfGivenOr};
 
 use p3l_base::{Cut, List, NoMemory, Outcome, Trap, TrapKind, Words, join};
 use p3l_skel::element::{elements, gather};
@@ -16,7 +16,7 @@ use p3l_skel::outcome::{copied, is_done, paired, rescue};
 use p3l_skel::{Form, Node, Tree, Units};
 use std::alloc::Global;
 
-/// What a node makes of the words of an item, step by step by the definition.
+/// The outcome of a node on the words of an item, step by step by the definition.
 #[cycle(item)]
 pub fn item_outcome<U: Units>(
     alloc: Global,
@@ -29,7 +29,7 @@ pub fn item_outcome<U: Units>(
     requires served { U.tree units.now ≡ tree.now }
     requires there { node < length tree.now.nodes }
     requires fits { HasFittingLength tree.now node (length words.now) }
-    ensures { IfGiven result (λ outcome. outcome ≡ item tree.now (U.leaf units.now) node words.now) }
+    ensures { IfGivenOr result (λ outcome. outcome ≡ item tree.now (U.leaf units.now) node words.now) (U.may_want ≡ true) }
 {
     let Some(found) = tree.node(node) else {
         unreachable!();
@@ -51,7 +51,7 @@ pub fn item_outcome<U: Units>(
     }
 }
 
-/// What a node makes of an outcome: a trap is itself.
+/// Runs a node on the value of an outcome; a trap stays itself.
 #[cycle(item)]
 fn next_outcome<U: Units>(
     alloc: Global,
@@ -64,8 +64,8 @@ fn next_outcome<U: Units>(
     requires served { U.tree units.now ≡ tree.now }
     requires there { node < length tree.now.nodes }
     requires fits { HasLength (node_at tree.now node).ins outcome }
-    ensures { IfGiven result (λ next. next
-        ≡ on_value (item tree.now (U.leaf units.now) node) outcome) }
+    ensures { IfGivenOr result (λ next. next
+        ≡ on_value (item tree.now (U.leaf units.now) node) outcome) (U.may_want ≡ true) }
 {
     match outcome {
         Outcome::Value(words) => item_outcome(alloc, tree, units, node, &words),
@@ -73,7 +73,7 @@ fn next_outcome<U: Units>(
     }
 }
 
-/// What the stages of a comp or a pipe make of words, one after the other.
+/// Runs the stages of a comp or a pipe on words, one after the other.
 #[cycle(item)]
 fn stages_outcome<U: Units>(
     alloc: Global,
@@ -87,8 +87,8 @@ fn stages_outcome<U: Units>(
     requires chain { IsChain tree.now node.now.ins node.now.outs node.now.parts }
     requires preorder { All (λ part. slice_index node.now.parts 0 ≤ part) node.now.parts }
     requires fits { length words.now ≡ node.now.ins }
-    ensures { IfGiven result (λ outcome. outcome
-        ≡ in_order (item tree.now (U.leaf units.now)) node.now.parts (Value words.now)) }
+    ensures { IfGivenOr result (λ outcome. outcome
+        ≡ in_order (item tree.now (U.leaf units.now)) node.now.parts (Value words.now)) (U.may_want ≡ true) }
 {
     let mut outcome = Outcome::Value(copied(alloc, words)?);
     for stage in node.parts.as_slice() {
@@ -97,7 +97,7 @@ fn stages_outcome<U: Units>(
     Ok(outcome)
 }
 
-/// What a map of this part makes of words: it goes over the elements in order, up to a trap.
+/// Runs a map of this part on words: the elements in order, up to a trap.
 #[cycle(item)]
 fn map_outcome<U: Units>(
     alloc: Global,
@@ -112,8 +112,8 @@ fn map_outcome<U: Units>(
     requires there { part < length tree.now.nodes }
     requires cuts { IsLawfulCut cut.now (length words.now) (token_size cut.now.outs)
         (node_at tree.now part).ins (node_at tree.now part).outs }
-    ensures { IfGiven result (λ outcome. outcome
-        ≡ mapped cut.now (item tree.now (U.leaf units.now) part) words.now) }
+    ensures { IfGivenOr result (λ outcome. outcome
+        ≡ mapped cut.now (item tree.now (U.leaf units.now) part) words.now) (U.may_want ≡ true) }
 {
     let mut results = List::new(alloc);
     for e in 0..cut.first as u64 * cut.second as u64 {
@@ -142,9 +142,9 @@ fn fold_outcome<U: Units>(
     requires some { 1 ≤ length elements.now }
     requires sized { All (λ element. length element
         ≡ (node_at tree.now operator).outs) elements.now }
-    ensures folded { IfGiven result (λ outcome. outcome
+    ensures folded { IfGivenOr result (λ outcome. outcome
         ≡ tree_fold (item tree.now (U.leaf units.now) operator)
-        (map (λ element. Value element) elements.now)) }
+        (map (λ element. Value element) elements.now)) (U.may_want ≡ true) }
     ensures sized { IfOk result (λ outcome. HasLength (node_at tree.now operator).outs outcome) }
 {
     if elements.len() == 1 {
@@ -157,7 +157,7 @@ fn fold_outcome<U: Units>(
     next_outcome(alloc, tree, units, operator, both)
 }
 
-/// What a loop of `turns` turns at most makes of words.
+/// Runs a loop of at most `turns` turns on words.
 #[cycle(item)]
 fn loop_outcome<U: Units>(
     alloc: Global,
@@ -173,10 +173,10 @@ fn loop_outcome<U: Units>(
         (slice_index node.now.parts 1) }
     requires preorder { slice_index node.now.parts 0 ≤ slice_index node.now.parts 1 }
     requires fits { length words.now ≡ node.now.ins }
-    ensures { IfGiven result (λ outcome. outcome
+    ensures { IfGivenOr result (λ outcome. outcome
         ≡ turned (item tree.now (U.leaf units.now) (slice_index node.now.parts 0))
         (item tree.now (U.leaf units.now) (slice_index node.now.parts 1))
-        (turns_spent node.now.«module») turns words.now) }
+        (turns_spent node.now.«module») turns words.now) (U.may_want ≡ true) }
 {
     let mut state = copied(alloc, words)?;
     for _turn in 0..turns {

@@ -21,4 +21,5 @@ pub mod Best
 pub mod Means
 pub mod Places
 pub mod Served
+pub mod Few
 pub mod Placed

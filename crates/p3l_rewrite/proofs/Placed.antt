@@ -1,5 +1,5 @@
 -- A program that is the same but for positions is accepted, means the same, and serves in the same time.
-use Rattle.std.proofs.Common.{◌≡◌, ℕ, List, refl, ap, sym, ◌∙◌, subst}
+use Rattle.std.proofs.Common.{◌≡◌, ℕ, ap, sym, ◌∙◌, subst}
 use Rattle.std.specs.Prelude.{slice_get}
 use Rattle.p3l_ast.specs.Tree.{ProgramTree}
 use Rattle.p3l_ast.specs.Unplaced.{program_unplaced}

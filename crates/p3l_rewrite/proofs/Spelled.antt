@@ -1,21 +1,18 @@
 -- The modules that a rewriting adds are spelled where the pipe and its stages are.
 use Rattle.std.proofs.Common.{◌≡◌, Bool, true, false, cond, List, [], ◌∷◌, ◌++◌, map, Option, None, refl, ap, sym, ◌∙◌, subst, codes}
 use Rattle.p3l_ast.specs.declared.position.Spot.{Spot}
-use Rattle.p3l_ast.specs.declared.port.Port.{Port}
 use Rattle.p3l_ast.specs.declared.call.Call.{Call}
 use Rattle.p3l_ast.specs.declared.module.Kind.{Kind}
 use Rattle.p3l_ast.specs.declared.module.Kind.TheVariants as kinds
 use Rattle.p3l_ast.specs.declared.module.Rescue.{Rescue}
-use Rattle.p3l_ast.specs.Tree.{ModuleTree, EntryTree, calls, constant, defined}
-use Rattle.p3l_lexer.specs.declared.mark.Mark.TheVariants as marks
-use Rattle.p3l_grammar.specs.Symbol.{Symbol, word, sign}
-use Rattle.p3l_grammar.specs.Limits.{at_rest}
-use Rattle.p3l_grammar.specs.Written.{Signature, Passage, fixed, bodied, chained, spread, turned, HasOne, AreCalls, IsSignature, IsChain, IsSpread, IsPassage, each, spell_call, spell_port, spell_arg, spell_out, spell_signature, spell_rescue_clause, spell_end, spell_passage, chain_filling, passage_tree}
+use Rattle.p3l_ast.specs.Tree.{ModuleTree, calls, defined}
+use Rattle.p3l_grammar.specs.Symbol.{Symbol, word}
+use Rattle.p3l_grammar.specs.Written.{Signature, Passage, fixed, bodied, chained, spread, turned, HasOne, AreCalls, IsSignature, IsChain, IsSpread, IsPassage, each, spell_call, spell_port, spell_signature, spell_rescue_clause, spell_end, spell_passage, chain_filling, passage_tree}
 use Rattle.p3l_print.proofs.Nesting.{rest_chained, rest_spread}
 use Rattle.p3l_print.proofs.Writing.{IsWritable, AreWritable, spell_interface}
 use Rattle.p3l_print.proofs.Joining.{IsSpelled}
 use Rattle.p3l_rewrite.specs.Candidates.{plain, plain_out, longer, call_with, farm_with, is_among, farm_called, with_calls, work_of}
-use Rattle.p3l_rewrite.proofs.Fronts.{each_front, port_front, ports_front, arguments_front, call_front, rescue_front, plain_arguments}
+use Rattle.p3l_rewrite.proofs.Fronts.{each_front, ports_front, arguments_front, call_front, rescue_front, plain_arguments}
 use Rattle.p3l_rewrite.proofs.Names.{work_name}
 
 -- the name of a module can be written, and its ports in front of some symbols

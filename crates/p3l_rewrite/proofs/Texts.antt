@@ -1,5 +1,5 @@
 -- Each of the programs that a program may be rewritten to has a text, where the program has one.
-use Rattle.std.proofs.Common.{◌≡◌, ℕ, Bool, true, false, cond, ◌||◌, ◌&&◌, not, List, [], ◌∷◌, ◌++◌, map, length, Option, Some, None, refl, ap, sym, ◌∙◌, subst, codes}
+use Rattle.std.proofs.Common.{◌≡◌, ℕ, Bool, true, false, cond, ◌||◌, ◌&&◌, not, List, [], ◌∷◌, ◌++◌, map, length, Option, Some, None, refl, sym, subst, codes}
 use Rattle.std.specs.Prelude.{bytes_eq, IfSome}
 use Rattle.std.specs.List.{AllByRecursion, list_all}
 use Rattle.std.proofs.lemmas.Bool.{leb-true}
@@ -14,13 +14,12 @@ use Rattle.p3l_lexer.specs.declared.token.Piece.TheVariants.{Token}
 use Rattle.p3l_lexer.specs.Piece.{piece_of}
 use Rattle.p3l_lexer.proofs.Truths.{and_left, and_right}
 use Rattle.p3l_grammar.specs.Symbol.{word}
-use Rattle.p3l_grammar.specs.Grammar.{Spells}
 use Rattle.p3l_print.proofs.Writing.{IsWritable}
 use Rattle.p3l_skel.specs.declared.tree.Tree.{Tree}
 use Rattle.p3l_skel.specs.Tree.{node_at, is_sequential}
 use Rattle.p3l_print.specs.Program.{HasText}
 use Rattle.p3l_print.proofs.Joining.{IsSpelled, entries_spelled, joined_has_text}
-use Rattle.p3l_rewrite.specs.Candidates.{Around, around_main, named_in, longer, farm_with, farm_of, is_among, with_farm, next_farms, farms_of, farm_called, with_calls, farmed_entries, work_of, fused_entries, is_pipe, has_name, ended, farmed_of, fused_of, ways_of, others_around, others}
+use Rattle.p3l_rewrite.specs.Candidates.{Around, around_main, named_in, longer, farm_of, is_among, with_farm, next_farms, farms_of, farm_called, with_calls, farmed_entries, fused_entries, is_pipe, has_name, ended, farmed_of, fused_of, ways_of, others_around, others}
 use Rattle.p3l_rewrite.specs.Texts.{OthersHaveTexts}
 use Rattle.p3l_rewrite.proofs.Candidates.{IsAround, is_around, all_both}
 use Rattle.p3l_rewrite.proofs.Names.{farm_name, work_name}

@@ -1,5 +1,5 @@
 -- Costs of the programs that a program may be rewritten to.
-use Rattle.std.specs.Prelude.{◌≡◌, Option, Some, None, Ok, ⊤}
+use Rattle.std.specs.Prelude.{◌≡◌, Ok}
 use Rattle.std.specs.List.{AllByRecursion}
 use Rattle.p3l_ast.specs.Tree.{ProgramTree}
 use Rattle.p3l_skel.specs.declared.tree.Tree.{Tree}

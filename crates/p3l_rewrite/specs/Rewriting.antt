@@ -1,5 +1,6 @@
--- What a program is rewritten to.
+-- The program that a program is rewritten to.
 use Rattle.std.specs.Prelude.{◌≡◌, ℕ, ◌-◌, ◌<◌, ◌≤◌, List, [], ◌∷◌, ◌++◌, take, drop, replicate, length, slice_get, Option, Some, None, Ok}
+use Rattle.p3l_base.specs.Limits.{most_processors}
 use Rattle.p3l_ast.specs.Tree.{ProgramTree}
 use Rattle.p3l_grammar.specs.Grammar.{Spells}
 use Rattle.p3l_print.specs.Program.{HasText}
@@ -82,7 +83,7 @@ pub record MayBeRewritten (program : ProgramTree) (costs : Costs) (processors : 
   pub counts : List ℕ
   pub fits : Fits accepted.whole.tree processors counts
   pub some : 1 ≤ processors
-  pub few : processors ≤ 512
+  pub few : processors ≤ most_processors
 
 -- the best of the ways to write a program: it means the same, its service time is no greater, and where some text
 -- spells the program it has a text too

@@ -24,10 +24,10 @@ use p3l_skel::Tree;
 use p3l_skel::tree::NESTING;
 use std::alloc::Global;
 
-/// How many bytes a name has at most.
+/// The most bytes of a name.
 const MOST_NAME: usize = 64;
 
-/// What stands behind the name of `main` in that of the comp of its stages.
+/// The end of the name of the comp of main's stages, behind `main`'s name.
 const WORK: &str = "_work";
 
 /// The numbers of the root's parts.
@@ -84,7 +84,7 @@ fn farms_of(
     Ok(farms)
 }
 
-/// Whether modules have names of no more bytes than a name may have.
+/// True if modules have names of no more bytes than a name may have.
 fn have_names(modules: &[Module]) -> bool
     ensures { result ≡ list_all has_name (map module_tree modules.now) }
 {
@@ -93,7 +93,7 @@ fn have_names(modules: &[Module]) -> bool
         .all(|module| module.at.name.as_str().len() <= MOST_NAME)
 }
 
-/// Whether nodes are sequential.
+/// True if nodes are sequential.
 fn are_sequential(tree: &Tree, parts: &[u32]) -> bool
     ensures { result ≡ list_all (is_sequential tree.now) parts.now }
 {

@@ -10,7 +10,7 @@ use p3l_base::{List, Name, NoMemory};
 use p3l_copy::{Copied, copies};
 use std::alloc::Global;
 
-/// What stands behind the name of a module in that of its farm.
+/// The end of a farm's name, behind its module's name.
 pub const FARM: &str = "_farm";
 
 /// A name with more behind it.
@@ -119,7 +119,7 @@ pub fn farm_of(alloc: Global, worker: &Module) -> Result<Module, NoMemory>
     farm_with(alloc, at, name, worker)
 }
 
-/// Whether one of these modules has a name.
+/// True if one of these modules has a name.
 pub fn is_among(modules: &[Module], name: &Name) -> bool
     ensures { result ≡ is_among (map module_tree modules.now) name.now }
 {

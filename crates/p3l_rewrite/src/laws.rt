@@ -35,13 +35,13 @@ pub fn rewritten_programs_mean()
     ensures { RewrittenProgramsMean }
 {}
 
-/// What a program may be rewritten to is the program with its pipe `main` written otherwise.
+/// Each way to write a program is the program with its pipe `main` written otherwise.
 pub fn others_are_rewritten()
     ensures { OthersAreRewritten }
 {}
 
-/// Where some text spells a program, each of these has a text too: its canonical one, which is read as it but for
-/// positions, where it is within the limit of a source text.
+/// If some text spells a program, each of these has a text too: its canonical one, which is read as it but for
+/// positions, if it is within the limit of a source text.
 pub fn others_have_texts()
     ensures { OthersHaveTexts }
 {}
@@ -52,7 +52,7 @@ pub fn others_keep_costs()
     ensures { OthersKeepCosts }
 {}
 
-/// What a text spells, where it spells a program but for positions, keeps the rules where the program does, and means the
+/// If a text spells a program but for positions, what it spells keeps the rules if the program does, and means the
 /// same.
 pub fn placed_programs_mean()
     ensures { PlacedProgramsMean }

@@ -1,4 +1,4 @@
-// Where `main` and other modules stand among entries.
+// The places of `main` and other modules among entries.
 
 ghost use Rattle.std.specs.Prelude.{◌≡◌, map, option_map};
 ghost use Rattle.p3l_ast.specs.Tree.{module_tree, entry_tree};
@@ -19,7 +19,7 @@ pub struct Around<'a> {
     pub back: &'a [Entry],
 }
 
-/// What stands around the first module `main`, if there is one.
+/// The entries around the first module `main`, if there is one.
 pub fn around_main<'a>(entries: &'a [Entry]) -> Option<Around<'a>>
     ensures { option_map around_tree result ≡ around_main (map entry_tree entries.now) }
 {

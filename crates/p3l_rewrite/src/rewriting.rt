@@ -1,11 +1,13 @@
 // The best way to write a program.
 
 ghost use Rattle.std.specs.Prelude.{◌≤◌, [], ◌∷◌, IfSome, option_map};
-ghost use Rattle.p3l_base.specs.Memory.{IfGiven};
+ghost use Rattle.p3l_base.specs.Limits.{most_processors};
+ghost use Rattle.p3l_base.specs.Memory.{IfGiven, IfGivenOr};
 ghost use Rattle.p3l_ast.specs.Tree.{program_tree};
+ghost use Rattle.p3l_check.specs.Many.{AreMany};
 ghost use Rattle.p3l_rewrite.specs.Costs.{KeepsCosts};
 ghost use Rattle.p3l_rewrite.specs.Rewriting.{IsAccepted, IsBest, StaysBest, MayBeRewritten, IsRewriting};
-ghost use Rattle.p3l_rewrite.specs.Serving.{HasTree};
+ghost use Rattle.p3l_rewrite.specs.Serving.{HasTree, HasMany, MayBeMany};
 
 use crate::candidate::{Ways, find_ways};
 use crate::serving::{accepted_tree, served, service_time};
@@ -34,10 +36,10 @@ fn better(
 ) -> Result<Rewritten, NoMemory>
     requires keeps { IfSome (option_map program_tree other) (KeepsCosts tree.now costs.now) }
     requires some { 1 ≤ processors }
-    requires few { processors ≤ 512 }
-    ensures { IfGiven result (λ better. StaysBest tree.now costs.now processors
+    requires few { processors ≤ most_processors }
+    ensures { IfGivenOr result (λ better. StaysBest tree.now costs.now processors
         (program_tree best.program) best.service (option_map program_tree other)
-        (program_tree better.program) better.service) }
+        (program_tree better.program) better.service) (HasMany (option_map program_tree other)) }
 {
     let Some(program) = other else {
         return Ok(best);
@@ -54,7 +56,8 @@ fn better(
 /// The tree of a program that keeps the rules.
 fn own_tree(alloc: Global, program: &Program) -> Result<Tree, NoMemory>
     requires { IsAccepted (program_tree program.now) }
-    ensures { IfGiven result (HasTree (program_tree program.now)) }
+    ensures { IfGivenOr result (HasTree (program_tree program.now))
+        (AreMany (program_tree program.now).entries) }
 {
     match accepted_tree(alloc, program)? {
         Some(tree) => Ok(tree),
@@ -86,7 +89,7 @@ fn own(
 
 /// The best way to write a program that keeps the rules and fits the processors: it means the same, has a text, and
 /// its service time is no greater. The costs are those of the program's tree; modules that are added cost
-/// nothing of their own.
+/// nothing of their own. A program of too many entries is out of memory too.
 pub fn rewrite(
     alloc: Global,
     program: &Program,
@@ -94,8 +97,8 @@ pub fn rewrite(
     processors: u32,
 ) -> Result<Rewritten, NoMemory>
     requires { MayBeRewritten (program_tree program.now) costs.now processors }
-    ensures { IfGiven result (λ best. IsRewriting (program_tree program.now) costs.now processors
-        (program_tree best.program) best.service) }
+    ensures { IfGivenOr result (λ best. IsRewriting (program_tree program.now) costs.now processors
+        (program_tree best.program) best.service) (MayBeMany (program_tree program.now)) }
 {
     let tree = own_tree(alloc, program)?;
     let best = own(alloc, program, &tree, costs, processors)?;

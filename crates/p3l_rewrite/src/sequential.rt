@@ -5,7 +5,7 @@ ghost use Rattle.p3l_skel.specs.Tree.{sequential_to, sequential_row};
 
 use p3l_skel::{Form, Tree};
 
-/// Whether a node is sequential, as far as some levels show.
+/// True if a node is sequential, as far as some levels show.
 pub fn is_sequential(tree: &Tree, levels: u32, number: u32) -> bool
     ensures { result ≡ sequential_to tree.now levels number }
 {
@@ -18,7 +18,7 @@ pub fn is_sequential(tree: &Tree, levels: u32, number: u32) -> bool
     is_sequential_over(&node.form, is_sequential(tree, levels - 1, node.part(0)))
 }
 
-/// Whether a node of this form is sequential, where it is known whether its first part is.
+/// True if a node of this form is sequential, where it is known whether its first part is.
 fn is_sequential_over(form: &Form, part: bool) -> bool
     ensures { result ≡ sequential_row form.now part }
 {

@@ -1,10 +1,12 @@
-// Whether a program serves in another's place, and its service time.
+// Programs that serve in another's place, and their service times.
 
 ghost use Rattle.std.specs.Prelude.{◌≡◌, ◌-◌, ◌≤◌, ◌++◌, IfSome, IfNone, length, replicate};
-ghost use Rattle.p3l_base.specs.Memory.{IfGiven, OnGiven};
+ghost use Rattle.p3l_base.specs.Limits.{most_processors};
+ghost use Rattle.p3l_base.specs.Memory.{IfGiven, OnGiven, IfGivenOr};
 ghost use Rattle.p3l_ast.specs.Tree.{program_tree};
 ghost use Rattle.p3l_skel.specs.Lawful.{IsLawfulTree};
 ghost use Rattle.p3l_cost.specs.Costs.{AreCostsOf};
+ghost use Rattle.p3l_check.specs.Many.{AreMany};
 ghost use Rattle.p3l_rewrite.specs.Costs.{KeepsCosts};
 ghost use Rattle.p3l_rewrite.specs.Rewriting.{IsAccepted, with_added, costs_for, IsServed};
 ghost use Rattle.p3l_rewrite.specs.Serving.{IsAcceptedTree, IsServiceTime};
@@ -19,7 +21,8 @@ use std::alloc::Global;
 
 /// The tree of a program, if it keeps the rules.
 pub fn accepted_tree(alloc: Global, program: &Program) -> Result<Option<Tree>, NoMemory>
-    ensures { IfGiven result (IsAcceptedTree (program_tree program.now)) }
+    ensures { IfGivenOr result (IsAcceptedTree (program_tree program.now))
+        (AreMany (program_tree program.now).entries) }
 {
     match resolve(alloc, program) {
         Ok(resolved) => Ok(Some(resolved.tree)),
@@ -38,7 +41,7 @@ pub fn service_time(
     requires tree { IsLawfulTree tree.now }
     requires costs { AreCostsOf tree.now costs.now }
     requires some { 1 ≤ processors }
-    requires few { processors ≤ 512 }
+    requires few { processors ≤ most_processors }
     ensures { IfGiven result (IsServiceTime tree.now costs.now processors) }
 {
     match choose(alloc, tree, costs, processors) {
@@ -110,8 +113,9 @@ pub fn served(
 ) -> Result<Option<u128>, NoMemory>
     requires keeps { KeepsCosts tree.now costs.now (program_tree other.now) }
     requires some { 1 ≤ processors }
-    requires few { processors ≤ 512 }
-    ensures { IfGiven result (IsServed tree.now costs.now processors (program_tree other.now)) }
+    requires few { processors ≤ most_processors }
+    ensures { IfGivenOr result (IsServed tree.now costs.now processors (program_tree other.now))
+        (AreMany (program_tree other.now).entries) }
 {
     let Some(own) = accepted_tree(alloc, other)? else {
         return Ok(None);

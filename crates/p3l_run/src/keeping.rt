@@ -9,7 +9,7 @@ use p3l_firing::ProcKind;
 use p3l_trace::TraceLine;
 use std::alloc::Global;
 
-/// What is kept of the picks of a run.
+/// The part of the picks of a run that is kept.
 #[derive(Clone, Copy, Debug, Drop, PartialEq, Eq)]
 pub enum Keeping {
     /// A line for each pick.

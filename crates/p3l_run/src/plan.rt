@@ -3,7 +3,7 @@
 use p3l_net::Net;
 use p3l_skel::{Tree, Units};
 
-/// What a run is made by: the tree, the bodies of its modules, and the net that runs it.
+/// The parts by which a run is made: the tree, the bodies of its modules, and the net that runs it.
 #[derive(Drop)]
 pub struct Plan<'a, U: Units> {
     pub tree: &'a Tree,

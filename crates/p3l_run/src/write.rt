@@ -31,7 +31,7 @@ pub fn write<K: Sink>(out: &mut K, text: &[u8]) -> Result<(), RunFault>
     }
 }
 
-/// What is reported of the outcomes so far: the last trap among them, and the sum of the words of
+/// The report of the outcomes so far: the last trap among them, and the sum of the words of
 /// the values.
 #[derive(Clone, Copy, Debug, Drop)]
 pub struct Report {

@@ -1,5 +1,5 @@
-//! What tests share: trees as tables, a row for each node in preorder; the tree of one node, with
-//! bodies that contracts see; and outcomes compared.
+//! Helpers that tests share: trees as tables, a row for each node in preorder; the tree of one node,
+//! with bodies that contracts see; and outcomes compared.
 #![tactic(auto)]
 
 pub mod one_node;

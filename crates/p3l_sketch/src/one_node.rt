@@ -1,4 +1,4 @@
-// The tree of one node, and bodies for it. Contracts see the tree, and what the bodies make of words.
+// The tree of one node, and bodies for it. Contracts see the tree, and the outcomes of the bodies.
 
 ghost use Rattle.std.specs.Prelude.{◌≡◌};
 ghost use Rattle.p3l_base.specs.Memory.{IfGiven};
@@ -8,16 +8,19 @@ use p3l_base::{List, Name, NoMemory, Outcome, Trap, TrapKind, Words};
 use p3l_skel::{Form, ModuleInfo, ModuleKind, Node, Tree, Units};
 use std::alloc::Global;
 
-/// The body that gives back the word that it is given.
+/// A body that returns the word that it is given.
 pub struct Echo;
 
 impl Units for Echo {
+    ghost use Rattle.std.specs.Prelude.{false};
     ghost use Rattle.p3l_sketch.specs.OneNode.{one_node, given_back};
     ghost use Rattle.p3l_sketch.specs.OneNodeLaws.{gives_back};
 
     ghost tree = { λ _. one_node };
 
     ghost leaf = { λ _. given_back };
+
+    ghost may_want = { false };
 
     ghost gives_outs = { λ _. gives_back };
 
@@ -31,12 +34,15 @@ impl Units for Echo {
 pub struct Refusing;
 
 impl Units for Refusing {
+    ghost use Rattle.std.specs.Prelude.{false};
     ghost use Rattle.p3l_sketch.specs.OneNode.{one_node};
     ghost use Rattle.p3l_sketch.specs.Refusing.{refusing, gives_none};
 
     ghost tree = { λ _. one_node };
 
     ghost leaf = { λ _. refusing };
+
+    ghost may_want = { false };
 
     ghost gives_outs = { λ _. gives_none };
 

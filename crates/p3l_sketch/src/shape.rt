@@ -1,4 +1,7 @@
-// What the nodes of a table do.
+// The forms of the nodes of a table.
+
+ghost use Rattle.std.specs.Prelude.{OnErr};
+ghost use Rattle.p3l_base.specs.Memory.{Refused};
 
 use p3l_base::{Cut, Dim, List, NoMemory, Slice};
 use p3l_skel::Form;
@@ -7,7 +10,7 @@ use std::alloc::Global;
 /// An array: the word that it starts at, and its dimensions.
 pub type Array = (u32, &'static [Dim]);
 
-/// What a node does.
+/// The form of a node, as a table gives it.
 #[derive(Clone, Copy, Drop)]
 pub enum Shape {
     Seq,
@@ -25,11 +28,15 @@ pub enum Shape {
 }
 
 /// The list of these numbers.
-pub fn list_of(alloc: Global, numbers: &[u32]) -> Result<List<u32>, NoMemory> {
+pub fn list_of(alloc: Global, numbers: &[u32]) -> Result<List<u32>, NoMemory>
+    ensures { OnErr result Refused }
+{
     Ok(List::from_vec(Vec::from_slice(alloc, numbers)?))
 }
 
-fn slices_of(alloc: Global, arrays: &[(u32, &[Dim])]) -> Result<List<Slice>, NoMemory> {
+fn slices_of(alloc: Global, arrays: &[(u32, &[Dim])]) -> Result<List<Slice>, NoMemory>
+    ensures { OnErr result Refused }
+{
     let mut slices = List::new(alloc);
     for (start, dims) in arrays {
         slices.push(Slice {
@@ -48,7 +55,9 @@ pub fn cut_of(
     second: u32,
     ins: &[(u32, &[Dim])],
     outs: &[(u32, &[Dim])],
-) -> Result<Cut, NoMemory> {
+) -> Result<Cut, NoMemory>
+    ensures { OnErr result Refused }
+{
     let ins = slices_of(alloc, ins)?;
     let outs = slices_of(alloc, outs)?;
     Ok(Cut {
@@ -59,8 +68,10 @@ pub fn cut_of(
     })
 }
 
-/// The form of a node that does this.
-pub fn form_of(alloc: Global, shape: Shape) -> Result<Form, NoMemory> {
+/// The form of a node of this shape.
+pub fn form_of(alloc: Global, shape: Shape) -> Result<Form, NoMemory>
+    ensures { OnErr result Refused }
+{
     Ok(match shape {
         Shape::Seq => Form::Seq,
         Shape::Comp => Form::Comp,

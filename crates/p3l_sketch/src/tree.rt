@@ -1,14 +1,17 @@
 // The trees of tables.
 
+ghost use Rattle.std.specs.Prelude.{OnErr};
+ghost use Rattle.p3l_base.specs.Memory.{Refused};
+
 use crate::shape::{Shape, form_of, list_of};
 use p3l_base::{List, Name, NoMemory};
 use p3l_skel::{Counts, Form, ModuleInfo, ModuleKind, Node, Tree};
 use std::alloc::Global;
 
-/// A node of a module of its own: what it does, the words that it takes and gives, and its parts.
+/// A node of a module of its own: its shape, the words that it takes and gives, and its parts.
 pub type Row = (Shape, u32, u32, &'static [u32]);
 
-/// A node: what it does, its module, the words that it takes and gives, and its parts.
+/// A node: its shape, its module, the words that it takes and gives, and its parts.
 pub type ModuleRow = (Shape, u32, u32, u32, &'static [u32]);
 
 /// A tree: its nodes, and the kinds of its modules.
@@ -22,7 +25,9 @@ fn module_of(
     name: &str,
     kind: ModuleKind,
     rescue: Option<i64>,
-) -> Result<ModuleInfo, NoMemory> {
+) -> Result<ModuleInfo, NoMemory>
+    ensures { OnErr result Refused }
+{
     Ok(ModuleInfo {
         name: Name::from_text(alloc, name)?,
         kind,
@@ -46,7 +51,9 @@ pub fn add_node(
     words: (u32, u32),
     parts: List<u32>,
     rescue: Option<i64>,
-) -> Result<(), NoMemory> {
+) -> Result<(), NoMemory>
+    ensures { OnErr result Refused }
+{
     let module = u32::try_from(tree.modules.len()).unwrap_or(0);
     tree.modules
         .push(module_of(alloc, NAME, form.kind(), rescue)?)?;
@@ -65,7 +72,9 @@ pub fn add_row(
     tree: &mut Tree,
     row: Row,
     rescue: Option<i64>,
-) -> Result<(), NoMemory> {
+) -> Result<(), NoMemory>
+    ensures { OnErr result Refused }
+{
     let (shape, ins, outs, parts) = row;
     let form = form_of(alloc, shape)?;
     let parts = list_of(alloc, parts)?;
@@ -73,7 +82,9 @@ pub fn add_row(
 }
 
 /// The tree of these rows, each of which is a node of a module of its own.
-pub fn tree_of(alloc: Global, rows: &[Row]) -> Result<Tree, NoMemory> {
+pub fn tree_of(alloc: Global, rows: &[Row]) -> Result<Tree, NoMemory>
+    ensures { OnErr result Refused }
+{
     let mut tree = no_nodes(alloc);
     for row in rows {
         add_row(alloc, &mut tree, *row, None)?;
@@ -81,7 +92,9 @@ pub fn tree_of(alloc: Global, rows: &[Row]) -> Result<Tree, NoMemory> {
     Ok(tree)
 }
 
-fn node_of(alloc: Global, row: ModuleRow) -> Result<Node, NoMemory> {
+fn node_of(alloc: Global, row: ModuleRow) -> Result<Node, NoMemory>
+    ensures { OnErr result Refused }
+{
     let (shape, module, ins, outs, parts) = row;
     let form = form_of(alloc, shape)?;
     let parts = list_of(alloc, parts)?;
@@ -94,7 +107,9 @@ fn node_of(alloc: Global, row: ModuleRow) -> Result<Node, NoMemory> {
     })
 }
 
-fn nodes_of(alloc: Global, rows: &[ModuleRow]) -> Result<List<Node>, NoMemory> {
+fn nodes_of(alloc: Global, rows: &[ModuleRow]) -> Result<List<Node>, NoMemory>
+    ensures { OnErr result Refused }
+{
     let mut nodes = List::new(alloc);
     for row in rows {
         nodes.push(node_of(alloc, *row)?)?;
@@ -103,11 +118,9 @@ fn nodes_of(alloc: Global, rows: &[ModuleRow]) -> Result<List<Node>, NoMemory> {
 }
 
 /// The tree of these rows, with modules of these kinds.
-pub fn tree_with(
-    alloc: Global,
-    rows: &[ModuleRow],
-    kinds: &[ModuleKind],
-) -> Result<Tree, NoMemory> {
+pub fn tree_with(alloc: Global, rows: &[ModuleRow], kinds: &[ModuleKind]) -> Result<Tree, NoMemory>
+    ensures { OnErr result Refused }
+{
     let nodes = nodes_of(alloc, rows)?;
     let mut modules = List::new(alloc);
     for kind in kinds {
@@ -121,7 +134,9 @@ pub fn tree_named(
     alloc: Global,
     rows: &[ModuleRow],
     named: &[(&str, ModuleKind)],
-) -> Result<Tree, NoMemory> {
+) -> Result<Tree, NoMemory>
+    ensures { OnErr result Refused }
+{
     let nodes = nodes_of(alloc, rows)?;
     let mut modules = List::new(alloc);
     for (name, kind) in named {
@@ -136,7 +151,9 @@ pub fn tree_with_rescue(
     sketch: Sketch,
     number: usize,
     rescue: i64,
-) -> Result<Tree, NoMemory> {
+) -> Result<Tree, NoMemory>
+    ensures { OnErr result Refused }
+{
     let nodes = nodes_of(alloc, sketch.0)?;
     let mut modules = List::new(alloc);
     for (place, kind) in sketch.1.iter().enumerate() {
@@ -147,7 +164,9 @@ pub fn tree_with_rescue(
 }
 
 /// These numbers of workers.
-pub fn counts_of(alloc: Global, counts: &[u32]) -> Result<Counts, NoMemory> {
+pub fn counts_of(alloc: Global, counts: &[u32]) -> Result<Counts, NoMemory>
+    ensures { OnErr result Refused }
+{
     Ok(Counts {
         list: list_of(alloc, counts)?,
     })

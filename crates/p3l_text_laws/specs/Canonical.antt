@@ -3,7 +3,7 @@ use Rattle.std.specs.Prelude.{◌≡◌, ℕ, List}
 use Rattle.p3l_ast.specs.Tree.{ProgramTree}
 use Rattle.p3l_print.specs.Program.{canonical, IsTextOf}
 
--- what spells a program, positions aside, is read as one with the same canonical text
+-- a text that spells a program, positions aside, is read as one with the same canonical text
 abbrev pub CanonicalTextsStay : Type 0
 CanonicalTextsStay =
     (text : List ℕ) (program : ProgramTree) (is : IsTextOf text program) → canonical is.placed ≡ canonical program

@@ -3,6 +3,7 @@
 #![tactic(auto)]
 
 ghost use Rattle.std.specs.Prelude.{◌≡◌, ◌≤◌, length, IfOk, IfErr};
+ghost use Rattle.p3l_base.specs.Memory.{Refused};
 ghost use Rattle.p3l_ast.specs.Tree.{program_tree};
 ghost use Rattle.p3l_ast.specs.Unplaced.{program_unplaced};
 ghost use Rattle.p3l_ast.specs.declared.refusal.SourceRefusal.TheVariants.{NoMemory};
@@ -15,14 +16,14 @@ use p3l_reader::read;
 use std::alloc::Global;
 
 /// Reads the canonical text of a program. Where the program has a text and its canonical one is
-/// within the limit of a source text, this is the same program but for positions; nothing but want
-/// of memory refuses it.
+/// within the limit of a source text, this is the same program but for positions; it fails
+/// only if memory runs out.
 pub fn read_printed(alloc: Global, program: &Program) -> Result<Program, SourceRefusal>
     requires spelled { HasText (program_tree program.now) }
     requires short { length (canonical (program_tree program.now)) ≤ 1048576 }
     ensures same { IfOk result (λ again. program_unplaced (program_tree again)
         ≡ program_unplaced (program_tree program.now)) }
-    ensures refused { IfErr result (λ refusal. refusal ≡ NoMemory) }
+    ensures refused { IfErr result (λ refusal. (refusal ≡ NoMemory) × Refused) }
 {
     let text = print(alloc, program)?;
     read(alloc, text.as_slice())

@@ -8,7 +8,8 @@ use Rattle.p3l_skel.specs.declared.tree.Tree.{Tree}
 use Rattle.p3l_skel.specs.Tree.{node_at, rescue_of, HasLength, GivesOuts}
 use Rattle.p3l_skel.specs.Fold.{tree_fold}
 use Rattle.p3l_skel.specs.Item.{in_order, item, mapped, rescued, turned, turns_spent}
-use Rattle.p3l_skel.proofs.Mapped.{if_ok-along, if_ok-same, mapped-trap, mapped-more, mapped-all, mapped-count, fold-one, fold-more, paired-fits}
+use Rattle.p3l_reference.proofs.Given.{given-alone, given-along, given-same}
+use Rattle.p3l_skel.proofs.Mapped.{mapped-trap, mapped-more, mapped-all, mapped-count, fold-one, fold-more, paired-fits}
 use Rattle.p3l_skel.proofs.Elements.{sized-more}
 use Rattle.p3l_reference.proofs.Turned.{turned-body_trap, turned-condition_trap, turned-done, turned-again, turned-none}
 use Rattle.p3l_skel.proofs.Parts.{some_elements, along_ins, form_at, fits_at, fitting, row_at, is_unit, next_keeps, value_keeps, first_later, least, farm_part, map_part, reduce_part, loop_parts}
@@ -30,7 +31,7 @@ pub fold_outcome-returns-clause-folded : goal.fold_outcome-returns-clause-folded
 fold_outcome-returns-clause-folded g t c =
     let operator = item c.args.tree.now (g.U.Units.leaf c.args.units.now) c.args.operator in
     let several : 2 ≤ length c.args.elements.now = omega arith in
-    if_ok-same c.next_outcome.result _ _
+    given-same _ c.next_outcome.result _ _
     (fold-more operator c.args.elements.now _ _ c.in_ok-left.left c.in_ok-right.right c.in_ok-both.both several c.split_at.ensures.front c.split_at.ensures.back c.in_ok-left.ensures.folded c.in_ok-right.ensures.folded (c.in_ok-both.ensures operator))
     c.next_outcome.ensures
 
@@ -40,7 +41,7 @@ fold_outcome-returns-clause-sized g t c =
     let leaf = g.U.Units.leaf c.args.units.now in
     let gives = subst (λ (tr : Tree). GivesOuts tr leaf) c.requires.served (g.met.U.Units.gives_outs c.args.units.now) in
     let fits = paired-fits (node_at tree c.args.operator).outs (node_at tree c.args.operator).ins c.in_ok-left.left c.in_ok-right.right c.in_ok-both.both c.in_ok-both.ensures c.requires.takes_two c.in_ok-left.ensures.sized c.in_ok-right.ensures.sized in
-    if_ok-along (HasLength (node_at tree c.args.operator).outs) c.next_outcome.result _
+    given-along _ (HasLength (node_at tree c.args.operator).outs) c.next_outcome.result _
     (next_keeps tree c.requires.lawful leaf gives c.args.operator c.in_ok-both.both c.requires.there fits)
     c.next_outcome.ensures
 
@@ -118,7 +119,7 @@ pub item_outcome-returns-in-Farm : goal.item_outcome-returns-in-Farm
 item_outcome-returns-in-Farm g t c =
     let tree = c.args.tree.now in
     let leaf = g.U.Units.leaf c.args.units.now in
-    if_ok-same c.item_outcome.result _ _
+    given-same _ c.item_outcome.result _ _
     (ap (λ p. item tree leaf p c.args.words.now) c.part.ensures ∙ row_at tree c.requires.lawful leaf c.in-Some.found.now c.args.node _ c.args.words.now c.in-Some.ensures.found c.requires.there c.in-Farm.is)
     c.item_outcome.ensures
 
@@ -126,7 +127,7 @@ pub item_outcome-returns-in-Map : goal.item_outcome-returns-in-Map
 item_outcome-returns-in-Map g t c =
     let tree = c.args.tree.now in
     let leaf = g.U.Units.leaf c.args.units.now in
-    if_ok-same c.map_outcome.result _ _
+    given-same _ c.map_outcome.result _ _
     (ap (λ p. mapped c.in-Map.cut (item tree leaf p) c.args.words.now) c.part-in-Map.ensures ∙ row_at tree c.requires.lawful leaf c.in-Some.found.now c.args.node _ c.args.words.now c.in-Some.ensures.found c.requires.there c.in-Map.is)
     c.map_outcome.ensures
 
@@ -135,7 +136,7 @@ item_outcome-returns-in_ok-list-in-Reduce g t c =
     let tree = c.args.tree.now in
     let leaf = g.U.Units.leaf c.args.units.now in
     let list = c.as_slice.ensures ∙ c.in_ok-list-in-Reduce.ensures.elements in
-    if_ok-same c.fold_outcome.result _ _
+    given-same _ c.fold_outcome.result _ _
     (ap (λ p. tree_fold (item tree leaf p) (map (λ (e : List ℤ). Value e) c.as_slice.result.now)) c.part-in-Reduce.ensures
     ∙ (ap (λ (l : List (List ℤ)). tree_fold (item tree leaf (slice_index c.in-Some.found.now.parts 0)) (map (λ e. Value e) l)) list
     ∙ row_at tree c.requires.lawful leaf c.in-Some.found.now c.args.node _ c.args.words.now c.in-Some.ensures.found c.requires.there c.in-Reduce.is))
@@ -143,21 +144,21 @@ item_outcome-returns-in_ok-list-in-Reduce g t c =
 
 pub item_outcome-returns-in-Loop : goal.item_outcome-returns-in-Loop
 item_outcome-returns-in-Loop g t c =
-    if_ok-same c.loop_outcome.result _ _
+    given-same _ c.loop_outcome.result _ _
     (row_at c.args.tree.now c.requires.lawful (g.U.Units.leaf c.args.units.now) c.in-Some.found.now c.args.node _ c.args.words.now c.in-Some.ensures.found c.requires.there c.in-Loop.is)
     c.loop_outcome.ensures
 
 pub item_outcome-returns-in_ok-outcome-in-Comp : goal.item_outcome-returns-in_ok-outcome-in-Comp
 item_outcome-returns-in_ok-outcome-in-Comp g t c =
     let node = c.in-Some.found.now in
-    if_ok-same c.rescue.result _ _
+    given-alone _ c.rescue.result _ _
     (ap (rescued (rescue_of c.args.tree.now node.module) node.outs) c.in_ok-outcome-in-Comp.ensures
     ∙ row_at c.args.tree.now c.requires.lawful (g.U.Units.leaf c.args.units.now) node c.args.node Comp c.args.words.now c.in-Some.ensures.found c.requires.there c.in-Comp.is)
     c.rescue.ensures
 
 pub item_outcome-returns-in-Pipe : goal.item_outcome-returns-in-Pipe
 item_outcome-returns-in-Pipe g t c =
-    if_ok-same c.stages_outcome-in-Pipe.result _ _
+    given-same _ c.stages_outcome-in-Pipe.result _ _
     (row_at c.args.tree.now c.requires.lawful (g.U.Units.leaf c.args.units.now) c.in-Some.found.now c.args.node Pipe c.args.words.now c.in-Some.ensures.found c.requires.there c.in-Pipe.is)
     c.stages_outcome-in-Pipe.ensures
 

@@ -1,9 +1,9 @@
 use Rattle.std.proofs.Common.{sym, subst}
-use Rattle.std.proofs.lemmas.Result.{IfOk-weaker}
 use Rattle.p3l_ast.specs.Tree.{program_tree}
 use Rattle.p3l_cost.specs.Costs.{AreCostsOf}
 use Rattle.p3l_rewrite.specs.Rewriting.{IsServed}
 use Rattle.p3l_rewrite.specs.Serving.{HasTree, IsAcceptedTree, IsServiceTime}
+use Rattle.p3l_rewrite.proofs.Few.{given_or}
 use Rattle.p3l_rewrite.proofs.Served.{by_time, own_costs}
 use Rattle.p3l_rewrite.proofs.serving.served.Goals as goal
 
@@ -22,6 +22,6 @@ returns c =
     let other = program_tree c.args.other.now in
     let own = c.in-Some.own in
     let has : HasTree other own = subst (IsAcceptedTree other) c.in-Some.is c.in_ok-own.ensures in
-    IfOk-weaker c.service_time.result (IsServiceTime own c.in_ok-costs.costs processors) (IsServed tree costs processors other)
+    given_or c.service_time.result (IsServiceTime own c.in_ok-costs.costs processors) (IsServed tree costs processors other) _
     (λ time best. by_time tree costs processors other own has time (subst (λ t. IsServiceTime own t processors time) c.in_ok-costs.ensures best))
     c.service_time.ensures
