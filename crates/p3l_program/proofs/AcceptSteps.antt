@@ -8,7 +8,9 @@ use Rattle.p3l_grammar.specs.Grammar.{Spells}
 use Rattle.p3l_reader.specs.Faults.{IsOnly, IsRefusal}
 use Rattle.p3l_types.specs.Verdict.{Gives}
 use Rattle.p3l_skel.specs.Lawful.{IsLawfulTree}
+use Rattle.p3l_check.specs.Many.{GivesUnlessMany}
 use Rattle.p3l_check.specs.Resolving.{ResolvedTree, resolved}
+use Rattle.p3l_body_laws.proofs.Few.{gives_few}
 use Rattle.p3l_body_laws.specs.Served.{ResolvedServe}
 use Rattle.p3l_compile.specs.Leaves.{AreBodies, AreCodes}
 use Rattle.p3l_program.specs.declared.plan.Accepted.{Accepted}
@@ -28,6 +30,10 @@ module _ (text : List ℕ) (program : ProgramTree) (spelled : Spells text progra
     never = λ r a. (let same = only a.program a.spelled in let other = ap resolved same ∙ a.keeps in absurd cc);
   }
   not_kept source.NoMemory breaks = breaks
+
+  -- it has too few entries to be refused for their number
+  pub not_resolved : (e : SourceRefusal) → length text ≤ 1048576 → GivesUnlessMany {A = ResolvedTree} program.entries (Err e) (resolved program) → IsTextRefused text e
+  not_resolved e within answer = not_kept e (gives_few text program (Err e) (resolved program) spelled within answer)
 
   -- the bodies of one whose program keeps all rules are those of its tree
   pub bodies : ResolvedServe → (r : ResolvedTree) → length text ≤ 1048576 → resolved program ≡ Ok r → IsLawfulTree r.tree → AreBodies r.tree r.seqs

@@ -49,7 +49,7 @@ no_text tree costs text r only is = record { why = inl is; never = λ cert here.
 pub cert_unread : (tree : Tree) (costs : Costs) (text : List ℕ) (r : CertRefusal) → ((cert : Cert) → cert_format.fits cert ≡ true → text ≡ cert_format.spell cert → Answers text (Err r) (Ok cert)) →
     ReportsFirst text (Err r) → Answers text (Err r) (read_all cert_format text) → IsCertRefused tree costs text r
 cert_unread tree costs text (refusals.BadText line) only first exact = no_text tree costs text (refusals.BadText line) only first
-cert_unread tree costs text refusals.NoMemory only first exact = tt
+cert_unread tree costs text refusals.NoMemory only first exact = exact
 cert_unread tree costs text (refusals.RowWrong row kept found) only first exact = absurd (let z = (reports_line text (read_all cert_format text) (refusals.RowWrong row kept found) exact).1 in cc)
 cert_unread tree costs text (refusals.RowMissing row node bound cap) only first exact = absurd (let z = (reports_line text (read_all cert_format text) (refusals.RowMissing row node bound cap) exact).1 in cc)
 cert_unread tree costs text (refusals.ClaimWrong claim) only first exact = absurd (let z = (reports_line text (read_all cert_format text) (refusals.ClaimWrong claim) exact).1 in cc)
@@ -82,7 +82,7 @@ module _ (tree : Tree) (costs : Costs) (text : List ℕ) (cert : Cert) (spelled 
     why = inr (record { cert = cert; spelled = spelled; answer = answer });
     never = holds_never (refusals.BadText line) accepts (λ e. absurd cc);
   }
-  cert_fails refusals.NoMemory answer accepts = tt
+  cert_fails refusals.NoMemory answer accepts = answer
 
 -- a file that gives no text
 pub cert_unreadable : (files : Change Held) (name : List ℕ) (tree : Tree) (costs : Costs) (r : FileRefusal) → IsUnreadable files cert_limit name r → IsCertless files name tree costs (file_verdict r)

@@ -49,12 +49,12 @@ undecoded bytes (image.Version version) only exact = record { misspelled = sym e
 undecoded bytes (image.Short place) only exact = record { misspelled = sym exact; never = λ i is. let z = only i is in absurd cc }
 undecoded bytes (image.BadField place) only exact = record { misspelled = sym exact; never = λ i is. let z = only i is in absurd cc }
 undecoded bytes (image.TrailingBytes place) only exact = record { misspelled = sym exact; never = λ i is. let z = only i is in absurd cc }
-undecoded bytes image.NoMemory only exact = tt
+undecoded bytes image.NoMemory only exact = exact
 
 -- so they load none
 pub unloadable : (bytes : List ℕ) (v : Verdict) → IsUndecoded bytes v → IsUnloadable bytes v
 unloadable bytes (verdict.Refused (refusal.Evidence e)) h = inl h
-unloadable bytes verdict.NoMemory h = tt
+unloadable bytes verdict.NoMemory h = h
 unloadable bytes v h = absurd h
 
 module _ (bytes : List ℕ) (i : Image) (is : IsImage i bytes) (only : (other : Image) → IsImage other bytes → other ≡ i) where
@@ -66,7 +66,7 @@ module _ (bytes : List ℕ) (i : Image) (is : IsImage i bytes) (only : (other : 
   unrunnable load.TreeWrong h = inr (broken evidence.TreeWrong h (λ runs. h runs.whole))
   unrunnable (load.CodeUnsafe number) h = inr (broken (evidence.CodeUnsafe number) h (λ runs. first_unsafe i.codes number h.1 runs.safe))
   unrunnable load.NotLinked h = inr (broken evidence.NotLinked h (λ runs. h.2 runs.linked))
-  unrunnable load.NoMemory h = tt
+  unrunnable load.NoMemory h = h
 
 module _ (files : Change Held) (name bytes : List ℕ) (has : HasText files.old image_limit name bytes) (calm : IsCalm files) where
   -- bytes that are no image stop the stages of an image, whatever stages come after

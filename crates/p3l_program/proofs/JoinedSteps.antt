@@ -1,9 +1,8 @@
 -- How the lines, the items and the text of two blocks follow one another.
-use Rattle.std.proofs.Common.{◌≡◌, ◌↔◌, ℕ, ℤ, suc, ◌+◌, ◌<◌, Bool, true, false, cond, List, [], ◌∷◌, ◌++◌, length, map, refl, ap, sym, subst, ◌∙◌, arith}
+use Rattle.std.proofs.Common.{◌≡◌, ◌↔◌, ℕ, ℤ, suc, ◌+◌, ◌<◌, Bool, true, false, cond, List, [], ◌∷◌, ◌++◌, length, map, refl, ap, sym, subst, ◌∙◌, arith, append_assoc, append-nil}
 use Rattle.std.specs.List.{AllByRecursion, onto_first, slice_split}
 use Rattle.std.specs.Str.Lines.{strip_carriage_return}
 use Rattle.std.proofs.lemmas.List.Splits.{length-slice_split}
-use Rattle.std.proofs.lemmas.List.{append_assoc, append-nil}
 use Rattle.p3l_base.specs.declared.outcome.Outcome.{Outcome}
 use Rattle.p3l_base.specs.declared.outcome.Outcome.TheVariants.{Value, Trapped}
 use Rattle.p3l_skel.specs.declared.tree.Tree.{Tree}
@@ -15,6 +14,7 @@ use Rattle.p3l_stream.specs.declared.items.Ending.{Ending}
 use Rattle.p3l_stream.specs.declared.items.Ending.TheVariants as ending
 use Rattle.p3l_stream.specs.declared.items.Items.{Items}
 use Rattle.p3l_stream.specs.Items.{items_of, items_of_lines, put_line}
+use Rattle.p3l_stream.specs.Text.{text_of}
 use Rattle.p3l_stream.specs.Lines.{is_feed, line_of, lines_between, lines_of}
 use Rattle.p3l_sample.specs.Sampling.{IsValue}
 use Rattle.p3l_run.specs.Network.{Network, meaning_of, width_of}
@@ -136,12 +136,12 @@ blocks n front rest fresh good values =
     let width = width_of n in
     let alone = lines_alone front in
     let lines : lines_of stop.End (block front ++ rest) ≡ whole_lines front ++ lines_of stop.End rest =
-        ap (lines_of stop.End) (append_assoc front (10 ∷ []) rest) ∙ lines_more front rest in
+    ap (lines_of stop.End) (append_assoc front (10 ∷ []) rest) ∙ lines_more front rest in
     let good : ends (items_of_lines width 1 ending.End (whole_lines front)) = subst (λ z. ends (items_of_lines width 1 ending.End z)) alone good in
     let first : items_of width (block front) ≡ items_of_lines width 1 ending.End (whole_lines front) = ap (items_of_lines width 1 ending.End) alone in
     let both : items_of width (block front ++ rest) ≡ items_of_lines width 1 ending.End (whole_lines front ++ lines_of stop.End rest) = ap (items_of_lines width 1 ending.End) lines in
     let joined : (items_of width (block front ++ rest)).items ≡ (items_of width (block front)).items ++ (items_of width rest).items =
-        ap (λ i. i.items) both ∙ items_more width 1 (whole_lines front) (lines_of stop.End rest) good ∙ ap (λ i. i.items ++ (items_of width rest).items) (sym first) in
+    ap (λ i. i.items) both ∙ items_more width 1 (whole_lines front) (lines_of stop.End rest) good ∙ ap (λ i. i.items ++ (items_of width rest).items) (sym first) in
     let told : AllByRecursion IsValue (meaning n.tree n.leaf (items_of width (block front)).items) = subst (AllByRecursion IsValue) (outcomes_are n front rest fresh _) values in
     record {
       ends = subst (λ i. ends i ↔ ends (items_of width rest)) (sym both) (end_more width 1 (whole_lines front) (lines_of stop.End rest) good);

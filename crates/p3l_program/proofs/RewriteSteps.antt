@@ -10,6 +10,8 @@ use Rattle.p3l_opts.specs.declared.command.Build.{Build}
 use Rattle.p3l_check.specs.Resolving.{resolved}
 use Rattle.p3l_rewrite.specs.Rewriting.{IsRewriting, MayBeRewritten}
 use Rattle.p3l_rewrite.specs.Serving.{HasTree}
+use Rattle.p3l_body_laws.proofs.Few.{entries_few}
+use Rattle.p3l_rewrite.specs.Serving.{MayBeMany}
 use Rattle.p3l_rewrite.proofs.Placed.{placed_means, placed_serves}
 use Rattle.p3l_program.specs.declared.rewrite.Priced.{Priced}
 use Rattle.p3l_program.specs.declared.rewrite.Source.{Source}
@@ -65,6 +67,15 @@ module _ (files : Option Held) (build : Build) (priced : Priced) (loads : LoadsP
     some = some;
     few = few;
   })
+
+  -- its text is too short for too many entries
+  pub not_many : MayBeMany (program_tree priced.program) → ⊥
+  not_many many =
+      let accepted = loads.has.allotted.priced.accepted in
+      let few = entries_few loads.has.text accepted.program accepted.spelled in
+      let within = loads.has.has.within in
+      let same : MayBeMany accepted.program = subst MayBeMany (sym loads.program_is) many in
+      omega arith
 
   -- and the text of the best way to write it is that of the files
   pub rewritten : (text : List ℕ) → IsBestText (program_tree priced.program) priced.costs build.processors text → IsRewritten files build text

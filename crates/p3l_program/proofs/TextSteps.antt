@@ -25,7 +25,7 @@ use Rattle.p3l_program.specs.World.{Change, IsCalm, IsStill, World, world}
 -- a text that is refused spells no program
 pub no_canonical : (text : List ℕ) (r : SourceRefusal) → length text ≤ 1048576 → ((program : ProgramTree) → Spells text program → IsOnly program (Err r)) → IsRefusal text r → HasNoCanonical text r
 no_canonical text (source.At fault pos) within only first = record { first = first within; no_program = only }
-no_canonical text source.NoMemory within only first = tt
+no_canonical text source.NoMemory within only first = first
 
 -- stages that don't pass, where nothing was touched
 pub not_loaded : (w : World) (stages : List Stage) (Ends : Finish → Option Stats → Type 0) (Begins Unsaved : Type 0) (v : Verdict) → IsStill w.input → IsStill w.out → IsNotLoaded w.files stages v →

@@ -1,5 +1,5 @@
 -- Why verdicts say that memory ran out, by the answers of the calls below.
-use Rattle.std.proofs.Common.{◌≡◌, ◌||◌, ℕ, List, Bool, true, Err, inl, inr, refl, subst, sym, tt}
+use Rattle.std.proofs.Common.{◌≡◌, ◌||◌, ℕ, List, Bool, true, Err, inl, inr, refl, subst, sym}
 use Rattle.p3l_skel.specs.declared.tree.Tree.{Tree}
 use Rattle.p3l_cost.specs.declared.refusal.CostRefusal.{CostRefusal}
 use Rattle.p3l_cost.specs.declared.refusal.CostRefusal.TheVariants as costs

@@ -9,7 +9,7 @@ use Rattle.p3l_cost.specs.declared.costs.Costs.{Costs}
 use Rattle.p3l_cost.specs.Costs.{AreCostsOf}
 use Rattle.p3l_opts.specs.declared.command.Build.{Build}
 use Rattle.p3l_print.specs.Program.{canonical, IsTextOf}
-use Rattle.p3l_types.specs.Verdict.{Gives}
+use Rattle.p3l_check.specs.Many.{GivesUnlessMany}
 use Rattle.p3l_check.specs.Resolving.{ResolvedTree, resolved}
 use Rattle.p3l_rewrite.specs.Rewriting.{IsRewriting, MeansTheSame, Serves}
 use Rattle.p3l_program.specs.declared.rewrite.Priced.{Priced}
@@ -45,9 +45,9 @@ pub record IsRewritten (files : Option Held) (build : Build) (text : List ℕ) :
   pub means : MeansTheSame has.priced.accepted.program spells.placed
   pub serves : Serves r.tree cs build.processors spells.placed time
 
--- a program breaks a rule, the first of them so, unless memory ran out
+-- a program breaks a rule, the first of them so, unless memory ran out or it has too many entries
 abbrev pub BreaksRules : ProgramTree → SourceRefusal → Type 0
-BreaksRules program refusal = Gives {A = ResolvedTree} (Err refusal) (resolved program)
+BreaksRules program refusal = GivesUnlessMany {A = ResolvedTree} program.entries (Err refusal) (resolved program)
 
 -- the tree that an accepted text comes to, which it does alone
 pub record ComesToTree (text : List ℕ) (r : ResolvedTree) (tree : Tree) : Type 0 where

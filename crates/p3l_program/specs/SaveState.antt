@@ -1,5 +1,5 @@
 -- The command `save`: a program run on the input under recorded picks, and the state that they come to written as a snapshot.
-use Rattle.std.specs.Prelude.{◌≡◌, ◌≢◌, ℕ, ℤ, ◌<◌, ◌≤◌, false, List, [], ◌∷◌, ◌++◌, ◌⊎◌, length, Ok, Err, Option, Some, None, if◌then◌else◌}
+use Rattle.std.specs.Prelude.{◌≡◌, ◌≢◌, ℕ, ℤ, ◌<◌, ◌≤◌, ◌^◌, false, List, [], ◌∷◌, ◌++◌, ◌⊎◌, length, Ok, Err, Option, Some, None, if◌then◌else◌}
 use Rattle.p3l_code.specs.declared.instr.Code.{Code}
 use Rattle.p3l_compile.specs.Leaves.{AreCodes}
 use Rattle.p3l_cost.specs.declared.costs.Costs.{Costs}
@@ -8,6 +8,8 @@ use Rattle.p3l_firing.specs.Token.{has_trap}
 use Rattle.p3l_firing.specs.Typed.{IsTyped}
 use Rattle.p3l_io.specs.Content.{Held}
 use Rattle.p3l_link.specs.Net.{linked_net}
+use Rattle.p3l_code.specs.declared.safe.SafeCode.{SafeCode}
+use Rattle.p3l_image.specs.Image.{image_text}
 use Rattle.p3l_load.specs.Compiled.{IsImageText, image_of}
 use Rattle.p3l_load.specs.Load.{loaded_of}
 use Rattle.p3l_net.specs.Machine.{Seen}
@@ -50,7 +52,7 @@ use Rattle.p3l_program.specs.declared.imaged.Imaged.{Imaged}
 use Rattle.p3l_program.specs.declared.plan.Allotted.{Allotted}
 use Rattle.p3l_program.specs.Behavior.{Behavior}
 use Rattle.p3l_program.specs.Expected.{IsExpectedWith}
-use Rattle.p3l_program.specs.Load.{LoadsNetwork}
+use Rattle.p3l_program.specs.Load.{Loads, LoadsNetwork}
 use Rattle.p3l_program.specs.LoadImage.{IsReadyImage}
 use Rattle.p3l_program.specs.Origin.{built}
 use Rattle.p3l_program.specs.Plan.{HasCounts, IsAccepted, network_in, network_of}

@@ -11,7 +11,6 @@ use Rattle.p3l_program.specs.Expected.{IsExpectedWith}
 use Rattle.p3l_program.specs.Stage.{Stage}
 use Rattle.p3l_program.specs.Text.{BeginsText, EndsText, IsNothing, WritesWhole}
 use Rattle.p3l_program.specs.World.{Change, HasFailed, IsCalm, IsStill, World, world}
-use Rattle.p3l_base.specs.Memory.{Refused}
 
 -- a name is none of these
 abbrev pub IsOther : List ℕ → List (List ℕ) → Type 0
@@ -86,7 +85,7 @@ pub record HasSaves (files : Change Held) (saves : List (List ℕ × List ℕ)) 
 
 -- with this verdict files that a command wrote before its work have what was written, but where memory ran out
 abbrev pub HoldFirst : Change Held → List (List ℕ × List ℕ) → Verdict → Type 0
-HoldFirst files saves verdict.NoMemory = Refused
+HoldFirst files saves verdict.NoMemory = Unit {0}
 HoldFirst files saves v = AreSaved files saves
 
 -- with this verdict no file is changed but those of these names; and by a refusal none, or those alone that the command wrote before

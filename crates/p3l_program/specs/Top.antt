@@ -22,7 +22,7 @@ Gives k wanted = (k ≡ wanted) ⊎ (k ≡ status.no_memory)
 -- of words, of what was there before and after, and of a status
 pub record Promises (outside : Bool) (words : List Text) (w : World) (err : Change (List ℕ)) (k : ℕ) : Type 0 where
   -- How it ended: with this status, why, what was written, and the lines on the standard error.
-  pub answers : Answers words w err k
+  pub answers : Answers outside words w err k
   -- What is written begins what the command that the words spell writes: of `run` and `exec` the text
   -- of the program's meaning on the items read, of `resume` the text of what is to come of what was
   -- saved and of this meaning, and no more than the network emits under the schedule, of `fmt` the

@@ -1,7 +1,8 @@
 // The command `rewrite`: a program with the same meaning and no greater service time.
 
-ghost use Rattle.std.specs.Prelude.{◌≡◌, ◌≤◌, length, IfOk, IfErr, OnOk};
-ghost use Rattle.p3l_base.specs.Memory.{IfGiven};
+ghost use Rattle.std.specs.Prelude.{◌≡◌, ◌≤◌, length, IfOk, IfErr, OnOk, OnErr, ◌⊎◌};
+ghost use Rattle.p3l_base.specs.Memory.{Refused};
+ghost use Rattle.p3l_rewrite.specs.Serving.{MayBeMany};
 ghost use Rattle.p3l_ast.specs.Tree.{program_tree};
 ghost use Rattle.p3l_rewrite.specs.Rewriting.{MayBeRewritten};
 ghost use Rattle.p3l_rewrite.specs.Serving.{HasTree};
@@ -122,8 +123,9 @@ fn load_priced<F: Files>(alloc: Global, build: Build, files: &mut F) -> Result<P
 /// The canonical text of the best way to write a program.
 fn best_text(alloc: Global, priced: &Priced, processors: u32) -> Result<List<u8>, NoMemory>
     requires { MayBeRewritten (program_tree priced.now.program) priced.now.costs processors }
-    ensures { IfGiven result
+    ensures best { IfOk result
         (IsBestText (program_tree priced.now.program) priced.now.costs processors) }
+    ensures wants { OnErr result (Refused ⊎ MayBeMany (program_tree priced.now.program)) }
 {
     let best = p3l_rewrite::rewrite(alloc, &priced.program, &priced.costs, processors)?;
     print(alloc, &best.program)

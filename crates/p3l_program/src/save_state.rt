@@ -7,7 +7,7 @@ ghost use Rattle.p3l_run.specs.Feed.{most_of_input};
 ghost use Rattle.p3l_run.specs.Network.{IsSound, network};
 ghost use Rattle.p3l_skel.specs.Tree.{node_at};
 ghost use Rattle.p3l_program.specs.Plan.{network_in};
-ghost use Rattle.p3l_program.specs.SaveState.{FitsSome, IsReached, IsReadyToSave, IsSaveExpected, IsSaveOf, IsUnreached, IsWriting, KeepsSave, SavesOver};
+ghost use Rattle.p3l_program.specs.SaveState.{FitsSome, HasLongImage, IsReached, IsReadyToSave, IsSaveExpected, IsSaveOf, IsUnreached, IsWriting, KeepsSave, SavesOver};
 ghost use Rattle.p3l_program.specs.Saved.{KeepsFiles};
 ghost use Rattle.p3l_program.specs.World.{change, files_change, world};
 ghost use Rattle.p3l_program.specs.Wants.{Wants};

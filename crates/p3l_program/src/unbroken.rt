@@ -4,9 +4,9 @@ ghost use Rattle.p3l_program.specs.Unbroken.{EveryResumedRunIsUnbroken, EverySna
 
 use p3l_image::coding::image_begins_no_other;
 use p3l_link::laws::every_linked_net_is_carried;
+use p3l_net::laws::a_restored_machine_goes_on_unbroken;
 use p3l_resume::coding::snapshot_begins_no_other;
 use p3l_run::laws::laws;
-use p3l_net::laws::a_restored_machine_goes_on_unbroken;
 
 /// A snapshot that a run left is never refused where it is resumed: its bytes are a snapshot, with an
 /// image that can be run, and a run of it can be in the state that was saved.

@@ -25,7 +25,7 @@ returns-in-Ok-save-clause-expected g c =
     let bytes = c.in-Ok-cert_text.certificate in
     let claims = c.in-Ok-certify.ensures.claims in
     let same = same_change (held c.allot.new.files) (held c.args.files.now) (held end) (faults c.allot.new.files) (faults c.args.files.now) (faults end) (failed end) c.allot.ensures.stays c.in-Ok.ensures.calm in
-    let written = subst (λ b. SaveCause (files_change held faults failed c.allot.new.files end) c.args.name b (Ok tt)) c.as_slice.ensures c.in-Ok-save.ensures.by in
+    let written = subst (λ b. SaveCause (files_change held faults failed c.allot.new.files end) c.args.name b (Ok tt)) c.as_slice.ensures c.in-Ok-save.ensures.saved.by in
     let save = subst (λ f. SaveCause f c.args.name bytes (Ok tt)) same written in
     saving_expected files out (build_stages c.args.build) (IsExplained (held c.args.files.now) c.args.build) c.args.name (IsCertificate (held c.args.files.now) c.args.build) text bytes
     (loaded_passes c.args.build loads.r loaded files loads.is)
@@ -49,7 +49,7 @@ returns-clause-expected g c =
     let claims = c.in-Ok-certify.ensures.claims in
     let v = c.in-Err-save.verdict in
     let same = same_change (held c.allot.new.files) (held c.args.files.now) (held end) (faults c.allot.new.files) (faults c.args.files.now) (faults end) (failed end) c.allot.ensures.stays c.in-Ok.ensures.calm in
-    let written = subst (λ b. SaveCause (files_change held faults failed c.allot.new.files end) c.args.name b (Err v)) c.as_slice.ensures c.in-Err-save.ensures.by in
+    let written = subst (λ b. SaveCause (files_change held faults failed c.allot.new.files end) c.args.name b (Err v)) c.as_slice.ensures c.in-Err-save.ensures.saved.by in
     saving_failed files out (build_stages c.args.build) (IsExplained (held c.args.files.now) c.args.build) c.args.name (IsCertificate (held c.args.files.now) c.args.build) text bytes
     (loaded_passes c.args.build loads.r loaded files loads.is)
     (explained c.args.build loads.r loaded (held c.args.files.now) text loads.is c.in-Ok-allocation_text.ensures)

@@ -21,7 +21,7 @@ returns-in-Ok-save-clause-expected g c =
     let bytes = c.in-Ok-image_text.image in
     let same = same_change (held c.allot.new.files) (held c.args.files.now) (held end) (faults c.allot.new.files) (faults c.args.files.now) (faults end) (failed end) c.allot.ensures.stays c.in-Ok.ensures.calm in
     let text = subst (λ codes. IsImageText (image_of loaded.program.tree loaded.choice.counts.list codes c.args.build.capacity) bytes) c.as_slice.ensures c.in-Ok-image_text.ensures in
-    let written = subst (λ b. SaveCause (files_change held faults failed c.allot.new.files end) c.args.name b (Ok tt)) c.as_slice-2.ensures c.in-Ok-save.ensures.by in
+    let written = subst (λ b. SaveCause (files_change held faults failed c.allot.new.files end) c.args.name b (Ok tt)) c.as_slice-2.ensures c.in-Ok-save.ensures.saved.by in
     file_expected files (build_stages c.args.build) c.args.name (IsImageOf (held c.args.files.now) c.args.build) bytes (loaded_passes c.args.build loads.r loaded files loads.is)
     (imaged (held c.args.files.now) c.args.build loads.r loaded loads.is bytes text) (subst (λ f. SaveCause f c.args.name bytes (Ok tt)) same written)
 
@@ -38,6 +38,6 @@ returns-clause-expected g c =
     let v = c.in-Err-save.verdict in
     let same = same_change (held c.allot.new.files) (held c.args.files.now) (held end) (faults c.allot.new.files) (faults c.args.files.now) (faults end) (failed end) c.allot.ensures.stays c.in-Ok.ensures.calm in
     let text = subst (λ codes. IsImageText (image_of loaded.program.tree loaded.choice.counts.list codes c.args.build.capacity) bytes) c.as_slice.ensures c.in-Ok-image_text.ensures in
-    let written = subst (λ b. SaveCause (files_change held faults failed c.allot.new.files end) c.args.name b (Err v)) c.as_slice-2.ensures c.in-Err-save.ensures.by in
+    let written = subst (λ b. SaveCause (files_change held faults failed c.allot.new.files end) c.args.name b (Err v)) c.as_slice-2.ensures c.in-Err-save.ensures.saved.by in
     file_failed files (build_stages c.args.build) c.args.name (IsImageOf (held c.args.files.now) c.args.build) bytes (loaded_passes c.args.build loads.r loaded files loads.is)
     (imaged (held c.args.files.now) c.args.build loads.r loaded loads.is bytes text) v (subst (λ f. SaveCause f c.args.name bytes (Err v)) same written)

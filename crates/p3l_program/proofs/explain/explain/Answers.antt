@@ -17,3 +17,6 @@ returns-clause-expected g c =
     (loaded_passes c.args.build loads.r c.in-Ok.loaded files loads.is)
     (explained c.args.build loads.r c.in-Ok.loaded (g.F.Files.held c.args.files.now) text loads.is c.in-Ok-allocation_text.ensures)
     (subst (λ written. IsWritten out written c.write_text.result) c.as_slice.ensures c.write_text.ensures.written)
+
+pub returns-clause-wants : goal.returns-clause-wants
+returns-clause-wants g c = c.write_text.ensures.wants g.F.Files.may_want

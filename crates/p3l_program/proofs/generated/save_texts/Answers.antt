@@ -13,7 +13,7 @@ returns-in_err-save_as-clause-saved g c =
     let texts = c.args.texts.now in
     let files = files_change g.F.Files.held g.F.Files.faults g.F.Files.failed c.args.files.now c.save_as.new.files in
     let v = c.in_err-save_as.field-0.0 in
-    let unsaved = subst (λ b. HasSave files (prefix ++ codes ".p3l") b (Err v)) c.as_slice.ensures c.in_err-save_as.ensures in
+    let unsaved = subst (λ b. HasSave files (prefix ++ codes ".p3l") b (Err v)) c.as_slice.ensures c.in_err-save_as.ensures.saved in
     rw (p.1, p.2) (saves_failed files (prefix ++ codes ".p3l") texts.program ((prefix ++ codes ".toml", texts.costs) ∷ ((prefix ++ codes ".txt", texts.stream) ∷ [])) v unsaved)
 
 pub returns-in_err-save_as-2-clause-saved : goal.returns-in_err-save_as-2-clause-saved
@@ -28,8 +28,8 @@ returns-in_err-save_as-2-clause-saved g c =
     let mid = c.save_as.new.files in
     let end = c.save_as-2.new.files in
     let v = c.in_err-save_as-2.field-0.0 in
-    let first = subst (λ b. HasSave (files_change held faults failed old mid) (prefix ++ codes ".p3l") b (Ok tt)) c.as_slice.ensures c.in_ok-save_as.ensures in
-    let unsaved = subst (λ b. HasSave (files_change held faults failed mid end) (prefix ++ codes ".toml") b (Err v)) c.as_slice-2.ensures c.in_err-save_as-2.ensures in
+    let first = subst (λ b. HasSave (files_change held faults failed old mid) (prefix ++ codes ".p3l") b (Ok tt)) c.as_slice.ensures c.in_ok-save_as.ensures.saved in
+    let unsaved = subst (λ b. HasSave (files_change held faults failed mid end) (prefix ++ codes ".toml") b (Err v)) c.as_slice-2.ensures c.in_err-save_as-2.ensures.saved in
     let more = saves_failed (files_change held faults failed mid end) (prefix ++ codes ".toml") texts.costs ((prefix ++ codes ".txt", texts.stream) ∷ []) v unsaved in
     rw (p.1, p.2) (saves_then (held old) (held mid) (held end) (faults old) (faults mid) (faults end) (failed mid) (failed end) (prefix ++ codes ".p3l") texts.program
     ((prefix ++ codes ".toml", texts.costs) ∷ ((prefix ++ codes ".txt", texts.stream) ∷ [])) (program_separated prefix) first (Err v) more)
@@ -46,8 +46,8 @@ returns-clause-saved g c =
     let late = c.save_as-2.new.files in
     let end = c.save_as-3.new.files in
     let result = c.save_as-3.result in
-    let first = subst (λ b. HasSave (files_change held faults failed old mid) (prefix ++ codes ".p3l") b (Ok tt)) c.as_slice.ensures c.in_ok-save_as.ensures in
-    let second = subst (λ b. HasSave (files_change held faults failed mid late) (prefix ++ codes ".toml") b (Ok tt)) c.as_slice-2.ensures c.in_ok-save_as-2.ensures in
+    let first = subst (λ b. HasSave (files_change held faults failed old mid) (prefix ++ codes ".p3l") b (Ok tt)) c.as_slice.ensures c.in_ok-save_as.ensures.saved in
+    let second = subst (λ b. HasSave (files_change held faults failed mid late) (prefix ++ codes ".toml") b (Ok tt)) c.as_slice-2.ensures c.in_ok-save_as-2.ensures.saved in
     let third = subst (λ b. HasSave (files_change held faults failed late end) (prefix ++ codes ".txt") b result) c.as_slice-3.ensures c.save_as-3.ensures.saved in
     let last = saves_last (files_change held faults failed late end) (prefix ++ codes ".txt") texts.stream result third in
     let more = saves_then (held mid) (held late) (held end) (faults mid) (faults late) (faults end) (failed late) (failed end) (prefix ++ codes ".toml") texts.costs ((prefix ++ codes ".txt", texts.stream) ∷ []) (costs_separated prefix) second result last in

@@ -24,3 +24,6 @@ returns-clause-expected g c =
       drawn = c.in-Ok-graph_text.ensures;
     })
     (subst (λ written. IsWritten out written c.write_text.result) c.as_slice.ensures c.write_text.ensures.written)
+
+pub returns-clause-wants : goal.returns-clause-wants
+returns-clause-wants g c = c.write_text.ensures.wants g.F.Files.may_want

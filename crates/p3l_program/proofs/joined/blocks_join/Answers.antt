@@ -2,4 +2,4 @@ use Rattle.p3l_program.proofs.JoinedSteps.{blocks}
 use Rattle.p3l_program.proofs.joined.blocks_join.Goals as goal
 
 pub returns : goal.returns
-returns = blocks
+returns c = blocks

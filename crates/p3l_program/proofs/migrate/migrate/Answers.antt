@@ -29,7 +29,7 @@ returns-in-Ok-save-clause-expected g c =
     let files = files_change held faults failed c.args.files.now end in
     let bytes = c.in-Ok-encode.bytes in
     let same = same_change (held c.migrate_image.new.files) (held c.args.files.now) (held end) (faults c.migrate_image.new.files) (faults c.args.files.now) (faults end) (failed end) c.migrate_image.ensures.stays c.in-Ok.ensures.calm in
-    let written = subst (λ b. SaveCause (files_change held faults failed c.migrate_image.new.files end) c.args.output b (Ok tt)) c.as_slice.ensures c.in-Ok-save.ensures.by in
+    let written = subst (λ b. SaveCause (files_change held faults failed c.migrate_image.new.files end) c.args.output b (Ok tt)) c.as_slice.ensures c.in-Ok-save.ensures.saved.by in
     file_expected files (migrate_stages c.args.name) c.args.output (IsMigrated (held c.args.files.now) c.args.name) bytes (migrate_passes files c.args.name image m)
     (record { image = image; migrates = m; bytes_are = c.in-Ok-encode.ensures }) (subst (λ f. SaveCause f c.args.output bytes (Ok tt)) same written)
 
@@ -45,6 +45,6 @@ returns-clause-expected g c =
     let bytes = c.in-Ok-encode.bytes in
     let v = c.in-Err-save.verdict in
     let same = same_change (held c.migrate_image.new.files) (held c.args.files.now) (held end) (faults c.migrate_image.new.files) (faults c.args.files.now) (faults end) (failed end) c.migrate_image.ensures.stays c.in-Ok.ensures.calm in
-    let written = subst (λ b. SaveCause (files_change held faults failed c.migrate_image.new.files end) c.args.output b (Err v)) c.as_slice.ensures c.in-Err-save.ensures.by in
+    let written = subst (λ b. SaveCause (files_change held faults failed c.migrate_image.new.files end) c.args.output b (Err v)) c.as_slice.ensures c.in-Err-save.ensures.saved.by in
     file_failed files (migrate_stages c.args.name) c.args.output (IsMigrated (held c.args.files.now) c.args.name) bytes (migrate_passes files c.args.name image m)
     (record { image = image; migrates = m; bytes_are = c.in-Ok-encode.ensures }) v (subst (λ f. SaveCause f c.args.output bytes (Err v)) same written)

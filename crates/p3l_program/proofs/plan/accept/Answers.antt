@@ -5,8 +5,7 @@ use Rattle.std.specs.Prelude.{map}
 use Rattle.p3l_body.specs.Seq.{seq_tree}
 use Rattle.p3l_compile.specs.Condition.{IsCompilable}
 use Rattle.p3l_compile.specs.Leaves.{AreCodes}
-use Rattle.p3l_body_laws.proofs.Few.{gives_few}
-use Rattle.p3l_program.proofs.AcceptSteps.{bodies, kept, not_kept, not_read}
+use Rattle.p3l_program.proofs.AcceptSteps.{bodies, kept, not_read, not_resolved}
 use Rattle.p3l_program.proofs.plan.accept.Goals as goal
 
 pub returns-in_err-program-clause-refused : goal.returns-in_err-program-clause-refused
@@ -17,8 +16,7 @@ returns-in_err-program-clause-refused c =
 pub returns-in_err-resolved-clause-refused : goal.returns-in_err-resolved-clause-refused
 returns-in_err-resolved-clause-refused c =
     let p = err_from_is_err_and c.from_residual-in_err-resolved.result c.from_residual-in_err-resolved.ensures.1 in
-    rw (p.1, p.2) (not_kept c.args.text.now _ c.in_ok-program.ensures.found (c.in_ok-program.ensures.only c.requires) _
-    (gives_few c.args.text.now _ _ _ c.in_ok-program.ensures.found c.requires c.in_err-resolved.ensures.resolved))
+    rw (p.1, p.2) (not_resolved c.args.text.now _ c.in_ok-program.ensures.found (c.in_ok-program.ensures.only c.requires) _ c.requires c.in_err-resolved.ensures.resolved)
 
 pub codes_of-requires : goal.codes_of-requires
 codes_of-requires c =

@@ -28,3 +28,6 @@ returns-in-Err-clause-expected g c =
     let name = c.args.name in
     let w = world files input out in
     not_loaded w (program_stages name) (EndsProfile w name) (BeginsProfile w name) ⊥ c.in-Err.verdict (record { known = refl; calm = refl }) (record { known = refl; calm = refl }) c.in-Err.ensures.refused
+
+pub returns-in-Ok-clause-wants : goal.returns-in-Ok-clause-wants
+returns-in-Ok-clause-wants g c = c.profile_tree.ensures.wants g.F.Files.may_want

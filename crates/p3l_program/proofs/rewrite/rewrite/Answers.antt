@@ -1,9 +1,9 @@
-use Rattle.std.proofs.Common.{subst}
+use Rattle.std.proofs.Common.{subst, inl, inr}
 use Rattle.p3l_program.specs.Rewrite.{IsRewritten, plain_build}
 use Rattle.p3l_program.specs.Stage.{build_stages}
 use Rattle.p3l_program.specs.Text.{IsWritten}
 use Rattle.p3l_program.specs.World.{change, files_change}
-use Rattle.p3l_program.proofs.RewriteSteps.{may_be, rewritten}
+use Rattle.p3l_program.proofs.RewriteSteps.{may_be, not_many, rewritten}
 use Rattle.p3l_program.proofs.TextSteps.{text_expected}
 use Rattle.p3l_program.proofs.TreeSteps.{counts_pass}
 use Rattle.p3l_program.proofs.rewrite.rewrite.Goals as goal
@@ -22,5 +22,12 @@ returns-clause-expected g c =
     let text = c.in-Ok-best_text.text in
     text_expected files out (build_stages build) (IsRewritten (g.F.Files.held c.args.files.now) build) text c.write_text.result c.in-Ok.ensures.calm
     (counts_pass files build loads.r c.in-Ok.priced.costs loads.counts loads.has)
-    (rewritten (g.F.Files.held c.args.files.now) build c.in-Ok.priced loads text c.in-Ok-best_text.ensures)
+    (rewritten (g.F.Files.held c.args.files.now) build c.in-Ok.priced loads text c.in-Ok-best_text.ensures.best)
     (subst (λ written. IsWritten out written c.write_text.result) c.as_slice.ensures c.write_text.ensures.written)
+
+pub returns-in-Err-best_text-clause-wants : goal.returns-in-Err-best_text-clause-wants
+returns-in-Err-best_text-clause-wants g c =
+    let build = plain_build c.args.program c.args.processors c.args.costs in elim c.in-Err-best_text.ensures.wants [
+      | inl refused ↦ inl refused
+      | inr many ↦ absurd (not_many (g.F.Files.held c.args.files.now) build c.in-Ok.priced c.in-Ok.ensures.loaded many)
+    ]
