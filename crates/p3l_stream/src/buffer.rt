@@ -67,6 +67,7 @@ impl Buffer {
     }
 
     /// The place of the first line feed.
+    #[inline(always)]
     pub(crate) fn first_feed(&mut self) -> Option<usize>
         ensures same { self.new ≡ self.old }
         ensures first { result ≡ position is_feed self.old }

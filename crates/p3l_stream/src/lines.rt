@@ -260,6 +260,7 @@ impl Lines {
     }
 
     /// Passes the first line, which is ended at this place.
+    #[inline(always)]
     fn pass_to(&mut self, end: usize)
         requires { Some end ≡ position is_feed self.old.held }
         ensures { self.new ≡ moved_past self.old 1 (drop (end + 1) self.old.held) }

@@ -93,6 +93,7 @@ pub(crate) fn read_number(word: &[u8]) -> Result<i64, WordFault>
 
 /// The number that the first word writes and the bytes after it, where it is a numeral of at most
 /// 18 digits; else none need be found.
+#[inline(always)]
 fn plain_number(bytes: &[u8]) -> Option<(i64, &[u8])>
     ensures { IfSome result (λ found. IsFirstNumber bytes.now (Some (Ok found.0, found.1.now))) }
 {
@@ -106,6 +107,7 @@ fn plain_number(bytes: &[u8]) -> Option<(i64, &[u8])>
 }
 
 /// The number that the first word writes, or its fault, and the bytes after it.
+#[inline(always)]
 pub(crate) fn next_number(bytes: &[u8]) -> Option<(Result<i64, WordFault>, &[u8])>
     ensures { IsFirstNumber bytes.now (option_map (λ found. (found.0, found.1.now)) result) }
 {
