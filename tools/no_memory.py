@@ -59,13 +59,15 @@ REFUSED = [
 
 
 def is_front(done, whole):
-    """Whether a refusal came out as with ample memory, but for lines of its message that are left
+    """Whether a refusal came out as with ample memory, but for words of its message that are left
     out, or as that of no memory."""
     if done.returncode == 11:
         return done.stderr.startswith(b"no memory\n") and whole.stdout.startswith(done.stdout)
     line = whole.stderr[: whole.stderr.index(b"\n") + 1]
     is_same = (done.returncode, done.stdout) == (whole.returncode, whole.stdout)
-    return is_same and done.stderr.startswith(line) and whole.stderr.startswith(done.stderr)
+    rest = iter(whole.stderr.split())
+    is_less = all(word in rest for word in done.stderr.split())
+    return is_same and done.stderr.startswith(line) and is_less
 
 
 def try_refused(run, folder):

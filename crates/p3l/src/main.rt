@@ -6,7 +6,6 @@ ghost use Rattle.std.specs.Process.{exit_status};
 
 mod person;
 
-use person::{failure_of, is_terminal, style_of, wants_long};
 use p3l_base::NoMemory;
 use p3l_help::all_pages;
 use p3l_host::{HostErr, HostFiles, HostIn, HostOut, Output, SinkAfter, SourceAfter};
@@ -14,6 +13,7 @@ use p3l_io::{Files, Sink};
 use p3l_messages::{Answer, KeptFiles, Screen, Style, message_on};
 use p3l_program::top::top;
 use p3l_report::{Status, Verdict, put_no_memory, put_report, report_of};
+use person::{failure_of, is_terminal, style_of, wants_long};
 use std::env;
 use std::io::{ErrorKind, Write};
 use std::process::ExitCode;

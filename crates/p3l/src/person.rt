@@ -1,18 +1,15 @@
 // Who reads the messages: a person at a terminal, or a program.
 
 use p3l_messages::{Failure, Style};
-use std::env;
-use std::fs;
 use std::io::ErrorKind;
+use std::{env, fs};
 
 /// Whether the standard error is a terminal: its link leads to the device of one.
 pub fn is_terminal(rt: &HostRuntime) -> bool {
     match fs::read_link(rt, "/proc/self/fd/2") {
         Ok(path) => {
             let path = path.as_str();
-            path.starts_with("/dev/pts/")
-                || path.starts_with("/dev/tty")
-                || path == "/dev/console"
+            path.starts_with("/dev/pts/") || path.starts_with("/dev/tty") || path == "/dev/console"
         }
         Err(_) => false,
     }

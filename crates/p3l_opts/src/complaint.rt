@@ -92,8 +92,8 @@ impl Form {
 
     /// Says that a value does not have the form.
     fn complaint(self, alloc: Global, id: &str, text: &str) -> Result<String, NoMemory>
-    ensures { OnErr result Refused }
-{
+        ensures { OnErr result Refused }
+    {
         let complaint = match self {
             Form::Count(most) => {
                 format!(in alloc; "error: {id}: '{text}' is no number from 1 to {most}\n")

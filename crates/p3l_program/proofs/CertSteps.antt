@@ -1,11 +1,14 @@
 -- From what the reader and the checker of certificates say to the stages of a certificate.
 use Rattle.std.proofs.Common.{◌≡◌, ℕ, List, [], ◌++◌, Option, Some, None, true, Result, IfErr, IfOk, refl, sym, ◌∙◌, inl, inr, subst, append-nil}
+use Rattle.std.specs.Prelude.{Bool, false, ◌↔◌, IsTrue}
 use Rattle.std.specs.declared.result.Result.TheVariants.{Ok, Err}
 use Rattle.p3l_format.specs.declared.fault.Fault.{Fault}
 use Rattle.p3l_format.specs.Format.{read_all}
 use Rattle.p3l_format.specs.Line.{line_number}
 use Rattle.p3l_format.specs.laws.Formats.{one_spelling}
 use Rattle.p3l_io.specs.Content.{Held}
+use Rattle.p3l_base.specs.Memory.{Refused}
+use Rattle.p3l_skel.specs.Counts.{HasLawfulCounts}
 use Rattle.p3l_skel.specs.declared.tree.Tree.{Tree}
 use Rattle.p3l_cost.specs.declared.costs.Costs.{Costs}
 use Rattle.p3l_model.specs.Optimal.{IsOptimal}
@@ -31,6 +34,7 @@ use Rattle.p3l_program.specs.Load.{IsNotLoaded, IsUnreadable, file_verdict}
 use Rattle.p3l_program.specs.LoadCert.{IsCertRefused, IsCertless, LoadsCert, LoadsVerified, cert_verdict}
 use Rattle.p3l_program.specs.Stage.{AllPass, IsRefusedBy, Stage, cert_stages, cost_stages, program_stages, verify_stages}
 use Rattle.p3l_program.specs.Verify.{IsVerified, holds_line}
+use Rattle.p3l_program.specs.Wants.{Wants}
 use Rattle.p3l_program.specs.World.{Change, HasFailed, IsCalm}
 use Rattle.p3l_program.proofs.LoadSteps.{costs_pass, priced_here, program_passes}
 use Rattle.p3l_program.proofs.OnceSteps.{said_alike}
@@ -64,25 +68,30 @@ module _ (tree : Tree) (costs : Costs) (text : List ℕ) (cert : Cert) (spelled 
   holds_never : (r : CertRefusal) → (CertHolds tree costs cert → r ≡ refusals.NoMemory) → (r ≡ refusals.NoMemory → ⊥) → (other : Cert) → IsCertOf tree costs text other → ⊥
   holds_never r accepts some other is = some (accepts (subst (λ c. CertHolds tree costs c) (spelled_alike text cert other spelled is.spelled) is.holds))
 
+  -- the checker says that memory ran out only when a request was refused, lawful counts or not
+  out_of_memory : (lawful : Bool) → (IsTrue lawful ↔ HasLawfulCounts tree cert.counts.list) → IsAnswer {A = Unit {0}} tree costs cert (Err refusals.NoMemory) → Refused
+  out_of_memory true is answer = answer.lawful (is.0 refl)
+  out_of_memory false is answer = answer.unlawful (λ has. absurd (let z = is.1 has in cc))
+
   -- one that the checker refuses doesn't hold
-  pub cert_fails : (r : CertRefusal) → IsAnswer {A = Unit {0}} tree costs cert (Err r) → (CertHolds tree costs cert → r ≡ refusals.NoMemory) → IsCertRefused tree costs text r
-  cert_fails (refusals.RowWrong row kept found) answer accepts = record {
+  pub cert_fails : (lawful : Bool) → (IsTrue lawful ↔ HasLawfulCounts tree cert.counts.list) → (r : CertRefusal) → IsAnswer {A = Unit {0}} tree costs cert (Err r) → (CertHolds tree costs cert → r ≡ refusals.NoMemory) → IsCertRefused tree costs text r
+  cert_fails lawful is (refusals.RowWrong row kept found) answer accepts = record {
     why = inr (record { cert = cert; spelled = spelled; answer = answer });
     never = holds_never (refusals.RowWrong row kept found) accepts (λ e. absurd cc);
   }
-  cert_fails (refusals.RowMissing row node bound cap) answer accepts = record {
+  cert_fails lawful is (refusals.RowMissing row node bound cap) answer accepts = record {
     why = inr (record { cert = cert; spelled = spelled; answer = answer });
     never = holds_never (refusals.RowMissing row node bound cap) accepts (λ e. absurd cc);
   }
-  cert_fails (refusals.ClaimWrong claim) answer accepts = record {
+  cert_fails lawful is (refusals.ClaimWrong claim) answer accepts = record {
     why = inr (record { cert = cert; spelled = spelled; answer = answer });
     never = holds_never (refusals.ClaimWrong claim) accepts (λ e. absurd cc);
   }
-  cert_fails (refusals.BadText line) answer accepts = record {
+  cert_fails lawful is (refusals.BadText line) answer accepts = record {
     why = inr (record { cert = cert; spelled = spelled; answer = answer });
     never = holds_never (refusals.BadText line) accepts (λ e. absurd cc);
   }
-  cert_fails refusals.NoMemory answer accepts = answer
+  cert_fails lawful is refusals.NoMemory answer accepts = out_of_memory lawful is answer
 
 -- a file that gives no text
 pub cert_unreadable : (files : Change Held) (name : List ℕ) (tree : Tree) (costs : Costs) (r : FileRefusal) → IsUnreadable files cert_limit name r → IsCertless files name tree costs (file_verdict r)
@@ -198,3 +207,11 @@ module _ (files : Change Held) (name : List ℕ) (costs : Option (List ℕ)) (ce
   -- and its line is expected
   pub verified : (text : List ℕ) → text ≡ holds_line cert.processors cert.used cert.service → IsVerified files.old name costs cert_file text
   verified text is = record { r = loads.r; cs = loads.cs; cert = cert; has = loads.has; optimal = loads.optimal; text_is = is }
+
+-- a certificate's refusal says that memory ran out only when a request was refused
+pub cert_wants : (outside : Bool) (tree : Tree) (costs : Costs) (text : List ℕ) (r : CertRefusal) → IsCertRefused tree costs text r → Wants outside (cert_verdict r)
+cert_wants outside tree costs text (refusals.RowWrong row kept found) h = tt
+cert_wants outside tree costs text (refusals.RowMissing row node bound cap) h = tt
+cert_wants outside tree costs text (refusals.ClaimWrong claim) h = tt
+cert_wants outside tree costs text (refusals.BadText line) h = tt
+cert_wants outside tree costs text refusals.NoMemory h = inl h

@@ -18,7 +18,7 @@ use Rattle.p3l_stream.specs.Text.{text_of}
 use Rattle.p3l_stream.specs.Lines.{is_feed, line_of, lines_between, lines_of}
 use Rattle.p3l_sample.specs.Sampling.{IsValue}
 use Rattle.p3l_run.specs.Network.{Network, meaning_of, width_of}
-use Rattle.p3l_run.specs.Start.{outcomes_from}
+use Rattle.p3l_run.specs.Start.{fresh, outcomes_from}
 use Rattle.p3l_run.proofs.WriteSteps.{text_more}
 use Rattle.p3l_program.specs.Joined.{BlocksJoin, Joins, block}
 
@@ -132,7 +132,7 @@ module _ (n : Network) (front rest : List ℕ) (is : n.start ≡ fresh) where
   outcomes_are items = ap (λ s. outcomes_from s (meaning n.tree n.leaf items)) is
 
 pub blocks : BlocksJoin
-blocks n front rest fresh good values =
+blocks n front rest begins good values =
     let width = width_of n in
     let alone = lines_alone front in
     let lines : lines_of stop.End (block front ++ rest) ≡ whole_lines front ++ lines_of stop.End rest =
@@ -142,12 +142,12 @@ blocks n front rest fresh good values =
     let both : items_of width (block front ++ rest) ≡ items_of_lines width 1 ending.End (whole_lines front ++ lines_of stop.End rest) = ap (items_of_lines width 1 ending.End) lines in
     let joined : (items_of width (block front ++ rest)).items ≡ (items_of width (block front)).items ++ (items_of width rest).items =
     ap (λ i. i.items) both ∙ items_more width 1 (whole_lines front) (lines_of stop.End rest) good ∙ ap (λ i. i.items ++ (items_of width rest).items) (sym first) in
-    let told : AllByRecursion IsValue (meaning n.tree n.leaf (items_of width (block front)).items) = subst (AllByRecursion IsValue) (outcomes_are n front rest fresh _) values in
+    let told : AllByRecursion IsValue (meaning n.tree n.leaf (items_of width (block front)).items) = subst (AllByRecursion IsValue) (outcomes_are n front rest begins _) values in
     record {
       ends = subst (λ i. ends i ↔ ends (items_of width rest)) (sym both) (end_more width 1 (whole_lines front) (lines_of stop.End rest) good);
       text =
-          ap text_of (outcomes_are n front rest fresh _ ∙ ap (meaning n.tree n.leaf) joined ∙ meaning_more n.tree n.leaf _ (items_of width rest).items told
-          ∙ ap (λ a. a ++ meaning n.tree n.leaf (items_of width rest).items) (sym (outcomes_are n front rest fresh _))
-          ∙ ap (λ b. meaning_of n (items_of width (block front)).items ++ b) (sym (outcomes_are n front rest fresh _)))
+          ap text_of (outcomes_are n front rest begins _ ∙ ap (meaning n.tree n.leaf) joined ∙ meaning_more n.tree n.leaf _ (items_of width rest).items told
+          ∙ ap (λ a. a ++ meaning n.tree n.leaf (items_of width rest).items) (sym (outcomes_are n front rest begins _))
+          ∙ ap (λ b. meaning_of n (items_of width (block front)).items ++ b) (sym (outcomes_are n front rest begins _)))
           ∙ text_more (meaning_of n (items_of width (block front)).items) (meaning_of n (items_of width rest).items);
     }

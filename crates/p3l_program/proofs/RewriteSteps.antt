@@ -1,5 +1,5 @@
 -- From the program of the files to the best way to write it.
-use Rattle.std.proofs.Common.{◌≡◌, ℕ, ◌≤◌, List, Option, refl, sym, ap, ◌∙◌, subst}
+use Rattle.std.proofs.Common.{◌≡◌, ℕ, ◌≤◌, List, Option, refl, sym, ap, ◌∙◌, subst, arith}
 use Rattle.p3l_ast.specs.Tree.{ProgramTree, program_tree}
 use Rattle.p3l_grammar.specs.Grammar.{Spells}
 use Rattle.p3l_io.specs.Content.{Held}

@@ -17,7 +17,7 @@ use p3l_cert::{Cert, CertRefusal, check, read_cert};
 use p3l_cost::Costs;
 use p3l_io::Files;
 use p3l_report::{Claim, Evidence, Refusal, Verdict};
-use p3l_skel::Tree;
+use p3l_skel::{Tree, lawful_counts};
 use std::alloc::Global;
 
 /// The most bytes of a file of a certificate.
@@ -69,10 +69,14 @@ fn accept_cert(alloc: Global, tree: &Tree, costs: &Costs, text: &[u8]) -> Result
 {
     match read_cert(alloc, text) {
         Err(refusal) => Err(refusal),
-        Ok(cert) => match check(alloc, tree, costs, &cert) {
-            Err(refusal) => Err(refusal),
-            Ok(()) => Ok(cert),
-        },
+        Ok(cert) => {
+            // What the checker says when memory runs out is told by the lawfulness of the counts.
+            let lawful = lawful_counts(tree, &cert.counts);
+            match check(alloc, tree, costs, &cert) {
+                Err(refusal) => Err(refusal),
+                Ok(()) => Ok(cert),
+            }
+        }
     }
 }
 

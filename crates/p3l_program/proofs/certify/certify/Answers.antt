@@ -55,3 +55,6 @@ returns-clause-expected g c =
     (explained c.args.build loads.r loaded (held c.args.files.now) text loads.is c.in-Ok-allocation_text.ensures)
     (certified c.args.build loads.r loaded (held c.args.files.now) cert bytes loads.is claims.0 claims.1 c.in-Ok-certify.ensures.holds c.in-Ok-certify.ensures.rows claims.2 c.in-Ok-cert_text.ensures)
     v (record { known = refl; calm = refl }) (subst (λ f. SaveCause f c.args.name bytes (Err v)) same written)
+
+pub returns-in-Ok-save-clause-wants : goal.returns-in-Ok-save-clause-wants
+returns-in-Ok-save-clause-wants g c = c.write_text.ensures.wants g.F.Files.may_want

@@ -14,3 +14,6 @@ returns-in-Err-At-clause-expected g c =
     text_refused files (change g.K.Sink.taken g.K.Sink.faults c.args.out.now c.args.out.now) (fmt_stages c.args.name) (IsFormatted (g.F.Files.held c.args.files.now) c.args.name)
     (verdict.Refused (refusal.Source c.in-Err-At.fault c.in-Err-At.pos)) (record { known = refl; calm = refl })
     (not_formatted files c.args.name c.in-Ok.text c.in-Err-At.fault c.in-Err-At.pos c.in-Ok.ensures.found faulty c.in-Ok.ensures.calm)
+
+pub returns-clause-wants : goal.returns-clause-wants
+returns-clause-wants g c = c.write_text.ensures.wants g.F.Files.may_want

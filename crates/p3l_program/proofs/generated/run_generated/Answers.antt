@@ -24,4 +24,4 @@ returns-in-Ok-save_where g c =
     let two = subst (λ t. HasSaves files (saves_with c.args.prefix (program_text c.args.number) t texts.stream) (Ok tt)) made.costs one in
     let saves = subst (λ t. HasSaves files (saves_with c.args.prefix (program_text c.args.number) costs_text t) (Ok tt)) made.stream two in
     let run = c.run_texts.ensures.ran q (record { program_is = made.program; costs_are = made.costs; stream_is = made.stream }) refl refl refl in
-    record { expected = inl (generated_expected files out q c.run_texts.result saves run) }
+    record { expected = inl (generated_expected files out q c.run_texts.result saves run); wants = c.run_texts.ensures.wants g.F.Files.may_want }

@@ -25,6 +25,7 @@ returns-in-Ok g c =
       expected = run_expected files input out (continued c.args.name) net loads c.args.request None c.args.reported c.resume_network.result ran;
       kept = kept.kept;
       over = run_touched files input out (continued c.args.name) net loads c.args.request None c.resume_network.result kept;
+      wants = c.resume_network.ensures.wants;
     }
 
 pub returns-in-Err-clause-expected : goal.returns-in-Err-clause-expected

@@ -31,3 +31,6 @@ returns-in-Err-best_text-clause-wants g c =
       | inl refused ↦ inl refused
       | inr many ↦ absurd (not_many (g.F.Files.held c.args.files.now) build c.in-Ok.priced c.in-Ok.ensures.loaded many)
     ]
+
+pub returns-clause-wants : goal.returns-clause-wants
+returns-clause-wants g c = c.write_text.ensures.wants g.F.Files.may_want

@@ -25,6 +25,7 @@ returns-in-Ok g c =
       expected = run_expected files input out (built c.args.build) net loads c.args.request c.args.trace c.args.reported c.run_network.result ran;
       kept = kept.kept;
       over = run_touched files input out (built c.args.build) net loads c.args.request c.args.trace c.run_network.result kept;
+      wants = c.run_network.ensures.wants;
     }
 
 pub returns-in-Err-clause-expected : goal.returns-in-Err-clause-expected

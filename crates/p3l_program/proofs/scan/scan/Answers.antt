@@ -34,6 +34,7 @@ returns-in-Ok g c =
       expected = run_expected files input out origin net network c.args.request None c.args.reported c.run_scan.result ran;
       kept = kept.kept;
       over = run_touched files input out origin net network c.args.request None c.run_scan.result kept;
+      wants = c.run_scan.ensures.wants;
     }
 
 pub returns-in-Err-clause-expected : goal.returns-in-Err-clause-expected

@@ -34,6 +34,7 @@ returns-in-Ok g c =
       expected = time_expected files input out c.args.build net prices loads.network loads.priced c.args.picks c.time_linked.result ran;
       kept = kept.kept;
       over = time_touched files input out c.args.build net prices loads.network loads.priced c.args.picks c.time_linked.result kept;
+      wants = c.time_linked.ensures.wants;
     }
 
 pub returns-in-Err-clause-expected : goal.returns-in-Err-clause-expected

@@ -1,3 +1,4 @@
+use Rattle.std.proofs.Common.{inl}
 use Rattle.p3l_report.specs.declared.verdict.Verdict.TheVariants as verdict
 use Rattle.p3l_program.proofs.ExpectedSteps.{expected_no_memory}
 use Rattle.p3l_program.proofs.top.answer.Goals as goal
@@ -10,6 +11,6 @@ returns g c = record {
     expected = expected_no_memory _ _ c.perform-verdict.result c.perform-verdict.ensures.expected;
     says = c.put_no_memory.ensures.known;
     begins_to_say = c.put_no_memory.ensures.begun;
-    wants = inl (inl c.report_of.ensures.text);
+    wants = inl (inl c.in-Err.ensures.text);
   };
 }

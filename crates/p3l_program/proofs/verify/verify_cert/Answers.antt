@@ -20,3 +20,6 @@ returns-clause-expected g c =
     let is : c.as_bytes.result.now ≡ holds_line cert.processors cert.used cert.service = cc in
     text_expected files out (verify_stages args.program args.name args.costs) (IsVerified old args.program args.costs args.name) c.as_bytes.result.now c.write_text.result c.in-Ok.ensures.calm
     (verified_passes files args.program args.costs args.name cert loads) (verified files args.program args.costs args.name cert loads c.as_bytes.result.now is) c.write_text.ensures.written
+
+pub returns-clause-wants : goal.returns-clause-wants
+returns-clause-wants g c = c.write_text.ensures.wants g.F.Files.may_want
