@@ -8,7 +8,7 @@ returns-in-Err-clause-refused c =
 pub returns-in-Err-check-clause-refused : goal.returns-in-Err-check-clause-refused
 returns-in-Err-check-clause-refused c =
     let found = c.in-Ok.ensures.found in
-    cert_fails c.args.tree.now c.args.costs.now c.args.text.now c.in-Ok.cert (record { fits = found.0; text_is = found.1 }) c.lawful_counts.result c.lawful_counts.ensures c.in-Err-check.refusal c.in-Err-check.ensures.answer c.in-Err-check.ensures.accepts
+    cert_fails c.args.tree.now c.args.costs.now c.args.text.now c.in-Ok.cert (record { fits = found.0; text_is = found.1 }) c.lawful_counts-lawful.result c.lawful_counts-lawful.ensures c.in-Err-check.refusal c.in-Err-check.ensures.answer c.in-Err-check.ensures.accepts
 
 pub returns-in-Ok-check-clause-accepted : goal.returns-in-Ok-check-clause-accepted
 returns-in-Ok-check-clause-accepted c =
