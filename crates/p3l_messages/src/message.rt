@@ -71,7 +71,11 @@ fn unreadable<F: Files>(
     match (files.failed(), answer.failure) {
         (Some(_), Some(failure)) => sentence(alloc, failure.sentence()),
         (Some(_), None) => sentence(alloc, Failure::Other.sentence()),
-        (None, _) => sentence(alloc, "Files of this kind may not be so long."),
+        (None, _) if answer.line.starts_with("file too long") => {
+            sentence(alloc, "Files of this kind may not be so long.")
+        }
+        // There was no memory for the name of the file that failed.
+        (None, _) => sentence(alloc, Failure::Other.sentence()),
     }
 }
 

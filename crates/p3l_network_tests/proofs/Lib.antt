@@ -1,3 +1,4 @@
+pub mod Given
 pub mod OneNode
 pub mod Parts
 pub mod Loops

@@ -1,6 +1,6 @@
 // A loop that counts down.
 
-ghost use Rattle.std.specs.Prelude.{◌≡◌, ◌<◌, pos, suc, zero, ◌+ℤ◌, ◌-ℤ◌, [], ◌∷◌, length, IfOk};
+ghost use Rattle.std.specs.Prelude.{◌≡◌, ◌<◌, pos, suc, zero, ◌+ℤ◌, ◌-ℤ◌, [], ◌∷◌, length, IfOk, true};
 ghost use Rattle.p3l_base.specs.Memory.{IfGiven};
 ghost use Rattle.std.specs.Prelude.{IfOk, IfSome};
 ghost use Rattle.p3l_base.specs.declared.outcome.Outcome.TheVariants.{Value};

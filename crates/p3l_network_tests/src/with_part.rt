@@ -1,6 +1,6 @@
 // Trees of a root with one `seq` part, and what their parts do.
 
-ghost use Rattle.std.specs.Prelude.{◌≡◌, ◌<◌, pos, [], ◌∷◌, ◌++◌, ◌-ℤ◌, length, slice_index_or, IfOk};
+ghost use Rattle.std.specs.Prelude.{◌≡◌, ◌<◌, pos, [], ◌∷◌, ◌++◌, ◌-ℤ◌, length, slice_index_or, IfOk, true};
 ghost use Rattle.p3l_base.specs.Memory.{IfGiven, OnGiven};
 ghost use Rattle.std.specs.Prelude.{IfOk, IfSome, OnOk};
 ghost use Rattle.p3l_base.specs.declared.outcome.Outcome.TheVariants.{Value};

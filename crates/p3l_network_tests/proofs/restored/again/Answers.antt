@@ -3,7 +3,7 @@ use Rattle.p3l_skel.specs.declared.tree.Tree.{Tree}
 use Rattle.p3l_firing.specs.declared.net.Net.{Net}
 use Rattle.p3l_net.specs.Machine.{Seen}
 use Rattle.p3l_net.specs.Shot.{CanRestore, restored}
-use Rattle.p3l_net.proofs.Saving.{if_ok_so}
+use Rattle.p3l_network_tests.proofs.Given.{given_so, ok_so}
 use Rattle.p3l_network_tests.proofs.restored.again.Goals as goal
 
 pub restore-requires : goal.restore-requires
@@ -14,8 +14,8 @@ restore-requires g c =
 
 pub returns-clause-tree : goal.returns-clause-tree
 unfolding restored
-returns-clause-tree g c = if_ok_so c.restore.result c.restore.ensures (λ machine is. ap (λ (m : Seen). m.tree) is)
+returns-clause-tree g c = given_so c.restore.result c.restore.ensures (λ machine is. ap (λ (m : Seen). m.tree) is)
 
 pub returns-clause-net : goal.returns-clause-net
 unfolding restored
-returns-clause-net g c = if_ok_so c.restore.result c.restore.ensures (λ machine is. ap (λ (m : Seen). m.net) is ∙ c.in_ok-net.ensures.net)
+returns-clause-net g c = ok_so c.restore.result c.restore.ensures (λ machine is. ap (λ (m : Seen). m.net) is ∙ c.in_ok-net.ensures.net)
