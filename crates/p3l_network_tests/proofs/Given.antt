@@ -1,6 +1,6 @@
 -- What follows where a call gives something, or a request for memory was refused.
-use Rattle.std.proofs.Common.{Result, Ok, Err, IfOk}
-use Rattle.p3l_base.specs.Memory.{IfGiven}
+use Rattle.std.proofs.Common.{Result, Ok, Err, IfOk, inl}
+use Rattle.p3l_base.specs.Memory.{IfGiven, IfGivenOr}
 
 -- where the call gave something, more follows
 pub given_so : {A E : Type 0} {P Q : A → Type 0} (r : Result A E) → IfGiven r P → ((x : A) → P x → Q x) → IfGiven r Q
@@ -11,3 +11,8 @@ given_so (Err e) refused f = refused
 pub ok_so : {A E : Type 0} {P Q : A → Type 0} (r : Result A E) → IfGiven r P → ((x : A) → P x → Q x) → IfOk r Q
 ok_so (Ok x) p f = f x p
 ok_so (Err e) refused f = tt
+
+-- so too where a refusal may have another reason
+pub given_or : {A E : Type 0} {P : A → Type 0} (other : Type 0) (r : Result A E) → IfGiven r P → IfGivenOr r P other
+given_or other (Ok x) p = p
+given_or other (Err e) refused = inl refused
