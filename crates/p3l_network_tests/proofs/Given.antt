@@ -13,6 +13,6 @@ ok_so (Ok x) p f = f x p
 ok_so (Err e) refused f = tt
 
 -- so too where a refusal may have another reason
-pub given_or : {A E : Type 0} {P : A → Type 0} (other : Type 0) (r : Result A E) → IfGiven r P → IfGivenOr r P other
-given_or other (Ok x) p = p
-given_or other (Err e) refused = inl refused
+pub given_or : {A E : Type 0} (P : A → Type 0) (other : Type 0) (r : Result A E) → IfGiven r P → IfGivenOr r P other
+given_or P other (Ok x) p = p
+given_or P other (Err e) refused = inl refused

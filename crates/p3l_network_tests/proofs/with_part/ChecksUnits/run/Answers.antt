@@ -5,4 +5,4 @@ use Rattle.p3l_network_tests.proofs.with_part.ChecksUnits.run.Goals as goal
 
 pub returns-then-len-eq1 : goal.returns-then-len-eq1
 returns-then-len-eq1 c =
-    given_or (true ≡ true) c.checked_word.result (checks_is c.args.node c.args.words.now c.checked_word.result c.if-node-eq1.true (sym c.len.ensures ∙ c.if-len-eq1.true) c.checked_word.ensures)
+    given_or _ (true ≡ true) c.checked_word.result (checks_is c.args.node c.args.words.now c.checked_word.result c.if-node-eq1.true (sym c.len.ensures ∙ c.if-len-eq1.true) c.checked_word.ensures)

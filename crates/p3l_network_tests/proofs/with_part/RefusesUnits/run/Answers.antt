@@ -8,4 +8,4 @@ returns-then-len-eq2 c = refused_pair c.args.node c.args.words.now c.requires.se
 
 pub returns-then-len-eq1 : goal.returns-then-len-eq1
 returns-then-len-eq1 c =
-    given_or (true ≡ true) c.first_value.result (alone_is c.args.node c.args.words.now c.first_value.result c.if-node-eq0.true (sym c.len-then-node-eq0.ensures ∙ c.if-len-eq1.true) c.first_value.ensures)
+    given_or _ (true ≡ true) c.first_value.result (alone_is c.args.node c.args.words.now c.first_value.result c.if-node-eq0.true (sym c.len-then-node-eq0.ensures ∙ c.if-len-eq1.true) c.first_value.ensures)
