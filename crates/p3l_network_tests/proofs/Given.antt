@@ -1,5 +1,5 @@
 -- What follows where a call gives something, or a request for memory was refused.
-use Rattle.std.proofs.Common.{Result, Ok, Err, IfOk, inl}
+use Rattle.std.proofs.Common.{◌≡◌, Result, Ok, Err, IfOk, inl, inr, refl, true}
 use Rattle.p3l_base.specs.Memory.{IfGiven, IfGivenOr}
 
 -- where the call gave something, more follows
@@ -16,3 +16,8 @@ ok_so (Err e) refused f = tt
 pub given_or : {A E : Type 0} (P : A → Type 0) (other : Type 0) (r : Result A E) → IfGiven r P → IfGivenOr r P other
 given_or P other (Ok x) p = p
 given_or P other (Err e) refused = inl refused
+
+-- so too where units may refuse of their own
+pub own_or : {A E : Type 0} (P : A → Type 0) (r : Result A E) → IfOk r P → IfGivenOr r P (true ≡ true)
+own_or P (Ok x) p = p
+own_or P (Err e) none = inr refl

@@ -1,5 +1,5 @@
 -- The loop, as it is built, and what its nodes make of words.
-use Rattle.std.proofs.Common.{◌≡◌, ℕ, ℤ, List, [], ◌∷◌, ◌++◌, Result, sym, subst, None}
+use Rattle.std.proofs.Common.{◌≡◌, ℕ, ℤ, List, [], ◌∷◌, ◌++◌, Result, IfOk, sym, subst, None}
 use Rattle.p3l_base.specs.Memory.{IfGiven}
 use Rattle.p3l_base.specs.declared.NoMemory.{NoMemory}
 use Rattle.p3l_base.specs.declared.outcome.Outcome.{Outcome}
@@ -29,9 +29,9 @@ unfolding counting_loop
 tree_is parts none one two three body test modules a b c d e f g h = cc
 
 -- a node of the loop that is run
-pub body_is : (node : ℕ) (words : List ℤ) (r : Result Outcome NoMemory) → node ≡ 1 → IfGiven r (λ o. o ≡ counts_down 1 words) → IfGiven r (λ o. o ≡ item counting_loop counts_down node words)
+pub body_is : (node : ℕ) (words : List ℤ) (r : Result Outcome NoMemory) → node ≡ 1 → IfOk r (λ o. o ≡ counts_down 1 words) → IfOk r (λ o. o ≡ item counting_loop counts_down node words)
 unfolding item_to by_parts counting_loop loop_modules
-body_is node words r is made = subst (λ n. IfGiven r (λ o. o ≡ item counting_loop counts_down n words)) (sym is) made
+body_is node words r is made = subst (λ n. IfOk r (λ o. o ≡ item counting_loop counts_down n words)) (sym is) made
 
 pub test_is : (node : ℕ) (words : List ℤ) (r : Result Outcome NoMemory) → node ≡ 2 → IfGiven r (λ o. o ≡ counts_down 2 words) → IfGiven r (λ o. o ≡ item counting_loop counts_down node words)
 unfolding item_to by_parts counting_loop loop_modules

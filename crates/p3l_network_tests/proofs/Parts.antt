@@ -1,5 +1,5 @@
 -- The trees of a root with one part, as they are built, and what their nodes make of words.
-use Rattle.std.proofs.Common.{◌≡◌, ℕ, ℤ, pos, zero, suc, ◌-ℤ◌, List, [], ◌∷◌, ◌++◌, length, get_or, Result, refl, sym, subst, arith, None}
+use Rattle.std.proofs.Common.{◌≡◌, ℕ, ℤ, pos, zero, suc, ◌-ℤ◌, List, [], ◌∷◌, ◌++◌, length, get_or, Result, IfOk, refl, sym, subst, arith, None}
 use Rattle.p3l_base.specs.Memory.{IfGiven}
 use Rattle.p3l_base.specs.declared.NoMemory.{NoMemory}
 use Rattle.p3l_base.specs.declared.outcome.Outcome.{Outcome}
@@ -42,7 +42,7 @@ one_word (x ∷ (y ∷ words)) r e made = absurd (omega (arith, e))
 pub checks_is : (node : ℕ) (words : List ℤ) (r : Result Outcome NoMemory) → node ≡ 1 → length words ≡ 1 → IfGiven r (λ o. o ≡ checked (get_or words 0 (pos 0) ∷ [])) → IfGiven r (λ o. o ≡ item four_map checks node words)
 checks_is node words r is long made = subst (λ n. IfGiven r (λ o. o ≡ item four_map checks n words)) (sym is) (one_word words r long made)
 
-pub pair_is : (node : ℕ) (words : List ℤ) (r : Result Outcome NoMemory) → IsUnit five_reduce node → length words ≡ 2 → IfGiven r (λ o. o ≡ Value ((get_or words 0 (pos 0) -ℤ get_or words 1 (pos 0)) ∷ [])) → IfGiven r (λ o. o ≡ item five_reduce subtracts node words)
+pub pair_is : (node : ℕ) (words : List ℤ) (r : Result Outcome NoMemory) → IsUnit five_reduce node → length words ≡ 2 → IfOk r (λ o. o ≡ Value ((get_or words 0 (pos 0) -ℤ get_or words 1 (pos 0)) ∷ [])) → IfOk r (λ o. o ≡ item five_reduce subtracts node words)
 unfolding item_to by_parts with_part fold_of_up_to two_modules
 pair_is node [] r unit e made = absurd (omega (arith, e))
 pair_is node (x ∷ []) r unit e made = absurd (omega (arith, e))
@@ -51,7 +51,7 @@ pair_is (suc zero) (x ∷ (y ∷ [])) r unit e made = made
 pair_is (suc (suc node)) (x ∷ (y ∷ [])) r unit e made = absurd (omega (arith, unit.in_tree))
 pair_is node (x ∷ (y ∷ (z ∷ words))) r unit e made = absurd (omega (arith, e))
 
-three_words : (words : List ℤ) (r : Result Outcome NoMemory) → length words ≡ 3 → IfGiven r (λ o. o ≡ Value ((get_or words 0 (pos 0) -ℤ (get_or words 1 (pos 0) -ℤ get_or words 2 (pos 0))) ∷ [])) → IfGiven r (λ o. o ≡ item five_reduce subtracts 0 words)
+three_words : (words : List ℤ) (r : Result Outcome NoMemory) → length words ≡ 3 → IfOk r (λ o. o ≡ Value ((get_or words 0 (pos 0) -ℤ (get_or words 1 (pos 0) -ℤ get_or words 2 (pos 0))) ∷ [])) → IfOk r (λ o. o ≡ item five_reduce subtracts 0 words)
 unfolding item_to by_parts with_part fold_of_up_to two_modules
 three_words [] r e made = absurd (omega (arith, e))
 three_words (x ∷ []) r e made = absurd (omega (arith, e))
@@ -59,8 +59,8 @@ three_words (x ∷ (y ∷ [])) r e made = absurd (omega (arith, e))
 three_words (x ∷ (y ∷ (z ∷ []))) r e made = made
 three_words (x ∷ (y ∷ (z ∷ (w ∷ words)))) r e made = absurd (omega (arith, e))
 
-pub triple_is : (node : ℕ) (words : List ℤ) (r : Result Outcome NoMemory) → node ≡ 0 → length words ≡ 3 → IfGiven r (λ o. o ≡ Value ((get_or words 0 (pos 0) -ℤ (get_or words 1 (pos 0) -ℤ get_or words 2 (pos 0))) ∷ [])) → IfGiven r (λ o. o ≡ item five_reduce subtracts node words)
-triple_is node words r is long made = subst (λ n. IfGiven r (λ o. o ≡ item five_reduce subtracts n words)) (sym is) (three_words words r long made)
+pub triple_is : (node : ℕ) (words : List ℤ) (r : Result Outcome NoMemory) → node ≡ 0 → length words ≡ 3 → IfOk r (λ o. o ≡ Value ((get_or words 0 (pos 0) -ℤ (get_or words 1 (pos 0) -ℤ get_or words 2 (pos 0))) ∷ [])) → IfOk r (λ o. o ≡ item five_reduce subtracts node words)
+triple_is node words r is long made = subst (λ n. IfOk r (λ o. o ≡ item five_reduce subtracts n words)) (sym is) (three_words words r long made)
 
 -- a part that traps
 pub refused_pair : (node : ℕ) (words : List ℤ) → IsUnit three_reduce node → length words ≡ 2 → Trapped (record { kind = DivZero; «module» = 0 }) ≡ item three_reduce refusing node words

@@ -67,7 +67,7 @@ fn plus(left: i64, right: i64) -> Option<i64>
 /// One turn of the body on two words; refused where a number doesn't fit.
 fn counted(alloc: Global, words: &Words) -> Result<Outcome, NoMemory>
     requires { 1 < length words.now }
-    ensures { IfGiven result (λ outcome. outcome ≡ counts_down (suc zero) words.now) }
+    ensures { IfOk result (λ outcome. outcome ≡ counts_down (suc zero) words.now) }
 {
     let Some(down) = minus(word(words, 0), 1) else {
         return Err(NoMemory);

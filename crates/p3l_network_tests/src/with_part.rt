@@ -206,7 +206,7 @@ pub fn minus(left: i64, right: i64) -> Option<i64>
 /// The outcome of the difference of two words; refused where it doesn't fit.
 fn difference(alloc: Global, words: &Words) -> Result<Outcome, NoMemory>
     requires { 1 < length words.now }
-    ensures { IfGiven result (λ outcome. outcome ≡ Value ((slice_index_or words.now 0 (pos 0)
+    ensures { IfOk result (λ outcome. outcome ≡ Value ((slice_index_or words.now 0 (pos 0)
         -ℤ slice_index_or words.now 1 (pos 0)) ∷ [])) }
 {
     match minus(word(words, 0), word(words, 1)) {
@@ -218,7 +218,7 @@ fn difference(alloc: Global, words: &Words) -> Result<Outcome, NoMemory>
 /// The outcome of the fold of three words: the first less the difference of the others.
 fn difference_of_three(alloc: Global, words: &Words) -> Result<Outcome, NoMemory>
     requires { 2 < length words.now }
-    ensures { IfGiven result (λ outcome. outcome ≡ Value ((slice_index_or words.now 0 (pos 0)
+    ensures { IfOk result (λ outcome. outcome ≡ Value ((slice_index_or words.now 0 (pos 0)
         -ℤ (slice_index_or words.now 1 (pos 0) -ℤ slice_index_or words.now 2 (pos 0))) ∷ [])) }
 {
     let Some(rest) = minus(word(words, 1), word(words, 2)) else {
