@@ -1,4 +1,4 @@
--- What follows from what a call gives, unless a request for memory was refused.
+-- Consequences of what a call gives, unless a request for memory was refused.
 use Rattle.std.proofs.Common.{Result, Ok, Err, IfOk}
 use Rattle.p3l_base.specs.Memory.{IfGiven, OnGiven}
 

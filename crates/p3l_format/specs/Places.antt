@@ -1,4 +1,4 @@
--- Where bytes are at fault, by the fields of spellings and not by how they are read.
+-- Places at which bytes are at fault, by the fields of spellings and not by how they are read.
 use Rattle.std.specs.Prelude.{◌≡◌, ◌≤◌, ℕ, Bool, true, List, [], ◌∷◌, ◌++◌, length, Err}
 use Rattle.p3l_format.specs.declared.fault.Cause.TheVariants.{Short}
 use Rattle.p3l_format.specs.declared.fault.Fault.{Fault}

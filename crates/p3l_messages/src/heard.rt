@@ -35,7 +35,7 @@ pub(crate) fn place_in(line: &str) -> Option<(u32, u32)> {
     Some((row.parse::<u32>().ok()?, column.parse::<u32>().ok()?))
 }
 
-/// What stands behind a number of refusal and its name.
+/// The words behind a number of refusal and its name.
 pub(crate) fn after_name(line: &str) -> Option<&str> {
     let (_, rest) = line.split_once(" ")?;
     let (_, rest) = rest.split_once(" ")?;

@@ -19,7 +19,7 @@ use p3l_reader::read;
 use p3l_report::Status;
 use std::alloc::Global;
 
-/// What a message is made of.
+/// The parts that a message is made of.
 #[derive(Drop)]
 pub struct Answer<'a> {
     /// The words of the command line, without the program's name.

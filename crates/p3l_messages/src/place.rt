@@ -18,17 +18,17 @@ pub struct Style {
 }
 
 impl Style {
-    /// What begins a text that is to stand out.
+    /// The bytes that begin a text that is to stand out.
     fn strong(self) -> &'static str {
         if self.has_color { "\x1b[1m" } else { "" }
     }
 
-    /// What begins a mark.
+    /// The bytes that begin a mark.
     fn mark(self) -> &'static str {
         if self.has_color { "\x1b[1;31m" } else { "" }
     }
 
-    /// What ends either.
+    /// The bytes that end either.
     fn plain(self) -> &'static str {
         if self.has_color { "\x1b[0m" } else { "" }
     }

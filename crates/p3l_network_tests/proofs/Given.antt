@@ -1,4 +1,4 @@
--- What follows where a call gives something, or a request for memory was refused.
+-- Consequences where a call gives something, or a request for memory was refused.
 use Rattle.std.proofs.Common.{◌≡◌, Result, Ok, Err, IfOk, inl, inr, refl, true}
 use Rattle.p3l_base.specs.Memory.{IfGiven, IfGivenOr}
 

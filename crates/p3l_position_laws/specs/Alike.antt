@@ -1,4 +1,4 @@
--- What two programs that are the same but for positions come to.
+-- The answers for two programs that are the same but for positions.
 use Rattle.std.specs.Prelude.{◌≡◌, ℤ, List, Result, Ok, Err, map}
 use Rattle.p3l_ast.specs.declared.position.Pos.{Pos}
 use Rattle.p3l_ast.specs.declared.refusal.Fault.{Fault}

@@ -1,4 +1,4 @@
--- What the rules of programs come to, without positions.
+-- The rules of programs, without positions.
 use Rattle.std.specs.Prelude.{map}
 use Rattle.p3l_check.specs.Entry.{Checked}
 use Rattle.p3l_check.specs.Resolving.{ResolvedTree}

@@ -70,7 +70,7 @@ fn accept_cert(alloc: Global, tree: &Tree, costs: &Costs, text: &[u8]) -> Result
     match read_cert(alloc, text) {
         Err(refusal) => Err(refusal),
         Ok(cert) => {
-            // What the checker says when memory runs out is told by the lawfulness of the counts.
+            // The checker says why memory ran out for lawful counts and for others apart.
             let lawful = lawful_counts(tree, &cert.counts);
             match check(alloc, tree, costs, &cert) {
                 Err(refusal) => Err(refusal),

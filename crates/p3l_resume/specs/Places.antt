@@ -1,4 +1,4 @@
--- Where bytes that are no snapshot are at fault, by the fields of snapshots and not by how they are read.
+-- Places at which bytes that are no snapshot are at fault, by the fields of snapshots and not by how they are read.
 use Rattle.std.specs.Prelude.{◌≡◌, ℕ, List, ◌∷◌, ◌++◌, length, Result, Ok, Err}
 use Rattle.p3l_base.specs.Memory.{Refused}
 use Rattle.p3l_format.specs.Places.{IsCutOff, NoneIsThere, Piece, texts}

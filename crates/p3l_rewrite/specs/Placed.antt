@@ -1,4 +1,4 @@
--- What a text spells that spells a program but for positions.
+-- The program that a text spells which spells another but for positions.
 use Rattle.std.specs.Prelude.{ℕ, List}
 use Rattle.p3l_ast.specs.Tree.{ProgramTree}
 use Rattle.p3l_print.specs.Program.{IsTextOf}

@@ -1,4 +1,4 @@
--- Where the bytes of images are at fault, by the fields of spellings.
+-- Places at which the bytes of images are at fault, by the fields of spellings.
 use Rattle.std.proofs.Common.{◌≡◌, ℕ, length, refl}
 use Rattle.p3l_base.specs.Limits.{most_tokens}
 use Rattle.p3l_ast.specs.declared.expression.UnOp.TheVariants.{Neg}

@@ -1,4 +1,4 @@
--- Where the bytes of snapshots are at fault, by the fields of spellings.
+-- Places at which the bytes of snapshots are at fault, by the fields of spellings.
 use Rattle.std.proofs.Common.{◌≡◌, Bool, true, false, List, [], Option, Some, None, refl}
 use Rattle.std.specs.Prelude.{is_some, unwrap_or}
 use Rattle.p3l_base.specs.declared.outcome.Outcome.TheVariants.{Value, Trapped}
