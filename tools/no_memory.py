@@ -57,23 +57,15 @@ REFUSED = [
     (["run", "double.p3l", "--processors", "4"], b"1\nx\n"),
 ]
 
-# What a message says in place of a cause for which there is no memory.
-WANTING = (b"error: out of memory\n", b"It could not be read to its end.\n")
-
 
 def is_front(done, whole):
-    """Whether a refusal came out as with ample memory, but for words of its message that are left
-    out or said of any cause, or as that of no memory."""
+    """Whether a refusal came out as with ample memory, but for a message that is cut or left out, or
+    as that of no memory."""
     if done.returncode == 11:
         return done.stderr.startswith(b"no memory\n") and whole.stdout.startswith(done.stdout)
     line = whole.stderr[: whole.stderr.index(b"\n") + 1]
     is_same = (done.returncode, done.stdout) == (whole.returncode, whole.stdout)
-    rest = iter(whole.stderr.split())
-    said = done.stderr
-    for sentence in WANTING:
-        said = said.replace(sentence, b"", 1)
-    is_less = all(word in rest for word in said.split())
-    return is_same and done.stderr.startswith(line) and is_less
+    return is_same and done.stderr.startswith(line) and whole.stderr.startswith(done.stderr)
 
 
 def try_refused(run, folder):

@@ -110,11 +110,15 @@ fn explain<F: Files>(
     line: &[u8],
 ) -> Result<(), NoMemory> {
     let line = String::from_utf8_lossy(rt.alloc(), line)?;
+    let failure = match files.failed() {
+        Some(name) => Some(failure_of(rt, name)?),
+        None => None,
+    };
     let answer = Answer {
         words,
         status,
         line: line.as_str(),
-        failure: files.failed().map(|name| failure_of(rt, name)),
+        failure,
         style,
     };
     let text = message_on(rt.alloc(), &answer, files)?;

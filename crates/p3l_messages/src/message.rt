@@ -11,6 +11,7 @@ use crate::page::{first_sentence, page_on, put_wrapped};
 use crate::place::Style;
 use crate::program::put_refusal;
 use crate::usage::usage;
+use p3l_ast::{Program, SourceRefusal};
 use p3l_base::NoMemory;
 use p3l_check::resolve;
 use p3l_io::Files;
@@ -34,7 +35,7 @@ pub struct Answer<'a> {
 }
 
 /// The message after an answer: the place that it speaks of, what it means, and where more is said.
-/// It is empty where the line says all.
+/// It is empty where the line says all, and where memory ran out for what it would be made of.
 pub fn message_on<F: Files>(
     alloc: Global,
     answer: &Answer,
@@ -42,6 +43,9 @@ pub fn message_on<F: Files>(
 ) -> Result<String, NoMemory>
     ensures { OnErr result Refused }
 {
+    if answer.line.is_empty() || files.lacks() {
+        return Ok(String::new(alloc));
+    }
     match answer.status.0 {
         2 => usage(alloc, answer.words),
         5 => sentence(
@@ -71,11 +75,7 @@ fn unreadable<F: Files>(
     match (files.failed(), answer.failure) {
         (Some(_), Some(failure)) => sentence(alloc, failure.sentence()),
         (Some(_), None) => sentence(alloc, Failure::Other.sentence()),
-        (None, _) if answer.line.starts_with("file too long") => {
-            sentence(alloc, "Files of this kind may not be so long.")
-        }
-        // There was no memory for the name of the file that failed.
-        (None, _) => sentence(alloc, Failure::Other.sentence()),
+        (None, _) => sentence(alloc, "Files of this kind may not be so long."),
     }
 }
 
@@ -98,7 +98,11 @@ fn numbered<F: Files>(
     match answer.status.0 {
         3 => put_source(alloc, &mut message, &mut text, answer, files, number)?,
         4 => put_costs(alloc, &mut message, answer, files)?,
-        6 => put_width(alloc, &mut text, answer, files)?,
+        6 => {
+            if !put_width(alloc, &mut text, answer, files)? {
+                return Ok(message);
+            }
+        }
         _ => {}
     }
     text.push_str(first_sentence(page))?;
@@ -120,11 +124,8 @@ fn put_source<F: Files>(
 ) -> Result<(), NoMemory>
     ensures { OnErr result Refused }
 {
-    let Some(name) = program_of(answer.words) else {
-        return Ok(());
-    };
-    match files.text_of(name) {
-        Some(text) => put_refusal(
+    match program_in(answer, files) {
+        Some((name, text)) => put_refusal(
             alloc,
             message,
             about,
@@ -136,6 +137,15 @@ fn put_source<F: Files>(
         ),
         None => Ok(()),
     }
+}
+
+/// The name and the text of the program's file, if the text was kept.
+fn program_in<'a, F: Files>(
+    answer: &Answer<'a>,
+    files: &'a KeptFiles<F>,
+) -> Option<(&'a str, &'a [u8])> {
+    let name = program_of(answer.words)?;
+    Some((name, files.text_of(name)?))
 }
 
 /// Adds the line of the key that a file of costs is refused at, if the file was kept.
@@ -157,37 +167,65 @@ fn put_costs<F: Files>(
     }
 }
 
-/// Adds how many words an item of the program has, if its text was kept.
+/// How many words an item of a program has.
+enum Width {
+    Words(u32),
+    /// The program is not accepted, or its text was not kept.
+    Unknown,
+    /// Out of memory.
+    NoMemory,
+}
+
+/// Adds how many words an item of the program has, if its text was kept. It gives false where memory
+/// ran out before that was known.
 fn put_width<F: Files>(
     alloc: Global,
     message: &mut String,
     answer: &Answer,
     files: &KeptFiles<F>,
-) -> Result<(), NoMemory>
+) -> Result<bool, NoMemory>
     ensures { OnErr result Refused }
 {
-    let Some(name) = program_of(answer.words) else {
-        return Ok(());
-    };
-    let Some(text) = files.text_of(name) else {
-        return Ok(());
-    };
-    match width_of(alloc, text) {
-        Some(1) => message.push_str("An item of this program is one word. ")?,
-        Some(width) => {
+    match width_in(alloc, answer, files) {
+        Width::Words(1) => message.push_str("An item of this program is one word. ")?,
+        Width::Words(width) => {
             let text = format!(in alloc; "An item of this program has {width} words. ")?;
             message.push_str(text.as_str())?;
         }
-        None => {}
+        Width::Unknown => {}
+        Width::NoMemory => return Ok(false),
     }
-    Ok(())
+    Ok(true)
 }
 
-/// The number of words of an item of a program that is accepted.
-fn width_of(alloc: Global, text: &[u8]) -> Option<u32> {
-    let program = read(alloc, text).ok()?;
-    let resolved = resolve(alloc, &program).ok()?;
-    Some(resolved.tree.nodes.as_slice().first()?.ins)
+/// The number of words of an item of the program that the answer is about.
+fn width_in<F: Files>(alloc: Global, answer: &Answer, files: &KeptFiles<F>) -> Width {
+    match program_in(answer, files) {
+        Some((_, text)) => match read(alloc, text) {
+            Ok(program) => width_of(alloc, &program),
+            Err(refusal) => width_on(refusal),
+        },
+        None => Width::Unknown,
+    }
+}
+
+/// The number of words of an item of a program.
+fn width_of(alloc: Global, program: &Program) -> Width {
+    match resolve(alloc, program) {
+        Ok(resolved) => match resolved.tree.node(0) {
+            Some(root) => Width::Words(root.ins),
+            None => Width::Unknown,
+        },
+        Err(refusal) => width_on(refusal),
+    }
+}
+
+/// What is known of an item of a program that is refused.
+fn width_on(refusal: SourceRefusal) -> Width {
+    match refusal {
+        SourceRefusal::At { .. } => Width::Unknown,
+        SourceRefusal::NoMemory => Width::NoMemory,
+    }
 }
 
 /// The name of the program's file: the first word after the command's that is neither an option nor

@@ -10,7 +10,7 @@ use p3l_opts::complaint_on;
 use std::alloc::Global;
 
 /// The message on words that are no command: the list of commands, or what is wrong with the words of
-/// one and how they are written.
+/// one and how they are written. It is empty where there was no memory to find what is wrong.
 pub(crate) fn usage(alloc: Global, words: &[&str]) -> Result<String, NoMemory>
     ensures { OnErr result Refused }
 {
@@ -21,7 +21,10 @@ pub(crate) fn usage(alloc: Global, words: &[&str]) -> Result<String, NoMemory>
     };
     match page_on(first) {
         Some(page) => {
-            if let Some(text) = complaint_on(alloc, words)? {
+            let Ok(complaint) = complaint_on(alloc, words) else {
+                return Ok(message);
+            };
+            if let Some(text) = complaint {
                 put_lines(alloc, &mut message, sentence_of(text.as_str()))?;
             }
             message.push_str(title(page))?;
