@@ -1,3 +1,4 @@
+pub mod Advise
 pub mod Alike
 pub mod Answer
 pub mod Behavior

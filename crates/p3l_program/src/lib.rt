@@ -2,6 +2,7 @@
 //! streams.
 #![tactic(auto)]
 
+pub mod advise;
 pub mod alike;
 mod cert;
 pub mod certify;
