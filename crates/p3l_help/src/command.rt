@@ -43,6 +43,29 @@ program nor its costs.
 example: p3l compile m.p3l --processors 16 --output m.img
 ";
 
+/// The page of `export`.
+const EXPORT: &str = "usage: p3l export PROGRAM --processors P --output FILE [--costs FILE]
+                  [--capacity C]
+
+Writes the network of a program as one text in C. It runs on one processor, on
+several of one machine, or over MPI on many machines:
+
+    cc -O2 m.c -o m                 ./m < items    ./m --ranks 4 < items
+    mpicc -O2 -DP3L_MPI m.c -o m    ./m --ranks 16 --hosts FILE < items
+
+Its results, its status and its message are those of run.
+
+  PROGRAM          the file of the program
+  --processors P   how many processors there are, 1 to 512
+  --output FILE    where to write the text
+  --costs FILE     the costs by which worker counts are chosen; without them the
+                   standard costs
+  --capacity C     how many tokens a channel holds at most, 1 to 1,024; without
+                   it each channel's is chosen by the costs
+
+example: p3l export m.p3l --processors 16 --costs m.toml --output m.c
+";
+
 /// The page of `migrate`.
 const MIGRATE: &str = "usage: p3l migrate IMAGE --output FILE
 
@@ -103,6 +126,23 @@ the service time of the whole and of each part.
   --cert FILE      where to write a certificate that no other counts are better
 
 example: p3l explain m.p3l --processors 16 --cert m.cert
+";
+
+/// The page of `advise`.
+const ADVISE: &str = "usage: p3l advise PROGRAM [--processors P] [--costs FILE] [--processes]
+
+Says what processors buy. For each number of them at which the best service time
+falls there is a line with that time and the speed-up over the fewest that fit.
+Then comes the tree with the counts that are chosen for the last of them, the
+bottleneck marked, and then what would help.
+
+  PROGRAM          the file of the program
+  --processors P   the most processors there may be, 1 to 512 (512 if not given)
+  --costs FILE     the costs of its modules; without them the standard costs
+  --processes      write in place of this which processes each node has: the
+                   numbers that graph, time and traces name
+
+example: p3l advise m.p3l --costs m.toml
 ";
 
 /// The page of `verify-cert`.
@@ -315,6 +355,14 @@ pub(crate) const COMMANDS: &[Page] = &[
     Page {
         topic: "explain",
         text: EXPLAIN,
+    },
+    Page {
+        topic: "advise",
+        text: ADVISE,
+    },
+    Page {
+        topic: "export",
+        text: EXPORT,
     },
     Page {
         topic: "graph",
