@@ -145,7 +145,7 @@ fn head_time(costs: &Costs, node: &Node) -> u128
 }
 
 /// The part of a node's own time that makes its service time, which is `time` with `count` workers.
-pub fn term(tree: &Tree, costs: &Costs, number: u32, node: &Node, time: u128, count: u32) -> Term
+pub fn term_of(tree: &Tree, costs: &Costs, number: u32, node: &Node, time: u128, count: u32) -> Term
     requires node { node.now ≡ node_at tree.now number }
     requires time { time < never }
     requires count { HasWorkers node.now.form count }
