@@ -12,18 +12,23 @@ falls best least p = (p == least) || nat_lt (best p).service (best (p - 1)).serv
 abbrev pub hundredths : (first time : ℕ) → ℕ
 hundredths first time = if time == 0 then 100 else 100 * first / time
 
--- hundredths as a decimal with two digits
-abbrev pub two_digits : ℕ → List ℕ
-two_digits n = decimal (n / 100) ++ (codes "." ++ (decimal (n / 10 % 10) ++ decimal (n % 10)))
+-- processors P used U service T speed-up W.DD, with hundredths of the speed-up
+abbrev pub fall_words : (p : ℕ) → Best → (faster : ℕ) → List ℕ
+fall_words p best faster =
+    codes "processors " ++ (decimal p ++ (codes " used " ++ (decimal best.used ++ (codes " service " ++ (decimal best.service
+    ++ (codes " speed-up " ++ (decimal (faster / 100) ++ (codes "." ++ (decimal (faster / 10 % 10) ++ (decimal (faster % 10) ++ codes "\n"))))))))))
 
--- processors P used U service T speed-up S, where `first` is the service time with as few as fit
+-- the line of a number of processors, where `first` is the service time with as few as fit
 abbrev pub fall_line : (first p : ℕ) → Best → List ℕ
-fall_line first p best =
-    codes "processors " ++ (decimal p ++ (codes " used " ++ (decimal best.used ++ (codes " service " ++ (decimal best.service ++ (codes " speed-up " ++ (two_digits (hundredths first best.service) ++ codes "\n")))))))
+fall_line first p best = fall_words p best (hundredths first best.service)
 
 -- the line of a number, if it has one
 abbrev pub line_at : (ℕ → Best) → (least p : ℕ) → List ℕ
 line_at best least p = if falls best least p then fall_line (best least).service p (best p) else []
+
+-- the line of a number with which the service time is less than before
+abbrev pub change_line : (first before p : ℕ) → Best → List ℕ
+change_line first before p best = if nat_lt best.service before then fall_line first p best else []
 
 -- the lines of the numbers from the least to the most at which the best service time falls
 abbrev pub fall_lines : (ℕ → Best) → (least most : ℕ) → List ℕ
