@@ -37,3 +37,11 @@ pub parts_step : (below : ℕ → List ℕ) (parts : List ℕ) (i d : ℕ) (text
     (text ++ below (get_or parts i d)) ++ flat_map below (drop (i + 1) parts) ≡ text ++ flat_map below (drop i parts)
 parts_step below parts i d text inside =
     rw (drop_more parts i d inside) (append_assoc text (below (get_or parts i d)) (flat_map below (drop (i + 1) parts)))
+
+-- a text has grown by words
+pub grown : (text before words other : List ℕ) → text ≡ before ++ words → words ≡ other → text ≡ before ++ other
+grown text before words other made same = made ∙ ap (λ (xs : List ℕ). before ++ xs) same
+
+-- a text that has grown by the pieces of a node's line
+pub pieces : (t0 t1 t2 t3 t4 t5 t6 t7 t8 a b c d e s n m l : List ℕ) → t1 ≡ t0 ++ a → t2 ≡ t1 ++ b → t3 ≡ t2 ++ c → t4 ≡ t3 ++ d → t5 ≡ t4 ++ e → t6 ≡ t5 ++ (s ++ n) → t7 ≡ t6 ++ m → t8 ≡ t7 ++ l → t8 ≡ t0 ++ (a ++ (b ++ (c ++ (d ++ (e ++ (s ++ (n ++ (m ++ l))))))))
+pieces t0 t1 t2 t3 t4 t5 t6 t7 t8 a b c d e s n m l e1 e2 e3 e4 e5 e6 e7 e8 = rw (e8, e7, e6, e5, e4, e3, e2, e1) (simp append_assoc)

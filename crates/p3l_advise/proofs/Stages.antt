@@ -8,22 +8,22 @@ use Rattle.std.proofs.lemmas.List.Folds.{find-append}
 use Rattle.p3l_skel.specs.declared.tree.Tree.{Tree}
 use Rattle.p3l_skel.specs.Counts.{outside_parts}
 use Rattle.p3l_skel.specs.Tree.{node_at, by_parts}
-use Rattle.p3l_advise.specs.Bottleneck.{is_pipe, stages_from}
+use Rattle.p3l_advise.specs.Bottleneck.{is_stage, stages_from}
 
 pub stages_from-zero : (tree : Tree) (k : ℕ) → stages_from tree 0 k ≡ k ∷ []
 unfolding stages_from by_parts
 stages_from-zero tree k = refl
 
-pub stages_from-own : (tree : Tree) (d k : ℕ) → 0 < d → is_pipe (node_at tree k).form ≡ false → stages_from tree d k ≡ k ∷ []
+pub stages_from-own : (tree : Tree) (d k : ℕ) → 0 < d → is_stage (node_at tree k).form ≡ true → stages_from tree d k ≡ k ∷ []
 unfolding stages_from by_parts
 stages_from-own tree zero k some other = refl
 stages_from-own tree (suc d) k some other = rw other refl
 
-stages_from-suc : (tree : Tree) (d k : ℕ) → is_pipe (node_at tree k).form ≡ true → stages_from tree (suc d) k ≡ flat_map (stages_from tree d) (outside_parts (node_at tree k).form (node_at tree k).parts)
+stages_from-suc : (tree : Tree) (d k : ℕ) → is_stage (node_at tree k).form ≡ false → stages_from tree (suc d) k ≡ flat_map (stages_from tree d) (outside_parts (node_at tree k).form (node_at tree k).parts)
 unfolding stages_from by_parts
 stages_from-suc tree d k pipe = rw pipe refl
 
-pub stages_from-pipe : (tree : Tree) (d k : ℕ) → 0 < d → is_pipe (node_at tree k).form ≡ true → stages_from tree d k ≡ flat_map (stages_from tree (d - 1)) (outside_parts (node_at tree k).form (node_at tree k).parts)
+pub stages_from-pipe : (tree : Tree) (d k : ℕ) → 0 < d → is_stage (node_at tree k).form ≡ false → stages_from tree d k ≡ flat_map (stages_from tree (d - 1)) (outside_parts (node_at tree k).form (node_at tree k).parts)
 stages_from-pipe tree zero k some pipe = absurd (omega arith)
 stages_from-pipe tree (suc d) k some pipe = let e : suc d - 1 ≡ d = omega arith in rw e (stages_from-suc tree d k pipe)
 

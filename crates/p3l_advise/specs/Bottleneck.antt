@@ -15,21 +15,21 @@ use Rattle.p3l_model.specs.Service.{service, transfer, ticks, farm_ends, map_end
 use Rattle.p3l_advise.specs.declared.bottleneck.Term.{Term}
 use Rattle.p3l_advise.specs.declared.bottleneck.Term.TheVariants.{Reading, Work, Writing}
 
--- whether a form is a pipe
-abbrev pub is_pipe : Form → Bool
-is_pipe Seq = false
-is_pipe Comp = false
-is_pipe Pipe = true
-is_pipe (Farm w) = false
-is_pipe (Map w cut) = false
-is_pipe (Reduce w len elem) = false
-is_pipe (Loop turns tokens) = false
+-- whether a node of this form is a stage of its own, as all but pipes are
+abbrev pub is_stage : Form → Bool
+is_stage Seq = true
+is_stage Comp = true
+is_stage Pipe = false
+is_stage (Farm w) = true
+is_stage (Map w cut) = true
+is_stage (Reduce w len elem) = true
+is_stage (Loop turns tokens) = true
 
 -- the stages of a node, in preorder, down to a depth: the nodes other than pipes that are reached from it
 -- through pipes alone
 unfoldable pub stages_from : Tree → ℕ → ℕ → List ℕ
 stages_from tree =
-    by_parts (λ below k. if is_pipe (node_at tree k).form then flat_map below (outside_parts (node_at tree k).form (node_at tree k).parts) else k ∷ []) (λ k. k ∷ [])
+    by_parts (λ below k. if is_stage (node_at tree k).form then k ∷ [] else flat_map below (outside_parts (node_at tree k).form (node_at tree k).parts)) (λ k. k ∷ [])
 
 -- the stages of the whole, whose service time is the greatest of theirs
 abbrev pub stages : Tree → List ℕ

@@ -9,7 +9,7 @@ ghost use Rattle.p3l_cost.specs.Costs.{AreCostsOf};
 ghost use Rattle.p3l_model.specs.NodeCost.{never, timed};
 ghost use Rattle.p3l_model.specs.Timed.{HasWorkers};
 ghost use Rattle.p3l_model.specs.Service.{service, transfer};
-ghost use Rattle.p3l_advise.specs.Bottleneck.{at_once, bottleneck, ends_of, in_turn, is_pipe, reduce_term, segments_term, stages_from, term_row};
+ghost use Rattle.p3l_advise.specs.Bottleneck.{at_once, bottleneck, ends_of, in_turn, is_stage, reduce_term, segments_term, stages_from, term_row};
 
 use p3l_cost::Costs;
 use p3l_model::{FoldCost, NEVER, NodeCost, node_cost, service};
@@ -168,18 +168,18 @@ pub fn term_of(tree: &Tree, costs: &Costs, number: u32, node: &Node, time: u128,
     }
 }
 
-/// Whether a form is a pipe.
-pub fn is_pipe(form: &Form) -> bool
-    ensures { result ≡ is_pipe form.now }
+/// Whether a node of this form is a stage of its own, as all but pipes are.
+fn is_stage(form: &Form) -> bool
+    ensures { result ≡ is_stage form.now }
 {
     match form {
-        Form::Pipe => true,
+        Form::Pipe => false,
         Form::Seq
         | Form::Comp
         | Form::Farm { .. }
         | Form::Map { .. }
         | Form::Reduce { .. }
-        | Form::Loop { .. } => false,
+        | Form::Loop { .. } => true,
     }
 }
 
@@ -222,7 +222,7 @@ fn stage_with(
     if levels == 0 {
         return takes_time(tree, costs, counts, number, time);
     }
-    if !is_pipe(&node.form) {
+    if is_stage(&node.form) {
         return takes_time(tree, costs, counts, number, time);
     }
     for part in outside_parts(node) {

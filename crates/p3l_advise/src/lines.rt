@@ -101,7 +101,7 @@ fn put_line(
     let words = format!(in alloc; " service {time}")?;
     text.push_str(words.as_str())?;
     put_mark(text, tree, costs, counts, worst, number, node)?;
-    text.push('\n')?;
+    text.push_str("\n")?;
     Ok(())
 }
 

@@ -21,7 +21,8 @@ returns-then-levels-eq0 t c =
     let tree = c.args.tree.now in
     let deep : c.saturating_sub-depth.result ≡ 6 - c.args.levels = c.saturating_sub-depth.ensures in
     let root : c.saturating_sub-depth.result ≡ 6 = omega (arith, deep, c.if-levels-eq0.true) in
-    rw (c.if-levels-eq0.true, lines_from-zero, ← root) c.in_ok-put_line.ensures
+    rw (c.if-levels-eq0.true, lines_from-zero)
+    (c.in_ok-put_line.ensures ∙ ap (λ (d : ℕ). string_bytes c.args.text.now ++ node_line tree c.args.costs.now c.args.counts.now.list d c.args.number) root)
 
 pub loop-part-init : goal.loop-part-init
 loop-part-init t c =
