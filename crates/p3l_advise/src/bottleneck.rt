@@ -9,12 +9,12 @@ ghost use Rattle.p3l_cost.specs.Costs.{AreCostsOf};
 ghost use Rattle.p3l_model.specs.NodeCost.{never, timed};
 ghost use Rattle.p3l_model.specs.Timed.{HasWorkers};
 ghost use Rattle.p3l_model.specs.Service.{service, transfer};
-ghost use Rattle.p3l_advise.specs.Bottleneck.{at_once, bottleneck, ends_of, in_turn, is_pipe, reduce_term, segments_term, stages_from, term_row};
+ghost use Rattle.p3l_advise.specs.Bottleneck.{at_once, bottleneck, ends_of, in_turn, is_stage, reduce_term, segments_term, stages_from, term_row};
 
 use p3l_cost::Costs;
 use p3l_model::{FoldCost, NEVER, NodeCost, node_cost, service};
-use p3l_skel::tree::NESTING;
 use p3l_skel::counts::outside_parts;
+use p3l_skel::tree::NESTING;
 use p3l_skel::{Counts, Form, Node, Tree};
 
 /// The parts of a node's own time.
@@ -97,7 +97,10 @@ fn fold_term(costs: &Costs, time: u128, fold: &FoldCost, count: u32) -> Term
     }
     let long = fold.len.div_ceil(count) as u64 * elem;
     let splits = scatter_time(costs, whole, count as u64, long);
-    let joins = fold.operator.saturating_add(3 * token_time(costs, elem)).min(NEVER);
+    let joins = fold
+        .operator
+        .saturating_add(3 * token_time(costs, elem))
+        .min(NEVER);
     at_once(time, splits, joins)
 }
 
@@ -128,13 +131,21 @@ fn head_time(costs: &Costs, node: &Node) -> u128
     ensures { result ≡ timed (2 * (slice_index costs.now.turns node.now.module
         * transfer costs.now node.now.ins)) }
 {
-    let turns = costs.turns.as_slice().get(node.module as usize).copied().unwrap_or(0);
+    let turns = costs
+        .turns
+        .as_slice()
+        .get(node.module as usize)
+        .copied()
+        .unwrap_or(0);
     let token = token_time(costs, node.ins as u64);
-    (turns as u128).saturating_mul(token).saturating_mul(2).min(NEVER)
+    (turns as u128)
+        .saturating_mul(token)
+        .saturating_mul(2)
+        .min(NEVER)
 }
 
 /// The part of a node's own time that makes its service time, which is `time` with `count` workers.
-pub fn term(tree: &Tree, costs: &Costs, number: u32, node: &Node, time: u128, count: u32) -> Term
+pub fn term_of(tree: &Tree, costs: &Costs, number: u32, node: &Node, time: u128, count: u32) -> Term
     requires node { node.now ≡ node_at tree.now number }
     requires time { time < never }
     requires count { HasWorkers node.now.form count }
@@ -157,29 +168,23 @@ pub fn term(tree: &Tree, costs: &Costs, number: u32, node: &Node, time: u128, co
     }
 }
 
-/// Whether a form is a pipe.
-pub fn is_pipe(form: &Form) -> bool
-    ensures { result ≡ is_pipe form.now }
+/// Whether a node of this form is a stage of its own, as all but pipes are.
+fn is_stage(form: &Form) -> bool
+    ensures { result ≡ is_stage form.now }
 {
     match form {
-        Form::Pipe => true,
+        Form::Pipe => false,
         Form::Seq
         | Form::Comp
         | Form::Farm { .. }
         | Form::Map { .. }
         | Form::Reduce { .. }
-        | Form::Loop { .. } => false,
+        | Form::Loop { .. } => true,
     }
 }
 
 /// The node itself, if its service time is this.
-fn takes_time(
-    tree: &Tree,
-    costs: &Costs,
-    counts: &Counts,
-    number: u32,
-    time: u128,
-) -> Option<u32>
+fn takes_time(tree: &Tree, costs: &Costs, counts: &Counts, number: u32, time: u128) -> Option<u32>
     requires tree { IsLawfulTree tree.now }
     requires costs { AreCostsOf tree.now costs.now }
     requires counts { HasLawfulCounts tree.now counts.now.list }
@@ -217,7 +222,7 @@ fn stage_with(
     if levels == 0 {
         return takes_time(tree, costs, counts, number, time);
     }
-    if !is_pipe(&node.form) {
+    if is_stage(&node.form) {
         return takes_time(tree, costs, counts, number, time);
     }
     for part in outside_parts(node) {

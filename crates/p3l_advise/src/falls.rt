@@ -9,7 +9,7 @@ ghost use Rattle.p3l_model.specs.NodeCost.{never};
 ghost use Rattle.p3l_alloc.specs.Best.{best_at};
 ghost use Rattle.p3l_alloc.specs.Need.{IsLeastProcs};
 ghost use Rattle.p3l_alloc.specs.Table.{IsTableFrom};
-ghost use Rattle.p3l_advise.specs.Falls.{fall_line, fall_lines, hundredths, line_at};
+ghost use Rattle.p3l_advise.specs.Falls.{change_line, fall_line, fall_lines, hundredths};
 
 use p3l_alloc::{Best, best_within};
 use p3l_base::{List, NoMemory};
@@ -46,9 +46,31 @@ fn put_fall(
     let whole = faster / 100;
     let tenths = faster / 10 % 10;
     let last = faster % 10;
-    let words = format!(in alloc; "processors {processors} used {used} service {time} speed-up {whole}.{tenths}{last}\n")?;
+    let words = format!(in alloc;
+        "processors {processors} used {used} service {time} speed-up {whole}.{tenths}{last}\n"
+    )?;
     text.push_str(words.as_str())?;
     Ok(())
+}
+
+/// Appends the line of a number of processors to a text, if the service time is less than before.
+fn put_change(
+    alloc: Global,
+    text: &mut String,
+    first: u128,
+    before: u128,
+    processors: u32,
+    best: Best,
+) -> Result<(), NoMemory>
+    requires { first < never }
+    ensures { OnGiven result (string_bytes text.new
+        ≡ string_bytes text.old ++ change_line first before processors best) }
+{
+    if best.service < before {
+        put_fall(alloc, text, first, processors, best)
+    } else {
+        Ok(())
+    }
 }
 
 /// The best service time and its processes for a number of processors that fits.
@@ -104,9 +126,7 @@ pub fn put_falls(
     let mut before = first.service;
     for processors in least + 1..most + 1 {
         let best = best_for(tree, costs, rows, most, least, processors);
-        if best.service < before {
-            put_fall(alloc, text, first.service, processors, best)?;
-        }
+        put_change(alloc, text, first.service, before, processors, best)?;
         before = best.service;
     }
     Ok(())

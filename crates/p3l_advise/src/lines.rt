@@ -10,7 +10,7 @@ ghost use Rattle.p3l_cost.specs.Costs.{AreCostsOf};
 ghost use Rattle.p3l_advise.specs.Bottleneck.{bottleneck};
 ghost use Rattle.p3l_advise.specs.Lines.{indent, lines_from, mark, node_line, term_name, tree_lines};
 
-use crate::bottleneck::{Term, bottleneck, term};
+use crate::bottleneck::{Term, bottleneck, term_of};
 use p3l_alloc::explanation::{kind_name, name_of, put_count};
 use p3l_base::NoMemory;
 use p3l_cost::Costs;
@@ -67,7 +67,7 @@ fn put_mark(
     let time = service(tree, costs, counts, number);
     let count = workers(tree, counts, number);
     text.push_str(" bottleneck: ")?;
-    text.push_str(term_name(term(tree, costs, number, node, time, count)))?;
+    text.push_str(term_name(term_of(tree, costs, number, node, time, count)))?;
     Ok(())
 }
 
@@ -101,7 +101,7 @@ fn put_line(
     let words = format!(in alloc; " service {time}")?;
     text.push_str(words.as_str())?;
     put_mark(text, tree, costs, counts, worst, number, node)?;
-    text.push('\n')?;
+    text.push_str("\n")?;
     Ok(())
 }
 
