@@ -43,29 +43,6 @@ program nor its costs.
 example: p3l compile m.p3l --processors 16 --output m.img
 ";
 
-/// The page of `export`.
-const EXPORT: &str = "usage: p3l export PROGRAM --processors P --output FILE [--costs FILE]
-                  [--capacity C]
-
-Writes the network of a program as one text in C. It runs on one processor, on
-several of one machine, or over MPI on many machines:
-
-    cc -O2 m.c -o m                 ./m < items    ./m --ranks 4 < items
-    mpicc -O2 -DP3L_MPI m.c -o m    ./m --ranks 16 --hosts FILE < items
-
-Its results, its status and its message are those of run.
-
-  PROGRAM          the file of the program
-  --processors P   how many processors there are, 1 to 512
-  --output FILE    where to write the text
-  --costs FILE     the costs by which worker counts are chosen; without them the
-                   standard costs
-  --capacity C     how many tokens a channel holds at most, 1 to 1,024; without
-                   it each channel's is chosen by the costs
-
-example: p3l export m.p3l --processors 16 --costs m.toml --output m.c
-";
-
 /// The page of `migrate`.
 const MIGRATE: &str = "usage: p3l migrate IMAGE --output FILE
 
@@ -359,10 +336,6 @@ pub(crate) const COMMANDS: &[Page] = &[
     Page {
         topic: "advise",
         text: ADVISE,
-    },
-    Page {
-        topic: "export",
-        text: EXPORT,
     },
     Page {
         topic: "graph",

@@ -13,7 +13,6 @@ commands:
   migrate IMAGE ..         convert an image to the newest version and relink it
   explain PROGRAM ..       write the worker counts that are chosen for a program
   advise PROGRAM ..        say what processors buy, and where the time goes
-  export PROGRAM ..        write a program's network as a text in C
   graph PROGRAM ..         write a picture of a program's network, for Graphviz
   verify-cert PROGRAM ..   check a certificate that worker counts are the best
   check-trace PROGRAM ..   check a trace against a run on the standard input
@@ -39,8 +38,7 @@ help:
 Options may come in any order, at most once each; numbers have no sign and no
 leading zero. Results go to the standard output, and a message to the standard
 error says why the program ended with another status than 0. One thread runs:
---processors chooses worker counts, and makes no run faster; an exported program
-runs on several processors.
+--processors chooses worker counts, and makes no run faster.
 ";
 
 /// The version of the program, and the logic by which it is proved: that of the toolchain.

@@ -6,13 +6,12 @@ use Rattle.clap.specs.Words.{Row, Text}
 use Rattle.p3l_opts.specs.declared.command.Build.{Build}
 use Rattle.p3l_opts.specs.declared.command.Command.{Command}
 use Rattle.p3l_opts.specs.declared.command.Command.TheVariants as command
-use Rattle.p3l_opts.specs.declared.command.Exported.{Exported}
 use Rattle.p3l_opts.specs.declared.command.Sched.{Sched}
 use Rattle.p3l_opts.specs.declared.command.Sched.TheVariants as sched
 use Rattle.p3l_opts.specs.declared.verb.Verb.{Verb}
 use Rattle.p3l_opts.specs.declared.verb.Verb.TheVariants as verb
 use Rattle.p3l_opts.specs.Verb.{name_of, rows}
-use Rattle.p3l_opts.specs.Command.{HasAdvise, HasBuild, HasCapacity, HasCount, HasExported, HasGivenCapacity, HasItems, HasMost, HasNumber, HasSchedule, HasValues, SpellsSchedule, verb_of}
+use Rattle.p3l_opts.specs.Command.{HasAdvise, HasBuild, HasCapacity, HasCount, HasItems, HasMost, HasNumber, HasSchedule, HasValues, SpellsSchedule, verb_of}
 use Rattle.p3l_opts.specs.Laws.{SpellsOneAtMost}
 
 -- the verb of a name
@@ -23,7 +22,6 @@ verb_named text =
     else if bytes_eq text (codes "explain") then Some verb.Explain
     else if bytes_eq text (codes "advise") then Some verb.Advise
     else if bytes_eq text (codes "compile") then Some verb.Compile
-    else if bytes_eq text (codes "export") then Some verb.Export
     else if bytes_eq text (codes "run") then Some verb.Run
     else if bytes_eq text (codes "exec") then Some verb.Exec
     else if bytes_eq text (codes "migrate") then Some verb.Migrate
@@ -121,22 +119,6 @@ one_advised found a b processes other p q = λ i. record {
   capacity = one_capacity None a.capacity b.capacity p.capacity_is q.capacity_is i;
 }
 
-one_given : (text : Option Text) (m n : Option ℕ) → HasGivenCapacity text m → HasGivenCapacity text n → m ≡ n
-one_given None None None p q = refl
-one_given None None (Some n) p q = absurd q
-one_given None (Some m) n p q = absurd p
-one_given (Some text) None n p q = absurd p
-one_given (Some text) (Some m) None p q = absurd q
-one_given (Some text) (Some m) (Some n) p q = ap Some (one_count 1024 (Some text) m n (omega arith) p q)
-
-one_exported : (found : List Row) (a b : Exported) → HasExported found a → HasExported found b → a ≡ b
-one_exported found a b p q = λ i. record {
-  program = one_name _ _ _ p.program q.program i;
-  processors = one_count 512 _ _ _ (omega arith) p.processors q.processors i;
-  costs = (p.costs ∙ sym q.costs) i;
-  capacity = one_given _ _ _ p.capacity_is q.capacity_is i;
-}
-
 -- what was found are the values of one command of a verb
 one_command : (found : List Row) (a b : Command) → verb_of a ≡ verb_of b → HasValues found a → HasValues found b → a ≡ b
 one_command found (command.Check p) (command.Check q) v ha hb = ap command.Check (one_name _ _ _ ha hb)
@@ -144,7 +126,6 @@ one_command found (command.Fmt p) (command.Fmt q) v ha hb = ap command.Fmt (one_
 one_command found (command.Explain x c) (command.Explain y d) v ha hb = λ i. command.Explain (one_build _ _ x y ha.0 hb.0 i) ((ha.1 ∙ sym hb.1) i)
 one_command found (command.Advise x r) (command.Advise y r') v ha hb = λ i. command.Advise (one_advised _ x y _ _ ha hb i) ((ha.requested ∙ sym hb.requested) i)
 one_command found (command.Compile x o) (command.Compile y p) v ha hb = λ i. command.Compile (one_build _ _ x y ha.0 hb.0 i) (one_name _ _ _ ha.1 hb.1 i)
-one_command found (command.Export x o) (command.Export y p) v ha hb = λ i. command.Export (one_exported _ x y ha.0 hb.0 i) (one_name _ _ _ ha.1 hb.1 i)
 one_command found (command.Run x s t r) (command.Run y s' t' r') v ha hb = λ i.
     command.Run (one_build _ _ x y ha.0 hb.0 i) (one_schedule _ _ _ ha.1.picks hb.1.picks i) ((ha.1.traced ∙ sym hb.1.traced) i) ((ha.1.reported ∙ sym hb.1.reported) i)
 one_command found (command.Exec x s t r) (command.Exec y s' t' r') v ha hb = λ i.

@@ -7,7 +7,6 @@ use Rattle.clap.specs.Words.{Row, Text, first_of}
 use Rattle.p3l_opts.specs.declared.command.Build.{Build}
 use Rattle.p3l_opts.specs.declared.command.Command.{Command}
 use Rattle.p3l_opts.specs.declared.command.Command.TheVariants as command
-use Rattle.p3l_opts.specs.declared.command.Exported.{Exported}
 use Rattle.p3l_opts.specs.declared.command.Sched.{Sched}
 use Rattle.p3l_opts.specs.declared.command.Sched.TheVariants as sched
 use Rattle.p3l_opts.specs.declared.verb.Verb.{Verb}
@@ -25,7 +24,6 @@ verb_of (command.Fmt program) = verb.Fmt
 verb_of (command.Explain build cert) = verb.Explain
 verb_of (command.Advise build processes) = verb.Advise
 verb_of (command.Compile build output) = verb.Compile
-verb_of (command.Export exported output) = verb.Export
 verb_of (command.Run build schedule trace stats) = verb.Run
 verb_of (command.Exec image schedule trace stats) = verb.Exec
 verb_of (command.Migrate image output) = verb.Migrate
@@ -63,13 +61,6 @@ HasSegments = HasCount most_workers
 abbrev pub HasCapacity : Option Text → ℕ → Type 0
 HasCapacity None capacity = capacity ≡ 4
 HasCapacity (Some text) capacity = HasCount most_tokens (Some text) capacity
-
--- the same of a capacity that is given or not
-abbrev pub HasGivenCapacity : Option Text → Option ℕ → Type 0
-HasGivenCapacity None None = Unit {0}
-HasGivenCapacity None (Some capacity) = ⊥
-HasGivenCapacity (Some text) None = ⊥
-HasGivenCapacity (Some text) (Some capacity) = HasCount most_tokens (Some text) capacity
 
 -- the text is `rr`, `seed:N` with a number of 64 bits in decimal digits without a leading zero, or `file:NAME`
 abbrev pub SpellsSchedule : Text → Sched → Type 0
@@ -118,13 +109,6 @@ pub record HasAdvise (found : List Row) (build : Build) (processes : Bool) : Typ
   pub capacity_is : HasCapacity None build.capacity
   pub requested : processes ≡ says_true (first_of (codes "processes") found)
 
--- what is exported
-pub record HasExported (found : List Row) (exported : Exported) : Type 0 where
-  pub program : first_of (codes "program") found ≡ Some exported.program
-  pub processors : HasProcessors (first_of (codes "processors") found) exported.processors
-  pub costs : exported.costs ≡ first_of (codes "costs") found
-  pub capacity_is : HasGivenCapacity (first_of (codes "capacity") found) exported.capacity
-
 -- how a run goes on
 pub record HasRun (found : List Row) (schedule : Sched) (trace : Option Text) (stats : Bool) : Type 0 where
   pub picks : HasSchedule (first_of (codes "schedule") found) schedule
@@ -167,7 +151,6 @@ HasValues found (command.Fmt program) = first_of (codes "program") found ≡ Som
 HasValues found (command.Explain build cert) = HasBuild found None build × (cert ≡ first_of (codes "cert") found)
 HasValues found (command.Advise build processes) = HasAdvise found build processes
 HasValues found (command.Compile build output) = HasBuild found (first_of (codes "capacity") found) build × (first_of (codes "output") found ≡ Some output)
-HasValues found (command.Export exported output) = HasExported found exported × (first_of (codes "output") found ≡ Some output)
 HasValues found (command.Run build schedule trace stats) = HasBuild found (first_of (codes "capacity") found) build × HasRun found schedule trace stats
 HasValues found (command.Exec image schedule trace stats) = (first_of (codes "image") found ≡ Some image) × HasRun found schedule trace stats
 HasValues found (command.Migrate image output) = (first_of (codes "image") found ≡ Some image) × (first_of (codes "output") found ≡ Some output)

@@ -13,7 +13,6 @@ name_of verb.Fmt = codes "fmt"
 name_of verb.Explain = codes "explain"
 name_of verb.Advise = codes "advise"
 name_of verb.Compile = codes "compile"
-name_of verb.Export = codes "export"
 name_of verb.Run = codes "run"
 name_of verb.Exec = codes "exec"
 name_of verb.Migrate = codes "migrate"
@@ -45,13 +44,6 @@ rules_of verb.Advise =
     ∷ rule_for (codes "processes") Flag
     ∷ []
 rules_of verb.Compile =
-    rule_for (codes "program") Positional
-    ∷ rule_for (codes "processors") Mandatory
-    ∷ rule_for (codes "output") Mandatory
-    ∷ rule_for (codes "costs") Optional
-    ∷ rule_for (codes "capacity") Optional
-    ∷ []
-rules_of verb.Export =
     rule_for (codes "program") Positional
     ∷ rule_for (codes "processors") Mandatory
     ∷ rule_for (codes "output") Mandatory

@@ -21,9 +21,6 @@ pub enum Command {
     /// `compile PROGRAM --processors P --output FILE [--costs FILE] [--capacity C]`: writes an image.
     /// It has how the network is built, and the name of the image's file.
     Compile(Build, Name),
-    /// `export PROGRAM --processors P --output FILE [--costs FILE] [--capacity C]`: writes the network
-    /// as a text in C. It has what is exported, and the name of the text's file.
-    Export(Exported, Name),
     /// `run PROGRAM --processors P [--costs FILE] [--schedule S] [--capacity C] [--trace FILE]
     /// [--stats]`: runs a program on the input. It has how the network is built, how picks are made,
     /// the name of the file for the trace, and whether the numbers of the run are reported.
@@ -83,19 +80,6 @@ pub struct Build {
     pub costs: Option<Name>,
     /// How many tokens a channel holds at most, 1 to 1,024.
     pub capacity: u32,
-}
-
-/// What is exported.
-#[derive(Drop)]
-pub struct Exported {
-    /// The name of the program's file.
-    pub program: Name,
-    /// How many processors there are, 1 to 512.
-    pub processors: u32,
-    /// The name of the file of costs; without one, the standard costs hold.
-    pub costs: Option<Name>,
-    /// How many tokens each channel holds at most, 1 to 1,024; without it, this is chosen by the costs.
-    pub capacity: Option<u32>,
 }
 
 /// How picks are made.

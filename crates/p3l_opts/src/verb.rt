@@ -18,7 +18,6 @@ pub enum Verb {
     Explain,
     Advise,
     Compile,
-    Export,
     Run,
     Exec,
     Migrate,
@@ -60,9 +59,6 @@ pub fn verb_of(word: &str) -> Option<Verb>
     }
     if is_word(word, "compile") {
         return Some(Verb::Compile);
-    }
-    if is_word(word, "export") {
-        return Some(Verb::Export);
     }
     if is_word(word, "run") {
         return Some(Verb::Run);
@@ -136,17 +132,6 @@ pub(crate) fn clap_command<'a>(alloc: Global, verb: Verb) -> Result<Command<'a>,
         Verb::Compile => command_with(
             alloc,
             "compile",
-            &[
-                ("program", Spelling::Positional),
-                ("processors", Spelling::Mandatory),
-                ("output", Spelling::Mandatory),
-                ("costs", Spelling::Optional),
-                ("capacity", Spelling::Optional),
-            ],
-        ),
-        Verb::Export => command_with(
-            alloc,
-            "export",
             &[
                 ("program", Spelling::Positional),
                 ("processors", Spelling::Mandatory),

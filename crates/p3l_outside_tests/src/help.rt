@@ -11,7 +11,6 @@ fmt: PROGRAM
 explain: PROGRAM, --processors P, --costs FILE, --cert FILE
 advise: PROGRAM, --processors P, --costs FILE, --processes
 compile: PROGRAM, --processors P, --output FILE, --costs FILE, --capacity C
-export: PROGRAM, --processors P, --output FILE, --costs FILE, --capacity C
 migrate: IMAGE, --output FILE
 graph: PROGRAM, --processors P, --costs FILE, --capacity C
 verify-cert: PROGRAM, --cert FILE, --costs FILE

@@ -2,7 +2,7 @@
 
 use crate::lists::spelled_words;
 use p3l_base::Name;
-use p3l_opts::{Build, Command, Exported, OptsRefusal, Sched, parse};
+use p3l_opts::{Build, Command, OptsRefusal, Sched, parse};
 use std::alloc::Global;
 use std::fmt;
 use std::fmt::{Display, Formatter};
@@ -30,8 +30,6 @@ explain|a.p3l|--processors|8|--costs|a.toml|--cert|x => explain a.p3l 8 a.toml 4
 advise|m => advise m 512 - 4 false
 advise|--processes|m|--costs|c|--processors|8 => advise m 8 c 4 true
 compile|a|--output=i|--processors=8|--capacity=2 => compile a 8 - 2 i
-export|m|--processors|4|--output|o => export m 4 - - o
-export|m|--output=o|--capacity=64|--costs=c|--processors=512 => export m 512 c 64 o
 exec|i|--stats => exec i rr - true
 migrate|--output|j|i => migrate i j
 graph|m|--processors|4|--capacity|1 => graph m 4 - 1
@@ -99,9 +97,6 @@ compile|m|--processors|4
 advise
 advise|m|--processors|513
 advise|m|--capacity|1
-export|m|--processors|4
-export|m|--output|o
-export|m|--processors|4|--output|o|--capacity|0
 exec|i|--processors|4
 migrate|i
 graph|m|--output|g
@@ -160,8 +155,6 @@ enum Value<'a> {
     Picks(&'a Sched),
     /// How a network is built: the program, the processors, the costs and the capacity.
     Build(&'a Build),
-    /// What is exported: the program, the processors, the costs and the capacity.
-    Exported(&'a Exported),
     /// No value, where a command has fewer than others.
     Nothing,
 }
@@ -204,12 +197,6 @@ fn values_of(command: &Command) -> (&'static str, [Value<'_>; 5]) {
         }
         Command::Compile(build, output) => {
             ("compile", [Value::Build(build), text(output), no, no, no])
-        }
-        Command::Export(exported, output) => {
-            (
-                "export",
-                [Value::Exported(exported), text(output), no, no, no],
-            )
         }
         Command::Run(build, sched, trace, stats) => {
             let picks = Value::Picks(sched);
@@ -318,7 +305,6 @@ impl<'a> Display for Value<'a> {
             Value::Number(number) => write!(f, " {number}"),
             Value::Picks(sched) => show_picks(sched, f),
             Value::Build(build) => show_build(build, f),
-            Value::Exported(exported) => show_exported(exported, f),
             Value::Nothing => Ok(()),
         }
     }
@@ -334,21 +320,6 @@ fn show_build<W: fmt::Write>(build: &Build, f: &mut Formatter<W>) -> fmt::Result
     };
     let capacity = build.capacity;
     write!(f, " {program} {processors} {costs} {capacity}")
-}
-
-/// Writes what is exported.
-fn show_exported<W: fmt::Write>(exported: &Exported, f: &mut Formatter<W>) -> fmt::Result {
-    let program = exported.program.as_str();
-    let processors = exported.processors;
-    let costs = match &exported.costs {
-        Some(costs) => costs.as_str(),
-        None => "-",
-    };
-    write!(f, " {program} {processors} {costs} ")?;
-    match exported.capacity {
-        Some(capacity) => write!(f, "{capacity}"),
-        None => f.write_str("-"),
-    }
 }
 
 /// Writes how picks are made.

@@ -22,10 +22,6 @@ pub returns-in-Compile : goal.returns-in-Compile
 unfolding app_for
 returns-in-Compile c = rw c.in-Compile.is (MatchResult-weaker c.command_with-in-Compile.result c.command_with-in-Compile.ensures (λ r e. e) (λ r refused. refused))
 
-pub returns-in-Export : goal.returns-in-Export
-unfolding app_for
-returns-in-Export c = rw c.in-Export.is (MatchResult-weaker c.command_with-in-Export.result c.command_with-in-Export.ensures (λ r e. e) (λ r refused. refused))
-
 pub returns-in-Run : goal.returns-in-Run
 unfolding app_for
 returns-in-Run c = rw c.in-Run.is (MatchResult-weaker c.command_with-in-Run.result c.command_with-in-Run.ensures (λ r e. e) (λ r refused. refused))
