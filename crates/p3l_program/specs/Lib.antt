@@ -1,6 +1,7 @@
 pub mod Alike
 pub mod Answer
 pub mod Behavior
+pub mod Best
 pub mod Certificate
 pub mod Certified
 pub mod Check
@@ -12,6 +13,7 @@ pub mod File
 pub mod Fmt
 pub mod Generated
 pub mod Graph
+pub mod Headline
 pub mod Joined
 pub mod Image
 pub mod Load

@@ -3,6 +3,7 @@
 #![tactic(auto)]
 
 pub mod alike;
+pub mod best;
 mod cert;
 pub mod certify;
 pub mod check;
@@ -14,6 +15,7 @@ mod file;
 pub mod fmt;
 pub mod generated;
 pub mod graph;
+pub mod headline;
 mod image;
 mod imaged;
 pub mod joined;
