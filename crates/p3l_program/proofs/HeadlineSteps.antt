@@ -220,14 +220,6 @@ some_ending : (close : Option Ending) → (e : Ending) × MayEnd close e
 some_ending None = (ending.End, tt)
 some_ending (Some e) = (e, refl)
 
-ending_untrapped : (e : Ending) → ending_status e ≡ status.trap → ⊥
-ending_untrapped ending.End h = absurd (omega arith)
-ending_untrapped (ending.BadWord line) h = absurd (omega arith)
-ending_untrapped (ending.WrongCount line had) h = absurd (omega arith)
-ending_untrapped (ending.OutOfRange line) h = absurd (omega arith)
-ending_untrapped ending.ReadFault h = absurd (omega arith)
-ending_untrapped ending.TooLong h = absurd (omega arith)
-
 module _ (n : Network) (c : Course) (close : Ending) (f : RunEnd) (is : f ≡ finish_of n c close) where
   -- a run that ended as its stream does emitted no trap
   untrapped : (e : Ending) → f ≡ ends.Stream e → trap_of c.state.emitted ≡ None
@@ -244,7 +236,7 @@ module _ (n : Network) (c : Course) (close : Ending) (f : RunEnd) (is : f ≡ fi
     where
       by : (b : Bool) (trap : Option Trap) → finish_status (run_finish (cond b (ends.Stopped c.fired c.idle) (end_of n.named trap (item_number n.start (length c.state.emitted)) close))) ≡ status.trap → (t : Trap) × (trap ≡ Some t)
       by true trap h = absurd (omega arith)
-      by false None h = absurd (ending_untrapped close h)
+      by false None h = absurd (let t = statuses.trap_is (run_finish (ends.Stream close)) h in let z = t.1.1.1 in cc)
       by false (Some t) h = (t, refl)
 
 -- WHAT WAS WRITTEN
@@ -321,7 +313,7 @@ module _ (r : ResolvedTree) (counts : List ℕ) (capacity : ℕ) (bytes taken : 
 
   -- a run that was begun wrote a prefix of it
   begun : (s : Schedule) (old left : Option (List ℕ)) (before now : ℕ) (out new : Option (List ℕ)) → Starts n s old left before now out new → old ≡ Some bytes → out ≡ Some taken → (k : ℕ) → status.is_end k ≡ false → HasWritten r bytes taken new k
-  begun s old left before now out new f input known k no =
+  begun s old left before now out new f input known k unended =
       let all = split r.tree leaf f.items (meaning_of n f.items) [] (append-nil (meaning_of n f.items)) in
       let after = items_first (width_of n) old left before now f.stream f.items bytes input f.closed f.gives in
       record {
@@ -335,11 +327,11 @@ module _ (r : ResolvedTree) (counts : List ℕ) (capacity : ℕ) (bytes taken : 
           mean = all.mean;
           missing = f.begun.more;
           lines = f.begun.text_is ∙ all.text_is;
-          whole = λ z. absurd (let y = sym z ∙ no in cc);
-          done = λ z. absurd (let y = sym (ap status.is_end z) ∙ no in cc);
-          stream = λ z. absurd (let y = sym (ap status.is_end z) ∙ no in cc);
-          too_long = λ z. absurd (let y = sym (ap status.is_end z) ∙ no in cc);
-          trap = λ z. absurd (let y = sym (ap status.is_end z) ∙ no in cc);
+          whole = λ z. absurd (let y = sym z ∙ unended in cc);
+          done = λ z. absurd (let y = sym (ap status.is_end z) ∙ unended in cc);
+          stream = λ z. absurd (let y = sym (ap status.is_end z) ∙ unended in cc);
+          too_long = λ z. absurd (let y = sym (ap status.is_end z) ∙ unended in cc);
+          trap = λ z. absurd (let y = sym (ap status.is_end z) ∙ unended in cc);
         };
       }
 
@@ -380,11 +372,11 @@ module _ (once : SpellsOneAtMost) (outside : Bool) (words : List Text) (w : Worl
   -- one that was begun
   begun_so : BeginsWork words w → status.is_end k ≡ false → status.is_refusal k ≡ false → IsMeant held build.program bytes taken w.out.new k
   unfolding work_of
-  begun_so e no other =
+  begun_so e unended other =
       let x : BeginsRun w (built build) schedule = subst (λ c. Begins w c) (once words e.command requested e.spelled spelled) e.begun.begins in
       let b = x.has.network.is in
       let f = subst (λ m. Starts m x.s w.input.old w.input.new w.input.before w.input.now w.out.old w.out.new) b.network_is x.starts in
-      let o = begun b.r b.counts build.capacity bytes taken x.s w.input.old w.input.new w.input.before w.input.now w.out.old w.out.new f input out k no in
+      let o = begun b.r b.counts build.capacity bytes taken x.s w.input.old w.input.new w.input.before w.input.now w.out.old w.out.new f input out k unended in
       record {
         written = o.written;
         new_is = o.new_is;
@@ -393,12 +385,12 @@ module _ (once : SpellsOneAtMost) (outside : Bool) (words : List Text) (w : Worl
       }
 
   untouched : IsUntouched w → status.is_end k ≡ false → IsMeant held build.program bytes taken w.out.new k
-  untouched u no = record { written = []; new_is = u.out.known ∙ out ∙ ap Some (sym (append-nil taken)); means = inr (refl, no); refused = λ z. refl }
+  untouched u unended = record { written = []; new_is = u.out.known ∙ out ∙ ap Some (sym (append-nil taken)); means = inr (refl, unended); refused = λ z. refl }
 
   meant : (end refusal : Bool) → status.is_end k ≡ end → status.is_refusal k ≡ refusal → IsMeant held build.program bytes taken w.out.new k
   meant true refusal kind other = ended_so kind
-  meant false true no refusal = untouched (p.refused refusal).untouched no
-  meant false false no other = elim p.begins [ inl still ↦ untouched still no | inr begun ↦ begun_so begun no other ]
+  meant false true unended refusal = untouched (p.refused refusal).untouched unended
+  meant false false unended other = elim p.begins [ inl still ↦ untouched still unended | inr begun ↦ begun_so begun unended other ]
 
 pub run_means : SpellsOneAtMost → EveryRunMeansItsProgram
 run_means once outside words w err k p build schedule trace stats spelled held bytes taken files input out =
