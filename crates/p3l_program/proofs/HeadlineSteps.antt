@@ -18,7 +18,7 @@ use Rattle.p3l_grammar.specs.Parser.{entries}
 use Rattle.p3l_grammar.proofs.Exact.{derives_run}
 use Rattle.p3l_skel.specs.declared.tree.Tree.{Tree}
 use Rattle.p3l_skel.specs.Item.{item, meaning, up_to_trap}
-use Rattle.p3l_check.specs.Resolving.{ResolvedTree}
+use Rattle.p3l_check.specs.Resolving.{ResolvedTree, resolved}
 use Rattle.p3l_compile.specs.Leaves.{body_leaf}
 use Rattle.p3l_firing.specs.Outcomes.{IsPrefixOf}
 use Rattle.p3l_firing.specs.Run.{Course}
@@ -54,7 +54,7 @@ use Rattle.p3l_report.proofs.Statuses as statuses
 use Rattle.p3l_program.specs.Answer.{BeginsWork}
 use Rattle.p3l_program.specs.Command.{Begins, Ends, work_of}
 use Rattle.p3l_program.specs.File.{HasText, Holds, text_limit}
-use Rattle.p3l_program.specs.Headline.{EveryRunMeansItsProgram, HasOneProgram, IsMeant, TrapsFirst, WritesMeaning, input_of, outcome_of}
+use Rattle.p3l_program.specs.Headline.{EveryRunMeansItsProgram, EveryScheduleWritesTheSame, HasOneProgram, IsMeant, TrapsFirst, WritesMeaning, input_of, outcome_of}
 use Rattle.p3l_program.specs.Origin.{built}
 use Rattle.p3l_program.specs.Plan.{IsAccepted, network_of}
 use Rattle.p3l_program.specs.Run.{BeginsRun, EndsRun, keeping_for}
@@ -395,3 +395,68 @@ module _ (once : SpellsOneAtMost) (outside : Bool) (words : List Text) (w : Worl
 pub run_means : SpellsOneAtMost → EveryRunMeansItsProgram
 run_means once outside words w err k p build schedule trace stats spelled held bytes taken files input out =
     meant once outside words w err k p build schedule trace stats spelled held bytes taken files input out (status.is_end k) (status.is_refusal k) refl refl
+
+-- THE SCHEDULE DOESN'T MATTER
+
+-- the results of more items begin with those of the first
+results_more : (outcome : List ℤ → Outcome) (items more results all : List (List ℤ)) → map outcome items ≡ map Value results → map outcome (items ++ more) ≡ map Value all →
+    (after : List (List ℤ)) × (all ≡ results ++ after) × (map outcome more ≡ map Value after)
+results_more outcome [] more [] all a b = (all, refl, b)
+results_more outcome [] more (result ∷ results) all a b = absurd cc
+results_more outcome (words ∷ items) more [] all a b = absurd cc
+results_more outcome (words ∷ items) more (result ∷ results) [] a b = absurd cc
+results_more outcome (words ∷ items) more (result ∷ results) (first ∷ all) a b =
+    let next = results_more outcome items more results all (cc) (cc) in
+    let same : first ≡ result = cc in
+    (next.0, (let z = next.1 in cc), next.2)
+
+texts_more : (first others : List (List ℤ)) → flat_map item_text (first ++ others) ≡ flat_map item_text first ++ flat_map item_text others
+texts_more [] others = refl
+texts_more (result ∷ first) others = ap (λ t. item_text result ++ t) (texts_more first others) ∙ sym (append_assoc (item_text result) (flat_map item_text first) (flat_map item_text others))
+
+no_results : (results : List (List ℤ)) → [] ≡ map Value results → results ≡ []
+no_results [] e = refl
+no_results (result ∷ results) e = absurd cc
+
+-- one program is in a file
+program_once : (held : Held) (name : List ℕ) (r other : ResolvedTree) → HasOneProgram held name r → HasOneProgram held name other → other ≡ r
+program_once held name r other a b =
+    let text : b.text ≡ a.text = let x = a.holds in let y = b.holds in cc in
+    let program : b.program ≡ a.program = a.only b.program (subst (λ t. Spells t b.program) text b.spelled) in
+    let kept = sym (ap resolved program ∙ a.keeps) ∙ b.keeps in
+    let same : r ≡ other = cc in sym same
+
+module _ (r : ResolvedTree) (bytes some all : List ℕ) (k : ℕ) (a : WritesMeaning r bytes some k) (b : WritesMeaning r bytes all status.done) where
+  abbrev later_none : b.later ≡ []
+  later_none = (b.done refl).0
+
+  items_more : b.first ≡ a.first ++ a.later
+  items_more = sym (b.items_are ∙ ap (λ l. b.first ++ l) later_none ∙ append-nil b.first) ∙ a.items_are
+
+  more_results : (after : List (List ℤ)) × (b.results ≡ a.results ++ after) × (map (outcome_of r) a.later ≡ map Value after)
+  more_results = results_more (outcome_of r) a.first a.later a.results b.results a.mean (subst (λ i. map (outcome_of r) i ≡ map Value b.results) items_more b.mean)
+
+  whole_text : all ≡ flat_map item_text b.results
+  whole_text = sym (append-nil all) ∙ ap (λ m. all ++ m) (sym (b.whole refl)) ∙ b.lines
+
+  text_more : some ++ (a.missing ++ flat_map item_text more_results.0) ≡ all
+  text_more =
+      sym (append_assoc some a.missing (flat_map item_text more_results.0)) ∙ ap (λ t. t ++ flat_map item_text more_results.0) a.lines
+      ∙ sym (texts_more a.results more_results.0) ∙ ap (flat_map item_text) (sym more_results.1) ∙ sym whole_text
+
+  all_written : k ≡ status.done → a.missing ++ flat_map item_text more_results.0 ≡ []
+  all_written is =
+      let none = no_results more_results.0 (ap (map (outcome_of r)) (sym (a.done is).0) ∙ more_results.2) in
+      both_nothing a.missing (flat_map item_text more_results.0) (a.whole (ap status.is_end is)) (ap (flat_map item_text) none)
+
+pub same_written : EveryScheduleWritesTheSame
+same_written held name bytes taken others new other k whole run = by whole.means run.means
+  where
+    by : ((r : ResolvedTree) × HasOneProgram held name r × WritesMeaning r bytes whole.written status.done) ⊎ ((whole.written ≡ []) × (status.is_end status.done ≡ false)) →
+        ((r : ResolvedTree) × HasOneProgram held name r × WritesMeaning r bytes run.written k) ⊎ ((run.written ≡ []) × (status.is_end k ≡ false)) →
+        (more : List ℕ) × (run.written ++ more ≡ whole.written) × (k ≡ status.done → more ≡ [])
+    by (inl b) (inl a) =
+        let m = subst (λ r. WritesMeaning r bytes run.written k) (program_once held name b.0 a.0 b.1 a.1) a.2 in
+        (_, text_more b.0 bytes run.written whole.written k m b.2, all_written b.0 bytes run.written whole.written k m b.2)
+    by (inl b) (inr none) = (whole.written, ap (λ t. t ++ whole.written) none.0, λ is. absurd (let z = sym (ap status.is_end is) ∙ none.1 in cc))
+    by (inr none) a = absurd (let z = none.1 in cc)

@@ -27,7 +27,7 @@ use Rattle.p3l_report.specs.Status as status
 use Rattle.p3l_program.specs.Top.{Promises}
 use Rattle.p3l_program.specs.World.{Change, World}
 
--- THE PROGRAM of a file: its text spells this one and no other, which keeps all rules, with this tree and these bodies
+-- THE PROGRAM of a file: its text spells one program, which keeps all rules and has this tree and these bodies
 pub record HasOneProgram (held : Held) (name : List ℕ) (r : ResolvedTree) : Type 0 where
   pub text : List ℕ
   pub holds : held name ≡ Some text
@@ -36,11 +36,12 @@ pub record HasOneProgram (held : Held) (name : List ℕ) (r : ResolvedTree) : Ty
   pub only : (other : ProgramTree) → Spells text other → other ≡ program
   pub keeps : resolved program ≡ Ok r
 
--- ITS MEANING: the words that it makes of those of an item, or the trap; no process and no channel is in it
+-- ITS MEANING: what it makes of the words of an item, words or a trap, with no process and no channel
 abbrev pub outcome_of : ResolvedTree → List ℤ → Outcome
 outcome_of r words = item r.tree (body_leaf r.tree r.seqs) 0 words
 
--- ITS INPUT in bytes: an item a line, each of as many words as it takes, up to a line that is refused, if one is; and how they end
+-- ITS INPUT: the items in bytes, one a line that isn't blank, each of as many words as it takes, up to a line that is refused; and how
+-- they end
 abbrev pub input_of : ResolvedTree → List ℕ → Items
 input_of r bytes = items_of (node_at r.tree 0).ins bytes
 
@@ -83,3 +84,11 @@ EveryRunMeansItsProgram =
     (build : Build) (schedule : Sched) (trace : Option (List ℕ)) (stats : Bool) → opts.Spells words (command.Run build schedule trace stats) →
     (held : Held) (bytes taken : List ℕ) → w.files.old ≡ Some held → w.input.old ≡ Some bytes → w.out.old ≡ Some taken →
     IsMeant held build.program bytes taken w.out.new k
+
+-- SO RESULTS DON'T DEPEND ON THE SCHEDULE: a run of status 0 wrote what any run of the file's program on this input begins to write, and
+-- with status 0 too writes, under any other schedule, capacity, costs and number of processors
+abbrev pub EveryScheduleWritesTheSame : Type 0
+EveryScheduleWritesTheSame =
+    (held : Held) (name bytes taken others : List ℕ) (new other : Option (List ℕ)) (k : ℕ) →
+    (whole : IsMeant held name bytes taken new status.done) (run : IsMeant held name bytes others other k) →
+    (more : List ℕ) × (run.written ++ more ≡ whole.written) × (k ≡ status.done → more ≡ [])
