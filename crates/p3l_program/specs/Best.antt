@@ -1,5 +1,5 @@
--- THE PROMISE ON WORKER COUNTS ON A PAGE: none that fit are better than those that `explain` writes. Beside definitions of the
--- libraries below, and what a program is (`Headline.antt`), this file has all that the promise says.
+-- THE PROMISE ON WORKER COUNTS ON A PAGE: none that fit are better than those that `explain` writes. It is stated in the terms of the
+-- libraries below; of this crate it names the program of a file (`Headline.antt`), `Promises`, and what `World` calls old and new.
 use Rattle.std.specs.Prelude.{◌≡◌, ℕ, ◌≤◌, Bool, List, ◌++◌, Ok, Option, Some, None}
 use Rattle.clap.specs.Words.{Text}
 use Rattle.p3l_io.specs.Content.{Held}
@@ -24,7 +24,7 @@ abbrev pub SaysCosts : Held → Option (List ℕ) → Tree → Costs → Type 0
 SaysCosts held None tree cs = cs ≡ standard_costs tree
 SaysCosts held (Some name) tree cs = (text : List ℕ) × (held name ≡ Some text) × Says tree text (Ok cs)
 
--- ITS COUNTS: where the output had taken some bytes, it has the text of these too in the end
+-- ITS COUNTS: where the output had taken some bytes, it has these and then the text of the best counts
 pub record WritesBest (held : Held) (build : Build) (taken : List ℕ) (new : Option (List ℕ)) : Type 0 where
   pub r : ResolvedTree
   pub program : HasOneProgram held build.program r

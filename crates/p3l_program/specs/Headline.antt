@@ -1,5 +1,5 @@
--- THE FIRST PROMISE ON A PAGE: what `run` writes is what its program means, whatever the schedule. Beside definitions of the libraries
--- below, this file has all that the promise says.
+-- THE FIRST PROMISE ON A PAGE: what `run` writes is what its program means, whatever the schedule. It is stated in the terms of the
+-- libraries below; of this crate it names `Promises`, its premise, and what `World` calls old and new.
 use Rattle.std.specs.Prelude.{◌≡◌, ◌≢◌, ℕ, ℤ, Bool, true, false, List, [], ◌∷◌, ◌++◌, ◌⊎◌, map, take, Ok, Option, Some}
 use Rattle.std.specs.List.{flat_map}
 use Rattle.clap.specs.Words.{Text}
@@ -58,7 +58,7 @@ pub record WritesMeaning (r : ResolvedTree) (bytes written : List ℕ) (k : ℕ)
   pub items_are : (input_of r bytes).items ≡ first ++ later
   pub results : List (List ℤ)
   pub mean : map (outcome_of r) first ≡ map Value results
-  -- Their lines were written, in order; where writing failed or memory ran out, an end of these may be missing.
+  -- Their lines were written, in order. Only where writing failed or memory ran out, the last bytes of these may be missing.
   pub missing : List ℕ
   pub lines : written ++ missing ≡ flat_map item_text results
   pub whole : status.is_end k ≡ true → missing ≡ []
@@ -69,11 +69,11 @@ pub record WritesMeaning (r : ResolvedTree) (bytes written : List ℕ) (k : ℕ)
   pub too_long : k ≡ status.too_long → first ≡ (items_taken (node_at r.tree 0).ins stop.Limit (take input_limit bytes)).items
   pub trap : k ≡ status.trap → TrapsFirst (outcome_of r) later
 
--- ITS RUN: where the output had taken some bytes, it has these in the end
+-- ITS RUN: where the output had taken some bytes, it has these after a run of status k
 pub record IsMeant (held : Held) (name bytes taken : List ℕ) (new : Option (List ℕ)) (k : ℕ) : Type 0 where
   pub written : List ℕ
   pub new_is : new ≡ Some (taken ++ written)
-  -- What was written is the program's, and it is nothing at most where no run came to an end.
+  -- The file has a program, and its meaning was written; or no run came to an end, and nothing was written.
   pub means : ((r : ResolvedTree) × HasOneProgram held name r × WritesMeaning r bytes written k) ⊎ ((written ≡ []) × (status.is_end k ≡ false))
   pub refused : status.is_refusal k ≡ true → written ≡ []
 
@@ -85,8 +85,8 @@ EveryRunMeansItsProgram =
     (held : Held) (bytes taken : List ℕ) → w.files.old ≡ Some held → w.input.old ≡ Some bytes → w.out.old ≡ Some taken →
     IsMeant held build.program bytes taken w.out.new k
 
--- SO RESULTS DON'T DEPEND ON THE SCHEDULE: a run of status 0 wrote what any run of the file's program on this input begins to write, and
--- with status 0 too writes, under any other schedule, capacity, costs and number of processors
+-- SO RESULTS DON'T DEPEND ON THE SCHEDULE: whatever any run of a file's program on an input writes begins what a run of status 0 writes,
+-- and is all of it with status 0, under any schedules, capacities, costs and numbers of processors
 abbrev pub EveryScheduleWritesTheSame : Type 0
 EveryScheduleWritesTheSame =
     (held : Held) (name bytes taken others : List ℕ) (new other : Option (List ℕ)) (k : ℕ) →

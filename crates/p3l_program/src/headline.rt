@@ -12,8 +12,8 @@ pub fn every_run_means_its_program()
     one_command_at_most();
 }
 
-/// Results don't depend on the schedule: whatever a run of a program on an input writes begins what a
-/// run of status 0 writes, and is all of it with status 0.
+/// Results don't depend on the schedule: whatever any run of a program on an input writes begins what
+/// a run of status 0 writes, and is all of it with status 0.
 pub fn every_schedule_writes_the_same()
     ensures { EveryScheduleWritesTheSame }
 {}
