@@ -29,6 +29,8 @@ mod SaveStateSteps
 mod ProfileSteps
 mod RecheckSteps
 mod ReplaySteps
+mod HeadlineSteps
+mod BestSteps
 mod RestoredSteps
 mod UnbrokenSteps
 mod GenSteps

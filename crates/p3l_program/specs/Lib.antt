@@ -2,6 +2,7 @@ pub mod Advise
 pub mod Alike
 pub mod Answer
 pub mod Behavior
+pub mod Best
 pub mod Certificate
 pub mod Certified
 pub mod Check
@@ -13,6 +14,7 @@ pub mod File
 pub mod Fmt
 pub mod Generated
 pub mod Graph
+pub mod Headline
 pub mod Joined
 pub mod Image
 pub mod Load

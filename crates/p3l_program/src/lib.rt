@@ -4,6 +4,7 @@
 
 pub mod advise;
 pub mod alike;
+pub mod best;
 mod cert;
 pub mod certify;
 pub mod check;
@@ -15,6 +16,7 @@ mod file;
 pub mod fmt;
 pub mod generated;
 pub mod graph;
+pub mod headline;
 mod image;
 mod imaged;
 pub mod joined;
