@@ -1,0 +1,7 @@
+pub mod Channels
+pub mod Modules
+pub mod Nodes
+pub mod Numbered
+pub mod Processes
+pub mod Slices
+pub mod Tables
