@@ -2,6 +2,7 @@
 use Rattle.std.specs.Prelude.{ℕ, List, ◌++◌, codes, slice_index_or}
 use Rattle.std.specs.Fmt.{decimal}
 use Rattle.std.specs.List.{flat_map}
+use Rattle.p3l_export.specs.Lines.{table}
 use Rattle.p3l_export.specs.declared.channels.ChannelRow.{ChannelRow}
 
 -- the row of a channel
@@ -11,7 +12,5 @@ channel_line row =
     ++ (codes ", " ++ (decimal row.tags ++ codes " },\n")))))))
 
 -- the table of the channels
-abbrev pub channels_text : List ChannelRow → List ℕ
-channels_text rows =
-    codes "/* capacity, credits, words, tags */\nstatic const struct channel_row CHANNEL[] = {\n"
-    ++ (flat_map channel_line rows ++ codes "};\n\n")
+unfoldable pub channels_text : List ChannelRow → List ℕ
+channels_text rows = table (codes "capacity, credits, words, tags") (codes "struct channel_row CHANNEL") (flat_map channel_line rows)

@@ -1,4 +1,5 @@
 pub mod Channels
+pub mod Lines
 pub mod Modules
 pub mod Nodes
 pub mod Numbered

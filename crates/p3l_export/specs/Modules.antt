@@ -4,6 +4,7 @@ use Rattle.std.specs.Fmt.{decimal, signed_decimal}
 use Rattle.p3l_skel.specs.declared.tree.ModuleInfo.{ModuleInfo}
 use Rattle.p3l_skel.specs.declared.tree.ModuleKind.{ModuleKind}
 use Rattle.p3l_skel.specs.declared.tree.ModuleKind.TheVariants.{Seq, Comp, Pipe, Farm, Map, Reduce, Loop}
+use Rattle.p3l_export.specs.Lines.{table}
 use Rattle.p3l_export.specs.Numbered.{numbered}
 
 -- the C function of the body of a module with this number, and none where it has no body
@@ -27,13 +28,13 @@ rescue_text None = codes "0, 0"
 rescue_text (Some number) = codes "1, " ++ constant_text number
 
 -- the row of a module: its name, its body, its rescue number
-abbrev pub module_line : ℕ → ModuleInfo → List ℕ
+unfoldable pub module_line : ℕ → ModuleInfo → List ℕ
 module_line number info =
     codes "    { \"" ++ (info.name ++ (codes "\", " ++ (body_name number info.kind ++ (codes ", "
     ++ (rescue_text info.rescue ++ codes " },\n")))))
 
 -- the table of the modules
-abbrev pub modules_text : List ModuleInfo → List ℕ
+unfoldable pub modules_text : List ModuleInfo → List ℕ
 modules_text modules =
-    codes "/* name, body, whether it has a rescue number, the number */\nstatic const struct module_row MODULE[] = {\n"
-    ++ (numbered module_line 0 modules ++ codes "};\n\n")
+    table (codes "name, body, whether it has a rescue number, the number") (codes "struct module_row MODULE")
+    (numbered module_line 0 modules)

@@ -5,6 +5,7 @@ use Rattle.std.specs.List.{flat_map}
 use Rattle.p3l_skel.specs.declared.tree.Form.{Form}
 use Rattle.p3l_skel.specs.declared.tree.Form.TheVariants.{Seq, Comp, Pipe, Farm, Map, Reduce, Loop}
 use Rattle.p3l_skel.specs.declared.tree.Node.{Node}
+use Rattle.p3l_export.specs.Lines.{closed_table, numbers_line, table}
 
 -- how the engine calls a form
 abbrev pub form_name : Form → List ℕ
@@ -62,34 +63,30 @@ form_numbers form =
     decimal (first_number form) ++ (codes ", " ++ (decimal (second_number form) ++ (codes ", "
     ++ (decimal (in_slices form) ++ (codes ", " ++ decimal (out_slices form))))))
 
--- the row of a node: its form and module, its words, how many parts it has, the numbers of its form
-abbrev pub node_line : Node → List ℕ
-node_line node =
+-- the first half of a node's row: its form, its module and its words
+abbrev pub node_words : Node → List ℕ
+node_words node =
     codes "    { " ++ (form_name node.form ++ (codes ", " ++ (decimal node.«module» ++ (codes ", " ++ (decimal node.ins
-    ++ (codes ", " ++ (decimal node.outs ++ (codes ", " ++ (decimal (length node.parts) ++ (codes ", "
-    ++ (form_numbers node.form ++ codes " },\n")))))))))))
+    ++ (codes ", " ++ decimal node.outs))))))
+
+-- the second half: how many parts it has, and the numbers of its form
+abbrev pub node_numbers : Node → List ℕ
+node_numbers node = codes ", " ++ (decimal (length node.parts) ++ (codes ", " ++ (form_numbers node.form ++ codes " },\n")))
+
+-- the row of a node
+unfoldable pub node_line : Node → List ℕ
+node_line node = node_words node ++ node_numbers node
 
 -- the table of the nodes
-abbrev pub nodes_text : List Node → List ℕ
+unfoldable pub nodes_text : List Node → List ℕ
 nodes_text nodes =
-    codes "/* form, module, words in, words out, parts, two numbers of the form, slices in, slices out */\nstatic const struct node_row NODE[] = {\n"
-    ++ (flat_map node_line nodes ++ codes "};\n\n")
-
--- a number of a list
-abbrev pub number_item : ℕ → List ℕ
-number_item number = codes " " ++ (decimal number ++ codes ",")
-
--- numbers on a line of their own, and no line where there are none
-abbrev pub numbers_line : List ℕ → List ℕ
-numbers_line [] = []
-numbers_line (n ∷ ns) = codes "   " ++ (flat_map number_item (n ∷ ns) ++ codes "\n")
+    table (codes "form, module, words in, words out, parts, two numbers of the form, slices in, slices out")
+    (codes "struct node_row NODE") (flat_map node_line nodes)
 
 -- the parts of a node
 abbrev pub parts_line : Node → List ℕ
 parts_line node = numbers_line node.parts
 
--- the parts of all nodes, node by node
-abbrev pub parts_text : List Node → List ℕ
-parts_text nodes =
-    codes "/* the parts of the nodes, node by node */\nstatic const int32_t PART[] = {\n"
-    ++ (flat_map parts_line nodes ++ codes "    -1\n};\n\n")
+-- the parts of all nodes
+unfoldable pub parts_text : List Node → List ℕ
+parts_text nodes = closed_table (codes "the parts of the nodes, node by node") (codes "int32_t PART") (flat_map parts_line nodes) (codes "-1")

@@ -5,7 +5,7 @@ use Rattle.std.specs.List.{flat_map}
 use Rattle.p3l_firing.specs.declared.process.Proc.{Proc}
 use Rattle.p3l_firing.specs.declared.process.ProcKind.{ProcKind}
 use Rattle.p3l_firing.specs.declared.process.ProcKind.TheVariants.{Source, Sink, Run, Emit, Collect, Scatter, Gather, Split, FoldGather, Join, Head, Tail}
-use Rattle.p3l_export.specs.Nodes.{number_item}
+use Rattle.p3l_export.specs.Lines.{closed_table, number_item, table}
 use Rattle.p3l_export.specs.Numbered.{numbered}
 
 -- how the engine calls a kind of process
@@ -23,26 +23,34 @@ kind_name Join = codes "KIND_JOIN"
 kind_name Head = codes "KIND_HEAD"
 kind_name Tail = codes "KIND_TAIL"
 
--- the row of a process: its kind, its node and its argument, how many channels it reads and writes, and its load
-abbrev pub process_line : List ℕ → ℕ → Proc → List ℕ
-process_line loads number process =
-    codes "    { " ++ (kind_name process.kind ++ (codes ", " ++ (decimal process.node ++ (codes ", " ++ (decimal process.arg
-    ++ (codes ", " ++ (decimal (length process.ins) ++ (codes ", " ++ (decimal (length process.outs) ++ (codes ", "
-    ++ (decimal (slice_index loads number) ++ codes " },\n")))))))))))
+-- the first half of a process's row: its kind, its node and its argument
+abbrev pub process_words : Proc → List ℕ
+process_words process =
+    codes "    { " ++ (kind_name process.kind ++ (codes ", " ++ (decimal process.node ++ (codes ", " ++ decimal process.arg))))
 
--- the table of the processes, where the load of each is known
-abbrev pub processes_text : List ℕ → List Proc → List ℕ
+-- the second half: how many channels it reads and writes, and its load
+abbrev pub process_numbers : Proc → ℕ → List ℕ
+process_numbers process load =
+    codes ", " ++ (decimal (length process.ins) ++ (codes ", " ++ (decimal (length process.outs) ++ (codes ", "
+    ++ (decimal load ++ codes " },\n")))))
+
+-- the row of a process, where the load of each is known
+unfoldable pub process_line : List ℕ → ℕ → Proc → List ℕ
+process_line loads number process = process_words process ++ process_numbers process (slice_index loads number)
+
+-- the table of the processes
+unfoldable pub processes_text : List ℕ → List Proc → List ℕ
 processes_text loads procs =
-    codes "/* kind, node, argument, channels in, channels out, load */\nstatic const struct process_row PROCESS[] = {\n"
-    ++ (numbered (process_line loads) 0 procs ++ codes "};\n\n")
+    table (codes "kind, node, argument, channels in, channels out, load") (codes "struct process_row PROCESS")
+    (numbered (process_line loads) 0 procs)
 
 -- the channels of a process: those that it reads, then those that it writes
-abbrev pub ends_line : Proc → List ℕ
+unfoldable pub ends_line : Proc → List ℕ
 ends_line process =
     codes "   " ++ (flat_map number_item process.ins ++ (flat_map number_item process.outs ++ codes "\n"))
 
--- the channels of all processes, process by process
-abbrev pub ends_text : List Proc → List ℕ
+-- the channels of all processes
+unfoldable pub ends_text : List Proc → List ℕ
 ends_text procs =
-    codes "/* the channels of the processes: those that each reads, then those that it writes */\nstatic const int32_t END[] = {\n"
-    ++ (flat_map ends_line procs ++ codes "    -1\n};\n\n")
+    closed_table (codes "the channels of the processes: those that each reads, then those that it writes") (codes "int32_t END")
+    (flat_map ends_line procs) (codes "-1")

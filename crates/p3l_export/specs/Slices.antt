@@ -9,6 +9,7 @@ use Rattle.p3l_base.specs.declared.slice.Slice.{Slice}
 use Rattle.p3l_skel.specs.declared.tree.Form.{Form}
 use Rattle.p3l_skel.specs.declared.tree.Form.TheVariants.{Seq, Comp, Pipe, Farm, Map, Reduce, Loop}
 use Rattle.p3l_skel.specs.declared.tree.Node.{Node}
+use Rattle.p3l_export.specs.Lines.{closed_table}
 
 -- how the engine calls a place
 abbrev pub place_name : Place → List ℕ
@@ -46,14 +47,14 @@ node_slices node = form_slices slice_line node.form
 abbrev pub node_dims : Node → List ℕ
 node_dims node = form_slices dims_lines node.form
 
--- the table of the slices, node by node
-abbrev pub slices_text : List Node → List ℕ
+-- the table of the slices
+unfoldable pub slices_text : List Node → List ℕ
 slices_text nodes =
-    codes "/* first word, dimensions: of the slices of each map, in and then out */\nstatic const struct slice_row SLICE[] = {\n"
-    ++ (flat_map node_slices nodes ++ codes "    { 0, 0 }\n};\n\n")
+    closed_table (codes "first word, dimensions: of the slices of each map, in and then out") (codes "struct slice_row SLICE")
+    (flat_map node_slices nodes) (codes "{ 0, 0 }")
 
--- the table of their dimensions, slice by slice
-abbrev pub dims_text : List Node → List ℕ
+-- the table of their dimensions
+unfoldable pub dims_text : List Node → List ℕ
 dims_text nodes =
-    codes "/* size, place: of the dimensions of each slice */\nstatic const struct dim_row DIM[] = {\n"
-    ++ (flat_map node_dims nodes ++ codes "    { 0, PLACE_REST }\n};\n\n")
+    closed_table (codes "size, place: of the dimensions of each slice") (codes "struct dim_row DIM") (flat_map node_dims nodes)
+    (codes "{ 0, PLACE_REST }")

@@ -5,7 +5,7 @@ ghost use Rattle.std.specs.List.{flat_map};
 ghost use Rattle.p3l_base.specs.Memory.{OnGiven};
 ghost use Rattle.p3l_export.specs.Channels.{channel_line, channels_text};
 
-use crate::lines::put;
+use crate::lines::{put, put_table};
 use p3l_base::NoMemory;
 use std::alloc::Global;
 
@@ -42,6 +42,7 @@ fn put_rows(alloc: Global, text: &mut Vec<u8>, rows: &[ChannelRow]) -> Result<()
 }
 
 /// Puts the table of the channels after a text.
+#[tactic(auto, unfolding(crate::specs::Channels::channels_text))]
 pub(crate) fn put_channels(
     alloc: Global,
     text: &mut Vec<u8>,
@@ -49,10 +50,13 @@ pub(crate) fn put_channels(
 ) -> Result<(), NoMemory>
     ensures { OnGiven result (text.new.items ≡ text.old.items ++ channels_text rows.now) }
 {
-    put(
+    let mut lines = Vec::new(alloc);
+    put_rows(alloc, &mut lines, rows)?;
+    put_table(
+        alloc,
         text,
-        "/* capacity, credits, words, tags */\nstatic const struct channel_row CHANNEL[] = {\n",
-    )?;
-    put_rows(alloc, text, rows)?;
-    put(text, "};\n\n")
+        "capacity, credits, words, tags",
+        "struct channel_row CHANNEL",
+        lines.as_slice(),
+    )
 }

@@ -5,7 +5,7 @@ ghost use Rattle.p3l_base.specs.Memory.{IfGiven, OnGiven};
 ghost use Rattle.p3l_export.specs.Modules.{body_name, constant_text, module_line, modules_text, rescue_text};
 ghost use Rattle.p3l_export.specs.Numbered.{numbered};
 
-use crate::lines::put;
+use crate::lines::{put, put_table};
 use p3l_base::NoMemory;
 use p3l_skel::{ModuleInfo, ModuleKind};
 use std::alloc::Global;
@@ -53,6 +53,7 @@ fn rescue_text(alloc: Global, rescue: Option<i64>) -> Result<String, NoMemory>
 }
 
 /// Puts the row of a module after a text.
+#[tactic(auto, unfolding(crate::specs::Modules::module_line))]
 fn put_module(
     alloc: Global,
     text: &mut Vec<u8>,
@@ -80,6 +81,7 @@ fn put_rows(alloc: Global, text: &mut Vec<u8>, modules: &[ModuleInfo]) -> Result
 }
 
 /// Puts the table of the modules after a text.
+#[tactic(auto, unfolding(crate::specs::Modules::modules_text))]
 pub(crate) fn put_modules(
     alloc: Global,
     text: &mut Vec<u8>,
@@ -87,10 +89,13 @@ pub(crate) fn put_modules(
 ) -> Result<(), NoMemory>
     ensures { OnGiven result (text.new.items ≡ text.old.items ++ modules_text modules.now) }
 {
-    put(
+    let mut rows = Vec::new(alloc);
+    put_rows(alloc, &mut rows, modules)?;
+    put_table(
+        alloc,
         text,
-        "/* name, body, whether it has a rescue number, the number */\nstatic const struct module_row MODULE[] = {\n",
-    )?;
-    put_rows(alloc, text, modules)?;
-    put(text, "};\n\n")
+        "name, body, whether it has a rescue number, the number",
+        "struct module_row MODULE",
+        rows.as_slice(),
+    )
 }

@@ -3,9 +3,9 @@
 ghost use Rattle.std.specs.Prelude.{◌≡◌, ◌++◌, string_bytes};
 ghost use Rattle.std.specs.List.{flat_map};
 ghost use Rattle.p3l_base.specs.Memory.{IfGiven, OnGiven};
-ghost use Rattle.p3l_export.specs.Nodes.{first_number, form_name, form_numbers, in_slices, node_line, nodes_text, out_slices, parts_line, parts_text, second_number};
+ghost use Rattle.p3l_export.specs.Nodes.{first_number, form_name, form_numbers, in_slices, node_line, node_numbers, node_words, nodes_text, out_slices, parts_line, parts_text, second_number};
 
-use crate::lines::{put, put_line};
+use crate::lines::{put, put_closed_table, put_line, put_table};
 use p3l_base::NoMemory;
 use p3l_skel::{Form, Node};
 use std::alloc::Global;
@@ -91,20 +91,35 @@ fn form_numbers(alloc: Global, form: &Form) -> Result<String, NoMemory>
     Ok(text)
 }
 
-/// Puts the row of a node after a text.
-fn put_node(alloc: Global, text: &mut Vec<u8>, node: &Node) -> Result<(), NoMemory>
-    ensures { OnGiven result (text.new.items ≡ text.old.items ++ node_line node.now) }
+/// Puts the first half of a node's row after a text.
+fn put_words(alloc: Global, text: &mut Vec<u8>, node: &Node) -> Result<(), NoMemory>
+    ensures { OnGiven result (text.new.items ≡ text.old.items ++ node_words node.now) }
 {
     let name = form_name(&node.form);
     let home = node.module;
     let ins = node.ins;
     let outs = node.outs;
+    let words = format!(in alloc; "    {{ {name}, {home}, {ins}, {outs}")?;
+    put(text, words.as_str())
+}
+
+/// Puts the second half of a node's row after a text.
+fn put_form(alloc: Global, text: &mut Vec<u8>, node: &Node) -> Result<(), NoMemory>
+    ensures { OnGiven result (text.new.items ≡ text.old.items ++ node_numbers node.now) }
+{
     let parts = node.parts.len();
     let numbers = form_numbers(alloc, &node.form)?;
-    let words = format!(in alloc;
-        "    {{ {name}, {home}, {ins}, {outs}, {parts}, {numbers} }},\n"
-    )?;
+    let words = format!(in alloc; ", {parts}, {numbers} }},\n")?;
     put(text, words.as_str())
+}
+
+/// Puts the row of a node after a text.
+#[tactic(auto, unfolding(crate::specs::Nodes::node_line))]
+fn put_node(alloc: Global, text: &mut Vec<u8>, node: &Node) -> Result<(), NoMemory>
+    ensures { OnGiven result (text.new.items ≡ text.old.items ++ node_line node.now) }
+{
+    put_words(alloc, text, node)?;
+    put_form(alloc, text, node)
 }
 
 /// Puts the rows of the nodes after a text.
@@ -128,25 +143,34 @@ fn put_all_parts(alloc: Global, text: &mut Vec<u8>, nodes: &[Node]) -> Result<()
 }
 
 /// Puts the table of the nodes after a text.
+#[tactic(auto, unfolding(crate::specs::Nodes::nodes_text))]
 pub(crate) fn put_nodes(alloc: Global, text: &mut Vec<u8>, nodes: &[Node]) -> Result<(), NoMemory>
     ensures { OnGiven result (text.new.items ≡ text.old.items ++ nodes_text nodes.now) }
 {
-    put(
+    let mut rows = Vec::new(alloc);
+    put_rows(alloc, &mut rows, nodes)?;
+    put_table(
+        alloc,
         text,
-        "/* form, module, words in, words out, parts, two numbers of the form, slices in, slices out */\nstatic const struct node_row NODE[] = {\n",
-    )?;
-    put_rows(alloc, text, nodes)?;
-    put(text, "};\n\n")
+        "form, module, words in, words out, parts, two numbers of the form, slices in, slices out",
+        "struct node_row NODE",
+        rows.as_slice(),
+    )
 }
 
 /// Puts the list of the nodes' parts after a text.
+#[tactic(auto, unfolding(crate::specs::Nodes::parts_text))]
 pub(crate) fn put_parts(alloc: Global, text: &mut Vec<u8>, nodes: &[Node]) -> Result<(), NoMemory>
     ensures { OnGiven result (text.new.items ≡ text.old.items ++ parts_text nodes.now) }
 {
-    put(
+    let mut rows = Vec::new(alloc);
+    put_all_parts(alloc, &mut rows, nodes)?;
+    put_closed_table(
+        alloc,
         text,
-        "/* the parts of the nodes, node by node */\nstatic const int32_t PART[] = {\n",
-    )?;
-    put_all_parts(alloc, text, nodes)?;
-    put(text, "    -1\n};\n\n")
+        "the parts of the nodes, node by node",
+        "int32_t PART",
+        rows.as_slice(),
+        "-1",
+    )
 }

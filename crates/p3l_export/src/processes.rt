@@ -4,9 +4,9 @@ ghost use Rattle.std.specs.Prelude.{◌≡◌, ◌++◌, slice_index};
 ghost use Rattle.std.specs.List.{flat_map};
 ghost use Rattle.p3l_base.specs.Memory.{OnGiven};
 ghost use Rattle.p3l_export.specs.Numbered.{numbered};
-ghost use Rattle.p3l_export.specs.Processes.{ends_line, ends_text, kind_name, process_line, processes_text};
+ghost use Rattle.p3l_export.specs.Processes.{ends_line, ends_text, kind_name, process_line, process_numbers, process_words, processes_text};
 
-use crate::lines::{put, put_numbers};
+use crate::lines::{put, put_closed_table, put_numbers, put_table};
 use p3l_base::NoMemory;
 use p3l_firing::{Proc, ProcKind};
 use std::alloc::Global;
@@ -38,7 +38,30 @@ fn load_at(loads: &[u64], number: usize) -> u64
     loads.get(number).copied().unwrap_or(0)
 }
 
+/// Puts the first half of a process's row after a text.
+fn put_words(alloc: Global, text: &mut Vec<u8>, process: &Proc) -> Result<(), NoMemory>
+    ensures { OnGiven result (text.new.items ≡ text.old.items ++ process_words process.now) }
+{
+    let kind = kind_name(process.kind);
+    let node = process.node;
+    let arg = process.arg;
+    let words = format!(in alloc; "    {{ {kind}, {node}, {arg}")?;
+    put(text, words.as_str())
+}
+
+/// Puts the second half of a process's row after a text.
+fn put_load(alloc: Global, text: &mut Vec<u8>, process: &Proc, load: u64) -> Result<(), NoMemory>
+    ensures { OnGiven result (text.new.items
+        ≡ text.old.items ++ process_numbers process.now load) }
+{
+    let ins = process.ins.len();
+    let outs = process.outs.len();
+    let words = format!(in alloc; ", {ins}, {outs}, {load} }},\n")?;
+    put(text, words.as_str())
+}
+
 /// Puts the row of a process after a text.
+#[tactic(auto, unfolding(crate::specs::Processes::process_line))]
 fn put_process(
     alloc: Global,
     text: &mut Vec<u8>,
@@ -49,14 +72,8 @@ fn put_process(
     ensures { OnGiven result (text.new.items
         ≡ text.old.items ++ process_line loads.now number process.now) }
 {
-    let kind = kind_name(process.kind);
-    let node = process.node;
-    let arg = process.arg;
-    let ins = process.ins.len();
-    let outs = process.outs.len();
-    let load = load_at(loads, number);
-    let words = format!(in alloc; "    {{ {kind}, {node}, {arg}, {ins}, {outs}, {load} }},\n")?;
-    put(text, words.as_str())
+    put_words(alloc, text, process)?;
+    put_load(alloc, text, process, load_at(loads, number))
 }
 
 /// Puts the rows of the processes after a text.
@@ -76,6 +93,7 @@ fn put_rows(
 }
 
 /// Puts the channels of a process after a text.
+#[tactic(auto, unfolding(crate::specs::Processes::ends_line))]
 fn put_ends_of(alloc: Global, text: &mut Vec<u8>, process: &Proc) -> Result<(), NoMemory>
     ensures { OnGiven result (text.new.items ≡ text.old.items ++ ends_line process.now) }
 {
@@ -96,31 +114,39 @@ fn put_all_ends(alloc: Global, text: &mut Vec<u8>, procs: &[Proc]) -> Result<(),
 }
 
 /// Puts the table of the processes after a text.
+#[tactic(auto, unfolding(crate::specs::Processes::processes_text))]
 pub(crate) fn put_processes(
     alloc: Global,
     text: &mut Vec<u8>,
     loads: &[u64],
     procs: &[Proc],
 ) -> Result<(), NoMemory>
-    ensures { OnGiven result (text.new.items
-        ≡ text.old.items ++ processes_text loads.now procs.now) }
+    ensures { OnGiven result (text.new.items ≡ text.old.items ++ processes_text loads.now procs.now) }
 {
-    put(
+    let mut rows = Vec::new(alloc);
+    put_rows(alloc, &mut rows, loads, procs)?;
+    put_table(
+        alloc,
         text,
-        "/* kind, node, argument, channels in, channels out, load */\nstatic const struct process_row PROCESS[] = {\n",
-    )?;
-    put_rows(alloc, text, loads, procs)?;
-    put(text, "};\n\n")
+        "kind, node, argument, channels in, channels out, load",
+        "struct process_row PROCESS",
+        rows.as_slice(),
+    )
 }
 
 /// Puts the list of the processes' channels after a text.
+#[tactic(auto, unfolding(crate::specs::Processes::ends_text))]
 pub(crate) fn put_ends(alloc: Global, text: &mut Vec<u8>, procs: &[Proc]) -> Result<(), NoMemory>
     ensures { OnGiven result (text.new.items ≡ text.old.items ++ ends_text procs.now) }
 {
-    put(
+    let mut rows = Vec::new(alloc);
+    put_all_ends(alloc, &mut rows, procs)?;
+    put_closed_table(
+        alloc,
         text,
-        "/* the channels of the processes: those that each reads, then those that it writes */\nstatic const int32_t END[] = {\n",
-    )?;
-    put_all_ends(alloc, text, procs)?;
-    put(text, "    -1\n};\n\n")
+        "the channels of the processes: those that each reads, then those that it writes",
+        "int32_t END",
+        rows.as_slice(),
+        "-1",
+    )
 }

@@ -5,7 +5,7 @@ ghost use Rattle.std.specs.List.{flat_map};
 ghost use Rattle.p3l_base.specs.Memory.{OnGiven};
 ghost use Rattle.p3l_export.specs.Slices.{dim_line, dims_lines, dims_text, node_dims, node_slices, place_name, slice_line, slices_text};
 
-use crate::lines::put;
+use crate::lines::{put, put_closed_table};
 use p3l_base::{Dim, NoMemory, Place, Slice};
 use p3l_skel::{Form, Node};
 use std::alloc::Global;
@@ -128,25 +128,35 @@ fn put_all_dims(alloc: Global, text: &mut Vec<u8>, nodes: &[Node]) -> Result<(),
 }
 
 /// Puts the table of the slices after a text.
+#[tactic(auto, unfolding(crate::specs::Slices::slices_text))]
 pub(crate) fn put_slices(alloc: Global, text: &mut Vec<u8>, nodes: &[Node]) -> Result<(), NoMemory>
     ensures { OnGiven result (text.new.items ≡ text.old.items ++ slices_text nodes.now) }
 {
-    put(
+    let mut rows = Vec::new(alloc);
+    put_all_slices(alloc, &mut rows, nodes)?;
+    put_closed_table(
+        alloc,
         text,
-        "/* first word, dimensions: of the slices of each map, in and then out */\nstatic const struct slice_row SLICE[] = {\n",
-    )?;
-    put_all_slices(alloc, text, nodes)?;
-    put(text, "    { 0, 0 }\n};\n\n")
+        "first word, dimensions: of the slices of each map, in and then out",
+        "struct slice_row SLICE",
+        rows.as_slice(),
+        "{ 0, 0 }",
+    )
 }
 
 /// Puts the table of the dimensions of the slices after a text.
+#[tactic(auto, unfolding(crate::specs::Slices::dims_text))]
 pub(crate) fn put_dims(alloc: Global, text: &mut Vec<u8>, nodes: &[Node]) -> Result<(), NoMemory>
     ensures { OnGiven result (text.new.items ≡ text.old.items ++ dims_text nodes.now) }
 {
-    put(
+    let mut rows = Vec::new(alloc);
+    put_all_dims(alloc, &mut rows, nodes)?;
+    put_closed_table(
+        alloc,
         text,
-        "/* size, place: of the dimensions of each slice */\nstatic const struct dim_row DIM[] = {\n",
-    )?;
-    put_all_dims(alloc, text, nodes)?;
-    put(text, "    { 0, PLACE_REST }\n};\n\n")
+        "size, place: of the dimensions of each slice",
+        "struct dim_row DIM",
+        rows.as_slice(),
+        "{ 0, PLACE_REST }",
+    )
 }

@@ -16,6 +16,7 @@ use p3l_skel::Tree;
 use std::alloc::Global;
 
 /// Puts after a text how many rows the tables have.
+#[tactic(auto, unfolding(crate::specs::Tables::counts_text))]
 fn put_counts(
     alloc: Global,
     text: &mut Vec<u8>,
@@ -34,6 +35,7 @@ fn put_counts(
 }
 
 /// Puts the tables of a tree after a text.
+#[tactic(auto, unfolding(crate::specs::Tables::tree_text))]
 fn put_tree(alloc: Global, text: &mut Vec<u8>, tree: &Tree) -> Result<(), NoMemory>
     ensures { OnGiven result (text.new.items ≡ text.old.items ++ tree_text tree.now) }
 {
@@ -46,6 +48,7 @@ fn put_tree(alloc: Global, text: &mut Vec<u8>, tree: &Tree) -> Result<(), NoMemo
 }
 
 /// Puts the tables of a net after a text.
+#[tactic(auto, unfolding(crate::specs::Tables::net_text))]
 fn put_net(
     alloc: Global,
     text: &mut Vec<u8>,
@@ -63,6 +66,7 @@ fn put_net(
 
 /// Puts the tables of a program after a text: of its tree, of its processes with the load of each,
 /// and of its channels.
+#[tactic(auto, unfolding(crate::specs::Tables::tables_text))]
 pub fn put_tables(
     alloc: Global,
     text: &mut Vec<u8>,

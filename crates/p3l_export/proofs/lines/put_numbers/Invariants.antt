@@ -1,6 +1,6 @@
 use Rattle.std.proofs.Common.{◌≡◌, ◌++◌, drop}
 use Rattle.std.specs.List.{flat_map}
-use Rattle.p3l_export.specs.Nodes.{number_item}
+use Rattle.p3l_export.specs.Lines.{number_item}
 use Rattle.p3l_export.proofs.lines.put_numbers.Given as goal
 
 -- the text so far, with what is left
