@@ -1,1 +1,2 @@
 mod NumberedSteps
+mod RateSteps

@@ -4,5 +4,6 @@ pub mod Modules
 pub mod Nodes
 pub mod Numbered
 pub mod Processes
+pub mod Rates
 pub mod Slices
 pub mod Tables

@@ -7,8 +7,8 @@ mod lines;
 mod modules;
 mod nodes;
 mod processes;
+mod rates;
 mod slices;
 pub mod tables;
 
 pub use channels::ChannelRow;
-pub use tables::put_tables;

@@ -1,0 +1,27 @@
+use Rattle.std.proofs.Common.{◌≡◌, ℕ, ◌-◌, ◌<◌, List, [], ◌∷◌, ◌++◌, sym, ap, ◌∙◌, arith, append_assoc}
+use Rattle.std.specs.List.{flat_map}
+use Rattle.std.proofs.lemmas.List.{append-nil}
+use Rattle.p3l_skel.specs.Counts.{count_of}
+use Rattle.p3l_export.specs.Rates.{rates_from}
+use Rattle.p3l_export.proofs.RateSteps.{rates_none, rates_some}
+use Rattle.p3l_export.proofs.rates.+rating.Goals as goal
+
+pub push_rates-returns-then-levels-eq0 : goal.push_rates-returns-then-levels-eq0
+push_rates-returns-then-levels-eq0 t c =
+    rw (rates_none c.args.tree.now c.args.costs.now (count_of c.args.tree.now c.args.counts.now.list) c.args.levels c.args.rate
+    c.args.number c.if-levels-eq0.true)
+    (sym (append-nil c.args.rates.now.items))
+
+pub push_rates-returns : goal.push_rates-returns
+push_rates-returns t c =
+    let count = count_of c.args.tree.now c.args.counts.now.list in
+    let some : 0 < c.args.levels = omega (arith, c.if-levels-eq0.false) in
+    let rest : List ℕ =
+    flat_map (rates_from c.args.tree.now c.args.costs.now count (c.args.levels - 1) c.rate_inside-inside.result) c.parts_of-parts.result.now in
+    rw (
+      rates_some c.args.tree.now c.args.costs.now count c.args.levels c.args.rate c.args.number some,
+      ← c.rate_inside-inside.ensures,
+      ← c.parts_of-parts.ensures,
+    )
+    (c.in_ok-push_parts.ensures ∙ ap (λ (xs : List ℕ). xs ++ rest) c.in_ok-push.ensures.items
+    ∙ append_assoc c.args.rates.now.items (c.args.rate ∷ []) rest)
