@@ -30,7 +30,7 @@ def module_text():
     ]
     for name, file, about in PARTS:
         text = (ROOT / "engine" / file).read_text(encoding="utf-8")
-        lines += [f"/// {about}", f"pub const {name}: &str = {literal(text)};", ""]
+        lines += [f"/// {about}", f"pub const {name}: &str =\n    {literal(text)};", ""]
     return "\n".join(lines[:-1]) + "\n"
 
 

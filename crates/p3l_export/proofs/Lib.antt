@@ -1,2 +1,4 @@
+mod LoadSteps
 mod NumberedSteps
+mod PlacedSteps
 mod RateSteps

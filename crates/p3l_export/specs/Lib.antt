@@ -1,5 +1,8 @@
+pub mod Capacity
 pub mod Channels
+pub mod File
 pub mod Lines
+pub mod Loads
 pub mod Modules
 pub mod Nodes
 pub mod Numbered

@@ -2,8 +2,12 @@
 //! two parts of an engine that runs them.
 #![tactic(auto)]
 
+mod capacity;
 pub mod channels;
+pub mod engine;
+pub mod file;
 mod lines;
+mod loads;
 mod modules;
 mod nodes;
 mod processes;
@@ -12,3 +16,5 @@ mod slices;
 pub mod tables;
 
 pub use channels::ChannelRow;
+pub use engine::{ENGINE, HEAD};
+pub use file::export_text;
