@@ -1,5 +1,5 @@
 -- Rates, a level at a time.
-use Rattle.std.proofs.Common.{◌≡◌, ◌<◌, ℕ, zero, suc, ◌-◌, List, [], ◌∷◌, refl, arith}
+use Rattle.std.proofs.Common.{◌≡◌, ◌<◌, ℕ, zero, suc, ◌-◌, List, [], ◌∷◌, ◌++◌, refl, ap, ◌∙◌, arith, append_assoc}
 use Rattle.std.specs.List.{flat_map}
 use Rattle.p3l_skel.specs.declared.tree.Tree.{Tree}
 use Rattle.p3l_skel.specs.Tree.{node_at}
@@ -19,3 +19,7 @@ pub rates_some : (tree : Tree) (costs : Costs) (count : ℕ → ℕ) (d rate k :
 unfolding rates_from
 rates_some tree costs count zero rate k some = absurd (omega arith)
 rates_some tree costs count (suc d) rate k some = let e : suc d - 1 ≡ d = omega arith in rw e refl
+
+-- a number that is put after others, with more behind it
+pub one_more : (xs ys rest : List ℕ) (n : ℕ) → ys ≡ xs ++ n ∷ [] → ys ++ rest ≡ xs ++ n ∷ rest
+one_more xs ys rest n more = ap (λ (zs : List ℕ). zs ++ rest) more ∙ append_assoc xs (n ∷ []) rest

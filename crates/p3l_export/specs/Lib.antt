@@ -1,6 +1,8 @@
 pub mod Capacity
 pub mod Channels
+pub mod Export
 pub mod File
+pub mod Laws
 pub mod Lines
 pub mod Loads
 pub mod Modules

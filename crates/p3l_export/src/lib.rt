@@ -5,7 +5,9 @@
 mod capacity;
 pub mod channels;
 pub mod engine;
+pub mod export;
 pub mod file;
+pub mod laws;
 mod lines;
 mod loads;
 mod modules;
@@ -17,4 +19,5 @@ pub mod tables;
 
 pub use channels::ChannelRow;
 pub use engine::{ENGINE, HEAD};
+pub use export::export_program;
 pub use file::export_text;

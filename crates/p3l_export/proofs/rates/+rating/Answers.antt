@@ -3,7 +3,7 @@ use Rattle.std.specs.List.{flat_map}
 use Rattle.std.proofs.lemmas.List.{append-nil}
 use Rattle.p3l_skel.specs.Counts.{count_of}
 use Rattle.p3l_export.specs.Rates.{rates_from}
-use Rattle.p3l_export.proofs.RateSteps.{rates_none, rates_some}
+use Rattle.p3l_export.proofs.RateSteps.{one_more, rates_none, rates_some}
 use Rattle.p3l_export.proofs.rates.+rating.Goals as goal
 
 pub push_rates-returns-then-levels-eq0 : goal.push_rates-returns-then-levels-eq0
@@ -23,5 +23,4 @@ push_rates-returns t c =
       ← c.rate_inside-inside.ensures,
       ← c.parts_of-parts.ensures,
     )
-    (c.in_ok-push_parts.ensures ∙ ap (λ (xs : List ℕ). xs ++ rest) c.in_ok-push.ensures.items
-    ∙ append_assoc c.args.rates.now.items (c.args.rate ∷ []) rest)
+    (c.in_ok-push_parts.ensures ∙ one_more c.args.rates.now.items c.push.new.self.items rest c.args.rate c.in_ok-push.ensures.items)
