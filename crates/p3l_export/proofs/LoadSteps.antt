@@ -1,5 +1,5 @@
 -- Numbers, as far as they count.
-use Rattle.std.proofs.Common.{◌≡◌, ℕ, min, arith}
+use Rattle.std.proofs.Common.{◌≡◌, ℕ, arith}
 use Rattle.p3l_model.specs.NodeCost.{timed}
 use Rattle.p3l_export.specs.Rates.{capped}
 

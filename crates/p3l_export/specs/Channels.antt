@@ -1,5 +1,5 @@
 -- The table of the channels.
-use Rattle.std.specs.Prelude.{ℕ, List, ◌++◌, codes, slice_index_or}
+use Rattle.std.specs.Prelude.{ℕ, List, ◌++◌, codes}
 use Rattle.std.specs.Fmt.{decimal}
 use Rattle.std.specs.List.{flat_map}
 use Rattle.p3l_export.specs.Lines.{table}

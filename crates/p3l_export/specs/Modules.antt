@@ -1,5 +1,5 @@
 -- The table of the modules.
-use Rattle.std.specs.Prelude.{ℕ, ℤ, List, [], ◌++◌, codes, Option, None, Some, if◌then◌else◌, int_lt, neg_ℤ, pos, ◌^◌, negsuc, ◌-◌}
+use Rattle.std.specs.Prelude.{ℕ, ℤ, List, ◌++◌, codes, Option, None, Some, if◌then◌else◌, int_lt, negsuc}
 use Rattle.std.specs.Fmt.{decimal, signed_decimal}
 use Rattle.p3l_skel.specs.declared.tree.ModuleInfo.{ModuleInfo}
 use Rattle.p3l_skel.specs.declared.tree.ModuleKind.{ModuleKind}

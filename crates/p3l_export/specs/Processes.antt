@@ -1,5 +1,5 @@
 -- The tables of the processes and of their channels.
-use Rattle.std.specs.Prelude.{ℕ, List, [], ◌++◌, codes, length, slice_index}
+use Rattle.std.specs.Prelude.{ℕ, List, ◌++◌, codes, length, slice_index}
 use Rattle.std.specs.Fmt.{decimal}
 use Rattle.std.specs.List.{flat_map}
 use Rattle.p3l_firing.specs.declared.process.Proc.{Proc}

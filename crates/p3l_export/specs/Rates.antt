@@ -1,5 +1,5 @@
 -- How many tokens go through each node for one item of the stream, as far as the model knows.
-use Rattle.std.specs.Prelude.{ℕ, zero, suc, ◌*◌, List, [], ◌∷◌, min, max, slice_index}
+use Rattle.std.specs.Prelude.{ℕ, zero, suc, ◌*◌, List, [], ◌∷◌, min, max}
 use Rattle.std.specs.Int.{div_ceil}
 use Rattle.std.specs.List.{flat_map}
 use Rattle.p3l_base.specs.Cut.{element_count}

@@ -1,5 +1,5 @@
 -- The tables of the slices of maps and of their dimensions.
-use Rattle.std.specs.Prelude.{ℕ, List, [], ◌∷◌, ◌++◌, codes, length}
+use Rattle.std.specs.Prelude.{ℕ, List, [], ◌++◌, codes, length}
 use Rattle.std.specs.Fmt.{decimal}
 use Rattle.std.specs.List.{flat_map}
 use Rattle.p3l_base.specs.declared.slice.Dim.{Dim}

@@ -1,4 +1,4 @@
-use Rattle.std.proofs.Common.{◌≡◌, ℕ, ◌+◌, ◌<◌, ◌≤◌, List, [], ◌∷◌, ◌++◌, drop, get_or, length, subst, sym, ap, ◌∙◌}
+use Rattle.std.proofs.Common.{◌+◌, ◌<◌, ◌≤◌, List, [], ◌∷◌, ◌++◌, drop, get_or, length, subst, sym, ap, ◌∙◌}
 use Rattle.p3l_firing.specs.declared.net.Chan.{Chan}
 use Rattle.p3l_export.specs.declared.channels.ChannelRow.{ChannelRow}
 use Rattle.p3l_export.specs.Capacity.{placed, row_of}
