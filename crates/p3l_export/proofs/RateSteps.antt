@@ -13,13 +13,18 @@ rates_none tree costs count zero rate k none = refl
 rates_none tree costs count (suc d) rate k none = absurd (omega arith)
 
 -- above it a node has its own, and then come those of its parts
-pub rates_some : (tree : Tree) (costs : Costs) (count : ℕ → ℕ) (d rate k : ℕ) → 0 < d →
+rates_some : (tree : Tree) (costs : Costs) (count : ℕ → ℕ) (d rate k : ℕ) → 0 < d →
     rates_from tree costs count d rate k
     ≡ rate ∷ flat_map (rates_from tree costs count (d - 1) (rate_inside tree costs count rate k)) (node_at tree k).parts
 unfolding rates_from
 rates_some tree costs count zero rate k some = absurd (omega arith)
 rates_some tree costs count (suc d) rate k some = let e : suc d - 1 ≡ d = omega arith in rw e refl
 
--- a number that is put after others, with more behind it
-pub one_more : (xs ys rest : List ℕ) (n : ℕ) → ys ≡ xs ++ n ∷ [] → ys ++ rest ≡ xs ++ n ∷ rest
-one_more xs ys rest n more = ap (λ (zs : List ℕ). zs ++ rest) more ∙ append_assoc xs (n ∷ []) rest
+-- the rates of a node are put after others: its own, and then those of its parts
+pub rates_put : (tree : Tree) (costs : Costs) (count : ℕ → ℕ) (d rate k inside : ℕ) (parts xs ys zs : List ℕ) → 0 < d →
+    inside ≡ rate_inside tree costs count rate k → parts ≡ (node_at tree k).parts → ys ≡ xs ++ rate ∷ [] →
+    zs ≡ ys ++ flat_map (rates_from tree costs count (d - 1) inside) parts → zs ≡ xs ++ rates_from tree costs count d rate k
+rates_put tree costs count d rate k inside parts xs ys zs some at of one more =
+    let rest : List ℕ = flat_map (rates_from tree costs count (d - 1) inside) parts in
+    rw (rates_some tree costs count d rate k some, ← at, ← of)
+    (more ∙ ap (λ (us : List ℕ). us ++ rest) one ∙ append_assoc xs (rate ∷ []) rest)

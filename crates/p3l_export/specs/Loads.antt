@@ -7,13 +7,28 @@ use Rattle.p3l_firing.specs.declared.net.Net.{Net}
 use Rattle.p3l_firing.specs.declared.process.Proc.{Proc}
 use Rattle.p3l_firing.specs.declared.process.ProcKind.{ProcKind}
 use Rattle.p3l_firing.specs.declared.process.ProcKind.TheVariants.{Source, Sink, Run, Emit, Collect, Scatter, Gather, Split, FoldGather, Join, Head, Tail}
-use Rattle.p3l_model.specs.Service.{expected_turns}
+use Rattle.p3l_model.specs.Service.{expected_turns, transfer}
 use Rattle.p3l_timed.specs.Price.{price_of}
 use Rattle.p3l_export.specs.Rates.{capped, elements_of, rates, whole_rate}
 
 -- the price of a process, as far as it counts
 abbrev pub firing_price : Tree → Costs → Proc → ℕ
 firing_price tree costs process = capped (price_of tree costs process)
+
+-- the ticks of a firing of each kind: its price. The source and the sink, which have none, hand a token of the root on or take it
+abbrev pub ticks_row : ProcKind → Tree → Costs → Proc → ℕ
+ticks_row Source tree costs q = capped (transfer costs (node_at tree 0).ins)
+ticks_row Sink tree costs q = capped (transfer costs (node_at tree 0).outs)
+ticks_row Run tree costs q = firing_price tree costs q
+ticks_row Emit tree costs q = firing_price tree costs q
+ticks_row Collect tree costs q = firing_price tree costs q
+ticks_row Scatter tree costs q = firing_price tree costs q
+ticks_row Gather tree costs q = firing_price tree costs q
+ticks_row Split tree costs q = firing_price tree costs q
+ticks_row FoldGather tree costs q = firing_price tree costs q
+ticks_row Join tree costs q = firing_price tree costs q
+ticks_row Head tree costs q = firing_price tree costs q
+ticks_row Tail tree costs q = firing_price tree costs q
 
 -- how often a process of each kind fires for one token of its node
 abbrev pub firings_row : ProcKind → Tree → Costs → Proc → ℕ
@@ -32,7 +47,7 @@ firings_row Tail tree costs q = 1 + expected_turns tree costs q.node
 
 -- the ticks of a process for one token of its node
 abbrev pub token_ticks : Tree → Costs → Proc → ℕ
-token_ticks tree costs q = capped (firing_price tree costs q * firings_row q.kind tree costs q)
+token_ticks tree costs q = capped (ticks_row q.kind tree costs q * firings_row q.kind tree costs q)
 
 -- THE LOAD of a process, where the rates of the nodes are known
 abbrev pub load_of : Tree → Costs → List ℕ → Proc → ℕ

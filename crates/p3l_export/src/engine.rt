@@ -11,27 +11,27 @@ pub const HEAD: &str =
 
 _Static_assert(INT_MAX <= INT64_MAX, \"an int is wider than a word\");
 
-/* A body's function gives 0 where it has filled its out words, and else its trap. */
-enum { P3L_DIV_ZERO = 1, P3L_DIV_OVER, P3L_INDEX, P3L_SHIFT, P3L_BUDGET, P3L_TURNS };
-
 /* Converts modulo 2^64; C leaves the plain conversion of a large number to the compiler. */
 static inline int64_t p3l_signed(uint64_t u)
 {
-    return u <= UINT64_C(9223372036854775807) ? (int64_t)u : (-INT64_C(0) - 1) - (int64_t)(UINT64_C(18446744073709551615) - u);
+    return u <= INT64_MAX ? (int64_t)u : -1 - (int64_t)(UINT64_MAX - u);
 }
 
-/* Shifts right with copies of the sign; C leaves the plain shift of a negative number to the compiler. */
+/* Shifts right with copies of the sign, by 0 to 63 places; C leaves the plain shift of a negative
+ * number to the compiler. */
 static inline int64_t p3l_shr(int64_t x, int64_t k)
 {
-    return x < INT64_C(0) ? (-INT64_C(0) - 1) - (int64_t)((uint64_t)((-INT64_C(0) - 1) - x) >> k) : (int64_t)((uint64_t)x >> k);
+    return x < 0 ? -1 - (int64_t)((uint64_t)(-1 - x) >> k) : (int64_t)((uint64_t)x >> k);
 }
 
 enum { FORM_SEQ, FORM_COMP, FORM_PIPE, FORM_FARM, FORM_MAP, FORM_REDUCE, FORM_LOOP };
-enum { KIND_SOURCE, KIND_SINK, KIND_RUN, KIND_EMIT, KIND_COLLECT, KIND_SCATTER, KIND_GATHER, KIND_SPLIT,
-       KIND_FOLD_GATHER, KIND_JOIN, KIND_HEAD, KIND_TAIL, KINDS };
+enum { KIND_SOURCE, KIND_SINK, KIND_RUN, KIND_EMIT, KIND_COLLECT, KIND_SCATTER, KIND_GATHER,
+       KIND_SPLIT, KIND_FOLD_GATHER, KIND_JOIN, KIND_HEAD, KIND_TAIL, KINDS };
 enum { PLACE_REST, PLACE_FIRST, PLACE_SECOND };
 
-/* A module: its name; the function of its body, if it is a `seq`; and its rescue number, if it has one. */
+/* A module: its name; the function of its body, if it is a `seq`, which gives 0 where it has filled
+ * its out words, and else its trap, 1 + its kind + 8 * the module's number; and its rescue number,
+ * if it has one. */
 struct module_row {
     const char *name;
     int64_t (*body)(const int64_t *restrict in, int64_t *restrict out);
@@ -39,9 +39,10 @@ struct module_row {
     int64_t rescue;
 };
 
-/* A node of the tree: its form, its module, the words of its tokens, how many parts it has, the two numbers of its
- * form, and how many slices. A map's numbers are the sizes of its free indices; a reduce's are its elements and the
- * words of one; a loop's are its turns and its tokens. */
+/* A node of the tree: its form, its module, the words of its tokens, how many parts it has, the
+ * two numbers of its form, and how many slices. A map's numbers are the sizes of its free
+ * indices; a reduce's are its elements and the words of one; a loop's are its turns and its
+ * tokens. */
 struct node_row { int32_t form, module, ins, outs, parts, first, second, in_slices, out_slices; };
 
 /* A slice of a map's token: its first word, and how many dimensions its array has. */
@@ -50,11 +51,12 @@ struct slice_row { int32_t start, dims; };
 /* A dimension of an array: its size, and the free index that runs over it, if one does. */
 struct dim_row { int32_t size, place; };
 
-/* A process: its kind, its node, the elements that it folds, if it folds a segment; how many channels it reads and
- * writes; and its ticks for one item. */
+/* A process: its kind, its node, the elements that it folds, if it folds a segment; how many
+ * channels it reads and writes; and its ticks for one item. */
 struct process_row { int32_t kind, node, arg, ins, outs; int64_t load; };
 
-/* A channel: its capacity, the credits that are in it at first, and the words and the tags of its tokens. */
+/* A channel: its capacity, the credits that are in it at first, and the words and the tags of
+ * its tokens. */
 struct channel_row { int32_t capacity, credits, words, tags; };
 ";
 
@@ -62,45 +64,49 @@ struct channel_row { int32_t capacity, credits, words, tags; };
 pub const ENGINE: &str =
     "/* The engine: it runs the network of the tables above on one rank or several.
  *
- * THE NETWORK.  A process is fired by the row of its kind (docs/MODEL.md, \"Firing\"); each row is one function below.
- * Each process lives on one rank and is fired there only.  A rank is this program itself, a forked copy of it on the
- * same machine, or a process that an MPI launcher started.  Ranks share no memory.
+ * THE NETWORK. A process is fired by the row of its kind (docs/MODEL.md, \"Firing\"); each row is one
+ * function below. Each process lives on one rank and is fired there only. A rank is this program
+ * itself, a forked copy of it on the same machine, or a process that an MPI launcher started. Ranks
+ * share no memory.
  *
- * WIRES.  A channel between two ranks has four parts, which always add up to its capacity (docs/MODEL.md, \"Wires\"):
+ * WIRES. A channel between two ranks has four parts, which always add up to its capacity
+ * (docs/MODEL.md, \"Wires\"):
  *
- *     the model's   here                                                       at the rank of
- *     ring          `count` tokens of `ring`                                   its reader
- *     flight        tokens in the writer's outbox, and in messages             its writer; on their way
- *     credit        `credit`                                                   its writer
- *     back          `back`, and the credits in messages                        its reader; on their way
+ *     the model's   here                                              at the rank of
+ *     ring          `count` tokens of `ring`                          its reader
+ *     flight        tokens in an outbox, and in messages              its writer, or on their way
+ *     credit        `credit`                                          its writer
+ *     back          `back`, and credits in messages                   its reader, or on their way
  *
- * A writer puts a token only where it has credit, and has one less from then on.  A reader gives a place back after
- * it has taken the token out, never when the token arrives.  So each token that arrives has its place in the ring,
- * and a rank's memory is bounded by the capacities.  A channel within one rank is its ring alone: its reader sees all
- * its tokens, and its writer has all other places as credit.
+ * A writer puts a token only if it has credit, and has one less from then on. A reader gives a
+ * place back after it has taken the token out, never when the token arrives. So each token that
+ * arrives has its place in the ring, and the capacities bound a rank's memory. A channel within one
+ * rank is its ring alone: its reader sees all its tokens, and its writer has all other places as
+ * credit.
  *
- * MESSAGES.  Tokens and credits for another rank gather in an outbox.  It is sent when it is full, before a long
- * body, when FLUSH_NS have passed since it became due, and when its rank can fire nothing.  Between two ranks
- * messages keep their order, so the tokens of a channel do.
+ * MESSAGES. Tokens and credits for another rank gather in an outbox. It is sent when it is full,
+ * before a long body, FLUSH_NS after it became due, and when its rank can fire nothing. Messages
+ * between two ranks keep their order, so the tokens of a channel do.
  *
- * NO DEADLOCK.  A rank waits for another one in three places only, and in all of them it goes on receiving, for which
- * it needs no buffer and no room: until a message of its own is sent (`send_outbox`), where it can fire nothing
- * (`idle`), and at the end (`farewell`).  So every message arrives.  A rank that can fire nothing has first sent all
- * its tokens and all its places back.  So if no rank can fire and no message is on its way, all is quiet as the model
- * says it, and all outcomes of the items were emitted; the source and the sink, which are both on rank 0, then end the run.
+ * NO DEADLOCK. A rank waits for others in three places only, and keeps receiving in each of them,
+ * which needs no buffer and no room: until a message of its own is sent (`send_outbox`), when it
+ * can fire nothing (`idle`), and at the end (`farewell`). So every message arrives. A rank that can
+ * fire nothing has already sent all its tokens and given back all its places. So if no rank can
+ * fire and no message is in flight, all is quiet in the sense of the model: every item has its
+ * outcome, and the sink, which is on rank 0 with the source, has ended the run.
  *
- * THE ORDER OF FIRINGS.  By what their rank knows, an emit chooses among the lines with credit, a head takes what
- * came back before a new token, and a tail lets out before it takes in.  All of these are ways of the model
- * (docs/MODEL.md, \"Ways\"), so the results don't depend on them, nor on how late a message comes.
+ * THE ORDER OF FIRINGS. By what its rank knows, an emit chooses among the lines with credit, a head
+ * prefers what came back to a new token, and a tail lets out before it takes in. All of these are
+ * ways of the model (docs/MODEL.md, \"Ways\"), so the results don't depend on them, nor on how late a
+ * message comes.
  *
- * THE END.  Rank 0 says goodbye to all when the input has ended and as many outcomes were emitted as items sent, or
- * when the sink has met a trap, or when nothing can be written.  Each rank then says goodbye to those that it has a
- * wire with, and leaves when it has heard it from all of them.
+ * THE END. Rank 0 says goodbye to all ranks when the input has ended and as many outcomes were
+ * emitted as items sent, when the sink has met a trap, or when writing has failed. Each rank then
+ * says goodbye to those with which it shares a wire, and leaves when all of them have said it.
  */
 #include <errno.h>
 #include <fcntl.h>
 #include <poll.h>
-#include <sched.h>
 #include <signal.h>
 #include <stdbool.h>
 #include <stdio.h>
@@ -118,14 +124,25 @@ pub const ENGINE: &str =
 
 /* ---- endings, memory and clocks */
 
-/* The statuses are those of `p3l run`, and two more: LOST, a rank ended early; BROKEN, the engine broke its own rule. */
-enum { DONE = 0, USAGE = 2, REFUSED = 6, TRAPPED = 7, READ_FAULT = 8, WRITE_FAULT = 10, NO_MEMORY = 11, TOO_LONG = 14,
-       LOST = 16, BROKEN = 70 };
+/* The statuses are those of `p3l run`, and two more: LOST, a rank ended early; BROKEN, the
+ * engine broke its own rule. */
+enum {
+    DONE = 0,
+    USAGE = 2,
+    REFUSED = 6,
+    TRAPPED = 7,
+    READ_FAULT = 8,
+    WRITE_FAULT = 10,
+    NO_MEMORY = 11,
+    TOO_LONG = 14,
+    LOST = 16,
+    BROKEN = 70
+};
 
 enum { MOST_RANKS = 512 };
 
 static int my_rank, ranks = 1;
-static bool stopping;                    /* no process is fired any more */
+static bool stopping; /* set once no process may fire any more */
 
 static void stop_ranks(int status);
 
@@ -137,7 +154,7 @@ static _Noreturn void fail(int status, const char *line)
     _exit(status);
 }
 
-/* Memory for so many things, all 0. */
+/* Allocates zeroed memory for `count` objects, or ends the run. */
 static void *room_for(size_t count, size_t size)
 {
     void *room = calloc(count > 0 ? count : 1, size);
@@ -156,16 +173,16 @@ static size_t bytes(int words) { return (size_t)words * sizeof(int64_t); }
 
 /* ---- nodes: their meaning, by form (docs/MODEL.md, \"What an item comes to\")
  *
- * The function of a node gives 0 and its out words, or a trap: 1 + its kind + 8 * its module.  Only nodes whose parts
- * run one after another have one. */
+ * The function of a node gives 0 and its out words, or a trap: 1 + its kind + 8 * its module.
+ * Only nodes whose parts run one after another have one. */
 
 struct node;
 typedef int64_t meaning(const struct node *node, const int64_t *in, int64_t *out);
 
-/* The words of one element in one array of a token, in three nested rows; the innermost is copied at once where its
- * words stand side by side.  A step of a free index moves them all. */
+/* The words of one element in one array of a token: three nested loops, whose innermost is one
+ * copy where its words are adjacent. Each step of a free index shifts all of them. */
 struct area {
-    size_t start, by_first, by_second, words;
+    size_t start, by_first, by_second;
     size_t count[3], stride[3];
 };
 
@@ -174,17 +191,17 @@ struct node {
     const struct module_row *module;
     const int32_t *parts;
     meaning *run;
-    struct area *ins, *outs;             /* a map's slices */
-    int64_t *work;                       /* a comp's tokens between its parts, a map's element, a fold's halves */
+    struct area *ins, *outs; /* a map's slices */
+    int between;             /* the most words of a token between two parts of a comp */
+    int64_t *work; /* a comp's tokens between its parts, a map's element, a fold's halves */
 };
 
 static struct node nodes[NODES];
 
 static const struct node *part_of(const struct node *node, int i) { return &nodes[node->parts[i]]; }
 
-static int64_t trap_of(const struct node *node, int64_t kind) { return kind + 8 * (int64_t)node->row->module; }
-
-/* The outcome of a `seq` or a `comp`: a trap becomes the rescue number, where the module has one. */
+/* The outcome of a `seq` or a `comp`: if its module has a rescue number, a trap becomes that
+ * number. */
 static int64_t rescued(const struct node *node, int64_t trap, int64_t *out)
 {
     if (trap == 0 || !node->module->has_rescue) return trap;
@@ -194,25 +211,15 @@ static int64_t rescued(const struct node *node, int64_t trap, int64_t *out)
 
 static int64_t run_seq(const struct node *node, const int64_t *in, int64_t *out)
 {
-    int64_t kind = node->module->body(in, out);
-    return kind == 0 ? 0 : rescued(node, trap_of(node, kind), out);
-}
-
-/* The most words of a token between two parts of a comp. */
-static int widest_between(const struct node *node)
-{
-    int most = 1;
-    for (int i = 0; i + 1 < node->row->parts; i++)
-        if (part_of(node, i)->row->outs > most) most = part_of(node, i)->row->outs;
-    return most;
+    return rescued(node, node->module->body(in, out), out);
 }
 
 static int64_t run_comp(const struct node *node, const int64_t *in, int64_t *out)
 {
-    int last = node->row->parts - 1, widest = widest_between(node);
+    int last = node->row->parts - 1;
     for (int i = 0; i <= last; i++) {
         const struct node *part = part_of(node, i);
-        int64_t *to = i == last ? out : node->work + (size_t)(i % 2) * (size_t)widest;
+        int64_t *to = i == last ? out : node->work + i % 2 * node->between;
         int64_t trap = part->run(part, in, to);
         if (trap != 0) return rescued(node, trap, out);
         in = to;
@@ -220,8 +227,10 @@ static int64_t run_comp(const struct node *node, const int64_t *in, int64_t *out
     return 0;
 }
 
-/* Copies the words of element (i, j) out of the array of a whole token; gives the place behind them. */
-static int64_t *copy_out(const struct area *area, size_t i, size_t j, const int64_t *whole, int64_t *piece)
+/* Copies the words of element (i, j) from an array of the whole token; returns the end of the
+ * copy. */
+static int64_t *copy_out(const struct area *area, size_t i, size_t j, const int64_t *whole,
+                         int64_t *piece)
 {
     const int64_t *base = whole + area->start + i * area->by_first + j * area->by_second;
     for (size_t a = 0; a < area->count[0]; a++)
@@ -229,14 +238,17 @@ static int64_t *copy_out(const struct area *area, size_t i, size_t j, const int6
             const int64_t *from = base + a * area->stride[0] + b * area->stride[1];
             size_t count = area->count[2], stride = area->stride[2];
             if (stride == 1 && count > 4) memcpy(piece, from, count * sizeof *piece);
-            else for (size_t c = 0; c < count; c++) piece[c] = from[c * stride];
+            else
+                for (size_t c = 0; c < count; c++) piece[c] = from[c * stride];
             piece += count;
         }
     return piece;
 }
 
-/* Copies the words of element (i, j) into the array of a whole token; gives the place behind them. */
-static const int64_t *copy_in(const struct area *area, size_t i, size_t j, const int64_t *piece, int64_t *whole)
+/* Copies the words of element (i, j) into an array of the whole token; returns the end of what
+ * was read. */
+static const int64_t *copy_in(const struct area *area, size_t i, size_t j, const int64_t *piece,
+                              int64_t *whole)
 {
     int64_t *base = whole + area->start + i * area->by_first + j * area->by_second;
     for (size_t a = 0; a < area->count[0]; a++)
@@ -244,26 +256,32 @@ static const int64_t *copy_in(const struct area *area, size_t i, size_t j, const
             int64_t *to = base + a * area->stride[0] + b * area->stride[1];
             size_t count = area->count[2], stride = area->stride[2];
             if (stride == 1 && count > 4) memcpy(to, piece, count * sizeof *piece);
-            else for (size_t c = 0; c < count; c++) to[c * stride] = piece[c];
+            else
+                for (size_t c = 0; c < count; c++) to[c * stride] = piece[c];
             piece += count;
         }
     return piece;
 }
 
-static int64_t elements_of(const struct node *map) { return (int64_t)map->row->first * map->row->second; }
+static int64_t elements_of(const struct node *map)
+{
+    return (int64_t)map->row->first * map->row->second;
+}
 
-/* The in words of a map's element, from those of the whole token. */
+/* Copies the in words of a map's element from the whole token. */
 static void cut(const struct node *map, const int64_t *whole, int64_t *piece, int64_t element)
 {
     size_t i = (size_t)(element / map->row->second), j = (size_t)(element % map->row->second);
-    for (int s = 0; s < map->row->in_slices; s++) piece = copy_out(&map->ins[s], i, j, whole, piece);
+    for (int s = 0; s < map->row->in_slices; s++)
+        piece = copy_out(&map->ins[s], i, j, whole, piece);
 }
 
-/* Puts the out words of a map's element into the whole token. */
+/* Copies the out words of a map's element into the whole token. */
 static void join(const struct node *map, const int64_t *piece, int64_t *whole, int64_t element)
 {
     size_t i = (size_t)(element / map->row->second), j = (size_t)(element % map->row->second);
-    for (int s = 0; s < map->row->out_slices; s++) piece = copy_in(&map->outs[s], i, j, piece, whole);
+    for (int s = 0; s < map->row->out_slices; s++)
+        piece = copy_in(&map->outs[s], i, j, piece, whole);
 }
 
 static int64_t run_map(const struct node *node, const int64_t *in, int64_t *out)
@@ -279,18 +297,23 @@ static int64_t run_map(const struct node *node, const int64_t *in, int64_t *out)
     return 0;
 }
 
-/* Folds by halves, the first rounded down: the left trap, else the right one, else the operator on both.  Each level
- * has its own pair of results in `pairs`. */
-static int64_t fold_halves(const struct node *reduce, const int64_t *in, int64_t count, int64_t *out, int64_t *pairs)
+/* Folds by halves, the first rounded down: the left trap, else the right one, else the operator
+ * on both. Each level has its own pair of results in `pairs`. */
+static int64_t fold_halves(const struct node *reduce, const int64_t *in, int64_t count,
+                           int64_t *out, int64_t *pairs)
 {
-    const struct node *operator = part_of(reduce, 0);
+    const struct node *combine = part_of(reduce, 0);
     int64_t words = reduce->row->second;
-    if (count == 1) { memcpy(out, in, bytes((int)words)); return 0; }
-    if (count == 2) return operator->run(operator, in, out);
+    if (count == 1) {
+        memcpy(out, in, bytes((int)words));
+        return 0;
+    }
+    if (count == 2) return combine->run(combine, in, out);
     int64_t half = count / 2, *below = pairs + 2 * words;
     int64_t trap = fold_halves(reduce, in, half, pairs, below);
-    if (trap == 0) trap = fold_halves(reduce, in + half * words, count - half, pairs + words, below);
-    return trap != 0 ? trap : operator->run(operator, pairs, out);
+    if (trap == 0)
+        trap = fold_halves(reduce, in + half * words, count - half, pairs + words, below);
+    return trap != 0 ? trap : combine->run(combine, pairs, out);
 }
 
 static int64_t fold(const struct node *reduce, const int64_t *in, int64_t count, int64_t *out)
@@ -303,30 +326,39 @@ static int64_t run_reduce(const struct node *node, const int64_t *in, int64_t *o
     return fold(node, in, node->row->first, out);
 }
 
-static meaning *const MEANING[] = { [FORM_SEQ] = run_seq, [FORM_COMP] = run_comp, [FORM_MAP] = run_map,
-                                    [FORM_REDUCE] = run_reduce, [FORM_LOOP] = NULL };
+static meaning *const MEANING[] = { [FORM_SEQ] = run_seq,
+                                    [FORM_COMP] = run_comp,
+                                    [FORM_MAP] = run_map,
+                                    [FORM_REDUCE] = run_reduce,
+                                    [FORM_LOOP] = NULL };
 
-/* Adds a row outside those that the area has; two whose words follow one another become one. */
+/* Adds a loop around those of the area, or lengthens the outermost one if their words are
+ * adjacent. */
 static void add_row(struct area *area, size_t count, size_t stride)
 {
     int at = 2;
     while (at > 0 && area->count[at - 1] > 1) at--;
-    if (area->count[at] > 1 && stride == area->count[at] * area->stride[at]) { area->count[at] *= count; return; }
+    if (area->count[at] > 1 && stride == area->count[at] * area->stride[at]) {
+        area->count[at] *= count;
+        return;
+    }
     if (area->count[at] > 1) at--;
     area->count[at] = count;
     area->stride[at] = stride;
 }
 
-/* The area of a slice; a dimension of size 1 moves nothing. */
+/* The area of a slice. A dimension of size 1 needs no loop. */
 static struct area area_of(const struct slice_row *slice, const struct dim_row *dims)
 {
-    struct area area = { .start = (size_t)slice->start, .words = 1, .count = { 1, 1, 1 }, .stride = { 1, 1, 1 } };
+    struct area area = { .start = (size_t)slice->start,
+                         .count = { 1, 1, 1 },
+                         .stride = { 1, 1, 1 } };
     size_t stride = 1;
     for (int d = slice->dims - 1; d >= 0; d--) {
         size_t size = (size_t)dims[d].size;
         if (dims[d].place == PLACE_FIRST) area.by_first += stride;
         else if (dims[d].place == PLACE_SECOND) area.by_second += stride;
-        else if (size > 1) { add_row(&area, size, stride); area.words *= size; }
+        else if (size > 1) add_row(&area, size, stride);
         stride *= size;
     }
     return area;
@@ -346,7 +378,7 @@ static struct area *next_areas(int count)
     return areas;
 }
 
-/* Finds where the parts and the slices of each node begin, since the rows only say how many there are. */
+/* Finds where the parts and the slices of each node begin: the rows give only their numbers. */
 static void make_nodes(void)
 {
     const int32_t *next_part = PART;
@@ -356,6 +388,8 @@ static void make_nodes(void)
         node->module = &MODULE[node->row->module];
         node->parts = next_part;
         node->run = MEANING[node->row->form];
+        for (int i = 0; i + 1 < node->row->parts; i++)
+            if (NODE[next_part[i]].outs > node->between) node->between = NODE[next_part[i]].outs;
         next_part += node->row->parts;
         node->ins = next_areas(node->row->in_slices);
         node->outs = next_areas(node->row->out_slices);
@@ -364,15 +398,16 @@ static void make_nodes(void)
 
 static size_t work_of(const struct node *node)
 {
-    if (node->row->form == FORM_COMP) return 2 * (size_t)widest_between(node);
-    if (node->row->form == FORM_MAP) return (size_t)(part_of(node, 0)->row->ins + part_of(node, 0)->row->outs);
+    if (node->row->form == FORM_COMP) return 2 * (size_t)node->between;
+    if (node->row->form == FORM_MAP)
+        return (size_t)(part_of(node, 0)->row->ins + part_of(node, 0)->row->outs);
     size_t levels = 1;
     for (int count = node->row->first; count > 1; count -= count / 2) levels++;
     return node->row->form == FORM_REDUCE ? 2 * levels * (size_t)node->row->second : 0;
 }
 
-/* Gives a node that is run at this rank, and all below it, the memory in which they work.  One set serves all processes of
- * the node, since they are fired one at a time. */
+/* Allocates the work memory of a node that runs on this rank, and of all nodes below it. All
+ * processes of a node share it, since they fire one at a time. */
 static void prepare(int n)
 {
     struct node *node = &nodes[n];
@@ -382,30 +417,31 @@ static void prepare(int n)
 
 /* ---- channels and processes: their state */
 
-/* A token is a row of words: 0 or its trap, its tags from the oldest to the newest, and the words of its value. */
+/* A token is a row of words: 0 or its trap, its tags from the oldest to the newest, and the
+ * words of its value. */
 struct channel {
     int capacity, words, tags;
-    int stride;                          /* the words of a row */
-    int writer, reader;                  /* processes */
+    int stride;         /* the words of a row */
+    int writer, reader; /* processes */
     int writer_rank, reader_rank;
-    int64_t *ring;                       /* rows, from `front` on, round the end */
+    int64_t *ring; /* rows, from `front` on, round the end */
     int front, count;
-    int credit;                          /* the writer's, of a channel between two ranks */
-    int back;                            /* the places that its reader has freed and not yet given back */
+    int credit; /* the writer's, if the channel is between two ranks */
+    int back;   /* places freed by its reader and not yet given back */
 };
 
 struct process {
     const struct process_row *row;
     const struct node *node;
-    const int32_t *ins, *outs;           /* channels */
+    const int32_t *ins, *outs; /* channels */
     int rank;
-    int64_t number;                      /* the next one: of a token, an element or a segment */
-    bool holds;                          /* it holds a token of which pieces are left to send */
-    int64_t *held;                       /* rows: the token held, or the results, or the tokens that wait in a tail */
-    int line;                            /* the first of its channels that an emit or a collect looks at */
+    int64_t number; /* the next one: of a token, an element or a segment */
+    bool holds;     /* it holds a token whose pieces aren't all sent */
+    int64_t *held; /* rows: the token held, the joined results, or the tokens that wait in a tail */
+    int line;      /* the line that an emit or a collect tries first; a split's next word */
     bool queued;
-    int pace;                            /* its firings between two looks at the clock */
-    bool is_long;                        /* a firing takes longer than tokens may wait */
+    int pace;     /* firings between two looks at the clock */
+    bool is_long; /* its firings take longer than tokens may wait in an outbox */
 };
 
 static struct channel channels[CHANNELS];
@@ -415,19 +451,22 @@ static struct process processes[PROCESSES];
 static struct {
     bool wanted;
     uint64_t firings, messages, tokens;
-    uint64_t begun_ns, begun_cpu_ns, idle_ns, idle_cpu_ns;
+    uint64_t begun_cpu_ns, idle_ns, idle_cpu_ns;
 } stats;
 
 static bool is_between_ranks(const struct channel *c) { return c->writer_rank != c->reader_rank; }
 
-/* Queues of the processes that may be able to fire, each at most once.  Those that only move tokens come first: they
- * keep the others supplied. */
-struct queue { int at[PROCESSES]; int head, count; };
+/* Queues of the processes that may be able to fire, each at most once. Those that only move
+ * tokens come first, since they supply the others. */
+struct queue {
+    int at[PROCESSES];
+    int head, count;
+};
 static struct queue movers, bodies;
 
 static bool runs_body(int kind) { return kind == KIND_RUN || kind == KIND_JOIN; }
 
-/* Queues a process of this rank. */
+/* Queues a process, if it is this rank's and isn't queued. */
 static void wake(int p)
 {
     struct process *process = &processes[p];
@@ -454,24 +493,25 @@ static struct process *next_queued(void)
 
 static int64_t *row_of(struct channel *c, int at)
 {
-    if (c->ring == NULL) c->ring = room_for((size_t)c->capacity * (size_t)c->stride, sizeof(int64_t));
+    if (c->ring == NULL)
+        c->ring = room_for((size_t)c->capacity * (size_t)c->stride, sizeof(int64_t));
     return c->ring + (size_t)at * (size_t)c->stride;
 }
 
-/* The row behind the last token of a ring. */
+/* The first free row of a ring. */
 static int64_t *free_row(struct channel *c)
 {
     int at = c->front + c->count;
     return row_of(c, at < c->capacity ? at : at - c->capacity);
 }
 
-/* ---- the carrier: how messages go from rank to rank.  There are two, with one surface:
+/* ---- the carrier: how messages go from rank to rank. There are two, with one interface:
  *
  *   start_carrier   begins, once `most_words` is known, the most words that a message has
  *   post            begins to send a message, whose words stay in use until it is posted
  *   is_posted       tells whether the message of a slot was sent; goes on sending
- *   receive         hands all messages that have come to `open_message`; goes on sending; false where none had come
- *   rest            waits for a message or, where the source wants it, for input
+ *   receive         opens all messages that have come; goes on sending; false where none had come
+ *   rest            waits for a message, for room to send one, or for input where it is asked to
  *   end_carrier     sends the last messages, and ends
  *   stop_ranks      ends all ranks at once, by force
  *
@@ -480,25 +520,32 @@ static int64_t *free_row(struct channel *c)
 enum { SLOTS = 4, LEAST_BUFFER = 8192 };
 
 static int most_words;
-static bool wants_input;                 /* the source waits for bytes */
+static bool wants_input; /* the source waits for bytes */
 
 static void open_message(const int64_t *message, int words, int from);
 static bool has_wire(int a, int b);
-static void tell_caller(int status);
+static bool tell_caller(int status);
 
 #ifndef P3L_MPI
 
-/* Forked copies of this program, each two with a wire joined by a pair of sockets.  Rank 0 is the program itself. */
+/* Forked copies of this program. Two ranks that share a wire are joined by a pair of sockets.
+ * Rank 0 is the program itself. */
 
-/* How often it looks for messages while it can fire, how long tokens may wait in an outbox, and how long it looks for
- * messages without a pause before it sleeps: sleeping and waking cost more than that. */
-enum { LOOK_NS = 15000, FLUSH_NS = 20000, SPIN_NS = 50000 };
+/* The time between two looks for messages while something can fire; the longest wait of a token
+ * in an outbox; and the time of busy waiting before a rank sleeps, which is about the cost of
+ * waking up. */
+enum { LOOK_NS = 15000, FLUSH_NS = 20000, SPIN_NS = 30000 };
 
 struct link {
-    int socket;                          /* -1 where there is no wire, or the other rank has left */
-    struct { const int64_t *at; int64_t words; size_t done; bool open; } out[SLOTS];
-    int next;                            /* the slot that is being sent */
-    char *in;                            /* bytes that came, of which those from `start` to `end` are still to be opened */
+    int socket; /* -1 if there is no wire, or the other rank has left */
+    struct {
+        const int64_t *at;
+        int64_t words;
+        size_t done;
+        bool open;
+    } out[SLOTS];
+    int next; /* the slot that is being sent */
+    char *in; /* bytes received; those from `start` to `end` are still to be opened */
     size_t start, end, room;
 };
 
@@ -525,7 +572,8 @@ static void make_pairs(void)
     for (int a = 0; a < ranks; a++)
         for (int b = 0; b < a; b++) {
             int pair[2] = { -1, -1 };
-            if (has_wire(a, b) && socketpair(AF_UNIX, SOCK_STREAM, 0, pair) != 0) fail(LOST, \"ranks can't be started\");
+            if (has_wire(a, b) && socketpair(AF_UNIX, SOCK_STREAM, 0, pair) != 0)
+                fail(LOST, \"ranks can't be started\");
             *ends_of_pairs(a, b) = pair[0];
             *ends_of_pairs(b, a) = pair[1];
         }
@@ -543,7 +591,8 @@ static void keep_links(void)
         }
 }
 
-/* Gives up the streams, which are rank 0's: who reads the output then sees its end when rank 0 ends. */
+/* Closes the streams, which are rank 0's: the reader of the output then sees its end as soon as
+ * rank 0 ends. */
 static void leave_streams(void)
 {
     int none = open(\"/dev/null\", O_RDWR);
@@ -553,7 +602,7 @@ static void leave_streams(void)
     if (none > 1) close(none);
 }
 
-/* As many descriptors as the system lets one have. */
+/* Allows as many descriptors as the system permits. */
 static void raise_descriptors(void)
 {
     struct rlimit limit;
@@ -576,12 +625,13 @@ static void fork_ranks(void)
     keep_links();
 }
 
-static void start_carrier(void) { }
+static void start_carrier(void) {}
 
 static bool has_left(int rank);
 
-/* Ends the run, since the socket of another rank was closed before it had said goodbye.  That rank may have said why.
- * Only rank 0 judges it: the others wait for rank 0's end. */
+/* Handles a socket that its other end has closed. After a goodbye that is normal. Otherwise a
+ * rank was lost, and rank 0 ends the run, with the status of that rank if it failed with one;
+ * the other ranks end when rank 0 does. */
 static void lose(int rank)
 {
     int status = 0;
@@ -592,19 +642,22 @@ static void lose(int rank)
     if (my_rank != 0) return;
     waitpid(children[rank], &status, 0);
     children[rank] = 0;
-    if (!WIFEXITED(status) || WEXITSTATUS(status) == 0 || WEXITSTATUS(status) == LOST) fail(LOST, \"a rank was lost\");
+    if (!WIFEXITED(status) || WEXITSTATUS(status) == 0 || WEXITSTATUS(status) == LOST)
+        fail(LOST, \"a rank was lost\");
     stop_ranks(LOST);
     _exit(WEXITSTATUS(status));
 }
 
-/* Sends what the socket takes without waiting: each message is its number of words, and its words. */
+/* Sends as much as the socket takes without waiting. A message is its number of words, and its
+ * words. */
 static void push(int rank)
 {
     struct link *link = &links[rank];
     while (link->socket >= 0 && link->out[link->next].open) {
         int64_t *words = &link->out[link->next].words;
         size_t done = link->out[link->next].done, all = ((size_t)*words + 1) * sizeof *words;
-        struct iovec parts[2] = { { words, sizeof *words }, { (void *)link->out[link->next].at, all - sizeof *words } };
+        struct iovec parts[2] = { { words, sizeof *words },
+                                  { (void *)link->out[link->next].at, all - sizeof *words } };
         int first = done < sizeof *words ? 0 : 1;
         size_t skip = done - (first == 0 ? 0 : sizeof *words);
         parts[first].iov_base = (char *)parts[first].iov_base + skip;
@@ -612,7 +665,10 @@ static void push(int rank)
         ssize_t sent = writev(link->socket, parts + first, 2 - first);
         if (sent < 0 && errno == EINTR) continue;
         if (sent < 0 && (errno == EAGAIN || errno == EWOULDBLOCK || errno == ENOBUFS)) return;
-        if (sent < 0) { lose(rank); return; }
+        if (sent < 0) {
+            lose(rank);
+            return;
+        }
         link->out[link->next].done += (size_t)sent;
         if (link->out[link->next].done < all) continue;
         link->out[link->next].open = false;
@@ -636,7 +692,7 @@ static bool is_posted(int rank, int slot)
     return !links[rank].out[slot].open || links[rank].socket < 0;
 }
 
-/* Opens each whole message of those that were read. */
+/* Opens each message that was received whole. */
 static void open_whole(struct link *link, int from)
 {
     int64_t words;
@@ -649,7 +705,7 @@ static void open_whole(struct link *link, int from)
     }
 }
 
-/* Reads what has come from a rank, and opens it; true where something had. */
+/* Reads what a rank has sent, and opens it; false if nothing was there. */
 static bool pull(int rank)
 {
     struct link *link = &links[rank];
@@ -659,14 +715,18 @@ static bool pull(int rank)
     link->start = 0;
     ssize_t got = read(link->socket, link->in + link->end, link->room - link->end);
     if (got < 0 && (errno == EINTR || errno == EAGAIN || errno == EWOULDBLOCK)) return false;
-    if (got <= 0) { lose(rank); return false; }
+    if (got <= 0) {
+        lose(rank);
+        return false;
+    }
     link->end += (size_t)got;
     open_whole(link, rank);
     return true;
 }
 
-/* Asks for the sockets that have something to read, or that take what is to be sent; waits at most `ms`. */
-static int ask(struct pollfd *asked, int ms)
+/* Polls the sockets for messages, for room to send, and standard input if asked; waits at most
+ * `ms` milliseconds, -1 for ever. */
+static int ask(struct pollfd *asked, bool for_input, int ms)
 {
     for (int r = 0; r < ranks; r++) {
         const struct link *link = &links[r];
@@ -674,7 +734,7 @@ static int ask(struct pollfd *asked, int ms)
         asked[r].events = (short)(POLLIN | (link->out[link->next].open ? POLLOUT : 0));
         asked[r].revents = 0;
     }
-    asked[my_rank].fd = ms != 0 && wants_input ? 0 : -1;
+    asked[my_rank].fd = for_input ? 0 : -1;
     return poll(asked, (nfds_t)ranks, ms);
 }
 
@@ -683,7 +743,7 @@ static struct pollfd asked[MOST_RANKS];
 static bool receive(void)
 {
     bool any = false;
-    if (ranks == 1 || ask(asked, 0) <= 0) return false;
+    if (ranks == 1 || ask(asked, false, 0) <= 0) return false;
     for (int r = 0; r < ranks; r++) {
         if (asked[r].fd < 0 || asked[r].revents == 0) continue;
         if (asked[r].revents & POLLOUT) push(r);
@@ -692,34 +752,42 @@ static bool receive(void)
     return any;
 }
 
-static void rest(void) { ask(asked, -1); }
+static void rest(bool for_input) { ask(asked, for_input, -1); }
 
 static void end_carrier(void)
 {
     for (int r = 0; r < ranks; r++)
         for (int slot = 0; slot < SLOTS; slot++)
-            while (!is_posted(r, slot)) ask(asked, 1);
+            while (!is_posted(r, slot)) ask(asked, false, 1);
     for (int r = 1; r < ranks && my_rank == 0; r++) waitpid(children[r], NULL, 0);
 }
 
 #else
 
-/* MPI.  It has no call that waits for a message but only so long, so a rank without work looks, then yields, then
- * sleeps for longer and longer. */
+/* MPI. It has no wait with a time limit, so a rank without work polls for a while, and then
+ * sleeps for longer and longer between two looks. */
 
-enum { LOOK_NS = 5000, FLUSH_NS = 20000, SPIN_NS = 200000, SHORTEST_SLEEP_NS = 10000, LONGEST_SLEEP_NS = 200000 };
+enum {
+    LOOK_NS = 5000,
+    FLUSH_NS = 20000,
+    SPIN_NS = 100000,
+    SHORTEST_SLEEP_NS = 10000,
+    LONGEST_SLEEP_NS = 200000
+};
 
 static MPI_Request requests[MOST_RANKS][SLOTS];
 static MPI_Request inbox_request;
 static int64_t *inbox;
 static long sleep_ns = SHORTEST_SLEEP_NS;
 
+/* Rank 0 tells its status to its caller, if it has one, and leaves; the launcher then ends the
+ * others. Otherwise MPI passes the status on. */
 static void stop_ranks(int status)
 {
-    tell_caller(status);
-    int begun = 0;
-    MPI_Initialized(&begun);
-    if (begun) MPI_Abort(MPI_COMM_WORLD, status);
+    int has_begun = 0;
+    if (tell_caller(status)) _exit(status);
+    MPI_Initialized(&has_begun);
+    if (has_begun) MPI_Abort(MPI_COMM_WORLD, status);
 }
 
 static void request_message(void)
@@ -763,9 +831,13 @@ static bool receive(void)
     }
 }
 
-static void rest(void)
+static bool caller_has_ended(void);
+
+static void rest(bool for_input)
 {
     struct timespec t = { 0, sleep_ns };
+    (void)for_input; /* it never sleeps for long */
+    if (caller_has_ended()) stop_ranks(LOST);
     nanosleep(&t, NULL);
     if (sleep_ns < LONGEST_SLEEP_NS) sleep_ns *= 2;
 }
@@ -783,23 +855,26 @@ static void end_carrier(void)
 
 /* ---- outboxes: what waits to be sent to another rank */
 
-/* A message is a list of records, which begin with a word: its last two bits say what the record is.  A token's row
- * follows its word, and a rank's counts follow its goodbye. */
+/* A message is a list of records. Each begins with a word, whose lowest two bits give its form.
+ * A token's row follows its word, and the counts of a rank follow its goodbye. */
 enum { TOKEN, CREDIT, GOODBYE };
 enum { COUNTS = 5 };
-static int64_t record(int form, int channel, int count) { return form + 4 * ((int64_t)channel + ((int64_t)count << 24)); }
+static int64_t record(int form, int channel, int count)
+{
+    return form + 4 * ((int64_t)channel + ((int64_t)count << 24));
+}
 
 struct outbox {
     int64_t *buffer[SLOTS];
     int slot, fill;
-    int *owed, owed_count;               /* the channels from that rank with places to give back */
-    bool is_due;                         /* it has tokens, or places enough, that may not wait longer than FLUSH_NS */
+    int *owed, owed_count; /* the channels from that rank with places to give back */
+    bool is_due;           /* its records may wait for FLUSH_NS at most */
     uint64_t due_since;
 };
 
 static struct outbox outboxes[MOST_RANKS];
-static uint64_t recent_ns;               /* the time of the last look at the clock */
-static int goodbyes;                     /* ranks that said it */
+static uint64_t recent_ns; /* the time of the last look at the clock */
+static int goodbyes;       /* how many ranks have said it */
 static bool said_goodbye[MOST_RANKS];
 static uint64_t counts_of[MOST_RANKS][COUNTS];
 
@@ -807,7 +882,7 @@ static uint64_t counts_of[MOST_RANKS][COUNTS];
 static bool has_left(int rank) { return said_goodbye[rank]; }
 #endif
 
-/* Takes a token that has come.  Its writer had credit, so it has a place. */
+/* Receives a token. Its writer had credit, so it has a place. */
 static void accept_token(struct channel *c, const int64_t *token)
 {
     if (c->count == c->capacity) fail(BROKEN, \"engine fault: a token without a place\");
@@ -848,11 +923,12 @@ static void open_message(const int64_t *message, int words, int from)
 
 static int64_t *buffer_of(struct outbox *box)
 {
-    if (box->buffer[box->slot] == NULL) box->buffer[box->slot] = room_for((size_t)most_words, sizeof(int64_t));
+    if (box->buffer[box->slot] == NULL)
+        box->buffer[box->slot] = room_for((size_t)most_words, sizeof(int64_t));
     return box->buffer[box->slot];
 }
 
-/* Puts the credits behind the tokens; the end of each buffer is kept for them. */
+/* Puts the credits behind the tokens, at the end of the buffer, which is reserved for them. */
 static void add_credits(struct outbox *box)
 {
     int64_t *buffer = buffer_of(box);
@@ -864,7 +940,8 @@ static void add_credits(struct outbox *box)
     box->owed_count = 0;
 }
 
-/* Sends what an outbox holds and turns to its next buffer.  While that one is still being sent, it receives. */
+/* Sends what an outbox holds, and turns to its next buffer. It receives while that one is still
+ * being sent. */
 static void send_outbox(int rank)
 {
     struct outbox *box = &outboxes[rank];
@@ -875,7 +952,8 @@ static void send_outbox(int rank)
     post(rank, box->slot, box->buffer[box->slot], box->fill);
     box->slot = (box->slot + 1) % SLOTS;
     box->fill = 0;
-    while (!is_posted(rank, box->slot)) if (!receive()) sched_yield();
+    while (!is_posted(rank, box->slot))
+        if (!receive()) rest(false);
 }
 
 static void send_all(void)
@@ -896,7 +974,7 @@ static void make_due(struct outbox *box)
     box->due_since = recent_ns;
 }
 
-/* The place of the next token for another rank. */
+/* The row of the next token for another rank, in its outbox. */
 static int64_t *sent_row(struct channel *c)
 {
     struct outbox *box = &outboxes[c->reader_rank];
@@ -914,7 +992,8 @@ static void put_sent(struct channel *c)
     make_due(box);
 }
 
-/* Notes a freed place.  It goes back with the next message; half the places of a channel are a reason for one. */
+/* Notes a freed place, which goes back with the next message. Half the places of a channel make
+ * a message due. */
 static void give_back(struct channel *c)
 {
     struct outbox *box = &outboxes[c->writer_rank];
@@ -949,16 +1028,19 @@ static void say_goodbye(int rank)
     send_outbox(rank);
 }
 
-/* Says goodbye to all ranks that have a wire with this one, and waits until all of them have said it. */
+/* Says goodbye to all ranks that have a wire with this one, and waits until all of them have
+ * said it. */
 static void farewell(void)
 {
     int wires = wires_of(my_rank);
-    wants_input = false;
-    for (int r = 0; r < ranks; r++) if (has_wire(my_rank, r)) say_goodbye(r);
-    while (goodbyes < wires) if (!receive()) rest();
+    for (int r = 0; r < ranks; r++)
+        if (has_wire(my_rank, r)) say_goodbye(r);
+    while (goodbyes < wires)
+        if (!receive()) rest(false);
 }
 
-/* ---- channels as processes see them.  A firing puts its token before it takes the one that it came from. */
+/* ---- channels as processes see them. A firing puts its token before it takes the one that it
+ * came from. */
 
 static bool has_front(int i) { return channels[i].count > 0; }
 
@@ -969,7 +1051,7 @@ static const int64_t *front(int i)
     return c->ring + (size_t)c->front * (size_t)c->stride;
 }
 
-/* The tokens that its writer may put. */
+/* How many tokens its writer may put. */
 static int credit(int i)
 {
     const struct channel *c = &channels[i];
@@ -978,14 +1060,14 @@ static int credit(int i)
 
 static bool has_room(int i) { return credit(i) > 0; }
 
-/* The place of the next token, in a channel that has room. */
+/* The row of the next token of a channel that has room. */
 static int64_t *next_row(int i)
 {
     struct channel *c = &channels[i];
     return is_between_ranks(c) ? sent_row(c) : free_row(c);
 }
 
-/* Puts the token that was written to the next place. */
+/* Puts the token that was written to the next row. */
 static void put(int i)
 {
     struct channel *c = &channels[i];
@@ -1002,7 +1084,8 @@ static void take(int i)
     else if (before == c->capacity) wake(c->writer);
 }
 
-/* Copies a token's trap and `tags` of its tags; and a value's words, from behind `had` tags to behind `has`. */
+/* Copies a token's trap and its first `tags` tags; and the words of a value from behind `had`
+ * tags to behind `has` tags. */
 static void copy_token(int64_t *to, int has, const int64_t *from, int had, int tags, int words)
 {
     memcpy(to, from, bytes(1 + tags));
@@ -1011,12 +1094,17 @@ static void copy_token(int64_t *to, int has, const int64_t *from, int had, int t
 
 /* ---- the input (docs/FORMATS.md, \"The stream\") */
 
-/* The most bytes that are read. */
+/* The limit of the input, in bytes. */
 #define MOST_INPUT ((uint64_t)1 << 36)
 
 enum { BAD_WORD = 100, WRONG_COUNT = 101, OUT_OF_RANGE = 102, MOST_DIGITS = 19 };
 
-static struct { char at[65536]; size_t start, end; bool at_end; uint64_t taken; } input;
+static struct {
+    char at[65536];
+    size_t start, end;
+    bool at_end;
+    uint64_t taken;
+} input;
 static bool input_ended;
 static uint64_t items_sent, outcomes_emitted;
 
@@ -1041,16 +1129,22 @@ static bool input_is_ready(void)
     return poll(&asks, 1, 0) != 0;
 }
 
-/* Reads more bytes where that needs no waiting; false where there are none now.  All bytes before were passed. */
+/* Reads more bytes, once all before are used; false if that would have to wait. */
 static bool read_input(void)
 {
-    if (input.taken == MOST_INPUT) { end_input(TOO_LONG, \"input too long\"); return true; }
+    if (input.taken == MOST_INPUT) {
+        end_input(TOO_LONG, \"input too long\");
+        return true;
+    }
     if (!input_is_ready()) return false;
     size_t most = sizeof input.at;
     if (most > MOST_INPUT - input.taken) most = (size_t)(MOST_INPUT - input.taken);
     ssize_t got = read(0, input.at, most);
     if (got < 0 && (errno == EINTR || errno == EAGAIN || errno == EWOULDBLOCK)) return false;
-    if (got < 0) { end_input(READ_FAULT, \"read fault\"); return true; }
+    if (got < 0) {
+        end_input(READ_FAULT, \"read fault\");
+        return true;
+    }
     input.at_end = got == 0;
     input.start = 0;
     input.end = (size_t)got;
@@ -1058,27 +1152,30 @@ static bool read_input(void)
     return true;
 }
 
-/* A line is read byte by byte and kept as its numbers, so a line of any length needs no more room than an item. */
+/* The line that is being read. Only its numbers are kept, so a line of any length needs no more
+ * room than an item. */
 static struct {
-    uint64_t passed;                     /* lines before this one */
-    uint64_t words;                      /* of this line, whole ones */
-    bool begun, has_return;              /* it has bytes; the last one was a carriage return */
-    bool in_word, is_negative, is_bad, has_digits;
-    int digits;                          /* of the word, without leading zeros */
+    uint64_t passed;        /* lines before this one */
+    uint64_t words;         /* complete ones of this line */
+    bool begun, has_return; /* it has a byte; its last one was a carriage return */
+    bool in_word, is_negative, has_digits;
+    int digits; /* of the word, without leading zeros */
     uint64_t value;
 } line;
 
 static int64_t *item;
 
-/* Ends the input at this line, by its first fault. */
+/* Refuses the line, which ends the input. */
 static void refuse_line(int fault)
 {
     char text[96];
     unsigned long long number = (unsigned long long)line.passed + 1;
     if (fault == WRONG_COUNT)
-        snprintf(text, sizeof text, \"stream: line %llu: 101 WrongCount %llu\", number, (unsigned long long)line.words);
+        snprintf(text, sizeof text, \"stream: line %llu: 101 WrongCount %llu\", number,
+                 (unsigned long long)line.words);
     else
-        snprintf(text, sizeof text, \"stream: line %llu: %d %s\", number, fault, fault == BAD_WORD ? \"BadWord\" : \"OutOfRange\");
+        snprintf(text, sizeof text, \"stream: line %llu: %d %s\", number, fault,
+                 fault == BAD_WORD ? \"BadWord\" : \"OutOfRange\");
     end_input(REFUSED, text);
 }
 
@@ -1086,9 +1183,16 @@ static void end_word(int width)
 {
     if (!line.in_word) return;
     line.in_word = false;
-    if (!line.has_digits) { refuse_line(BAD_WORD); return; }
-    if (line.digits > MOST_DIGITS || line.value > (uint64_t)INT64_MAX + line.is_negative) { refuse_line(OUT_OF_RANGE); return; }
-    if (line.words < (uint64_t)width) item[line.words] = p3l_signed(line.is_negative ? 0 - line.value : line.value);
+    if (!line.has_digits) {
+        refuse_line(BAD_WORD);
+        return;
+    }
+    if (line.digits > MOST_DIGITS || line.value > (uint64_t)INT64_MAX + line.is_negative) {
+        refuse_line(OUT_OF_RANGE);
+        return;
+    }
+    if (line.words < (uint64_t)width)
+        item[line.words] = p3l_signed(line.is_negative ? 0 - line.value : line.value);
     line.words++;
 }
 
@@ -1100,12 +1204,14 @@ static void begin_word(void)
     line.value = 0;
 }
 
-/* Reads digits from here on; gives the place behind them.  The value of more than MOST_DIGITS isn't used. */
+/* Reads digits; returns their end. The value of more than MOST_DIGITS digits wraps and isn't
+ * used. */
 static const char *read_digits(const char *at, const char *end)
 {
     if (!line.in_word) begin_word();
     line.has_digits = true;
-    if (line.digits == 0) while (at < end && *at == '0') at++;
+    if (line.digits == 0)
+        while (at < end && *at == '0') at++;
     const char *first = at;
     uint64_t value = line.value;
     for (; at < end && *at >= '0' && *at <= '9'; at++) value = 10 * value + (uint64_t)(*at - '0');
@@ -1115,36 +1221,48 @@ static const char *read_digits(const char *at, const char *end)
     return at;
 }
 
-/* Reads bytes of a line up to its line feed, or to the end of the bytes; gives the place where it stopped. */
+/* Reads a line up to its line feed, to the end of the bytes, or to its first fault; returns
+ * where it stopped. */
 static const char *read_bytes(const char *at, const char *end, int width)
 {
     line.begun = true;
     while (at < end && *at != '\\n' && !input_ended) {
-        if (line.has_return) { refuse_line(BAD_WORD); break; }
-        if (*at >= '0' && *at <= '9') { at = read_digits(at, end); continue; }
+        if (line.has_return) {
+            refuse_line(BAD_WORD);
+            break;
+        }
+        if (*at >= '0' && *at <= '9') {
+            at = read_digits(at, end);
+            continue;
+        }
         if (*at == ' ' || *at == '\\t') end_word(width);
         else if (*at == '\\r') line.has_return = true;
-        else if (*at == '-' && !line.in_word) { begin_word(); line.is_negative = true; }
-        else refuse_line(BAD_WORD);
+        else if (*at == '-' && !line.in_word) {
+            begin_word();
+            line.is_negative = true;
+        } else refuse_line(BAD_WORD);
         at++;
     }
     return at;
 }
 
-/* Ends a line; true where it is an item, and not one without words or refused. */
+/* Ends a line; true if it is an item, false if it has no words or is refused. */
 static bool end_line_of(int width)
 {
     line.has_return = line.begun = false;
     end_word(width);
     if (input_ended) return false;
-    if (line.words != 0 && line.words != (uint64_t)width) { refuse_line(WRONG_COUNT); return false; }
+    if (line.words != 0 && line.words != (uint64_t)width) {
+        refuse_line(WRONG_COUNT);
+        return false;
+    }
     bool is_item = line.words != 0;
     line.words = 0;
     line.passed++;
     return is_item;
 }
 
-/* The next item, into `item`; false where there is none now, or none any more. */
+/* Reads the next item into `item`; false if there is none, or none yet. */
 static bool next_item(int width)
 {
     while (!input_ended) {
@@ -1168,7 +1286,7 @@ static bool next_item(int width)
     return false;
 }
 
-/* Wakes the source where it waits for bytes that have come. */
+/* Wakes the source if it waits for bytes and some are there; false otherwise. */
 static bool find_input(void)
 {
     if (!wants_input || !input_is_ready()) return false;
@@ -1179,16 +1297,22 @@ static bool find_input(void)
 
 /* ---- the output */
 
-enum { MOST_NUMBER = 20 };               /* bytes of a word */
+enum { MOST_NUMBER = 20 }; /* bytes of a word */
 
-static struct { char at[65536]; size_t fill; } output;
+static struct {
+    char at[65536];
+    size_t fill;
+} output;
 
-/* Writes the results that are there; false where that failed, which ends the run. */
+/* Writes the buffered results; false if that failed, which ends the run. */
 static bool write_output(void)
 {
     for (size_t at = 0; at < output.fill;) {
         ssize_t wrote = write(1, output.at + at, output.fill - at);
-        if (wrote >= 0) { at += (size_t)wrote; continue; }
+        if (wrote >= 0) {
+            at += (size_t)wrote;
+            continue;
+        }
         if (errno == EINTR) continue;
         if (errno == EAGAIN || errno == EWOULDBLOCK) {
             struct pollfd asks = { 1, POLLOUT, 0 };
@@ -1204,11 +1328,13 @@ static bool write_output(void)
     return true;
 }
 
-static const char PAIRS[] = \"00010203040506070809101112131415161718192021222324252627282930313233343536373839404142434445464748\"
-                            \"4950515253545556575859606162636465666768697071727374757677787980818283848586878889909192939495969798\"
+static const char PAIRS[] = \"0001020304050607080910111213141516171819202122232425262728293031323334\"
+                            \"3536373839404142434445464748\"
+                            \"4950515253545556575859606162636465666768697071727374757677787980818283\"
+                            \"848586878889909192939495969798\"
                             \"99\";
 
-/* Writes a word in decimal, two digits at a time; gives the place behind it. */
+/* Writes a word in decimal, two digits at a time; returns its end. */
 static char *put_number(char *to, int64_t word)
 {
     char digits[MOST_NUMBER];
@@ -1222,7 +1348,7 @@ static char *put_number(char *to, int64_t word)
     return to + (MOST_NUMBER - at);
 }
 
-/* Puts a result: its words, with one space between, and a line feed. */
+/* Buffers the line of a result; false if writing failed. */
 static bool put_result(const int64_t *words, int count)
 {
     for (int i = 0; i < count; i++) {
@@ -1234,7 +1360,8 @@ static bool put_result(const int64_t *words, int count)
     return true;
 }
 
-/* ---- firing: a function for each kind of process, by its row in docs/MODEL.md; true where it fired */
+/* ---- firing: a function for each kind of process, by its row in docs/MODEL.md; true where it
+ * fired */
 
 /* Stops the run once every item has its outcome. */
 static void look_for_end(void)
@@ -1246,7 +1373,10 @@ static bool fire_source(struct process *p)
 {
     int out = p->outs[0], words = p->node->row->ins;
     if (!has_room(out)) return false;
-    if (!next_item(words)) { look_for_end(); return false; }
+    if (!next_item(words)) {
+        look_for_end();
+        return false;
+    }
     int64_t *token = next_row(out);
     token[0] = 0;
     memcpy(token + 1, item, bytes(words));
@@ -1255,14 +1385,18 @@ static bool fire_source(struct process *p)
     return true;
 }
 
-static const char *const TRAPS[] = { \"division by zero\", \"division overflow\", \"index out of range\",
-                                     \"shift out of range\", \"budget spent\", \"turns spent\" };
+/* The kinds of traps, by their numbers. */
+enum { TURNS_SPENT = 5 };
+
+static const char *const TRAPS[] = { \"division by zero\",   \"division overflow\",
+                                     \"index out of range\", \"shift out of range\",
+                                     \"budget spent\",       \"turns spent\" };
 
 static void emit_trap(int64_t trap)
 {
     char text[sizeof end_line];
-    snprintf(text, sizeof text, \"trap: item %llu: %s in %s\", (unsigned long long)outcomes_emitted, TRAPS[(trap - 1) % 8],
-             MODULE[(trap - 1) / 8].name);
+    snprintf(text, sizeof text, \"trap: item %llu: %s in %s\", (unsigned long long)outcomes_emitted,
+             TRAPS[(trap - 1) % 8], MODULE[(trap - 1) / 8].name);
     end_with(TRAPPED, text);
     stopping = true;
 }
@@ -1290,14 +1424,16 @@ static bool fire_run(struct process *p)
     if (from[0] == 0) {
         const int64_t *words = from + 1 + tags;
         int64_t *results = to + 1 + tags;
-        to[0] = p->row->arg == 0 ? p->node->run(p->node, words, results) : fold(p->node, words, p->row->arg, results);
+        to[0] = p->row->arg == 0 ? p->node->run(p->node, words, results)
+                                 : fold(p->node, words, p->row->arg, results);
     }
     put(out);
     take(in);
     return true;
 }
 
-/* The line with the most credit, or the first with a credit for all its places, from the one after the last used. */
+/* Finds the line with the most credit, or the first one that is known to be empty; -1 if none
+ * has credit. It begins behind the line used last. */
 static int idlest_line(const struct process *p)
 {
     int best = -1, most = 0;
@@ -1345,7 +1481,7 @@ static bool fire_collect(struct process *p)
     return false;
 }
 
-/* Takes the token of which pieces are to be sent. */
+/* Takes a token to send it in pieces. */
 static bool hold(struct process *p)
 {
     int in = p->ins[0];
@@ -1370,7 +1506,7 @@ static bool fire_scatter(struct process *p)
     return true;
 }
 
-/* Joins each result as it comes: of several traps the first one in order is kept. */
+/* Joins each result as it comes. Of several traps the first in order stays. */
 static bool fire_gather(struct process *p)
 {
     int out = p->outs[0], tags = channels[out].tags;
@@ -1392,10 +1528,13 @@ static bool fire_gather(struct process *p)
     return true;
 }
 
-/* Sends the segments one after another; `line` is the first word of the next one. */
+/* Sends the segments one after another. `line` is the first word of the next one. */
 static bool fire_split(struct process *p)
 {
-    if (!p->holds) { p->line = 0; return hold(p); }
+    if (!p->holds) {
+        p->line = 0;
+        return hold(p);
+    }
     int out = p->outs[p->number], tags = channels[out].tags, words = channels[out].words;
     if (!has_room(out)) return false;
     int64_t *to = next_row(out);
@@ -1409,16 +1548,17 @@ static bool fire_split(struct process *p)
 
 static bool fire_join(struct process *p)
 {
-    int left = p->ins[0], right = p->ins[1], out = p->outs[0], tags = channels[out].tags, words = channels[out].words;
+    int left = p->ins[0], right = p->ins[1], out = p->outs[0], tags = channels[out].tags,
+        words = channels[out].words;
     if (!has_front(left) || !has_front(right) || !has_room(out)) return false;
-    const struct node *operator = part_of(p->node, 0);
+    const struct node *combine = part_of(p->node, 0);
     int64_t *to = next_row(out);
     memcpy(to, front(left), bytes(1 + tags));
     if (to[0] == 0) to[0] = front(right)[0];
     if (to[0] == 0) {
         memcpy(p->held, front(left) + 1 + tags, bytes(words));
         memcpy(p->held + words, front(right) + 1 + tags, bytes(words));
-        to[0] = operator->run(operator, p->held, to + 1 + tags);
+        to[0] = combine->run(combine, p->held, to + 1 + tags);
     }
     put(out);
     take(left);
@@ -1428,7 +1568,8 @@ static bool fire_join(struct process *p)
 
 static bool fire_head(struct process *p)
 {
-    int in = p->ins[0], round = p->ins[1], credits = p->ins[2], out = p->outs[0], tags = channels[in].tags;
+    int in = p->ins[0], round = p->ins[1], credits = p->ins[2], out = p->outs[0],
+        tags = channels[in].tags;
     if (!has_room(out)) return false;
     if (has_front(round)) {
         memcpy(next_row(out), front(round), bytes(channels[out].stride));
@@ -1447,8 +1588,9 @@ static bool fire_head(struct process *p)
     return true;
 }
 
-/* The place in which a tail holds the token of a number: no two of the tokens in a loop have the same, since there are
- * as many credits as places.  Its first word is 1 where a token is held. */
+/* The place where a tail holds the token with this number. Its first word is 1 if the token is
+ * there. The tokens in a loop have successive numbers, and no more of them than places, so each
+ * has its own. */
 static int64_t *place_in_tail(struct process *p, int64_t number)
 {
     int places = channels[p->outs[2]].capacity, stride = channels[p->ins[0]].stride;
@@ -1469,13 +1611,15 @@ static bool let_out(struct process *p)
     return true;
 }
 
-/* The trap of a token that came out of the body, or 0; and whether it goes round once more. */
+/* Judges a token from the body: returns its trap or 0, and sets `again` if it needs another
+ * turn. */
 static int64_t judge(const struct process *p, const int64_t *token, int tags, bool *again)
 {
     const struct node *condition = part_of(p->node, 1);
     int64_t more = 0, trap = token[0];
     if (trap == 0) trap = condition->run(condition, token + 1 + tags, &more);
-    if (trap == 0 && more != 0 && token[tags] >= p->node->row->first) trap = trap_of(p->node, P3L_TURNS);
+    if (trap == 0 && more != 0 && token[tags] >= p->node->row->first)
+        trap = 1 + TURNS_SPENT + 8 * (int64_t)p->node->row->module;
     *again = trap == 0 && more != 0;
     return trap;
 }
@@ -1501,38 +1645,44 @@ static bool fire_tail(struct process *p)
     return true;
 }
 
-/* No network has a process of the kind fold-gather any more. */
+/* No network has a fold-gather any more. */
 static bool (*const FIRE[KINDS])(struct process *) = {
-    [KIND_SOURCE] = fire_source, [KIND_SINK] = fire_sink, [KIND_RUN] = fire_run, [KIND_EMIT] = fire_emit,
-    [KIND_COLLECT] = fire_collect, [KIND_SCATTER] = fire_scatter, [KIND_GATHER] = fire_gather,
-    [KIND_SPLIT] = fire_split, [KIND_JOIN] = fire_join, [KIND_HEAD] = fire_head, [KIND_TAIL] = fire_tail };
+    [KIND_SOURCE] = fire_source, [KIND_SINK] = fire_sink,       [KIND_RUN] = fire_run,
+    [KIND_EMIT] = fire_emit,     [KIND_COLLECT] = fire_collect, [KIND_SCATTER] = fire_scatter,
+    [KIND_GATHER] = fire_gather, [KIND_SPLIT] = fire_split,     [KIND_JOIN] = fire_join,
+    [KIND_HEAD] = fire_head,     [KIND_TAIL] = fire_tail
+};
 
 /* The words that a process of a kind holds. */
 static size_t words_held(const struct process *p)
 {
     switch (p->row->kind) {
-    case KIND_SCATTER: case KIND_SPLIT: return (size_t)channels[p->ins[0]].stride;
+    case KIND_SCATTER:
+    case KIND_SPLIT: return (size_t)channels[p->ins[0]].stride;
     case KIND_GATHER: return (size_t)channels[p->outs[0]].stride;
     case KIND_JOIN: return 2 * (size_t)channels[p->outs[0]].words;
-    case KIND_TAIL: return (size_t)channels[p->outs[2]].capacity * (size_t)(channels[p->ins[0]].stride + 1);
+    case KIND_TAIL:
+        return (size_t)channels[p->outs[2]].capacity * (size_t)(channels[p->ins[0]].stride + 1);
     default: return 0;
     }
 }
 
-/* ---- the map: the rank of each process.  Every rank finds the same one.
+/* ---- the map: the rank of each process. Every rank finds the same one.
  *
- * The processes that run bodies go by their load, the longest first, each to the rank that is then least loaded.  That
- * gives a bound; within it each goes to the rank where most of its tokens come from and go to, so that neighbours of a
- * pipe stay together.  The others go where most of their tokens come from and go to, as long as no rank gets more of
- * them than its share of all work.  Source and sink are on rank 0. */
+ * The processes that run bodies go by their load, the longest first, each to the rank that is
+ * then least loaded. That gives a bound; within it each goes to the rank where most of its
+ * tokens come from and go to, so that neighbours of a pipe stay together. The others go where
+ * most of their tokens come from and go to, as long as no rank gets much more of them than its
+ * share of all work. Source and sink are on rank 0. */
 
-/* The turns that a token is taken to make in a loop, to guess how many tokens a channel carries. */
+/* The turns that a token is assumed to take in a loop, to estimate how many tokens a channel
+ * carries. */
 enum { GUESSED_TURNS = 4 };
 
-static double rate[CHANNELS];            /* tokens for one item */
+static double rate[CHANNELS]; /* tokens for one item */
 static double load_of[MOST_RANKS];
-static double share;                     /* of a rank in the load of all processes */
-static bool *wires;                      /* which two ranks have a channel between them, or one with rank 0 */
+static double share; /* one and a half times the average load of a rank */
+static bool *wires;  /* pairs of ranks that share a channel; rank 0 has a wire with all */
 
 static bool has_wire(int a, int b) { return wires[a * ranks + b]; }
 
@@ -1551,7 +1701,8 @@ static double rate_out(const struct process *p)
     }
 }
 
-/* Guesses how many tokens each channel carries, by carrying the rates on from the source until all are known. */
+/* Estimates the tokens that each channel carries for an item, from the source on, until nothing
+ * changes. */
 static void find_rates(void)
 {
     bool is_new = true;
@@ -1561,7 +1712,8 @@ static void find_rates(void)
             double out = rate_out(&processes[p]);
             for (int i = 0; i < processes[p].row->outs; i++) {
                 int c = processes[p].outs[i];
-                double found = processes[p].row->kind == KIND_TAIL && i == 1 ? rate[processes[p].ins[0]] : out;
+                double found =
+                    processes[p].row->kind == KIND_TAIL && i == 1 ? rate[processes[p].ins[0]] : out;
                 is_new |= rate[c] != found;
                 rate[c] = found;
             }
@@ -1569,7 +1721,8 @@ static void find_rates(void)
     }
 }
 
-/* What a process would send to and get from each rank: words, and a message's own part. */
+/* Computes how much a process would exchange with each rank: words, and a constant for each
+ * token. */
 static void find_traffic(int p, double *traffic)
 {
     const struct process *process = &processes[p];
@@ -1577,12 +1730,14 @@ static void find_traffic(int p, double *traffic)
     for (int i = 0; i < process->row->ins + process->row->outs; i++) {
         int c = process->ins[i];
         int other = i < process->row->ins ? channels[c].writer : channels[c].reader;
-        if (processes[other].rank >= 0) traffic[processes[other].rank] += rate[c] * (channels[c].stride + 16);
+        if (processes[other].rank >= 0)
+            traffic[processes[other].rank] += rate[c] * (channels[c].stride + 16);
     }
 }
 
-/* The rank with the most traffic of those that stay within the bound; of equals the least loaded, and then the last, since
- * rank 0 has the streams to serve.  Where none stays within it, the least loaded one. */
+/* Chooses the rank with the most traffic among those that stay within the bound; among equals
+ * the least loaded one, and then the last, since rank 0 also serves the streams. If none stays
+ * within it, the least loaded one. */
 static int nearest(int p, double bound)
 {
     static double traffic[MOST_RANKS];
@@ -1592,7 +1747,8 @@ static int nearest(int p, double bound)
     for (int r = ranks - 1; r >= 0; r--) {
         if (load_of[r] < load_of[idlest]) idlest = r;
         if (load_of[r] + load > bound + slack) continue;
-        bool is_better = best < 0 || traffic[r] > traffic[best] || (traffic[r] == traffic[best] && load_of[r] < load_of[best]);
+        bool is_better = best < 0 || traffic[r] > traffic[best] ||
+                         (traffic[r] == traffic[best] && load_of[r] < load_of[best]);
         if (is_better) best = r;
     }
     return best >= 0 ? best : idlest;
@@ -1603,19 +1759,22 @@ static bool is_body(int p) { return runs_body(processes[p].row->kind); }
 static int by_load(const void *a, const void *b)
 {
     int p = *(const int *)a, q = *(const int *)b;
-    if (processes[p].row->load != processes[q].row->load) return processes[p].row->load < processes[q].row->load ? 1 : -1;
+    if (processes[p].row->load != processes[q].row->load)
+        return processes[p].row->load < processes[q].row->load ? 1 : -1;
     return p < q ? -1 : 1;
 }
 
-/* Counts the load that the processes which run no bodies put on each rank. */
+/* Sums up the load of the processes that run no bodies, for each rank. */
 static void count_movers(void)
 {
     for (int r = 0; r < ranks; r++) load_of[r] = 0;
     for (int p = 0; p < PROCESSES; p++)
-        if (!is_body(p) && processes[p].rank >= 0) load_of[processes[p].rank] += (double)processes[p].row->load;
+        if (!is_body(p) && processes[p].rank >= 0)
+            load_of[processes[p].rank] += (double)processes[p].row->load;
 }
 
-/* Places the processes that run bodies, the longest first, by traffic within a bound; gives the greatest load of a rank. */
+/* Places the processes that run bodies, longest first, by traffic within a bound; returns the
+ * greatest load of a rank. */
 static double place_bodies(const int *order, int count, double bound)
 {
     double greatest = 0;
@@ -1630,7 +1789,8 @@ static double place_bodies(const int *order, int count, double bound)
     return greatest;
 }
 
-/* Places the others; some of them only have neighbours of their kind, so it goes round more than once. */
+/* Places the others. Several rounds are needed, since some have only neighbours of their own
+ * sort. */
 static void place_movers(void)
 {
     count_movers();
@@ -1666,7 +1826,7 @@ static void find_ranks(void)
         if (load > greatest) greatest = load;
         all += load;
     }
-    share = all / ranks > greatest ? all / ranks : greatest;
+    share = 1.5 * (all / ranks > greatest ? all / ranks : greatest);
     qsort(order, (size_t)count, sizeof *order, by_load);
     find_rates();
     place_bodies(order, count, place_bodies(order, count, 0));
@@ -1707,7 +1867,7 @@ static void make_processes(void)
     }
 }
 
-/* Gives a process of this rank the memory that it works in. */
+/* Allocates the memory of a process of this rank. */
 static void start_process(struct process *p)
 {
     size_t held = words_held(p);
@@ -1718,7 +1878,7 @@ static void start_process(struct process *p)
     if (p->row->kind == KIND_TAIL) prepare(p->node->parts[1]);
 }
 
-/* Puts the first credits into a channel, which are tokens without words. */
+/* Puts the first tokens into a loop's channel of credits, and sets the writer's credit. */
 static void start_channel(struct channel *c, int credits)
 {
     if (is_between_ranks(c) && c->writer_rank == my_rank) c->credit = c->capacity - credits;
@@ -1740,11 +1900,11 @@ static void start(void)
 
 /* ---- the loop of a rank */
 
-enum { MOST_FIRINGS = 256, MOST_PACE = 64 };
+enum { MOST_FIRINGS = 256, MOST_PACE = 64, CROWDED_NS = 100000, CROWDED_FOR_NS = 50000000 };
 
 static uint64_t looked_ns, looked_input_ns;
 
-/* Receives and sends what is due, where the last time was long enough ago. */
+/* Receives messages and sends what is due, unless it did so just before. */
 static void look_round(void)
 {
     if (recent_ns - looked_ns < LOOK_NS) return;
@@ -1756,7 +1916,8 @@ static void look_round(void)
     find_input();
 }
 
-/* Looks at the clock after some firings of a process, which took about equally long; false where others have to be looked at. */
+/* Looks at the clock after some firings of a process, and adapts their number; false if it is
+ * the turn of others. */
 static bool may_go_on(struct process *p, uint64_t begun)
 {
     uint64_t before = recent_ns;
@@ -1768,7 +1929,7 @@ static bool may_go_on(struct process *p, uint64_t begun)
     return recent_ns - begun < LOOK_NS;
 }
 
-/* Fires a process as long as it can, up to a number of firings and a time. */
+/* Fires a process repeatedly, up to a limit of firings and of time. */
 static void turn(struct process *p)
 {
     uint64_t begun = recent_ns;
@@ -1781,19 +1942,33 @@ static void turn(struct process *p)
     wake((int)(p - processes));
 }
 
-/* Waits until a process may be able to fire.  All that others wait for is sent first, and all results before it sleeps. */
+/* Decides whether a waiting rank goes on polling, and doesn't sleep yet. If it lost the
+ * processor between two looks, others need it: then it sleeps at once for a while, since the
+ * system wakes sleepers first. */
+static bool may_spin(uint64_t begun)
+{
+    static uint64_t last_ns, crowded_until;
+    if (last_ns >= begun && recent_ns - last_ns > CROWDED_NS)
+        crowded_until = recent_ns + CROWDED_FOR_NS;
+    last_ns = recent_ns;
+    return recent_ns - begun < SPIN_NS && recent_ns >= crowded_until;
+}
+
+/* Waits until a process may be able to fire. First it sends all tokens and credits; before it
+ * sleeps, it writes all results. */
 static void idle(void)
 {
-    uint64_t begun = nanoseconds(CLOCK_MONOTONIC), begun_cpu = stats.wanted ? nanoseconds(CLOCK_PROCESS_CPUTIME_ID) : 0;
+    uint64_t begun = nanoseconds(CLOCK_MONOTONIC),
+             begun_cpu = stats.wanted ? nanoseconds(CLOCK_PROCESS_CPUTIME_ID) : 0;
     send_all();
     recent_ns = begun;
     while (is_idle() && !stopping) {
         if (receive() || find_input()) continue;
         if (ranks == 1 && !wants_input) fail(BROKEN, \"engine fault: nothing can fire\");
         recent_ns = nanoseconds(CLOCK_MONOTONIC);
-        if (ranks > 1 && recent_ns - begun < SPIN_NS) sched_yield();
+        if (ranks > 1 && may_spin(begun)) continue;
         else if (output.fill > 0) write_output();
-        else rest();
+        else rest(wants_input);
     }
     recent_ns = nanoseconds(CLOCK_MONOTONIC);
     stats.idle_ns += recent_ns - begun;
@@ -1806,65 +1981,92 @@ static void run(void)
     recent_ns = nanoseconds(CLOCK_MONOTONIC);
     while (!stopping) {
         struct process *p = next_queued();
-        if (p == NULL) { idle(); continue; }
+        if (p == NULL) {
+            idle();
+            continue;
+        }
         turn(p);
         if (ranks > 1) look_round();
     }
     if (my_rank == 0) write_output();
     uint64_t cpu_ns = nanoseconds(CLOCK_PROCESS_CPUTIME_ID) - stats.begun_cpu_ns;
-    uint64_t counts[COUNTS] = { cpu_ns - stats.idle_cpu_ns, stats.idle_ns, stats.firings, stats.messages, stats.tokens };
+    uint64_t counts[COUNTS] = { cpu_ns - stats.idle_cpu_ns, stats.idle_ns, stats.firings,
+                                stats.messages, stats.tokens };
     memcpy(counts_of[my_rank], counts, sizeof counts);
     farewell();
 }
 
-/* Writes the counts of each rank; those of the others came with their goodbyes. */
+/* Writes the counts of all ranks, which came with their goodbyes. */
 static void say_stats(void)
 {
     for (int r = 0; r < ranks; r++) {
         const uint64_t *counts = counts_of[r];
-        fprintf(stderr, \"rank %d: work %.3f s, waiting %.3f s, firings %llu, messages %llu, tokens %llu\\n\", r, 1e-9 * (double)counts[0],
-                1e-9 * (double)counts[1], (unsigned long long)counts[2], (unsigned long long)counts[3], (unsigned long long)counts[4]);
+        fprintf(stderr,
+                \"rank %d: work %.3f s, waiting %.3f s, firings %llu, messages %llu, tokens %llu\\n\",
+                r, 1e-9 * (double)counts[0], 1e-9 * (double)counts[1],
+                (unsigned long long)counts[2], (unsigned long long)counts[3],
+                (unsigned long long)counts[4]);
     }
 }
 
 /* ---- the caller: over MPI a program may be called by hand, as `./m --ranks K`
  *
- * Launchers don't keep streams whole: one ends a job whose input comes too fast, another loses results on a full disk.
- * So the program that is called by hand starts the launcher, and hands its own standard streams to rank 0, over a
- * socket that rank 0 finds by `--streams PATH`.  Over the same socket rank 0 tells it the status.  A run that ends
- * with a status is thus told from one that lost a rank; what the launcher says is written only where no status was told. */
+ * Launchers don't keep streams whole: one ends a job whose input comes too fast, another loses
+ * results on a full disk. So the program that is called by hand starts the launcher, and hands
+ * its own standard streams to rank 0, over a socket that rank 0 finds by `--streams PATH`. Over
+ * the same socket rank 0 tells it the status. A run that ends with a status is thus told from
+ * one that lost a rank; what the launcher says is written only where no status was told. */
 
-static int caller = -1;                  /* rank 0's socket to the program that was called */
+static int caller = -1; /* rank 0's socket to the program that was called */
 
-static void tell_caller(int status)
+#ifdef P3L_MPI
+/* Decides whether the program that was called has ended; then no one waits for the results. */
+static bool caller_has_ended(void)
+{
+    struct pollfd asks = { caller, 0, 0 };
+    return caller >= 0 && poll(&asks, 1, 0) > 0;
+}
+#endif
+
+/* Tells the status to the program that was called; false if the launcher was called by hand. */
+static bool tell_caller(int status)
 {
     char byte = (char)status;
-    if (caller < 0) return;
-    while (write(caller, &byte, 1) < 0 && errno == EINTR) { }
+    if (caller < 0) return false;
+    while (write(caller, &byte, 1) < 0 && errno == EINTR) {}
     close(caller);
     caller = -1;
+    return true;
 }
 
 #ifdef P3L_MPI
 
 enum { STREAMS = 3, ENDING_MS = 3000, MOST_SAID = 16384 };
+#define SOON_NS UINT64_C(3000000000)
 
 static const char NO_CALLER[] = \"rank 0 must be on the machine of its caller\";
 
 static struct sockaddr_un address_of(const char *path)
 {
     struct sockaddr_un address = { .sun_family = AF_UNIX };
-    if (strlen(path) >= sizeof address.sun_path) fail(LOST, \"the name of the folder for temporary files is too long\");
+    if (strlen(path) >= sizeof address.sun_path)
+        fail(LOST, \"the name of the folder for temporary files is too long\");
     memcpy(address.sun_path, path, strlen(path));
     return address;
 }
 
-/* A message of one byte with the descriptors of the standard streams. */
-union packet { struct cmsghdr head; char at[CMSG_SPACE(STREAMS * sizeof(int))]; };
+/* Room for the descriptors of the standard streams, which go with a message of one byte. */
+union packet {
+    struct cmsghdr head;
+    char at[CMSG_SPACE(STREAMS * sizeof(int))];
+};
 
 static struct msghdr message_of(union packet *packet, struct iovec *part)
 {
-    struct msghdr message = { .msg_iov = part, .msg_iovlen = 1, .msg_control = packet->at, .msg_controllen = sizeof packet->at };
+    struct msghdr message = { .msg_iov = part,
+                              .msg_iovlen = 1,
+                              .msg_control = packet->at,
+                              .msg_controllen = sizeof packet->at };
     return message;
 }
 
@@ -1881,10 +2083,10 @@ static void send_streams(int socket)
     head->cmsg_type = SCM_RIGHTS;
     head->cmsg_len = CMSG_LEN(sizeof streams);
     memcpy(CMSG_DATA(head), streams, sizeof streams);
-    while (sendmsg(socket, &message, 0) < 0 && errno == EINTR) { }
+    while (sendmsg(socket, &message, 0) < 0 && errno == EINTR) {}
 }
 
-/* Takes the caller's streams in the place of the launcher's. */
+/* Receives the caller's streams, and uses them in the place of the launcher's. */
 static void take_streams(const char *path)
 {
     struct sockaddr_un address = address_of(path);
@@ -1894,10 +2096,12 @@ static void take_streams(const char *path)
     struct iovec part = { &byte, 1 };
     struct msghdr message = message_of(&packet, &part);
     int from = socket(AF_UNIX, SOCK_STREAM, 0);
-    if (from < 0 || connect(from, (const struct sockaddr *)&address, sizeof address) != 0) fail(LOST, NO_CALLER);
+    if (from < 0 || connect(from, (const struct sockaddr *)&address, sizeof address) != 0)
+        fail(LOST, NO_CALLER);
     if (recvmsg(from, &message, 0) != 1) fail(LOST, NO_CALLER);
     const struct cmsghdr *head = CMSG_FIRSTHDR(&message);
-    if (head == NULL || head->cmsg_type != SCM_RIGHTS || head->cmsg_len != CMSG_LEN(sizeof streams)) fail(LOST, NO_CALLER);
+    if (head == NULL || head->cmsg_type != SCM_RIGHTS || head->cmsg_len != CMSG_LEN(sizeof streams))
+        fail(LOST, NO_CALLER);
     memcpy(streams, CMSG_DATA(head), sizeof streams);
     for (int i = 0; i < STREAMS; i++) {
         dup2(streams[i], i);
@@ -1908,6 +2112,7 @@ static void take_streams(const char *path)
 
 static volatile sig_atomic_t signalled;
 static pid_t launcher;
+static int launcher_status; /* as waitpid gives it, once the launcher has ended */
 
 static void pass_signal(int number)
 {
@@ -1919,10 +2124,11 @@ static void watch_signals(void (*handler)(int))
 {
     static const int numbers[] = { SIGINT, SIGTERM, SIGHUP };
     struct sigaction action = { .sa_handler = handler };
-    for (size_t i = 0; i < sizeof numbers / sizeof *numbers; i++) sigaction(numbers[i], &action, NULL);
+    for (size_t i = 0; i < sizeof numbers / sizeof *numbers; i++)
+        sigaction(numbers[i], &action, NULL);
 }
 
-/* Becomes the launcher of the MPI that this was compiled with. */
+/* Executes the launcher of the MPI that this program was compiled with. */
 static _Noreturn void exec_launcher(char **words)
 {
     const char *chosen = getenv(\"P3L_MPIEXEC\");
@@ -1934,12 +2140,13 @@ static _Noreturn void exec_launcher(char **words)
     static const char *const names[] = { \"mpiexec.hydra\", \"mpiexec.mpich\", \"mpiexec\" };
 #endif
     if (chosen != NULL) execvp(words[0] = (char *)chosen, words);
-    for (size_t i = 0; chosen == NULL && i < sizeof names / sizeof *names; i++) execvp(words[0] = (char *)names[i], words);
+    for (size_t i = 0; chosen == NULL && i < sizeof names / sizeof *names; i++)
+        execvp(words[0] = (char *)names[i], words);
     fprintf(stderr, \"no MPI launcher was found\\n\");
     _exit(LOST);
 }
 
-/* Starts the launcher, with an empty input; gives the end of a pipe at which all is read that it writes. */
+/* Starts the launcher with an empty input; returns a pipe from which all its output is read. */
 static int start_launcher(char **words)
 {
     int said[2];
@@ -1959,8 +2166,11 @@ static int start_launcher(char **words)
     return said[0];
 }
 
-/* A folder of this user alone, with a socket in it at which rank 0 is awaited. */
-struct meeting { char folder[64], path[80]; int socket; };
+/* A private folder with a socket, to which rank 0 connects. */
+struct meeting {
+    char folder[64], path[80];
+    int socket;
+};
 
 static struct meeting make_meeting(void)
 {
@@ -1972,8 +2182,10 @@ static struct meeting make_meeting(void)
     snprintf(meeting.path, sizeof meeting.path, \"%s/streams\", meeting.folder);
     struct sockaddr_un address = address_of(meeting.path);
     meeting.socket = socket(AF_UNIX, SOCK_STREAM, 0);
-    bool is_made = meeting.socket >= 0 && bind(meeting.socket, (const struct sockaddr *)&address, sizeof address) == 0;
-    if (!is_made || listen(meeting.socket, 1) != 0) fail(LOST, \"there is no folder for temporary files\");
+    bool is_made = meeting.socket >= 0 &&
+                   bind(meeting.socket, (const struct sockaddr *)&address, sizeof address) == 0;
+    if (!is_made || listen(meeting.socket, 1) != 0)
+        fail(LOST, \"there is no folder for temporary files\");
     fcntl(meeting.socket, F_SETFD, FD_CLOEXEC);
     return meeting;
 }
@@ -1990,7 +2202,7 @@ static void end_meeting(struct meeting *meeting)
 static char said[MOST_SAID];
 static size_t said_bytes;
 
-/* Keeps what the launcher writes, and drops what is too much; false at its end. */
+/* Keeps the launcher's output, up to a limit; false at its end. */
 static bool hear_launcher(int pipe)
 {
     char more[4096];
@@ -2003,15 +2215,31 @@ static bool hear_launcher(int pipe)
     return true;
 }
 
-/* Lets rank 0 have the streams, and waits for its status; -1 where the launcher ended without one. */
+static void show_said(void)
+{
+    fwrite(said, 1, said_bytes, stderr);
+    said_bytes = 0;
+}
+
+static bool launcher_has_ended(void)
+{
+    if (launcher > 0 && waitpid(launcher, &launcher_status, WNOHANG) == launcher) launcher = 0;
+    return launcher == 0;
+}
+
+/* Hands the streams to rank 0, and waits for its status; -1 if there is none. If rank 0 doesn't
+ * connect soon, the launcher's output is shown: some launchers say why, and never end. */
 static int await_status(struct meeting *meeting, int pipe)
 {
     int told = -1, socket = -1;
     bool speaks = true;
+    uint64_t begun = nanoseconds(CLOCK_MONOTONIC);
     for (;;) {
-        struct pollfd asks[2] = { { socket >= 0 ? socket : meeting->socket, POLLIN, 0 }, { speaks ? pipe : -1, POLLIN, 0 } };
+        struct pollfd asks[2] = { { socket >= 0 ? socket : meeting->socket, POLLIN, 0 },
+                                  { speaks ? pipe : -1, POLLIN, 0 } };
         if (poll(asks, 2, 100) < 0 && errno != EINTR) return -1;
         if (asks[1].revents != 0) speaks = hear_launcher(pipe);
+        if (socket < 0 && nanoseconds(CLOCK_MONOTONIC) - begun > SOON_NS) show_said();
         if (asks[0].revents != 0 && socket < 0) {
             socket = accept(meeting->socket, NULL, NULL);
             if (socket >= 0) send_streams(socket);
@@ -2022,30 +2250,34 @@ static int await_status(struct meeting *meeting, int pipe)
             close(socket);
             return told;
         }
-        if (socket < 0 && waitpid(launcher, NULL, WNOHANG) == launcher) { launcher = 0; return -1; }
+        if (signalled != 0) return -1;
+        if (socket < 0 && launcher_has_ended()) return -1;
     }
 }
 
-/* Waits for the launcher's end, and ends it by force where it doesn't come: some hang after their ranks are done. */
+/* Waits for the launcher's end, and forces it after a while: some hang after their ranks have
+ * ended. */
 static void await_launcher(int pipe)
 {
     bool speaks = true;
-    for (int ms = 0; launcher > 0 && waitpid(launcher, NULL, WNOHANG) != launcher; ms += 5) {
+    for (int ms = 0; !launcher_has_ended(); ms += 5) {
         struct pollfd asks = { speaks ? pipe : -1, POLLIN, 0 };
         if (poll(&asks, 1, 5) > 0) speaks = hear_launcher(pipe);
         if (ms == ENDING_MS) kill(launcher, SIGTERM);
         if (ms == 2 * ENDING_MS) kill(launcher, SIGKILL);
     }
-    launcher = 0;
 }
 
-/* Runs the program on so many ranks, and ends with its status. */
+/* Runs the program on `count` ranks, and ends with its status. */
 static _Noreturn void launch(char *program, char *count, char *hosts, bool wants_stats)
 {
     struct meeting meeting = make_meeting();
     char *words[12] = { NULL, \"-n\", count };
     int at = 3;
-    if (hosts != NULL) { words[at++] = \"--hostfile\"; words[at++] = hosts; }
+    if (hosts != NULL) {
+        words[at++] = \"--hostfile\";
+        words[at++] = hosts;
+    }
     words[at++] = program;
     words[at++] = \"--streams\";
     words[at++] = meeting.path;
@@ -2060,9 +2292,10 @@ static _Noreturn void launch(char *program, char *count, char *hosts, bool wants
         watch_signals(SIG_DFL);
         raise(signalled);
     }
-    fwrite(said, 1, said_bytes, stderr);
-    fprintf(stderr, \"a rank was lost\\n\");
-    exit(LOST);
+    if (WIFEXITED(launcher_status) && WEXITSTATUS(launcher_status) == NO_MEMORY)
+        fail(NO_MEMORY, \"no memory\");
+    show_said();
+    fail(LOST, \"a rank was lost\");
 }
 
 #endif
@@ -2096,7 +2329,7 @@ static _Noreturn void refuse_words(void)
     exit(USAGE);
 }
 
-/* The value of an option, as `NAME VALUE` or `NAME=VALUE`; NULL where the word is another one. */
+/* The value of an option, written `NAME VALUE` or `NAME=VALUE`; NULL if the word is another one. */
 static char *value_of(const char *name, char **argv, int *at)
 {
     size_t length = strlen(name);
@@ -2109,7 +2342,10 @@ static char *value_of(const char *name, char **argv, int *at)
 }
 
 /* The words of a call. */
-static struct { char *ranks, *hosts, *streams; bool stats; } words;
+static struct {
+    char *ranks, *hosts, *streams;
+    bool stats;
+} words;
 
 static void set_once(char **word, char *value)
 {
@@ -2127,38 +2363,53 @@ static void read_words(char **argv)
         else if ((value = value_of(\"--streams\", argv, &i)) != NULL) set_once(&words.streams, value);
 #endif
         else if (strcmp(argv[i], \"--stats\") == 0 && !words.stats) words.stats = true;
-        else if (strcmp(argv[i], \"--help\") == 0 || strcmp(argv[i], \"-h\") == 0) { fputs(HELP, stdout); exit(fflush(stdout) != 0 ? WRITE_FAULT : DONE); }
-        else refuse_words();
+        else if (strcmp(argv[i], \"--help\") == 0 || strcmp(argv[i], \"-h\") == 0) {
+            fputs(HELP, stdout);
+            exit(fflush(stdout) != 0 ? WRITE_FAULT : DONE);
+        } else refuse_words();
     }
     stats.wanted = words.stats;
     if (words.hosts != NULL && words.ranks == NULL) refuse_words();
 }
 
-/* The number of ranks that the words ask for. */
+/* The requested number of ranks. */
 static int ranks_asked(void)
 {
     const char *digits = words.ranks;
     if (digits == NULL) return 1;
     size_t length = strlen(digits);
-    if (length == 0 || length > 3 || strspn(digits, \"0123456789\") != length || digits[0] == '0') refuse_words();
+    if (length == 0 || length > 3 || strspn(digits, \"0123456789\") != length || digits[0] == '0')
+        refuse_words();
     int count = atoi(digits);
     if (count > MOST_RANKS) refuse_words();
     return count;
 }
 
-/* Opens nothing in the place of a standard stream that is closed, so that no other file gets its number. */
+/* Occupies the numbers of standard streams that are closed, so that no other file gets them.
+ * Reading such an input fails, and so does writing such an output. */
 static void open_streams(void)
 {
+    static const int modes[] = { O_WRONLY, O_RDONLY, O_RDWR };
     for (int stream = 0; stream < 3; stream++)
-        if (fcntl(stream, F_GETFD) < 0 && open(\"/dev/null\", O_RDWR) != stream) _exit(BROKEN);
+        if (fcntl(stream, F_GETFD) < 0 && open(\"/dev/null\", modes[stream]) != stream) _exit(BROKEN);
 }
 
-/* Finds out which rank this is; by the words, unless a launcher started it. */
+#ifdef P3L_MPI
+/* Decides whether a launcher started this program. */
+static bool is_launched(void)
+{
+    return getenv(\"PMI_RANK\") != NULL || getenv(\"PMIX_RANK\") != NULL ||
+           getenv(\"OMPI_COMM_WORLD_RANK\") != NULL;
+}
+#endif
+
+/* Finds out which rank this is, and how many there are. */
 static void find_rank(int *argc, char ***argv)
 {
 #ifdef P3L_MPI
     read_words(*argv);
     ranks_asked();
+    if (words.ranks != NULL && is_launched()) refuse_words();
     if (words.ranks != NULL) launch((*argv)[0], words.ranks, words.hosts, words.stats);
     MPI_Init(argc, argv);
     MPI_Comm_rank(MPI_COMM_WORLD, &my_rank);

@@ -2,7 +2,8 @@
 
 ghost use Rattle.std.specs.Prelude.{◌≡◌, ◌≤◌, ◌+◌, ◌^◌, map, slice_index};
 ghost use Rattle.p3l_base.specs.Memory.{IfGiven};
-ghost use Rattle.p3l_export.specs.Loads.{firing_price, firings_row, load_of, loads_of, token_ticks};
+ghost use Rattle.p3l_skel.specs.Tree.{node_at};
+ghost use Rattle.p3l_export.specs.Loads.{firing_price, firings_row, load_of, loads_of, ticks_row, token_ticks};
 
 use crate::rates::{capped, elements_of, expected_turns, rates};
 use p3l_base::NoMemory;
@@ -10,6 +11,7 @@ use p3l_cost::Costs;
 use p3l_firing::{Net, Proc, ProcKind};
 use p3l_skel::{Counts, Tree};
 use p3l_timed::price::price;
+use p3l_timed::ticks::transfer;
 use std::alloc::Global;
 
 /// The price of a process, as far as it counts.
@@ -18,6 +20,47 @@ pub(crate) fn firing_price(tree: &Tree, costs: &Costs, process: &Proc) -> u64
     ensures { result ≡ firing_price tree.now costs.now process.now }
 {
     capped(price(tree, costs, process))
+}
+
+/// The words that a node takes.
+fn ins_of(tree: &Tree, number: u32) -> u32
+    ensures { result ≡ (node_at tree.now number).ins }
+{
+    match tree.node(number) {
+        Some(node) => node.ins,
+        None => 0,
+    }
+}
+
+/// The words that a node gives.
+fn outs_of(tree: &Tree, number: u32) -> u32
+    ensures { result ≡ (node_at tree.now number).outs }
+{
+    match tree.node(number) {
+        Some(node) => node.outs,
+        None => 0,
+    }
+}
+
+/// The ticks of a firing of a process. The source and the sink have no price: they hand a token of
+/// the root on or take it.
+fn firing_ticks(tree: &Tree, costs: &Costs, process: &Proc) -> u64
+    ensures { result ≡ ticks_row process.now.kind tree.now costs.now process.now }
+{
+    match process.kind {
+        ProcKind::Source => capped(transfer(costs, ins_of(tree, 0) as u64)),
+        ProcKind::Sink => capped(transfer(costs, outs_of(tree, 0) as u64)),
+        ProcKind::Run
+        | ProcKind::Emit
+        | ProcKind::Collect
+        | ProcKind::Scatter
+        | ProcKind::Gather
+        | ProcKind::Split
+        | ProcKind::FoldGather
+        | ProcKind::Join
+        | ProcKind::Head
+        | ProcKind::Tail => firing_price(tree, costs, process),
+    }
 }
 
 /// The count of firings of a process for one token of its node.
@@ -43,8 +86,8 @@ fn firings(tree: &Tree, costs: &Costs, process: &Proc) -> u64
 fn token_ticks(tree: &Tree, costs: &Costs, process: &Proc) -> u64
     ensures { result ≡ token_ticks tree.now costs.now process.now }
 {
-    let price = firing_price(tree, costs, process);
-    capped(price as u128 * firings(tree, costs, process) as u128)
+    let ticks = firing_ticks(tree, costs, process);
+    capped(ticks as u128 * firings(tree, costs, process) as u128)
 }
 
 /// The rate of a node, and 0 where it has none.

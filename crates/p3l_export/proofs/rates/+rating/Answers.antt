@@ -3,7 +3,7 @@ use Rattle.std.specs.List.{flat_map}
 use Rattle.std.proofs.lemmas.List.{append-nil}
 use Rattle.p3l_skel.specs.Counts.{count_of}
 use Rattle.p3l_export.specs.Rates.{rates_from}
-use Rattle.p3l_export.proofs.RateSteps.{one_more, rates_none, rates_some}
+use Rattle.p3l_export.proofs.RateSteps.{rates_none, rates_put}
 use Rattle.p3l_export.proofs.rates.+rating.Goals as goal
 
 pub push_rates-returns-then-levels-eq0 : goal.push_rates-returns-then-levels-eq0
@@ -16,11 +16,6 @@ pub push_rates-returns : goal.push_rates-returns
 push_rates-returns t c =
     let count = count_of c.args.tree.now c.args.counts.now.list in
     let some : 0 < c.args.levels = omega (arith, c.if-levels-eq0.false) in
-    let rest : List ℕ =
-    flat_map (rates_from c.args.tree.now c.args.costs.now count (c.args.levels - 1) c.rate_inside-inside.result) c.parts_of-parts.result.now in
-    rw (
-      rates_some c.args.tree.now c.args.costs.now count c.args.levels c.args.rate c.args.number some,
-      ← c.rate_inside-inside.ensures,
-      ← c.parts_of-parts.ensures,
-    )
-    (c.in_ok-push_parts.ensures ∙ one_more c.args.rates.now.items c.push.new.self.items rest c.args.rate c.in_ok-push.ensures.items)
+    rates_put c.args.tree.now c.args.costs.now count c.args.levels c.args.rate c.args.number c.rate_inside-inside.result
+    c.parts_of-parts.result.now c.args.rates.now.items c.push.new.self.items c.push_parts.new.rates.items some
+    c.rate_inside-inside.ensures c.parts_of-parts.ensures c.in_ok-push.ensures.items c.in_ok-push_parts.ensures
