@@ -1,8 +1,6 @@
-use Rattle.std.proofs.Common.{ℕ, ◌-◌, ◌<◌, List, sym, ◌∙◌, arith}
-use Rattle.std.specs.List.{flat_map}
+use Rattle.std.proofs.Common.{◌<◌, sym, arith}
 use Rattle.std.proofs.lemmas.List.{append-nil}
 use Rattle.p3l_skel.specs.Counts.{count_of}
-use Rattle.p3l_export.specs.Rates.{rates_from}
 use Rattle.p3l_export.proofs.RateSteps.{rates_none, rates_put}
 use Rattle.p3l_export.proofs.rates.+rating.Goals as goal
 
