@@ -9,7 +9,7 @@ use Rattle.p3l_fitting.specs.declared.width.Width.{Width}
 use Rattle.p3l_fitting.specs.Widths.{width_at}
 use Rattle.p3l_net.specs.Steps.{Ends}
 use Rattle.p3l_export.specs.declared.channels.ChannelRow.{ChannelRow}
-use Rattle.p3l_export.specs.Capacity.{by_size, by_work, capacity_of, dearer, placed, row_of, rows_of}
+use Rattle.p3l_export.specs.Capacity.{by_size, by_work, capacity_of, end_price, placed, row_of, rows_of}
 use Rattle.p3l_export.specs.Laws.{IsRoom}
 
 -- the greater of a number in the range and of 2 to 64 is in it
@@ -32,5 +32,5 @@ pub rows_in_range : (tree : Tree) (costs : Costs) (net : Net) (ends : Ends) (wid
 rows_in_range tree costs net ends widths chosen each =
     placed_each (λ (chan : Chan). IsRoom chan.cap) (λ (row : ChannelRow). IsRoom row.capacity)
     (row_of tree costs net ends widths chosen)
-    (λ c chan room. capacity_in_range chosen chan.cap (width_at widths c).words (dearer tree costs net ends c) room)
+    (λ c chan room. capacity_in_range chosen chan.cap (width_at widths c).words (end_price tree costs net ends c) room)
     0 net.chans each

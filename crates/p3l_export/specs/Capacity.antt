@@ -32,9 +32,9 @@ price_in tree costs (Some q) = firing_price tree costs q
 abbrev pub price_at : Tree → Costs → Net → ℕ → ℕ
 price_at tree costs net p = price_in tree costs (slice_get net.procs p)
 
--- the price of the dearer of the two processes at the ends of channel c
-abbrev pub dearer : Tree → Costs → Net → Ends → ℕ → ℕ
-dearer tree costs net ends c =
+-- the greater price of the two processes at the ends of channel c
+abbrev pub end_price : Tree → Costs → Net → Ends → ℕ → ℕ
+end_price tree costs net ends c =
     max (price_at tree costs net (slice_index ends.writers c)) (price_at tree costs net (slice_index ends.readers c))
 
 -- the tokens that a channel with these widths holds: as many as in the net, or, where they are chosen, the greater of these and of
@@ -45,7 +45,7 @@ capacity_of chosen cap words price = if chosen then max cap (tokens_for words pr
 -- the row of channel c
 abbrev pub row_of : Tree → Costs → Net → Ends → List Width → (chosen : Bool) → ℕ → Chan → ChannelRow
 row_of tree costs net ends widths chosen c chan = record {
-  capacity = capacity_of chosen chan.cap (width_at widths c).words (dearer tree costs net ends c);
+  capacity = capacity_of chosen chan.cap (width_at widths c).words (end_price tree costs net ends c);
   credits = chan.credits;
   words = (width_at widths c).words;
   tags = (width_at widths c).tags;

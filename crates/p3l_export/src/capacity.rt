@@ -4,7 +4,7 @@ ghost use Rattle.std.specs.Prelude.{◌≡◌, ◌≤◌, ◌<◌, ◌^◌, leng
 ghost use Rattle.p3l_base.specs.Memory.{IfGiven};
 ghost use Rattle.p3l_firing.specs.Typed.{IsTyped};
 ghost use Rattle.p3l_fitting.specs.Widths.{width_at};
-ghost use Rattle.p3l_export.specs.Capacity.{capacity_of, dearer, placed, price_at, row_of, rows_of, tokens_for};
+ghost use Rattle.p3l_export.specs.Capacity.{capacity_of, end_price, placed, price_at, row_of, rows_of, tokens_for};
 
 use crate::channels::ChannelRow;
 use crate::loads::firing_price;
@@ -56,11 +56,11 @@ fn price_at(tree: &Tree, costs: &Costs, net: &Net, number: u32) -> u64
     }
 }
 
-/// The price of the dearer of the two processes at the ends of a channel.
-fn dearer(tree: &Tree, costs: &Costs, net: &Net, ends: &Sides, c: u32) -> u64
+/// The greater price of the two processes at the ends of a channel.
+fn end_price(tree: &Tree, costs: &Costs, net: &Net, ends: &Sides, c: u32) -> u64
     requires written { c < length ends.now.writers }
     requires read { c < length ends.now.readers }
-    ensures { result ≡ dearer tree.now costs.now net.now ends.now c }
+    ensures { result ≡ end_price tree.now costs.now net.now ends.now c }
 {
     let writer = price_at(tree, costs, net, ends.writer(c));
     writer.max(price_at(tree, costs, net, ends.reader(c)))
@@ -93,7 +93,7 @@ fn row(
     ensures { result ≡ row_of tree.now costs.now net.now ends.now widths.now chosen c channel }
 {
     let width = width_at(widths, c);
-    let price = dearer(tree, costs, net, ends, c as u32);
+    let price = end_price(tree, costs, net, ends, c as u32);
     ChannelRow {
         capacity: capacity_of(chosen, channel.cap, width.words, price),
         credits: channel.credits,
