@@ -1,0 +1,5 @@
+mod LoadSteps
+mod NumberedSteps
+mod PlacedSteps
+mod Ranges
+mod RateSteps
