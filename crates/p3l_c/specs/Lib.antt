@@ -1,0 +1,7 @@
+pub mod Helper
+pub mod Syntax
+pub mod Machine
+pub mod Translate
+pub mod Condition
+pub mod Text
+pub mod Checked
