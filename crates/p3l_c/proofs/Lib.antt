@@ -1,4 +1,5 @@
 pub mod Helpers
+pub mod Nesting
 pub mod Operators
 pub mod Steps
 pub mod Objects

@@ -3,12 +3,18 @@
 
 ghost use Rattle.p3l_c.specs.Condition.{CMeans};
 ghost use Rattle.p3l_c.specs.Checked.{CheckedWrites};
+ghost use Rattle.p3l_c.specs.Nesting.{LinesAreFlat};
 ghost use Rattle.p3l_c.specs.Text.{LinesStand, FrontsStand};
 
 /// A law of C functions: on all words, the function of a body has no undefined behaviour, ends, and
 /// gives the meaning of the body.
 pub fn c_means()
     ensures { CMeans }
+{}
+
+/// A law of lines: no expression nests more brackets than every C11 compiler takes.
+pub fn lines_are_flat()
+    ensures { LinesAreFlat }
 {}
 
 /// A law of checked bodies: each can be written as C.
