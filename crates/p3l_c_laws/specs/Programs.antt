@@ -14,8 +14,8 @@ abbrev pub BodiesWrite : Type 0
 BodiesWrite =
     (bytes : List ℕ) (program : ProgramTree) (r : ResolvedTree) → Spells bytes program → resolved program ≡ Ok r → AllByRecursion IsWritable r.seqs
 
--- the function of a body gives the meaning of the body on all words, with any bound on the rounds of a
--- loop above its budget
+-- the function of a body gives the meaning of the body on all words, with any bound on the rounds
+-- of a loop above its budget
 abbrev pub FunctionMeans : SeqTree → Type 0
 FunctionMeans seq =
     (words : List ℤ) (fuel : ℕ) → length words ≡ total seq.ins → AllByRecursion (FitsSigned w64) words → seq.budget < fuel →

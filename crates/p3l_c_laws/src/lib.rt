@@ -1,4 +1,4 @@
-//! The bodies of a program that was read can be written as C, and their functions do what they mean.
+//! Laws of the C functions of a program: its bodies can be written as C, and mean the same there.
 #![tactic(auto)]
 
 ghost use Rattle.p3l_c_laws.specs.Numbers.{NumbersAreSmall};
