@@ -19,7 +19,7 @@ unfolding signed_depth unsigned_depth test_depth
 test_flat (truth c) d h two = omega arith
 test_flat (number v) d h two = let m : max 2 2 ≤ d = max-le h two in omega arith
 test_flat (temp k) d h two = let m : max 0 2 ≤ d = max-le h two in omega arith
-test_flat (element x ks) d h two = let m : max 0 2 ≤ d = max-le h two in omega arith
+test_flat (element x ks) d h two = let m : max 2 2 ≤ d = max-le h two in omega arith
 test_flat (quotient a b) d h two = let m = max-le h two in omega (arith, m)
 test_flat (remainder a b) d h two = let m = max-le h two in omega (arith, m)
 test_flat (converted u) d h two = let m = max-le h two in omega (arith, m)

@@ -5,12 +5,12 @@ use Rattle.p3l_c.specs.Syntax.{Signed, number, temp, element, quotient, remainde
 use Rattle.p3l_c.specs.Translate.{Shapes, lines}
 
 -- the most brackets in one another, if each operator, cast and call is written with one pair, and a
--- literal with two
+-- literal with two, as also a constant may be
 unfoldable mutual
   pub signed_depth : Signed → ℕ
   signed_depth (number v) = 2
   signed_depth (temp k) = 0
-  signed_depth (element x ks) = 0
+  signed_depth (element x ks) = 2
   signed_depth (quotient a b) = suc (max (signed_depth a) (signed_depth b))
   signed_depth (remainder a b) = suc (max (signed_depth a) (signed_depth b))
   signed_depth (truth c) = suc (test_depth c)
