@@ -2,8 +2,8 @@
 #![tactic(auto)]
 
 ghost use Rattle.p3l_c.specs.Condition.{CMeans};
-ghost use Rattle.p3l_c.specs.Checked.{CheckedWrites};
 ghost use Rattle.p3l_c.specs.Nesting.{LinesAreFlat};
+ghost use Rattle.p3l_c.specs.Checked.{CheckedWrites};
 ghost use Rattle.p3l_c.specs.Text.{LinesStand, FrontsStand};
 
 /// A law of C functions: on all words, the function of a body has no undefined behaviour, ends, and
