@@ -4,4 +4,5 @@ pub mod Machine
 pub mod Translate
 pub mod Nesting
 pub mod Condition
+pub mod Text
 pub mod Checked
