@@ -4,6 +4,7 @@ pub mod Operators
 pub mod Steps
 pub mod Objects
 pub mod Expressions
+pub mod Temps
 pub mod Statements
 pub mod Texts
 pub mod Meant

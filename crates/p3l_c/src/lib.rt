@@ -3,6 +3,7 @@
 
 ghost use Rattle.p3l_c.specs.Condition.{CMeans};
 ghost use Rattle.p3l_c.specs.Nesting.{LinesAreFlat};
+ghost use Rattle.p3l_c.specs.Temps.{TempsAreDeclared};
 ghost use Rattle.p3l_c.specs.Checked.{CheckedWrites};
 ghost use Rattle.p3l_c.specs.Text.{LinesStand, FrontsStand};
 
@@ -10,6 +11,11 @@ ghost use Rattle.p3l_c.specs.Text.{LinesStand, FrontsStand};
 /// gives the meaning of the body.
 pub fn c_means()
     ensures { CMeans }
+{}
+
+/// A law of lines: they use only the temps that their statements count.
+pub fn temps_are_declared()
+    ensures { TempsAreDeclared }
 {}
 
 /// A law of lines: no expression nests more brackets than every C11 compiler takes.
