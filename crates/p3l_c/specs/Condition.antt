@@ -41,7 +41,8 @@ abbrev mutual
   FitsAll shapes none = Unit {0}
   FitsAll shapes (more e is) = Fits shapes e × FitsAll shapes is
 
--- a target is a variable, since a constant, `const` or a literal, is no modifiable lvalue (6.5.16p2)
+-- a target is a variable, since a constant, `const` or a literal, is no modifiable lvalue
+-- (6.5.16p2)
 abbrev pub FitsAssign : Shapes → Shapes → List ℕ → Phrases → Phrase → Type 0
 FitsAssign variables shapes name is e = IsDeclared variables name (count_of is) × FitsAll shapes is × Fits shapes e
 
