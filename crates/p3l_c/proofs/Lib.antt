@@ -1,0 +1,12 @@
+pub mod Helpers
+pub mod Nesting
+pub mod Operators
+pub mod Steps
+pub mod Objects
+pub mod Expressions
+pub mod Temps
+pub mod Statements
+pub mod Texts
+pub mod Meant
+pub mod Fitting
+pub mod Checked

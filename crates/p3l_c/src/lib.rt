@@ -1,0 +1,40 @@
+//! C functions of bodies: each does what its body means.
+#![tactic(auto)]
+
+ghost use Rattle.p3l_c.specs.Condition.{CMeans};
+ghost use Rattle.p3l_c.specs.Nesting.{LinesAreFlat};
+ghost use Rattle.p3l_c.specs.Temps.{TempsAreDeclared};
+ghost use Rattle.p3l_c.specs.Checked.{CheckedWrites};
+ghost use Rattle.p3l_c.specs.Text.{LinesStand, FrontsStand};
+
+/// A law of C functions: on all words, the function of a body has no undefined behaviour, ends, and
+/// gives the meaning of the body.
+pub fn c_means()
+    ensures { CMeans }
+{}
+
+/// A law of lines: they use only the temps that their statements count.
+pub fn temps_are_declared()
+    ensures { TempsAreDeclared }
+{}
+
+/// A law of lines: no expression nests more brackets than every C11 compiler takes.
+pub fn lines_are_flat()
+    ensures { LinesAreFlat }
+{}
+
+/// A law of checked bodies: each can be written as C.
+pub fn checked_writes()
+    ensures { CheckedWrites }
+{}
+
+/// A law of texts: the lines of statements before other lines are written as the lines of the
+/// statements, and then the others.
+pub fn lines_stand()
+    ensures { LinesStand }
+{}
+
+/// The same of the lines before the use of an expression.
+pub fn fronts_stand()
+    ensures { FrontsStand }
+{}
