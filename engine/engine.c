@@ -650,7 +650,7 @@ enum { LOOK_NS = 5000, FLUSH_NS = 20000, SPIN_NS = 200000, SHORTEST_SLEEP_NS = 1
 static MPI_Request requests[MOST_RANKS][SLOTS];
 static MPI_Request inbox_request;
 static int64_t *inbox;
-static long sleep_ns;
+static long sleep_ns = SHORTEST_SLEEP_NS;
 
 static void stop_ranks(int status)
 {
