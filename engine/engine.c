@@ -813,7 +813,7 @@ static void send_outbox(int rank)
     post(rank, box->slot, box->buffer[box->slot], box->fill);
     box->slot = (box->slot + 1) % SLOTS;
     box->fill = 0;
-    while (!is_posted(rank, box->slot)) if (!receive()) sched_yield();
+    while (!is_posted(rank, box->slot)) if (!receive()) rest();
 }
 
 static void send_all(void)
@@ -1678,7 +1678,7 @@ static void start(void)
 
 /* ---- the loop of a rank */
 
-enum { MOST_FIRINGS = 256, MOST_PACE = 64 };
+enum { MOST_FIRINGS = 256, MOST_PACE = 64, CROWDED_NS = 100000, CROWDED_FOR_NS = 50000000 };
 
 static uint64_t looked_ns, looked_input_ns;
 
@@ -1719,6 +1719,16 @@ static void turn(struct process *p)
     wake((int)(p - processes));
 }
 
+/* Decides whether a rank that waits looks again at once, and doesn't sleep.  Where another process was run in the time
+ * between two looks, the processors are needed: for a while it then sleeps at once, which wakes sooner. */
+static bool may_spin(uint64_t begun)
+{
+    static uint64_t last_ns, crowded_until;
+    if (last_ns >= begun && recent_ns - last_ns > CROWDED_NS) crowded_until = recent_ns + CROWDED_FOR_NS;
+    last_ns = recent_ns;
+    return recent_ns - begun < SPIN_NS && recent_ns >= crowded_until;
+}
+
 /* Waits until a process may be able to fire.  All that others wait for is sent first, and all results before it sleeps. */
 static void idle(void)
 {
@@ -1729,7 +1739,7 @@ static void idle(void)
         if (receive() || find_input()) continue;
         if (ranks == 1 && !wants_input) fail(BROKEN, "engine fault: nothing can fire");
         recent_ns = nanoseconds(CLOCK_MONOTONIC);
-        if (ranks > 1 && recent_ns - begun < SPIN_NS) sched_yield();
+        if (ranks > 1 && may_spin(begun)) sched_yield();
         else if (output.fill > 0) write_output();
         else rest();
     }
@@ -2084,11 +2094,13 @@ static int ranks_asked(void)
     return count;
 }
 
-/* Opens nothing in the place of a standard stream that is closed, so that no other file gets its number. */
+/* Opens a file in the place of a standard stream that is closed, so that no other one gets its number.  An input so
+ * opened can't be read, and an output can't be written. */
 static void open_streams(void)
 {
+    static const int modes[] = { O_WRONLY, O_RDONLY, O_RDWR };
     for (int stream = 0; stream < 3; stream++)
-        if (fcntl(stream, F_GETFD) < 0 && open("/dev/null", O_RDWR) != stream) _exit(BROKEN);
+        if (fcntl(stream, F_GETFD) < 0 && open("/dev/null", modes[stream]) != stream) _exit(BROKEN);
 }
 
 /* Finds out which rank this is; by the words, unless a launcher started it. */

@@ -328,6 +328,9 @@ def programs(is_all):
 SLOW = """seq slow in(int x) out(int y)
 ${ int i; for (i = 0; i < 100; i = i + 1) { y = y + x * i % 7; } }$ end seq
 farm main in(int x) out(int y) workers 3 slow in(x) out(y) end farm"""
+LONG = """seq turned in(int a[50]) out(int b[50])
+${ int i; for (i = 0; i < 50; i = i + 1) { b[i] = a[49 - i]; } }$ end seq
+farm main in(int a[50]) out(int b[50]) workers 3 turned in(a) out(b) end farm"""
 WIDE = """seq turned in(int a[65536]) out(int b[65536])
 ${ int i; for (i = 0; i < 65536; i = i + 1) { b[i] = a[65535 - i]; } }$ end seq
 farm main in(int a[65536]) out(int b[65536]) workers 2 turned in(a) out(b) end farm"""
@@ -430,9 +433,9 @@ class Edge:
 
     def try_long(self):
         """Long inputs and long lines in little memory."""
-        limit = f'ulimit -v {100_000}; exec "$@"'
-        for what, stream in (("a long input", b"1234\n" * 500_000),
-                             ("a long line", b"0" * 20_000_000 + b"7\n" + b" " * 20_000_000 + b"8\n")):
+        limit = 'ulimit -v 20000; exec "$@"'
+        for what, stream in (("a long input", (b"1234567 " * 50 + b"\n") * 60_000),
+                             ("a long line", b"0" * 25_000_000 + b"7" + b" 5" * 49 + b"\n" + b" " * 25_000_000)):
             wanted = self.checks.call(*self.model, stream=stream)
             self.expect(what, self.shell(limit, stream), wanted)
 
@@ -464,25 +467,35 @@ def try_no_memory(checks):
         checks.expect(f"no memory, {ranks} ranks", found, (11, b"", b"no memory\n"))
 
 
+def ready(checks, name, text, *options, compiler="cc"):
+    """The compiled program of a text, none where that failed, and the words of `run` for it."""
+    program = Program(name, text, b"", "8")
+    file, made = checks.export(program)
+    built = made and checks.compile(name, made, "-O2", *options, compiler=compiler)
+    return built, [checks.binary, "run", file, *program.words]
+
+
+def try_long(checks):
+    """Long inputs and lines, on one rank and on several."""
+    built, model = ready(checks, "long", LONG)
+    for ranks in ("1", "3") if built else ():
+        Edge(checks, f"{ranks} ranks", [built, "--ranks", ranks], model).try_long()
+
+
 def try_edges(checks):
     """The edges, without MPI."""
-    program = Program("slow", SLOW, b"", "8")
-    text, made = checks.export(program)
-    built = made and checks.compile("slow", made, "-O2")
+    built, model = ready(checks, "slow", SLOW)
     if not built:
         return
-    model = [checks.binary, "run", text, *program.words]
     for ranks in ("1", "3"):
         edge = Edge(checks, f"{ranks} ranks", [built, "--ranks", ranks], model)
         edge.try_streams()
         edge.try_one_by_one()
-        edge.try_long()
         edge.try_stats()
         if ranks != "1":
             edge.try_kill("first")
             edge.try_kill("other")
     try_words(checks, built)
-    try_no_memory(checks)
 
 
 def try_mpi(checks, kind, is_all):
@@ -500,11 +513,9 @@ def try_mpi(checks, kind, is_all):
         for ranks in ("2", "4") if built else ():
             found = checks.call(built, "--ranks", ranks, stream=program.stream)
             checks.expect(f"{program.name}, {ranks} ranks of {kind}", found, wanted)
-    program = Program("slow", SLOW, b"", "8")
-    text, made = checks.export(program)
-    built = made and checks.compile("slow", made, "-O2", "-DP3L_MPI", compiler=compiler)
+    built, model = ready(checks, "slow", SLOW, "-DP3L_MPI", compiler=compiler)
     if built:
-        edge = Edge(checks, kind, [built, "--ranks", "3"], [checks.binary, "run", text, *program.words], True)
+        edge = Edge(checks, kind, [built, "--ranks", "3"], model, True)
         edge.try_streams()
         edge.try_one_by_one()
         edge.try_stats()
@@ -522,7 +533,7 @@ def main():
         tasks = [(checks.try_program, program) for program in programs(given.all)
                  if not given.names or any(name in program.name for name in given.names)]
         if not given.names or "edge" in given.names:
-            tasks = [(try_edges, checks), *tasks]
+            tasks = [(try_edges, checks), (try_long, checks), (try_no_memory, checks), *tasks]
         if not given.names or "mpi" in given.names:
             tasks = [(try_mpi, checks, kind, given.all) for kind in MPI] + tasks
         with concurrent.futures.ThreadPoolExecutor(len(os.sched_getaffinity(0))) as pool:
