@@ -113,6 +113,7 @@ struct node {
     const int32_t *parts;
     meaning *run;
     struct area *ins, *outs;             /* a map's slices */
+    int between;                         /* the most words of a token between two parts of a comp */
     int64_t *work;                       /* a comp's tokens between its parts, a map's element, a fold's halves */
 };
 
@@ -136,21 +137,12 @@ static int64_t run_seq(const struct node *node, const int64_t *in, int64_t *out)
     return kind == 0 ? 0 : rescued(node, trap_of(node, kind), out);
 }
 
-/* The most words of a token between two parts of a comp. */
-static int widest_between(const struct node *node)
-{
-    int most = 1;
-    for (int i = 0; i + 1 < node->row->parts; i++)
-        if (part_of(node, i)->row->outs > most) most = part_of(node, i)->row->outs;
-    return most;
-}
-
 static int64_t run_comp(const struct node *node, const int64_t *in, int64_t *out)
 {
-    int last = node->row->parts - 1, widest = widest_between(node);
+    int last = node->row->parts - 1;
     for (int i = 0; i <= last; i++) {
         const struct node *part = part_of(node, i);
-        int64_t *to = i == last ? out : node->work + (size_t)(i % 2) * (size_t)widest;
+        int64_t *to = i == last ? out : node->work + i % 2 * node->between;
         int64_t trap = part->run(part, in, to);
         if (trap != 0) return rescued(node, trap, out);
         in = to;
@@ -294,6 +286,8 @@ static void make_nodes(void)
         node->module = &MODULE[node->row->module];
         node->parts = next_part;
         node->run = MEANING[node->row->form];
+        for (int i = 0; i + 1 < node->row->parts; i++)
+            if (NODE[next_part[i]].outs > node->between) node->between = NODE[next_part[i]].outs;
         next_part += node->row->parts;
         node->ins = next_areas(node->row->in_slices);
         node->outs = next_areas(node->row->out_slices);
@@ -302,7 +296,7 @@ static void make_nodes(void)
 
 static size_t work_of(const struct node *node)
 {
-    if (node->row->form == FORM_COMP) return 2 * (size_t)widest_between(node);
+    if (node->row->form == FORM_COMP) return 2 * (size_t)node->between;
     if (node->row->form == FORM_MAP) return (size_t)(part_of(node, 0)->row->ins + part_of(node, 0)->row->outs);
     size_t levels = 1;
     for (int count = node->row->first; count > 1; count -= count / 2) levels++;
@@ -1461,15 +1455,15 @@ static size_t words_held(const struct process *p)
  *
  * The processes that run bodies go by their load, the longest first, each to the rank that is then least loaded.  That
  * gives a bound; within it each goes to the rank where most of its tokens come from and go to, so that neighbours of a
- * pipe stay together.  The others go where most of their tokens come from and go to, as long as no rank gets more of
- * them than its share of all work.  Source and sink are on rank 0. */
+ * pipe stay together.  The others go where most of their tokens come from and go to, as long as no rank gets much more
+ * of them than its share of all work.  Source and sink are on rank 0. */
 
 /* The turns that a token is taken to make in a loop, to guess how many tokens a channel carries. */
 enum { GUESSED_TURNS = 4 };
 
 static double rate[CHANNELS];            /* tokens for one item */
 static double load_of[MOST_RANKS];
-static double share;                     /* of a rank in the load of all processes */
+static double share;                     /* the load of a rank, where all have equally much, and half of that more */
 static bool *wires;                      /* which two ranks have a channel between them, or one with rank 0 */
 
 static bool has_wire(int a, int b) { return wires[a * ranks + b]; }
@@ -1604,7 +1598,7 @@ static void find_ranks(void)
         if (load > greatest) greatest = load;
         all += load;
     }
-    share = all / ranks > greatest ? all / ranks : greatest;
+    share = 1.5 * (all / ranks > greatest ? all / ranks : greatest);
     qsort(order, (size_t)count, sizeof *order, by_load);
     find_rates();
     place_bodies(order, count, place_bodies(order, count, 0));
@@ -1796,6 +1790,7 @@ static void tell_caller(int status)
 #ifdef P3L_MPI
 
 enum { STREAMS = 3, ENDING_MS = 3000, MOST_SAID = 16384 };
+#define SOON_NS UINT64_C(3000000000)
 
 static const char NO_CALLER[] = "rank 0 must be on the machine of its caller";
 
@@ -1951,15 +1946,24 @@ static bool hear_launcher(int pipe)
     return true;
 }
 
-/* Lets rank 0 have the streams, and waits for its status; -1 where the launcher ended without one. */
+static void show_said(void)
+{
+    fwrite(said, 1, said_bytes, stderr);
+    said_bytes = 0;
+}
+
+/* Lets rank 0 have the streams, and waits for its status; -1 where the launcher ended without one.  Where rank 0 doesn't come
+ * soon, it shows what the launcher says: some say why, and never end. */
 static int await_status(struct meeting *meeting, int pipe)
 {
     int told = -1, socket = -1;
     bool speaks = true;
+    uint64_t begun = nanoseconds(CLOCK_MONOTONIC);
     for (;;) {
         struct pollfd asks[2] = { { socket >= 0 ? socket : meeting->socket, POLLIN, 0 }, { speaks ? pipe : -1, POLLIN, 0 } };
         if (poll(asks, 2, 100) < 0 && errno != EINTR) return -1;
         if (asks[1].revents != 0) speaks = hear_launcher(pipe);
+        if (socket < 0 && nanoseconds(CLOCK_MONOTONIC) - begun > SOON_NS) show_said();
         if (asks[0].revents != 0 && socket < 0) {
             socket = accept(meeting->socket, NULL, NULL);
             if (socket >= 0) send_streams(socket);
@@ -1970,6 +1974,7 @@ static int await_status(struct meeting *meeting, int pipe)
             close(socket);
             return told;
         }
+        if (signalled != 0) return -1;
         if (socket < 0 && waitpid(launcher, NULL, WNOHANG) == launcher) { launcher = 0; return -1; }
     }
 }
@@ -2008,7 +2013,7 @@ static _Noreturn void launch(char *program, char *count, char *hosts, bool wants
         watch_signals(SIG_DFL);
         raise(signalled);
     }
-    fwrite(said, 1, said_bytes, stderr);
+    show_said();
     fprintf(stderr, "a rank was lost\n");
     exit(LOST);
 }
@@ -2103,12 +2108,21 @@ static void open_streams(void)
         if (fcntl(stream, F_GETFD) < 0 && open("/dev/null", modes[stream]) != stream) _exit(BROKEN);
 }
 
-/* Finds out which rank this is; by the words, unless a launcher started it. */
+#ifdef P3L_MPI
+/* Decides whether a launcher started this program. */
+static bool is_launched(void)
+{
+    return getenv("PMI_RANK") != NULL || getenv("PMIX_RANK") != NULL || getenv("OMPI_COMM_WORLD_RANK") != NULL;
+}
+#endif
+
+/* Finds out which rank this is: by the words, unless a launcher started it. */
 static void find_rank(int *argc, char ***argv)
 {
 #ifdef P3L_MPI
     read_words(*argv);
     ranks_asked();
+    if (words.ranks != NULL && is_launched()) refuse_words();
     if (words.ranks != NULL) launch((*argv)[0], words.ranks, words.hosts, words.stats);
     MPI_Init(argc, argv);
     MPI_Comm_rank(MPI_COMM_WORLD, &my_rank);
