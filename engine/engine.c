@@ -1,39 +1,45 @@
 /* The engine: it runs the network of the tables above on one rank or several.
  *
- * THE NETWORK.  A process is fired by the row of its kind (docs/MODEL.md, "Firing"); each row is one function below.
- * Each process lives on one rank and is fired there only.  A rank is this program itself, a forked copy of it on the
- * same machine, or a process that an MPI launcher started.  Ranks share no memory.
+ * THE NETWORK. A process is fired by the row of its kind (docs/MODEL.md, "Firing"); each row is one
+ * function below. Each process lives on one rank and is fired there only. A rank is this program
+ * itself, a forked copy of it on the same machine, or a process that an MPI launcher started. Ranks
+ * share no memory.
  *
- * WIRES.  A channel between two ranks has four parts, which always add up to its capacity (docs/MODEL.md, "Wires"):
+ * WIRES. A channel between two ranks has four parts, which always add up to its capacity
+ * (docs/MODEL.md, "Wires"):
  *
- *     the model's   here                                                       at the rank of
- *     ring          `count` tokens of `ring`                                   its reader
- *     flight        tokens in the writer's outbox, and in messages             its writer; on their way
- *     credit        `credit`                                                   its writer
- *     back          `back`, and the credits in messages                        its reader; on their way
+ *     the model's   here                                              at the rank of
+ *     ring          `count` tokens of `ring`                          its reader
+ *     flight        tokens in an outbox, and in messages              its writer, or on their way
+ *     credit        `credit`                                          its writer
+ *     back          `back`, and credits in messages                   its reader, or on their way
  *
- * A writer puts a token only where it has credit, and has one less from then on.  A reader gives a place back after
- * it has taken the token out, never when the token arrives.  So each token that arrives has its place in the ring,
- * and a rank's memory is bounded by the capacities.  A channel within one rank is its ring alone: its reader sees all
- * its tokens, and its writer has all other places as credit.
+ * A writer puts a token only where it has credit, and has one less from then on. A reader gives a
+ * place back after it has taken the token out, never when the token arrives. So each token that
+ * arrives has its place in the ring, and a rank's memory is bounded by the capacities. A channel
+ * within one rank is its ring alone: its reader sees all its tokens, and its writer has all other
+ * places as credit.
  *
- * MESSAGES.  Tokens and credits for another rank gather in an outbox.  It is sent when it is full, before a long
- * body, when FLUSH_NS have passed since it became due, and when its rank can fire nothing.  Between two ranks
- * messages keep their order, so the tokens of a channel do.
+ * MESSAGES. Tokens and credits for another rank gather in an outbox. It is sent when it is full,
+ * before a long body, when FLUSH_NS have passed since it became due, and when its rank can fire
+ * nothing. Between two ranks messages keep their order, so the tokens of a channel do.
  *
- * NO DEADLOCK.  A rank waits for another one in three places only, and in all of them it goes on receiving, for which
- * it needs no buffer and no room: until a message of its own is sent (`send_outbox`), where it can fire nothing
- * (`idle`), and at the end (`farewell`).  So every message arrives.  A rank that can fire nothing has first sent all
- * its tokens and all its places back.  So if no rank can fire and no message is on its way, all is quiet as the model
- * says it, and all outcomes of the items were emitted; the source and the sink, which are both on rank 0, then end the run.
+ * NO DEADLOCK. A rank waits for another one in three places only, and in all of them it goes on
+ * receiving, for which it needs no buffer and no room: until a message of its own is sent
+ * (`send_outbox`), where it can fire nothing (`idle`), and at the end (`farewell`). So every
+ * message arrives. A rank that can fire nothing has first sent all its tokens and all its places
+ * back. So if no rank can fire and no message is on its way, all is quiet as the model says it, and
+ * all outcomes of the items were emitted; the source and the sink, which are both on rank 0, then
+ * end the run.
  *
- * THE ORDER OF FIRINGS.  By what their rank knows, an emit chooses among the lines with credit, a head takes what
- * came back before a new token, and a tail lets out before it takes in.  All of these are ways of the model
- * (docs/MODEL.md, "Ways"), so the results don't depend on them, nor on how late a message comes.
+ * THE ORDER OF FIRINGS. By what their rank knows, an emit chooses among the lines with credit, a
+ * head takes what came back before a new token, and a tail lets out before it takes in. All of
+ * these are ways of the model (docs/MODEL.md, "Ways"), so the results don't depend on them, nor on
+ * how late a message comes.
  *
- * THE END.  Rank 0 says goodbye to all when the input has ended and as many outcomes were emitted as items sent, or
- * when the sink has met a trap, or when nothing can be written.  Each rank then says goodbye to those that it has a
- * wire with, and leaves when it has heard it from all of them.
+ * THE END. Rank 0 says goodbye to all when the input has ended and as many outcomes were emitted as
+ * items sent, or when the sink has met a trap, or when nothing can be written. Each rank then says
+ * goodbye to those that it has a wire with, and leaves when it has heard it from all of them.
  */
 #include <errno.h>
 #include <fcntl.h>
@@ -56,14 +62,25 @@
 
 /* ---- endings, memory and clocks */
 
-/* The statuses are those of `p3l run`, and two more: LOST, a rank ended early; BROKEN, the engine broke its own rule. */
-enum { DONE = 0, USAGE = 2, REFUSED = 6, TRAPPED = 7, READ_FAULT = 8, WRITE_FAULT = 10, NO_MEMORY = 11, TOO_LONG = 14,
-       LOST = 16, BROKEN = 70 };
+/* The statuses are those of `p3l run`, and two more: LOST, a rank ended early; BROKEN, the
+ * engine broke its own rule. */
+enum {
+    DONE = 0,
+    USAGE = 2,
+    REFUSED = 6,
+    TRAPPED = 7,
+    READ_FAULT = 8,
+    WRITE_FAULT = 10,
+    NO_MEMORY = 11,
+    TOO_LONG = 14,
+    LOST = 16,
+    BROKEN = 70
+};
 
 enum { MOST_RANKS = 512 };
 
 static int my_rank, ranks = 1;
-static bool stopping;                    /* no process is fired any more */
+static bool stopping; /* no process is fired any more */
 
 static void stop_ranks(int status);
 
@@ -94,16 +111,16 @@ static size_t bytes(int words) { return (size_t)words * sizeof(int64_t); }
 
 /* ---- nodes: their meaning, by form (docs/MODEL.md, "What an item comes to")
  *
- * The function of a node gives 0 and its out words, or a trap: 1 + its kind + 8 * its module.  Only nodes whose parts
- * run one after another have one. */
+ * The function of a node gives 0 and its out words, or a trap: 1 + its kind + 8 * its module.
+ * Only nodes whose parts run one after another have one. */
 
 struct node;
 typedef int64_t meaning(const struct node *node, const int64_t *in, int64_t *out);
 
-/* The words of one element in one array of a token, in three nested rows; the innermost is copied at once where its
- * words stand side by side.  A step of a free index moves them all. */
+/* The words of one element in one array of a token, in three nested rows; the innermost is
+ * copied at once where its words stand side by side. A step of a free index moves them all. */
 struct area {
-    size_t start, by_first, by_second, words;
+    size_t start, by_first, by_second;
     size_t count[3], stride[3];
 };
 
@@ -112,18 +129,22 @@ struct node {
     const struct module_row *module;
     const int32_t *parts;
     meaning *run;
-    struct area *ins, *outs;             /* a map's slices */
-    int between;                         /* the most words of a token between two parts of a comp */
-    int64_t *work;                       /* a comp's tokens between its parts, a map's element, a fold's halves */
+    struct area *ins, *outs; /* a map's slices */
+    int between;             /* the most words of a token between two parts of a comp */
+    int64_t *work; /* a comp's tokens between its parts, a map's element, a fold's halves */
 };
 
 static struct node nodes[NODES];
 
 static const struct node *part_of(const struct node *node, int i) { return &nodes[node->parts[i]]; }
 
-static int64_t trap_of(const struct node *node, int64_t kind) { return kind + 8 * (int64_t)node->row->module; }
+static int64_t trap_of(const struct node *node, int64_t kind)
+{
+    return kind + 8 * (int64_t)node->row->module;
+}
 
-/* The outcome of a `seq` or a `comp`: a trap becomes the rescue number, where the module has one. */
+/* The outcome of a `seq` or a `comp`: a trap becomes the rescue number, where the module has
+ * one. */
 static int64_t rescued(const struct node *node, int64_t trap, int64_t *out)
 {
     if (trap == 0 || !node->module->has_rescue) return trap;
@@ -150,8 +171,10 @@ static int64_t run_comp(const struct node *node, const int64_t *in, int64_t *out
     return 0;
 }
 
-/* Copies the words of element (i, j) out of the array of a whole token; gives the place behind them. */
-static int64_t *copy_out(const struct area *area, size_t i, size_t j, const int64_t *whole, int64_t *piece)
+/* Copies the words of element (i, j) out of the array of a whole token; gives the place behind
+ * them. */
+static int64_t *copy_out(const struct area *area, size_t i, size_t j, const int64_t *whole,
+                         int64_t *piece)
 {
     const int64_t *base = whole + area->start + i * area->by_first + j * area->by_second;
     for (size_t a = 0; a < area->count[0]; a++)
@@ -159,14 +182,17 @@ static int64_t *copy_out(const struct area *area, size_t i, size_t j, const int6
             const int64_t *from = base + a * area->stride[0] + b * area->stride[1];
             size_t count = area->count[2], stride = area->stride[2];
             if (stride == 1 && count > 4) memcpy(piece, from, count * sizeof *piece);
-            else for (size_t c = 0; c < count; c++) piece[c] = from[c * stride];
+            else
+                for (size_t c = 0; c < count; c++) piece[c] = from[c * stride];
             piece += count;
         }
     return piece;
 }
 
-/* Copies the words of element (i, j) into the array of a whole token; gives the place behind them. */
-static const int64_t *copy_in(const struct area *area, size_t i, size_t j, const int64_t *piece, int64_t *whole)
+/* Copies the words of element (i, j) into the array of a whole token; gives the place behind
+ * them. */
+static const int64_t *copy_in(const struct area *area, size_t i, size_t j, const int64_t *piece,
+                              int64_t *whole)
 {
     int64_t *base = whole + area->start + i * area->by_first + j * area->by_second;
     for (size_t a = 0; a < area->count[0]; a++)
@@ -174,26 +200,32 @@ static const int64_t *copy_in(const struct area *area, size_t i, size_t j, const
             int64_t *to = base + a * area->stride[0] + b * area->stride[1];
             size_t count = area->count[2], stride = area->stride[2];
             if (stride == 1 && count > 4) memcpy(to, piece, count * sizeof *piece);
-            else for (size_t c = 0; c < count; c++) to[c * stride] = piece[c];
+            else
+                for (size_t c = 0; c < count; c++) to[c * stride] = piece[c];
             piece += count;
         }
     return piece;
 }
 
-static int64_t elements_of(const struct node *map) { return (int64_t)map->row->first * map->row->second; }
+static int64_t elements_of(const struct node *map)
+{
+    return (int64_t)map->row->first * map->row->second;
+}
 
 /* The in words of a map's element, from those of the whole token. */
 static void cut(const struct node *map, const int64_t *whole, int64_t *piece, int64_t element)
 {
     size_t i = (size_t)(element / map->row->second), j = (size_t)(element % map->row->second);
-    for (int s = 0; s < map->row->in_slices; s++) piece = copy_out(&map->ins[s], i, j, whole, piece);
+    for (int s = 0; s < map->row->in_slices; s++)
+        piece = copy_out(&map->ins[s], i, j, whole, piece);
 }
 
 /* Puts the out words of a map's element into the whole token. */
 static void join(const struct node *map, const int64_t *piece, int64_t *whole, int64_t element)
 {
     size_t i = (size_t)(element / map->row->second), j = (size_t)(element % map->row->second);
-    for (int s = 0; s < map->row->out_slices; s++) piece = copy_in(&map->outs[s], i, j, piece, whole);
+    for (int s = 0; s < map->row->out_slices; s++)
+        piece = copy_in(&map->outs[s], i, j, piece, whole);
 }
 
 static int64_t run_map(const struct node *node, const int64_t *in, int64_t *out)
@@ -209,18 +241,23 @@ static int64_t run_map(const struct node *node, const int64_t *in, int64_t *out)
     return 0;
 }
 
-/* Folds by halves, the first rounded down: the left trap, else the right one, else the operator on both.  Each level
- * has its own pair of results in `pairs`. */
-static int64_t fold_halves(const struct node *reduce, const int64_t *in, int64_t count, int64_t *out, int64_t *pairs)
+/* Folds by halves, the first rounded down: the left trap, else the right one, else the operator
+ * on both. Each level has its own pair of results in `pairs`. */
+static int64_t fold_halves(const struct node *reduce, const int64_t *in, int64_t count,
+                           int64_t *out, int64_t *pairs)
 {
-    const struct node *operator = part_of(reduce, 0);
+    const struct node *combine = part_of(reduce, 0);
     int64_t words = reduce->row->second;
-    if (count == 1) { memcpy(out, in, bytes((int)words)); return 0; }
-    if (count == 2) return operator->run(operator, in, out);
+    if (count == 1) {
+        memcpy(out, in, bytes((int)words));
+        return 0;
+    }
+    if (count == 2) return combine->run(combine, in, out);
     int64_t half = count / 2, *below = pairs + 2 * words;
     int64_t trap = fold_halves(reduce, in, half, pairs, below);
-    if (trap == 0) trap = fold_halves(reduce, in + half * words, count - half, pairs + words, below);
-    return trap != 0 ? trap : operator->run(operator, pairs, out);
+    if (trap == 0)
+        trap = fold_halves(reduce, in + half * words, count - half, pairs + words, below);
+    return trap != 0 ? trap : combine->run(combine, pairs, out);
 }
 
 static int64_t fold(const struct node *reduce, const int64_t *in, int64_t count, int64_t *out)
@@ -233,15 +270,21 @@ static int64_t run_reduce(const struct node *node, const int64_t *in, int64_t *o
     return fold(node, in, node->row->first, out);
 }
 
-static meaning *const MEANING[] = { [FORM_SEQ] = run_seq, [FORM_COMP] = run_comp, [FORM_MAP] = run_map,
-                                    [FORM_REDUCE] = run_reduce, [FORM_LOOP] = NULL };
+static meaning *const MEANING[] = { [FORM_SEQ] = run_seq,
+                                    [FORM_COMP] = run_comp,
+                                    [FORM_MAP] = run_map,
+                                    [FORM_REDUCE] = run_reduce,
+                                    [FORM_LOOP] = NULL };
 
 /* Adds a row outside those that the area has; two whose words follow one another become one. */
 static void add_row(struct area *area, size_t count, size_t stride)
 {
     int at = 2;
     while (at > 0 && area->count[at - 1] > 1) at--;
-    if (area->count[at] > 1 && stride == area->count[at] * area->stride[at]) { area->count[at] *= count; return; }
+    if (area->count[at] > 1 && stride == area->count[at] * area->stride[at]) {
+        area->count[at] *= count;
+        return;
+    }
     if (area->count[at] > 1) at--;
     area->count[at] = count;
     area->stride[at] = stride;
@@ -250,13 +293,15 @@ static void add_row(struct area *area, size_t count, size_t stride)
 /* The area of a slice; a dimension of size 1 moves nothing. */
 static struct area area_of(const struct slice_row *slice, const struct dim_row *dims)
 {
-    struct area area = { .start = (size_t)slice->start, .words = 1, .count = { 1, 1, 1 }, .stride = { 1, 1, 1 } };
+    struct area area = { .start = (size_t)slice->start,
+                         .count = { 1, 1, 1 },
+                         .stride = { 1, 1, 1 } };
     size_t stride = 1;
     for (int d = slice->dims - 1; d >= 0; d--) {
         size_t size = (size_t)dims[d].size;
         if (dims[d].place == PLACE_FIRST) area.by_first += stride;
         else if (dims[d].place == PLACE_SECOND) area.by_second += stride;
-        else if (size > 1) { add_row(&area, size, stride); area.words *= size; }
+        else if (size > 1) add_row(&area, size, stride);
         stride *= size;
     }
     return area;
@@ -276,7 +321,8 @@ static struct area *next_areas(int count)
     return areas;
 }
 
-/* Finds where the parts and the slices of each node begin, since the rows only say how many there are. */
+/* Finds where the parts and the slices of each node begin, since the rows only say how many
+ * there are. */
 static void make_nodes(void)
 {
     const int32_t *next_part = PART;
@@ -297,14 +343,15 @@ static void make_nodes(void)
 static size_t work_of(const struct node *node)
 {
     if (node->row->form == FORM_COMP) return 2 * (size_t)node->between;
-    if (node->row->form == FORM_MAP) return (size_t)(part_of(node, 0)->row->ins + part_of(node, 0)->row->outs);
+    if (node->row->form == FORM_MAP)
+        return (size_t)(part_of(node, 0)->row->ins + part_of(node, 0)->row->outs);
     size_t levels = 1;
     for (int count = node->row->first; count > 1; count -= count / 2) levels++;
     return node->row->form == FORM_REDUCE ? 2 * levels * (size_t)node->row->second : 0;
 }
 
-/* Gives a node that is run at this rank, and all below it, the memory in which they work.  One set serves all processes of
- * the node, since they are fired one at a time. */
+/* Gives a node that is run at this rank, and all below it, the memory in which they work. One
+ * set serves all processes of the node, since they are fired one at a time. */
 static void prepare(int n)
 {
     struct node *node = &nodes[n];
@@ -314,30 +361,31 @@ static void prepare(int n)
 
 /* ---- channels and processes: their state */
 
-/* A token is a row of words: 0 or its trap, its tags from the oldest to the newest, and the words of its value. */
+/* A token is a row of words: 0 or its trap, its tags from the oldest to the newest, and the
+ * words of its value. */
 struct channel {
     int capacity, words, tags;
-    int stride;                          /* the words of a row */
-    int writer, reader;                  /* processes */
+    int stride;         /* the words of a row */
+    int writer, reader; /* processes */
     int writer_rank, reader_rank;
-    int64_t *ring;                       /* rows, from `front` on, round the end */
+    int64_t *ring; /* rows, from `front` on, round the end */
     int front, count;
-    int credit;                          /* the writer's, of a channel between two ranks */
-    int back;                            /* the places that its reader has freed and not yet given back */
+    int credit; /* the writer's, of a channel between two ranks */
+    int back;   /* the places that its reader has freed and not yet given back */
 };
 
 struct process {
     const struct process_row *row;
     const struct node *node;
-    const int32_t *ins, *outs;           /* channels */
+    const int32_t *ins, *outs; /* channels */
     int rank;
-    int64_t number;                      /* the next one: of a token, an element or a segment */
-    bool holds;                          /* it holds a token of which pieces are left to send */
-    int64_t *held;                       /* rows: the token held, or the results, or the tokens that wait in a tail */
-    int line;                            /* the first of its channels that an emit or a collect looks at */
+    int64_t number; /* the next one: of a token, an element or a segment */
+    bool holds;     /* it holds a token of which pieces are left to send */
+    int64_t *held;  /* rows: the token held, or the results, or the tokens that wait in a tail */
+    int line;       /* the first of its channels that an emit or a collect looks at */
     bool queued;
-    int pace;                            /* its firings between two looks at the clock */
-    bool is_long;                        /* a firing takes longer than tokens may wait */
+    int pace;     /* its firings between two looks at the clock */
+    bool is_long; /* a firing takes longer than tokens may wait */
 };
 
 static struct channel channels[CHANNELS];
@@ -347,14 +395,17 @@ static struct process processes[PROCESSES];
 static struct {
     bool wanted;
     uint64_t firings, messages, tokens;
-    uint64_t begun_ns, begun_cpu_ns, idle_ns, idle_cpu_ns;
+    uint64_t begun_cpu_ns, idle_ns, idle_cpu_ns;
 } stats;
 
 static bool is_between_ranks(const struct channel *c) { return c->writer_rank != c->reader_rank; }
 
-/* Queues of the processes that may be able to fire, each at most once.  Those that only move tokens come first: they
- * keep the others supplied. */
-struct queue { int at[PROCESSES]; int head, count; };
+/* Queues of the processes that may be able to fire, each at most once. Those that only move
+ * tokens come first: they keep the others supplied. */
+struct queue {
+    int at[PROCESSES];
+    int head, count;
+};
 static struct queue movers, bodies;
 
 static bool runs_body(int kind) { return kind == KIND_RUN || kind == KIND_JOIN; }
@@ -386,7 +437,8 @@ static struct process *next_queued(void)
 
 static int64_t *row_of(struct channel *c, int at)
 {
-    if (c->ring == NULL) c->ring = room_for((size_t)c->capacity * (size_t)c->stride, sizeof(int64_t));
+    if (c->ring == NULL)
+        c->ring = room_for((size_t)c->capacity * (size_t)c->stride, sizeof(int64_t));
     return c->ring + (size_t)at * (size_t)c->stride;
 }
 
@@ -397,12 +449,12 @@ static int64_t *free_row(struct channel *c)
     return row_of(c, at < c->capacity ? at : at - c->capacity);
 }
 
-/* ---- the carrier: how messages go from rank to rank.  There are two, with one surface:
+/* ---- the carrier: how messages go from rank to rank. There are two, with one surface:
  *
  *   start_carrier   begins, once `most_words` is known, the most words that a message has
  *   post            begins to send a message, whose words stay in use until it is posted
  *   is_posted       tells whether the message of a slot was sent; goes on sending
- *   receive         hands all messages that have come to `open_message`; goes on sending; false where none had come
+ *   receive         opens all messages that have come; goes on sending; false where none had come
  *   rest            waits for a message or, where the source wants it, for input
  *   end_carrier     sends the last messages, and ends
  *   stop_ranks      ends all ranks at once, by force
@@ -412,7 +464,7 @@ static int64_t *free_row(struct channel *c)
 enum { SLOTS = 4, LEAST_BUFFER = 8192 };
 
 static int most_words;
-static bool wants_input;                 /* the source waits for bytes */
+static bool wants_input; /* the source waits for bytes */
 
 static void open_message(const int64_t *message, int words, int from);
 static bool has_wire(int a, int b);
@@ -420,17 +472,24 @@ static void tell_caller(int status);
 
 #ifndef P3L_MPI
 
-/* Forked copies of this program, each two with a wire joined by a pair of sockets.  Rank 0 is the program itself. */
+/* Forked copies of this program, each two with a wire joined by a pair of sockets. Rank 0 is the
+ * program itself. */
 
-/* How often it looks for messages while it can fire, how long tokens may wait in an outbox, and how long it looks for
- * messages without a pause before it sleeps: sleeping and waking cost more than that. */
+/* How often it looks for messages while it can fire, how long tokens may wait in an outbox, and
+ * how long it looks for messages without a pause before it sleeps: sleeping and waking cost more
+ * than that. */
 enum { LOOK_NS = 15000, FLUSH_NS = 20000, SPIN_NS = 50000 };
 
 struct link {
-    int socket;                          /* -1 where there is no wire, or the other rank has left */
-    struct { const int64_t *at; int64_t words; size_t done; bool open; } out[SLOTS];
-    int next;                            /* the slot that is being sent */
-    char *in;                            /* bytes that came, of which those from `start` to `end` are still to be opened */
+    int socket; /* -1 where there is no wire, or the other rank has left */
+    struct {
+        const int64_t *at;
+        int64_t words;
+        size_t done;
+        bool open;
+    } out[SLOTS];
+    int next; /* the slot that is being sent */
+    char *in; /* bytes that came, of which those from `start` to `end` are still to be opened */
     size_t start, end, room;
 };
 
@@ -457,7 +516,8 @@ static void make_pairs(void)
     for (int a = 0; a < ranks; a++)
         for (int b = 0; b < a; b++) {
             int pair[2] = { -1, -1 };
-            if (has_wire(a, b) && socketpair(AF_UNIX, SOCK_STREAM, 0, pair) != 0) fail(LOST, "ranks can't be started");
+            if (has_wire(a, b) && socketpair(AF_UNIX, SOCK_STREAM, 0, pair) != 0)
+                fail(LOST, "ranks can't be started");
             *ends_of_pairs(a, b) = pair[0];
             *ends_of_pairs(b, a) = pair[1];
         }
@@ -475,7 +535,8 @@ static void keep_links(void)
         }
 }
 
-/* Gives up the streams, which are rank 0's: who reads the output then sees its end when rank 0 ends. */
+/* Gives up the streams, which are rank 0's: who reads the output then sees its end when rank 0
+ * ends. */
 static void leave_streams(void)
 {
     int none = open("/dev/null", O_RDWR);
@@ -508,12 +569,12 @@ static void fork_ranks(void)
     keep_links();
 }
 
-static void start_carrier(void) { }
+static void start_carrier(void) {}
 
 static bool has_left(int rank);
 
-/* Ends the run, since the socket of another rank was closed before it had said goodbye.  That rank may have said why.
- * Only rank 0 judges it: the others wait for rank 0's end. */
+/* Ends the run, since the socket of another rank was closed before it had said goodbye. That
+ * rank may have said why. Only rank 0 judges it: the others wait for rank 0's end. */
 static void lose(int rank)
 {
     int status = 0;
@@ -524,19 +585,22 @@ static void lose(int rank)
     if (my_rank != 0) return;
     waitpid(children[rank], &status, 0);
     children[rank] = 0;
-    if (!WIFEXITED(status) || WEXITSTATUS(status) == 0 || WEXITSTATUS(status) == LOST) fail(LOST, "a rank was lost");
+    if (!WIFEXITED(status) || WEXITSTATUS(status) == 0 || WEXITSTATUS(status) == LOST)
+        fail(LOST, "a rank was lost");
     stop_ranks(LOST);
     _exit(WEXITSTATUS(status));
 }
 
-/* Sends what the socket takes without waiting: each message is its number of words, and its words. */
+/* Sends what the socket takes without waiting: each message is its number of words, and its
+ * words. */
 static void push(int rank)
 {
     struct link *link = &links[rank];
     while (link->socket >= 0 && link->out[link->next].open) {
         int64_t *words = &link->out[link->next].words;
         size_t done = link->out[link->next].done, all = ((size_t)*words + 1) * sizeof *words;
-        struct iovec parts[2] = { { words, sizeof *words }, { (void *)link->out[link->next].at, all - sizeof *words } };
+        struct iovec parts[2] = { { words, sizeof *words },
+                                  { (void *)link->out[link->next].at, all - sizeof *words } };
         int first = done < sizeof *words ? 0 : 1;
         size_t skip = done - (first == 0 ? 0 : sizeof *words);
         parts[first].iov_base = (char *)parts[first].iov_base + skip;
@@ -544,7 +608,10 @@ static void push(int rank)
         ssize_t sent = writev(link->socket, parts + first, 2 - first);
         if (sent < 0 && errno == EINTR) continue;
         if (sent < 0 && (errno == EAGAIN || errno == EWOULDBLOCK || errno == ENOBUFS)) return;
-        if (sent < 0) { lose(rank); return; }
+        if (sent < 0) {
+            lose(rank);
+            return;
+        }
         link->out[link->next].done += (size_t)sent;
         if (link->out[link->next].done < all) continue;
         link->out[link->next].open = false;
@@ -591,13 +658,17 @@ static bool pull(int rank)
     link->start = 0;
     ssize_t got = read(link->socket, link->in + link->end, link->room - link->end);
     if (got < 0 && (errno == EINTR || errno == EAGAIN || errno == EWOULDBLOCK)) return false;
-    if (got <= 0) { lose(rank); return false; }
+    if (got <= 0) {
+        lose(rank);
+        return false;
+    }
     link->end += (size_t)got;
     open_whole(link, rank);
     return true;
 }
 
-/* Asks for the sockets that have something to read, or that take what is to be sent; waits at most `ms`. */
+/* Asks for the sockets that have something to read, or that take what is to be sent; waits at
+ * most `ms`. */
 static int ask(struct pollfd *asked, int ms)
 {
     for (int r = 0; r < ranks; r++) {
@@ -636,10 +707,16 @@ static void end_carrier(void)
 
 #else
 
-/* MPI.  It has no call that waits for a message but only so long, so a rank without work looks, then yields, then
- * sleeps for longer and longer. */
+/* MPI. It has no call that waits for a message but only so long, so a rank without work looks,
+ * then yields, then sleeps for longer and longer. */
 
-enum { LOOK_NS = 5000, FLUSH_NS = 20000, SPIN_NS = 200000, SHORTEST_SLEEP_NS = 10000, LONGEST_SLEEP_NS = 200000 };
+enum {
+    LOOK_NS = 5000,
+    FLUSH_NS = 20000,
+    SPIN_NS = 200000,
+    SHORTEST_SLEEP_NS = 10000,
+    LONGEST_SLEEP_NS = 200000
+};
 
 static MPI_Request requests[MOST_RANKS][SLOTS];
 static MPI_Request inbox_request;
@@ -715,23 +792,26 @@ static void end_carrier(void)
 
 /* ---- outboxes: what waits to be sent to another rank */
 
-/* A message is a list of records, which begin with a word: its last two bits say what the record is.  A token's row
- * follows its word, and a rank's counts follow its goodbye. */
+/* A message is a list of records, which begin with a word: its last two bits say what the record
+ * is. A token's row follows its word, and a rank's counts follow its goodbye. */
 enum { TOKEN, CREDIT, GOODBYE };
 enum { COUNTS = 5 };
-static int64_t record(int form, int channel, int count) { return form + 4 * ((int64_t)channel + ((int64_t)count << 24)); }
+static int64_t record(int form, int channel, int count)
+{
+    return form + 4 * ((int64_t)channel + ((int64_t)count << 24));
+}
 
 struct outbox {
     int64_t *buffer[SLOTS];
     int slot, fill;
-    int *owed, owed_count;               /* the channels from that rank with places to give back */
-    bool is_due;                         /* it has tokens, or places enough, that may not wait longer than FLUSH_NS */
+    int *owed, owed_count; /* the channels from that rank with places to give back */
+    bool is_due; /* it has tokens, or places enough, that may not wait longer than FLUSH_NS */
     uint64_t due_since;
 };
 
 static struct outbox outboxes[MOST_RANKS];
-static uint64_t recent_ns;               /* the time of the last look at the clock */
-static int goodbyes;                     /* ranks that said it */
+static uint64_t recent_ns; /* the time of the last look at the clock */
+static int goodbyes;       /* ranks that said it */
 static bool said_goodbye[MOST_RANKS];
 static uint64_t counts_of[MOST_RANKS][COUNTS];
 
@@ -739,7 +819,7 @@ static uint64_t counts_of[MOST_RANKS][COUNTS];
 static bool has_left(int rank) { return said_goodbye[rank]; }
 #endif
 
-/* Takes a token that has come.  Its writer had credit, so it has a place. */
+/* Takes a token that has come. Its writer had credit, so it has a place. */
 static void accept_token(struct channel *c, const int64_t *token)
 {
     if (c->count == c->capacity) fail(BROKEN, "engine fault: a token without a place");
@@ -780,7 +860,8 @@ static void open_message(const int64_t *message, int words, int from)
 
 static int64_t *buffer_of(struct outbox *box)
 {
-    if (box->buffer[box->slot] == NULL) box->buffer[box->slot] = room_for((size_t)most_words, sizeof(int64_t));
+    if (box->buffer[box->slot] == NULL)
+        box->buffer[box->slot] = room_for((size_t)most_words, sizeof(int64_t));
     return box->buffer[box->slot];
 }
 
@@ -796,7 +877,8 @@ static void add_credits(struct outbox *box)
     box->owed_count = 0;
 }
 
-/* Sends what an outbox holds and turns to its next buffer.  While that one is still being sent, it receives. */
+/* Sends what an outbox holds and turns to its next buffer. While that one is still being sent,
+ * it receives. */
 static void send_outbox(int rank)
 {
     struct outbox *box = &outboxes[rank];
@@ -807,7 +889,8 @@ static void send_outbox(int rank)
     post(rank, box->slot, box->buffer[box->slot], box->fill);
     box->slot = (box->slot + 1) % SLOTS;
     box->fill = 0;
-    while (!is_posted(rank, box->slot)) if (!receive()) rest();
+    while (!is_posted(rank, box->slot))
+        if (!receive()) rest();
 }
 
 static void send_all(void)
@@ -846,7 +929,8 @@ static void put_sent(struct channel *c)
     make_due(box);
 }
 
-/* Notes a freed place.  It goes back with the next message; half the places of a channel are a reason for one. */
+/* Notes a freed place. It goes back with the next message; half the places of a channel are a
+ * reason for one. */
 static void give_back(struct channel *c)
 {
     struct outbox *box = &outboxes[c->writer_rank];
@@ -881,16 +965,20 @@ static void say_goodbye(int rank)
     send_outbox(rank);
 }
 
-/* Says goodbye to all ranks that have a wire with this one, and waits until all of them have said it. */
+/* Says goodbye to all ranks that have a wire with this one, and waits until all of them have
+ * said it. */
 static void farewell(void)
 {
     int wires = wires_of(my_rank);
     wants_input = false;
-    for (int r = 0; r < ranks; r++) if (has_wire(my_rank, r)) say_goodbye(r);
-    while (goodbyes < wires) if (!receive()) rest();
+    for (int r = 0; r < ranks; r++)
+        if (has_wire(my_rank, r)) say_goodbye(r);
+    while (goodbyes < wires)
+        if (!receive()) rest();
 }
 
-/* ---- channels as processes see them.  A firing puts its token before it takes the one that it came from. */
+/* ---- channels as processes see them. A firing puts its token before it takes the one that it
+ * came from. */
 
 static bool has_front(int i) { return channels[i].count > 0; }
 
@@ -934,7 +1022,8 @@ static void take(int i)
     else if (before == c->capacity) wake(c->writer);
 }
 
-/* Copies a token's trap and `tags` of its tags; and a value's words, from behind `had` tags to behind `has`. */
+/* Copies a token's trap and `tags` of its tags; and a value's words, from behind `had` tags to
+ * behind `has`. */
 static void copy_token(int64_t *to, int has, const int64_t *from, int had, int tags, int words)
 {
     memcpy(to, from, bytes(1 + tags));
@@ -948,7 +1037,12 @@ static void copy_token(int64_t *to, int has, const int64_t *from, int had, int t
 
 enum { BAD_WORD = 100, WRONG_COUNT = 101, OUT_OF_RANGE = 102, MOST_DIGITS = 19 };
 
-static struct { char at[65536]; size_t start, end; bool at_end; uint64_t taken; } input;
+static struct {
+    char at[65536];
+    size_t start, end;
+    bool at_end;
+    uint64_t taken;
+} input;
 static bool input_ended;
 static uint64_t items_sent, outcomes_emitted;
 
@@ -973,16 +1067,23 @@ static bool input_is_ready(void)
     return poll(&asks, 1, 0) != 0;
 }
 
-/* Reads more bytes where that needs no waiting; false where there are none now.  All bytes before were passed. */
+/* Reads more bytes where that needs no waiting; false where there are none now. All bytes before
+ * were passed. */
 static bool read_input(void)
 {
-    if (input.taken == MOST_INPUT) { end_input(TOO_LONG, "input too long"); return true; }
+    if (input.taken == MOST_INPUT) {
+        end_input(TOO_LONG, "input too long");
+        return true;
+    }
     if (!input_is_ready()) return false;
     size_t most = sizeof input.at;
     if (most > MOST_INPUT - input.taken) most = (size_t)(MOST_INPUT - input.taken);
     ssize_t got = read(0, input.at, most);
     if (got < 0 && (errno == EINTR || errno == EAGAIN || errno == EWOULDBLOCK)) return false;
-    if (got < 0) { end_input(READ_FAULT, "read fault"); return true; }
+    if (got < 0) {
+        end_input(READ_FAULT, "read fault");
+        return true;
+    }
     input.at_end = got == 0;
     input.start = 0;
     input.end = (size_t)got;
@@ -990,13 +1091,14 @@ static bool read_input(void)
     return true;
 }
 
-/* A line is read byte by byte and kept as its numbers, so a line of any length needs no more room than an item. */
+/* A line is read byte by byte and kept as its numbers, so a line of any length needs no more
+ * room than an item. */
 static struct {
-    uint64_t passed;                     /* lines before this one */
-    uint64_t words;                      /* of this line, whole ones */
-    bool begun, has_return;              /* it has bytes; the last one was a carriage return */
-    bool in_word, is_negative, is_bad, has_digits;
-    int digits;                          /* of the word, without leading zeros */
+    uint64_t passed;        /* lines before this one */
+    uint64_t words;         /* of this line, whole ones */
+    bool begun, has_return; /* it has bytes; the last one was a carriage return */
+    bool in_word, is_negative, has_digits;
+    int digits; /* of the word, without leading zeros */
     uint64_t value;
 } line;
 
@@ -1008,9 +1110,11 @@ static void refuse_line(int fault)
     char text[96];
     unsigned long long number = (unsigned long long)line.passed + 1;
     if (fault == WRONG_COUNT)
-        snprintf(text, sizeof text, "stream: line %llu: 101 WrongCount %llu", number, (unsigned long long)line.words);
+        snprintf(text, sizeof text, "stream: line %llu: 101 WrongCount %llu", number,
+                 (unsigned long long)line.words);
     else
-        snprintf(text, sizeof text, "stream: line %llu: %d %s", number, fault, fault == BAD_WORD ? "BadWord" : "OutOfRange");
+        snprintf(text, sizeof text, "stream: line %llu: %d %s", number, fault,
+                 fault == BAD_WORD ? "BadWord" : "OutOfRange");
     end_input(REFUSED, text);
 }
 
@@ -1018,9 +1122,16 @@ static void end_word(int width)
 {
     if (!line.in_word) return;
     line.in_word = false;
-    if (!line.has_digits) { refuse_line(BAD_WORD); return; }
-    if (line.digits > MOST_DIGITS || line.value > (uint64_t)INT64_MAX + line.is_negative) { refuse_line(OUT_OF_RANGE); return; }
-    if (line.words < (uint64_t)width) item[line.words] = p3l_signed(line.is_negative ? 0 - line.value : line.value);
+    if (!line.has_digits) {
+        refuse_line(BAD_WORD);
+        return;
+    }
+    if (line.digits > MOST_DIGITS || line.value > (uint64_t)INT64_MAX + line.is_negative) {
+        refuse_line(OUT_OF_RANGE);
+        return;
+    }
+    if (line.words < (uint64_t)width)
+        item[line.words] = p3l_signed(line.is_negative ? 0 - line.value : line.value);
     line.words++;
 }
 
@@ -1032,12 +1143,14 @@ static void begin_word(void)
     line.value = 0;
 }
 
-/* Reads digits from here on; gives the place behind them.  The value of more than MOST_DIGITS isn't used. */
+/* Reads digits from here on; gives the place behind them. The value of more than MOST_DIGITS
+ * isn't used. */
 static const char *read_digits(const char *at, const char *end)
 {
     if (!line.in_word) begin_word();
     line.has_digits = true;
-    if (line.digits == 0) while (at < end && *at == '0') at++;
+    if (line.digits == 0)
+        while (at < end && *at == '0') at++;
     const char *first = at;
     uint64_t value = line.value;
     for (; at < end && *at >= '0' && *at <= '9'; at++) value = 10 * value + (uint64_t)(*at - '0');
@@ -1047,17 +1160,26 @@ static const char *read_digits(const char *at, const char *end)
     return at;
 }
 
-/* Reads bytes of a line up to its line feed, or to the end of the bytes; gives the place where it stopped. */
+/* Reads bytes of a line up to its line feed, or to the end of the bytes; gives the place where
+ * it stopped. */
 static const char *read_bytes(const char *at, const char *end, int width)
 {
     line.begun = true;
     while (at < end && *at != '\n' && !input_ended) {
-        if (line.has_return) { refuse_line(BAD_WORD); break; }
-        if (*at >= '0' && *at <= '9') { at = read_digits(at, end); continue; }
+        if (line.has_return) {
+            refuse_line(BAD_WORD);
+            break;
+        }
+        if (*at >= '0' && *at <= '9') {
+            at = read_digits(at, end);
+            continue;
+        }
         if (*at == ' ' || *at == '\t') end_word(width);
         else if (*at == '\r') line.has_return = true;
-        else if (*at == '-' && !line.in_word) { begin_word(); line.is_negative = true; }
-        else refuse_line(BAD_WORD);
+        else if (*at == '-' && !line.in_word) {
+            begin_word();
+            line.is_negative = true;
+        } else refuse_line(BAD_WORD);
         at++;
     }
     return at;
@@ -1069,7 +1191,10 @@ static bool end_line_of(int width)
     line.has_return = line.begun = false;
     end_word(width);
     if (input_ended) return false;
-    if (line.words != 0 && line.words != (uint64_t)width) { refuse_line(WRONG_COUNT); return false; }
+    if (line.words != 0 && line.words != (uint64_t)width) {
+        refuse_line(WRONG_COUNT);
+        return false;
+    }
     bool is_item = line.words != 0;
     line.words = 0;
     line.passed++;
@@ -1111,16 +1236,22 @@ static bool find_input(void)
 
 /* ---- the output */
 
-enum { MOST_NUMBER = 20 };               /* bytes of a word */
+enum { MOST_NUMBER = 20 }; /* bytes of a word */
 
-static struct { char at[65536]; size_t fill; } output;
+static struct {
+    char at[65536];
+    size_t fill;
+} output;
 
 /* Writes the results that are there; false where that failed, which ends the run. */
 static bool write_output(void)
 {
     for (size_t at = 0; at < output.fill;) {
         ssize_t wrote = write(1, output.at + at, output.fill - at);
-        if (wrote >= 0) { at += (size_t)wrote; continue; }
+        if (wrote >= 0) {
+            at += (size_t)wrote;
+            continue;
+        }
         if (errno == EINTR) continue;
         if (errno == EAGAIN || errno == EWOULDBLOCK) {
             struct pollfd asks = { 1, POLLOUT, 0 };
@@ -1136,8 +1267,10 @@ static bool write_output(void)
     return true;
 }
 
-static const char PAIRS[] = "00010203040506070809101112131415161718192021222324252627282930313233343536373839404142434445464748"
-                            "4950515253545556575859606162636465666768697071727374757677787980818283848586878889909192939495969798"
+static const char PAIRS[] = "0001020304050607080910111213141516171819202122232425262728293031323334"
+                            "3536373839404142434445464748"
+                            "4950515253545556575859606162636465666768697071727374757677787980818283"
+                            "848586878889909192939495969798"
                             "99";
 
 /* Writes a word in decimal, two digits at a time; gives the place behind it. */
@@ -1166,7 +1299,8 @@ static bool put_result(const int64_t *words, int count)
     return true;
 }
 
-/* ---- firing: a function for each kind of process, by its row in docs/MODEL.md; true where it fired */
+/* ---- firing: a function for each kind of process, by its row in docs/MODEL.md; true where it
+ * fired */
 
 /* Stops the run once every item has its outcome. */
 static void look_for_end(void)
@@ -1178,7 +1312,10 @@ static bool fire_source(struct process *p)
 {
     int out = p->outs[0], words = p->node->row->ins;
     if (!has_room(out)) return false;
-    if (!next_item(words)) { look_for_end(); return false; }
+    if (!next_item(words)) {
+        look_for_end();
+        return false;
+    }
     int64_t *token = next_row(out);
     token[0] = 0;
     memcpy(token + 1, item, bytes(words));
@@ -1187,14 +1324,15 @@ static bool fire_source(struct process *p)
     return true;
 }
 
-static const char *const TRAPS[] = { "division by zero", "division overflow", "index out of range",
-                                     "shift out of range", "budget spent", "turns spent" };
+static const char *const TRAPS[] = { "division by zero",   "division overflow",
+                                     "index out of range", "shift out of range",
+                                     "budget spent",       "turns spent" };
 
 static void emit_trap(int64_t trap)
 {
     char text[sizeof end_line];
-    snprintf(text, sizeof text, "trap: item %llu: %s in %s", (unsigned long long)outcomes_emitted, TRAPS[(trap - 1) % 8],
-             MODULE[(trap - 1) / 8].name);
+    snprintf(text, sizeof text, "trap: item %llu: %s in %s", (unsigned long long)outcomes_emitted,
+             TRAPS[(trap - 1) % 8], MODULE[(trap - 1) / 8].name);
     end_with(TRAPPED, text);
     stopping = true;
 }
@@ -1222,14 +1360,16 @@ static bool fire_run(struct process *p)
     if (from[0] == 0) {
         const int64_t *words = from + 1 + tags;
         int64_t *results = to + 1 + tags;
-        to[0] = p->row->arg == 0 ? p->node->run(p->node, words, results) : fold(p->node, words, p->row->arg, results);
+        to[0] = p->row->arg == 0 ? p->node->run(p->node, words, results)
+                                 : fold(p->node, words, p->row->arg, results);
     }
     put(out);
     take(in);
     return true;
 }
 
-/* The line with the most credit, or the first with a credit for all its places, from the one after the last used. */
+/* The line with the most credit, or the first with a credit for all its places, from the one
+ * after the last used. */
 static int idlest_line(const struct process *p)
 {
     int best = -1, most = 0;
@@ -1327,7 +1467,10 @@ static bool fire_gather(struct process *p)
 /* Sends the segments one after another; `line` is the first word of the next one. */
 static bool fire_split(struct process *p)
 {
-    if (!p->holds) { p->line = 0; return hold(p); }
+    if (!p->holds) {
+        p->line = 0;
+        return hold(p);
+    }
     int out = p->outs[p->number], tags = channels[out].tags, words = channels[out].words;
     if (!has_room(out)) return false;
     int64_t *to = next_row(out);
@@ -1341,16 +1484,17 @@ static bool fire_split(struct process *p)
 
 static bool fire_join(struct process *p)
 {
-    int left = p->ins[0], right = p->ins[1], out = p->outs[0], tags = channels[out].tags, words = channels[out].words;
+    int left = p->ins[0], right = p->ins[1], out = p->outs[0], tags = channels[out].tags,
+        words = channels[out].words;
     if (!has_front(left) || !has_front(right) || !has_room(out)) return false;
-    const struct node *operator = part_of(p->node, 0);
+    const struct node *combine = part_of(p->node, 0);
     int64_t *to = next_row(out);
     memcpy(to, front(left), bytes(1 + tags));
     if (to[0] == 0) to[0] = front(right)[0];
     if (to[0] == 0) {
         memcpy(p->held, front(left) + 1 + tags, bytes(words));
         memcpy(p->held + words, front(right) + 1 + tags, bytes(words));
-        to[0] = operator->run(operator, p->held, to + 1 + tags);
+        to[0] = combine->run(combine, p->held, to + 1 + tags);
     }
     put(out);
     take(left);
@@ -1360,7 +1504,8 @@ static bool fire_join(struct process *p)
 
 static bool fire_head(struct process *p)
 {
-    int in = p->ins[0], round = p->ins[1], credits = p->ins[2], out = p->outs[0], tags = channels[in].tags;
+    int in = p->ins[0], round = p->ins[1], credits = p->ins[2], out = p->outs[0],
+        tags = channels[in].tags;
     if (!has_room(out)) return false;
     if (has_front(round)) {
         memcpy(next_row(out), front(round), bytes(channels[out].stride));
@@ -1379,8 +1524,8 @@ static bool fire_head(struct process *p)
     return true;
 }
 
-/* The place in which a tail holds the token of a number: no two of the tokens in a loop have the same, since there are
- * as many credits as places.  Its first word is 1 where a token is held. */
+/* The place in which a tail holds the token of a number: no two of the tokens in a loop have the
+ * same, since there are as many credits as places. Its first word is 1 where a token is held. */
 static int64_t *place_in_tail(struct process *p, int64_t number)
 {
     int places = channels[p->outs[2]].capacity, stride = channels[p->ins[0]].stride;
@@ -1407,7 +1552,8 @@ static int64_t judge(const struct process *p, const int64_t *token, int tags, bo
     const struct node *condition = part_of(p->node, 1);
     int64_t more = 0, trap = token[0];
     if (trap == 0) trap = condition->run(condition, token + 1 + tags, &more);
-    if (trap == 0 && more != 0 && token[tags] >= p->node->row->first) trap = trap_of(p->node, P3L_TURNS);
+    if (trap == 0 && more != 0 && token[tags] >= p->node->row->first)
+        trap = trap_of(p->node, P3L_TURNS);
     *again = trap == 0 && more != 0;
     return trap;
 }
@@ -1435,36 +1581,41 @@ static bool fire_tail(struct process *p)
 
 /* No network has a process of the kind fold-gather any more. */
 static bool (*const FIRE[KINDS])(struct process *) = {
-    [KIND_SOURCE] = fire_source, [KIND_SINK] = fire_sink, [KIND_RUN] = fire_run, [KIND_EMIT] = fire_emit,
-    [KIND_COLLECT] = fire_collect, [KIND_SCATTER] = fire_scatter, [KIND_GATHER] = fire_gather,
-    [KIND_SPLIT] = fire_split, [KIND_JOIN] = fire_join, [KIND_HEAD] = fire_head, [KIND_TAIL] = fire_tail };
+    [KIND_SOURCE] = fire_source, [KIND_SINK] = fire_sink,       [KIND_RUN] = fire_run,
+    [KIND_EMIT] = fire_emit,     [KIND_COLLECT] = fire_collect, [KIND_SCATTER] = fire_scatter,
+    [KIND_GATHER] = fire_gather, [KIND_SPLIT] = fire_split,     [KIND_JOIN] = fire_join,
+    [KIND_HEAD] = fire_head,     [KIND_TAIL] = fire_tail
+};
 
 /* The words that a process of a kind holds. */
 static size_t words_held(const struct process *p)
 {
     switch (p->row->kind) {
-    case KIND_SCATTER: case KIND_SPLIT: return (size_t)channels[p->ins[0]].stride;
+    case KIND_SCATTER:
+    case KIND_SPLIT: return (size_t)channels[p->ins[0]].stride;
     case KIND_GATHER: return (size_t)channels[p->outs[0]].stride;
     case KIND_JOIN: return 2 * (size_t)channels[p->outs[0]].words;
-    case KIND_TAIL: return (size_t)channels[p->outs[2]].capacity * (size_t)(channels[p->ins[0]].stride + 1);
+    case KIND_TAIL:
+        return (size_t)channels[p->outs[2]].capacity * (size_t)(channels[p->ins[0]].stride + 1);
     default: return 0;
     }
 }
 
-/* ---- the map: the rank of each process.  Every rank finds the same one.
+/* ---- the map: the rank of each process. Every rank finds the same one.
  *
- * The processes that run bodies go by their load, the longest first, each to the rank that is then least loaded.  That
- * gives a bound; within it each goes to the rank where most of its tokens come from and go to, so that neighbours of a
- * pipe stay together.  The others go where most of their tokens come from and go to, as long as no rank gets much more
- * of them than its share of all work.  Source and sink are on rank 0. */
+ * The processes that run bodies go by their load, the longest first, each to the rank that is
+ * then least loaded. That gives a bound; within it each goes to the rank where most of its
+ * tokens come from and go to, so that neighbours of a pipe stay together. The others go where
+ * most of their tokens come from and go to, as long as no rank gets much more of them than its
+ * share of all work. Source and sink are on rank 0. */
 
 /* The turns that a token is taken to make in a loop, to guess how many tokens a channel carries. */
 enum { GUESSED_TURNS = 4 };
 
-static double rate[CHANNELS];            /* tokens for one item */
+static double rate[CHANNELS]; /* tokens for one item */
 static double load_of[MOST_RANKS];
-static double share;                     /* the load of a rank, where all have equally much, and half of that more */
-static bool *wires;                      /* which two ranks have a channel between them, or one with rank 0 */
+static double share; /* the load of a rank, where all have equally much, and half of that more */
+static bool *wires;  /* which two ranks have a channel between them, or one with rank 0 */
 
 static bool has_wire(int a, int b) { return wires[a * ranks + b]; }
 
@@ -1483,7 +1634,8 @@ static double rate_out(const struct process *p)
     }
 }
 
-/* Guesses how many tokens each channel carries, by carrying the rates on from the source until all are known. */
+/* Guesses how many tokens each channel carries, by carrying the rates on from the source until
+ * all are known. */
 static void find_rates(void)
 {
     bool is_new = true;
@@ -1493,7 +1645,8 @@ static void find_rates(void)
             double out = rate_out(&processes[p]);
             for (int i = 0; i < processes[p].row->outs; i++) {
                 int c = processes[p].outs[i];
-                double found = processes[p].row->kind == KIND_TAIL && i == 1 ? rate[processes[p].ins[0]] : out;
+                double found =
+                    processes[p].row->kind == KIND_TAIL && i == 1 ? rate[processes[p].ins[0]] : out;
                 is_new |= rate[c] != found;
                 rate[c] = found;
             }
@@ -1509,12 +1662,14 @@ static void find_traffic(int p, double *traffic)
     for (int i = 0; i < process->row->ins + process->row->outs; i++) {
         int c = process->ins[i];
         int other = i < process->row->ins ? channels[c].writer : channels[c].reader;
-        if (processes[other].rank >= 0) traffic[processes[other].rank] += rate[c] * (channels[c].stride + 16);
+        if (processes[other].rank >= 0)
+            traffic[processes[other].rank] += rate[c] * (channels[c].stride + 16);
     }
 }
 
-/* The rank with the most traffic of those that stay within the bound; of equals the least loaded, and then the last, since
- * rank 0 has the streams to serve.  Where none stays within it, the least loaded one. */
+/* The rank with the most traffic of those that stay within the bound; of equals the least
+ * loaded, and then the last, since rank 0 has the streams to serve. Where none stays within it,
+ * the least loaded one. */
 static int nearest(int p, double bound)
 {
     static double traffic[MOST_RANKS];
@@ -1524,7 +1679,8 @@ static int nearest(int p, double bound)
     for (int r = ranks - 1; r >= 0; r--) {
         if (load_of[r] < load_of[idlest]) idlest = r;
         if (load_of[r] + load > bound + slack) continue;
-        bool is_better = best < 0 || traffic[r] > traffic[best] || (traffic[r] == traffic[best] && load_of[r] < load_of[best]);
+        bool is_better = best < 0 || traffic[r] > traffic[best] ||
+                         (traffic[r] == traffic[best] && load_of[r] < load_of[best]);
         if (is_better) best = r;
     }
     return best >= 0 ? best : idlest;
@@ -1535,7 +1691,8 @@ static bool is_body(int p) { return runs_body(processes[p].row->kind); }
 static int by_load(const void *a, const void *b)
 {
     int p = *(const int *)a, q = *(const int *)b;
-    if (processes[p].row->load != processes[q].row->load) return processes[p].row->load < processes[q].row->load ? 1 : -1;
+    if (processes[p].row->load != processes[q].row->load)
+        return processes[p].row->load < processes[q].row->load ? 1 : -1;
     return p < q ? -1 : 1;
 }
 
@@ -1544,10 +1701,12 @@ static void count_movers(void)
 {
     for (int r = 0; r < ranks; r++) load_of[r] = 0;
     for (int p = 0; p < PROCESSES; p++)
-        if (!is_body(p) && processes[p].rank >= 0) load_of[processes[p].rank] += (double)processes[p].row->load;
+        if (!is_body(p) && processes[p].rank >= 0)
+            load_of[processes[p].rank] += (double)processes[p].row->load;
 }
 
-/* Places the processes that run bodies, the longest first, by traffic within a bound; gives the greatest load of a rank. */
+/* Places the processes that run bodies, the longest first, by traffic within a bound; gives the
+ * greatest load of a rank. */
 static double place_bodies(const int *order, int count, double bound)
 {
     double greatest = 0;
@@ -1562,7 +1721,8 @@ static double place_bodies(const int *order, int count, double bound)
     return greatest;
 }
 
-/* Places the others; some of them only have neighbours of their kind, so it goes round more than once. */
+/* Places the others; some of them only have neighbours of their kind, so it goes round more than
+ * once. */
 static void place_movers(void)
 {
     count_movers();
@@ -1688,7 +1848,8 @@ static void look_round(void)
     find_input();
 }
 
-/* Looks at the clock after some firings of a process, which took about equally long; false where others have to be looked at. */
+/* Looks at the clock after some firings of a process, which took about equally long; false where
+ * others have to be looked at. */
 static bool may_go_on(struct process *p, uint64_t begun)
 {
     uint64_t before = recent_ns;
@@ -1713,20 +1874,24 @@ static void turn(struct process *p)
     wake((int)(p - processes));
 }
 
-/* Decides whether a rank that waits looks again at once, and doesn't sleep.  Where another process was run in the time
- * between two looks, the processors are needed: for a while it then sleeps at once, which wakes sooner. */
+/* Decides whether a rank that waits looks again at once, and doesn't sleep. Where another
+ * process was run in the time between two looks, the processors are needed: for a while it then
+ * sleeps at once, which wakes sooner. */
 static bool may_spin(uint64_t begun)
 {
     static uint64_t last_ns, crowded_until;
-    if (last_ns >= begun && recent_ns - last_ns > CROWDED_NS) crowded_until = recent_ns + CROWDED_FOR_NS;
+    if (last_ns >= begun && recent_ns - last_ns > CROWDED_NS)
+        crowded_until = recent_ns + CROWDED_FOR_NS;
     last_ns = recent_ns;
     return recent_ns - begun < SPIN_NS && recent_ns >= crowded_until;
 }
 
-/* Waits until a process may be able to fire.  All that others wait for is sent first, and all results before it sleeps. */
+/* Waits until a process may be able to fire. All that others wait for is sent first, and all
+ * results before it sleeps. */
 static void idle(void)
 {
-    uint64_t begun = nanoseconds(CLOCK_MONOTONIC), begun_cpu = stats.wanted ? nanoseconds(CLOCK_PROCESS_CPUTIME_ID) : 0;
+    uint64_t begun = nanoseconds(CLOCK_MONOTONIC),
+             begun_cpu = stats.wanted ? nanoseconds(CLOCK_PROCESS_CPUTIME_ID) : 0;
     send_all();
     recent_ns = begun;
     while (is_idle() && !stopping) {
@@ -1748,13 +1913,17 @@ static void run(void)
     recent_ns = nanoseconds(CLOCK_MONOTONIC);
     while (!stopping) {
         struct process *p = next_queued();
-        if (p == NULL) { idle(); continue; }
+        if (p == NULL) {
+            idle();
+            continue;
+        }
         turn(p);
         if (ranks > 1) look_round();
     }
     if (my_rank == 0) write_output();
     uint64_t cpu_ns = nanoseconds(CLOCK_PROCESS_CPUTIME_ID) - stats.begun_cpu_ns;
-    uint64_t counts[COUNTS] = { cpu_ns - stats.idle_cpu_ns, stats.idle_ns, stats.firings, stats.messages, stats.tokens };
+    uint64_t counts[COUNTS] = { cpu_ns - stats.idle_cpu_ns, stats.idle_ns, stats.firings,
+                                stats.messages, stats.tokens };
     memcpy(counts_of[my_rank], counts, sizeof counts);
     farewell();
 }
@@ -1764,25 +1933,29 @@ static void say_stats(void)
 {
     for (int r = 0; r < ranks; r++) {
         const uint64_t *counts = counts_of[r];
-        fprintf(stderr, "rank %d: work %.3f s, waiting %.3f s, firings %llu, messages %llu, tokens %llu\n", r, 1e-9 * (double)counts[0],
-                1e-9 * (double)counts[1], (unsigned long long)counts[2], (unsigned long long)counts[3], (unsigned long long)counts[4]);
+        fprintf(stderr,
+                "rank %d: work %.3f s, waiting %.3f s, firings %llu, messages %llu, tokens %llu\n",
+                r, 1e-9 * (double)counts[0], 1e-9 * (double)counts[1],
+                (unsigned long long)counts[2], (unsigned long long)counts[3],
+                (unsigned long long)counts[4]);
     }
 }
 
 /* ---- the caller: over MPI a program may be called by hand, as `./m --ranks K`
  *
- * Launchers don't keep streams whole: one ends a job whose input comes too fast, another loses results on a full disk.
- * So the program that is called by hand starts the launcher, and hands its own standard streams to rank 0, over a
- * socket that rank 0 finds by `--streams PATH`.  Over the same socket rank 0 tells it the status.  A run that ends
- * with a status is thus told from one that lost a rank; what the launcher says is written only where no status was told. */
+ * Launchers don't keep streams whole: one ends a job whose input comes too fast, another loses
+ * results on a full disk. So the program that is called by hand starts the launcher, and hands
+ * its own standard streams to rank 0, over a socket that rank 0 finds by `--streams PATH`. Over
+ * the same socket rank 0 tells it the status. A run that ends with a status is thus told from
+ * one that lost a rank; what the launcher says is written only where no status was told. */
 
-static int caller = -1;                  /* rank 0's socket to the program that was called */
+static int caller = -1; /* rank 0's socket to the program that was called */
 
 static void tell_caller(int status)
 {
     char byte = (char)status;
     if (caller < 0) return;
-    while (write(caller, &byte, 1) < 0 && errno == EINTR) { }
+    while (write(caller, &byte, 1) < 0 && errno == EINTR) {}
     close(caller);
     caller = -1;
 }
@@ -1797,17 +1970,24 @@ static const char NO_CALLER[] = "rank 0 must be on the machine of its caller";
 static struct sockaddr_un address_of(const char *path)
 {
     struct sockaddr_un address = { .sun_family = AF_UNIX };
-    if (strlen(path) >= sizeof address.sun_path) fail(LOST, "the name of the folder for temporary files is too long");
+    if (strlen(path) >= sizeof address.sun_path)
+        fail(LOST, "the name of the folder for temporary files is too long");
     memcpy(address.sun_path, path, strlen(path));
     return address;
 }
 
 /* A message of one byte with the descriptors of the standard streams. */
-union packet { struct cmsghdr head; char at[CMSG_SPACE(STREAMS * sizeof(int))]; };
+union packet {
+    struct cmsghdr head;
+    char at[CMSG_SPACE(STREAMS * sizeof(int))];
+};
 
 static struct msghdr message_of(union packet *packet, struct iovec *part)
 {
-    struct msghdr message = { .msg_iov = part, .msg_iovlen = 1, .msg_control = packet->at, .msg_controllen = sizeof packet->at };
+    struct msghdr message = { .msg_iov = part,
+                              .msg_iovlen = 1,
+                              .msg_control = packet->at,
+                              .msg_controllen = sizeof packet->at };
     return message;
 }
 
@@ -1824,7 +2004,7 @@ static void send_streams(int socket)
     head->cmsg_type = SCM_RIGHTS;
     head->cmsg_len = CMSG_LEN(sizeof streams);
     memcpy(CMSG_DATA(head), streams, sizeof streams);
-    while (sendmsg(socket, &message, 0) < 0 && errno == EINTR) { }
+    while (sendmsg(socket, &message, 0) < 0 && errno == EINTR) {}
 }
 
 /* Takes the caller's streams in the place of the launcher's. */
@@ -1837,10 +2017,12 @@ static void take_streams(const char *path)
     struct iovec part = { &byte, 1 };
     struct msghdr message = message_of(&packet, &part);
     int from = socket(AF_UNIX, SOCK_STREAM, 0);
-    if (from < 0 || connect(from, (const struct sockaddr *)&address, sizeof address) != 0) fail(LOST, NO_CALLER);
+    if (from < 0 || connect(from, (const struct sockaddr *)&address, sizeof address) != 0)
+        fail(LOST, NO_CALLER);
     if (recvmsg(from, &message, 0) != 1) fail(LOST, NO_CALLER);
     const struct cmsghdr *head = CMSG_FIRSTHDR(&message);
-    if (head == NULL || head->cmsg_type != SCM_RIGHTS || head->cmsg_len != CMSG_LEN(sizeof streams)) fail(LOST, NO_CALLER);
+    if (head == NULL || head->cmsg_type != SCM_RIGHTS || head->cmsg_len != CMSG_LEN(sizeof streams))
+        fail(LOST, NO_CALLER);
     memcpy(streams, CMSG_DATA(head), sizeof streams);
     for (int i = 0; i < STREAMS; i++) {
         dup2(streams[i], i);
@@ -1862,7 +2044,8 @@ static void watch_signals(void (*handler)(int))
 {
     static const int numbers[] = { SIGINT, SIGTERM, SIGHUP };
     struct sigaction action = { .sa_handler = handler };
-    for (size_t i = 0; i < sizeof numbers / sizeof *numbers; i++) sigaction(numbers[i], &action, NULL);
+    for (size_t i = 0; i < sizeof numbers / sizeof *numbers; i++)
+        sigaction(numbers[i], &action, NULL);
 }
 
 /* Becomes the launcher of the MPI that this was compiled with. */
@@ -1877,12 +2060,14 @@ static _Noreturn void exec_launcher(char **words)
     static const char *const names[] = { "mpiexec.hydra", "mpiexec.mpich", "mpiexec" };
 #endif
     if (chosen != NULL) execvp(words[0] = (char *)chosen, words);
-    for (size_t i = 0; chosen == NULL && i < sizeof names / sizeof *names; i++) execvp(words[0] = (char *)names[i], words);
+    for (size_t i = 0; chosen == NULL && i < sizeof names / sizeof *names; i++)
+        execvp(words[0] = (char *)names[i], words);
     fprintf(stderr, "no MPI launcher was found\n");
     _exit(LOST);
 }
 
-/* Starts the launcher, with an empty input; gives the end of a pipe at which all is read that it writes. */
+/* Starts the launcher, with an empty input; gives the end of a pipe at which all is read that it
+ * writes. */
 static int start_launcher(char **words)
 {
     int said[2];
@@ -1903,7 +2088,10 @@ static int start_launcher(char **words)
 }
 
 /* A folder of this user alone, with a socket in it at which rank 0 is awaited. */
-struct meeting { char folder[64], path[80]; int socket; };
+struct meeting {
+    char folder[64], path[80];
+    int socket;
+};
 
 static struct meeting make_meeting(void)
 {
@@ -1915,8 +2103,10 @@ static struct meeting make_meeting(void)
     snprintf(meeting.path, sizeof meeting.path, "%s/streams", meeting.folder);
     struct sockaddr_un address = address_of(meeting.path);
     meeting.socket = socket(AF_UNIX, SOCK_STREAM, 0);
-    bool is_made = meeting.socket >= 0 && bind(meeting.socket, (const struct sockaddr *)&address, sizeof address) == 0;
-    if (!is_made || listen(meeting.socket, 1) != 0) fail(LOST, "there is no folder for temporary files");
+    bool is_made = meeting.socket >= 0 &&
+                   bind(meeting.socket, (const struct sockaddr *)&address, sizeof address) == 0;
+    if (!is_made || listen(meeting.socket, 1) != 0)
+        fail(LOST, "there is no folder for temporary files");
     fcntl(meeting.socket, F_SETFD, FD_CLOEXEC);
     return meeting;
 }
@@ -1952,15 +2142,17 @@ static void show_said(void)
     said_bytes = 0;
 }
 
-/* Lets rank 0 have the streams, and waits for its status; -1 where the launcher ended without one.  Where rank 0 doesn't come
- * soon, it shows what the launcher says: some say why, and never end. */
+/* Lets rank 0 have the streams, and waits for its status; -1 where the launcher ended without
+ * one. Where rank 0 doesn't come soon, it shows what the launcher says: some say why, and never
+ * end. */
 static int await_status(struct meeting *meeting, int pipe)
 {
     int told = -1, socket = -1;
     bool speaks = true;
     uint64_t begun = nanoseconds(CLOCK_MONOTONIC);
     for (;;) {
-        struct pollfd asks[2] = { { socket >= 0 ? socket : meeting->socket, POLLIN, 0 }, { speaks ? pipe : -1, POLLIN, 0 } };
+        struct pollfd asks[2] = { { socket >= 0 ? socket : meeting->socket, POLLIN, 0 },
+                                  { speaks ? pipe : -1, POLLIN, 0 } };
         if (poll(asks, 2, 100) < 0 && errno != EINTR) return -1;
         if (asks[1].revents != 0) speaks = hear_launcher(pipe);
         if (socket < 0 && nanoseconds(CLOCK_MONOTONIC) - begun > SOON_NS) show_said();
@@ -1975,11 +2167,15 @@ static int await_status(struct meeting *meeting, int pipe)
             return told;
         }
         if (signalled != 0) return -1;
-        if (socket < 0 && waitpid(launcher, NULL, WNOHANG) == launcher) { launcher = 0; return -1; }
+        if (socket < 0 && waitpid(launcher, NULL, WNOHANG) == launcher) {
+            launcher = 0;
+            return -1;
+        }
     }
 }
 
-/* Waits for the launcher's end, and ends it by force where it doesn't come: some hang after their ranks are done. */
+/* Waits for the launcher's end, and ends it by force where it doesn't come: some hang after
+ * their ranks are done. */
 static void await_launcher(int pipe)
 {
     bool speaks = true;
@@ -1998,7 +2194,10 @@ static _Noreturn void launch(char *program, char *count, char *hosts, bool wants
     struct meeting meeting = make_meeting();
     char *words[12] = { NULL, "-n", count };
     int at = 3;
-    if (hosts != NULL) { words[at++] = "--hostfile"; words[at++] = hosts; }
+    if (hosts != NULL) {
+        words[at++] = "--hostfile";
+        words[at++] = hosts;
+    }
     words[at++] = program;
     words[at++] = "--streams";
     words[at++] = meeting.path;
@@ -2062,7 +2261,10 @@ static char *value_of(const char *name, char **argv, int *at)
 }
 
 /* The words of a call. */
-static struct { char *ranks, *hosts, *streams; bool stats; } words;
+static struct {
+    char *ranks, *hosts, *streams;
+    bool stats;
+} words;
 
 static void set_once(char **word, char *value)
 {
@@ -2080,8 +2282,10 @@ static void read_words(char **argv)
         else if ((value = value_of("--streams", argv, &i)) != NULL) set_once(&words.streams, value);
 #endif
         else if (strcmp(argv[i], "--stats") == 0 && !words.stats) words.stats = true;
-        else if (strcmp(argv[i], "--help") == 0 || strcmp(argv[i], "-h") == 0) { fputs(HELP, stdout); exit(fflush(stdout) != 0 ? WRITE_FAULT : DONE); }
-        else refuse_words();
+        else if (strcmp(argv[i], "--help") == 0 || strcmp(argv[i], "-h") == 0) {
+            fputs(HELP, stdout);
+            exit(fflush(stdout) != 0 ? WRITE_FAULT : DONE);
+        } else refuse_words();
     }
     stats.wanted = words.stats;
     if (words.hosts != NULL && words.ranks == NULL) refuse_words();
@@ -2093,14 +2297,15 @@ static int ranks_asked(void)
     const char *digits = words.ranks;
     if (digits == NULL) return 1;
     size_t length = strlen(digits);
-    if (length == 0 || length > 3 || strspn(digits, "0123456789") != length || digits[0] == '0') refuse_words();
+    if (length == 0 || length > 3 || strspn(digits, "0123456789") != length || digits[0] == '0')
+        refuse_words();
     int count = atoi(digits);
     if (count > MOST_RANKS) refuse_words();
     return count;
 }
 
-/* Opens a file in the place of a standard stream that is closed, so that no other one gets its number.  An input so
- * opened can't be read, and an output can't be written. */
+/* Opens a file in the place of a standard stream that is closed, so that no other one gets its
+ * number. An input so opened can't be read, and an output can't be written. */
 static void open_streams(void)
 {
     static const int modes[] = { O_WRONLY, O_RDONLY, O_RDWR };
@@ -2112,7 +2317,8 @@ static void open_streams(void)
 /* Decides whether a launcher started this program. */
 static bool is_launched(void)
 {
-    return getenv("PMI_RANK") != NULL || getenv("PMIX_RANK") != NULL || getenv("OMPI_COMM_WORLD_RANK") != NULL;
+    return getenv("PMI_RANK") != NULL || getenv("PMIX_RANK") != NULL ||
+           getenv("OMPI_COMM_WORLD_RANK") != NULL;
 }
 #endif
 

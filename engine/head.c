@@ -16,18 +16,20 @@ static inline int64_t p3l_signed(uint64_t u)
     return u <= UINT64_C(9223372036854775807) ? (int64_t)u : (-INT64_C(0) - 1) - (int64_t)(UINT64_C(18446744073709551615) - u);
 }
 
-/* Shifts right with copies of the sign; C leaves the plain shift of a negative number to the compiler. */
+/* Shifts right with copies of the sign; C leaves the plain shift of a negative number to the
+ * compiler. */
 static inline int64_t p3l_shr(int64_t x, int64_t k)
 {
     return x < INT64_C(0) ? (-INT64_C(0) - 1) - (int64_t)((uint64_t)((-INT64_C(0) - 1) - x) >> k) : (int64_t)((uint64_t)x >> k);
 }
 
 enum { FORM_SEQ, FORM_COMP, FORM_PIPE, FORM_FARM, FORM_MAP, FORM_REDUCE, FORM_LOOP };
-enum { KIND_SOURCE, KIND_SINK, KIND_RUN, KIND_EMIT, KIND_COLLECT, KIND_SCATTER, KIND_GATHER, KIND_SPLIT,
-       KIND_FOLD_GATHER, KIND_JOIN, KIND_HEAD, KIND_TAIL, KINDS };
+enum { KIND_SOURCE, KIND_SINK, KIND_RUN, KIND_EMIT, KIND_COLLECT, KIND_SCATTER, KIND_GATHER,
+       KIND_SPLIT, KIND_FOLD_GATHER, KIND_JOIN, KIND_HEAD, KIND_TAIL, KINDS };
 enum { PLACE_REST, PLACE_FIRST, PLACE_SECOND };
 
-/* A module: its name; the function of its body, if it is a `seq`; and its rescue number, if it has one. */
+/* A module: its name; the function of its body, if it is a `seq`; and its rescue number, if it
+ * has one. */
 struct module_row {
     const char *name;
     int64_t (*body)(const int64_t *restrict in, int64_t *restrict out);
@@ -35,9 +37,10 @@ struct module_row {
     int64_t rescue;
 };
 
-/* A node of the tree: its form, its module, the words of its tokens, how many parts it has, the two numbers of its
- * form, and how many slices. A map's numbers are the sizes of its free indices; a reduce's are its elements and the
- * words of one; a loop's are its turns and its tokens. */
+/* A node of the tree: its form, its module, the words of its tokens, how many parts it has, the
+ * two numbers of its form, and how many slices. A map's numbers are the sizes of its free
+ * indices; a reduce's are its elements and the words of one; a loop's are its turns and its
+ * tokens. */
 struct node_row { int32_t form, module, ins, outs, parts, first, second, in_slices, out_slices; };
 
 /* A slice of a map's token: its first word, and how many dimensions its array has. */
@@ -46,9 +49,10 @@ struct slice_row { int32_t start, dims; };
 /* A dimension of an array: its size, and the free index that runs over it, if one does. */
 struct dim_row { int32_t size, place; };
 
-/* A process: its kind, its node, the elements that it folds, if it folds a segment; how many channels it reads and
- * writes; and its ticks for one item. */
+/* A process: its kind, its node, the elements that it folds, if it folds a segment; how many
+ * channels it reads and writes; and its ticks for one item. */
 struct process_row { int32_t kind, node, arg, ins, outs; int64_t load; };
 
-/* A channel: its capacity, the credits that are in it at first, and the words and the tags of its tokens. */
+/* A channel: its capacity, the credits that are in it at first, and the words and the tags of
+ * its tokens. */
 struct channel_row { int32_t capacity, credits, words, tags; };
