@@ -138,11 +138,6 @@ static struct node nodes[NODES];
 
 static const struct node *part_of(const struct node *node, int i) { return &nodes[node->parts[i]]; }
 
-static int64_t trap_of(const struct node *node, int64_t kind)
-{
-    return kind + 8 * (int64_t)node->row->module;
-}
-
 /* The outcome of a `seq` or a `comp`: a trap becomes the rescue number, where the module has
  * one. */
 static int64_t rescued(const struct node *node, int64_t trap, int64_t *out)
@@ -154,8 +149,7 @@ static int64_t rescued(const struct node *node, int64_t trap, int64_t *out)
 
 static int64_t run_seq(const struct node *node, const int64_t *in, int64_t *out)
 {
-    int64_t kind = node->module->body(in, out);
-    return kind == 0 ? 0 : rescued(node, trap_of(node, kind), out);
+    return rescued(node, node->module->body(in, out), out);
 }
 
 static int64_t run_comp(const struct node *node, const int64_t *in, int64_t *out)
@@ -1324,6 +1318,9 @@ static bool fire_source(struct process *p)
     return true;
 }
 
+/* The kinds of traps, by their numbers. */
+enum { TURNS_SPENT = 5 };
+
 static const char *const TRAPS[] = { "division by zero",   "division overflow",
                                      "index out of range", "shift out of range",
                                      "budget spent",       "turns spent" };
@@ -1553,7 +1550,7 @@ static int64_t judge(const struct process *p, const int64_t *token, int tags, bo
     int64_t more = 0, trap = token[0];
     if (trap == 0) trap = condition->run(condition, token + 1 + tags, &more);
     if (trap == 0 && more != 0 && token[tags] >= p->node->row->first)
-        trap = trap_of(p->node, P3L_TURNS);
+        trap = 1 + TURNS_SPENT + 8 * (int64_t)p->node->row->module;
     *again = trap == 0 && more != 0;
     return trap;
 }

@@ -7,9 +7,6 @@
 
 _Static_assert(INT_MAX <= INT64_MAX, "an int is wider than a word");
 
-/* A body's function gives 0 where it has filled its out words, and else its trap. */
-enum { P3L_DIV_ZERO = 1, P3L_DIV_OVER, P3L_INDEX, P3L_SHIFT, P3L_BUDGET, P3L_TURNS };
-
 /* Converts modulo 2^64; C leaves the plain conversion of a large number to the compiler. */
 static inline int64_t p3l_signed(uint64_t u)
 {
@@ -28,8 +25,9 @@ enum { KIND_SOURCE, KIND_SINK, KIND_RUN, KIND_EMIT, KIND_COLLECT, KIND_SCATTER, 
        KIND_SPLIT, KIND_FOLD_GATHER, KIND_JOIN, KIND_HEAD, KIND_TAIL, KINDS };
 enum { PLACE_REST, PLACE_FIRST, PLACE_SECOND };
 
-/* A module: its name; the function of its body, if it is a `seq`; and its rescue number, if it
- * has one. */
+/* A module: its name; the function of its body, if it is a `seq`, which gives 0 where it has filled
+ * its out words, and else its trap, 1 + its kind + 8 * the module's number; and its rescue number,
+ * if it has one. */
 struct module_row {
     const char *name;
     int64_t (*body)(const int64_t *restrict in, int64_t *restrict out);
