@@ -462,7 +462,7 @@ static bool wants_input; /* the source waits for bytes */
 
 static void open_message(const int64_t *message, int words, int from);
 static bool has_wire(int a, int b);
-static void tell_caller(int status);
+static bool tell_caller(int status);
 
 #ifndef P3L_MPI
 
@@ -717,12 +717,14 @@ static MPI_Request inbox_request;
 static int64_t *inbox;
 static long sleep_ns = SHORTEST_SLEEP_NS;
 
+/* Rank 0 of a program that was called by hand tells its status and leaves; the launcher ends the
+ * others. Else MPI passes the status on. */
 static void stop_ranks(int status)
 {
-    tell_caller(status);
-    int begun = 0;
-    MPI_Initialized(&begun);
-    if (begun) MPI_Abort(MPI_COMM_WORLD, status);
+    int has_begun = 0;
+    if (tell_caller(status)) _exit(status);
+    MPI_Initialized(&has_begun);
+    if (has_begun) MPI_Abort(MPI_COMM_WORLD, status);
 }
 
 static void request_message(void)
@@ -766,9 +768,12 @@ static bool receive(void)
     }
 }
 
+static bool caller_has_ended(void);
+
 static void rest(void)
 {
     struct timespec t = { 0, sleep_ns };
+    if (caller_has_ended()) stop_ranks(LOST);
     nanosleep(&t, NULL);
     if (sleep_ns < LONGEST_SLEEP_NS) sleep_ns *= 2;
 }
@@ -1948,13 +1953,24 @@ static void say_stats(void)
 
 static int caller = -1; /* rank 0's socket to the program that was called */
 
-static void tell_caller(int status)
+#ifdef P3L_MPI
+/* Decides whether the program that was called has ended, so that no one waits for the results. */
+static bool caller_has_ended(void)
+{
+    struct pollfd asks = { caller, 0, 0 };
+    return caller >= 0 && poll(&asks, 1, 0) > 0;
+}
+#endif
+
+/* Tells the program that was called the status; false where none was called by hand. */
+static bool tell_caller(int status)
 {
     char byte = (char)status;
-    if (caller < 0) return;
+    if (caller < 0) return false;
     while (write(caller, &byte, 1) < 0 && errno == EINTR) {}
     close(caller);
     caller = -1;
+    return true;
 }
 
 #ifdef P3L_MPI
@@ -2030,6 +2046,7 @@ static void take_streams(const char *path)
 
 static volatile sig_atomic_t signalled;
 static pid_t launcher;
+static int launcher_status; /* as waitpid gives it, once the launcher has ended */
 
 static void pass_signal(int number)
 {
@@ -2139,6 +2156,12 @@ static void show_said(void)
     said_bytes = 0;
 }
 
+static bool launcher_has_ended(void)
+{
+    if (launcher > 0 && waitpid(launcher, &launcher_status, WNOHANG) == launcher) launcher = 0;
+    return launcher == 0;
+}
+
 /* Lets rank 0 have the streams, and waits for its status; -1 where the launcher ended without
  * one. Where rank 0 doesn't come soon, it shows what the launcher says: some say why, and never
  * end. */
@@ -2164,10 +2187,7 @@ static int await_status(struct meeting *meeting, int pipe)
             return told;
         }
         if (signalled != 0) return -1;
-        if (socket < 0 && waitpid(launcher, NULL, WNOHANG) == launcher) {
-            launcher = 0;
-            return -1;
-        }
+        if (socket < 0 && launcher_has_ended()) return -1;
     }
 }
 
@@ -2176,13 +2196,12 @@ static int await_status(struct meeting *meeting, int pipe)
 static void await_launcher(int pipe)
 {
     bool speaks = true;
-    for (int ms = 0; launcher > 0 && waitpid(launcher, NULL, WNOHANG) != launcher; ms += 5) {
+    for (int ms = 0; !launcher_has_ended(); ms += 5) {
         struct pollfd asks = { speaks ? pipe : -1, POLLIN, 0 };
         if (poll(&asks, 1, 5) > 0) speaks = hear_launcher(pipe);
         if (ms == ENDING_MS) kill(launcher, SIGTERM);
         if (ms == 2 * ENDING_MS) kill(launcher, SIGKILL);
     }
-    launcher = 0;
 }
 
 /* Runs the program on so many ranks, and ends with its status. */
@@ -2209,9 +2228,10 @@ static _Noreturn void launch(char *program, char *count, char *hosts, bool wants
         watch_signals(SIG_DFL);
         raise(signalled);
     }
+    if (WIFEXITED(launcher_status) && WEXITSTATUS(launcher_status) == NO_MEMORY)
+        fail(NO_MEMORY, "no memory");
     show_said();
-    fprintf(stderr, "a rank was lost\n");
-    exit(LOST);
+    fail(LOST, "a rank was lost");
 }
 
 #endif

@@ -35,7 +35,7 @@ RANKS = ["1", "2", "3", "4", "8"]
 CAPACITIES = ["1", "4", "64"]
 SECONDS = 120
 WIDTH = 6
-RANDOM_PROGRAMS, MANY_PROGRAMS = 24, 250
+RANDOM_PROGRAMS, MANY_PROGRAMS = 40, 250
 MPI = {"mpich": "mpicc.mpich", "openmpi": "mpicc.openmpi"}
 ENVIRONMENT = {
     **os.environ, "OMPI_ALLOW_RUN_AS_ROOT": "1", "OMPI_ALLOW_RUN_AS_ROOT_CONFIRM": "1",
@@ -520,6 +520,7 @@ def try_mpi(checks, kind, is_all):
         edge.try_one_by_one()
         edge.try_stats()
         edge.try_kill("other")
+        edge.try_kill("first")
 
 
 def main():
