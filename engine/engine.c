@@ -44,7 +44,6 @@
 #include <errno.h>
 #include <fcntl.h>
 #include <poll.h>
-#include <sched.h>
 #include <signal.h>
 #include <stdbool.h>
 #include <stdio.h>
@@ -472,7 +471,7 @@ static bool tell_caller(int status);
 /* How often it looks for messages while it can fire, how long tokens may wait in an outbox, and
  * how long it looks for messages without a pause before it sleeps: sleeping and waking cost more
  * than that. */
-enum { LOOK_NS = 15000, FLUSH_NS = 20000, SPIN_NS = 50000 };
+enum { LOOK_NS = 15000, FLUSH_NS = 20000, SPIN_NS = 30000 };
 
 struct link {
     int socket; /* -1 where there is no wire, or the other rank has left */
@@ -701,13 +700,13 @@ static void end_carrier(void)
 
 #else
 
-/* MPI. It has no call that waits for a message but only so long, so a rank without work looks,
- * then yields, then sleeps for longer and longer. */
+/* MPI. It has no call that waits for a message but only so long, so a rank without work looks for
+ * a while, and then sleeps for longer and longer between two looks. */
 
 enum {
     LOOK_NS = 5000,
     FLUSH_NS = 20000,
-    SPIN_NS = 200000,
+    SPIN_NS = 100000,
     SHORTEST_SLEEP_NS = 10000,
     LONGEST_SLEEP_NS = 200000
 };
@@ -1900,7 +1899,7 @@ static void idle(void)
         if (receive() || find_input()) continue;
         if (ranks == 1 && !wants_input) fail(BROKEN, "engine fault: nothing can fire");
         recent_ns = nanoseconds(CLOCK_MONOTONIC);
-        if (ranks > 1 && may_spin(begun)) sched_yield();
+        if (ranks > 1 && may_spin(begun)) continue;
         else if (output.fill > 0) write_output();
         else rest();
     }

@@ -51,6 +51,7 @@ SAFE = """seq safe in(int x) out(int y) rescue -9223372036854775807
 ${ y = 100 / (x % 3); }$ end seq
 """
 ADD = "seq add in(int x, int y) out(int z) ${ z = x - y * 3; }$ end seq\n"
+SQUARES = SQUARE + "farm main in(int x) out(int y) square in(x) out(y) end farm"
 HALVE = """seq half in(int x) out(int y) ${ y = x / 2; }$ end seq
 seq more in(int x) out(int again) ${ again = x > 1; }$ end seq
 """
@@ -61,14 +62,16 @@ ${ int i; for (i = 0; i < 3; i = i + 1) { c = c + a[i] * b[i]; } }$ end seq
 # Programs with the words of a skeleton each: the name, the text, and the stream.
 ROWS = [
     ("seq", SQUARE + "pipe main in(int x) out(int y) square in(x) out(y) end pipe", NUMBERS),
-    ("seq trap", PART + "pipe main in(int x) out(int y) part in(x) out(y) end pipe", NUMBERS + b"51\n5\n"),
+    ("seq trap", PART + "pipe main in(int x) out(int y) part in(x) out(y) end pipe",
+     NUMBERS + b"51\n5\n"),
     ("seq rescue", SAFE + "farm main in(int x) out(int y) safe in(x) out(y) end farm", NUMBERS),
     ("comp rescue", SQUARE + PART + """comp both in(int x) out(int y) rescue 5
      square in(x) out(int t) part in(t) out(int u) part in(u) out(y) end comp
      farm main in(int x) out(int y) both in(x) out(y) end farm""", NUMBERS),
     ("pipe", SQUARE + SAFE + """pipe main in(int x) out(int y) square in(x) out(int s)
      safe in(s) out(int t) square in(t) out(int u) safe in(u) out(y) end pipe""", NUMBERS),
-    ("farm of farms", SQUARE + """farm one in(int x) out(int y) workers 3 square in(x) out(y) end farm
+    ("farm of farms", SQUARE + """
+     farm one in(int x) out(int y) workers 3 square in(x) out(y) end farm
      farm main in(int x) out(int y) workers 4 one in(x) out(y) end farm""", NUMBERS),
     ("map", DOT + """map main in(int a[3][3], int b[3][3]) out(int c[3][3]) workers 4
      dot in(a[*i][], b[][*j]) out(c[*j][*i]) end map""",
@@ -91,20 +94,20 @@ ROWS = [
      total in(b) out(s) end comp""", LISTS),
     ("loop", HALVE + """loop main in(int x) out(int y) turns 12 tokens 5
      half in(x) out(y) while more in(y) out(int again) end loop""", NUMBERS),
-    ("loop of a farm", HALVE + """farm halves in(int x) out(int y) workers 3 half in(x) out(y) end farm
+    ("loop of a farm", HALVE + """
+     farm halves in(int x) out(int y) workers 3 half in(x) out(y) end farm
      loop main in(int x) out(int y) turns 12 tokens 1
      halves in(x) out(y) while more in(y) out(int again) end loop""", NUMBERS),
     ("turns spent", HALVE + """loop round in(int x) out(int y) turns 9 tokens 7
      half in(x) out(y) while more in(y) out(int again) end loop
-     farm main in(int x) out(int y) workers 2 round in(x) out(y) end farm""", NUMBERS + b"1024\n5\n"),
-    ("refused", SQUARE + "farm main in(int x) out(int y) square in(x) out(y) end farm",
-     b"5\n\n \t\r\n-0007\r\n+5\n6\n"),
-    ("too many", SQUARE + "farm main in(int x) out(int y) square in(x) out(y) end farm",
-     b"5\n7 8 9\n6"),
-    ("too great", SQUARE + "farm main in(int x) out(int y) square in(x) out(y) end farm",
+     farm main in(int x) out(int y) workers 2 round in(x) out(y) end farm""",
+     NUMBERS + b"1024\n5\n"),
+    ("refused", SQUARES, b"5\n\n \t\r\n-0007\r\n+5\n6\n"),
+    ("too many", SQUARES, b"5\n7 8 9\n6"),
+    ("too great", SQUARES,
      b"-9223372036854775808\n9223372036854775807\n-9223372036854775809\n"),
-    ("no line feed", SQUARE + "farm main in(int x) out(int y) square in(x) out(y) end farm", b"5\n6"),
-    ("a return", SQUARE + "farm main in(int x) out(int y) square in(x) out(y) end farm", b"5\r\n6\r7\n"),
+    ("no line feed", SQUARES, b"5\n6"),
+    ("a return", SQUARES, b"5\r\n6\r7\n"),
 ]
 
 # What a random body does to word i of its list `a`, with the clauses before it.
@@ -152,7 +155,8 @@ class Nest:
 
     def chain(self, kind, size, depth, is_sequential):
         """A pipe or a comp of some modules."""
-        parts = [self.module(size, depth - 1, is_sequential) for _ in range(self.draw.randint(2, 3))]
+        count = self.draw.randint(2, 3)
+        parts = [self.module(size, depth - 1, is_sequential) for _ in range(count)]
         calls, at = [], "a"
         for count, part in enumerate(parts):
             to = "b" if count == len(parts) - 1 else f"t{count}"
@@ -177,17 +181,20 @@ class Nest:
         word = "a[0]" if size else "a"
         condition = self.add("seq", size, "", f"${{ b = ({word} & 1) != 0; }}$", "")
         clauses = f"turns {self.draw.choice([2, 9, 30])} tokens {self.draw.randint(1, 6)}"
-        return self.add("loop", size, clauses, f"  {body} in(a) out(b)\n  while {condition} in(b) out(int c)")
+        calls = f"  {body} in(a) out(b)\n  while {condition} in(b) out(int c)"
+        return self.add("loop", size, clauses, calls)
 
     def fold(self, is_sequential):
         """A list folded to a number, of which a list is made."""
         text = self.draw.choice(["z = x - y;", "z = x * 2 + y;", "z = x + 90 / (y - 19);"])
-        name = f"m{len(self.texts)}"
-        self.texts.append(f"seq {name} in(int x, int y) out(int z) {self.rescue()} ${{ {text} }}$ end seq\n")
+        name, rescue = f"m{len(self.texts)}", self.rescue()
+        text = f"seq {name} in(int x, int y) out(int z) {rescue} ${{ {text} }}$ end seq\n"
+        self.texts.append(text)
         clauses = self.draw.choice(["workers 1", "workers 2", "workers 4"])
         fold = self.add("reduce", "[6]", clauses, f"  {name} in(a[*i]) out(b)", "")
         spread = f"m{len(self.texts)}"
-        self.texts.append(f"seq {spread} in(int x) out(int b[6]) ${{ int i; for (i = 0; i < 6; i = i + 1) {{ b[i] = x * (i - 2); }} }}$ end seq\n")
+        text = "int i; for (i = 0; i < 6; i = i + 1) { b[i] = x * (i - 2); }"
+        self.texts.append(f"seq {spread} in(int x) out(int b[6]) ${{ {text} }}$ end seq\n")
         calls = f"  {fold} in(a) out(int s)\n  {spread} in(s) out(b)"
         return self.add("comp" if is_sequential else "pipe", "[6]", "", calls)
 
@@ -195,7 +202,8 @@ class Nest:
         """A random module, at most so deep."""
         if depth == 0:
             return self.seq(size)
-        kinds = ["seq", "comp"] + ([] if is_sequential else ["pipe", "pipe", "farm", "farm", "loop"])
+        kinds = ["seq", "comp"]
+        kinds += [] if is_sequential else ["pipe", "pipe", "farm", "farm", "loop"]
         kind = self.draw.choice(kinds + (["map", "map", "fold"] if size else []))
         if kind == "seq":
             return self.seq(size)
@@ -215,15 +223,15 @@ class Nest:
             if self.draw.random() < 0.1:
                 lines.append(self.draw.choice(["", " \t", "\r"]))
         if self.draw.random() < 0.3:
-            bad = self.draw.choice(["1 2 3", "1 2 3 4 5 x", "9223372036854775808", "1 2 3 4 5 6 7", "-"])
-            lines.insert(self.draw.randint(0, len(lines)), bad)
+            bad = ["1 2 3", "1 2 3 4 5 x", "9223372036854775808", "1 2 3 4 5 6 7", "-"]
+            lines.insert(self.draw.randint(0, len(lines)), self.draw.choice(bad))
         return "\n".join(lines).encode()
 
 
 class Program:
     """A program with its stream: how it is exported."""
 
-    def __init__(self, name, text, stream, processors="16", capacity=None, costs=None):
+    def __init__(self, name, text, stream, processors="16", capacity=None):
         self.name, self.text, self.stream = name, text, stream
         self.words = ["--processors", processors]
         self.words += ["--capacity", capacity] if capacity else []
@@ -245,7 +253,8 @@ class Checks:
                 self.passed += 1
                 return
             self.failed += 1
-            print(f"exported: {name}: found {str(found)[:600]}, and not {str(wanted)[:600]}", flush=True)
+            found, wanted = str(found)[:600], str(wanted)[:600]
+            print(f"exported: {name}: found {found}, and not {wanted}", flush=True)
 
     def file(self, ending):
         """The name of a new file."""
@@ -290,7 +299,8 @@ class Checks:
         built = made and self.compile(program.name, made, *SANITIZED)
         for ranks in RANKS if built else []:
             words = [] if ranks == "1" else ["--ranks", ranks]
-            self.expect(f"{program.name}, {ranks} ranks", self.call(built, *words, stream=program.stream), wanted)
+            found = self.call(built, *words, stream=program.stream)
+            self.expect(f"{program.name}, {ranks} ranks", found, wanted)
         for file in (made, built):
             if file and os.path.exists(file):
                 os.remove(file)
@@ -348,9 +358,19 @@ def children(pid):
     return found
 
 
-def is_alive(pid):
+def name_of(pid):
+    """The name of a process, of at most 15 bytes."""
     try:
-        return pathlib.Path(f"/proc/{pid}/stat").read_text().rsplit(")", 1)[1].split()[0] not in "ZX"
+        return pathlib.Path(f"/proc/{pid}/comm").read_text().strip()
+    except OSError:
+        return None
+
+
+def is_alive(pid):
+    """Decides whether a process is there, and not ended and only waited for."""
+    try:
+        state = pathlib.Path(f"/proc/{pid}/stat").read_text().rsplit(")", 1)[1].split()[0]
+        return state not in "ZX"
     except OSError:
         return False
 
@@ -358,9 +378,8 @@ def is_alive(pid):
 class Edge:
     """A compiled program in one way to run it, beside `run` of its text."""
 
-    def __init__(self, checks, name, words, model, is_mpi=False):
+    def __init__(self, checks, name, words, model):
         self.checks, self.name, self.words, self.model = checks, name, words, model
-        self.is_mpi = is_mpi
 
     def expect(self, what, found, wanted):
         self.checks.expect(f"{what}, {self.name}", found, wanted)
@@ -385,10 +404,8 @@ class Edge:
         self.same("a directory as input", 'exec "$@" <.')
         self.same("a full disk", 'exec "$@" >/dev/full', NUMBERS)
         self.same("a full disk for lines", 'exec "$@" 2>/dev/full', b"1\nx\n")
-        self.same("part of a file", '{ read line; "$@"; } <$FILE'.replace("$FILE", self.numbers()))
-        stream = b"1234\n" * 200_000
-        found = self.shell('{ "$@"; echo $? >&2; } | head -n 1', stream)
-        self.expect("a closed pipe", found, self.shell('{ "$@"; echo $? >&2; } | head -n 1', stream, self.model))
+        self.same("part of a file", f'{{ read line; "$@"; }} <{self.numbers()}')
+        self.same("a closed pipe", '{ "$@"; echo $? >&2; } | head -n 1', b"1234\n" * 200_000)
 
     def numbers(self):
         name = self.checks.file(".txt")
@@ -407,15 +424,18 @@ class Edge:
         for pipe in (child.stdout, child.stderr):
             pipe.close()
 
-    def try_kill(self, which):
-        """A rank that is killed ends the run with a status and a line, and leaves no other."""
-        child = self.start()
+    def ranks_below(self, child):
+        """The processes of the same program below a process, once each of them has an item or waits."""
         child.stdin.write(b"1\n")
         child.stdout.readline()
         name = os.path.basename(self.words[0])[:15]
-        ranks = [pid for pid in children(child.pid) if pathlib.Path(f"/proc/{pid}/comm").read_text().strip() == name]
-        victim = child.pid if which == "first" else ranks[-1]
-        os.kill(victim, signal.SIGKILL)
+        return [pid for pid in children(child.pid) if name_of(pid) == name]
+
+    def try_kill(self, which):
+        """A rank that is killed ends the run with a status and a line, and leaves no other."""
+        child = self.start()
+        ranks = self.ranks_below(child)
+        os.kill(child.pid if which == "first" else ranks[-1], signal.SIGKILL)
         try:
             status = child.wait(20)
         except subprocess.TimeoutExpired:
@@ -433,11 +453,12 @@ class Edge:
 
     def try_long(self):
         """Long inputs and long lines in little memory."""
-        limit = 'ulimit -v 20000; exec "$@"'
-        for what, stream in (("a long input", (b"1234567 " * 50 + b"\n") * 60_000),
-                             ("a long line", b"0" * 25_000_000 + b"7" + b" 5" * 49 + b"\n" + b" " * 25_000_000)):
+        many, zeros, blanks = (b"1234567 " * 50 + b"\n") * 60_000, b"0" * 25_000_000, b" " * 25_000_000
+        for what, stream in (
+            ("a long input", many), ("a long line", zeros + b"7" + b" 5" * 49 + b"\n" + blanks)
+        ):
             wanted = self.checks.call(*self.model, stream=stream)
-            self.expect(what, self.shell(limit, stream), wanted)
+            self.expect(what, self.shell('ulimit -v 20000; exec "$@"', stream), wanted)
 
     def try_stats(self):
         status, output, lines = self.checks.call(*self.words, "--stats", stream=NUMBERS)
@@ -449,7 +470,8 @@ class Edge:
 def try_words(checks, built):
     """Words that are no call, and help."""
     usage = (2, b"", b"usage: the words are not those of --help\n")
-    for words in (["x"], ["--ranks"], ["--ranks", "0"], ["--ranks=513"], ["--ranks", "2", "--ranks", "2"], ["--ranks=07"]):
+    for line in ("x", "--ranks", "--ranks 0", "--ranks=513", "--ranks 2 --ranks 2", "--ranks=07"):
+        words = line.split()
         checks.expect(f"words {words}", checks.call(built, *words), usage)
     status, output, lines = checks.call(built, "--help")
     checks.expect("--help", (status, output[:5], lines), (0, b"Reads", b""))
@@ -498,33 +520,40 @@ def try_edges(checks):
     try_words(checks, built)
 
 
+def try_over(checks, program, kind):
+    """A program beside `run`, on several ranks of an MPI."""
+    text, made = checks.export(program)
+    how = {"compiler": MPI[kind]}
+    built = made and checks.compile(program.name, made, "-O1", "-DP3L_MPI", **how)
+    wanted = checks.call(checks.binary, "run", text, *program.words, stream=program.stream)
+    for ranks in ("2", "4") if built else ():
+        found = checks.call(built, "--ranks", ranks, stream=program.stream)
+        checks.expect(f"{program.name}, {ranks} ranks of {kind}", found, wanted)
+
+
 def try_mpi(checks, kind, is_all):
     """Some programs and the edges over an MPI."""
-    compiler = MPI[kind]
-    if not shutil.which(compiler):
-        print(f"exported: {kind} skipped: {compiler} is not installed", flush=True)
+    if not shutil.which(MPI[kind]):
+        print(f"exported: {kind} skipped: {MPI[kind]} is not installed", flush=True)
         return
-    chosen = [Program(name, text, stream, processors) for name, text, stream, processors in
-              [*rows(), *nests(40 if is_all else 3)] if is_all or name in ("farm of farms", "turns spent", "refused") or "random" in name]
-    for program in chosen:
-        text, made = checks.export(program)
-        built = made and checks.compile(program.name, made, "-O1", "-DP3L_MPI", compiler=compiler)
-        wanted = checks.call(checks.binary, "run", text, *program.words, stream=program.stream)
-        for ranks in ("2", "4") if built else ():
-            found = checks.call(built, "--ranks", ranks, stream=program.stream)
-            checks.expect(f"{program.name}, {ranks} ranks of {kind}", found, wanted)
-    built, model = ready(checks, "slow", SLOW, "-DP3L_MPI", compiler=compiler)
-    if built:
-        edge = Edge(checks, kind, [built, "--ranks", "3"], model, True)
-        edge.try_streams()
-        edge.try_one_by_one()
-        edge.try_stats()
-        edge.try_kill("other")
-        edge.try_kill("first")
+    chosen = [row for row in rows() if is_all or row[0] in ("farm of farms", "turns spent", "refused")]
+    for name, text, stream, processors in [*chosen, *nests(40 if is_all else 3)]:
+        try_over(checks, Program(name, text, stream, processors), kind)
+    built, model = ready(checks, "slow", SLOW, "-DP3L_MPI", compiler=MPI[kind])
+    if not built:
+        return
+    edge = Edge(checks, kind, [built, "--ranks", "3"], model)
+    edge.try_streams()
+    edge.try_one_by_one()
+    edge.try_stats()
+    edge.try_kill("other")
+    edge.try_kill("first")
 
 
 def main():
-    words = argparse.ArgumentParser(description=__doc__, formatter_class=argparse.RawDescriptionHelpFormatter)
+    words = argparse.ArgumentParser(
+        description=__doc__, formatter_class=argparse.RawDescriptionHelpFormatter
+    )
     words.add_argument("binary")
     words.add_argument("--all", action="store_true", help="many more programs, with all capacities")
     words.add_argument("names", nargs="*", metavar="NAME", help="a word that a program's name has")
