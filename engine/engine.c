@@ -375,7 +375,7 @@ struct process {
     int64_t number; /* the next one: of a token, an element or a segment */
     bool holds;     /* it holds a token of which pieces are left to send */
     int64_t *held;  /* rows: the token held, or the results, or the tokens that wait in a tail */
-    int line;       /* the first of its channels that an emit or a collect looks at */
+    int line;       /* the channel that an emit or a collect looks at first; a split's next word */
     bool queued;
     int pace;     /* its firings between two looks at the clock */
     bool is_long; /* a firing takes longer than tokens may wait */
@@ -448,7 +448,7 @@ static int64_t *free_row(struct channel *c)
  *   post            begins to send a message, whose words stay in use until it is posted
  *   is_posted       tells whether the message of a slot was sent; goes on sending
  *   receive         opens all messages that have come; goes on sending; false where none had come
- *   rest            waits for a message or, where the source wants it, for input
+ *   rest            waits for a message, for room to send one, or for input where it is asked to
  *   end_carrier     sends the last messages, and ends
  *   stop_ranks      ends all ranks at once, by force
  *
@@ -662,7 +662,7 @@ static bool pull(int rank)
 
 /* Asks for the sockets that have something to read, or that take what is to be sent; waits at
  * most `ms`. */
-static int ask(struct pollfd *asked, int ms)
+static int ask(struct pollfd *asked, bool for_input, int ms)
 {
     for (int r = 0; r < ranks; r++) {
         const struct link *link = &links[r];
@@ -670,7 +670,7 @@ static int ask(struct pollfd *asked, int ms)
         asked[r].events = (short)(POLLIN | (link->out[link->next].open ? POLLOUT : 0));
         asked[r].revents = 0;
     }
-    asked[my_rank].fd = ms != 0 && wants_input ? 0 : -1;
+    asked[my_rank].fd = for_input ? 0 : -1;
     return poll(asked, (nfds_t)ranks, ms);
 }
 
@@ -679,7 +679,7 @@ static struct pollfd asked[MOST_RANKS];
 static bool receive(void)
 {
     bool any = false;
-    if (ranks == 1 || ask(asked, 0) <= 0) return false;
+    if (ranks == 1 || ask(asked, false, 0) <= 0) return false;
     for (int r = 0; r < ranks; r++) {
         if (asked[r].fd < 0 || asked[r].revents == 0) continue;
         if (asked[r].revents & POLLOUT) push(r);
@@ -688,13 +688,13 @@ static bool receive(void)
     return any;
 }
 
-static void rest(void) { ask(asked, -1); }
+static void rest(bool for_input) { ask(asked, for_input, -1); }
 
 static void end_carrier(void)
 {
     for (int r = 0; r < ranks; r++)
         for (int slot = 0; slot < SLOTS; slot++)
-            while (!is_posted(r, slot)) ask(asked, 1);
+            while (!is_posted(r, slot)) ask(asked, false, 1);
     for (int r = 1; r < ranks && my_rank == 0; r++) waitpid(children[r], NULL, 0);
 }
 
@@ -769,9 +769,10 @@ static bool receive(void)
 
 static bool caller_has_ended(void);
 
-static void rest(void)
+static void rest(bool for_input)
 {
     struct timespec t = { 0, sleep_ns };
+    (void)for_input; /* it never sleeps for long */
     if (caller_has_ended()) stop_ranks(LOST);
     nanosleep(&t, NULL);
     if (sleep_ns < LONGEST_SLEEP_NS) sleep_ns *= 2;
@@ -888,7 +889,7 @@ static void send_outbox(int rank)
     box->slot = (box->slot + 1) % SLOTS;
     box->fill = 0;
     while (!is_posted(rank, box->slot))
-        if (!receive()) rest();
+        if (!receive()) rest(false);
 }
 
 static void send_all(void)
@@ -968,11 +969,10 @@ static void say_goodbye(int rank)
 static void farewell(void)
 {
     int wires = wires_of(my_rank);
-    wants_input = false;
     for (int r = 0; r < ranks; r++)
         if (has_wire(my_rank, r)) say_goodbye(r);
     while (goodbyes < wires)
-        if (!receive()) rest();
+        if (!receive()) rest(false);
 }
 
 /* ---- channels as processes see them. A firing puts its token before it takes the one that it
@@ -1901,7 +1901,7 @@ static void idle(void)
         recent_ns = nanoseconds(CLOCK_MONOTONIC);
         if (ranks > 1 && may_spin(begun)) continue;
         else if (output.fill > 0) write_output();
-        else rest();
+        else rest(wants_input);
     }
     recent_ns = nanoseconds(CLOCK_MONOTONIC);
     stats.idle_ns += recent_ns - begun;

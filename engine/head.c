@@ -10,14 +10,14 @@ _Static_assert(INT_MAX <= INT64_MAX, "an int is wider than a word");
 /* Converts modulo 2^64; C leaves the plain conversion of a large number to the compiler. */
 static inline int64_t p3l_signed(uint64_t u)
 {
-    return u <= UINT64_C(9223372036854775807) ? (int64_t)u : (-INT64_C(0) - 1) - (int64_t)(UINT64_C(18446744073709551615) - u);
+    return u <= INT64_MAX ? (int64_t)u : -1 - (int64_t)(UINT64_MAX - u);
 }
 
-/* Shifts right with copies of the sign; C leaves the plain shift of a negative number to the
- * compiler. */
+/* Shifts right with copies of the sign, by 0 to 63 places; C leaves the plain shift of a negative
+ * number to the compiler. */
 static inline int64_t p3l_shr(int64_t x, int64_t k)
 {
-    return x < INT64_C(0) ? (-INT64_C(0) - 1) - (int64_t)((uint64_t)((-INT64_C(0) - 1) - x) >> k) : (int64_t)((uint64_t)x >> k);
+    return x < 0 ? -1 - (int64_t)((uint64_t)(-1 - x) >> k) : (int64_t)((uint64_t)x >> k);
 }
 
 enum { FORM_SEQ, FORM_COMP, FORM_PIPE, FORM_FARM, FORM_MAP, FORM_REDUCE, FORM_LOOP };

@@ -425,7 +425,7 @@ class Edge:
             pipe.close()
 
     def ranks_below(self, child):
-        """The processes of the same program below a process, once each of them has an item or waits."""
+        """The processes of the same program below one that has given a result."""
         child.stdin.write(b"1\n")
         child.stdout.readline()
         name = os.path.basename(self.words[0])[:15]
@@ -453,9 +453,10 @@ class Edge:
 
     def try_long(self):
         """Long inputs and long lines in little memory."""
-        many, zeros, blanks = (b"1234567 " * 50 + b"\n") * 60_000, b"0" * 25_000_000, b" " * 25_000_000
+        zeros, blanks = b"0" * 25_000_000, b" " * 25_000_000
         for what, stream in (
-            ("a long input", many), ("a long line", zeros + b"7" + b" 5" * 49 + b"\n" + blanks)
+            ("a long input", (b"1234567 " * 50 + b"\n") * 60_000),
+            ("a long line", zeros + b"7" + b" 5" * 49 + b"\n" + blanks),
         ):
             wanted = self.checks.call(*self.model, stream=stream)
             self.expect(what, self.shell('ulimit -v 20000; exec "$@"', stream), wanted)
@@ -536,7 +537,8 @@ def try_mpi(checks, kind, is_all):
     if not shutil.which(MPI[kind]):
         print(f"exported: {kind} skipped: {MPI[kind]} is not installed", flush=True)
         return
-    chosen = [row for row in rows() if is_all or row[0] in ("farm of farms", "turns spent", "refused")]
+    names = ("farm of farms", "turns spent", "refused")
+    chosen = [row for row in rows() if is_all or row[0] in names]
     for name, text, stream, processors in [*chosen, *nests(40 if is_all else 3)]:
         try_over(checks, Program(name, text, stream, processors), kind)
     built, model = ready(checks, "slow", SLOW, "-DP3L_MPI", compiler=MPI[kind])
