@@ -14,32 +14,31 @@
  *     credit        `credit`                                          its writer
  *     back          `back`, and credits in messages                   its reader, or on their way
  *
- * A writer puts a token only where it has credit, and has one less from then on. A reader gives a
+ * A writer puts a token only if it has credit, and has one less from then on. A reader gives a
  * place back after it has taken the token out, never when the token arrives. So each token that
- * arrives has its place in the ring, and a rank's memory is bounded by the capacities. A channel
- * within one rank is its ring alone: its reader sees all its tokens, and its writer has all other
- * places as credit.
+ * arrives has its place in the ring, and the capacities bound a rank's memory. A channel within one
+ * rank is its ring alone: its reader sees all its tokens, and its writer has all other places as
+ * credit.
  *
  * MESSAGES. Tokens and credits for another rank gather in an outbox. It is sent when it is full,
- * before a long body, when FLUSH_NS have passed since it became due, and when its rank can fire
- * nothing. Between two ranks messages keep their order, so the tokens of a channel do.
+ * before a long body, FLUSH_NS after it became due, and when its rank can fire nothing. Messages
+ * between two ranks keep their order, so the tokens of a channel do.
  *
- * NO DEADLOCK. A rank waits for another one in three places only, and in all of them it goes on
- * receiving, for which it needs no buffer and no room: until a message of its own is sent
- * (`send_outbox`), where it can fire nothing (`idle`), and at the end (`farewell`). So every
- * message arrives. A rank that can fire nothing has first sent all its tokens and all its places
- * back. So if no rank can fire and no message is on its way, all is quiet as the model says it, and
- * all outcomes of the items were emitted; the source and the sink, which are both on rank 0, then
- * end the run.
+ * NO DEADLOCK. A rank waits for others in three places only, and keeps receiving in each of them,
+ * which needs no buffer and no room: until a message of its own is sent (`send_outbox`), when it
+ * can fire nothing (`idle`), and at the end (`farewell`). So every message arrives. A rank that can
+ * fire nothing has already sent all its tokens and given back all its places. So if no rank can
+ * fire and no message is in flight, all is quiet in the sense of the model: every item has its
+ * outcome, and the sink, which is on rank 0 with the source, has ended the run.
  *
- * THE ORDER OF FIRINGS. By what their rank knows, an emit chooses among the lines with credit, a
- * head takes what came back before a new token, and a tail lets out before it takes in. All of
- * these are ways of the model (docs/MODEL.md, "Ways"), so the results don't depend on them, nor on
- * how late a message comes.
+ * THE ORDER OF FIRINGS. By what its rank knows, an emit chooses among the lines with credit, a head
+ * prefers what came back to a new token, and a tail lets out before it takes in. All of these are
+ * ways of the model (docs/MODEL.md, "Ways"), so the results don't depend on them, nor on how late a
+ * message comes.
  *
- * THE END. Rank 0 says goodbye to all when the input has ended and as many outcomes were emitted as
- * items sent, or when the sink has met a trap, or when nothing can be written. Each rank then says
- * goodbye to those that it has a wire with, and leaves when it has heard it from all of them.
+ * THE END. Rank 0 says goodbye to all ranks when the input has ended and as many outcomes were
+ * emitted as items sent, when the sink has met a trap, or when writing has failed. Each rank then
+ * says goodbye to those with which it shares a wire, and leaves when all of them have said it.
  */
 #include <errno.h>
 #include <fcntl.h>
@@ -79,7 +78,7 @@ enum {
 enum { MOST_RANKS = 512 };
 
 static int my_rank, ranks = 1;
-static bool stopping; /* no process is fired any more */
+static bool stopping; /* set once no process may fire any more */
 
 static void stop_ranks(int status);
 
@@ -91,7 +90,7 @@ static _Noreturn void fail(int status, const char *line)
     _exit(status);
 }
 
-/* Memory for so many things, all 0. */
+/* Allocates zeroed memory for `count` objects, or ends the run. */
 static void *room_for(size_t count, size_t size)
 {
     void *room = calloc(count > 0 ? count : 1, size);
@@ -116,8 +115,8 @@ static size_t bytes(int words) { return (size_t)words * sizeof(int64_t); }
 struct node;
 typedef int64_t meaning(const struct node *node, const int64_t *in, int64_t *out);
 
-/* The words of one element in one array of a token, in three nested rows; the innermost is
- * copied at once where its words stand side by side. A step of a free index moves them all. */
+/* The words of one element in one array of a token: three nested loops, whose innermost is one
+ * copy where its words are adjacent. Each step of a free index shifts all of them. */
 struct area {
     size_t start, by_first, by_second;
     size_t count[3], stride[3];
@@ -137,8 +136,8 @@ static struct node nodes[NODES];
 
 static const struct node *part_of(const struct node *node, int i) { return &nodes[node->parts[i]]; }
 
-/* The outcome of a `seq` or a `comp`: a trap becomes the rescue number, where the module has
- * one. */
+/* The outcome of a `seq` or a `comp`: if its module has a rescue number, a trap becomes that
+ * number. */
 static int64_t rescued(const struct node *node, int64_t trap, int64_t *out)
 {
     if (trap == 0 || !node->module->has_rescue) return trap;
@@ -164,8 +163,8 @@ static int64_t run_comp(const struct node *node, const int64_t *in, int64_t *out
     return 0;
 }
 
-/* Copies the words of element (i, j) out of the array of a whole token; gives the place behind
- * them. */
+/* Copies the words of element (i, j) from an array of the whole token; returns the end of the
+ * copy. */
 static int64_t *copy_out(const struct area *area, size_t i, size_t j, const int64_t *whole,
                          int64_t *piece)
 {
@@ -182,8 +181,8 @@ static int64_t *copy_out(const struct area *area, size_t i, size_t j, const int6
     return piece;
 }
 
-/* Copies the words of element (i, j) into the array of a whole token; gives the place behind
- * them. */
+/* Copies the words of element (i, j) into an array of the whole token; returns the end of what
+ * was read. */
 static const int64_t *copy_in(const struct area *area, size_t i, size_t j, const int64_t *piece,
                               int64_t *whole)
 {
@@ -205,7 +204,7 @@ static int64_t elements_of(const struct node *map)
     return (int64_t)map->row->first * map->row->second;
 }
 
-/* The in words of a map's element, from those of the whole token. */
+/* Copies the in words of a map's element from the whole token. */
 static void cut(const struct node *map, const int64_t *whole, int64_t *piece, int64_t element)
 {
     size_t i = (size_t)(element / map->row->second), j = (size_t)(element % map->row->second);
@@ -213,7 +212,7 @@ static void cut(const struct node *map, const int64_t *whole, int64_t *piece, in
         piece = copy_out(&map->ins[s], i, j, whole, piece);
 }
 
-/* Puts the out words of a map's element into the whole token. */
+/* Copies the out words of a map's element into the whole token. */
 static void join(const struct node *map, const int64_t *piece, int64_t *whole, int64_t element)
 {
     size_t i = (size_t)(element / map->row->second), j = (size_t)(element % map->row->second);
@@ -269,7 +268,8 @@ static meaning *const MEANING[] = { [FORM_SEQ] = run_seq,
                                     [FORM_REDUCE] = run_reduce,
                                     [FORM_LOOP] = NULL };
 
-/* Adds a row outside those that the area has; two whose words follow one another become one. */
+/* Adds a loop around those of the area, or lengthens the outermost one if their words are
+ * adjacent. */
 static void add_row(struct area *area, size_t count, size_t stride)
 {
     int at = 2;
@@ -283,7 +283,7 @@ static void add_row(struct area *area, size_t count, size_t stride)
     area->stride[at] = stride;
 }
 
-/* The area of a slice; a dimension of size 1 moves nothing. */
+/* The area of a slice. A dimension of size 1 needs no loop. */
 static struct area area_of(const struct slice_row *slice, const struct dim_row *dims)
 {
     struct area area = { .start = (size_t)slice->start,
@@ -314,8 +314,7 @@ static struct area *next_areas(int count)
     return areas;
 }
 
-/* Finds where the parts and the slices of each node begin, since the rows only say how many
- * there are. */
+/* Finds where the parts and the slices of each node begin: the rows give only their numbers. */
 static void make_nodes(void)
 {
     const int32_t *next_part = PART;
@@ -343,8 +342,8 @@ static size_t work_of(const struct node *node)
     return node->row->form == FORM_REDUCE ? 2 * levels * (size_t)node->row->second : 0;
 }
 
-/* Gives a node that is run at this rank, and all below it, the memory in which they work. One
- * set serves all processes of the node, since they are fired one at a time. */
+/* Allocates the work memory of a node that runs on this rank, and of all nodes below it. All
+ * processes of a node share it, since they fire one at a time. */
 static void prepare(int n)
 {
     struct node *node = &nodes[n];
@@ -363,8 +362,8 @@ struct channel {
     int writer_rank, reader_rank;
     int64_t *ring; /* rows, from `front` on, round the end */
     int front, count;
-    int credit; /* the writer's, of a channel between two ranks */
-    int back;   /* the places that its reader has freed and not yet given back */
+    int credit; /* the writer's, if the channel is between two ranks */
+    int back;   /* places freed by its reader and not yet given back */
 };
 
 struct process {
@@ -373,12 +372,12 @@ struct process {
     const int32_t *ins, *outs; /* channels */
     int rank;
     int64_t number; /* the next one: of a token, an element or a segment */
-    bool holds;     /* it holds a token of which pieces are left to send */
-    int64_t *held;  /* rows: the token held, or the results, or the tokens that wait in a tail */
-    int line;       /* the channel that an emit or a collect looks at first; a split's next word */
+    bool holds;     /* it holds a token whose pieces aren't all sent */
+    int64_t *held; /* rows: the token held, the joined results, or the tokens that wait in a tail */
+    int line;      /* the line that an emit or a collect tries first; a split's next word */
     bool queued;
-    int pace;     /* its firings between two looks at the clock */
-    bool is_long; /* a firing takes longer than tokens may wait */
+    int pace;     /* firings between two looks at the clock */
+    bool is_long; /* its firings take longer than tokens may wait in an outbox */
 };
 
 static struct channel channels[CHANNELS];
@@ -394,7 +393,7 @@ static struct {
 static bool is_between_ranks(const struct channel *c) { return c->writer_rank != c->reader_rank; }
 
 /* Queues of the processes that may be able to fire, each at most once. Those that only move
- * tokens come first: they keep the others supplied. */
+ * tokens come first, since they supply the others. */
 struct queue {
     int at[PROCESSES];
     int head, count;
@@ -403,7 +402,7 @@ static struct queue movers, bodies;
 
 static bool runs_body(int kind) { return kind == KIND_RUN || kind == KIND_JOIN; }
 
-/* Queues a process of this rank. */
+/* Queues a process, if it is this rank's and isn't queued. */
 static void wake(int p)
 {
     struct process *process = &processes[p];
@@ -435,14 +434,14 @@ static int64_t *row_of(struct channel *c, int at)
     return c->ring + (size_t)at * (size_t)c->stride;
 }
 
-/* The row behind the last token of a ring. */
+/* The first free row of a ring. */
 static int64_t *free_row(struct channel *c)
 {
     int at = c->front + c->count;
     return row_of(c, at < c->capacity ? at : at - c->capacity);
 }
 
-/* ---- the carrier: how messages go from rank to rank. There are two, with one surface:
+/* ---- the carrier: how messages go from rank to rank. There are two, with one interface:
  *
  *   start_carrier   begins, once `most_words` is known, the most words that a message has
  *   post            begins to send a message, whose words stay in use until it is posted
@@ -465,16 +464,16 @@ static bool tell_caller(int status);
 
 #ifndef P3L_MPI
 
-/* Forked copies of this program, each two with a wire joined by a pair of sockets. Rank 0 is the
- * program itself. */
+/* Forked copies of this program. Two ranks that share a wire are joined by a pair of sockets.
+ * Rank 0 is the program itself. */
 
-/* How often it looks for messages while it can fire, how long tokens may wait in an outbox, and
- * how long it looks for messages without a pause before it sleeps: sleeping and waking cost more
- * than that. */
+/* The time between two looks for messages while something can fire; the longest wait of a token
+ * in an outbox; and the time of busy waiting before a rank sleeps, which is about the cost of
+ * waking up. */
 enum { LOOK_NS = 15000, FLUSH_NS = 20000, SPIN_NS = 30000 };
 
 struct link {
-    int socket; /* -1 where there is no wire, or the other rank has left */
+    int socket; /* -1 if there is no wire, or the other rank has left */
     struct {
         const int64_t *at;
         int64_t words;
@@ -482,7 +481,7 @@ struct link {
         bool open;
     } out[SLOTS];
     int next; /* the slot that is being sent */
-    char *in; /* bytes that came, of which those from `start` to `end` are still to be opened */
+    char *in; /* bytes received; those from `start` to `end` are still to be opened */
     size_t start, end, room;
 };
 
@@ -528,8 +527,8 @@ static void keep_links(void)
         }
 }
 
-/* Gives up the streams, which are rank 0's: who reads the output then sees its end when rank 0
- * ends. */
+/* Closes the streams, which are rank 0's: the reader of the output then sees its end as soon as
+ * rank 0 ends. */
 static void leave_streams(void)
 {
     int none = open("/dev/null", O_RDWR);
@@ -539,7 +538,7 @@ static void leave_streams(void)
     if (none > 1) close(none);
 }
 
-/* As many descriptors as the system lets one have. */
+/* Allows as many descriptors as the system permits. */
 static void raise_descriptors(void)
 {
     struct rlimit limit;
@@ -566,8 +565,9 @@ static void start_carrier(void) {}
 
 static bool has_left(int rank);
 
-/* Ends the run, since the socket of another rank was closed before it had said goodbye. That
- * rank may have said why. Only rank 0 judges it: the others wait for rank 0's end. */
+/* Handles a socket that its other end has closed. After a goodbye that is normal. Otherwise a
+ * rank was lost, and rank 0 ends the run, with the status of that rank if it failed with one;
+ * the other ranks end when rank 0 does. */
 static void lose(int rank)
 {
     int status = 0;
@@ -584,7 +584,7 @@ static void lose(int rank)
     _exit(WEXITSTATUS(status));
 }
 
-/* Sends what the socket takes without waiting: each message is its number of words, and its
+/* Sends as much as the socket takes without waiting. A message is its number of words, and its
  * words. */
 static void push(int rank)
 {
@@ -628,7 +628,7 @@ static bool is_posted(int rank, int slot)
     return !links[rank].out[slot].open || links[rank].socket < 0;
 }
 
-/* Opens each whole message of those that were read. */
+/* Opens each message that was received whole. */
 static void open_whole(struct link *link, int from)
 {
     int64_t words;
@@ -641,7 +641,7 @@ static void open_whole(struct link *link, int from)
     }
 }
 
-/* Reads what has come from a rank, and opens it; true where something had. */
+/* Reads what a rank has sent, and opens it; false if nothing was there. */
 static bool pull(int rank)
 {
     struct link *link = &links[rank];
@@ -660,8 +660,8 @@ static bool pull(int rank)
     return true;
 }
 
-/* Asks for the sockets that have something to read, or that take what is to be sent; waits at
- * most `ms`. */
+/* Polls the sockets for messages, for room to send, and standard input if asked; waits at most
+ * `ms` milliseconds, -1 for ever. */
 static int ask(struct pollfd *asked, bool for_input, int ms)
 {
     for (int r = 0; r < ranks; r++) {
@@ -700,8 +700,8 @@ static void end_carrier(void)
 
 #else
 
-/* MPI. It has no call that waits for a message but only so long, so a rank without work looks for
- * a while, and then sleeps for longer and longer between two looks. */
+/* MPI. It has no wait with a time limit, so a rank without work polls for a while, and then
+ * sleeps for longer and longer between two looks. */
 
 enum {
     LOOK_NS = 5000,
@@ -716,8 +716,8 @@ static MPI_Request inbox_request;
 static int64_t *inbox;
 static long sleep_ns = SHORTEST_SLEEP_NS;
 
-/* Rank 0 of a program that was called by hand tells its status and leaves; the launcher ends the
- * others. Else MPI passes the status on. */
+/* Rank 0 tells its status to its caller, if it has one, and leaves; the launcher then ends the
+ * others. Otherwise MPI passes the status on. */
 static void stop_ranks(int status)
 {
     int has_begun = 0;
@@ -791,8 +791,8 @@ static void end_carrier(void)
 
 /* ---- outboxes: what waits to be sent to another rank */
 
-/* A message is a list of records, which begin with a word: its last two bits say what the record
- * is. A token's row follows its word, and a rank's counts follow its goodbye. */
+/* A message is a list of records. Each begins with a word, whose lowest two bits give its form.
+ * A token's row follows its word, and the counts of a rank follow its goodbye. */
 enum { TOKEN, CREDIT, GOODBYE };
 enum { COUNTS = 5 };
 static int64_t record(int form, int channel, int count)
@@ -804,13 +804,13 @@ struct outbox {
     int64_t *buffer[SLOTS];
     int slot, fill;
     int *owed, owed_count; /* the channels from that rank with places to give back */
-    bool is_due; /* it has tokens, or places enough, that may not wait longer than FLUSH_NS */
+    bool is_due;           /* its records may wait for FLUSH_NS at most */
     uint64_t due_since;
 };
 
 static struct outbox outboxes[MOST_RANKS];
 static uint64_t recent_ns; /* the time of the last look at the clock */
-static int goodbyes;       /* ranks that said it */
+static int goodbyes;       /* how many ranks have said it */
 static bool said_goodbye[MOST_RANKS];
 static uint64_t counts_of[MOST_RANKS][COUNTS];
 
@@ -818,7 +818,7 @@ static uint64_t counts_of[MOST_RANKS][COUNTS];
 static bool has_left(int rank) { return said_goodbye[rank]; }
 #endif
 
-/* Takes a token that has come. Its writer had credit, so it has a place. */
+/* Receives a token. Its writer had credit, so it has a place. */
 static void accept_token(struct channel *c, const int64_t *token)
 {
     if (c->count == c->capacity) fail(BROKEN, "engine fault: a token without a place");
@@ -864,7 +864,7 @@ static int64_t *buffer_of(struct outbox *box)
     return box->buffer[box->slot];
 }
 
-/* Puts the credits behind the tokens; the end of each buffer is kept for them. */
+/* Puts the credits behind the tokens, at the end of the buffer, which is reserved for them. */
 static void add_credits(struct outbox *box)
 {
     int64_t *buffer = buffer_of(box);
@@ -876,8 +876,8 @@ static void add_credits(struct outbox *box)
     box->owed_count = 0;
 }
 
-/* Sends what an outbox holds and turns to its next buffer. While that one is still being sent,
- * it receives. */
+/* Sends what an outbox holds, and turns to its next buffer. It receives while that one is still
+ * being sent. */
 static void send_outbox(int rank)
 {
     struct outbox *box = &outboxes[rank];
@@ -910,7 +910,7 @@ static void make_due(struct outbox *box)
     box->due_since = recent_ns;
 }
 
-/* The place of the next token for another rank. */
+/* The row of the next token for another rank, in its outbox. */
 static int64_t *sent_row(struct channel *c)
 {
     struct outbox *box = &outboxes[c->reader_rank];
@@ -928,8 +928,8 @@ static void put_sent(struct channel *c)
     make_due(box);
 }
 
-/* Notes a freed place. It goes back with the next message; half the places of a channel are a
- * reason for one. */
+/* Notes a freed place, which goes back with the next message. Half the places of a channel make
+ * a message due. */
 static void give_back(struct channel *c)
 {
     struct outbox *box = &outboxes[c->writer_rank];
@@ -987,7 +987,7 @@ static const int64_t *front(int i)
     return c->ring + (size_t)c->front * (size_t)c->stride;
 }
 
-/* The tokens that its writer may put. */
+/* How many tokens its writer may put. */
 static int credit(int i)
 {
     const struct channel *c = &channels[i];
@@ -996,14 +996,14 @@ static int credit(int i)
 
 static bool has_room(int i) { return credit(i) > 0; }
 
-/* The place of the next token, in a channel that has room. */
+/* The row of the next token of a channel that has room. */
 static int64_t *next_row(int i)
 {
     struct channel *c = &channels[i];
     return is_between_ranks(c) ? sent_row(c) : free_row(c);
 }
 
-/* Puts the token that was written to the next place. */
+/* Puts the token that was written to the next row. */
 static void put(int i)
 {
     struct channel *c = &channels[i];
@@ -1020,8 +1020,8 @@ static void take(int i)
     else if (before == c->capacity) wake(c->writer);
 }
 
-/* Copies a token's trap and `tags` of its tags; and a value's words, from behind `had` tags to
- * behind `has`. */
+/* Copies a token's trap and its first `tags` tags; and the words of a value from behind `had`
+ * tags to behind `has` tags. */
 static void copy_token(int64_t *to, int has, const int64_t *from, int had, int tags, int words)
 {
     memcpy(to, from, bytes(1 + tags));
@@ -1030,7 +1030,7 @@ static void copy_token(int64_t *to, int has, const int64_t *from, int had, int t
 
 /* ---- the input (docs/FORMATS.md, "The stream") */
 
-/* The most bytes that are read. */
+/* The limit of the input, in bytes. */
 #define MOST_INPUT ((uint64_t)1 << 36)
 
 enum { BAD_WORD = 100, WRONG_COUNT = 101, OUT_OF_RANGE = 102, MOST_DIGITS = 19 };
@@ -1065,8 +1065,7 @@ static bool input_is_ready(void)
     return poll(&asks, 1, 0) != 0;
 }
 
-/* Reads more bytes where that needs no waiting; false where there are none now. All bytes before
- * were passed. */
+/* Reads more bytes, once all before are used; false if that would have to wait. */
 static bool read_input(void)
 {
     if (input.taken == MOST_INPUT) {
@@ -1089,12 +1088,12 @@ static bool read_input(void)
     return true;
 }
 
-/* A line is read byte by byte and kept as its numbers, so a line of any length needs no more
+/* The line that is being read. Only its numbers are kept, so a line of any length needs no more
  * room than an item. */
 static struct {
     uint64_t passed;        /* lines before this one */
-    uint64_t words;         /* of this line, whole ones */
-    bool begun, has_return; /* it has bytes; the last one was a carriage return */
+    uint64_t words;         /* complete ones of this line */
+    bool begun, has_return; /* it has a byte; its last one was a carriage return */
     bool in_word, is_negative, has_digits;
     int digits; /* of the word, without leading zeros */
     uint64_t value;
@@ -1102,7 +1101,7 @@ static struct {
 
 static int64_t *item;
 
-/* Ends the input at this line, by its first fault. */
+/* Refuses the line, which ends the input. */
 static void refuse_line(int fault)
 {
     char text[96];
@@ -1141,8 +1140,8 @@ static void begin_word(void)
     line.value = 0;
 }
 
-/* Reads digits from here on; gives the place behind them. The value of more than MOST_DIGITS
- * isn't used. */
+/* Reads digits; returns their end. The value of more than MOST_DIGITS digits wraps and isn't
+ * used. */
 static const char *read_digits(const char *at, const char *end)
 {
     if (!line.in_word) begin_word();
@@ -1158,8 +1157,8 @@ static const char *read_digits(const char *at, const char *end)
     return at;
 }
 
-/* Reads bytes of a line up to its line feed, or to the end of the bytes; gives the place where
- * it stopped. */
+/* Reads a line up to its line feed, to the end of the bytes, or to its first fault; returns
+ * where it stopped. */
 static const char *read_bytes(const char *at, const char *end, int width)
 {
     line.begun = true;
@@ -1183,7 +1182,7 @@ static const char *read_bytes(const char *at, const char *end, int width)
     return at;
 }
 
-/* Ends a line; true where it is an item, and not one without words or refused. */
+/* Ends a line; true if it is an item, false if it has no words or is refused. */
 static bool end_line_of(int width)
 {
     line.has_return = line.begun = false;
@@ -1199,7 +1198,7 @@ static bool end_line_of(int width)
     return is_item;
 }
 
-/* The next item, into `item`; false where there is none now, or none any more. */
+/* Reads the next item into `item`; false if there is none, or none yet. */
 static bool next_item(int width)
 {
     while (!input_ended) {
@@ -1223,7 +1222,7 @@ static bool next_item(int width)
     return false;
 }
 
-/* Wakes the source where it waits for bytes that have come. */
+/* Wakes the source if it waits for bytes and some are there; false otherwise. */
 static bool find_input(void)
 {
     if (!wants_input || !input_is_ready()) return false;
@@ -1241,7 +1240,7 @@ static struct {
     size_t fill;
 } output;
 
-/* Writes the results that are there; false where that failed, which ends the run. */
+/* Writes the buffered results; false if that failed, which ends the run. */
 static bool write_output(void)
 {
     for (size_t at = 0; at < output.fill;) {
@@ -1271,7 +1270,7 @@ static const char PAIRS[] = "000102030405060708091011121314151617181920212223242
                             "848586878889909192939495969798"
                             "99";
 
-/* Writes a word in decimal, two digits at a time; gives the place behind it. */
+/* Writes a word in decimal, two digits at a time; returns its end. */
 static char *put_number(char *to, int64_t word)
 {
     char digits[MOST_NUMBER];
@@ -1285,7 +1284,7 @@ static char *put_number(char *to, int64_t word)
     return to + (MOST_NUMBER - at);
 }
 
-/* Puts a result: its words, with one space between, and a line feed. */
+/* Buffers the line of a result; false if writing failed. */
 static bool put_result(const int64_t *words, int count)
 {
     for (int i = 0; i < count; i++) {
@@ -1369,8 +1368,8 @@ static bool fire_run(struct process *p)
     return true;
 }
 
-/* The line with the most credit, or the first with a credit for all its places, from the one
- * after the last used. */
+/* Finds the line with the most credit, or the first one that is known to be empty; -1 if none
+ * has credit. It begins behind the line used last. */
 static int idlest_line(const struct process *p)
 {
     int best = -1, most = 0;
@@ -1418,7 +1417,7 @@ static bool fire_collect(struct process *p)
     return false;
 }
 
-/* Takes the token of which pieces are to be sent. */
+/* Takes a token to send it in pieces. */
 static bool hold(struct process *p)
 {
     int in = p->ins[0];
@@ -1443,7 +1442,7 @@ static bool fire_scatter(struct process *p)
     return true;
 }
 
-/* Joins each result as it comes: of several traps the first one in order is kept. */
+/* Joins each result as it comes. Of several traps the first in order stays. */
 static bool fire_gather(struct process *p)
 {
     int out = p->outs[0], tags = channels[out].tags;
@@ -1465,7 +1464,7 @@ static bool fire_gather(struct process *p)
     return true;
 }
 
-/* Sends the segments one after another; `line` is the first word of the next one. */
+/* Sends the segments one after another. `line` is the first word of the next one. */
 static bool fire_split(struct process *p)
 {
     if (!p->holds) {
@@ -1525,8 +1524,9 @@ static bool fire_head(struct process *p)
     return true;
 }
 
-/* The place in which a tail holds the token of a number: no two of the tokens in a loop have the
- * same, since there are as many credits as places. Its first word is 1 where a token is held. */
+/* The place where a tail holds the token with this number. Its first word is 1 if the token is
+ * there. The tokens in a loop have successive numbers, and no more of them than places, so each
+ * has its own. */
 static int64_t *place_in_tail(struct process *p, int64_t number)
 {
     int places = channels[p->outs[2]].capacity, stride = channels[p->ins[0]].stride;
@@ -1547,7 +1547,8 @@ static bool let_out(struct process *p)
     return true;
 }
 
-/* The trap of a token that came out of the body, or 0; and whether it goes round once more. */
+/* Judges a token from the body: returns its trap or 0, and sets `again` if it needs another
+ * turn. */
 static int64_t judge(const struct process *p, const int64_t *token, int tags, bool *again)
 {
     const struct node *condition = part_of(p->node, 1);
@@ -1580,7 +1581,7 @@ static bool fire_tail(struct process *p)
     return true;
 }
 
-/* No network has a process of the kind fold-gather any more. */
+/* No network has a fold-gather any more. */
 static bool (*const FIRE[KINDS])(struct process *) = {
     [KIND_SOURCE] = fire_source, [KIND_SINK] = fire_sink,       [KIND_RUN] = fire_run,
     [KIND_EMIT] = fire_emit,     [KIND_COLLECT] = fire_collect, [KIND_SCATTER] = fire_scatter,
@@ -1610,13 +1611,14 @@ static size_t words_held(const struct process *p)
  * most of their tokens come from and go to, as long as no rank gets much more of them than its
  * share of all work. Source and sink are on rank 0. */
 
-/* The turns that a token is taken to make in a loop, to guess how many tokens a channel carries. */
+/* The turns that a token is assumed to take in a loop, to estimate how many tokens a channel
+ * carries. */
 enum { GUESSED_TURNS = 4 };
 
 static double rate[CHANNELS]; /* tokens for one item */
 static double load_of[MOST_RANKS];
-static double share; /* the load of a rank, where all have equally much, and half of that more */
-static bool *wires;  /* which two ranks have a channel between them, or one with rank 0 */
+static double share; /* one and a half times the average load of a rank */
+static bool *wires;  /* pairs of ranks that share a channel; rank 0 has a wire with all */
 
 static bool has_wire(int a, int b) { return wires[a * ranks + b]; }
 
@@ -1635,8 +1637,8 @@ static double rate_out(const struct process *p)
     }
 }
 
-/* Guesses how many tokens each channel carries, by carrying the rates on from the source until
- * all are known. */
+/* Estimates the tokens that each channel carries for an item, from the source on, until nothing
+ * changes. */
 static void find_rates(void)
 {
     bool is_new = true;
@@ -1655,7 +1657,8 @@ static void find_rates(void)
     }
 }
 
-/* What a process would send to and get from each rank: words, and a message's own part. */
+/* Computes how much a process would exchange with each rank: words, and a constant for each
+ * token. */
 static void find_traffic(int p, double *traffic)
 {
     const struct process *process = &processes[p];
@@ -1668,9 +1671,9 @@ static void find_traffic(int p, double *traffic)
     }
 }
 
-/* The rank with the most traffic of those that stay within the bound; of equals the least
- * loaded, and then the last, since rank 0 has the streams to serve. Where none stays within it,
- * the least loaded one. */
+/* Chooses the rank with the most traffic among those that stay within the bound; among equals
+ * the least loaded one, and then the last, since rank 0 also serves the streams. If none stays
+ * within it, the least loaded one. */
 static int nearest(int p, double bound)
 {
     static double traffic[MOST_RANKS];
@@ -1697,7 +1700,7 @@ static int by_load(const void *a, const void *b)
     return p < q ? -1 : 1;
 }
 
-/* Counts the load that the processes which run no bodies put on each rank. */
+/* Sums up the load of the processes that run no bodies, for each rank. */
 static void count_movers(void)
 {
     for (int r = 0; r < ranks; r++) load_of[r] = 0;
@@ -1706,7 +1709,7 @@ static void count_movers(void)
             load_of[processes[p].rank] += (double)processes[p].row->load;
 }
 
-/* Places the processes that run bodies, the longest first, by traffic within a bound; gives the
+/* Places the processes that run bodies, longest first, by traffic within a bound; returns the
  * greatest load of a rank. */
 static double place_bodies(const int *order, int count, double bound)
 {
@@ -1722,8 +1725,8 @@ static double place_bodies(const int *order, int count, double bound)
     return greatest;
 }
 
-/* Places the others; some of them only have neighbours of their kind, so it goes round more than
- * once. */
+/* Places the others. Several rounds are needed, since some have only neighbours of their own
+ * sort. */
 static void place_movers(void)
 {
     count_movers();
@@ -1800,7 +1803,7 @@ static void make_processes(void)
     }
 }
 
-/* Gives a process of this rank the memory that it works in. */
+/* Allocates the memory of a process of this rank. */
 static void start_process(struct process *p)
 {
     size_t held = words_held(p);
@@ -1811,7 +1814,7 @@ static void start_process(struct process *p)
     if (p->row->kind == KIND_TAIL) prepare(p->node->parts[1]);
 }
 
-/* Puts the first credits into a channel, which are tokens without words. */
+/* Puts the first tokens into a loop's channel of credits, and sets the writer's credit. */
 static void start_channel(struct channel *c, int credits)
 {
     if (is_between_ranks(c) && c->writer_rank == my_rank) c->credit = c->capacity - credits;
@@ -1837,7 +1840,7 @@ enum { MOST_FIRINGS = 256, MOST_PACE = 64, CROWDED_NS = 100000, CROWDED_FOR_NS =
 
 static uint64_t looked_ns, looked_input_ns;
 
-/* Receives and sends what is due, where the last time was long enough ago. */
+/* Receives messages and sends what is due, unless it did so just before. */
 static void look_round(void)
 {
     if (recent_ns - looked_ns < LOOK_NS) return;
@@ -1849,8 +1852,8 @@ static void look_round(void)
     find_input();
 }
 
-/* Looks at the clock after some firings of a process, which took about equally long; false where
- * others have to be looked at. */
+/* Looks at the clock after some firings of a process, and adapts their number; false if it is
+ * the turn of others. */
 static bool may_go_on(struct process *p, uint64_t begun)
 {
     uint64_t before = recent_ns;
@@ -1862,7 +1865,7 @@ static bool may_go_on(struct process *p, uint64_t begun)
     return recent_ns - begun < LOOK_NS;
 }
 
-/* Fires a process as long as it can, up to a number of firings and a time. */
+/* Fires a process repeatedly, up to a limit of firings and of time. */
 static void turn(struct process *p)
 {
     uint64_t begun = recent_ns;
@@ -1875,9 +1878,9 @@ static void turn(struct process *p)
     wake((int)(p - processes));
 }
 
-/* Decides whether a rank that waits looks again at once, and doesn't sleep. Where another
- * process was run in the time between two looks, the processors are needed: for a while it then
- * sleeps at once, which wakes sooner. */
+/* Decides whether a waiting rank goes on polling, and doesn't sleep yet. If it lost the
+ * processor between two looks, others need it: then it sleeps at once for a while, since the
+ * system wakes sleepers first. */
 static bool may_spin(uint64_t begun)
 {
     static uint64_t last_ns, crowded_until;
@@ -1887,8 +1890,8 @@ static bool may_spin(uint64_t begun)
     return recent_ns - begun < SPIN_NS && recent_ns >= crowded_until;
 }
 
-/* Waits until a process may be able to fire. All that others wait for is sent first, and all
- * results before it sleeps. */
+/* Waits until a process may be able to fire. First it sends all tokens and credits; before it
+ * sleeps, it writes all results. */
 static void idle(void)
 {
     uint64_t begun = nanoseconds(CLOCK_MONOTONIC),
@@ -1929,7 +1932,7 @@ static void run(void)
     farewell();
 }
 
-/* Writes the counts of each rank; those of the others came with their goodbyes. */
+/* Writes the counts of all ranks, which came with their goodbyes. */
 static void say_stats(void)
 {
     for (int r = 0; r < ranks; r++) {
@@ -1953,7 +1956,7 @@ static void say_stats(void)
 static int caller = -1; /* rank 0's socket to the program that was called */
 
 #ifdef P3L_MPI
-/* Decides whether the program that was called has ended, so that no one waits for the results. */
+/* Decides whether the program that was called has ended; then no one waits for the results. */
 static bool caller_has_ended(void)
 {
     struct pollfd asks = { caller, 0, 0 };
@@ -1961,7 +1964,7 @@ static bool caller_has_ended(void)
 }
 #endif
 
-/* Tells the program that was called the status; false where none was called by hand. */
+/* Tells the status to the program that was called; false if the launcher was called by hand. */
 static bool tell_caller(int status)
 {
     char byte = (char)status;
@@ -1988,7 +1991,7 @@ static struct sockaddr_un address_of(const char *path)
     return address;
 }
 
-/* A message of one byte with the descriptors of the standard streams. */
+/* Room for the descriptors of the standard streams, which go with a message of one byte. */
 union packet {
     struct cmsghdr head;
     char at[CMSG_SPACE(STREAMS * sizeof(int))];
@@ -2019,7 +2022,7 @@ static void send_streams(int socket)
     while (sendmsg(socket, &message, 0) < 0 && errno == EINTR) {}
 }
 
-/* Takes the caller's streams in the place of the launcher's. */
+/* Receives the caller's streams, and uses them in the place of the launcher's. */
 static void take_streams(const char *path)
 {
     struct sockaddr_un address = address_of(path);
@@ -2061,7 +2064,7 @@ static void watch_signals(void (*handler)(int))
         sigaction(numbers[i], &action, NULL);
 }
 
-/* Becomes the launcher of the MPI that this was compiled with. */
+/* Executes the launcher of the MPI that this program was compiled with. */
 static _Noreturn void exec_launcher(char **words)
 {
     const char *chosen = getenv("P3L_MPIEXEC");
@@ -2079,8 +2082,7 @@ static _Noreturn void exec_launcher(char **words)
     _exit(LOST);
 }
 
-/* Starts the launcher, with an empty input; gives the end of a pipe at which all is read that it
- * writes. */
+/* Starts the launcher with an empty input; returns a pipe from which all its output is read. */
 static int start_launcher(char **words)
 {
     int said[2];
@@ -2100,7 +2102,7 @@ static int start_launcher(char **words)
     return said[0];
 }
 
-/* A folder of this user alone, with a socket in it at which rank 0 is awaited. */
+/* A private folder with a socket, to which rank 0 connects. */
 struct meeting {
     char folder[64], path[80];
     int socket;
@@ -2136,7 +2138,7 @@ static void end_meeting(struct meeting *meeting)
 static char said[MOST_SAID];
 static size_t said_bytes;
 
-/* Keeps what the launcher writes, and drops what is too much; false at its end. */
+/* Keeps the launcher's output, up to a limit; false at its end. */
 static bool hear_launcher(int pipe)
 {
     char more[4096];
@@ -2161,9 +2163,8 @@ static bool launcher_has_ended(void)
     return launcher == 0;
 }
 
-/* Lets rank 0 have the streams, and waits for its status; -1 where the launcher ended without
- * one. Where rank 0 doesn't come soon, it shows what the launcher says: some say why, and never
- * end. */
+/* Hands the streams to rank 0, and waits for its status; -1 if there is none. If rank 0 doesn't
+ * connect soon, the launcher's output is shown: some launchers say why, and never end. */
 static int await_status(struct meeting *meeting, int pipe)
 {
     int told = -1, socket = -1;
@@ -2190,8 +2191,8 @@ static int await_status(struct meeting *meeting, int pipe)
     }
 }
 
-/* Waits for the launcher's end, and ends it by force where it doesn't come: some hang after
- * their ranks are done. */
+/* Waits for the launcher's end, and forces it after a while: some hang after their ranks have
+ * ended. */
 static void await_launcher(int pipe)
 {
     bool speaks = true;
@@ -2203,7 +2204,7 @@ static void await_launcher(int pipe)
     }
 }
 
-/* Runs the program on so many ranks, and ends with its status. */
+/* Runs the program on `count` ranks, and ends with its status. */
 static _Noreturn void launch(char *program, char *count, char *hosts, bool wants_stats)
 {
     struct meeting meeting = make_meeting();
@@ -2264,7 +2265,7 @@ static _Noreturn void refuse_words(void)
     exit(USAGE);
 }
 
-/* The value of an option, as `NAME VALUE` or `NAME=VALUE`; NULL where the word is another one. */
+/* The value of an option, written `NAME VALUE` or `NAME=VALUE`; NULL if the word is another one. */
 static char *value_of(const char *name, char **argv, int *at)
 {
     size_t length = strlen(name);
@@ -2307,7 +2308,7 @@ static void read_words(char **argv)
     if (words.hosts != NULL && words.ranks == NULL) refuse_words();
 }
 
-/* The number of ranks that the words ask for. */
+/* The requested number of ranks. */
 static int ranks_asked(void)
 {
     const char *digits = words.ranks;
@@ -2320,8 +2321,8 @@ static int ranks_asked(void)
     return count;
 }
 
-/* Opens a file in the place of a standard stream that is closed, so that no other one gets its
- * number. An input so opened can't be read, and an output can't be written. */
+/* Occupies the numbers of standard streams that are closed, so that no other file gets them.
+ * Reading such an input fails, and so does writing such an output. */
 static void open_streams(void)
 {
     static const int modes[] = { O_WRONLY, O_RDONLY, O_RDWR };
@@ -2338,7 +2339,7 @@ static bool is_launched(void)
 }
 #endif
 
-/* Finds out which rank this is: by the words, unless a launcher started it. */
+/* Finds out which rank this is, and how many there are. */
 static void find_rank(int *argc, char ***argv)
 {
 #ifdef P3L_MPI
