@@ -1843,6 +1843,7 @@ static uint64_t looked_ns, looked_input_ns;
 /* Receives messages and sends what is due, unless it did so just before. */
 static void look_round(void)
 {
+    recent_ns = nanoseconds(CLOCK_MONOTONIC);
     if (recent_ns - looked_ns < LOOK_NS) return;
     looked_ns = recent_ns;
     receive();
