@@ -37,9 +37,11 @@ SECONDS = 120
 WIDTH = 6
 RANDOM_PROGRAMS, MANY_PROGRAMS = 40, 250
 MPI = {"mpich": "mpicc.mpich", "openmpi": "mpicc.openmpi"}
-ENVIRONMENT = {
-    **os.environ, "OMPI_ALLOW_RUN_AS_ROOT": "1", "OMPI_ALLOW_RUN_AS_ROOT_CONFIRM": "1",
-}
+LAUNCHERS = {"mpich": "mpiexec.mpich", "openmpi": "mpiexec.openmpi"}
+# Open MPI asks for these where it is run by root, and on more ranks than processors.
+ALLOWED = ["OMPI_ALLOW_RUN_AS_ROOT", "OMPI_ALLOW_RUN_AS_ROOT_CONFIRM"]
+ALLOWED += ["OMPI_MCA_rmaps_base_oversubscribe"]
+ENVIRONMENT = {**os.environ, **dict.fromkeys(ALLOWED, "1")}
 
 NUMBERS = "".join(f"{number * 7919 % 1009 - 300}\n" for number in range(400)).encode()
 LISTS = "".join(
@@ -544,6 +546,9 @@ def try_mpi(checks, kind, is_all):
     built, model = ready(checks, "slow", SLOW, "-DP3L_MPI", compiler=MPI[kind])
     if not built:
         return
+    wanted = checks.call(*model, stream=NUMBERS)
+    found = checks.call(LAUNCHERS[kind], "-n", "3", built, stream=NUMBERS)
+    checks.expect(f"{kind} by hand", found, wanted)
     edge = Edge(checks, kind, [built, "--ranks", "3"], model)
     edge.try_streams()
     edge.try_one_by_one()
