@@ -2057,12 +2057,14 @@ static void pass_signal(int number)
     if (launcher > 0) kill(launcher, number);
 }
 
+/* Handles the signals that end a program, but for those that the caller has turned off. */
 static void watch_signals(void (*handler)(int))
 {
     static const int numbers[] = { SIGINT, SIGTERM, SIGHUP };
-    struct sigaction action = { .sa_handler = handler };
+    struct sigaction action = { .sa_handler = handler }, before;
     for (size_t i = 0; i < sizeof numbers / sizeof *numbers; i++)
-        sigaction(numbers[i], &action, NULL);
+        if (sigaction(numbers[i], NULL, &before) == 0 && before.sa_handler != SIG_IGN)
+            sigaction(numbers[i], &action, NULL);
 }
 
 /* Executes the launcher of the MPI that this program was compiled with. */
