@@ -8,7 +8,7 @@ ghost use Rattle.p3l_alloc.specs.Chosen.{IsRefused};
 ghost use Rattle.p3l_advise.specs.Advice.{IsAdvice};
 
 use crate::falls::put_falls;
-use crate::help::put_idle;
+use crate::help::put_help;
 use crate::lines::put_tree;
 use p3l_alloc::table::table;
 use p3l_alloc::{AllocRefusal, choose_within, least_procs};
@@ -44,6 +44,14 @@ pub fn advice_text(
     let mut text = String::new(alloc);
     put_falls(alloc, &mut text, tree, costs, rows, processors, least)?;
     put_tree(alloc, &mut text, tree, costs, &choice.counts)?;
-    put_idle(alloc, &mut text, processors, choice.used)?;
+    put_help(
+        alloc,
+        &mut text,
+        tree,
+        costs,
+        &choice.counts,
+        processors,
+        choice.used,
+    )?;
     Ok(List::from_vec(text.into_bytes()))
 }
