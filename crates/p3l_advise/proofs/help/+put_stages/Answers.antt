@@ -1,12 +1,10 @@
 use Rattle.std.proofs.Common.{◌≡◌, ℕ, List, true, false, ◌++◌, ◌+◌, ◌-◌, ◌<◌, ◌∙◌, refl, sym, ap, subst, arith, length, get_or}
 use Rattle.std.specs.Prelude.{string_bytes}
-use Rattle.std.specs.List.{flat_map}
-use Rattle.std.proofs.lemmas.List.{append-nil}
 use Rattle.p3l_skel.specs.declared.tree.Node.{Node}
 use Rattle.p3l_skel.specs.Counts.{outside_parts}
 use Rattle.p3l_skel.specs.Tree.{node_at}
 use Rattle.p3l_alloc.specs.Walk.{IsWithin}
-use Rattle.p3l_alloc.proofs.Added.{within_some, within_parts, within_inside}
+use Rattle.p3l_alloc.proofs.Added.{within_some, within_parts}
 use Rattle.p3l_alloc.proofs.Outside.{first_outside, outside_inside, part_outside}
 use Rattle.p3l_advise.specs.Bottleneck.{is_stage, stages_from}
 use Rattle.p3l_advise.specs.Help.{stage_help}

@@ -1,9 +1,8 @@
-use Rattle.std.proofs.Common.{◌≡◌, ◌∙◌, ◌++◌, ◌+◌, ◌<◌, ℕ, List, ap, sym, subst, drop, length}
+use Rattle.std.proofs.Common.{◌∙◌, ◌++◌, ◌+◌, ◌<◌, ℕ, List, ap, sym, subst, drop, length}
 use Rattle.std.specs.Prelude.{string_bytes, slice_index}
 use Rattle.std.specs.List.{Contains, flat_map}
 use Rattle.p3l_skel.specs.declared.tree.Node.{Node}
 use Rattle.p3l_skel.specs.Counts.{outside, outside_parts}
-use Rattle.p3l_skel.specs.Tree.{node_at}
 use Rattle.p3l_advise.specs.Help.{wider_help}
 use Rattle.p3l_advise.proofs.Nodes.{parts_step}
 use Rattle.p3l_advise.proofs.help.put_fixed.Goals as goal

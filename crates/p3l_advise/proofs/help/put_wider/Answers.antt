@@ -2,7 +2,6 @@ use Rattle.std.proofs.Common.{◌≡◌, ◌∙◌, ◌++◌, ◌+◌, ◌*◌, 
 use Rattle.std.specs.Int.{div_ceil}
 use Rattle.std.specs.Prelude.{string_bytes}
 use Rattle.p3l_skel.specs.declared.tree.Node.{Node}
-use Rattle.p3l_skel.specs.Numbers.{procs}
 use Rattle.p3l_skel.specs.Tree.{node_at}
 use Rattle.p3l_model.specs.Service.{farm_ends, service, transfer}
 use Rattle.p3l_alloc.specs.Explanation.{module_name}
