@@ -1,19 +1,18 @@
 -- The best service times of several numbers of processors.
-use Rattle.std.proofs.Common.{◌≡◌, ℕ, ◌+◌, ◌<◌, ◌≤◌, ◌++◌, List, [], sym, ap, ◌∙◌, subst, arith, inl, inr, append_assoc}
+use Rattle.std.proofs.Common.{◌≡◌, ℕ, ◌<◌, ◌≤◌, ◌++◌, List, [], ap, ◌∙◌, arith, inl, inr, append_assoc}
 use Rattle.std.proofs.lemmas.Bool.{cases_lt}
 use Rattle.p3l_skel.specs.declared.tree.Tree.{Tree}
 use Rattle.p3l_skel.specs.Lawful.{IsLawfulTree}
-use Rattle.p3l_skel.specs.Numbers.{Fits, procs}
+use Rattle.p3l_skel.specs.Numbers.{procs}
 use Rattle.p3l_cost.specs.declared.costs.Costs.{Costs}
 use Rattle.p3l_cost.specs.Costs.{AreCostsOf}
 use Rattle.p3l_model.specs.Optimal.{IsChosen}
-use Rattle.p3l_model.specs.Service.{service}
 use Rattle.p3l_alloc.specs.declared.allocation.Best.{Best}
 use Rattle.p3l_alloc.specs.Best.{IsBest, best_at}
 use Rattle.p3l_alloc.specs.Need.{IsLeastProcs}
 use Rattle.p3l_alloc.specs.Table.{IsTableFrom}
 use Rattle.p3l_alloc.proofs.Chosen.{best_there}
-use Rattle.p3l_advise.specs.Advice.{IsAdvice, advice_text}
+use Rattle.p3l_advise.specs.Advice.{IsAdvice}
 use Rattle.p3l_advise.specs.Falls.{fall_lines}
 use Rattle.p3l_advise.specs.Help.{help_lines}
 use Rattle.p3l_advise.specs.Lines.{tree_lines}
@@ -61,7 +60,7 @@ words text t1 t2 t3 a b c e1 e2 e3 e = rw (e, e3, e2, e1) (append_assoc a b c)
 
 -- the text is advice, where a table says the best for each number of processors
 pub advice : (tree : Tree) (costs : Costs) (processors least used : ℕ) (rows : List (List ℕ)) (counts : List ℕ) (text t0 t1 t2 t3 : List ℕ) → IsLawfulTree tree → AreCostsOf tree costs → IsTableFrom tree costs processors rows 0 → IsLeastProcs tree least → least ≤ processors → IsChosen tree costs processors counts → used ≡ procs tree counts 0 →
-    t0 ≡ [] → t1 ≡ t0 ++ fall_lines (best_at tree rows) least processors → t2 ≡ t1 ++ tree_lines tree costs counts → t3 ≡ t2 ++ help_lines processors used → text ≡ t3 → IsAdvice tree costs processors text
+    t0 ≡ [] → t1 ≡ t0 ++ fall_lines (best_at tree rows) least processors → t2 ≡ t1 ++ tree_lines tree costs counts → t3 ≡ t2 ++ help_lines tree costs counts processors used → text ≡ t3 → IsAdvice tree costs processors text
 advice tree costs processors least used rows counts text t0 t1 t2 t3 lawful priced table need within chosen is e0 e1 e2 e3 e =
     let best : ℕ → Best = best_at tree rows in
     let reached = need.reached in
@@ -77,8 +76,8 @@ advice tree costs processors least used rows counts text t0 t1 t2 t3 lawful pric
       bests = bests;
       chosen = chosen;
       words =
-          words text t1 t2 t3 (fall_lines best least processors) (tree_lines tree costs counts) (help_lines processors (best processors).used)
-          (e1 ∙ ap (λ (t : List ℕ). t ++ fall_lines best least processors) e0) e2 (e3 ∙ ap (λ (u : ℕ). t2 ++ help_lines processors u) same) e;
+          words text t1 t2 t3 (fall_lines best least processors) (tree_lines tree costs counts) (help_lines tree costs counts processors (best processors).used)
+          (e1 ∙ ap (λ (t : List ℕ). t ++ fall_lines best least processors) e0) e2 (e3 ∙ ap (λ (u : ℕ). t2 ++ help_lines tree costs counts processors u) same) e;
       enough = λ p many few. elim (cases_lt p least) [
         | inl fewer ↦ let r = need.below all.counts all.optimal.fit.lawful in let u = all.processes in absurd (omega arith)
         | inr fits ↦ enough tree costs p processors (best p) (best processors) (bests p fits few) all many few

@@ -1,5 +1,5 @@
 -- The lines of a tree, node by node.
-use Rattle.std.proofs.Common.{◌≡◌, ℕ, zero, suc, ◌+◌, ◌-◌, ◌==◌, ◌<◌, ◌++◌, List, [], ◌∷◌, true, refl, sym, ap, ◌∙◌, arith, add-one, drop, get_or, length, append_assoc}
+use Rattle.std.proofs.Common.{◌≡◌, ℕ, zero, suc, ◌+◌, ◌-◌, ◌==◌, ◌<◌, ◌++◌, List, true, refl, ap, ◌∙◌, arith, add-one, drop, get_or, length, append_assoc}
 use Rattle.std.specs.Prelude.{codes}
 use Rattle.std.specs.List.{flat_map}
 use Rattle.std.proofs.lemmas.Bool.Decides.{nat_tests}

@@ -1,11 +1,11 @@
 -- The lines of the numbers of processors, one number more at a time.
-use Rattle.std.proofs.Common.{◌≡◌, ℕ, zero, suc, ◌+◌, ◌-◌, ◌==◌, ◌<◌, ◌≤◌, ◌++◌, List, [], ◌∷◌, true, false, refl, sym, ap, ◌∙◌, arith, add-one, append_assoc}
+use Rattle.std.proofs.Common.{◌≡◌, ℕ, zero, suc, ◌+◌, ◌-◌, ◌==◌, ◌<◌, ◌++◌, List, [], ◌∷◌, true, false, refl, sym, ap, ◌∙◌, arith, append_assoc}
 use Rattle.std.specs.List.{flat_map, range_with_len}
 use Rattle.std.proofs.lemmas.Bool.Decides.{nat_tests}
 use Rattle.std.proofs.lemmas.List.{append-nil}
 use Rattle.std.proofs.lemmas.List.Concat.{flat_map-append}
 use Rattle.p3l_alloc.specs.declared.allocation.Best.{Best}
-use Rattle.p3l_advise.specs.Falls.{change_line, fall_line, fall_lines, line_at}
+use Rattle.p3l_advise.specs.Falls.{change_line, fall_line, line_at}
 
 pub range_more : (a n : ℕ) → range_with_len a (suc n) ≡ range_with_len a n ++ (a + n) ∷ []
 range_more a zero = let e : a + 0 ≡ a = omega arith in rw e refl

@@ -14,7 +14,7 @@ use Rattle.p3l_advise.specs.Lines.{tree_lines}
 -- best service time and its processes, and the counts are those that are chosen for all processors
 abbrev pub advice_text : Tree → Costs → (processors least : ℕ) → (ℕ → Best) → (counts : List ℕ) → List ℕ
 advice_text tree costs processors least best counts =
-    fall_lines best least processors ++ (tree_lines tree costs counts ++ help_lines processors (best processors).used)
+    fall_lines best least processors ++ (tree_lines tree costs counts ++ help_lines tree costs counts processors (best processors).used)
 
 -- the text advises on up to this number of processors
 pub record IsAdvice (tree : Tree) (costs : Costs) (processors : ℕ) (text : List ℕ) : Type 0 where

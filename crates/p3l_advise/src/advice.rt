@@ -8,7 +8,7 @@ ghost use Rattle.p3l_alloc.specs.Chosen.{IsRefused};
 ghost use Rattle.p3l_advise.specs.Advice.{IsAdvice};
 
 use crate::falls::put_falls;
-use crate::help::put_idle;
+use crate::help::put_help;
 use crate::lines::put_tree;
 use p3l_alloc::table::table;
 use p3l_alloc::{AllocRefusal, choose_within, least_procs};
@@ -17,13 +17,14 @@ use p3l_cost::Costs;
 use p3l_skel::Tree;
 use std::alloc::Global;
 
-/// The text that advises on up to this number of processors. First, for each number at which the
-/// best service time falls, a line `processors P used U service T speed-up S`, where the speed-up is
-/// over the least number that fits, with two digits rounded down. Then the tree, with the counts
-/// that are chosen for all processors: a line `NAME KIND count C service T` for each node that has
-/// processes of its own, two blanks deeper than that of the node that it is a part of, with
-/// ` bottleneck: ` and the part of its time at the first stage that has the service time of the whole. Then the
-/// changes that would help.
+/// The text that advises on up to this number of processors.
+///
+/// First comes a line `processors P used U service T speed-up S` for each number at which the best
+/// service time falls. The speed-up is over the least number that fits, with two digits, rounded
+/// down. Then comes the tree with the counts that are chosen for all processors: for each node that
+/// has processes of its own a line `NAME KIND count C service T`, two blanks a level. The first
+/// stage that has the service time of the whole is marked by ` bottleneck: ` and the part of its
+/// time that makes it so. The last lines are the changes that would help.
 pub fn advice_text(
     alloc: Global,
     tree: &Tree,
@@ -44,6 +45,14 @@ pub fn advice_text(
     let mut text = String::new(alloc);
     put_falls(alloc, &mut text, tree, costs, rows, processors, least)?;
     put_tree(alloc, &mut text, tree, costs, &choice.counts)?;
-    put_idle(alloc, &mut text, processors, choice.used)?;
+    put_help(
+        alloc,
+        &mut text,
+        tree,
+        costs,
+        &choice.counts,
+        processors,
+        choice.used,
+    )?;
     Ok(List::from_vec(text.into_bytes()))
 }

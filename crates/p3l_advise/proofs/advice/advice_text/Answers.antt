@@ -1,4 +1,4 @@
-use Rattle.std.proofs.Common.{◌≡◌, ◌≤◌, ◌∙◌, ℕ, List, sym, ap, subst, arith}
+use Rattle.std.proofs.Common.{◌≤◌, ℕ, List, sym, subst, arith}
 use Rattle.std.specs.Prelude.{string_bytes}
 use Rattle.p3l_alloc.specs.Table.{IsTableFrom}
 use Rattle.p3l_advise.proofs.Bests.{advice}
@@ -15,6 +15,6 @@ returns-clause-text c =
     let below = c.least_procs-least.ensures.below c.in_ok-choice.choice.counts.list chosen.optimal.fit.lawful in
     let within : c.least_procs-least.result ≤ c.args.processors = omega (arith, few, below) in
     advice tree costs c.args.processors c.least_procs-least.result c.in_ok-choice.choice.used c.as_slice-rows.result.now c.in_ok-choice.choice.counts.list c.from_vec.result
-    (string_bytes c.new-text.result) (string_bytes c.put_falls.new.text) (string_bytes c.put_tree.new.text) (string_bytes c.put_idle.new.text)
+    (string_bytes c.new-text.result) (string_bytes c.put_falls.new.text) (string_bytes c.put_tree.new.text) (string_bytes c.put_help.new.text)
     c.requires.tree c.requires.costs table c.least_procs-least.ensures within chosen used
-    c.new-text.ensures.bytes c.in_ok-put_falls.ensures c.in_ok-put_tree.ensures c.in_ok-put_idle.ensures (rw c.into_bytes.ensures.value at c.from_vec.ensures)
+    c.new-text.ensures.bytes c.in_ok-put_falls.ensures c.in_ok-put_tree.ensures c.in_ok-put_help.ensures (rw c.into_bytes.ensures.value at c.from_vec.ensures)

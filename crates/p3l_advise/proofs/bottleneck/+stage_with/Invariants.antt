@@ -1,6 +1,5 @@
-use Rattle.std.proofs.Common.{◌≡◌, ◌-◌, ◌==◌, ℕ, drop}
+use Rattle.std.proofs.Common.{◌≡◌, ◌-◌, ◌==◌}
 use Rattle.std.specs.Prelude.{find}
-use Rattle.std.specs.List.{flat_map}
 use Rattle.p3l_model.specs.Service.{service}
 use Rattle.p3l_advise.specs.Bottleneck.{stages_from}
 use Rattle.p3l_advise.proofs.Stages.{find_after}

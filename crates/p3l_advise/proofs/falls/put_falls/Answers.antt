@@ -1,4 +1,4 @@
-use Rattle.std.proofs.Common.{◌≡◌, ◌+◌, ◌-◌, ◌<◌, ◌∙◌, ℕ, sym, ap, arith}
+use Rattle.std.proofs.Common.{◌≡◌, ◌+◌, ◌-◌, ◌<◌, ℕ, ap, arith}
 use Rattle.std.specs.Prelude.{string_bytes}
 use Rattle.p3l_alloc.specs.Best.{best_at}
 use Rattle.p3l_alloc.specs.declared.allocation.Best.{Best}

@@ -1,11 +1,11 @@
-use Rattle.std.proofs.Common.{◌≡◌, ℕ, List, ◌∷◌, ◌++◌, ◌-◌, ◌<◌, refl, sym, ap, ◌∙◌, arith, append_assoc}
+use Rattle.std.proofs.Common.{◌≡◌, ℕ, List, ◌++◌, ◌-◌, ◌<◌, refl, ap, ◌∙◌, arith, append_assoc}
 use Rattle.std.specs.Prelude.{string_bytes}
 use Rattle.std.specs.List.{flat_map}
 use Rattle.p3l_skel.specs.Counts.{outside_parts}
 use Rattle.p3l_skel.specs.Tree.{node_at}
 use Rattle.p3l_alloc.proofs.Outside.{first_outside, outside_inside, part_outside}
 use Rattle.p3l_advise.specs.Lines.{lines_from, node_line}
-use Rattle.p3l_advise.proofs.Nodes.{lines_from-step, lines_from-zero, parts_step}
+use Rattle.p3l_advise.proofs.Nodes.{lines_from-step, lines_from-zero}
 use Rattle.p3l_advise.proofs.lines.+put_lines.Goals as goal
 
 pub returns-in_default : goal.returns-in_default

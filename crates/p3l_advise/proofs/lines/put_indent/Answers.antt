@@ -1,4 +1,4 @@
-use Rattle.std.proofs.Common.{◌≡◌, ◌∙◌, ◌++◌, ℕ, List, sym, ap, append_assoc}
+use Rattle.std.proofs.Common.{◌∙◌, ◌++◌, ℕ, List, ap, append_assoc}
 use Rattle.std.specs.Prelude.{codes, string_bytes}
 use Rattle.p3l_advise.specs.Lines.{indent}
 use Rattle.p3l_advise.proofs.Nodes.{indent_more}

@@ -1,12 +1,12 @@
-use Rattle.std.proofs.Common.{◌≡◌, ◌≤◌, ◌∙◌, ◌++◌, ℕ, List, sym, ap, subst, arith, append_assoc}
+use Rattle.std.proofs.Common.{◌≡◌, ◌∙◌, ◌++◌, ℕ, List, ap, subst, arith, append_assoc}
 use Rattle.std.specs.Prelude.{codes, string_bytes}
 use Rattle.std.specs.List.{Contains}
 use Rattle.p3l_skel.specs.declared.tree.Node.{Node}
 use Rattle.p3l_skel.specs.Counts.{count_of, own_counted}
 use Rattle.p3l_model.proofs.Deep.{timed_outside}
 use Rattle.p3l_model.proofs.Timed.{some_worker}
-use Rattle.p3l_advise.specs.Bottleneck.{bottleneck, term_row}
-use Rattle.p3l_advise.specs.Lines.{mark, term_name}
+use Rattle.p3l_advise.specs.Bottleneck.{term_row}
+use Rattle.p3l_advise.specs.Lines.{term_name}
 use Rattle.p3l_advise.proofs.Nodes.{mark_here}
 use Rattle.p3l_advise.proofs.lines.put_mark.Goals as goal
 
