@@ -4,6 +4,7 @@
 //! line and of the files that the command has read; nothing is read again.
 #![tactic(auto)]
 
+mod arity;
 mod costs;
 mod expected;
 pub mod failure;
