@@ -106,6 +106,7 @@ fn run(rt: &HostRuntime, words: &[&str]) -> Result<Status, NoMemory> {
 }
 
 /// How the program has answered its words.
+#[derive(Drop)]
 struct Said<'a> {
     words: &'a [&'a str],
     status: Status,

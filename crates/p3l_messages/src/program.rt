@@ -64,7 +64,7 @@ fn put_byte(alloc: Global, about: &mut String, rest: &[u8]) -> Result<(), NoMemo
     about.push_str("Found `")?;
     put_safely(alloc, about, found)?;
     about.push_str("`, which stands in comments alone: `// ..` or `/* .. */`. ")?;
-    if found == b"." {
+    if found == b".".as_slice() {
         about.push_str("Values are whole numbers. ")?;
     }
     Ok(())
