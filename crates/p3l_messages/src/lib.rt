@@ -17,6 +17,7 @@ mod program;
 pub mod safe;
 pub mod screen;
 mod usage;
+mod wiring;
 
 pub use failure::Failure;
 pub use kept::KeptFiles;

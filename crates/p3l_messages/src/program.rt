@@ -7,6 +7,7 @@ use crate::arity::put_arity;
 use crate::expected::put_expected;
 use crate::heard::place_in;
 use crate::place::{Style, column_in, line_of, put_line, put_place, put_safely};
+use crate::wiring::put_wiring;
 use p3l_ast::{Fault, Pos};
 use p3l_base::NoMemory;
 use std::alloc::Global;
@@ -47,8 +48,14 @@ pub(crate) fn put_refusal(
         line: row,
         col: column,
     };
-    let has_counts = is_number_of(Fault::Arity, number) && put_arity(alloc, about, text, at)?;
-    if names_something(number) && !has_counts {
+    let is_said = if is_number_of(Fault::Arity, number) {
+        put_arity(alloc, about, text, at)?
+    } else if is_number_of(Fault::Wiring, number) {
+        put_wiring(alloc, about, text, at)?
+    } else {
+        false
+    };
+    if names_something(number) && !is_said {
         about.push_str("It is about `")?;
         put_safely(alloc, about, word_at(rest))?;
         about.push_str("`. ")?;
