@@ -19,6 +19,17 @@ use p3l_reader::read;
 use p3l_report::Status;
 use std::alloc::Global;
 
+/// The message on too few processors.
+const TOO_FEW: &str = "At least this many processors are needed. A farm or a map takes two beside \
+    its workers.";
+
+/// The message on an output that could not be written.
+const LOST_OUTPUT: &str = "The standard output was closed, or its disk is full.";
+
+/// The message on a file that could not be written, below its name.
+const UNWRITTEN: &str = "It may be a folder, be in one that isn't there, be an input of this \
+    command, or be on a full disk.";
+
 /// The parts that a message is made of.
 #[derive(Drop)]
 pub struct Answer<'a> {
@@ -58,20 +69,10 @@ pub fn message_on<F: Files>(
         5 => sentence(alloc, TOO_FEW),
         7 => trapped(alloc, answer),
         9 => unreadable(alloc, answer, files),
-        _ => numbered(alloc, answer, files),
+        3 | 4 | 6 | 12 | 13 | 15 => numbered(alloc, answer, files),
+        _ => Ok(String::new(alloc)),
     }
 }
-
-/// The message on too few processors.
-const TOO_FEW: &str = "At least this many processors are needed. A farm or a map takes two beside \
-    its workers.";
-
-/// The message on an output that could not be written.
-const LOST_OUTPUT: &str = "The standard output was closed, or its disk is full.";
-
-/// The message on a file that could not be written, below its name.
-const UNWRITTEN: &str = "It may be a folder, be in one that isn't there, be an input of this \
-    command, or be on a full disk.";
 
 /// A message of one sentence or two.
 fn sentence(alloc: Global, text: &str) -> Result<String, NoMemory>

@@ -36,18 +36,32 @@ pub(crate) fn put_refusal(
     let shown = column_in(alloc, line, column)?;
     put_place(alloc, message, style, file, row, Some(shown))?;
     put_line(alloc, message, style, line, column)?;
-    let rest = rest_of(line, column);
+    let at = Pos {
+        line: row,
+        col: column,
+    };
+    put_about(alloc, about, text, at, rest_of(line, column), number)
+}
+
+/// Adds what a refusal at a place is about, by the text and by the rest of its line. It gives true
+/// where the page of the refusal would only repeat it.
+fn put_about(
+    alloc: Global,
+    about: &mut String,
+    text: &[u8],
+    at: Pos,
+    rest: &[u8],
+    number: &str,
+) -> Result<bool, NoMemory>
+    ensures { OnErr result Refused }
+{
     if is_number_of(Fault::Expected, number) {
-        return put_expected(alloc, about, text, row, column);
+        return put_expected(alloc, about, text, at.line, at.col);
     }
     if is_number_of(Fault::BadByte, number) {
         put_byte(alloc, about, rest)?;
         return Ok(true);
     }
-    let at = Pos {
-        line: row,
-        col: column,
-    };
     let is_said = if is_number_of(Fault::Arity, number) {
         put_arity(alloc, about, text, at)?
     } else if is_number_of(Fault::Wiring, number) {
