@@ -24,6 +24,8 @@ pub struct KeptFiles<F: Files> {
     texts: Vec<Kept>,
     /// The name of the last file that could not be read, if there is one.
     failed: Option<Name>,
+    /// The name of the last file that could not be written, if there is one.
+    unwritten: Option<Name>,
     /// Whether memory ran out for a text or a name that was to be kept.
     lacks: bool,
 }
@@ -43,6 +45,7 @@ impl<F: Files> KeptFiles<F> {
             files,
             texts: Vec::new(alloc),
             failed: None,
+            unwritten: None,
             lacks: false,
         }
     }
@@ -69,6 +72,14 @@ impl<F: Files> KeptFiles<F> {
             None => None,
         }
     }
+
+    /// The name of the last file that could not be written, if there is one.
+    pub fn unwritten(&self) -> Option<&str> {
+        match &self.unwritten {
+            Some(name) => Some(name.as_str()),
+            None => None,
+        }
+    }
 }
 
 impl<F: Files> KeptFiles<F> {
@@ -87,6 +98,16 @@ impl<F: Files> KeptFiles<F> {
     {
         match Name::from_text(alloc, name) {
             Ok(name) => self.failed = Some(name),
+            Err(_) => self.lacks = true,
+        }
+    }
+
+    /// Keeps the name of a file that could not be written, unless memory for it runs out.
+    fn note_unwritten(&mut self, alloc: Global, name: &str)
+        ensures { self.new ≡ self.old }
+    {
+        match Name::from_text(alloc, name) {
+            Ok(name) => self.unwritten = Some(name),
             Err(_) => self.lacks = true,
         }
     }
@@ -122,6 +143,10 @@ impl<F: Files> Files for KeptFiles<F> {
     }
 
     fn write(&mut self, alloc: Global, name: &str, bytes: &[u8]) -> Result<(), WriteFault> {
-        self.files.write(alloc, name, bytes)
+        let answer = self.files.write(alloc, name, bytes);
+        if let Err(WriteFault::Failed) = &answer {
+            self.note_unwritten(alloc, name);
+        }
+        answer
     }
 }
