@@ -1,21 +1,21 @@
 -- Which outcome a plan comes to: the guard of its steps never acts, its root goes by its stages, and its traps are the operator's.
 use Rattle.std.proofs.Common.{◌≡◌, ℕ, ℤ, zero, suc, ◌+◌, ◌-◌, ◌*◌, ◌/◌, ◌^◌, ◌<◌, ◌≤◌, false, Ok, Err, List, [], ◌∷◌, ◌++◌, take, drop, length, map, refl, arith, ap, ap₂, sym, ◌∙◌, subst, length-append, length-take, length-drop}
 use Rattle.std.specs.Prelude.{nat_le}
-use Rattle.std.proofs.Math.Nat.{mul_assoc, pow-succ', suc-mul}
+use Rattle.std.proofs.Math.Nat.{mul_assoc, suc-mul}
 use Rattle.std.proofs.lemmas.Bool.Decides.{nat_tests}
 use Rattle.std.proofs.lemmas.List.{length-map}
 use Rattle.p3l_base.specs.declared.outcome.Outcome.{Outcome}
 use Rattle.p3l_base.specs.declared.outcome.Outcome.TheVariants.{Value, Trapped}
 use Rattle.p3l_base.specs.declared.outcome.Trap.{Trap}
-use Rattle.p3l_skel.specs.Item.{elements, in_order, item, item_to, on_value, pieces}
+use Rattle.p3l_skel.specs.Item.{elements, in_order, item_to, on_value, pieces}
 use Rattle.p3l_skel.specs.Tree.{HasLength}
 use Rattle.p3l_skel.proofs.Depth.{item_to-step}
 use Rattle.p3l_skel.proofs.Elements.{length-pieces}
 use Rattle.p3l_scan.specs.Plan.{numbers_of, plan_tree, stage_node, step_node}
 use Rattle.p3l_scan.specs.Row.{in_row, with_next}
-use Rattle.p3l_scan.specs.Scan.{Scanned, before, both, combined_each, in_words, last_of, merged, scan, scan_of_up_to, with_front}
-use Rattle.p3l_scan.specs.Staged.{GoesByStages, IsOperatorTrap, NeverGuards, TrapsAsTheOperator, block_outcome, stage_outcome, staged}
-use Rattle.p3l_scan.specs.Step.{fitted, merged_halves, step_leaf, stepped}
+use Rattle.p3l_scan.specs.Scan.{Scanned, before, both, combined_each, in_words, last_of, merged, scan_of_up_to, with_front}
+use Rattle.p3l_scan.specs.Staged.{GoesByStages, IsOperatorTrap, TrapsAsTheOperator, block_outcome, stage_outcome, staged}
+use Rattle.p3l_scan.specs.Step.{merged_halves, step_leaf, stepped}
 use Rattle.p3l_scan.specs.laws.Nodes.{root_is}
 use Rattle.p3l_scan.specs.laws.Powers.{doubled, grown, power_pos}
 use Rattle.p3l_scan.specs.laws.Step.{leaf_fits}

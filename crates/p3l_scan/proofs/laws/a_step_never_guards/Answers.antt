@@ -1,4 +1,4 @@
-use Rattle.std.proofs.Common.{ap, sym, ◌∙◌, ◌*◌, ◌^◌}
+use Rattle.std.proofs.Common.{ap, ◌∙◌, ◌*◌, ◌^◌}
 use Rattle.p3l_skel.specs.Item.{item}
 use Rattle.p3l_scan.proofs.Combining.{combines}
 use Rattle.p3l_scan.proofs.Staging.{never-guards}
