@@ -20,6 +20,7 @@ mod RecordSteps
 mod TimeSteps
 mod ImagedSteps
 mod AlikeSteps
+mod DeterminedSteps
 mod SoundSteps
 mod ResumeSteps
 mod ScanSteps

@@ -8,6 +8,7 @@ pub mod Certified
 pub mod Check
 pub mod Command
 pub mod Compile
+pub mod Determined
 pub mod Expected
 pub mod Explain
 pub mod File

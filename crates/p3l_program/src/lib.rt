@@ -10,6 +10,7 @@ pub mod certify;
 pub mod check;
 pub mod check_trace;
 pub mod compile;
+pub mod determined;
 pub mod exec;
 pub mod explain;
 mod file;
