@@ -1907,6 +1907,7 @@ static uint64_t looked_ns, looked_input_ns;
 /* Receives messages and sends what is due, unless it did so just before. */
 static void look_round(void)
 {
+    recent_ns = nanoseconds(CLOCK_MONOTONIC);
     if (recent_ns - looked_ns < LOOK_NS) return;
     looked_ns = recent_ns;
     receive();
@@ -2120,12 +2121,14 @@ static void pass_signal(int number)
     if (launcher > 0) kill(launcher, number);
 }
 
+/* Handles the signals that end a program, but for those that the caller has turned off. */
 static void watch_signals(void (*handler)(int))
 {
     static const int numbers[] = { SIGINT, SIGTERM, SIGHUP };
-    struct sigaction action = { .sa_handler = handler };
+    struct sigaction action = { .sa_handler = handler }, before;
     for (size_t i = 0; i < sizeof numbers / sizeof *numbers; i++)
-        sigaction(numbers[i], &action, NULL);
+        if (sigaction(numbers[i], NULL, &before) == 0 && before.sa_handler != SIG_IGN)
+            sigaction(numbers[i], &action, NULL);
 }
 
 /* Executes the launcher of the MPI that this program was compiled with. */
