@@ -3,3 +3,4 @@ mod NumberedSteps
 mod PlacedSteps
 mod Ranges
 mod RateSteps
+mod Wider
