@@ -1,5 +1,5 @@
 -- The command `advise`: what numbers of processors buy for a program, or the processes of its nodes.
-use Rattle.std.specs.Prelude.{◌≡◌, ℕ, List, Option}
+use Rattle.std.specs.Prelude.{◌≡◌, ℕ, Bool, false, true, List, Option}
 use Rattle.p3l_io.specs.Content.{Held}
 use Rattle.p3l_cost.specs.declared.costs.Costs.{Costs}
 use Rattle.p3l_advise.specs.Advice.{IsAdvice}
@@ -23,3 +23,8 @@ pub record IsListed (files : Option Held) (build : Build) (text : List ℕ) : Ty
   pub network : Network
   pub has : HasNetwork files (built build) network
   pub text_is : text ≡ processes_text network.tree network.net
+
+-- what is requested: the advice, or the processes of each node in its place
+abbrev pub IsRequested : Option Held → Build → (processes : Bool) → List ℕ → Type 0
+IsRequested files build false = IsAdvised files build
+IsRequested files build true = IsListed files build

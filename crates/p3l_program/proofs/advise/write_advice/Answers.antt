@@ -5,7 +5,7 @@ use Rattle.p3l_program.specs.Text.{IsWritten}
 use Rattle.p3l_program.specs.World.{change, files_change}
 use Rattle.p3l_program.proofs.LoadSteps.{advised, loaded_passes}
 use Rattle.p3l_program.proofs.TextSteps.{text_expected}
-use Rattle.p3l_program.proofs.advise.advise.Goals as goal
+use Rattle.p3l_program.proofs.advise.write_advice.Goals as goal
 
 pub returns-clause-expected : goal.returns-clause-expected
 returns-clause-expected g c =
