@@ -8,10 +8,10 @@ as errors, and run on 1, 2, 3, 4 and 8 ranks: those of examples/, one or more fo
 random nests of skeletons with traps, rescues and refused lines, with channels of 1, of 4 and of 64
 tokens. Output, status and message must be those of `run`. Then come the edges: pipes that are
 closed, full disks, empty and closed inputs, long inputs and long lines with little memory, no
-memory, ranks that are killed, and each result before the next item. Where MPICH or Open MPI is
-installed, some of it is done again over each. Names choose programs by a word in their names;
-`--all` takes many more random programs, and all capacities for each. The last line is
-`N passed, M failed`.
+memory, ranks that are killed, and each result before the next item. Where an MPI is installed, some
+of it is done again over it; MPICH and Open MPI may be there side by side. Names choose programs by
+a word in their names; `--all` takes many more random programs, and all capacities for each. The
+last line is `N passed, M failed`.
 
 A program without the command `export` compiles images, and tools/image_to_c.py makes the texts in C
 of them: the engine is tested, and bodies and tables are not the program's own. The last line but
@@ -42,8 +42,9 @@ CAPACITIES = ["1", "4", "64"]
 SECONDS = 120
 WIDTH = 6
 RANDOM_PROGRAMS, MANY_PROGRAMS = 40, 250
-MPI = {"mpich": "mpicc.mpich", "openmpi": "mpicc.openmpi"}
-LAUNCHERS = {"mpich": "mpiexec.mpich", "openmpi": "mpiexec.openmpi"}
+# Both may be installed side by side; where neither has a name of its own, there may be one MPI.
+MPI = {"mpich": "mpicc.mpich", "openmpi": "mpicc.openmpi", "mpi": "mpicc"}
+LAUNCHERS = {"mpich": "mpiexec.mpich", "openmpi": "mpiexec.openmpi", "mpi": "mpiexec"}
 # Open MPI asks for these where it is run by root, and on more ranks than processors.
 ALLOWED = ["OMPI_ALLOW_RUN_AS_ROOT", "OMPI_ALLOW_RUN_AS_ROOT_CONFIRM"]
 ALLOWED += ["OMPI_MCA_rmaps_base_oversubscribe"]
@@ -554,11 +555,17 @@ def try_over(checks, program, kind):
         checks.expect(f"{program.name}, {ranks} ranks of {kind}", found, wanted)
 
 
+def kinds_of_mpi():
+    """The names of the MPIs that are installed."""
+    found = [kind for kind in ("mpich", "openmpi") if shutil.which(MPI[kind])]
+    if found or shutil.which(MPI["mpi"]):
+        return found or ["mpi"]
+    print("exported: MPI skipped: mpicc is not installed", flush=True)
+    return []
+
+
 def try_mpi(checks, kind, is_all):
     """Some programs and the edges over an MPI."""
-    if not shutil.which(MPI[kind]):
-        print(f"exported: {kind} skipped: {MPI[kind]} is not installed", flush=True)
-        return
     names = ("farm of farms", "turns spent", "refused")
     chosen = [row for row in rows() if is_all or row[0] in names]
     for name, text, stream, processors in [*chosen, *nests(40 if is_all else 3)]:
@@ -592,7 +599,7 @@ def main():
         if not given.names or "edge" in given.names:
             tasks = [(try_edges, checks), (try_long, checks), (try_no_memory, checks), *tasks]
         if not given.names or "mpi" in given.names:
-            tasks = [(try_mpi, checks, kind, given.all) for kind in MPI] + tasks
+            tasks = [(try_mpi, checks, kind, given.all) for kind in kinds_of_mpi()] + tasks
         with concurrent.futures.ThreadPoolExecutor(len(os.sched_getaffinity(0))) as pool:
             for done in [pool.submit(*task) for task in tasks]:
                 done.result()
