@@ -40,6 +40,8 @@ SANITIZED = ["-O1", "-g", "-fsanitize=address,undefined", "-fno-sanitize-recover
 RANKS = ["1", "2", "3", "4", "8"]
 CAPACITIES = ["1", "4", "64"]
 SECONDS = 120
+# The sanitizers make compiling slow where the machine has other work.
+COMPILE_SECONDS = 600
 WIDTH = 6
 RANDOM_PROGRAMS, MANY_PROGRAMS = 40, 250
 # Both may be installed side by side; where neither has a name of its own, there may be one MPI.
@@ -307,7 +309,8 @@ class Checks:
     def compile(self, name, made, *options, compiler="cc"):
         """The name of the compiled program; none where it wasn't compiled."""
         built = self.file("")
-        done = self.call(compiler, *WARNINGS, *options, "-o", built, made)
+        words = [compiler, *WARNINGS, *options, "-o", built, made]
+        done = self.call(*words, seconds=COMPILE_SECONDS)
         if done != (0, b"", b""):
             self.expect(f"compiled {name}", done, (0, b"", b""))
             return None
