@@ -8,10 +8,14 @@ as errors, and run on 1, 2, 3, 4 and 8 ranks: those of examples/, one or more fo
 random nests of skeletons with traps, rescues and refused lines, with channels of 1, of 4 and of 64
 tokens. Output, status and message must be those of `run`. Then come the edges: pipes that are
 closed, full disks, empty and closed inputs, long inputs and long lines with little memory, no
-memory, ranks that are killed, and each result before the next item. Where MPICH or Open MPI is
-installed, some of it is done again over each. Names choose programs by a word in their names;
-`--all` takes many more random programs, and all capacities for each. The last line is
-`N passed, M failed`.
+memory, ranks that are killed, and each result before the next item. Where an MPI is installed, some
+of it is done again over it; MPICH and Open MPI may be there side by side. Names choose programs by
+a word in their names; `--all` takes many more random programs, and all capacities for each. The
+last line is `N passed, M failed`.
+
+A program without the command `export` compiles images, and tools/image_to_c.py makes the texts in C
+of them: the engine is tested, and bodies and tables are not the program's own. The last line but
+one says so.
 """
 
 import argparse
@@ -27,6 +31,8 @@ import tempfile
 import threading
 import time
 
+import image_to_c
+
 ROOT = pathlib.Path(__file__).resolve().parent.parent
 EXAMPLES = ROOT / "examples"
 WARNINGS = ["-std=c11", "-Wall", "-Wextra", "-Werror"]
@@ -34,10 +40,13 @@ SANITIZED = ["-O1", "-g", "-fsanitize=address,undefined", "-fno-sanitize-recover
 RANKS = ["1", "2", "3", "4", "8"]
 CAPACITIES = ["1", "4", "64"]
 SECONDS = 120
+# The sanitizers make compiling slow where the machine has other work.
+COMPILE_SECONDS = 600
 WIDTH = 6
 RANDOM_PROGRAMS, MANY_PROGRAMS = 40, 250
-MPI = {"mpich": "mpicc.mpich", "openmpi": "mpicc.openmpi"}
-LAUNCHERS = {"mpich": "mpiexec.mpich", "openmpi": "mpiexec.openmpi"}
+# Both may be installed side by side; where neither has a name of its own, there may be one MPI.
+MPI = {"mpich": "mpicc.mpich", "openmpi": "mpicc.openmpi", "mpi": "mpicc"}
+LAUNCHERS = {"mpich": "mpiexec.mpich", "openmpi": "mpiexec.openmpi", "mpi": "mpiexec"}
 # Open MPI asks for these where it is run by root, and on more ranks than processors.
 ALLOWED = ["OMPI_ALLOW_RUN_AS_ROOT", "OMPI_ALLOW_RUN_AS_ROOT_CONFIRM"]
 ALLOWED += ["OMPI_MCA_rmaps_base_oversubscribe"]
@@ -247,6 +256,9 @@ class Checks:
     def __init__(self, binary, folder):
         self.binary, self.folder = binary, pathlib.Path(folder)
         self.passed, self.failed, self.files, self.lock = 0, 0, 0, threading.Lock()
+        # The topic of an unknown command has another page, or none.
+        page = self.call(binary, "help", "export")[1]
+        self.has_export = page.startswith(b"usage: p3l export ")
 
     def expect(self, name, found, wanted):
         """Compares what was found with what is wanted."""
@@ -273,11 +285,22 @@ class Checks:
             return "no end in time", late.stdout, late.stderr
         return done.returncode, done.stdout, done.stderr
 
+    def write_c(self, text, words, made):
+        """Writes the C text of a program, by `export` or of its image; what came of the command."""
+        if self.has_export:
+            return self.call(self.binary, "export", text, *words, "--output", made)
+        image = self.file(".img")
+        done = self.call(self.binary, "compile", text, *words, "--output", image)
+        if done[0] == 0:
+            pathlib.Path(made).write_text(image_to_c.text_of(pathlib.Path(image).read_bytes()))
+            os.remove(image)
+        return done
+
     def export(self, program):
         """The names of a program's text and of its C text; none where it wasn't exported."""
         text, made = self.file(".p3l"), self.file(".c")
         pathlib.Path(text).write_text(program.text)
-        done = self.call(self.binary, "export", text, *program.words, "--output", made)
+        done = self.write_c(text, program.words, made)
         if done[0] != 0:
             self.expect(f"export of {program.name}", done, (0, b"", b""))
             return text, None
@@ -286,7 +309,8 @@ class Checks:
     def compile(self, name, made, *options, compiler="cc"):
         """The name of the compiled program; none where it wasn't compiled."""
         built = self.file("")
-        done = self.call(compiler, *WARNINGS, *options, "-o", built, made)
+        words = [compiler, *WARNINGS, *options, "-o", built, made]
+        done = self.call(*words, seconds=COMPILE_SECONDS)
         if done != (0, b"", b""):
             self.expect(f"compiled {name}", done, (0, b"", b""))
             return None
@@ -534,11 +558,17 @@ def try_over(checks, program, kind):
         checks.expect(f"{program.name}, {ranks} ranks of {kind}", found, wanted)
 
 
+def kinds_of_mpi():
+    """The names of the MPIs that are installed."""
+    found = [kind for kind in ("mpich", "openmpi") if shutil.which(MPI[kind])]
+    if found or shutil.which(MPI["mpi"]):
+        return found or ["mpi"]
+    print("exported: MPI skipped: mpicc is not installed", flush=True)
+    return []
+
+
 def try_mpi(checks, kind, is_all):
     """Some programs and the edges over an MPI."""
-    if not shutil.which(MPI[kind]):
-        print(f"exported: {kind} skipped: {MPI[kind]} is not installed", flush=True)
-        return
     names = ("farm of farms", "turns spent", "refused")
     chosen = [row for row in rows() if is_all or row[0] in names]
     for name, text, stream, processors in [*chosen, *nests(40 if is_all else 3)]:
@@ -572,10 +602,12 @@ def main():
         if not given.names or "edge" in given.names:
             tasks = [(try_edges, checks), (try_long, checks), (try_no_memory, checks), *tasks]
         if not given.names or "mpi" in given.names:
-            tasks = [(try_mpi, checks, kind, given.all) for kind in MPI] + tasks
+            tasks = [(try_mpi, checks, kind, given.all) for kind in kinds_of_mpi()] + tasks
         with concurrent.futures.ThreadPoolExecutor(len(os.sched_getaffinity(0))) as pool:
             for done in [pool.submit(*task) for task in tasks]:
                 done.result()
+    if not checks.has_export:
+        print("exported: p3l export skipped: tools/image_to_c.py wrote the texts in C, of images")
     print(f"{checks.passed} passed, {checks.failed} failed")
     return 1 if checks.failed or not checks.passed else 0
 
