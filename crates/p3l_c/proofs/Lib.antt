@@ -4,7 +4,6 @@ pub mod Steps
 pub mod Objects
 pub mod Expressions
 pub mod Statements
-pub mod Texts
 pub mod Meant
 pub mod Fitting
 pub mod Checked

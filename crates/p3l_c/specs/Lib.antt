@@ -3,5 +3,4 @@ pub mod Syntax
 pub mod Machine
 pub mod Translate
 pub mod Condition
-pub mod Text
 pub mod Checked

@@ -1,5 +1,5 @@
 -- The value of an expression as a text of C, and the lines before its use.
-use Rattle.std.specs.Prelude.{ℕ, ℤ, pos, ◌+◌, Bool, true, false, List, [], ◌∷◌, ◌++◌, codes, max, nat_le, if◌then◌else◌}
+use Rattle.std.specs.Prelude.{ℕ, ℤ, pos, negsuc, ◌+◌, Bool, true, false, not, List, [], ◌∷◌, ◌++◌, codes, Option, Some, None, max, nat_le, if◌then◌else◌}
 use Rattle.std.specs.Fmt.{decimal}
 use Rattle.p3l_base.specs.declared.outcome.TrapKind.{TrapKind}
 use Rattle.p3l_base.specs.declared.outcome.TrapKind.TheVariants.{DivZero, DivOver, Index, Shift}
@@ -7,13 +7,14 @@ use Rattle.p3l_ast.specs.declared.expression.UnOp.{UnOp}
 use Rattle.p3l_ast.specs.declared.expression.UnOp.TheVariants.{Neg, Not, Flip}
 use Rattle.p3l_ast.specs.declared.expression.BinOp.{BinOp}
 use Rattle.p3l_ast.specs.declared.expression.BinOp.TheVariants.{Or, And, BitOr, BitXor, BitAnd, Eq, Ne, Lt, Le, Gt, Ge, Shl, Shr, Add, Sub, Mul, Div, Rem}
+use Rattle.p3l_ast.specs.Meaning.Operator.{least}
 use Rattle.p3l_ast.specs.Tree.{Phrase, Phrases, Statements}
 use Rattle.p3l_c.specs.Syntax.{Signed, truth, Lines, done}
-use Rattle.p3l_c.specs.Translate.{next, height, value, before, before_all, lines}
+use Rattle.p3l_c.specs.Translate.{next, height, is_plain, value, before, before_all, lines}
 use Rattle.p3l_c_print.specs.declared.operator.Class.{Class}
 use Rattle.p3l_c_print.specs.declared.operator.Class.TheVariants.{Short, Compared, Computed, Guarded}
 use Rattle.p3l_c_print.specs.declared.value.Value.{Value}
-use Rattle.p3l_c_print.specs.Name.{Names, shapes_of}
+use Rattle.p3l_c_print.specs.Name.{Names, literal_text, shapes_of}
 use Rattle.p3l_c_print.specs.Line.{set_line, stop_line, deeper, choice_lines}
 use Rattle.p3l_c_print.specs.Text.{signed_text, test_text, between, temp_text, lines_text}
 
@@ -26,15 +27,13 @@ abbrev pub kept_text : Names → Signed → List ℕ
 kept_text names (truth c) = test_text names c
 kept_text names e = signed_text names e
 
+abbrev pub told : Names → Signed → ℕ → ℕ → Value
+told names e after height = record { text = kept_text names e; is_test = is_truth e; after = after; height = height }
+
 -- THE VALUE of an expression whose first temp is n: its text, the temp after its own, and how deep it
 -- nests
 unfoldable pub value_of : Names → ℕ → Phrase → Value
-value_of names n e = record {
-  text = kept_text names (value n e);
-  is_test = is_truth (value n e);
-  after = next n e;
-  height = height e;
-}
+value_of names n e = told names (value n e) (next n e) (height e)
 
 -- the lines before its use
 unfoldable pub front_text : Names → List ℕ → ℕ → Phrase → List ℕ
@@ -50,13 +49,13 @@ code_text names margin budget c = lines_text names margin (lines (shapes_of name
 
 -- a value as an int64_t, as a uint64_t, and as a test
 
-abbrev pub signed_of : Value → List ℕ
+unfoldable pub signed_of : Value → List ℕ
 signed_of v = if v.is_test then codes "(int64_t)" ++ v.text else v.text
 
-abbrev pub unsigned_of : Value → List ℕ
+unfoldable pub unsigned_of : Value → List ℕ
 unsigned_of v = codes "((uint64_t)" ++ (signed_of v ++ codes ")")
 
-abbrev pub test_of : Value → List ℕ
+unfoldable pub test_of : Value → List ℕ
 test_of v = if v.is_test then v.text else codes "(" ++ (v.text ++ codes " != INT64_C(0))")
 
 abbrev pub number_value : List ℕ → ℕ → ℕ → Value
@@ -151,12 +150,12 @@ guarded op b = number_value (guarded_text op b.after) (b.after + 2) 1
 -- the lines before its use: both operands in temps, and the tests
 abbrev pub divisor_lines : Names → List ℕ → ℕ → List ℕ
 divisor_lines names margin m =
-    stop_line margin (codes "(t" ++ (decimal (m + 1) ++ codes " == INT64_C(0))")) DivZero names.home
-    ++ stop_line margin (codes "((t" ++ (decimal m ++ (codes " == INT64_MIN) && (t" ++ (decimal (m + 1) ++ codes " == (-INT64_C(1))))")))) DivOver names.home
+    stop_line margin (between (codes " == ") (temp_text (m + 1)) (literal_text (pos 0))) DivZero names.home
+    ++ stop_line margin (between (codes " && ") (between (codes " == ") (temp_text m) (literal_text least)) (between (codes " == ") (temp_text (m + 1)) (literal_text (negsuc 0)))) DivOver names.home
 
 abbrev pub places_line : Names → List ℕ → ℕ → List ℕ
 places_line names margin m =
-    stop_line margin (codes "((t" ++ (decimal (m + 1) ++ (codes " < INT64_C(0)) || (INT64_C(63) < t" ++ (decimal (m + 1) ++ codes "))")))) Shift names.home
+    stop_line margin (between (codes " || ") (between (codes " < ") (temp_text (m + 1)) (literal_text (pos 0))) (between (codes " < ") (literal_text (pos 63)) (temp_text (m + 1)))) Shift names.home
 
 abbrev pub tests_text : BinOp → Names → List ℕ → ℕ → List ℕ
 tests_text Shl names margin m = places_line names margin m
@@ -170,7 +169,25 @@ guards_text op names margin a b =
 -- the test of an index in the temp m
 abbrev pub bound_line : Names → List ℕ → ℕ → ℕ → List ℕ
 bound_line names margin m size =
-    stop_line margin (codes "((t" ++ (decimal m ++ (codes " < INT64_C(0)) || (INT64_C(" ++ (decimal size ++ (codes ") <= t" ++ (decimal m ++ codes "))")))))) Index names.home
+    stop_line margin (between (codes " || ") (between (codes " < ") (temp_text m) (literal_text (pos 0))) (between (codes " <= ") (literal_text (pos size)) (temp_text m))) Index names.home
+
+-- an operator over operands of these values, but `||` and `&&` before whose right operand lines stand
+
+abbrev pub class_value : Class → BinOp → Value → Value → Value
+class_value Short op a b = joined op a b
+class_value Compared op a b = compared op a b
+class_value Computed op a b = computed op a b
+class_value Guarded op a b = guarded op b
+
+abbrev pub combined : BinOp → Value → Value → Value
+combined op a b = class_value (class_of op) op a b
+
+abbrev pub class_lines : Class → BinOp → Names → List ℕ → Value → Value → List ℕ
+class_lines Guarded op names margin a b = guards_text op names margin a b
+class_lines class op names margin a b = []
+
+abbrev pub combined_lines : BinOp → Names → List ℕ → Value → Value → List ℕ
+combined_lines op names margin a b = class_lines (class_of op) op names margin a b
 
 -- `||` and `&&` before whose right operand lines stand: the temp n has the truth of the left operand,
 -- and then that of the right one, if the left one does not decide
@@ -179,8 +196,23 @@ abbrev pub truth_line : List ℕ → ℕ → Value → List ℕ
 truth_line margin n v = set_line margin (temp_text n) (codes "(int64_t)" ++ test_of v)
 
 abbrev pub undecided_lines : BinOp → List ℕ → ℕ → List ℕ → List ℕ
-undecided_lines Or margin n inner = choice_lines margin (codes "(t" ++ (decimal n ++ codes " != INT64_C(0))")) [] inner
-undecided_lines op margin n inner = choice_lines margin (codes "(t" ++ (decimal n ++ codes " != INT64_C(0))")) inner []
+undecided_lines Or margin n inner = choice_lines margin (between (codes " != ") (temp_text n) (literal_text (pos 0))) [] inner
+undecided_lines op margin n inner = choice_lines margin (between (codes " != ") (temp_text n) (literal_text (pos 0))) inner []
+
+-- whether an operator has a temp of its own, where its right operand is or isn't one before whose use
+-- no lines stand
+abbrev pub own_temp : BinOp → Bool → Bool
+own_temp Or joined = not joined
+own_temp And joined = not joined
+own_temp op joined = false
 
 abbrev pub decided : ℕ → Value → Value → Value
 decided n a b = number_value (temp_text n) b.after (over a b)
+
+-- the lines that give the temp n the truth of a right operand
+unfoldable pub right_text : Names → List ℕ → ℕ → ℕ → Phrase → List ℕ
+right_text names margin n m e = operand_text names margin m e ++ truth_line margin n (operand_of names m e)
+
+-- the height of an expression before whose use no lines stand
+unfoldable pub plain_height : Phrase → Option ℕ
+plain_height e = if is_plain e then Some (height e) else None

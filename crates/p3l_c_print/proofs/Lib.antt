@@ -1,0 +1,4 @@
+pub mod Follow
+pub mod Values
+pub mod Fronts
+pub mod Places
