@@ -1,6 +1,7 @@
 pub mod Name
-pub mod Text
 pub mod Line
-pub mod Value
+pub mod Text
 pub mod Temps
+pub mod Plain
+pub mod Value
 pub mod Function

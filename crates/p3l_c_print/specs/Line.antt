@@ -43,6 +43,14 @@ stop_line margin test trap home =
 abbrev pub turn_line : List ℕ → List ℕ
 turn_line margin = margin ++ codes "turns = turns + 1;\n"
 
+-- the test that no turn is left of a budget
+unfoldable pub spent_text : ℕ → List ℕ
+spent_text budget = codes "(turns >= UINT64_C(" ++ (decimal budget ++ codes "))")
+
+-- the beginning of a turn
+abbrev pub begin_lines : List ℕ → ℕ → ℕ → List ℕ
+begin_lines margin budget home = stop_line margin (spent_text budget) Budget home ++ turn_line margin
+
 -- a choice of blocks, of which an empty one is left out
 unfoldable pub choice_lines : List ℕ → List ℕ → List ℕ → List ℕ → List ℕ
 choice_lines margin test then [] =

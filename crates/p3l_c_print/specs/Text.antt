@@ -6,14 +6,17 @@ use Rattle.p3l_base.specs.declared.outcome.TrapKind.{TrapKind}
 use Rattle.p3l_base.specs.declared.outcome.TrapKind.TheVariants.{DivZero, DivOver, Index, Shift, Budget, Turns}
 use Rattle.p3l_c.specs.Syntax.{Signed, number, temp, element, quotient, remainder, truth, converted, moved_down, Unsigned, nought, of, plus, minus, times, bits_and, bits_or, bits_xor, flipped, moved_up, Test, equal, differ, less, at_most, greater, at_least, negated, either, both, spent, Lines, done, keep, write, stop_if, turn, choose, forever}
 use Rattle.p3l_c_print.specs.Name.{Names, literal_text, name_text}
-use Rattle.p3l_c_print.specs.Line.{set_line, stop_line, turn_line, choice_lines, loop_lines, deeper}
+use Rattle.p3l_c_print.specs.Line.{set_line, stop_line, spent_text, turn_line, choice_lines, loop_lines, deeper}
 
 abbrev pub temp_text : ℕ → List ℕ
 temp_text k = codes "t" ++ decimal k
 
-abbrev pub spots_text : List ℕ → List ℕ
+abbrev pub spot_text : ℕ → List ℕ
+spot_text k = codes "[t" ++ (decimal k ++ codes "]")
+
+unfoldable pub spots_text : List ℕ → List ℕ
 spots_text [] = []
-spots_text (k ∷ ks) = codes "[t" ++ (decimal k ++ (codes "]" ++ spots_text ks))
+spots_text (k ∷ ks) = spot_text k ++ spots_text ks
 
 abbrev pub element_text : Names → List ℕ → List ℕ → List ℕ
 element_text names x ks = name_text names x ++ spots_text ks
@@ -56,7 +59,7 @@ unfoldable mutual
   test_text names (negated c) = codes "(!" ++ (test_text names c ++ codes ")")
   test_text names (either a b) = between (codes " || ") (test_text names a) (test_text names b)
   test_text names (both a b) = between (codes " && ") (test_text names a) (test_text names b)
-  test_text names (spent n) = codes "(turns >= UINT64_C(" ++ (decimal n ++ codes "))")
+  test_text names (spent n) = spent_text n
 
 -- THE TEXT of lines after a margin
 unfoldable pub lines_text : Names → List ℕ → Lines → List ℕ

@@ -10,13 +10,16 @@ use Rattle.p3l_ast.specs.declared.expression.BinOp.TheVariants.{Or, And, BitOr, 
 use Rattle.p3l_ast.specs.Meaning.Operator.{least}
 use Rattle.p3l_ast.specs.Tree.{Phrase, Phrases, Statements}
 use Rattle.p3l_c.specs.Syntax.{Signed, truth, Lines, done}
-use Rattle.p3l_c.specs.Translate.{next, height, is_plain, value, before, before_all, lines}
+use Rattle.p3l_c.specs.Translate.{next, next_all, height, is_plain, spots, value, before, before_all, assign_lines, lines}
 use Rattle.p3l_c_print.specs.declared.operator.Class.{Class}
 use Rattle.p3l_c_print.specs.declared.operator.Class.TheVariants.{Short, Compared, Computed, Guarded}
 use Rattle.p3l_c_print.specs.declared.value.Value.{Value}
+use Rattle.p3l_c_print.specs.declared.value.Spots.{Spots}
+use Rattle.p3l_c_print.specs.declared.value.Block.{Block}
 use Rattle.p3l_c_print.specs.Name.{Names, literal_text, shapes_of}
-use Rattle.p3l_c_print.specs.Line.{set_line, stop_line, deeper, choice_lines}
-use Rattle.p3l_c_print.specs.Text.{signed_text, test_text, between, temp_text, lines_text}
+use Rattle.p3l_c_print.specs.Line.{set_line, stop_line, begin_lines, deeper, choice_lines}
+use Rattle.p3l_c_print.specs.Temps.{temps_of}
+use Rattle.p3l_c_print.specs.Text.{signed_text, test_text, between, temp_text, spots_text, lines_text}
 
 -- a test is kept as one, since a number that is used as a test needs no comparison then
 abbrev pub is_truth : Signed → Bool
@@ -46,6 +49,22 @@ index_text names margin n sizes is = lines_text names margin (before_all (shapes
 -- the lines of statements
 unfoldable pub code_text : Names → List ℕ → ℕ → Statements → List ℕ
 code_text names margin budget c = lines_text names margin (lines (shapes_of names) budget c done)
+
+-- the lines of an assignment
+unfoldable pub assign_text : Names → List ℕ → List ℕ → Phrases → Phrase → List ℕ
+assign_text names margin x is e = lines_text names margin (assign_lines (shapes_of names) x is e done)
+
+-- the lines after the test of a loop: a turn, and its body
+unfoldable pub round_text : Names → List ℕ → ℕ → Statements → List ℕ
+round_text names margin budget c = begin_lines margin budget names.home ++ code_text names margin budget c
+
+-- the temps of indices in brackets, and the temp after them
+abbrev pub spots_of : ℕ → Phrases → Spots
+spots_of n is = record { text = spots_text (spots n is); after = next_all n is }
+
+-- the lines of statements, and the number of their temps
+abbrev pub block_of : Names → List ℕ → ℕ → Statements → Block
+block_of names margin budget c = record { text = code_text names margin budget c; temps = temps_of c }
 
 -- a value as an int64_t, as a uint64_t, and as a test
 
@@ -148,19 +167,19 @@ abbrev pub guarded : BinOp → Value → Value
 guarded op b = number_value (guarded_text op b.after) (b.after + 2) 1
 
 -- the lines before its use: both operands in temps, and the tests
-abbrev pub divisor_lines : Names → List ℕ → ℕ → List ℕ
-divisor_lines names margin m =
-    stop_line margin (between (codes " == ") (temp_text (m + 1)) (literal_text (pos 0))) DivZero names.home
-    ++ stop_line margin (between (codes " && ") (between (codes " == ") (temp_text m) (literal_text least)) (between (codes " == ") (temp_text (m + 1)) (literal_text (negsuc 0)))) DivOver names.home
+abbrev pub divisor_tests : Names → List ℕ → List ℕ → List ℕ → List ℕ
+divisor_tests names margin first second =
+    stop_line margin (between (codes " == ") second (literal_text (pos 0))) DivZero names.home
+    ++ stop_line margin (between (codes " && ") (between (codes " == ") first (literal_text least)) (between (codes " == ") second (literal_text (negsuc 0)))) DivOver names.home
 
-abbrev pub places_line : Names → List ℕ → ℕ → List ℕ
-places_line names margin m =
-    stop_line margin (between (codes " || ") (between (codes " < ") (temp_text (m + 1)) (literal_text (pos 0))) (between (codes " < ") (literal_text (pos 63)) (temp_text (m + 1)))) Shift names.home
+abbrev pub places_test : Names → List ℕ → List ℕ → List ℕ
+places_test names margin places =
+    stop_line margin (between (codes " || ") (between (codes " < ") places (literal_text (pos 0))) (between (codes " < ") (literal_text (pos 63)) places)) Shift names.home
 
 abbrev pub tests_text : BinOp → Names → List ℕ → ℕ → List ℕ
-tests_text Shl names margin m = places_line names margin m
-tests_text Shr names margin m = places_line names margin m
-tests_text op names margin m = divisor_lines names margin m
+tests_text Shl names margin m = places_test names margin (temp_text (m + 1))
+tests_text Shr names margin m = places_test names margin (temp_text (m + 1))
+tests_text op names margin m = divisor_tests names margin (temp_text m) (temp_text (m + 1))
 
 abbrev pub guards_text : BinOp → Names → List ℕ → Value → Value → List ℕ
 guards_text op names margin a b =
@@ -212,7 +231,3 @@ decided n a b = number_value (temp_text n) b.after (over a b)
 -- the lines that give the temp n the truth of a right operand
 unfoldable pub right_text : Names → List ℕ → ℕ → ℕ → Phrase → List ℕ
 right_text names margin n m e = operand_text names margin m e ++ truth_line margin n (operand_of names m e)
-
--- the height of an expression before whose use no lines stand
-unfoldable pub plain_height : Phrase → Option ℕ
-plain_height e = if is_plain e then Some (height e) else None

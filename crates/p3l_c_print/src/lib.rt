@@ -2,7 +2,10 @@
 #![tactic(auto)]
 
 mod count;
+mod expression;
+mod line;
 mod names;
 mod operator;
+mod plain;
 mod text;
 mod value;

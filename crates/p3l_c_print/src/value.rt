@@ -23,6 +23,20 @@ pub struct Value {
     pub height: u32,
 }
 
+/// The temps of indices in brackets, and the temp after them.
+#[derive(Drop)]
+pub struct Spots {
+    pub text: Text,
+    pub after: u64,
+}
+
+/// The lines of statements, and the number of their temps.
+#[derive(Drop)]
+pub struct Block {
+    pub text: Text,
+    pub temps: u64,
+}
+
 /// A number.
 pub fn number_value(text: Text, after: u64, height: u32) -> Value
     ensures { result ≡ number_value text after height }
