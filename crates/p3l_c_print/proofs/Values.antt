@@ -34,10 +34,12 @@ pub zero_digits : decimal 0 ≡ codes "0"
 zero_digits = decimal_digit 0 (omega arith)
 
 pub zero_literal : literal_text (pos 0) ≡ codes "INT64_C(0)"
+unfolding literal_text
 zero_literal = ap (λ (digits : List ℕ). codes "INT64_C(" ++ (digits ++ codes ")")) zero_digits
 
 -- a number is used as a test by its comparison with 0
 pub nonzero_text : (text : List ℕ) → codes "(" ++ (text ++ codes " != INT64_C(0))") ≡ between (codes " != ") text (literal_text (pos 0))
+unfolding between
 nonzero_text text = ap (between (codes " != ") text) (sym zero_literal)
 
 pub test_told : (names : Names) (e : Signed) (m h : ℕ) → v.test_of (told names e m h) ≡ test_text names (test_of e)
@@ -68,7 +70,7 @@ operand_told names n e = kept_told names (value n e) (next n e) (height e)
 -- an operator before its operand
 
 applied_told : (names : Names) (op : UnOp) (e : Signed) (m h : ℕ) → told names (unary_value op e) m (h + 1) ≡ applied op (told names e m h)
-unfolding unsigned_of signed_text unsigned_text test_text
+unfolding unsigned_of between signed_text unsigned_text test_text
 applied_told names Neg e m h = let p = signed_told names e m h in rw p refl
 applied_told names Not e m h = let p = test_told names e m h in rw p refl
 applied_told names Flip e m h = let p = signed_told names e m h in rw p refl
@@ -89,7 +91,7 @@ unary_is names n op e =
 -- an operator between its operands, but `||` and `&&` with a temp of their own
 
 combined_told : (names : Names) (op : BinOp) (n : ℕ) (a b : Signed) (l m g h : ℕ) → told names (binary_value op true n m a b) (after_operator op m) (operator_height op (max g h)) ≡ combined op (told names a l g) (told names b m h)
-unfolding unsigned_of signed_text unsigned_text test_text
+unfolding unsigned_of between signed_text unsigned_text test_text
 combined_told names Or n a b l m g h = let p = test_told names a l g in let q = test_told names b m h in rw (p, q) refl
 combined_told names And n a b l m g h = let p = test_told names a l g in let q = test_told names b m h in rw (p, q) refl
 combined_told names BitOr n a b l m g h = let p = signed_told names a l g in let q = signed_told names b m h in rw (p, q) refl

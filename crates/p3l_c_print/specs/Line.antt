@@ -9,11 +9,11 @@ abbrev pub deeper : List ℕ → List ℕ
 deeper margin = codes "    " ++ margin
 
 -- an assignment
-abbrev pub set_line : List ℕ → List ℕ → List ℕ → List ℕ
+unfoldable pub set_line : List ℕ → List ℕ → List ℕ → List ℕ
 set_line margin place value = margin ++ (place ++ (codes " = " ++ (value ++ codes ";\n")))
 
 -- the number of a trap among those of its module
-abbrev pub trap_number : TrapKind → ℕ
+unfoldable pub trap_number : TrapKind → ℕ
 trap_number DivZero = 1
 trap_number DivOver = 2
 trap_number Index = 3
@@ -21,7 +21,7 @@ trap_number Shift = 4
 trap_number Budget = 5
 trap_number Turns = 6
 
-abbrev pub trap_reason : TrapKind → List ℕ
+unfoldable pub trap_reason : TrapKind → List ℕ
 trap_reason DivZero = codes "division by zero"
 trap_reason DivOver = codes "division overflow"
 trap_reason Index = codes "index out of range"
@@ -30,17 +30,17 @@ trap_reason Budget = codes "budget exceeded"
 trap_reason Turns = codes "turns exceeded"
 
 -- the code that a function returns for a trap of a module; it is not 0
-abbrev pub trap_code : TrapKind → ℕ → ℕ
+unfoldable pub trap_code : TrapKind → ℕ → ℕ
 trap_code trap home = trap_number trap + 8 * home
 
 -- a return with a trap
-abbrev pub stop_line : List ℕ → List ℕ → TrapKind → ℕ → List ℕ
+unfoldable pub stop_line : List ℕ → List ℕ → TrapKind → ℕ → List ℕ
 stop_line margin test trap home =
     margin ++ (codes "if " ++ (test ++ (codes " return INT64_C(" ++ (decimal (trap_code trap home)
     ++ (codes "); /* " ++ (trap_reason trap ++ codes " */\n"))))))
 
 -- one more turn
-abbrev pub turn_line : List ℕ → List ℕ
+unfoldable pub turn_line : List ℕ → List ℕ
 turn_line margin = margin ++ codes "turns = turns + 1;\n"
 
 -- the test that no turn is left of a budget

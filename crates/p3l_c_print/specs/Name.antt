@@ -11,7 +11,7 @@ use Rattle.p3l_c_print.specs.declared.names.Kind.TheVariants.{In, Out, Local}
 use Rattle.p3l_c_print.specs.declared.names.Place.{Place}
 
 -- 6.4.4.1: no literal is negative
-abbrev pub literal_text : ℤ → List ℕ
+unfoldable pub literal_text : ℤ → List ℕ
 literal_text (pos n) = codes "INT64_C(" ++ (decimal n ++ codes ")")
 literal_text (negsuc n) = if n == 2 ^ 63 - 1 then codes "INT64_MIN" else codes "(-INT64_C(" ++ (decimal (n + 1) ++ codes "))")
 

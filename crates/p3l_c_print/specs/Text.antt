@@ -21,7 +21,7 @@ spots_text (k ∷ ks) = spot_text k ++ spots_text ks
 abbrev pub element_text : Names → List ℕ → List ℕ → List ℕ
 element_text names x ks = name_text names x ++ spots_text ks
 
-abbrev pub between : List ℕ → List ℕ → List ℕ → List ℕ
+unfoldable pub between : List ℕ → List ℕ → List ℕ → List ℕ
 between sign a b = codes "(" ++ (a ++ (sign ++ (b ++ codes ")")))
 
 unfoldable mutual

@@ -3,9 +3,13 @@
 
 mod count;
 mod expression;
+mod function;
 mod line;
 mod names;
 mod operator;
 mod plain;
+mod statement;
 mod text;
 mod value;
+
+pub use function::put_body;

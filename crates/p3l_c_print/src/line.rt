@@ -17,6 +17,7 @@ pub fn deeper(alloc: Global, margin: &str) -> Result<Text, NoMemory>
 }
 
 /// An operator between operands, in parentheses.
+#[tactic(auto, unfolding(crate::specs::Text::between))]
 pub fn between(alloc: Global, left: &str, sign: &str, right: &str) -> Result<Text, NoMemory>
     ensures { IfGiven result (λ text. text ≡ between sign.now left.now right.now) }
 {
@@ -24,6 +25,7 @@ pub fn between(alloc: Global, left: &str, sign: &str, right: &str) -> Result<Tex
 }
 
 /// The number of a trap among those of its module.
+#[tactic(auto, unfolding(crate::specs::Line::trap_number))]
 fn trap_number(trap: TrapKind) -> u64
     ensures number { result ≡ trap_number trap }
     ensures small { result < 8 }
@@ -39,12 +41,15 @@ fn trap_number(trap: TrapKind) -> u64
 }
 
 /// The code that a function returns for a trap of a module.
+#[tactic(auto, unfolding(crate::specs::Line::trap_code))]
 fn trap_code(trap: TrapKind, home: u32) -> u64
     ensures { result ≡ trap_code trap home }
 {
     trap_number(trap) + 8 * (home as u64)
 }
 
+/// What went wrong at a trap, for a reader of the text.
+#[tactic(auto, unfolding(crate::specs::Line::trap_reason))]
 fn trap_reason(trap: TrapKind) -> &'static str
     ensures { result.now ≡ trap_reason trap }
 {
@@ -59,6 +64,7 @@ fn trap_reason(trap: TrapKind) -> &'static str
 }
 
 /// Puts a return with a trap after a text.
+#[tactic(auto, unfolding(crate::specs::Line::stop_line))]
 pub fn put_stop(
     alloc: Global,
     out: &mut String,
@@ -88,6 +94,7 @@ fn spent_text(alloc: Global, budget: u32) -> Result<Text, NoMemory>
 }
 
 /// Puts one more turn after a text.
+#[tactic(auto, unfolding(crate::specs::Line::turn_line))]
 fn put_count(alloc: Global, out: &mut String, margin: &str) -> Result<(), NoMemory>
     ensures { OnGiven result (string_bytes out.new
         ≡ string_bytes out.old ++ turn_line margin.now) }

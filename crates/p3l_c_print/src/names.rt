@@ -54,6 +54,7 @@ impl<'c> Model for Names<'c> {
 }
 
 /// A literal of type `int64_t`.
+#[tactic(auto, unfolding(crate::specs::Name::literal_text))]
 pub fn literal(alloc: Global, number: i64) -> Result<Text, NoMemory>
     ensures { IfGiven result (λ text. text ≡ literal_text number) }
 {

@@ -103,6 +103,7 @@ pub fn test_of(alloc: Global, value: &Value) -> Result<Text, NoMemory>
 }
 
 /// Puts an assignment after a text.
+#[tactic(auto, unfolding(crate::specs::Line::set_line))]
 pub fn put_set(
     alloc: Global,
     out: &mut String,
@@ -220,6 +221,7 @@ pub fn over(left: &Value, right: &Value) -> u32
 }
 
 /// A comparison.
+#[tactic(auto, unfolding(crate::specs::Text::between))]
 pub fn compared(alloc: Global, op: BinOp, left: &Value, right: &Value) -> Result<Value, NoMemory>
     requires left { left.now.height < 16 }
     requires right { right.now.height < 16 }
@@ -246,6 +248,7 @@ pub fn computed(alloc: Global, op: BinOp, left: &Value, right: &Value) -> Result
 }
 
 /// `||` or `&&`, before whose right operand no lines stand.
+#[tactic(auto, unfolding(crate::specs::Text::between))]
 pub fn joined(alloc: Global, op: BinOp, left: &Value, right: &Value) -> Result<Value, NoMemory>
     requires left { left.now.height < 16 }
     requires right { right.now.height < 16 }
