@@ -83,7 +83,7 @@ mutual
       fronts_then (before shapes n e) (λ rest. keep (next n e) (value n e) (index_guard (next n e) (first_size sizes) (before_all shapes (next n e + 1) (other_sizes sizes) is rest))) (before_front shapes n e)
       (λ rest. ap (λ c. keep (next n e) (value n e) (index_guard (next n e) (first_size sizes) c)) (before_all_front shapes (next n e + 1) (other_sizes sizes) is rest))
 
-assign_front : (shapes : Shapes) (x : List ℕ) (is : Phrases) (e : Phrase) → Fronts (assign_lines shapes x is e)
+pub assign_front : (shapes : Shapes) (x : List ℕ) (is : Phrases) (e : Phrase) → Fronts (assign_lines shapes x is e)
 assign_front shapes x is e =
     fronts_then (before_all shapes 0 (sizes_at shapes x) is) (λ rest. before shapes (next_all 0 is) e (write x (spots 0 is) (value (next_all 0 is) e) rest)) (before_all_front shapes 0 (sizes_at shapes x) is)
     (fronts_then (before shapes (next_all 0 is) e) (write x (spots 0 is) (value (next_all 0 is) e)) (before_front shapes (next_all 0 is) e) (λ rest. refl))

@@ -4,4 +4,7 @@ pub mod Fronts
 pub mod Blocks
 pub mod Heights
 pub mod Joined
+pub mod Expressions
+pub mod Indices
+pub mod Lines
 pub mod Places

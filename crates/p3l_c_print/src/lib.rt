@@ -3,13 +3,10 @@
 
 mod count;
 mod expression;
-mod function;
 mod line;
 mod names;
 mod operator;
 mod plain;
-mod statement;
 mod text;
 mod value;
 
-pub use function::put_body;
