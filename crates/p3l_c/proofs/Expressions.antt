@@ -32,19 +32,19 @@ use Rattle.p3l_c.proofs.Steps.{afterwards, afterwards_given, afterwards_same, Ag
 use Rattle.p3l_c.proofs.Objects.{Found, found_in, sizes_found, word_found}
 
 -- temps are used upwards
-operator_le : (op : BinOp) (n : ℕ) → n ≤ after_operator op n
+pub operator_le : (op : BinOp) (n : ℕ) → n ≤ after_operator op n
 operator_le Shl n = omega arith
 operator_le Shr n = omega arith
 operator_le Div n = omega arith
 operator_le Rem n = omega arith
 operator_le op n = omega arith
 
-first_le : (op : BinOp) (joined : Bool) (n : ℕ) → n ≤ first_temp op joined n
+pub first_le : (op : BinOp) (joined : Bool) (n : ℕ) → n ≤ first_temp op joined n
 first_le Or false n = omega arith
 first_le And false n = omega arith
 first_le op joined n = omega arith
 
-kept_le : (d : Bool) (m : ℕ) → m ≤ kept_next d m
+pub kept_le : (d : Bool) (m : ℕ) → m ≤ kept_next d m
 kept_le true m = omega arith
 kept_le false m = omega arith
 

@@ -1,8 +1,10 @@
 pub mod Helpers
+pub mod Nesting
 pub mod Operators
 pub mod Steps
 pub mod Objects
 pub mod Expressions
+pub mod Temps
 pub mod Statements
 pub mod Meant
 pub mod Fitting

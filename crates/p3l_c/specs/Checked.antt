@@ -33,7 +33,8 @@ InsideFits (body locals statements) = CodeFits statements
 InsideFits (calls cs) = Unit {0}
 InsideFits (turning b c) = Unit {0}
 
--- a checked body can be written as C, if int64_t has its numbers and those of the constants before it
+-- a checked body can be written as C, if int64_t has its numbers and those of the constants before
+-- it
 abbrev pub CheckedWrites : Type 0
 CheckedWrites =
     (constants : Constants) (home : ℕ) (m : ModuleTree) (seq : SeqTree) →

@@ -41,7 +41,8 @@ abbrev mutual
   FitsAll shapes none = Unit {0}
   FitsAll shapes (more e is) = Fits shapes e × FitsAll shapes is
 
--- a target is a variable, since a constant is `const` and no assignment may have it (6.5.16p2)
+-- a target is a variable, since a constant, `const` or a literal, is no modifiable lvalue
+-- (6.5.16p2)
 abbrev pub FitsAssign : Shapes → Shapes → List ℕ → Phrases → Phrase → Type 0
 FitsAssign variables shapes name is e = IsDeclared variables name (count_of is) × FitsAll shapes is × Fits shapes e
 
@@ -139,9 +140,9 @@ abbrev pub entered : List ℤ → Entry → Binding
 entered words (takes name sizes from) = record { name = name; sizes = sizes; words = take (product sizes) (drop from words) }
 entered words (zero_object name sizes) = record { name = name; sizes = sizes; words = replicate (product sizes) (pos 0) }
 
--- a function of `const int64_t *in` and `int64_t *out`: its declarations, the constants of its file
--- that it may use, its lines, and the objects whose words it copies to `out`, one after the other,
--- before it returns 0; a trap is returned as its code
+-- a function of `const int64_t *in` and `int64_t *out`: its declarations, the constants that it may
+-- read, its lines, and the objects whose words it copies to `out`, one after the other, before it
+-- returns 0; a trap is returned as its code
 pub record Function : Type 0 where
   pub entries : List Entry
   pub constants : Constants
@@ -164,8 +165,8 @@ function_of seq = record {
   outs = vars_shapes seq.outs;
 }
 
--- a call of a function of a module on words, with a bound on the rounds of a loop; a declaration of
--- the function hides one of its file (6.2.1p4)
+-- a call of a function of a module on words, with a bound on the rounds of a loop; a declaration
+-- hides a constant of the same name (6.2.1p4)
 abbrev pub called : ℕ → ℕ → Function → List ℤ → Called
 called fuel home f words =
     called_of home f.outs

@@ -44,8 +44,8 @@ after_operator Div n = n + 2
 after_operator Rem n = n + 2
 after_operator op n = n
 
--- `||` and `&&` have a temp of their own, before those of their operands, unless they are joined: no
--- lines stand before the right operand, so they are C's own operators
+-- `||` and `&&` have a temp of their own, before those of their operands, unless they are joined:
+-- no lines stand before the right operand, so they are C's own operators
 abbrev pub first_temp : BinOp → Bool → ℕ → ℕ
 first_temp Or false n = n + 1
 first_temp And false n = n + 1
