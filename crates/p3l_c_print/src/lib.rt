@@ -2,15 +2,10 @@
 #![tactic(auto)]
 
 mod count;
-mod expression;
-mod function;
 mod guard;
 mod line;
 mod names;
 mod operator;
 mod plain;
-mod statement;
 mod text;
 mod value;
-
-pub use function::put_body;
