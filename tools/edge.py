@@ -390,6 +390,27 @@ def try_steering(edge):
             edge.expect(("on a terminal", name, env), found, (9, b"", line[:12] + shown, None))
 
 
+# Texts of programs with bytes that would steer a terminal.
+STEERING_TEXTS = [b"seq \0", b"seq \x1b[31m", b"seq\r\n\x07\r\n", b"seq \xc2\x9b"]
+STEERING_TEXTS += [b"seq \xe2\x80\xae"]
+
+
+def try_long_steering(edge):
+    """Long messages show neither words nor texts so that they would steer a terminal."""
+    bare = {"P3L_MESSAGES": "long", "NO_COLOR": "1"}
+    for name, _ in STEERING:
+        written = ["compile", *RUN[1:], "--output", b"none/" + name]
+        for words, status in ([name], 2), (["help", name], 2), (written, 10):
+            found = on_terminal(edge, words, **bare)
+            found = found[0], RAW.search(found[2])
+            edge.expect(("long, on a terminal", words), found, (status, None))
+    for text in STEERING_TEXTS:
+        edge.put("odd.p3l", text)
+        found = on_terminal(edge, ["check", "odd.p3l"], **bare)
+        found = found[0], RAW.search(found[2])
+        edge.expect(("a text on a terminal", text), found, (3, None))
+
+
 def try_keys(edge):
     """A key of costs that would steer a terminal, and one that is very long."""
     words = ["explain", *RUN[1:], "--costs", "odd.toml"]
@@ -485,8 +506,8 @@ def try_long_lines(edge):
 
 
 ATTEMPTS = [try_version, try_full, try_pieces, try_pipes, try_terminals, try_left, try_calls]
-ATTEMPTS += [try_steering, try_keys, try_long_messages, try_reads_only, try_long_lines]
-ATTEMPTS += [try_no_memory]
+ATTEMPTS += [try_steering, try_long_steering, try_keys, try_long_messages, try_reads_only]
+ATTEMPTS += [try_long_lines, try_no_memory]
 
 
 def main():

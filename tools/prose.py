@@ -1,11 +1,11 @@
 #!/usr/bin/env python3
 """The prose of the documents: its width, the length of its sentences, and phrases that have a plainer form.
 
-    tools/prose.py --check              checks README.md, CHANGES.md and docs/*.md; ends with 1 at a fault
+    tools/prose.py --check              checks README.md, CHANGES.md, docs/*.md and crates/*/README.md
     tools/prose.py --check FILE..       checks these files
     tools/prose.py --sources            counts such phrases in the doc comments and texts of each crate
 
-A line of prose or of a table has at most 100 columns; in README.md a line of a session has, too. A
+It ends with 1 at a fault. A line of prose or of a table has at most 100 columns; in README.md a line of a session has, too. A
 sentence has at most 30 words, where it ends at one of . : ; ? ! and a text in backquotes is one
 word. Lines that begin with a label as `Clause:` are lists of names, and are not counted.
 """
@@ -127,8 +127,14 @@ def faults_of(name, text):
         yield f"{name}: {text.count(chr(10))} lines"
 
 
+def named(file):
+    """The name of a file from the top of the repository on, where it is in it."""
+    file = file.resolve()
+    return str(file.relative_to(ROOT) if file.is_relative_to(ROOT) else file)
+
+
 def check(files):
-    faults = [fault for file in files for fault in faults_of(file.name, file.read_text())]
+    faults = [fault for file in files for fault in faults_of(named(file), file.read_text())]
     for fault in faults:
         print(f"prose: {fault}")
     print(f"prose: {len(files)} files, {len(faults)} faults")
@@ -161,6 +167,7 @@ def main(words):
         return 2
     named = [pathlib.Path(word) for word in words[1:]]
     written = [ROOT / "README.md", ROOT / "CHANGES.md", *sorted((ROOT / "docs").glob("*.md"))]
+    written += sorted((ROOT / "crates").glob("*/README.md"))
     return check(named or [file for file in written if file.exists()])
 
 

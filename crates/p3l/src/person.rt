@@ -1,5 +1,6 @@
 // Who reads the messages: a person at a terminal, or a program.
 
+use p3l_base::NoMemory;
 use p3l_messages::{Failure, Style};
 use std::io::ErrorKind;
 use std::{env, fs};
@@ -36,23 +37,24 @@ pub fn style_of(rt: &HostRuntime, is_terminal: bool) -> Style {
 }
 
 /// Why a file could not be read.
-pub fn failure_of(rt: &HostRuntime, name: &str) -> Failure {
+pub fn failure_of(rt: &HostRuntime, name: &str) -> Result<Failure, NoMemory> {
     match fs::metadata(rt, name) {
-        Ok(known) if known.is_dir() => return Failure::Folder,
+        Ok(known) if known.is_dir() => return Ok(Failure::Folder),
         Ok(_) => {}
         Err(error) => return failure_by(error.kind()),
     }
     match fs::open(rt, name) {
-        Ok(_) => Failure::Other,
+        Ok(_) => Ok(Failure::Other),
         Err(error) => failure_by(error.kind()),
     }
 }
 
 /// The reason that the operating system names.
-fn failure_by(kind: ErrorKind) -> Failure {
+fn failure_by(kind: ErrorKind) -> Result<Failure, NoMemory> {
     match kind {
-        ErrorKind::NotFound => Failure::Missing,
-        ErrorKind::PermissionDenied => Failure::Forbidden,
-        _ => Failure::Other,
+        ErrorKind::NotFound => Ok(Failure::Missing),
+        ErrorKind::PermissionDenied => Ok(Failure::Forbidden),
+        ErrorKind::OutOfMemory => Err(NoMemory),
+        _ => Ok(Failure::Other),
     }
 }

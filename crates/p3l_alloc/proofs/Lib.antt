@@ -2,6 +2,6 @@ pub mod Added
 pub mod Chosen
 pub mod Fewest
 pub mod First
-mod Outside
+pub mod Outside
 pub mod Rows
 pub mod Soonest

@@ -1,3 +1,4 @@
+pub mod Best
 pub mod Chosen
 pub mod Explanation
 pub mod Need

@@ -1,13 +1,16 @@
 // The best numbers of workers.
 
-ghost use Rattle.std.specs.Prelude.{◌≡◌, ◌≤◌, IfOk, IfErr};
+ghost use Rattle.std.specs.Prelude.{◌≡◌, ◌<◌, ◌≤◌, ℕ, List, IfOk, IfErr, IfSome, IfNone};
 ghost use Rattle.p3l_base.specs.Limits.{most_processors};
 ghost use Rattle.p3l_skel.specs.Lawful.{IsLawfulTree};
-ghost use Rattle.p3l_skel.specs.Numbers.{procs};
+ghost use Rattle.p3l_skel.specs.Numbers.{Fits, procs};
 ghost use Rattle.p3l_cost.specs.Costs.{AreCostsOf};
+ghost use Rattle.p3l_model.specs.NodeCost.{never};
 ghost use Rattle.p3l_model.specs.Optimal.{IsChosen};
 ghost use Rattle.p3l_model.specs.Service.{service};
+ghost use Rattle.p3l_alloc.specs.Best.{IsBest, best_at};
 ghost use Rattle.p3l_alloc.specs.Chosen.{IsRefused};
+ghost use Rattle.p3l_alloc.specs.Table.{IsTableFrom};
 
 use crate::entry::soonest;
 use crate::need::least_procs;
@@ -24,6 +27,13 @@ use std::alloc::Global;
 #[derive(Debug, Drop)]
 pub struct Choice {
     pub counts: Counts,
+    pub service: u128,
+    pub used: u32,
+}
+
+/// The service time and the processes of the best numbers of workers.
+#[derive(Clone, Copy, Debug, Drop, PartialEq, Eq)]
+pub struct Best {
     pub service: u128,
     pub used: u32,
 }
@@ -68,22 +78,79 @@ pub fn choose(
     ensures refused { IfErr result (IsRefused tree.now processors) }
 {
     let rows = table(alloc, tree, costs, processors)?;
-    let rows = rows.as_slice();
-    let row = row_in(tree, rows, 0);
-    let service = soonest(row, processors);
-    if service >= NEVER {
+    choose_within(alloc, tree, costs, rows.as_slice(), processors, processors)
+}
+
+/// The best numbers of workers for a number of processors, by a table for up to `most`.
+pub fn choose_within(
+    alloc: Global,
+    tree: &Tree,
+    costs: &Costs,
+    rows: &[List<u128>],
+    most: u32,
+    processors: u32,
+) -> Result<Choice, AllocRefusal>
+    requires tree { IsLawfulTree tree.now }
+    requires costs { AreCostsOf tree.now costs.now }
+    requires rows { IsTableFrom tree.now costs.now most rows.now 0 }
+    requires few { most ≤ most_processors }
+    requires within { processors ≤ most }
+    ensures chosen { IfOk result (λ choice.
+        IsChosen tree.now costs.now processors choice.counts.list) }
+    ensures service { IfOk result (λ choice. choice.service
+        ≡ service tree.now costs.now choice.counts.list 0) }
+    ensures used { IfOk result (λ choice. choice.used ≡ procs tree.now choice.counts.list 0) }
+    ensures refused { IfErr result (IsRefused tree.now processors) }
+{
+    let Some(best) = best_within(tree, costs, rows, most, processors) else {
         return Err(AllocRefusal::TooFew {
             need: least_procs(tree),
         });
-    }
-    let fewest = first_within(row, service) as u32;
+    };
     let mut list = List::new(alloc);
     let used = first_counts(
-        tree, costs, rows, processors, NESTING, 0, service, fewest, &mut list,
+        tree,
+        costs,
+        rows,
+        most,
+        NESTING,
+        0,
+        best.service,
+        best.used,
+        &mut list,
     )?;
     Ok(Choice {
         counts: Counts { list },
-        service,
+        service: best.service,
         used,
     })
+}
+
+/// The service time and the processes of the best numbers of workers for a number of processors, by
+/// a table for up to `most`; none where no numbers fit.
+pub fn best_within(
+    tree: &Tree,
+    costs: &Costs,
+    rows: &[List<u128>],
+    most: u32,
+    processors: u32,
+) -> Option<Best>
+    requires tree { IsLawfulTree tree.now }
+    requires costs { AreCostsOf tree.now costs.now }
+    requires rows { IsTableFrom tree.now costs.now most rows.now 0 }
+    requires few { most ≤ most_processors }
+    requires within { processors ≤ most }
+    ensures best { IfSome result (IsBest tree.now costs.now processors) }
+    ensures given { IfSome result (λ best. best ≡ best_at tree.now rows.now processors) }
+    ensures small { IfSome result (λ best. best.service < never) }
+    ensures within { IfSome result (λ best. best.used ≤ processors) }
+    ensures none { IfNone result ((counts : List ℕ) → ¬ Fits tree.now processors counts) }
+{
+    let row = row_in(tree, rows, 0);
+    let service = soonest(row, processors);
+    if service >= NEVER {
+        return None;
+    }
+    let used = first_within(row, service) as u32;
+    Some(Best { service, used })
 }

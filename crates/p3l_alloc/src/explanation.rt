@@ -20,7 +20,7 @@ use p3l_skel::{Counts, Form, Node, Tree};
 use std::alloc::Global;
 
 /// The keyword of a form.
-fn kind_name(form: &Form) -> &'static str
+pub fn kind_name(form: &Form) -> &'static str
     ensures { result.now ≡ kind_name form.now }
 {
     match form {
@@ -35,7 +35,7 @@ fn kind_name(form: &Form) -> &'static str
 }
 
 /// Appends a node's count to a text, if the node has one.
-fn put_count(alloc: Global, text: &mut String, form: &Form, count: u32) -> Result<(), NoMemory>
+pub fn put_count(alloc: Global, text: &mut String, form: &Form, count: u32) -> Result<(), NoMemory>
     ensures { OnGiven result (string_bytes text.new
         ≡ string_bytes text.old ++ count_words form.now count) }
 {
@@ -79,7 +79,7 @@ fn put_node(
 }
 
 /// The name of the module of a number, and none where there is none of this number.
-fn name_of(tree: &Tree, number: u32) -> &str
+pub fn name_of(tree: &Tree, number: u32) -> &str
     ensures { result.now ≡ module_name tree.now number }
 {
     match tree.modules.as_slice().get(number as usize) {

@@ -4,6 +4,8 @@
 //! that the node can have within them. It is made from the last node to the first, so that a node's
 //! parts come before it. A walk down the tree then takes the first counts that reach the root's.
 //!
+//! One table serves each smaller number of processors too.
+//!
 //! What was chosen is explained by a text: what it comes to in all, and for each node that has
 //! processes of its own.
 #![tactic(auto)]
@@ -12,8 +14,9 @@ pub mod allocation;
 mod entry;
 pub mod explanation;
 mod need;
-mod table;
+pub mod table;
 mod walk;
 
-pub use allocation::{AllocRefusal, Choice, choose};
+pub use allocation::{AllocRefusal, Best, Choice, best_within, choose, choose_within};
 pub use explanation::allocation_text;
+pub use need::least_procs;

@@ -12,7 +12,7 @@ use p3l_skel::Tree;
 use std::alloc::Global;
 
 /// The name of a process in the picture, by its kind.
-fn kind_name(kind: ProcKind) -> &'static str
+pub(crate) fn kind_name(kind: ProcKind) -> &'static str
     ensures { result.now ≡ kind_name kind }
 {
     match kind {

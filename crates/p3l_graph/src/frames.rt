@@ -13,7 +13,7 @@ use p3l_skel::{Form, Tree};
 use std::alloc::Global;
 
 /// The name of the frame of a node of this form; a node that one process runs has no frame.
-fn frame_name(form: &Form) -> Option<&'static str>
+pub(crate) fn frame_name(form: &Form) -> Option<&'static str>
     ensures some { IfSome result (λ name. frame_name form.now ≡ Some name.now) }
     ensures none { IfNone result (frame_name form.now ≡ None) }
 {

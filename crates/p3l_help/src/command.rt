@@ -105,6 +105,23 @@ the service time of the whole and of each part.
 example: p3l explain m.p3l --processors 16 --cert m.cert
 ";
 
+/// The page of `advise`.
+const ADVISE: &str = "usage: p3l advise PROGRAM [--processors P] [--costs FILE] [--processes]
+
+Says what processors buy. For each number of them at which the best service time
+falls there is a line with that time and the speed-up over the fewest that fit.
+Then comes the tree with the counts that are chosen for the last of them, the
+bottleneck marked, and then what would help.
+
+  PROGRAM          the file of the program
+  --processors P   the most processors there may be, 1 to 512 (512 if not given)
+  --costs FILE     the costs of its modules; without them the standard costs
+  --processes      write in place of this which processes each node has: the
+                   numbers that graph, time and traces name
+
+example: p3l advise m.p3l --costs m.toml
+";
+
 /// The page of `verify-cert`.
 const VERIFY_CERT: &str = "usage: p3l verify-cert PROGRAM --cert FILE [--costs FILE]
 
@@ -315,6 +332,10 @@ pub(crate) const COMMANDS: &[Page] = &[
     Page {
         topic: "explain",
         text: EXPLAIN,
+    },
+    Page {
+        topic: "advise",
+        text: ADVISE,
     },
     Page {
         topic: "graph",

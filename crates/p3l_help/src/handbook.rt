@@ -76,7 +76,7 @@ impl Handbook {
     }
 
     /// Tests that a word is the first word of a command.
-    fn is_command(&self, word: &str) -> bool
+    pub fn is_command(&self, word: &str) -> bool
         ensures { result ≡ is_command self.now word.now }
     {
         text_on(self.commands, word).is_some()

@@ -12,6 +12,7 @@ commands:
   exec IMAGE ..            run an image on the standard input
   migrate IMAGE ..         convert an image to the newest version and relink it
   explain PROGRAM ..       write the worker counts that are chosen for a program
+  advise PROGRAM ..        say what processors buy, and where the time goes
   graph PROGRAM ..         write a picture of a program's network, for Graphviz
   verify-cert PROGRAM ..   check a certificate that worker counts are the best
   check-trace PROGRAM ..   check a trace against a run on the standard input

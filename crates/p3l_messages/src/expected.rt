@@ -4,9 +4,10 @@ ghost use Rattle.std.specs.Prelude.{◌≤◌, IfSome, OnErr, length};
 ghost use Rattle.p3l_base.specs.Memory.{Refused};
 
 use crate::place::put_safely;
-use p3l_ast::{Fault, Pos, SourceRefusal};
+use p3l_ast::SourceRefusal;
 use p3l_base::NoMemory;
 use p3l_lexer::cut::cut;
+use p3l_lexer::tokens;
 use p3l_reader::read;
 use std::alloc::Global;
 
@@ -56,55 +57,60 @@ const CANDIDATES: &[(&str, &str)] = &[
 /// The most bytes before the place for which tokens are tried: each of them reads these bytes again.
 const MOST_BEFORE: usize = 65_536;
 
-/// Adds which token stands at a place, and which could.
+/// Adds which token stands at a place, and which could. It gives true where it has found the latter.
 pub(crate) fn put_expected(
     alloc: Global,
     message: &mut String,
     text: &[u8],
     row: u32,
     column: u32,
-) -> Result<(), NoMemory>
+) -> Result<bool, NoMemory>
     ensures { OnErr result Refused }
 {
     let Some(at) = offset_of(text, row, column) else {
-        return Ok(());
+        return Ok(false);
     };
-    message.push_str("Found ")?;
-    if at == text.len() {
-        message.push_str("the end of the text")?;
-    } else {
-        let (token, _) = cut(&text[at..]);
-        message.push_str("`")?;
-        put_safely(alloc, message, token)?;
-        message.push_str("`")?;
+    let (before, rest) = text.split_at(at);
+    put_found(alloc, message, rest)?;
+    if at > MOST_BEFORE {
+        message.push_str(". ")?;
+        return Ok(false);
     }
-    if at <= MOST_BEFORE {
-        put_candidates(
-            alloc,
-            message,
-            &text[..at],
-            Pos {
-                line: row,
-                col: column,
-            },
-        )?;
-    }
+    put_candidates(alloc, message, before, row)?;
     message.push_str(". ")?;
+    if !rest.is_empty() {
+        put_end_before(alloc, message, before, row)?;
+    }
+    Ok(true)
+}
+
+/// Adds the token that a text begins with.
+fn put_found(alloc: Global, message: &mut String, rest: &[u8]) -> Result<(), NoMemory>
+    ensures { OnErr result Refused }
+{
+    if rest.is_empty() {
+        message.push_str("Found the end of the text")?;
+        return Ok(());
+    }
+    let (token, _) = cut(rest);
+    message.push_str("Found `")?;
+    put_safely(alloc, message, token)?;
+    message.push_str("`")?;
     Ok(())
 }
 
-/// Adds the tokens with which a program could go on after a text, at this place.
+/// Adds the tokens with which a program could go on after a text that ends on this line.
 fn put_candidates(
     alloc: Global,
     message: &mut String,
     before: &[u8],
-    at: Pos,
+    row: u32,
 ) -> Result<(), NoMemory>
     ensures { OnErr result Refused }
 {
     let mut between = "; a program goes on with ";
     for (name, token) in CANDIDATES.iter() {
-        if goes_on(alloc, before, token, at)? {
+        if goes_on(alloc, before, token, row)? {
             message.push_str(between)?;
             message.push_str(name)?;
             between = ", ";
@@ -113,18 +119,54 @@ fn put_candidates(
     Ok(())
 }
 
-/// Whether a program goes on with a token after a text: no refusal is then at the token's place.
-fn goes_on(alloc: Global, before: &[u8], token: &str, at: Pos) -> Result<bool, NoMemory>
+/// Whether a program goes on with a token after a text that ends on this line: no refusal is then at
+/// the token's place. It stands on a line of its own, where it is no part of a word or of a comment
+/// of the text.
+fn goes_on(alloc: Global, before: &[u8], token: &str, row: u32) -> Result<bool, NoMemory>
     ensures { OnErr result Refused }
 {
     let mut text = Vec::from_slice(alloc, before)?;
-    text.extend_from_slice(token.as_bytes())?;
     text.push(b'\n')?;
+    text.extend_from_slice(token.as_bytes())?;
     match read(alloc, text.as_slice()) {
         Ok(_) => Ok(true),
-        Err(SourceRefusal::At { fault, pos }) => {
-            Ok(!(fault == Fault::Expected && pos.line == at.line && pos.col == at.col))
+        Err(SourceRefusal::At { pos, .. }) => {
+            Ok(pos.line != row.saturating_add(1) || pos.col != 1)
         }
+        Err(SourceRefusal::NoMemory) => Err(NoMemory),
+    }
+}
+
+/// Adds at the end of which line something may be missing: that of the last token of a text, where it
+/// is above this line. Nothing is missing in the text of a whole program.
+fn put_end_before(
+    alloc: Global,
+    message: &mut String,
+    before: &[u8],
+    row: u32,
+) -> Result<(), NoMemory>
+    requires { length before.now ≤ 65536 }
+    ensures { OnErr result Refused }
+{
+    let tokens = tokens(alloc, before)?;
+    let Some(last) = tokens.as_slice().last() else {
+        return Ok(());
+    };
+    if last.at.line < row && !is_program(alloc, before)? {
+        let line = last.at.line;
+        let text = format!(in alloc; "Something may be missing at the end of line {line}. ")?;
+        message.push_str(text.as_str())?;
+    }
+    Ok(())
+}
+
+/// Whether a text is that of a whole program.
+fn is_program(alloc: Global, text: &[u8]) -> Result<bool, NoMemory>
+    ensures { OnErr result Refused }
+{
+    match read(alloc, text) {
+        Ok(_) => Ok(true),
+        Err(SourceRefusal::At { .. }) => Ok(false),
         Err(SourceRefusal::NoMemory) => Err(NoMemory),
     }
 }

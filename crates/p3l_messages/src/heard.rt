@@ -43,6 +43,13 @@ pub(crate) fn after_name(line: &str) -> Option<&str> {
     Some(rest.trim_end())
 }
 
+/// The number of the item that a line is about.
+pub(crate) fn item_in(line: &str) -> Option<&str> {
+    let (_, rest) = line.split_once("item ")?;
+    let (item, _) = rest.split_once(":")?;
+    Some(item)
+}
+
 /// Whether a word is made of digits.
 fn is_number(word: &str) -> bool {
     !word.is_empty() && word.as_bytes().iter().all(|byte| byte.is_ascii_digit())

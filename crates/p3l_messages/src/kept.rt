@@ -24,6 +24,10 @@ pub struct KeptFiles<F: Files> {
     texts: Vec<Kept>,
     /// The name of the last file that could not be read, if there is one.
     failed: Option<Name>,
+    /// The name of the last file that could not be written, if there is one.
+    unwritten: Option<Name>,
+    /// Whether memory ran out for a text or a name that was to be kept.
+    lacks: bool,
 }
 
 impl<F: Files> Model for KeptFiles<F> {
@@ -41,7 +45,14 @@ impl<F: Files> KeptFiles<F> {
             files,
             texts: Vec::new(alloc),
             failed: None,
+            unwritten: None,
+            lacks: false,
         }
+    }
+
+    /// Whether memory ran out for a text or a name that was to be kept.
+    pub fn lacks(&self) -> bool {
+        self.lacks
     }
 
     /// The text that was read of the file of this name, if one was kept.
@@ -61,6 +72,14 @@ impl<F: Files> KeptFiles<F> {
             None => None,
         }
     }
+
+    /// The name of the last file that could not be written, if there is one.
+    pub fn unwritten(&self) -> Option<&str> {
+        match &self.unwritten {
+            Some(name) => Some(name.as_str()),
+            None => None,
+        }
+    }
 }
 
 impl<F: Files> KeptFiles<F> {
@@ -68,9 +87,28 @@ impl<F: Files> KeptFiles<F> {
     fn keep(&mut self, alloc: Global, name: &str, text: &[u8])
         ensures { self.new ≡ self.old }
     {
-        if text.len() <= MOST_KEPT {
-            // a message is only shorter without the text
-            let _ = self.push(alloc, name, text);
+        if text.len() <= MOST_KEPT && self.push(alloc, name, text).is_err() {
+            self.lacks = true;
+        }
+    }
+
+    /// Keeps the name of a file that could not be read, unless memory for it runs out.
+    fn note_failed(&mut self, alloc: Global, name: &str)
+        ensures { self.new ≡ self.old }
+    {
+        match Name::from_text(alloc, name) {
+            Ok(name) => self.failed = Some(name),
+            Err(_) => self.lacks = true,
+        }
+    }
+
+    /// Keeps the name of a file that could not be written, unless memory for it runs out.
+    fn note_unwritten(&mut self, alloc: Global, name: &str)
+        ensures { self.new ≡ self.old }
+    {
+        match Name::from_text(alloc, name) {
+            Ok(name) => self.unwritten = Some(name),
+            Err(_) => self.lacks = true,
         }
     }
 
@@ -98,13 +136,17 @@ impl<F: Files> Files for KeptFiles<F> {
         let answer = self.files.read(alloc, name, limit);
         match &answer {
             Ok(text) => self.keep(alloc, name, text.as_slice()),
-            Err(FileFault::Failed) => self.failed = Name::from_text(alloc, name).ok(),
+            Err(FileFault::Failed) => self.note_failed(alloc, name),
             Err(_) => {}
         }
         answer
     }
 
     fn write(&mut self, alloc: Global, name: &str, bytes: &[u8]) -> Result<(), WriteFault> {
-        self.files.write(alloc, name, bytes)
+        let answer = self.files.write(alloc, name, bytes);
+        if let Err(WriteFault::Failed) = &answer {
+            self.note_unwritten(alloc, name);
+        }
+        answer
     }
 }

@@ -4,6 +4,7 @@
 //! line and of the files that the command has read; nothing is read again.
 #![tactic(auto)]
 
+mod arity;
 mod costs;
 mod expected;
 pub mod failure;
@@ -16,6 +17,7 @@ mod program;
 pub mod safe;
 pub mod screen;
 mod usage;
+mod wiring;
 
 pub use failure::Failure;
 pub use kept::KeptFiles;

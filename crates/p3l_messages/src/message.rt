@@ -3,21 +3,32 @@
 ghost use Rattle.std.specs.Prelude.{OnErr};
 ghost use Rattle.p3l_base.specs.Memory.{Refused};
 
-use crate::costs::put_key;
+use crate::costs::{put_key, put_no_document};
 use crate::failure::Failure;
-use crate::heard::{after_name, number_in};
+use crate::heard::{after_name, item_in, number_in};
 use crate::kept::KeptFiles;
 use crate::page::{first_sentence, page_on, put_wrapped};
-use crate::place::Style;
+use crate::place::{Style, put_safely};
 use crate::program::put_refusal;
 use crate::usage::usage;
+use p3l_ast::{Program, SourceRefusal};
 use p3l_base::NoMemory;
 use p3l_check::resolve;
 use p3l_io::Files;
-use p3l_opts::{Build, Command, parse};
 use p3l_reader::read;
 use p3l_report::Status;
 use std::alloc::Global;
+
+/// The message on too few processors.
+const TOO_FEW: &str = "At least this many processors are needed. A farm or a map takes two beside \
+    its workers.";
+
+/// The message on an output that could not be written.
+const LOST_OUTPUT: &str = "The standard output was closed, or its disk is full.";
+
+/// The message on a file that could not be written, below its name.
+const UNWRITTEN: &str = "It may be a folder, be in one that isn't there, be an input of this \
+    command, or be on a full disk.";
 
 /// The parts that a message is made of.
 #[derive(Drop)]
@@ -30,11 +41,13 @@ pub struct Answer<'a> {
     pub line: &'a str,
     /// Why the last file could not be read, where one could not.
     pub failure: Option<Failure>,
+    /// Whether the standard output could not be written.
+    pub has_lost_output: bool,
     pub style: Style,
 }
 
 /// The message after an answer: the place that it speaks of, what it means, and where more is said.
-/// It is empty where the line says all.
+/// It is empty where the line says all, and where memory ran out for what it would be made of.
 pub fn message_on<F: Files>(
     alloc: Global,
     answer: &Answer,
@@ -42,22 +55,72 @@ pub fn message_on<F: Files>(
 ) -> Result<String, NoMemory>
     ensures { OnErr result Refused }
 {
+    if files.lacks() {
+        return Ok(String::new(alloc));
+    }
+    if answer.status.0 == 10 {
+        return unwritten(alloc, answer, files);
+    }
+    if answer.line.is_empty() {
+        return Ok(String::new(alloc));
+    }
     match answer.status.0 {
         2 => usage(alloc, answer.words),
-        5 => sentence(
-            alloc,
-            "The number is how many processors the program needs at least.",
-        ),
+        5 => sentence(alloc, TOO_FEW),
+        7 => trapped(alloc, answer),
         9 => unreadable(alloc, answer, files),
-        _ => numbered(alloc, answer, files),
+        3 | 4 | 6 | 12 | 13 | 15 => numbered(alloc, answer, files),
+        _ => Ok(String::new(alloc)),
     }
 }
 
-/// A message of one sentence.
+/// A message of one sentence or two.
 fn sentence(alloc: Global, text: &str) -> Result<String, NoMemory>
     ensures { OnErr result Refused }
 {
-    Ok(format!(in alloc; "{text}\n")?)
+    let mut message = String::new(alloc);
+    put_wrapped(&mut message, text)?;
+    Ok(message)
+}
+
+/// The message on an item that trapped. The items of `gen` are on no line, and those of `resume` are
+/// counted from the first of another input.
+fn trapped(alloc: Global, answer: &Answer) -> Result<String, NoMemory>
+    ensures { OnErr result Refused }
+{
+    let has_lines = match answer.words.first() {
+        Some(command) => *command != "gen" && *command != "resume",
+        None => false,
+    };
+    match item_in(answer.line) {
+        Some(item) if has_lines => {
+            let text = format!(in alloc;
+                "Item {item} is a line with words; `p3l help status` shows how to find it."
+            )?;
+            sentence(alloc, text.as_str())
+        }
+        _ => Ok(String::new(alloc)),
+    }
+}
+
+/// The message on the standard output, or else a file, that could not be written.
+fn unwritten<F: Files>(
+    alloc: Global,
+    answer: &Answer,
+    files: &KeptFiles<F>,
+) -> Result<String, NoMemory>
+    ensures { OnErr result Refused }
+{
+    if answer.has_lost_output {
+        return sentence(alloc, LOST_OUTPUT);
+    }
+    let mut message = String::new(alloc);
+    if let Some(name) = files.unwritten() {
+        put_safely(alloc, &mut message, name.as_bytes())?;
+        message.push_str(" can't be written.\n")?;
+        put_wrapped(&mut message, UNWRITTEN)?;
+    }
+    Ok(message)
 }
 
 /// The message on a file that could not be read.
@@ -71,11 +134,7 @@ fn unreadable<F: Files>(
     match (files.failed(), answer.failure) {
         (Some(_), Some(failure)) => sentence(alloc, failure.sentence()),
         (Some(_), None) => sentence(alloc, Failure::Other.sentence()),
-        (None, _) if answer.line.starts_with("file too long") => {
-            sentence(alloc, "Files of this kind may not be so long.")
-        }
-        // There was no memory for the name of the file that failed.
-        (None, _) => sentence(alloc, Failure::Other.sentence()),
+        (None, _) => sentence(alloc, "Files of this kind may not be so long."),
     }
 }
 
@@ -95,13 +154,24 @@ fn numbered<F: Files>(
         return Ok(message);
     };
     let mut text = String::new(alloc);
+    let mut says_all = false;
     match answer.status.0 {
-        3 => put_source(alloc, &mut message, &mut text, answer, files, number)?,
-        4 => put_costs(alloc, &mut message, answer, files)?,
-        6 => put_width(alloc, &mut text, answer, files)?,
+        3 => says_all = put_source(alloc, &mut message, &mut text, answer, files, number)?,
+        4 => {
+            if !put_costs(alloc, &mut message, answer, files)? {
+                return Ok(message);
+            }
+        }
+        6 => {
+            if !put_width(alloc, &mut text, answer, files)? {
+                return Ok(message);
+            }
+        }
         _ => {}
     }
-    text.push_str(first_sentence(page))?;
+    if !says_all {
+        text.push_str(first_sentence(page))?;
+    }
     put_wrapped(&mut message, text.as_str())?;
     message.push_str("More: p3l help ")?;
     message.push_str(number)?;
@@ -109,7 +179,8 @@ fn numbered<F: Files>(
     Ok(message)
 }
 
-/// Adds the place of a refusal in the text of the program, if the text was kept.
+/// Adds the place of a refusal in the text of the program, if the text was kept. It gives true where
+/// the page of the refusal would only repeat what is added.
 fn put_source<F: Files>(
     alloc: Global,
     message: &mut String,
@@ -117,14 +188,11 @@ fn put_source<F: Files>(
     answer: &Answer,
     files: &KeptFiles<F>,
     number: &str,
-) -> Result<(), NoMemory>
+) -> Result<bool, NoMemory>
     ensures { OnErr result Refused }
 {
-    let Some(name) = program_of(answer.words) else {
-        return Ok(());
-    };
-    match files.text_of(name) {
-        Some(text) => put_refusal(
+    match program_in(answer, files) {
+        Some((name, text)) => put_refusal(
             alloc,
             message,
             about,
@@ -134,60 +202,103 @@ fn put_source<F: Files>(
             answer.line,
             number,
         ),
-        None => Ok(()),
+        None => Ok(false),
     }
 }
 
-/// Adds the line of the key that a file of costs is refused at, if the file was kept.
+/// The name and the text of the program's file, if the text was kept.
+fn program_in<'a, F: Files>(
+    answer: &Answer<'a>,
+    files: &'a KeptFiles<F>,
+) -> Option<(&'a str, &'a [u8])> {
+    let name = program_of(answer.words)?;
+    Some((name, files.text_of(name)?))
+}
+
+/// Adds the line that a file of costs is refused at, if the file was kept. It gives false where memory
+/// ran out before the line was known.
 fn put_costs<F: Files>(
     alloc: Global,
     message: &mut String,
     answer: &Answer,
     files: &KeptFiles<F>,
-) -> Result<(), NoMemory>
+) -> Result<bool, NoMemory>
     ensures { OnErr result Refused }
 {
-    let (Some(name), Some(key)) = (value_of(answer.words, "--costs"), after_name(answer.line))
-    else {
-        return Ok(());
+    let Some(name) = value_of(answer.words, "--costs") else {
+        return Ok(true);
     };
-    match files.text_of(name) {
-        Some(text) => put_key(alloc, message, answer.style, name, text, key),
-        None => Ok(()),
+    let Some(text) = files.text_of(name) else {
+        return Ok(true);
+    };
+    match after_name(answer.line) {
+        Some(key) => {
+            put_key(alloc, message, answer.style, name, text, key)?;
+            Ok(true)
+        }
+        None => put_no_document(alloc, message, answer.style, name, text),
     }
 }
 
-/// Adds how many words an item of the program has, if its text was kept.
+/// How many words an item of a program has.
+enum Width {
+    Words(u32),
+    /// The program is not accepted, or its text was not kept.
+    Unknown,
+    /// Out of memory.
+    NoMemory,
+}
+
+/// Adds how many words an item of the program has, if its text was kept. It gives false where memory
+/// ran out before that was known.
 fn put_width<F: Files>(
     alloc: Global,
     message: &mut String,
     answer: &Answer,
     files: &KeptFiles<F>,
-) -> Result<(), NoMemory>
+) -> Result<bool, NoMemory>
     ensures { OnErr result Refused }
 {
-    let Some(name) = program_of(answer.words) else {
-        return Ok(());
-    };
-    let Some(text) = files.text_of(name) else {
-        return Ok(());
-    };
-    match width_of(alloc, text) {
-        Some(1) => message.push_str("An item of this program is one word. ")?,
-        Some(width) => {
+    match width_in(alloc, answer, files) {
+        Width::Words(1) => message.push_str("An item of this program is one word. ")?,
+        Width::Words(width) => {
             let text = format!(in alloc; "An item of this program has {width} words. ")?;
             message.push_str(text.as_str())?;
         }
-        None => {}
+        Width::Unknown => {}
+        Width::NoMemory => return Ok(false),
     }
-    Ok(())
+    Ok(true)
 }
 
-/// The number of words of an item of a program that is accepted.
-fn width_of(alloc: Global, text: &[u8]) -> Option<u32> {
-    let program = read(alloc, text).ok()?;
-    let resolved = resolve(alloc, &program).ok()?;
-    Some(resolved.tree.nodes.as_slice().first()?.ins)
+/// The number of words of an item of the program that the answer is about.
+fn width_in<F: Files>(alloc: Global, answer: &Answer, files: &KeptFiles<F>) -> Width {
+    match program_in(answer, files) {
+        Some((_, text)) => match read(alloc, text) {
+            Ok(program) => width_of(alloc, &program),
+            Err(refusal) => width_on(refusal),
+        },
+        None => Width::Unknown,
+    }
+}
+
+/// The number of words of an item of a program.
+fn width_of(alloc: Global, program: &Program) -> Width {
+    match resolve(alloc, program) {
+        Ok(resolved) => match resolved.tree.node(0) {
+            Some(root) => Width::Words(root.ins),
+            None => Width::Unknown,
+        },
+        Err(refusal) => width_on(refusal),
+    }
+}
+
+/// What is known of an item of a program that is refused.
+fn width_on(refusal: SourceRefusal) -> Width {
+    match refusal {
+        SourceRefusal::At { .. } => Width::Unknown,
+        SourceRefusal::NoMemory => Width::NoMemory,
+    }
 }
 
 /// The name of the program's file: the first word after the command's that is neither an option nor

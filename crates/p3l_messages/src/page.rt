@@ -14,6 +14,15 @@ pub(crate) fn page_on(topic: &str) -> Option<&'static str> {
     all_pages().answer(&["help", topic])
 }
 
+/// The text of the page on a command, if the word is one.
+pub(crate) fn page_of_command(word: &str) -> Option<&'static str> {
+    if all_pages().is_command(word) {
+        page_on(word)
+    } else {
+        None
+    }
+}
+
 /// The part of a page below its title, up to the end of the first sentence.
 pub(crate) fn first_sentence(page: &'static str) -> &'static str {
     let body = after_title(page);

@@ -34,7 +34,7 @@ impl Style {
     }
 }
 
-/// The line of a number, counted from 1, if the text has it.
+/// The line of a number, counted from 1, if the text has it; without the carriage return of its end.
 pub(crate) fn line_of(text: &[u8], number: u32) -> Option<&[u8]> {
     let mut rest = text;
     for _ in 1..number {
@@ -44,8 +44,16 @@ pub(crate) fn line_of(text: &[u8], number: u32) -> Option<&[u8]> {
         }
     }
     match rest.iter().position(|byte| *byte == b'\n') {
-        Some(end) => Some(&rest[..end]),
-        None => Some(rest),
+        Some(end) => Some(without_return(&rest[..end])),
+        None => Some(without_return(rest)),
+    }
+}
+
+/// A line without the carriage return that it may end with.
+fn without_return(line: &[u8]) -> &[u8] {
+    match line {
+        [front @ .., b'\r'] => front,
+        _ => line,
     }
 }
 

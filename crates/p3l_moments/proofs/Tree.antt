@@ -1,10 +1,10 @@
 -- The tree of the least moments: the root is no later than any cell (`root_least`), the way down finds the first of the least
 -- (`down_first` to `down_end`), and mending the cells above a changed one gives the tree back (`mended`).
-use Rattle.std.proofs.Common.{◌≡◌, ◌≢◌, ℕ, zero, suc, ◌+◌, ◌-◌, ◌*◌, ◌/◌, ◌%◌, ◌^◌, ◌≤◌, ◌<◌, ◌⊎◌, inl, inr, Option, Some, None, List, [], ◌∷◌, length, drop, get_or, set, replicate, refl, sym, ap, ◌∙◌, subst, arith, le_refl, mod-lt}
-use Rattle.std.proofs.lemmas.Bool.{cases_lt, cases_eq}
-use Rattle.std.proofs.lemmas.List.{drop-replicate, drop-set-add, drop-set-lt, get_or-drop, get_or-replicate, get_or-set_other, get_or-set_same, length-drop}
+use Rattle.std.proofs.Common.{◌≡◌, ◌≢◌, ℕ, zero, suc, ◌+◌, ◌-◌, ◌/◌, ◌%◌, ◌^◌, ◌≤◌, ◌<◌, ◌⊎◌, inl, inr, Option, Some, None, List, length, drop, refl, sym, ap, ◌∙◌, subst, arith, le_refl, mod-lt}
+use Rattle.std.proofs.lemmas.Bool.{cases_lt}
+use Rattle.std.proofs.lemmas.List.{get_or-drop, length-drop}
 use Rattle.std.proofs.Math.Nat.{div-add-mod, two-pow-succ}
-use Rattle.p3l_moments.specs.Moments.{IsDown, IsLeast, IsLevelled, IsNeverDue, IsNoLater, IsSooner, IsSoonest, IsTree, IsTreeBut, due_at}
+use Rattle.p3l_moments.specs.Moments.{IsDown, IsLeast, IsLevelled, IsNeverDue, IsNoLater, IsSooner, IsSoonest, IsTree, due_at}
 
 -- MOMENTS
 

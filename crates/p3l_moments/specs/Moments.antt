@@ -1,5 +1,5 @@
 -- Due moments of numbers, and the tree that finds the least of them.
-use Rattle.std.specs.Prelude.{◌≡◌, ◌≢◌, ℕ, suc, ◌+◌, ◌*◌, ◌≤◌, ◌<◌, ⊤, Option, Some, None, List, length, drop, get_or, ◌^◌}
+use Rattle.std.specs.Prelude.{◌≡◌, ◌≢◌, ℕ, suc, ◌+◌, ◌≤◌, ◌<◌, ⊤, Option, Some, None, List, length, get_or, ◌^◌}
 
 -- a comes no later than b; none comes after every moment
 abbrev pub IsNoLater : Option ℕ → Option ℕ → Type 0
@@ -49,7 +49,7 @@ pub record IsTreeBut (size i : ℕ) (cells : List (Option ℕ)) : Type 0 where
 
 -- a tree with `levels` levels above the cells of the numbers
 pub record IsLevelled (levels size : ℕ) (cells : List (Option ℕ)) : Type 0 where
-  pub few : levels ≤ 20
+  pub few : levels ≤ 32
   pub power : size ≡ 2 ^ levels
   pub tree : IsTree size cells
 

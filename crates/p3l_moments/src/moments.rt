@@ -91,7 +91,7 @@ fn down(cells: &[Option<u128>], i: usize) -> usize
 
 // The first cell of a number that has the root's moment.
 fn first_least(cells: &[Option<u128>], levels: u32) -> usize
-    requires few { levels ≤ 20 }
+    requires few { levels ≤ 32 }
     requires tree { IsTree (2 ^ levels) cells.now }
     ensures { IsDown cells.now levels result }
 {
@@ -105,7 +105,6 @@ fn first_least(cells: &[Option<u128>], levels: u32) -> usize
 impl Moments {
     /// `count` numbers at least, none of which is due.
     pub fn new(alloc: Global, count: u32) -> Result<Moments, NoMemory>
-        requires { count ≤ 1048576 }
         ensures { IfGiven result (λ moments. (count ≤ length moments) × IsNeverDue moments) }
     {
         let mut levels = 0;

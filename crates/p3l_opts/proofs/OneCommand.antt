@@ -1,5 +1,5 @@
 -- Words spell at most one command.
-use Rattle.std.proofs.Common.{◌≡◌, ℕ, ◌<◌, ◌^◌, Option, None, Some, List, bytes_eq, codes, drop, get_or, if◌then◌else◌, sym, refl, ap, ◌∙◌, arith}
+use Rattle.std.proofs.Common.{◌≡◌, ℕ, ◌<◌, ◌^◌, Bool, Option, None, Some, List, bytes_eq, codes, drop, get_or, if◌then◌else◌, sym, refl, ap, ◌∙◌, arith}
 use Rattle.std.proofs.lemmas.Fmt.{decimal_injective}
 use Rattle.std.specs.Fmt.{decimal}
 use Rattle.clap.specs.Words.{Row, Text}
@@ -11,7 +11,7 @@ use Rattle.p3l_opts.specs.declared.command.Sched.TheVariants as sched
 use Rattle.p3l_opts.specs.declared.verb.Verb.{Verb}
 use Rattle.p3l_opts.specs.declared.verb.Verb.TheVariants as verb
 use Rattle.p3l_opts.specs.Verb.{name_of, rows}
-use Rattle.p3l_opts.specs.Command.{HasBuild, HasCapacity, HasCount, HasItems, HasNumber, HasSchedule, HasValues, SpellsSchedule, verb_of}
+use Rattle.p3l_opts.specs.Command.{HasAdvise, HasBuild, HasCapacity, HasCount, HasItems, HasMost, HasNumber, HasSchedule, HasValues, SpellsSchedule, verb_of}
 use Rattle.p3l_opts.specs.Laws.{SpellsOneAtMost}
 
 -- the verb of a name
@@ -20,6 +20,7 @@ verb_named text =
     if bytes_eq text (codes "check") then Some verb.Check
     else if bytes_eq text (codes "fmt") then Some verb.Fmt
     else if bytes_eq text (codes "explain") then Some verb.Explain
+    else if bytes_eq text (codes "advise") then Some verb.Advise
     else if bytes_eq text (codes "compile") then Some verb.Compile
     else if bytes_eq text (codes "run") then Some verb.Run
     else if bytes_eq text (codes "exec") then Some verb.Exec
@@ -106,11 +107,24 @@ one_build found capacity a b p q = λ i. record {
   capacity = one_capacity _ _ _ p.capacity_is q.capacity_is i;
 }
 
+one_most : (text : Option Text) (m n : ℕ) → HasMost text m → HasMost text n → m ≡ n
+one_most None m n p q = p ∙ sym q
+one_most (Some text) m n p q = one_count 512 (Some text) m n (omega arith) p q
+
+one_advised : (found : List Row) (a b : Build) (processes other : Bool) → HasAdvise found a processes → HasAdvise found b other → a ≡ b
+one_advised found a b processes other p q = λ i. record {
+  program = one_name _ _ _ p.program q.program i;
+  processors = one_most _ _ _ p.processors q.processors i;
+  costs = (p.costs ∙ sym q.costs) i;
+  capacity = one_capacity None a.capacity b.capacity p.capacity_is q.capacity_is i;
+}
+
 -- what was found are the values of one command of a verb
 one_command : (found : List Row) (a b : Command) → verb_of a ≡ verb_of b → HasValues found a → HasValues found b → a ≡ b
 one_command found (command.Check p) (command.Check q) v ha hb = ap command.Check (one_name _ _ _ ha hb)
 one_command found (command.Fmt p) (command.Fmt q) v ha hb = ap command.Fmt (one_name _ _ _ ha hb)
 one_command found (command.Explain x c) (command.Explain y d) v ha hb = λ i. command.Explain (one_build _ _ x y ha.0 hb.0 i) ((ha.1 ∙ sym hb.1) i)
+one_command found (command.Advise x r) (command.Advise y r') v ha hb = λ i. command.Advise (one_advised _ x y _ _ ha hb i) ((ha.requested ∙ sym hb.requested) i)
 one_command found (command.Compile x o) (command.Compile y p) v ha hb = λ i. command.Compile (one_build _ _ x y ha.0 hb.0 i) (one_name _ _ _ ha.1 hb.1 i)
 one_command found (command.Run x s t r) (command.Run y s' t' r') v ha hb = λ i.
     command.Run (one_build _ _ x y ha.0 hb.0 i) (one_schedule _ _ _ ha.1.picks hb.1.picks i) ((ha.1.traced ∙ sym hb.1.traced) i) ((ha.1.reported ∙ sym hb.1.reported) i)

@@ -22,6 +22,7 @@ abbrev pub verb_of : Command → Verb
 verb_of (command.Check program) = verb.Check
 verb_of (command.Fmt program) = verb.Fmt
 verb_of (command.Explain build cert) = verb.Explain
+verb_of (command.Advise build processes) = verb.Advise
 verb_of (command.Compile build output) = verb.Compile
 verb_of (command.Run build schedule trace stats) = verb.Run
 verb_of (command.Exec image schedule trace stats) = verb.Exec
@@ -46,6 +47,11 @@ pub record HasCount (most : ℕ) (text : Option Text) (count : ℕ) : Type 0 whe
 -- the same of a number of processors
 abbrev pub HasProcessors : Option Text → ℕ → Type 0
 HasProcessors = HasCount most_processors
+
+-- the same of the most processors, which are 512 where no word spells them
+abbrev pub HasMost : Option Text → ℕ → Type 0
+HasMost None count = count ≡ most_processors
+HasMost (Some text) count = HasCount most_processors (Some text) count
 
 -- the same of a number of segments
 abbrev pub HasSegments : Option Text → ℕ → Type 0
@@ -95,6 +101,14 @@ pub record HasBuild (found : List Row) (capacity : Option Text) (build : Build) 
   pub costs : build.costs ≡ first_of (codes "costs") found
   pub capacity_is : HasCapacity capacity build.capacity
 
+-- up to how many processors advice is given, for which program and costs, and of which kind
+pub record HasAdvise (found : List Row) (build : Build) (processes : Bool) : Type 0 where
+  pub program : first_of (codes "program") found ≡ Some build.program
+  pub processors : HasMost (first_of (codes "processors") found) build.processors
+  pub costs : build.costs ≡ first_of (codes "costs") found
+  pub capacity_is : HasCapacity None build.capacity
+  pub requested : processes ≡ says_true (first_of (codes "processes") found)
+
 -- how a run goes on
 pub record HasRun (found : List Row) (schedule : Sched) (trace : Option Text) (stats : Bool) : Type 0 where
   pub picks : HasSchedule (first_of (codes "schedule") found) schedule
@@ -135,6 +149,7 @@ abbrev pub HasValues : List Row → Command → Type 0
 HasValues found (command.Check program) = first_of (codes "program") found ≡ Some program
 HasValues found (command.Fmt program) = first_of (codes "program") found ≡ Some program
 HasValues found (command.Explain build cert) = HasBuild found None build × (cert ≡ first_of (codes "cert") found)
+HasValues found (command.Advise build processes) = HasAdvise found build processes
 HasValues found (command.Compile build output) = HasBuild found (first_of (codes "capacity") found) build × (first_of (codes "output") found ≡ Some output)
 HasValues found (command.Run build schedule trace stats) = HasBuild found (first_of (codes "capacity") found) build × HasRun found schedule trace stats
 HasValues found (command.Exec image schedule trace stats) = (first_of (codes "image") found ≡ Some image) × HasRun found schedule trace stats

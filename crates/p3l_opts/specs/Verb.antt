@@ -11,6 +11,7 @@ abbrev pub name_of : Verb → Text
 name_of verb.Check = codes "check"
 name_of verb.Fmt = codes "fmt"
 name_of verb.Explain = codes "explain"
+name_of verb.Advise = codes "advise"
 name_of verb.Compile = codes "compile"
 name_of verb.Run = codes "run"
 name_of verb.Exec = codes "exec"
@@ -35,6 +36,12 @@ rules_of verb.Explain =
     ∷ rule_for (codes "processors") Mandatory
     ∷ rule_for (codes "costs") Optional
     ∷ rule_for (codes "cert") Optional
+    ∷ []
+rules_of verb.Advise =
+    rule_for (codes "program") Positional
+    ∷ rule_for (codes "processors") Optional
+    ∷ rule_for (codes "costs") Optional
+    ∷ rule_for (codes "processes") Flag
     ∷ []
 rules_of verb.Compile =
     rule_for (codes "program") Positional

@@ -15,6 +15,9 @@ pub enum Command {
     /// `explain PROGRAM --processors P [--costs FILE] [--cert FILE]`: writes the allocation. It has
     /// how the network is built, and the name of the file for the certificate.
     Explain(Build, Option<Name>),
+    /// `advise PROGRAM [--processors P] [--costs FILE] [--processes]`: writes what processors buy. It
+    /// has how the network is built, and whether the processes of each node are written in its place.
+    Advise(Build, bool),
     /// `compile PROGRAM --processors P --output FILE [--costs FILE] [--capacity C]`: writes an image.
     /// It has how the network is built, and the name of the image's file.
     Compile(Build, Name),

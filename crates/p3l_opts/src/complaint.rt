@@ -1,9 +1,11 @@
 // Complaints about words that spell no command.
 
 ghost use Rattle.p3l_base.specs.Memory.{Refused};
-ghost use Rattle.std.specs.Prelude.{OnErr};
+ghost use Rattle.p3l_opts.specs.Wanted.{ClapWanted};
+ghost use Rattle.std.specs.Prelude.{◌⊎◌, OnErr};
 
-use crate::matches::MOST_ITEMS;
+use crate::command::OptsRefusal;
+use crate::matches::{MOST_ITEMS, refusal_of};
 use crate::value::{count_of, number_in, schedule_of};
 use crate::verb::{Verb, clap_command, verb_of};
 use clap::ArgMatches;
@@ -27,7 +29,7 @@ enum Form {
 /// Says what is wrong with words of which the first names a command: what `clap` finds, or the first
 /// value that is out of its form. It says nothing of words that spell a command.
 pub fn complaint_on(alloc: Global, words: &[&str]) -> Result<Option<String>, NoMemory>
-    ensures { OnErr result Refused }
+    ensures { OnErr result (Refused ⊎ ClapWanted) }
 {
     let Some(first) = words.first() else {
         return Ok(None);
@@ -40,12 +42,15 @@ pub fn complaint_on(alloc: Global, words: &[&str]) -> Result<Option<String>, NoM
 
 /// Says what is wrong with words of which the first names this verb.
 fn complaint_of(alloc: Global, verb: Verb, words: &[&str]) -> Result<Option<String>, NoMemory>
-    ensures { OnErr result Refused }
+    ensures { OnErr result (Refused ⊎ ClapWanted) }
 {
     let command = clap_command(alloc, verb)?;
     match command.try_get_matches_from(words) {
-        Ok(matches) => value_complaint(alloc, verb, &matches),
-        Err(error) => Ok(Some(format!(in alloc; "{error}")?)),
+        Ok(matches) => Ok(value_complaint(alloc, verb, &matches)?),
+        Err(error) => match refusal_of(&error) {
+            OptsRefusal::Usage => Ok(Some(format!(in alloc; "{error}")?)),
+            OptsRefusal::NoMemory => Err(NoMemory),
+        },
     }
 }
 
@@ -71,7 +76,7 @@ fn value_complaint(
     ];
     for (id, form) in forms.iter() {
         if let Some(text) = matches.get_str(id) {
-            if !form.takes(alloc, text) {
+            if !form.takes(alloc, text)? {
                 return Ok(Some(form.complaint(alloc, id, text)?));
             }
         }
@@ -79,14 +84,27 @@ fn value_complaint(
     Ok(None)
 }
 
+/// Whether a text spells a schedule.
+fn spells_schedule(alloc: Global, text: &str) -> Result<bool, NoMemory>
+    ensures { OnErr result Refused }
+{
+    match schedule_of(alloc, text) {
+        Ok(_) => Ok(true),
+        Err(OptsRefusal::Usage) => Ok(false),
+        Err(OptsRefusal::NoMemory) => Err(NoMemory),
+    }
+}
+
 impl Form {
     /// Whether a value has the form.
-    fn takes(self, alloc: Global, text: &str) -> bool {
+    fn takes(self, alloc: Global, text: &str) -> Result<bool, NoMemory>
+        ensures { OnErr result Refused }
+    {
         match self {
-            Form::Count(most) => count_of(text, most).is_some(),
-            Form::Number => number_in(text).is_some(),
-            Form::Schedule => schedule_of(alloc, text).is_ok(),
-            Form::Picks => text.starts_with("file:") && schedule_of(alloc, text).is_ok(),
+            Form::Count(most) => Ok(count_of(text, most).is_some()),
+            Form::Number => Ok(number_in(text).is_some()),
+            Form::Schedule => spells_schedule(alloc, text),
+            Form::Picks => Ok(text.starts_with("file:") && spells_schedule(alloc, text)?),
         }
     }
 

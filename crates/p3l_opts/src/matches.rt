@@ -3,7 +3,7 @@
 ghost use Rattle.std.specs.Prelude.{◌≡◌, ◌≢◌, ◌⊎◌, ℕ, [], Some, None, IfOk, IfSome, IfNone, IsErrOf, option_map};
 ghost use Rattle.p3l_base.specs.Memory.{IfGiven, Refused};
 ghost use Rattle.clap.specs.Words.{first_of, found_of, kind_of, rows_of};
-ghost use Rattle.p3l_opts.specs.Command.{HasCapacity, HasItems, HasNumber, HasProcessors, HasSchedule, HasSegments, says_true, texts_of};
+ghost use Rattle.p3l_opts.specs.Command.{HasCapacity, HasItems, HasMost, HasNumber, HasProcessors, HasSchedule, HasSegments, says_true, texts_of};
 ghost use Rattle.p3l_opts.specs.declared.command.Sched.{Sched};
 ghost use Rattle.p3l_opts.specs.Verb.{faults, rows};
 ghost use Rattle.p3l_opts.specs.Wanted.{ClapWanted};
@@ -49,7 +49,7 @@ pub(crate) fn matches_of<'a>(
 }
 
 /// Memory apart, each of `clap`'s errors is a fault of the words.
-fn refusal_of(error: &Error) -> OptsRefusal
+pub(crate) fn refusal_of(error: &Error) -> OptsRefusal
     ensures usage { result ≡ OptsRefusal.Usage → kind_of error.now ≢ ErrorKind.OutOfMemory }
     ensures memory { result ≡ OptsRefusal.NoMemory → ClapWanted }
 {
@@ -104,6 +104,18 @@ pub(crate) fn processors_in(matches: &ArgMatches, id: &str) -> Option<u32>
     match text_of(matches, id) {
         Some(text) => count_of(text, MOST_PROCESSORS),
         None => None,
+    }
+}
+
+/// The most processors that the words have for a value, or the default.
+pub(crate) fn most_in(matches: &ArgMatches, id: &str) -> Option<u32>
+    ensures some { IfSome result (HasMost (first_of id.now (rows_of (found_of matches.now)))) }
+    ensures none { IfNone result ((count : ℕ)
+        → HasMost (first_of id.now (rows_of (found_of matches.now))) count → ⊥) }
+{
+    match text_of(matches, id) {
+        Some(text) => count_of(text, MOST_PROCESSORS),
+        None => Some(MOST_PROCESSORS),
     }
 }
 

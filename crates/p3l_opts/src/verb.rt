@@ -16,6 +16,7 @@ pub enum Verb {
     Check,
     Fmt,
     Explain,
+    Advise,
     Compile,
     Run,
     Exec,
@@ -52,6 +53,9 @@ pub fn verb_of(word: &str) -> Option<Verb>
     }
     if is_word(word, "explain") {
         return Some(Verb::Explain);
+    }
+    if is_word(word, "advise") {
+        return Some(Verb::Advise);
     }
     if is_word(word, "compile") {
         return Some(Verb::Compile);
@@ -113,6 +117,16 @@ pub(crate) fn clap_command<'a>(alloc: Global, verb: Verb) -> Result<Command<'a>,
                 ("processors", Spelling::Mandatory),
                 ("costs", Spelling::Optional),
                 ("cert", Spelling::Optional),
+            ],
+        ),
+        Verb::Advise => command_with(
+            alloc,
+            "advise",
+            &[
+                ("program", Spelling::Positional),
+                ("processors", Spelling::Optional),
+                ("costs", Spelling::Optional),
+                ("processes", Spelling::Flag),
             ],
         ),
         Verb::Compile => command_with(

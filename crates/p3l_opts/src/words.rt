@@ -9,7 +9,7 @@ ghost use Rattle.p3l_opts.specs.Wanted.{ClapWanted};
 
 use crate::command::{Build, Command, OptsRefusal, Sched};
 use crate::matches::{
-    DEFAULT_CAPACITY, capacity_in, is_given, items_in, matches_of, name_if_given, name_of,
+    DEFAULT_CAPACITY, capacity_in, is_given, items_in, matches_of, most_in, name_if_given, name_of,
     number_of, processors_in, schedule_in, segments_in,
 };
 use crate::verb::{Verb, verb_of};
@@ -57,6 +57,7 @@ fn command_of(alloc: Global, verb: Verb, matches: &ArgMatches) -> Result<Command
         Verb::Check => Ok(Command::Check(name_of(alloc, matches, "program")?)),
         Verb::Fmt => Ok(Command::Fmt(name_of(alloc, matches, "program")?)),
         Verb::Explain => explain_of(alloc, matches),
+        Verb::Advise => advise_of(alloc, matches),
         Verb::Compile => compile_of(alloc, matches),
         Verb::Run => run_of(alloc, matches),
         Verb::Exec => exec_of(alloc, matches),
@@ -131,6 +132,28 @@ fn explain_of(alloc: Global, matches: &ArgMatches) -> Result<Command, OptsRefusa
     let build = plain_build_of(alloc, matches)?;
     let cert = name_if_given(alloc, matches, "cert")?;
     Ok(Command::Explain(build, cert))
+}
+
+/// The command `advise` with the values that were found.
+fn advise_of(alloc: Global, matches: &ArgMatches) -> Result<Command, OptsRefusal>
+    ensures verb { IfOk result (λ command. verb_of command ≡ Verb.Advise) }
+    ensures values { IfOk result (HasValues (rows_of (found_of matches.now))) }
+    ensures usage { IsErrOf result OptsRefusal.Usage → (command : Command)
+        → verb_of command ≡ Verb.Advise → HasValues (rows_of (found_of matches.now)) command → ⊥ }
+    ensures memory { IsErrOf result OptsRefusal.NoMemory → Refused }
+{
+    let program = name_of(alloc, matches, "program")?;
+    let Some(processors) = most_in(matches, "processors") else {
+        return Err(OptsRefusal::Usage);
+    };
+    let costs = name_if_given(alloc, matches, "costs")?;
+    let build = Build {
+        program,
+        processors,
+        costs,
+        capacity: DEFAULT_CAPACITY,
+    };
+    Ok(Command::Advise(build, is_given(matches, "processes")))
 }
 
 /// The command `compile` with the values that were found.

@@ -19,7 +19,8 @@ use std::alloc::Global;
 
 /// Returns true exactly if a run of the net of a tree under these counts can go on from what was
 /// saved: it fits the net, the root is orderly, and each item sent was emitted or is still in the
-/// net. It is so whatever the `seq` modules make of words.
+/// net. It is so whatever the `seq` modules make of words. The net is the linked one: of another the
+/// places of loops are not where they are surveyed.
 pub fn is_sound(
     alloc: Global,
     tree: &Tree,

@@ -9,6 +9,7 @@ use std::test::Fail;
 const COMMANDS: &str = "check: PROGRAM
 fmt: PROGRAM
 explain: PROGRAM, --processors P, --costs FILE, --cert FILE
+advise: PROGRAM, --processors P, --costs FILE, --processes
 compile: PROGRAM, --processors P, --output FILE, --costs FILE, --capacity C
 migrate: IMAGE, --output FILE
 graph: PROGRAM, --processors P, --costs FILE, --capacity C

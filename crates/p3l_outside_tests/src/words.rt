@@ -27,6 +27,8 @@ run|m|--processors|4|--schedule|file:p|--costs=c|--trace=t => run m 4 c 4 file:p
 run|m|--processors|4|--schedule|file:|--capacity|1024 => run m 4 - 1024 file: - false
 run|m|--schedule|rr|--processors|4 => run m 4 - 4 rr - false
 explain|a.p3l|--processors|8|--costs|a.toml|--cert|x => explain a.p3l 8 a.toml 4 x
+advise|m => advise m 512 - 4 false
+advise|--processes|m|--costs|c|--processors|8 => advise m 8 c 4 true
 compile|a|--output=i|--processors=8|--capacity=2 => compile a 8 - 2 i
 exec|i|--stats => exec i rr - true
 migrate|--output|j|i => migrate i j
@@ -92,6 +94,9 @@ run|m|--processors|4|--capacity|0
 run|m|--processors|4|--capacity|1025
 explain|m|--processors|4|--capacity|1
 compile|m|--processors|4
+advise
+advise|m|--processors|513
+advise|m|--capacity|1
 exec|i|--processors|4
 migrate|i
 graph|m|--output|g
@@ -182,6 +187,12 @@ fn values_of(command: &Command) -> (&'static str, [Value<'_>; 5]) {
             (
                 "explain",
                 [Value::Build(build), or_hyphen(cert), no, no, no],
+            )
+        }
+        Command::Advise(build, processes) => {
+            (
+                "advise",
+                [Value::Build(build), flag(*processes), no, no, no],
             )
         }
         Command::Compile(build, output) => {

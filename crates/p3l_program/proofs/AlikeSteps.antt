@@ -28,10 +28,10 @@ use Rattle.p3l_program.specs.World.{World}
 use Rattle.p3l_program.proofs.OnceSteps.{allotted_once}
 
 -- one text is held under a name
-held_once : (held : Held) (limit : ℕ) (name text other : List ℕ) → HasText (Some held) limit name text → HasText (Some held) limit name other → text ≡ other
+pub held_once : (held : Held) (limit : ℕ) (name text other : List ℕ) → HasText (Some held) limit name text → HasText (Some held) limit name other → text ≡ other
 held_once held limit name text other one two = let a = one.holds in let b = two.holds in cc
 
-costs_once : (held : Held) (name said other : Option (List ℕ)) → HasCostText (Some held) name said → HasCostText (Some held) name other → said ≡ other
+pub costs_once : (held : Held) (name said other : Option (List ℕ)) → HasCostText (Some held) name said → HasCostText (Some held) name other → said ≡ other
 costs_once held None None None one two = refl
 costs_once held None None (Some b) one two = absurd two
 costs_once held None (Some a) other one two = absurd one

@@ -20,6 +20,7 @@ mod RecordSteps
 mod TimeSteps
 mod ImagedSteps
 mod AlikeSteps
+mod DeterminedSteps
 mod SoundSteps
 mod ResumeSteps
 mod ScanSteps
@@ -29,6 +30,8 @@ mod SaveStateSteps
 mod ProfileSteps
 mod RecheckSteps
 mod ReplaySteps
+mod HeadlineSteps
+mod BestSteps
 mod RestoredSteps
 mod UnbrokenSteps
 mod GenSteps

@@ -24,6 +24,8 @@ use Rattle.p3l_check.specs.Resolving.{ResolvedTree}
 use Rattle.p3l_program.specs.declared.plan.Accepted.{Accepted}
 use Rattle.p3l_program.specs.declared.plan.Allotted.{Allotted}
 use Rattle.p3l_program.specs.Plan.{AreSaid, ComesTo, HasCostText, IsBuilt, IsNotAccepted, IsPriced, network_of}
+use Rattle.p3l_advise.specs.Advice.{IsAdvice}
+use Rattle.p3l_program.specs.Advise.{IsAdvised}
 use Rattle.p3l_program.specs.Certificate.{IsCertificate}
 use Rattle.p3l_program.specs.Explain.{IsExplained}
 use Rattle.p3l_program.specs.File.{HasText, text_limit}
@@ -102,6 +104,17 @@ module _ (build : Build) (r : ResolvedTree) (loaded : Allotted) where
         (let tree = subst (λ t. text ≡ allocation_text t loaded.costs build.processors loaded.choice.counts.list loaded.choice.used loaded.choice.service) is.comes.compiled.tree_is text_is in
         let used = subst (λ n. text ≡ allocation_text r.tree loaded.costs build.processors loaded.choice.counts.list n loaded.choice.service) is.used_is tree in
         subst (λ n. text ≡ allocation_text r.tree loaded.costs build.processors loaded.choice.counts.list (procs r.tree loaded.choice.counts.list 0) n) is.service_is used);
+  }
+
+  -- and advice on the tree is advice on the program's
+  pub advised : (files : Option Held) (text : List ℕ) → IsLoaded files build r loaded →
+      IsAdvice loaded.program.tree loaded.costs build.processors text → IsAdvised files build text
+  advised files text is advice = record {
+    r = r;
+    cs = loaded.costs;
+    counts = loaded.choice.counts.list;
+    has = record { text = is.text; has = is.has; said = is.said; says = is.says; allotted = is.allotted };
+    advice = subst (λ t. IsAdvice t loaded.costs build.processors text) is.comes.compiled.tree_is advice;
   }
 
   -- a certificate of them is that of the program's

@@ -13,11 +13,14 @@ use Rattle.p3l_trace.specs.declared.trace.Traced.{Traced}
 use Rattle.p3l_trace.specs.Agreement.{AgreeFrom, Agrees, AgreesIn, AllAgree, DiffersAt, picks_of}
 use Rattle.p3l_trace.specs.Text.{trace_format}
 use Rattle.p3l_program.specs.File.{HasText}
-use Rattle.p3l_program.specs.Recheck.{EveryRecordIsAccepted}
+use Rattle.p3l_program.specs.Recheck.{EveryRecordIsAccepted, EveryTraceOfAProgramIsAccepted}
+use Rattle.p3l_program.specs.Origin.{built}
+use Rattle.p3l_program.specs.Plan.{HasNetwork}
 use Rattle.p3l_program.specs.Run.{seen_of}
 use Rattle.p3l_program.specs.Saved.{Stands}
 use Rattle.p3l_program.specs.Trace.{IsCheckStatus, agreed_status}
 use Rattle.p3l_program.specs.TraceFile.{HasTrace, trace_limit}
+use Rattle.p3l_program.proofs.DeterminedSteps.{one_network}
 use Rattle.p3l_program.proofs.SeenSteps.{seen_goes_on}
 
 -- of lines that all agree, each agrees with the state that the picks before it lead to
@@ -60,3 +63,12 @@ accepted begins w after origin request name reported finish stats rest build k e
     let here : IsCheckStatus is.n e.recorded.t (seen_of (width_of is.n) rest) k = subst (λ t. IsCheckStatus is.n t (seen_of (width_of is.n) rest) k) trace is.status_is in
     let same : IsCheckStatus e.n e.recorded.t (seen_of (width_of e.n) rest) k = subst (λ m. IsCheckStatus m e.recorded.t (seen_of (width_of m) rest) k) (still.network is.n is.has.network) here in
     not_evidence e.n e.recorded.t (seen_of (width_of e.n) rest) k agrees same
+
+pub accepted_of_program : BeginsNoOtherTrace → EveryTraceOfAProgramIsAccepted
+accepted_of_program begins w after request name reported finish stats rest build k held e known calm files_are texts stands is =
+    accepted begins w after (built build) request name reported finish stats rest build k e known calm
+    (record {
+      network = λ other o. one_network w.files.old held build e.n other e.has.network texts (subst (λ f. HasNetwork f (built build) other) files_are o);
+      stands = stands;
+    })
+    is

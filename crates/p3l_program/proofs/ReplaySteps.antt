@@ -29,13 +29,16 @@ use Rattle.p3l_trace.specs.declared.trace.TraceLine.{TraceLine}
 use Rattle.p3l_trace.specs.Agreement.{AgreeFrom, AllAgree}
 use Rattle.p3l_trace.specs.Agreement as lines
 use Rattle.p3l_program.specs.File.{HasText}
+use Rattle.p3l_program.specs.Origin.{built}
 use Rattle.p3l_program.specs.Picks.{picks_text}
+use Rattle.p3l_program.specs.Plan.{HasNetwork}
 use Rattle.p3l_program.specs.Replay.{EveryTimedRunIsReplayed}
 use Rattle.p3l_program.specs.Run.{seen_of}
 use Rattle.p3l_program.specs.Scheduled.{HasPicks, picks_limit}
 use Rattle.p3l_program.specs.Verdict.{run_finish}
 use Rattle.p3l_program.specs.Time.{EndsTime}
 use Rattle.p3l_program.specs.World.{World}
+use Rattle.p3l_program.proofs.DeterminedSteps.{one_network}
 use Rattle.p3l_program.proofs.PickSteps.{picks_once}
 use Rattle.p3l_program.proofs.SeenSteps.{GoesOnTo, seen_goes_on}
 
@@ -144,7 +147,8 @@ replayed w build name finish report held e has =
     let reads : Reads (picks_text e.to.picks) (size_of e.n) (Ok e.to.picks) = reads_again (size_of e.n) e.to.picks (omega (arith, few)) there in
     record {
       reads = record { text = picks_text e.to.picks; has = has; picks = e.to.picks; reads = reads; is = refl };
-      alike = λ after trace reported other_finish stats rest r files_are same input other_input calm other_calm.
+      alike = λ after trace reported other_finish stats rest r files_are texts input other_input calm other_calm.
+          let same : r.n ≡ e.n = one_network w.files.old held build e.n r.n e.has.network texts (subst (λ f. HasNetwork f (built build) r.n) files_are r.has.network) in
           let p : HasPicks (Some held) (size_of r.n) name r.s = subst (λ h. HasPicks h (size_of r.n) name r.s) files_are r.has.schedule in
           let text : p.text ≡ picks_text e.to.picks = one_text held name (picks_text e.to.picks) p.text has p.has in
           let read : Reads (picks_text e.to.picks) (size_of e.n) (Ok p.picks) = subst (λ t. Reads t (size_of e.n) (Ok p.picks)) text (subst (λ (n : Network). Reads p.text (size_of n) (Ok p.picks)) same p.reads) in

@@ -55,7 +55,7 @@ module _ (snapshot : Snapshot) (ready : IsReadySnapshot snapshot) where
   fits = subst (λ n. Fitting loaded.tree n (linked_widths loaded.tree counts) (linked_loops loaded.tree counts) snapshot.shot) ready.image.net_is ready.sound.fitting
 
   is_orderly : IsOrderly units counts (saved_state units counts loaded.cap snapshot.shot [])
-  is_orderly = subst (λ n. IsOrderly units counts (orderly.saved_state loaded.tree n snapshot.shot)) ready.image.net_is ready.sound.orderly
+  is_orderly = subst (λ n. IsOrderly units counts (orderly.saved_state loaded.tree n snapshot.shot [])) ready.image.net_is ready.sound.orderly
 
   -- on the net that is linked for the tree
   resumed_there : EveryNetIsCarried → EveryOrderlyShotGoesOn → EveryResumedRunCanBeCounted → IsResumedBy (network loaded.tree units.leaf linked (firings loaded.tree counts)) snapshot.shot resumption

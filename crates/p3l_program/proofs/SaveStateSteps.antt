@@ -348,4 +348,4 @@ module _ (loaded : LoadedImage) (ready : IsReadyImage loaded) (sound_law : Every
       (subst IsCountable reached.comes.is.shot_is reached.comes.is.countable))
 
   pub fits_some : loaded.cap ≤ 1024 → FitsSome saved.shot
-  fits_some small = record { tree = loaded.tree; counts = loaded.counts.list; capacity = loaded.cap; typed = typed_here; fit = ready.fit; small = small; fits = sound_shot.fits }
+  fits_some small = record { tree = loaded.tree; counts = loaded.counts.list; capacity = loaded.cap; typed = typed_here; fit = ready.fit; small = small; fits = sound_shot.fitting }

@@ -74,9 +74,7 @@ module _ (w : World) (build : Build) (picks output : List ℕ) (report : Option 
   whole_spelled = record { fits = e.to.snapshot_is.fits; spelled = e.to.snapshot_is.bytes_are }
 
   sound_so : IsSoundFor (loaded_of image) e.to.saved.shot
-  sound_so =
-      let here = subst (λ (m : Network). IsSoundShot (units_of m) e.counts build.capacity e.to.saved.shot) e.has.imaged.loaded_is e.to.snapshot_is.sound in
-      record { fitting = here.fits; orderly = here.orderly; balanced = here.balanced }
+  sound_so = subst (λ (m : Network). IsSoundShot (units_of m) e.counts build.capacity e.to.saved.shot) e.has.imaged.loaded_is e.to.snapshot_is.sound
 
   network_sound : EveryNetIsCarried → IsSound (network_in (loaded_of image))
   network_sound carried =

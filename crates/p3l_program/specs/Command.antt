@@ -5,6 +5,7 @@ use Rattle.p3l_opts.specs.declared.command.Command.TheVariants as command
 use Rattle.p3l_report.specs.declared.stats.Stats.{Stats}
 use Rattle.p3l_report.specs.declared.verdict.Finish.{Finish}
 use Rattle.p3l_report.specs.declared.verdict.Verdict.{Verdict}
+use Rattle.p3l_program.specs.Advise.{IsRequested}
 use Rattle.p3l_program.specs.Behavior.{Behavior, IsExpectedBy}
 use Rattle.p3l_program.specs.Certificate.{IsCertificate}
 use Rattle.p3l_program.specs.Check.{IsCounted}
@@ -29,6 +30,7 @@ work_of (command.Fmt name) = write_text (fmt_stages name) (λ files. IsFormatted
 work_of (command.Explain build None) = write_text (build_stages build) (λ files. IsExplained files build)
 work_of (command.Explain build (Some cert)) =
     save_file (build_stages build) (λ files. IsExplained files build) cert (λ files. IsCertificate files build)
+work_of (command.Advise build processes) = write_text (build_stages build) (λ files. IsRequested files build processes)
 work_of (command.Compile build name) =
     save_file (build_stages build) (λ files. IsNothing) name (λ files. IsImageOf files build)
 work_of (command.Migrate name output) =

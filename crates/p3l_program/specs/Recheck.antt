@@ -8,7 +8,7 @@ use Rattle.p3l_report.specs.declared.verdict.Finish.{Finish}
 use Rattle.p3l_run.specs.Network.{Network, width_of}
 use Rattle.p3l_trace.specs.declared.trace.Traced.{Traced}
 use Rattle.p3l_trace.specs.Text.{trace_format}
-use Rattle.p3l_program.specs.Plan.{HasNetwork}
+use Rattle.p3l_program.specs.Plan.{HasNetwork, HaveTexts}
 use Rattle.p3l_program.specs.Origin.{Origin, built}
 use Rattle.p3l_program.specs.Run.{EndsRun, seen_of}
 use Rattle.p3l_program.specs.Saved.{Stands}
@@ -28,4 +28,13 @@ EveryRecordIsAccepted =
     (w after : World) (origin : Origin) (request : Sched) (name : List ℕ) (reported : Bool) (finish : Finish) (stats : Option Stats) (rest : List ℕ) (build : Build) (k : ℕ) →
     (e : EndsRun w origin request (Some name) reported finish stats) → w.input.old ≡ Some rest → (HasRisen w.input → ⊥) →
     StillHas after.files.old build name e.n e.recorded.t → IsTraceStatus after build name rest k →
+    k ≡ agreed_status e.n e.recorded.t (seen_of (width_of e.n) rest)
+
+-- so it is of the trace that a run of a program left, where the files of the check still hold the texts of the program and of its costs
+abbrev pub EveryTraceOfAProgramIsAccepted : Type 0
+EveryTraceOfAProgramIsAccepted =
+    (w after : World) (request : Sched) (name : List ℕ) (reported : Bool) (finish : Finish) (stats : Option Stats) (rest : List ℕ) (build : Build) (k : ℕ) (held : Held) →
+    (e : EndsRun w (built build) request (Some name) reported finish stats) → w.input.old ≡ Some rest → (HasRisen w.input → ⊥) →
+    after.files.old ≡ Some held → HaveTexts (Some held) (built build) e.has.network.texts →
+    Stands after.files.old name (trace_format.spell e.recorded.t) → IsTraceStatus after build name rest k →
     k ≡ agreed_status e.n e.recorded.t (seen_of (width_of e.n) rest)

@@ -10,6 +10,7 @@ use Rattle.p3l_sched.specs.declared.schedule.Schedule.TheVariants.{Recorded}
 use Rattle.p3l_program.specs.File.{HasText}
 use Rattle.p3l_program.specs.Origin.{built}
 use Rattle.p3l_program.specs.Picks.{picks_text}
+use Rattle.p3l_program.specs.Plan.{HaveTexts}
 use Rattle.p3l_program.specs.Run.{EndsRun}
 use Rattle.p3l_program.specs.Scheduled.{HasPicks, picks_limit}
 use Rattle.p3l_program.specs.Time.{EndsTime}
@@ -23,12 +24,12 @@ pub record EndsAlike {w after : World} {build : Build} {name : List ℕ} {finish
   pub numbers_are : r.ran.stats ≡ e.to.ran.stats
 
 -- where `time` left its picks in a file that is no longer than such files may be, they are the schedule that `run` reads there; and
--- where `run` of the same words under them has the same network, and both took an input that reported the same and didn't fail, it ends
--- alike
+-- where `run` of the same words under them reads files that hold the same texts of the program and of its costs, and both took an input that
+-- reported the same and didn't fail, it ends alike
 pub record IsReplayed {w : World} {build : Build} {name : List ℕ} {finish : Finish} {report : Option Stats} (e : EndsTime w build (Some name) finish report) (held : Held) : Type 0 where
   pub reads : HasPicks (Some held) (size_of e.n) name (Recorded e.to.picks)
   pub alike : (after : World) (trace : Option (List ℕ)) (reported : Bool) (other_finish : Finish) (stats : Option Stats) (rest : List ℕ) →
-      (r : EndsRun after (built build) (sched.File name) trace reported other_finish stats) → after.files.old ≡ Some held → r.n ≡ e.n →
+      (r : EndsRun after (built build) (sched.File name) trace reported other_finish stats) → after.files.old ≡ Some held → HaveTexts (Some held) (built build) e.has.network.texts →
       w.input.old ≡ Some rest → after.input.old ≡ Some rest → (HasRisen w.input → ⊥) → (HasRisen after.input → ⊥) → EndsAlike e r
 
 abbrev pub EveryTimedRunIsReplayed : Type 0

@@ -2,18 +2,22 @@
 //! streams.
 #![tactic(auto)]
 
+pub mod advise;
 pub mod alike;
+pub mod best;
 mod cert;
 pub mod certify;
 pub mod check;
 pub mod check_trace;
 pub mod compile;
+pub mod determined;
 pub mod exec;
 pub mod explain;
 mod file;
 pub mod fmt;
 pub mod generated;
 pub mod graph;
+pub mod headline;
 mod image;
 mod imaged;
 pub mod joined;

@@ -7,6 +7,7 @@ ghost use Rattle.p3l_program.specs.Top.{Promises};
 ghost use Rattle.p3l_program.specs.World.{change, files_change, world};
 ghost use Rattle.p3l_program.specs.Wants.{SavesLong, Wants};
 
+use crate::advise::advise;
 use crate::certify::certify;
 use crate::check::check;
 use crate::check_trace::check_trace;
@@ -53,6 +54,7 @@ fn perform<F: Files, S: Source, K: Sink>(
             None => explain(alloc, build, files, out),
             Some(name) => certify(alloc, build, name, files, out),
         },
+        Ok(Command::Advise(build, processes)) => advise(alloc, build, processes, files, out),
         Ok(Command::Compile(build, name)) => compile(alloc, build, name, files),
         Ok(Command::Migrate(name, output)) => migrate(alloc, name, output, files),
         Ok(Command::Graph(build)) => graph(alloc, build, files, out),

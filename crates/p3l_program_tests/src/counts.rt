@@ -35,6 +35,31 @@ $ explain a.p3l --processors 3 --costs a.toml
 ! too few processors: need 4
 ? 5
 
+# A line for each number of processors at which the service time falls.
+$ advise a.p3l --costs a.toml
+> processors 4 used 4 service 60 speed-up 1.00
+> processors 5 used 5 service 30 speed-up 2.00
+> processors 6 used 6 service 20 speed-up 3.00
+> processors 7 used 7 service 15 speed-up 4.00
+> processors 8 used 8 service 12 speed-up 5.00
+> processors 9 used 9 service 10 speed-up 6.00
+> main pipe service 10
+>   f seq service 10 bottleneck: its work
+>   w farm count 6 service 10
+>     g seq service 60
+> more than 9 processors do not help: 503 are idle
+> f in a farm of 502 workers: service 1
+
+$ advise a.p3l --costs a.toml --processors 5 --processes
+> stream: 0 source 1 sink
+> 1 seq f: 2 run
+> 2 farm w: 3 emit 4 collect
+> 3 seq g: 5 run 6 run
+
+$ advise a.p3l --processors 3 --costs a.toml
+! too few processors: need 4
+? 5
+
 $ run a.p3l --processors 3 --costs a.toml --stats
 < 1
 ! too few processors: need 4

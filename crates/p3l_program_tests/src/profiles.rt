@@ -34,6 +34,17 @@ $ profile m.p3l
 > [seq]
 > main = 0
 
+# It is written by one put: a second one, which would fail, is never made.
+fails put 2 after 0
+file m.p3l = double
+$ profile m.p3l
+< 1
+< 2
+> setup = 10
+> word = 1
+> [seq]
+> main = 7
+
 # A loop that halves a number and counts its turns.
 file m.p3l = halved
 $ profile m.p3l

@@ -18,7 +18,7 @@ saved_sound units counts cap items picks m outcomes rest typed l named long of_r
     let orderly = (run_begun units counts cap items l long).orderly in
     let balanced = run_balanced units counts cap (first_state (net_of units counts cap) items) picks l orderly (start_balanced units counts cap items l long) in
     record {
-      fits = saved_fitting m units counts cap l named typed agrees of_run.net of_run.shaped outcomes rest k small;
+      fitting = saved_fitting m units counts cap l named typed agrees of_run.net of_run.shaped outcomes rest k small;
       orderly = saved_orderly m units counts cap l named typed agrees of_run.net of_run.shaped outcomes rest k;
       balanced = saved_balanced m units counts cap l named typed agrees of_run.net of_run.shaped outcomes rest k of_run.follows.emitted.count
           (subst (IsBalanced units counts) (sym of_run.follows.state) balanced);

@@ -21,6 +21,7 @@ pub mod Surveyed
 pub mod LoopAt
 pub mod Places
 pub mod LinkedPlaces
+pub mod LoopsThere
 pub mod KeptStates
 pub mod SavedStates
 pub mod KeptLaw

@@ -1,5 +1,5 @@
 -- What is saved of a machine that runs a linked net is sound.
-use Rattle.std.specs.Prelude.{◌≡◌, ℕ, ℤ, ◌+◌, List, [], length}
+use Rattle.std.specs.Prelude.{◌≡◌, ℕ, ℤ, List}
 use Rattle.p3l_base.specs.declared.outcome.Outcome.{Outcome}
 use Rattle.p3l_firing.specs.Carried.{HaveInWords}
 use Rattle.p3l_firing.specs.Typed.{IsTyped}
@@ -8,9 +8,8 @@ use Rattle.p3l_net.specs.Offered.{Follows}
 use Rattle.p3l_net.specs.Shot.{IsCountable, shot_of}
 use Rattle.p3l_net.specs.declared.shot.Shot.{Shot}
 use Rattle.p3l_template.specs.Units.{Units}
-use Rattle.p3l_link.specs.Laws.{IsLinkable, IsOrderly, linked_run, net_of}
-use Rattle.p3l_link.specs.Part.{root_part}
-use Rattle.p3l_resume_laws.specs.Saved.{FitsLinked, saved_state}
+use Rattle.p3l_link.specs.Laws.{IsLinkable, linked_run, net_of}
+use Rattle.p3l_orderly.specs.Sound.{IsSound}
 use Rattle.p3l_resume_laws.specs.Traps.{TrapsNameModules}
 
 -- a machine is where a run of a linked net is on items under picks: it has emitted these outcomes, and these items were not offered yet
@@ -20,14 +19,9 @@ pub record IsOfRun (units : Units) (counts : List ℕ) (cap : ℕ) (items : List
   pub shaped : IsShaped m
   pub follows : Follows m outcomes rest (linked_run units counts cap items picks)
 
--- a shot fits a linked net, its root is orderly, and each item sent was emitted or is still in the net
-pub record IsSoundShot (units : Units) (counts : List ℕ) (cap : ℕ) (shot : Shot) : Type 0 where
-  pub fits : FitsLinked units.tree counts cap shot
-  pub orderly : IsOrderly units counts (saved_state units counts cap shot [])
-  pub balanced : shot.sent ≡ shot.emitted
-      + (length ((saved_state units counts cap shot []).tokens 1)
-      + (length ((root_part units counts).pending (saved_state units counts cap shot []))
-      + length ((saved_state units counts cap shot []).tokens 0)))
+-- a shot is sound, of the net that is linked for a tree under these counts
+abbrev pub IsSoundShot : Units → List ℕ → (cap : ℕ) → Shot → Type 0
+IsSoundShot units counts cap shot = IsSound units counts (net_of units counts cap) shot
 
 -- whatever the picks, what is saved of a machine in that state is sound, as long as what was counted is below 2^63
 abbrev pub EverySavedShotIsSound : Type 0

@@ -3,4 +3,5 @@ pub mod Widths
 pub mod Saved
 pub mod Traps
 pub mod Kept
+pub mod Loops
 pub mod Start

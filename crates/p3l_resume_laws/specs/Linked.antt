@@ -14,6 +14,7 @@ use Rattle.p3l_template.specs.Units.{Units, outcome_at}
 use Rattle.p3l_link.specs.Laws.{IsLinkable, IsOrderly, linked_run, net_of}
 use Rattle.p3l_link.specs.Part.{root_part}
 use Rattle.p3l_link.specs.Whole.{tokens_in}
+use Rattle.p3l_orderly.specs.Root.{AreBalanced}
 use Rattle.p3l_sched.specs.declared.picker.Way.{Way}
 use Rattle.p3l_sched.specs.Course.{picks_from}
 use Rattle.p3l_firing.specs.Orderly.{Emits}
@@ -29,9 +30,7 @@ pub record CanResume (units : Units) (counts : List ℕ) (cap : ℕ) (typed : Is
 
 -- each item sent was emitted, or is after the root, in it or before it
 abbrev pub IsBalanced : Units → List ℕ → State → Type 0
-IsBalanced units counts s =
-    s.sent ≡ length s.emitted
-    + (length (s.tokens 1) + (length ((root_part units counts).pending s) + length (s.tokens 0)))
+IsBalanced units counts s = AreBalanced units counts s.sent (length s.emitted) s
 
 -- the outcomes of channel 1, the root's pending ones, and those that come of channel 0 and of the items not yet sent
 abbrev pub ahead_of : Units → List ℕ → State → List Outcome

@@ -1,5 +1,5 @@
 -- Linked nets and what was saved of machines that run them.
-use Rattle.std.specs.Prelude.{◌≡◌, ℕ, ◌+◌, ◌≤◌, false, List, [], length}
+use Rattle.std.specs.Prelude.{◌≡◌, ℕ, ◌≤◌, false, List, [], length}
 use Rattle.p3l_base.specs.Limits.{most_tokens}
 use Rattle.p3l_base.specs.declared.outcome.Outcome.{Outcome}
 use Rattle.p3l_skel.specs.declared.tree.Tree.{Tree}
@@ -8,14 +8,13 @@ use Rattle.p3l_firing.specs.State.{State}
 use Rattle.p3l_firing.specs.Token.{has_trap}
 use Rattle.p3l_firing.specs.Typed.{IsTyped}
 use Rattle.p3l_net.specs.Fitting.{Fitting}
-use Rattle.p3l_net.specs.Machine.{state_of}
-use Rattle.p3l_net.specs.Shot.{CanRestore, restored}
+use Rattle.p3l_net.specs.Shot.{CanRestore}
 use Rattle.p3l_net.specs.declared.shot.Shot.{Shot}
 use Rattle.p3l_template.specs.Units.{Units}
 use Rattle.p3l_link.specs.Laws.{IsLinkable, IsOrderly, net_of}
 use Rattle.p3l_link.specs.Net.{linked_net}
-use Rattle.p3l_link.specs.Part.{root_part}
 use Rattle.p3l_fitting.specs.Survey.{linked_loops, linked_widths}
+use Rattle.p3l_orderly.specs.Root as root
 use Rattle.p3l_resume.specs.Ranges.{HasRanges, IsFew}
 use Rattle.p3l_resume.specs.Saved.{CanBeWritten}
 use Rattle.p3l_resume.specs.declared.saved.Saved.{Saved}
@@ -27,7 +26,7 @@ FitsLinked tree counts cap shot = Fitting tree (linked_net tree counts cap) (lin
 
 -- the state that was saved of a linked net, where these outcomes were emitted
 abbrev pub saved_state : Units → List ℕ → (cap : ℕ) → Shot → List Outcome → State
-saved_state units counts cap shot emitted = state_of (restored units.tree (net_of units counts cap) shot) emitted
+saved_state units counts cap shot emitted = root.saved_state units.tree (net_of units counts cap) shot emitted
 
 -- from what fits a machine can be restored
 abbrev pub EveryFittingShotCanBeRestored : Type 0
@@ -48,10 +47,7 @@ abbrev pub EveryBalancedShotIsBalanced : Type 0
 EveryBalancedShotIsBalanced =
     (units : Units) (counts : List ℕ) (cap : ℕ) (shot : Shot) (emitted : List Outcome)
     → IsLinkable units counts cap
-    → shot.sent ≡ shot.emitted
-    + (length ((saved_state units counts cap shot []).tokens 1)
-    + (length ((root_part units counts).pending (saved_state units counts cap shot []))
-    + length ((saved_state units counts cap shot []).tokens 0)))
+    → root.IsBalanced units counts (net_of units counts cap) shot
     → length emitted ≡ shot.emitted → IsBalanced units counts (saved_state units counts cap shot emitted)
 
 -- what fits can be written, with an image that can be counted in 32 bits

@@ -25,6 +25,7 @@ use p3l_sched::Schedule;
 use p3l_skel::{Tree, Units};
 use p3l_stream::laws::a_stream_gives_its_items;
 use p3l_timed::Timer;
+use p3l_timed::laws::small_prices_are_counted_in_full;
 use std::alloc::Global;
 
 impl<'t> Execution<'t> {
@@ -182,6 +183,8 @@ pub fn run_in_time<U: Units, S: Source, K: Sink>(
         Schedule::Recorded(List::new(alloc)),
         keeping,
     )?;
-    let timer = Timer::start(alloc, plan.tree, costs, &execution.machine)?;
+    let machine = &execution.machine;
+    let timer = Timer::start(alloc, plan.tree, costs, machine.net(), machine)?;
+    small_prices_are_counted_in_full();
     execution.complete_in_time(alloc, plan.tree, plan.units, timer, input, out)
 }

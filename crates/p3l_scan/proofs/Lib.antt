@@ -8,6 +8,7 @@ pub mod Combining
 pub mod Leaves
 pub mod Halving
 pub mod Values
+pub mod Staging
 pub mod Scannable
 pub mod Lawful
 pub mod Linked

@@ -30,7 +30,7 @@ each-fits elem operator keeps last (x ∷ xs) l h =
     before-fits (length xs) elem (operator (last ++ x)) (combined_each operator last xs) (keeps last x l h.0)
     (each-fits elem operator keeps last xs l h.1)
 
-sized-at : (elem : ℕ) (xs : List (List ℤ)) (k : ℕ) → k < length xs → Sized elem xs → length (get_or xs k []) ≡ elem
+pub sized-at : (elem : ℕ) (xs : List (List ℤ)) (k : ℕ) → k < length xs → Sized elem xs → length (get_or xs k []) ≡ elem
 sized-at elem [] k l h = absurd (omega arith)
 sized-at elem (x ∷ xs) zero l h = h.0
 sized-at elem (x ∷ xs) (suc k) l h = sized-at elem xs k (omega arith) h.1
@@ -58,12 +58,12 @@ both-fits n m elem operator keeps (Ok front) (Ok back) some h k =
     (merged-fits elem operator keeps front back (omega (arith, h.0)) h.1 k.1)
 
 -- each half is shorter, and together they are the whole
-half_length : (n : ℕ) (xs : List (List ℤ)) → length xs ≤ suc n → 2 ≤ length xs →
+pub half_length : (n : ℕ) (xs : List (List ℤ)) → length xs ≤ suc n → 2 ≤ length xs →
     (length (take (length xs / 2) xs) ≤ n) × (length (drop (length xs / 2) xs) ≤ n)
 half_length n xs fits several =
     (omega (arith, length-take (length xs / 2) xs), omega (arith, length-drop (length xs / 2) xs))
 
-up_to-fits : (elem : ℕ) (operator : List ℤ → Outcome) → Combines elem operator → (n : ℕ) (xs : List (List ℤ)) → length xs ≤ n →
+pub up_to-fits : (elem : ℕ) (operator : List ℤ → Outcome) → Combines elem operator → (n : ℕ) (xs : List (List ℤ)) → length xs ≤ n →
     Sized elem xs → Fits (length xs) elem (scan_of_up_to n operator xs)
 unfolding scan_of_up_to Fits
 up_to-fits elem operator keeps n [] few h = (refl, tt)

@@ -41,7 +41,7 @@ same-map : (f g : List ℤ → Outcome) (xs : List (List ℤ)) → ((x : List �
 same-map f g [] h = refl
 same-map f g (x ∷ xs) h = ap₂ (λ y ys. y ∷ ys) (h x) (same-map f g xs h)
 
-all-have : (b : ℕ) (f : List ℤ → Outcome) (xs : List (List ℤ)) → ((x : List ℤ) → length x ≡ b → HasLength b (f x)) → Sized b xs →
+pub all-have : (b : ℕ) (f : List ℤ → Outcome) (xs : List (List ℤ)) → ((x : List ℤ) → length x ≡ b → HasLength b (f x)) → Sized b xs →
     HaveLength b (map f xs)
 unfolding HaveLength
 all-have b f [] h sized = tt
@@ -54,7 +54,7 @@ module _ (d words elem : ℕ) (operator : List ℤ → Outcome) where
   abbrev leaf : ℕ → List ℤ → Outcome
   leaf = step_leaf elem operator
 
-  abbrev row-at : (ℕ → List ℤ → Outcome) → List ℤ → Node → Outcome
+  abbrev pub row-at : (ℕ → List ℤ → Outcome) → List ℤ → Node → Outcome
   row-at part ws n =
       item_row (rescued (rescue_of (plan_tree d words) n.module) n.outs) (step_leaf elem operator) n.module n.form n.parts part ws
 
@@ -80,7 +80,7 @@ module _ (d words elem : ℕ) (operator : List ℤ → Outcome) where
       (λ x h. subst (HasLength b) (sym (step-item e s x l)) (leaf_fits elem operator (step_node s) b x h)) (pieces-sized n b ws long))
       ∙ ap in_row (same-map part (leaf (step_node s)) (pieces n b ws) (λ x. step-item e s x l))
 
-times-pos : (a b : ℕ) → 0 < a → 1 ≤ b → 1 ≤ a * b
+pub times-pos : (a b : ℕ) → 0 < a → 1 ≤ b → 1 ≤ a * b
 times-pos (suc a) b l h = omega (arith, suc-mul a b, h)
 times-pos zero b l h = absurd (omega arith)
 

@@ -4,6 +4,7 @@ pub mod Plan
 pub mod Planned
 pub mod Step
 pub mod Value
+pub mod Staged
 pub mod Nested
 pub mod Template
 pub mod Placed

@@ -2,6 +2,7 @@
 
 ghost use Rattle.p3l_skel.specs.Item.{item};
 ghost use Rattle.p3l_scan.specs.Placed.{LinksTheTemplate};
+ghost use Rattle.p3l_scan.specs.Staged.{GoesByStages, NeverGuards, TrapsAsTheOperator};
 ghost use Rattle.p3l_scan.specs.Step.{step_leaf};
 ghost use Rattle.p3l_scan.specs.Value.{EndsWithTheFold, IsScan};
 
@@ -14,6 +15,36 @@ pub fn a_plan_scans<U: Units>(_units: &ScanUnits<U>)
     ensures { IsScan _units.now.levels _units.now.words _units.now.elem
         (step_leaf _units.now.elem
         (item (U.tree _units.now.inner) (U.leaf _units.now.inner) _units.now.op))
+        (item (U.tree _units.now.inner) (U.leaf _units.now.inner) _units.now.op) }
+{
+    _units.look();
+}
+
+/// The root of a plan turns an item into what its stages in order turn it into, each block by block
+/// and without any guard; so of several traps the first by stage, and then by block, comes out.
+pub fn a_plan_goes_by_stages<U: Units>(_units: &ScanUnits<U>)
+    ensures { GoesByStages _units.now.levels _units.now.words _units.now.elem
+        (step_leaf _units.now.elem
+        (item (U.tree _units.now.inner) (U.leaf _units.now.inner) _units.now.op))
+        (item (U.tree _units.now.inner) (U.leaf _units.now.inner) _units.now.op) }
+{
+    _units.look();
+}
+
+/// A trap that comes out of a plan is one of the operator on two elements; so it has the number of
+/// a module of the tree that is scanned.
+pub fn a_plan_traps_as_its_operator<U: Units>(_units: &ScanUnits<U>)
+    ensures { TrapsAsTheOperator _units.now.levels _units.now.words _units.now.elem
+        (step_leaf _units.now.elem
+        (item (U.tree _units.now.inner) (U.leaf _units.now.inner) _units.now.op))
+        (item (U.tree _units.now.inner) (U.leaf _units.now.inner) _units.now.op) }
+{
+    _units.look();
+}
+
+/// The guard of a step never acts on a block of its stage.
+pub fn a_step_never_guards<U: Units>(_units: &ScanUnits<U>)
+    ensures { NeverGuards _units.now.levels _units.now.words _units.now.elem
         (item (U.tree _units.now.inner) (U.leaf _units.now.inner) _units.now.op) }
 {
     _units.look();

@@ -7,7 +7,6 @@ use Rattle.std.proofs.lemmas.List.{get_or-set_same, get_or-set_other, get_or_pas
 use Rattle.std.proofs.lemmas.Option.{slice_get_past}
 use Rattle.p3l_skel.specs.declared.tree.Tree.{Tree}
 use Rattle.p3l_cost.specs.declared.costs.Costs.{Costs}
-use Rattle.p3l_model.specs.NodeCost.{timed}
 use Rattle.p3l_firing.specs.declared.process.Proc.{Proc}
 use Rattle.p3l_firing.proofs.Rows.{none_ready}
 use Rattle.p3l_net.specs.Machine.{Seen, can_step, state_of}
@@ -15,24 +14,24 @@ use Rattle.p3l_net.proofs.Frame.{trapped_steps}
 use Rattle.p3l_moments.specs.Moments.{IsLeast, IsNoLater, due_at}
 use Rattle.p3l_timed.specs.Clock.{IsBusiest, IsKept}
 use Rattle.p3l_timed.specs.Due.{IsNext, due_next, renewed, without}
-use Rattle.p3l_timed.specs.Price.{price_at, price_of}
+use Rattle.p3l_timed.specs.Price.{counted, price_at, price_of}
 use Rattle.p3l_timed.proofs.Round.{due_from, due_stays, put_same, put_other, without_own, without_other}
 
--- THE PRICES of a net with small prices are exact, and small
-pub exact_prices : (tree : Tree) (costs : Costs) (procs : List Proc) → ((p : ℕ) (q : Proc) → slice_get procs p ≡ Some q → price_of tree costs q < 2 ^ 48) → map (λ (q : Proc). timed (price_of tree costs q)) procs ≡ map (price_of tree costs) procs
+-- THE PRICES that are counted are small, and exact where all are small
+pub exact_prices : (tree : Tree) (costs : Costs) (procs : List Proc) → ((p : ℕ) (q : Proc) → slice_get procs p ≡ Some q → price_of tree costs q < 2 ^ 48) → map (λ (q : Proc). counted (price_of tree costs q)) procs ≡ map (price_of tree costs) procs
 exact_prices tree costs [] small = refl
 exact_prices tree costs (q ∷ procs) small =
     let few = small 0 q refl in
-    let here : timed (price_of tree costs q) ≡ price_of tree costs q = omega (arith, few) in
-    ap (λ n. n ∷ map (λ (x : Proc). timed (price_of tree costs x)) procs) here
+    let here : counted (price_of tree costs q) ≡ price_of tree costs q = omega (arith, few) in
+    ap (λ n. n ∷ map (λ (x : Proc). counted (price_of tree costs x)) procs) here
     ∙ ap (λ ns. price_of tree costs q ∷ ns) (exact_prices tree costs procs (λ p x at. small (suc p) x at))
 
-pub small_prices : (tree : Tree) (costs : Costs) (procs : List Proc) → ((p : ℕ) (q : Proc) → slice_get procs p ≡ Some q → price_of tree costs q < 2 ^ 48) → (r : ℕ) → price_at (map (price_of tree costs) procs) r < 2 ^ 48
-small_prices tree costs [] small r = omega arith
-small_prices tree costs (q ∷ procs) small zero = small 0 q refl
-small_prices tree costs (q ∷ procs) small (suc r) = small_prices tree costs procs (λ p x at. small (suc p) x at) r
+pub small_prices : (tree : Tree) (costs : Costs) (procs : List Proc) (r : ℕ) → price_at (map (λ (q : Proc). counted (price_of tree costs q)) procs) r < 2 ^ 48
+small_prices tree costs [] r = omega arith
+small_prices tree costs (q ∷ procs) zero = omega arith
+small_prices tree costs (q ∷ procs) (suc r) = small_prices tree costs procs r
 
-pub prices_long : (tree : Tree) (costs : Costs) (procs : List Proc) → length (map (price_of tree costs) procs) ≡ length procs
+pub prices_long : (tree : Tree) (costs : Costs) (procs : List Proc) → length (map (λ (q : Proc). counted (price_of tree costs q)) procs) ≡ length procs
 prices_long tree costs [] = refl
 prices_long tree costs (q ∷ procs) = ap suc (prices_long tree costs procs)
 
@@ -88,7 +87,7 @@ shown_due true moments p some = absurd (some refl)
 shown_due false moments p some = (some, refl)
 
 -- A FIRST LOOK
-pub kept_first : (m : Seen) (prices : List ℕ) (n : ℕ) (moments : List (Option ℕ)) → length prices ≡ length m.net.procs → length prices ≤ 1048576 → n ≡ length prices → length prices ≤ length moments → ((r : ℕ) → price_at prices r < 2 ^ 48)
+pub kept_first : (m : Seen) (prices : List ℕ) (n : ℕ) (moments : List (Option ℕ)) → length prices ≡ length m.net.procs → length prices < 2 ^ 32 → n ≡ length prices → length prices ≤ length moments → ((r : ℕ) → price_at prices r < 2 ^ 48)
     → ((r : ℕ) → due_at moments r ≡ renewed (can_step m) (price_at prices) 0 (λ q. None) r) → IsKept prices (replicate n 0) moments 0 0
 kept_first m prices n moments size few count room small due = record {
   timely = record {

@@ -66,7 +66,7 @@ pub record IsTimely (prices busy : List ℕ) (due : List (Option ℕ)) (moment f
 pub record IsKept (prices busy : List ℕ) (due : List (Option ℕ)) (moment fired : ℕ) : Type 0 where
   pub timely : IsTimely prices busy due moment fired
   pub as_many : length busy ≡ length prices
-  pub few : length prices ≤ 1048576
+  pub few : length prices < 2 ^ 32
   pub room : length prices ≤ length due
   pub none_else : (r : ℕ) → length prices ≤ r → due_at due r ≡ None
 

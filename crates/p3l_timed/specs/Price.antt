@@ -1,5 +1,5 @@
 -- What a firing of each process costs, in ticks: the same at every firing.
-use Rattle.std.specs.Prelude.{◌≡◌, ℕ, ◌+◌, ◌*◌, ◌==◌, ◌<◌, ◌^◌, if◌then◌else◌, List, Some, length, map, max, slice_get, slice_index}
+use Rattle.std.specs.Prelude.{◌≡◌, ℕ, ◌+◌, ◌-◌, ◌*◌, ◌==◌, ◌<◌, ◌^◌, if◌then◌else◌, List, Some, length, map, max, min, slice_get, slice_index}
 use Rattle.std.specs.Int.{div_ceil}
 use Rattle.p3l_skel.specs.declared.tree.Form.{Form}
 use Rattle.p3l_skel.specs.declared.tree.Form.TheVariants.{Seq, Comp, Pipe, Farm, Map, Reduce, Loop}
@@ -60,6 +60,19 @@ HasSmallPrices tree costs net = (p : ℕ) (q : Proc) → slice_get net.procs p �
 -- the prices of the processes of a net, by their numbers
 abbrev pub prices_of : Tree → Costs → Net → List ℕ
 prices_of tree costs net = map (price_of tree costs) net.procs
+
+-- a price as far as a timer counts it: the greatest that it counts stands for every greater one
+abbrev pub counted : ℕ → ℕ
+counted price = min price (2 ^ 48 - 1)
+
+-- the prices of the processes of a net, as far as a timer counts them
+abbrev pub counted_prices : Tree → Costs → Net → List ℕ
+counted_prices tree costs net = map (λ (q : Proc). counted (price_of tree costs q)) net.procs
+
+-- small prices are counted in full
+abbrev pub EverySmallPriceCounts : Type 0
+EverySmallPriceCounts =
+    (tree : Tree) (costs : Costs) (net : Net) → HasSmallPrices tree costs net → counted_prices tree costs net ≡ prices_of tree costs net
 
 -- the price of process p
 abbrev pub price_at : List ℕ → ℕ → ℕ

@@ -7,7 +7,7 @@ ghost use Rattle.p3l_skel.specs.Tree.{node_at, part_at};
 ghost use Rattle.p3l_firing.specs.Nodes.{elem_of};
 ghost use Rattle.p3l_model.specs.NodeCost.{timed};
 ghost use Rattle.p3l_model.specs.Service.{fold_service, join_service, transfer, unit_service};
-ghost use Rattle.p3l_timed.specs.Price.{HasSmallPrices, len_of, part_ticks, price_of, prices_of, run_price};
+ghost use Rattle.p3l_timed.specs.Price.{counted, counted_prices, len_of, part_ticks, price_of, run_price};
 
 use crate::ticks::{ticks, transfer};
 use p3l_base::NoMemory;
@@ -16,6 +16,10 @@ use p3l_firing::{Net, Proc, ProcKind};
 use p3l_model::NEVER;
 use p3l_skel::{Form, Tree};
 use std::alloc::Global;
+
+/// The greatest price that a timer counts, which stands for every greater one: no linked net has
+/// such prices.
+const MOST_PRICE: u128 = (1 << 48) - 1;
 
 // The words that a node takes, and 0 for no node.
 fn ins_of(tree: &Tree, number: u32) -> u32
@@ -167,14 +171,20 @@ pub fn price(tree: &Tree, costs: &Costs, process: &Proc) -> u128
     }
 }
 
-/// The prices of the processes of a net, by their numbers.
+// The ticks of a firing of a process, as far as a timer counts them.
+fn counted_price(tree: &Tree, costs: &Costs, process: &Proc) -> u128
+    ensures { result ≡ counted (price_of tree.now costs.now process.now) }
+{
+    price(tree, costs, process).min(MOST_PRICE)
+}
+
+/// The prices of the processes of a net, by their numbers, as far as a timer counts them.
 pub fn prices(alloc: Global, tree: &Tree, costs: &Costs, net: &Net) -> Result<Vec<u128>, NoMemory>
-    requires { HasSmallPrices tree.now costs.now net.now }
-    ensures { IfGiven result (λ prices. prices.items ≡ prices_of tree.now costs.now net.now) }
+    ensures { IfGiven result (λ prices. prices.items ≡ counted_prices tree.now costs.now net.now) }
 {
     let mut prices = Vec::new(alloc);
     for process in net.procs.as_slice() {
-        prices.push(price(tree, costs, process))?;
+        prices.push(counted_price(tree, costs, process))?;
     }
     Ok(prices)
 }

@@ -1,6 +1,6 @@
 // The timer.
 
-ghost use Rattle.std.specs.Prelude.{◌≡◌, ◌≢◌, ◌<◌, ◌≤◌, ◌+◌, ◌^◌, ℕ, None, false, length, slice_index, IfSome, IsNone};
+ghost use Rattle.std.specs.Prelude.{◌≡◌, ◌≢◌, ◌<◌, ◌≤◌, ◌+◌, ◌*◌, ◌^◌, ℕ, None, false, length, slice_index, IfSome, IsNone};
 ghost use Rattle.p3l_base.specs.Memory.{IfGiven};
 ghost use Rattle.std.specs.Option.{is_some};
 ghost use Rattle.p3l_firing.specs.Typed.{IsTyped};
@@ -8,13 +8,14 @@ ghost use Rattle.p3l_net.specs.Machine.{can_step};
 ghost use Rattle.p3l_moments.specs.Moments.{due_at};
 ghost use Rattle.p3l_timed.specs.Clock.{HasFired, IsBusiest, IsRenewed, IsStarted, OthersAsBefore};
 ghost use Rattle.p3l_timed.specs.Due.{IsNext};
-ghost use Rattle.p3l_timed.specs.Price.{HasSmallPrices, prices_of};
+ghost use Rattle.p3l_timed.specs.Price.{counted_prices, price_at};
 
 use crate::greatest::greatest;
 use crate::look::{look, look_after, look_at_all};
 use crate::price::prices;
 use p3l_base::NoMemory;
 use p3l_cost::Costs;
+use p3l_firing::Net;
 use p3l_moments::Moments;
 use p3l_net::Machine;
 use p3l_skel::Tree;
@@ -55,19 +56,22 @@ impl Model for Timer {
 }
 
 impl Timer {
-    /// A timer for a machine of this tree in which nothing has fired.
+    /// A timer for a machine of this tree and net in which nothing has fired.
+    ///
+    /// It counts each price that is below 2^48 in full, as those of every linked net are.
     pub fn start(
         alloc: Global,
         tree: &Tree,
         costs: &Costs,
+        net: &Net,
         machine: &Machine<'_>,
     ) -> Result<Timer, NoMemory>
-        requires small { HasSmallPrices tree.now costs.now machine.now.net }
-        requires few { length machine.now.net.procs ≤ 1048576 }
+        requires net { net.now ≡ machine.now.net }
         requires first { machine.now.fired ≡ 0 }
-        ensures { IfGiven result (IsStarted (prices_of tree.now costs.now machine.now.net) machine.now) }
+        ensures { IfGiven result
+            (IsStarted (counted_prices tree.now costs.now machine.now.net) machine.now) }
     {
-        let prices = prices(alloc, tree, costs, machine.net())?;
+        let prices = prices(alloc, tree, costs, net)?;
         let mut moments = Moments::new(alloc, machine.size())?;
         let busy = vec![in alloc; 0u128; prices.len()]?;
         look_at_all(&mut moments, machine, prices.as_slice());
@@ -126,6 +130,16 @@ impl Timer {
             p,
             self.moment,
         );
+    }
+
+    /// States that every price is below 2^48, and that the moment, and the time that each process
+    /// was busy, are at most that many ticks for each firing.
+    pub(crate) fn look(&self)
+        ensures price { (p : ℕ) → price_at self.now.prices p < 2 ^ 48 }
+        ensures moment { self.now.moment ≤ self.now.fired * 2 ^ 48 }
+        ensures busy { (p : ℕ) → slice_index self.now.busy p ≤ self.now.fired * 2 ^ 48 }
+    {
+        let _moment = self.moment;
     }
 
     /// The moment of the last firing.

@@ -49,7 +49,7 @@ Lines count from 1, and empty ones count too.
     stream: line 2: 100 BadWord
 
 To mend it: separate numbers by spaces or tabs, and drop signs `+`, commas and
-headings: `grep -v '[^-0-9 ]'` drops such lines.
+headings: `grep -v '[^-0-9[:blank:]]'` drops such lines.
 ",
     },
     Page {

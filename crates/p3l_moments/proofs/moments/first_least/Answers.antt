@@ -1,8 +1,8 @@
 -- Each step down goes to the first of the two cells that has the root's moment.
-use Rattle.std.proofs.Common.{◌≡◌, ◌≢◌, ℕ, suc, ◌+◌, ◌-◌, ◌^◌, ◌≤◌, ◌<◌, inl, inr, Option, None, List, length, sym, subst, arith}
+use Rattle.std.proofs.Common.{◌≡◌, ℕ, suc, ◌+◌, ◌^◌, ◌<◌, inl, inr, Option, List, sym, subst, arith}
 use Rattle.std.proofs.lemmas.Bool.{cases_lt}
 use Rattle.std.proofs.Math.Nat.{two-pow-succ}
-use Rattle.p3l_moments.specs.Moments.{IsDown, IsNoLater, IsSooner, IsTree, due_at}
+use Rattle.p3l_moments.specs.Moments.{IsDown}
 use Rattle.p3l_moments.proofs.Tree.{down_left, down_right, power_le}
 use Rattle.p3l_moments.proofs.moments.first_least.Goals as goal
 

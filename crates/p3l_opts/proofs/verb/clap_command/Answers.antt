@@ -14,6 +14,10 @@ pub returns-in-Explain : goal.returns-in-Explain
 unfolding app_for
 returns-in-Explain c = rw c.in-Explain.is (MatchResult-weaker c.command_with-in-Explain.result c.command_with-in-Explain.ensures (λ r e. e) (λ r refused. refused))
 
+pub returns-in-Advise : goal.returns-in-Advise
+unfolding app_for
+returns-in-Advise c = rw c.in-Advise.is (MatchResult-weaker c.command_with-in-Advise.result c.command_with-in-Advise.ensures (λ r e. e) (λ r refused. refused))
+
 pub returns-in-Compile : goal.returns-in-Compile
 unfolding app_for
 returns-in-Compile c = rw c.in-Compile.is (MatchResult-weaker c.command_with-in-Compile.result c.command_with-in-Compile.ensures (λ r e. e) (λ r refused. refused))

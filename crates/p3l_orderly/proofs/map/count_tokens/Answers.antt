@@ -1,4 +1,4 @@
-use Rattle.std.proofs.Common.{◌≡◌, ◌+◌, ◌*◌, ◌^◌, ◌≤◌, length, refl, ◌∙◌, arith}
+use Rattle.std.proofs.Common.{◌≡◌, ◌+◌, length, refl, ◌∙◌, arith}
 use Rattle.p3l_map.specs.Places.{total}
 use Rattle.p3l_orderly.proofs.MapSteps.{count_more}
 use Rattle.p3l_orderly.proofs.map.count_tokens.Goals as goal

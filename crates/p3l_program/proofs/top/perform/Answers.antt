@@ -57,6 +57,18 @@ returns-in-Some g c =
       wants = inl c.certify.ensures.wants;
     }
 
+pub returns-in-Ok-Advise : goal.returns-in-Ok-Advise
+unfolding work_of
+returns-in-Ok-Advise g c =
+    let request = c.in-Ok-Advise in
+    let spelled : Spells (texts_of c.args.words.now) (command.Advise request.build request.processes) = search (rules, request.ensures.spelled) in record {
+      expected =
+          text_requested (texts_of c.args.words.now) _ spelled (files_change g.F.Files.held g.F.Files.faults g.F.Files.failed c.args.files.now c.advise.new.files)
+          (change g.K.Sink.taken g.K.Sink.faults c.args.out.now c.advise.new.out) (g.S.Source.rest c.args.input.now) (g.S.Source.faults c.args.input.now)
+          c.advise.result _ _ refl c.advise.ensures.expected c.advise.ensures.stays;
+      wants = inl c.advise.ensures.wants;
+    }
+
 pub returns-in-Ok-Compile : goal.returns-in-Ok-Compile
 unfolding work_of
 returns-in-Ok-Compile g c =

@@ -1,4 +1,4 @@
-use Rattle.std.proofs.Common.{◌≡◌, ◌+◌, length, drop, set, ap, ◌∙◌, arith}
+use Rattle.std.proofs.Common.{◌+◌, drop, set, ap, ◌∙◌, arith}
 use Rattle.std.proofs.lemmas.List.{drop-set-add, with_items_is}
 use Rattle.std.specs.Vec.{with_item}
 use Rattle.p3l_moments.proofs.moments.Moments.put.Goals as goal

@@ -1,0 +1,5 @@
+pub mod Advice
+pub mod Bottleneck
+pub mod Falls
+pub mod Help
+pub mod Lines

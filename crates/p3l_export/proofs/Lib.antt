@@ -1,0 +1,6 @@
+mod LoadSteps
+mod NumberedSteps
+mod PlacedSteps
+mod Ranges
+mod RateSteps
+mod Wider

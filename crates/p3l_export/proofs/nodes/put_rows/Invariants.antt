@@ -1,0 +1,9 @@
+use Rattle.std.proofs.Common.{◌≡◌, ◌++◌, drop}
+use Rattle.std.specs.List.{flat_map}
+use Rattle.p3l_export.specs.Nodes.{node_line}
+use Rattle.p3l_export.proofs.nodes.put_rows.Given as goal
+
+-- the text so far, with what is left
+abbrev pub invariant-loop-node : goal.invariant-loop-node
+invariant-loop-node l =
+    l.text.items ++ flat_map node_line (drop l.node-index l.nodes) ≡ l.fn.text.items ++ flat_map node_line l.nodes

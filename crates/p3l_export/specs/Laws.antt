@@ -1,0 +1,35 @@
+-- What holds of every exported program.
+use Rattle.std.specs.Prelude.{ℕ, ◌≤◌, Bool, List, map}
+use Rattle.std.specs.List.{AllByRecursion}
+use Rattle.p3l_base.specs.Limits.{most_tokens}
+use Rattle.p3l_skel.specs.declared.tree.Tree.{Tree}
+use Rattle.p3l_cost.specs.declared.costs.Costs.{Costs}
+use Rattle.p3l_firing.specs.declared.net.Chan.{Chan}
+use Rattle.p3l_firing.specs.declared.net.Net.{Net}
+use Rattle.p3l_firing.specs.Typed.{IsTyped}
+use Rattle.p3l_fitting.specs.declared.width.Width.{Width}
+use Rattle.p3l_net.specs.Steps.{Ends}
+use Rattle.p3l_export.specs.declared.channels.ChannelRow.{ChannelRow}
+use Rattle.p3l_export.specs.Capacity.{rows_of}
+
+-- a number of tokens that a channel may hold
+abbrev pub IsRoom : ℕ → Type 0
+IsRoom n = (1 ≤ n) × (n ≤ most_tokens)
+
+-- where the channels of a net hold at least a token and no more than the machine's limit, so do those of the program, chosen or not
+abbrev pub EveryCapacityIsInRange : Type 0
+EveryCapacityIsInRange =
+    (tree : Tree) (costs : Costs) (net : Net) (ends : Ends) (widths : List Width) (chosen : Bool)
+    → AllByRecursion (λ (chan : Chan). IsRoom chan.cap) net.chans
+    → AllByRecursion (λ (row : ChannelRow). IsRoom row.capacity) (rows_of tree costs net ends widths chosen)
+
+-- a net whose channels are those of these rows
+abbrev pub with_rows : Net → List ChannelRow → Net
+with_rows net rows =
+    record { procs = net.procs; chans = map (λ (row : ChannelRow). record { cap = row.capacity; credits = row.credits }) rows }
+
+-- where a net is typed for a tree, so is that of the program, whose channels may hold more
+abbrev pub EveryExportedNetIsTyped : Type 0
+EveryExportedNetIsTyped =
+    (tree : Tree) (costs : Costs) (net : Net) (ends : Ends) (widths : List Width) (chosen : Bool)
+    → IsTyped tree net → IsTyped tree (with_rows net (rows_of tree costs net ends widths chosen))

@@ -1,0 +1,14 @@
+pub mod Capacity
+pub mod Channels
+pub mod Export
+pub mod File
+pub mod Laws
+pub mod Lines
+pub mod Loads
+pub mod Modules
+pub mod Nodes
+pub mod Numbered
+pub mod Processes
+pub mod Rates
+pub mod Slices
+pub mod Tables

@@ -1,0 +1,26 @@
+use Rattle.std.proofs.Common.{refl, subst}
+use Rattle.p3l_program.specs.Advise.{IsListed}
+use Rattle.p3l_program.specs.Stage.{build_stages}
+use Rattle.p3l_program.specs.Text.{IsWritten}
+use Rattle.p3l_program.specs.World.{change, files_change}
+use Rattle.p3l_program.specs.Plan.{network_in}
+use Rattle.p3l_program.proofs.TextSteps.{text_expected}
+use Rattle.p3l_program.proofs.advise.list_processes.Goals as goal
+
+pub returns-clause-expected : goal.returns-clause-expected
+returns-clause-expected g c =
+    let loads = c.in-Ok.ensures.network in
+    let files = files_change g.F.Files.held g.F.Files.faults g.F.Files.failed c.args.files.now c.load_network.new.files in
+    let out = change g.K.Sink.taken g.K.Sink.faults c.args.out.now c.write_text.new.out in
+    let text = c.in-Ok-processes_text.text in
+    text_expected files out (build_stages c.args.build) (IsListed (g.F.Files.held c.args.files.now) c.args.build) text c.write_text.result c.in-Ok.ensures.calm
+    (loads.passed files refl)
+    (record {
+      network = network_in c.in-Ok.loaded;
+      has = record { texts = loads.texts; have = loads.have; is = loads.is };
+      text_is = c.in-Ok-processes_text.ensures;
+    })
+    (subst (λ written. IsWritten out written c.write_text.result) c.as_slice.ensures c.write_text.ensures.written)
+
+pub returns-clause-wants : goal.returns-clause-wants
+returns-clause-wants g c = c.write_text.ensures.wants g.F.Files.may_want

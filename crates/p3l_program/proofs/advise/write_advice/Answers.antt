@@ -1,0 +1,22 @@
+use Rattle.std.proofs.Common.{subst}
+use Rattle.p3l_program.specs.Advise.{IsAdvised}
+use Rattle.p3l_program.specs.Stage.{build_stages}
+use Rattle.p3l_program.specs.Text.{IsWritten}
+use Rattle.p3l_program.specs.World.{change, files_change}
+use Rattle.p3l_program.proofs.LoadSteps.{advised, loaded_passes}
+use Rattle.p3l_program.proofs.TextSteps.{text_expected}
+use Rattle.p3l_program.proofs.advise.write_advice.Goals as goal
+
+pub returns-clause-expected : goal.returns-clause-expected
+returns-clause-expected g c =
+    let loads = c.in-Ok.ensures.loaded in
+    let files = files_change g.F.Files.held g.F.Files.faults g.F.Files.failed c.args.files.now c.allot.new.files in
+    let out = change g.K.Sink.taken g.K.Sink.faults c.args.out.now c.write_text.new.out in
+    let text = c.in-Ok-advice_text.text in
+    text_expected files out (build_stages c.args.build) (IsAdvised (g.F.Files.held c.args.files.now) c.args.build) text c.write_text.result c.in-Ok.ensures.calm
+    (loaded_passes c.args.build loads.r c.in-Ok.loaded files loads.is)
+    (advised c.args.build loads.r c.in-Ok.loaded (g.F.Files.held c.args.files.now) text loads.is c.in-Ok-advice_text.ensures.text)
+    (subst (λ written. IsWritten out written c.write_text.result) c.as_slice.ensures c.write_text.ensures.written)
+
+pub returns-clause-wants : goal.returns-clause-wants
+returns-clause-wants g c = c.write_text.ensures.wants g.F.Files.may_want
