@@ -7,7 +7,7 @@ use Rattle.p3l_c.specs.Translate.{Shapes}
 use Rattle.p3l_c.specs.Condition.{Entry, takes, zero_object, Function, function_of}
 use Rattle.p3l_c_print.specs.Name.{Names, name_text, names_of}
 use Rattle.p3l_c_print.specs.Text.{lines_text}
-use Rattle.p3l_c_print.specs.Temps.{temps_of}
+use Rattle.p3l_c.specs.Temps.{temps_of}
 
 unfoldable pub sizes_text : List ℕ → List ℕ
 sizes_text [] = []

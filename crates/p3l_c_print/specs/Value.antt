@@ -18,7 +18,7 @@ use Rattle.p3l_c_print.specs.declared.value.Spots.{Spots}
 use Rattle.p3l_c_print.specs.declared.value.Block.{Block}
 use Rattle.p3l_c_print.specs.Name.{Names, literal_text, shapes_of}
 use Rattle.p3l_c_print.specs.Line.{set_line, stop_line, begin_lines, deeper, choice_lines}
-use Rattle.p3l_c_print.specs.Temps.{temps_of}
+use Rattle.p3l_c.specs.Temps.{temps_of}
 use Rattle.p3l_c_print.specs.Text.{signed_text, test_text, between, temp_text, spots_text, lines_text}
 
 -- a test is kept as one, since a number that is used as a test needs no comparison then

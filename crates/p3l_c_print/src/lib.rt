@@ -1,11 +1,11 @@
 //! The C11 function of a checked body, as a text.
 #![tactic(auto)]
 
-mod count;
-mod guard;
-mod line;
-mod names;
-mod operator;
-mod plain;
-mod text;
-mod value;
+pub mod count;
+pub mod guard;
+pub mod line;
+pub mod names;
+pub mod operator;
+pub mod plain;
+pub mod text;
+pub mod value;
