@@ -64,7 +64,14 @@ impl Names<'_> {
         let low = between(self.alloc, index.as_str(), " < ", zero.as_str())?;
         let high = between(self.alloc, size.as_str(), " <= ", index.as_str())?;
         let test = between(self.alloc, low.as_str(), " || ", high.as_str())?;
-        put_stop(self.alloc, out, margin, test.as_str(), TrapKind::Index, self.home)
+        put_stop(
+            self.alloc,
+            out,
+            margin,
+            test.as_str(),
+            TrapKind::Index,
+            self.home,
+        )
     }
 
     /// Puts an index in a temp, and its test, after a text.
@@ -99,13 +106,27 @@ impl Names<'_> {
     {
         let zero = literal(self.alloc, 0)?;
         let test = between(self.alloc, second, " == ", zero.as_str())?;
-        put_stop(self.alloc, out, margin, test.as_str(), TrapKind::DivZero, self.home)?;
+        put_stop(
+            self.alloc,
+            out,
+            margin,
+            test.as_str(),
+            TrapKind::DivZero,
+            self.home,
+        )?;
         let least = literal(self.alloc, i64::MIN)?;
         let minus = literal(self.alloc, -1)?;
         let left = between(self.alloc, first, " == ", least.as_str())?;
         let right = between(self.alloc, second, " == ", minus.as_str())?;
         let test = between(self.alloc, left.as_str(), " && ", right.as_str())?;
-        put_stop(self.alloc, out, margin, test.as_str(), TrapKind::DivOver, self.home)?;
+        put_stop(
+            self.alloc,
+            out,
+            margin,
+            test.as_str(),
+            TrapKind::DivOver,
+            self.home,
+        )?;
         Ok(())
     }
 
@@ -119,7 +140,14 @@ impl Names<'_> {
         let low = between(self.alloc, places, " < ", zero.as_str())?;
         let high = between(self.alloc, most.as_str(), " < ", places)?;
         let test = between(self.alloc, low.as_str(), " || ", high.as_str())?;
-        put_stop(self.alloc, out, margin, test.as_str(), TrapKind::Shift, self.home)
+        put_stop(
+            self.alloc,
+            out,
+            margin,
+            test.as_str(),
+            TrapKind::Shift,
+            self.home,
+        )
     }
 
     /// Puts the tests of an operator of two temps after a text.
@@ -171,9 +199,9 @@ impl Names<'_> {
     {
         let alloc = self.alloc;
         match op {
-            BinOp::Shl => Ok(Text::of(
-                format!(in alloc; "p3l_signed(((uint64_t)t{first}) << t{second})")?,
-            )),
+            BinOp::Shl => Ok(Text::of(format!(in alloc;
+                "p3l_signed(((uint64_t)t{first}) << t{second})"
+            )?)),
             BinOp::Shr => Ok(Text::of(format!(in alloc; "p3l_shr(t{first}, t{second})")?)),
             _ => {
                 let sign = sign_of(op);

@@ -78,9 +78,7 @@ pub fn put_stop(
 {
     let code = trap_code(trap, home);
     let reason = trap_reason(trap);
-    let line = format!(in alloc;
-        "{margin}if {test} return INT64_C({code}); /* {reason} */\n"
-    )?;
+    let line = format!(in alloc; "{margin}if {test} return INT64_C({code}); /* {reason} */\n")?;
     out.push_str(line.as_str())?;
     Ok(())
 }
@@ -150,18 +148,14 @@ fn choice(
     ensures { IfGiven result (λ text. text ≡ choice_lines margin.now test.now then.now other.now) }
 {
     if other.len() == 0 {
-        return Ok(Text::of(
-            format!(in alloc; "{margin}if {test} {{\n{then}{margin}}}\n")?,
-        ));
+        return Ok(Text::of(format!(in alloc; "{margin}if {test} {{\n{then}{margin}}}\n")?));
     }
     if then.len() == 0 {
-        return Ok(Text::of(
-            format!(in alloc; "{margin}if (!{test}) {{\n{other}{margin}}}\n")?,
-        ));
+        return Ok(Text::of(format!(in alloc; "{margin}if (!{test}) {{\n{other}{margin}}}\n")?));
     }
-    Ok(Text::of(
-        format!(in alloc; "{margin}if {test} {{\n{then}{margin}}} else {{\n{other}{margin}}}\n")?,
-    ))
+    Ok(Text::of(format!(in alloc;
+        "{margin}if {test} {{\n{then}{margin}}} else {{\n{other}{margin}}}\n"
+    )?))
 }
 
 /// A loop of lines, a test that ends it, and more lines.
@@ -176,15 +170,11 @@ fn loop_text(
     ensures { IfGiven result (λ text. text ≡ loop_lines margin.now before.now test.now after.now) }
 {
     if before.len() == 0 {
-        return Ok(Text::of(
-            format!(in alloc; "{margin}while {test} {{\n{after}{margin}}}\n")?,
-        ));
+        return Ok(Text::of(format!(in alloc; "{margin}while {test} {{\n{after}{margin}}}\n")?));
     }
-    Ok(Text::of(
-        format!(in alloc;
-            "{margin}for (;;) {{\n{before}{margin}    if (!{test}) break;\n{after}{margin}}}\n"
-        )?,
-    ))
+    Ok(Text::of(format!(in alloc;
+        "{margin}for (;;) {{\n{before}{margin}    if (!{test}) break;\n{after}{margin}}}\n"
+    )?))
 }
 
 /// Puts a loop after a text.

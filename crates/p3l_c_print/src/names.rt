@@ -47,9 +47,9 @@ impl<'c> Model for Names<'c> {
     ghost Value = { Names };
 
     ghost view = { λ it. record {
-        places = it.places.entries;
-        constants = it.consts.now;
-        home = it.home;
+      places = it.places.entries;
+      constants = it.consts.now;
+      home = it.home;
     } };
 }
 

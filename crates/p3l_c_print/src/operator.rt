@@ -26,12 +26,8 @@ pub fn class_of(op: BinOp) -> Class
         BinOp::Or | BinOp::And => Class::Short,
         BinOp::Eq | BinOp::Ne | BinOp::Lt | BinOp::Le | BinOp::Gt | BinOp::Ge => Class::Compared,
         BinOp::Shl | BinOp::Shr | BinOp::Div | BinOp::Rem => Class::Guarded,
-        BinOp::BitOr
-        | BinOp::BitXor
-        | BinOp::BitAnd
-        | BinOp::Add
-        | BinOp::Sub
-        | BinOp::Mul => Class::Computed,
+        BinOp::BitOr | BinOp::BitXor | BinOp::BitAnd | BinOp::Add | BinOp::Sub | BinOp::Mul =>
+            Class::Computed,
     }
 }
 

@@ -57,13 +57,7 @@ fn steady_height(expr: &Expr) -> Option<u32>
     ensures small { IfSome result (λ height. height < 16) }
 {
     match plain_height(expr) {
-        Some(height) => {
-            if 16 <= height {
-                None
-            } else {
-                Some(height)
-            }
-        }
+        Some(height) => { if 16 <= height { None } else { Some(height) } }
         None => None,
     }
 }
