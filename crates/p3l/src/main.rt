@@ -93,47 +93,37 @@ fn run(rt: &HostRuntime, words: &[&str]) -> Result<Status, NoMemory> {
     let status = top(alloc, words, &mut files, &mut input, &mut out, &mut err);
     let status = finish(rt, &output, status);
     if status.0 != 0 && wants_long(rt, is_terminal) {
-        let said = Said {
-            words,
-            status,
-            line: err.sink().heard(),
-            has_lost_output: output.flush().is_err(),
-        };
+        let style = style_of(rt, is_terminal);
+        let has_lost_output = output.flush().is_err();
+        let line = err.sink().heard();
         // a message that memory runs out for is left out, and changes no status
-        let _ = explain(rt, &said, style_of(rt, is_terminal), &files);
+        let _ = explain(rt, words, status, style, &files, line, has_lost_output);
     }
     Ok(status)
 }
 
-/// How the program has answered its words.
-#[derive(Drop)]
-struct Said<'a> {
-    words: &'a [&'a str],
-    status: Status,
-    /// The last line that `top` put.
-    line: &'a [u8],
-    /// Whether the standard output could not be written.
-    has_lost_output: bool,
-}
-
-/// Puts the message on an answer on the standard error. One that can't be made is left out.
+/// Puts the message on an answer on the standard error: on the last line that `top` put, and on
+/// whether the standard output could not be written. One that can't be made is left out.
 fn explain<F: Files>(
     rt: &HostRuntime,
-    said: &Said,
+    words: &[&str],
+    status: Status,
     style: Style,
     files: &KeptFiles<F>,
+    line: &[u8],
+    has_lost_output: bool,
 ) -> Result<(), NoMemory> {
-    let line = String::from_utf8_lossy(rt.alloc(), said.line)?;
+    let line = String::from_utf8_lossy(rt.alloc(), line)?;
     let failure = match files.failed() {
         Some(name) => Some(failure_of(rt, name)?),
         None => None,
     };
     let answer = Answer {
-        words: said.words,
-        status: said.status,
+        words,
+        status,
         line: line.as_str(),
         failure,
-        has_lost_output: said.has_lost_output,
+        has_lost_output,
         style,
     };
     let text = message_on(rt.alloc(), &answer, files)?;
