@@ -6,7 +6,6 @@ pub mod Objects
 pub mod Expressions
 pub mod Temps
 pub mod Statements
-pub mod Texts
 pub mod Meant
 pub mod Fitting
 pub mod Checked

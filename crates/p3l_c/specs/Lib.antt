@@ -5,5 +5,4 @@ pub mod Translate
 pub mod Nesting
 pub mod Temps
 pub mod Condition
-pub mod Text
 pub mod Checked

@@ -5,7 +5,6 @@ ghost use Rattle.p3l_c.specs.Condition.{CMeans};
 ghost use Rattle.p3l_c.specs.Nesting.{LinesAreFlat};
 ghost use Rattle.p3l_c.specs.Temps.{TempsAreDeclared};
 ghost use Rattle.p3l_c.specs.Checked.{CheckedWrites};
-ghost use Rattle.p3l_c.specs.Text.{LinesStand, FrontsStand};
 
 /// A law of C functions: on all words, the function of a body has no undefined behaviour, ends, and
 /// gives the meaning of the body.
@@ -26,15 +25,4 @@ pub fn lines_are_flat()
 /// A law of checked bodies: each can be written as C.
 pub fn checked_writes()
     ensures { CheckedWrites }
-{}
-
-/// A law of texts: the lines of statements before other lines are written as the lines of the
-/// statements, and then the others.
-pub fn lines_stand()
-    ensures { LinesStand }
-{}
-
-/// The same of the lines before the use of an expression.
-pub fn fronts_stand()
-    ensures { FrontsStand }
 {}

@@ -6,7 +6,8 @@ use Rattle.p3l_ast.specs.Tree as tree
 use Rattle.p3l_ast.specs.Tree.{Phrase, read, unary, binary, Phrases, none, more, Statements, assign, if_, if_else, while_, for_}
 use Rattle.p3l_c.specs.Syntax.{Signed, Lines, done, keep, write, stop_if, turn, choose, forever}
 use Rattle.p3l_c.specs.Translate.{Shapes, sizes_at, test_of, next, next_all, spots, first_temp, around, guards, value, before, before_all, first_size, other_sizes, index_guard, assign_lines, turn_lines, lines, is_deep, is_steady, kept_value, kept_lines, after_operand}
-use Rattle.p3l_c.specs.Text.{lines_text, LinesStand, FrontsStand}
+use Rattle.p3l_c_print.specs.Name.{Names}
+use Rattle.p3l_c_print.specs.Text.{lines_text}
 
 -- one list of lines after another
 abbrev pub follow : Lines → Lines → Lines
@@ -18,15 +19,15 @@ follow (turn c) d = turn (follow c d)
 follow (choose t a b c) d = choose t a b (follow c d)
 follow (forever a t b c) d = forever a t b (follow c d)
 
-pub text_follow : (margin : List ℕ) (c d : Lines) → lines_text margin (follow c d) ≡ lines_text margin c ++ lines_text margin d
+pub text_follow : (names : Names) (margin : List ℕ) (c d : Lines) → lines_text names margin (follow c d) ≡ lines_text names margin c ++ lines_text names margin d
 unfolding lines_text
-text_follow margin done d = refl
-text_follow margin (keep k e c) d = let h = text_follow margin c d in rw h (simp append_assoc)
-text_follow margin (write x ks e c) d = let h = text_follow margin c d in rw h (simp append_assoc)
-text_follow margin (stop_if t trap c) d = let h = text_follow margin c d in rw h (simp append_assoc)
-text_follow margin (turn c) d = let h = text_follow margin c d in rw h (simp append_assoc)
-text_follow margin (choose t a b c) d = let h = text_follow margin c d in rw h (simp append_assoc)
-text_follow margin (forever a t b c) d = let h = text_follow margin c d in rw h (simp append_assoc)
+text_follow names margin done d = refl
+text_follow names margin (keep k e c) d = let h = text_follow names margin c d in rw h (simp append_assoc)
+text_follow names margin (write x ks e c) d = let h = text_follow names margin c d in rw h (simp append_assoc)
+text_follow names margin (stop_if t trap c) d = let h = text_follow names margin c d in rw h (simp append_assoc)
+text_follow names margin (turn c) d = let h = text_follow names margin c d in rw h (simp append_assoc)
+text_follow names margin (choose t a b c) d = let h = text_follow names margin c d in rw h (simp append_assoc)
+text_follow names margin (forever a t b c) d = let h = text_follow names margin c d in rw h (simp append_assoc)
 
 -- lines before others are those before none, and then the others
 abbrev pub Fronts : (Lines → Lines) → Type 0
@@ -82,7 +83,7 @@ mutual
       fronts_then (before shapes n e) (λ rest. keep (next n e) (value n e) (index_guard (next n e) (first_size sizes) (before_all shapes (next n e + 1) (other_sizes sizes) is rest))) (before_front shapes n e)
       (λ rest. ap (λ c. keep (next n e) (value n e) (index_guard (next n e) (first_size sizes) c)) (before_all_front shapes (next n e + 1) (other_sizes sizes) is rest))
 
-assign_front : (shapes : Shapes) (x : List ℕ) (is : Phrases) (e : Phrase) → Fronts (assign_lines shapes x is e)
+pub assign_front : (shapes : Shapes) (x : List ℕ) (is : Phrases) (e : Phrase) → Fronts (assign_lines shapes x is e)
 assign_front shapes x is e =
     fronts_then (before_all shapes 0 (sizes_at shapes x) is) (λ rest. before shapes (next_all 0 is) e (write x (spots 0 is) (value (next_all 0 is) e) rest)) (before_all_front shapes 0 (sizes_at shapes x) is)
     (fronts_then (before shapes (next_all 0 is) e) (write x (spots 0 is) (value (next_all 0 is) e)) (before_front shapes (next_all 0 is) e) (λ rest. refl))
@@ -100,11 +101,5 @@ lines_front shapes budget (for_ x is e w y js f body after) =
     fronts_then (assign_lines shapes x.name is e) (λ rest. forever (before shapes 0 w done) (test_of (value 0 w)) (turn_lines budget (lines shapes budget body (assign_lines shapes y.name js f done))) (lines shapes budget after rest)) (assign_front shapes x.name is e) (λ rest. ap (forever (before shapes 0 w done) (test_of (value 0 w)) (turn_lines budget (lines shapes budget body (assign_lines shapes y.name js f done)))) (lines_front shapes budget after rest))
 
 -- the texts, one after the other
-pub front_text : (margin : List ℕ) (front : Lines → Lines) (rest : Lines) → Fronts front → lines_text margin (front rest) ≡ lines_text margin (front done) ++ lines_text margin rest
-front_text margin front rest p = ap (lines_text margin) (p rest) ∙ text_follow margin (front done) rest
-
-pub lines_stand : LinesStand
-lines_stand margin shapes budget c rest = front_text margin (lines shapes budget c) rest (lines_front shapes budget c)
-
-pub fronts_stand : FrontsStand
-fronts_stand margin shapes n e rest = front_text margin (before shapes n e) rest (before_front shapes n e)
+pub front_text_then : (names : Names) (margin : List ℕ) (front : Lines → Lines) (rest : Lines) → Fronts front → lines_text names margin (front rest) ≡ lines_text names margin (front done) ++ lines_text names margin rest
+front_text_then names margin front rest p = ap (lines_text names margin) (p rest) ∙ text_follow names margin (front done) rest

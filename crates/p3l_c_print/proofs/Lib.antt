@@ -1,0 +1,10 @@
+pub mod Follow
+pub mod Values
+pub mod Fronts
+pub mod Blocks
+pub mod Heights
+pub mod Joined
+pub mod Expressions
+pub mod Indices
+pub mod Lines
+pub mod Places

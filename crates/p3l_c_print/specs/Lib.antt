@@ -1,0 +1,6 @@
+pub mod Name
+pub mod Line
+pub mod Text
+pub mod Plain
+pub mod Value
+pub mod Function

@@ -1,0 +1,11 @@
+//! The C11 function of a checked body, as a text.
+#![tactic(auto)]
+
+pub mod count;
+pub mod guard;
+pub mod line;
+pub mod names;
+pub mod operator;
+pub mod plain;
+pub mod text;
+pub mod value;
