@@ -5,7 +5,7 @@ use p3l_messages::{Failure, Style};
 use std::io::ErrorKind;
 use std::{env, fs};
 
-/// Whether the standard error is a terminal: its link leads to the device of one.
+/// Returns true exactly if the standard error is a terminal: its link leads to the device of one.
 pub fn is_terminal(rt: &HostRuntime) -> bool {
     match fs::read_link(rt, "/proc/self/fd/2") {
         Ok(path) => {
@@ -16,7 +16,8 @@ pub fn is_terminal(rt: &HostRuntime) -> bool {
     }
 }
 
-/// Whether messages are long: as the variable `P3L_MESSAGES` says, or else at a terminal.
+/// Returns true exactly if messages are long: as the variable `P3L_MESSAGES` says, or else at a
+/// terminal.
 pub fn wants_long(rt: &HostRuntime, is_terminal: bool) -> bool {
     match env::var(rt, "P3L_MESSAGES") {
         Ok(value) if value.as_str() == "long" => true,

@@ -5,7 +5,8 @@ use Rattle.std.specs.List.{flat_map}
 use Rattle.p3l_skel.specs.declared.tree.Form.{Form}
 use Rattle.p3l_skel.specs.declared.tree.Form.TheVariants.{Seq, Comp, Pipe, Farm, Map, Reduce, Loop}
 use Rattle.p3l_skel.specs.declared.tree.Tree.{Tree}
-use Rattle.p3l_skel.specs.Counts.{most_workers, outside_parts}
+use Rattle.p3l_base.specs.Limits.{most_workers}
+use Rattle.p3l_skel.specs.Counts.{outside_parts}
 use Rattle.p3l_skel.specs.Numbers.{procs}
 use Rattle.p3l_skel.specs.Tree.{node_at}
 use Rattle.p3l_cost.specs.declared.costs.Costs.{Costs}

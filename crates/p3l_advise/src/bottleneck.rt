@@ -168,7 +168,7 @@ pub fn term_of(tree: &Tree, costs: &Costs, number: u32, node: &Node, time: u128,
     }
 }
 
-/// Whether a node of this form is a stage of its own, as all but pipes are.
+/// Returns true exactly if a node of this form is a stage of its own, as all but pipes are.
 pub fn is_stage(form: &Form) -> bool
     ensures { result ≡ is_stage form.now }
 {

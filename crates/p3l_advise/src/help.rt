@@ -3,8 +3,9 @@
 ghost use Rattle.std.specs.Prelude.{◌≡◌, ◌<◌, ◌≤◌, ◌++◌, ◌*◌, ◌+◌, ◌/◌, ℕ, length, max, min, slice_index, string_bytes};
 ghost use Rattle.std.specs.Int.{div_ceil};
 ghost use Rattle.std.specs.List.{Contains, flat_map};
+ghost use Rattle.p3l_base.specs.Limits.{most_workers};
 ghost use Rattle.p3l_base.specs.Memory.{OnGiven};
-ghost use Rattle.p3l_skel.specs.Counts.{HasLawfulCounts, most_workers, outside, outside_from, outside_parts};
+ghost use Rattle.p3l_skel.specs.Counts.{HasLawfulCounts, outside, outside_from, outside_parts};
 ghost use Rattle.p3l_skel.specs.Lawful.{IsLawfulTree};
 ghost use Rattle.p3l_skel.specs.Tree.{node_at};
 ghost use Rattle.p3l_cost.specs.Costs.{AreCostsOf};

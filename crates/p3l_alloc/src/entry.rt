@@ -128,7 +128,7 @@ pub fn power_of_two(level: u32) -> u32
     1 << level
 }
 
-/// Whether a reduce may have these segments within these processes.
+/// Returns true exactly if a reduce may have these segments within these processes.
 pub fn can_segment(span: Span, segments: u32, processes: u32) -> bool
     ensures { IsTrue result
         ↔ ((span.low ≤ segments) × (segments ≤ span.high) × (joined_procs segments ≤ processes)) }

@@ -48,7 +48,7 @@ fn trap_code(trap: TrapKind, home: u32) -> u64
     trap_number(trap) + 8 * (home as u64)
 }
 
-/// What went wrong at a trap, for a reader of the text.
+/// Returns what went wrong at a trap, for a reader of the text.
 #[tactic(auto, unfolding(crate::specs::Line::trap_reason))]
 fn trap_reason(trap: TrapKind) -> &'static str
     ensures { result.now ≡ trap_reason trap }

@@ -62,7 +62,7 @@ fn steady_height(expr: &Expr) -> Option<u32>
     }
 }
 
-/// Whether no lines stand before the use of an operand.
+/// Returns true exactly if no lines stand before the use of an operand.
 #[tactic(auto, using(crate::proofs::Heights::steady_is))]
 fn is_steady(expr: &Expr) -> bool
     ensures { result ≡ is_steady (phrase expr.now) }
@@ -70,7 +70,7 @@ fn is_steady(expr: &Expr) -> bool
     steady_height(expr).is_some()
 }
 
-/// Whether an operator has a temp of its own.
+/// Returns true exactly if an operator has a temp of its own.
 pub fn has_own_temp(op: BinOp, right: &Expr) -> bool
     ensures { result ≡ own_temp op (is_steady (phrase right.now)) }
 {

@@ -182,7 +182,7 @@ pub(crate) fn check_sizes(
     Ok(())
 }
 
-/// Which free index a name is.
+/// Returns which free index a name is.
 fn place_named(indices: &[Index], name: &Name) -> Place
     ensures { result ≡ place_named indices.now name.now }
 {

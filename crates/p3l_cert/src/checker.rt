@@ -22,7 +22,8 @@ use p3l_skel::Tree;
 use p3l_skel::counts::lawful_counts;
 use std::alloc::Global;
 
-// Whether lawful counts have the service time and the processes that are said of them, and fit.
+// Tells whether lawful counts have the service time and the processes that are said of them, and
+// fit.
 fn check_claims(tree: &Tree, costs: &Costs, cert: &Cert) -> Result<(), CertRefusal>
     requires tree { IsLawfulTree tree.now }
     requires costs { AreCostsOf tree.now costs.now }
@@ -41,7 +42,7 @@ fn check_claims(tree: &Tree, costs: &Costs, cert: &Cert) -> Result<(), CertRefus
     Ok(())
 }
 
-// Whether the rule of the row of this number finds its least.
+// Tells whether the rule of the row of this number finds its least.
 fn check_row(
     tree: &Tree,
     costs: &Costs,
@@ -77,7 +78,7 @@ fn check_row(
     }
 }
 
-// Whether each row follows by its rule.
+// Tells whether each row follows by its rule.
 fn check_rows(
     tree: &Tree,
     costs: &Costs,
@@ -121,7 +122,7 @@ fn root_least(rows: &[Row], bound: u128, cap: u32) -> Result<u32, CertRefusal>
     }
 }
 
-// Whether a row of the root keeps a number.
+// Tells whether a row of the root keeps a number.
 fn check_least(kept: u32, least: u32) -> Result<(), CertRefusal>
     ensures { Answers result (least_fault (Some kept) least) }
 {
@@ -131,7 +132,7 @@ fn check_least(kept: u32, least: u32) -> Result<(), CertRefusal>
     Err(CertRefusal::ClaimWrong(Claim::Least))
 }
 
-// Whether the rows of the root are there, and say that no counts are better.
+// Tells whether the rows of the root are there, and say that no counts are better.
 fn check_top(cert: &Cert) -> Result<(), CertRefusal>
     requires rows { AreRows cert.now.rows }
     requires processors { cert.now.processors ≤ most_processors }
@@ -147,7 +148,7 @@ fn check_top(cert: &Cert) -> Result<(), CertRefusal>
     check_least(before, cert.processors + 1)
 }
 
-// Whether a certificate of lawful counts holds.
+// Tells whether a certificate of lawful counts holds.
 #[tactic(auto, unfolding(crate::specs::Checker::cert_fault))]
 fn check_lawful(alloc: Global, tree: &Tree, costs: &Costs, cert: &Cert) -> Result<(), CertRefusal>
     requires tree { IsLawfulTree tree.now }
@@ -163,9 +164,9 @@ fn check_lawful(alloc: Global, tree: &Tree, costs: &Costs, cert: &Cert) -> Resul
     check_top(cert)
 }
 
-/// Whether a certificate holds, whoever wrote it: its counts are lawful, and come to what it says of
-/// them; each of its rows follows by its rule from its rows; and the rows of the root say that its
-/// counts are optimal. Else the first of these tests that fails, in this order.
+/// Tells whether a certificate holds, whoever wrote it: its counts are lawful, and come to what it
+/// says of them; each of its rows follows by its rule from its rows; and the rows of the root say
+/// that its counts are optimal. Else the first of these tests that fails, in this order.
 pub fn check(alloc: Global, tree: &Tree, costs: &Costs, cert: &Cert) -> Result<(), CertRefusal>
     requires tree { IsLawfulTree tree.now }
     requires costs { AreCostsOf tree.now costs.now }

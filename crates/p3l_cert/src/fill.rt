@@ -19,7 +19,7 @@ use p3l_model::NodeCost;
 use p3l_skel::Tree;
 use std::alloc::Global;
 
-// Whether a key is another than that of the last row.
+// Returns true exactly if a key is another than that of the last row.
 fn is_next(rows: &[Row], key: Key) -> bool
     ensures { result ≡ is_next rows.now key }
 {

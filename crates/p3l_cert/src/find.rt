@@ -8,14 +8,14 @@ ghost use Rattle.p3l_cert.specs.Rows.{AreRows};
 
 use crate::cert::{Key, Row};
 
-// Whether a row is that of a key.
+// Returns true exactly if a row is that of a key.
 fn is_key(row: &Row, key: Key) -> bool
     ensures { result ≡ is_key row.now key }
 {
     row.node == key.node && row.bound == key.bound && row.cap == key.cap
 }
 
-/// Whether a row comes before that of a key.
+/// Returns true exactly if a row comes before that of a key.
 pub fn is_below(row: &Row, key: Key) -> bool
     ensures { result ≡ is_below row.now key }
 {

@@ -57,7 +57,7 @@ impl Item for CountItem {
     }
 }
 
-/// Whether a row comes before another: by node, bound and cap.
+/// Returns true exactly if a row comes before another: by node, bound and cap.
 pub fn comes_before(first: Row, second: Row) -> bool
     ensures { result ≡ comes_before first second }
 {
@@ -66,7 +66,7 @@ pub fn comes_before(first: Row, second: Row) -> bool
             && (first.bound < second.bound || first.bound == second.bound && first.cap < second.cap)
 }
 
-// Whether a row may come after another, if there is one.
+// Returns true exactly if a row may come after another, if there is one.
 fn is_above(above: Option<Row>, row: Row) -> bool
     ensures { result ≡ is_above above row }
 {

@@ -172,7 +172,7 @@ pub fn read_cert(alloc: Global, text: &[u8]) -> Result<Cert, CertRefusal>
         → text.now ≡ cert_format.spell cert → Answers text.now result (Ok cert) }
     // The line that is reported is the first that isn't of its form, whatever reads it.
     ensures first { ReportsFirst text.now result }
-    // Which line the format's own reading reports.
+    // The line that the format's own reading reports.
     ensures exact { Answers text.now result (read_all cert_format text.now) }
 {
     match p3l_format::decode(&CertField { alloc }, alloc, text) {

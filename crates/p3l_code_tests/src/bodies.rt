@@ -55,7 +55,7 @@ pub fn compiled(alloc: Global, text: &str) -> Result<Option<SafeCode>, NoMemory>
     first_compiled(alloc, text, &program)
 }
 
-/// What the first module of a text makes of words, in registers.
+/// Returns what the first module of a text makes of words, in registers.
 fn outcome(alloc: Global, text: &str, words: &Words) -> Result<Option<Outcome>, NoMemory> {
     let Some(safe) = compiled(alloc, text)? else {
         return Ok(None);

@@ -26,7 +26,8 @@ pub fn code(
     })
 }
 
-/// What a code makes of words; nothing where it is not safe, or takes another number of words.
+/// Returns what a code makes of words; nothing where it is not safe, or takes another number of
+/// words.
 pub fn outcome(alloc: Global, code: Code, words: &[i64]) -> Result<Option<Outcome>, NoMemory> {
     let words = Words::from_vec(words.to_vec(alloc)?);
     let Some(safe) = verify(alloc, code)? else {
@@ -38,7 +39,7 @@ pub fn outcome(alloc: Global, code: Code, words: &[i64]) -> Result<Option<Outcom
     Ok(Some(run_code(alloc, &safe, HOME, &words)?))
 }
 
-/// Whether an outcome is the words, or the trap of the codes' module.
+/// Returns true exactly if an outcome is the words, or the trap of the codes' module.
 pub fn is_outcome(outcome: &Option<Outcome>, expected: Result<&[i64], TrapKind>) -> bool {
     match (outcome, expected) {
         (Some(Outcome::Value(words)), Ok(expected)) => words.as_slice() == expected,

@@ -11,7 +11,7 @@ const LOOP: &str = "seq main in(int n) out(int y) ${
     for (i = 0; i < n; i = i + 1) { y = y + i; }
 }$ end seq";
 
-/// Whether one of these operations adds, compares and goes back at once.
+/// Returns true exactly if one of these operations adds, compares and goes back at once.
 fn has_count(quicks: &[Quick]) -> bool {
     for quick in quicks {
         if matches!(quick, Quick::CountTo(..)) {

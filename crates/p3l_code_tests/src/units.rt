@@ -32,8 +32,8 @@ fn comp_ins(tree: &Tree) -> Option<u32>
     }
 }
 
-/// What the root of a tree makes of words; nothing where it is no comp, or takes
-/// another number of them.
+/// Returns what the root of a tree makes of words; nothing where it is no comp, or takes another
+/// number of them.
 fn root_outcome(
     alloc: Global,
     units: &UnitTable<'_>,
@@ -48,7 +48,7 @@ fn root_outcome(
     Ok(Some(units.run(alloc, 0, words)?))
 }
 
-/// What the root of a program makes of words; nothing where the program breaks a rule.
+/// Returns what the root of a program makes of words; nothing where the program breaks a rule.
 fn program_outcome(
     alloc: Global,
     text: &str,
@@ -65,7 +65,7 @@ fn program_outcome(
     root_outcome(alloc, &units, words)
 }
 
-/// What the root of a text's program makes of words.
+/// Returns what the root of a text's program makes of words.
 fn outcome(alloc: Global, text: &str, words: &Words) -> Result<Option<Outcome>, NoMemory> {
     let Ok(program) = read(alloc, text.as_bytes()) else {
         return Ok(None);

@@ -1,4 +1,4 @@
-// Whether costs are costs of a tree.
+// True if costs are costs of a tree.
 
 ghost use Rattle.std.specs.Prelude.{◌≡◌, ◌≤◌, ◌↔◌, IsTrue, slice_index};
 ghost use Rattle.std.specs.List.{All};
@@ -10,8 +10,8 @@ use crate::costs::Costs;
 use p3l_base::limits::MOST_COST;
 use p3l_skel::{Form, Node, Tree};
 
-/// Whether there is a number for each module of a tree, all within the greatest, and no loop is
-/// expected to turn more often than it may.
+/// Returns true exactly if there is a number for each module of a tree, all within the greatest,
+/// and no loop is expected to turn more often than it may.
 pub fn lawful_costs(tree: &Tree, costs: &Costs) -> bool
     ensures { IsTrue result ↔ AreCostsOf tree.now costs.now }
 {
@@ -24,21 +24,21 @@ pub fn lawful_costs(tree: &Tree, costs: &Costs) -> bool
         && turn_within(tree, costs)
 }
 
-/// Whether no number is past the greatest.
+/// Returns true exactly if no number is past the greatest.
 fn are_few(numbers: &[u32]) -> bool
     ensures { IsTrue result ↔ All (λ n. n ≤ most_cost) numbers.now }
 {
     numbers.iter().all(|n| *n <= MOST_COST)
 }
 
-/// Whether all numbers are expected turns of a loop.
+/// Returns true exactly if all numbers are expected turns of a loop.
 fn are_turns(numbers: &[u32]) -> bool
     ensures { IsTrue result ↔ All IsTurns numbers.now }
 {
     numbers.iter().all(|n| 1 <= *n && *n <= MOST_COST)
 }
 
-/// Whether each loop of a tree is expected to turn no more often than it may.
+/// Returns true exactly if each loop of a tree is expected to turn no more often than it may.
 fn turn_within(tree: &Tree, costs: &Costs) -> bool
     ensures { IsTrue result
         ↔ All (λ (node : Node). IsWithinTurns node.form (slice_index costs.now.turns node.module))
@@ -50,7 +50,7 @@ fn turn_within(tree: &Tree, costs: &Costs) -> bool
         .all(|node| turns_within(costs, node))
 }
 
-/// Whether a node, if it is a loop, is expected to turn no more often than it may.
+/// Returns true exactly if a node, if it is a loop, is expected to turn no more often than it may.
 fn turns_within(costs: &Costs, node: &Node) -> bool
     ensures { IsTrue result
         ↔ IsWithinTurns node.now.form (slice_index costs.now.turns node.now.module) }

@@ -67,7 +67,7 @@ fn entry_in(document: &Table, section: Section, most: u32, name: &Name) -> Optio
     }
 }
 
-/// Whether some node is of a module.
+/// Returns true exactly if some node is of a module.
 fn is_used(nodes: &[Node], home: u32) -> bool
     ensures { result ≡ is_used nodes.now home }
 {

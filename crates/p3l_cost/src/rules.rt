@@ -41,7 +41,7 @@ fn entry_key(alloc: Global, section: Section, name: &str) -> Result<Name, NoMemo
     Name::from_text(alloc, text.as_str())
 }
 
-/// Whether an entry names a module that its table speaks of, with a number in range.
+/// Tells whether an entry names a module that its table speaks of, with a number in range.
 fn check_entry(
     alloc: Global,
     section: Section,
@@ -62,7 +62,7 @@ fn check_entry(
     }
 }
 
-/// Whether the entries of a table keep the rules.
+/// Tells whether the entries of a table keep the rules.
 fn check_entries(
     alloc: Global,
     section: Section,
@@ -78,7 +78,7 @@ fn check_entries(
     Ok(())
 }
 
-/// Whether a value is a table whose entries keep the rules.
+/// Tells whether a value is a table whose entries keep the rules.
 fn check_section(
     alloc: Global,
     section: Section,
@@ -97,14 +97,14 @@ fn check_section(
     }
 }
 
-/// Whether a key is that of a number.
+/// Returns true exactly if a key is that of a number.
 fn is_number_key(key: &str) -> bool
     ensures { result ≡ is_number_key key.now }
 {
     key == "setup" || key == "word" || key == "default"
 }
 
-/// Whether a value is a number of the cost model.
+/// Tells whether a value is a number of the cost model.
 fn check_number(alloc: Global, key: &str, value: &Value) -> Result<(), CostRefusal>
     ensures { Gives result (found key.now (whole_in 0 most_cost (view value.now))) }
 {
@@ -114,7 +114,7 @@ fn check_number(alloc: Global, key: &str, value: &Value) -> Result<(), CostRefus
     }
 }
 
-/// Whether a key of the document is known, and its value keeps the rules.
+/// Tells whether a key of the document is known, and its value keeps the rules.
 fn check_key(alloc: Global, key: &str, value: &Value, tree: &Tree) -> Result<(), CostRefusal>
     requires few { length tree.now.modules < 2 ^ 32 }
     ensures { Gives result (key_rule tree.now key.now (view value.now)) }
@@ -130,8 +130,8 @@ fn check_key(alloc: Global, key: &str, value: &Value, tree: &Tree) -> Result<(),
     }
 }
 
-/// Whether all keys of the document keep the rules; the first in the order of bytes that doesn't
-/// is reported.
+/// Tells whether all keys of the document keep the rules; the first in the order of bytes that
+/// doesn't is reported.
 pub(crate) fn check_keys(alloc: Global, document: &Table, tree: &Tree) -> Result<(), CostRefusal>
     requires few { length tree.now.modules < 2 ^ 32 }
     ensures { Gives result (keys_rule tree.now (table_view document.now)) }

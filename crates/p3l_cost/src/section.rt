@@ -35,7 +35,7 @@ impl Section {
         }
     }
 
-    /// Whether it speaks of the modules of this skeleton.
+    /// Returns true exactly if it speaks of the modules of this skeleton.
     pub(crate) fn speaks_of(self, kind: ModuleKind) -> bool
         ensures { result ≡ speaks_of self kind }
     {

@@ -29,7 +29,7 @@ fn chosen(
     Ok(choose(alloc, &tree, &costs, processors))
 }
 
-// Whether a choice is the best of all.
+// Returns true exactly if a choice is the best of all.
 fn is_best(choice: &Choice, best: Tried, workers: &[u32]) -> bool {
     choice.service == best.service as u128
         && choice.used as u64 == best.used
@@ -44,7 +44,7 @@ fn is_best(choice: &Choice, best: Tried, workers: &[u32]) -> bool {
             .all(|(count, worker)| *count == *worker)
 }
 
-// Whether a choice, or that there is none, is what trying comes to.
+// Tells whether a choice, or that there is none, is what trying comes to.
 fn agrees(
     alloc: Global,
     rows: &[Row],

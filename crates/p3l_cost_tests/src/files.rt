@@ -59,7 +59,7 @@ fn refused(alloc: Global, refusal: &CostRefusal) -> Result<String, AllocError> {
     format!(in alloc; "{number}{key}")
 }
 
-/// What is read of a text, as the tables write it.
+/// Returns what is read of a text, as the tables write it.
 pub fn answer(rt: &impl Abort, alloc: Global, text: &[u8]) -> Result<String, Fail> {
     let tree = tree_named(alloc, &NODES, &MODULES)?;
     assert!(rt; lawful_tree(&tree));

@@ -45,7 +45,7 @@ struct Done {
     numbers: Numbers,
 }
 
-// Whether the parts have another one after them.
+// Tells whether the parts have another one after them.
 fn with_part(parts: Option<Parts>, part: Numbers) -> Parts {
     match parts {
         None => Parts {
@@ -259,7 +259,8 @@ impl Span {
         self.high.saturating_sub(self.low).saturating_add(1)
     }
 
-    // Whether a number in the span is lawful: segments are as many as a power of two.
+    // Returns true exactly if a number in the span is lawful: segments are as many as a power of
+    // two.
     fn allows(self, count: u32) -> bool {
         !self.segments || count == 1 || count == 2 || count == 4 || count == 8
     }
@@ -286,7 +287,7 @@ fn list_at(alloc: Global, spans: &[Span], number: u32) -> Result<Vec<u32>, NoMem
     Ok(list)
 }
 
-// Whether each number of a list is lawful.
+// Returns true exactly if each number of a list is lawful.
 fn are_lawful(spans: &[Span], list: &[u32]) -> bool {
     spans
         .iter()
@@ -294,7 +295,7 @@ fn are_lawful(spans: &[Span], list: &[u32]) -> bool {
         .all(|(span, count)| span.allows(*count))
 }
 
-// What the root comes to with a list of numbers, from the last row to the first.
+// Returns what the root comes to with a list of numbers, from the last row to the first.
 fn root_of(alloc: Global, rows: &[Row], tokens: Tokens, list: &[u32]) -> Result<Numbers, NoMemory> {
     let mut done = Vec::new(alloc);
     let mut root = NOTHING;
@@ -358,7 +359,7 @@ pub fn fewest(tried: &[Tried]) -> u64 {
     fewest
 }
 
-// Whether one comes before the best of those before it.
+// Returns true exactly if one comes before the best of those before it.
 fn is_better(one: Tried, best: Option<Tried>) -> bool {
     match best {
         None => true,

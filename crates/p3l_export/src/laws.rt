@@ -1,4 +1,4 @@
-// What holds of every exported program.
+// Laws of every exported program.
 
 ghost use Rattle.p3l_export.specs.Laws.{EveryCapacityIsInRange, EveryExportedNetIsTyped};
 

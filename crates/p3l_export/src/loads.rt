@@ -9,9 +9,9 @@ use crate::rates::{capped, elements_of, expected_turns, rates};
 use p3l_base::NoMemory;
 use p3l_cost::Costs;
 use p3l_firing::{Net, Proc, ProcKind};
+use p3l_model::ticks::transfer;
 use p3l_skel::{Counts, Tree};
 use p3l_timed::price::price;
-use p3l_timed::ticks::transfer;
 use std::alloc::Global;
 
 /// The price of a process, as far as it counts.

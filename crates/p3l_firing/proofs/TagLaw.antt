@@ -1,9 +1,10 @@
 -- Tags are kept from the oldest to the newest, and seen from the newest on.
-use Rattle.std.proofs.Common.{◌≡◌, ℕ, ◌+◌, ◌-◌, ◌<◌, ◌≤◌, List, [], ◌∷◌, ◌++◌, length, reverse, get_or, Option, Some, None, slice_get, zero, suc, refl, sym, ap, ◌∙◌, arith}
+use Rattle.std.proofs.Common.{◌≡◌, ℕ, ◌+◌, ◌-◌, ◌<◌, ◌≤◌, true, List, [], ◌∷◌, ◌++◌, length, reverse, get_or, Option, Some, None, slice_get, zero, suc, refl, sym, ap, ◌∙◌, arith, eq-eqb}
 use Rattle.std.specs.Option.{option_to_list}
 use Rattle.std.proofs.Math.Numerals.{add-one}
+use Rattle.std.proofs.lemmas.Bool.{and_from}
 use Rattle.std.proofs.lemmas.List.{get_or-reverse, reverse-append, append-nil}
-use Rattle.p3l_firing.specs.Token.{first_tag, later_tags, next_tag}
+use Rattle.p3l_firing.specs.Token.{first_tag, later_tags, next_tag, same_tags}
 
 first_is : (tags : List ℕ) → first_tag tags ≡ get_or tags 0 0
 unfolding first_tag
@@ -74,3 +75,9 @@ popped_none old new popped e is none = sym (append-nil new) ∙ sym (e ∙ ap (�
     empty : (xs : List ℕ) → slice_get xs (length xs - 1) ≡ None → xs ≡ []
     empty [] h = refl
     empty (x ∷ xs) h = let there : length (x ∷ xs) ≤ length (x ∷ xs) - 1 = slice_get_none (x ∷ xs) (length (x ∷ xs) - 1) h in absurd (omega (arith, there))
+
+-- tags are the same as themselves
+pub same_tags-refl : (tags : List ℕ) → same_tags tags tags ≡ true
+unfolding same_tags
+same_tags-refl [] = refl
+same_tags-refl (tag ∷ tags) = and_from _ _ (eq-eqb tag tag refl) (same_tags-refl tags)

@@ -1,5 +1,5 @@
 -- Tokens and outcomes.
-use Rattle.std.specs.Prelude.{ℕ, suc, List, [], ◌∷◌, Bool, true, false}
+use Rattle.std.specs.Prelude.{ℕ, suc, List, [], ◌∷◌, Bool, true, false, ◌&&◌, nat_eq}
 use Rattle.p3l_base.specs.declared.outcome.Outcome.{Outcome}
 use Rattle.p3l_base.specs.declared.outcome.Outcome.TheVariants.{Value, Trapped}
 use Rattle.p3l_firing.specs.declared.token.Token.{Token}
@@ -38,6 +38,13 @@ later_tags (tag ∷ tags) = tags
 unfoldable pub next_tag : List ℕ → List ℕ
 next_tag [] = []
 next_tag (tag ∷ tags) = suc tag ∷ tags
+
+-- whether these are the same tags
+unfoldable pub same_tags : List ℕ → List ℕ → Bool
+same_tags [] [] = true
+same_tags [] (other ∷ others) = false
+same_tags (tag ∷ tags) [] = false
+same_tags (tag ∷ tags) (other ∷ others) = nat_eq tag other && same_tags tags others
 
 -- the newest tag of a token: in a loop its turn, in a farm its number
 abbrev pub newest_tag : Token → ℕ

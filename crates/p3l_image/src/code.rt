@@ -79,7 +79,7 @@ impl Field for InstrField {
     }
 }
 
-// Which instruction it is.
+// Returns which instruction it is.
 fn kind_of(instr: Instr) -> InstrKind
     ensures { result ≡ kind_of instr }
 {

@@ -138,7 +138,7 @@ pub fn decode(alloc: Global, bytes: &[u8]) -> Result<Image, ImageRefusal>
     ensures again { IfOk result CanBeWritten }
     // The place of a refusal is that of the first field that isn't whole or is out of its range.
     ensures place { IsAtFirstFault bytes.now result }
-    // Which fault it is.
+    // The fault that it is.
     ensures exact { Answers bytes.now result (image_in bytes.now) }
 {
     match p3l_format::decode(&ImageField, alloc, bytes) {

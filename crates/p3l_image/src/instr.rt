@@ -1,6 +1,6 @@
 // The kinds of instructions.
 
-/// Which instruction it is, without its operands.
+/// The kind of an instruction, without its operands.
 #[derive(Clone, Copy, Debug, Drop, PartialEq, Eq)]
 pub enum InstrKind {
     Push,

@@ -48,14 +48,14 @@ fn changed(alloc: Global, changes: &[Change]) -> Result<Vec<u8>, Fail> {
     Ok(bytes)
 }
 
-// What loading gives of the image with these changes: nothing where it loads.
+// Returns what loading gives of the image with these changes: nothing where it loads.
 fn refusal(alloc: Global, changes: &[Change]) -> Result<Option<LoadRefusal>, Fail> {
     let bytes = changed(alloc, changes)?;
     let image = decode(alloc, &bytes).ok().ok_or("the bytes are an image")?;
     Ok(load(alloc, image).err())
 }
 
-// What migration gives of the image with these changes.
+// Returns what migration gives of the image with these changes.
 fn migrated(alloc: Global, changes: &[Change]) -> Result<Result<Image, LoadRefusal>, Fail> {
     let bytes = changed(alloc, changes)?;
     let image = decode(alloc, &bytes).ok().ok_or("the bytes are an image")?;

@@ -90,12 +90,12 @@ pub fn refusal(alloc: Global, bytes: &[u8]) -> Option<ImageRefusal> {
     decode(alloc, bytes).err()
 }
 
-// Whether bytes are reported to end in the field at a place.
+// Returns true exactly if bytes are reported to end in the field at a place.
 fn is_short(alloc: Global, bytes: &[u8], place: usize) -> bool {
     refusal(alloc, bytes) == Some(ImageRefusal::Short(place as u64))
 }
 
-// Whether the tree of an image is that of the fields.
+// Returns true exactly if the tree of an image is that of the fields.
 fn has_tree(image: &Image) -> bool {
     match (image.tree.modules.as_slice(), image.tree.nodes.as_slice()) {
         ([info], [node]) => info.kind == ModuleKind::Seq
@@ -108,7 +108,7 @@ fn has_tree(image: &Image) -> bool {
     }
 }
 
-// Whether the code of an image is that of the fields.
+// Returns true exactly if the code of an image is that of the fields.
 fn has_code(image: &Image) -> bool {
     match image.codes.as_slice() {
         [code] => (code.budget, code.ins, code.outs, code.memory) == (1_000_000, 1, 1, 2)
@@ -127,7 +127,7 @@ fn has_code(image: &Image) -> bool {
     }
 }
 
-// Whether a process is of this kind, and reads and writes these channels.
+// Returns true exactly if a process is of this kind, and reads and writes these channels.
 fn is_process(process: &Proc, kind: ProcKind, ins: &[u32], outs: &[u32]) -> bool {
     process.kind == kind
         && (process.node, process.arg) == (0, 0)
@@ -135,7 +135,7 @@ fn is_process(process: &Proc, kind: ProcKind, ins: &[u32], outs: &[u32]) -> bool
         && process.outs.as_slice() == outs
 }
 
-/// Whether the net of an image is that of the fields.
+/// Returns true exactly if the net of an image is that of the fields.
 pub fn has_net(image: &Image) -> bool {
     let chan = Chan { cap: 4, credits: 0 };
     match image.net.procs.as_slice() {

@@ -101,7 +101,7 @@ fn place(alloc: Global, bytes: &[u8]) -> Option<u64> {
     }
 }
 
-// Whether a token holds these words, without tags.
+// Returns true exactly if a token holds these words, without tags.
 fn has_words(saved: &Saved, words: &[i64]) -> bool {
     match saved.shot.chans.as_slice() {
         [full, empty] => match full.as_slice() {
@@ -117,7 +117,7 @@ fn has_words(saved: &Saved, words: &[i64]) -> bool {
     }
 }
 
-// Whether the one process holds this trap, with these tags.
+// Returns true exactly if the one process holds this trap, with these tags.
 fn holds(saved: &Saved, tags: &[u64], expected: Trap) -> bool {
     match saved.shot.owns.as_slice() {
         [own] => match own.held.as_slice() {

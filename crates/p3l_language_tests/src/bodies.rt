@@ -203,7 +203,7 @@ impl Maker {
         }
     }
 
-    /// Whether statements come to this end within a budget of turns.
+    /// Tells whether statements come to this end within a budget of turns.
     fn ends(&self, stmts: &[Stmt], budget: u32, end: End) -> Result<bool, NoMemory> {
         let valuation = self.start()?;
         if !has_sizes(&valuation) {

@@ -15,7 +15,7 @@ enum Wanted<'a> {
     Fault(Fault, u32, u32),
 }
 
-/// Whether a token is the wanted one.
+/// Returns true exactly if a token is the wanted one.
 fn is_wanted(token: &Token, wanted: &Wanted<'_>) -> bool {
     match (&token.lexeme, wanted) {
         (Lexeme::Word(name), Wanted::Name(text, line, col)) => {

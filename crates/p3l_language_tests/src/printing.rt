@@ -29,7 +29,8 @@ fn compare(rt: &impl Abort, alloc: Global, text: &str, canonical: &str) -> Resul
     Ok(())
 }
 
-/// Whether the program that a text spells, printed and read once more, has the same canonical text.
+/// Tells whether the program that a text spells, printed and read once more, has the same canonical
+/// text.
 fn is_read_again(alloc: Global, text: &[u8]) -> Result<bool, SourceRefusal> {
     let program = read(alloc, text)?;
     let canonical = print(alloc, &program)?;

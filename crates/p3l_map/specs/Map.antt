@@ -2,7 +2,7 @@
 use Rattle.std.specs.Prelude.{ℕ, zero, suc, ◌+◌, ◌-◌, ◌%◌, Bool, true, false, ◌&&◌, nat_eq, nat_lt, nat_le, List, [], ◌∷◌, ◌++◌, map, length}
 use Rattle.p3l_base.specs.declared.outcome.Outcome.{Outcome}
 use Rattle.p3l_firing.specs.Lists.{first_or}
-use Rattle.p3l_firing.specs.Token.{bodies, credit}
+use Rattle.p3l_firing.specs.Token.{bodies, credit, same_tags}
 use Rattle.p3l_firing.specs.declared.token.Token.{Token}
 use Rattle.p3l_map.specs.Places.{read_by, in_by, total, groups, left}
 
@@ -71,13 +71,6 @@ unfoldable pub scatter_ok : Pieces → List Token → ℕ → Bool
 scatter_ok q [] k = true
 scatter_ok q (x ∷ []) k = nat_lt k q.number
 scatter_ok q (x ∷ (y ∷ ys)) k = false
-
--- whether these are the same tags
-unfoldable pub same_tags : List ℕ → List ℕ → Bool
-same_tags [] [] = true
-same_tags [] (y ∷ ys) = false
-same_tags (x ∷ xs) [] = false
-same_tags (x ∷ xs) (y ∷ ys) = nat_eq x y && same_tags xs ys
 
 -- all these tokens have these tags
 unfoldable pub all_tagged : List ℕ → List Token → Bool

@@ -142,7 +142,7 @@ fn section_of(line: &str) -> Option<&str> {
     Some(name.trim())
 }
 
-/// Whether a line gives a value to a key, which may be in quotes.
+/// Returns true exactly if a line gives a value to a key, which may be in quotes.
 fn has_key(line: &str, key: &str) -> bool {
     match line.split_once("=") {
         Some((front, _)) => {

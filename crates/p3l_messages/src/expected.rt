@@ -119,9 +119,9 @@ fn put_candidates(
     Ok(())
 }
 
-/// Whether a program goes on with a token after a text that ends on this line: no refusal is then at
-/// the token's place. It stands on a line of its own, where it is no part of a word or of a comment
-/// of the text.
+/// Tells whether a program goes on with a token after a text that ends on this line: no refusal is
+/// then at the token's place. It stands on a line of its own, where it is no part of a word or of a
+/// comment of the text.
 fn goes_on(alloc: Global, before: &[u8], token: &str, row: u32) -> Result<bool, NoMemory>
     ensures { OnErr result Refused }
 {
@@ -160,7 +160,7 @@ fn put_end_before(
     Ok(())
 }
 
-/// Whether a text is that of a whole program.
+/// Tells whether a text is that of a whole program.
 fn is_program(alloc: Global, text: &[u8]) -> Result<bool, NoMemory>
     ensures { OnErr result Refused }
 {

@@ -50,12 +50,12 @@ pub(crate) fn item_in(line: &str) -> Option<&str> {
     Some(item)
 }
 
-/// Whether a word is made of digits.
+/// Returns true exactly if a word is made of digits.
 fn is_number(word: &str) -> bool {
     !word.is_empty() && word.as_bytes().iter().all(|byte| byte.is_ascii_digit())
 }
 
-/// Whether a word begins with a capital letter.
+/// Returns true exactly if a word begins with a capital letter.
 fn begins_with_capital(word: &str) -> bool {
     match word.as_bytes().first() {
         Some(byte) => byte.is_ascii_uppercase(),

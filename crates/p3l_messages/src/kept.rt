@@ -26,7 +26,7 @@ pub struct KeptFiles<F: Files> {
     failed: Option<Name>,
     /// The name of the last file that could not be written, if there is one.
     unwritten: Option<Name>,
-    /// Whether memory ran out for a text or a name that was to be kept.
+    /// True if memory ran out for a text or a name that was to be kept.
     lacks: bool,
 }
 
@@ -50,7 +50,7 @@ impl<F: Files> KeptFiles<F> {
         }
     }
 
-    /// Whether memory ran out for a text or a name that was to be kept.
+    /// Returns true exactly if memory ran out for a text or a name that was to be kept.
     pub fn lacks(&self) -> bool {
         self.lacks
     }

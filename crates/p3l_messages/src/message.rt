@@ -41,7 +41,7 @@ pub struct Answer<'a> {
     pub line: &'a str,
     /// Why the last file could not be read, where one could not.
     pub failure: Option<Failure>,
-    /// Whether the standard output could not be written.
+    /// True if the standard output could not be written.
     pub has_lost_output: bool,
     pub style: Style,
 }
@@ -293,7 +293,7 @@ fn width_of(alloc: Global, program: &Program) -> Width {
     }
 }
 
-/// What is known of an item of a program that is refused.
+/// Returns what is known of an item of a program that is refused.
 fn width_on(refusal: SourceRefusal) -> Width {
     match refusal {
         SourceRefusal::At { .. } => Width::Unknown,

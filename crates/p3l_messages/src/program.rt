@@ -106,12 +106,12 @@ fn character_at(bytes: &[u8]) -> &[u8] {
     }
 }
 
-/// Whether a number of refusal is this fault's.
+/// Returns true exactly if a number of refusal is this fault's.
 fn is_number_of(fault: Fault, number: &str) -> bool {
     number.parse::<u8>().ok() == Some(fault.number())
 }
 
-/// Whether a number of refusal is about the name at its place.
+/// Returns true exactly if a number of refusal is about the name at its place.
 fn names_something(number: &str) -> bool {
     match number.parse::<u8>() {
         Ok(10) | Ok(20) | Ok(22..=28) | Ok(40..=44) => true,
@@ -135,7 +135,7 @@ fn word_at(bytes: &[u8]) -> &[u8] {
     &bytes[..len.min(bytes.len())]
 }
 
-/// Whether a byte can be part of a name.
+/// Returns true exactly if a byte can be part of a name.
 fn is_word_byte(byte: u8) -> bool {
     byte == b'_' || byte.is_ascii_alphanumeric()
 }

@@ -39,7 +39,7 @@ pub fn safe_line(alloc: Global, line: &[u8]) -> Result<Vec<u8>, NoMemory>
     Ok(safe)
 }
 
-/// Whether a byte parts two words.
+/// Returns true exactly if a byte parts two words.
 fn is_gap(byte: u8) -> bool {
     byte == b' ' || byte == b'\n'
 }

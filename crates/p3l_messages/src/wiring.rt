@@ -1,4 +1,4 @@
-// Which argument a call takes at a place where it has another.
+// The argument that a call takes at a place where it has another.
 
 ghost use Rattle.std.specs.Prelude.{OnErr};
 ghost use Rattle.p3l_base.specs.Memory.{Refused};

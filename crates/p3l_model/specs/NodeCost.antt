@@ -3,12 +3,12 @@
 use Rattle.std.specs.Prelude.{ℕ, ◌+◌, ◌*◌, min, Option, Some, None}
 use Rattle.std.specs.Int.{div_ceil}
 use Rattle.p3l_base.specs.Cut.{element_count}
+use Rattle.p3l_base.specs.Limits.{most_workers}
 use Rattle.p3l_skel.specs.declared.tree.Form.{Form}
 use Rattle.p3l_skel.specs.declared.tree.Form.TheVariants.{Seq, Comp, Pipe, Farm, Map, Reduce}
 use Rattle.p3l_skel.specs.declared.tree.Form.TheVariants as form
 use Rattle.p3l_skel.specs.declared.tree.Tree.{Tree}
 use Rattle.p3l_skel.specs.Tree.{node_at, part_at}
-use Rattle.p3l_skel.specs.Counts.{most_workers}
 use Rattle.p3l_cost.specs.declared.costs.Costs.{Costs}
 use Rattle.p3l_model.specs.declared.cost.Span.{Span}
 use Rattle.p3l_model.specs.declared.cost.Sharing.{Sharing}

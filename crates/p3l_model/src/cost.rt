@@ -4,13 +4,13 @@ ghost use Rattle.std.specs.Prelude.{◌≡◌, ◌<◌, ◌≤◌, ◌+◌, ◌*
 ghost use Rattle.p3l_base.specs.Cut.{element_count};
 ghost use Rattle.p3l_base.specs.Limits.{most_workers};
 ghost use Rattle.p3l_skel.specs.Tree.{node_at};
-ghost use Rattle.p3l_model.specs.Service.{transfer, ticks_row, ticks_to, ticks, unit_service, map_ends, fold_service, split_service, join_service};
+ghost use Rattle.p3l_model.specs.Service.{transfer, unit_service, map_ends, fold_service, split_service, join_service};
 ghost use Rattle.p3l_model.specs.NodeCost.{never, timed, shared, segments_service, span_up_to, node_cost_row, node_cost};
 
+use crate::ticks::{ticks, transfer};
 use p3l_base::limits::MOST_WORKERS;
 use p3l_base::{Cut, List};
 use p3l_cost::Costs;
-use p3l_skel::tree::NESTING;
 use p3l_skel::{Form, Node, Tree};
 
 /// Later than any service time of a tree.
@@ -135,7 +135,7 @@ impl FoldCost {
         ensures value { result ≡ self.now.setup + self.now.word * words }
         ensures small { result < 2 ^ 97 }
     {
-        transfer(self.setup, self.word, words)
+        self.setup as u128 + self.word as u128 * words as u128
     }
 
     /// The service time with `segments` segments.
@@ -153,20 +153,12 @@ impl FoldCost {
     }
 }
 
-// The ticks in which a token of `words` words is taken or handed on.
-fn transfer(setup: u32, word: u32, words: u64) -> u128
-    ensures value { result ≡ setup + word * words }
-    ensures small { result < 2 ^ 97 }
-{
-    setup as u128 + word as u128 * words as u128
-}
-
 // The ticks in which a token of a node is taken or handed on.
 fn token_time(costs: &Costs, words: u32) -> u128
     ensures value { result ≡ transfer costs.now words }
     ensures small { result < 2 ^ 97 }
 {
-    transfer(costs.setup, costs.word, words as u64)
+    transfer(costs, words as u64)
 }
 
 /// The number of a module in a list that has one for each, and 0 past the list.
@@ -181,50 +173,6 @@ pub fn element_count(cut: &Cut) -> u64
     ensures { result ≡ element_count cut.now }
 {
     cut.first as u64 * cut.second as u64
-}
-
-/// The ticks of an item in a sequential node, as far as they count.
-pub fn ticks(tree: &Tree, costs: &Costs, number: u32) -> u128
-    ensures { result ≡ timed (ticks tree.now costs.now number) }
-{
-    ticks_from(tree, costs, NESTING, number)
-}
-
-// The ticks of a node, as far as `levels` levels show and they count.
-fn ticks_from(tree: &Tree, costs: &Costs, levels: u32, number: u32) -> u128
-    ensures { result ≡ timed (ticks_to tree.now costs.now levels number) }
-{
-    if levels == 0 {
-        return 0;
-    }
-    let Some(node) = tree.node(number) else {
-        return 0;
-    };
-    let mut inner: u128 = 0;
-    for part in node.parts.as_slice() {
-        inner = inner
-            .saturating_add(ticks_from(tree, costs, levels - 1, *part))
-            .min(NEVER);
-    }
-    ticks_over(&node.form, number_of(&costs.ticks, node.module), inner)
-}
-
-// The ticks of a node of this form, whose module has `own` and whose parts have `inner` in all, as
-// far as they count.
-fn ticks_over(form: &Form, own: u32, inner: u128) -> u128
-    ensures { result ≡ timed (ticks_row form.now own inner) }
-{
-    match form {
-        Form::Seq => own as u128,
-        Form::Comp => inner.min(NEVER),
-        Form::Map { cut, .. } => (element_count(cut) as u128)
-            .saturating_mul(inner)
-            .min(NEVER),
-        Form::Reduce { len, .. } => (len.saturating_sub(1) as u128)
-            .saturating_mul(inner)
-            .min(NEVER),
-        Form::Pipe | Form::Farm { .. } | Form::Loop { .. } => 0,
-    }
 }
 
 /// The service time of a process that runs a node.

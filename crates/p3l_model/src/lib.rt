@@ -6,6 +6,7 @@ pub mod firing;
 pub mod outside;
 pub mod process;
 mod service_time;
+pub mod ticks;
 pub mod workers;
 
 pub use cost::{FoldCost, NEVER, NodeCost, Sharing, Span, node_cost};

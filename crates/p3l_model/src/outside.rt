@@ -1,4 +1,4 @@
-// Which nodes are outside units.
+// The nodes outside units.
 
 ghost use Rattle.std.specs.Prelude.{◌↔◌, IsTrue};
 ghost use Rattle.std.specs.List.{Contains};
@@ -8,15 +8,15 @@ use p3l_skel::Tree;
 use p3l_skel::counts::outside_parts;
 use p3l_skel::tree::NESTING;
 
-/// Whether a node is outside units, so that it has processes of its own: the root does, and
-/// what doesn't lie below a comp or a reduce or in a loop's condition.
+/// Returns true exactly if a node is outside units, so that it has processes of its own: the root
+/// does, and what doesn't lie below a comp or a reduce or in a loop's condition.
 pub fn is_outside(tree: &Tree, node: u32) -> bool
     ensures { IsTrue result ↔ Contains (outside tree.now) node }
 {
     is_outside_from(tree, NESTING, 0, node)
 }
 
-// Whether a node is `number` or is outside units below it.
+// Returns true exactly if a node is `number` or is outside units below it.
 fn is_outside_from(tree: &Tree, levels: u32, number: u32, wanted: u32) -> bool
     ensures { IsTrue result ↔ Contains (outside_from tree.now levels number) wanted }
 {

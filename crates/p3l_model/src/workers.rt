@@ -8,7 +8,7 @@ use p3l_skel::counts::outside_parts;
 use p3l_skel::tree::NESTING;
 use p3l_skel::{Counts, Form, Tree};
 
-/// What a search through the counts of some nodes came to.
+/// The end of a search through the counts of some nodes.
 #[derive(Clone, Copy, Drop)]
 pub enum SearchResult {
     /// The count of the node that was looked for; 0 where the counts end before it.

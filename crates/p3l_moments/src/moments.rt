@@ -31,7 +31,7 @@ impl Model for Moments {
     ghost invariant = { λ it. IsLevelled it.levels it.size it.cells.items };
 }
 
-// Whether `a` comes no later than `b`.
+// Returns true exactly if `a` comes no later than `b`.
 fn is_no_later(a: Option<u128>, b: Option<u128>) -> bool
     ensures yes { IsTrue result → IsNoLater a b }
     ensures no { IsFalse result → IsSooner b a }
@@ -51,7 +51,7 @@ fn soonest(a: Option<u128>, b: Option<u128>) -> Option<u128>
     if is_no_later(a, b) { a } else { b }
 }
 
-// Whether there is a moment in cell `i`.
+// Returns true exactly if there is a moment in cell `i`.
 fn is_due(cells: &[Option<u128>], i: usize) -> bool
     requires { i < length cells.now }
     ensures yes { IsTrue result → due_at cells.now i ≢ None }

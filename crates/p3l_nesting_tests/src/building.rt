@@ -8,7 +8,7 @@ use p3l_skel::Tree;
 use p3l_sketch::{Shape as Bare, add_row, no_nodes};
 use std::alloc::Global;
 
-// What a node does, without its body and its rescue number.
+// Returns what a node does, without its body and its rescue number.
 fn bare(shape: Shape) -> Bare {
     match shape {
         Shape::Seq(_) | Shape::RescuedSeq(..) => Bare::Seq,

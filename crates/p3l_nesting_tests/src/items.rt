@@ -30,7 +30,7 @@ pub struct Case {
     pub outcome: Outcome,
 }
 
-// Whether the root of a tree takes this number of words.
+// Returns true exactly if the root of a tree takes this number of words.
 fn takes(tree: &Tree, len: usize) -> bool
     ensures there { IsTrue result → 0 < length tree.now.nodes }
     ensures fits { IsTrue result → HasFittingLength tree.now 0 len }

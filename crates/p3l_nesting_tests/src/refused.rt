@@ -53,7 +53,7 @@ const REFUSED: [(&[Row], usize, Shape); 5] = [
     (&PIPE_IN_REDUCE, 1, Shape::Comp),
 ];
 
-// Whether the tree of these rows is lawful.
+// Tells whether the tree of these rows is lawful.
 fn is_lawful(alloc: Global, rows: &[Row]) -> Result<bool, NoMemory> {
     Ok(lawful_tree(&tree_of(alloc, rows)?))
 }

@@ -59,7 +59,7 @@ const BY_HAND: [[i64; 4]; 4] = [
 /// The place of the item `0 49`, on which the first stage traps.
 const TRAPPING: usize = 17;
 
-/// Whether an outcome is a trap of the module 1.
+/// Returns true exactly if an outcome is a trap of the module 1.
 fn is_first_trap(case: Option<&Case>) -> bool {
     match case {
         Some(case) => match &case.outcome {

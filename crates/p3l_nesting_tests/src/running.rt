@@ -160,7 +160,7 @@ fn run(
     Ok(())
 }
 
-/// What the network emits of the items until no process can fire.
+/// Returns what the network emits of the items until no process can fire.
 pub fn emitted(
     rt: &impl Abort,
     alloc: Global,
@@ -186,7 +186,7 @@ pub fn emitted(
     Ok(outcomes)
 }
 
-/// What is saved of the machine after `picks` picks by turns, which hand out no trap.
+/// Returns what is saved of the machine after `picks` picks by turns, which hand out no trap.
 pub fn saved_after(
     rt: &impl Abort,
     alloc: Global,

@@ -36,7 +36,7 @@ const NESTED: Sketch = ("farm of map and loop", &ROWS, &[2, 2]);
 /// After how many picks machines are saved.
 const PICKS: [u32; 4] = [0, 9, 30, 60];
 
-// Whether what was saved is orderly.
+// Tells whether what was saved is orderly.
 fn is_sound(
     rt: &impl Abort,
     alloc: Global,

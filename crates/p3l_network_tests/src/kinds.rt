@@ -91,7 +91,7 @@ enum Expected<'a> {
     Trap(TrapKind, u32),
 }
 
-/// Whether these are words of items.
+/// Returns true exactly if these are words of items.
 fn are_words(outcomes: &[Outcome], items: &[&[i64]]) -> bool {
     for (outcome, words) in outcomes.iter().zip(items) {
         if !has_words(outcome, words) {
@@ -101,7 +101,7 @@ fn are_words(outcomes: &[Outcome], items: &[&[i64]]) -> bool {
     outcomes.len() == items.len()
 }
 
-/// Whether this is a trap alone.
+/// Returns true exactly if this is a trap alone.
 fn is_trap(outcomes: &[Outcome], trap: Trap) -> bool {
     match outcomes.first() {
         Some(Outcome::Trapped(first)) => *first == trap && outcomes.len() == 1,
@@ -109,7 +109,7 @@ fn is_trap(outcomes: &[Outcome], trap: Trap) -> bool {
     }
 }
 
-/// Whether these outcomes are as expected.
+/// Returns true exactly if these outcomes are as expected.
 fn are_expected(outcomes: &[Outcome], expected: Expected<'_>) -> bool {
     match expected {
         Expected::Words(items) => are_words(outcomes, items),

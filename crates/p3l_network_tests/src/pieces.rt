@@ -30,7 +30,7 @@ fn words_are_cut_into_elements(rt: HostRuntime) -> Result<(), Fail> {
     Ok(())
 }
 
-/// Whether these words make up these two halves.
+/// Tells whether these words make up these two halves.
 fn are_halves(alloc: Global, left: &[i64], right: &[i64], both: &[i64]) -> Result<bool, NoMemory> {
     let left = words(alloc, left)?;
     let right = words(alloc, right)?;
@@ -54,7 +54,7 @@ fn halves_are_paired_and_the_left_trap_comes_first(rt: HostRuntime) -> Result<()
     Ok(())
 }
 
-/// Whether a loop is done that has this word.
+/// Tells whether a loop is done that has this word.
 fn is_done_at(alloc: Global, word: i64) -> Result<bool, NoMemory> {
     let words = words(alloc, &[word])?;
     Ok(is_done(&words))

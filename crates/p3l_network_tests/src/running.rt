@@ -121,7 +121,7 @@ fn emit<U: Units>(
     run(rt, alloc, &mut machine, tree, units, items, outcomes)
 }
 
-/// What the plain program gives for an item of one word.
+/// Returns what the plain program gives for an item of one word.
 fn plain<U: Units>(
     rt: &impl Abort,
     alloc: Global,
@@ -160,7 +160,7 @@ fn give<U: Units>(
     Ok(())
 }
 
-/// Whether these are the same outcomes.
+/// Returns true exactly if these are the same outcomes.
 fn are_same(some: &[Outcome], others: &[Outcome]) -> bool {
     for (one, other) in some.iter().zip(others) {
         if !is_same(one, other) {

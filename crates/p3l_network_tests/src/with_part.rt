@@ -165,7 +165,7 @@ pub fn first_value(alloc: Global, words: &Words) -> Result<Outcome, NoMemory>
     value(alloc, word(words, 0))
 }
 
-/// What the part of the map makes of one word.
+/// Returns what the part of the map makes of one word.
 fn checked_word(alloc: Global, words: &Words) -> Result<Outcome, NoMemory>
     requires { 0 < length words.now }
     ensures { IfGiven result (λ outcome. outcome ≡ checked (slice_index_or words.now 0 (pos 0) ∷ [])) }

@@ -84,7 +84,7 @@ fn value_complaint(
     Ok(None)
 }
 
-/// Whether a text spells a schedule.
+/// Tells whether a text spells a schedule.
 fn spells_schedule(alloc: Global, text: &str) -> Result<bool, NoMemory>
     ensures { OnErr result Refused }
 {
@@ -96,7 +96,7 @@ fn spells_schedule(alloc: Global, text: &str) -> Result<bool, NoMemory>
 }
 
 impl Form {
-    /// Whether a value has the form.
+    /// Tells whether a value has the form.
     fn takes(self, alloc: Global, text: &str) -> Result<bool, NoMemory>
         ensures { OnErr result Refused }
     {

@@ -1,4 +1,4 @@
-// What `clap` finds in the words of a command.
+// The values that `clap` finds in the words of a command.
 
 ghost use Rattle.std.specs.Prelude.{◌≡◌, ◌≢◌, ◌⊎◌, ℕ, [], Some, None, IfOk, IfSome, IfNone, IsErrOf, option_map};
 ghost use Rattle.p3l_base.specs.Memory.{IfGiven, Refused};

@@ -4,7 +4,8 @@ use Rattle.std.proofs.Math.Nat.{add-mod_left, mod-eq_of_lt}
 use Rattle.std.proofs.lemmas.Bool.{cases_Bool, and_parts, and_from, cond-true, cond-false, false≢true}
 use Rattle.std.proofs.lemmas.List.{map-append}
 use Rattle.p3l_firing.specs.declared.token.Token.{Token}
-use Rattle.p3l_map.specs.Map.{same_tags, all_tagged, alike, all_alike}
+use Rattle.p3l_firing.specs.Token.{same_tags}
+use Rattle.p3l_map.specs.Map.{all_tagged, alike, all_alike}
 use Rattle.p3l_map.specs.Places.{groups, left}
 use Rattle.p3l_map.specs.laws.GroupLaw.{groups_append, left_append}
 use Rattle.p3l_orderly.specs.Finding.{bare}

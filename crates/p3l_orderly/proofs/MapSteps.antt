@@ -5,9 +5,9 @@ use Rattle.std.proofs.lemmas.List.{map-append, get_or-set_same, get_or-set_other
 use Rattle.std.proofs.Math.Seq.{drop-cons}
 use Rattle.p3l_firing.specs.At.{at}
 use Rattle.p3l_firing.specs.Lists.{first_or, rest_of, has_first}
-use Rattle.p3l_firing.specs.Token.{credit}
+use Rattle.p3l_firing.specs.Token.{credit, same_tags}
 use Rattle.p3l_firing.specs.declared.token.Token.{Token}
-use Rattle.p3l_map.specs.Map.{Pieces, View, spot, pieces, joined, unsent, under_way, whole, to_come, next_piece, scatter_ok, same_tags, all_tagged, alike, all_alike, well_kept}
+use Rattle.p3l_map.specs.Map.{Pieces, View, spot, pieces, joined, unsent, under_way, whole, to_come, next_piece, scatter_ok, all_tagged, alike, all_alike, well_kept}
 use Rattle.p3l_map.specs.Places.{read_by, all_empty, in_by, total, groups, left}
 use Rattle.p3l_map.specs.laws.GroupLaw.{groups_append, left_append, one_group}
 use Rattle.p3l_map.specs.laws.MapView.{Kept, kept_to, kept_from, pieces_length}

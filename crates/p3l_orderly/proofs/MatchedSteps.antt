@@ -1,9 +1,9 @@
 -- The steps of whether two lists of tokens match.
 use Rattle.std.proofs.Common.{◌≡◌, ◌≢◌, ℕ, ◌+◌, ◌<◌, ◌≤◌, ◌&&◌, inl, inr, Bool, true, false, List, [], ◌∷◌, drop, length, get_or, refl, sym, ap, ap₂, arith, eq-eqb, ne_eqb}
 use Rattle.std.proofs.lemmas.Bool.{cases_Bool}
-use Rattle.p3l_firing.specs.Token.{first_tag, later_tags}
+use Rattle.p3l_firing.specs.Token.{first_tag, later_tags, same_tags}
 use Rattle.p3l_firing.specs.declared.token.Token.{Token}
-use Rattle.p3l_reduce.specs.JoinTree.{matched, same_tags}
+use Rattle.p3l_reduce.specs.JoinTree.{matched}
 use Rattle.p3l_reduce.specs.laws.JoinView.{matched_length}
 use Rattle.p3l_orderly.proofs.Within.{drop-next, drop-all}
 

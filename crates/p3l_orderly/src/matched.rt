@@ -1,7 +1,8 @@
 // Tests whether two lists of tokens match: equally many, with equal tags.
 
 ghost use Rattle.std.specs.Prelude.{◌≡◌, ◌↔◌, [], IsTrue};
-ghost use Rattle.p3l_reduce.specs.JoinTree.{matched, same_tags};
+ghost use Rattle.p3l_firing.specs.Token.{same_tags};
+ghost use Rattle.p3l_reduce.specs.JoinTree.{matched};
 
 use p3l_firing::{Tags, Token};
 

@@ -2,8 +2,7 @@
 
 ghost use Rattle.std.specs.Prelude.{◌≡◌, ◌&&◌, nat_eq};
 ghost use Rattle.p3l_firing.specs.Lists.{has_first};
-ghost use Rattle.p3l_firing.specs.Token.{first_tag};
-ghost use Rattle.p3l_map.specs.Map.{same_tags};
+ghost use Rattle.p3l_firing.specs.Token.{first_tag, same_tags};
 
 use p3l_firing::{Tags, Token};
 

@@ -29,7 +29,8 @@ impl Calls {
         }
     }
 
-    /// Whether these many writes were given these many bytes, and these many flushes were made.
+    /// Returns true exactly if these many writes were given these many bytes, and these many
+    /// flushes were made.
     fn are(&self, writes: usize, bytes: usize, flushes: usize) -> bool {
         self.writes.get() == writes && self.bytes.get() == bytes && self.flushes.get() == flushes
     }

@@ -112,7 +112,7 @@ const VERSION: &str = "p3l 0.1.0
 proved by rattle, logic dac8208d650f15bf
 ";
 
-/// Whether a text has a line with this word, after these bytes and before a space.
+/// Returns true exactly if a text has a line with this word, after these bytes and before a space.
 fn names(text: &str, before: &str, word: &str) -> bool {
     for line in text.lines() {
         let rest = match line.strip_prefix(before) {
@@ -126,7 +126,7 @@ fn names(text: &str, before: &str, word: &str) -> bool {
     false
 }
 
-/// Whether some line of a text begins so.
+/// Returns true exactly if some line of a text begins so.
 fn begins_a_line(text: &str, front: &str) -> bool {
     for line in text.lines() {
         if line.starts_with(front) {
@@ -136,7 +136,7 @@ fn begins_a_line(text: &str, front: &str) -> bool {
     false
 }
 
-/// Whether the first line of a text is this one.
+/// Returns true exactly if the first line of a text is this one.
 fn is_first_line(text: &str, line: &str) -> bool {
     match text.strip_prefix(line) {
         Some(rest) => rest.starts_with('\n'),
@@ -152,8 +152,8 @@ fn page_on(topic: &str) -> &'static str {
     }
 }
 
-/// Whether the page of a command names it in its usage and its example, and has a line for each of its
-/// words.
+/// Returns true exactly if the page of a command names it in its usage and its example, and has a
+/// line for each of its words.
 fn names_its_words(command: &str, words: &str) -> bool {
     let page = page_on(command);
     for word in words.split(", ") {
@@ -164,7 +164,7 @@ fn names_its_words(command: &str, words: &str) -> bool {
     names(page, "usage: p3l ", command) && names(page, "example: p3l ", command)
 }
 
-/// Whether each way to request the page of a command is answered with it.
+/// Returns true exactly if each way to request the page of a command is answered with it.
 fn is_answered(command: &str) -> bool {
     let page = all_pages().answer(&["help", command]);
     all_pages().answer(&[command, "--help", "more"]) == page
@@ -209,7 +209,7 @@ fn other_topics_have_a_page(rt: HostRuntime) {
     assert!(rt; begins_a_line(page_on("language"), title));
 }
 
-/// What must be answered to a request.
+/// Returns what must be answered to a request.
 fn text_of(requested: &str) -> Option<&'static str> {
     match requested {
         "the list" => Some(page_on("help")),
@@ -218,7 +218,7 @@ fn text_of(requested: &str) -> Option<&'static str> {
     }
 }
 
-/// Whether these words, with a bar between two, are answered with what they request.
+/// Tells whether these words, with a bar between two, are answered with what they request.
 fn get(alloc: Global, words: &str, requested: &str) -> Result<bool, Fail> {
     let words = spelled_words(alloc, words)?;
     Ok(all_pages().answer(words.as_slice()) == text_of(requested))

@@ -10,7 +10,8 @@ use std::io::{ErrorKind, Read, Write};
 use std::test::Fail;
 use std::{fs, io};
 
-/// Whether a file is written, written again by fewer bytes, and read back within a limit.
+/// Returns true exactly if a file is written, written again by fewer bytes, and read back within a
+/// limit.
 fn are_kept<F: Files>(alloc: Global, files: &mut F, name: &str) -> bool {
     files.write(alloc, name, b"longer than it will be").is_ok()
         && files.write(alloc, name, b"abc").is_ok()
@@ -18,7 +19,8 @@ fn are_kept<F: Files>(alloc: Global, files: &mut F, name: &str) -> bool {
         && is_read(alloc, files, name, 2, Err(FileFault::TooLong))
 }
 
-/// Whether faults are reported: of files that can't be opened, and after the opening of others.
+/// Returns true exactly if faults are reported: of files that can't be opened, and after the
+/// opening of others.
 fn report_faults<F: Files>(alloc: Global, files: &mut F) -> bool {
     let nowhere = "p3l_host_no_such_directory/file";
     is_read(
@@ -43,7 +45,7 @@ fn files_are_written_and_read_back(rt: HostRuntime) -> Result<(), Fail> {
     Ok(())
 }
 
-/// Whether a line is put to the output and another one to the error.
+/// Returns true exactly if a line is put to the output and another one to the error.
 fn put_lines<W: Write + Drop, E: Write + Drop>(output: &Output<W>, error: E) -> bool {
     let mut error = HostErr::new(error);
     HostOut::new(output).put(b"written to the output\n").is_ok()
@@ -165,25 +167,25 @@ fn gathered<'a>(rt: &HostRuntime, account: &'a Account) -> Result<Output<Account
     Ok(output)
 }
 
-/// What a read of the input answers that comes after an output.
+/// Returns what a read of the input answers that comes after an output.
 fn read_after(output: &Output<Accountant>) -> Result<usize, Failed> {
     let mut input = SourceAfter::new(HostIn::new(b"ab".as_slice()), output);
     let mut buf = [0u8; 8];
     input.take(&mut buf)
 }
 
-/// Whether a line of the standard error is put that comes after an output.
+/// Tells whether a line of the standard error is put that comes after an output.
 fn puts_a_line(rt: &HostRuntime, output: &Output<Accountant>) -> Result<bool, Fail> {
     let sink = MemSink::new(rt.alloc(), 9, List::new(rt.alloc()))?;
     Ok(SinkAfter::new(sink, output).put(b"an error").is_ok())
 }
 
-/// What the writing of a file answers that comes after an output.
+/// Returns what the writing of a file answers that comes after an output.
 fn file_after(rt: &HostRuntime, output: &Output<Accountant>, name: &str) -> Result<(), WriteFault> {
     HostFiles::new(rt, output).write(rt.alloc(), name, b"a file")
 }
 
-/// Whether all that was put on an output is written before each of what comes after it.
+/// Tells whether all that was put on an output is written before each of what comes after it.
 fn is_written_before(
     rt: &HostRuntime,
     output: &Output<Accountant>,
@@ -221,7 +223,7 @@ fn output_is_gathered_until_it_is_full(rt: HostRuntime) -> Result<(), Fail> {
     Ok(())
 }
 
-/// Whether an output whose write fails reports it by each call after that of a read.
+/// Tells whether an output whose write fails reports it by each call after that of a read.
 fn reports_each_time(rt: &HostRuntime, output: &Output<Accountant>) -> Result<bool, Fail> {
     let is_read_from = read_after(output) == Ok(2);
     let is_put = output.put(b"t").is_ok() || puts_a_line(rt, output)?;
@@ -240,8 +242,8 @@ fn failed_write_is_reported_by_each_later_call(rt: HostRuntime) -> Result<(), Fa
     Ok(())
 }
 
-/// Whether an output reports the write that fails when this comes after what was gathered: a piece
-/// for which there is no room, a line of the standard error, a file or the end.
+/// Tells whether an output reports the write that fails when this comes after what was gathered: a
+/// piece for which there is no room, a line of the standard error, a file or the end.
 fn reports(rt: &HostRuntime, output: &Output<Accountant>, what: &str) -> Result<bool, Fail> {
     match what {
         "a piece" => Ok(output.put(&[b'1'; 65_533]) == Err(Failed)),

@@ -26,7 +26,7 @@ pub(crate) fn spelled_words<'a>(alloc: Global, text: &'a str) -> Result<Vec<&'a 
     Ok(words)
 }
 
-/// Whether a taking gives this number of bytes, or fails, and leaves the buffer so.
+/// Returns true exactly if a taking gives this number of bytes, or fails, and leaves the buffer so.
 pub(crate) fn takes<S: Source>(
     source: &mut S,
     buf: &mut [u8],
@@ -38,7 +38,7 @@ pub(crate) fn takes<S: Source>(
     source.take(buf).ok() == count && *buf == *left
 }
 
-/// Whether a file is read as these bytes, or refused for this fault.
+/// Returns true exactly if a file is read as these bytes, or refused for this fault.
 pub(crate) fn is_read<F: Files>(
     alloc: Global,
     files: &mut F,

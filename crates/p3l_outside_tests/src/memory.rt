@@ -5,7 +5,8 @@ use p3l_io::{FileFault, Files, MemFiles, MemSink, MemSource, PutFail, Sink, Writ
 use std::alloc::Global;
 use std::test::Fail;
 
-/// Whether seven letters are taken in pieces of three, by takings of which two fail.
+/// Returns true exactly if seven letters are taken in pieces of three, by takings of which two
+/// fail.
 fn gives_pieces(source: &mut MemSource) -> bool {
     let mut buf = [0u8; 4];
     takes(source, &mut buf, Some(3), b"abc\0")
@@ -27,12 +28,12 @@ fn a_source_gives_pieces_and_fails_by_number(rt: HostRuntime) -> Result<(), Fail
     Ok(())
 }
 
-/// Whether a putting is done, or fails, and these bytes are in the sink after it.
+/// Returns true exactly if a putting is done, or fails, and these bytes are in the sink after it.
 fn puts(sink: &mut MemSink, piece: &[u8], done: bool, taken: &[u8]) -> bool {
     sink.put(piece).is_ok() == done && sink.taken() == taken
 }
 
-/// Whether the second putting and the third fail, and the last bytes have no room.
+/// Returns true exactly if the second putting and the third fail, and the last bytes have no room.
 fn has_room(sink: &mut MemSink) -> bool {
     puts(sink, b"ab", true, b"ab")
         && puts(sink, b"cd", false, b"abc")
@@ -55,7 +56,7 @@ fn a_sink_puts_a_front_by_its_first_entry_and_has_room(rt: HostRuntime) -> Resul
     Ok(())
 }
 
-/// Whether files answer these calls, of which the fourth and the sixth fail.
+/// Returns true exactly if files answer these calls, of which the fourth and the sixth fail.
 fn answers_calls(alloc: Global, files: &mut MemFiles) -> bool {
     is_read(alloc, files, "one", 3, Ok(b"abc"))
         && is_read(alloc, files, "one", 2, Err(FileFault::TooLong))
@@ -66,7 +67,7 @@ fn answers_calls(alloc: Global, files: &mut MemFiles) -> bool {
         && files.write(alloc, "one", b"zz").is_ok()
 }
 
-/// Whether files have these bytes after such calls.
+/// Returns true exactly if files have these bytes after such calls.
 fn has_what_was_written(files: &MemFiles) -> bool {
     files.get("one") == Some(b"zz".as_slice())
         && files.get("two") == Some(b"y".as_slice())

@@ -172,7 +172,7 @@ fn or_hyphen(name: &Option<Name>) -> Value<'_> {
     }
 }
 
-/// Whether something is requested.
+/// Tells whether something is requested.
 fn flag(requested: bool) -> Value<'static> {
     Value::Text(if requested { "true" } else { "false" })
 }
@@ -331,13 +331,13 @@ fn show_picks<W: fmt::Write>(sched: &Sched, f: &mut Formatter<W>) -> fmt::Result
     }
 }
 
-/// Whether a command is shown as this text.
+/// Tells whether a command is shown as this text.
 fn is_shown(alloc: Global, command: &Command, text: &str) -> Result<bool, Fail> {
     let shown = format!(in alloc; "{}", Shown(command))?;
     Ok(shown.as_str() == text)
 }
 
-/// Whether the words of a text spell this command.
+/// Tells whether the words of a text spell this command.
 fn are_spelled(alloc: Global, text: &str, command: &str) -> Result<bool, Fail> {
     let words = spelled_words(alloc, text)?;
     match parse(alloc, words.as_slice()) {
@@ -346,7 +346,7 @@ fn are_spelled(alloc: Global, text: &str, command: &str) -> Result<bool, Fail> {
     }
 }
 
-/// Whether the words of a text spell no command.
+/// Tells whether the words of a text spell no command.
 fn spell_none(alloc: Global, text: &str) -> Result<bool, Fail> {
     let words = spelled_words(alloc, text)?;
     Ok(parse(alloc, words.as_slice()).err() == Some(OptsRefusal::Usage))

@@ -1,4 +1,4 @@
-// What a node makes of the words of an item, and what is noted of it: one function a form, which call
+// The outcome of an item at a node, and what is noted of it: one function a form, which call
 // one another.
 
 ghost use Rattle.p3l_base.specs.Cut.{IsLawfulCut, token_size};

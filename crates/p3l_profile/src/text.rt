@@ -17,7 +17,7 @@ pub enum Table {
     Turns,
 }
 
-/// Whether a module is that of some node.
+/// Returns true exactly if a module is that of some node.
 fn is_used(nodes: &[Node], home: usize) -> bool
     ensures { result ≡ is_used nodes.now home }
 {
@@ -43,7 +43,8 @@ fn put_entry(
     Ok(())
 }
 
-/// Whether a module has an entry in a table: the table speaks of it, and it is on a node.
+/// Returns true exactly if a module has an entry in a table: the table speaks of it, and it is on a
+/// node.
 fn has_entry(table: Table, tree: &Tree, home: usize, info: &ModuleInfo) -> bool
     ensures { result ≡ speaks_of table info.now.kind && is_used tree.now.nodes home }
 {

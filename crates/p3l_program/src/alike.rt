@@ -1,4 +1,4 @@
-// What `exec` makes of the images that `compile` writes.
+// Runs of the images that `compile` writes.
 
 ghost use Rattle.p3l_program.specs.Alike.{EveryImageHasItsProgramsNetwork, EveryImageRunsAsItsProgram};
 
@@ -14,8 +14,8 @@ pub fn every_image_has_its_programs_network()
     image_begins_no_other();
 }
 
-/// Where files hold a program and the image that was made of it, `exec` of the image writes, reports
-/// and answers what `run` of the program does, with the same schedule.
+/// A law of images: if files hold a program and the image that was made of it, `exec` of the image
+/// writes, reports and answers what `run` of the program does, with the same schedule.
 pub fn every_image_runs_as_its_program()
     ensures { EveryImageRunsAsItsProgram }
 {

@@ -214,7 +214,7 @@ fn summary_line(
     Ok(format!(in alloc; "gen {number}: {numbers}, service {service}, used {used}, sum {sum}\n")?)
 }
 
-/// Whether a run came to the end of its items without a trap.
+/// Returns true exactly if a run came to the end of its items without a trap.
 fn comes_whole(finish: &RunEnd) -> bool
     ensures { result ≡ comes_whole finish.now }
 {

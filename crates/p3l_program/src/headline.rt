@@ -4,8 +4,8 @@ ghost use Rattle.p3l_program.specs.Headline.{EveryRunMeansItsProgram, EverySched
 
 use p3l_opts::one_command_at_most;
 
-/// What `run` writes is what its program means: a line for each item of the input, in order, whatever
-/// the schedule; where the run ends early, the lines of the first items.
+/// The results of a run are what its program means: `run` writes a line for each item of the input,
+/// in order, whatever the schedule; if it ends early, the lines of the first items.
 pub fn every_run_means_its_program()
     ensures { EveryRunMeansItsProgram }
 {

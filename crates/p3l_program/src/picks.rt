@@ -16,7 +16,7 @@ use p3l_report::Verdict;
 use p3l_trace::TraceLine;
 use std::alloc::Global;
 
-/// What comes after a pick before these lines.
+/// Returns what comes after a pick before these lines.
 fn mark_before(lines: &[TraceLine]) -> &'static [u8]
     ensures { result.now ≡ mark_before (picks_of lines.now) }
 {

@@ -196,8 +196,8 @@ pub struct Linked {
     pub costs: Costs,
 }
 
-/// What an image of a loaded program holds: its tree under the counts that are chosen, with channels
-/// of this capacity, and the codes of its bodies; and its costs.
+/// Returns what an image of a loaded program holds: its tree under the counts that are chosen, with
+/// channels of this capacity, and the codes of its bodies; and its costs.
 fn link_allotted(alloc: Global, loaded: Allotted, capacity: u32) -> Result<Linked, NoMemory>
     requires ready { IsReady loaded }
     requires some { 1 ≤ capacity }

@@ -1,4 +1,4 @@
-// What `check-trace` makes of the traces that runs leave.
+// Verdicts of `check-trace` on the traces that runs leave.
 
 ghost use Rattle.p3l_program.specs.Recheck.{EveryRecordIsAccepted, EveryTraceOfAProgramIsAccepted};
 

@@ -1,4 +1,4 @@
-// What `run` makes of the picks that `time` leaves.
+// Runs of the picks that `time` leaves.
 
 ghost use Rattle.p3l_program.specs.Replay.{EveryTimedRunIsReplayed};
 

@@ -38,7 +38,7 @@ fn ended(finish: Finish, stats: Stats, reported: bool) -> Verdict
     }
 }
 
-/// What is kept of the picks of a run: their lines, where a file is named for the trace.
+/// Returns what is kept of the picks of a run: their lines, where a file is named for the trace.
 pub fn keeping_for(trace: &Option<Name>) -> Keeping
     ensures { result ≡ keeping_for trace.now }
 {

@@ -1,4 +1,4 @@
-// What `resume` makes of the snapshots that `save` leaves.
+// Runs of `resume` on the snapshots that `save` leaves.
 
 ghost use Rattle.p3l_program.specs.Unbroken.{EveryResumedRunIsUnbroken, EverySnapshotIsResumed};
 

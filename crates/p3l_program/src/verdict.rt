@@ -1,4 +1,4 @@
-// What the ends, the numbers and the faults of runs are in verdicts.
+// Verdicts of the ends, the numbers and the faults of runs.
 
 ghost use Rattle.std.specs.Prelude.{◌≡◌};
 ghost use Rattle.p3l_program.specs.Verdict.{fault_verdict, run_finish, run_stats};

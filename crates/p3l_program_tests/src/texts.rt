@@ -303,7 +303,7 @@ fn add_line(bytes: &mut Vec<u8>, line: &str) -> Result<(), Fail> {
     Ok(())
 }
 
-/// What the lines of a text spell that begin with a mark.
+/// Returns what the lines of a text spell that begin with a mark.
 pub fn spelled(alloc: Global, text: &str, mark: char) -> Result<Vec<u8>, Fail> {
     let mut bytes = Vec::new(alloc);
     for line in text.lines() {

@@ -74,7 +74,7 @@ fn puts(alloc: Global, head: &str, mark: &str) -> Result<List<PutFail>, Fail> {
     Ok(all)
 }
 
-/// What a step takes or gives behind a mark: the text of a name, or what its lines spell.
+/// Returns what a step takes or gives behind a mark: the text of a name, or what its lines spell.
 fn stream(alloc: Global, step: &str, named: &str, mark: char) -> Result<Vec<u8>, Fail> {
     match step.split_once(named) {
         None => spelled(alloc, step, mark),
@@ -103,7 +103,7 @@ fn words_of<'a>(alloc: Global, line: &'a str) -> Result<Vec<&'a str>, Fail> {
     Ok(words)
 }
 
-/// What was given and said.
+/// Returns what was given and said.
 fn what_came(
     alloc: Global,
     status: u8,
@@ -193,7 +193,7 @@ fn name_of(part: &str) -> &str {
     }
 }
 
-/// What a file holds: the text of the name in its first line, or what its lines spell.
+/// Returns what a file holds: the text of the name in its first line, or what its lines spell.
 fn held_by(alloc: Global, part: &str) -> Result<Vec<u8>, Fail> {
     match first_line(part).split_once(" = ") {
         None => spelled(alloc, part, '|'),
@@ -218,7 +218,7 @@ pub fn files_of(alloc: Global, head: &str) -> Result<MemFiles, Fail> {
     Ok(files)
 }
 
-/// Whether the files hold these bytes under the name.
+/// Returns true exactly if the files hold these bytes under the name.
 pub fn holds(files: &MemFiles, name: &str, bytes: &[u8]) -> bool {
     match files.get(name) {
         None => false,
@@ -273,7 +273,7 @@ pub fn take(rt: &impl Abort, alloc: Global, steps: &str, files: &mut MemFiles) -
     take_steps(rt, alloc, "", steps, files)
 }
 
-/// What steps leave in the file of a name, with files that hold what a head says.
+/// Returns what steps leave in the file of a name, with files that hold what a head says.
 pub fn left_by(
     rt: &impl Abort,
     alloc: Global,
@@ -317,7 +317,7 @@ const MARKS: &[&str] = &[
     "= ", "#", "|", "file ", "fails ", "none ", "leaves ", "$ ", "<", ">", "!", "? ",
 ];
 
-/// Whether the line is empty or begins as those of transcripts do.
+/// Returns true exactly if the line is empty or begins as those of transcripts do.
 fn is_known(line: &str) -> bool {
     for mark in MARKS {
         if line.starts_with(*mark) {

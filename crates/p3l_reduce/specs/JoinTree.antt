@@ -2,7 +2,7 @@
 -- segments are the places m to 2 m - 1, and the channel T q leads from place q to the join above it.
 use Rattle.std.specs.Prelude.{ℕ, zero, suc, ◌+◌, ◌-◌, ◌*◌, Bool, true, false, ◌&&◌, cond, nat_lt, List, [], ◌∷◌, ◌++◌, map, length, nat_eq}
 use Rattle.p3l_base.specs.declared.outcome.Outcome.{Outcome}
-use Rattle.p3l_firing.specs.Token.{over}
+use Rattle.p3l_firing.specs.Token.{over, same_tags}
 use Rattle.p3l_firing.specs.declared.token.Token.{Token}
 use Rattle.p3l_firing.specs.kinds.Join.{paired_by}
 use Rattle.p3l_template.specs.Sum.{sum_of}
@@ -50,12 +50,6 @@ after_node g v (suc d) r =
 -- those in it, then those still to come
 abbrev pub flow : Folding → View → ℕ → ℕ → List Token
 flow g v d r = v.tees r ++ after_node g v d r
-
-unfoldable pub same_tags : List ℕ → List ℕ → Bool
-same_tags [] [] = true
-same_tags [] (u ∷ us) = false
-same_tags (t ∷ ts) [] = false
-same_tags (t ∷ ts) (u ∷ us) = nat_eq t u && same_tags ts us
 
 -- equally many, with equal tags
 unfoldable pub matched : List Token → List Token → Bool

@@ -98,7 +98,7 @@ pub fn read_shot(alloc: Global, bytes: &[u8]) -> Result<Saved, ShotRefusal>
     ensures again { IfOk result CanBeWritten }
     // The place of a refusal is that of the first field that isn't whole or is out of its range.
     ensures place { IsAtFirstFault bytes.now result }
-    // Which place it is, also after the last field.
+    // The place that it is, also after the last field.
     ensures exact { Answers bytes.now result (read_all saved_format bytes.now) }
 {
     match p3l_format::decode(&SavedField, alloc, bytes) {

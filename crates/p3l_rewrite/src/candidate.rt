@@ -14,13 +14,13 @@ use crate::farm::{
     FARM, farm_of, farm_with, farms_called, is_among, longer, longer_name, no_clauses,
 };
 use crate::place::{Around, around_main, named_in};
-use crate::sequential::is_sequential;
 use p3l_ast::{Call, Entry, Inside, Kind, Module, Program};
 use p3l_base::{List, NoMemory};
 use p3l_copy::module::{module, with_inside};
 use p3l_copy::program::put_entries;
 use p3l_copy::{Copied, copies};
 use p3l_skel::Tree;
+use p3l_skel::shape::is_sequential;
 use p3l_skel::tree::NESTING;
 use std::alloc::Global;
 

@@ -7,7 +7,6 @@ pub mod farm;
 pub mod laws;
 pub mod place;
 pub mod rewriting;
-pub mod sequential;
 pub mod serving;
 
 pub use rewriting::{Rewritten, rewrite};

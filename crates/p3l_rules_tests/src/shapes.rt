@@ -64,7 +64,7 @@ fn shape(alloc: Global, first: u32, second: u32) -> Result<Shape, NoMemory> {
     Ok(Shape { sizes })
 }
 
-/// What these brackets leave of an array of 2 by 3.
+/// Returns what these brackets leave of an array of 2 by 3.
 fn slice(alloc: Global, subs: List<Sub>) -> Result<Shape, Fail> {
     let arg = Arg {
         at: spot(alloc, "a")?,

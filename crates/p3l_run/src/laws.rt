@@ -1,4 +1,4 @@
-// What is known of every run of a network.
+// Laws of every run of a network.
 
 ghost use Rattle.p3l_run.specs.Laws.{Laws, OnlyRecordedPicksStop};
 ghost use Rattle.p3l_run.specs.Network.{IsSound, Network};

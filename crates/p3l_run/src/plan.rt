@@ -1,4 +1,4 @@
-// What a run is made by.
+// The plan that a run is made by.
 
 use p3l_net::Net;
 use p3l_skel::{Tree, Units};

@@ -51,7 +51,7 @@ fn traced_of<U: Units>(
     )
 }
 
-/// Whether these lines were kept, and this is the sum.
+/// Returns true exactly if these lines were kept, and this is the sum.
 fn is_traced(
     traced: &Option<(Option<List<TraceLine>>, i64)>,
     lines: &[TraceLine],

@@ -3,6 +3,7 @@ use Rattle.std.specs.Prelude.{◌≡◌, ℕ, ◌==◌, ◌≤◌, if◌then◌e
 use Rattle.std.specs.List.{flat_map}
 use Rattle.std.specs.Int.{IsPowerOfTwo}
 use Rattle.p3l_base.specs.Cut.{element_count}
+use Rattle.p3l_base.specs.Limits.{most_workers}
 use Rattle.p3l_skel.specs.declared.tree.Form.{Form}
 use Rattle.p3l_skel.specs.declared.tree.Form.TheVariants.{Seq, Comp, Pipe, Farm, Map, Reduce, Loop}
 use Rattle.p3l_skel.specs.declared.tree.Tree.{Tree}
@@ -48,10 +49,6 @@ counted_from tree =
 -- in preorder
 abbrev pub counted : Tree → List ℕ
 counted tree = counted_from tree nesting 0
-
--- the most workers that a node has
-abbrev pub most_workers : ℕ
-most_workers = 512
 
 -- a number of workers that a node of this form may have, whatever its clause says
 abbrev pub IsCountInRange : Form → ℕ → Type 0

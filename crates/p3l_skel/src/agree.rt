@@ -7,7 +7,7 @@ ghost use Rattle.p3l_skel.specs.Lawful.{AgreesWith, AgreesWithAll};
 use crate::tree::{Form, Node};
 use p3l_base::{Cut, Dim, Place, Slice};
 
-/// Whether two places are the same.
+/// Returns true exactly if two places are the same.
 fn same_place(one: Place, other: Place) -> bool
     ensures { IsTrue result ↔ (one ≡ other) }
 {
@@ -18,14 +18,14 @@ fn same_place(one: Place, other: Place) -> bool
     }
 }
 
-/// Whether two dimensions are the same.
+/// Returns true exactly if two dimensions are the same.
 fn same_dim(one: Dim, other: Dim) -> bool
     ensures { IsTrue result ↔ (one ≡ other) }
 {
     one.size == other.size && same_place(one.place, other.place)
 }
 
-/// Whether two arrays have the same dimensions.
+/// Returns true exactly if two arrays have the same dimensions.
 fn same_dims(one: &[Dim], other: &[Dim]) -> bool
     ensures { IsTrue result ↔ (one.now ≡ other.now) }
 {
@@ -40,14 +40,14 @@ fn same_dims(one: &[Dim], other: &[Dim]) -> bool
     true
 }
 
-/// Whether two slices are the same.
+/// Returns true exactly if two slices are the same.
 fn same_slice(one: &Slice, other: &Slice) -> bool
     ensures { IsTrue result ↔ (one.now ≡ other.now) }
 {
     one.start == other.start && same_dims(one.dims.as_slice(), other.dims.as_slice())
 }
 
-/// Whether two lists have the same slices.
+/// Returns true exactly if two lists have the same slices.
 fn same_slices(one: &[Slice], other: &[Slice]) -> bool
     ensures { IsTrue result ↔ (one.now ≡ other.now) }
 {
@@ -62,7 +62,7 @@ fn same_slices(one: &[Slice], other: &[Slice]) -> bool
     true
 }
 
-/// Whether two cuts are the same.
+/// Returns true exactly if two cuts are the same.
 fn same_cut(one: &Cut, other: &Cut) -> bool
     ensures { IsTrue result ↔ (one.now ≡ other.now) }
 {
@@ -72,7 +72,7 @@ fn same_cut(one: &Cut, other: &Cut) -> bool
         && same_slices(one.outs.as_slice(), other.outs.as_slice())
 }
 
-/// Whether two clauses are the same.
+/// Returns true exactly if two clauses are the same.
 fn same_clause(one: Option<u32>, other: Option<u32>) -> bool
     ensures { IsTrue result ↔ (one ≡ other) }
 {
@@ -83,7 +83,7 @@ fn same_clause(one: Option<u32>, other: Option<u32>) -> bool
     }
 }
 
-/// Whether a form is that of a farm with this clause.
+/// Returns true exactly if a form is that of a farm with this clause.
 fn is_farm(form: &Form, clause: Option<u32>) -> bool
     ensures { IsTrue result ↔ (form.now ≡ Form.Farm clause) }
 {
@@ -93,7 +93,7 @@ fn is_farm(form: &Form, clause: Option<u32>) -> bool
     }
 }
 
-/// Whether a form is that of a map with this clause and cut.
+/// Returns true exactly if a form is that of a map with this clause and cut.
 fn is_map(form: &Form, clause: Option<u32>, other: &Cut) -> bool
     ensures { IsTrue result ↔ (form.now ≡ Form.Map clause other.now) }
 {
@@ -103,7 +103,7 @@ fn is_map(form: &Form, clause: Option<u32>, other: &Cut) -> bool
     }
 }
 
-/// Whether a form is that of a reduce with this clause and these numbers.
+/// Returns true exactly if a form is that of a reduce with this clause and these numbers.
 fn is_reduce(form: &Form, clause: Option<u32>, length: u32, element: u32) -> bool
     ensures { IsTrue result ↔ (form.now ≡ Form.Reduce clause length element) }
 {
@@ -115,7 +115,7 @@ fn is_reduce(form: &Form, clause: Option<u32>, length: u32, element: u32) -> boo
     }
 }
 
-/// Whether a form is that of a loop with these numbers.
+/// Returns true exactly if a form is that of a loop with these numbers.
 fn is_loop(form: &Form, most_turns: u32, most_tokens: u32) -> bool
     ensures { IsTrue result ↔ (form.now ≡ Form.Loop most_turns most_tokens) }
 {
@@ -125,7 +125,7 @@ fn is_loop(form: &Form, most_turns: u32, most_tokens: u32) -> bool
     }
 }
 
-/// Whether two forms are the same.
+/// Returns true exactly if two forms are the same.
 fn same_form(one: &Form, other: &Form) -> bool
     ensures { IsTrue result ↔ (one.now ≡ other.now) }
 {
@@ -140,28 +140,28 @@ fn same_form(one: &Form, other: &Form) -> bool
     }
 }
 
-/// Whether two nodes agree in form and words.
+/// Returns true exactly if two nodes agree in form and words.
 fn agree(node: &Node, other: &Node) -> bool
     ensures { IsTrue result ↔ AgreesWith node.now other.now }
 {
     same_form(&node.form, &other.form) && node.ins == other.ins && node.outs == other.outs
 }
 
-/// Whether two nodes agree if they are of one module.
+/// Returns true exactly if two nodes agree if they are of one module.
 fn agree_in_module(node: &Node, other: &Node) -> bool
     ensures { IsTrue result ↔ (node.now.module ≡ other.now.module → AgreesWith node.now other.now) }
 {
     node.module != other.module || agree(node, other)
 }
 
-/// Whether a node agrees with all nodes of its module.
+/// Returns true exactly if a node agrees with all nodes of its module.
 fn agrees_with_all(nodes: &[Node], node: &Node) -> bool
     ensures { IsTrue result ↔ AgreesWithAll nodes.now node.now }
 {
     nodes.iter().all(|other| agree_in_module(node, other))
 }
 
-/// Whether the nodes of each module agree.
+/// Returns true exactly if the nodes of each module agree.
 pub fn modules_agree(nodes: &[Node]) -> bool
     ensures { IsTrue result ↔ All (AgreesWithAll nodes.now) nodes.now }
 {

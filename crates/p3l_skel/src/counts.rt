@@ -6,11 +6,9 @@ ghost use Rattle.p3l_skel.specs.Tree.{node_at};
 ghost use Rattle.p3l_skel.specs.Counts.{workers_of, IsCountInRange, IsLawfulCount, TakesLawful, outside_parts, own_counted, counted_from, HasLawfulCounts};
 
 use crate::tree::{Counts, Form, NESTING, Node, Tree};
+use p3l_base::limits::MOST_WORKERS;
 
-/// The most workers of a farm or map, and segments of a reduce.
-const MOST_WORKERS: u32 = 512;
-
-/// Whether a number is a power of two.
+/// Returns true exactly if a number is a power of two.
 fn is_power_of_two(n: u32) -> bool
     ensures { IsTrue result ↔ IsPowerOfTwo n }
 {
@@ -29,7 +27,8 @@ impl Form {
         }
     }
 
-    /// Whether a node of this form may have `count` workers, whatever its clause says.
+    /// Returns true exactly if a node of this form may have `count` workers, whatever its clause
+    /// says.
     pub fn is_count_in_range(&self, count: u32) -> bool
         ensures { IsTrue result ↔ IsCountInRange self.now count }
     {
@@ -46,7 +45,7 @@ impl Form {
         }
     }
 
-    /// Whether a node of this form may have `count` workers.
+    /// Returns true exactly if a node of this form may have `count` workers.
     pub fn is_lawful_count(&self, count: u32) -> bool
         ensures { IsTrue result ↔ IsLawfulCount self.now count }
     {
@@ -116,8 +115,8 @@ fn after(tree: &Tree, levels: u32, number: u32, counts: &[u32], from: usize) -> 
     Some(next)
 }
 
-/// Whether each farm, map and reduce outside units has a number of workers that it may have, and
-/// no number is left over.
+/// Returns true exactly if each farm, map and reduce outside units has a number of workers that it
+/// may have, and no number is left over.
 pub fn lawful_counts(tree: &Tree, counts: &Counts) -> bool
     ensures { IsTrue result ↔ HasLawfulCounts tree.now counts.now.list }
 {

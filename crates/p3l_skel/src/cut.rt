@@ -14,21 +14,21 @@ pub const GREATEST_SIZE: u32 = 65_536;
 /// The most sizes of an array.
 const MOST_SIZES: usize = 3;
 
-/// Whether a size is in its limits.
+/// Returns true exactly if a size is in its limits.
 pub fn is_size(n: u32) -> bool
     ensures { IsTrue result ↔ IsSize n }
 {
     1 <= n && n <= GREATEST_SIZE
 }
 
-/// Whether an array's sizes are in their limits.
+/// Returns true exactly if an array's sizes are in their limits.
 fn has_sizes(slice: &Slice) -> bool
     ensures { IsTrue result ↔ HasSizes slice.now }
 {
     slice.dims.len() <= MOST_SIZES && slice.dims.as_slice().iter().all(|dim| is_size(dim.size))
 }
 
-/// Whether the sizes of all arrays are in their limits.
+/// Returns true exactly if the sizes of all arrays are in their limits.
 pub fn have_sizes(slices: &[Slice]) -> bool
     ensures { IsTrue result ↔ All HasSizes slices.now }
 {
@@ -53,7 +53,7 @@ fn slice_cut_len(slice: &Slice) -> u64
     cut_len(slice.dims.as_slice()) as u64
 }
 
-/// Whether a free dimension has the size of its index.
+/// Returns true exactly if a free dimension has the size of its index.
 fn has_index_size(cut: &Cut, dim: Dim) -> bool
     ensures { IsTrue result ↔ HasIndexSize cut.now.first cut.now.second dim.place dim.size }
 {
@@ -64,7 +64,7 @@ fn has_index_size(cut: &Cut, dim: Dim) -> bool
     }
 }
 
-/// Whether each free dimension of an array has the size of its index.
+/// Returns true exactly if each free dimension of an array has the size of its index.
 fn has_free_sizes(cut: &Cut, slice: &Slice) -> bool
     ensures { IsTrue result ↔ HasFreeSizes cut.now.first cut.now.second slice.now }
 {
@@ -75,7 +75,7 @@ fn has_free_sizes(cut: &Cut, slice: &Slice) -> bool
         .all(|dim| has_index_size(cut, *dim))
 }
 
-/// Whether each free dimension of each array has the size of its index.
+/// Returns true exactly if each free dimension of each array has the size of its index.
 fn have_free_sizes(cut: &Cut, slices: &[Slice]) -> bool
     ensures { IsTrue result ↔ All (HasFreeSizes cut.now.first cut.now.second) slices.now }
 {
@@ -126,7 +126,7 @@ fn second_len(dims: &[Dim]) -> usize
     len
 }
 
-/// Where the arrays end that follow one another from word 0 on without gaps.
+/// Returns where the arrays end that follow one another from word 0 on without gaps.
 fn arrays_end(slices: &[Slice]) -> Option<u64>
     requires { All HasSizes slices.now }
     ensures ok { IfSome result (λ end. FollowOneAnother 0 slices.now
@@ -155,7 +155,7 @@ fn element_len(slices: &[Slice]) -> u64
     len
 }
 
-/// Whether an element takes `words` words from the slices.
+/// Returns true exactly if an element takes `words` words from the slices.
 fn has_element_size(slices: &[Slice], words: u32) -> bool
     requires { All HasSizes slices.now }
     ensures { IsTrue result ↔ (element_size slices.now ≡ words) }
@@ -163,7 +163,7 @@ fn has_element_size(slices: &[Slice], words: u32) -> bool
     element_len(slices) == words as u64
 }
 
-/// Whether a slice lies in a token of `words` words.
+/// Returns true exactly if a slice lies in a token of `words` words.
 fn lies_within(slice: &Slice, words: u32) -> bool
     requires { HasSizes slice.now }
     ensures { IsTrue result ↔ LiesWithin slice.now words }
@@ -171,7 +171,7 @@ fn lies_within(slice: &Slice, words: u32) -> bool
     slice.start as u64 + slice_len(slice) <= words as u64
 }
 
-/// Whether all slices lie in a token of `words` words.
+/// Returns true exactly if all slices lie in a token of `words` words.
 fn lie_within(slices: &[Slice], words: u32) -> bool
     requires { All HasSizes slices.now }
     ensures { IsTrue result ↔ All (λ slice. LiesWithin slice words) slices.now }
@@ -184,7 +184,7 @@ fn lie_within(slices: &[Slice], words: u32) -> bool
     true
 }
 
-/// Whether Second occurs `times` times in each slice.
+/// Returns true exactly if Second occurs `times` times in each slice.
 fn second_stands(slices: &[Slice], times: usize) -> bool
     ensures { IsTrue result ↔ All (λ slice. second_count slice.dims ≡ times) slices.now }
 {
@@ -193,7 +193,7 @@ fn second_stands(slices: &[Slice], times: usize) -> bool
         .all(|slice| second_len(slice.dims.as_slice()) == times)
 }
 
-/// Whether First and Second occur at most once in each slice.
+/// Returns true exactly if First and Second occur at most once in each slice.
 fn free_at_most_once(slices: &[Slice]) -> bool
     ensures { IsTrue result
         ↔ (All (λ slice. first_count slice.dims ≤ 1) slices.now
@@ -207,7 +207,7 @@ fn free_at_most_once(slices: &[Slice]) -> bool
             .all(|slice| second_len(slice.dims.as_slice()) <= 1)
 }
 
-/// Whether the arrays follow one another from word 0 on without gaps.
+/// Returns true exactly if the arrays follow one another from word 0 on without gaps.
 fn follow_one_another(slices: &[Slice]) -> bool
     requires { All HasSizes slices.now }
     ensures { IsTrue result ↔ FollowOneAnother 0 slices.now }
@@ -215,7 +215,8 @@ fn follow_one_another(slices: &[Slice]) -> bool
     arrays_end(slices).is_some()
 }
 
-/// Whether Second occurs once in each out slice, or in none, and there is one second index.
+/// Returns true exactly if Second occurs once in each out slice, or in none, and there is one
+/// second index.
 fn has_lawful_second(cut: &Cut) -> bool
     ensures { IsTrue result ↔ (All (λ slice. second_count slice.dims ≡ 1) cut.now.outs
         ⊎ ((cut.now.second ≡ 1) × All (λ slice. second_count slice.dims ≡ 0) cut.now.outs)) }
@@ -224,7 +225,7 @@ fn has_lawful_second(cut: &Cut) -> bool
     second_stands(outs, 1) || (cut.second == 1 && second_stands(outs, 0))
 }
 
-/// Whether the results of a cut's elements fill a whole token.
+/// Returns true exactly if the results of a cut's elements fill a whole token.
 fn has_lawful_outs(cut: &Cut) -> bool
     requires { All HasSizes cut.now.outs }
     ensures { IsTrue result ↔ HasLawfulOuts cut.now }
@@ -241,7 +242,7 @@ fn has_lawful_outs(cut: &Cut) -> bool
         && follow_one_another(outs)
 }
 
-/// Whether the slices that an element takes fit a cut with `ins` words in.
+/// Returns true exactly if the slices that an element takes fit a cut with `ins` words in.
 fn has_lawful_ins(cut: &Cut, ins: u32) -> bool
     requires { All HasSizes cut.now.ins }
     ensures { IsTrue result ↔ HasLawfulIns cut.now ins }
@@ -254,7 +255,8 @@ fn has_lawful_ins(cut: &Cut, ins: u32) -> bool
         && lie_within(slices, ins)
 }
 
-/// Whether a cut is lawful for a map with `ins` and `outs` words, and a part with its own.
+/// Returns true exactly if a cut is lawful for a map with `ins` and `outs` words, and a part with
+/// its own.
 pub fn is_lawful_cut(cut: &Cut, ins: u32, outs: u32, part_ins: u32, part_outs: u32) -> bool
     requires in_sizes { All HasSizes cut.now.ins }
     requires out_sizes { All HasSizes cut.now.outs }

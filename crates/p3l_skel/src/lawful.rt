@@ -40,7 +40,8 @@ impl Form {
 }
 
 impl ModuleKind {
-    /// Whether a module that is written with this skeleton may have a rescue number.
+    /// Returns true exactly if a module that is written with this skeleton may have a rescue
+    /// number.
     pub fn may_rescue(self) -> bool
         ensures { result ≡ may_rescue self }
     {
@@ -51,7 +52,7 @@ impl ModuleKind {
     }
 }
 
-/// Whether a module has a rescue number only where its skeleton allows one.
+/// Returns true exactly if a module has a rescue number only where its skeleton allows one.
 fn has_lawful_rescue(info: &ModuleInfo) -> bool
     ensures { IsTrue result ↔ HasLawfulRescue info.now }
 {
@@ -61,14 +62,14 @@ fn has_lawful_rescue(info: &ModuleInfo) -> bool
     }
 }
 
-/// Whether all modules have rescue numbers only where their skeletons allow them.
+/// Returns true exactly if all modules have rescue numbers only where their skeletons allow them.
 fn have_lawful_rescues(modules: &[ModuleInfo]) -> bool
     ensures { IsTrue result ↔ All HasLawfulRescue modules.now }
 {
     modules.iter().all(has_lawful_rescue)
 }
 
-/// Whether a module of this number is there, and is written with this skeleton.
+/// Returns true exactly if a module of this number is there, and is written with this skeleton.
 fn has_kind(tree: &Tree, home: u32, kind: ModuleKind) -> bool
     ensures { IsTrue result ↔ HasKind tree.now.modules home kind }
 {
@@ -78,7 +79,7 @@ fn has_kind(tree: &Tree, home: u32, kind: ModuleKind) -> bool
     }
 }
 
-/// Whether a node is there, and takes `ins` and gives `outs` words.
+/// Returns true exactly if a node is there, and takes `ins` and gives `outs` words.
 fn has_words(tree: &Tree, number: u32, ins: u32, outs: u32) -> bool
     ensures { IsTrue result ↔ HasWords tree.now number ins outs }
 {
@@ -88,8 +89,8 @@ fn has_words(tree: &Tree, number: u32, ins: u32, outs: u32) -> bool
     }
 }
 
-/// Whether each node is there and gives what the next takes, where the first takes `ins` words and
-/// the last gives `outs`.
+/// Returns true exactly if each node is there and gives what the next takes, where the first takes
+/// `ins` words and the last gives `outs`.
 fn is_chain(tree: &Tree, ins: u32, outs: u32, parts: &[u32]) -> bool
     ensures { IsTrue result ↔ IsChain tree.now ins outs parts.now }
 {
@@ -106,7 +107,7 @@ fn is_chain(tree: &Tree, ins: u32, outs: u32, parts: &[u32]) -> bool
     given == outs
 }
 
-/// Whether all these nodes are sequential.
+/// Returns true exactly if all these nodes are sequential.
 fn are_sequential(tree: &Tree, parts: &[u32]) -> bool
     ensures { IsTrue result ↔ All (IsSequential tree.now) parts.now }
 {
@@ -139,7 +140,7 @@ fn both_parts(node: &Node) -> Option<(u32, u32)>
     }
 }
 
-/// Whether the part of a farm fits it.
+/// Returns true exactly if the part of a farm fits it.
 fn is_lawful_farm(tree: &Tree, node: &Node) -> bool
     ensures { IsTrue result
         ↔ HasOnePart (λ part. HasWords tree.now part node.now.ins node.now.outs) node.now.parts }
@@ -150,7 +151,7 @@ fn is_lawful_farm(tree: &Tree, node: &Node) -> bool
     }
 }
 
-/// Whether the cut and the part of a map fit it.
+/// Returns true exactly if the cut and the part of a map fit it.
 fn is_lawful_map(tree: &Tree, cut: &Cut, node: &Node) -> bool
     ensures { IsTrue result
         ↔ HasOnePart (IsLawfulMap tree.now cut.now node.now.ins node.now.outs) node.now.parts }
@@ -161,7 +162,7 @@ fn is_lawful_map(tree: &Tree, cut: &Cut, node: &Node) -> bool
     }
 }
 
-/// Whether a cut is lawful for a map and this part of it.
+/// Returns true exactly if a cut is lawful for a map and this part of it.
 fn is_map_part(tree: &Tree, cut: &Cut, node: &Node, part: u32) -> bool
     ensures { IsTrue result ↔ IsLawfulMap tree.now cut.now node.now.ins node.now.outs part }
 {
@@ -173,7 +174,7 @@ fn is_map_part(tree: &Tree, cut: &Cut, node: &Node, part: u32) -> bool
         && is_lawful_cut(cut, node.ins, node.outs, part.ins, part.outs)
 }
 
-/// Whether the numbers and the part of a reduce fit it.
+/// Returns true exactly if the numbers and the part of a reduce fit it.
 fn is_lawful_reduce(tree: &Tree, len: u32, elem: u32, node: &Node) -> bool
     ensures { IsTrue result
         ↔ HasOnePart (IsLawfulReduce tree.now len elem node.now.ins node.now.outs) node.now.parts }
@@ -184,7 +185,7 @@ fn is_lawful_reduce(tree: &Tree, len: u32, elem: u32, node: &Node) -> bool
     }
 }
 
-/// Whether an operator is one of a reduce with `len` elements of `elem` words.
+/// Returns true exactly if an operator is one of a reduce with `len` elements of `elem` words.
 fn is_reduce_part(tree: &Tree, len: u32, elem: u32, node: &Node, part: u32) -> bool
     ensures { IsTrue result ↔ IsLawfulReduce tree.now len elem node.now.ins node.now.outs part }
 {
@@ -194,7 +195,7 @@ fn is_reduce_part(tree: &Tree, len: u32, elem: u32, node: &Node, part: u32) -> b
         && is_sequential(tree, NESTING, part)
 }
 
-/// Whether a node makes one element of two.
+/// Returns true exactly if a node makes one element of two.
 fn is_operator(tree: &Tree, elem: u32, part: u32) -> bool
     ensures { IsTrue result ↔ HasWords tree.now part (2 * elem) elem }
 {
@@ -204,7 +205,7 @@ fn is_operator(tree: &Tree, elem: u32, part: u32) -> bool
     }
 }
 
-/// Whether the numbers and the parts of a loop fit it.
+/// Returns true exactly if the numbers and the parts of a loop fit it.
 fn is_lawful_loop(tree: &Tree, turns: u32, tokens: u32, node: &Node) -> bool
     ensures { IsTrue result
         ↔ HasTwoParts (IsLawfulLoop tree.now turns tokens node.now.ins node.now.outs)
@@ -217,14 +218,14 @@ fn is_lawful_loop(tree: &Tree, turns: u32, tokens: u32, node: &Node) -> bool
     }
 }
 
-/// Whether the turns and tokens of a loop are in their limits.
+/// Returns true exactly if the turns and tokens of a loop are in their limits.
 fn has_loop_limits(turns: u32, tokens: u32) -> bool
     ensures { IsTrue result ↔ HasLoopLimits turns tokens }
 {
     1 <= turns && turns <= MOST_TURNS && 1 <= tokens && tokens <= MOST_TOKENS
 }
 
-/// Whether a body and a condition fit a loop.
+/// Returns true exactly if a body and a condition fit a loop.
 fn are_loop_parts(tree: &Tree, node: &Node, body: u32, condition: u32) -> bool
     ensures { IsTrue result ↔ AreLoopParts tree.now node.now.ins node.now.outs body condition }
 {
@@ -234,7 +235,7 @@ fn are_loop_parts(tree: &Tree, node: &Node, body: u32, condition: u32) -> bool
         && is_sequential(tree, NESTING, condition)
 }
 
-/// Whether the parts of a node fit it.
+/// Returns true exactly if the parts of a node fit it.
 fn is_lawful_form(tree: &Tree, node: &Node) -> bool
     ensures { IsTrue result
         ↔ IsLawfulForm tree.now node.now.form node.now.ins node.now.outs node.now.parts }
@@ -251,7 +252,7 @@ fn is_lawful_form(tree: &Tree, node: &Node) -> bool
     }
 }
 
-/// Whether a node has parts that lead from its ins to its outs.
+/// Returns true exactly if a node has parts that lead from its ins to its outs.
 fn is_filled_chain(tree: &Tree, node: &Node) -> bool
     ensures { IsTrue result
         ↔ ((1 ≤ length node.now.parts)
@@ -260,7 +261,7 @@ fn is_filled_chain(tree: &Tree, node: &Node) -> bool
     !node.parts.is_empty() && is_chain(tree, node.ins, node.outs, node.parts.as_slice())
 }
 
-/// Whether the `workers` clause of a form is in its limits.
+/// Returns true exactly if the `workers` clause of a form is in its limits.
 fn has_lawful_workers(form: &Form) -> bool
     ensures { IsTrue result ↔ IfSome (workers_of form.now) (IsCountInRange form.now) }
 {
@@ -270,7 +271,7 @@ fn has_lawful_workers(form: &Form) -> bool
     }
 }
 
-/// Whether a node keeps the rules of its form.
+/// Returns true exactly if a node keeps the rules of its form.
 fn is_lawful_node(tree: &Tree, node: &Node) -> bool
     ensures { IsTrue result ↔ IsLawfulNode tree.now node.now }
 {
@@ -281,7 +282,7 @@ fn is_lawful_node(tree: &Tree, node: &Node) -> bool
         && is_lawful_form(tree, node)
 }
 
-/// Whether all nodes keep the rules of their forms.
+/// Returns true exactly if all nodes keep the rules of their forms.
 fn has_lawful_nodes(tree: &Tree) -> bool
     ensures { IsTrue result ↔ All (IsLawfulNode tree.now) tree.now.nodes }
 {
@@ -291,7 +292,8 @@ fn has_lawful_nodes(tree: &Tree) -> bool
         .all(|node| is_lawful_node(tree, node))
 }
 
-/// Whether the nodes are numbered in preorder and nested no deeper than they may be.
+/// Returns true exactly if the nodes are numbered in preorder and nested no deeper than they may
+/// be.
 fn is_in_preorder(tree: &Tree) -> bool
     requires { length tree.now.nodes ≤ 128 }
     ensures { IsTrue result ↔ IsSubtree 6 tree.now 0 (length tree.now.nodes) }
@@ -302,8 +304,8 @@ fn is_in_preorder(tree: &Tree) -> bool
     }
 }
 
-/// Whether a tree keeps all rules: its order, its numbers, its wiring, its rescue numbers, the
-/// agreement of each module's nodes and the limit on the work of one item.
+/// Returns true exactly if a tree keeps all rules: its order, its numbers, its wiring, its rescue
+/// numbers, the agreement of each module's nodes and the limit on the work of one item.
 pub fn lawful_tree(tree: &Tree) -> bool
     ensures { IsTrue result ↔ IsLawfulTree tree.now }
 {

@@ -8,7 +8,7 @@ pub mod element;
 pub mod lawful;
 pub mod laws;
 pub mod outcome;
-mod shape;
+pub mod shape;
 pub mod tree;
 pub mod units;
 pub mod work;

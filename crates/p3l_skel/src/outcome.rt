@@ -18,8 +18,8 @@ pub fn copied(alloc: Global, words: &Words) -> Result<Words, NoMemory>
     Words::from_slice(alloc, words.as_slice())
 }
 
-/// What an operator is to be run on, of what the two halves of a fold came to: the words of the
-/// left followed by those of the right, or the left trap, else the right one.
+/// Returns what an operator is to be run on, of what the two halves of a fold came to: the words of
+/// the left followed by those of the right, or the left trap, else the right one.
 pub fn paired(alloc: Global, left: Outcome, right: Outcome) -> Result<Outcome, NoMemory>
     ensures { IfGiven result (λ both. (operator : List ℤ → Outcome)
         → on_value operator both ≡ combined operator left right) }
@@ -34,7 +34,8 @@ pub fn paired(alloc: Global, left: Outcome, right: Outcome) -> Result<Outcome, N
     }
 }
 
-/// Whether the words of a loop's condition say that the loop is done: the word is 0.
+/// Returns true exactly if the words of a loop's condition say that the loop is done: the word is
+/// 0.
 pub fn is_done(answer: &Words) -> bool
     ensures { result ≡ is_done answer.now }
 {

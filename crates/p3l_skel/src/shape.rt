@@ -27,7 +27,8 @@ pub fn subtree_end(tree: &Tree, levels: u32, number: u32) -> Option<u32>
     Some(next)
 }
 
-/// Whether a node is sequential, as far as `levels` levels show.
+/// Returns true exactly if a node is sequential, as far as `levels` levels show: if one process can
+/// run it.
 pub fn is_sequential(tree: &Tree, levels: u32, number: u32) -> bool
     ensures { result ≡ sequential_to tree.now levels number }
 {
@@ -40,7 +41,8 @@ pub fn is_sequential(tree: &Tree, levels: u32, number: u32) -> bool
     is_sequential_over(&node.form, is_sequential(tree, levels - 1, node.part(0)))
 }
 
-/// Whether a node of this form is sequential, where it is known whether its first part is.
+// Returns true exactly if a node of this form is sequential, where it is known whether its first part
+// is.
 fn is_sequential_over(form: &Form, part: bool) -> bool
     ensures { result ≡ sequential_row form.now part }
 {

@@ -10,7 +10,7 @@ use std::alloc::Global;
 /// How deep nodes are nested at most; the root counts as one level.
 pub const NESTING: u32 = 6;
 
-/// What a node does with an item, and the numbers of its module's clauses.
+/// The skeleton of a node, with the numbers of its module's clauses.
 #[derive(Debug, Drop)]
 pub enum Form {
     /// Runs the body of a `seq` module.

@@ -20,11 +20,11 @@ pub trait Units {
     /// The tree that the object serves.
     ghost tree: { Self → Tree };
 
-    /// What the `seq` module of a number makes of an item's words.
+    /// The outcome of an item's words in the `seq` module of a number.
     ghost leaf: { Self → ℕ → List ℤ → Outcome };
 
-    /// Whether `run` may say that memory ran out where no request was refused. Tables of compiled bodies
-    /// never do.
+    /// True if `run` may say that memory ran out where no request was refused. Tables of compiled
+    /// bodies never do.
     ghost may_want: { Bool };
 
     /// Runs a sequential node on the words of an item; a reduce node folds as many elements as

@@ -143,7 +143,7 @@ fn runs(tree: &Tree, levels: u32, number: u32) -> u64
     runs_over(&node.form, inner)
 }
 
-/// Whether one item makes no more work than the limit.
+/// Returns true exactly if one item makes no more work than the limit.
 pub fn is_light(tree: &Tree) -> bool
     ensures { IsTrue result ↔ IsLight tree.now }
 {

@@ -2,7 +2,7 @@
 
 use p3l_base::Outcome;
 
-/// Whether two outcomes are the same.
+/// Returns true exactly if two outcomes are the same.
 pub fn is_same(one: &Outcome, other: &Outcome) -> bool {
     match (one, other) {
         (Outcome::Value(words), Outcome::Value(others)) => words.as_slice() == others.as_slice(),
@@ -11,7 +11,7 @@ pub fn is_same(one: &Outcome, other: &Outcome) -> bool {
     }
 }
 
-/// Whether an outcome is the value of these words.
+/// Returns true exactly if an outcome is the value of these words.
 pub fn has_words(outcome: &Outcome, words: &[i64]) -> bool {
     match outcome {
         Outcome::Value(value) => value.as_slice() == words,
@@ -19,7 +19,7 @@ pub fn has_words(outcome: &Outcome, words: &[i64]) -> bool {
     }
 }
 
-/// Whether an outcome is a trap.
+/// Returns true exactly if an outcome is a trap.
 pub fn is_trap(outcome: &Outcome) -> bool {
     matches!(outcome, Outcome::Trapped(_))
 }

@@ -6,7 +6,6 @@ mod greatest;
 pub mod laws;
 mod look;
 pub mod price;
-pub mod ticks;
 pub mod timer;
 
 pub use timer::Timer;

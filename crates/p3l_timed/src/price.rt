@@ -9,11 +9,11 @@ ghost use Rattle.p3l_model.specs.NodeCost.{timed};
 ghost use Rattle.p3l_model.specs.Service.{fold_service, join_service, transfer, unit_service};
 ghost use Rattle.p3l_timed.specs.Price.{counted, counted_prices, len_of, part_ticks, price_of, run_price};
 
-use crate::ticks::{ticks, transfer};
 use p3l_base::NoMemory;
 use p3l_cost::Costs;
 use p3l_firing::{Net, Proc, ProcKind};
 use p3l_model::NEVER;
+use p3l_model::ticks::{ticks, transfer};
 use p3l_skel::{Form, Tree};
 use std::alloc::Global;
 

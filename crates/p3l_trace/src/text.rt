@@ -133,7 +133,7 @@ pub fn read_trace(alloc: Global, text: &[u8]) -> Result<Traced, TraceRefusal>
         → text.now ≡ trace_format.spell traced → Answers text.now result (Ok traced) }
     // The line that is reported is the first that isn't of its form, whatever reads it.
     ensures first { ReportsFirst text.now result }
-    // Which line the format's own reading reports.
+    // The line that the format's own reading reports.
     ensures exact { Answers text.now result (read_all trace_format text.now) }
 {
     match p3l_format::decode(&TraceField { alloc }, alloc, text) {

@@ -83,12 +83,12 @@ const BROKEN: [(usize, ModuleRow); 24] = [
     (7, (Shape::Seq, 5, 2, 1, &[])),
 ];
 
-/// Whether a tree is lawful.
+/// Tells whether a tree is lawful.
 fn is_lawful(alloc: Global, sketch: Sketch) -> Result<bool, NoMemory> {
     Ok(lawful_tree(&tree_with(alloc, sketch.0, sketch.1)?))
 }
 
-/// Whether a tree is lawful with another row in one place.
+/// Tells whether a tree is lawful with another row in one place.
 fn is_lawful_with(
     alloc: Global,
     sketch: Sketch,
@@ -122,7 +122,7 @@ fn one_broken_rule_is_refused(rt: HostRuntime) -> Result<(), Fail> {
     Ok(refuse(&rt, rt.alloc(), WHOLE, &BROKEN)?)
 }
 
-/// Whether the whole tree is lawful with a rescue number for each of its modules in turn.
+/// True if the whole tree is lawful with a rescue number for each of its modules in turn.
 const RESCUES: [bool; 8] = [false, false, true, false, true, true, false, true];
 
 #[test]

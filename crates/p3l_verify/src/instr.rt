@@ -67,7 +67,7 @@ pub fn next_of(place: usize, instr: Instr) -> Option<u32>
     }
 }
 
-// Whether the machine may go on at the next place.
+// Returns true exactly if the machine may go on at the next place.
 fn goes_on(instr: Instr) -> bool
     ensures { result ≡ safe.goes_on instr }
 {
@@ -77,8 +77,8 @@ fn goes_on(instr: Instr) -> bool
     }
 }
 
-/// Whether an instruction keeps the rules that speak of it alone, at a place with `depth` words on
-/// the stack.
+/// Returns true exactly if an instruction keeps the rules that speak of it alone, at a place with
+/// `depth` words on the stack.
 pub fn is_local(code: &Code, place: usize, instr: Instr, depth: u32) -> bool
     ensures { IsTrue result ↔ IsLocal code.now place instr depth }
 {
@@ -88,7 +88,8 @@ pub fn is_local(code: &Code, place: usize, instr: Instr, depth: u32) -> bool
         && leads(code.instrs.as_slice(), place, target_of(instr))
 }
 
-// Whether the stack has the words that an instruction pops, and room for those that it pushes.
+// Returns true exactly if the stack has the words that an instruction pops, and room for those that
+// it pushes.
 fn has_room(instr: Instr, depth: u32) -> bool
     ensures { IsTrue result ↔ HasRoom instr depth }
 {
@@ -96,7 +97,7 @@ fn has_room(instr: Instr, depth: u32) -> bool
     depth >= popped && depth - popped <= MOST_STACK - pushes(instr)
 }
 
-// Whether the slots that an instruction names lie in the memory.
+// Returns true exactly if the slots that an instruction names lie in the memory.
 fn is_within(memory: u32, instr: Instr) -> bool
     ensures { IsTrue result ↔ safe.IsWithin memory instr }
 {
@@ -110,14 +111,14 @@ fn is_within(memory: u32, instr: Instr) -> bool
     }
 }
 
-// Whether an array has words and lies in the memory.
+// Returns true exactly if an array has words and lies in the memory.
 fn is_array(memory: u32, base: u32, size: u32) -> bool
     ensures { IsTrue result ↔ safe.IsWithin memory (Instr.LoadAt base size) }
 {
     u64::from(base) + u64::from(size) <= u64::from(memory) && size >= 1
 }
 
-// Whether the stack is empty where the code ends.
+// Returns true exactly if the stack is empty where the code ends.
 fn ends_at(instr: Instr, depth: u32) -> bool
     ensures { IsTrue result ↔ safe.EndsAt depth instr }
 {
@@ -127,7 +128,7 @@ fn ends_at(instr: Instr, depth: u32) -> bool
     }
 }
 
-// Whether a jump leads where it may.
+// Returns true exactly if a jump leads where it may.
 fn leads(instrs: &[Instr], place: usize, to: Option<u32>) -> bool
     ensures { IsTrue result ↔ safe.Leads instrs.now place to }
 {
@@ -137,14 +138,15 @@ fn leads(instrs: &[Instr], place: usize, to: Option<u32>) -> bool
     }
 }
 
-// Whether a jump from one place to another stays in the code, and goes forward or to a turn.
+// Returns true exactly if a jump from one place to another stays in the code, and goes forward or
+// to a turn.
 fn leads_to(instrs: &[Instr], place: usize, to: usize) -> bool
     ensures { IsTrue result ↔ safe.Leads instrs.now place (Some to) }
 {
     to < instrs.len() && (to > place || is_turn(instrs[to]))
 }
 
-// Whether an instruction is a turn.
+// Returns true exactly if an instruction is a turn.
 fn is_turn(instr: Instr) -> bool
     ensures { IsTrue result ↔ (instr ≡ Turn) }
 {

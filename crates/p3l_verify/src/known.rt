@@ -1,4 +1,4 @@
-// What is known of the depths of places.
+// Depths of places, as far as they are known.
 
 ghost use Rattle.std.specs.Prelude.{◌≡◌, ◌↔◌, ◌<◌, length, Some, None, slice_get, slice_set, IsTrue};
 ghost use Rattle.p3l_verify.specs.Known.{CanNote, CanNoteAt, IsFree, noted_at};
@@ -28,7 +28,7 @@ pub fn note(known: &mut [Option<u32>], place: usize, depth: u32) -> bool
     true
 }
 
-// Whether no other depth is known.
+// Returns true exactly if no other depth is known.
 fn is_free(known: Option<u32>, depth: u32) -> bool
     ensures { IsTrue result ↔ IsFree known depth }
 {

@@ -24,7 +24,7 @@ pub fn verify(alloc: Global, code: Code) -> Result<Option<SafeCode>, NoMemory>
     Ok(None)
 }
 
-// Whether the numbers of a code keep the rules.
+// Returns true exactly if the numbers of a code keep the rules.
 fn has_sizes(code: &Code) -> bool
     ensures { IsTrue result ↔ HasSizes code.now }
 {
@@ -35,7 +35,8 @@ fn has_sizes(code: &Code) -> bool
         && code.budget <= MOST_BUDGET
 }
 
-// Whether the places of a code have depths that keep the rules: goes over the places once, upwards.
+// Tells whether the places of a code have depths that keep the rules: goes over the places once,
+// upwards.
 fn has_depths(alloc: Global, code: &Code) -> Result<bool, NoMemory>
     requires { length code.now.instrs ≤ most_instructions }
     ensures { IfGiven result (λ holds. IsTrue holds ↔ HasDepths code.now) }

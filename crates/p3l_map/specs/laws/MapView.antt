@@ -7,9 +7,10 @@ use Rattle.std.proofs.lemmas.Bool.{and_parts, and_from}
 use Rattle.std.proofs.lemmas.List.{map-append}
 use Rattle.p3l_firing.specs.Lists.{first_or, rest_of, has_first}
 use Rattle.p3l_firing.specs.At.{at}
-use Rattle.p3l_firing.specs.Token.{over, bodies, credit}
+use Rattle.p3l_firing.proofs.TagLaw.{same_tags-refl}
+use Rattle.p3l_firing.specs.Token.{over, bodies, credit, same_tags}
 use Rattle.p3l_firing.specs.declared.token.Token.{Token}
-use Rattle.p3l_map.specs.Map.{Pieces, spot, piece, pieces, outcomes, joined, mapped, View, unsent, under_way, whole, to_come, next_piece, scatter_ok, well_kept, same_tags, all_tagged, alike, all_alike}
+use Rattle.p3l_map.specs.Map.{Pieces, spot, piece, pieces, outcomes, joined, mapped, View, unsent, under_way, whole, to_come, next_piece, scatter_ok, well_kept, all_tagged, alike, all_alike}
 use Rattle.p3l_map.specs.Places.{read_by, in_by, total, groups, left}
 use Rattle.p3l_map.specs.laws.GroupLaw.{groups_append, one_group, left_append}
 use Rattle.p3l_map.specs.laws.Turns.{turns_more, read_moved, total_at}
@@ -70,11 +71,6 @@ pieces_first q k zero x h = absurd (omega arith)
 pieces_first q k (suc m) x h = refl
 
 -- the pieces of one token are alike
-same_tags-refl : (ts : List ℕ) → same_tags ts ts ≡ true
-unfolding same_tags
-same_tags-refl [] = refl
-same_tags-refl (t ∷ ts) = and_from _ _ (eq-eqb t t refl) (same_tags-refl ts)
-
 pieces_tagged : (q : Pieces) (k m : ℕ) (x : Token) → all_tagged x.tags (pieces q k m x) ≡ true
 unfolding all_tagged pieces
 pieces_tagged q k zero x = refl

@@ -4,10 +4,10 @@ use Rattle.std.proofs.lemmas.Bool.{cases_Bool, cond-true, cond-false}
 use Rattle.std.proofs.lemmas.List.{map-append, length-replicate}
 use Rattle.p3l_base.specs.declared.outcome.Outcome.TheVariants.{Value}
 use Rattle.p3l_firing.specs.State.{State}
-use Rattle.p3l_firing.specs.Token.{over}
+use Rattle.p3l_firing.specs.Token.{over, same_tags}
 use Rattle.p3l_firing.specs.declared.token.Token.{Token}
 use Rattle.p3l_firing.specs.kinds.Join.{paired_by}
-use Rattle.p3l_reduce.specs.JoinTree.{Folding, View, unsent, pairwise, after_node, flow, same_tags, matched, even, split_ok, well_kept}
+use Rattle.p3l_reduce.specs.JoinTree.{Folding, View, unsent, pairwise, after_node, flow, matched, even, split_ok, well_kept}
 use Rattle.p3l_reduce.specs.Reduce.{folding_of, view_of, tree_part, tree_shape, reduce_shape}
 use Rattle.p3l_reduce.specs.laws.ReduceLaw.{tree_procs}
 use Rattle.p3l_template.specs.Part.{Part, all_orderly}

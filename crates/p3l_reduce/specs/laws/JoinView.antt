@@ -4,18 +4,14 @@
 use Rattle.std.proofs.Common.{◌≡◌, ℕ, zero, suc, ◌+◌, ◌-◌, ◌≤◌, ◌<◌, ◌≢◌, ◌⊎◌, inl, inr, ◌&&◌, cond, nat_lt, Bool, true, false, List, [], ◌∷◌, ◌++◌, map, length, refl, sym, ap, ap₂, ◌∙◌, subst, arith, append_assoc, append-nil, length-append, lt-ltb, eq-eqb, le_refl, le-ltb}
 use Rattle.std.proofs.lemmas.Bool.{and_parts, and_from, cases_eq, cases_lt, cond-true, cond-false}
 use Rattle.std.proofs.lemmas.List.{map-append, length-map}
-use Rattle.p3l_firing.specs.Token.{over}
+use Rattle.p3l_firing.proofs.TagLaw.{same_tags-refl}
+use Rattle.p3l_firing.specs.Token.{over, same_tags}
 use Rattle.p3l_firing.specs.declared.token.Token.{Token}
 use Rattle.p3l_firing.specs.kinds.Join.{paired_by}
-use Rattle.p3l_reduce.specs.JoinTree.{Folding, View, leaf_of, joined, unsent, pairwise, after_node, flow, same_tags, matched, even, left_flows, held_count}
+use Rattle.p3l_reduce.specs.JoinTree.{Folding, View, leaf_of, joined, unsent, pairwise, after_node, flow, matched, even, left_flows, held_count}
 use Rattle.p3l_reduce.specs.laws.Heap.{Deep, Below, join_count}
 
 -- LISTS COMBINED PAIRWISE
-tags_refl : (ts : List ℕ) → same_tags ts ts ≡ true
-unfolding same_tags
-tags_refl [] = refl
-tags_refl (t ∷ ts) = and_from _ _ (eq-eqb t t refl) (tags_refl ts)
-
 pub matched_length : (xs ys : List Token) → matched xs ys ≡ true → length xs ≡ length ys
 unfolding matched
 matched_length [] [] h = refl
@@ -30,7 +26,7 @@ matched_rest x y xs ys h = (and_parts _ _ h).1
 matched_more : (xs ys : List Token) (a b : Token) → a.tags ≡ b.tags → matched xs ys ≡ true →
     matched (xs ++ a ∷ []) (ys ++ b ∷ []) ≡ true
 unfolding matched
-matched_more [] [] a b e h = and_from _ _ (ap (same_tags a.tags) (sym e) ∙ tags_refl a.tags) refl
+matched_more [] [] a b e h = and_from _ _ (ap (same_tags a.tags) (sym e) ∙ same_tags-refl a.tags) refl
 matched_more [] (y ∷ ys) a b e h = cc
 matched_more (x ∷ xs) [] a b e h = cc
 matched_more (x ∷ xs) (y ∷ ys) a b e h = and_from _ _ (and_parts _ _ h).0 (matched_more xs ys a b e (and_parts _ _ h).1)

@@ -1,6 +1,7 @@
 use Rattle.std.proofs.Common.{◌≡◌, ◌+◌, ◌&&◌, drop, length, sym, ap, ap₂, ◌∙◌, arith}
 use Rattle.p3l_firing.specs.declared.token.Token.{Token}
-use Rattle.p3l_reduce.specs.JoinTree.{matched, same_tags}
+use Rattle.p3l_firing.specs.Token.{same_tags}
+use Rattle.p3l_reduce.specs.JoinTree.{matched}
 use Rattle.p3l_orderly.proofs.MatchedSteps.{lengths_differ, matched_left, matched_end}
 use Rattle.p3l_orderly.proofs.matched.are_matched.Goals as goal
 

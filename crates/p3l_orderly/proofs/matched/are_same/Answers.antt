@@ -1,5 +1,5 @@
 use Rattle.std.proofs.Common.{◌≡◌, [], length, sym, ap, ap₂, ◌∙◌, arith}
-use Rattle.p3l_reduce.specs.JoinTree.{same_tags}
+use Rattle.p3l_firing.specs.Token.{same_tags}
 use Rattle.p3l_orderly.proofs.MatchedSteps.{both_later, none_right, other_newest, none_left, fewer_later}
 use Rattle.p3l_orderly.proofs.matched.are_same.Goals as goal
 use Rattle.p3l_orderly.proofs.matched.are_same.Goals.{then-is_empty-via-then-is_empty, then-is_empty-via-else-is_empty+then-newest}

@@ -1,5 +1,5 @@
 use Rattle.std.proofs.Common.{◌≡◌, length}
-use Rattle.p3l_reduce.specs.JoinTree.{same_tags}
+use Rattle.p3l_firing.specs.Token.{same_tags}
 use Rattle.p3l_orderly.proofs.matched.are_same.Given as goal
 
 -- the tags that are left are the same where all are

@@ -1,7 +1,6 @@
 use Rattle.std.proofs.Common.{◌≡◌, ◌<◌, ℕ, List, [], ◌∷◌, ◌&&◌, not, nat_eq, length, true, false, refl, sym, ap, ap₂, ◌∙◌, arith}
 use Rattle.p3l_firing.specs.Lists.{has_first}
-use Rattle.p3l_firing.specs.Token.{first_tag, later_tags}
-use Rattle.p3l_map.specs.Map.{same_tags}
+use Rattle.p3l_firing.specs.Token.{first_tag, later_tags, same_tags}
 use Rattle.p3l_orderly.proofs.tags.have_same_tags.Goals as goal
 
 shorter : (ts : List ℕ) → has_first ts ≡ true → length (later_tags ts) < length ts

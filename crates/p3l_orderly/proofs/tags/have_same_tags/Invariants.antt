@@ -1,5 +1,5 @@
 use Rattle.std.proofs.Common.{◌≡◌, length}
-use Rattle.p3l_map.specs.Map.{same_tags}
+use Rattle.p3l_firing.specs.Token.{same_tags}
 use Rattle.p3l_orderly.proofs.tags.have_same_tags.Given as goal
 
 abbrev pub invariant-loop-ones : goal.invariant-loop-ones

@@ -1,7 +1,7 @@
 use Rattle.std.proofs.Common.{◌≡◌, ◌-◌, take, sum_by}
 use Rattle.p3l_model.specs.NodeCost.{timed}
 use Rattle.p3l_model.specs.Service.{ticks_to}
-use Rattle.p3l_timed.proofs.ticks.+ticks_from.Given as goal
+use Rattle.p3l_model.proofs.ticks.+ticks_from.Given as goal
 
 abbrev pub decreases-ticks_from : goal.decreases-ticks_from
 decreases-ticks_from l = l.levels

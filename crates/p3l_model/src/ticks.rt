@@ -1,11 +1,11 @@
-// The ticks of nodes.
+// The ticks of tokens and of sequential nodes.
 
-ghost use Rattle.std.specs.Prelude.{◌≡◌, ◌+◌, ◌*◌, ◌<◌, ◌^◌, slice_index};
+ghost use Rattle.std.specs.Prelude.{◌≡◌, ◌<◌, ◌^◌};
 ghost use Rattle.p3l_model.specs.NodeCost.{timed};
 ghost use Rattle.p3l_model.specs.Service.{ticks, ticks_row, ticks_to, transfer};
 
+use crate::cost::{NEVER, element_count, number_of};
 use p3l_cost::Costs;
-use p3l_model::NEVER;
 use p3l_skel::tree::NESTING;
 use p3l_skel::{Form, Tree};
 
@@ -40,19 +40,7 @@ fn ticks_from(tree: &Tree, costs: &Costs, levels: u32, number: u32) -> u128
             .saturating_add(ticks_from(tree, costs, levels - 1, *part))
             .min(NEVER);
     }
-    ticks_over(&node.form, own_ticks(costs, node.module), inner)
-}
-
-// The ticks of a module, and 0 past the last.
-fn own_ticks(costs: &Costs, home: u32) -> u32
-    ensures { result ≡ slice_index costs.now.ticks home }
-{
-    costs
-        .ticks
-        .as_slice()
-        .get(home as usize)
-        .copied()
-        .unwrap_or(0)
+    ticks_over(&node.form, number_of(&costs.ticks, node.module), inner)
 }
 
 // The ticks of a node of this form, whose module has `own` and whose parts have `inner` in all, as
@@ -63,7 +51,7 @@ fn ticks_over(form: &Form, own: u32, inner: u128) -> u128
     match form {
         Form::Seq => own as u128,
         Form::Comp => inner.min(NEVER),
-        Form::Map { cut, .. } => (cut.first as u128 * cut.second as u128)
+        Form::Map { cut, .. } => (element_count(cut) as u128)
             .saturating_mul(inner)
             .min(NEVER),
         Form::Reduce { len, .. } => (len.saturating_sub(1) as u128)

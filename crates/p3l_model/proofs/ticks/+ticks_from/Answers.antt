@@ -4,7 +4,7 @@ use Rattle.std.proofs.lemmas.List.{take_all}
 use Rattle.p3l_model.specs.NodeCost.{timed}
 use Rattle.p3l_model.specs.Service.{ticks_to}
 use Rattle.p3l_model.proofs.Ticks.{ticks_to-zero, ticks_to-step, ticks_to-past, ticks_row-timed}
-use Rattle.p3l_timed.proofs.ticks.+ticks_from.Goals as goal
+use Rattle.p3l_model.proofs.ticks.+ticks_from.Goals as goal
 
 pub returns-then-levels-eq0 : goal.returns-then-levels-eq0
 returns-then-levels-eq0 t c = rw (c.if-levels-eq0.true, ticks_to-zero) refl
@@ -21,5 +21,5 @@ returns t c =
     let node = c.in-Some.node.now in
     let all : c.loop-part.inner ≡ timed (sum_by below node.parts) =
     rw (← c.as_slice-part-items.ensures, ← take_all c.loop-part.part-index c.as_slice-part-items.result.now c.loop-part-test.false) c.loop-part.invariant in
-    rw (ticks_to-step c.args.tree.now c.args.costs.now c.args.levels c.args.number some, ← c.in-Some.ensures.found, c.ticks_over.ensures, c.own_ticks.ensures, all)
+    rw (ticks_to-step c.args.tree.now c.args.costs.now c.args.levels c.args.number some, ← c.in-Some.ensures.found, c.ticks_over.ensures, c.number_of.ensures, all)
     (ticks_row-timed node.form (slice_index c.args.costs.now.ticks node.module) _)
