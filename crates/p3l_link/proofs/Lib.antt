@@ -10,6 +10,7 @@ pub mod MapMeaning
 pub mod ReduceMeaning
 pub mod LoopMeaning
 pub mod RoleLaw
+pub mod ShapeSound
 pub mod Sound
 pub mod Round
 pub mod Carried
