@@ -6,12 +6,13 @@ use Rattle.clap.specs.Words.{Row, Text}
 use Rattle.p3l_opts.specs.declared.command.Build.{Build}
 use Rattle.p3l_opts.specs.declared.command.Command.{Command}
 use Rattle.p3l_opts.specs.declared.command.Command.TheVariants as command
+use Rattle.p3l_opts.specs.declared.command.Exported.{Exported}
 use Rattle.p3l_opts.specs.declared.command.Sched.{Sched}
 use Rattle.p3l_opts.specs.declared.command.Sched.TheVariants as sched
 use Rattle.p3l_opts.specs.declared.verb.Verb.{Verb}
 use Rattle.p3l_opts.specs.declared.verb.Verb.TheVariants as verb
 use Rattle.p3l_opts.specs.Verb.{name_of, rows}
-use Rattle.p3l_opts.specs.Command.{HasAdvise, HasBuild, HasCapacity, HasCount, HasItems, HasMost, HasNumber, HasSchedule, HasValues, SpellsSchedule, verb_of}
+use Rattle.p3l_opts.specs.Command.{HasAdvise, HasBuild, HasCapacity, HasChoice, HasCount, HasExported, HasItems, HasMost, HasNumber, HasSchedule, HasValues, SpellsSchedule, verb_of}
 use Rattle.p3l_opts.specs.Laws.{SpellsOneAtMost}
 
 -- the verb of a name
@@ -25,6 +26,7 @@ verb_named text =
     else if bytes_eq text (codes "run") then Some verb.Run
     else if bytes_eq text (codes "exec") then Some verb.Exec
     else if bytes_eq text (codes "migrate") then Some verb.Migrate
+    else if bytes_eq text (codes "export") then Some verb.Export
     else if bytes_eq text (codes "graph") then Some verb.Graph
     else if bytes_eq text (codes "verify-cert") then Some verb.VerifyCert
     else if bytes_eq text (codes "check-trace") then Some verb.CheckTrace
@@ -57,6 +59,12 @@ one_count most text m n low p q =
 one_capacity : (text : Option Text) (m n : ℕ) → HasCapacity text m → HasCapacity text n → m ≡ n
 one_capacity None m n p q = p ∙ sym q
 one_capacity (Some text) m n p q = one_count 1024 (Some text) m n (omega arith) p q
+
+one_choice : (text : Option Text) (m n : Option ℕ) → HasChoice text m → HasChoice text n → m ≡ n
+one_choice None m n p q = p ∙ sym q
+one_choice (Some text) None n p q = absurd p
+one_choice (Some text) (Some m) None p q = absurd q
+one_choice (Some text) (Some m) (Some n) p q = ap Some (one_count 1024 (Some text) m n (omega arith) p q)
 
 -- and of one schedule
 one_spelled : (text : Text) (s t : Sched) → SpellsSchedule text s → SpellsSchedule text t → s ≡ t
@@ -107,6 +115,14 @@ one_build found capacity a b p q = λ i. record {
   capacity = one_capacity _ _ _ p.capacity_is q.capacity_is i;
 }
 
+one_exported : (found : List Row) (a b : Exported) → HasExported found a → HasExported found b → a ≡ b
+one_exported found a b p q = λ i. record {
+  program = one_name _ _ _ p.program q.program i;
+  processors = one_count 512 _ _ _ (omega arith) p.processors q.processors i;
+  costs = (p.costs ∙ sym q.costs) i;
+  capacity = one_choice _ _ _ p.capacity_is q.capacity_is i;
+}
+
 one_most : (text : Option Text) (m n : ℕ) → HasMost text m → HasMost text n → m ≡ n
 one_most None m n p q = p ∙ sym q
 one_most (Some text) m n p q = one_count 512 (Some text) m n (omega arith) p q
@@ -131,6 +147,7 @@ one_command found (command.Run x s t r) (command.Run y s' t' r') v ha hb = λ i.
 one_command found (command.Exec x s t r) (command.Exec y s' t' r') v ha hb = λ i.
     command.Exec (one_name _ _ _ ha.0 hb.0 i) (one_schedule _ _ _ ha.1.picks hb.1.picks i) ((ha.1.traced ∙ sym hb.1.traced) i) ((ha.1.reported ∙ sym hb.1.reported) i)
 one_command found (command.Migrate x o) (command.Migrate y p) v ha hb = λ i. command.Migrate (one_name _ _ _ ha.0 hb.0 i) (one_name _ _ _ ha.1 hb.1 i)
+one_command found (command.Export x o) (command.Export y p) v ha hb = λ i. command.Export (one_exported _ x y ha.0 hb.0 i) (one_name _ _ _ ha.1 hb.1 i)
 one_command found (command.Graph x) (command.Graph y) v ha hb = ap command.Graph (one_build _ _ x y ha hb)
 one_command found (command.VerifyCert x c k) (command.VerifyCert y d l) v ha hb = λ i. command.VerifyCert (one_name _ _ _ ha.0 hb.0 i) (one_name _ _ _ ha.1 hb.1 i) ((ha.2 ∙ sym hb.2) i)
 one_command found (command.CheckTrace x t) (command.CheckTrace y u) v ha hb = λ i. command.CheckTrace (one_build _ _ x y ha.0 hb.0 i) (one_name _ _ _ ha.1 hb.1 i)

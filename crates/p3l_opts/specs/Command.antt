@@ -7,6 +7,7 @@ use Rattle.clap.specs.Words.{Row, Text, first_of}
 use Rattle.p3l_opts.specs.declared.command.Build.{Build}
 use Rattle.p3l_opts.specs.declared.command.Command.{Command}
 use Rattle.p3l_opts.specs.declared.command.Command.TheVariants as command
+use Rattle.p3l_opts.specs.declared.command.Exported.{Exported}
 use Rattle.p3l_opts.specs.declared.command.Sched.{Sched}
 use Rattle.p3l_opts.specs.declared.command.Sched.TheVariants as sched
 use Rattle.p3l_opts.specs.declared.verb.Verb.{Verb}
@@ -27,6 +28,7 @@ verb_of (command.Compile build output) = verb.Compile
 verb_of (command.Run build schedule trace stats) = verb.Run
 verb_of (command.Exec image schedule trace stats) = verb.Exec
 verb_of (command.Migrate image output) = verb.Migrate
+verb_of (command.Export exported output) = verb.Export
 verb_of (command.Graph build) = verb.Graph
 verb_of (command.VerifyCert program cert costs) = verb.VerifyCert
 verb_of (command.CheckTrace build trace) = verb.CheckTrace
@@ -61,6 +63,12 @@ HasSegments = HasCount most_workers
 abbrev pub HasCapacity : Option Text → ℕ → Type 0
 HasCapacity None capacity = capacity ≡ 4
 HasCapacity (Some text) capacity = HasCount most_tokens (Some text) capacity
+
+-- the same of a capacity of all channels, which is chosen for each where no word spells it
+abbrev pub HasChoice : Option Text → Option ℕ → Type 0
+HasChoice None capacity = capacity ≡ None
+HasChoice (Some text) None = ⊥
+HasChoice (Some text) (Some capacity) = HasCount most_tokens (Some text) capacity
 
 -- the text is `rr`, `seed:N` with a number of 64 bits in decimal digits without a leading zero, or `file:NAME`
 abbrev pub SpellsSchedule : Text → Sched → Type 0
@@ -100,6 +108,13 @@ pub record HasBuild (found : List Row) (capacity : Option Text) (build : Build) 
   pub processors : HasProcessors (first_of (codes "processors") found) build.processors
   pub costs : build.costs ≡ first_of (codes "costs") found
   pub capacity_is : HasCapacity capacity build.capacity
+
+-- which program is exported, and by what its file is made
+pub record HasExported (found : List Row) (exported : Exported) : Type 0 where
+  pub program : first_of (codes "program") found ≡ Some exported.program
+  pub processors : HasProcessors (first_of (codes "processors") found) exported.processors
+  pub costs : exported.costs ≡ first_of (codes "costs") found
+  pub capacity_is : HasChoice (first_of (codes "capacity") found) exported.capacity
 
 -- up to how many processors advice is given, for which program and costs, and of which kind
 pub record HasAdvise (found : List Row) (build : Build) (processes : Bool) : Type 0 where
@@ -154,6 +169,7 @@ HasValues found (command.Compile build output) = HasBuild found (first_of (codes
 HasValues found (command.Run build schedule trace stats) = HasBuild found (first_of (codes "capacity") found) build × HasRun found schedule trace stats
 HasValues found (command.Exec image schedule trace stats) = (first_of (codes "image") found ≡ Some image) × HasRun found schedule trace stats
 HasValues found (command.Migrate image output) = (first_of (codes "image") found ≡ Some image) × (first_of (codes "output") found ≡ Some output)
+HasValues found (command.Export exported output) = HasExported found exported × (first_of (codes "output") found ≡ Some output)
 HasValues found (command.Graph build) = HasBuild found (first_of (codes "capacity") found) build
 HasValues found (command.VerifyCert program cert costs) =
     (first_of (codes "program") found ≡ Some program) × (first_of (codes "cert") found ≡ Some cert) × (costs ≡ first_of (codes "costs") found)

@@ -16,6 +16,7 @@ name_of verb.Compile = codes "compile"
 name_of verb.Run = codes "run"
 name_of verb.Exec = codes "exec"
 name_of verb.Migrate = codes "migrate"
+name_of verb.Export = codes "export"
 name_of verb.Graph = codes "graph"
 name_of verb.VerifyCert = codes "verify-cert"
 name_of verb.CheckTrace = codes "check-trace"
@@ -68,6 +69,13 @@ rules_of verb.Exec =
 rules_of verb.Migrate =
     rule_for (codes "image") Positional
     ∷ rule_for (codes "output") Mandatory
+    ∷ []
+rules_of verb.Export =
+    rule_for (codes "program") Positional
+    ∷ rule_for (codes "processors") Mandatory
+    ∷ rule_for (codes "output") Mandatory
+    ∷ rule_for (codes "costs") Optional
+    ∷ rule_for (codes "capacity") Optional
     ∷ []
 rules_of verb.Graph =
     rule_for (codes "program") Positional

@@ -31,6 +31,9 @@ pub enum Command {
     /// `migrate IMAGE --output FILE`: writes an image of the newest version with its network linked
     /// anew. It has the names of the image's file and of the file that is written.
     Migrate(Name, Name),
+    /// `export PROGRAM --processors P --output FILE [--costs FILE] [--capacity C]`: writes a C file of
+    /// a program. It has what is exported, and the name of the file that is written.
+    Export(Exported, Name),
     /// `graph PROGRAM --processors P [--costs FILE] [--capacity C]`: writes a picture of the network.
     /// It has how the network is built.
     Graph(Build),
@@ -80,6 +83,20 @@ pub struct Build {
     pub costs: Option<Name>,
     /// How many tokens a channel holds at most, 1 to 1,024.
     pub capacity: u32,
+}
+
+/// A program that is exported, and by what its file is made.
+#[derive(Drop)]
+pub struct Exported {
+    /// The name of the program's file.
+    pub program: Name,
+    /// How many processors there are, 1 to 512.
+    pub processors: u32,
+    /// The name of the file of costs; without one, the standard costs hold.
+    pub costs: Option<Name>,
+    /// How many tokens a channel holds at most, 1 to 1,024; without one, a capacity is chosen for
+    /// each channel.
+    pub capacity: Option<u32>,
 }
 
 /// How picks are made.

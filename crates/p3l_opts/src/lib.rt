@@ -10,7 +10,7 @@ mod value;
 pub mod verb;
 mod words;
 
-pub use command::{Build, Command, OptsRefusal, Sched};
+pub use command::{Build, Command, Exported, OptsRefusal, Sched};
 pub use complaint::complaint_on;
 pub use laws::one_command_at_most;
 pub use verb::Verb;

@@ -1,9 +1,9 @@
 // The values that `clap` finds in the words of a command.
 
-ghost use Rattle.std.specs.Prelude.{◌≡◌, ◌≢◌, ◌⊎◌, ℕ, [], Some, None, IfOk, IfSome, IfNone, IsErrOf, option_map};
+ghost use Rattle.std.specs.Prelude.{◌≡◌, ◌≢◌, ◌⊎◌, ℕ, [], Option, Some, None, IfOk, IfSome, IfNone, IsErrOf, option_map};
 ghost use Rattle.p3l_base.specs.Memory.{IfGiven, Refused};
 ghost use Rattle.clap.specs.Words.{first_of, found_of, kind_of, rows_of};
-ghost use Rattle.p3l_opts.specs.Command.{HasCapacity, HasItems, HasMost, HasNumber, HasProcessors, HasSchedule, HasSegments, says_true, texts_of};
+ghost use Rattle.p3l_opts.specs.Command.{HasCapacity, HasChoice, HasItems, HasMost, HasNumber, HasProcessors, HasSchedule, HasSegments, says_true, texts_of};
 ghost use Rattle.p3l_opts.specs.declared.command.Sched.{Sched};
 ghost use Rattle.p3l_opts.specs.Verb.{faults, rows};
 ghost use Rattle.p3l_opts.specs.Wanted.{ClapWanted};
@@ -140,6 +140,22 @@ pub(crate) fn capacity_in(matches: &ArgMatches, id: &str) -> Option<u32>
     match text_of(matches, id) {
         Some(text) => count_of(text, MOST_TOKENS),
         None => Some(DEFAULT_CAPACITY),
+    }
+}
+
+/// The capacity that the words have for a value, if they have one.
+pub(crate) fn capacity_if_given(matches: &ArgMatches, id: &str) -> Result<Option<u32>, OptsRefusal>
+    ensures ok { IfOk result (HasChoice (first_of id.now (rows_of (found_of matches.now)))) }
+    ensures usage { IsErrOf result OptsRefusal.Usage → (capacity : Option ℕ)
+        → HasChoice (first_of id.now (rows_of (found_of matches.now))) capacity → ⊥ }
+    ensures memory { IsErrOf result OptsRefusal.NoMemory → Refused }
+{
+    match text_of(matches, id) {
+        Some(text) => match count_of(text, MOST_TOKENS) {
+            Some(capacity) => Ok(Some(capacity)),
+            None => Err(OptsRefusal::Usage),
+        },
+        None => Ok(None),
     }
 }
 

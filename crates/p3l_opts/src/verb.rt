@@ -21,6 +21,7 @@ pub enum Verb {
     Run,
     Exec,
     Migrate,
+    Export,
     Graph,
     VerifyCert,
     CheckTrace,
@@ -68,6 +69,9 @@ pub fn verb_of(word: &str) -> Option<Verb>
     }
     if is_word(word, "migrate") {
         return Some(Verb::Migrate);
+    }
+    if is_word(word, "export") {
+        return Some(Verb::Export);
     }
     if is_word(word, "graph") {
         return Some(Verb::Graph);
@@ -169,6 +173,17 @@ pub(crate) fn clap_command<'a>(alloc: Global, verb: Verb) -> Result<Command<'a>,
             &[
                 ("image", Spelling::Positional),
                 ("output", Spelling::Mandatory),
+            ],
+        ),
+        Verb::Export => command_with(
+            alloc,
+            "export",
+            &[
+                ("program", Spelling::Positional),
+                ("processors", Spelling::Mandatory),
+                ("output", Spelling::Mandatory),
+                ("costs", Spelling::Optional),
+                ("capacity", Spelling::Optional),
             ],
         ),
         Verb::Graph => command_with(

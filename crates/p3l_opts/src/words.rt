@@ -3,14 +3,14 @@
 ghost use Rattle.std.specs.Prelude.{◌≡◌, ◌⊎◌, ℕ, List, Option, None, Some, IfOk, IsErrOf, codes, slice_get};
 ghost use Rattle.p3l_base.specs.Memory.{Refused};
 ghost use Rattle.clap.specs.Words.{first_of, found_of, rows_of};
-ghost use Rattle.p3l_opts.specs.Command.{HasBuild, HasCapacity, HasSchedule, HasValues, IsMade, Spells, texts_of, verb_of};
+ghost use Rattle.p3l_opts.specs.Command.{HasBuild, HasCapacity, HasExported, HasSchedule, HasValues, IsMade, Spells, texts_of, verb_of};
 ghost use Rattle.p3l_opts.specs.Verb.{name_of};
 ghost use Rattle.p3l_opts.specs.Wanted.{ClapWanted};
 
-use crate::command::{Build, Command, OptsRefusal, Sched};
+use crate::command::{Build, Command, Exported, OptsRefusal, Sched};
 use crate::matches::{
-    DEFAULT_CAPACITY, capacity_in, is_given, items_in, matches_of, most_in, name_if_given, name_of,
-    number_of, processors_in, schedule_in, segments_in,
+    DEFAULT_CAPACITY, capacity_if_given, capacity_in, is_given, items_in, matches_of, most_in,
+    name_if_given, name_of, number_of, processors_in, schedule_in, segments_in,
 };
 use crate::verb::{Verb, verb_of};
 use clap::ArgMatches;
@@ -62,6 +62,7 @@ fn command_of(alloc: Global, verb: Verb, matches: &ArgMatches) -> Result<Command
         Verb::Run => run_of(alloc, matches),
         Verb::Exec => exec_of(alloc, matches),
         Verb::Migrate => migrate_of(alloc, matches),
+        Verb::Export => export_of(alloc, matches),
         Verb::Graph => Ok(Command::Graph(build_of(alloc, matches)?)),
         Verb::VerifyCert => verify_cert_of(alloc, matches),
         Verb::CheckTrace => check_trace_of(alloc, matches),
@@ -210,6 +211,40 @@ fn migrate_of(alloc: Global, matches: &ArgMatches) -> Result<Command, OptsRefusa
     let image = name_of(alloc, matches, "image")?;
     let output = name_of(alloc, matches, "output")?;
     Ok(Command::Migrate(image, output))
+}
+
+/// What is exported, by the values that were found.
+fn exported_of(alloc: Global, matches: &ArgMatches) -> Result<Exported, OptsRefusal>
+    ensures ok { IfOk result (HasExported (rows_of (found_of matches.now))) }
+    ensures usage { IsErrOf result OptsRefusal.Usage → (exported : Exported)
+        → HasExported (rows_of (found_of matches.now)) exported → ⊥ }
+    ensures memory { IsErrOf result OptsRefusal.NoMemory → Refused }
+{
+    let capacity = capacity_if_given(matches, "capacity")?;
+    let program = name_of(alloc, matches, "program")?;
+    let Some(processors) = processors_in(matches, "processors") else {
+        return Err(OptsRefusal::Usage);
+    };
+    let costs = name_if_given(alloc, matches, "costs")?;
+    Ok(Exported {
+        program,
+        processors,
+        costs,
+        capacity,
+    })
+}
+
+/// The command `export` with the values that were found.
+fn export_of(alloc: Global, matches: &ArgMatches) -> Result<Command, OptsRefusal>
+    ensures verb { IfOk result (λ command. verb_of command ≡ Verb.Export) }
+    ensures values { IfOk result (HasValues (rows_of (found_of matches.now))) }
+    ensures usage { IsErrOf result OptsRefusal.Usage → (command : Command)
+        → verb_of command ≡ Verb.Export → HasValues (rows_of (found_of matches.now)) command → ⊥ }
+    ensures memory { IsErrOf result OptsRefusal.NoMemory → Refused }
+{
+    let exported = exported_of(alloc, matches)?;
+    let output = name_of(alloc, matches, "output")?;
+    Ok(Command::Export(exported, output))
 }
 
 /// The command `verify-cert` with the values that were found.

@@ -34,6 +34,10 @@ pub returns-in-Migrate : goal.returns-in-Migrate
 unfolding app_for
 returns-in-Migrate c = rw c.in-Migrate.is (MatchResult-weaker c.command_with-in-Migrate.result c.command_with-in-Migrate.ensures (λ r e. e) (λ r refused. refused))
 
+pub returns-in-Export : goal.returns-in-Export
+unfolding app_for
+returns-in-Export c = rw c.in-Export.is (MatchResult-weaker c.command_with-in-Export.result c.command_with-in-Export.ensures (λ r e. e) (λ r refused. refused))
+
 pub returns-in-Graph : goal.returns-in-Graph
 unfolding app_for
 returns-in-Graph c = rw c.in-Graph.is (MatchResult-weaker c.command_with-in-Graph.result c.command_with-in-Graph.ensures (λ r e. e) (λ r refused. refused))
