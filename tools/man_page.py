@@ -79,7 +79,7 @@ def word(it):
 def command(it):
     out = [f".SS {escaped(it.name)}", *typed(it.usage)]
     for part in it.parts:
-        out += [".PP", *filled(part)]
+        out += paragraphs(part)
     for each in it.words:
         out += word(each)
     return out

@@ -58,6 +58,35 @@ longer than the old one: one of more than 67,108,864 bytes is written, but
 example: p3l migrate old.img --output new.img
 ";
 
+/// The page of `export`.
+const EXPORT: &str = "usage: p3l export PROGRAM --processors P --output FILE [--costs FILE]
+                  [--capacity C]
+
+Writes a program as one C11 file that needs no other: its functions are the
+bodies, and its tables are the network under the worker counts that are chosen.
+Compiled, it reads items from the standard input, writes what run writes, and
+ends as run does, on one processor, on several or on several machines:
+
+    cc -O2 m.c -o m
+    ./m < items                              one processor
+    ./m --ranks 4 < items                    four processes of this machine
+    mpicc -O2 -DP3L_MPI m.c -o m
+    ./m --ranks 16 [--hosts FILE] < items    sixteen processes of MPI
+
+Nothing is written to the standard output. Results do not depend on the number
+of ranks.
+
+  PROGRAM          the file of the program
+  --processors P   how many processors there are, 1 to 512
+  --output FILE    where to write the C file
+  --costs FILE     the costs by which worker counts and capacities are chosen;
+                   without them the standard costs
+  --capacity C     how many tokens a channel holds at most, 1 to 1,024; if not
+                   given, it is chosen for each channel by the costs
+
+example: p3l export m.p3l --processors 16 --output m.c
+";
+
 /// The page of `graph`.
 const GRAPH: &str = "usage: p3l graph PROGRAM --processors P [--costs FILE] [--capacity C]
 
@@ -328,6 +357,10 @@ pub(crate) const COMMANDS: &[Page] = &[
     Page {
         topic: "migrate",
         text: MIGRATE,
+    },
+    Page {
+        topic: "export",
+        text: EXPORT,
     },
     Page {
         topic: "explain",

@@ -11,6 +11,7 @@ commands:
   compile PROGRAM ..       write the image of a program to a file
   exec IMAGE ..            run an image on the standard input
   migrate IMAGE ..         convert an image to the newest version and relink it
+  export PROGRAM ..        write a program as a C file, for many processors
   explain PROGRAM ..       write the worker counts that are chosen for a program
   advise PROGRAM ..        say what processors buy, and where the time goes
   graph PROGRAM ..         write a picture of a program's network, for Graphviz

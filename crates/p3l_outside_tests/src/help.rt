@@ -12,6 +12,7 @@ explain: PROGRAM, --processors P, --costs FILE, --cert FILE
 advise: PROGRAM, --processors P, --costs FILE, --processes
 compile: PROGRAM, --processors P, --output FILE, --costs FILE, --capacity C
 migrate: IMAGE, --output FILE
+export: PROGRAM, --processors P, --output FILE, --costs FILE, --capacity C
 graph: PROGRAM, --processors P, --costs FILE, --capacity C
 verify-cert: PROGRAM, --cert FILE, --costs FILE
 rewrite: PROGRAM, --processors P, --costs FILE

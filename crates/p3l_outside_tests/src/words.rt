@@ -2,7 +2,7 @@
 
 use crate::lists::spelled_words;
 use p3l_base::Name;
-use p3l_opts::{Build, Command, OptsRefusal, Sched, parse};
+use p3l_opts::{Build, Command, Exported, OptsRefusal, Sched, parse};
 use std::alloc::Global;
 use std::fmt;
 use std::fmt::{Display, Formatter};
@@ -32,6 +32,8 @@ advise|--processes|m|--costs|c|--processors|8 => advise m 8 c 4 true
 compile|a|--output=i|--processors=8|--capacity=2 => compile a 8 - 2 i
 exec|i|--stats => exec i rr - true
 migrate|--output|j|i => migrate i j
+export|a|--output=m.c|--processors=8 => export a 8 - - m.c
+export|--capacity=1024|--costs|c|a|--output|m|--processors|512 => export a 512 c 1024 m
 graph|m|--processors|4|--capacity|1 => graph m 4 - 1
 exec|i|--schedule|seed:7|--trace|t => exec i seed:7 t false
 verify-cert|a|--cert|x => verify-cert a x -
@@ -99,6 +101,11 @@ advise|m|--processors|513
 advise|m|--capacity|1
 exec|i|--processors|4
 migrate|i
+export|m|--processors|4
+export|m|--output|c
+export|m|--processors|4|--output|c|--capacity|0
+export|m|--processors|4|--output|c|--capacity|1025
+export|m|--processors|4|--output|c|--capacity|
 graph|m|--output|g
 verify-cert|m
 check-trace|m|--processors|4
@@ -155,6 +162,8 @@ enum Value<'a> {
     Picks(&'a Sched),
     /// How a network is built: the program, the processors, the costs and the capacity.
     Build(&'a Build),
+    /// What is exported: the program, the processors, the costs and the capacity.
+    Exported(&'a Exported),
     /// No value, where a command has fewer than others.
     Nothing,
 }
@@ -219,6 +228,12 @@ fn values_of(command: &Command) -> (&'static str, [Value<'_>; 5]) {
             )
         }
         Command::Migrate(image, output) => ("migrate", [text(image), text(output), no, no, no]),
+        Command::Export(exported, output) => {
+            (
+                "export",
+                [Value::Exported(exported), text(output), no, no, no],
+            )
+        }
         Command::Graph(build) => ("graph", [Value::Build(build), no, no, no, no]),
         Command::VerifyCert(program, cert, costs) => {
             (
@@ -305,8 +320,17 @@ impl<'a> Display for Value<'a> {
             Value::Number(number) => write!(f, " {number}"),
             Value::Picks(sched) => show_picks(sched, f),
             Value::Build(build) => show_build(build, f),
+            Value::Exported(exported) => show_exported(exported, f),
             Value::Nothing => Ok(()),
         }
+    }
+}
+
+/// Returns a name, or a hyphen.
+fn shown_name(name: &Option<Name>) -> &str {
+    match name {
+        Some(name) => name.as_str(),
+        None => "-",
     }
 }
 
@@ -314,12 +338,21 @@ impl<'a> Display for Value<'a> {
 fn show_build<W: fmt::Write>(build: &Build, f: &mut Formatter<W>) -> fmt::Result {
     let program = build.program.as_str();
     let processors = build.processors;
-    let costs = match &build.costs {
-        Some(costs) => costs.as_str(),
-        None => "-",
-    };
+    let costs = shown_name(&build.costs);
     let capacity = build.capacity;
     write!(f, " {program} {processors} {costs} {capacity}")
+}
+
+/// Writes what is exported, with a hyphen for a capacity that isn't there.
+fn show_exported<W: fmt::Write>(exported: &Exported, f: &mut Formatter<W>) -> fmt::Result {
+    let program = exported.program.as_str();
+    let processors = exported.processors;
+    let costs = shown_name(&exported.costs);
+    write!(f, " {program} {processors} {costs}")?;
+    match exported.capacity {
+        Some(capacity) => write!(f, " {capacity}"),
+        None => f.write_str(" -"),
+    }
 }
 
 /// Writes how picks are made.
