@@ -2,6 +2,8 @@ mod Hand
 pub mod Counted
 pub mod Placing
 pub mod Size
+pub mod Widths
+pub mod Once
 pub mod Typing
 pub mod Walk
 pub mod NodeMeaning
