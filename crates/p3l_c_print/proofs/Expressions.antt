@@ -113,8 +113,8 @@ module _ (names : Names) (margin : List ℕ) (n : ℕ) (op : BinOp) (a b : Phras
       let left = operand_of names (n + 1) a in
       let right = truth_text names (deeper margin) n left.after b in
       let inner_is : inner ≡ right =
-          q ∙ ap (λ t. t ++ truth_text names inside n one.after b) z ∙ ap (λ m. truth_text names m n one.after b) d
-          ∙ ap (λ (x : Value). truth_text names (deeper margin) n x.after b) (v ∙ ap (λ k. operand_of names k a) s) in
+      q ∙ ap (λ t. t ++ truth_text names inside n one.after b) z ∙ ap (λ m. truth_text names m n one.after b) d
+      ∙ ap (λ (x : Value). truth_text names (deeper margin) n x.after b) (v ∙ ap (λ k. operand_of names k a) s) in
       then old middle new (truth_text names margin n (n + 1) a) (undecided_lines op margin n right)
       (p ∙ ap (λ k. old ++ truth_text names margin n k a) s) (r ∙ ap (λ t. middle ++ undecided_lines op margin n t) inner_is)
       ∙ ap (λ t. old ++ t) (sym (front_own names margin n op a b h))

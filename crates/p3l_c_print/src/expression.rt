@@ -145,7 +145,8 @@ impl Names<'_> {
         Ok(value)
     }
 
-    /// The value of an operator between its operands; the lines before its use are put after a text.
+    /// The value of an operator between its operands; the lines before its use are put after a
+    /// text.
     #[cycle(expression)]
     fn put_binary(
         &self,
