@@ -8,3 +8,4 @@ pub mod Expressions
 pub mod Indices
 pub mod Lines
 pub mod Places
+pub mod Weights

@@ -2,6 +2,7 @@
 #![tactic(auto)]
 
 pub mod count;
+pub mod expression;
 pub mod guard;
 pub mod line;
 pub mod names;
