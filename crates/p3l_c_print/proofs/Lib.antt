@@ -8,3 +8,5 @@ pub mod Expressions
 pub mod Indices
 pub mod Lines
 pub mod Places
+pub mod Shapes
+pub mod Functions

@@ -9,9 +9,12 @@ use Rattle.p3l_c_print.specs.Name.{Names, name_text, names_of}
 use Rattle.p3l_c_print.specs.Text.{lines_text}
 use Rattle.p3l_c.specs.Temps.{temps_of}
 
+abbrev pub size_text : ℕ → List ℕ
+size_text size = codes "[" ++ (decimal size ++ codes "]")
+
 unfoldable pub sizes_text : List ℕ → List ℕ
 sizes_text [] = []
-sizes_text (size ∷ sizes) = codes "[" ++ (decimal size ++ (codes "]" ++ sizes_text sizes))
+sizes_text (size ∷ sizes) = size_text size ++ sizes_text sizes
 
 -- an array of more than 512 words has static storage, as stacks may be small
 abbrev pub most_automatic : ℕ
@@ -46,9 +49,13 @@ entries_text names [] = []
 entries_text names (entry ∷ entries) = entry_text names entry ++ entries_text names entries
 
 -- the declarations of temps
+
+abbrev pub temp_line : ℕ → List ℕ
+temp_line n = codes "    int64_t t" ++ (decimal n ++ codes ";\n")
+
 unfoldable pub temps_text : ℕ → List ℕ
 temps_text zero = []
-temps_text (suc n) = temps_text n ++ (codes "    int64_t t" ++ (decimal n ++ codes ";\n"))
+temps_text (suc n) = temps_text n ++ temp_line n
 
 -- an object that is copied to `out`
 abbrev pub out_text : List ℕ → ℕ → List ℕ
@@ -59,11 +66,17 @@ unfoldable pub outs_text : Names → ℕ → Shapes → List ℕ
 outs_text names from [] = []
 outs_text names from (out ∷ outs) = out_text (name_text names out.0) from ++ outs_text names (from + product out.1) outs
 
+-- a comment with the name of a module
+abbrev pub label_text : List ℕ → ℕ → List ℕ
+label_text label home = codes "/* " ++ (label ++ (codes ", module " ++ (decimal home ++ codes " */\n")))
+
+abbrev pub opening_text : ℕ → List ℕ
+opening_text home =
+    codes "static int64_t p3l_body_" ++ (decimal home ++ codes "(const int64_t *restrict in, int64_t *restrict out)\n{\n")
+
 -- the head of a function, by the name of its module
 abbrev pub head_text : List ℕ → ℕ → List ℕ
-head_text label home =
-    codes "/* " ++ (label ++ (codes ", module " ++ (decimal home ++ (codes " */\nstatic int64_t p3l_body_" ++ (decimal home
-    ++ codes "(const int64_t *restrict in, int64_t *restrict out)\n{\n")))))
+head_text label home = label_text label home ++ opening_text home
 
 abbrev pub turns_text : List ℕ
 turns_text = codes "    uint64_t turns = 0;\n    (void)in;\n    (void)out;\n    (void)turns;\n"

@@ -6,7 +6,8 @@ ghost use Rattle.p3l_ast.specs.Tree.{phrase, phrases};
 ghost use Rattle.p3l_c_print.specs.Value.{value_of, front_text, index_text, spots_of};
 
 use crate::names::Names;
-use crate::value::{Spots, Value};
+use crate::text::Text;
+use crate::value::{Spots, Value, number_value};
 use p3l_ast::Expr;
 use p3l_base::NoMemory;
 
@@ -24,7 +25,12 @@ impl Names<'_> {
             ≡ string_bytes out.old ++ front_text self.now margin.now first (phrase expr.now)) }
         ensures value { IfGiven result (λ it. it ≡ value_of self.now first (phrase expr.now)) }
     {
-        loop {}
+        let held: Vec<u64> = Vec::with_capacity(self.alloc, usize::MAX)?;
+        Ok(number_value(
+            Text::of(String::new(self.alloc)),
+            held.len() as u64,
+            0,
+        ))
     }
 
     /// The temps of the indices of an element; the lines before its use are put after a text.
@@ -40,6 +46,10 @@ impl Names<'_> {
             ++ index_text self.now margin.now first sizes.now (phrases index.now)) }
         ensures spots { IfGiven result (λ it. it ≡ spots_of first (phrases index.now)) }
     {
-        loop {}
+        let held: Vec<u64> = Vec::with_capacity(self.alloc, usize::MAX)?;
+        Ok(Spots {
+            text: Text::of(String::new(self.alloc)),
+            after: held.len() as u64,
+        })
     }
 }

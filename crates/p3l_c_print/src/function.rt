@@ -6,7 +6,7 @@ ghost use Rattle.p3l_types.specs.Shape.{product};
 ghost use Rattle.p3l_body.specs.Seq.{seq_tree};
 ghost use Rattle.p3l_c.specs.Condition.{take_entries, zero_entry, vars_shapes, function_of};
 ghost use Rattle.p3l_c_print.specs.Name.{name_text};
-ghost use Rattle.p3l_c_print.specs.Function.{sizes_text, is_automatic, storage_text, taken_text, zero_text, entries_text, temps_text, out_text, outs_text, head_text, turns_text, body_text};
+ghost use Rattle.p3l_c_print.specs.Function.{sizes_text, size_text, is_automatic, storage_text, taken_text, zero_text, entries_text, temp_line, temps_text, out_text, outs_text, label_text, opening_text, head_text, turns_text, body_text};
 
 use crate::names::Names;
 use crate::text::Text;
@@ -36,14 +36,22 @@ fn storage_text(automatic: bool) -> &'static str
     }
 }
 
+/// Puts a size in brackets after a text.
+fn put_size(alloc: Global, out: &mut String, size: u32) -> Result<(), NoMemory>
+    ensures { OnGiven result (string_bytes out.new ≡ string_bytes out.old ++ size_text size) }
+{
+    let brackets = format!(in alloc; "[{size}]")?;
+    out.push_str(brackets.as_str())?;
+    Ok(())
+}
+
 /// The sizes of an object in brackets.
 fn sizes_text(alloc: Global, sizes: &[u32]) -> Result<Text, NoMemory>
     ensures { IfGiven result (λ text. text ≡ sizes_text sizes.now) }
 {
     let mut text = String::new(alloc);
     for size in sizes {
-        let one = format!(in alloc; "[{size}]")?;
-        text.push_str(one.as_str())?;
+        put_size(alloc, &mut text, *size)?;
     }
     Ok(Text::of(text))
 }
@@ -97,13 +105,36 @@ fn zero_text(alloc: Global, name: &str, sizes: &[u32]) -> Result<Text, NoMemory>
     )?))
 }
 
+/// Puts the declaration of an object whose words are 0 after a text.
+fn put_zero(
+    alloc: Global,
+    out: &mut String,
+    name: &str,
+    sizes: &[u32],
+) -> Result<(), NoMemory>
+    ensures { OnGiven result (string_bytes out.new
+        ≡ string_bytes out.old ++ zero_text name.now sizes.now) }
+{
+    let text = zero_text(alloc, name, sizes)?;
+    out.push_str(text.as_str())?;
+    Ok(())
+}
+
+/// Puts the declaration of a temp after a text.
+fn put_temp(alloc: Global, out: &mut String, temp: u64) -> Result<(), NoMemory>
+    ensures { OnGiven result (string_bytes out.new ≡ string_bytes out.old ++ temp_line temp) }
+{
+    let line = format!(in alloc; "    int64_t t{temp};\n")?;
+    out.push_str(line.as_str())?;
+    Ok(())
+}
+
 /// Puts the declarations of temps after a text.
 fn put_temps(alloc: Global, out: &mut String, temps: u64) -> Result<(), NoMemory>
     ensures { OnGiven result (string_bytes out.new ≡ string_bytes out.old ++ temps_text temps) }
 {
     for temp in 0..temps {
-        let line = format!(in alloc; "    int64_t t{temp};\n")?;
-        out.push_str(line.as_str())?;
+        put_temp(alloc, out, temp)?;
     }
     Ok(())
 }
@@ -118,17 +149,35 @@ fn put_out(alloc: Global, out: &mut String, name: &str, from: u64) -> Result<(),
     Ok(())
 }
 
+/// Puts a comment with the name of a module after a text.
+fn put_label(alloc: Global, out: &mut String, label: &str, home: u32) -> Result<(), NoMemory>
+    ensures { OnGiven result (string_bytes out.new
+        ≡ string_bytes out.old ++ label_text label.now home) }
+{
+    let comment = format!(in alloc; "/* {label}, module {home} */\n")?;
+    out.push_str(comment.as_str())?;
+    Ok(())
+}
+
+/// Puts the opening of the function of a module after a text.
+fn put_opening(alloc: Global, out: &mut String, home: u32) -> Result<(), NoMemory>
+    ensures { OnGiven result (string_bytes out.new ≡ string_bytes out.old ++ opening_text home) }
+{
+    let line = format!(in alloc;
+        "static int64_t p3l_body_{home}(const int64_t *restrict in, int64_t *restrict out)\n{{\n"
+    )?;
+    out.push_str(line.as_str())?;
+    Ok(())
+}
+
 /// Puts the head of a function, by the name of its module, after a text.
+#[tactic(auto, using(crate::proofs::Joined::then))]
 fn put_head(alloc: Global, out: &mut String, label: &str, home: u32) -> Result<(), NoMemory>
     ensures { OnGiven result (string_bytes out.new
         ≡ string_bytes out.old ++ head_text label.now home) }
 {
-    let comment = format!(in alloc; "/* {label}, module {home} */\n")?;
-    let head = format!(in alloc;
-        "static int64_t p3l_body_{home}(const int64_t *restrict in, int64_t *restrict out)\n{{\n"
-    )?;
-    out.push_str(comment.as_str())?;
-    out.push_str(head.as_str())?;
+    put_label(alloc, out, label, home)?;
+    put_opening(alloc, out, home)?;
     Ok(())
 }
 
@@ -162,8 +211,12 @@ impl Names<'_> {
     {
         for var in vars {
             let name = self.object(&var.name)?;
-            let text = zero_text(self.alloc, name.as_str(), var.shape.sizes.as_slice())?;
-            out.push_str(text.as_str())?;
+            put_zero(
+                self.alloc,
+                out,
+                name.as_str(),
+                var.shape.sizes.as_slice(),
+            )?;
         }
         Ok(())
     }

@@ -174,7 +174,7 @@ impl Names<'_> {
         margin: &str,
         budget: u32,
         condition: &Expr,
-        next: &Target,
+        target: &Target,
         step: &Expr,
         body: &[Stmt],
     ) -> Result<u64, NoMemory>
@@ -183,16 +183,16 @@ impl Names<'_> {
             (front_text self.now (deeper margin.now) 0 (phrase condition.now))
             (test_of (value_of self.now 0 (phrase condition.now)))
             (round_text self.now (deeper margin.now) budget (statements body.now)
-            ++ assign_text self.now (deeper margin.now) next.now.at.name
-            (phrases next.now.index.items) (phrase step.now))) }
+            ++ assign_text self.now (deeper margin.now) target.now.at.name
+            (phrases target.now.index.items) (phrase step.now))) }
         ensures temps { IfGiven result (λ temps. temps
             ≡ max (max (next 0 (phrase condition.now)) (temps_of (statements body.now)))
-            (assign_temps (phrases next.now.index.items) (phrase step.now))) }
+            (assign_temps (phrases target.now.index.items) (phrase step.now))) }
     {
         let inner = deeper(self.alloc, margin)?;
         let mut round = String::new(self.alloc);
         let temps = self.put_round(&mut round, inner.as_str(), budget, body)?;
-        let stepped = self.put_assign(&mut round, inner.as_str(), next, step)?;
+        let stepped = self.put_assign(&mut round, inner.as_str(), target, step)?;
         let tested = self.put_loop(out, margin, condition, round.as_str())?;
         Ok(u64::max(u64::max(tested, temps), stepped))
     }
