@@ -10,3 +10,4 @@ pub mod Lines
 pub mod Places
 pub mod Shapes
 pub mod Functions
+pub mod Puts

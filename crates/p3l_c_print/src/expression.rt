@@ -26,11 +26,7 @@ impl Names<'_> {
         ensures value { IfGiven result (λ it. it ≡ value_of self.now first (phrase expr.now)) }
     {
         let held: Vec<u64> = Vec::with_capacity(self.alloc, usize::MAX)?;
-        Ok(number_value(
-            Text::of(String::new(self.alloc)),
-            held.len() as u64,
-            0,
-        ))
+        Ok(number_value(Text::of(String::new(self.alloc)), held.len() as u64, 0))
     }
 
     /// The temps of the indices of an element; the lines before its use are put after a text.

@@ -106,12 +106,7 @@ fn zero_text(alloc: Global, name: &str, sizes: &[u32]) -> Result<Text, NoMemory>
 }
 
 /// Puts the declaration of an object whose words are 0 after a text.
-fn put_zero(
-    alloc: Global,
-    out: &mut String,
-    name: &str,
-    sizes: &[u32],
-) -> Result<(), NoMemory>
+fn put_zero(alloc: Global, out: &mut String, name: &str, sizes: &[u32]) -> Result<(), NoMemory>
     ensures { OnGiven result (string_bytes out.new
         ≡ string_bytes out.old ++ zero_text name.now sizes.now) }
 {
@@ -211,12 +206,7 @@ impl Names<'_> {
     {
         for var in vars {
             let name = self.object(&var.name)?;
-            put_zero(
-                self.alloc,
-                out,
-                name.as_str(),
-                var.shape.sizes.as_slice(),
-            )?;
+            put_zero(self.alloc, out, name.as_str(), var.shape.sizes.as_slice())?;
         }
         Ok(())
     }

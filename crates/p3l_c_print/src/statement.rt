@@ -19,6 +19,7 @@ use p3l_base::{Name, NoMemory};
 impl Names<'_> {
     /// The lines of statements after a margin, and the number of their temps.
     #[cycle(statement)]
+    #[tactic(auto, using(crate::proofs::Lines::temps))]
     pub fn block(&self, margin: &str, budget: u32, stmts: &[Stmt]) -> Result<Block, NoMemory>
         ensures { IfGiven result (λ it.
             it ≡ block_of self.now margin.now budget (statements stmts.now)) }
@@ -31,8 +32,20 @@ impl Names<'_> {
         })
     }
 
+    /// The lines of a block in a statement after a margin, and the number of their temps.
+    #[cycle(statement)]
+    #[tactic(auto, using(crate::proofs::Lines::temps))]
+    fn inner_block(&self, margin: &str, budget: u32, stmts: &[Stmt]) -> Result<Block, NoMemory>
+        ensures { IfGiven result (λ it.
+            it ≡ block_of self.now (deeper margin.now) budget (statements stmts.now)) }
+    {
+        let inner = deeper(self.alloc, margin)?;
+        self.block(inner.as_str(), budget, stmts)
+    }
+
     /// Puts the lines of statements after a text. Returns the number of their temps.
     #[cycle(statement)]
+    #[tactic(auto, using(crate::proofs::Lines::temps))]
     fn put_statements(
         &self,
         out: &mut String,
@@ -46,13 +59,15 @@ impl Names<'_> {
     {
         let mut temps = 0;
         for stmt in stmts {
-            temps = u64::max(temps, self.put_statement(out, margin, budget, stmt)?);
+            let more = self.put_statement(out, margin, budget, stmt)?;
+            temps = u64::max(temps, more);
         }
         Ok(temps)
     }
 
     /// Puts the lines of a statement after a text. Returns the number of its temps.
     #[cycle(statement)]
+    #[tactic(auto, using(crate::proofs::Lines::temps))]
     fn put_statement(
         &self,
         out: &mut String,
@@ -81,6 +96,7 @@ impl Names<'_> {
 
     /// Puts the lines of an `if` with no `else` after a text. Returns the number of its temps.
     #[cycle(statement)]
+    #[tactic(auto, using(crate::proofs::Lines::temps))]
     fn put_if(
         &self,
         out: &mut String,
@@ -97,21 +113,21 @@ impl Names<'_> {
     {
         let value = self.put_value(out, margin, 0, condition)?;
         let test = test_of(self.alloc, &value)?;
-        let inner = deeper(self.alloc, margin)?;
-        let then = self.block(inner.as_str(), budget, then)?;
+        let block = self.inner_block(margin, budget, then)?;
         put_choice(
             self.alloc,
             out,
             margin,
             test.as_str(),
-            then.text.as_str(),
+            block.text.as_str(),
             "",
         )?;
-        Ok(u64::max(value.after, then.temps))
+        Ok(u64::max(value.after, block.temps))
     }
 
     /// Puts the lines of an `if` with an `else` after a text. Returns the number of its temps.
     #[cycle(statement)]
+    #[tactic(auto, using(crate::proofs::Lines::temps))]
     fn put_if_else(
         &self,
         out: &mut String,
@@ -129,22 +145,22 @@ impl Names<'_> {
     {
         let value = self.put_value(out, margin, 0, condition)?;
         let test = test_of(self.alloc, &value)?;
-        let inner = deeper(self.alloc, margin)?;
-        let then = self.block(inner.as_str(), budget, then)?;
-        let other = self.block(inner.as_str(), budget, other)?;
+        let first = self.inner_block(margin, budget, then)?;
+        let second = self.inner_block(margin, budget, other)?;
         put_choice(
             self.alloc,
             out,
             margin,
             test.as_str(),
-            then.text.as_str(),
-            other.text.as_str(),
+            first.text.as_str(),
+            second.text.as_str(),
         )?;
-        Ok(u64::max(value.after, u64::max(then.temps, other.temps)))
+        Ok(u64::max(value.after, u64::max(first.temps, second.temps)))
     }
 
     /// Puts the lines of a `while` after a text. Returns the number of its temps.
     #[cycle(statement)]
+    #[tactic(auto, using(crate::proofs::Lines::temps))]
     fn put_while(
         &self,
         out: &mut String,
@@ -168,6 +184,7 @@ impl Names<'_> {
 
     /// Puts the loop of a `for` after a text. Returns the number of its temps.
     #[cycle(statement)]
+    #[tactic(auto, using(crate::proofs::Lines::temps))]
     fn put_rounds(
         &self,
         out: &mut String,
@@ -199,6 +216,7 @@ impl Names<'_> {
 
     /// Puts a turn and the lines of a loop's body after a text. Returns the number of their temps.
     #[cycle(statement)]
+    #[tactic(auto, using(crate::proofs::Lines::temps))]
     fn put_round(
         &self,
         out: &mut String,
