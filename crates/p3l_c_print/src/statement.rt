@@ -1,8 +1,8 @@
 // Statements of C, each on lines of its own after a margin.
 
-ghost use Rattle.std.specs.Prelude.{◌≡◌, ◌++◌, max, string_bytes};
+ghost use Rattle.std.specs.Prelude.{◌≡◌, ◌++◌, string_bytes};
 ghost use Rattle.p3l_base.specs.Memory.{IfGiven, OnGiven};
-ghost use Rattle.p3l_ast.specs.Tree.{phrase, phrases, one, statements, done, if_, if_else, while_};
+ghost use Rattle.p3l_ast.specs.Tree.{phrase, phrases, one, statements, done, if_, if_else, while_, for_};
 ghost use Rattle.p3l_c.specs.Translate.{next};
 ghost use Rattle.p3l_c.specs.Temps.{assign_temps, temps_of};
 ghost use Rattle.p3l_c_print.specs.Name.{name_text};
@@ -40,7 +40,8 @@ impl Names<'_> {
             it ≡ block_of self.now (deeper margin.now) budget (statements stmts.now)) }
     {
         let inner = deeper(self.alloc, margin)?;
-        self.block(inner.as_str(), budget, stmts)
+        let block = self.block(inner.as_str(), budget, stmts)?;
+        Ok(block)
     }
 
     /// Puts the lines of statements after a text. Returns the number of their temps.
@@ -86,11 +87,9 @@ impl Names<'_> {
                 None => self.put_if(out, margin, budget, condition, then),
             },
             Stmt::While(condition, body) => self.put_while(out, margin, budget, condition, body),
-            Stmt::For(first, start, condition, next, step, body) => {
-                let temps = self.put_assign(out, margin, first, start)?;
-                let more = self.put_rounds(out, margin, budget, condition, next, step, body)?;
-                Ok(u64::max(temps, more))
-            }
+            Stmt::For(first, start, condition, next, step, body) => self.put_for(
+                out, margin, budget, first, start, condition, next, step, body,
+            ),
         }
     }
 
@@ -182,36 +181,41 @@ impl Names<'_> {
         Ok(u64::max(tested, temps))
     }
 
-    /// Puts the loop of a `for` after a text. Returns the number of its temps.
+    /// Puts the lines of a `for` after a text. Returns the number of its temps.
     #[cycle(statement)]
     #[tactic(auto, using(crate::proofs::Lines::temps))]
-    fn put_rounds(
+    fn put_for(
         &self,
         out: &mut String,
         margin: &str,
         budget: u32,
+        first: &Target,
+        start: &Expr,
         condition: &Expr,
         target: &Target,
         step: &Expr,
         body: &[Stmt],
     ) -> Result<u64, NoMemory>
         ensures lines { OnGiven result (string_bytes out.new ≡ string_bytes out.old
-            ++ loop_lines margin.now
-            (front_text self.now (deeper margin.now) 0 (phrase condition.now))
-            (test_of (value_of self.now 0 (phrase condition.now)))
-            (round_text self.now (deeper margin.now) budget (statements body.now)
-            ++ assign_text self.now (deeper margin.now) target.now.at.name
-            (phrases target.now.index.items) (phrase step.now))) }
-        ensures temps { IfGiven result (λ temps. temps
-            ≡ max (max (next 0 (phrase condition.now)) (temps_of (statements body.now)))
-            (assign_temps (phrases target.now.index.items) (phrase step.now))) }
+            ++ code_text self.now margin.now budget
+            (for_ first.now.at (phrases first.now.index.items) (phrase start.now)
+            (phrase condition.now)
+            target.now.at (phrases target.now.index.items) (phrase step.now)
+            (statements body.now) done)) }
+        ensures temps { IfGiven result (λ temps. temps ≡ temps_of
+            (for_ first.now.at (phrases first.now.index.items) (phrase start.now)
+            (phrase condition.now)
+            target.now.at (phrases target.now.index.items) (phrase step.now)
+            (statements body.now) done)) }
     {
+        let started = self.put_assign(out, margin, first, start)?;
         let inner = deeper(self.alloc, margin)?;
         let mut round = String::new(self.alloc);
-        let temps = self.put_round(&mut round, inner.as_str(), budget, body)?;
+        let turned = self.put_round(&mut round, inner.as_str(), budget, body)?;
         let stepped = self.put_assign(&mut round, inner.as_str(), target, step)?;
         let tested = self.put_loop(out, margin, condition, round.as_str())?;
-        Ok(u64::max(u64::max(tested, temps), stepped))
+        let turns = u64::max(u64::max(tested, turned), stepped);
+        Ok(u64::max(started, turns))
     }
 
     /// Puts a turn and the lines of a loop's body after a text. Returns the number of their temps.
@@ -229,7 +233,8 @@ impl Names<'_> {
         ensures temps { IfGiven result (λ temps. temps ≡ temps_of (statements body.now)) }
     {
         put_turn(self.alloc, out, margin, budget, self.home)?;
-        self.put_statements(out, margin, budget, body)
+        let temps = self.put_statements(out, margin, budget, body)?;
+        Ok(temps)
     }
 
     /// Puts a loop of a condition around the lines of a round after a text. Returns the number of
