@@ -78,8 +78,6 @@ pub more_temps : (n : ℕ) → temps_text (n + 1) ≡ temps_text n ++ temp_line 
 unfolding temps_text
 more_temps n = ap temps_text (add-one n)
 
-pub ruleset temps = (no_temps, more_temps)
-
 -- a temp is put after those before it
 pub temp_then : (old middle new : List ℕ) (n : ℕ) → middle ≡ old ++ temps_text n → new ≡ middle ++ temp_line n → new ≡ old ++ temps_text (n + 1)
 temp_then old middle new n p q = q ∙ ap (λ t. t ++ temp_line n) p ∙ append_assoc old (temps_text n) (temp_line n) ∙ ap (λ t. old ++ t) (sym (more_temps n))

@@ -19,7 +19,6 @@ use p3l_base::{Name, NoMemory};
 impl Names<'_> {
     /// The lines of statements after a margin, and the number of their temps.
     #[cycle(statement)]
-    #[tactic(auto, using(crate::proofs::Lines::temps))]
     pub fn block(&self, margin: &str, budget: u32, stmts: &[Stmt]) -> Result<Block, NoMemory>
         ensures { IfGiven result (λ it.
             it ≡ block_of self.now margin.now budget (statements stmts.now)) }
@@ -34,7 +33,6 @@ impl Names<'_> {
 
     /// The lines of a block in a statement after a margin, and the number of their temps.
     #[cycle(statement)]
-    #[tactic(auto, using(crate::proofs::Lines::temps))]
     fn inner_block(&self, margin: &str, budget: u32, stmts: &[Stmt]) -> Result<Block, NoMemory>
         ensures { IfGiven result (λ it.
             it ≡ block_of self.now (deeper margin.now) budget (statements stmts.now)) }
@@ -46,7 +44,6 @@ impl Names<'_> {
 
     /// Puts the lines of statements after a text. Returns the number of their temps.
     #[cycle(statement)]
-    #[tactic(auto, using(crate::proofs::Lines::temps))]
     fn put_statements(
         &self,
         out: &mut String,
@@ -68,7 +65,6 @@ impl Names<'_> {
 
     /// Puts the lines of a statement after a text. Returns the number of its temps.
     #[cycle(statement)]
-    #[tactic(auto, using(crate::proofs::Lines::temps))]
     fn put_statement(
         &self,
         out: &mut String,
@@ -220,7 +216,6 @@ impl Names<'_> {
 
     /// Puts a turn and the lines of a loop's body after a text. Returns the number of their temps.
     #[cycle(statement)]
-    #[tactic(auto, using(crate::proofs::Lines::temps))]
     fn put_round(
         &self,
         out: &mut String,
