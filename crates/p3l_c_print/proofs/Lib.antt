@@ -9,3 +9,6 @@ pub mod Indices
 pub mod Lines
 pub mod Places
 pub mod Weights
+pub mod Shapes
+pub mod Functions
+pub mod Puts
