@@ -11,3 +11,4 @@ pub mod Places
 pub mod Shapes
 pub mod Functions
 pub mod Puts
+pub mod Sizes
