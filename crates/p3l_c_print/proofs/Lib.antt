@@ -12,3 +12,4 @@ pub mod Shapes
 pub mod Functions
 pub mod Puts
 pub mod Sizes
+pub mod Bodies

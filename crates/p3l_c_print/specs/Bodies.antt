@@ -1,7 +1,5 @@
 -- The text of the functions of all bodies of a program.
-use Rattle.std.specs.Prelude.{ℕ, List, ◌++◌, codes, slice_index_or}
-use Rattle.std.specs.List.{flat_map}
-use Rattle.p3l_skel.specs.declared.tree.ModuleInfo.{ModuleInfo}
+use Rattle.std.specs.Prelude.{ℕ, List, [], ◌∷◌, ◌++◌, codes, slice_index_or}
 use Rattle.p3l_skel.specs.declared.tree.Tree.{Tree}
 use Rattle.p3l_skel.specs.Tree.{no_module}
 use Rattle.p3l_body.specs.Seq.{SeqTree}
@@ -17,4 +15,5 @@ one_text tree seq = body_text (label_of tree seq.home) seq ++ codes "\n"
 
 -- THE TEXT of the functions of bodies
 abbrev pub bodies_text : Tree → List SeqTree → List ℕ
-bodies_text tree seqs = flat_map (one_text tree) seqs
+bodies_text tree [] = []
+bodies_text tree (seq ∷ seqs) = one_text tree seq ++ bodies_text tree seqs

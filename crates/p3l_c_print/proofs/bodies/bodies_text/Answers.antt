@@ -1,0 +1,25 @@
+use Rattle.std.proofs.Common.{◌≡◌, ◌+◌, ◌++◌, drop, map, string_bytes, ap}
+use Rattle.p3l_body.specs.Seq.{seq_tree}
+use Rattle.p3l_c_print.specs.Bodies.{one_text, bodies_text}
+use Rattle.p3l_c_print.proofs.Functions.{one_more, none_more}
+use Rattle.p3l_c_print.proofs.Bodies.{body_left, no_body_left}
+use Rattle.p3l_c_print.proofs.bodies.bodies_text.Goals as goal
+
+pub loop-seq-init : goal.loop-seq-init
+loop-seq-init c = ap (λ t. t ++ bodies_text c.args.tree.now (map seq_tree c.args.seqs.now)) c.new-text.ensures.bytes
+
+pub loop-seq-preserved : goal.loop-seq-preserved
+loop-seq-preserved c =
+    let l = c.loop-seq in
+    let tree = c.args.tree.now in
+    let seqs = c.args.seqs.now in
+    let i = l.seq-index in
+    let seq = c.seq-item.result in
+    one_more (string_bytes l.text) (string_bytes c.put_one.new.out) (one_text tree (seq_tree seq)) (bodies_text tree (map seq_tree (drop i seqs))) (bodies_text tree (map seq_tree (drop (i + 1) seqs))) (bodies_text tree (map seq_tree seqs)) c.in_ok-put_one.ensures (body_left tree seqs i seq c.loop-seq-test.true c.seq-item.is) l.invariant
+
+pub returns : goal.returns
+returns c =
+    let l = c.loop-seq in
+    let tree = c.args.tree.now in
+    let seqs = c.args.seqs.now in
+    none_more (string_bytes l.text) (bodies_text tree (map seq_tree (drop l.seq-index seqs))) (bodies_text tree (map seq_tree seqs)) (no_body_left tree seqs l.seq-index c.loop-seq-test.false) l.invariant
