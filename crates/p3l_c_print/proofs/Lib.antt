@@ -13,3 +13,4 @@ pub mod Functions
 pub mod Puts
 pub mod Sizes
 pub mod Bodies
+pub mod Weights

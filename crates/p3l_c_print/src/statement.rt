@@ -5,16 +5,15 @@ ghost use Rattle.p3l_base.specs.Memory.{IfGiven, OnGiven};
 ghost use Rattle.p3l_ast.specs.Tree.{phrase, phrases, one, statements, done, if_, if_else, while_, for_};
 ghost use Rattle.p3l_c.specs.Translate.{next};
 ghost use Rattle.p3l_c.specs.Temps.{assign_temps, temps_of};
-ghost use Rattle.p3l_c_print.specs.Name.{name_text};
 ghost use Rattle.p3l_c_print.specs.Line.{deeper, loop_lines};
 ghost use Rattle.p3l_c_print.specs.Value.{value_of, front_text, code_text, assign_text, round_text, block_of, test_of};
 
 use crate::line::{deeper, put_choice, put_loop, put_turn};
 use crate::names::Names;
 use crate::text::Text;
-use crate::value::{Block, Spots, put_set, signed_of, test_of};
+use crate::value::{Block, put_set, signed_of, test_of};
 use p3l_ast::{Expr, Stmt, Target};
-use p3l_base::{Name, NoMemory};
+use p3l_base::NoMemory;
 
 impl Names<'_> {
     /// The lines of statements after a margin, and the number of their temps.
@@ -284,14 +283,5 @@ impl Names<'_> {
         let signed = signed_of(self.alloc, &value)?;
         put_set(self.alloc, out, margin, place.as_str(), signed.as_str())?;
         Ok(value.after)
-    }
-
-    /// An element as it is written: an object with the temps of indices in brackets.
-    fn element(&self, name: &Name, spots: &Spots) -> Result<Text, NoMemory>
-        ensures { IfGiven result (λ text. text ≡ name_text self.now name.now ++ spots.now.text) }
-    {
-        let object = self.object(name)?;
-        let (object, spots) = (object.as_str(), spots.text.as_str());
-        Ok(Text::of(format!(in self.alloc; "{object}{spots}")?))
     }
 }
