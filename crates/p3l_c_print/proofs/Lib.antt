@@ -12,5 +12,5 @@ pub mod Shapes
 pub mod Functions
 pub mod Puts
 pub mod Sizes
-pub mod Bodies
+pub mod FunctionLists
 pub mod Weights

@@ -2,7 +2,7 @@ use Rattle.std.proofs.Common.{◌≡◌, ◌+◌, ◌++◌, drop, map}
 use Rattle.p3l_body.specs.Seq.{seq_tree}
 use Rattle.p3l_c_print.specs.Bodies.{one_text, functions_text}
 use Rattle.p3l_c_print.proofs.Functions.{one_more, none_more}
-use Rattle.p3l_c_print.proofs.Bodies.{body_left, no_body_left}
+use Rattle.p3l_c_print.proofs.FunctionLists.{body_left, no_body_left}
 use Rattle.p3l_c_print.proofs.bodies.put_functions.Goals as goal
 
 pub loop-seq-preserved : goal.loop-seq-preserved
