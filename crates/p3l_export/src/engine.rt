@@ -120,6 +120,10 @@ pub const ENGINE: &str =
 #include <unistd.h>
 #ifdef P3L_MPI
 #include <mpi.h>
+#ifdef __linux__
+#include <linux/tcp.h>
+#include <netinet/in.h>
+#endif
 #endif
 
 /* ---- endings, memory and clocks */
@@ -772,7 +776,8 @@ enum {
     FLUSH_NS = 20000,
     SPIN_NS = 100000,
     SHORTEST_SLEEP_NS = 10000,
-    LONGEST_SLEEP_NS = 200000
+    LONGEST_SLEEP_NS = 200000,
+    ABORT_S = 3
 };
 
 static MPI_Request requests[MOST_RANKS][SLOTS];
@@ -781,12 +786,14 @@ static int64_t *inbox;
 static long sleep_ns = SHORTEST_SLEEP_NS;
 
 /* Rank 0 tells its status to its caller, if it has one, and leaves; the launcher then ends the
- * others. Otherwise MPI passes the status on. */
+ * others. Otherwise MPI passes the status on; where it can't, as on a machine that is cut off, this
+ * rank ends by the alarm. */
 static void stop_ranks(int status)
 {
     int has_begun = 0;
     if (tell_caller(status)) _exit(status);
     MPI_Initialized(&has_begun);
+    alarm(ABORT_S);
     if (has_begun) MPI_Abort(MPI_COMM_WORLD, status);
 }
 
@@ -801,6 +808,8 @@ static void start_carrier(void)
     for (int r = 0; r < ranks; r++)
         for (int slot = 0; slot < SLOTS; slot++) requests[r][slot] = MPI_REQUEST_NULL;
     request_message();
+    /* An empty message makes the connection, so that its loss is noticed. */
+    if (my_rank != 0) MPI_Send(inbox, 0, MPI_INT64_T, 0, 0, MPI_COMM_WORLD);
 }
 
 static void post(int rank, int slot, const int64_t *message, int words)
@@ -831,6 +840,64 @@ static bool receive(void)
     }
 }
 
+/* MPI doesn't notice that a machine is gone, or the cable to it: its connections stay silent for a
+ * quarter of an hour. So each rank asks the system to probe them, which the system of the other
+ * machine answers, even while a rank there runs a long body. A connection without any answer for
+ * SILENCE_MS is lost. */
+enum { MOST_SOCKETS = 4096, PROBE_S = 4, SILENCE_MS = 20000 };
+#define SECOND_NS UINT64_C(1000000000)
+#define SILENCE_NS (SILENCE_MS / 1000 * SECOND_NS)
+
+#ifdef __linux__
+
+/* Turns the probes of a connection on; false if they were on before. */
+static bool begin_probes(int socket)
+{
+    int seconds = 0, on = 1, period = PROBE_S;
+    socklen_t size = sizeof seconds;
+    getsockopt(socket, IPPROTO_TCP, TCP_KEEPIDLE, &seconds, &size);
+    if (seconds == period) return false;
+    setsockopt(socket, IPPROTO_TCP, TCP_KEEPIDLE, &period, sizeof period);
+    setsockopt(socket, IPPROTO_TCP, TCP_KEEPINTVL, &period, sizeof period);
+    setsockopt(socket, SOL_SOCKET, SO_KEEPALIVE, &on, sizeof on);
+    return true;
+}
+
+/* Decides whether a descriptor is a connection of TCP that is lost. */
+static bool is_lost(int socket, uint64_t now_ns)
+{
+    static uint64_t probed_since[MOST_SOCKETS];
+    enum { ESTABLISHED = 1 };
+    struct tcp_info info;
+    socklen_t size = sizeof info;
+    memset(&info, 0, sizeof info);
+    if (getsockopt(socket, IPPROTO_TCP, TCP_INFO, &info, &size) != 0) return false;
+    if (info.tcpi_state != ESTABLISHED) return false;
+    if (begin_probes(socket)) probed_since[socket] = now_ns;
+    return now_ns - probed_since[socket] > SILENCE_NS && info.tcpi_last_ack_recv > SILENCE_MS;
+}
+
+#else
+
+static bool is_lost(int socket, uint64_t now_ns)
+{
+    (void)socket, (void)now_ns;
+    return false;
+}
+
+#endif
+
+/* Ends the run if a connection is lost; looks once a second. */
+static void look_for_losses(void)
+{
+    static uint64_t before_ns;
+    uint64_t now_ns = nanoseconds(CLOCK_MONOTONIC);
+    if (now_ns - before_ns < SECOND_NS) return;
+    before_ns = now_ns;
+    for (int socket = 3; socket < MOST_SOCKETS; socket++)
+        if (is_lost(socket, now_ns)) fail(LOST, \"a rank was lost\");
+}
+
 static bool caller_has_ended(void);
 
 static void rest(bool for_input)
@@ -838,12 +905,16 @@ static void rest(bool for_input)
     struct timespec t = { 0, sleep_ns };
     (void)for_input; /* it never sleeps for long */
     if (caller_has_ended()) stop_ranks(LOST);
+    look_for_losses();
     nanosleep(&t, NULL);
     if (sleep_ns < LONGEST_SLEEP_NS) sleep_ns *= 2;
 }
 
+/* Sends the last messages. All results are written by now, so a rank that MPI then holds up ends
+ * after a while. */
 static void end_carrier(void)
 {
+    alarm(SILENCE_MS / 1000);
     for (int r = 0; r < ranks; r++)
         for (int slot = 0; slot < SLOTS; slot++) MPI_Wait(&requests[r][slot], MPI_STATUS_IGNORE);
     MPI_Cancel(&inbox_request);
@@ -2042,8 +2113,8 @@ static bool tell_caller(int status)
 
 #ifdef P3L_MPI
 
-enum { STREAMS = 3, ENDING_MS = 3000, MOST_SAID = 16384 };
-#define SOON_NS UINT64_C(3000000000)
+enum { STREAMS = 3, ENDING_MS = 1000, MOST_SAID = 16384 };
+#define SOON_NS (3 * SECOND_NS)
 
 static const char NO_CALLER[] = \"rank 0 must be on the machine of its caller\";
 
