@@ -13,7 +13,8 @@ second. For each MPI that is installed, MPICH and Open MPI, and side by side:
   as in a long body.
 - A cable that stays out ends a run with status 16 and the line `a rank was lost`, and leaves no rank
   on either machine; in the middle of a stream, and while no item comes.
-- A file of hosts in the wrong order is refused with a line that says so.
+- A file of hosts in the wrong order is refused by a program for MPICH, with a line that says so.
+  Open MPI puts them in order itself.
 
 The last line is `N passed, M failed`. It needs root, ip, sshd, unshare and an MPI (Debian: iproute2
 openssh-server util-linux, and mpich libmpich-dev or openmpi-bin libopenmpi-dev). Where something
@@ -259,15 +260,22 @@ class Checks:
 
 
 def try_streams(checks, both):
-    """Runs beside `run`, and one whose hosts are in the wrong order."""
+    """Runs beside `run`."""
     for what, stream in STREAMS.items():
         checks.expect(f"{what}, {both.kind}", both.call(stream), checks.model(stream))
+
+
+def try_wrong_order(checks, both):
+    """A run whose hosts are in the wrong order."""
     both.write_hosts("wrong", {"two": 1, "one": 3})
     status, output, lines = both.call("60\n", "wrong")
+    name = f"the wrong order, {both.kind}"
+    if both.kind == "openmpi":
+        checks.expect(name, (status, output, lines), checks.model("60\n"))
+        return
     has_reason = b"rank 0 must be on the machine of its caller\n" in lines
     found = status, output, has_reason, lines.splitlines()[-1:]
-    wanted = 16, b"", True, [b"a rank was lost"]
-    checks.expect(f"the wrong order, {both.kind}", found, wanted)
+    checks.expect(name, found, (16, b"", True, [b"a rank was lost"]))
 
 
 def try_silence(checks, both):
@@ -346,7 +354,7 @@ def main():
         tasks = []
         for kind in [kind for kind, compiler in COMPILERS.items() if shutil.which(compiler)]:
             checks.compile(kind)
-            tasks += [(kind, try_streams), (kind, try_silence)]
+            tasks += [(kind, try_streams), (kind, try_wrong_order), (kind, try_silence)]
             tasks += [(kind, try_cut, b""), (kind, try_cut, b"7\n" * 50)]
         with concurrent.futures.ThreadPoolExecutor(len(tasks)) as pool:
             for done in [pool.submit(try_all, checks, *task) for task in tasks]:
