@@ -11,7 +11,8 @@
                 sends 32 items in a message, and beside the same with one. Both times are less that
                 of an empty stream, since a launcher takes some tenths of a second to start
   run           `p3l run` of the same program, beside the exported one on one processor
-  text          a body of hardly any work, beside mawk that sums the numbers of a line, or copies it
+  text          a body of hardly any work, beside mawk that sums the numbers of a line, or copies a
+                number; and, without a bound, beside mawk that copies lines and looks at no number
 
 Times are those of a clock, the least of N tries in turn (5 if not given), all to a file. Each row
 has its ratio, its bound, and whether that is met; without a bound the ratio is only shown. With
@@ -176,7 +177,8 @@ class Table:
 
     def at_least(self, name, own, other, ratio, bound):
         """A row of a ratio that is better if it is greater."""
-        self.row(name, own, other, ratio, bound and f"≥ {bound}", bound and ratio >= bound)
+        met = None if bound is None else ratio >= bound
+        self.row(name, own, other, ratio, "" if bound is None else f"≥ {bound}", met)
 
 
 class Bench:
@@ -261,8 +263,9 @@ class Bench:
 
     def try_mpi(self, program, made, stream):
         """A farm on four ranks of MPI, beside farms by hand."""
-        compiler, launcher = [next(filter(shutil.which, it), None) for it in (MPI_COMPILERS, LAUNCHERS)]
-        if compiler is None:
+        compiler = next(filter(shutil.which, MPI_COMPILERS), None)
+        launcher = next(filter(shutil.which, LAUNCHERS), None)
+        if compiler is None or launcher is None:
             return
         names = [f"MPI, {many} in a message: {program.name}" for many in (BATCH, 1)]
         if not self.wants(*names):
@@ -297,7 +300,7 @@ class Bench:
             self.try_mpi(program, made, stream)
         self.try_run(program, source, options, one)
 
-    def try_text(self, what, source, mawk, lines):
+    def try_text(self, what, source, mawk, lines, bound=1.0):
         """Numbers that are read and written, beside mawk."""
         name = f"text: {what}"
         if not self.wants(name):
@@ -305,13 +308,17 @@ class Bench:
         _, made, _ = self.export(what, source, lines)
         stream = self.stream("items", lines, self.part)
         own, other = self.least([[self.compile(COMPILER, made)], ["mawk", mawk]], stream)
-        self.table.at_most(name, own, other, 1.0)
+        if bound is None:
+            self.table.row(name, own, other, own / other)
+        else:
+            self.table.at_most(name, own, other, bound)
 
     def try_texts(self):
-        lists = [" ".join([f"{number * 7919 % 1000003}"] * WORDS_OF_LINE) + "\n" for number in range(500_000)]
+        words = [str(number * 7919 % 1_000_003) for number in range(500_000)]
+        lists = [" ".join([word] * WORDS_OF_LINE) + "\n" for word in words]
         copied = numbers(2_000_000)
         self.try_text("copy a number, mawk adds 0", COPY, COPY_BY_MAWK, copied)
-        self.try_text("copy a number, mawk copies the line", COPY, "{ print }", copied)
+        self.try_text("copy a number, mawk copies its line", COPY, "{ print }", copied, None)
         self.try_text("sum of ten numbers", SUM, SUM_BY_MAWK, lists)
 
     def speed_ups(self, program):
