@@ -53,6 +53,9 @@ BATCH = 32
 SAMPLE = 20
 RUN_PART = 0.1
 WORDS_OF_LINE = 10
+# The rows of a program, by how their names begin.
+ONE, FOUR, RUN = "by hand", "four ranks", "run"
+MPI = {BATCH: f"MPI, {BATCH} in a message", 1: "MPI, 1 in a message"}
 
 WORK = """seq {name} in(int x) out(int y) budget 100000000
 ${{
@@ -248,14 +251,14 @@ class Bench:
 
     def try_one(self, program, one, stream):
         """A program on one processor, beside its peer."""
-        name = f"by hand: {program.name}"
+        name = f"{ONE}: {program.name}"
         if self.wants(name):
             peer = self.compile(COMPILER, str(PEERS / "one.c"), *program.peer)
             self.table.at_most(name, *self.least([[one], [peer]], stream), 1.2)
 
     def try_four(self, program, one, stream):
         """A program on four ranks, beside itself on one processor."""
-        name = f"four ranks: {program.name}"
+        name = f"{FOUR}: {program.name}"
         if self.wants(name):
             single, four = self.least([[one], [one, "--ranks", str(RANKS)]], stream)
             efficiency = single / (RANKS * four)
@@ -266,12 +269,13 @@ class Bench:
         compiler = next(filter(shutil.which, MPI_COMPILERS), None)
         launcher = next(filter(shutil.which, LAUNCHERS), None)
         if compiler is None or launcher is None:
+            print("MPI isn't measured: there is no mpicc or no mpiexec", file=sys.stderr)
             return
-        names = [f"MPI, {many} in a message: {program.name}" for many in (BATCH, 1)]
+        names = [f"{kind}: {program.name}" for kind in MPI.values()]
         if not self.wants(*names):
             return
         own = self.compile([compiler, "-O2"], made, "-DP3L_MPI")
-        for name, batch, bound in zip(names, (BATCH, 1), (0.9, 1.0)):
+        for name, batch, bound in zip(names, MPI, (0.9, 1.0)):
             options = [*program.peer, f"-DBATCH={batch}"]
             peer = self.compile([compiler, "-O2"], str(PEERS / "farm_mpi.c"), *options)
             ours = [own, "--ranks", str(RANKS)]
@@ -283,7 +287,7 @@ class Bench:
 
     def try_run(self, program, source, options, one):
         """`run` of a program, beside the exported one, on fewer items."""
-        name = f"run: {program.name}"
+        name = f"{RUN}: {program.name}"
         if self.wants(name):
             stream = self.stream("few", program.lines, self.part * RUN_PART)
             run = [self.binary, "run", source, *options]
@@ -291,6 +295,9 @@ class Bench:
             self.table.row(name, own, other, own / other)
 
     def try_program(self, program):
+        """All rows of a program, if any of them is wanted."""
+        if not self.wants(*(f"{kind}: {program.name}" for kind in (ONE, FOUR, RUN, *MPI.values()))):
+            return
         source, made, options = self.export(program.name, program.source, program.lines)
         stream = self.stream("items", program.lines, self.part)
         one = self.compile(COMPILER, made)
