@@ -11,8 +11,8 @@ second. For each MPI that is installed, MPICH and Open MPI, and side by side:
   refused, and no items.
 - A cable that is out for some seconds changes nothing, and nor do ranks that don't answer for long,
   as in a long body.
-- A cable that stays out ends a run with status 16 and the line `a rank was lost`, and leaves no rank
-  on either machine; in the middle of a stream, and while no item comes.
+- A cable that stays out ends a run with status 16 and the line `a rank was lost`, and leaves no
+  rank on either machine; in the middle of a stream, and while no item comes.
 - A file of hosts in the wrong order is refused by a program for MPICH, with a line that says so.
   Open MPI puts them in order itself.
 
@@ -41,8 +41,8 @@ NAMES = {"one": "10.123.45.1", "two": "10.123.45.2"}
 NEEDED = ["ip", "sshd", "ssh", "ssh-keygen", "unshare", "nsenter", "pkill"]
 # The folder of both machines, as they see it.
 SHARED = "/mnt"
-# What a machine does before it is one: its name, and files of its own. In an empty home the shell of
-# root has no commands to begin with.
+# What a machine does before it is one: its name, and files of its own. In an empty home the shell
+# of root has no commands to begin with.
 BEGIN = f"""hostname "$1"
 mount --bind "$2" {SHARED}
 mount --bind {SHARED}/hosts /etc/hosts
