@@ -56,6 +56,10 @@
 #include <unistd.h>
 #ifdef P3L_MPI
 #include <mpi.h>
+#ifdef __linux__
+#include <linux/tcp.h>
+#include <netinet/in.h>
+#endif
 #endif
 
 /* ---- endings, memory and clocks */
@@ -106,6 +110,14 @@ static uint64_t nanoseconds(clockid_t clock)
 }
 
 static size_t bytes(int words) { return (size_t)words * sizeof(int64_t); }
+
+/* Copies words. Most tokens have few, for which a loop takes less time than a call. */
+static inline void copy_words(int64_t *to, const int64_t *from, int count)
+{
+    if (count > 4) memcpy(to, from, bytes(count));
+    else
+        for (int i = 0; i < count; i++) to[i] = from[i];
+}
 
 /* ---- nodes: their meaning, by form (docs/MODEL.md, "What an item comes to")
  *
@@ -427,7 +439,7 @@ static struct process *next_queued(void)
     return process;
 }
 
-static int64_t *row_of(struct channel *c, int at)
+static inline int64_t *row_of(struct channel *c, int at)
 {
     if (c->ring == NULL)
         c->ring = room_for((size_t)c->capacity * (size_t)c->stride, sizeof(int64_t));
@@ -435,7 +447,7 @@ static int64_t *row_of(struct channel *c, int at)
 }
 
 /* The first free row of a ring. */
-static int64_t *free_row(struct channel *c)
+static inline int64_t *free_row(struct channel *c)
 {
     int at = c->front + c->count;
     return row_of(c, at < c->capacity ? at : at - c->capacity);
@@ -708,7 +720,8 @@ enum {
     FLUSH_NS = 20000,
     SPIN_NS = 100000,
     SHORTEST_SLEEP_NS = 10000,
-    LONGEST_SLEEP_NS = 200000
+    LONGEST_SLEEP_NS = 200000,
+    ABORT_S = 3
 };
 
 static MPI_Request requests[MOST_RANKS][SLOTS];
@@ -717,12 +730,14 @@ static int64_t *inbox;
 static long sleep_ns = SHORTEST_SLEEP_NS;
 
 /* Rank 0 tells its status to its caller, if it has one, and leaves; the launcher then ends the
- * others. Otherwise MPI passes the status on. */
+ * others. Otherwise MPI passes the status on; where it can't, as on a machine that is cut off, this
+ * rank ends by the alarm. */
 static void stop_ranks(int status)
 {
     int has_begun = 0;
     if (tell_caller(status)) _exit(status);
     MPI_Initialized(&has_begun);
+    alarm(ABORT_S);
     if (has_begun) MPI_Abort(MPI_COMM_WORLD, status);
 }
 
@@ -737,6 +752,8 @@ static void start_carrier(void)
     for (int r = 0; r < ranks; r++)
         for (int slot = 0; slot < SLOTS; slot++) requests[r][slot] = MPI_REQUEST_NULL;
     request_message();
+    /* An empty message makes the connection, so that its loss is noticed. */
+    if (my_rank != 0) MPI_Send(inbox, 0, MPI_INT64_T, 0, 0, MPI_COMM_WORLD);
 }
 
 static void post(int rank, int slot, const int64_t *message, int words)
@@ -767,6 +784,64 @@ static bool receive(void)
     }
 }
 
+/* MPI doesn't notice that a machine is gone, or the cable to it: its connections stay silent for a
+ * quarter of an hour. So each rank asks the system to probe them, which the system of the other
+ * machine answers, even while a rank there runs a long body. A connection without any answer for
+ * SILENCE_MS is lost. */
+enum { MOST_SOCKETS = 4096, PROBE_S = 4, SILENCE_MS = 20000 };
+#define SECOND_NS UINT64_C(1000000000)
+#define SILENCE_NS (SILENCE_MS / 1000 * SECOND_NS)
+
+#ifdef __linux__
+
+/* Turns the probes of a connection on; false if they were on before. */
+static bool begin_probes(int socket)
+{
+    int seconds = 0, on = 1, period = PROBE_S;
+    socklen_t size = sizeof seconds;
+    getsockopt(socket, IPPROTO_TCP, TCP_KEEPIDLE, &seconds, &size);
+    if (seconds == period) return false;
+    setsockopt(socket, IPPROTO_TCP, TCP_KEEPIDLE, &period, sizeof period);
+    setsockopt(socket, IPPROTO_TCP, TCP_KEEPINTVL, &period, sizeof period);
+    setsockopt(socket, SOL_SOCKET, SO_KEEPALIVE, &on, sizeof on);
+    return true;
+}
+
+/* Decides whether a descriptor is a connection of TCP that is lost. */
+static bool is_lost(int socket, uint64_t now_ns)
+{
+    static uint64_t probed_since[MOST_SOCKETS];
+    enum { ESTABLISHED = 1 };
+    struct tcp_info info;
+    socklen_t size = sizeof info;
+    memset(&info, 0, sizeof info);
+    if (getsockopt(socket, IPPROTO_TCP, TCP_INFO, &info, &size) != 0) return false;
+    if (info.tcpi_state != ESTABLISHED) return false;
+    if (begin_probes(socket)) probed_since[socket] = now_ns;
+    return now_ns - probed_since[socket] > SILENCE_NS && info.tcpi_last_ack_recv > SILENCE_MS;
+}
+
+#else
+
+static bool is_lost(int socket, uint64_t now_ns)
+{
+    (void)socket, (void)now_ns;
+    return false;
+}
+
+#endif
+
+/* Ends the run if a connection is lost; looks once a second. */
+static void look_for_losses(void)
+{
+    static uint64_t before_ns;
+    uint64_t now_ns = nanoseconds(CLOCK_MONOTONIC);
+    if (now_ns - before_ns < SECOND_NS) return;
+    before_ns = now_ns;
+    for (int socket = 3; socket < MOST_SOCKETS; socket++)
+        if (is_lost(socket, now_ns)) fail(LOST, "a rank was lost");
+}
+
 static bool caller_has_ended(void);
 
 static void rest(bool for_input)
@@ -774,12 +849,16 @@ static void rest(bool for_input)
     struct timespec t = { 0, sleep_ns };
     (void)for_input; /* it never sleeps for long */
     if (caller_has_ended()) stop_ranks(LOST);
+    look_for_losses();
     nanosleep(&t, NULL);
     if (sleep_ns < LONGEST_SLEEP_NS) sleep_ns *= 2;
 }
 
+/* Sends the last messages. All results are written by now, so a rank that MPI then holds up ends
+ * after a while. */
 static void end_carrier(void)
 {
+    alarm(SILENCE_MS / 1000);
     for (int r = 0; r < ranks; r++)
         for (int slot = 0; slot < SLOTS; slot++) MPI_Wait(&requests[r][slot], MPI_STATUS_IGNORE);
     MPI_Cancel(&inbox_request);
@@ -978,40 +1057,40 @@ static void farewell(void)
 /* ---- channels as processes see them. A firing puts its token before it takes the one that it
  * came from. */
 
-static bool has_front(int i) { return channels[i].count > 0; }
+static inline bool has_front(int i) { return channels[i].count > 0; }
 
 /* The first token of a ring that has one. */
-static const int64_t *front(int i)
+static inline const int64_t *front(int i)
 {
     const struct channel *c = &channels[i];
     return c->ring + (size_t)c->front * (size_t)c->stride;
 }
 
 /* How many tokens its writer may put. */
-static int credit(int i)
+static inline int credit(int i)
 {
     const struct channel *c = &channels[i];
     return is_between_ranks(c) ? c->credit : c->capacity - c->count;
 }
 
-static bool has_room(int i) { return credit(i) > 0; }
+static inline bool has_room(int i) { return credit(i) > 0; }
 
 /* The row of the next token of a channel that has room. */
-static int64_t *next_row(int i)
+static inline int64_t *next_row(int i)
 {
     struct channel *c = &channels[i];
     return is_between_ranks(c) ? sent_row(c) : free_row(c);
 }
 
 /* Puts the token that was written to the next row. */
-static void put(int i)
+static inline void put(int i)
 {
     struct channel *c = &channels[i];
     if (is_between_ranks(c)) put_sent(c);
     else if (c->count++ == 0) wake(c->reader);
 }
 
-static void take(int i)
+static inline void take(int i)
 {
     struct channel *c = &channels[i];
     c->front = c->front + 1 < c->capacity ? c->front + 1 : 0;
@@ -1024,8 +1103,8 @@ static void take(int i)
  * tags to behind `has` tags. */
 static void copy_token(int64_t *to, int has, const int64_t *from, int had, int tags, int words)
 {
-    memcpy(to, from, bytes(1 + tags));
-    if (from[0] == 0) memcpy(to + 1 + has, from + 1 + had, bytes(words));
+    copy_words(to, from, 1 + tags);
+    if (from[0] == 0) copy_words(to + 1 + has, from + 1 + had, words);
 }
 
 /* ---- the input (docs/FORMATS.md, "The stream") */
@@ -1034,9 +1113,10 @@ static void copy_token(int64_t *to, int has, const int64_t *from, int had, int t
 #define MOST_INPUT ((uint64_t)1 << 36)
 
 enum { BAD_WORD = 100, WRONG_COUNT = 101, OUT_OF_RANGE = 102, MOST_DIGITS = 19 };
+enum { MOST_READ = 1 << 18 };
 
 static struct {
-    char at[65536];
+    char at[MOST_READ + 1]; /* a line feed follows the last byte that was read */
     size_t start, end;
     bool at_end;
     uint64_t taken;
@@ -1073,7 +1153,7 @@ static bool read_input(void)
         return true;
     }
     if (!input_is_ready()) return false;
-    size_t most = sizeof input.at;
+    size_t most = MOST_READ;
     if (most > MOST_INPUT - input.taken) most = (size_t)(MOST_INPUT - input.taken);
     ssize_t got = read(0, input.at, most);
     if (got < 0 && (errno == EINTR || errno == EAGAIN || errno == EWOULDBLOCK)) return false;
@@ -1084,6 +1164,7 @@ static bool read_input(void)
     input.at_end = got == 0;
     input.start = 0;
     input.end = (size_t)got;
+    input.at[got] = '\n';
     input.taken += (uint64_t)got;
     return true;
 }
@@ -1115,7 +1196,7 @@ static void refuse_line(int fault)
     end_input(REFUSED, text);
 }
 
-static void end_word(int width)
+static inline void end_word(int width)
 {
     if (!line.in_word) return;
     line.in_word = false;
@@ -1182,8 +1263,25 @@ static const char *read_bytes(const char *at, const char *end, int width)
     return at;
 }
 
+/* Reads an item as most of them are written: words of less than MOST_DIGITS digits, one blank
+ * between two, and all of the line in the buffer. Returns the end of the line, or NULL where it is
+ * written otherwise. */
+static const char *read_plain(const char *at, const char *end, int width)
+{
+    for (int i = 0; i < width; i++) {
+        bool is_negative = *at == '-';
+        const char *first = at += is_negative;
+        uint64_t value = 0;
+        for (; *at >= '0' && *at <= '9'; at++) value = 10 * value + (uint64_t)(*at - '0');
+        if (at == first || at - first >= MOST_DIGITS || at == end) return NULL;
+        if (*at++ != (i + 1 < width ? ' ' : '\n')) return NULL;
+        item[i] = is_negative ? -(int64_t)value : (int64_t)value;
+    }
+    return at;
+}
+
 /* Ends a line; true if it is an item, false if it has no words or is refused. */
-static bool end_line_of(int width)
+static inline bool end_line_of(int width)
 {
     line.has_return = line.begun = false;
     end_word(width);
@@ -1203,7 +1301,14 @@ static bool next_item(int width)
 {
     while (!input_ended) {
         while (input.start < input.end && !input_ended) {
-            const char *stop = read_bytes(input.at + input.start, input.at + input.end, width);
+            const char *first = input.at + input.start, *end = input.at + input.end;
+            const char *next = line.begun ? NULL : read_plain(first, end, width);
+            if (next != NULL) {
+                input.start = (size_t)(next - input.at);
+                line.passed++;
+                return true;
+            }
+            const char *stop = read_bytes(first, end, width);
             input.start = (size_t)(stop - input.at);
             if (input.start == input.end || input_ended) break;
             input.start++;
@@ -1315,7 +1420,7 @@ static bool fire_source(struct process *p)
     }
     int64_t *token = next_row(out);
     token[0] = 0;
-    memcpy(token + 1, item, bytes(words));
+    copy_words(token + 1, item, words);
     put(out);
     items_sent++;
     return true;
@@ -1356,7 +1461,7 @@ static bool fire_run(struct process *p)
     if (!has_front(in) || !has_room(out)) return false;
     const int64_t *from = front(in);
     int64_t *to = next_row(out);
-    memcpy(to, from, bytes(1 + tags));
+    copy_words(to, from, 1 + tags);
     if (from[0] == 0) {
         const int64_t *words = from + 1 + tags;
         int64_t *results = to + 1 + tags;
@@ -1508,7 +1613,7 @@ static bool fire_head(struct process *p)
         tags = channels[in].tags;
     if (!has_room(out)) return false;
     if (has_front(round)) {
-        memcpy(next_row(out), front(round), bytes(channels[out].stride));
+        copy_words(next_row(out), front(round), channels[out].stride);
         put(out);
         take(round);
         return true;
@@ -1978,8 +2083,8 @@ static bool tell_caller(int status)
 
 #ifdef P3L_MPI
 
-enum { STREAMS = 3, ENDING_MS = 3000, MOST_SAID = 16384 };
-#define SOON_NS UINT64_C(3000000000)
+enum { STREAMS = 3, ENDING_MS = 1000, MOST_SAID = 16384 };
+#define SOON_NS (3 * SECOND_NS)
 
 static const char NO_CALLER[] = "rank 0 must be on the machine of its caller";
 

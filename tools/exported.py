@@ -4,14 +4,18 @@
     tools/exported.py PATH_OF_P3L [--all] [NAME..]
 
 Programs are exported, compiled under the address and undefined-behaviour sanitizers with warnings
-as errors, and run on 1, 2, 3, 4 and 8 ranks: those of examples/, one or more for each skeleton, and
-random nests of skeletons with traps, rescues and refused lines, with channels of 1, of 4 and of 64
-tokens. Output, status and message must be those of `run`. Then come the edges: pipes that are
-closed, full disks, empty and closed inputs, long inputs and long lines with little memory, no
-memory, ranks that are killed, and each result before the next item. Where an MPI is installed, some
-of it is done again over it; MPICH and Open MPI may be there side by side. Names choose programs by
-a word in their names; `--all` takes many more random programs, and all capacities for each. The
-last line is `N passed, M failed`.
+as errors, and run on 1, 2, 3, 4 and 8 ranks. Output, status and message must be those of `run`:
+
+- the programs of examples/, and one or more for each skeleton, each with the capacities that are
+  chosen for it or with channels of 1, of 4 or of 64 tokens
+- a hundred that are generated: random nests of skeletons with traps, rescues and refused lines, and
+  some of `p3l gen` with their costs; each with channels of 1, of 4 and of 64 tokens
+
+Then come the edges: pipes that are closed, full disks, empty and closed inputs, a million lines and
+long lines with little memory, no memory, ranks that are killed, and each result before the next
+item. Where an MPI is installed, some of it is done again over it; MPICH and Open MPI may be there
+side by side. Names choose programs by a word in their names; `--all` takes many more random
+programs, and all capacities for each. The last line is `N passed, M failed`.
 
 A program without the command `export` compiles images, and tools/image_to_c.py makes the texts in C
 of them: the engine is tested, and bodies and tables are not the program's own. The last line but
@@ -31,19 +35,23 @@ import tempfile
 import threading
 import time
 
-import image_to_c
+import c_texts
 
 ROOT = pathlib.Path(__file__).resolve().parent.parent
 EXAMPLES = ROOT / "examples"
 WARNINGS = ["-std=c11", "-Wall", "-Wextra", "-Werror"]
-SANITIZED = ["-O1", "-g", "-fsanitize=address,undefined", "-fno-sanitize-recover=all"]
+SANITIZED = ["-g", "-fsanitize=address,undefined", "-fno-sanitize-recover=all"]
+# The compiler warns of more where it optimizes, and then takes twice as long.
+OPTIMIZED, PLAIN = "-O1", "-O0"
 RANKS = ["1", "2", "3", "4", "8"]
 CAPACITIES = ["1", "4", "64"]
 SECONDS = 120
 # The sanitizers make compiling slow where the machine has other work.
 COMPILE_SECONDS = 600
 WIDTH = 6
-RANDOM_PROGRAMS, MANY_PROGRAMS = 40, 250
+RANDOM_PROGRAMS, MANY_PROGRAMS = 95, 250
+# Numbers of `p3l gen`, whose programs differ in a factor, and in their streams.
+GENERATED = ["1", "2", "7", "40", "901"]
 # Both may be installed side by side; where neither has a name of its own, there may be one MPI.
 MPI = {"mpich": "mpicc.mpich", "openmpi": "mpicc.openmpi", "mpi": "mpicc"}
 LAUNCHERS = {"mpich": "mpiexec.mpich", "openmpi": "mpiexec.openmpi", "mpi": "mpiexec"}
@@ -240,10 +248,10 @@ class Nest:
 
 
 class Program:
-    """A program with its stream: how it is exported."""
+    """A program with its stream: how it is exported, and how its text is compiled."""
 
-    def __init__(self, name, text, stream, processors="16", capacity=None):
-        self.name, self.text, self.stream = name, text, stream
+    def __init__(self, name, text, stream, processors="16", capacity=None, level=OPTIMIZED):
+        self.name, self.text, self.stream, self.level = name, text, stream, level
         self.words = ["--processors", processors]
         self.words += ["--capacity", capacity] if capacity else []
         if capacity:
@@ -256,9 +264,7 @@ class Checks:
     def __init__(self, binary, folder):
         self.binary, self.folder = binary, pathlib.Path(folder)
         self.passed, self.failed, self.files, self.lock = 0, 0, 0, threading.Lock()
-        # The topic of an unknown command has another page, or none.
-        page = self.call(binary, "help", "export")[1]
-        self.has_export = page.startswith(b"usage: p3l export ")
+        self.has_export = c_texts.has_export(binary)
 
     def expect(self, name, found, wanted):
         """Compares what was found with what is wanted."""
@@ -285,22 +291,11 @@ class Checks:
             return "no end in time", late.stdout, late.stderr
         return done.returncode, done.stdout, done.stderr
 
-    def write_c(self, text, words, made):
-        """Writes the C text of a program, by `export` or of its image; what came of the command."""
-        if self.has_export:
-            return self.call(self.binary, "export", text, *words, "--output", made)
-        image = self.file(".img")
-        done = self.call(self.binary, "compile", text, *words, "--output", image)
-        if done[0] == 0:
-            pathlib.Path(made).write_text(image_to_c.text_of(pathlib.Path(image).read_bytes()))
-            os.remove(image)
-        return done
-
     def export(self, program):
         """The names of a program's text and of its C text; none where it wasn't exported."""
         text, made = self.file(".p3l"), self.file(".c")
         pathlib.Path(text).write_text(program.text)
-        done = self.write_c(text, program.words, made)
+        done = c_texts.write(self.binary, text, program.words, made)
         if done[0] != 0:
             self.expect(f"export of {program.name}", done, (0, b"", b""))
             return text, None
@@ -322,7 +317,7 @@ class Checks:
         wanted = self.call(self.binary, "run", text, *program.words, stream=program.stream)
         if wanted[0] not in (0, 6, 7):
             self.expect(f"run of {program.name}", wanted, "a status of 0, 6 or 7")
-        built = made and self.compile(program.name, made, *SANITIZED)
+        built = made and self.compile(program.name, made, program.level, *SANITIZED)
         for ranks in RANKS if built else []:
             words = [] if ranks == "1" else ["--ranks", ranks]
             found = self.call(built, *words, stream=program.stream)
@@ -351,14 +346,34 @@ def nests(count):
         yield f"random {number}", "".join(nest.texts), nest.stream(), "300"
 
 
-def programs(is_all):
+def generated(binary, folder):
+    """Programs of `p3l gen`, each with its stream and the file of its costs."""
+    for number in GENERATED:
+        at = os.path.join(folder, f"gen{number}")
+        words = [binary, "gen", number, "--processors", "24", "--items", "50", "--save", at]
+        subprocess.run(words, check=True, capture_output=True)
+        text, stream = [pathlib.Path(at + it) for it in (".p3l", ".txt")]
+        yield f"gen {number}", text.read_text(), stream.read_bytes(), f"{at}.toml"
+
+
+def generated_programs(binary, folder, is_all):
+    """A hundred programs or more, each with each capacity."""
+    for capacity in [None, *CAPACITIES] if is_all else CAPACITIES:
+        for name, text, stream, processors in nests(MANY_PROGRAMS if is_all else RANDOM_PROGRAMS):
+            yield Program(name, text, stream, processors, capacity, PLAIN)
+        for name, text, stream, costs in generated(binary, folder):
+            program = Program(name, text, stream, "24", capacity, PLAIN)
+            program.words += ["--costs", costs]
+            yield program
+
+
+def programs(binary, folder, is_all):
     """Every program that is tried, with its capacities."""
-    for number, (name, text, stream, processors) in enumerate(
-        [*examples(), *rows(), *nests(MANY_PROGRAMS if is_all else RANDOM_PROGRAMS)]
-    ):
+    for number, (name, text, stream, processors) in enumerate([*examples(), *rows()]):
         chosen = [None, *CAPACITIES] if is_all else [[None, *CAPACITIES][number % 4]]
         for capacity in chosen:
             yield Program(name, text, stream, processors, capacity)
+    yield from generated_programs(binary, folder, is_all)
 
 
 SLOW = """seq slow in(int x) out(int y)
@@ -477,15 +492,10 @@ class Edge:
         for pipe in (child.stdin, child.stdout, child.stderr):
             pipe.close()
 
-    def try_long(self):
-        """Long inputs and long lines in little memory."""
-        zeros, blanks = b"0" * 25_000_000, b" " * 25_000_000
-        for what, stream in (
-            ("a long input", (b"1234567 " * 50 + b"\n") * 60_000),
-            ("a long line", zeros + b"7" + b" 5" * 49 + b"\n" + blanks),
-        ):
-            wanted = self.checks.call(*self.model, stream=stream)
-            self.expect(what, self.shell('ulimit -v 20000; exec "$@"', stream), wanted)
+    def try_little_memory(self, what, stream):
+        """A long stream in little memory."""
+        wanted = self.checks.call(*self.model, stream=stream)
+        self.expect(what, self.shell('ulimit -v 20000; exec "$@"', stream), wanted)
 
     def try_stats(self):
         status, output, lines = self.checks.call(*self.words, "--stats", stream=NUMBERS)
@@ -525,10 +535,18 @@ def ready(checks, name, text, *options, compiler="cc"):
 
 
 def try_long(checks):
-    """Long inputs and lines, on one rank and on several."""
-    built, model = ready(checks, "long", LONG)
-    for ranks in ("1", "3") if built else ():
-        Edge(checks, f"{ranks} ranks", [built, "--ranks", ranks], model).try_long()
+    """A million lines, lines of many words and long lines, on one rank and on several."""
+    lists = [
+        ("lines of many words", (b"1234567 " * 50 + b"\n") * 60_000),
+        ("a long line", b"0" * 25_000_000 + b"7" + b" 5" * 49 + b"\n" + b" " * 25_000_000),
+    ]
+    lines = [("a million lines", b"".join(b"%d\n" % number for number in range(1_000_000)))]
+    for name, text, streams in (("long", LONG, lists), ("many", SQUARES, lines)):
+        built, model = ready(checks, name, text)
+        for ranks in ("1", "3") if built else ():
+            edge = Edge(checks, f"{ranks} ranks", [built, "--ranks", ranks], model)
+            for what, stream in streams:
+                edge.try_little_memory(what, stream)
 
 
 def try_edges(checks):
@@ -597,7 +615,8 @@ def main():
     given = words.parse_args()
     with tempfile.TemporaryDirectory() as folder:
         checks = Checks(os.path.abspath(given.binary), folder)
-        tasks = [(checks.try_program, program) for program in programs(given.all)
+        tasks = [(checks.try_program, program)
+                 for program in programs(checks.binary, folder, given.all)
                  if not given.names or any(name in program.name for name in given.names)]
         if not given.names or "edge" in given.names:
             tasks = [(try_edges, checks), (try_long, checks), (try_no_memory, checks), *tasks]

@@ -11,9 +11,9 @@ use Rattle.p3l_net.specs.Steps.{Ends}
 use Rattle.p3l_export.specs.declared.channels.ChannelRow.{ChannelRow}
 use Rattle.p3l_export.specs.Loads.{firing_price}
 
--- how many tokens make 100,000 ticks of work, where one takes these
+-- how many tokens make 10,000,000 ticks of work, where one takes these
 abbrev pub by_work : ℕ → ℕ
-by_work price = 100000 / max 1 price
+by_work price = 10000000 / max 1 price
 
 -- how many tokens of n words a mebibyte holds
 abbrev pub by_size : ℕ → ℕ

@@ -17,14 +17,14 @@ use p3l_skel::Tree;
 use std::alloc::Global;
 
 /// The count of tokens of these words that a channel between processes of this price holds well:
-/// some 100,000 ticks of work, so that fine tokens are sent together and coarse ones don't wait in
-/// line, but a mebibyte of words at most.
+/// some 10,000,000 ticks of work, so that fine tokens are sent together and coarse ones don't wait
+/// in line, but a mebibyte of words at most.
 fn tokens_for(words: u64, price: u64) -> u32
     ensures value { result ≡ tokens_for words price }
     ensures some { 2 ≤ result }
     ensures few { result ≤ 64 }
 {
-    let by_work = 100_000 / price.max(1);
+    let by_work = 10_000_000 / price.max(1);
     let by_size = 131_072 / words.max(1);
     by_work.min(by_size).min(64).max(2) as u32
 }

@@ -48,9 +48,9 @@ fn put_program(
 /// The text of an exported program: the engine's first part, the functions of the bodies, the tables
 /// of the tree and of its net, and the engine's second part.
 ///
-/// Capacities are chosen or those of the net. A chosen one has room for some 100,000 ticks of work
-/// by the costs, 2 to 64 tokens but no more than a mebibyte of words, and for no less than in the
-/// net.
+/// Capacities are chosen or those of the net. A chosen one has room for some 10,000,000 ticks of
+/// work by the costs, 2 to 64 tokens but no more than a mebibyte of words, and for no less than in
+/// the net.
 pub fn export_text(
     alloc: Global,
     tree: &Tree,
