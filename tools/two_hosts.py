@@ -79,7 +79,7 @@ SECONDS = 120
 # How long ranks may be silent without harm, and longer than a silence of the network may last.
 SHORT, LONG = 6, 30
 # The greatest time to a status after the cable was pulled, and to the end of all ranks.
-SOON, LEFT = 40, 20
+SOON, LEFT = 40, 30
 
 PROGRAM = """seq slow in(int x) out(int y)
 ${ int i; for (i = 0; i < 100; i = i + 1) { y = y + x * i % 7 + 100 / (x - 51); } }$ end seq

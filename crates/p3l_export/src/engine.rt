@@ -785,7 +785,8 @@ enum {
     SPIN_NS = 100000,
     SHORTEST_SLEEP_NS = 10000,
     LONGEST_SLEEP_NS = 200000,
-    ABORT_S = 3
+    ABORT_S = 10,
+    LEAVE_S = 60
 };
 
 static MPI_Request requests[MOST_RANKS][SLOTS];
@@ -922,7 +923,7 @@ static void rest(bool for_input)
  * after a while. */
 static void end_carrier(void)
 {
-    alarm(SILENCE_MS / 1000);
+    alarm(LEAVE_S);
     for (int r = 0; r < ranks; r++)
         for (int slot = 0; slot < SLOTS; slot++) MPI_Wait(&requests[r][slot], MPI_STATUS_IGNORE);
     MPI_Cancel(&inbox_request);
