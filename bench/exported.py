@@ -21,8 +21,6 @@ stream. --picture draws the speed-up on 1 to 8 ranks as SVG.
 
 It prints the load that it found, and refuses to measure where that is above 1; with --busy it
 measures all the same. A bound that isn't met ends it with 1. Programs are compiled by `cc -O2`.
-Without the command `export` the texts in C are those of tools/image_to_c.py, whose bodies are a
-machine's instructions: the script says so.
 """
 
 import argparse
@@ -352,8 +350,6 @@ def main():
     print(measure.load())
     if os.getloadavg()[0] > MOST_LOAD and not given.busy:
         sys.exit(f"the load is above {MOST_LOAD}: wait until the machine is quiet, or say --busy")
-    if not c_texts.has_export(given.binary):
-        print("without `export`: tools/image_to_c.py wrote the texts in C, of images")
     with tempfile.TemporaryDirectory() as folder:
         bench = Bench(given.binary, folder, given)
         bench.table.begin()

@@ -16,10 +16,6 @@ long lines with little memory, no memory, ranks that are killed, and each result
 item. Where an MPI is installed, some of it is done again over it; MPICH and Open MPI may be there
 side by side. Names choose programs by a word in their names; `--all` takes many more random
 programs, and all capacities for each. The last line is `N passed, M failed`.
-
-A program without the command `export` compiles images, and tools/image_to_c.py makes the texts in C
-of them: the engine is tested, and bodies and tables are not the program's own. The last line but
-one says so.
 """
 
 import argparse
@@ -264,7 +260,6 @@ class Checks:
     def __init__(self, binary, folder):
         self.binary, self.folder = binary, pathlib.Path(folder)
         self.passed, self.failed, self.files, self.lock = 0, 0, 0, threading.Lock()
-        self.has_export = c_texts.has_export(binary)
 
     def expect(self, name, found, wanted):
         """Compares what was found with what is wanted."""
@@ -625,8 +620,6 @@ def main():
         with concurrent.futures.ThreadPoolExecutor(len(os.sched_getaffinity(0))) as pool:
             for done in [pool.submit(*task) for task in tasks]:
                 done.result()
-    if not checks.has_export:
-        print("exported: p3l export skipped: tools/image_to_c.py wrote the texts in C, of images")
     print(f"{checks.passed} passed, {checks.failed} failed")
     return 1 if checks.failed or not checks.passed else 0
 
