@@ -2,6 +2,8 @@ mod Hand
 pub mod Counted
 pub mod Placing
 pub mod Size
+pub mod Widths
+pub mod Once
 pub mod Typing
 pub mod Walk
 pub mod NodeMeaning
@@ -10,6 +12,7 @@ pub mod MapMeaning
 pub mod ReduceMeaning
 pub mod LoopMeaning
 pub mod RoleLaw
+pub mod ShapeSound
 pub mod Sound
 pub mod Round
 pub mod Carried

@@ -43,7 +43,9 @@ use Rattle.p3l_link.specs.Counts.{HasOwnCount, IsCounted}
 use Rattle.p3l_link.specs.Net.{Piece, base_at, end_net, inner_pieces, linked_net, piece_of, root_base, root_piece, whole_piece, with_piece}
 use Rattle.p3l_link.specs.Shape.{shape_at, shape_row}
 use Rattle.p3l_link.proofs.Counted.{root_counted, seat_counted, shape_lawful}
+use Rattle.p3l_link.proofs.Once.{HasOnce, HaveOnce, inner_once, whole_once}
 use Rattle.p3l_link.proofs.Size.{root_sized}
+use Rattle.p3l_link.proofs.Widths.{AllRows, all_append, carry_left, carry_right, rows_append, rows_at, rows_few, rows_from}
 
 -- THE TEMPLATES
 
@@ -124,7 +126,7 @@ row_typed tree k n (Loop turns tokens) there is lawful own =
       },
     )
 
-shape_typed : (tree : Tree) (count : ℕ → ℕ) (k : ℕ) → IsLawfulTree tree → k < length tree.nodes →
+pub shape_typed : (tree : Tree) (count : ℕ → ℕ) (k : ℕ) → IsLawfulTree tree → k < length tree.nodes →
     HasOwnCount (node_at tree k).form (count k) → IsTypedShape tree k (shape_at tree count k)
 unfolding shape_at
 shape_typed tree count k lawful there own =
@@ -140,72 +142,6 @@ record FitsRow (most : ℕ) (chan : Chan) (row : Width) : Type 0 where
   bare : 0 < chan.credits → row ≡ no_width
   tags : row.tags ≤ most
 
-AllFitRows : ℕ → List Chan → List Width → Type 0
-AllFitRows most [] [] = Unit {0}
-AllFitRows most [] (w ∷ ws) = ⊥
-AllFitRows most (x ∷ xs) [] = ⊥
-AllFitRows most (x ∷ xs) (w ∷ ws) = FitsRow most x w × AllFitRows most xs ws
-
-rows_from : (most : ℕ) (xs : List Chan) (ws : List Width) → length ws ≡ length xs →
-    ((i : ℕ) → i < length xs → FitsRow most (get_or xs i no_chan) (get_or ws i no_width)) → AllFitRows most xs ws
-unfolding AllFitRows
-rows_from most [] [] long each = tt
-rows_from most [] (w ∷ ws) long each = absurd (omega arith)
-rows_from most (x ∷ xs) [] long each = absurd (omega arith)
-rows_from most (x ∷ xs) (w ∷ ws) long each =
-    (each 0 (omega arith), rows_from most xs ws (omega arith) (λ i l. each (suc i) (omega arith)))
-
-rows_append : (most : ℕ) (xs ys : List Chan) (vs ws : List Width) → AllFitRows most xs vs → AllFitRows most ys ws →
-    AllFitRows most (xs ++ ys) (vs ++ ws)
-unfolding AllFitRows
-rows_append most [] ys [] ws h k = k
-rows_append most [] ys (v ∷ vs) ws h k = absurd h
-rows_append most (x ∷ xs) ys [] ws h k = absurd h
-rows_append most (x ∷ xs) ys (v ∷ vs) ws h k = (h.0, rows_append most xs ys vs ws h.1 k)
-
-rows_at : (most : ℕ) (xs : List Chan) (ws : List Width) (i : ℕ) → AllFitRows most xs ws → i < length xs →
-    FitsRow most (get_or xs i no_chan) (get_or ws i no_width)
-unfolding AllFitRows
-rows_at most [] ws i h l = absurd (omega arith)
-rows_at most (x ∷ xs) [] i h l = absurd h
-rows_at most (x ∷ xs) (w ∷ ws) zero h l = h.0
-rows_at most (x ∷ xs) (w ∷ ws) (suc i) h l = rows_at most xs ws i h.1 (omega arith)
-
-rows_few : (most : ℕ) (xs : List Chan) (ws : List Width) (i : ℕ) → AllFitRows most xs ws →
-    (get_or ws i no_width).tags ≤ most
-unfolding AllFitRows
-rows_few most xs [] i h = omega arith
-rows_few most [] (w ∷ ws) i h = absurd h
-rows_few most (x ∷ xs) (w ∷ ws) zero h = let first = h.0 in first.tags
-rows_few most (x ∷ xs) (w ∷ ws) (suc i) h = rows_few most xs ws i h.1
-
-carry_left : (w : Widths) (c : ℕ) (vs ws : List Width) → Carry w c (vs ++ ws) → Carry w c vs
-unfolding Carry
-carry_left w c vs ws h = λ i l.
-    subst (λ z. Carries w (c + i) z.words z.tags) (get_or_append_left vs ws no_width i l) (h i (omega (arith, length-append vs ws)))
-
-carry_right : (w : Widths) (c : ℕ) (vs ws : List Width) → Carry w c (vs ++ ws) → Carry w (c + length vs) ws
-unfolding Carry
-carry_right w c vs ws h = λ i l.
-    let e : c + (length vs + i) ≡ (c + length vs) + i = omega arith in
-    subst (λ z. Carries w z (get_or ws i no_width).words (get_or ws i no_width).tags) e
-    (subst (λ z. Carries w (c + (length vs + i)) z.words z.tags) (get_or-append-add vs ws i no_width)
-    (h (length vs + i) (omega (arith, length-append vs ws))))
-
-all_append : {A : Type 0} (P : A → Type 0) (xs ys : List A) → AllByRecursion P xs → AllByRecursion P ys →
-    AllByRecursion P (xs ++ ys)
-all_append P [] ys h k = k
-all_append P (x ∷ xs) ys h k = (h.0, all_append P xs ys h.1 k)
-
-ins_append : (c : ℕ) (ps qs : List Proc) → times c (all_ins (ps ++ qs)) ≡ times c (all_ins ps) + times c (all_ins qs)
-ins_append c ps qs = ap (times c) (flat_map-append (λ (q : Proc). q.ins) ps qs) ∙ times_append c (all_ins ps) (all_ins qs)
-
-outs_append : (c : ℕ) (ps qs : List Proc) → times c (all_outs (ps ++ qs)) ≡ times c (all_outs ps) + times c (all_outs qs)
-outs_append c ps qs = ap (times c) (flat_map-append (λ (q : Proc). q.outs) ps qs) ∙ times_append c (all_outs ps) (all_outs qs)
-
-numbers_split : (c x n k : ℕ) → times c (numbers_from x (n + k)) ≡ times c (numbers_from x n) + times c (numbers_from (x + n) k)
-numbers_split c x n k = ap (times c) (numbers_append x n k) ∙ times_append c (numbers_from x n) (numbers_from (x + n) k)
-
 -- PIECES
 
 -- what node k places to depth d at a base, where tokens outside have t tags: it has a row of widths
@@ -213,9 +149,8 @@ numbers_split c x n k = ap (times c) (numbers_append x n k) ∙ times_append c (
 record IsTypedPiece (tree : Tree) (k d : ℕ) (base : Base) (t : ℕ) (F : Piece) : Type 0 where
   rows : List Width
   count : length rows ≡ length F.chans
-  fit : (most : ℕ) → t + 2 * d ≤ most → AllFitRows most F.chans rows
-  reads : (c : ℕ) → times c (all_ins F.procs) ≡ times c (base.input ∷ numbers_from base.chan (length F.chans))
-  writes : (c : ℕ) → times c (all_outs F.procs) ≡ times c (base.output ∷ numbers_from base.chan (length F.chans))
+  fit : (most : ℕ) → t + 2 * d ≤ most → AllRows (FitsRow most) F.chans rows
+  once : HasOnce base F
   inner : AllByRecursion (λ (q : Proc). IsInner q.kind) F.procs
   fits : (w : Widths) → Carries w base.input (node_at tree k).ins t → Carries w base.output (node_at tree k).outs t →
       Carry w base.chan rows → AllByRecursion (λ (q : Proc). FitsKind q.kind tree w q) F.procs
@@ -224,9 +159,8 @@ record IsTypedPiece (tree : Tree) (k d : ℕ) (base : Base) (t : ℕ) (F : Piece
 record IsTypedInner (tree : Tree) (k d : ℕ) (seats : List Seat) (c t : ℕ) (F : Piece) : Type 0 where
   rows : List Width
   count : length rows ≡ length F.chans
-  fit : (most : ℕ) → t + 2 * d ≤ most → AllFitRows most F.chans rows
-  reads : (x : ℕ) → times x (all_ins F.procs) ≡ times x (seat_ins seats) + times x (numbers_from c (length F.chans))
-  writes : (x : ℕ) → times x (all_outs F.procs) ≡ times x (seat_outs seats) + times x (numbers_from c (length F.chans))
+  fit : (most : ℕ) → t + 2 * d ≤ most → AllRows (FitsRow most) F.chans rows
+  once : HaveOnce seats c F
   inner : AllByRecursion (λ (q : Proc). IsInner q.kind) F.procs
   fits : (w : Widths) → ((v : ℕ) → v < length seats → SeatFits tree k w t (get_or seats v no_seat)) → Carry w c rows →
       AllByRecursion (λ (q : Proc). FitsKind q.kind tree w q) F.procs
@@ -235,13 +169,12 @@ inner_typed : (tree : Tree) (k d t : ℕ) (f : ℕ → Base → Piece) (seats : 
     ((v : ℕ) → v < length seats → (b : Base) →
     IsTypedPiece tree (part_at tree k (get_or seats v no_seat).part) d b t (f (get_or seats v no_seat).part b)) →
     IsTypedInner tree k d seats c t (inner_pieces f seats p c)
-unfolding inner_pieces numbers_from AllFitRows
+unfolding inner_pieces AllRows
 inner_typed tree k d t f [] p c each = record {
   rows = [];
   count = refl;
   fit = λ most l. tt;
-  reads = λ x. refl;
-  writes = λ x. refl;
+  once = inner_once f [] p c (λ v l b. let it = each v l b in it.once);
   inner = tt;
   fits = λ w s h. tt;
 }
@@ -256,27 +189,8 @@ inner_typed tree k d t f (x ∷ xs) p c each =
     record {
       rows = here.rows ++ rest.rows;
       count = omega (arith, many, length-append here.rows rest.rows, here.count, rest.count);
-      fit = λ most l. rows_append most F.chans G.chans here.rows rest.rows (here.fit most l) (rest.fit most l);
-      reads = λ y. omega (
-        arith,
-        ins_append y F.procs G.procs,
-        here.reads y,
-        rest.reads y,
-        times_cons y x.input (numbers_from c (length F.chans)),
-        times_cons y x.input (seat_ins xs),
-        ap (λ n. times y (numbers_from c n)) many,
-        numbers_split y c (length F.chans) (length G.chans),
-      );
-      writes = λ y. omega (
-        arith,
-        outs_append y F.procs G.procs,
-        here.writes y,
-        rest.writes y,
-        times_cons y x.output (numbers_from c (length F.chans)),
-        times_cons y x.output (seat_outs xs),
-        ap (λ n. times y (numbers_from c n)) many,
-        numbers_split y c (length F.chans) (length G.chans),
-      );
+      fit = λ most l. rows_append (FitsRow most) F.chans G.chans here.rows rest.rows (here.fit most l) (rest.fit most l);
+      once = inner_once f (x ∷ xs) p c (λ v l b. let it = each v l b in it.once);
       inner = all_append (λ (q : Proc). IsInner q.kind) F.procs G.procs here.inner rest.inner;
       fits = λ w s h.
           let first : SeatFits tree k w t x = s 0 (omega arith) in
@@ -310,8 +224,8 @@ whole_typed tree k d t cap pos shape law typed f base each =
       rows = typed.widths t ++ rest.rows;
       count = omega (arith, many, length-append (typed.widths t) rest.rows, wide, rest.count);
       fit = λ most l.
-          rows_append most own G.chans (typed.widths t) rest.rows
-          (rows_from most own (typed.widths t) (omega (arith, long, wide))
+          rows_append (FitsRow most) own G.chans (typed.widths t) rest.rows
+          (rows_from (FitsRow most) own (typed.widths t) (omega (arith, long, wide))
           (λ i j. let c = typed.credits cap base t i j in
           record {
             room = law.rooms cap base i pos j;
@@ -320,28 +234,7 @@ whole_typed tree k d t cap pos shape law typed f base each =
             tags = let few = typed.tags t i in omega (arith, few, l);
           }))
           (rest.fit most (omega (arith, l, shallow)));
-      reads = λ y. omega (
-        arith,
-        ins_append y (shape.procs base) G.procs,
-        rest.reads y,
-        typed.reads base y,
-        times_append y (all_ins (shape.procs base)) (seat_ins seats),
-        times_cons y base.input (numbers_from base.chan (shape.chans base)),
-        times_cons y base.input (numbers_from base.chan (length (own ++ G.chans))),
-        ap (λ n. times y (numbers_from base.chan n)) many,
-        numbers_split y base.chan (shape.chans base) (length G.chans),
-      );
-      writes = λ y. omega (
-        arith,
-        outs_append y (shape.procs base) G.procs,
-        rest.writes y,
-        typed.writes base y,
-        times_append y (all_outs (shape.procs base)) (seat_outs seats),
-        times_cons y base.output (numbers_from base.chan (shape.chans base)),
-        times_cons y base.output (numbers_from base.chan (length (own ++ G.chans))),
-        ap (λ n. times y (numbers_from base.chan n)) many,
-        numbers_split y base.chan (shape.chans base) (length G.chans),
-      );
+      once = whole_once tree k cap shape law typed f base (λ v l b. let it = each v l b in it.once);
       inner = all_append (λ (q : Proc). IsInner q.kind) (shape.procs base) G.procs (typed.inner base) rest.inner;
       fits = λ w i o h.
           let s = stands w i o h in
@@ -435,8 +328,8 @@ module _ (tree : Tree) (counts : List ℕ) (cap : ℕ) (pos : 0 < cap) (lawful :
   widths : Widths
   widths = record { words = λ c. (get_or all c no_width).words; tags = λ c. (get_or all c no_width).tags }
 
-  fit : AllFitRows most_tags net.chans all
-  unfolding AllFitRows all
+  fit : AllRows (FitsRow most_tags) net.chans all
+  unfolding AllRows all
   fit = (
     record { room = pos; credits = omega arith; bare = λ h. absurd (omega (arith, h)); tags = omega arith },
     (
@@ -463,7 +356,7 @@ module _ (tree : Tree) (counts : List ℕ) (cap : ℕ) (pos : 0 < cap) (lawful :
   reads-are c = omega (
     arith,
     times_cons c 1 (all_ins F.procs),
-    root.reads c,
+    root.once.reads c,
     times_cons c 0 (numbers_from 2 (length F.chans)),
     times_cons c 0 (1 ∷ numbers_from 2 (length F.chans)),
     times_cons c 1 (numbers_from 2 (length F.chans)),
@@ -474,7 +367,7 @@ module _ (tree : Tree) (counts : List ℕ) (cap : ℕ) (pos : 0 < cap) (lawful :
   writes-are c = omega (
     arith,
     times_cons c 0 (all_outs F.procs),
-    root.writes c,
+    root.once.writes c,
     times_cons c 1 (numbers_from 2 (length F.chans)),
     times_cons c 0 (1 ∷ numbers_from 2 (length F.chans)),
     times_cons c 1 (numbers_from 2 (length F.chans)),
@@ -489,7 +382,7 @@ module _ (tree : Tree) (counts : List ℕ) (cap : ℕ) (pos : 0 < cap) (lawful :
   channel : (c : ℕ) → c < length net.chans → FitsChannel net widths c
   unfolding widths
   channel c l =
-      let row = rows_at most_tags net.chans all c fit l in
+      let row = rows_at (FitsRow most_tags) net.chans all c fit l in
       let once = numbers_once (length net.chans) 0 c (omega arith) (omega arith) in
       record {
         room = row.room;
@@ -542,7 +435,7 @@ module _ (tree : Tree) (counts : List ℕ) (cap : ℕ) (pos : 0 < cap) (lawful :
         writes = all_standing (λ c. c < length net.chans) (all_outs net.procs)
             (λ x l. within x (length net.chans) (omega (arith, l, writes-are x)));
         widths = widths;
-        few_tags = λ c. rows_few most_tags net.chans all c fit;
+        few_tags = λ c. rows_few (FitsRow most_tags) most_tags (λ x w h. h.tags) net.chans all c fit;
         channels = channel;
         processes = process;
       }

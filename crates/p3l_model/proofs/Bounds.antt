@@ -26,7 +26,7 @@ use Rattle.p3l_model.specs.Service.{transfer, ticks, ticks_to, ticks_row, expect
 use Rattle.p3l_model.specs.Costed.{Costed, costed, costed_by, costed_row, stages, slowest, greatest_up_to}
 use Rattle.p3l_model.proofs.Connect.{costed_by-step, some_power}
 use Rattle.p3l_model.proofs.Rules.{le_ceil}
-use Rattle.p3l_model.proofs.Ticks.{ticks_to-zero, ticks_to-step}
+use Rattle.p3l_model.proofs.TickSums.{ticks_to-zero, ticks_to-step}
 
 -- more ticks than a process takes for one item
 abbrev pub most_ticks : ℕ

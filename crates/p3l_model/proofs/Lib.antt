@@ -9,6 +9,6 @@ pub mod Monotone
 pub mod Nested
 pub mod Rules
 pub mod Runs
-pub mod Ticks
+pub mod TickSums
 pub mod Timed
 pub mod Whole

@@ -28,7 +28,7 @@ use Rattle.p3l_model.proofs.Matches.{greatest-at}
 use Rattle.p3l_model.proofs.Members.{Contains-cons_cases, Contains-nil, Contains-head, Contains-tail, Contains-flat_map}
 use Rattle.p3l_model.proofs.Rules.{le_ceil}
 use Rattle.p3l_model.proofs.Runs.{Agrees}
-use Rattle.p3l_model.proofs.Ticks.{timed-mul}
+use Rattle.p3l_model.proofs.TickSums.{timed-mul}
 
 -- no lawful counts have a greater service time than the slowest
 pub bounded : (a : Costed) (xs : List ℕ) → IsLawfulRun a xs → run_service a xs ≤ slowest a

@@ -4,7 +4,7 @@ ghost use Rattle.std.specs.Prelude.{◌≡◌, ◌<◌, ◌≤◌, ◌+◌, ◌*
 ghost use Rattle.p3l_base.specs.Cut.{element_count};
 ghost use Rattle.p3l_base.specs.Limits.{most_workers};
 ghost use Rattle.p3l_skel.specs.Tree.{node_at};
-ghost use Rattle.p3l_model.specs.Service.{transfer, unit_service, map_ends, fold_service, split_service, join_service};
+ghost use Rattle.p3l_model.specs.Service.{transfer, ticks, unit_service, map_ends, fold_service, split_service, join_service};
 ghost use Rattle.p3l_model.specs.NodeCost.{never, timed, shared, segments_service, span_up_to, node_cost_row, node_cost};
 
 use crate::ticks::{ticks, transfer};

@@ -22,7 +22,7 @@ use Rattle.p3l_skel.proofs.Subtrees.{IsSubtree-step}
 use Rattle.p3l_cost.specs.declared.costs.Costs.{Costs}
 use Rattle.p3l_cost.specs.Costs.{AreCostsOf}
 use Rattle.p3l_model.specs.Service.{transfer, ticks, ticks_row, ticks_to, unit_service}
-use Rattle.p3l_model.proofs.Ticks.{ticks_to-step, ticks_to-zero}
+use Rattle.p3l_model.proofs.TickSums.{ticks_to-step, ticks_to-zero}
 use Rattle.p3l_firing.specs.declared.net.Net.{Net}
 use Rattle.p3l_firing.specs.declared.process.Proc.{Proc}
 use Rattle.p3l_firing.specs.declared.process.ProcKind.{ProcKind}

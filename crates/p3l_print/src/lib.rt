@@ -10,3 +10,4 @@ mod program;
 mod statement;
 
 pub use program::print;
+pub use statement::print_statements;

@@ -7,7 +7,8 @@ ghost use Rattle.p3l_print.specs.Statement.{assignment_text, deeper, block_text,
 
 use crate::printer::Printer;
 use p3l_ast::{Expr, Stmt, Target};
-use p3l_base::NoMemory;
+use p3l_base::{List, NoMemory};
+use std::alloc::Global;
 
 impl Printer {
     /// The lines of statements.
@@ -151,4 +152,17 @@ impl Printer {
         inner.extend_from_slice(margin)?;
         Ok(inner)
     }
+}
+
+/// Returns the lines of statements, each after a margin.
+pub fn print_statements(
+    alloc: Global,
+    margin: &[u8],
+    stmts: &[Stmt],
+) -> Result<List<u8>, NoMemory>
+    ensures { IfGiven result (λ text. text ≡ statements_text margin.now (statements stmts.now)) }
+{
+    let mut printer = Printer::new(alloc);
+    printer.statements(margin, stmts)?;
+    Ok(printer.finish())
 }

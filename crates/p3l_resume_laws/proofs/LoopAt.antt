@@ -35,7 +35,8 @@ use Rattle.p3l_net.proofs.Sides.{one_has}
 use Rattle.p3l_fitting.specs.Survey.{loop_place, node_survey}
 use Rattle.p3l_fitting.specs.Widths.{width_at}
 use Rattle.p3l_fitting.specs.declared.width.Width.{Width}
-use Rattle.p3l_resume_laws.proofs.Ends.{HasOnce, HaveOnce, inner_once, piece_once}
+use Rattle.p3l_link.proofs.Once.{HasOnce, HaveOnce, inner_once}
+use Rattle.p3l_resume_laws.proofs.Ends.{piece_once}
 use Rattle.p3l_resume_laws.proofs.Rows.{CarryRow, row_at}
 use Rattle.p3l_resume_laws.proofs.Surveyed.{IsDeep}
 use Rattle.p3l_resume_laws.proofs.Turning.{IsClosed, IsIn, IsInside, IsWithin}

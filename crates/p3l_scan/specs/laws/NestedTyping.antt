@@ -15,6 +15,8 @@ use Rattle.p3l_firing.specs.State.{no_chan}
 use Rattle.p3l_firing.specs.Typed.{FitsKind}
 use Rattle.p3l_firing.specs.Widths.{Widths, Carries}
 use Rattle.p3l_link.specs.Net.{Piece, base_at, inner_pieces, own_piece, whole_piece}
+use Rattle.p3l_link.proofs.Once.{HasOnce, HaveOnce, inner_once, whole_once}
+use Rattle.p3l_link.proofs.Widths.{AllRows, all_append, carry_left, carry_right, rows_append, rows_at, rows_few, rows_from}
 use Rattle.p3l_scan.specs.Nested.{AreInner, AreTypedInner, nested, nested_piece}
 use Rattle.p3l_template.specs.Placed.{IsLawfulShape}
 use Rattle.p3l_template.specs.Shape.{Base, Seat, Shape, no_seat, numbers_from}
@@ -29,81 +31,14 @@ pub record FitsRow (most : ℕ) (chan : Chan) (row : Width) : Type 0 where
   pub bare : 0 < chan.credits → row ≡ no_width
   pub tags : row.tags ≤ most
 
-unfoldable pub AllFitRows : ℕ → List Chan → List Width → Type 0
-AllFitRows most [] [] = Unit {0}
-AllFitRows most [] (w ∷ ws) = ⊥
-AllFitRows most (x ∷ xs) [] = ⊥
-AllFitRows most (x ∷ xs) (w ∷ ws) = FitsRow most x w × AllFitRows most xs ws
-
-rows_from : (most : ℕ) (xs : List Chan) (ws : List Width) → length ws ≡ length xs →
-    ((i : ℕ) → i < length xs → FitsRow most (get_or xs i no_chan) (get_or ws i no_width)) → AllFitRows most xs ws
-unfolding AllFitRows
-rows_from most [] [] long each = tt
-rows_from most [] (w ∷ ws) long each = absurd (omega arith)
-rows_from most (x ∷ xs) [] long each = absurd (omega arith)
-rows_from most (x ∷ xs) (w ∷ ws) long each =
-    (each 0 (omega arith), rows_from most xs ws (omega arith) (λ i l. each (suc i) (omega arith)))
-
-rows_append : (most : ℕ) (xs ys : List Chan) (vs ws : List Width) → AllFitRows most xs vs → AllFitRows most ys ws →
-    AllFitRows most (xs ++ ys) (vs ++ ws)
-unfolding AllFitRows
-rows_append most [] ys [] ws h k = k
-rows_append most [] ys (v ∷ vs) ws h k = absurd h
-rows_append most (x ∷ xs) ys [] ws h k = absurd h
-rows_append most (x ∷ xs) ys (v ∷ vs) ws h k = (h.0, rows_append most xs ys vs ws h.1 k)
-
-rows_at : (most : ℕ) (xs : List Chan) (ws : List Width) (i : ℕ) → AllFitRows most xs ws → i < length xs →
-    FitsRow most (get_or xs i no_chan) (get_or ws i no_width)
-unfolding AllFitRows
-rows_at most [] ws i h l = absurd (omega arith)
-rows_at most (x ∷ xs) [] i h l = absurd h
-rows_at most (x ∷ xs) (w ∷ ws) zero h l = h.0
-rows_at most (x ∷ xs) (w ∷ ws) (suc i) h l = rows_at most xs ws i h.1 (omega arith)
-
-rows_few : (most : ℕ) (xs : List Chan) (ws : List Width) (i : ℕ) → AllFitRows most xs ws →
-    (get_or ws i no_width).tags ≤ most
-unfolding AllFitRows
-rows_few most xs [] i h = omega arith
-rows_few most [] (w ∷ ws) i h = absurd h
-rows_few most (x ∷ xs) (w ∷ ws) zero h = let first = h.0 in first.tags
-rows_few most (x ∷ xs) (w ∷ ws) (suc i) h = rows_few most xs ws i h.1
-
-carry_left : (w : Widths) (c : ℕ) (vs ws : List Width) → Carry w c (vs ++ ws) → Carry w c vs
-unfolding Carry
-carry_left w c vs ws h = λ i l.
-    subst (λ z. Carries w (c + i) z.words z.tags) (get_or_append_left vs ws no_width i l) (h i (omega (arith, length-append vs ws)))
-
-carry_right : (w : Widths) (c : ℕ) (vs ws : List Width) → Carry w c (vs ++ ws) → Carry w (c + length vs) ws
-unfolding Carry
-carry_right w c vs ws h = λ i l.
-    let e : c + (length vs + i) ≡ (c + length vs) + i = omega arith in
-    subst (λ z. Carries w z (get_or ws i no_width).words (get_or ws i no_width).tags) e
-    (subst (λ z. Carries w (c + (length vs + i)) z.words z.tags) (get_or-append-add vs ws i no_width)
-    (h (length vs + i) (omega (arith, length-append vs ws))))
-
-all_append : {A : Type 0} (P : A → Type 0) (xs ys : List A) → AllByRecursion P xs → AllByRecursion P ys →
-    AllByRecursion P (xs ++ ys)
-all_append P [] ys h k = k
-all_append P (x ∷ xs) ys h k = (h.0, all_append P xs ys h.1 k)
-
-ins_append : (c : ℕ) (ps qs : List Proc) → times c (all_ins (ps ++ qs)) ≡ times c (all_ins ps) + times c (all_ins qs)
-ins_append c ps qs = ap (times c) (flat_map-append (λ (q : Proc). q.ins) ps qs) ∙ times_append c (all_ins ps) (all_ins qs)
-
-outs_append : (c : ℕ) (ps qs : List Proc) → times c (all_outs (ps ++ qs)) ≡ times c (all_outs ps) + times c (all_outs qs)
-outs_append c ps qs = ap (times c) (flat_map-append (λ (q : Proc). q.outs) ps qs) ∙ times_append c (all_outs ps) (all_outs qs)
-
-numbers_split : (c x n k : ℕ) → times c (numbers_from x (n + k)) ≡ times c (numbers_from x n) + times c (numbers_from (x + n) k)
-numbers_split c x n k = ap (times c) (numbers_append x n k) ∙ times_append c (numbers_from x n) (numbers_from (x + n) k)
-
 -- PIECES
 
 -- what a node places at a base, where tokens outside have t tags, and its channels carry these widths: none has more than `most`
 -- tags; it reads and writes each of them and its ports once, and it fits there
 pub record IsTypedPiece (tree : Tree) (node : ℕ) (base : Base) (t most : ℕ) (rows : List Width) (F : Piece) : Type 0 where
   pub count : length rows ≡ length F.chans
-  pub fit : AllFitRows most F.chans rows
-  pub reads : (c : ℕ) → times c (all_ins F.procs) ≡ times c (base.input ∷ numbers_from base.chan (length F.chans))
-  pub writes : (c : ℕ) → times c (all_outs F.procs) ≡ times c (base.output ∷ numbers_from base.chan (length F.chans))
+  pub fit : AllRows (FitsRow most) F.chans rows
+  pub once : HasOnce base F
   pub inner : AllByRecursion (λ (q : Proc). IsInner q.kind) F.procs
   pub fits : (w : Widths) → Carries w base.input (node_at tree node).ins t → Carries w base.output (node_at tree node).outs t →
       Carry w base.chan rows → AllByRecursion (λ (q : Proc). FitsKind q.kind tree w q) F.procs
@@ -111,9 +46,8 @@ pub record IsTypedPiece (tree : Tree) (node : ℕ) (base : Base) (t most : ℕ) 
 -- the same of the inner parts of a node at these seats, whose channels are those from c on
 record IsTypedRow (tree : Tree) (node : ℕ) (seats : List Seat) (c t most : ℕ) (rows : List Width) (F : Piece) : Type 0 where
   count : length rows ≡ length F.chans
-  fit : AllFitRows most F.chans rows
-  reads : (x : ℕ) → times x (all_ins F.procs) ≡ times x (seat_ins seats) + times x (numbers_from c (length F.chans))
-  writes : (x : ℕ) → times x (all_outs F.procs) ≡ times x (seat_outs seats) + times x (numbers_from c (length F.chans))
+  fit : AllRows (FitsRow most) F.chans rows
+  once : HaveOnce seats c F
   inner : AllByRecursion (λ (q : Proc). IsInner q.kind) F.procs
   fits : (w : Widths) → ((v : ℕ) → v < length seats → SeatFits tree node w t (get_or seats v no_seat)) → Carry w c rows →
       AllByRecursion (λ (q : Proc). FitsKind q.kind tree w q) F.procs
@@ -127,12 +61,11 @@ row_typed : (tree : Tree) (node t most : ℕ) (f : ℕ → Base → Piece) (seat
     ((v : ℕ) → v < length seats → (b : Base) →
     IsTypedPiece tree (part_at tree node (get_or seats v no_seat).part) b t most (rows v) (f (get_or seats v no_seat).part b)) →
     IsTypedRow tree node seats c t most (rows_of (length seats) rows) (inner_pieces f seats p c)
-unfolding inner_pieces numbers_from AllFitRows rows_of
+unfolding inner_pieces AllRows rows_of
 row_typed tree node t most f [] rows p c each = record {
   count = refl;
   fit = tt;
-  reads = λ x. refl;
-  writes = λ x. refl;
+  once = inner_once f [] p c (λ v l b. let it = each v l b in it.once);
   inner = tt;
   fits = λ w s h. tt;
 }
@@ -148,27 +81,8 @@ row_typed tree node t most f (x ∷ xs) rows p c each =
     let many : length (F.chans ++ G.chans) ≡ length F.chans + length G.chans = length-append F.chans G.chans in
     record {
       count = omega (arith, many, length-append (rows 0) more, here.count, rest.count);
-      fit = rows_append most F.chans G.chans (rows 0) more here.fit rest.fit;
-      reads = λ y. omega (
-        arith,
-        ins_append y F.procs G.procs,
-        here.reads y,
-        rest.reads y,
-        times_cons y x.input (numbers_from c (length F.chans)),
-        times_cons y x.input (seat_ins xs),
-        ap (λ n. times y (numbers_from c n)) many,
-        numbers_split y c (length F.chans) (length G.chans),
-      );
-      writes = λ y. omega (
-        arith,
-        outs_append y F.procs G.procs,
-        here.writes y,
-        rest.writes y,
-        times_cons y x.output (numbers_from c (length F.chans)),
-        times_cons y x.output (seat_outs xs),
-        ap (λ n. times y (numbers_from c n)) many,
-        numbers_split y c (length F.chans) (length G.chans),
-      );
+      fit = rows_append (FitsRow most) F.chans G.chans (rows 0) more here.fit rest.fit;
+      once = inner_once f (x ∷ xs) p c (λ v l b. let it = each v l b in it.once);
       inner = all_append (λ (q : Proc). IsInner q.kind) F.procs G.procs here.inner rest.inner;
       fits = λ w s h.
           let first : SeatFits tree node w t x = s 0 (omega arith) in
@@ -201,33 +115,12 @@ whole_typed tree node t most cap shape law typed f rows base above each =
     (λ w i o h. record { input = i; output = o; own = carry_left w base.chan (typed.widths t) more h }) in
     record {
       count = omega (arith, many, length-append (typed.widths t) more, wide, rest.count);
-      fit = rows_append most own G.chans (typed.widths t) more
-          (rows_from most own (typed.widths t) (omega (arith, long, wide))
+      fit = rows_append (FitsRow most) own G.chans (typed.widths t) more
+          (rows_from (FitsRow most) own (typed.widths t) (omega (arith, long, wide))
           (λ i j. let c = typed.credits cap base t i j in
           record { credits = c.0; bare = c.1; tags = let few = typed.tags t i in omega (arith, few, above) }))
           rest.fit;
-      reads = λ y. omega (
-        arith,
-        ins_append y (shape.procs base) G.procs,
-        rest.reads y,
-        typed.reads base y,
-        times_append y (all_ins (shape.procs base)) (seat_ins seats),
-        times_cons y base.input (numbers_from base.chan (shape.chans base)),
-        times_cons y base.input (numbers_from base.chan (length (own ++ G.chans))),
-        ap (λ n. times y (numbers_from base.chan n)) many,
-        numbers_split y base.chan (shape.chans base) (length G.chans),
-      );
-      writes = λ y. omega (
-        arith,
-        outs_append y (shape.procs base) G.procs,
-        rest.writes y,
-        typed.writes base y,
-        times_append y (all_outs (shape.procs base)) (seat_outs seats),
-        times_cons y base.output (numbers_from base.chan (shape.chans base)),
-        times_cons y base.output (numbers_from base.chan (length (own ++ G.chans))),
-        ap (λ n. times y (numbers_from base.chan n)) many,
-        numbers_split y base.chan (shape.chans base) (length G.chans),
-      );
+      once = whole_once tree node cap shape law typed f base (λ v l b. let it = each v l b in it.once);
       inner = all_append (λ (q : Proc). IsInner q.kind) (shape.procs base) G.procs (typed.inner base) rest.inner;
       fits = λ w i o h.
           let s = stands w i o h in
@@ -246,25 +139,27 @@ closed_typed tree node t most cap shape law closed typed tags base =
     let empty = no_seats shape law closed base in
     record {
       count = omega (arith, long, wide);
-      fit = rows_from most (shape.laid cap base) (typed.widths t) (omega (arith, long, wide))
+      fit = rows_from (FitsRow most) (shape.laid cap base) (typed.widths t) (omega (arith, long, wide))
           (λ i j. let c = typed.credits cap base t i j in
           record { credits = c.0; bare = c.1; tags = tags i });
-      reads = λ y. omega (
-        arith,
-        typed.reads base y,
-        times_append y (all_ins (shape.procs base)) (seat_ins (shape.seats base)),
-        ap (λ xs. times y (seat_ins xs)) empty,
-        times_none y,
-        ap (λ n. times y (base.input ∷ numbers_from base.chan n)) long,
-      );
-      writes = λ y. omega (
-        arith,
-        typed.writes base y,
-        times_append y (all_outs (shape.procs base)) (seat_outs (shape.seats base)),
-        ap (λ xs. times y (seat_outs xs)) empty,
-        times_none y,
-        ap (λ n. times y (base.output ∷ numbers_from base.chan n)) long,
-      );
+      once = record {
+        reads = λ y. omega (
+          arith,
+          typed.reads base y,
+          times_append y (all_ins (shape.procs base)) (seat_ins (shape.seats base)),
+          ap (λ xs. times y (seat_ins xs)) empty,
+          times_none y,
+          ap (λ n. times y (base.input ∷ numbers_from base.chan n)) long,
+        );
+        writes = λ y. omega (
+          arith,
+          typed.writes base y,
+          times_append y (all_outs (shape.procs base)) (seat_outs (shape.seats base)),
+          ap (λ xs. times y (seat_outs xs)) empty,
+          times_none y,
+          ap (λ n. times y (base.output ∷ numbers_from base.chan n)) long,
+        );
+      };
       inner = typed.inner base;
       fits = λ w i o h. typed.procs w base t (record { input = i; output = o; own = h });
     }
@@ -320,16 +215,16 @@ module _ (tree : Tree) (node : ℕ) (outer : Shape) (which : ℕ → ℕ) (inner
     tags = λ t k.
         let base : Base = record { input = 0; output = 0; proc = 0; chan = 0 } in
         let p = piece_typed t 1 base in
-        rows_few (t + 2) (nested_piece outer inner 1 base).chans (nested_rows t) k p.fit;
+        rows_few (FitsRow (t + 2)) (t + 2) (λ x w h. h.tags) (nested_piece outer inner 1 base).chans (nested_rows t) k p.fit;
     credits = λ cap base t k l.
         let p = piece_typed t cap base in
-        let r = rows_at (t + 2) (nested_piece outer inner cap base).chans (nested_rows t) k p.fit l in
+        let r = rows_at (FitsRow (t + 2)) (nested_piece outer inner cap base).chans (nested_rows t) k p.fit l in
         (r.credits, r.bare);
     reads = λ base c.
         let p = piece_typed 0 1 base in
         omega (
           arith,
-          p.reads c,
+          p.once.reads c,
           times_append c (all_ins (nested_piece outer inner 1 base).procs) [],
           times_none c,
         );
@@ -337,7 +232,7 @@ module _ (tree : Tree) (node : ℕ) (outer : Shape) (which : ℕ → ℕ) (inner
         let p = piece_typed 0 1 base in
         omega (
           arith,
-          p.writes c,
+          p.once.writes c,
           times_append c (all_outs (nested_piece outer inner 1 base).procs) [],
           times_none c,
         );

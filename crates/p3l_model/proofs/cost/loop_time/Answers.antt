@@ -2,7 +2,7 @@ use Rattle.std.proofs.Common.{◌≡◌, ◌+◌, ◌*◌, ◌≤◌, ℕ, arith
 use Rattle.std.specs.Prelude.{slice_index}
 use Rattle.p3l_model.specs.NodeCost.{timed}
 use Rattle.p3l_model.specs.Service.{transfer, ticks}
-use Rattle.p3l_model.proofs.Ticks.{loop_ends-timed}
+use Rattle.p3l_model.proofs.TickSums.{loop_ends-timed}
 use Rattle.p3l_model.proofs.cost.loop_time.Goals as goal
 
 pub returns : goal.returns

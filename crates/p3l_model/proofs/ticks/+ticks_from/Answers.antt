@@ -3,7 +3,7 @@ use Rattle.std.specs.Prelude.{slice_index}
 use Rattle.std.proofs.lemmas.List.{take_all}
 use Rattle.p3l_model.specs.NodeCost.{timed}
 use Rattle.p3l_model.specs.Service.{ticks_to}
-use Rattle.p3l_model.proofs.Ticks.{ticks_to-zero, ticks_to-step, ticks_to-past, ticks_row-timed}
+use Rattle.p3l_model.proofs.TickSums.{ticks_to-zero, ticks_to-step, ticks_to-past, ticks_row-timed}
 use Rattle.p3l_model.proofs.ticks.+ticks_from.Goals as goal
 
 pub returns-then-levels-eq0 : goal.returns-then-levels-eq0
