@@ -7,58 +7,6 @@ use std::process::Abort;
 use std::test::Fail;
 
 const CASES: &str = r#"
-= An export is refused by the first of its stages, and then no file is written.
-none c
-
-fails file 2
-file m.p3l = double
-$ export m.p3l --processors 4
-! usage: the words are not a command of p3l
-? 2
-
-fails file 2
-file m.p3l = double
-$ export m.p3l --processors 4 --output c --capacity 1025
-! usage: the words are not a command of p3l
-? 2
-
-file i
-| P3LI\
-$ export m.p3l --processors 3 --costs a.toml --output c
-! file fault: m.p3l
-? 9
-
-file m.p3l = undeclared
-$ export m.p3l --processors 3 --costs a.toml --output c
-! source: 2:8: 40 Undeclared
-? 3
-
-file m.p3l = farmed
-$ export m.p3l --processors 3 --costs a.toml --output c
-! file fault: a.toml
-? 9
-
-file m.p3l = farmed
-file a.toml
-| speed = 1
-$ export m.p3l --processors 3 --costs a.toml --output c
-! costs: 51 BadKey speed
-? 4
-
-fails file 2
-fails put 1 after 0
-file m.p3l = farmed
-$ export m.p3l --processors 3 --output c
-! too few processors: need 4
-? 5
-
-fails file 2
-fails put 1 after 0
-file m.p3l = double
-$ export m.p3l --processors 4 --output c
-! write fault
-? 10
-
 = Nothing is taken from the input or put on the output, and the program's file stays.
 leaves m.p3l = farmed
 
@@ -70,10 +18,25 @@ $ export m.p3l --processors 8 --costs a.toml --output c
 < 1
 $ export m.p3l --processors 8 --output c --capacity 1
 < 1
+
+= A program that is refused leaves the file as it was.
+leaves c = farmed-costs
+
+file m.p3l = undeclared
+file c = farmed-costs
+$ export m.p3l --processors 4 --output c
+! source: 2:8: 40 Undeclared
+? 3
+
+file m.p3l = farmed
+file c = farmed-costs
+$ export m.p3l --processors 3 --output c
+! too few processors: need 4
+? 5
 "#;
 
 #[test]
-fn exports_are_refused_by_the_first_of_their_stages(rt: HostRuntime) -> Result<(), Fail> {
+fn an_export_touches_no_more_than_its_file(rt: HostRuntime) -> Result<(), Fail> {
     play(&rt, rt.alloc(), CASES)
 }
 
