@@ -1,10 +1,10 @@
 -- From a program that is loaded to the text in C of it.
-use Rattle.std.proofs.Common.{◌≡◌, ℕ, ◌≤◌, List, Option, Some, None, sym, ap, ◌∙◌, subst, arith, inl, inr, ◌⊎◌}
+use Rattle.std.proofs.Common.{◌≡◌, ℕ, ◌≤◌, List, Option, Some, None, Result, IfOk, sym, ◌∙◌, subst, arith, inl, inr, ◌⊎◌}
 use Rattle.std.specs.declared.result.Result.TheVariants.{Ok, Err}
 use Rattle.p3l_ast.specs.declared.refusal.SourceRefusal.{SourceRefusal}
 use Rattle.p3l_ast.specs.declared.refusal.SourceRefusal.TheVariants as source
 use Rattle.p3l_ast.specs.Tree.{ProgramTree, program_tree}
-use Rattle.p3l_base.specs.Memory.{Refused}
+use Rattle.p3l_base.specs.Memory.{IfGiven, Refused}
 use Rattle.p3l_io.specs.Content.{Held}
 use Rattle.p3l_skel.specs.declared.tree.Tree.{Tree}
 use Rattle.p3l_skel.specs.Counts.{HasLawfulCounts}
@@ -35,6 +35,16 @@ not_kept program r (source.At fault pos) keeps breaks = absurd (let other = sym 
 not_kept program r source.NoMemory keeps (inl refused) = inl refused
 not_kept program r source.NoMemory keeps (inr many) = inr (omega (arith, many))
 
+-- the text of a program with the bodies that it is resolved to
+pub text_given : {E : Type 0} (priced : Priced) (capacity : Option ℕ) (r : ResolvedTree) (bodies : List ℕ) (result : Result (List ℕ) E) → resolved (program_tree priced.program) ≡ Ok r →
+    bodies ≡ bodies_text r.tree r.seqs → IfGiven result (IsExported priced.tree priced.counts.list priced.costs capacity HEAD.now bodies ENGINE.now) → IfOk result (IsProgramText priced capacity)
+text_given priced capacity r bodies (Ok text) keeps are is = record {
+  r = r;
+  keeps = keeps;
+  text_is = subst (λ b. IsExported priced.tree priced.counts.list priced.costs capacity HEAD.now b ENGINE.now text) are is;
+}
+text_given priced capacity r bodies (Err e) keeps are is = tt
+
 module _ (files : Option Held) (exported : Exported) (priced : Priced) (loads : LoadsPriced files (build_of exported) priced) where
   -- what is loaded can be exported
   pub may_be : exported.processors ≤ 512 → MayBeExported priced
@@ -43,7 +53,6 @@ module _ (files : Option Held) (exported : Exported) (priced : Priced) (loads : 
       let there = subst (λ (t : Tree). procs t priced.counts.list 0 ≤ exported.processors) (sym loads.tree_is) here.few in record {
         r = loads.r;
         keeps = subst (λ program. resolved program ≡ Ok loads.r) loads.program_is loads.has.allotted.priced.accepted.keeps;
-        tree_is = loads.tree_is;
         lawful = subst IsLawfulTree (sym loads.tree_is) loads.lawful;
         fit = subst (λ (t : Tree). HasLawfulCounts t priced.counts.list) (sym loads.tree_is) here.lawful;
         few = omega (arith, there, few);

@@ -17,13 +17,13 @@ use Rattle.p3l_program.specs.declared.source.Priced.{Priced}
 use Rattle.p3l_program.specs.Plan.{HasCounts, IsAccepted}
 use Rattle.p3l_program.specs.Source.{plain_build}
 
--- by what the counts of a program that is exported are chosen
+-- the build that chooses the counts of an exported program
 abbrev pub build_of : Exported → Build
 build_of exported = plain_build exported.program exported.processors exported.costs
 
--- the text in C of the one program that the file spells: between the two parts of the engine the functions of its bodies and the tables
--- of its tree and of its network under the counts that are chosen for it, with the capacity that is requested, or with capacities that
--- are chosen
+-- the text in C of the one program that the file spells: the first part of the engine, the functions of the program's bodies, the tables
+-- of its tree and of its network under the counts that are chosen for it, and the second part of the engine; the capacity of a channel
+-- is the requested one, or without one a chosen one
 pub record IsExportOf (files : Option Held) (exported : Exported) (text : List ℕ) : Type 0 where
   pub r : ResolvedTree
   pub cs : Costs
@@ -36,12 +36,11 @@ pub record IsExportOf (files : Option Held) (exported : Exported) (text : List �
 pub record MayBeExported (priced : Priced) : Type 0 where
   pub r : ResolvedTree
   pub keeps : resolved (program_tree priced.program) ≡ Ok r
-  pub tree_is : priced.tree ≡ r.tree
   pub lawful : IsLawfulTree priced.tree
   pub fit : HasLawfulCounts priced.tree priced.counts.list
   pub few : procs priced.tree priced.counts.list 0 ≤ most_processes
 
--- the text in C of a program under a capacity or none, with the bodies that the rules give it
+-- the text in C of a program under a capacity or none, with the bodies of its modules
 pub record IsProgramText (priced : Priced) (capacity : Option ℕ) (text : List ℕ) : Type 0 where
   pub r : ResolvedTree
   pub keeps : resolved (program_tree priced.program) ≡ Ok r
