@@ -13,7 +13,7 @@ use Rattle.p3l_c_print.specs.declared.value.Value.{Value}
 use Rattle.p3l_c_print.specs.Name.{Names, shapes_of}
 use Rattle.p3l_c_print.specs.Line.{set_line, stop_line, deeper, choice_lines}
 use Rattle.p3l_c_print.specs.Text.{signed_text, unsigned_text, test_text, temp_text, lines_text}
-use Rattle.p3l_c_print.specs.Value.{told, value_of, front_text, index_text, signed_of, test_of, kept_line, operand_of, operand_text, combined_lines, guards_text, bound_line, own_temp, truth_line, undecided_lines, right_text}
+use Rattle.p3l_c_print.specs.Value.{told, value_of, front_text, index_text, signed_of, test_of, kept_line, operand_of, operand_text, combined_lines, guards_text, bound_line, own_temp, truth_line, undecided_lines, truth_text}
 use Rattle.p3l_c_print.proofs.Follow.{Fronts, front_text_then, before_front, before_all_front}
 use Rattle.p3l_c_print.proofs.Values.{signed_told, test_told, operand_told, operand_after}
 
@@ -128,18 +128,15 @@ unfolding lines_text signed_text
 truth_lines names margin n e m h rest =
     ap (λ (t : List ℕ). set_line margin (temp_text n) (codes "(int64_t)" ++ t) ++ lines_text names margin rest) (sym (test_told names e m h))
 
-right_lines : (names : Names) (margin : List ℕ) (n m : ℕ) (e : Phrase) → lines_text names margin (left_lines names m e (keep n (truth (c.test_of (operand_value m e))) done)) ≡ right_text names margin n m e
-unfolding right_text
+right_lines : (names : Names) (margin : List ℕ) (n m : ℕ) (e : Phrase) → lines_text names margin (left_lines names m e (keep n (truth (c.test_of (operand_value m e))) done)) ≡ truth_text names margin n m e
+unfolding truth_text
 right_lines names margin n m e =
     operand_lines names margin m e (keep n (truth (c.test_of (operand_value m e))) done)
     ∙ ap (λ t. operand_text names margin m e ++ t) (truth_lines names margin n (operand_value m e) (after_operand m e) (lowered (height e)) done ∙ nothing names margin _)
     ∙ ap (λ x. operand_text names margin m e ++ truth_line margin n x) (sym (operand_told names m e))
 
-undecided_text : (names : Names) (margin : List ℕ) (n m : ℕ) (op : BinOp) (e : Phrase) → own_temp op false ≡ true → List ℕ
-undecided_text names margin n m op e h = undecided_lines op margin n (right_text names (deeper margin) n m e)
-
 own_whole : (names : Names) (margin : List ℕ) (n : ℕ) (op : BinOp) (joined : Bool) (a b : Phrase) → own_temp op joined ≡ true → lines_text names margin (whole names n op joined (first_temp op joined n) a b)
-    ≡ operand_text names margin (n + 1) a ++ (truth_line margin n (operand_as names (n + 1) a) ++ undecided_lines op margin n (right_text names (deeper margin) n (after_operand (n + 1) a) b))
+    ≡ operand_text names margin (n + 1) a ++ (truth_line margin n (operand_as names (n + 1) a) ++ undecided_lines op margin n (truth_text names (deeper margin) n (after_operand (n + 1) a) b))
 unfolding lines_text test_text signed_text
 own_whole names margin n Or false a b h =
     let m = after_operand (n + 1) a in
@@ -178,12 +175,15 @@ own_whole names margin n Rem joined a b h = absurd cc
 
 pub front_own : (names : Names) (margin : List ℕ) (n : ℕ) (op : BinOp) (a b : Phrase) → own_temp op (is_steady b) ≡ true
     → front_text names margin n (binary op a b)
-    ≡ operand_text names margin (n + 1) a ++ (truth_line margin n (operand_of names (n + 1) a) ++ undecided_lines op margin n (right_text names (deeper margin) n (operand_of names (n + 1) a).after b))
-unfolding front_text
+    ≡ truth_text names margin n (n + 1) a ++ undecided_lines op margin n (truth_text names (deeper margin) n (operand_of names (n + 1) a).after b)
+unfolding front_text truth_text
 front_own names margin n op a b h =
+    let first = operand_text names margin (n + 1) a in
+    let left = operand_of names (n + 1) a in
     own_whole names margin n op (is_steady b) a b h
-    ∙ ap (λ x. operand_text names margin (n + 1) a ++ (truth_line margin n x ++ undecided_lines op margin n (right_text names (deeper margin) n (after_operand (n + 1) a) b))) (sym (operand_told names (n + 1) a))
-    ∙ ap (λ m. operand_text names margin (n + 1) a ++ (truth_line margin n (operand_of names (n + 1) a) ++ undecided_lines op margin n (right_text names (deeper margin) n m b))) (sym (operand_after names (n + 1) a))
+    ∙ ap (λ x. first ++ (truth_line margin n x ++ undecided_lines op margin n (truth_text names (deeper margin) n (after_operand (n + 1) a) b))) (sym (operand_told names (n + 1) a))
+    ∙ ap (λ m. first ++ (truth_line margin n left ++ undecided_lines op margin n (truth_text names (deeper margin) n m b))) (sym (operand_after names (n + 1) a))
+    ∙ sym (append_assoc first (truth_line margin n left) (undecided_lines op margin n (truth_text names (deeper margin) n left.after b)))
 
 -- indices
 

@@ -5,10 +5,11 @@ use Rattle.p3l_ast.specs.declared.expression.Expr.{Expr}
 use Rattle.p3l_ast.specs.Tree.{Phrase, Phrases, none, more, phrase, phrases}
 use Rattle.p3l_c.specs.Translate.{first_size, other_sizes, next, next_all, spots}
 use Rattle.p3l_c_print.specs.declared.value.Value.{Value}
+use Rattle.p3l_c_print.specs.declared.value.Spots.{Spots}
 use Rattle.p3l_c_print.specs.Name.{Names}
 use Rattle.p3l_c_print.specs.Line.{set_line}
 use Rattle.p3l_c_print.specs.Text.{temp_text, spot_text, spots_text}
-use Rattle.p3l_c_print.specs.Value.{value_of, front_text, index_text, signed_of, bound_line}
+use Rattle.p3l_c_print.specs.Value.{value_of, front_text, index_text, spots_of, signed_of, bound_line}
 use Rattle.p3l_c_print.proofs.Fronts.{index_none, index_more}
 
 -- the first of the indices that are left
@@ -51,3 +52,20 @@ lines_end names margin n sizes old = ap (λ t. old ++ t) (index_none names margi
 pub spots_end : (n : ℕ) (old : List ℕ) → old ++ spots_text (spots n none) ≡ old
 unfolding spots_text
 spots_end n old = append-nil old
+
+-- past the last index
+
+pub lines_all : (names : Names) (margin : List ℕ) (n : ℕ) (sizes : List ℕ) (es : List Expr) (i : ℕ) (old whole : List ℕ) → length es ≤ i
+    → old ++ index_text names margin n sizes (phrases (drop i es)) ≡ whole → old ≡ whole
+lines_all names margin n sizes es i old whole past h =
+    sym (ap (λ is. old ++ index_text names margin n sizes is) (none_left es i past) ∙ lines_end names margin n sizes old) ∙ h
+
+abbrev held : List ℕ → ℕ → Spots
+held text after = record { text = text; after = after }
+
+pub spots_all : (first n : ℕ) (es : List Expr) (i : ℕ) (old text : List ℕ) → length es ≤ i → text ≡ old → old ++ spots_text (spots n (phrases (drop i es))) ≡ spots_text (spots first (phrases es))
+    → next_all n (phrases (drop i es)) ≡ next_all first (phrases es) → held text n ≡ spots_of first (phrases es)
+spots_all first n es i old text past same h k =
+    let all = same ∙ sym (ap (λ is. old ++ spots_text (spots n is)) (none_left es i past) ∙ spots_end n old) ∙ h in
+    let after = sym (ap (next_all n) (none_left es i past)) ∙ k in
+    ap (λ t. held t n) all ∙ ap (held (spots_text (spots first (phrases es)))) after

@@ -8,3 +8,7 @@ pub mod Expressions
 pub mod Indices
 pub mod Lines
 pub mod Places
+pub mod Weights
+pub mod Shapes
+pub mod Functions
+pub mod Puts

@@ -1,5 +1,6 @@
 -- The lines of statements, and their temps, by what these are made of.
-use Rattle.std.proofs.Common.{◌≡◌, ℕ, ◌+◌, List, [], ◌∷◌, ◌++◌, Some, None, refl, sym, ap, ◌∙◌, append_assoc, append-nil, max, arith}
+use Rattle.std.proofs.Common.{◌≡◌, ℕ, ◌+◌, ◌<◌, ◌≤◌, drop, get_or, length, List, [], ◌∷◌, ◌++◌, Some, None, refl, sym, ap, ◌∙◌, append_assoc, append-nil, max, arith, Option}
+use Rattle.std.proofs.lemmas.List.{drop_more, drop_all}
 use Rattle.std.specs.declared.vec.Vec.{Vec}
 use Rattle.std.specs.declared.alloc.Global.{Global}
 use Rattle.p3l_base.specs.declared.outcome.TrapKind.TheVariants.{Budget}
@@ -57,7 +58,7 @@ assign_is names margin x is e =
     (front_text_then names margin (before (shapes_of names) n e) last (before_front (shapes_of names) n e)
     ∙ ap (λ t. front_text names margin n e ++ t) (append-nil _ ∙ ap (set_line margin (element_text names x.name (spots 0 is))) (sym (signed_told names (value n e) (next n e) (height e)))))
 
-code_assign : (names : Names) (margin : List ℕ) (budget : ℕ) (x : _) (is : Phrases) (e : Phrase) → code_text names margin budget (assign x is e tree.done) ≡ assign_text names margin x.name is e
+pub code_assign : (names : Names) (margin : List ℕ) (budget : ℕ) (x : _) (is : Phrases) (e : Phrase) → code_text names margin budget (assign x is e tree.done) ≡ assign_text names margin x.name is e
 unfolding code_text assign_text
 code_assign names margin budget x is e = refl
 
@@ -66,14 +67,14 @@ test_is : (names : Names) (e : Phrase) → test_text names (c.test_of (value 0 e
 unfolding value_of
 test_is names e = sym (test_told names (value 0 e) (next 0 e) (height e))
 
-code_if : (names : Names) (margin : List ℕ) (budget : ℕ) (e : Phrase) (a : Statements) → code_text names margin budget (if_ e a tree.done)
+pub code_if : (names : Names) (margin : List ℕ) (budget : ℕ) (e : Phrase) (a : Statements) → code_text names margin budget (if_ e a tree.done)
     ≡ front_text names margin 0 e ++ choice_lines margin (test_of (value_of names 0 e)) (code_text names (deeper margin) budget a) []
 unfolding code_text front_text lines_text
 code_if names margin budget e a =
     front_text_then names margin (before (shapes_of names) 0 e) (choose (c.test_of (value 0 e)) (lines (shapes_of names) budget a done) done done) (before_front (shapes_of names) 0 e)
     ∙ ap (λ t. front_text names margin 0 e ++ t) (append-nil _ ∙ ap (λ t. choice_lines margin t (code_text names (deeper margin) budget a) []) (test_is names e))
 
-code_if_else : (names : Names) (margin : List ℕ) (budget : ℕ) (e : Phrase) (a b : Statements) → code_text names margin budget (if_else e a b tree.done)
+pub code_if_else : (names : Names) (margin : List ℕ) (budget : ℕ) (e : Phrase) (a b : Statements) → code_text names margin budget (if_else e a b tree.done)
     ≡ front_text names margin 0 e ++ choice_lines margin (test_of (value_of names 0 e)) (code_text names (deeper margin) budget a) (code_text names (deeper margin) budget b)
 unfolding code_text front_text lines_text
 code_if_else names margin budget e a b =
@@ -90,14 +91,14 @@ round_is names margin budget rest a =
     ∙ sym (append_assoc stop (turn_line margin) (one ++ last))
     ∙ sym (append_assoc (stop ++ turn_line margin) one last)
 
-code_while : (names : Names) (margin : List ℕ) (budget : ℕ) (e : Phrase) (a : Statements) → code_text names margin budget (while_ e a tree.done)
+pub code_while : (names : Names) (margin : List ℕ) (budget : ℕ) (e : Phrase) (a : Statements) → code_text names margin budget (while_ e a tree.done)
     ≡ loop_lines margin (front_text names (deeper margin) 0 e) (test_of (value_of names 0 e)) (round_text names (deeper margin) budget a)
 unfolding code_text front_text lines_text
 code_while names margin budget e a =
     append-nil _ ∙ ap (λ t. loop_lines margin (front_text names (deeper margin) 0 e) t (lines_text names (deeper margin) (turn_lines budget (lines (shapes_of names) budget a done)))) (test_is names e)
     ∙ ap (loop_lines margin (front_text names (deeper margin) 0 e) (test_of (value_of names 0 e))) (round_is names (deeper margin) budget done a ∙ append-nil _)
 
-code_for : (names : Names) (margin : List ℕ) (budget : ℕ) (x : _) (is : Phrases) (e w : Phrase) (y : _) (js : Phrases) (f : Phrase) (a : Statements) → code_text names margin budget (for_ x is e w y js f a tree.done)
+pub code_for : (names : Names) (margin : List ℕ) (budget : ℕ) (x : _) (is : Phrases) (e w : Phrase) (y : _) (js : Phrases) (f : Phrase) (a : Statements) → code_text names margin budget (for_ x is e w y js f a tree.done)
     ≡ assign_text names margin x.name is e
     ++ loop_lines margin (front_text names (deeper margin) 0 w) (test_of (value_of names 0 w)) (round_text names (deeper margin) budget a ++ assign_text names (deeper margin) y.name js f)
 unfolding code_text assign_text front_text lines_text
@@ -123,3 +124,75 @@ temps_join (for_ x is e w y js f d a) b = let h = temps_join a b in omega (arith
 pub temps_done : temps_of tree.done ≡ 0
 unfolding temps_of
 temps_done = refl
+
+-- the trees of statements in memory
+
+pub assign_tree : (s : Stmt) (t : Target) (e : Expr) → s ≡ Assign t e → one s ≡ assign t.at (phrases t.index.items) (phrase e) tree.done
+assign_tree s t e h = ap one h ∙ one_assign t e
+
+pub if_tree : (s : Stmt) (e : Expr) (v : Vec Stmt Global) (o : Option (Vec Stmt Global)) (a : List Stmt) → s ≡ If e v o → o ≡ None → a ≡ v.items → one s ≡ if_ (phrase e) (statements a) tree.done
+if_tree s e v o a h n k =
+    ap one h ∙ ap (λ o. one (If e v o)) n ∙ one_if e v ∙ ap (λ x. if_ (phrase e) (statements x) tree.done) (sym k)
+
+pub if_else_tree : (s : Stmt) (e : Expr) (v w : Vec Stmt Global) (o : Option (Vec Stmt Global)) (a b : List Stmt) → s ≡ If e v o → o ≡ Some w → a ≡ v.items → b ≡ w.items → one s ≡ if_else (phrase e) (statements a) (statements b) tree.done
+if_else_tree s e v w o a b h n k l =
+    ap one h ∙ ap (λ o. one (If e v o)) n ∙ one_if_else e v w ∙ ap (λ x. if_else (phrase e) (statements x) (statements w.items) tree.done) (sym k) ∙ ap (λ x. if_else (phrase e) (statements a) (statements x) tree.done) (sym l)
+
+pub while_tree : (s : Stmt) (e : Expr) (v : Vec Stmt Global) (a : List Stmt) → s ≡ While e v → a ≡ v.items → one s ≡ while_ (phrase e) (statements a) tree.done
+while_tree s e v a h k = ap one h ∙ one_while e v ∙ ap (λ x. while_ (phrase e) (statements x) tree.done) (sym k)
+
+pub for_tree : (s : Stmt) (t u : Target) (e w f : Expr) (v : Vec Stmt Global) (a : List Stmt) → s ≡ For t e w u f v → a ≡ v.items → one s ≡ for_ t.at (phrases t.index.items) (phrase e) (phrase w) u.at (phrases u.index.items) (phrase f) (statements a) tree.done
+for_tree s t u e w f v a h k =
+    ap one h ∙ one_for t u e w f v ∙ ap (λ x. for_ t.at (phrases t.index.items) (phrase e) (phrase w) u.at (phrases u.index.items) (phrase f) (statements x) tree.done) (sym k)
+
+-- the temps of statements
+
+pub value_after : (names : Names) (n : ℕ) (e : Phrase) → (value_of names n e).after ≡ next n e
+unfolding value_of
+value_after names n e = refl
+
+pub temps_assign : (x : _) (is : Phrases) (e : Phrase) → temps_of (assign x is e tree.done) ≡ assign_temps is e
+unfolding temps_of
+temps_assign x is e = omega arith
+
+pub temps_if : (e : Phrase) (a : Statements) → temps_of (if_ e a tree.done) ≡ max (next 0 e) (temps_of a)
+unfolding temps_of
+temps_if e a = omega arith
+
+pub temps_if_else : (e : Phrase) (a b : Statements) → temps_of (if_else e a b tree.done) ≡ max (next 0 e) (max (temps_of a) (temps_of b))
+unfolding temps_of
+temps_if_else e a b = omega arith
+
+pub temps_while : (e : Phrase) (a : Statements) → temps_of (while_ e a tree.done) ≡ max (next 0 e) (temps_of a)
+unfolding temps_of
+temps_while e a = omega arith
+
+pub temps_for : (x : _) (is : Phrases) (e w : Phrase) (y : _) (js : Phrases) (f : Phrase) (a : Statements)
+    → temps_of (for_ x is e w y js f a tree.done) ≡ max (assign_temps is e) (max (max (next 0 w) (temps_of a)) (assign_temps js f))
+unfolding temps_of
+temps_for x is e w y js f a = omega arith
+
+pub ruleset temps = (value_after, temps_assign, temps_if, temps_if_else, temps_while, temps_for)
+
+-- the first of the statements that are left
+
+pub statement_left : (names : Names) (margin : List ℕ) (budget : ℕ) (stmts : List Stmt) (i : ℕ) (s : Stmt) → i < length stmts → s ≡ get_or stmts i s
+    → code_text names margin budget (statements (drop i stmts)) ≡ code_text names margin budget (one s) ++ code_text names margin budget (statements (drop (i + 1) stmts))
+statement_left names margin budget stmts i s inside is =
+    ap (λ xs. code_text names margin budget (statements xs)) (drop_more stmts i s inside ∙ ap (λ y. y ∷ drop (i + 1) stmts) (sym is))
+    ∙ code_join names margin budget (one s) (statements (drop (i + 1) stmts))
+
+pub none_left : (names : Names) (margin : List ℕ) (budget : ℕ) (stmts : List Stmt) (i : ℕ) → length stmts ≤ i → code_text names margin budget (statements (drop i stmts)) ≡ []
+none_left names margin budget stmts i past = ap (λ xs. code_text names margin budget (statements xs)) (drop_all i stmts past) ∙ code_done names margin budget
+
+pub temps_left : (stmts : List Stmt) (i : ℕ) (s : Stmt) (so_far more next_of whole : ℕ) → i < length stmts → s ≡ get_or stmts i s → more ≡ temps_of (one s) → next_of ≡ max so_far more
+    → max so_far (temps_of (statements (drop i stmts))) ≡ whole → max next_of (temps_of (statements (drop (i + 1) stmts))) ≡ whole
+temps_left stmts i s so_far more next_of whole inside is p q h =
+    let here : temps_of (statements (drop i stmts)) ≡ max (temps_of (one s)) (temps_of (statements (drop (i + 1) stmts))) =
+    ap (λ xs. temps_of (statements xs)) (drop_more stmts i s inside ∙ ap (λ y. y ∷ drop (i + 1) stmts) (sym is)) ∙ temps_join (one s) (statements (drop (i + 1) stmts)) in
+    omega arith
+
+pub no_temps_left : (stmts : List Stmt) (i so_far whole : ℕ) → length stmts ≤ i → max so_far (temps_of (statements (drop i stmts))) ≡ whole → so_far ≡ whole
+no_temps_left stmts i so_far whole past h =
+    let here : temps_of (statements (drop i stmts)) ≡ 0 = ap (λ xs. temps_of (statements xs)) (drop_all i stmts past) ∙ temps_done in
+    omega arith

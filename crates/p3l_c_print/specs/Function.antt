@@ -9,9 +9,12 @@ use Rattle.p3l_c_print.specs.Name.{Names, name_text, names_of}
 use Rattle.p3l_c_print.specs.Text.{lines_text}
 use Rattle.p3l_c.specs.Temps.{temps_of}
 
+abbrev pub size_text : ℕ → List ℕ
+size_text size = codes "[" ++ (decimal size ++ codes "]")
+
 unfoldable pub sizes_text : List ℕ → List ℕ
 sizes_text [] = []
-sizes_text (size ∷ sizes) = codes "[" ++ (decimal size ++ (codes "]" ++ sizes_text sizes))
+sizes_text (size ∷ sizes) = size_text size ++ sizes_text sizes
 
 -- an array of more than 512 words has static storage, as stacks may be small
 abbrev pub most_automatic : ℕ
@@ -46,9 +49,13 @@ entries_text names [] = []
 entries_text names (entry ∷ entries) = entry_text names entry ++ entries_text names entries
 
 -- the declarations of temps
+
+abbrev pub temp_line : ℕ → List ℕ
+temp_line n = codes "    int64_t t" ++ (decimal n ++ codes ";\n")
+
 unfoldable pub temps_text : ℕ → List ℕ
 temps_text zero = []
-temps_text (suc n) = temps_text n ++ (codes "    int64_t t" ++ (decimal n ++ codes ";\n"))
+temps_text (suc n) = temps_text n ++ temp_line n
 
 -- an object that is copied to `out`
 abbrev pub out_text : List ℕ → ℕ → List ℕ
@@ -59,21 +66,20 @@ unfoldable pub outs_text : Names → ℕ → Shapes → List ℕ
 outs_text names from [] = []
 outs_text names from (out ∷ outs) = out_text (name_text names out.0) from ++ outs_text names (from + product out.1) outs
 
--- the head of a function, by the name of its module
-abbrev pub head_text : List ℕ → ℕ → List ℕ
-head_text label home =
-    codes "/* " ++ (label ++ (codes ", module " ++ (decimal home ++ (codes " */\nstatic int64_t p3l_body_" ++ (decimal home
-    ++ codes "(const int64_t *restrict in, int64_t *restrict out)\n{\n")))))
+-- a comment with the name of a module
+abbrev pub opening_text : ℕ → List ℕ
+opening_text home =
+    codes "static int64_t p3l_body_" ++ (decimal home ++ codes "(const int64_t *restrict in, int64_t *restrict out)\n{\n")
 
 abbrev pub turns_text : List ℕ
 turns_text = codes "    uint64_t turns = 0;\n    (void)in;\n    (void)out;\n    (void)turns;\n"
 
 -- THE TEXT of a function with its first temps
-unfoldable pub function_text : Names → List ℕ → ℕ → Function → List ℕ
-function_text names label temps f =
-    head_text label names.home ++ (entries_text names f.entries ++ (temps_text temps ++ (turns_text
+unfoldable pub function_text : Names → ℕ → Function → List ℕ
+function_text names temps f =
+    opening_text names.home ++ (entries_text names f.entries ++ (temps_text temps ++ (turns_text
     ++ (lines_text names (codes "    ") f.lines ++ (outs_text names 0 f.outs ++ codes "    return 0;\n}\n")))))
 
 -- the text of the function of a body
-abbrev pub body_text : List ℕ → SeqTree → List ℕ
-body_text label seq = function_text (names_of seq) label (temps_of seq.body) (function_of seq)
+abbrev pub body_text : SeqTree → List ℕ
+body_text seq = function_text (names_of seq) (temps_of seq.body) (function_of seq)

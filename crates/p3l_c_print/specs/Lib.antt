@@ -4,3 +4,4 @@ pub mod Text
 pub mod Plain
 pub mod Value
 pub mod Function
+pub mod Bodies

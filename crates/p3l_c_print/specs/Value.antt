@@ -228,6 +228,6 @@ own_temp op joined = false
 abbrev pub decided : ℕ → Value → Value → Value
 decided n a b = number_value (temp_text n) b.after (over a b)
 
--- the lines that give the temp n the truth of a right operand
-unfoldable pub right_text : Names → List ℕ → ℕ → ℕ → Phrase → List ℕ
-right_text names margin n m e = operand_text names margin m e ++ truth_line margin n (operand_of names m e)
+-- the lines that give the temp n the truth of an operand whose first temp is m
+unfoldable pub truth_text : Names → List ℕ → ℕ → ℕ → Phrase → List ℕ
+truth_text names margin n m e = operand_text names margin m e ++ truth_line margin n (operand_of names m e)

@@ -155,11 +155,7 @@ impl Printer {
 }
 
 /// Returns the lines of statements, each after a margin.
-pub fn print_statements(
-    alloc: Global,
-    margin: &[u8],
-    stmts: &[Stmt],
-) -> Result<List<u8>, NoMemory>
+pub fn print_statements(alloc: Global, margin: &[u8], stmts: &[Stmt]) -> Result<List<u8>, NoMemory>
     ensures { IfGiven result (λ text. text ≡ statements_text margin.now (statements stmts.now)) }
 {
     let mut printer = Printer::new(alloc);

@@ -1,0 +1,143 @@
+use Rattle.std.proofs.Common.{◌≡◌, ◌+◌, [], ◌++◌, drop, max, string_bytes, Result, Ok, Err, sym, ap, ◌∙◌, refl, arith}
+use Rattle.p3l_base.specs.Memory.{IfGiven, OnGiven}
+use Rattle.p3l_ast.specs.Tree.{phrase, phrases, one, statements}
+use Rattle.p3l_c.specs.Temps.{temps_of}
+use Rattle.p3l_c_print.specs.Value.{code_text, assign_text, round_text, block_of}
+use Rattle.p3l_c_print.specs.Line.{begin_lines, choice_lines}
+use Rattle.p3l_c_print.proofs.Joined.{then}
+use Rattle.p3l_c_print.proofs.Functions.{one_more, none_more}
+use Rattle.p3l_c_print.proofs.Lines.{assign_tree, if_tree, if_else_tree, while_tree, for_tree, temps_assign, statement_left, none_left, temps_left, no_temps_left}
+use Rattle.p3l_c_print.proofs.Puts.{if_put, if_else_put, while_put, loop_of, rounds_put, for_put}
+use Rattle.p3l_c_print.proofs.names.Names.+statement.Goals as goal
+
+given_so : {A E : Type 0} (r : Result A E) (P Q : A → Type 0) → ((x : A) → P x → Q x) → IfGiven r P → IfGiven r Q
+given_so (Ok x) P Q go h = go x h
+given_so (Err e) P Q go h = h
+
+pub put_statement-returns-in-Assign-clause-lines : goal.put_statement-returns-in-Assign-clause-lines
+unfolding code_text assign_text
+put_statement-returns-in-Assign-clause-lines t c = rw (assign_tree c.args.stmt.now c.in-Assign.target c.in-Assign.expr c.in-Assign.is) c.put_assign.ensures.lines
+
+pub put_statement-returns-in-Assign-clause-temps : goal.put_statement-returns-in-Assign-clause-temps
+put_statement-returns-in-Assign-clause-temps t c =
+    let whole = ap temps_of (assign_tree c.args.stmt.now c.in-Assign.target c.in-Assign.expr c.in-Assign.is) ∙ temps_assign c.in-Assign.target.at (phrases c.in-Assign.target.index.items) (phrase c.in-Assign.expr) in
+    given_so c.put_assign.result _ _ (λ x h. h ∙ sym whole) c.put_assign.ensures.temps
+
+pub put_statement-returns-in-None-clause-lines : goal.put_statement-returns-in-None-clause-lines
+put_statement-returns-in-None-clause-lines t c = rw (if_tree c.args.stmt.now c.in-If.condition c.in-If.then c.in-If.other c.deref-in-None.result.now c.in-If.is c.in-None.is c.deref-in-None.ensures.value) c.put_if.ensures.lines
+
+pub put_statement-returns-in-None-clause-temps : goal.put_statement-returns-in-None-clause-temps
+put_statement-returns-in-None-clause-temps t c = rw (if_tree c.args.stmt.now c.in-If.condition c.in-If.then c.in-If.other c.deref-in-None.result.now c.in-If.is c.in-None.is c.deref-in-None.ensures.value) c.put_if.ensures.temps
+
+pub put_statement-returns-in-Some-clause-lines : goal.put_statement-returns-in-Some-clause-lines
+put_statement-returns-in-Some-clause-lines t c = rw (if_else_tree c.args.stmt.now c.in-If.condition c.in-If.then c.in-Some.other c.in-If.other c.deref.result.now c.deref-in-Some.result.now c.in-If.is c.in-Some.is c.deref.ensures.value c.deref-in-Some.ensures.value) c.put_if_else.ensures.lines
+
+pub put_statement-returns-in-Some-clause-temps : goal.put_statement-returns-in-Some-clause-temps
+put_statement-returns-in-Some-clause-temps t c = rw (if_else_tree c.args.stmt.now c.in-If.condition c.in-If.then c.in-Some.other c.in-If.other c.deref.result.now c.deref-in-Some.result.now c.in-If.is c.in-Some.is c.deref.ensures.value c.deref-in-Some.ensures.value) c.put_if_else.ensures.temps
+
+pub put_statement-returns-in-While-clause-lines : goal.put_statement-returns-in-While-clause-lines
+put_statement-returns-in-While-clause-lines t c = rw (while_tree c.args.stmt.now c.in-While.condition c.in-While.body c.deref-in-While.result.now c.in-While.is c.deref-in-While.ensures.value) c.put_while.ensures.lines
+
+pub put_statement-returns-in-While-clause-temps : goal.put_statement-returns-in-While-clause-temps
+put_statement-returns-in-While-clause-temps t c = rw (while_tree c.args.stmt.now c.in-While.condition c.in-While.body c.deref-in-While.result.now c.in-While.is c.deref-in-While.ensures.value) c.put_while.ensures.temps
+
+pub put_statements-loop-stmt-preserved : goal.put_statements-loop-stmt-preserved
+put_statements-loop-stmt-preserved t c =
+    let l = c.loop-stmt in
+    let names = c.args.self.now in
+    let margin = c.args.margin.now in
+    let budget = c.args.budget in
+    let stmts = c.args.stmts.now in
+    let i = l.stmt-index in
+    let s = c.stmt-item.result in
+    record {
+      lines = one_more (string_bytes l.out) (string_bytes c.put_statement.new.out) (code_text names margin budget (one s)) (code_text names margin budget (statements (drop i stmts))) _ _ c.in_ok-more.ensures.lines (statement_left names margin budget stmts i s c.loop-stmt-test.true c.stmt-item.is) l.invariant.lines;
+      temps = temps_left stmts i s l.temps c.in_ok-more.more c.max.result (temps_of (statements stmts)) c.loop-stmt-test.true c.stmt-item.is c.in_ok-more.ensures.temps c.max.ensures l.invariant.temps;
+    }
+
+pub put_statement-returns-in-For-clause-lines : goal.put_statement-returns-in-For-clause-lines
+put_statement-returns-in-For-clause-lines t c = rw (for_tree c.args.stmt.now c.in-For.first c.in-For.next c.in-For.start c.in-For.condition c.in-For.step c.in-For.body c.deref-in-For.result.now c.in-For.is c.deref-in-For.ensures.value) c.put_for.ensures.lines
+
+pub put_statement-returns-in-For-clause-temps : goal.put_statement-returns-in-For-clause-temps
+put_statement-returns-in-For-clause-temps t c = rw (for_tree c.args.stmt.now c.in-For.first c.in-For.next c.in-For.start c.in-For.condition c.in-For.step c.in-For.body c.deref-in-For.result.now c.in-For.is c.deref-in-For.ensures.value) c.put_for.ensures.temps
+
+pub put_statements-returns-clause-lines : goal.put_statements-returns-clause-lines
+put_statements-returns-clause-lines t c =
+    let l = c.loop-stmt in
+    let names = c.args.self.now in
+    let margin = c.args.margin.now in
+    let budget = c.args.budget in
+    let stmts = c.args.stmts.now in
+    none_more (string_bytes l.out) (code_text names margin budget (statements (drop l.stmt-index stmts))) _ (none_left names margin budget stmts l.stmt-index c.loop-stmt-test.false) l.invariant.lines
+
+pub put_statements-returns-clause-temps : goal.put_statements-returns-clause-temps
+put_statements-returns-clause-temps t c =
+    let l = c.loop-stmt in
+    let stmts = c.args.stmts.now in
+    no_temps_left stmts l.stmt-index l.temps (temps_of (statements stmts)) c.loop-stmt-test.false l.invariant.temps
+
+pub put_if-returns-clause-lines : goal.put_if-returns-clause-lines
+put_if-returns-clause-lines t c =
+    let margin = c.args.margin.now in
+    let middle = string_bytes c.put_value.new.out in
+    let block = c.in_ok-block.block in
+    if_put c.args.self.now margin c.args.budget (phrase c.args.condition.now) (statements c.args.then.now) (string_bytes c.args.out.now) middle (string_bytes c.put_choice.new.out) c.as_str.result.now c.in_ok-value.value block
+    c.in_ok-value.ensures.lines c.in_ok-value.ensures.value (c.as_str.ensures ∙ c.in_ok-test.ensures) c.in_ok-block.ensures
+    (c.in_ok-put_choice.ensures ∙ ap (λ x. middle ++ choice_lines margin c.as_str.result.now x []) c.as_str-2.ensures)
+
+pub put_if_else-returns-clause-lines : goal.put_if_else-returns-clause-lines
+put_if_else-returns-clause-lines t c =
+    let margin = c.args.margin.now in
+    let middle = string_bytes c.put_value.new.out in
+    let first = c.in_ok-first.first in
+    let second = c.in_ok-second.second in
+    if_else_put c.args.self.now margin c.args.budget (phrase c.args.condition.now) (statements c.args.then.now) (statements c.args.other.now) (string_bytes c.args.out.now) middle (string_bytes c.put_choice.new.out) c.as_str.result.now c.in_ok-value.value first second
+    c.in_ok-value.ensures.lines c.in_ok-value.ensures.value (c.as_str.ensures ∙ c.in_ok-test.ensures) c.in_ok-first.ensures c.in_ok-second.ensures
+    (c.in_ok-put_choice.ensures ∙ ap (λ x. middle ++ choice_lines margin c.as_str.result.now x c.as_str-3.result.now) c.as_str-2.ensures ∙ ap (λ x. middle ++ choice_lines margin c.as_str.result.now first.text x) c.as_str-3.ensures)
+
+pub put_while-returns-clause-lines : goal.put_while-returns-clause-lines
+put_while-returns-clause-lines t c =
+    let names = c.args.self.now in
+    let margin = c.args.margin.now in
+    let e = phrase c.args.condition.now in
+    let a = statements c.args.body.now in
+    let old = string_bytes c.args.out.now in
+    let none = string_bytes c.new-round.result in
+    while_put names margin c.in_ok-inner.inner c.args.budget e a old (string_bytes c.put_loop.new.out) none (string_bytes c.put_round.new.out)
+    c.in_ok-inner.ensures c.new-round.ensures.bytes (c.in_ok-temps.ensures.lines ∙ ap (λ m. none ++ round_text names m c.args.budget a) c.as_str.ensures)
+    (c.in_ok-tested.ensures.lines ∙ ap (λ r. old ++ loop_of names margin e r) c.as_str-2.ensures.value)
+
+pub put_for-returns-clause-lines : goal.put_for-returns-clause-lines
+put_for-returns-clause-lines t c =
+    let names = c.args.self.now in
+    let margin = c.args.margin.now in
+    let budget = c.args.budget in
+    let e = phrase c.args.condition.now in
+    let a = statements c.args.body.now in
+    let x = c.args.first.now.at in
+    let is = phrases c.args.first.now.index.items in
+    let y = c.args.target.now.at in
+    let js = phrases c.args.target.now.index.items in
+    let f = phrase c.args.step.now in
+    let middle = string_bytes c.put_assign.new.out in
+    let none = string_bytes c.new-round.result in
+    let round = string_bytes c.put_round.new.out in
+    let stepped = string_bytes c.put_assign-2.new.out in
+    let new = string_bytes c.put_loop.new.out in
+    let turning = rounds_put names margin c.in_ok-inner.inner budget e a y js f middle new none round stepped
+    c.in_ok-inner.ensures c.new-round.ensures.bytes (c.in_ok-turned.ensures.lines ∙ ap (λ m. none ++ round_text names m budget a) c.as_str.ensures)
+    (c.in_ok-stepped.ensures.lines ∙ ap (λ m. round ++ assign_text names m y.name js f) c.as_str-2.ensures)
+    (c.in_ok-tested.ensures.lines ∙ ap (λ r. middle ++ loop_of names margin e r) c.as_str-3.ensures.value) in
+    for_put names margin budget x is (phrase c.args.start.now) e y js f a a (string_bytes c.args.out.now) middle new refl c.in_ok-started.ensures.lines turning
+
+pub put_round-returns-clause-lines : goal.put_round-returns-clause-lines
+unfolding round_text
+put_round-returns-clause-lines t c =
+    let margin = c.args.margin.now in
+    let budget = c.args.budget in
+    then (string_bytes c.args.out.now) (string_bytes c.put_turn.new.out) (string_bytes c.put_statements.new.out) (begin_lines margin budget c.args.self.now.home) (code_text c.args.self.now margin budget (statements c.args.body.now))
+    c.in_ok-put_turn.ensures c.in_ok-temps.ensures.lines
+
+pub inner_block-returns : goal.inner_block-returns
+inner_block-returns t c =
+    c.in_ok-block.ensures ∙ ap (λ m. block_of c.args.self.now m c.args.budget (statements c.args.stmts.now)) (c.as_str.ensures ∙ c.in_ok-inner.ensures)
