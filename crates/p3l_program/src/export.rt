@@ -45,7 +45,7 @@ fn program_text(
         &priced.costs,
         capacity,
         HEAD,
-        bodies.as_bytes(),
+        bodies.as_slice(),
         ENGINE,
     )
 }
