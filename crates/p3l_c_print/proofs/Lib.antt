@@ -8,7 +8,9 @@ pub mod Expressions
 pub mod Indices
 pub mod Lines
 pub mod Places
-pub mod Weights
 pub mod Shapes
 pub mod Functions
 pub mod Puts
+pub mod Sizes
+pub mod FunctionLists
+pub mod Weights

@@ -1,11 +1,12 @@
 -- Statements and functions that are put part by part.
-use Rattle.std.proofs.Common.{◌≡◌, ℕ, List, [], ◌++◌, codes, sym, ap, ◌∙◌, append_assoc}
+use Rattle.std.proofs.Common.{◌≡◌, ℕ, List, [], ◌++◌, codes, map, sym, ap, ◌∙◌, append_assoc}
 use Rattle.p3l_ast.specs.declared.position.Spot.{Spot}
 use Rattle.p3l_ast.specs.Tree as tree
 use Rattle.p3l_ast.specs.Tree.{Phrase, Phrases, Statements, if_, if_else, while_, for_, read}
+use Rattle.p3l_body.specs.declared.var.Var.{Var}
 use Rattle.p3l_body.specs.Seq.{SeqTree}
 use Rattle.p3l_c.specs.Translate.{next_all, spots, sizes_at}
-use Rattle.p3l_c.specs.Condition.{vars_shapes, function_of}
+use Rattle.p3l_c.specs.Condition.{take_entries, zero_entry, vars_shapes, function_of}
 use Rattle.p3l_c_print.specs.declared.value.Value.{Value}
 use Rattle.p3l_c_print.specs.declared.value.Block.{Block}
 use Rattle.p3l_c_print.specs.Name.{Names, name_text, names_of, shapes_of}
@@ -15,7 +16,7 @@ use Rattle.p3l_c_print.specs.Value.{value_of, block_of, front_text, index_text, 
 use Rattle.p3l_c_print.specs.Function.{entries_text, temps_text, outs_text, opening_text, turns_text, body_text}
 use Rattle.p3l_c_print.proofs.Joined.{then}
 use Rattle.p3l_c_print.proofs.Lines.{assign_is, code_if, code_if_else, code_while, code_for}
-use Rattle.p3l_c_print.proofs.Functions.{body_is}
+use Rattle.p3l_c_print.proofs.Functions.{entries_join, body_is}
 
 pub assign_put : (names : Names) (margin : List ℕ) (x : Spot) (is : Phrases) (e : Phrase) (old one two new place text : List ℕ) (n : ℕ) (v : Value) → n ≡ next_all 0 is
     → one ≡ old ++ index_text names margin 0 (sizes_at (shapes_of names) x.name) is → two ≡ one ++ front_text names margin n e → v ≡ value_of names n e
@@ -87,6 +88,17 @@ for_put names margin budget x is e w y js f a b old middle new same p q =
     let round = λ (c : Statements). loop_of names margin w (round_text names (deeper margin) budget c ++ assign_text names (deeper margin) y.name js f) in
     then old middle new (assign_text names margin x.name is e) (round a) p (q ∙ ap (λ c. middle ++ round c) same)
     ∙ ap (λ t. old ++ t) (sym (code_for names margin budget x is e w y js f a))
+
+pub entries_put : (names : Names) (ins outs locals : List Var) (old one two new : List ℕ) → one ≡ old ++ entries_text names (take_entries 0 ins) → two ≡ one ++ entries_text names (map zero_entry outs)
+    → new ≡ two ++ entries_text names (map zero_entry locals)
+    → new ≡ old ++ entries_text names ((take_entries 0 ins ++ map zero_entry outs) ++ map zero_entry locals)
+entries_put names ins outs locals old one two new p q r =
+    let a = take_entries 0 ins in
+    let b = map zero_entry outs in
+    let c = map zero_entry locals in
+    let first : two ≡ old ++ entries_text names (a ++ b) =
+    then old one two (entries_text names a) (entries_text names b) p q ∙ ap (λ t. old ++ t) (sym (entries_join names a b)) in
+    then old two new (entries_text names (a ++ b)) (entries_text names c) first r ∙ ap (λ t. old ++ t) (sym (entries_join names (a ++ b) c))
 
 six : (a b c d e f g : List ℕ) → (((((a ++ b) ++ c) ++ d) ++ e) ++ f) ++ g ≡ a ++ (b ++ (c ++ (d ++ (e ++ (f ++ g)))))
 six a b c d e f g =

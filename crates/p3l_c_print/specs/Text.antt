@@ -1,9 +1,7 @@
 -- The texts of expressions and lines of C. Each expression with an operator stands in parentheses, so
 -- no precedence is relied on.
-use Rattle.std.specs.Prelude.{ℕ, ◌+◌, ◌*◌, List, [], ◌∷◌, ◌++◌, codes}
+use Rattle.std.specs.Prelude.{ℕ, List, [], ◌∷◌, ◌++◌, codes}
 use Rattle.std.specs.Fmt.{decimal}
-use Rattle.p3l_base.specs.declared.outcome.TrapKind.{TrapKind}
-use Rattle.p3l_base.specs.declared.outcome.TrapKind.TheVariants.{DivZero, DivOver, Index, Shift, Budget, Turns}
 use Rattle.p3l_c.specs.Syntax.{Signed, number, temp, element, quotient, remainder, truth, converted, moved_down, Unsigned, nought, of, plus, minus, times, bits_and, bits_or, bits_xor, flipped, moved_up, Test, equal, differ, less, at_most, greater, at_least, negated, either, both, spent, Lines, done, keep, write, stop_if, turn, choose, forever}
 use Rattle.p3l_c_print.specs.Name.{Names, literal_text, name_text}
 use Rattle.p3l_c_print.specs.Line.{set_line, stop_line, spent_text, turn_line, choice_lines, loop_lines, deeper}

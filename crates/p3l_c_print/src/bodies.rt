@@ -4,9 +4,10 @@ ghost use Rattle.std.specs.Prelude.{◌≡◌, ◌++◌, map};
 ghost use Rattle.p3l_ast.specs.Tree.{statements};
 ghost use Rattle.p3l_base.specs.Memory.{IfGiven, OnGiven};
 ghost use Rattle.p3l_body.specs.Seq.{seq_tree};
-ghost use Rattle.p3l_c_print.specs.Bodies.{label_of, comment_text, one_text, bodies_text};
+ghost use Rattle.p3l_c_print.specs.Bodies.{label_of, label_text, comment_text, one_text, functions_text, bodies_text};
 
 use crate::function::body_text;
+use crate::text::Text;
 use p3l_ast::Stmt;
 use p3l_base::{List, NoMemory};
 use p3l_body::CheckedSeq;
@@ -24,8 +25,15 @@ fn label_of(tree: &Tree, home: u32) -> &str
     }
 }
 
+/// The first line of the comment before a function.
+fn label_text(alloc: Global, label: &str, home: u32) -> Result<Text, NoMemory>
+    ensures { IfGiven result (λ text. text ≡ label_text label.now home) }
+{
+    Ok(Text::of(format!(in alloc; "/* {label}, module {home}:\n\n")?))
+}
+
 /// Puts the statements of a module in a comment after a text.
-#[tactic(auto, unfolding(crate::specs::Bodies::comment_text))]
+#[tactic(auto, using(crate::proofs::Joined::then), unfolding(crate::specs::Bodies::comment_text))]
 fn put_comment(
     alloc: Global,
     out: &mut Vec<u8>,
@@ -36,16 +44,16 @@ fn put_comment(
     ensures { OnGiven result (out.new.items
         ≡ out.old.items ++ comment_text label.now home (statements stmts.now)) }
 {
-    let head = format!(in alloc; "/* {label}, module {home}:\n\n")?;
+    let head = label_text(alloc, label, home)?;
     let lines = print_statements(alloc, b"     ", stmts)?;
-    out.extend_from_slice(head.as_bytes())?;
+    out.extend_from_slice(head.as_str().as_bytes())?;
     out.extend_from_slice(lines.as_slice())?;
     out.extend_from_slice(b" */\n")?;
     Ok(())
 }
 
 /// Puts the function of a body after its P3L, and an empty line, after a text.
-#[tactic(auto, unfolding(crate::specs::Bodies::one_text))]
+#[tactic(auto, using(crate::proofs::Joined::then), unfolding(crate::specs::Bodies::one_text))]
 fn put_one(
     alloc: Global,
     out: &mut Vec<u8>,
@@ -62,6 +70,22 @@ fn put_one(
     Ok(())
 }
 
+/// Puts the functions of bodies, each after its P3L, after a text.
+fn put_functions(
+    alloc: Global,
+    out: &mut Vec<u8>,
+    tree: &Tree,
+    seqs: &[CheckedSeq<'_>],
+) -> Result<(), NoMemory>
+    ensures { OnGiven result (out.new.items
+        ≡ out.old.items ++ functions_text tree.now (map seq_tree seqs.now)) }
+{
+    for seq in seqs {
+        put_one(alloc, out, tree, seq)?;
+    }
+    Ok(())
+}
+
 /// The functions of the bodies of a program's modules, each after its P3L.
 pub fn bodies_text(
     alloc: Global,
@@ -70,9 +94,7 @@ pub fn bodies_text(
 ) -> Result<List<u8>, NoMemory>
     ensures { IfGiven result (λ text. text ≡ bodies_text tree.now (map seq_tree seqs.now)) }
 {
-    let mut text = Vec::new(alloc);
-    for seq in seqs {
-        put_one(alloc, &mut text, tree, seq)?;
-    }
+    let mut text = Vec::from_slice(alloc, b"\n")?;
+    put_functions(alloc, &mut text, tree, seqs)?;
     Ok(List::from_vec(text))
 }

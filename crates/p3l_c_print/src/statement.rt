@@ -277,7 +277,7 @@ impl Names<'_> {
             temps ≡ assign_temps (phrases target.now.index.items) (phrase expr.now)) }
     {
         let name = &target.at.name;
-        let spots = self.put_indices(out, margin, 0, self.sizes(name), target.index.as_slice())?;
+        let spots = self.put_indices(out, margin, 0, self.sizes(name), &target.index)?;
         let value = self.put_value(out, margin, spots.after, expr)?;
         let place = self.element(name, &spots)?;
         let signed = signed_of(self.alloc, &value)?;

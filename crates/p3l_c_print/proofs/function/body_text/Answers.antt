@@ -14,8 +14,8 @@ returns c =
     let turns = string_bytes c.push_str.new.self in
     let outs = string_bytes c.put_outs.new.out in
     let whole = string_bytes c.push_str-3.new.self in
-    c.of.ensures ∙ body_put seq names code (string_bytes c.new-text.result) (string_bytes c.put_opening.new.out) (string_bytes c.put_entries.new.out) temps turns (string_bytes c.push_str-2.new.self) outs whole
+    c.of-2.ensures ∙ body_put seq names code (string_bytes c.new-text.result) (string_bytes c.put_opening.new.out) (string_bytes c.put_entries.new.out) temps turns (string_bytes c.push_str-2.new.self) outs whole
     c.in_ok-names.ensures c.in_ok-code.ensures c.new-text.ensures.bytes c.in_ok-put_opening.ensures c.in_ok-put_entries.ensures c.in_ok-put_temps.ensures
     (c.in_ok-push_str.ensures.bytes ∙ ap (λ t. temps ++ t) c.turns_text.ensures)
     (c.in_ok-push_str-2.ensures.bytes ∙ ap (λ t. turns ++ t) c.as_str.ensures)
-    (c.in_ok-put_outs.ensures) c.in_ok-push_str-3.ensures.bytes
+    (c.in_ok-put_outs.ensures ∙ ap (λ vars. string_bytes c.push_str-2.new.self ++ outs_text names 0 (vars_shapes vars)) c.as_slice.ensures) c.in_ok-push_str-3.ensures.bytes

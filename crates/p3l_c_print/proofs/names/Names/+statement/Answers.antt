@@ -2,17 +2,44 @@ use Rattle.std.proofs.Common.{◌≡◌, ◌+◌, [], ◌++◌, drop, max, strin
 use Rattle.p3l_base.specs.Memory.{IfGiven, OnGiven}
 use Rattle.p3l_ast.specs.Tree.{phrase, phrases, one, statements}
 use Rattle.p3l_c.specs.Temps.{temps_of}
+use Rattle.p3l_c_print.specs.Name.{Names}
 use Rattle.p3l_c_print.specs.Value.{code_text, assign_text, round_text, block_of}
 use Rattle.p3l_c_print.specs.Line.{begin_lines, choice_lines}
 use Rattle.p3l_c_print.proofs.Joined.{then}
 use Rattle.p3l_c_print.proofs.Functions.{one_more, none_more}
 use Rattle.p3l_c_print.proofs.Lines.{assign_tree, if_tree, if_else_tree, while_tree, for_tree, temps_assign, statement_left, none_left, temps_left, no_temps_left}
 use Rattle.p3l_c_print.proofs.Puts.{if_put, if_else_put, while_put, loop_of, rounds_put, for_put}
+use Rattle.p3l_c_print.proofs.Sizes.{size_of, size_at}
 use Rattle.p3l_c_print.proofs.names.Names.+statement.Goals as goal
 
 given_so : {A E : Type 0} (r : Result A E) (P Q : A → Type 0) → ((x : A) → P x → Q x) → IfGiven r P → IfGiven r Q
 given_so (Ok x) P Q go h = go x h
 given_so (Err e) P Q go h = h
+
+pub put_statement-put_if-requires : goal.put_statement-put_if-requires
+put_statement-put_if-requires t c =
+    let e = ap size_of (if_tree c.args.stmt.now c.in-If.condition c.in-If.then c.in-If.other c.deref-in-None.result.now c.in-If.is c.in-None.is c.deref-in-None.ensures.value) in
+    (omega arith, tt)
+
+pub put_statement-put_if_else-requires : goal.put_statement-put_if_else-requires
+put_statement-put_if_else-requires t c =
+    let e = ap size_of (if_else_tree c.args.stmt.now c.in-If.condition c.in-If.then c.in-Some.other c.in-If.other c.deref.result.now c.deref-in-Some.result.now c.in-If.is c.in-Some.is c.deref.ensures.value c.deref-in-Some.ensures.value) in
+    (omega arith, tt)
+
+pub put_statement-put_while-requires : goal.put_statement-put_while-requires
+put_statement-put_while-requires t c =
+    let e = ap size_of (while_tree c.args.stmt.now c.in-While.condition c.in-While.body c.deref-in-While.result.now c.in-While.is c.deref-in-While.ensures.value) in
+    (omega arith, tt)
+
+pub put_statement-put_for-requires : goal.put_statement-put_for-requires
+put_statement-put_for-requires t c =
+    let e = ap size_of (for_tree c.args.stmt.now c.in-For.first c.in-For.next c.in-For.start c.in-For.condition c.in-For.step c.in-For.body c.deref-in-For.result.now c.in-For.is c.deref-in-For.ensures.value) in
+    (omega arith, tt)
+
+pub put_statements-put_statement-requires : goal.put_statements-put_statement-requires
+put_statements-put_statement-requires t c =
+    let e = size_at c.args.stmts.now c.loop-stmt.stmt-index c.stmt-item.result c.loop-stmt-test.true c.stmt-item.is in
+    (omega arith, tt)
 
 pub put_statement-returns-in-Assign-clause-lines : goal.put_statement-returns-in-Assign-clause-lines
 unfolding code_text assign_text
@@ -52,7 +79,7 @@ put_statements-loop-stmt-preserved t c =
     let s = c.stmt-item.result in
     record {
       lines = one_more (string_bytes l.out) (string_bytes c.put_statement.new.out) (code_text names margin budget (one s)) (code_text names margin budget (statements (drop i stmts))) _ _ c.in_ok-more.ensures.lines (statement_left names margin budget stmts i s c.loop-stmt-test.true c.stmt-item.is) l.invariant.lines;
-      temps = temps_left stmts i s l.temps c.in_ok-more.more c.max.result (temps_of (statements stmts)) c.loop-stmt-test.true c.stmt-item.is c.in_ok-more.ensures.temps c.max.ensures l.invariant.temps;
+      temps = temps_left stmts i s l.temps c.in_ok-more.more c.max-temps.result (temps_of (statements stmts)) c.loop-stmt-test.true c.stmt-item.is c.in_ok-more.ensures.temps c.max-temps.ensures l.invariant.temps;
     }
 
 pub put_statement-returns-in-For-clause-lines : goal.put_statement-returns-in-For-clause-lines
@@ -136,7 +163,7 @@ put_round-returns-clause-lines t c =
     let margin = c.args.margin.now in
     let budget = c.args.budget in
     then (string_bytes c.args.out.now) (string_bytes c.put_turn.new.out) (string_bytes c.put_statements.new.out) (begin_lines margin budget c.args.self.now.home) (code_text c.args.self.now margin budget (statements c.args.body.now))
-    c.in_ok-put_turn.ensures c.in_ok-temps.ensures.lines
+    (c.in_ok-put_turn.ensures ∙ ap (λ (n : Names). string_bytes c.args.out.now ++ begin_lines margin budget n.home) c.self.view_is) c.in_ok-temps.ensures.lines
 
 pub inner_block-returns : goal.inner_block-returns
 inner_block-returns t c =
