@@ -92,6 +92,7 @@ ODD = [
     (["compile", "m.p3l", "--processors", "4", "--output", "."], b"", 10, "", WRITE_FAULT),
     (["compile", "m.p3l", *RUN[2:], "--output", "none/image"], b"", 10, "", WRITE_FAULT),
     (["compile", "m.p3l", "--processors", "4", "--output", FULL], b"", 10, "", WRITE_FAULT),
+    (["export", "m.p3l", *RUN[2:], "--output", "none/m.c"], b"", 10, "", WRITE_FAULT),
     ([*RUN, "--trace", "."], b"1\n", 10, "3\n", WRITE_FAULT),
     ([*RUN, "--trace", FULL], b"1\n", 10, "3\n", WRITE_FAULT),
     (["gen", "7", *RUN[2:], "--items", "1", "--save", "none/seven"], b"", 10, "", WRITE_FAULT),
@@ -236,6 +237,7 @@ def try_left(edge):
         file.write(b"kept")
     for words in (
         ["compile", "bad.p3l", "--processors", "4", "--output", "kept"],
+        ["export", "bad.p3l", "--processors", "4", "--output", "kept"],
         ["explain", "w.p3l", "--processors", "4", "--cert", "kept"],
         ["run", "bad.p3l", "--processors", "4", "--trace", "kept"],
     ):

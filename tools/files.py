@@ -34,6 +34,7 @@ BUILD = ["m.p3l", "--processors", "4"]
 WRITERS = {
     "compile": (["compile", *BUILD, "--output", "NEW"], ""),
     "migrate": (["migrate", "made.img", "--output", "NEW"], ""),
+    "export": (["export", *BUILD, "--output", "NEW"], ""),
     "explain": (["explain", *BUILD, "--cert", "NEW"], ""),
     "run": (["run", *BUILD, "--trace", "NEW"], ITEMS),
     "exec": (["exec", "made.img", "--trace", "NEW"], ITEMS),
@@ -49,6 +50,8 @@ DESTROYERS = [
     (["compile", "soft.p3l", *BUILD[1:], "--output", "hard.p3l"], "m.p3l"),
     (["compile", *BUILD, "--costs", "made.toml", "--output", "made.toml"], "made.toml"),
     (["migrate", "made.img", "--output", "made.img"], "made.img"),
+    (["export", *BUILD, "--output", "m.p3l"], "m.p3l"),
+    (["export", *BUILD, "--costs", "made.toml", "--output", "made.toml"], "made.toml"),
     (["explain", *BUILD, "--cert", "m.p3l"], "m.p3l"),
     (["explain", *BUILD, "--costs", "made.toml", "--cert", "made.toml"], "made.toml"),
     (["run", *BUILD, "--trace", "m.p3l"], "m.p3l"),

@@ -94,6 +94,8 @@ def cases(made):
     yield Case("source, fmt", ["fmt", "m.p3l"], "m.p3l", PROGRAM, MIB, {0, 3, 9, 11})
     yield Case("costs", ["explain", "m.p3l", *PROCESSORS, *costs], "costs", COSTS, MIB, {0, 4, 9, 11})
     yield Case("source, rewrite", ["rewrite", "m.p3l", *PROCESSORS], "m.p3l", PROGRAM, MIB, {0, 3, 5, 9, 11})
+    exported = ["--output", "exported"]
+    yield Case("source, export", ["export", "m.p3l", *PROCESSORS, *exported], "m.p3l", PROGRAM, MIB, {0, 3, 5, 9, 11})
     yield Case("picks", ["run", "m.p3l", *PROCESSORS, "--schedule", "file:picks"], "picks", PICKS, 64 * MIB, {0, 1, 9, 11, 12})
     yield Case("stream", ["run", "m.p3l", *PROCESSORS], None, STREAM, 64 * MIB, {0, 6, 7, 11})
     yield Case("stream, time", ["time", "m.p3l", *PROCESSORS], None, STREAM, 64 * MIB, {0, 6, 7, 11})

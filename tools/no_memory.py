@@ -42,6 +42,7 @@ RUNS = [
     (["compile", *COSTED, "--output", "image"], b"", []),
     (["exec", "made.image", "--stats"], b"1\n2\n-3\n", ["compile", *COSTED, "--output", "made.image"]),
     (["migrate", "made.image", "--output", "migrated"], b"", ["compile", *COSTED, "--output", "made.image"]),
+    (["export", *COSTED, "--output", "exported"], b"", []),
     (["run", *COSTED, "--trace", "trace"], b"1\n2\n-3\n", []),
     (["check-trace", *COSTED, "--trace", "made.trace"], b"1\n2\n-3\n", ["run", *COSTED, "--trace", "made.trace"]),
     (["gen", "7", "--processors", "16", "--items", "3"], b"", []),

@@ -7,11 +7,13 @@ mod SeriesSteps
 mod GenLengths
 mod TreeSteps
 mod LoadSteps
+mod SourceSteps
 mod RewriteSteps
 mod ImageSteps
 mod JoinedSteps
 mod SnapshotSteps
 mod CompileSteps
+mod ExportSteps
 mod OnceSteps
 mod CertSteps
 mod PickSteps

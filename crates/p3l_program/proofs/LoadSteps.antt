@@ -30,7 +30,7 @@ use Rattle.p3l_program.specs.Certificate.{IsCertificate}
 use Rattle.p3l_program.specs.Explain.{IsExplained}
 use Rattle.p3l_program.specs.File.{HasText, text_limit}
 use Rattle.p3l_program.specs.Load.{IsCostless, IsLoaded, IsNotLoaded, cost_verdict}
-use Rattle.p3l_program.specs.Rewrite.{ComesToTree}
+use Rattle.p3l_program.specs.Source.{ComesToTree}
 use Rattle.p3l_program.specs.Stage.{AllPass, Stage, build_stages, cost_stages, program_stages}
 use Rattle.p3l_program.specs.World.{Change, IsCalm}
 use Rattle.p3l_program.proofs.StageSteps.{refused_front}

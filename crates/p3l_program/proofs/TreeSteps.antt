@@ -19,7 +19,7 @@ use Rattle.p3l_check.specs.Resolving.{ResolvedTree}
 use Rattle.p3l_program.specs.Plan.{AreSaid, HasCostText, HasCounts, IsPriced, refusal_of}
 use Rattle.p3l_program.specs.File.{HasText, text_limit}
 use Rattle.p3l_program.specs.Load.{IsCostless, IsNotLoaded}
-use Rattle.p3l_program.specs.Rewrite.{ComesToTree}
+use Rattle.p3l_program.specs.Source.{ComesToTree}
 use Rattle.p3l_program.specs.Stage.{AllPass, FilesCause, IsRefusedBy, Stage, build_stages, cost_stages, fitting, program_stages}
 use Rattle.p3l_program.specs.World.{Change, IsCalm}
 use Rattle.p3l_program.proofs.StageSteps.{passed_both, refused_after}

@@ -11,12 +11,14 @@ use Rattle.p3l_program.specs.Certificate.{IsCertificate}
 use Rattle.p3l_program.specs.Check.{IsCounted}
 use Rattle.p3l_program.specs.Compile.{IsImageOf}
 use Rattle.p3l_program.specs.Explain.{IsExplained}
+use Rattle.p3l_program.specs.Export.{IsExportOf, build_of}
 use Rattle.p3l_program.specs.Fmt.{IsFormatted, fmt_stages}
 use Rattle.p3l_program.specs.Generated.{gen_of}
 use Rattle.p3l_program.specs.Graph.{IsDrawn}
 use Rattle.p3l_program.specs.Migrate.{IsMigrated}
 use Rattle.p3l_program.specs.Origin.{Running, built, continued, imaged, running, scanned}
-use Rattle.p3l_program.specs.Rewrite.{IsRewritten, plain_build}
+use Rattle.p3l_program.specs.Rewrite.{IsRewritten}
+use Rattle.p3l_program.specs.Source.{plain_build}
 use Rattle.p3l_program.specs.Stage.{Stage, build_stages, migrate_stages, program_stages, verify_stages}
 use Rattle.p3l_program.specs.Text.{IsNothing}
 use Rattle.p3l_program.specs.Verify.{IsVerified}
@@ -35,6 +37,8 @@ work_of (command.Compile build name) =
     save_file (build_stages build) (λ files. IsNothing) name (λ files. IsImageOf files build)
 work_of (command.Migrate name output) =
     save_file (migrate_stages name) (λ files. IsNothing) output (λ files. IsMigrated files name)
+work_of (command.Export exported name) =
+    save_file (build_stages (build_of exported)) (λ files. IsNothing) name (λ files. IsExportOf files exported)
 work_of (command.Graph build) = write_text (build_stages build) (λ files. IsDrawn files build)
 work_of (command.Run build schedule trace reported) = run_network (running (built build) schedule trace reported)
 work_of (command.Exec name schedule trace reported) = run_network (running (imaged name) schedule trace reported)

@@ -11,6 +11,7 @@ pub mod Compile
 pub mod Determined
 pub mod Expected
 pub mod Explain
+pub mod Export
 pub mod File
 pub mod Fmt
 pub mod Generated
@@ -37,6 +38,7 @@ pub mod SaveState
 pub mod Scan
 pub mod Scheduled
 pub mod Snapshot
+pub mod Source
 pub mod Stage
 pub mod Text
 pub mod Time

@@ -14,6 +14,7 @@ use crate::check_trace::check_trace;
 use crate::compile::compile;
 use crate::exec::exec;
 use crate::explain::explain;
+use crate::export::export;
 use crate::fmt::fmt;
 use crate::generated::run_generated;
 use crate::graph::graph;
@@ -57,6 +58,7 @@ fn perform<F: Files, S: Source, K: Sink>(
         Ok(Command::Advise(build, processes)) => advise(alloc, build, processes, files, out),
         Ok(Command::Compile(build, name)) => compile(alloc, build, name, files),
         Ok(Command::Migrate(name, output)) => migrate(alloc, name, output, files),
+        Ok(Command::Export(exported, name)) => export(alloc, exported, name, files),
         Ok(Command::Graph(build)) => graph(alloc, build, files, out),
         Ok(Command::Run(build, schedule, trace, reported)) => run(
             alloc, build, schedule, trace, reported, files, input, out,

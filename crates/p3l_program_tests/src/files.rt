@@ -94,6 +94,21 @@ $ compile m.p3l --processors 4 --costs c --output new
 ? 10
 
 fails file 1
+$ export m.p3l --processors 4 --costs c --output new
+! file fault: m.p3l
+? 9
+
+fails file 2
+$ export m.p3l --processors 4 --costs c --output new
+! file fault: c
+? 9
+
+fails file 3
+$ export m.p3l --processors 4 --costs c --output new
+! write fault
+? 10
+
+fails file 1
 $ explain a.p3l --processors 8 --costs a.toml --cert new
 ! file fault: a.p3l
 ? 9

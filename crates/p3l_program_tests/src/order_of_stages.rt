@@ -314,6 +314,50 @@ $ compile m.p3l --processors 4 --output i
 ! write fault
 ? 10
 
+fails file 2
+fails put 1 after 0
+file m.p3l = double
+$ export m.p3l --processors 4
+! usage: the words are not a command of p3l
+? 2
+
+file i
+| P3LI\
+$ export m.p3l --processors 3 --costs c --output i
+! file fault: m.p3l
+? 9
+
+file m.p3l = undeclared
+$ export m.p3l --processors 3 --costs c --output i
+! source: 2:8: 40 Undeclared
+? 3
+
+file m.p3l = farmed
+$ export m.p3l --processors 3 --costs c --output i
+! file fault: c
+? 9
+
+file m.p3l = farmed
+file c
+| speed = 1
+$ export m.p3l --processors 3 --costs c --output i
+! costs: 51 BadKey speed
+? 4
+
+fails file 2
+fails put 1 after 0
+file m.p3l = farmed
+$ export m.p3l --processors 3 --output i
+! too few processors: need 4
+? 5
+
+fails file 2
+fails put 1 after 0
+file m.p3l = double
+$ export m.p3l --processors 4 --output i
+! write fault
+? 10
+
 = What reads evidence is refused by the first of its stages.
 none new
 

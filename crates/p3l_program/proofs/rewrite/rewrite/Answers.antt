@@ -1,5 +1,6 @@
 use Rattle.std.proofs.Common.{subst, inl, inr}
-use Rattle.p3l_program.specs.Rewrite.{IsRewritten, plain_build}
+use Rattle.p3l_program.specs.Rewrite.{IsRewritten}
+use Rattle.p3l_program.specs.Source.{plain_build}
 use Rattle.p3l_program.specs.Stage.{build_stages}
 use Rattle.p3l_program.specs.Text.{IsWritten}
 use Rattle.p3l_program.specs.World.{change, files_change}
@@ -21,7 +22,7 @@ returns-clause-expected g c =
     let out = change g.K.Sink.taken g.K.Sink.faults c.args.out.now c.write_text.new.out in
     let text = c.in-Ok-best_text.text in
     text_expected files out (build_stages build) (IsRewritten (g.F.Files.held c.args.files.now) build) text c.write_text.result c.in-Ok.ensures.calm
-    (counts_pass files build loads.r c.in-Ok.priced.costs loads.counts loads.has)
+    (counts_pass files build loads.r c.in-Ok.priced.costs c.in-Ok.priced.counts.list loads.has)
     (rewritten (g.F.Files.held c.args.files.now) build c.in-Ok.priced loads text c.in-Ok-best_text.ensures.best)
     (subst (λ written. IsWritten out written c.write_text.result) c.as_slice.ensures c.write_text.ensures.written)
 

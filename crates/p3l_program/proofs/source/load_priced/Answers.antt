@@ -4,9 +4,9 @@ use Rattle.p3l_program.specs.Load.{IsCostless, LoadsCosts}
 use Rattle.p3l_program.specs.Stage.{fitting}
 use Rattle.p3l_program.specs.World.{files_change}
 use Rattle.p3l_program.proofs.LoadSteps.{same_change}
-use Rattle.p3l_program.proofs.RewriteSteps.{source_priced}
+use Rattle.p3l_program.proofs.SourceSteps.{source_priced}
 use Rattle.p3l_program.proofs.TreeSteps.{costless, too_few}
-use Rattle.p3l_program.proofs.rewrite.load_priced.Goals as goal
+use Rattle.p3l_program.proofs.source.load_priced.Goals as goal
 
 pub returns-in-Err-load_costs-clause-refused : goal.returns-in-Err-load_costs-clause-refused
 returns-in-Err-load_costs-clause-refused g c =
@@ -31,4 +31,4 @@ pub returns-in-Ok-choose-clause-loaded : goal.returns-in-Ok-choose-clause-loaded
 returns-in-Ok-choose-clause-loaded g c =
     let loaded = c.in-Ok.ensures.loaded in
     let costs = subst (λ files. LoadsCosts files c.args.build.costs c.in-Ok.source.tree c.in-Ok-load_costs.costs) c.load_source.ensures.stays c.in-Ok-load_costs.ensures.loaded in
-    source_priced (g.F.Files.held c.args.files.now) c.args.build c.in-Ok.source c.in-Ok-load_costs.costs c.in-Ok-choose.field-0.counts.list loaded costs c.in-Ok-choose.ensures.chosen
+    source_priced (g.F.Files.held c.args.files.now) c.args.build c.in-Ok.source c.in-Ok-load_costs.costs c.in-Ok-choose.field-0.counts loaded costs c.in-Ok-choose.ensures.chosen

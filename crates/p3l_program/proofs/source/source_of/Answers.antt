@@ -1,7 +1,7 @@
 use Rattle.std.proofs.lemmas.Result.{err_from_is_err_and}
 use Rattle.p3l_program.proofs.AcceptSteps.{not_read, not_resolved}
-use Rattle.p3l_program.proofs.RewriteSteps.{source_kept}
-use Rattle.p3l_program.proofs.rewrite.source_of.Goals as goal
+use Rattle.p3l_program.proofs.SourceSteps.{source_kept}
+use Rattle.p3l_program.proofs.source.source_of.Goals as goal
 
 pub returns-in_err-program-clause-refused : goal.returns-in_err-program-clause-refused
 returns-in_err-program-clause-refused c =

@@ -1,6 +1,6 @@
 use Rattle.std.proofs.Common.{map, refl}
 use Rattle.p3l_body.specs.Seq.{seq_tree}
-use Rattle.p3l_program.proofs.rewrite.tree_of.Goals as goal
+use Rattle.p3l_program.proofs.source.tree_of.Goals as goal
 
 pub returns-in-Ok-clause-kept : goal.returns-in-Ok-clause-kept
 returns-in-Ok-clause-kept c = record {

@@ -4,6 +4,7 @@ use Rattle.p3l_opts.specs.Command.{Spells, texts_of}
 use Rattle.p3l_program.specs.Command.{work_of}
 use Rattle.p3l_program.specs.World.{change, files_change}
 use Rattle.p3l_program.proofs.ExpectedSteps.{check_requested, file_requested, gen_requested, profile_requested, run_requested, save_requested, saving_requested, text_requested, time_requested}
+use Rattle.p3l_program.proofs.ExportSteps.{choice_within}
 use Rattle.p3l_program.proofs.GenSteps.{items_few}
 use Rattle.p3l_program.proofs.top.perform.Goals as goal
 
@@ -91,6 +92,24 @@ returns-in-Ok-Migrate g c =
           (change g.K.Sink.taken g.K.Sink.faults c.args.out.now c.args.out.now) (g.S.Source.rest c.args.input.now) (g.S.Source.faults c.args.input.now)
           c.migrate.result _ _ _ refl (record { known = refl; calm = refl }) c.migrate.ensures.expected c.migrate.ensures.kept;
       wants = inl c.migrate.ensures.wants;
+    }
+
+pub export-requires-clause-capacity : goal.export-requires-clause-capacity
+export-requires-clause-capacity g c =
+    let request = c.in-Ok-Export in
+    let spelled : Spells (texts_of c.args.words.now) (command.Export request.exported request.name) = search (rules, request.ensures.spelled) in
+    choice_within _ request.exported.capacity spelled.values.0.capacity_is
+
+pub returns-in-Ok-Export : goal.returns-in-Ok-Export
+unfolding work_of
+returns-in-Ok-Export g c =
+    let request = c.in-Ok-Export in
+    let spelled : Spells (texts_of c.args.words.now) (command.Export request.exported request.name) = search (rules, request.ensures.spelled) in record {
+      expected =
+          file_requested (texts_of c.args.words.now) _ spelled (files_change g.F.Files.held g.F.Files.faults g.F.Files.failed c.args.files.now c.export.new.files)
+          (change g.K.Sink.taken g.K.Sink.faults c.args.out.now c.args.out.now) (g.S.Source.rest c.args.input.now) (g.S.Source.faults c.args.input.now)
+          c.export.result _ _ _ refl (record { known = refl; calm = refl }) c.export.ensures.expected c.export.ensures.kept;
+      wants = inl c.export.ensures.wants;
     }
 
 pub returns-in-Ok-Graph : goal.returns-in-Ok-Graph
