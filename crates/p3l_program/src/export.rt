@@ -24,11 +24,7 @@ use std::alloc::Global;
 
 /// The text in C of a program under a capacity, or under capacities that are chosen. The program is
 /// resolved once more, for its bodies.
-fn program_text(
-    alloc: Global,
-    priced: &Priced,
-    capacity: Option<u32>,
-) -> Result<List<u8>, NoMemory>
+fn program_text(alloc: Global, priced: &Priced, capacity: Option<u32>) -> Result<List<u8>, NoMemory>
     requires ready { MayBeExported priced.now }
     requires capacity { IsCapacity capacity }
     ensures text { IfOk result (IsProgramText priced.now capacity) }

@@ -78,7 +78,10 @@ fn what_is_exported_depends_on_its_words(rt: HostRuntime) -> Result<(), Fail> {
         "export m.p3l --processors 8 --costs a.toml --output c --capacity 3",
     ] {
         let another = exported(&rt, rt.alloc(), other)?;
-        assert!(&rt; own_part(another.as_str())? != own_part(text.as_str())?, "{other}");
+        assert!(&rt;
+            own_part(another.as_str())? != own_part(text.as_str())?,
+            "{other}"
+        );
     }
     Ok(())
 }
