@@ -31,4 +31,4 @@ pub returns-in-Ok-choose-clause-loaded : goal.returns-in-Ok-choose-clause-loaded
 returns-in-Ok-choose-clause-loaded g c =
     let loaded = c.in-Ok.ensures.loaded in
     let costs = subst (λ files. LoadsCosts files c.args.build.costs c.in-Ok.source.tree c.in-Ok-load_costs.costs) c.load_source.ensures.stays c.in-Ok-load_costs.ensures.loaded in
-    source_priced (g.F.Files.held c.args.files.now) c.args.build c.in-Ok.source c.in-Ok-load_costs.costs c.in-Ok-choose.field-0.counts loaded costs c.in-Ok-choose.ensures.chosen
+    source_priced (g.F.Files.held c.args.files.now) c.args.build c.in-Ok.source c.in-Ok-load_costs.costs c.in-Ok-choose.choice.counts loaded costs c.in-Ok-choose.ensures.chosen
