@@ -1,4 +1,4 @@
-use Rattle.std.proofs.Common.{subst, inl}
+use Rattle.std.proofs.Common.{subst, inl, inr}
 use Rattle.std.specs.declared.result.Result.TheVariants.{Ok, Err}
 use Rattle.p3l_program.specs.Export.{IsExportOf, build_of}
 use Rattle.p3l_program.specs.Saved.{SaveCause}
@@ -46,3 +46,9 @@ returns-clause-expected g c =
     let written = subst (λ b. SaveCause (files_change held faults failed c.load_priced.new.files end) c.args.name b (Err v)) c.as_slice.ensures c.in-Err-save.ensures.saved.by in
     file_failed files (build_stages build) c.args.name (IsExportOf (held c.args.files.now) c.args.exported) text (counts_pass files build loads.r priced.costs priced.counts.list loads.has)
     (program_exported (held c.args.files.now) c.args.exported priced loads text c.in-Ok-program_text.ensures.text) v (subst (λ f. SaveCause f c.args.name text (Err v)) same written)
+
+pub returns-in_default-clause-wants : goal.returns-in_default-clause-wants
+returns-in_default-clause-wants g c = elim c.in_default.ensures.wants [
+  | inl refused ↦ inl refused
+  | inr many ↦ absurd (not_many (g.F.Files.held c.args.files.now) (build_of c.args.exported) c.in-Ok.priced c.in-Ok.ensures.loaded many)
+]
