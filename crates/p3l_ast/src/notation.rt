@@ -56,7 +56,7 @@ impl BinOp {
         }
     }
 
-    /// How the operator is written.
+    /// The spelling of the operator.
     pub fn sign(self) -> &'static str
         ensures { result.now ≡ sign_of self }
     {

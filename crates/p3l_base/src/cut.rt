@@ -48,7 +48,7 @@ pub fn join(alloc: Global, cut: &Cut, results: &List<Words>) -> Result<Words, No
     Ok(Words::from_vec(token))
 }
 
-// Where a walk over an array is: the free indices, and the place in their element's result.
+// The place of a walk over an array: the free indices, and the place in their element's result.
 #[derive(Clone, Copy, Drop)]
 struct Corner {
     first: u32,
@@ -85,7 +85,7 @@ impl Corner {
     }
 }
 
-/// How many words one cut of an array has: the product of the sizes that are not free.
+/// The count of words of one cut of an array: the product of the sizes that are not free.
 pub fn cut_len(dims: &[Dim]) -> usize
     requires { cut_size dims.now < 2 ^ 64 }
     ensures { result ≡ cut_size dims.now }

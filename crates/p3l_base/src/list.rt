@@ -41,14 +41,14 @@ impl<T> List<T> {
         List { items }
     }
 
-    /// How many items there are.
+    /// The count of items.
     pub fn len(&self) -> usize
         ensures { result ≡ length self.now }
     {
         self.items.len()
     }
 
-    /// Whether there is no item.
+    /// Returns true exactly if there is no item.
     pub fn is_empty(&self) -> bool
         ensures { IsTrue result ↔ (self.now ≡ []) }
     {

@@ -1,4 +1,4 @@
-// What an item comes to.
+// Outcomes of items.
 
 use crate::words::Words;
 
@@ -26,7 +26,7 @@ pub struct Trap {
     pub module: u32,
 }
 
-/// What an item comes to: words, or the first trap.
+/// The outcome of an item: words, or the first trap.
 #[derive(Debug, Drop)]
 pub enum Outcome {
     Value(Words),

@@ -10,7 +10,7 @@ use crate::words::Words;
 use p3l_refusal::NoMemory;
 use std::alloc::Global;
 
-/// What a dimension of an array is in a slice.
+/// The part of a dimension of an array in a slice.
 #[derive(Clone, Copy, Debug, Drop, PartialEq, Eq)]
 pub enum Place {
     /// All its indices are taken.
@@ -89,7 +89,7 @@ fn taken(dim: Dim, free: FreeIndices) -> (u32, u32)
     }
 }
 
-/// How many words an array has: the product of its sizes.
+/// The count of words of an array: the product of its sizes.
 pub fn array_len(dims: &[Dim]) -> usize
     requires { array_size dims.now < 2 ^ 64 }
     ensures { result ≡ array_size dims.now }

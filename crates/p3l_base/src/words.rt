@@ -8,7 +8,7 @@ use smallvec::SmallVec;
 use std::alloc::Global;
 use std::marker::Model;
 
-/// How many words lie in the value itself; more take memory.
+/// The count of words that lie in the value itself; more take memory.
 const WORDS_IN_PLACE: usize = 4;
 
 /// The words of a token, which contracts see as a list of whole numbers.
@@ -26,7 +26,7 @@ impl Model for Words {
 }
 
 impl Words {
-    /// No words, which later take memory from `alloc`.
+    /// Makes an empty list of words, which later takes memory from `alloc`.
     pub fn new(alloc: Global) -> Words
         ensures { result ≡ [] }
     {
@@ -63,14 +63,14 @@ impl Words {
         Ok(Words { items })
     }
 
-    /// How many words there are.
+    /// The count of words.
     pub fn len(&self) -> usize
         ensures { result ≡ length self.now }
     {
         self.items.len()
     }
 
-    /// Whether there is no word.
+    /// Returns true exactly if there is no word.
     pub fn is_empty(&self) -> bool
         ensures { IsTrue result ↔ (self.now ≡ []) }
     {

@@ -100,7 +100,7 @@ fn is_free_of(name: &Name, sub: &Sub) -> bool
     }
 }
 
-/// How many free indices are in brackets.
+/// The count of free indices in brackets.
 pub(crate) fn free_count(subs: &[Sub]) -> usize
     ensures { result ≡ free_count subs.now }
 {

@@ -17,7 +17,7 @@ use std::io::{ErrorKind, Read, Write};
 use std::marker::Model;
 use std::{fs, rt};
 
-/// How many bytes a read requests at most.
+/// The most bytes that a read requests.
 const PIECE: usize = 16_384;
 
 /// The files of the file system, which contracts see as their faults. A file is written after all that

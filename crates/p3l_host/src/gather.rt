@@ -11,7 +11,7 @@ use std::alloc::Global;
 use std::cell::RefCell;
 use std::io::{BufWriter, Write};
 
-/// How many bytes are gathered before they are written.
+/// The count of bytes that are gathered before they are written.
 const CAPACITY: usize = 65_536;
 
 /// A writer, the bytes that it was not given yet, and whether it has failed.

@@ -1,4 +1,4 @@
--- What the counts of faults say of the answers of calls on the outside.
+-- Answers of calls on the outside, by the counts of faults.
 use Rattle.std.specs.Prelude.{◌≡◌, ℕ, ◌+◌, ◌-◌, ◌^◌, ◌≤◌, ◌⊎◌, min, Bool, true, List, Option, Some, Result, Ok, Err, OnOk, OnErr}
 use Rattle.p3l_base.specs.Memory.{Refused}
 use Rattle.p3l_io.specs.declared.fault.FileFault.{FileFault}

@@ -1,4 +1,4 @@
--- What calls on the outside do to what is known of it. What isn't known stays so.
+-- The effect of calls on the outside on what is known of it. All else stays unknown.
 use Rattle.std.specs.Prelude.{◌≡◌, ◌≢◌, ℕ, ◌<◌, ◌≤◌, List, [], ◌++◌, length, take, drop, Option, Some, None, Result, Ok, Err}
 use Rattle.p3l_io.specs.declared.fault.Failed.{Failed}
 use Rattle.p3l_io.specs.declared.fault.FileFault.{FileFault}

@@ -51,7 +51,7 @@ impl MemSource {
         }
     }
 
-    /// How many calls of `take` there were; the count stays at the last value of a `u64`.
+    /// The count of calls of `take`; it stays at the last value of a `u64`.
     pub fn calls(&self) -> u64
         ensures { result ≡ self.now.calls }
     {

@@ -24,7 +24,7 @@ pub struct Span {
     pub high: u32,
 }
 
-/// How workers share the work of their node.
+/// A way in which workers share the work of their node.
 #[derive(Clone, Copy, Debug, Drop, PartialEq, Eq)]
 pub enum Sharing {
     /// Each takes a whole item in turn.
@@ -168,7 +168,7 @@ pub fn number_of(list: &List<u32>, home: u32) -> u32
     list.as_slice().get(home as usize).copied().unwrap_or(0)
 }
 
-/// How many elements a cut has.
+/// The count of elements of a cut.
 pub fn element_count(cut: &Cut) -> u64
     ensures { result ≡ element_count cut.now }
 {

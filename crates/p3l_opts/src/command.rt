@@ -72,16 +72,16 @@ pub enum Command {
     Resume(Name, Sched, bool),
 }
 
-/// How a program's network is built.
+/// The way in which a program's network is built.
 #[derive(Drop)]
 pub struct Build {
     /// The name of the program's file.
     pub program: Name,
-    /// How many processors there are, 1 to 512.
+    /// The count of processors, 1 to 512.
     pub processors: u32,
     /// The name of the file of costs; without one, the standard costs hold.
     pub costs: Option<Name>,
-    /// How many tokens a channel holds at most, 1 to 1,024.
+    /// The most tokens in a channel, 1 to 1,024.
     pub capacity: u32,
 }
 
@@ -90,7 +90,7 @@ pub struct Build {
 pub struct Exported {
     /// The name of the program's file.
     pub program: Name,
-    /// How many processors there are, 1 to 512.
+    /// The count of processors, 1 to 512.
     pub processors: u32,
     /// The name of the file of costs; without one, the standard costs hold.
     pub costs: Option<Name>,
@@ -99,7 +99,7 @@ pub struct Exported {
     pub capacity: Option<u32>,
 }
 
-/// How picks are made.
+/// The way in which picks are made.
 #[derive(Drop)]
 pub enum Sched {
     /// The processes take turns.

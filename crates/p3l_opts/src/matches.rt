@@ -17,13 +17,13 @@ use p3l_base::limits::{MOST_PROCESSORS, MOST_TOKENS, MOST_WORKERS};
 use p3l_base::{Name, NoMemory};
 use std::alloc::Global;
 
-/// How many tokens a channel holds at most where the words don't say it.
+/// The most tokens in a channel where the words don't say it.
 pub(crate) const DEFAULT_CAPACITY: u32 = 4;
 
 /// The most items that can be generated.
 pub(crate) const MOST_ITEMS: u32 = 100_000;
 
-/// How many items are generated where the words don't say it.
+/// The count of items that are generated where the words don't say it.
 const DEFAULT_ITEMS: u32 = 1000;
 
 /// Returns the matches of `clap`, if it takes the words after the first as words of this verb.

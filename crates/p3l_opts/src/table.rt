@@ -9,7 +9,7 @@ use clap::{Arg, ArgAction, Command};
 use p3l_base::NoMemory;
 use std::alloc::Global;
 
-/// How a word of a command is spelled, and whether it has to be there.
+/// The spelling of a word of a command, and whether it has to be there.
 #[derive(Clone, Copy)]
 pub(crate) enum Spelling {
     /// `VALUE`, which has to be there.

@@ -76,7 +76,7 @@ fn command_of(alloc: Global, verb: Verb, matches: &ArgMatches) -> Result<Command
     }
 }
 
-/// How a network of this capacity is built, by the other values that were found.
+/// Gives the building of a network of this capacity, by the other values that were found.
 fn build_with(alloc: Global, matches: &ArgMatches, capacity: u32) -> Result<Build, OptsRefusal>
     ensures ok { IfOk result (λ build. (text : Option (List ℕ)) → HasCapacity text capacity
         → HasBuild (rows_of (found_of matches.now)) text build) }
@@ -97,7 +97,7 @@ fn build_with(alloc: Global, matches: &ArgMatches, capacity: u32) -> Result<Buil
     })
 }
 
-/// How a network of the default capacity is built, by the other values that were found.
+/// Gives the building of a network of the default capacity, by the other values that were found.
 fn plain_build_of(alloc: Global, matches: &ArgMatches) -> Result<Build, OptsRefusal>
     ensures ok { IfOk result (HasBuild (rows_of (found_of matches.now)) None) }
     ensures usage { IsErrOf result OptsRefusal.Usage → (build : Build)
@@ -107,7 +107,7 @@ fn plain_build_of(alloc: Global, matches: &ArgMatches) -> Result<Build, OptsRefu
     build_with(alloc, matches, DEFAULT_CAPACITY)
 }
 
-/// How a network is built, by the values that were found.
+/// Gives the building of a network, by the values that were found.
 fn build_of(alloc: Global, matches: &ArgMatches) -> Result<Build, OptsRefusal>
     ensures ok { IfOk result (HasBuild (rows_of (found_of matches.now))
         (first_of (codes "capacity") (rows_of (found_of matches.now)))) }
@@ -213,7 +213,7 @@ fn migrate_of(alloc: Global, matches: &ArgMatches) -> Result<Command, OptsRefusa
     Ok(Command::Migrate(image, output))
 }
 
-/// What is exported, by the values that were found.
+/// Gives an export, by the values that were found.
 fn exported_of(alloc: Global, matches: &ArgMatches) -> Result<Exported, OptsRefusal>
     ensures ok { IfOk result (HasExported (rows_of (found_of matches.now))) }
     ensures usage { IsErrOf result OptsRefusal.Usage → (exported : Exported)

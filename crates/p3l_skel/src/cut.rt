@@ -35,7 +35,7 @@ pub fn have_sizes(slices: &[Slice]) -> bool
     slices.iter().all(|slice| has_sizes(slice))
 }
 
-/// How many words the array of a slice has.
+/// The count of words of the array of a slice.
 fn slice_len(slice: &Slice) -> u64
     requires { HasSizes slice.now }
     ensures size { result ≡ array_size slice.now.dims }
@@ -44,7 +44,7 @@ fn slice_len(slice: &Slice) -> u64
     array_len(slice.dims.as_slice()) as u64
 }
 
-/// How many words one cut of a slice has.
+/// The count of words of one cut of a slice.
 fn slice_cut_len(slice: &Slice) -> u64
     requires { HasSizes slice.now }
     ensures size { result ≡ cut_size slice.now.dims }
@@ -104,7 +104,7 @@ fn one_at_second(place: Place) -> usize
     }
 }
 
-/// How often First occurs among the dimensions.
+/// The count of times that First occurs among the dimensions.
 fn first_len(dims: &[Dim]) -> usize
     ensures { result ≡ first_count dims.now }
 {
@@ -115,7 +115,7 @@ fn first_len(dims: &[Dim]) -> usize
     len
 }
 
-/// How often Second occurs among the dimensions.
+/// The count of times that Second occurs among the dimensions.
 fn second_len(dims: &[Dim]) -> usize
     ensures { result ≡ second_count dims.now }
 {
@@ -143,7 +143,7 @@ fn arrays_end(slices: &[Slice]) -> Option<u64>
     Some(end)
 }
 
-/// How many words an element takes from the slices, as far as they count: past 2^32 all are alike.
+/// The words that an element takes from the slices, as far as they count: past 2^32 all are alike.
 fn element_len(slices: &[Slice]) -> u64
     requires { All HasSizes slices.now }
     ensures { result ≡ min (element_size slices.now) (2 ^ 32) }

@@ -7,7 +7,7 @@ ghost use Rattle.p3l_skel.specs.Tree.{node_at, rescue_of, seq_tree};
 use p3l_base::{Cut, List, Name, NoMemory};
 use std::alloc::Global;
 
-/// How deep nodes are nested at most; the root counts as one level.
+/// The most levels of nested nodes; the root counts as one.
 pub const NESTING: u32 = 6;
 
 /// The skeleton of a node, with the numbers of its module's clauses.

@@ -12,7 +12,7 @@ use p3l_base::Cut;
 /// The most firings, and the most runs of bodies, that one item may make.
 pub const MOST_WORK: u64 = 134_217_728;
 
-/// How the results of a reduce's segments come together.
+/// A way in which the results of a reduce's segments come together.
 #[derive(Clone, Copy, Debug, Drop, PartialEq, Eq)]
 pub enum Joining {
     /// One process gathers them all.
@@ -65,7 +65,7 @@ fn reduce_firings(joining: Joining, segments: u32) -> u64
     }
 }
 
-/// How many elements a cut has, as far as they count.
+/// The count of elements of a cut, as far as they count.
 fn element_count(cut: &Cut) -> u64
     ensures { result ≡ capped (element_count cut.now) }
 {
@@ -126,7 +126,7 @@ fn firings(tree: &Tree, joining: Joining, levels: u32, number: u32) -> u64
     firings_over(&node.form, joining, most_segments(&node.form), inner)
 }
 
-/// How often a node runs bodies for one item, as far as it counts.
+/// The count of times that a node runs bodies for one item, as far as it counts.
 fn runs(tree: &Tree, levels: u32, number: u32) -> u64
     ensures { result ≡ capped (runs_to tree.now levels number) }
 {

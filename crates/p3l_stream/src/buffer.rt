@@ -44,7 +44,7 @@ impl Buffer {
         })
     }
 
-    /// How many bytes there are.
+    /// The count of bytes.
     pub(crate) fn len(&self) -> usize
         ensures { result ≡ length self.now }
     {

@@ -2,7 +2,7 @@
 
 use p3l_base::{List, Words};
 
-/// How the items of a text end. Lines count from 1, those without words too.
+/// The end of the items of a text. Lines count from 1, those without words too.
 #[derive(Clone, Copy, Debug, Drop, PartialEq, Eq)]
 pub enum Ending {
     /// Each line was an item or had no words, and the input was at its end.

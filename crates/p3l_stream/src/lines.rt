@@ -22,10 +22,10 @@ use p3l_io::{Failed, Source};
 use std::alloc::Global;
 use std::marker::Model;
 
-/// How many bytes are requested at a time, at most.
+/// The most bytes that are requested at a time.
 const PIECE: usize = 4096;
 
-/// How many bytes of a word are held before it is shortened, more than the longest number has.
+/// The most bytes of a word that are held before it is shortened: more than the longest number has.
 const LONGEST_WORD: usize = 64;
 
 /// The items of a source's lines, requested one by one.

@@ -12,7 +12,7 @@ use crate::word::{
 /// Digits that are no number of 64 bits, whatever comes after them.
 pub(crate) const NINES: [u8; 20] = [b'9'; 20];
 
-/// How a word that isn't ended is shortened.
+/// A way in which a word that isn't ended is shortened.
 pub(crate) enum Shortening {
     /// Not at all.
     None,
@@ -39,7 +39,7 @@ pub(crate) fn last_blank(bytes: &[u8]) -> Option<usize>
     None
 }
 
-/// How many zeros come before another digit.
+/// The count of zeros before another digit.
 fn leading_zeros(digits: &[u8]) -> usize
     requires { 0 < length digits.now }
     ensures before { result < length digits.now }

@@ -6,7 +6,7 @@ ghost use Rattle.std.specs.List.{list_all};
 ghost use Rattle.std.specs.Str.Parse.{digits_value};
 ghost use Rattle.p3l_stream.specs.Words.{number_of};
 
-/// How many digits are read at most: what they write is below 2^63.
+/// The most digits that are read: they write a number below 2^63.
 const MOST_DIGITS: usize = 18;
 
 /// A numeral that bytes begin with.

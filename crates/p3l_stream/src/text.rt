@@ -13,7 +13,7 @@ use std::marker::Model;
 /// a space or the line feed.
 const LONGEST_WORD: usize = 21;
 
-/// How many bytes lie in the value itself, those of the longest four words; more take memory.
+/// The count of bytes that lie in the value itself: the longest four words'. More take memory.
 const BYTES_IN_PLACE: usize = 84;
 
 /// The bytes of a text, which contracts see as their list.

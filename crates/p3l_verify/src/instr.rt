@@ -9,7 +9,7 @@ ghost use Rattle.p3l_verify.specs.Known.{HasRoom, IsLocal};
 use p3l_base::limits::MOST_STACK;
 use p3l_code::{Code, Instr};
 
-/// How many words an instruction takes from the stack.
+/// The count of words that an instruction takes from the stack.
 pub fn pops(instr: Instr) -> u32
     ensures { result ≡ safe.pops instr }
 {
@@ -24,7 +24,7 @@ pub fn pops(instr: Instr) -> u32
     }
 }
 
-/// How many words an instruction puts there.
+/// The count of words that an instruction puts there.
 pub fn pushes(instr: Instr) -> u32
     ensures { result ≡ safe.pushes instr }
 {
