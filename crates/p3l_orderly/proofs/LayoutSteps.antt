@@ -18,7 +18,7 @@ use Rattle.p3l_reduce.specs.Reduce.{fold_procs, join_procs, reduce_shape}
 use Rattle.p3l_reduce.specs.laws.ReduceLaw.{joins_length, lengths_length}
 use Rattle.p3l_reduce.specs.laws.ReduceTyping.{level_exact}
 use Rattle.p3l_link.specs.Counts.{HasOwnCount}
-use Rattle.p3l_link.specs.Shape.{shape_at, shape_row}
+use Rattle.p3l_link.specs.Shape.{kind_at, kind_row, shape_at, shape_row}
 use Rattle.p3l_orderly.specs.declared.layout.InnerPart.{InnerPart}
 use Rattle.p3l_orderly.specs.declared.layout.Layout.{Layout}
 use Rattle.p3l_orderly.specs.Layout.{FitsAt, inner_part, joined_chans, layout_at, layout_of}
@@ -121,7 +121,7 @@ level_joined k len (suc d) base =
 module _ (tree : Tree) (count : ℕ → ℕ) (k : ℕ) (base : Base) (node : Node) (there : node ≡ node_at tree k) where
   -- the row of the node's form
   row : (f : Form) → node.form ≡ f → shape_at tree count k ≡ shape_row f k (length node.parts) (count k)
-  unfolding shape_at
+  unfolding kind_at
   row f is =
       ap (λ (n : Node). shape_row n.form k (length n.parts) (count k)) (sym there)
       ∙ ap (λ g. shape_row g k (length node.parts) (count k)) is
@@ -139,26 +139,26 @@ module _ (tree : Tree) (count : ℕ → ℕ) (k : ℕ) (base : Base) (node : Nod
 
   pub run_fits : (node.form ≡ Seq) ⊎ (node.form ≡ Comp) → FitsAt (shape_at tree count k) base →
       (base.proc + 1 ≤ 1048576) × (base.chan + 0 ≤ 1048576)
-  unfolding shape_row
+  unfolding kind_row
   run_fits (inl is) h = row_fits Seq is h
   run_fits (inr is) h = row_fits Comp is h
 
   pub run_layout : (inner : List InnerPart) → inner ≡ [] → (node.form ≡ Seq) ⊎ (node.form ≡ Comp) →
       layout_from inner (base.proc + 1) (base.chan + 0) ≡ layout_at tree count k base
-  unfolding shape_row
+  unfolding kind_row
   run_layout inner none (inl is) = ap (λ z. layout_from z (base.proc + 1) (base.chan + 0)) none ∙ row_layout Seq is
   run_layout inner none (inr is) = ap (λ z. layout_from z (base.proc + 1) (base.chan + 0)) none ∙ row_layout Comp is
 
   pub pipe_fits : node.form ≡ Pipe → FitsAt (shape_at tree count k) base →
       (base.proc + 0 ≤ 1048576) × (base.chan + (length node.parts - 1) ≤ 1048576)
-  unfolding shape_row
+  unfolding kind_row
   pipe_fits is h = row_fits Pipe is h
 
   pub pipe_layout : node.form ≡ Pipe →
       layout_from (map (inner_part (slice_index node.parts)) (stage_seats 0 base.input base.chan base.output (length node.parts - 1)))
       (base.proc + 0) (base.chan + (length node.parts - 1))
       ≡ layout_at tree count k base
-  unfolding shape_row
+  unfolding kind_row
   pipe_layout is = row_layout Pipe is
 
   module _ (n first : ℕ) (n_is : n ≡ count k) (first_is : first ≡ slice_index node.parts 0) where
@@ -181,19 +181,19 @@ module _ (tree : Tree) (count : ℕ → ℕ) (k : ℕ) (base : Base) (node : Nod
     fits_is h = subst (λ m. (base.proc + 2 ≤ 1048576) × (base.chan + (m + m) ≤ 1048576)) (sym n_is) h
 
     pub farm_fits : (w : Option ℕ) → node.form ≡ Farm w → FitsAt (shape_at tree count k) base → Fits
-    unfolding shape_row
+    unfolding kind_row
     farm_fits w is h = fits_is (row_fits (Farm w) is h)
 
     pub map_fits : (w : Option ℕ) (cut : Cut) → node.form ≡ Map w cut → FitsAt (shape_at tree count k) base → Fits
-    unfolding shape_row
+    unfolding kind_row
     map_fits w cut is h = fits_is (row_fits (Map w cut) is h)
 
     pub farm_layout : (w : Option ℕ) → node.form ≡ Farm w → fan ≡ layout_at tree count k base
-    unfolding shape_row
+    unfolding kind_row
     farm_layout w is = fan_is ∙ row_layout (Farm w) is
 
     pub map_layout : (w : Option ℕ) (cut : Cut) → node.form ≡ Map w cut → fan ≡ layout_at tree count k base
-    unfolding shape_row
+    unfolding kind_row
     map_layout w cut is = fan_is ∙ row_layout (Map w cut) is
 
   module _ (w : Option ℕ) (len elem : ℕ) (is : node.form ≡ Reduce w len elem) (own : HasOwnCount (node_at tree k).form (count k)) where
@@ -215,7 +215,7 @@ module _ (tree : Tree) (count : ℕ → ℕ) (k : ℕ) (base : Base) (node : Nod
       own_chans = let j = reduce_joined in chans_are ∙ ap joined_chans n_is ∙ sym j.chans
 
       pub reduce_fits : FitsAt (shape_at tree count k) base → (base.proc + procs ≤ 1048576) × (base.chan + chans ≤ 1048576)
-      unfolding shape_row
+      unfolding kind_row
       reduce_fits h =
           let fits : FitsAt (reduce_shape k len (level_of (count k))) base = row_fits (Reduce w len elem) is h in
           let p = own_procs in
@@ -224,7 +224,7 @@ module _ (tree : Tree) (count : ℕ → ℕ) (k : ℕ) (base : Base) (node : Nod
 
       pub reduce_layout : (inner : List InnerPart) → inner ≡ [] →
           layout_from inner (base.proc + procs) (base.chan + chans) ≡ layout_at tree count k base
-      unfolding shape_row
+      unfolding kind_row
       reduce_layout inner none =
           let j = reduce_joined in
           ap₂ (λ p c. layout_from inner (base.proc + p) (base.chan + c)) own_procs own_chans
@@ -235,13 +235,13 @@ module _ (tree : Tree) (count : ℕ → ℕ) (k : ℕ) (base : Base) (node : Nod
 
   module _ (turns tokens first : ℕ) (is : node.form ≡ Loop turns tokens) where
     pub loop_fits : FitsAt (shape_at tree count k) base → (base.proc + 2 ≤ 1048576) × (base.chan + 4 ≤ 1048576)
-    unfolding shape_row
+    unfolding kind_row
     loop_fits h = row_fits (Loop turns tokens) is h
 
     pub loop_layout : first ≡ slice_index node.parts 0 →
         layout_from (record { input = base.chan; output = base.chan + 1; node = first } ∷ []) (base.proc + 2) (base.chan + 4)
         ≡ layout_at tree count k base
-    unfolding shape_row
+    unfolding kind_row
     loop_layout first_is =
         ap (λ f. layout_from (record { input = base.chan; output = base.chan + 1; node = f } ∷ []) (base.proc + 2) (base.chan + 4)) first_is
         ∙ row_layout (Loop turns tokens) is

@@ -22,7 +22,7 @@ use Rattle.p3l_reduce.specs.Reduce.{reduce_shape}
 use Rattle.p3l_reduce.specs.laws.ReduceLaw.{lengths_length}
 use Rattle.p3l_link.specs.Counts.{HasOwnCount, IsCounted}
 use Rattle.p3l_link.specs.Net.{Piece, base_at, inner_pieces, linked_net, piece_of, root_base, root_piece, whole_piece}
-use Rattle.p3l_link.specs.Shape.{shape_at, shape_row}
+use Rattle.p3l_link.specs.Shape.{kind_at, kind_row, shape_at, shape_row}
 use Rattle.p3l_link.proofs.Counted.{root_counted, seat_counted, shape_lawful}
 use Rattle.p3l_fitting.specs.Restoring.{AgreeOn}
 use Rattle.p3l_fitting.specs.Survey.{inner_survey, linked_survey, linked_widths, node_survey, own_procs}
@@ -106,7 +106,7 @@ loop_body tree turns tokens a b (p ∷ (q ∷ (r ∷ ps))) h = absurd h
 pub row_forced : (tree : Tree) (k n : ℕ) (f : Form) → (node_at tree k).form ≡ f →
     IsLawfulForm tree f (node_at tree k).ins (node_at tree k).outs (node_at tree k).parts → HasOwnCount f n →
     IsForcedRow tree k n f (node_at tree k).parts (shape_row f k (length (node_at tree k).parts) n)
-unfolding shape_row own_widths copies
+unfolding kind_row own_widths copies
 row_forced tree k n Seq is lawful own = record {
   count = λ t base. refl;
   nodes = λ base. refl;
@@ -228,7 +228,7 @@ whole_forced tree k t more cap shape f base own inner laid long flows rest =
 
 pub piece_forced : (tree : Tree) (count : ℕ → ℕ) (cap : ℕ) → IsLawfulTree tree → (d k : ℕ) (base : Base) (t p c : ℕ) →
     IsCounted tree count d k → IsForced tree k base t (piece_of tree count cap d k base) (node_survey tree count d k t p c).widths
-unfolding piece_of node_survey IsCounted shape_at
+unfolding piece_of node_survey IsCounted kind_at
 piece_forced tree count cap lawful zero k base t p c h = absurd h
 piece_forced tree count cap lawful (suc d) k base t p c h =
     let form : Form = (node_at tree k).form in

@@ -28,7 +28,7 @@ use Rattle.p3l_loop.specs.laws.ViewLaw.{Kept, kept_to}
 use Rattle.p3l_link.specs.Counts.{IsCounted}
 use Rattle.p3l_link.specs.Net.{Piece, inner_pieces, piece_of, whole_piece}
 use Rattle.p3l_link.specs.Part.{inner_parts, part_of, role_of, whole_part}
-use Rattle.p3l_link.specs.Shape.{shape_at, shape_row}
+use Rattle.p3l_link.specs.Shape.{kind_at, kind_row, shape_at, shape_row}
 use Rattle.p3l_link.proofs.Counted.{counted_there, seat_counted}
 use Rattle.p3l_net.specs.Fitting.{LoopPlace, most_tokens}
 use Rattle.p3l_net.proofs.Sides.{one_has}
@@ -172,7 +172,7 @@ module _ (net : Net) (units : Units) (count : ℕ → ℕ) (cap : ℕ) (typed : 
     place = placed whole
 
     shape_is : shape_at units.tree count k ≡ shape
-    unfolding shape_at shape_row
+    unfolding kind_at kind_row
     shape_is = ap (λ form. shape_row form k (length (node_at units.tree k).parts) (count k)) is
 
     whole_is : piece_of units.tree count cap (suc d) k base ≡ whole

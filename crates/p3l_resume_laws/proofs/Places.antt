@@ -31,7 +31,7 @@ use Rattle.p3l_link.specs.Counts.{IsCounted}
 use Rattle.p3l_link.specs.Laws.{IsPartAt}
 use Rattle.p3l_link.specs.Net.{Piece, base_at, inner_pieces, piece_of, whole_piece}
 use Rattle.p3l_link.specs.Part.{inner_parts, part_of, role_of, whole_part}
-use Rattle.p3l_link.specs.Shape.{shape_at, shape_row}
+use Rattle.p3l_link.specs.Shape.{kind_at, kind_row, shape_at, shape_row}
 use Rattle.p3l_link.proofs.Counted.{counted_own, counted_there, seat_counted, shape_lawful}
 use Rattle.p3l_link.proofs.Size.{piece_sized}
 use Rattle.p3l_link.proofs.Sound.{sound}
@@ -117,7 +117,7 @@ reduce_orderly part k len (suc d) base p c s = refl
 row_orderly : (units : Units) (roles : ℕ → Role) (part : ℕ → Base → Part) (k n : ℕ) (parts : List ℕ) (base : Base) (s : State)
     (form : Form) → (whole_part (shape_row form k (length parts) n) units roles part base).orderly s ≡ true →
     all_orderly (inner_parts part ((shape_row form k (length parts) n).seats base) (base.proc + length ((shape_row form k (length parts) n).procs base)) (base.chan + (shape_row form k (length parts) n).chans base)) s ≡ true
-unfolding shape_row inner_parts all_orderly
+unfolding kind_row inner_parts all_orderly
 row_orderly units roles part k n parts base s Seq h = refl
 row_orderly units roles part k n parts base s Comp h = refl
 row_orderly units roles part k n parts base s Pipe h = h
@@ -325,7 +325,7 @@ module _ (net : Net) (units : Units) (count : ℕ → ℕ) (cap : ℕ) (pos : 0 
     none r q not e = absurd (not e)
 
     own_tails : (f : Form) → form ≡ f → Tails base.proc ((shape_row f k (length ps) n).procs base)
-    unfolding shape_row NoTail
+    unfolding kind_row NoTail
     own_tails Seq is = (λ e. cc, tt)
     own_tails Comp is = (λ e. cc, tt)
     own_tails Pipe is = tt
@@ -373,7 +373,7 @@ module _ (net : Net) (units : Units) (count : ℕ → ℕ) (cap : ℕ) (pos : 0 
     each_counted v low = seat_counted units.tree count k typed.lawful there base v low d at.counted
 
     row : IsForcedRow units.tree k n form ps shape
-    unfolding shape_at
+    unfolding kind_at
     row = row_forced units.tree k n form refl (lawful_at units.tree typed.lawful k there).form (counted_own units.tree count (suc d) k at.counted)
 
     nodes_are : nodes_of units.tree k (shape.seats base) ≡ seat_nodes (node_at units.tree k) n
@@ -428,7 +428,7 @@ module _ (net : Net) (units : Units) (count : ℕ → ℕ) (cap : ℕ) (pos : 0 
 
     inner_orderly : (s : State) → Above s →
         all_orderly (inner_parts (λ v. part d (part_at units.tree k v)) (shape.seats base) (base.proc + length (shape.procs base)) (base.chan + shape.chans base)) s ≡ true
-    unfolding part_of shape_at
+    unfolding part_of kind_at
     inner_orderly s above =
         row_orderly units (λ v. role_of units count d (part_at units.tree k v)) (λ v. part d (part_at units.tree k v)) k n ps base s form (at.orderly s above)
 
@@ -463,7 +463,7 @@ module _ (net : Net) (units : Units) (count : ℕ → ℕ) (cap : ℕ) (pos : 0 
         ∙ piece_chans (suc d) k t base.proc base.chan base at.counted
 
     tails_own : Tails base.proc (shape.procs base)
-    unfolding shape_at
+    unfolding kind_at
     tails_own = own_tails form refl
 
     module _ (each : (j u : ℕ) (b : Base) → At d j u b → HasPlaces (node_survey units.tree count d j u b.proc b.chan).loops b.proc (piece d j b).procs) where

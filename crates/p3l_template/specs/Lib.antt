@@ -8,6 +8,7 @@ pub mod Finding
 pub mod Lines
 pub mod Numbered
 pub mod Kind
+pub mod Tagged
 pub mod Fan
 pub mod Run
 pub mod RunKind

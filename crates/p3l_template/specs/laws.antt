@@ -16,3 +16,4 @@ pub mod PipeTyping
 pub mod FanTyping
 pub mod PipeLaw
 pub mod PipeFound
+pub mod Widths

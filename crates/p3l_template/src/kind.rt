@@ -6,6 +6,7 @@ ghost use Rattle.p3l_skel.specs.declared.tree.Tree.{Tree};
 ghost use Rattle.p3l_template.specs.Finding.{Finds, IsFoundShape, if_orderly};
 ghost use Rattle.p3l_template.specs.Shape.{Base};
 ghost use Rattle.p3l_template.specs.Snapshot.{state_of};
+ghost use Rattle.p3l_template.specs.Tagged.{IsTagged};
 ghost use Rattle.p3l_template.specs.declared.width.Width.{Width};
 
 use crate::place::{Place, Seat};
@@ -86,6 +87,13 @@ pub trait Kind: Template {
             × (place.now.chan + (Self.shape self.now).chans place.now ≤ 1048576) }
         ensures { IfGiven result (λ pending. pending
             ≡ if_orderly (finds self.now tree.now place.now (state_of snapshot.now) inner.now)) };
+
+    /// The tokens inside it and in its own channels have two tags more at most.
+    ghost tagged: { (t : Self) (tree : Tree) (node : ℕ) → IsTagged (deeper t) (widths t tree node) };
+
+    /// For a node that it is made for it has a width for each of its own channels.
+    ghost counted: { (t : Self) (tree : Tree) (node tags : ℕ) (base : Base) → Self.serves t tree node
+        → length (widths t tree node tags) ≡ (Self.shape t).chans base };
 
     /// The tokens found are those of its part, whatever the units make of words.
     ghost found: { (t : Self) → IsFoundShape (Self.shape t) (finds t) };

@@ -10,6 +10,7 @@ ghost use Rattle.p3l_template.specs.Typing.{IsPipeNode};
 ghost use Rattle.p3l_template.specs.laws.PipeFound.{pipe_found};
 ghost use Rattle.p3l_template.specs.laws.PipeLaw.{pipe_lawful};
 ghost use Rattle.p3l_template.specs.laws.PipeTyping.{pipe_serves};
+ghost use Rattle.p3l_template.specs.laws.Widths.{pipe_counted, pipe_tagged};
 
 use crate::bare::add_bare;
 use crate::builder::Builder;
@@ -132,6 +133,10 @@ impl Kind for PipeTemplate {
         let pending = in_pipe(alloc, snapshot, place.chan, inner)?;
         Ok(Some(pending))
     }
+
+    ghost tagged = { λ t tree node. pipe_tagged t.stages tree node };
+
+    ghost counted = { λ t tree node tags base s. pipe_counted tree node t.stages tags base s };
 
     ghost found = { λ t. pipe_found (t.stages - 1) };
 }

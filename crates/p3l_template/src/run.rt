@@ -6,6 +6,7 @@ ghost use Rattle.p3l_template.specs.Typing.{IsRunNode};
 ghost use Rattle.p3l_template.specs.laws.RunFound.{run_found};
 ghost use Rattle.p3l_template.specs.laws.RunLaw.{run_lawful};
 ghost use Rattle.p3l_template.specs.laws.RunTyping.{run_serves};
+ghost use Rattle.p3l_template.specs.laws.Widths.{run_tagged};
 
 use crate::builder::{Builder, one_channel};
 use crate::kind::Kind;
@@ -104,6 +105,10 @@ impl Kind for RunTemplate {
     ) -> Result<Option<List<Token>>, NoMemory> {
         Ok(Some(List::new(alloc)))
     }
+
+    ghost tagged = { λ t tree node. run_tagged t.node tree node };
+
+    ghost counted = { λ t tree node tags base s. refl };
 
     ghost found = { λ t. run_found t.node };
 }
