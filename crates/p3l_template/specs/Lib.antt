@@ -2,9 +2,17 @@ pub mod Units
 pub mod Part
 pub mod Shape
 pub mod Placed
+pub mod Width
+pub mod Snapshot
+pub mod Finding
+pub mod Lines
+pub mod Numbered
+pub mod Kind
 pub mod Fan
 pub mod Run
+pub mod RunKind
 pub mod Pipe
+pub mod PipeKind
 pub mod Bag
 pub mod Sum
 pub mod Built

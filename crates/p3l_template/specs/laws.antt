@@ -6,10 +6,13 @@ pub mod TimesLaw
 pub mod Chain
 pub mod Touch
 pub mod BagLaw
+pub mod BareLaw
 pub mod Inside
 pub mod Fan
 pub mod RunLaw
 pub mod RunTyping
+pub mod RunFound
 pub mod PipeTyping
 pub mod FanTyping
 pub mod PipeLaw
+pub mod PipeFound

@@ -10,7 +10,9 @@ use Rattle.p3l_firing.specs.Typed.{FitsKind}
 use Rattle.p3l_firing.specs.Widths.{Widths, Carries, AllCarry}
 use Rattle.p3l_template.specs.Fan.{first_proc, last_proc, fanned}
 use Rattle.p3l_template.specs.Shape.{Shape, Base, numbers_from, fan_seats}
-use Rattle.p3l_template.specs.Typing.{IsTypedShape, IsInner, SeatFits, Width, no_width, Carry, seat_ins, seat_outs}
+use Rattle.p3l_template.specs.Typing.{IsTypedShape, IsInner, SeatFits, Carry, seat_ins, seat_outs}
+use Rattle.p3l_template.specs.Width.{no_width}
+use Rattle.p3l_template.specs.declared.width.Width.{Width}
 use Rattle.p3l_template.specs.laws.Fan.{fan_at, fan_length}
 use Rattle.p3l_template.specs.laws.Plain.{plain_credits}
 use Rattle.p3l_template.specs.laws.TimesLaw.{times_append, times_cons, numbers_append, fan_ins, fan_outs, all_numbers}

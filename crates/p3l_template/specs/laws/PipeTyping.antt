@@ -7,7 +7,9 @@ use Rattle.p3l_firing.specs.Process.{times}
 use Rattle.p3l_firing.specs.Widths.{Widths, Carries}
 use Rattle.p3l_template.specs.Pipe.{pipe_shape, stage_seats}
 use Rattle.p3l_template.specs.Shape.{numbers_from, no_seat}
-use Rattle.p3l_template.specs.Typing.{IsTypedShape, IsPipeNode, Width, no_width, Carry, seat_ins, seat_outs}
+use Rattle.p3l_template.specs.Typing.{IsTypedShape, IsPipeNode, Carry, seat_ins, seat_outs}
+use Rattle.p3l_template.specs.Width.{no_width}
+use Rattle.p3l_template.specs.declared.width.Width.{Width}
 use Rattle.p3l_template.specs.laws.Plain.{plain_credits}
 use Rattle.p3l_template.specs.laws.TimesLaw.{times_append, times_cons}
 

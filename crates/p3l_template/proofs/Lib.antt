@@ -1,0 +1,5 @@
+pub mod Within
+pub mod SnapshotSteps
+pub mod Slots
+pub mod PipeSteps
+pub mod LineSteps
