@@ -2,3 +2,4 @@ pub mod HeldLaw
 pub mod ViewLaw
 pub mod LoopLaw
 pub mod LoopTyping
+pub mod LoopFound

@@ -3,3 +3,4 @@ pub mod JoinView
 pub mod SizeLaw
 pub mod ReduceLaw
 pub mod ReduceTyping
+pub mod ReduceFound

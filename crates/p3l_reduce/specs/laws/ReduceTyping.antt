@@ -20,7 +20,9 @@ use Rattle.p3l_firing.specs.Typed.{FitsKind}
 use Rattle.p3l_firing.specs.Widths.{Widths, Carries}
 use Rattle.p3l_firing.specs.kinds.Run.{Takes}
 use Rattle.p3l_template.specs.Shape.{Base, numbers_from}
-use Rattle.p3l_template.specs.Typing.{IsTypedShape, Width, no_width, Carry, IsInner, StandsTyped}
+use Rattle.p3l_template.specs.Typing.{IsTypedShape, Carry, IsInner, StandsTyped}
+use Rattle.p3l_template.specs.Width.{no_width}
+use Rattle.p3l_template.specs.declared.width.Width.{Width}
 use Rattle.p3l_template.specs.laws.Plain.{plain_credits}
 use Rattle.p3l_template.specs.laws.Row.{numbers_length, numbers_at}
 use Rattle.p3l_template.specs.laws.RunTyping.{run_typed}
