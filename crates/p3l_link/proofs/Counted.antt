@@ -23,9 +23,8 @@ use Rattle.p3l_template.specs.Shape.{Base, no_seat, fan_seats}
 use Rattle.p3l_template.specs.laws.PipeTyping.{stages_length, stage_part}
 use Rattle.p3l_reduce.specs.Reduce.{reduce_shape}
 use Rattle.p3l_link.specs.Counts.{HasOwnCount, IsCounted}
-use Rattle.p3l_link.specs.Node.{IsFit, kind_of}
+use Rattle.p3l_link.specs.Node.{IsFit}
 use Rattle.p3l_link.specs.Shape.{kind_at, kind_row, shape_at, shape_row, template_at, template_row}
-use Rattle.p3l_link.specs.declared.node.NodeTemplate.{NodeTemplate}
 use Rattle.p3l_link.specs.NodeLaw.{kind_lawful}
 
 -- a node's own number is lawful, if those of all counted nodes in the list that begins with it are
@@ -148,11 +147,6 @@ module _ (tree : Tree) (count : ℕ → ℕ) (k : ℕ) (lawful : IsLawfulTree tr
       let node = lawful_at tree lawful k there in
       row_lawful tree (node_at tree k).form (node_at tree k).ins (node_at tree k).outs (node_at tree k).parts k (count k)
       node.form own
-
--- a template that is the node's is of its kind
-pub kind_is : (tree : Tree) (count : ℕ → ℕ) (k : ℕ) (t : NodeTemplate) → t ≡ template_at tree count k → kind_of t ≡ kind_at tree count k
-unfolding kind_at kind_row
-kind_is tree count k t e = ap kind_of e
 
 -- the row of a node that was found
 pub row_at : (tree : Tree) (count : ℕ → ℕ) (k : ℕ) (node : Node) → node ≡ node_at tree k → (parts n : ℕ) → parts ≡ length node.parts →

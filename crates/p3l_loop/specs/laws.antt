@@ -3,3 +3,4 @@ pub mod ViewLaw
 pub mod LoopLaw
 pub mod LoopTyping
 pub mod LoopFound
+pub mod LoopWidths

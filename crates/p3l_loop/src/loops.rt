@@ -7,6 +7,7 @@ ghost use Rattle.p3l_loop.specs.LoopKind.{loop_kind};
 ghost use Rattle.p3l_loop.specs.laws.LoopFound.{loop_found};
 ghost use Rattle.p3l_loop.specs.laws.LoopLaw.{loop_lawful};
 ghost use Rattle.p3l_loop.specs.laws.LoopTyping.{loop_serves};
+ghost use Rattle.p3l_loop.specs.laws.LoopWidths.{loop_tagged};
 
 use crate::found::{by_seen, look_at, turns_of};
 use p3l_base::{List, NoMemory};
@@ -134,6 +135,10 @@ impl Kind for LoopTemplate {
         let seen = look_at(alloc, snapshot, place, &inner[0])?;
         by_seen(alloc, turns_of(tree, self.node), self.tokens, &seen)
     }
+
+    ghost tagged = { λ t tree node. loop_tagged t.node t.tokens tree node };
+
+    ghost counted = { λ t tree node tags base _. refl };
 
     ghost found = { λ t. loop_found t.node t.tokens };
 }

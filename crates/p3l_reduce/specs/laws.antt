@@ -4,3 +4,4 @@ pub mod SizeLaw
 pub mod ReduceLaw
 pub mod ReduceTyping
 pub mod ReduceFound
+pub mod ReduceWidths
