@@ -1,3 +1,4 @@
 pub mod ViewLaw
 pub mod FarmLaw
 pub mod FarmTyping
+pub mod FarmFound

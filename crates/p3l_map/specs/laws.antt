@@ -4,3 +4,4 @@ pub mod MapView
 pub mod SizeLaw
 pub mod MapLaw
 pub mod MapTyping
+pub mod MapFound

@@ -1,6 +1,6 @@
 // The kind of a node that is one process: nothing is ever pending in it.
 
-ghost use Rattle.std.specs.Prelude.{◌≡◌};
+ghost use Rattle.std.specs.Prelude.{◌≡◌, refl};
 ghost use Rattle.p3l_template.specs.RunKind.{run_kind};
 ghost use Rattle.p3l_template.specs.Typing.{IsRunNode};
 ghost use Rattle.p3l_template.specs.laws.RunFound.{run_found};
@@ -104,6 +104,8 @@ impl Kind for RunTemplate {
     ) -> Result<Option<List<Token>>, NoMemory> {
         Ok(Some(List::new(alloc)))
     }
+
+    ghost counted = { λ t tree node tags base s. refl };
 
     ghost found = { λ t. run_found t.node };
 }
