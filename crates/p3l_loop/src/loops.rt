@@ -1,6 +1,6 @@
 // The template of a loop.
 
-ghost use Rattle.std.specs.Prelude.{◌≡◌, ◌<◌, ◌≤◌, ℕ};
+ghost use Rattle.std.specs.Prelude.{◌≡◌, ◌<◌, ◌≤◌, ℕ, refl};
 ghost use Rattle.p3l_base.specs.declared.outcome.Outcome.{Outcome};
 ghost use Rattle.p3l_loop.specs.Loop.{IsLoopNode, Laps, rounds, turns};
 ghost use Rattle.p3l_loop.specs.LoopKind.{loop_kind};
@@ -134,6 +134,8 @@ impl Kind for LoopTemplate {
         let seen = look_at(alloc, snapshot, place, &inner[0])?;
         by_seen(alloc, turns_of(tree, self.node), self.tokens, &seen)
     }
+
+    ghost counted = { λ t tree node tags base _. refl };
 
     ghost found = { λ t. loop_found t.node t.tokens };
 }

@@ -7,7 +7,7 @@ ghost use Rattle.p3l_reduce.specs.Reduce.{IsReduceNode};
 ghost use Rattle.p3l_reduce.specs.ReduceKind.{reduce_kind};
 ghost use Rattle.p3l_reduce.specs.laws.ReduceFound.{reduce_found};
 ghost use Rattle.p3l_reduce.specs.laws.ReduceLaw.{reduce_lawful};
-ghost use Rattle.p3l_reduce.specs.laws.ReduceTyping.{reduce_serves};
+ghost use Rattle.p3l_reduce.specs.laws.ReduceTyping.{reduce_counted, reduce_serves};
 
 use crate::found::in_joins;
 use crate::segments::{level_within, segment_count};
@@ -130,6 +130,8 @@ impl Kind for ReduceTemplate {
         }
         in_joins(alloc, snapshot, place, level)
     }
+
+    ghost counted = { λ t tree node tags base _. reduce_counted tree t.node node t.len (level_of t.segments) tags base };
 
     ghost found = { λ t. reduce_found t.node t.len (level_of t.segments) };
 }

@@ -14,6 +14,7 @@ use Rattle.p3l_skel.specs.Counts.{IsLawfulCount, IsCountInRange}
 use Rattle.p3l_skel.proofs.Powers.{small_exponent}
 use Rattle.p3l_skel.specs.Tree.{node_at}
 use Rattle.p3l_firing.specs.declared.process.Proc.{Proc}
+use Rattle.p3l_firing.specs.Nodes.{elem_of}
 use Rattle.p3l_firing.specs.Process.{all_ins, all_outs, times}
 use Rattle.p3l_firing.specs.Segments.{halved, segment_lengths, segment_length, level_up_to, level_of}
 use Rattle.p3l_firing.specs.Typed.{FitsKind}
@@ -21,13 +22,13 @@ use Rattle.p3l_firing.specs.Widths.{Widths, Carries}
 use Rattle.p3l_firing.specs.kinds.Run.{Takes}
 use Rattle.p3l_template.specs.Shape.{Base, numbers_from}
 use Rattle.p3l_template.specs.Typing.{IsTypedShape, Carry, IsInner, StandsTyped}
-use Rattle.p3l_template.specs.Width.{no_width}
+use Rattle.p3l_template.specs.Width.{no_width, outs_width}
 use Rattle.p3l_template.specs.declared.width.Width.{Width}
 use Rattle.p3l_template.specs.laws.Plain.{plain_credits}
 use Rattle.p3l_template.specs.laws.Row.{numbers_length, numbers_at}
 use Rattle.p3l_template.specs.laws.RunTyping.{run_typed}
 use Rattle.p3l_template.specs.laws.TimesLaw.{times_append, times_cons, numbers_append}
-use Rattle.p3l_reduce.specs.ReduceKind.{segment_width}
+use Rattle.p3l_reduce.specs.ReduceKind.{reduce_kind, reduce_widths, segment_width}
 use Rattle.p3l_reduce.specs.Reduce.{tee_by, join_at, fold_at, join_procs, fold_procs, split_proc, tree_shape, reduce_shape, IsReduceNode}
 use Rattle.p3l_reduce.specs.laws.ReduceLaw.{lengths_length, tee_above}
 
@@ -351,6 +352,20 @@ module _ (tree : Tree) (node d len elem : ℕ) (workers : Option ℕ) (there : n
     procs = tree_fits;
     seats = λ w base t s v l. absurd (omega arith);
   }
+
+-- its kind has a width for each channel
+pub widths_count : (node elem len t : ℕ) (a : Width) (level : ℕ) (base : Base) →
+    length (reduce_widths elem len t a level) ≡ (reduce_shape node len level).chans base
+unfolding reduce_widths reduce_shape
+widths_count node elem len t a zero base = refl
+widths_count node elem len t a (suc d) base =
+    rows_count elem t (segment_lengths (suc d) len) (2 ^ suc d + 2 ^ suc d - 2) a
+    ∙ ap (λ n. n + (2 ^ suc d + 2 ^ suc d - 2)) (lengths_length (suc d) len)
+
+pub reduce_counted : (tree : Tree) (own node len level t : ℕ) (base : Base) →
+    length ((reduce_kind own len level).widths tree node t) ≡ (reduce_kind own len level).shape.chans base
+reduce_counted tree own node len level t base =
+    widths_count own (elem_of (node_at tree node).form) len t (outs_width tree node t) level base
 
 -- the level of a power of two is its exponent
 pub level_exact : (most k : ℕ) → k ≤ most → level_up_to most (2 ^ k) ≡ k

@@ -1,4 +1,4 @@
-use Rattle.std.proofs.Common.{◌≡◌, ◌≢◌, ◌+◌, ◌-◌, ◌*◌, ◌^◌, ◌≤◌, sym, ap, ◌∙◌, arith}
+use Rattle.std.proofs.Common.{◌≡◌, ◌≢◌, ◌^◌, ◌≤◌, sym, ap, ◌∙◌, arith}
 use Rattle.p3l_firing.specs.Segments.{level_of}
 use Rattle.p3l_reduce.proofs.Placing.{no_chans, many_chans, power_wide}
 use Rattle.p3l_reduce.proofs.reduce.ReduceTemplateKind.chan_count.Goals as goal
