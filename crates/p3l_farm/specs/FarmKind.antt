@@ -1,17 +1,14 @@
--- What is found in a farm, by the tags alone.
-use Rattle.std.specs.Prelude.{ℕ, ◌+◌, List, [], ◌∷◌, length}
+-- The kind of a farm: what is found in it by the tags alone, and the widths to and from its workers.
+use Rattle.std.specs.Prelude.{ℕ, ◌+◌, false, List, [], length}
 use Rattle.p3l_firing.specs.State.{State}
 use Rattle.p3l_firing.specs.declared.token.Token.{Token}
-use Rattle.p3l_farm.specs.Farm.{View, joined, well_kept}
+use Rattle.p3l_farm.specs.Farm.{View, farm_shape, joined, well_kept}
 use Rattle.p3l_template.specs.Bag.{read}
-use Rattle.p3l_template.specs.Shape.{Base, Seat, fan_seats}
-use Rattle.p3l_template.specs.Finding.{Finding, Finds, bares, line_of}
-
--- the lines of the inner parts at these seats, in which these tokens are pending
-unfoldable pub lines_by : State → List Seat → List (List Token) → List (List Token)
-lines_by s [] inner = []
-lines_by s (x ∷ xs) [] = []
-lines_by s (x ∷ xs) (p ∷ ps) = line_of s x.input x.output p ∷ lines_by s xs ps
+use Rattle.p3l_template.specs.Finding.{Finding, Finds, bares}
+use Rattle.p3l_template.specs.Kind.{Kind}
+use Rattle.p3l_template.specs.Lines.{lines_by}
+use Rattle.p3l_template.specs.Shape.{Base, fan_seats}
+use Rattle.p3l_template.specs.Width.{ins_width, outs_width, worker_widths}
 
 -- what a farm of n workers shows of a state, without the outcomes and but for what waits and what has left
 abbrev pub seen_of : ℕ → Base → State → List (List Token) → View
@@ -29,3 +26,14 @@ found_by v = record { orderly = well_kept v; pending = bares (read (joined v.lin
 
 unfoldable pub farm_finds : ℕ → Finds
 farm_finds n tree base s inner = found_by (seen_of n base s inner)
+
+-- a farm of n workers, inside which each token has one tag more
+abbrev pub farm_kind : (node n : ℕ) → Kind
+farm_kind node n =
+    record {
+      shape = farm_shape node n;
+      widths = λ tree k t. worker_widths n (ins_width tree k (t + 1)) (outs_width tree k (t + 1));
+      deeper = 1;
+      is_loop = false;
+      finds = farm_finds n;
+    }

@@ -1,23 +1,15 @@
 // The tokens found in a farm: those of all workers' lines in the order of their numbers.
 
-ghost use Rattle.std.specs.Prelude.{◌≡◌, ◌+◌, ◌≤◌, ℕ, [], length, nat_eq};
+ghost use Rattle.std.specs.Prelude.{◌≡◌, []};
 ghost use Rattle.p3l_base.specs.Memory.{IfGiven};
 ghost use Rattle.p3l_farm.specs.Farm.{all_rising, joined, rising};
-ghost use Rattle.p3l_template.specs.Shape.{fan_seats};
-ghost use Rattle.p3l_orderly.specs.Farm.{farm_finds, found_by, lines_by, seen_of};
+ghost use Rattle.p3l_farm.specs.FarmKind.{found_by};
 ghost use Rattle.p3l_template.specs.Finding.{bares, if_orderly};
-ghost use Rattle.p3l_template.specs.Snapshot.{state_of};
-ghost use Rattle.p3l_orderly.specs.laws.FarmLaw.{farm_found};
 
-use crate::bare::add_bare;
-use crate::numbered::in_order;
-use crate::orderly::{Orderly, Place, add_line};
-use crate::snapshot::Snapshot;
 use p3l_base::{List, NoMemory};
-use p3l_farm::FarmTemplate;
 use p3l_firing::Token;
-use p3l_skel::Tree;
-use p3l_template::Ports;
+use p3l_template::bare::add_bare;
+use p3l_template::numbered::{in_order, lead_to};
 use std::alloc::Global;
 
 // Returns true exactly if the numbers of the tokens from `from` on rise from each to the next.
@@ -30,32 +22,6 @@ fn are_rising(tokens: &[Token]) -> bool
         }
     }
     true
-}
-
-/// The lines of the workers, each without its outcomes, whose in channels are those from `chan` on.
-pub(crate) fn all_lines(
-    alloc: Global,
-    snapshot: &Snapshot,
-    chan: u32,
-    workers: u32,
-    inner: &[List<Token>],
-) -> Result<List<List<Token>>, NoMemory>
-    requires inner { length inner.now ≡ workers }
-    requires room { chan + (workers + workers) ≤ 1048576 }
-    ensures { IfGiven result (λ lines. lines
-        ≡ lines_by (state_of snapshot.now) (fan_seats chan (chan + workers) workers) inner.now) }
-{
-    let mut lines = List::new(alloc);
-    for worker in 0..workers {
-        let seat = Ports {
-            input: chan + worker,
-            output: chan + workers + worker,
-        };
-        let mut line = List::new(alloc);
-        add_line(alloc, snapshot, &mut line, &seat, &inner[worker as usize])?;
-        lines.push(line)?;
-    }
-    Ok(lines)
 }
 
 // Returns true exactly if the numbers rise in each line.
@@ -81,16 +47,9 @@ fn join_lines(alloc: Global, lines: &[List<Token>]) -> Result<List<Token>, NoMem
     Ok(list)
 }
 
-/// Returns true exactly if `count` numbers from `from` on lead to `to`.
-pub(crate) fn lead_to(from: u64, count: usize, to: u64) -> bool
-    ensures { result ≡ nat_eq (from + count) to }
-{
-    to >= from && to - from == count as u64
-}
-
-// The tokens of the lines in the order of their numbers, if the farm is orderly: `next` is the
-// number that the next one gets, and `least` the lowest one that can be pending.
-fn by_lines(
+/// The tokens of the lines in the order of their numbers, if the farm is orderly: `next` is the
+/// number that the next one gets, and `least` the lowest one that can be pending.
+pub(crate) fn by_lines(
     alloc: Global,
     next: u64,
     least: u64,
@@ -110,24 +69,4 @@ fn by_lines(
         return Ok(None);
     }
     in_order(alloc, bag.as_slice(), least)
-}
-
-impl Orderly for FarmTemplate {
-    ghost finds = { λ t. farm_finds t.workers };
-
-    fn pending(
-        &self,
-        alloc: Global,
-        _tree: &Tree,
-        snapshot: &Snapshot,
-        place: &Place,
-        inner: &[List<Token>],
-    ) -> Result<Option<List<Token>>, NoMemory> {
-        let lines = all_lines(alloc, snapshot, place.chan, self.workers, inner)?;
-        let next = snapshot.number(place.proc);
-        let least = snapshot.number(place.proc + 1);
-        by_lines(alloc, next, least, lines.as_slice())
-    }
-
-    ghost found = { λ t. farm_found t.node t.workers };
 }

@@ -7,25 +7,26 @@ use Rattle.p3l_template.specs.Placed.{IsLawfulShape}
 use Rattle.p3l_template.specs.Shape.{Base}
 use Rattle.p3l_template.specs.Tagged.{IsTagged}
 use Rattle.p3l_template.specs.Typing.{IsTypedShape}
+use Rattle.p3l_template.specs.laws.FanTyping.{rows_count}
 use Rattle.p3l_template.specs.laws.PipeFound.{pipe_found}
 use Rattle.p3l_template.specs.laws.PipeLaw.{pipe_lawful}
-use Rattle.p3l_template.specs.laws.PipeTyping.{pipe_serves}
+use Rattle.p3l_template.specs.laws.PipeTyping.{pipe_counted, pipe_serves}
 use Rattle.p3l_template.specs.laws.RunFound.{run_found}
 use Rattle.p3l_template.specs.laws.RunLaw.{run_lawful}
 use Rattle.p3l_template.specs.laws.RunTyping.{run_serves}
-use Rattle.p3l_template.specs.laws.Widths.{pipe_counted, pipe_tagged, run_tagged}
+use Rattle.p3l_template.specs.laws.Widths.{pipe_tagged, run_tagged}
 use Rattle.p3l_farm.specs.laws.FarmFound.{farm_found}
 use Rattle.p3l_farm.specs.laws.FarmLaw.{farm_lawful}
 use Rattle.p3l_farm.specs.laws.FarmTyping.{farm_serves}
-use Rattle.p3l_farm.specs.laws.FarmWidths.{farm_counted, farm_tagged}
+use Rattle.p3l_farm.specs.laws.FarmWidths.{farm_tagged}
 use Rattle.p3l_map.specs.laws.MapFound.{map_found}
 use Rattle.p3l_map.specs.laws.MapLaw.{map_lawful}
 use Rattle.p3l_map.specs.laws.MapTyping.{map_serves}
-use Rattle.p3l_map.specs.laws.MapWidths.{map_counted, map_tagged}
+use Rattle.p3l_map.specs.laws.MapWidths.{map_tagged}
 use Rattle.p3l_reduce.specs.laws.ReduceFound.{reduce_found}
 use Rattle.p3l_reduce.specs.laws.ReduceLaw.{reduce_lawful}
-use Rattle.p3l_reduce.specs.laws.ReduceTyping.{reduce_serves}
-use Rattle.p3l_reduce.specs.laws.ReduceWidths.{reduce_counted, reduce_tagged}
+use Rattle.p3l_reduce.specs.laws.ReduceTyping.{reduce_counted, reduce_serves}
+use Rattle.p3l_reduce.specs.laws.ReduceWidths.{reduce_tagged}
 use Rattle.p3l_loop.specs.laws.LoopFound.{loop_found}
 use Rattle.p3l_loop.specs.laws.LoopLaw.{loop_lawful}
 use Rattle.p3l_loop.specs.laws.LoopTyping.{loop_serves}
@@ -74,8 +75,8 @@ kind_tagged (Loop t) tree node = loop_tagged t.node t.tokens tree node
 pub kind_counted : (t : NodeTemplate) (tree : Tree) (node tags : ℕ) (base : Base) → Serves t tree node →
     length ((kind_of t).widths tree node tags) ≡ (kind_of t).shape.chans base
 kind_counted (Run t) tree node tags base s = refl
-kind_counted (Pipe t) tree node tags base s = pipe_counted tree node t.stages tags base s
-kind_counted (Farm t) tree node tags base s = farm_counted t.node t.workers tree node tags base
-kind_counted (Map t) tree node tags base s = map_counted t.node t.workers tree node tags base
-kind_counted (Reduce t) tree node tags base s = reduce_counted t.node t.len (level_of t.segments) tree node tags base
+kind_counted (Pipe t) tree node tags base s = pipe_counted tree t.stages node tags s
+kind_counted (Farm t) tree node tags base s = rows_count t.workers _ _
+kind_counted (Map t) tree node tags base s = rows_count t.workers _ _
+kind_counted (Reduce t) tree node tags base s = reduce_counted tree t.node node t.len (level_of t.segments) tags base
 kind_counted (Loop t) tree node tags base s = refl

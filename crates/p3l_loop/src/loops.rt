@@ -1,6 +1,6 @@
 // The template of a loop.
 
-ghost use Rattle.std.specs.Prelude.{◌≡◌, ◌<◌, ◌≤◌, ℕ};
+ghost use Rattle.std.specs.Prelude.{◌≡◌, ◌<◌, ◌≤◌, ℕ, refl};
 ghost use Rattle.p3l_base.specs.declared.outcome.Outcome.{Outcome};
 ghost use Rattle.p3l_loop.specs.Loop.{IsLoopNode, Laps, rounds, turns};
 ghost use Rattle.p3l_loop.specs.LoopKind.{loop_kind};

@@ -9,7 +9,7 @@ use Rattle.p3l_map.specs.Map.{all_tagged, alike, all_alike}
 use Rattle.p3l_map.specs.Places.{groups, left}
 use Rattle.p3l_map.specs.laws.GroupLaw.{groups_append, left_append}
 use Rattle.p3l_template.specs.Finding.{bare}
-use Rattle.p3l_orderly.specs.Groups.{last_of, begun, made, made_alike}
+use Rattle.p3l_map.specs.Groups.{last_of, begun, made, made_alike}
 use Rattle.p3l_template.specs.laws.BareLaw.{and-true, and-assoc}
 
 -- how many pieces are left over

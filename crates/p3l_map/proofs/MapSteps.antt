@@ -3,6 +3,7 @@ use Rattle.std.proofs.Common.{◌≡◌, ℕ, zero, suc, ◌+◌, ◌-◌, ◌%�
 use Rattle.std.proofs.lemmas.Bool.{cases_Bool, cases_eq, and_from, cond-true, cond-false, false≢true}
 use Rattle.std.proofs.lemmas.List.{map-append, get_or-set_same, get_or-set_other}
 use Rattle.std.proofs.Math.Seq.{drop-cons}
+use Rattle.std.proofs.Math.Path.{fun_ext}
 use Rattle.p3l_firing.specs.At.{at}
 use Rattle.p3l_firing.specs.Lists.{first_or, rest_of, has_first}
 use Rattle.p3l_firing.specs.Token.{credit, same_tags}
@@ -11,14 +12,14 @@ use Rattle.p3l_map.specs.Map.{Pieces, View, spot, pieces, joined, unsent, under_
 use Rattle.p3l_map.specs.Places.{read_by, all_empty, in_by, total, groups, left}
 use Rattle.p3l_map.specs.laws.GroupLaw.{groups_append, left_append, one_group}
 use Rattle.p3l_map.specs.laws.MapView.{Kept, kept_to, kept_from, pieces_length}
-use Rattle.p3l_map.specs.laws.Turns.{ext, total_at}
+use Rattle.p3l_map.specs.laws.Turns.{total_at}
 use Rattle.p3l_template.specs.laws.Rows.{at-same, at-other, front}
 use Rattle.p3l_template.specs.Finding.{bare, bares, if_orderly}
-use Rattle.p3l_orderly.specs.Groups.{left_at, count_of, by_turns, are_in_turn, last_of, begun, made, made_alike}
-use Rattle.p3l_orderly.specs.Map.{bare_pieces, line_at, found_by}
+use Rattle.p3l_map.specs.Groups.{left_at, count_of, by_turns, are_in_turn, last_of, begun, made, made_alike}
+use Rattle.p3l_map.specs.MapKind.{bare_pieces, line_at, found_by}
 use Rattle.p3l_template.specs.laws.BareLaw.{and-true}
-use Rattle.p3l_orderly.specs.laws.MapLaw.{first-bare, groups-bare, left-bare, all_alike-bare}
-use Rattle.p3l_orderly.proofs.GroupSteps.{left_length, begun_more, alike_append, tagged_append}
+use Rattle.p3l_map.specs.laws.MapFound.{first-bare, groups-bare, left-bare, all_alike-bare}
+use Rattle.p3l_map.proofs.GroupSteps.{left_length, begun_more, alike_append, tagged_append}
 
 -- LINES
 or_same : {A : Type 0} (xs : List A) (j : ℕ) (a d : A) → j < length xs → get_or xs j a ≡ get_or xs j d
@@ -47,7 +48,7 @@ module _ (lines : List (List Token)) (taken : List ℕ) (w k : ℕ) (l other : L
     left_here = left_line ∙ drop-cons l k none there ∙ ap (λ z. z ∷ drop (suc k) l) (sym it)
 
     pub left_taken : (now : List ℕ) → now ≡ set taken w (k + 1) → left_at lines now ≡ at (left_at lines taken) w (rest_of (left_at lines taken w))
-    left_taken now e = ext each
+    left_taken now e = fun_ext each
       where
         each : (v : ℕ) → left_at lines now v ≡ at (left_at lines taken) w (rest_of (left_at lines taken w)) v
         each v =
@@ -102,7 +103,7 @@ pub none_taken_yet : (number : ℕ) (lines : List (List Token)) (from : List Tok
     taken ≡ replicate (length lines) 0 → IsTaking number lines from 0 from taken
 none_taken_yet number lines from taken same e =
     let all : left_at lines taken ≡ line_at lines =
-    ext (λ w. ap (λ n. drop n (line_at lines w)) (ap (λ ns. get_or ns w 0) e ∙ zeros_at (length lines) w)) in
+    fun_ext (λ w. ap (λ n. drop n (line_at lines w)) (ap (λ ns. get_or ns w 0) e ∙ zeros_at (length lines) w)) in
     let whole : count_of lines - 0 ≡ count_of lines = omega arith in
     record {
       lengths = same;

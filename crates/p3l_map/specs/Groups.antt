@@ -6,7 +6,7 @@ use Rattle.p3l_firing.specs.declared.token.Token.{Token}
 use Rattle.p3l_map.specs.Map.{spot, all_alike}
 use Rattle.p3l_map.specs.Places.{read_by, in_by, total, groups, left}
 use Rattle.p3l_template.specs.Finding.{bare}
-use Rattle.p3l_orderly.specs.Map.{bare_pieces, line_at}
+use Rattle.p3l_map.specs.MapKind.{bare_pieces, line_at}
 
 -- what is left of line `w`, where `taken` has the number of tokens that were taken from each line
 abbrev pub left_at : List (List Token) → List ℕ → ℕ → List Token

@@ -4,3 +4,5 @@ pub mod MapView
 pub mod SizeLaw
 pub mod MapLaw
 pub mod MapTyping
+pub mod MapFound
+pub mod MapWidths

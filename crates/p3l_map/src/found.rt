@@ -1,32 +1,27 @@
 // The tokens found in a map: the pieces of all tokens by turns, in groups that each become one
 // token.
 
-ghost use Rattle.std.specs.Prelude.{◌≡◌, ◌+◌, ◌++◌, ◌≤◌, ◌<◌, [], ◌∷◌, List, ℕ, suc, length, replicate, IfOk, OnErr, IsTrue, IsFalse};
+ghost use Rattle.std.specs.Prelude.{◌≡◌, ◌++◌, ◌≤◌, ◌<◌, [], ◌∷◌, List, suc, length, replicate, IfOk, OnErr, IsTrue, IsFalse, ℕ};
 ghost use Rattle.p3l_base.specs.Memory.{IfGiven, Refused};
 ghost use Rattle.p3l_firing.specs.At.{at};
 ghost use Rattle.p3l_firing.specs.Lists.{first_or, has_first, rest_of};
 ghost use Rattle.p3l_firing.specs.Nodes.{last_element};
 ghost use Rattle.p3l_firing.specs.Token.{credit, same_tags};
 ghost use Rattle.p3l_firing.specs.declared.token.Token.{Token};
+ghost use Rattle.p3l_map.specs.Groups.{are_in_turn, begun, by_turns, count_of, left_at, made_alike};
 ghost use Rattle.p3l_map.specs.Map.{next_piece, scatter_ok, spot};
+ghost use Rattle.p3l_map.specs.MapKind.{bare_pieces, found_by, line_at};
 ghost use Rattle.p3l_template.specs.Finding.{bare, bares, if_orderly};
-ghost use Rattle.p3l_orderly.specs.Groups.{are_in_turn, begun, by_turns, count_of, left_at, made_alike};
-ghost use Rattle.p3l_orderly.specs.Map.{bare_pieces, found_by, line_at, map_finds};
-ghost use Rattle.p3l_orderly.specs.laws.MapLaw.{map_found};
 
-use crate::bare::{add_bare, bare};
-use crate::farm::all_lines;
-use crate::orderly::{Orderly, Place};
-use crate::snapshot::Snapshot;
-use crate::tags::have_same_tags;
 use p3l_base::{List, NoMemory};
 use p3l_firing::Token;
-use p3l_map::MapTemplate;
 use p3l_skel::{Form, Tree};
+use p3l_template::bare::{add_bare, bare};
+use p3l_template::tags::have_same_tags;
 use std::alloc::Global;
 
-// The number of pieces that a map makes of a token: one at least.
-fn number_of_pieces(tree: &Tree, node: u32) -> u64
+/// The number of pieces that a map makes of a token: one at least.
+pub(crate) fn number_of_pieces(tree: &Tree, node: u32) -> u64
     ensures { result ≡ suc (last_element tree.now node) }
 {
     let Some(found) = tree.node(node) else {
@@ -181,9 +176,9 @@ fn next_piece(sending: &[Token], sent: u64) -> u64
     if sending.len() == 0 { 0 } else { sent }
 }
 
-// The tokens that the groups become, if the map is orderly: a token that is being scattered stands
-// for all its pieces that are not sent yet.
-fn by_lines(
+/// The tokens that the groups become, if the map is orderly: a token that is being scattered stands
+/// for all its pieces that are not sent yet.
+pub(crate) fn by_lines(
     alloc: Global,
     number: u64,
     held: &[Token],
@@ -219,26 +214,4 @@ fn by_lines(
     }
     add_bare(alloc, &mut pieces, sending)?;
     firsts_of_groups(alloc, number, pieces.as_slice())
-}
-
-impl Orderly for MapTemplate {
-    ghost finds = { λ t. map_finds t.node t.workers };
-
-    fn pending(
-        &self,
-        alloc: Global,
-        tree: &Tree,
-        snapshot: &Snapshot,
-        place: &Place,
-        inner: &[List<Token>],
-    ) -> Result<Option<List<Token>>, NoMemory> {
-        let lines = all_lines(alloc, snapshot, place.chan, self.workers, inner)?;
-        let number = number_of_pieces(tree, self.node);
-        let held = snapshot.held(place.proc + 1);
-        let sending = snapshot.held(place.proc);
-        let sent = snapshot.number(place.proc);
-        by_lines(alloc, number, held, lines.as_slice(), sending, sent)
-    }
-
-    ghost found = { λ t. map_found t.node t.workers };
 }

@@ -18,12 +18,6 @@ tee_low output from zero h = refl
 tee_low output from (suc zero) h = refl
 tee_low output from (suc (suc q)) h = absurd (omega arith)
 
-pub tee_high : (output from q : ℕ) → 2 ≤ q → from + (q - 2) ≡ tee_by output from q
-unfolding tee_by
-tee_high output from zero h = absurd (omega arith)
-tee_high output from (suc zero) h = absurd (omega arith)
-tee_high output from (suc (suc q)) h = omega arith
-
 pub joins_step : (node output from q m : ℕ) → q < m →
     join_procs node output from q (m - q)
     ≡ join_at node output from q ∷ join_procs node output from (q + 1) (m - (q + 1))

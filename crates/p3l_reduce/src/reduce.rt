@@ -7,8 +7,8 @@ ghost use Rattle.p3l_reduce.specs.Reduce.{IsReduceNode};
 ghost use Rattle.p3l_reduce.specs.ReduceKind.{reduce_kind};
 ghost use Rattle.p3l_reduce.specs.laws.ReduceFound.{reduce_found};
 ghost use Rattle.p3l_reduce.specs.laws.ReduceLaw.{reduce_lawful};
-ghost use Rattle.p3l_reduce.specs.laws.ReduceTyping.{reduce_serves};
-ghost use Rattle.p3l_reduce.specs.laws.ReduceWidths.{reduce_counted, reduce_tagged};
+ghost use Rattle.p3l_reduce.specs.laws.ReduceTyping.{reduce_counted, reduce_serves};
+ghost use Rattle.p3l_reduce.specs.laws.ReduceWidths.{reduce_tagged};
 
 use crate::found::in_joins;
 use crate::segments::{level_within, segment_count};
@@ -134,7 +134,7 @@ impl Kind for ReduceTemplate {
 
     ghost tagged = { λ t tree node. reduce_tagged t.node t.len (level_of t.segments) tree node };
 
-    ghost counted = { λ t tree node tags base _. reduce_counted t.node t.len (level_of t.segments) tree node tags base };
+    ghost counted = { λ t tree node tags base _. reduce_counted tree t.node node t.len (level_of t.segments) tags base };
 
     ghost found = { λ t. reduce_found t.node t.len (level_of t.segments) };
 }

@@ -26,7 +26,8 @@ pub(crate) fn elem_of(tree: &Tree, node: u32) -> u32
     }
 }
 
-// The channels of the segments of `len` elements, which are halved `level` times.
+// Puts the widths of the channels of the segments of `len` elements, which are halved `level` times,
+// behind others.
 #[tactic(auto, using(crate::proofs::Segmenting::segments_none, crate::proofs::Segmenting::segments_halved))]
 fn push_segments(
     row: &mut List<Width>,
@@ -49,7 +50,8 @@ fn push_segments(
     Ok(())
 }
 
-/// The channels of a reduce that is halved `level` times: of its segments, and between its joins.
+/// Puts the widths of the channels of a reduce that is halved `level` times, of its segments and then
+/// between its joins, behind others.
 #[tactic(auto, using(crate::proofs::Segmenting::reduce_none, crate::proofs::Segmenting::reduce_some))]
 pub(crate) fn push_reduce(
     row: &mut List<Width>,

@@ -3,3 +3,5 @@ pub mod SnapshotSteps
 pub mod Slots
 pub mod PipeSteps
 pub mod LineSteps
+pub mod FanSeats
+pub mod StageSeats

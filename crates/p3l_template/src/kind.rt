@@ -4,7 +4,7 @@ ghost use Rattle.std.specs.Prelude.{◌≡◌, ◌++◌, ◌+◌, ◌<◌, ◌�
 ghost use Rattle.p3l_base.specs.Memory.{IfGiven, OnGiven};
 ghost use Rattle.p3l_skel.specs.declared.tree.Tree.{Tree};
 ghost use Rattle.p3l_template.specs.Finding.{Finds, IsFoundShape, if_orderly};
-ghost use Rattle.p3l_template.specs.Shape.{Base};
+ghost use Rattle.p3l_template.specs.Shape.{Base, FitsAt};
 ghost use Rattle.p3l_template.specs.Snapshot.{state_of};
 ghost use Rattle.p3l_template.specs.Tagged.{IsTagged};
 ghost use Rattle.p3l_template.specs.declared.width.Width.{Width};
@@ -46,8 +46,7 @@ pub trait Kind: Template {
     /// Gives the places of its inner parts in order.
     fn seats(&self, alloc: Global, place: &Place) -> Result<List<Seat>, NoMemory>
         requires fit { Self.is_fit self.now }
-        requires room { (place.now.proc + length ((Self.shape self.now).procs place.now) ≤ 1048576)
-            × (place.now.chan + (Self.shape self.now).chans place.now ≤ 1048576) }
+        requires room { FitsAt (Self.shape self.now) place.now }
         ensures { IfGiven result (λ seats. seats ≡ (Self.shape self.now).seats place.now) };
 
     /// Puts the widths of its own channels behind others.
@@ -71,8 +70,8 @@ pub trait Kind: Template {
     fn is_loop(&self) -> bool
         ensures { result ≡ is_loop self.now };
 
-    /// The tokens pending in its part, without their outcomes, if the part is orderly, where its
-    /// inner parts are orderly and these tokens are pending in them.
+    /// Gives the tokens pending in its part, without their outcomes, if the part is orderly, where
+    /// its inner parts are orderly and these tokens are pending in them.
     fn pending(
         &self,
         alloc: Global,
@@ -83,15 +82,14 @@ pub trait Kind: Template {
     ) -> Result<Option<List<Token>>, NoMemory>
         requires fit { Self.is_fit self.now }
         requires inner { length inner.now ≡ (Self.shape self.now).inner }
-        requires room { (place.now.proc + length ((Self.shape self.now).procs place.now) ≤ 1048576)
-            × (place.now.chan + (Self.shape self.now).chans place.now ≤ 1048576) }
+        requires room { FitsAt (Self.shape self.now) place.now }
         ensures { IfGiven result (λ pending. pending
             ≡ if_orderly (finds self.now tree.now place.now (state_of snapshot.now) inner.now)) };
 
     /// The tokens inside it and in its own channels have two tags more at most.
     ghost tagged: { (t : Self) (tree : Tree) (node : ℕ) → IsTagged (deeper t) (widths t tree node) };
 
-    /// For a node that it is made for it has a width for each of its own channels.
+    /// For a node that it is made for, there is a width for each of its own channels.
     ghost counted: { (t : Self) (tree : Tree) (node tags : ℕ) (base : Base) → Self.serves t tree node
         → length (widths t tree node tags) ≡ (Self.shape t).chans base };
 

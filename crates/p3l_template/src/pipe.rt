@@ -4,13 +4,14 @@
 ghost use Rattle.std.specs.Prelude.{◌≡◌, ◌≤◌, ◌-◌, ◌+◌, ◌++◌, length};
 ghost use Rattle.p3l_base.specs.Memory.{IfGiven};
 ghost use Rattle.p3l_template.specs.Finding.{bares};
+ghost use Rattle.p3l_template.specs.Pipe.{stage_seats};
 ghost use Rattle.p3l_template.specs.PipeKind.{in_stages, pipe_kind, waiting};
 ghost use Rattle.p3l_template.specs.Snapshot.{state_of};
 ghost use Rattle.p3l_template.specs.Typing.{IsPipeNode};
 ghost use Rattle.p3l_template.specs.laws.PipeFound.{pipe_found};
 ghost use Rattle.p3l_template.specs.laws.PipeLaw.{pipe_lawful};
-ghost use Rattle.p3l_template.specs.laws.PipeTyping.{pipe_serves};
-ghost use Rattle.p3l_template.specs.laws.Widths.{pipe_counted, pipe_tagged};
+ghost use Rattle.p3l_template.specs.laws.PipeTyping.{pipe_counted, pipe_serves};
+ghost use Rattle.p3l_template.specs.laws.Widths.{pipe_tagged};
 
 use crate::bare::add_bare;
 use crate::builder::Builder;
@@ -81,24 +82,8 @@ impl Kind for PipeTemplate {
     }
 
     fn seats(&self, alloc: Global, place: &Place) -> Result<List<Seat>, NoMemory> {
-        let mut seats = List::new(alloc);
-        let mut input = place.input;
         let last = self.stages - 1;
-        for part in 0..last {
-            let output = place.chan + part;
-            seats.push(Seat {
-                input,
-                output,
-                part,
-            })?;
-            input = output;
-        }
-        seats.push(Seat {
-            input,
-            output: place.output,
-            part: last,
-        })?;
-        Ok(seats)
+        stage_seats(alloc, last, place.input, place.chan, place.output)
     }
 
     fn push_widths(
@@ -136,9 +121,40 @@ impl Kind for PipeTemplate {
 
     ghost tagged = { λ t tree node. pipe_tagged t.stages tree node };
 
-    ghost counted = { λ t tree node tags base s. pipe_counted tree node t.stages tags base s };
+    ghost counted = { λ t tree node tags base is. pipe_counted tree t.stages node tags is };
 
     ghost found = { λ t. pipe_found (t.stages - 1) };
+}
+
+// The seats of the stages between channels `from` and `to`, where the `last` channels between them
+// are those from `chan` on.
+fn stage_seats(
+    alloc: Global,
+    last: u32,
+    from: u32,
+    chan: u32,
+    to: u32,
+) -> Result<List<Seat>, NoMemory>
+    requires { chan + last ≤ 1048576 }
+    ensures { IfGiven result (λ seats. seats ≡ stage_seats 0 from chan to last) }
+{
+    let mut seats = List::new(alloc);
+    let mut input = from;
+    for part in 0..last {
+        let output = chan + part;
+        seats.push(Seat {
+            input,
+            output,
+            part,
+        })?;
+        input = output;
+    }
+    seats.push(Seat {
+        input,
+        output: to,
+        part: last,
+    })?;
+    Ok(seats)
 }
 
 // Puts what is pending in a stage after other tokens, and then what waits before it in a channel of

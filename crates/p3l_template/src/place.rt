@@ -22,7 +22,7 @@ impl Model for Place {
 
 /// The place of an inner part: the two channels that it stands between, and the number of the
 /// node's part that it is.
-#[derive(Clone, Copy, Debug, Drop)]
+#[derive(Debug, Drop)]
 pub struct Seat {
     pub input: u32,
     pub output: u32,

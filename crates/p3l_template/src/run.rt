@@ -1,6 +1,6 @@
 // The kind of a node that is one process: nothing is ever pending in it.
 
-ghost use Rattle.std.specs.Prelude.{◌≡◌};
+ghost use Rattle.std.specs.Prelude.{◌≡◌, refl};
 ghost use Rattle.p3l_template.specs.RunKind.{run_kind};
 ghost use Rattle.p3l_template.specs.Typing.{IsRunNode};
 ghost use Rattle.p3l_template.specs.laws.RunFound.{run_found};

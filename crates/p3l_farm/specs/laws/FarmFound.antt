@@ -6,10 +6,11 @@ use Rattle.p3l_firing.specs.Token.{newest_tag}
 use Rattle.p3l_firing.specs.declared.token.Token.{Token}
 use Rattle.p3l_farm.specs.Farm.{View, all_above, rising, all_rising, joined, to_come, well_kept, lines_of, view_of, farm_part, farm_shape}
 use Rattle.p3l_template.specs.Bag.{read, numbered}
+use Rattle.p3l_template.specs.Lines.{lines_by}
 use Rattle.p3l_template.specs.Part.{Part, all_orderly}
 use Rattle.p3l_template.specs.Shape.{Base, Role, Seat, fan_seats}
 use Rattle.p3l_template.specs.Units.{Units}
-use Rattle.p3l_orderly.specs.Farm.{lines_by, found_by, farm_finds}
+use Rattle.p3l_farm.specs.FarmKind.{found_by, farm_finds}
 use Rattle.p3l_template.specs.Finding.{Finding, bare, bares, pending_of, AreSeated, IsFoundShape}
 use Rattle.p3l_template.specs.laws.BareLaw.{bares-bares, bares-length, bares-line, read-bare, numbered-bare}
 
@@ -75,13 +76,13 @@ module _ (n : ℕ) (units : Units) (roles : ℕ → Role) (base : Base) (parts :
         output = [];
       })) (lines-bare s (fan_seats base.chan (base.chan + n) n) parts seated)
 
-  farm-orderly : (farm_part n roles base parts).orderly s
+  farm-orderly : (farm_part n units roles base parts).orderly s
       ≡ (all_orderly parts s && (farm_finds n units.tree base s (map (pending_of s) parts)).orderly)
   unfolding found_by
   farm-orderly =
       ap (λ b. all_orderly parts s && b) (sym (ap (λ (f : Finding). f.orderly) seen-lines ∙ kept-bare (view_of base parts s)))
 
-  farm-pending : pending_of s (farm_part n roles base parts) ≡ (farm_finds n units.tree base s (map (pending_of s) parts)).pending
+  farm-pending : pending_of s (farm_part n units roles base parts) ≡ (farm_finds n units.tree base s (map (pending_of s) parts)).pending
   unfolding found_by
   farm-pending = sym (ap (λ (f : Finding). f.pending) seen-lines ∙ come-bare (view_of base parts s))
 

@@ -1,5 +1,5 @@
 -- The typing law of a loop: inside it each token has two tags more, and credits have no words and no tags.
-use Rattle.std.proofs.Common.{◌≡◌, ℕ, zero, suc, ◌+◌, ◌<◌, List, [], ◌∷◌, length, refl, sym, ap, subst, arith}
+use Rattle.std.proofs.Common.{◌≡◌, ℕ, zero, suc, ◌+◌, ◌<◌, [], ◌∷◌, length, refl, sym, ap, subst, arith}
 use Rattle.p3l_skel.specs.declared.tree.Form.TheVariants.{Loop}
 use Rattle.p3l_skel.specs.declared.tree.Tree.{Tree}
 use Rattle.p3l_skel.specs.Lawful.{HasWords}

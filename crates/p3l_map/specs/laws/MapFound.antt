@@ -1,6 +1,7 @@
 -- WHAT IS FOUND IN A MAP is what its part is.
 use Rattle.std.proofs.Common.{◌≡◌, ℕ, zero, suc, ◌+◌, ◌-◌, ◌%◌, ◌<◌, ◌&&◌, cond, not, nat_eq, nat_le, Bool, true, false, List, [], ◌∷◌, ◌++◌, map, length, refl, sym, ap, ap₂, ◌∙◌, arith, mod-lt}
 use Rattle.std.proofs.lemmas.List.{map-append, length-replicate}
+use Rattle.std.proofs.Math.Path.{fun_ext}
 use Rattle.p3l_firing.specs.At.{at}
 use Rattle.p3l_firing.specs.Lists.{first_or, rest_of, has_first}
 use Rattle.p3l_firing.specs.State.{State}
@@ -9,13 +10,13 @@ use Rattle.p3l_firing.specs.declared.token.Token.{Token}
 use Rattle.p3l_map.specs.Map.{Pieces, View, spot, pieces, joined, unsent, under_way, whole, to_come, next_piece, scatter_ok, all_tagged, alike, all_alike, well_kept}
 use Rattle.p3l_map.specs.MapShape.{pieces_of, lines_of, view_of, map_part, map_shape}
 use Rattle.p3l_map.specs.Places.{read_by, all_empty, in_by, total, groups, left}
-use Rattle.p3l_map.specs.laws.Turns.{ext, turns_same, total_same}
+use Rattle.p3l_map.specs.laws.Turns.{turns_same, total_same}
 use Rattle.p3l_template.specs.Part.{Part, all_orderly}
 use Rattle.p3l_template.specs.Shape.{Base, Role, fan_seats}
 use Rattle.p3l_template.specs.Units.{Units}
 use Rattle.p3l_template.specs.Lines.{lines_by}
 use Rattle.p3l_template.specs.Finding.{bare, bares, pending_of, AreSeated, IsFoundShape}
-use Rattle.p3l_orderly.specs.Map.{bare_pieces, line_at, found_by, map_finds}
+use Rattle.p3l_map.specs.MapKind.{bare_pieces, line_at, found_by, map_finds}
 use Rattle.p3l_template.specs.laws.BareLaw.{bares-bares, bares-length, bares-line, and-swap}
 
 -- THE LINES
@@ -40,7 +41,7 @@ cond-bare false xs ys = refl
 
 at-bare : (L : ℕ → List Token) (k : ℕ) → at (bare_lines L) k (rest_of (bares (L k))) ≡ bare_lines (at L k (rest_of (L k)))
 unfolding at
-at-bare L k = ext (λ j. ap (λ z. cond (nat_eq j k) z (bares (L j))) (rest-bare (L k)) ∙ cond-bare (nat_eq j k) (rest_of (L k)) (L j))
+at-bare L k = fun_ext (λ j. ap (λ z. cond (nat_eq j k) z (bares (L j))) (rest-bare (L k)) ∙ cond-bare (nat_eq j k) (rest_of (L k)) (L j))
 
 read-bare : (f : ℕ → ℕ) (m c : ℕ) (L : ℕ → List Token) → read_by (bare_lines L) f c m ≡ bares (read_by L f c m)
 unfolding read_by

@@ -17,7 +17,7 @@ use Rattle.p3l_firing.specs.declared.net.Net.{Net}
 use Rattle.p3l_firing.specs.declared.process.ProcKind.TheVariants.{Scatter, Gather}
 use Rattle.p3l_firing.specs.declared.token.Token.{Token}
 use Rattle.p3l_map.specs.Map.{Pieces, View, spot, piece, joined, mapped, whole, to_come, well_kept, unsent, under_way, next_piece, scatter_ok, all_alike}
-use Rattle.p3l_map.specs.MapShape.{scatter_proc, gather_proc, pieces_of, lines_of, view_of, map_part, map_shape}
+use Rattle.p3l_map.specs.MapShape.{scatter_proc, gather_proc, pieces_of, lines_of, view_of, map_fanned, map_part, map_shape}
 use Rattle.p3l_map.specs.Places.{read_by, in_by, total, groups, left}
 use Rattle.p3l_map.specs.laws.MapView.{view_line, Kept, kept_to, kept_from, Goes, sent_below, take_view, take_goes, collect_view, collect_goes, emit_view, emit_goes, send_view, send_goes, Next, Next.More, Next.Done}
 use Rattle.p3l_map.specs.laws.SizeLaw.{total_sum, come_bound, le_times, all_bound}
@@ -30,6 +30,7 @@ use Rattle.p3l_template.specs.Units.{Units}
 use Rattle.p3l_template.specs.laws.Chain.{all_same, all_kept, all_at, all_from}
 use Rattle.p3l_template.specs.laws.Fan.{Fan, fan_of, Around, Holds, around_moves, one_moves, same_alike, each_begins, fan_empty, fan_fires, fan_drained, fan_lawful}
 use Rattle.p3l_template.specs.laws.Inside.{channels_split, around_inside, times_le, line_length, channels_sum, insides_sum}
+use Rattle.p3l_template.specs.laws.Lists.{none_left}
 use Rattle.p3l_template.specs.laws.Row.{numbers_length, numbers_at, stands_two}
 use Rattle.p3l_template.specs.laws.Rows.{at-same, at-other, front, fire_at, can_at, strict_at, cannot_at, emptied, room_when_empty}
 use Rattle.p3l_template.specs.laws.SumLaw.{sum_same, sum_none, sum_change, sum_le, sum_times, sum_add}
@@ -37,10 +38,6 @@ use Rattle.p3l_template.specs.laws.Touch.{pop_same, pop_other, push_same, push_o
 use Rattle.p3l_firing.specs.kinds.Scatter as scatter
 use Rattle.p3l_firing.specs.kinds.Gather as gather
 use Rattle.p3l_firing.specs.Nodes.{last_element, element_of, joined_of}
-
-length_zero : (ts : List Token) → length ts ≡ 0 → ts ≡ []
-length_zero [] h = refl
-length_zero (t ∷ ts) h = absurd (omega (arith, h))
 
 total_none : (L : ℕ → List Token) (n : ℕ) → ((w : ℕ) → w < n → L w ≡ []) → total L n ≡ 0
 unfolding total
@@ -1101,7 +1098,7 @@ module _ (net : Net) (units : Units) (roles : ℕ → Role) (node n : ℕ) (pos 
           let a : length (s.own (base.proc + 1)).held ≡ 0 =
           sym (mod-eq_of_lt held_few) ∙ ap (λ m. m % suc (last_element units.tree node)) (omega (arith, under_none))
           ∙ kept.place ∙ idle_next (s.own base.proc).held (s.own base.proc).number no_sending in
-          length_zero _ a
+          none_left _ a
 
       map_drained : IsDrained (map_part units node n roles base Ps) s
       unfolding to_come whole unsent groups read_by
@@ -1312,5 +1309,5 @@ module _ (net : Net) (units : Units) (roles : ℕ → Role) (node n : ℕ) (pos 
 
 pub map_lawful : (node n : ℕ) → 0 < n → IsLawfulShape (map_shape node n)
 map_lawful node n pos =
-    fan_lawful Scatter Gather node n (map_shape node n) pos
+    fan_lawful Scatter Gather node n (map_fanned node n) pos
     (λ net units roles base parts placed. map_law net units roles node n pos base parts placed)

@@ -15,8 +15,8 @@ use Rattle.p3l_firing.specs.declared.process.ProcKind.{ProcKind}
 use Rattle.p3l_firing.specs.declared.token.Token.{Token}
 use Rattle.p3l_template.specs.Part.{Part, IsLawfulPart, line, IsInside, IsSameInside, IsAlike, Moves, OneFired, IsFresh, Begins, IsDrained, all_orderly, no_part, due}
 use Rattle.p3l_template.specs.Placed.{IsGoodBase, IsGoodSeat, IsLawfulShape, IsPlaced, HaveRoom, AreLaid, AreChained, proc_end, chan_end, AreBelow}
-use Rattle.p3l_template.specs.Fan.{fanned}
-use Rattle.p3l_template.specs.Shape.{Shape, Role, Base, no_seat, fan_seats}
+use Rattle.p3l_template.specs.Fan.{Fanned, fan_part, fan_shape}
+use Rattle.p3l_template.specs.Shape.{Role, Base, no_seat, fan_seats}
 use Rattle.p3l_template.specs.Units.{Units}
 use Rattle.p3l_template.specs.laws.Chain.{all_at, chain_fires, chain_lies, chain_lawful, chain_input, chain_output, chain_meaning, chain_firings, chain_length, chain_grows, Lies}
 use Rattle.p3l_template.specs.laws.Plain.{plain_empty, plain_room}
@@ -353,12 +353,12 @@ module _ (net : Net) (units : Units) (roles : ℕ → Role) (n : ℕ) (base : Ba
       (subst (λ z. 0 < (chan_at net z).cap) (sym (fan.all.output w l)) (have.room _ (omega arith) (omega (arith, l)))))
 
 -- once the part of such a shape is lawful, so is the shape
-pub fan_lawful : (first last : ProcKind) (node n : ℕ) (shape : Shape) → 0 < n →
+pub fan_lawful : (first last : ProcKind) (node n : ℕ) (fanned : Fanned) → 0 < n →
     ((net : Net) (units : Units) (roles : ℕ → Role) (base : Base) (parts : List Part) →
-    IsPlaced net units roles (fanned first last node n shape) base parts →
-    IsLawfulPart net units ((fanned first last node n shape).part units roles base parts)) →
-    IsLawfulShape (fanned first last node n shape)
-fan_lawful first last node n shape pos lawful = record {
+    IsPlaced net units roles (fan_shape first last node n fanned) base parts →
+    IsLawfulPart net units (fan_part n fanned units roles base parts)) →
+    IsLawfulShape (fan_shape first last node n fanned)
+fan_lawful first last node n fanned pos lawful = record {
   lawful = lawful;
   lies = λ net units roles base parts placed.
       record {

@@ -1,7 +1,7 @@
 use Rattle.std.proofs.Common.{◌+◌, ◌&&◌, drop, sym, ap, ◌∙◌, arith}
 use Rattle.p3l_farm.specs.Farm.{all_rising, rising}
-use Rattle.p3l_orderly.proofs.FarmSteps.{rising_left, rising_end}
-use Rattle.p3l_orderly.proofs.farm.all_are_rising.Goals as goal
+use Rattle.p3l_farm.proofs.FarmSteps.{rising_left, rising_end}
+use Rattle.p3l_farm.proofs.found.all_are_rising.Goals as goal
 
 pub returns-then-not-are_rising : goal.returns-then-not-are_rising
 returns-then-not-are_rising c =

@@ -1,7 +1,7 @@
 use Rattle.std.proofs.Common.{◌+◌, drop, sym, ap, ◌∙◌, arith}
 use Rattle.p3l_farm.specs.Farm.{rising}
-use Rattle.p3l_orderly.proofs.Rising.{rise, fall, two_left, one_left, none_left}
-use Rattle.p3l_orderly.proofs.farm.are_rising.Goals as goal
+use Rattle.p3l_farm.proofs.Rising.{rise, fall, two_left, one_left, none_left}
+use Rattle.p3l_farm.proofs.found.are_rising.Goals as goal
 
 pub returns-then-newest_tag : goal.returns-then-newest_tag
 returns-then-newest_tag c =

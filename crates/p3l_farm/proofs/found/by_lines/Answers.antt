@@ -2,9 +2,9 @@ use Rattle.std.proofs.Common.{◌≡◌, ◌+◌, [], nat_eq, inl, inr, subst, s
 use Rattle.p3l_base.specs.Memory.{IfGiven}
 use Rattle.p3l_farm.specs.Farm.{View}
 use Rattle.p3l_template.specs.Numbered.{ordered}
-use Rattle.p3l_orderly.proofs.FarmSteps.{none_found, found_in_order}
-use Rattle.p3l_orderly.proofs.farm.by_lines.Goals as goal
-use Rattle.p3l_orderly.proofs.farm.by_lines.Goals.{then-not-lead_to-via-then-not-lead_to, then-not-lead_to-via-else-not-lead_to+then-not-all_are_rising}
+use Rattle.p3l_farm.proofs.FarmSteps.{none_found, found_in_order}
+use Rattle.p3l_farm.proofs.found.by_lines.Goals as goal
+use Rattle.p3l_farm.proofs.found.by_lines.Goals.{then-not-lead_to-via-then-not-lead_to, then-not-lead_to-via-else-not-lead_to+then-not-all_are_rising}
 
 pub returns-then-not-lead_to : goal.returns-then-not-lead_to
 returns-then-not-lead_to c =

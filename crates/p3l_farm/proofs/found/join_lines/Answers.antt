@@ -1,8 +1,8 @@
 use Rattle.std.proofs.Common.{◌+◌, ◌++◌, drop, ap, ◌∙◌, arith}
 use Rattle.p3l_farm.specs.Farm.{joined}
 use Rattle.p3l_template.specs.Finding.{bares}
-use Rattle.p3l_orderly.proofs.FarmSteps.{joined_left, joined_end}
-use Rattle.p3l_orderly.proofs.farm.join_lines.Goals as goal
+use Rattle.p3l_farm.proofs.FarmSteps.{joined_left, joined_end}
+use Rattle.p3l_farm.proofs.found.join_lines.Goals as goal
 
 pub loop-line-init : goal.loop-line-init
 loop-line-init c = ap (λ z. z ++ bares (joined c.args.lines.now)) c.new-list.ensures

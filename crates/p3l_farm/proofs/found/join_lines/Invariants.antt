@@ -1,7 +1,7 @@
 use Rattle.std.proofs.Common.{◌≡◌, ◌++◌, drop}
 use Rattle.p3l_farm.specs.Farm.{joined}
 use Rattle.p3l_template.specs.Finding.{bares}
-use Rattle.p3l_orderly.proofs.farm.join_lines.Given as goal
+use Rattle.p3l_farm.proofs.found.join_lines.Given as goal
 
 -- with the lines that are left it is the whole
 abbrev pub invariant-loop-line : goal.invariant-loop-line

@@ -5,10 +5,10 @@ use Rattle.p3l_firing.specs.Lists.{first_or, rest_of, has_first}
 use Rattle.p3l_firing.specs.Token.{credit}
 use Rattle.p3l_map.specs.Map.{spot}
 use Rattle.p3l_template.specs.Finding.{bare}
-use Rattle.p3l_orderly.specs.Groups.{left_at}
-use Rattle.p3l_orderly.specs.Map.{bare_pieces}
-use Rattle.p3l_orderly.proofs.MapSteps.{IsTaking, turn_below, none_taken_yet, no_turn, next_turn, all_turns}
-use Rattle.p3l_orderly.proofs.map.add_by_turns.Goals as goal
+use Rattle.p3l_map.specs.Groups.{left_at}
+use Rattle.p3l_map.specs.MapKind.{bare_pieces}
+use Rattle.p3l_map.proofs.MapSteps.{IsTaking, turn_below, none_taken_yet, no_turn, next_turn, all_turns}
+use Rattle.p3l_map.proofs.found.add_by_turns.Goals as goal
 
 -- what was written back over as many numbers
 written : (xs ys : List ℕ) (k : ℕ) → length xs ≡ length ys → length ys ≡ k → take k (xs ++ drop (length xs) ys) ≡ xs

@@ -5,11 +5,11 @@ use Rattle.p3l_base.specs.Memory.{IfGiven}
 use Rattle.p3l_firing.specs.declared.token.Token.{Token}
 use Rattle.p3l_map.specs.Map.{View}
 use Rattle.p3l_template.specs.Finding.{bare, bares}
-use Rattle.p3l_orderly.specs.Groups.{begun, by_turns, are_in_turn, made_alike}
-use Rattle.p3l_orderly.specs.Map.{line_at}
+use Rattle.p3l_map.specs.Groups.{begun, by_turns, are_in_turn, made_alike}
+use Rattle.p3l_map.specs.MapKind.{line_at}
 use Rattle.p3l_template.specs.laws.BareLaw.{bares-length}
-use Rattle.p3l_orderly.proofs.MapSteps.{none_found, gathered_count, found_in_groups, made_alike-bare}
-use Rattle.p3l_orderly.proofs.map.by_lines.Goals as goal
+use Rattle.p3l_map.proofs.MapSteps.{none_found, gathered_count, found_in_groups, made_alike-bare}
+use Rattle.p3l_map.proofs.found.by_lines.Goals as goal
 
 -- the pieces that Gather holds, then those on the lines
 module _ (number : ℕ) (lines : List (List Token)) (held sending none first : List Token) (start : none ≡ []) (one : first ≡ none ++ bares held) where

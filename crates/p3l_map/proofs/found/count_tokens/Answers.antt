@@ -1,7 +1,7 @@
 use Rattle.std.proofs.Common.{◌≡◌, ◌+◌, length, refl, ◌∙◌, arith}
 use Rattle.p3l_map.specs.Places.{total}
-use Rattle.p3l_orderly.proofs.MapSteps.{count_more}
-use Rattle.p3l_orderly.proofs.map.count_tokens.Goals as goal
+use Rattle.p3l_map.proofs.MapSteps.{count_more}
+use Rattle.p3l_map.proofs.found.count_tokens.Goals as goal
 
 pub loop-line-init : goal.loop-line-init
 unfolding total

@@ -3,10 +3,10 @@ use Rattle.std.proofs.lemmas.Bool.{cases_Bool, false≢true}
 use Rattle.std.proofs.lemmas.List.{take_more}
 use Rattle.p3l_firing.specs.declared.token.Token.{Token}
 use Rattle.p3l_map.specs.Map.{all_alike}
-use Rattle.p3l_orderly.specs.Groups.{begun}
-use Rattle.p3l_orderly.proofs.GroupSteps.{AreFirsts, HasFirst, no_firsts, first_more, has_first_one, not_alike, none_made, all_made}
-use Rattle.p3l_orderly.proofs.Slots.{split_at}
-use Rattle.p3l_orderly.proofs.map.firsts_of_groups.Goals as goal
+use Rattle.p3l_map.specs.Groups.{begun}
+use Rattle.p3l_map.proofs.GroupSteps.{AreFirsts, HasFirst, no_firsts, first_more, has_first_one, not_alike, none_made, all_made}
+use Rattle.p3l_template.proofs.Slots.{split_at}
+use Rattle.p3l_map.proofs.found.firsts_of_groups.Goals as goal
 
 take_count : (xs : List Token) (k : ℕ) → k ≤ length xs → length (take k xs) ≡ k
 take_count [] zero l = refl

@@ -1,8 +1,8 @@
 use Rattle.std.proofs.Common.{◌≡◌, ◌<◌, ◌&&◌, ℕ, nat_eq, nat_lt, true, List, [], ◌∷◌, length, refl, ap, arith, eq-eqb, ne_eqb}
 use Rattle.p3l_firing.specs.declared.token.Token.{Token}
 use Rattle.p3l_map.specs.Map.{scatter_ok}
-use Rattle.p3l_orderly.specs.Map.{bare_pieces}
-use Rattle.p3l_orderly.proofs.map.is_scattering.Goals as goal
+use Rattle.p3l_map.specs.MapKind.{bare_pieces}
+use Rattle.p3l_map.proofs.found.is_scattering.Goals as goal
 
 none : (number lines k : ℕ) (ts : List Token) → length ts ≡ 0 → true ≡ scatter_ok (bare_pieces number lines) ts k
 unfolding scatter_ok

@@ -1,7 +1,7 @@
 use Rattle.std.proofs.Common.{◌≡◌, ◌<◌, ℕ, List, [], ◌∷◌, length, refl, arith}
 use Rattle.p3l_firing.specs.declared.token.Token.{Token}
 use Rattle.p3l_map.specs.Map.{next_piece}
-use Rattle.p3l_orderly.proofs.map.next_piece.Goals as goal
+use Rattle.p3l_map.proofs.found.next_piece.Goals as goal
 
 none : (ts : List Token) (k : ℕ) → length ts ≡ 0 → 0 ≡ next_piece ts k
 unfolding next_piece

@@ -6,7 +6,7 @@ use Rattle.p3l_skel.specs.declared.tree.Form.TheVariants as form
 use Rattle.p3l_skel.specs.declared.tree.Node.{Node}
 use Rattle.p3l_skel.specs.Tree.{no_node}
 use Rattle.p3l_firing.specs.Nodes.{cut_of, last_element}
-use Rattle.p3l_orderly.proofs.map.number_of_pieces.Goals as goal
+use Rattle.p3l_map.proofs.found.number_of_pieces.Goals as goal
 
 past : (nodes : List Node) (k : ℕ) → length nodes ≤ k → slice_index_or nodes k no_node ≡ no_node
 past [] k l = refl

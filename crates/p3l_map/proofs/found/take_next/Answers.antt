@@ -1,6 +1,6 @@
 use Rattle.std.proofs.Common.{slice_index_or, slice_set, refl, sym, ◌+◌, ◌∙◌, ltb-true}
-use Rattle.p3l_orderly.proofs.MapSteps.{left_taken}
-use Rattle.p3l_orderly.proofs.map.take_next.Goals as goal
+use Rattle.p3l_map.proofs.MapSteps.{left_taken}
+use Rattle.p3l_map.proofs.found.take_next.Goals as goal
 
 pub returns-clause-left : goal.returns-clause-left
 returns-clause-left c = λ yes.

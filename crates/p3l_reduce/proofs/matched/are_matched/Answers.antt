@@ -1,6 +1,4 @@
-use Rattle.std.proofs.Common.{◌≡◌, ◌+◌, ◌&&◌, drop, length, sym, ap, ap₂, ◌∙◌, arith}
-use Rattle.p3l_firing.specs.declared.token.Token.{Token}
-use Rattle.p3l_firing.specs.Token.{same_tags}
+use Rattle.std.proofs.Common.{◌≡◌, ◌+◌, ◌&&◌, drop, length, sym, ap, ◌∙◌, arith}
 use Rattle.p3l_reduce.specs.JoinTree.{matched}
 use Rattle.p3l_reduce.proofs.MatchedSteps.{lengths_differ, matched_left, matched_end}
 use Rattle.p3l_reduce.proofs.matched.are_matched.Goals as goal
@@ -13,22 +11,18 @@ returns-then-not-have_same_tags c =
     let left = c.args.left.now in
     let right = c.args.right.now in
     let even : length left ≡ length right = c.if-left-right.false in
-    let same : c.have_same_tags.result ≡ same_tags c.index-left-k.result.tags c.index-right-k.result.tags =
-    c.have_same_tags.ensures ∙ ap₂ (λ (x y : Token). same_tags x.tags y.tags) (sym c.index-left-k.is) (sym c.index-right-k.is) in
     sym (c.loop-k.invariant
     ∙ matched_left left right c.loop-k.k c.index-left-k.result c.index-right-k.result c.loop-k-test.true even c.index-left-k.is c.index-right-k.is
-    ∙ ap (λ b. b && matched (drop (c.loop-k.k + 1) left) (drop (c.loop-k.k + 1) right)) (sym same ∙ c.if-not-have_same_tags.true))
+    ∙ ap (λ b. b && matched (drop (c.loop-k.k + 1) left) (drop (c.loop-k.k + 1) right)) (sym c.have_same_tags.ensures ∙ c.if-not-have_same_tags.true))
 
 pub loop-k-preserved : goal.loop-k-preserved
 loop-k-preserved c =
     let left = c.args.left.now in
     let right = c.args.right.now in
     let even : length left ≡ length right = c.if-left-right.false in
-    let same : c.have_same_tags.result ≡ same_tags c.index-left-k.result.tags c.index-right-k.result.tags =
-    c.have_same_tags.ensures ∙ ap₂ (λ (x y : Token). same_tags x.tags y.tags) (sym c.index-left-k.is) (sym c.index-right-k.is) in
     c.loop-k.invariant
     ∙ matched_left left right c.loop-k.k c.index-left-k.result c.index-right-k.result c.loop-k-test.true even c.index-left-k.is c.index-right-k.is
-    ∙ ap (λ b. b && matched (drop (c.loop-k.k + 1) left) (drop (c.loop-k.k + 1) right)) (sym same ∙ c.if-not-have_same_tags.false)
+    ∙ ap (λ b. b && matched (drop (c.loop-k.k + 1) left) (drop (c.loop-k.k + 1) right)) (sym c.have_same_tags.ensures ∙ c.if-not-have_same_tags.false)
 
 pub returns : goal.returns
 returns c =

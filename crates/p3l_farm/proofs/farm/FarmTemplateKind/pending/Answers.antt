@@ -1,10 +1,10 @@
 use Rattle.std.proofs.Common.{◌≡◌, [], subst, ap, ◌∙◌}
 use Rattle.p3l_base.specs.Memory.{IfGiven}
 use Rattle.p3l_template.specs.Shape.{Base}
-use Rattle.p3l_orderly.specs.Farm.{farm_finds, found_by, seen_of}
+use Rattle.p3l_farm.specs.FarmKind.{farm_finds, found_by, seen_of}
 use Rattle.p3l_template.specs.Finding.{if_orderly}
 use Rattle.p3l_template.specs.Snapshot.{state_of}
-use Rattle.p3l_orderly.proofs.farm.FarmTemplateOrderly.pending.Goals as goal
+use Rattle.p3l_farm.proofs.farm.FarmTemplateKind.pending.Goals as goal
 
 pub returns : goal.returns
 unfolding farm_finds

@@ -6,10 +6,10 @@ use Rattle.p3l_firing.specs.declared.token.Token.{Token}
 use Rattle.p3l_template.specs.Shape.{Base, fan_seats}
 use Rattle.p3l_template.specs.Lines.{lines_by}
 use Rattle.p3l_template.specs.Finding.{if_orderly}
-use Rattle.p3l_orderly.specs.Map.{bare_pieces, line_at, found_by, map_finds, seen_of}
+use Rattle.p3l_map.specs.MapKind.{bare_pieces, line_at, found_by, map_finds, seen_of}
 use Rattle.p3l_template.specs.Snapshot.{state_of}
-use Rattle.p3l_orderly.specs.laws.MapLaw.{found-bare}
-use Rattle.p3l_orderly.proofs.map.MapTemplateOrderly.pending.Goals as goal
+use Rattle.p3l_map.specs.laws.MapFound.{found-bare}
+use Rattle.p3l_map.proofs.map.MapTemplateKind.pending.Goals as goal
 
 lines_count : (s : State) (i o n : ℕ) (inner : List (List Token)) → length inner ≡ n → length (lines_by s (fan_seats i o n) inner) ≡ n
 unfolding lines_by fan_seats

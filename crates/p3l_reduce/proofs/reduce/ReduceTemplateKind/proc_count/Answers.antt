@@ -1,4 +1,4 @@
-use Rattle.std.proofs.Common.{◌≡◌, ◌+◌, ◌*◌, ◌^◌, sym, ap, ◌∙◌, arith}
+use Rattle.std.proofs.Common.{◌≡◌, ◌^◌, sym, ap, ◌∙◌, arith}
 use Rattle.p3l_firing.specs.Segments.{level_of}
 use Rattle.p3l_reduce.proofs.Placing.{one_proc, many_procs}
 use Rattle.p3l_reduce.proofs.reduce.ReduceTemplateKind.proc_count.Goals as goal
