@@ -1,5 +1,6 @@
 pub mod Turns
 pub mod GroupLaw
+pub mod Near
 pub mod MapView
 pub mod SizeLaw
 pub mod MapLaw

@@ -10,6 +10,7 @@ ghost use Rattle.p3l_template.specs.Snapshot.{state_of};
 use crate::bare::add_bare;
 use crate::snapshot::Snapshot;
 use crate::template::Ports;
+use crate::workers::worker_seat;
 use p3l_base::{List, NoMemory};
 use p3l_firing::Token;
 use std::alloc::Global;
@@ -45,10 +46,7 @@ pub fn all_lines(
 {
     let mut lines = List::new(alloc);
     for worker in 0..workers {
-        let seat = Ports {
-            input: chan + worker,
-            output: chan + workers + worker,
-        };
+        let seat = worker_seat(chan, workers, worker).ports();
         let mut line = List::new(alloc);
         add_line(alloc, snapshot, &mut line, &seat, &inner[worker as usize])?;
         lines.push(line)?;

@@ -1,5 +1,9 @@
 // Places of templates and of their inner parts in a net.
 
+ghost use Rattle.std.specs.Prelude.{◌≡◌};
+ghost use Rattle.p3l_template.specs.Shape.{ports_of};
+
+use crate::template::Ports;
 use std::marker::Model;
 
 /// The place of a template: the two channels that it stands between, and its first process and
@@ -35,4 +39,16 @@ impl Model for Seat {
     ghost Value = { Seat };
 
     ghost view = { λ it. record { input = it.input; output = it.output; part = it.part } };
+}
+
+impl Seat {
+    /// Gives the channels that the part stands between.
+    pub fn ports(&self) -> Ports
+        ensures { result ≡ ports_of self.now }
+    {
+        Ports {
+            input: self.input,
+            output: self.output,
+        }
+    }
 }

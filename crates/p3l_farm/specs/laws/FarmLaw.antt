@@ -24,7 +24,7 @@ use Rattle.p3l_template.specs.Shape.{Role, Base, numbers_from, fan_seats}
 use Rattle.p3l_template.specs.Units.{Units}
 use Rattle.p3l_template.specs.laws.BagLaw.{look_empty, read_length}
 use Rattle.p3l_template.specs.laws.Chain.{all_same, all_kept, all_at, all_from}
-use Rattle.p3l_template.specs.laws.Fan.{Fan, fan_of, Around, Holds, around_moves, one_moves, same_alike, each_begins, fan_empty, fan_fires, fan_drained, fan_lawful}
+use Rattle.p3l_template.specs.laws.Fan.{Fan, fan_of, Around, around_moves, one_moves, same_alike, each_begins, fan_empty, fan_fires, fan_drained, fan_lawful}
 use Rattle.p3l_template.specs.laws.Inside.{insides, channels_split, around_inside, times_le, line_length}
 use Rattle.p3l_template.specs.laws.Lists.{append_none, map_none, rest_append}
 use Rattle.p3l_template.specs.laws.Row.{numbers_length, numbers_at, stands_two}
@@ -177,9 +177,6 @@ module _ (net : Net) (units : Units) (roles : ℕ → Role) (node n : ℕ) (pos 
   fan : Fan net units roles n base Ps
   fan = fan_of net units roles n base Ps placed.good placed.inner
 
-  holds : Holds base n Ps (farm_part n units roles base Ps)
-  holds = record { input = refl; output = refl; proc_from = refl; proc_to = refl; chan_from = refl; chan_to = refl }
-
   view_is : (t : State) (e c : ℕ) (ls : List (List Token)) (i o : List Token) → (t.own base.proc).number ≡ e →
       (t.own (base.proc + 1)).number ≡ c → lines_of Ps t ≡ ls → t.tokens base.input ≡ i → t.tokens base.output ≡ o →
       view_of base Ps t ≡ record { next = e; least = c; lines = ls; input = i; output = o }
@@ -200,7 +197,7 @@ module _ (net : Net) (units : Units) (roles : ℕ → Role) (node n : ℕ) (pos 
   farm_reads : (s t : State) → IsSameInside (farm_part n units roles base Ps) s t → IsAlike (farm_part n units roles base Ps) s t
   unfolding to_come well_kept
   farm_reads s t same =
-      let alike = same_alike net units roles n base Ps fan (farm_part n units roles base Ps) holds s t same in
+      let alike = same_alike net units roles n base Ps fan farmed s t same in
       let ch : (c : ℕ) → base.chan ≤ c → c < base.chan + (n + n) → t.tokens c ≡ s.tokens c = λ c f l.
       same.tokens c f (omega (arith, l, fan.all.chans)) in
       let e : t.own base.proc ≡ s.own base.proc = same.own base.proc (le_refl _) (omega (arith, fan.all.procs)) in
@@ -250,9 +247,9 @@ module _ (net : Net) (units : Units) (roles : ℕ → Role) (node n : ℕ) (pos 
   farm_begins : (s : State) → IsFresh net (farm_part n units roles base Ps) s → Begins (farm_part n units roles base Ps) s
   unfolding to_come read
   farm_begins s fresh =
-      let each = each_begins net units roles n base Ps fan (farm_part n units roles base Ps) holds s fresh in
+      let each = each_begins net units roles n base Ps fan farmed s fresh in
       let ch =
-      fan_empty net units roles n base Ps fan (farm_part n units roles base Ps) holds placed.cap placed.laid s fresh in
+      fan_empty net units roles n base Ps fan farmed placed.cap placed.laid s fresh in
       let e : (s.own base.proc).number ≡ 0 =
       ap (λ o. o.number) (fresh.own base.proc (le_refl _) (omega (arith, fan.all.procs))) in
       let c : (s.own (base.proc + 1)).number ≡ 0 =
@@ -468,7 +465,8 @@ module _ (net : Net) (units : Units) (roles : ℕ → Role) (node n : ℕ) (pos 
         (collect_goes (roles 0).meaning (view_of base Ps s) k w _ _
         (omega (arith, low, lines_length Ps s, fan.all.count))
         (lines_at Ps s w (fan.all.within w low) ∙ fan.line_is s w _ _ _ low refl refl refl
-        ∙ ap (λ z. z ++ _) (front (s.tokens (base.chan + n + w)) fh.0)) fh.1) in
+        ∙ ap (λ z. z ++ ((get_or Ps w no_part).pending s ++ map (over (roles 0).meaning) (s.tokens (base.chan + w))))
+        (front (s.tokens (base.chan + n + w)) fh.0)) fh.1) in
         let c : (s.own (base.proc + 1)).number < (s.own base.proc).number =
         omega (arith, g.kept.count, collect_next, collect_least) in
         record {
@@ -547,18 +545,18 @@ module _ (net : Net) (units : Units) (roles : ℕ → Role) (node n : ℕ) (pos 
       Moves (farm_part n units roles base Ps) s t
   farm_moves s t p i way =
       let P = farm_part n units roles base Ps in
-      let own = around_moves net units roles n base Ps fan P holds s in
-      fan_fires net units roles n base Ps fan P holds s t p i way (Moves P s t)
+      let own = around_moves net units roles n base Ps fan farmed s in
+      fan_fires net units roles n base Ps fan farmed s t p i way (Moves P s t)
       (emit_goes_to s t (Moves P s) (λ w l _. own _ (emit_around s w l)))
       (collect_goes_to s t (Moves P s) (λ w l _. own _ (collect_around s w l)))
-      (one_moves net units roles n base Ps fan P holds s t)
+      (one_moves net units roles n base Ps fan farmed s t)
 
   farm_right : (s t : State) (p : ℕ) → IsInside (farm_part n units roles base Ps) p → MayFire units.tree units.leaf net s p t →
       (farm_part n units roles base Ps).orderly s ≡ true → Right s t
   farm_right s t p i way h =
       let a = and_parts (all_orderly Ps s) (well_kept (view_of base Ps s)) h in
       let k = kept_to (view_of base Ps s) a.1 in
-      fan_fires net units roles n base Ps fan (farm_part n units roles base Ps) holds s t p i way (Right s t)
+      fan_fires net units roles n base Ps fan farmed s t p i way (Right s t)
       (emit_goes_to s t (Right s) (λ w l full. emit_right s w l a.0 k full))
       (collect_goes_to s t (Right s) (λ w l f. collect_right s w l a.0 k f)) (λ one. worker_right s t one a.0 k)
 
@@ -593,7 +591,7 @@ module _ (net : Net) (units : Units) (roles : ℕ → Role) (node n : ℕ) (pos 
 
     worker_drained : (w : ℕ) → w < n → s.tokens (base.chan + n + w) ≡ [] → IsDrained (get_or Ps w no_part) s
     worker_drained =
-        fan_drained net units roles n base Ps fan (farm_part n units roles base Ps) holds s placed.chans parts_orderly quiet calm
+        fan_drained net units roles n base Ps fan farmed s placed.chans parts_orderly quiet calm
 
     -- no line begins with the number that is expected
     no_line : (w : ℕ) → w < n → front_is (s.own (base.proc + 1)).number (line (get_or Ps w no_part) s) ≡ false

@@ -1,5 +1,5 @@
 -- WHAT IS FOUND IN A MAP is what its part is.
-use Rattle.std.proofs.Common.{◌≡◌, ℕ, zero, suc, ◌+◌, ◌-◌, ◌%◌, ◌<◌, ◌&&◌, cond, not, nat_eq, nat_le, Bool, true, false, List, [], ◌∷◌, ◌++◌, map, length, refl, sym, ap, ap₂, ◌∙◌, arith, mod-lt}
+use Rattle.std.proofs.Common.{◌≡◌, ℕ, zero, suc, ◌+◌, ◌-◌, ◌%◌, ◌<◌, ◌&&◌, cond, not, nat_eq, nat_le, Bool, true, false, List, [], ◌∷◌, ◌++◌, map, length, refl, sym, ap, ap₂, ◌∙◌, arith}
 use Rattle.std.proofs.lemmas.List.{map-append, length-replicate}
 use Rattle.std.proofs.Math.Path.{fun_ext}
 use Rattle.p3l_firing.specs.At.{at}
@@ -10,7 +10,7 @@ use Rattle.p3l_firing.specs.declared.token.Token.{Token}
 use Rattle.p3l_map.specs.Map.{Pieces, View, spot, pieces, joined, unsent, under_way, whole, to_come, next_piece, scatter_ok, all_tagged, alike, all_alike, well_kept}
 use Rattle.p3l_map.specs.MapShape.{pieces_of, lines_of, view_of, map_part, map_shape}
 use Rattle.p3l_map.specs.Places.{read_by, all_empty, in_by, total, groups, left}
-use Rattle.p3l_map.specs.laws.Turns.{turns_same, total_same}
+use Rattle.p3l_map.specs.laws.Near.{near-come, near-kept}
 use Rattle.p3l_template.specs.Part.{Part, all_orderly}
 use Rattle.p3l_template.specs.Shape.{Base, Role, fan_seats}
 use Rattle.p3l_template.specs.Units.{Units}
@@ -194,46 +194,6 @@ found-bare number n L held sending sent =
     ∙ ap₂ (λ h x. found_by (bare_pieces number n)
     (record { lines = bare_lines L; held = h; sending = x; sent = sent; input = []; output = [] })) (sym (bares-bares held)) (sym (bares-bares sending))
     ∙ seen-found number n (record { lines = L; held = bares held; sending = bares sending; sent = sent; input = []; output = [] })
-
--- lines that are the same below n are as good
-turns-near : (number n c : ℕ) (L M : ℕ → List Token) → ((w : ℕ) → w < n → M w ≡ L w) →
-    (read_by M (λ p. (p % number) % n) c (total L n) ≡ read_by L (λ p. (p % number) % n) c (total L n))
-    × (in_by M (λ p. (p % number) % n) n c (total L n) ≡ in_by L (λ p. (p % number) % n) n c (total L n))
-unfolding read_by in_by total all_empty
-turns-near number zero c L M h = (refl, refl)
-turns-near number (suc n) c L M h =
-    turns_same (λ p. (p % number) % suc n) (suc n) (λ p. mod-lt (p % number) (omega arith)) (total L (suc n)) c L M h
-
-module _ (q : Pieces) (v : View) (M : ℕ → List Token) (h : (w : ℕ) → w < q.lines → M w ≡ v.lines w) where
-  abbrev near : View
-  near = record v { lines = M }
-
-  near-way : under_way q near ≡ under_way q v
-  near-way = total_same v.lines M q.lines h
-
-  near-turns : (read_by M (spot q) (length v.held) (under_way q v) ≡ read_by v.lines (spot q) (length v.held) (under_way q v))
-      × (in_by M (spot q) q.lines (length v.held) (under_way q v) ≡ in_by v.lines (spot q) q.lines (length v.held) (under_way q v))
-  unfolding spot
-  near-turns = turns-near q.number q.lines (length v.held) v.lines M h
-
-  near-whole : whole q near ≡ whole q v
-  unfolding whole
-  near-whole =
-      ap (λ m. v.held ++ (read_by M (spot q) (length v.held) m ++ unsent q v.sending v.sent)) near-way
-      ∙ ap (λ z. v.held ++ (z ++ unsent q v.sending v.sent)) near-turns.0
-
-  near-kept : well_kept q near ≡ well_kept q v
-  unfolding well_kept
-  near-kept =
-      λ i. nat_le (length v.held) q.number
-      && (nat_eq ((length v.held + near-way i) % q.number) (next_piece v.sending v.sent)
-      && ((ap (λ m. in_by M (spot q) q.lines (length v.held) m) near-way ∙ near-turns.1) i
-      && (nat_eq (length (left q.number [] (near-whole i))) 0
-      && (all_alike (groups q.number [] (near-whole i)) && scatter_ok q v.sending v.sent))))
-
-  near-come : to_come q near ≡ to_come q v
-  unfolding to_come
-  near-come = ap (λ z. map (joined q) (groups q.number [] z)) near-whole
 
 -- the lines that are seen
 line-bare : (s : State) (n w i o : ℕ) (parts : List Part) → AreSeated (fan_seats i o n) parts → w < n →

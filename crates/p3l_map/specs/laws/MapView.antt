@@ -8,7 +8,7 @@ use Rattle.std.proofs.lemmas.List.{map-append}
 use Rattle.p3l_firing.specs.Lists.{first_or, rest_of, has_first}
 use Rattle.p3l_firing.specs.At.{at}
 use Rattle.p3l_firing.proofs.TagLaw.{same_tags-refl}
-use Rattle.p3l_firing.specs.Token.{over, bodies, credit, same_tags}
+use Rattle.p3l_firing.specs.Token.{over, bodies, credit}
 use Rattle.p3l_firing.specs.declared.token.Token.{Token}
 use Rattle.p3l_map.specs.Map.{Pieces, spot, piece, pieces, outcomes, joined, mapped, View, unsent, under_way, whole, to_come, next_piece, scatter_ok, well_kept, all_tagged, alike, all_alike}
 use Rattle.p3l_map.specs.Places.{read_by, in_by, total, groups, left}

@@ -1,7 +1,7 @@
 -- Tokens that are taken by turns from n lines, place c from line spot c, for any such spot below n. Lines that are
 -- equal below n give the same (`turns_same`), and a token after the line whose turn comes is read last (`turns_more`).
 -- Where the same lines come in turn from two places on, the same is read (`read_moved`).
-use Rattle.std.proofs.Common.{◌≡◌, ℕ, zero, suc, ◌+◌, ◌<◌, ◌≢◌, inl, inr, not, ◌&&◌, true, false, List, [], ◌∷◌, ◌++◌, refl, sym, ap, ap₂, ◌∙◌, subst, arith, length}
+use Rattle.std.proofs.Common.{◌≡◌, ℕ, zero, suc, ◌+◌, ◌<◌, ◌≢◌, inl, inr, not, ◌&&◌, true, List, [], ◌∷◌, ◌++◌, refl, sym, ap, ap₂, ◌∙◌, subst, arith, length}
 use Rattle.std.proofs.Math.Path.{fun_ext}
 use Rattle.std.proofs.lemmas.Bool.{and_parts, and_from, cases_eq, not-true}
 use Rattle.p3l_firing.specs.Lists.{first_or, rest_of, has_first}

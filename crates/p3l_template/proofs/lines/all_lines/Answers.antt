@@ -1,5 +1,6 @@
-use Rattle.std.proofs.Common.{◌+◌, ◌++◌, ◌-◌, drop, ap, ◌∙◌, arith}
-use Rattle.p3l_template.specs.Shape.{fan_seats}
+use Rattle.std.proofs.Common.{◌+◌, ◌++◌, ◌-◌, drop, ap, ap₂, ◌∙◌, arith}
+use Rattle.p3l_template.specs.declared.template.Ports.{Ports}
+use Rattle.p3l_template.specs.Shape.{fan_seats, ports_of}
 use Rattle.p3l_template.specs.Lines.{lines_by}
 use Rattle.p3l_template.specs.Finding.{line_of}
 use Rattle.p3l_template.specs.Snapshot.{state_of}
@@ -18,7 +19,9 @@ loop-worker-preserved c =
     c.in_ok-push.ensures.ok
     ∙ lines_more s c.args.chan (c.args.chan + c.args.workers) c.args.workers c.loop-worker.worker c.args.inner.now c.index-inner-worker.result c.add_line.new.to c.loop-worker.lines
     c.loop-worker-test.true (omega (arith, c.loop-worker-test.true, c.requires.inner)) c.index-inner-worker.is
-    (c.in_ok-add_line.ensures ∙ ap (λ z. z ++ line_of s (c.args.chan + c.loop-worker.worker) ((c.args.chan + c.args.workers) + c.loop-worker.worker) c.index-inner-worker.result) c.new-line.ensures)
+    (c.in_ok-add_line.ensures
+    ∙ ap₂ (λ z (x : Ports). z ++ line_of s x.input x.output c.index-inner-worker.result) c.new-line.ensures
+    (c.ports-seat.ensures ∙ ap ports_of c.worker_seat.ensures))
     ∙ c.loop-worker.invariant
 
 pub returns : goal.returns
