@@ -9,7 +9,7 @@ pub const HEAD: &str =
 #include <stdint.h>
 #include <string.h>
 
-/* Warnings that a program's source earns, where it has a variable that is never read, a test that is
+/* Warnings that a program's source earns where it has a variable that is never read, a test that is
  * always the same, or no shift. From the engine on they count again. */
 #ifdef __GNUC__
 #pragma GCC diagnostic push
