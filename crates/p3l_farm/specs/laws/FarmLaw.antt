@@ -4,7 +4,7 @@
 use Rattle.std.proofs.Common.{◌≡◌, ℕ, zero, suc, ◌+◌, ◌-◌, ◌*◌, ◌≤◌, ◌<◌, ◌≢◌, inl, inr, ◌&&◌, Bool, true, false, Some, is_some, List, [], ◌∷◌, ◌++◌, map, length, get_or, refl, sym, ap, ap₂, ◌∙◌, subst, arith, append_assoc, length-append, le_refl, eqb-true, slice_get}
 use Rattle.std.proofs.lemmas.Bool.{and_parts, and_from, cases_Bool}
 use Rattle.std.proofs.lemmas.List.{map-append}
-use Rattle.p3l_farm.specs.Farm.{rising, all_rising, joined, to_come, well_kept, lines_of, dues, emit_proc, collect_proc, view_of, farm_part, farm_shape}
+use Rattle.p3l_farm.specs.Farm.{rising, all_rising, joined, to_come, well_kept, lines_of, dues, emit_proc, collect_proc, view_of, farmed, farm_part, farm_shape}
 use Rattle.p3l_firing.proofs.ChoiceLaw.{emptiest_is, due_in_is}
 use Rattle.p3l_farm.specs.laws.ViewLaw.{change, view_line, Kept, kept_to, kept_from, Goes, none_ready, each_empty, emit_view, emit_goes, collect_view, collect_goes}
 use Rattle.p3l_firing.specs.Fire.{row_can, can_fire}
@@ -24,8 +24,9 @@ use Rattle.p3l_template.specs.Shape.{Role, Base, numbers_from, fan_seats}
 use Rattle.p3l_template.specs.Units.{Units}
 use Rattle.p3l_template.specs.laws.BagLaw.{look_empty, read_length}
 use Rattle.p3l_template.specs.laws.Chain.{all_same, all_kept, all_at, all_from}
-use Rattle.p3l_template.specs.laws.Fan.{Fan, fan_of, Around, Holds, around_moves, one_moves, same_alike, each_begins, fan_empty, fan_fires, fan_drained, fan_lawful}
+use Rattle.p3l_template.specs.laws.Fan.{Fan, fan_of, Around, around_moves, one_moves, same_alike, each_begins, fan_empty, fan_fires, fan_drained, fan_lawful}
 use Rattle.p3l_template.specs.laws.Inside.{insides, channels_split, around_inside, times_le, line_length}
+use Rattle.p3l_template.specs.laws.Lists.{append_none, map_none, rest_append}
 use Rattle.p3l_template.specs.laws.Row.{numbers_length, numbers_at, stands_two}
 use Rattle.p3l_template.specs.laws.Rows.{front, way_at, cannot_at, emptied, and_right_true, room_when_empty}
 use Rattle.p3l_template.specs.laws.Touch.{passed, passed_in, passed_out, passed_other, passed_count, passed_own, passed_unsent, passed_sent, passed_emitted}
@@ -96,22 +97,6 @@ none_joined [] s h = (refl, refl)
 none_joined (P ∷ Ps) s h =
     let r = none_joined Ps s (λ w l. h (suc w) (omega arith)) in
     (ap₂ (λ x y. x ++ y) (h 0 (omega arith)) r.0, and_from _ _ (ap rising (h 0 (omega arith))) r.1)
-
-append_none : (xs ys : List Token) → xs ++ ys ≡ [] → (xs ≡ []) × (ys ≡ [])
-append_none [] ys h = (refl, h)
-append_none (x ∷ xs) ys h = cc
-
-map_none : (f : Token → Token) (xs : List Token) → map f xs ≡ [] → xs ≡ []
-map_none f [] h = refl
-map_none f (x ∷ xs) h = cc
-
-first_append : (xs ys : List Token) → has_first xs ≡ true → xs ++ ys ≡ first_or credit xs ∷ (rest_of xs ++ ys)
-first_append [] ys h = cc
-first_append (x ∷ xs) ys h = refl
-
-rest_append : (xs ys : List Token) → has_first xs ≡ true → rest_of (xs ++ ys) ≡ rest_of xs ++ ys
-rest_append [] ys h = cc
-rest_append (x ∷ xs) ys h = refl
 
 front_has : (c : ℕ) (xs : List Token) → front_is c xs ≡ true → (has_first xs ≡ true) × (newest_tag (first_or credit xs) ≡ c)
 unfolding front_is
@@ -192,9 +177,6 @@ module _ (net : Net) (units : Units) (roles : ℕ → Role) (node n : ℕ) (pos 
   fan : Fan net units roles n base Ps
   fan = fan_of net units roles n base Ps placed.good placed.inner
 
-  holds : Holds base n Ps (farm_part n roles base Ps)
-  holds = record { input = refl; output = refl; proc_from = refl; proc_to = refl; chan_from = refl; chan_to = refl }
-
   view_is : (t : State) (e c : ℕ) (ls : List (List Token)) (i o : List Token) → (t.own base.proc).number ≡ e →
       (t.own (base.proc + 1)).number ≡ c → lines_of Ps t ≡ ls → t.tokens base.input ≡ i → t.tokens base.output ≡ o →
       view_of base Ps t ≡ record { next = e; least = c; lines = ls; input = i; output = o }
@@ -203,19 +185,19 @@ module _ (net : Net) (units : Units) (roles : ℕ → Role) (node n : ℕ) (pos 
 
   all_due : (t : State) (a y e c : ℕ) → length (t.tokens base.input) ≡ a → dues Ps t ≡ y → (t.own base.proc).number ≡ e →
       (t.own (base.proc + 1)).number ≡ c →
-      due (farm_part n roles base Ps) t ≡ (2 + (roles 0).firings) * a + (y + (e - c))
+      due (farm_part n units roles base Ps) t ≡ (2 + (roles 0).firings) * a + (y + (e - c))
   unfolding due
   all_due t a y e c e1 e2 e3 e4 = λ i. (2 + (roles 0).firings) * e1 i + (e2 i + (e3 i - e4 i))
 
-  farm_line : (s : State) → line (farm_part n roles base Ps) s ≡ view_line (roles 0).meaning (view_of base Ps s)
+  farm_line : (s : State) → line (farm_part n units roles base Ps) s ≡ view_line (roles 0).meaning (view_of base Ps s)
   unfolding line view_line
   farm_line s = refl
 
   -- READS
-  farm_reads : (s t : State) → IsSameInside (farm_part n roles base Ps) s t → IsAlike (farm_part n roles base Ps) s t
+  farm_reads : (s t : State) → IsSameInside (farm_part n units roles base Ps) s t → IsAlike (farm_part n units roles base Ps) s t
   unfolding to_come well_kept
   farm_reads s t same =
-      let alike = same_alike net units roles n base Ps fan (farm_part n roles base Ps) holds s t same in
+      let alike = same_alike net units roles n base Ps fan farmed s t same in
       let ch : (c : ℕ) → base.chan ≤ c → c < base.chan + (n + n) → t.tokens c ≡ s.tokens c = λ c f l.
       same.tokens c f (omega (arith, l, fan.all.chans)) in
       let e : t.own base.proc ≡ s.own base.proc = same.own base.proc (le_refl _) (omega (arith, fan.all.procs)) in
@@ -262,12 +244,12 @@ module _ (net : Net) (units : Units) (roles : ℕ → Role) (node n : ℕ) (pos 
     rising = r;
   }
 
-  farm_begins : (s : State) → IsFresh net (farm_part n roles base Ps) s → Begins (farm_part n roles base Ps) s
+  farm_begins : (s : State) → IsFresh net (farm_part n units roles base Ps) s → Begins (farm_part n units roles base Ps) s
   unfolding to_come read
   farm_begins s fresh =
-      let each = each_begins net units roles n base Ps fan (farm_part n roles base Ps) holds s fresh in
+      let each = each_begins net units roles n base Ps fan farmed s fresh in
       let ch =
-      fan_empty net units roles n base Ps fan (farm_part n roles base Ps) holds placed.cap placed.laid s fresh in
+      fan_empty net units roles n base Ps fan farmed placed.cap placed.laid s fresh in
       let e : (s.own base.proc).number ≡ 0 =
       ap (λ o. o.number) (fresh.own base.proc (le_refl _) (omega (arith, fan.all.procs))) in
       let c : (s.own (base.proc + 1)).number ≡ 0 =
@@ -292,7 +274,7 @@ module _ (net : Net) (units : Units) (roles : ℕ → Role) (node n : ℕ) (pos 
   record Right (s t : State) : Type 0 where
     parts : all_orderly Ps t ≡ true
     goes : Goes (roles 0).meaning (view_of base Ps s) (view_of base Ps t)
-    work : due (farm_part n roles base Ps) t < due (farm_part n roles base Ps) s
+    work : due (farm_part n units roles base Ps) t < due (farm_part n units roles base Ps) s
 
   -- EMIT sends to worker w
   unfoldable emit_state : ℕ → State → State
@@ -483,7 +465,8 @@ module _ (net : Net) (units : Units) (roles : ℕ → Role) (node n : ℕ) (pos 
         (collect_goes (roles 0).meaning (view_of base Ps s) k w _ _
         (omega (arith, low, lines_length Ps s, fan.all.count))
         (lines_at Ps s w (fan.all.within w low) ∙ fan.line_is s w _ _ _ low refl refl refl
-        ∙ first_append (s.tokens (base.chan + n + w)) _ fh.0) fh.1) in
+        ∙ ap (λ z. z ++ ((get_or Ps w no_part).pending s ++ map (over (roles 0).meaning) (s.tokens (base.chan + w))))
+        (front (s.tokens (base.chan + n + w)) fh.0)) fh.1) in
         let c : (s.own (base.proc + 1)).number < (s.own base.proc).number =
         omega (arith, g.kept.count, collect_next, collect_least) in
         record {
@@ -558,28 +541,28 @@ module _ (net : Net) (units : Units) (roles : ℕ → Role) (node n : ℕ) (pos 
           }
 
   -- THE LAWS OF A FIRING
-  farm_moves : (s t : State) (p : ℕ) → IsInside (farm_part n roles base Ps) p → MayFire units.tree units.leaf net s p t →
-      Moves (farm_part n roles base Ps) s t
+  farm_moves : (s t : State) (p : ℕ) → IsInside (farm_part n units roles base Ps) p → MayFire units.tree units.leaf net s p t →
+      Moves (farm_part n units roles base Ps) s t
   farm_moves s t p i way =
-      let P = farm_part n roles base Ps in
-      let own = around_moves net units roles n base Ps fan P holds s in
-      fan_fires net units roles n base Ps fan P holds s t p i way (Moves P s t)
+      let P = farm_part n units roles base Ps in
+      let own = around_moves net units roles n base Ps fan farmed s in
+      fan_fires net units roles n base Ps fan farmed s t p i way (Moves P s t)
       (emit_goes_to s t (Moves P s) (λ w l _. own _ (emit_around s w l)))
       (collect_goes_to s t (Moves P s) (λ w l _. own _ (collect_around s w l)))
-      (one_moves net units roles n base Ps fan P holds s t)
+      (one_moves net units roles n base Ps fan farmed s t)
 
-  farm_right : (s t : State) (p : ℕ) → IsInside (farm_part n roles base Ps) p → MayFire units.tree units.leaf net s p t →
-      (farm_part n roles base Ps).orderly s ≡ true → Right s t
+  farm_right : (s t : State) (p : ℕ) → IsInside (farm_part n units roles base Ps) p → MayFire units.tree units.leaf net s p t →
+      (farm_part n units roles base Ps).orderly s ≡ true → Right s t
   farm_right s t p i way h =
       let a = and_parts (all_orderly Ps s) (well_kept (view_of base Ps s)) h in
       let k = kept_to (view_of base Ps s) a.1 in
-      fan_fires net units roles n base Ps fan (farm_part n roles base Ps) holds s t p i way (Right s t)
+      fan_fires net units roles n base Ps fan farmed s t p i way (Right s t)
       (emit_goes_to s t (Right s) (λ w l full. emit_right s w l a.0 k full))
       (collect_goes_to s t (Right s) (λ w l f. collect_right s w l a.0 k f)) (λ one. worker_right s t one a.0 k)
 
   -- DRAIN
-  module _ (s : State) (h : (farm_part n roles base Ps).orderly s ≡ true)
-      (quiet : (p : ℕ) → IsInside (farm_part n roles base Ps) p → can_fire units.tree net s p ≡ false)
+  module _ (s : State) (h : (farm_part n units roles base Ps).orderly s ≡ true)
+      (quiet : (p : ℕ) → IsInside (farm_part n units roles base Ps) p → can_fire units.tree net s p ≡ false)
       (calm : has_trap s.emitted ≡ false) (room : has_room net s base.output ≡ true) where
     parts_orderly : all_orderly Ps s ≡ true
     parts_orderly = (and_parts (all_orderly Ps s) (well_kept (view_of base Ps s)) h).0
@@ -608,7 +591,7 @@ module _ (net : Net) (units : Units) (roles : ℕ → Role) (node n : ℕ) (pos 
 
     worker_drained : (w : ℕ) → w < n → s.tokens (base.chan + n + w) ≡ [] → IsDrained (get_or Ps w no_part) s
     worker_drained =
-        fan_drained net units roles n base Ps fan (farm_part n roles base Ps) holds s placed.chans parts_orderly quiet calm
+        fan_drained net units roles n base Ps fan farmed s placed.chans parts_orderly quiet calm
 
     -- no line begins with the number that is expected
     no_line : (w : ℕ) → w < n → front_is (s.own (base.proc + 1)).number (line (get_or Ps w no_part) s) ≡ false
@@ -656,12 +639,12 @@ module _ (net : Net) (units : Units) (roles : ℕ → Role) (node n : ℕ) (pos 
               ∙ f.rooms 0 (omega (arith, pos, numbers_length base.chan n)) in cc
         ])
 
-    farm_drained : IsDrained (farm_part n roles base Ps) s
+    farm_drained : IsDrained (farm_part n units roles base Ps) s
     unfolding to_come read
     farm_drained =
         record { input = emit_waits; pending = ap (λ z. read z (s.own (base.proc + 1)).number (length z)) no_token }
 
-  farm_size : (s : State) → (farm_part n roles base Ps).orderly s ≡ true → IsSized (farm_part n roles base Ps) s
+  farm_size : (s : State) → (farm_part n units roles base Ps).orderly s ≡ true → IsSized (farm_part n units roles base Ps) s
   unfolding inside to_come
   farm_size s h =
       let a = and_parts (all_orderly Ps s) (well_kept (view_of base Ps s)) h in
@@ -674,7 +657,7 @@ module _ (net : Net) (units : Units) (roles : ℕ → Role) (node n : ℕ) (pos 
       let c = channels_split s base.chan n n in
       let p = seats_all net units roles (base.proc + 2) (base.chan + (n + n)) base.chan
       (base.chan + n) n Ps placed.inner s in
-      let m = times_le (2 + (roles 0).firings) (seats_hold Ps s + insides Ps s) (inside (farm_part n roles base Ps) s)
+      let m = times_le (2 + (roles 0).firings) (seats_hold Ps s + insides Ps s) (inside (farm_part n units roles base Ps) s)
       (omega (arith, i, c, p)) in
       record {
         owed = omega (arith, d, k.count, m);
@@ -682,7 +665,7 @@ module _ (net : Net) (units : Units) (roles : ℕ → Role) (node n : ℕ) (pos 
             omega (arith, read_length (joined (lines_of Ps s)) (s.own (base.proc + 1)).number k.numbered, b, i, c, p);
       }
 
-  farm_law : IsLawfulPart net units (farm_part n roles base Ps)
+  farm_law : IsLawfulPart net units (farm_part n units roles base Ps)
   farm_law = record {
     procs = omega (arith, fan.all.procs);
     chans = omega (arith, fan.all.chans);
@@ -702,5 +685,5 @@ module _ (net : Net) (units : Units) (roles : ℕ → Role) (node n : ℕ) (pos 
 
 pub farm_lawful : (node n : ℕ) → 0 < n → IsLawfulShape (farm_shape node n)
 farm_lawful node n pos =
-    fan_lawful Emit Collect node n (farm_shape node n) pos
+    fan_lawful Emit Collect node n farmed pos
     (λ net units roles base parts placed. farm_law net units roles node n pos base parts placed)
