@@ -1,22 +1,46 @@
--- Commands of `clap` as tables of their words.
-use Rattle.std.specs.Prelude.{List, Some, fold, true}
+-- The command that a first word names, and the names of values.
+use Rattle.std.specs.Prelude.{List, Option, bytes_eq, codes, find, map}
 use Rattle.std.specs.Borrow.{Bor}
-use Rattle.clap.specs.Words.{App, Rule, Text, new_rule, with_rule}
-use Rattle.clap.specs.declared.builder.action.ArgAction.TheVariants.{SetTrue}
-use Rattle.p3l_opts.specs.declared.table.Spelling.{Spelling}
-use Rattle.p3l_opts.specs.declared.table.Spelling.TheVariants.{Positional, Mandatory, Optional, Flag}
+use Rattle.clap.specs.Words.{Text}
+use Rattle.p3l_opts.specs.declared.table.TheConstants.{COMMANDS}
+use Rattle.p3l_opts.specs.declared.table.Value.{Value}
+use Rattle.p3l_opts.specs.declared.table.Value.TheVariants as value
+use Rattle.p3l_opts.specs.declared.table.Verb.{Verb}
+use Rattle.p3l_opts.specs.declared.table.Word.{Word}
 
--- what is declared to `clap` of a word of this spelling
-abbrev pub rule_for : Text → Spelling → Rule
-rule_for name Positional = record (new_rule name) { required = true }
-rule_for name Mandatory = record (new_rule name) { long = Some name; required = true }
-rule_for name Optional = record (new_rule name) { long = Some name }
-rule_for name Flag = record (new_rule name) { long = Some name; action = Some SetTrue }
+-- a command: its action, its first word and the words that may come after it
+abbrev pub Entry : Type 0
+Entry = Verb × Text × List Word
 
--- the command with one word more
-abbrev pub with_word : App → Bor Text × Spelling → App
-with_word app word = with_rule app (rule_for word.0.now word.1)
+-- the same, of an entry in memory
+abbrev pub shown : Verb × Bor Text × Bor (List Word) → Entry
+shown entry = (entry.0, entry.1.now, entry.2.now)
 
--- the command with these words more
-abbrev pub app_with : App → List (Bor Text × Spelling) → App
-app_with app words = fold with_word app words
+-- all commands, as the table has them
+unfoldable pub entries : List Entry
+entries = map (λ entry. (entry.0, entry.1.now, entry.2.now)) COMMANDS
+
+-- the command whose first word this is
+unfoldable pub entry_named : Text → Option Entry
+entry_named word = find (λ entry. bytes_eq entry.1 word) entries
+
+-- the name of a value
+abbrev pub name_of : Value → Text
+name_of value.Program = codes "program"
+name_of value.Image = codes "image"
+name_of value.Snapshot = codes "snapshot"
+name_of value.Number = codes "number"
+name_of value.Processors = codes "processors"
+name_of value.Segments = codes "segments"
+name_of value.Capacity = codes "capacity"
+name_of value.Items = codes "items"
+name_of value.Schedule = codes "schedule"
+name_of value.Recorded = codes "schedule"
+name_of value.Costs = codes "costs"
+name_of value.Output = codes "output"
+name_of value.Cert = codes "cert"
+name_of value.Trace = codes "trace"
+name_of value.Picks = codes "picks"
+name_of value.Save = codes "save"
+name_of value.Stats = codes "stats"
+name_of value.Processes = codes "processes"
