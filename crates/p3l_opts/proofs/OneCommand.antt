@@ -9,8 +9,8 @@ use Rattle.p3l_opts.specs.declared.command.Command.TheVariants as command
 use Rattle.p3l_opts.specs.declared.command.Exported.{Exported}
 use Rattle.p3l_opts.specs.declared.command.Sched.{Sched}
 use Rattle.p3l_opts.specs.declared.command.Sched.TheVariants as sched
-use Rattle.p3l_opts.specs.declared.table.Range.{Range}
-use Rattle.p3l_opts.specs.declared.table.TheConstants.{ADVISED, CAPACITY, ITEMS, PROCESSORS, SEGMENTS}
+use Rattle.p3l_opts.specs.declared.word.Range.{Range}
+use Rattle.p3l_opts.specs.declared.word.TheConstants.{ADVISED, CAPACITY, ITEMS, PROCESSORS, SEGMENTS}
 use Rattle.p3l_opts.specs.App.{rows}
 use Rattle.p3l_opts.specs.Command.{HasBuild, HasChoice, HasCount, HasExported, HasNumber, HasSchedule, HasValues, IsCount, SpellsSchedule, verb_of}
 use Rattle.p3l_opts.specs.Table.{Entry}

@@ -2,9 +2,10 @@
 use Rattle.std.specs.Prelude.{List, Some, fold, true}
 use Rattle.clap.specs.Words.{App, Kinds, Row, Rule, Text, fault_of, matches_of, new_app, new_rule, with_rule}
 use Rattle.clap.specs.declared.builder.action.ArgAction.TheVariants.{SetTrue}
-use Rattle.p3l_opts.specs.declared.table.Word.{Word}
-use Rattle.p3l_opts.specs.declared.table.Word.TheVariants.{Positional, Mandatory, Optional, Flag}
-use Rattle.p3l_opts.specs.Table.{Entry, name_of}
+use Rattle.p3l_opts.specs.declared.word.Word.{Word}
+use Rattle.p3l_opts.specs.declared.word.Word.TheVariants.{Positional, Mandatory, Optional, Flag}
+use Rattle.p3l_opts.specs.Table.{Entry}
+use Rattle.p3l_opts.specs.Word.{name_of}
 
 -- what is declared to `clap` of a word
 abbrev pub rule_for : Word → Rule

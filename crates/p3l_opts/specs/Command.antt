@@ -13,14 +13,15 @@ use Rattle.p3l_opts.specs.declared.command.OptsRefusal.{OptsRefusal}
 use Rattle.p3l_opts.specs.declared.command.OptsRefusal.TheVariants.{NoMemory, Usage}
 use Rattle.p3l_opts.specs.declared.command.Sched.{Sched}
 use Rattle.p3l_opts.specs.declared.command.Sched.TheVariants as sched
-use Rattle.p3l_opts.specs.declared.table.Range.{Range}
-use Rattle.p3l_opts.specs.declared.table.TheConstants.{ADVISED, CAPACITY, ITEMS, PROCESSORS, SEGMENTS}
-use Rattle.p3l_opts.specs.declared.table.Value.{Value}
-use Rattle.p3l_opts.specs.declared.table.Value.TheVariants.{Capacity, Cert, Costs, Image, Items, Number, Output, Picks, Processes, Processors, Program, Recorded, Save, Schedule, Segments, Snapshot, Stats, Trace}
+use Rattle.p3l_opts.specs.declared.word.Range.{Range}
+use Rattle.p3l_opts.specs.declared.word.TheConstants.{ADVISED, CAPACITY, ITEMS, PROCESSORS, SEGMENTS}
+use Rattle.p3l_opts.specs.declared.word.Value.{Value}
+use Rattle.p3l_opts.specs.declared.word.Value.TheVariants.{Capacity, Cert, Costs, Image, Items, Number, Output, Picks, Processes, Processors, Program, Recorded, Save, Schedule, Segments, Snapshot, Stats, Trace}
 use Rattle.p3l_opts.specs.declared.table.Verb.{Verb}
 use Rattle.p3l_opts.specs.declared.table.Verb.TheVariants as verb
 use Rattle.p3l_opts.specs.App.{faults, rows}
-use Rattle.p3l_opts.specs.Table.{Entry, entry_named, name_of}
+use Rattle.p3l_opts.specs.Table.{Entry, entry_named}
+use Rattle.p3l_opts.specs.Word.{name_of}
 
 -- the texts of the words
 abbrev pub texts_of : List (Bor Text) → List Text

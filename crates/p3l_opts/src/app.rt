@@ -6,7 +6,8 @@ ghost use Rattle.clap.specs.Words.{app_of, rule_of};
 ghost use Rattle.p3l_opts.specs.App.{app_for, rule_for};
 ghost use Rattle.p3l_opts.specs.Table.{shown};
 
-use crate::table::{Entry, Word};
+use crate::table::Entry;
+use crate::word::Word;
 use clap::{Arg, ArgAction, Command};
 use p3l_base::NoMemory;
 use std::alloc::Global;

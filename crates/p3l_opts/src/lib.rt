@@ -8,6 +8,7 @@ pub mod laws;
 mod matches;
 pub mod table;
 mod value;
+pub mod word;
 mod words;
 
 pub use command::{Build, Command, Exported, OptsRefusal, Sched};

@@ -11,8 +11,9 @@ ghost use Rattle.p3l_opts.specs.Wanted.{ClapWanted};
 
 use crate::app::clap_command;
 use crate::command::{OptsRefusal, Sched};
-use crate::table::{CAPACITY, Entry, Range, Value};
+use crate::table::Entry;
 use crate::value::{count_of, number_in, schedule_of};
+use crate::word::{CAPACITY, Range, Value};
 use clap::error::ErrorKind;
 use clap::{ArgMatches, Error};
 use p3l_base::{Name, NoMemory};

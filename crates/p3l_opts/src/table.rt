@@ -2,9 +2,14 @@
 
 ghost use Rattle.std.specs.Prelude.{◌≡◌, bytes_eq, find};
 ghost use Rattle.std.specs.Option.{option_map};
-ghost use Rattle.p3l_opts.specs.Table.{entry_named, name_of, shown};
+ghost use Rattle.p3l_opts.specs.Table.{entry_named, shown};
 
-use p3l_base::limits::{MOST_PROCESSORS, MOST_TOKENS, MOST_WORKERS};
+use crate::word::Value::{
+    Capacity, Cert, Costs, Image, Items, Number, Output, Picks, Processes, Processors, Program,
+    Recorded, Save, Schedule, Segments, Snapshot, Stats, Trace,
+};
+use crate::word::Word;
+use crate::word::Word::{Flag, Mandatory, Optional, Positional};
 
 /// The action of a command, named by its first word.
 #[derive(Clone, Copy, Drop)]
@@ -30,317 +35,166 @@ pub enum Verb {
     Resume,
 }
 
-/// A value that words may have for a command.
-#[derive(Clone, Copy, Drop)]
-pub enum Value {
-    /// The name of a program's file.
-    Program,
-    /// The name of an image's file.
-    Image,
-    /// The name of a snapshot's file.
-    Snapshot,
-    /// A number of 32 bits.
-    Number,
-    /// A count of processors.
-    Processors,
-    /// A count of segments.
-    Segments,
-    /// The most tokens in a channel.
-    Capacity,
-    /// A count of items.
-    Items,
-    /// The way in which picks are made.
-    Schedule,
-    /// The same, where the picks must be those of a file.
-    Recorded,
-    /// The name of a file of costs.
-    Costs,
-    /// The name of the file that is written.
-    Output,
-    /// The name of a certificate's file.
-    Cert,
-    /// The name of a trace's file.
-    Trace,
-    /// The name of the file that picks are written to.
-    Picks,
-    /// The text with which the names of saved files begin.
-    Save,
-    /// A request to report the numbers of a run.
-    Stats,
-    /// A request to write the processes of each node.
-    Processes,
-}
-
-/// A word that comes after the first word of a command, by the value that it has.
-#[derive(Clone, Copy, Drop)]
-pub enum Word {
-    /// `VALUE`, which has to be there.
-    Positional(Value),
-    /// `--name VALUE`, which has to be there.
-    Mandatory(Value),
-    /// `--name VALUE`.
-    Optional(Value),
-    /// `--name`.
-    Flag(Value),
-}
-
 /// A command: its action, its first word, and the words that may come after it.
 pub type Entry = (Verb, &'static str, &'static [Word]);
 
-/// A range of counts.
-#[derive(Clone, Copy, Drop)]
-pub struct Range {
-    /// The greatest count; the least is 1.
-    pub most: u32,
-    /// The count where no word spells one; without it, one must.
-    pub default: Option<u32>,
-}
-
-/// The counts of processors.
-pub const PROCESSORS: Range = Range {
-    most: MOST_PROCESSORS,
-    default: None,
-};
-
-/// The counts of processors up to which advice is given.
-pub const ADVISED: Range = Range {
-    most: MOST_PROCESSORS,
-    default: Some(MOST_PROCESSORS),
-};
-
-/// The counts of segments.
-pub const SEGMENTS: Range = Range {
-    most: MOST_WORKERS,
-    default: None,
-};
-
-/// The counts of tokens that a channel may hold.
-pub const CAPACITY: Range = Range {
-    most: MOST_TOKENS,
-    default: Some(4),
-};
-
-/// The counts of items that may be generated.
-pub const ITEMS: Range = Range {
-    most: 100_000,
-    default: Some(1000),
-};
-
 /// All commands.
 pub const COMMANDS: [(Verb, &str, &[Word]); 19] = [
-    (Verb::Check, "check", &[Word::Positional(Value::Program)]),
-    (Verb::Fmt, "fmt", &[Word::Positional(Value::Program)]),
+    (Verb::Check, "check", &[Positional(Program)]),
+    (Verb::Fmt, "fmt", &[Positional(Program)]),
     (
         Verb::Explain,
         "explain",
         &[
-            Word::Positional(Value::Program),
-            Word::Mandatory(Value::Processors),
-            Word::Optional(Value::Costs),
-            Word::Optional(Value::Cert),
+            Positional(Program),
+            Mandatory(Processors),
+            Optional(Costs),
+            Optional(Cert),
         ],
     ),
     (
         Verb::Advise,
         "advise",
         &[
-            Word::Positional(Value::Program),
-            Word::Optional(Value::Processors),
-            Word::Optional(Value::Costs),
-            Word::Flag(Value::Processes),
+            Positional(Program),
+            Optional(Processors),
+            Optional(Costs),
+            Flag(Processes),
         ],
     ),
     (
         Verb::Compile,
         "compile",
         &[
-            Word::Positional(Value::Program),
-            Word::Mandatory(Value::Processors),
-            Word::Mandatory(Value::Output),
-            Word::Optional(Value::Costs),
-            Word::Optional(Value::Capacity),
+            Positional(Program),
+            Mandatory(Processors),
+            Mandatory(Output),
+            Optional(Costs),
+            Optional(Capacity),
         ],
     ),
     (
         Verb::Run,
         "run",
         &[
-            Word::Positional(Value::Program),
-            Word::Mandatory(Value::Processors),
-            Word::Optional(Value::Costs),
-            Word::Optional(Value::Schedule),
-            Word::Optional(Value::Capacity),
-            Word::Optional(Value::Trace),
-            Word::Flag(Value::Stats),
+            Positional(Program),
+            Mandatory(Processors),
+            Optional(Costs),
+            Optional(Schedule),
+            Optional(Capacity),
+            Optional(Trace),
+            Flag(Stats),
         ],
     ),
     (
         Verb::Exec,
         "exec",
         &[
-            Word::Positional(Value::Image),
-            Word::Optional(Value::Schedule),
-            Word::Optional(Value::Trace),
-            Word::Flag(Value::Stats),
+            Positional(Image),
+            Optional(Schedule),
+            Optional(Trace),
+            Flag(Stats),
         ],
     ),
     (
         Verb::Migrate,
         "migrate",
-        &[
-            Word::Positional(Value::Image),
-            Word::Mandatory(Value::Output),
-        ],
+        &[Positional(Image), Mandatory(Output)],
     ),
     (
         Verb::Export,
         "export",
         &[
-            Word::Positional(Value::Program),
-            Word::Mandatory(Value::Processors),
-            Word::Mandatory(Value::Output),
-            Word::Optional(Value::Costs),
-            Word::Optional(Value::Capacity),
+            Positional(Program),
+            Mandatory(Processors),
+            Mandatory(Output),
+            Optional(Costs),
+            Optional(Capacity),
         ],
     ),
     (
         Verb::Graph,
         "graph",
         &[
-            Word::Positional(Value::Program),
-            Word::Mandatory(Value::Processors),
-            Word::Optional(Value::Costs),
-            Word::Optional(Value::Capacity),
+            Positional(Program),
+            Mandatory(Processors),
+            Optional(Costs),
+            Optional(Capacity),
         ],
     ),
     (
         Verb::VerifyCert,
         "verify-cert",
-        &[
-            Word::Positional(Value::Program),
-            Word::Mandatory(Value::Cert),
-            Word::Optional(Value::Costs),
-        ],
+        &[Positional(Program), Mandatory(Cert), Optional(Costs)],
     ),
     (
         Verb::CheckTrace,
         "check-trace",
         &[
-            Word::Positional(Value::Program),
-            Word::Mandatory(Value::Processors),
-            Word::Mandatory(Value::Trace),
-            Word::Optional(Value::Costs),
-            Word::Optional(Value::Capacity),
+            Positional(Program),
+            Mandatory(Processors),
+            Mandatory(Trace),
+            Optional(Costs),
+            Optional(Capacity),
         ],
     ),
     (
         Verb::Gen,
         "gen",
         &[
-            Word::Positional(Value::Number),
-            Word::Mandatory(Value::Processors),
-            Word::Optional(Value::Items),
-            Word::Optional(Value::Schedule),
-            Word::Optional(Value::Save),
+            Positional(Number),
+            Mandatory(Processors),
+            Optional(Items),
+            Optional(Schedule),
+            Optional(Save),
         ],
     ),
     (
         Verb::Rewrite,
         "rewrite",
-        &[
-            Word::Positional(Value::Program),
-            Word::Mandatory(Value::Processors),
-            Word::Optional(Value::Costs),
-        ],
+        &[Positional(Program), Mandatory(Processors), Optional(Costs)],
     ),
-    (
-        Verb::Profile,
-        "profile",
-        &[Word::Positional(Value::Program)],
-    ),
+    (Verb::Profile, "profile", &[Positional(Program)]),
     (
         Verb::Time,
         "time",
         &[
-            Word::Positional(Value::Program),
-            Word::Mandatory(Value::Processors),
-            Word::Optional(Value::Costs),
-            Word::Optional(Value::Capacity),
-            Word::Optional(Value::Picks),
+            Positional(Program),
+            Mandatory(Processors),
+            Optional(Costs),
+            Optional(Capacity),
+            Optional(Picks),
         ],
     ),
     (
         Verb::Scan,
         "scan",
         &[
-            Word::Positional(Value::Program),
-            Word::Mandatory(Value::Segments),
-            Word::Optional(Value::Schedule),
-            Word::Optional(Value::Capacity),
-            Word::Flag(Value::Stats),
+            Positional(Program),
+            Mandatory(Segments),
+            Optional(Schedule),
+            Optional(Capacity),
+            Flag(Stats),
         ],
     ),
     (
         Verb::Save,
         "save",
         &[
-            Word::Positional(Value::Program),
-            Word::Mandatory(Value::Processors),
-            Word::Mandatory(Value::Recorded),
-            Word::Mandatory(Value::Output),
-            Word::Optional(Value::Costs),
-            Word::Optional(Value::Capacity),
+            Positional(Program),
+            Mandatory(Processors),
+            Mandatory(Recorded),
+            Mandatory(Output),
+            Optional(Costs),
+            Optional(Capacity),
         ],
     ),
     (
         Verb::Resume,
         "resume",
-        &[
-            Word::Positional(Value::Snapshot),
-            Word::Optional(Value::Schedule),
-            Word::Flag(Value::Stats),
-        ],
+        &[Positional(Snapshot), Optional(Schedule), Flag(Stats)],
     ),
 ];
-
-impl Value {
-    /// Returns the name by which `clap` and options have the value.
-    pub(crate) fn name<'a>(self) -> &'a str
-        ensures { result.now ≡ name_of self }
-    {
-        match self {
-            Value::Program => "program",
-            Value::Image => "image",
-            Value::Snapshot => "snapshot",
-            Value::Number => "number",
-            Value::Processors => "processors",
-            Value::Segments => "segments",
-            Value::Capacity => "capacity",
-            Value::Items => "items",
-            Value::Schedule | Value::Recorded => "schedule",
-            Value::Costs => "costs",
-            Value::Output => "output",
-            Value::Cert => "cert",
-            Value::Trace => "trace",
-            Value::Picks => "picks",
-            Value::Save => "save",
-            Value::Stats => "stats",
-            Value::Processes => "processes",
-        }
-    }
-}
-
-impl Word {
-    /// Returns the value that the word has.
-    pub(crate) fn value(self) -> Value {
-        match self {
-            Word::Positional(value)
-            | Word::Mandatory(value)
-            | Word::Optional(value)
-            | Word::Flag(value) => value,
-        }
-    }
-}
 
 /// Returns the first of these commands whose first word this is.
 fn entry_among<'a>(entries: &'a [Entry], word: &str) -> Option<&'a Entry>

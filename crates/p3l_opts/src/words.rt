@@ -12,9 +12,8 @@ use crate::matches::{
     capacity_if_given, count_in, count_spelled, is_given, matches_of, name_if_given, name_of,
     number_of, schedule_in, text_of,
 };
-use crate::table::{
-    ADVISED, CAPACITY, Entry, ITEMS, PROCESSORS, Range, SEGMENTS, Value, Verb, entry_named,
-};
+use crate::table::{Entry, Verb, entry_named};
+use crate::word::{ADVISED, CAPACITY, ITEMS, PROCESSORS, Range, SEGMENTS, Value};
 use clap::ArgMatches;
 use p3l_base::Name;
 use std::alloc::Global;
