@@ -275,10 +275,7 @@ pub fn load_linked<F: Files>(alloc: Global, build: Build, files: &mut F) -> Resu
     ensures wants { IfErr result (Wants F.may_want) }
 {
     let capacity = build.capacity;
-    let allotted = match allot(alloc, build, files) {
-        Ok(allotted) => allotted,
-        Err(verdict) => return Err(verdict),
-    };
+    let allotted = allot(alloc, build, files)?;
     match link_allotted(alloc, allotted, capacity) {
         Ok(linked) => Ok(linked),
         Err(_) => Err(Verdict::NoMemory),
