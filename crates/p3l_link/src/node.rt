@@ -11,7 +11,9 @@ use p3l_loop::LoopTemplate;
 use p3l_map::MapTemplate;
 use p3l_reduce::ReduceTemplate;
 use p3l_skel::Tree;
-use p3l_template::{Builder, Kind, PipeTemplate, Place, Ports, RunTemplate, Seat, Snapshot, Template, Width};
+use p3l_template::{
+    Builder, Kind, PipeTemplate, Place, Ports, RunTemplate, Seat, Snapshot, Template, Width,
+};
 use std::alloc::Global;
 
 /// The template of a node, one variant a kind: what is asked of it, its kind answers.

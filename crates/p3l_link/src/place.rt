@@ -55,16 +55,7 @@ pub(crate) fn place_node(
             input: seat.input,
             output: seat.output,
         };
-        place_node(
-            alloc,
-            tree,
-            counts,
-            levels - 1,
-            part,
-            builder,
-            &inner,
-            cap,
-        )?;
+        place_node(alloc, tree, counts, levels - 1, part, builder, &inner, cap)?;
     }
     Ok(())
 }
