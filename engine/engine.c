@@ -40,6 +40,9 @@
  * emitted as items sent, when the sink has met a trap, or when writing has failed. Each rank then
  * says goodbye to those with which it shares a wire, and leaves when all of them have said it.
  */
+#ifdef __GNUC__
+#pragma GCC diagnostic pop
+#endif
 #include <errno.h>
 #include <fcntl.h>
 #include <poll.h>

@@ -36,8 +36,6 @@ import c_texts
 ROOT = pathlib.Path(__file__).resolve().parent.parent
 EXAMPLES = ROOT / "examples"
 WARNINGS = ["-std=c11", "-Wall", "-Wextra", "-Werror"]
-# What a program's own source may earn: a variable that is never read, a test that is always the same.
-WARNINGS += ["-Wno-unused-variable", "-Wno-unused-but-set-variable", "-Wno-tautological-compare"]
 SANITIZED = ["-g", "-fsanitize=address,undefined", "-fno-sanitize-recover=all"]
 # The compiler warns of more where it optimizes, and then takes twice as long.
 OPTIMIZED, PLAIN = "-O1", "-O0"

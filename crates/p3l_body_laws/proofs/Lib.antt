@@ -1,3 +1,5 @@
+pub mod Numbers
+pub mod Programs
 pub mod Nested
 pub mod Lengths
 pub mod Passages

@@ -21,10 +21,10 @@ use Rattle.p3l_skel.specs.declared.tree.Tree.{Tree}
 use Rattle.p3l_skel.specs.Tree.{nesting}
 use Rattle.p3l_skel.specs.Lawful as lawful
 use Rattle.p3l_skel.specs.Lawful.{HasKind, IsLawfulNode, IsLawfulTree}
-use Rattle.p3l_unfold.specs.declared.wired.Wired.{Wired}
-use Rattle.p3l_unfold.specs.Wiring.{module_at}
-use Rattle.p3l_unfold.specs.Unfolding.{instances_of, instance, tree_of}
-use Rattle.p3l_unfold.proofs.Instances.{instance-step, instance-none}
+use Rattle.p3l_check.specs.declared.wired.Wired.{Wired}
+use Rattle.p3l_check.specs.Wiring.{module_at}
+use Rattle.p3l_check.specs.Unfolding.{instances_of, instance, tree_of}
+use Rattle.p3l_check.proofs.Instances.{instance-step, instance-none}
 use Rattle.p3l_calls.specs.Port as ports
 use Rattle.p3l_check.specs.declared.skeleton.Skeleton.{Skeleton}
 use Rattle.p3l_check.specs.declared.defined.Defined.{Defined}

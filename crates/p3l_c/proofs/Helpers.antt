@@ -65,25 +65,21 @@ signed_is u h = by (nat_lt u (2 ^ 63)) refl
 back_of : (a : ℕ) → negsuc 0 -ℤ negsuc a ≡ pos a
 back_of a = omega (arith, ints)
 
-shifted_is : (n k : ℕ) → k < 64 → shifted_down n (pos k) ≡ Some (n / 2 ^ k)
-shifted_is n k h = ap (λ b. cond b (Some (n / 2 ^ k)) None) (lt_true k 64 h)
+shifted_is : (n k : ℕ) → k < 64 → shifted_down (pos n) (pos k) ≡ Some (pos (n / 2 ^ k))
+shifted_is n k h = ap (λ b. cond b (Some (pos (n / 2 ^ k))) None) (lt_true k 64 h)
 
 -- the call of p3l_shr moves the bits down, and the sign stays
 pub shr_is : (x : ℤ) (k : ℕ) → FitsSigned w64 x → k < 64 → shr_call x (pos k) ≡ Some (int_shr x k)
 unfolding shr_call
 shr_is (pos a) k f h =
-    let small : a / 2 ^ k < 2 ^ 63 = (let s : a < 2 ^ 63 = f.sfits in omega (arith, div-le_self a (2 ^ k))) in
-    ap (λ b. cond b (by a k) (some_then (shifted_down a (pos k)) narrowed)) (lt_false a 0 (omega arith))
-    ∙ ap (λ o. some_then o narrowed) (shifted_is a k h)
-    ∙ narrowed_small (a / 2 ^ k) small
+    ap (λ b. cond b (by a k) (shifted_down (pos a) (pos k))) (lt_false a 0 (omega arith)) ∙ shifted_is a k h
   where
     by : ℕ → ℕ → Option ℤ
-    by a k = some_then (some_then (some_then (some_then (ranged (negsuc 0 -ℤ pos a)) (λ v. Some (cast_unsigned w64 v))) (λ n. shifted_down n (pos k))) narrowed) (λ w. ranged (negsuc 0 -ℤ w))
+    by a k = some_then (some_then (ranged (negsuc 0 -ℤ pos a)) (λ v. shifted_down v (pos k))) (λ w. ranged (negsuc 0 -ℤ w))
 shr_is (negsuc a) k f h =
     let s : a < 2 ^ 63 = f.sfits in
     let small : a / 2 ^ k < 2 ^ 63 = omega (arith, div-le_self a (2 ^ k)) in
-    let after = λ (o : Option ℤ). some_then (some_then (some_then (some_then o (λ v. Some (cast_unsigned w64 v))) (λ n. shifted_down n (pos k))) narrowed) (λ w. ranged (negsuc 0 -ℤ w)) in
+    let after = λ (o : Option ℤ). some_then (some_then o (λ v. shifted_down v (pos k))) (λ w. ranged (negsuc 0 -ℤ w)) in
     ap after (ap ranged (back_of a) ∙ ranged_natural a s)
-    ∙ ap (λ o. some_then (some_then o narrowed) (λ w. ranged (negsuc 0 -ℤ w))) (shifted_is a k h)
-    ∙ ap (λ o. some_then o (λ w. ranged (negsuc 0 -ℤ w))) (narrowed_small (a / 2 ^ k) small)
+    ∙ ap (λ o. some_then o (λ w. ranged (negsuc 0 -ℤ w))) (shifted_is a k h)
     ∙ minus_one_less (a / 2 ^ k) small

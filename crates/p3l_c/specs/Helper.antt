@@ -2,7 +2,6 @@
 -- of type int64_t and uint64_t. They write no object, so no order of evaluation matters (C11 6.5p2,
 -- p3). `None` is behaviour that is undefined or that the implementation defines.
 use Rattle.std.specs.Prelude.{ℕ, ℤ, pos, negsuc, ◌+◌, ◌-◌, ◌/◌, ◌%◌, ◌^◌, ◌-ℤ◌, Bool, Option, Some, None, nat_lt, int_lt, if◌then◌else◌}
-use Rattle.std.specs.Int.{w64, cast_unsigned}
 
 -- a function of a value, if there is one
 abbrev pub some_then : {A B : Type 0} → Option A → (A → Option B) → Option B
@@ -23,11 +22,13 @@ ranged v = if in_range v then Some v else None
 abbrev pub narrowed : ℕ → Option ℤ
 narrowed n = if nat_lt n (2 ^ 63) then Some (pos n) else None
 
--- 6.5.7p3: a negative count of places, or one of the width or more, is undefined; p5: an unsigned
--- value is divided by the power of 2
-abbrev pub shifted_down : ℕ → ℤ → Option ℕ
-shifted_down n (pos k) = if nat_lt k 64 then Some (n / 2 ^ k) else None
-shifted_down n (negsuc k) = None
+-- 6.5.7p3: a negative count of places, or one of the width or more, is undefined; p5: a value that
+-- isn't negative is divided by the power of 2, and the result of a negative one is defined by the
+-- implementation, so no text relies on it
+abbrev pub shifted_down : ℤ → ℤ → Option ℤ
+shifted_down (pos n) (pos k) = if nat_lt k 64 then Some (pos (n / 2 ^ k)) else None
+shifted_down (pos n) (negsuc k) = None
+shifted_down (negsuc n) k = None
 
 mutual
   -- a formula of type int64_t
@@ -36,6 +37,7 @@ mutual
     literal : ℤ → Whole
     difference : Whole → Whole → Whole
     narrow : Natural → Whole
+    down : Whole → Whole
     choice : Question → Whole → Whole → Whole
 
   -- a formula of type uint64_t
@@ -43,8 +45,6 @@ mutual
     given : Natural
     most : Natural
     below : Natural → Natural → Natural
-    widen : Whole → Natural
-    down : Natural → Natural
 
   pub data Question : Type 0 where
     is_small : Natural → Question
@@ -62,14 +62,13 @@ abbrev mutual
   whole g (literal v) = ranged v
   whole g (difference a b) = some_then (whole g a) (λ v. some_then (whole g b) (λ w. ranged (v -ℤ w)))
   whole g (narrow a) = some_then (natural g a) narrowed
+  whole g (down a) = some_then (whole g a) (λ v. shifted_down v g.k)
   whole g (choice c a b) = some_then (question g c) (λ t. if t then whole g a else whole g b)
 
   pub natural : Arguments → Natural → Option ℕ
   natural g given = Some g.u
   natural g most = Some (2 ^ 64 - 1)
   natural g (below a b) = some_then (natural g a) (λ m. some_then (natural g b) (λ n. Some ((m + (2 ^ 64 - n)) % 2 ^ 64)))
-  natural g (widen a) = some_then (whole g a) (λ v. Some (cast_unsigned w64 v))
-  natural g (down a) = some_then (natural g a) (λ n. shifted_down n g.k)
 
   pub question : Arguments → Question → Option Bool
   question g (is_small a) = some_then (natural g a) (λ n. Some (nat_lt n (2 ^ 63)))
@@ -81,11 +80,9 @@ abbrev pub signed_body : Whole
 signed_body = choice (is_small given) (narrow given) (difference (literal (negsuc 0)) (narrow (below most given)))
 
 -- static int64_t p3l_shr(int64_t x, int64_t k):
--- x < 0 ? -1 - (int64_t)((uint64_t)(-1 - x) >> k) : (int64_t)((uint64_t)x >> k)
+-- x < 0 ? -1 - ((-1 - x) >> k) : x >> k
 abbrev pub shr_body : Whole
-shr_body =
-    choice (is_negative first) (difference (literal (negsuc 0)) (narrow (down (widen (difference (literal (negsuc 0)) first)))))
-    (narrow (down (widen first)))
+shr_body = choice (is_negative first) (difference (literal (negsuc 0)) (down (difference (literal (negsuc 0)) first))) (down first)
 
 -- the results of the calls
 unfoldable pub signed_call : ℕ → Option ℤ

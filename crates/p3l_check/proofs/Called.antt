@@ -7,7 +7,7 @@ use Rattle.p3l_ast.specs.declared.refusal.Fault.TheVariants.{Arity, NotInComp}
 use Rattle.p3l_ast.specs.declared.refusal.SourceRefusal.{SourceRefusal}
 use Rattle.p3l_ast.specs.declared.call.Call.{Call}
 use Rattle.p3l_body.specs.declared.ports.Ports.{Ports}
-use Rattle.p3l_unfold.specs.Wiring.{module_at}
+use Rattle.p3l_check.specs.Wiring.{module_at}
 use Rattle.p3l_calls.proofs.Kept.{given-taken, kept-true, kept-false, both-left, both-right}
 use Rattle.p3l_check.specs.Modules.{Modules, number_of, ports_at}
 use Rattle.p3l_check.specs.Environment.{Before}

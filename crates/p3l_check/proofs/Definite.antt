@@ -16,7 +16,7 @@ use Rattle.p3l_types.specs.Shape.{product}
 use Rattle.p3l_body.specs.declared.var.Var.{Var}
 use Rattle.p3l_body.specs.declared.ports.Ports.{Ports}
 use Rattle.p3l_body.proofs.Definite.{IsDefinite, ok_definite, at_definite, broken_definite, given_definite, next_definite}
-use Rattle.p3l_unfold.specs.Wiring.{module_at}
+use Rattle.p3l_check.specs.Wiring.{module_at}
 use Rattle.p3l_calls.specs.Plain.{is_plain, plain_call}
 use Rattle.p3l_calls.specs.Reduce.{is_rows, rows_rule, result_rule, is_operator, reduce_rule, folded, reduced, elements_of}
 use Rattle.p3l_calls.proofs.Definite.{plain_call_definite}

@@ -12,8 +12,8 @@ use Rattle.p3l_skel.specs.declared.tree.ModuleKind.{ModuleKind}
 use Rattle.p3l_skel.specs.Tree.{sequential_row}
 use Rattle.p3l_skel.specs.Counts.{IsCountInRange, workers_of}
 use Rattle.p3l_skel.specs.Lawful.{IsSize, HasKind, HasLawfulRescue, kind_of}
-use Rattle.p3l_unfold.specs.declared.wired.Wired.{Wired}
-use Rattle.p3l_unfold.specs.Wiring.{no_module, module_at, TakesAndGives, IsCallChain, IsSequentialModule, IsWiredMap, IsWiredReduce, IsWiredLoop, IsWiredForm, IsWiredModule}
+use Rattle.p3l_check.specs.declared.wired.Wired.{Wired}
+use Rattle.p3l_check.specs.Wiring.{no_module, module_at, TakesAndGives, IsCallChain, IsSequentialModule, IsWiredMap, IsWiredReduce, IsWiredLoop, IsWiredForm, IsWiredModule}
 use Rattle.p3l_check.specs.Wired.{AreWired}
 
 -- a module that may come after others: its calls are of them, and fit it

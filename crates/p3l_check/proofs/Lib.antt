@@ -1,3 +1,7 @@
+pub mod Instances
+pub mod Nested
+pub mod Placed
+pub mod Lawful
 pub mod Numbers
 pub mod Ahead
 pub mod Kept

@@ -3,7 +3,7 @@ use Rattle.std.proofs.Common.{◌≡◌, ℕ, ◌+◌, ◌<◌, ◌^◌, Bool, t
 use Rattle.std.specs.Prelude.{bytes_eq}
 use Rattle.std.specs.Map.{lookup}
 use Rattle.p3l_skel.specs.declared.tree.ModuleInfo.{ModuleInfo}
-use Rattle.p3l_unfold.specs.declared.wired.Wired.{Wired}
+use Rattle.p3l_check.specs.declared.wired.Wired.{Wired}
 use Rattle.p3l_body.specs.declared.ports.Ports.{Ports}
 use Rattle.p3l_check.specs.declared.defined.Defined.{Defined}
 use Rattle.p3l_check.specs.Modules.{numbered}

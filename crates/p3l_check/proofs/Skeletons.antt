@@ -19,7 +19,7 @@ use Rattle.p3l_skel.specs.declared.tree.Form.TheVariants as forms
 use Rattle.p3l_skel.specs.Tree.{sequential_row}
 use Rattle.p3l_skel.specs.Counts.{IsCountInRange, workers_of}
 use Rattle.p3l_skel.specs.Lawful.{kind_of}
-use Rattle.p3l_unfold.specs.Wiring.{module_at, IsSequentialModule, IsWiredForm}
+use Rattle.p3l_check.specs.Wiring.{module_at, IsSequentialModule, IsWiredForm}
 use Rattle.p3l_calls.specs.Port.{total, AreSized}
 use Rattle.p3l_calls.specs.Plain.{plain_call}
 use Rattle.p3l_calls.specs.Condition.{condition}

@@ -21,8 +21,8 @@ use Rattle.p3l_body.specs.declared.ports.Ports.{Ports}
 use Rattle.p3l_body.specs.Scope.{Names, named, declared_one, declared}
 use Rattle.p3l_body.specs.Seq.{ports_of}
 use Rattle.p3l_skel.specs.Lawful.{may_rescue, HasLawfulRescue}
-use Rattle.p3l_unfold.specs.declared.wired.Wired.{Wired}
-use Rattle.p3l_unfold.specs.Wiring.{module_at}
+use Rattle.p3l_check.specs.declared.wired.Wired.{Wired}
+use Rattle.p3l_check.specs.Wiring.{module_at}
 use Rattle.p3l_calls.specs.Port.{total, AreSized}
 use Rattle.p3l_calls.proofs.Kept.{given-taken, kept-false}
 use Rattle.p3l_calls.proofs.Chains.{HasTotals}

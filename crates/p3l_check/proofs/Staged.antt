@@ -6,7 +6,7 @@ use Rattle.std.proofs.Math.Dec.{eqb-suc-zero}
 use Rattle.p3l_ast.specs.declared.call.Call.{Call}
 use Rattle.p3l_body.specs.declared.var.Var.{Var}
 use Rattle.p3l_body.specs.Scope.{Names, named}
-use Rattle.p3l_unfold.specs.Wiring.{module_at, IsCallChain, IsSequentialModule}
+use Rattle.p3l_check.specs.Wiring.{module_at, IsCallChain, IsSequentialModule}
 use Rattle.p3l_calls.specs.Port.{total}
 use Rattle.p3l_calls.specs.Plain.{plain_call}
 use Rattle.p3l_calls.specs.Stage.{stage}

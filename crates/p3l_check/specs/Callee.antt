@@ -8,7 +8,7 @@ use Rattle.p3l_ast.specs.declared.refusal.SourceRefusal.TheVariants.{At}
 use Rattle.p3l_ast.specs.declared.call.Call.{Call}
 use Rattle.p3l_types.specs.Verdict.{Verdict, broken_if, given}
 use Rattle.p3l_body.specs.declared.ports.Ports.{Ports}
-use Rattle.p3l_unfold.specs.Wiring.{module_at}
+use Rattle.p3l_check.specs.Wiring.{module_at}
 use Rattle.p3l_check.specs.Modules.{Modules, number_of, ports_at}
 use Rattle.p3l_check.specs.Environment.{Before}
 

@@ -1,3 +1,7 @@
+pub mod Wiring
+pub mod Unfolding
+pub mod Refusing
+pub mod Levels
 pub mod Modules
 pub mod Numbered
 pub mod Wired

@@ -2,7 +2,7 @@
 use Rattle.std.specs.Prelude.{ℕ, ◌+◌, List, [], ◌∷◌, ◌++◌, Option, slice_index_or, bytes_eq}
 use Rattle.std.specs.Map.{lookup}
 use Rattle.p3l_skel.specs.declared.tree.ModuleInfo.{ModuleInfo}
-use Rattle.p3l_unfold.specs.declared.wired.Wired.{Wired}
+use Rattle.p3l_check.specs.declared.wired.Wired.{Wired}
 use Rattle.p3l_body.specs.declared.ports.Ports.{Ports}
 use Rattle.p3l_check.specs.declared.defined.Defined.{Defined}
 

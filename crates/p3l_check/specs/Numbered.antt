@@ -1,7 +1,7 @@
 -- The numbers of modules by their names.
 use Rattle.std.specs.Prelude.{◌≡◌, ℕ, ◌<◌, ◌^◌, List, length}
 use Rattle.p3l_skel.specs.declared.tree.ModuleInfo.{ModuleInfo}
-use Rattle.p3l_unfold.specs.declared.wired.Wired.{Wired}
+use Rattle.p3l_check.specs.declared.wired.Wired.{Wired}
 use Rattle.p3l_body.specs.declared.ports.Ports.{Ports}
 use Rattle.p3l_check.specs.Modules.{numbered}
 

@@ -13,10 +13,10 @@ use Rattle.p3l_skel.specs.declared.tree.Tree.{Tree}
 use Rattle.p3l_skel.specs.Tree.{nesting}
 use Rattle.p3l_skel.specs.Numbers.{flat_firings, joined_firings, most_firings, runs}
 use Rattle.p3l_skel.specs.Work.{most_work}
-use Rattle.p3l_unfold.specs.declared.unfolding.UnfoldRefusal.{UnfoldRefusal}
-use Rattle.p3l_unfold.specs.declared.unfolding.UnfoldRefusal.TheVariants as limit
-use Rattle.p3l_unfold.specs.Unfolding.{instance, tree_of}
-use Rattle.p3l_unfold.specs.Refusing.{is_nested_within}
+use Rattle.p3l_check.specs.declared.unfolding.UnfoldRefusal.{UnfoldRefusal}
+use Rattle.p3l_check.specs.declared.unfolding.UnfoldRefusal.TheVariants as limit
+use Rattle.p3l_check.specs.Unfolding.{instance, tree_of}
+use Rattle.p3l_check.specs.Refusing.{is_nested_within}
 use Rattle.p3l_check.specs.declared.resolving.Resolved.{Resolved}
 use Rattle.p3l_check.specs.Modules.{Modules, number_of}
 use Rattle.p3l_check.specs.Places.{entry_spot}

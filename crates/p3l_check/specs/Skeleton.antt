@@ -14,7 +14,7 @@ use Rattle.p3l_body.specs.declared.ports.Ports.{Ports}
 use Rattle.p3l_body.specs.Scope.{Names, named}
 use Rattle.p3l_body.specs.Seq.{port_names}
 use Rattle.p3l_skel.specs.declared.tree.Form.TheVariants as forms
-use Rattle.p3l_unfold.specs.Wiring.{module_at}
+use Rattle.p3l_check.specs.Wiring.{module_at}
 use Rattle.p3l_calls.specs.Plain.{plain_call}
 use Rattle.p3l_calls.specs.Stage.{stage}
 use Rattle.p3l_calls.specs.Condition.{condition}

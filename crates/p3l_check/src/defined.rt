@@ -2,7 +2,7 @@
 
 use p3l_body::Ports;
 use p3l_skel::ModuleInfo;
-use p3l_unfold::Wired;
+use crate::Wired;
 
 /// A module: its name and kind, its ports, and its calls with what its instances are.
 #[derive(Debug, Drop)]

@@ -5,15 +5,15 @@ ghost use Rattle.p3l_base.specs.Memory.{IfGiven};
 ghost use Rattle.std.specs.Map.{lookup};
 ghost use Rattle.p3l_check.specs.Modules.{no_modules, number_of, ports_at, with_module};
 ghost use Rattle.p3l_check.specs.Wired.{AreWired};
-ghost use Rattle.p3l_unfold.specs.Wiring.{module_at};
-ghost use Rattle.p3l_unfold.specs.Refusing.{IsUnfolded, IsRefused};
+ghost use Rattle.p3l_check.specs.Wiring.{module_at};
+ghost use Rattle.p3l_check.specs.Refusing.{IsUnfolded, IsRefused};
 
 use crate::defined::Defined;
 use indexmap::IndexMap;
 use p3l_base::{List, Name, NoMemory};
 use p3l_body::Ports;
 use p3l_skel::{ModuleInfo, Tree};
-use p3l_unfold::{UnfoldRefusal, Wired, unfold};
+use crate::{UnfoldRefusal, Wired, unfold};
 use std::alloc::Global;
 use std::marker::Model;
 

@@ -25,7 +25,7 @@ use p3l_base::{List, Name, NoMemory};
 use p3l_body::{CheckedSeq, Ports, Scope, Var, check_body, ports_of};
 use p3l_skel::{ModuleInfo, ModuleKind};
 use p3l_types::{Consts, words_of};
-use p3l_unfold::Wired;
+use crate::Wired;
 use std::alloc::Global;
 use std::mem;
 

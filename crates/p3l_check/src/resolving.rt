@@ -16,7 +16,7 @@ use p3l_ast::{Entry, Fault, Pos, Program, SourceRefusal};
 use p3l_base::{List, Name};
 use p3l_body::CheckedSeq;
 use p3l_skel::Tree;
-use p3l_unfold::UnfoldRefusal;
+use crate::UnfoldRefusal;
 use std::alloc::Global;
 
 /// A program that keeps the rules: its tree, and the bodies of its `seq` modules in the order of the

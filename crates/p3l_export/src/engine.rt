@@ -9,6 +9,16 @@ pub const HEAD: &str =
 #include <stdint.h>
 #include <string.h>
 
+/* Warnings that a program's source earns where it has a variable that is never read, a test that is
+ * always the same, or no shift. From the engine on they count again. */
+#ifdef __GNUC__
+#pragma GCC diagnostic push
+#pragma GCC diagnostic ignored \"-Wunused-variable\"
+#pragma GCC diagnostic ignored \"-Wunused-but-set-variable\"
+#pragma GCC diagnostic ignored \"-Wtautological-compare\"
+#pragma GCC diagnostic ignored \"-Wunused-function\"
+#endif
+
 _Static_assert(INT_MAX <= INT64_MAX, \"an int is wider than a word\");
 
 /* Converts modulo 2^64; C leaves the plain conversion of a large number to the compiler. */
@@ -18,10 +28,10 @@ static inline int64_t p3l_signed(uint64_t u)
 }
 
 /* Shifts right with copies of the sign, by 0 to 63 places; C leaves the plain shift of a negative
- * number to the compiler. */
+ * number to the compiler. Compilers make one instruction of this form. */
 static inline int64_t p3l_shr(int64_t x, int64_t k)
 {
-    return x < 0 ? -1 - (int64_t)((uint64_t)(-1 - x) >> k) : (int64_t)((uint64_t)x >> k);
+    return x < 0 ? -1 - ((-1 - x) >> k) : x >> k;
 }
 
 enum { FORM_SEQ, FORM_COMP, FORM_PIPE, FORM_FARM, FORM_MAP, FORM_REDUCE, FORM_LOOP };
@@ -104,6 +114,9 @@ pub const ENGINE: &str =
  * emitted as items sent, when the sink has met a trap, or when writing has failed. Each rank then
  * says goodbye to those with which it shares a wire, and leaves when all of them have said it.
  */
+#ifdef __GNUC__
+#pragma GCC diagnostic pop
+#endif
 #include <errno.h>
 #include <fcntl.h>
 #include <poll.h>

@@ -20,7 +20,7 @@ use Rattle.p3l_body.specs.declared.var.Var.{Var}
 use Rattle.p3l_body.specs.declared.ports.Ports.{Ports}
 use Rattle.p3l_body.specs.Scope.{Names, named}
 use Rattle.p3l_body.specs.Seq.{port_names}
-use Rattle.p3l_unfold.specs.Wiring.{module_at}
+use Rattle.p3l_check.specs.Wiring.{module_at}
 use Rattle.p3l_check.specs.Modules.{number_of, ports_at}
 use Rattle.p3l_check.specs.Environment.{Before}
 use Rattle.p3l_check.specs.Callee.{callee_of, arity_rule, one_each_rule, runnable_callee, called, operator_called}

@@ -16,7 +16,7 @@ use Rattle.p3l_stream.specs.declared.items.Items.{Items}
 use Rattle.p3l_stream.specs.Items.{items_of, items_of_lines, put_line}
 use Rattle.p3l_stream.specs.Text.{text_of}
 use Rattle.p3l_stream.specs.Lines.{is_feed, line_of, lines_between, lines_of}
-use Rattle.p3l_sample.specs.Sampling.{IsValue}
+use Rattle.p3l_run.specs.Sampling.{IsValue}
 use Rattle.p3l_run.specs.Network.{Network, meaning_of, width_of}
 use Rattle.p3l_run.specs.Start.{fresh, outcomes_from}
 use Rattle.p3l_run.proofs.WriteSteps.{text_more}

@@ -33,9 +33,9 @@ use Rattle.p3l_stream.specs.Items.{items_of}
 use Rattle.p3l_profile.specs.Greatest.{Greatest, none_noted, noted_all}
 use Rattle.p3l_profile.specs.Law.{HasTheGreatest, notes_of}
 use Rattle.p3l_profile.specs.Text.{text_of}
-use Rattle.p3l_sample.specs.declared.stream.Sampled.{Sampled}
-use Rattle.p3l_sample.specs.declared.stream.Sampled.TheVariants as sampled
-use Rattle.p3l_sample.specs.Sampling.{EndsSo, IsSampled, IsValue}
+use Rattle.p3l_run.specs.declared.sample.Sampled.{Sampled}
+use Rattle.p3l_run.specs.declared.sample.Sampled.TheVariants as sampled
+use Rattle.p3l_run.specs.Sampling.{EndsSo, IsSampled, IsValue}
 use Rattle.p3l_program.specs.declared.plan.Accepted.{Accepted}
 use Rattle.p3l_program.specs.Load.{IsProgram}
 use Rattle.p3l_program.specs.Plan.{IsCompiled, network_of}

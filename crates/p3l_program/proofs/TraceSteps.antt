@@ -21,7 +21,7 @@ use Rattle.p3l_report.proofs.Statuses as statuses
 use Rattle.p3l_run.specs.Feed.{Gives, closed_so}
 use Rattle.p3l_run.specs.Network.{Network, begun_with, width_of}
 use Rattle.p3l_run.specs.Run.{MayCome, MayEnd}
-use Rattle.p3l_retrace.specs.Retraced.{AgreesOn, IsRequestedBy}
+use Rattle.p3l_run.specs.Retraced.{AgreesOn, IsRequestedBy}
 use Rattle.p3l_run.specs.Write.{HasPut}
 use Rattle.p3l_stream.proofs.Endings.{items_wide}
 use Rattle.p3l_stream.specs.declared.items.Ending.{Ending}

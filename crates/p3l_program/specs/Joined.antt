@@ -4,7 +4,7 @@ use Rattle.std.specs.List.{AllByRecursion}
 use Rattle.p3l_base.specs.declared.outcome.Outcome.{Outcome}
 use Rattle.p3l_run.specs.Network.{Network, meaning_of, width_of}
 use Rattle.p3l_run.specs.Start.{fresh}
-use Rattle.p3l_sample.specs.Sampling.{IsValue}
+use Rattle.p3l_run.specs.Sampling.{IsValue}
 use Rattle.p3l_stream.specs.declared.items.Ending.TheVariants as ending
 use Rattle.p3l_stream.specs.declared.items.Items.{Items}
 use Rattle.p3l_stream.specs.Items.{items_of}

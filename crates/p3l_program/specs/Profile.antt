@@ -31,9 +31,9 @@ use Rattle.p3l_report.specs.Verdict.{ending_status}
 use Rattle.p3l_profile.specs.Greatest.{Greatest}
 use Rattle.p3l_profile.specs.Law.{profile_text}
 use Rattle.p3l_profile.specs.Text.{text_of}
-use Rattle.p3l_sample.specs.declared.stream.Sampled.{Sampled}
-use Rattle.p3l_sample.specs.declared.stream.Sampled.TheVariants as sampled
-use Rattle.p3l_sample.specs.Sampling.{IsValue}
+use Rattle.p3l_run.specs.declared.sample.Sampled.{Sampled}
+use Rattle.p3l_run.specs.declared.sample.Sampled.TheVariants as sampled
+use Rattle.p3l_run.specs.Sampling.{IsValue}
 use Rattle.p3l_program.specs.Behavior.{Behavior}
 use Rattle.p3l_program.specs.Expected.{IsExpectedWith}
 use Rattle.p3l_program.specs.File.{HasText, text_limit}

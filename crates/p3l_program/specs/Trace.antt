@@ -13,7 +13,7 @@ use Rattle.p3l_report.specs.declared.verdict.Verdict.{Verdict}
 use Rattle.p3l_report.specs.declared.verdict.Verdict.TheVariants as verdict
 use Rattle.p3l_report.specs.Status as status
 use Rattle.p3l_report.specs.Verdict.{ending_status}
-use Rattle.p3l_retrace.specs.Retraced.{AgreesOn, DiffersOn, sent_before_last}
+use Rattle.p3l_run.specs.Retraced.{AgreesOn, DiffersOn, sent_before_last}
 use Rattle.p3l_run.specs.Network.{Network, begun_with, width_of}
 use Rattle.p3l_run.specs.Write.{HasBegun, HasPut}
 use Rattle.p3l_stream.specs.declared.items.Ending.{Ending}

@@ -21,7 +21,7 @@ use p3l_link::laws::every_linked_net_is_carried;
 use p3l_load::Loaded;
 use p3l_opts::Build;
 use p3l_report::{Evidence, Finish, Refusal, Verdict};
-use p3l_retrace::retrace::{Retraced, retrace};
+use p3l_run::retrace::{Retraced, retrace};
 use p3l_run::Plan;
 use p3l_skel::Units;
 use p3l_stream::Ending;

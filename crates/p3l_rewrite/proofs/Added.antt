@@ -11,7 +11,7 @@ use Rattle.p3l_types.specs.Constants.{Constants}
 use Rattle.p3l_body.specs.declared.ports.Ports.{Ports}
 use Rattle.p3l_body.specs.Seq.{SeqTree, checked_seq}
 use Rattle.p3l_skel.specs.declared.tree.ModuleInfo.{ModuleInfo}
-use Rattle.p3l_unfold.specs.declared.wired.Wired.{Wired}
+use Rattle.p3l_check.specs.declared.wired.Wired.{Wired}
 use Rattle.p3l_units.specs.Table.{one_if_seq, seqs_before}
 use Rattle.p3l_calls.proofs.Kept.{kept-false}
 use Rattle.p3l_check.specs.declared.skeleton.Skeleton.{Skeleton}

@@ -14,9 +14,9 @@ use Rattle.p3l_skel.specs.declared.tree.Node.{Node}
 use Rattle.p3l_skel.specs.declared.tree.Tree.{Tree}
 use Rattle.p3l_skel.specs.Tree.{node_at, is_sequential, nesting}
 use Rattle.p3l_skel.specs.Lawful.{IsLawfulTree}
-use Rattle.p3l_unfold.specs.declared.wired.Wired.{Wired}
-use Rattle.p3l_unfold.specs.Wiring.{module_at}
-use Rattle.p3l_unfold.specs.Unfolding.{instance, tree_of}
+use Rattle.p3l_check.specs.declared.wired.Wired.{Wired}
+use Rattle.p3l_check.specs.Wiring.{module_at}
+use Rattle.p3l_check.specs.Unfolding.{instance, tree_of}
 use Rattle.p3l_check.specs.Entry.{Checked, none_checked, checked_entry, checked_entries, with_constant, info_of}
 use Rattle.p3l_check.specs.Entry as entry_specs
 use Rattle.p3l_check.specs.Places.{defines}

@@ -6,10 +6,10 @@ use Rattle.p3l_base.specs.declared.outcome.Outcome.{Outcome}
 use Rattle.p3l_skel.specs.declared.tree.ModuleInfo.{ModuleInfo}
 use Rattle.p3l_skel.specs.Tree.{by_parts}
 use Rattle.p3l_skel.specs.Item.{rescued, item_row}
-use Rattle.p3l_unfold.specs.declared.wired.Wired.{Wired}
-use Rattle.p3l_unfold.specs.Wiring.{module_at, IsWiring, IsWiredModule}
-use Rattle.p3l_unfold.specs.Refusing.{is_nested_within}
-use Rattle.p3l_unfold.proofs.Nested.{nested-step}
+use Rattle.p3l_check.specs.declared.wired.Wired.{Wired}
+use Rattle.p3l_check.specs.Wiring.{module_at, IsWiring, IsWiredModule}
+use Rattle.p3l_check.specs.Refusing.{is_nested_within}
+use Rattle.p3l_check.proofs.Nested.{nested-step}
 use Rattle.p3l_rewrite.proofs.Stands.{no_levels}
 use Rattle.p3l_rewrite.specs.Meant.{rescue_at, rescued_by, meant_to, meant, AreAlike}
 use Rattle.p3l_rewrite.proofs.Rows.{same_function, AllMean, rows-mean}

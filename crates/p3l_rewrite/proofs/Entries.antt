@@ -9,10 +9,10 @@ use Rattle.p3l_skel.specs.declared.tree.ModuleInfo.{ModuleInfo}
 use Rattle.p3l_skel.specs.Tree.{nesting}
 use Rattle.p3l_skel.specs.Tree as tree_specs
 use Rattle.p3l_skel.specs.Lawful.{IsLawfulTree}
-use Rattle.p3l_unfold.specs.declared.wired.Wired.{Wired}
-use Rattle.p3l_unfold.specs.Wiring.{no_module, module_at}
-use Rattle.p3l_unfold.specs.Unfolding.{tree_of}
-use Rattle.p3l_unfold.specs.Refusing.{is_nested_within}
+use Rattle.p3l_check.specs.declared.wired.Wired.{Wired}
+use Rattle.p3l_check.specs.Wiring.{no_module, module_at}
+use Rattle.p3l_check.specs.Unfolding.{tree_of}
+use Rattle.p3l_check.specs.Refusing.{is_nested_within}
 use Rattle.p3l_units.specs.Table.{seqs_before}
 use Rattle.p3l_calls.proofs.Kept.{kept-true, first_of-first}
 use Rattle.p3l_check.specs.declared.skeleton.Skeleton.{Skeleton}

@@ -1,3 +1,4 @@
+pub mod Bodies
 pub mod Stands
 pub mod Rows
 pub mod Depth

@@ -7,11 +7,11 @@ use Rattle.p3l_skel.specs.declared.tree.Form.TheVariants.{Seq, Comp, Pipe, Farm,
 use Rattle.p3l_skel.specs.declared.tree.ModuleInfo.{ModuleInfo}
 use Rattle.p3l_skel.specs.declared.tree.Node.{Node}
 use Rattle.p3l_skel.specs.Tree.{nesting}
-use Rattle.p3l_unfold.specs.declared.wired.Wired.{Wired}
-use Rattle.p3l_unfold.specs.Wiring.{module_at, IsWiring}
-use Rattle.p3l_unfold.specs.Unfolding.{instances_of, instance}
-use Rattle.p3l_unfold.specs.Refusing.{is_nested_within}
-use Rattle.p3l_unfold.proofs.Instances.{instance-step, instance-none}
+use Rattle.p3l_check.specs.declared.wired.Wired.{Wired}
+use Rattle.p3l_check.specs.Wiring.{module_at, IsWiring}
+use Rattle.p3l_check.specs.Unfolding.{instances_of, instance}
+use Rattle.p3l_check.specs.Refusing.{is_nested_within}
+use Rattle.p3l_check.proofs.Instances.{instance-step, instance-none}
 use Rattle.p3l_rewrite.proofs.Stands.{no_levels}
 use Rattle.p3l_rewrite.specs.Trees.{IsFarmOf, AreFarmed, IsRewritten}
 use Rattle.p3l_rewrite.proofs.Depth.{earlier, Fits, calls_fit, weaker}

@@ -9,10 +9,10 @@ use Rattle.p3l_skel.specs.declared.tree.ModuleInfo.{ModuleInfo}
 use Rattle.p3l_skel.specs.Tree as tree_specs
 use Rattle.p3l_skel.specs.Tree.{node_at}
 use Rattle.p3l_skel.specs.Item.{meaning}
-use Rattle.p3l_unfold.specs.Wiring.{no_module, module_at}
-use Rattle.p3l_unfold.specs.declared.wired.Wired.{Wired}
-use Rattle.p3l_unfold.specs.Unfolding.{tree_of}
-use Rattle.p3l_unfold.proofs.Instances.{instance-step}
+use Rattle.p3l_check.specs.Wiring.{no_module, module_at}
+use Rattle.p3l_check.specs.declared.wired.Wired.{Wired}
+use Rattle.p3l_check.specs.Unfolding.{tree_of}
+use Rattle.p3l_check.proofs.Instances.{instance-step}
 use Rattle.p3l_units.specs.Table.{item_of}
 use Rattle.p3l_compile.specs.Leaves as leaves
 use Rattle.p3l_compile.specs.Leaves.{body_leaf}

@@ -8,10 +8,10 @@ use Rattle.p3l_skel.specs.declared.tree.Tree.{Tree}
 use Rattle.p3l_skel.specs.Tree.{nesting, rescue_of}
 use Rattle.p3l_skel.specs.Item.{rescued, item_row, item_to}
 use Rattle.p3l_skel.proofs.Depth.{item_to-step}
-use Rattle.p3l_unfold.specs.declared.wired.Wired.{Wired}
-use Rattle.p3l_unfold.specs.Wiring.{module_at, IsWiring, IsWiredModule}
-use Rattle.p3l_unfold.specs.Unfolding.{instances_of, firsts_of, instance, tree_of}
-use Rattle.p3l_unfold.specs.Refusing.{is_nested_within}
+use Rattle.p3l_check.specs.declared.wired.Wired.{Wired}
+use Rattle.p3l_check.specs.Wiring.{module_at, IsWiring, IsWiredModule}
+use Rattle.p3l_check.specs.Unfolding.{instances_of, firsts_of, instance, tree_of}
+use Rattle.p3l_check.specs.Refusing.{is_nested_within}
 use Rattle.p3l_rewrite.specs.Meant.{rescue_at, rescued_by, meant_to, meant}
 use Rattle.p3l_rewrite.proofs.Stands.{Stand, Stands, no_levels, whole_stands, node_is, below_stand, stand_left, stand_right}
 use Rattle.p3l_rewrite.proofs.Rows.{AllMean, rows-mean}

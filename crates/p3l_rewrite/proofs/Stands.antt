@@ -6,12 +6,12 @@ use Rattle.p3l_skel.specs.declared.tree.ModuleInfo.{ModuleInfo}
 use Rattle.p3l_skel.specs.declared.tree.Node.{Node}
 use Rattle.p3l_skel.specs.declared.tree.Tree.{Tree}
 use Rattle.p3l_skel.specs.Tree.{no_node, node_at, nesting}
-use Rattle.p3l_unfold.specs.declared.wired.Wired.{Wired}
-use Rattle.p3l_unfold.specs.Wiring.{module_at}
-use Rattle.p3l_unfold.specs.Unfolding.{instances_of, first_node, instance, tree_of}
-use Rattle.p3l_unfold.specs.Refusing.{is_nested_within}
-use Rattle.p3l_unfold.proofs.Instances.{instance-step}
-use Rattle.p3l_unfold.proofs.Nested.{nested-none}
+use Rattle.p3l_check.specs.declared.wired.Wired.{Wired}
+use Rattle.p3l_check.specs.Wiring.{module_at}
+use Rattle.p3l_check.specs.Unfolding.{instances_of, first_node, instance, tree_of}
+use Rattle.p3l_check.specs.Refusing.{is_nested_within}
+use Rattle.p3l_check.proofs.Instances.{instance-step}
+use Rattle.p3l_check.proofs.Nested.{nested-none}
 
 pub no_levels : (wired : List Wired) (k : ℕ) → is_nested_within wired zero k ≡ true → ⊥
 no_levels wired k nested = let e : false ≡ true = sym (nested-none wired k) ∙ nested in cc

@@ -7,9 +7,9 @@ use Rattle.p3l_skel.specs.declared.tree.Form.{Form}
 use Rattle.p3l_skel.specs.declared.tree.Form.TheVariants.{Comp, Pipe, Farm}
 use Rattle.p3l_skel.specs.declared.tree.ModuleInfo.{ModuleInfo}
 use Rattle.p3l_skel.specs.Item.{rescued, in_order, item_row, item, up_to_trap, meaning}
-use Rattle.p3l_unfold.specs.declared.wired.Wired.{Wired}
-use Rattle.p3l_unfold.specs.Wiring.{module_at, IsWiring}
-use Rattle.p3l_unfold.specs.Unfolding.{tree_of}
+use Rattle.p3l_check.specs.declared.wired.Wired.{Wired}
+use Rattle.p3l_check.specs.Wiring.{module_at, IsWiring}
+use Rattle.p3l_check.specs.Unfolding.{tree_of}
 use Rattle.p3l_rewrite.specs.Meant.{rescued_by, meant, AreAlike}
 use Rattle.p3l_rewrite.specs.Trees.{IsFarmOf, AreFarmed, IsFarmed, IsCompOf, IsFused, IsRewritten, CompIsItsPipe, RewrittenTreesMean}
 use Rattle.p3l_rewrite.proofs.Rows.{AllMean, in_order-mean}

@@ -4,7 +4,7 @@ use Rattle.p3l_ast.specs.declared.call.Call.{Call}
 use Rattle.p3l_ast.specs.declared.module.Kind.TheVariants as kinds
 use Rattle.p3l_ast.specs.Tree.{ModuleTree, EntryTree, defined}
 use Rattle.p3l_skel.specs.declared.tree.Form.TheVariants as forms
-use Rattle.p3l_unfold.specs.Wiring.{module_at}
+use Rattle.p3l_check.specs.Wiring.{module_at}
 use Rattle.p3l_body.specs.Seq.{rescue_of}
 use Rattle.p3l_check.specs.Clauses.{rescue_in}
 use Rattle.p3l_check.specs.Modules.{Modules, number_of}

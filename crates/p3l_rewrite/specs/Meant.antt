@@ -5,8 +5,8 @@ use Rattle.p3l_skel.specs.declared.tree.ModuleInfo.{ModuleInfo}
 use Rattle.p3l_skel.specs.Tree.{by_parts}
 use Rattle.p3l_skel.specs.Tree as tree
 use Rattle.p3l_skel.specs.Item.{rescued, item_row}
-use Rattle.p3l_unfold.specs.declared.wired.Wired.{Wired}
-use Rattle.p3l_unfold.specs.Wiring.{module_at}
+use Rattle.p3l_check.specs.declared.wired.Wired.{Wired}
+use Rattle.p3l_check.specs.Wiring.{module_at}
 
 -- the rescue number of a module, if it has one
 abbrev pub rescue_at : List ModuleInfo → ℕ → Option ℤ

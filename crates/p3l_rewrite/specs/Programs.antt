@@ -8,8 +8,8 @@ use Rattle.p3l_skel.specs.declared.tree.ModuleInfo.{ModuleInfo}
 use Rattle.p3l_skel.specs.Tree.{node_at}
 use Rattle.p3l_skel.specs.Item.{meaning}
 use Rattle.p3l_skel.specs.Lawful.{IsLawfulTree}
-use Rattle.p3l_unfold.specs.declared.wired.Wired.{Wired}
-use Rattle.p3l_unfold.specs.Unfolding.{tree_of}
+use Rattle.p3l_check.specs.declared.wired.Wired.{Wired}
+use Rattle.p3l_check.specs.Unfolding.{tree_of}
 use Rattle.p3l_check.specs.Resolving.{ResolvedTree, main_name, resolved}
 use Rattle.p3l_compile.specs.Leaves.{body_leaf}
 use Rattle.p3l_rewrite.specs.Meant.{AreAlike}

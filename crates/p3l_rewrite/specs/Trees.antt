@@ -5,10 +5,10 @@ use Rattle.p3l_skel.specs.declared.tree.Form.TheVariants.{Comp, Pipe, Farm}
 use Rattle.p3l_skel.specs.declared.tree.ModuleInfo.{ModuleInfo}
 use Rattle.p3l_skel.specs.Tree.{nesting}
 use Rattle.p3l_skel.specs.Item.{meaning}
-use Rattle.p3l_unfold.specs.declared.wired.Wired.{Wired}
-use Rattle.p3l_unfold.specs.Wiring.{module_at, IsWiring}
-use Rattle.p3l_unfold.specs.Unfolding.{tree_of}
-use Rattle.p3l_unfold.specs.Refusing.{is_nested_within}
+use Rattle.p3l_check.specs.declared.wired.Wired.{Wired}
+use Rattle.p3l_check.specs.Wiring.{module_at, IsWiring}
+use Rattle.p3l_check.specs.Unfolding.{tree_of}
+use Rattle.p3l_check.specs.Refusing.{is_nested_within}
 use Rattle.p3l_rewrite.specs.Meant.{rescue_at, meant, AreAlike}
 
 -- a module is a farm of another

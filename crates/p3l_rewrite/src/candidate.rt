@@ -16,9 +16,9 @@ use crate::farm::{
 use crate::place::{Around, around_main, named_in};
 use p3l_ast::{Call, Entry, Inside, Kind, Module, Program};
 use p3l_base::{List, NoMemory};
-use p3l_copy::module::{module, with_inside};
-use p3l_copy::program::put_entries;
-use p3l_copy::{Copied, copies};
+use crate::module::{module, with_inside};
+use crate::program::put_entries;
+use crate::{Copied, copies};
 use p3l_skel::Tree;
 use p3l_skel::shape::is_sequential;
 use p3l_skel::tree::NESTING;

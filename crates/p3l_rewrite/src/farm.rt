@@ -7,7 +7,7 @@ ghost use Rattle.p3l_rewrite.specs.Candidates.{plain, plain_out, longer, no_clau
 
 use p3l_ast::{Arg, Call, Clauses, Inside, Kind, Module, OutArg, Port, Spot};
 use p3l_base::{List, Name, NoMemory};
-use p3l_copy::{Copied, copies};
+use crate::{Copied, copies};
 use std::alloc::Global;
 
 /// The end of a farm's name, behind its module's name.

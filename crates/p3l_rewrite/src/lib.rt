@@ -1,12 +1,19 @@
-//! Programs rewritten for a lesser service time: the sequential stages of `main`, where it is a pipe, each in
-//! a farm, or all of them in one process of which `main` is a farm.
+//! Programs rewritten for a lesser service time, as copies: the sequential stages of `main`, where it
+//! is a pipe, each in a farm, or all of them in one process of which `main` is a farm.
 #![tactic(auto)]
 
+pub mod body;
+pub mod call;
 pub mod candidate;
+pub mod copied;
 pub mod farm;
 pub mod laws;
+pub mod module;
 pub mod place;
+pub mod port;
+pub mod program;
 pub mod rewriting;
 pub mod serving;
 
+pub use copied::{Copied, copies};
 pub use rewriting::{Rewritten, rewrite};

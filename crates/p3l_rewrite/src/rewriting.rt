@@ -13,7 +13,7 @@ use crate::candidate::{Ways, find_ways};
 use crate::serving::{accepted_tree, served, service_time};
 use p3l_ast::Program;
 use p3l_base::NoMemory;
-use p3l_copy::program::program as copy_of;
+use crate::program::program as copy_of;
 use p3l_cost::Costs;
 use p3l_skel::Tree;
 use std::alloc::Global;

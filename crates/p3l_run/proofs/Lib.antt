@@ -1,3 +1,5 @@
+mod ComparisonSteps
+pub mod Steps
 pub mod WriteSteps
 pub mod FeedSteps
 pub mod TraceSteps

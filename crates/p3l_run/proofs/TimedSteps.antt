@@ -28,7 +28,7 @@ use Rattle.p3l_stream.specs.Seen as stream
 use Rattle.p3l_stream.specs.Text.{text_of}
 use Rattle.p3l_trace.specs.declared.trace.TraceLine.{TraceLine}
 use Rattle.p3l_trace.specs.Agreement as trace
-use Rattle.p3l_moments.specs.Moments.{due_at}
+use Rattle.p3l_timed.specs.Moments.{due_at}
 use Rattle.p3l_timed.specs.Clock.{Clock, IsInStep, IsRenewed}
 use Rattle.p3l_timed.specs.Clock as clock
 use Rattle.p3l_timed.specs.Due.{IsNext}

@@ -1,3 +1,6 @@
+pub mod Comparison
+pub mod Retraced
+pub mod Sampling
 pub mod Start
 pub mod Network
 pub mod Laws

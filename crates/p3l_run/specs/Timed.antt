@@ -7,7 +7,7 @@ use Rattle.p3l_skel.specs.declared.tree.Tree.{Tree}
 use Rattle.p3l_sched.specs.declared.picker.Way.TheVariants as way
 use Rattle.p3l_sched.specs.declared.schedule.Schedule.TheVariants as schedule
 use Rattle.p3l_trace.specs.Agreement as trace
-use Rattle.p3l_moments.specs.Moments.{due_at}
+use Rattle.p3l_timed.specs.Moments.{due_at}
 use Rattle.p3l_timed.specs.Clock.{Clock}
 use Rattle.p3l_timed.specs.Follow.{Times}
 use Rattle.p3l_timed.specs.Price.{price_at}

@@ -1,9 +1,10 @@
 //! Runs a network on a stream under a schedule: requests the items one by one, fires process after
 //! process, and writes each value that comes out; keeps the lines of its trace, where that is
-//! requested.
+//! requested. Checks a trace against a network in the same way, and profiles a tree on a stream.
 #![tactic(auto)]
 
 pub mod checkpoint;
+mod comparison;
 pub mod end;
 mod execution;
 pub mod fault;
@@ -14,7 +15,9 @@ pub mod keeping;
 pub mod laws;
 pub mod plan;
 pub mod resume;
+pub mod retrace;
 pub mod run;
+pub mod sample;
 mod sum;
 pub mod write;
 
@@ -26,3 +29,4 @@ pub use in_time::{TimedRan, run_in_time};
 pub use keeping::Keeping;
 pub use plan::Plan;
 pub use run::Ran;
+pub use sample::{Sampled, sample};

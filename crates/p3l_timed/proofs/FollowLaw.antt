@@ -27,7 +27,7 @@ use Rattle.p3l_net.specs.Offered.{Follows, HasFilledInbox}
 use Rattle.p3l_net.proofs.Emitted.{can_step-state}
 use Rattle.p3l_net.proofs.FollowLaw.{can_fire_follows, follows_fired}
 use Rattle.p3l_net.proofs.Frame.{offer_moves, offer_stays}
-use Rattle.p3l_moments.specs.Moments.{due_at}
+use Rattle.p3l_timed.specs.Moments.{due_at}
 use Rattle.p3l_timed.specs.Clock.{Clock, HasFired, IsRenewed, IsStarted}
 use Rattle.p3l_timed.specs.Due.{IsNext, due_next, without}
 use Rattle.p3l_timed.specs.Follow.{IsInTime, Times}

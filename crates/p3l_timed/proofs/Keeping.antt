@@ -11,7 +11,7 @@ use Rattle.p3l_firing.specs.declared.process.Proc.{Proc}
 use Rattle.p3l_firing.proofs.Rows.{none_ready}
 use Rattle.p3l_net.specs.Machine.{Seen, can_step, state_of}
 use Rattle.p3l_net.proofs.Frame.{trapped_steps}
-use Rattle.p3l_moments.specs.Moments.{IsLeast, IsNoLater, due_at}
+use Rattle.p3l_timed.specs.Moments.{IsLeast, IsNoLater, due_at}
 use Rattle.p3l_timed.specs.Clock.{IsBusiest, IsKept}
 use Rattle.p3l_timed.specs.Due.{IsNext, due_next, renewed, without}
 use Rattle.p3l_timed.specs.Price.{counted, price_at, price_of}

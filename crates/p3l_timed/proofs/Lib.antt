@@ -1,3 +1,4 @@
+pub mod Tree
 pub mod Round
 pub mod TimedLaw
 pub mod FollowLaw

@@ -9,7 +9,7 @@ use Rattle.p3l_firing.specs.declared.process.Proc.{Proc}
 use Rattle.p3l_firing.specs.Process.{Has, IsAt}
 use Rattle.p3l_net.specs.Machine.{Seen, can_step}
 use Rattle.p3l_net.specs.Steps.{IsApart, IsReader, IsWriter, ShareNone}
-use Rattle.p3l_moments.specs.Moments.{due_at}
+use Rattle.p3l_timed.specs.Moments.{due_at}
 use Rattle.p3l_timed.specs.Clock.{IsOnTheWay, OthersAsBefore}
 use Rattle.p3l_timed.specs.Due.{due_next, renewed, without}
 

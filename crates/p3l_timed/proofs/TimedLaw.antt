@@ -16,7 +16,7 @@ use Rattle.p3l_firing.specs.Run.{Course, after_picks, picked}
 use Rattle.p3l_firing.specs.State.{State, first_state}
 use Rattle.p3l_firing.specs.Token.{has_trap}
 use Rattle.p3l_firing.proofs.Rows.{none_ready}
-use Rattle.p3l_moments.specs.Moments.{IsNoLater}
+use Rattle.p3l_timed.specs.Moments.{IsNoLater}
 use Rattle.p3l_timed.specs.Due.{IsNext, nothing_due, without}
 use Rattle.p3l_timed.specs.Laws.{IsRun, IsWithinBusy}
 use Rattle.p3l_timed.specs.Timed.{FiresInTime, FiresNext, IsTimed, Timing, all_busy, busy_of, moment_of, timed_after, timed_step, timing_from}

@@ -3,7 +3,7 @@ use Rattle.std.specs.Prelude.{◌≡◌, ◌≢◌, ℕ, ◌+◌, ◌*◌, ◌^�
 use Rattle.std.specs.Option.{is_some}
 use Rattle.p3l_net.specs.Machine.{Seen, can_step}
 use Rattle.p3l_net.specs.Steps.{IsApart, ShareNone}
-use Rattle.p3l_moments.specs.Moments.{due_at}
+use Rattle.p3l_timed.specs.Moments.{due_at}
 use Rattle.p3l_timed.specs.Due.{renewed, without}
 use Rattle.p3l_timed.specs.Price.{price_at}
 

@@ -1,6 +1,6 @@
 -- The moments at which processes are due, and which of them is the next to fire.
 use Rattle.std.specs.Prelude.{◌≢◌, ℕ, ◌+◌, ◌<◌, ◌==◌, Bool, if◌then◌else◌, Option, Some, None, unwrap_or}
-use Rattle.p3l_moments.specs.Moments.{IsNoLater, IsSooner}
+use Rattle.p3l_timed.specs.Moments.{IsNoLater, IsSooner}
 
 -- a process that can fire keeps its due moment, or gets this one; one that can't has none
 abbrev pub due_next : Bool → ℕ → Option ℕ → Option ℕ

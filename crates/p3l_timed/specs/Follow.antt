@@ -8,7 +8,7 @@ use Rattle.p3l_firing.specs.Nodes.{Leaf}
 use Rattle.p3l_firing.specs.Typed.{IsTyped}
 use Rattle.p3l_net.specs.Machine.{Fires, Seen, can_step, started}
 use Rattle.p3l_net.specs.Offered.{Follows, HasFilledInbox}
-use Rattle.p3l_moments.specs.Moments.{due_at}
+use Rattle.p3l_timed.specs.Moments.{due_at}
 use Rattle.p3l_timed.specs.Clock.{Clock, HasFired, IsInStep, IsRenewed, IsStarted}
 use Rattle.p3l_timed.specs.Due.{IsNext, renewed}
 use Rattle.p3l_timed.specs.Price.{price_at}

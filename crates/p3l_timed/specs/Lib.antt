@@ -1,3 +1,4 @@
+pub mod Moments
 pub mod Price
 pub mod Due
 pub mod Timed

@@ -4,12 +4,12 @@ ghost use Rattle.std.specs.Prelude.{◌≡◌, ◌<◌, ◌+◌, ℕ, List, ◌�
 ghost use Rattle.std.specs.List.{AllByRecursion};
 ghost use Rattle.p3l_firing.specs.Typed.{IsTyped};
 ghost use Rattle.p3l_net.specs.Machine.{can_step};
-ghost use Rattle.p3l_moments.specs.Moments.{IsNeverDue, due_at};
+ghost use Rattle.p3l_timed.specs.Moments.{IsNeverDue, due_at};
 ghost use Rattle.p3l_timed.specs.Clock.{CanLook, IsOnTheWay, OthersAsBefore};
 ghost use Rattle.p3l_timed.specs.Due.{due_next, renewed, without};
 ghost use Rattle.p3l_timed.specs.Price.{price_at};
 
-use p3l_moments::Moments;
+use crate::Moments;
 use p3l_net::Machine;
 
 // When a process is due that was due so, if it was, and can fire or not.

@@ -1,5 +1,5 @@
 use Rattle.std.proofs.Common.{subst}
-use Rattle.p3l_sample.specs.Sampling.{IsSampled}
+use Rattle.p3l_run.specs.Sampling.{IsSampled}
 use Rattle.p3l_program.specs.World.{change}
 use Rattle.p3l_program.proofs.ProfileSteps.{profile_of}
 use Rattle.p3l_program.proofs.profile.profile_tree.Goals as goal

@@ -1,6 +1,6 @@
 use Rattle.std.proofs.Common.{◌≡◌, ◌<◌, ◌≤◌, ℕ, None, length}
 use Rattle.p3l_net.specs.Machine.{can_step}
-use Rattle.p3l_moments.specs.Moments.{due_at}
+use Rattle.p3l_timed.specs.Moments.{due_at}
 use Rattle.p3l_timed.specs.Due.{renewed}
 use Rattle.p3l_timed.specs.Price.{price_at}
 use Rattle.p3l_timed.proofs.look.look_at_all.Given as goal

@@ -4,7 +4,7 @@ use Rattle.std.specs.List.{AllByRecursion}
 use Rattle.p3l_firing.specs.declared.net.Net.{Net}
 use Rattle.p3l_firing.specs.declared.process.Proc.{Proc}
 use Rattle.p3l_net.proofs.Sides.{get_is, ins_inside, outs_inside}
-use Rattle.p3l_moments.specs.Moments.{due_at}
+use Rattle.p3l_timed.specs.Moments.{due_at}
 use Rattle.p3l_timed.specs.Clock.{IsOnTheWay}
 use Rattle.p3l_timed.specs.Due.{without}
 use Rattle.p3l_timed.specs.Price.{price_at}

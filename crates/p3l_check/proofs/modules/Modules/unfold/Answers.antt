@@ -1,7 +1,7 @@
 use Rattle.std.proofs.Common.{sym, subst}
 use Rattle.std.proofs.lemmas.List.Elements.{All-from_recursion}
 use Rattle.p3l_skel.specs.Lawful.{HasLawfulRescue}
-use Rattle.p3l_unfold.specs.Wiring.{IsWiring}
+use Rattle.p3l_check.specs.Wiring.{IsWiring}
 use Rattle.p3l_check.specs.Modules.{Modules}
 use Rattle.p3l_check.specs.Wired.{AreWired}
 use Rattle.p3l_check.proofs.modules.Modules.unfold.Goals as goal

@@ -1,6 +1,6 @@
 use Rattle.std.proofs.Common.{◌≡◌, ◌^◌, ◌<◌, ℕ, None, length, sym, ap, ◌∙◌, subst, arith}
 use Rattle.p3l_net.specs.Machine.{can_step}
-use Rattle.p3l_moments.specs.Moments.{due_at}
+use Rattle.p3l_timed.specs.Moments.{due_at}
 use Rattle.p3l_timed.specs.Clock.{IsKept}
 use Rattle.p3l_timed.specs.Due.{renewed}
 use Rattle.p3l_timed.specs.Price.{counted_prices, price_at}

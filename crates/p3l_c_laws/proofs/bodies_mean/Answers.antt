@@ -1,5 +1,0 @@
-use Rattle.p3l_c_laws.proofs.bodies_mean.Goals as goal
-use Rattle.p3l_c_laws.proofs.Programs.{bodies_mean}
-
-pub returns : goal.returns
-returns c = bodies_mean

@@ -1,5 +1,0 @@
-use Rattle.p3l_c_laws.proofs.bodies_write.Goals as goal
-use Rattle.p3l_c_laws.proofs.Programs.{bodies_write}
-
-pub returns : goal.returns
-returns c = bodies_write

@@ -1,5 +1,0 @@
-use Rattle.p3l_c_laws.proofs.numbers_are_small.Goals as goal
-use Rattle.p3l_c_laws.proofs.Numbers.{numbers_are_small}
-
-pub returns : goal.returns
-returns c = numbers_are_small

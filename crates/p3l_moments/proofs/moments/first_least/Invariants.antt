@@ -1,5 +1,0 @@
-use Rattle.p3l_moments.specs.Moments.{IsDown}
-use Rattle.p3l_moments.proofs.moments.first_least.Given as goal
-
-abbrev pub invariant-loop-level : goal.invariant-loop-level
-invariant-loop-level l = IsDown l.cells l._level l.i

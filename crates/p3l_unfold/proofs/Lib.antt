@@ -1,4 +1,0 @@
-pub mod Instances
-pub mod Nested
-pub mod Placed
-pub mod Lawful

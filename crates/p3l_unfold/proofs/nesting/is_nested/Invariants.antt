@@ -1,5 +1,0 @@
-use Rattle.p3l_unfold.specs.Levels.{IsLevel}
-use Rattle.p3l_unfold.proofs.nesting.is_nested.Given as goal
-
-abbrev pub invariant-levels : goal.invariant-levels
-invariant-levels l = IsLevel l.wired l._depth l.level.items

@@ -1,4 +1,0 @@
-pub mod Wiring
-pub mod Unfolding
-pub mod Refusing
-pub mod Levels
