@@ -43,7 +43,7 @@ end_no_write (end.Stream close) = ending_no_write close
 end_no_write _ = refl
 
 finish_no_write : (f : Finish) → is_write (finish_status f) ≡ false
-finish_no_write (finish.Ran e) = end_no_write e
+finish_no_write (finish.Run e) = end_no_write e
 finish_no_write _ = refl
 
 -- nor is one of them want of memory
@@ -63,7 +63,7 @@ end_no_memory (end.Stream close) = ending_no_memory close
 end_no_memory _ = refl
 
 finish_no_memory : (f : Finish) → is_no_memory (finish_status f) ≡ false
-finish_no_memory (finish.Ran e) = end_no_memory e
+finish_no_memory (finish.Run e) = end_no_memory e
 finish_no_memory _ = refl
 
 -- no ending of a stream is a trap
@@ -84,7 +84,7 @@ end_other (end.Stream close) = ending_other close
 end_other _ = refl
 
 pub finish_other : (f : Finish) → status.is_refusal (finish_status f) ≡ false
-finish_other (finish.Ran e) = end_other e
+finish_other (finish.Run e) = end_other e
 finish_other _ = refl
 
 pub refusal_other : (r : Refusal) → status.is_end (refusal_status r) ≡ false
@@ -128,7 +128,7 @@ pub record IsDifferent (v : Verdict) : Type 0 where
 pub evidence_with : (v : Verdict) → status_of v ≡ status.evidence → IsRefusedWith v status.evidence ⊎ IsDifferent v
 evidence_with (verdict.Refused r) h = inl (record { refusal = r; verdict_is = refl; status_is = h })
 evidence_with (verdict.Ended (finish.Differs line) stats) h = inr (record { line = line; stats = stats; verdict_is = refl })
-evidence_with (verdict.Ended (finish.Ran e) stats) h = absurd (let z = sym (end_no_evidence e) ∙ ap is_evidence h in cc)
+evidence_with (verdict.Ended (finish.Run e) stats) h = absurd (let z = sym (end_no_evidence e) ∙ ap is_evidence h in cc)
 evidence_with (verdict.Ended finish.Done stats) h = absurd (omega arith)
 evidence_with verdict.WriteFault h = absurd (omega arith)
 evidence_with verdict.NoMemory h = absurd (omega arith)

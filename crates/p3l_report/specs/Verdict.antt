@@ -70,7 +70,7 @@ end_status (end.Stream close) = ending_status close
 -- the status of a command's end
 abbrev pub finish_status : Finish → ℕ
 finish_status finish.Done = status.done
-finish_status (finish.Ran end) = end_status end
+finish_status (finish.Run end) = end_status end
 finish_status (finish.Differs line) = status.evidence
 
 -- the status of a verdict
@@ -110,7 +110,7 @@ end_line (end.Stream close) = ending_line close
 -- the line of a command's end, or no bytes where none is to be written
 abbrev pub finish_line : Finish → List ℕ
 finish_line finish.Done = []
-finish_line (finish.Ran end) = end_line end
+finish_line (finish.Run end) = end_line end
 finish_line (finish.Differs line) = differs_line line
 
 -- the line of a verdict's status, or no bytes where none is to be written

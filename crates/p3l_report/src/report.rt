@@ -81,7 +81,7 @@ fn line_of_finish(alloc: Global, finish: &Finish) -> Result<Option<Line>, NoMemo
 {
     match finish {
         Finish::Done => Ok(None),
-        Finish::Ran(end) => line_of_end(alloc, end),
+        Finish::Run(end) => line_of_end(alloc, end),
         Finish::Differs { line } => Ok(Some(differs_line(alloc, *line)?)),
     }
 }

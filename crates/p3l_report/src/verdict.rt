@@ -51,7 +51,7 @@ pub enum Finish {
     /// All that the command makes was written.
     Done,
     /// The run of the command came to its end so.
-    Ran(RunEnd),
+    Run(RunEnd),
     /// The line of this number of a trace is the first that differs from the run.
     Differs {
         line: u64,
@@ -120,7 +120,7 @@ impl Finish {
     {
         match self {
             Finish::Done => Status(0),
-            Finish::Ran(end) => end_status(end),
+            Finish::Run(end) => end_status(end),
             Finish::Differs { .. } => Status(13),
         }
     }
