@@ -70,10 +70,7 @@ fn finish<K: Sink>(
     match sampled {
         Sampled::Stream(ending) => close(alloc, tree, profile, ending, out),
         Sampled::Trapped { item, kind, module } => match name_of(alloc, tree, module) {
-            Ok(module) => Verdict::Ended(
-                Finish::Run(RunEnd::Trapped { item, kind, module }),
-                None,
-            ),
+            Ok(module) => Verdict::Ended(Finish::Run(RunEnd::Trapped { item, kind, module }), None),
             Err(_) => Verdict::NoMemory,
         },
     }

@@ -113,12 +113,13 @@ pub fn numbers_line(alloc: Global, stats: Stats) -> Result<Line, NoMemory>
     ensures { IfGiven result (λ line. line_text line ≡ stats_line stats) }
 {
     match stats {
-        Stats::Scheduled(RunStats {
-            items,
-            fired,
-            idle,
-            bound,
-        }) => {
+        Stats::Scheduled(numbers) => {
+            let RunStats {
+                items,
+                fired,
+                idle,
+                bound,
+            } = numbers;
             let text = format!(in alloc;
                 "stats: items {items}, fired {fired}, idle {idle}, bound {bound}\n"
             )?;

@@ -26,8 +26,6 @@ pub fn schedule_line(alloc: Global, refusal: PickRefusal) -> Result<Line, NoMemo
 fn process_line(alloc: Global, number: u64, pick: u64, count: u32) -> Result<Line, NoMemory>
     ensures { IfGiven result (λ line. line_text line ≡ process_line number pick count) }
 {
-    let text = format!(in alloc;
-        "schedule: line {number}: 96 NoSuchProcess {pick} of {count}\n"
-    )?;
+    let text = format!(in alloc; "schedule: line {number}: 96 NoSuchProcess {pick} of {count}\n")?;
     Ok(Line::Made(text))
 }

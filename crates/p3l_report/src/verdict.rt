@@ -53,9 +53,7 @@ pub enum Finish {
     /// The run of the command came to its end so.
     Run(RunEnd),
     /// The line of this number of a trace is the first that differs from the run.
-    Differs {
-        line: u64,
-    },
+    Differs { line: u64 },
 }
 
 /// How a command ended, with all that its lines say.
@@ -109,7 +107,11 @@ impl From<Refusal> for Verdict {
     ghost from_gives = { λ refusal v. v ≡ verdict_of refusal };
 
     fn from(refusal: Refusal) -> Verdict {
-        if refusal.is_no_memory() { Verdict::NoMemory } else { Verdict::Refused(refusal) }
+        if refusal.is_no_memory() {
+            Verdict::NoMemory
+        } else {
+            Verdict::Refused(refusal)
+        }
     }
 }
 
