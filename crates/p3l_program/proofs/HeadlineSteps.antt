@@ -47,7 +47,7 @@ use Rattle.p3l_opts.specs.declared.command.Sched.{Sched}
 use Rattle.p3l_opts.specs.Command as opts
 use Rattle.p3l_opts.specs.Laws.{SpellsOneAtMost}
 use Rattle.p3l_report.specs.Status as status
-use Rattle.p3l_report.specs.Verdict.{end_status, ending_status}
+use Rattle.p3l_report.specs.Verdict.{end_status, ending_status, finish_status}
 use Rattle.p3l_report.proofs.Statuses as statuses
 use Rattle.p3l_program.specs.Answer.{BeginsWork}
 use Rattle.p3l_program.specs.Command.{Begins, Ends, work_of}
