@@ -20,6 +20,7 @@ use Rattle.p3l_opts.specs.declared.command.Build.{Build}
 use Rattle.p3l_report.specs.declared.verdict.Refusal.TheVariants as refusal
 use Rattle.p3l_report.specs.declared.verdict.Verdict.{Verdict}
 use Rattle.p3l_report.specs.declared.verdict.Verdict.TheVariants as verdict
+use Rattle.p3l_report.specs.Verdict.{verdict_of}
 use Rattle.p3l_check.specs.Resolving.{ResolvedTree}
 use Rattle.p3l_program.specs.declared.plan.Accepted.{Accepted}
 use Rattle.p3l_program.specs.declared.plan.Allotted.{Allotted}
@@ -29,7 +30,11 @@ use Rattle.p3l_program.specs.Advise.{IsAdvised}
 use Rattle.p3l_program.specs.Certificate.{IsCertificate}
 use Rattle.p3l_program.specs.Explain.{IsExplained}
 use Rattle.p3l_program.specs.File.{HasText, text_limit}
+<<<<<<< HEAD
 use Rattle.p3l_program.specs.Load.{IsCostless, IsLoaded, IsNotLoaded, IsUnchosen, cost_verdict}
+=======
+use Rattle.p3l_program.specs.Load.{IsCostless, IsLoaded, IsNotLoaded}
+>>>>>>> 1e8c14ebafa54bb3453a8c99382ab0d709390033
 use Rattle.p3l_program.specs.Source.{ComesToTree}
 use Rattle.p3l_program.specs.Stage.{AllPass, Stage, build_stages, cost_stages, program_stages}
 use Rattle.p3l_program.specs.World.{Change, IsCalm}
@@ -55,11 +60,11 @@ refused_text files name text fault pos has refused calm = (inr ((text, has), inl
 
 -- a text of costs that is refused
 pub unsaid : (files : Change Held) (name : List ℕ) (tree : Tree) (said : List ℕ) (r : CostRefusal) → HasText files.old text_limit name said → IsRead tree said (Err r) → IsCalm files →
-    IsCostless files (Some name) tree (cost_verdict r)
-unsaid files name tree said costs.NotToml has read calm = inr (record { said = said; has = has; no_costs = read; calm = calm })
-unsaid files name tree said (costs.BadKey key) has read calm = inr (record { said = said; has = has; no_costs = read; calm = calm })
-unsaid files name tree said (costs.BadValue key) has read calm = inr (record { said = said; has = has; no_costs = read; calm = calm })
-unsaid files name tree said (costs.Missing key) has read calm = inr (record { said = said; has = has; no_costs = read; calm = calm })
+    IsCostless files (Some name) tree (verdict_of (refusal.Costs r))
+unsaid files name tree said costs.NotToml has read calm = inr (record { said = said; has = has; no_costs = record { read = read; named = λ e. absurd cc }; calm = calm })
+unsaid files name tree said (costs.BadKey key) has read calm = inr (record { said = said; has = has; no_costs = record { read = read; named = λ e. absurd cc }; calm = calm })
+unsaid files name tree said (costs.BadValue key) has read calm = inr (record { said = said; has = has; no_costs = record { read = read; named = λ e. absurd cc }; calm = calm })
+unsaid files name tree said (costs.Missing key) has read calm = inr (record { said = said; has = has; no_costs = record { read = read; named = λ e. absurd cc }; calm = calm })
 unsaid files name tree said costs.NoMemory has read calm = calm
 
 -- the tree of an accepted program

@@ -13,7 +13,11 @@ ghost use Rattle.p3l_skel.specs.Lawful.{IsLawfulTree};
 ghost use Rattle.p3l_skel.specs.Numbers.{firings, procs};
 ghost use Rattle.p3l_skel.specs.Tree.{node_at};
 ghost use Rattle.p3l_program.specs.File.{text_limit};
+<<<<<<< HEAD
 ghost use Rattle.p3l_program.specs.Load.{AcceptsText, IsCostless, IsNotLoaded, IsReady, IsUnchosen, Loads, LoadsCosts, LoadsNetwork, LoadsProgram, cost_verdict};
+=======
+ghost use Rattle.p3l_program.specs.Load.{AcceptsText, IsCostless, IsNotLoaded, IsReady, Loads, LoadsCosts, LoadsNetwork, LoadsProgram};
+>>>>>>> 1e8c14ebafa54bb3453a8c99382ab0d709390033
 ghost use Rattle.p3l_program.specs.LoadImage.{IsReadyImage};
 ghost use Rattle.p3l_program.specs.Origin.{built};
 ghost use Rattle.p3l_program.specs.Plan.{IsCompiled, IsTextRefused, network_in, network_of};
@@ -30,7 +34,7 @@ use p3l_body_laws::resolved_serve;
 use p3l_check::resolve;
 use p3l_code::SafeCode;
 use p3l_compile::codes_of;
-use p3l_cost::{CostRefusal, Costs, read_costs, standard};
+use p3l_cost::{Costs, read_costs, standard};
 use p3l_firing::Net;
 use p3l_io::Files;
 use p3l_link::link;
@@ -38,7 +42,7 @@ use p3l_load::Loaded;
 use p3l_model::firings;
 use p3l_opts::Build;
 use p3l_reader::read;
-use p3l_report::{CostFault, Refusal, Verdict};
+use p3l_report::{Refusal, Verdict};
 use p3l_run::Plan;
 use p3l_skel::{Counts, Tree, Units};
 use std::alloc::Global;
@@ -88,19 +92,6 @@ pub fn load_program<F: Files>(alloc: Global, name: Name, files: &mut F) -> Resul
     }
 }
 
-/// The verdict of costs that are refused.
-pub fn cost_verdict(refusal: CostRefusal) -> Verdict
-    ensures { result ≡ cost_verdict refusal }
-{
-    match refusal {
-        CostRefusal::NotToml => Verdict::Refused(Refusal::Costs(CostFault::NotToml)),
-        CostRefusal::BadKey(key) => Verdict::Refused(Refusal::Costs(CostFault::BadKey(key))),
-        CostRefusal::BadValue(key) => Verdict::Refused(Refusal::Costs(CostFault::BadValue(key))),
-        CostRefusal::Missing(name) => Verdict::Refused(Refusal::Costs(CostFault::Missing(name))),
-        CostRefusal::NoMemory => Verdict::NoMemory,
-    }
-}
-
 /// The costs of a tree that the file of this name says.
 fn costs_in<F: Files>(
     alloc: Global,
@@ -121,7 +112,7 @@ fn costs_in<F: Files>(
         Err(refusal) => Err(Verdict::from(refusal)),
         Ok(text) => match read_costs(alloc, text.as_slice(), tree) {
             Ok(costs) => Ok(costs),
-            Err(refusal) => Err(cost_verdict(refusal)),
+            Err(refusal) => Err(Verdict::from(Refusal::Costs(refusal))),
         },
     }
 }
